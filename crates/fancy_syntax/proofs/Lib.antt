@@ -1,0 +1,2 @@
+pub mod PatternLemmas
+pub mod SizeLemmas

@@ -1,0 +1,74 @@
+//! A pattern as a tree.
+
+/// A test of a place that consumes nothing.
+#[derive(Clone, Copy, PartialEq, Eq)]
+pub enum Assertion {
+    /// The text's start.
+    TextStart,
+    /// The text's end.
+    TextEnd,
+    /// The text's start, or behind a line feed.
+    LineStart,
+    /// The text's end, or before a line feed.
+    LineEnd,
+}
+
+/// Which number of turns a repeat prefers, and whether it goes back to another one.
+#[derive(Clone, Copy, PartialEq, Eq)]
+pub enum Taste {
+    /// One more turn first.
+    Greedy,
+    /// No more turn first.
+    Lazy,
+    /// One more turn first, and never back.
+    Possessive,
+}
+
+/// A pattern. A sequence or an alternative holds its parts side by side, so that a pattern of a million
+/// characters is not a million deep; only groups and repeats go deeper.
+#[derive(Drop)]
+pub enum Tree {
+    /// Consumes nothing, and always holds.
+    Empty,
+    /// One item, a character or in byte meaning a byte, with this code.
+    Character(char),
+    /// One item of a set, which these rising numbers begin and end in turn.
+    Member(Vec<u32>),
+    /// One byte, in any meaning.
+    RawByte(u8),
+    /// The text of the group with this number.
+    Backreference(u32),
+    /// A test of the place.
+    Assertion(Assertion),
+    /// Whether the group with this number has taken part.
+    GroupTest(u32),
+    /// `\K`: the match starts here.
+    KeepStart,
+    /// `\G`: the search starts here.
+    ContinueHere,
+    /// A capturing group.
+    Group { index: u32, body: Box<Tree> },
+    /// At least `low` turns, and at most `high` where that is set.
+    Repeat {
+        low: u32,
+        high: Option<u32>,
+        taste: Taste,
+        body: Box<Tree>,
+    },
+    /// The body stands behind the place, or does not where it is negated.
+    LookAhead { negated: bool, body: Box<Tree> },
+    /// The body stands before the place, or does not where it is negated.
+    LookBehind { negated: bool, body: Box<Tree> },
+    /// The first outcome of the body, and no other.
+    Atomic(Box<Tree>),
+    /// The first branch behind the condition, or without it the second.
+    Conditional {
+        condition: Box<Tree>,
+        on_match: Box<Tree>,
+        otherwise: Box<Tree>,
+    },
+    /// One part behind the other.
+    Sequence(Vec<Tree>),
+    /// One of the branches, an earlier one first.
+    Alternative(Vec<Tree>),
+}
