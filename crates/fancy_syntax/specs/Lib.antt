@@ -1,3 +1,5 @@
-pub mod Meaning
+pub mod Sets
 pub mod Pattern
 pub mod Sizes
+pub mod Words
+pub mod Dialect

@@ -2,7 +2,8 @@
 use Rattle.std.specs.Prelude.{ℕ, ◌+◌, ◌-◌, ◌*◌, Bool, true, false, ◌&&◌, Option, Some, None, if◌then◌else◌, ◌==◌}
 use Rattle.fancy_syntax.specs.declared.tree.Taste.{Taste}
 use Rattle.fancy_syntax.specs.declared.tree.Taste.TheVariants.{Greedy, Lazy, Possessive}
-use Rattle.fancy_syntax.specs.Meaning.{Meaning, unicode, bytes, ascii_text}
+use Rattle.fancy_syntax.specs.declared.tree.Meaning.{Meaning}
+use Rattle.fancy_syntax.specs.declared.tree.Meaning.TheVariants.{Unicode, Bytes, AsciiText}
 use Rattle.fancy_syntax.specs.Pattern.{Pattern, empty, character, member_of, raw_byte, backreference, assertion, group_test, keep_start, continue_here, group, repeat, look_ahead, look_behind, atomic, conditional, followed, or_else, last_branch}
 
 abbrev pub plus_size : Option ℕ → Option ℕ → Option ℕ
@@ -36,9 +37,9 @@ is_empty _ = false
 
 -- a byte is a unit only where items are bytes
 abbrev pub raw_byte_size : Meaning → Option ℕ
-raw_byte_size unicode = None
-raw_byte_size bytes = Some 1
-raw_byte_size ascii_text = None
+raw_byte_size Unicode = None
+raw_byte_size Bytes = Some 1
+raw_byte_size AsciiText = None
 
 -- how many units the pattern always consumes, where that is one number
 unfoldable pub size : Meaning → Pattern → Option ℕ

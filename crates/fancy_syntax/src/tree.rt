@@ -1,5 +1,16 @@
 //! A pattern as a tree.
 
+/// What one item of a pattern consumes.
+#[derive(Clone, Copy, PartialEq, Eq)]
+pub enum Meaning {
+    /// One well-formed UTF-8 sequence; classes range over all characters.
+    Unicode,
+    /// One byte.
+    Bytes,
+    /// One well-formed UTF-8 sequence; classes range over U+0000 to U+007F.
+    AsciiText,
+}
+
 /// A test of a place that consumes nothing.
 #[derive(Clone, Copy, PartialEq, Eq)]
 pub enum Assertion {

@@ -1,0 +1,4 @@
+pub mod Context
+pub mod Events
+pub mod Trace
+pub mod Search

@@ -1,0 +1,2 @@
+//! The engines: what a pattern finds in a haystack.
+#![tactic(auto)]

@@ -1,0 +1,113 @@
+-- The dialect, over whole texts: which text spells which pattern. `after` is what follows the text in the whole pattern, so that each case can say that no longer form begins at its place; therefore the cases exclude one another, and a text spells at most one pattern.
+use Rattle.std.specs.Prelude.{◌≡◌, ℕ, suc, ◌+◌, ◌≤◌, ◌==◌, Bool, true, false, not, ◌&&◌, ◌||◌, List, [], ◌∷◌, ◌++◌, Option, Some, None, codes, map, encode_utf8}
+use Rattle.std.specs.Char.{is_ascii_punctuation}
+use Rattle.fancy_syntax.specs.declared.tree.Meaning.{Meaning}
+use Rattle.fancy_syntax.specs.declared.tree.Meaning.TheVariants.{Unicode, Bytes, AsciiText}
+use Rattle.fancy_syntax.specs.declared.tree.Taste.{Taste}
+use Rattle.fancy_syntax.specs.declared.tree.Taste.TheVariants.{Greedy, Lazy}
+use Rattle.fancy_syntax.specs.Pattern.{Pattern, character, repeat, in_sequence, in_branches}
+use Rattle.fancy_syntax.specs.Sizes.{nodes, is_empty}
+use Rattle.fancy_syntax.specs.Words.{Text, ◌∈◌, is_at, begins_count}
+
+-- the flags `i m s x R`
+pub record Flags : Type 0 where
+  pub ignore_case : Bool
+  pub multi_line : Bool
+  pub dot_all : Bool
+  pub ignore_blanks : Bool
+  pub crlf : Bool
+
+-- what is in force at a place of a pattern
+pub record Scope : Type 0 where
+  pub meaning : Meaning
+  pub flags : Flags
+  -- how many capturing groups were opened before it
+  pub opened : ℕ
+  -- the named ones among them
+  pub names : List (Text × ℕ)
+  pub in_look_around : Bool
+
+-- behind a group the flags are those from before it, and the groups opened inside it count
+abbrev pub back_to : Scope → Scope → Scope
+back_to before inside = record inside { flags = before.flags; in_look_around = before.in_look_around }
+
+-- these characters stand for themselves only where they are escaped
+abbrev pub is_special : ℕ → Bool
+is_special c = c ∈ "|()*+?\\.^$["
+
+-- the characters that a backslash makes literals
+abbrev pub is_escapable : ℕ → Bool
+is_escapable c = (c == 32) || (is_ascii_punctuation c && not (c ∈ "<>"))
+
+-- a literal character: one item, but in byte meaning the sequence of its bytes
+abbrev pub literal_of : Meaning → ℕ → Pattern
+literal_of Unicode c = character c
+literal_of Bytes c = in_sequence (map character (encode_utf8 c))
+literal_of AsciiText c = character c
+
+-- a quantifier begins here
+abbrev pub begins_quantifier : Text → Bool
+begins_quantifier t = is_at "?*+" t || begins_count t
+
+-- this text is a quantifier: the least and the greatest number of turns, and the taste
+pub data Quantifies : Text → Text → ℕ → Option ℕ → Taste → Type 0 where
+  greedy_optional : {after : Text} → is_at "?+" after ≡ false → Quantifies (codes "?") after 0 (Some 1) Greedy
+  lazy_optional : {after : Text} → Quantifies (codes "??") after 0 (Some 1) Lazy
+
+-- an item gives a sequence one part, or none
+abbrev pub with_part : Option Pattern → List Pattern → List Pattern
+with_part None ps = ps
+with_part (Some p) ps = p ∷ ps
+
+-- The number k says how many parentheses more may be open at one place; `s` is what is in force before the text, and the last index what is in force behind it.
+mutual
+  -- branches joined by `|`
+  pub data Branches : ℕ → Scope → Text → Text → List Pattern → Scope → Type 0 where
+    one : {k : ℕ} {s r : Scope} {t after : Text} {ps : List Pattern} → Parts k s t after ps r → Branches k s t after (in_sequence ps ∷ []) r
+    either : {k : ℕ} {s q r : Scope} {t u after : Text} {ps bs : List Pattern} → Parts k s t (codes "|" ++ (u ++ after)) ps q → Branches k q u after bs r
+        → Branches k s (t ++ (codes "|" ++ u)) after (in_sequence ps ∷ bs) r
+
+  -- items, one behind the other
+  pub data Parts : ℕ → Scope → Text → Text → List Pattern → Scope → Type 0 where
+    nothing : {k : ℕ} {s : Scope} {after : Text} → Parts k s [] after [] s
+    item : {k : ℕ} {s q r : Scope} {t u after : Text} {x : Option Pattern} {ps : List Pattern} → Item k s t (u ++ after) x q → Parts k q u after ps r
+        → Parts k s (t ++ u) after (with_part x ps) r
+
+  -- an atom, perhaps with a quantifier
+  pub data Item : ℕ → Scope → Text → Text → Option Pattern → Scope → Type 0 where
+    bare : {k : ℕ} {s q : Scope} {t after : Text} {a : Pattern} → Atom k s t after a q → begins_quantifier after ≡ false → Item k s t after (Some a) q
+    quantified : {k low : ℕ} {high : Option ℕ} {taste : Taste} {s q : Scope} {t u after : Text} {a : Pattern} → Atom k s t (u ++ after) a q → is_empty a ≡ false
+        → Quantifies u after low high taste → Item k s (t ++ u) after (Some (repeat low high taste a)) q
+
+  -- a character, an escape or a group
+  pub data Atom : ℕ → Scope → Text → Text → Pattern → Scope → Type 0 where
+    literal : {k : ℕ} {s : Scope} {after : Text} (c : ℕ) → is_special c ≡ false → begins_count (c ∷ after) ≡ false → Atom k s (c ∷ []) after (literal_of s.meaning c) s
+    escaped : {k : ℕ} {s : Scope} {after : Text} (c : ℕ) → is_escapable c ≡ true → Atom k s (codes "\\" ++ c ∷ []) after (literal_of s.meaning c) s
+    plain : {k : ℕ} {s q : Scope} {t after : Text} {bs : List Pattern} → Branches k s t (codes ")" ++ after) bs q
+        → Atom (suc k) s (codes "(?:" ++ (t ++ codes ")")) after (in_branches bs) (back_to s q)
+
+-- the whole text spells this pattern, with at most 64 parentheses open at one place
+pub record Spells (start : Scope) (text : Text) (p : Pattern) (end : Scope) : Type 0 where
+  pub branches : List Pattern
+  pub is : p ≡ in_branches branches
+  pub spelled : Branches 64 start text [] branches end
+
+-- the options that a pattern is read under
+pub record Options : Type 0 where
+  pub meaning : Meaning
+  pub flags : Flags
+
+abbrev pub no_flags : Flags
+no_flags = record { ignore_case = false; multi_line = false; dot_all = false; ignore_blanks = false; crlf = false }
+
+abbrev pub standard : Options
+standard = record { meaning = Unicode; flags = no_flags }
+
+abbrev pub begin : Options → Scope
+begin o = record { meaning = o.meaning; flags = o.flags; opened = 0; names = []; in_look_around = false }
+
+-- The text is a pattern of the dialect: it spells this one, which is not too complex.
+pub record IsPattern (o : Options) (text : Text) (p : Pattern) : Type 0 where
+  pub end : Scope
+  pub spelled : Spells (begin o) text p end
+  pub small : nodes p ≤ 1000000

@@ -1,0 +1,48 @@
+-- The words in which the grammar speaks of the characters of a pattern.
+use Rattle.std.specs.Prelude.{ℕ, ◌==◌, ◌||◌, ◌&&◌, Bool, true, false, nat_eq, List, [], ◌∷◌, codes, drop, if◌then◌else◌}
+use Rattle.std.specs.List.{starts_with, list_any}
+use Rattle.std.specs.Char.{is_ascii_digit}
+use Prim.Native.String.{String}
+
+-- characters, by their numbers
+abbrev pub Text : Type 0
+Text = List ℕ
+
+abbrev pub is_among : ℕ → List ℕ → Bool
+is_among c cs = list_any (λ d. d == c) cs
+
+infix 60 ◌∈◌
+abbrev pub ◌∈◌ : ℕ → String → Bool
+c ∈ s = is_among c (codes s)
+
+-- the first character is one of these
+abbrev pub is_at_any : List ℕ → Text → Bool
+is_at_any cs [] = false
+is_at_any cs (c ∷ t) = is_among c cs
+
+abbrev pub is_at : String → Text → Bool
+is_at s t = is_at_any (codes s) t
+
+-- the text begins with this word
+abbrev pub begins : String → Text → Bool
+begins s t = starts_with nat_eq t (codes s)
+
+abbrev pub is_at_digit : Text → Bool
+is_at_digit [] = false
+is_at_digit (c ∷ t) = is_ascii_digit c
+
+-- what follows the row of digits that stands first
+abbrev pub past_digits : Text → Text
+past_digits [] = []
+past_digits (c ∷ t) = if is_ascii_digit c then past_digits t else c ∷ t
+
+-- behind a brace: `n}`, `n,}`, `n,m}` or `,m}`
+abbrev pub is_count : Text → Bool
+is_count t =
+    (is_at_digit t && is_at "}" (past_digits t))
+    || (is_at "," (past_digits t) && (is_at "}" (past_digits (drop 1 (past_digits t)))
+    && (is_at_digit t || is_at_digit (drop 1 (past_digits t)))))
+
+-- a count begins here
+abbrev pub begins_count : Text → Bool
+begins_count t = is_at "{" t && is_count (drop 1 t)
