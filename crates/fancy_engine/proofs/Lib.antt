@@ -1,0 +1,10 @@
+pub mod EventLemmas
+pub mod ForwardLemmas
+pub mod OutcomeLemmas
+pub mod SearchLemmas
+pub mod ExampleLemmas
+pub mod EndsLemmas
+pub mod ItemLemmas
+pub mod WalkLemmas
+pub mod PlainLemmas
+pub mod SpelledLemmas

@@ -2,3 +2,9 @@ pub mod Context
 pub mod Events
 pub mod Trace
 pub mod Search
+pub mod Forward
+pub mod Answers
+pub mod Laws
+pub mod Examples
+pub mod Simple
+pub mod Plain

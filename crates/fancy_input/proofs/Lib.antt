@@ -1,0 +1,2 @@
+pub mod PlaceLemmas
+pub mod CharacterLemmas

@@ -1,2 +1,4 @@
+pub mod Inputs
 pub mod Places
 pub mod Requests
+pub mod Spans

@@ -44,3 +44,17 @@ is_boundary haystack i = (i == 0) || (nat_le (length haystack) i || not (is_cont
 unfoldable pub prev_place : List ℕ → ℕ → ℕ
 prev_place haystack zero = zero
 prev_place haystack (suc i) = if is_continuation (slice_index haystack i) then prev_place haystack i else i
+
+-- a character boundary as a haystack of this form has them: for text none past the end
+abbrev pub is_place : Bool → List ℕ → ℕ → Bool
+is_place text haystack i = is_boundary haystack i && (not text || nat_le i (length haystack))
+
+-- how many bytes at the start continue a character
+abbrev pub continuations : List ℕ → ℕ
+continuations [] = zero
+continuations (b ∷ bs) = if is_continuation b then suc (continuations bs) else zero
+
+-- The place after i. For text it is where the next character starts, and one past the end where i is the end; for bytes it is the next byte.
+abbrev pub next_place : Bool → List ℕ → ℕ → ℕ
+next_place true haystack i = i + 1 + continuations (drop (i + 1) haystack)
+next_place false haystack i = i + 1

@@ -2,9 +2,9 @@
 use Rattle.std.specs.Prelude.{ℕ, ◌+◌, ◌-◌, max, min, List, length, true, false, if◌then◌else◌}
 use Rattle.fancy_input.specs.declared.input.Request.{Request}
 
--- the whole haystack, from its start
+-- the whole haystack, from its start, with nothing suppressed
 abbrev pub whole : List ℕ → Request
-whole haystack = record { start = 0; range_start = 0; range_end = length haystack; anchored = false }
+whole haystack = record { start = 0; range_start = 0; range_end = length haystack; anchored = false; start_text = true; end_text = true; continues = true }
 
 -- the first position that is tried
 abbrev pub effective_start : Request → ℕ

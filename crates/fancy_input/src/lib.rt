@@ -1,5 +1,12 @@
-//! Haystacks, what is asked of them, and the matches in them.
+//! Haystacks, what is asked of them, and the matches in them. Every offset is in bytes from the
+//! start of the haystack.
 #![tactic(auto)]
 
+pub mod bytes;
+pub mod forms;
 pub mod input;
 pub mod matches;
+mod places;
+pub mod regex_input;
+#[cfg(test)]
+mod tests;

@@ -1,6 +1,12 @@
 //! Patterns of the dialect: how they are read, what they are, and why they are refused.
 #![tactic(auto)]
 
+mod build;
+mod count;
 pub mod error;
+mod groups;
+pub mod laws;
 mod measure;
+pub mod parse;
+mod parser;
 pub mod tree;

@@ -58,7 +58,10 @@ pub enum Tree {
     /// `\G`: the search starts here.
     ContinueHere,
     /// A capturing group.
-    Group { index: u32, body: Box<Tree> },
+    Group {
+        index: u32,
+        body: Box<Tree>,
+    },
     /// At least `low` turns, and at most `high` where that is set.
     Repeat {
         low: u32,
@@ -67,9 +70,15 @@ pub enum Tree {
         body: Box<Tree>,
     },
     /// The body stands behind the place, or does not where it is negated.
-    LookAhead { negated: bool, body: Box<Tree> },
+    LookAhead {
+        negated: bool,
+        body: Box<Tree>,
+    },
     /// The body stands before the place, or does not where it is negated.
-    LookBehind { negated: bool, body: Box<Tree> },
+    LookBehind {
+        negated: bool,
+        body: Box<Tree>,
+    },
     /// The first outcome of the body, and no other.
     Atomic(Box<Tree>),
     /// The first branch behind the condition, or without it the second.

@@ -1,0 +1,4 @@
+//! Regexes: a pattern that was read once, and the searches with it.
+#![tactic(auto)]
+
+pub mod regex;

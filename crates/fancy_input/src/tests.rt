@@ -1,0 +1,139 @@
+ghost use Rattle.std.specs.Prelude.{◌≡◌, ◌↔◌, IsTrue};
+ghost use Rattle.fancy_input.specs.Spans.{span_in, text_in, span_in_bytes, bytes_in};
+
+use crate::bytes::MatchBytes;
+use crate::input::Input;
+use crate::matches::Match;
+use crate::regex_input::RegexInput;
+use std::ops::Range;
+use std::process::Abort;
+use std::test::Fail;
+
+/// What a form says of itself: its length, whether it is empty, ASCII and text.
+fn facts<S: Input>(haystack: S) -> (usize, bool, bool, bool) {
+    let input = RegexInput::new(haystack);
+    let seen = input.haystack();
+    (seen.len(), seen.is_empty(), seen.is_ascii(), seen.is_text())
+}
+
+#[test]
+fn four_forms_state_their_facts(rt: HostRuntime) -> Result<(), Fail> {
+    let text = "aé";
+    let owned = String::from_str(rt.alloc(), text)?;
+    let bytes: &[u8] = text.as_bytes();
+    let array = [97u8, 98];
+    assert!(rt; facts(text) == (3, false, false, true));
+    assert!(rt; facts(&owned) == (3, false, false, true));
+    assert!(rt; facts(bytes) == (3, false, false, false));
+    assert!(rt; facts(&array) == (2, false, true, false));
+    assert!(rt; facts("") == (0, true, true, true));
+    Ok(())
+}
+
+/// Which of the places 0 to 4 are boundaries.
+fn boundaries<S: Input>(haystack: S) -> [bool; 5] {
+    let input = RegexInput::from(haystack);
+    let seen = input.haystack();
+    [
+        seen.is_char_boundary(0),
+        seen.is_char_boundary(1),
+        seen.is_char_boundary(2),
+        seen.is_char_boundary(3),
+        seen.is_char_boundary(4),
+    ]
+}
+
+#[test]
+fn boundaries_of_each_form(rt: HostRuntime) -> Result<(), Fail> {
+    let text = "aé";
+    let owned = String::from_str(rt.alloc(), text)?;
+    let bytes: &[u8] = text.as_bytes();
+    let array = [97u8, 0xC3, 0xA9];
+    assert!(rt; boundaries(text) == [true, true, false, true, false]);
+    assert!(rt; boundaries(&owned) == [true, true, false, true, false]);
+    assert!(rt; boundaries(bytes) == [true, true, false, true, true]);
+    assert!(rt; boundaries(&array) == [true, true, false, true, true]);
+    Ok(())
+}
+
+#[test]
+fn steps_go_over_whole_characters_of_text(rt: HostRuntime) -> Result<(), Fail> {
+    let text = "aé";
+    let bytes: &[u8] = text.as_bytes();
+    let array = [0x80u8, 0x80];
+    let array = &array;
+    assert!(rt; text.is_char_boundary(1) && text.is_char_boundary(3));
+    assert_eq!(rt; text.prev_codepoint_ix(3), 1);
+    assert_eq!(rt; text.advance_position(1), 3);
+    assert_eq!(rt; text.advance_position(3), 4);
+    assert_eq!(rt; bytes.prev_codepoint_ix(3), 1);
+    assert_eq!(rt; bytes.advance_position(1), 2);
+    assert_eq!(rt; bytes.advance_position(3), 4);
+    assert_eq!(rt; array.prev_codepoint_ix(2), 0);
+    Ok(())
+}
+
+#[test]
+fn settings_change_one_at_a_time(rt: HostRuntime) -> Result<(), Fail> {
+    let input = RegexInput::new("abcabc");
+    assert!(rt; input.start() == 0 && input.get_range() == (0..6));
+    let input = input.range(2..5).from_pos(1).anchored(true);
+    assert!(rt; input.start() == 1 && input.get_range() == (2..5));
+    assert_eq!(rt; input.effective_start(), 2);
+    let copy = input.clone()?;
+    assert!(rt; copy.request() == input.request());
+    let changed = input.again().start_text(false).end_text(false);
+    let changed = changed.continue_from_previous_match_end(false);
+    assert!(rt; changed.request() != input.request());
+    let request = changed.request();
+    assert!(rt; request.anchored && !request.start_text && !request.end_text && !request.continues);
+    let back = changed.start_text(true).end_text(true);
+    let back = back.continue_from_previous_match_end(true);
+    assert!(rt; back.request() == input.request());
+    Ok(())
+}
+
+/// Equal matches have equal texts and ends, and matches with those are equal.
+fn is_same(one: Match<'_>, other: Match<'_>) -> bool
+    ensures { IsTrue result ↔ ((text_in one.entry ≡ text_in other.entry) × (span_in one.entry ≡ span_in other.entry)) }
+{
+    one == other
+}
+
+fn is_same_in_bytes(one: MatchBytes<'_>, other: MatchBytes<'_>) -> bool
+    ensures { IsTrue result ↔ ((bytes_in one.entry ≡ bytes_in other.entry) × (span_in_bytes one.entry ≡ span_in_bytes other.entry)) }
+{
+    one == other
+}
+
+#[test]
+fn matches_convert_and_compare(rt: HostRuntime) -> Result<(), Fail> {
+    let text = "aé";
+    assert!(rt; text.is_char_boundary(1) && text.is_char_boundary(3));
+    let found: Match<'_> = text.make_match(1, 3);
+    let range: Range<usize> = found.into();
+    assert!(rt; range == (1..3) && found.range() == (1..3));
+    let part: &str = found.into();
+    assert!(rt; part == "é" && found.as_str() == "é");
+    assert!(rt; found == found.clone()? && found != text.make_match(1, 1));
+    let other = "bé";
+    assert!(rt; other.is_char_boundary(1) && other.is_char_boundary(3));
+    assert!(rt; !is_same(found, other.make_match(1, 3)));
+    Ok(())
+}
+
+#[test]
+fn matches_of_bytes_convert_and_compare(rt: HostRuntime) -> Result<(), Fail> {
+    let bytes = [97u8, 0xFF, 98];
+    let found: MatchBytes<'_> = (&bytes).make_match(1, 2);
+    let range: Range<usize> = found.into();
+    assert!(rt; range == (1..2) && found.range() == (1..2));
+    let part: &[u8] = found.into();
+    assert!(rt; part.len() == 1 && part[0] == 0xFF && found.as_bytes() == part);
+    assert!(rt; found.start() == 1 && found.end() == 2);
+    let slice: &[u8] = &bytes;
+    assert!(rt;
+        found == slice.make_match(1, 2) && !is_same_in_bytes(found, slice.make_match(0, 2))
+    );
+    Ok(())
+}

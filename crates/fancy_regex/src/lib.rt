@@ -1,0 +1,15 @@
+//! Regexes with look-around and backreferences whose answers are proved.
+//!
+//! A pattern is read once, and is then searched for:
+//!
+//! ```text
+//! let regex = Regex::new(alloc, "a|ab")?;
+//! let found = regex.find("xab")?;  // the bytes 1..2
+//! ```
+//!
+//! All offsets are byte offsets into the haystack. Whatever is refused has a name: see [`Error`].
+#![tactic(auto)]
+
+pub use fancy_core::regex::Regex;
+pub use fancy_input::matches::Match;
+pub use fancy_syntax::error::{CompileError, Error, ParseErrorKind, Result, RuntimeError};

@@ -1,0 +1,254 @@
+-- What the parser's loops and branches say of the grammar.
+use Rattle.std.proofs.Common.{◌≡◌, ℕ, suc, ◌+◌, ◌<◌, ◌==◌, true, false, List, [], ◌∷◌, ◌++◌, Option, Some, None, length, refl, sym, ap, ◌∙◌, subst, append_assoc, append-nil, arith, Result, Ok, Err, ◌⊎◌, inl, inr, ap₂, add-one}
+use Rattle.std.proofs.lemmas.Bool.Decides.{nat_tests}
+use Rattle.std.proofs.lemmas.List.{nil_from_length}
+use Rattle.fancy_syntax.specs.Pattern.{Pattern, pattern_of, in_sequence, in_branches}
+use Rattle.fancy_syntax.specs.Words.{Text, is_at_any, is_at}
+use Rattle.fancy_syntax.specs.Dialect.{Scope, with_part}
+use Rattle.fancy_syntax.specs.Grammar.{Place, past, Opening, opening, atom, quantified, wrap, closed, ends_branch, Branches, last, more, Parts, none, next, Item, single, grouped, start, Reads}
+use Rattle.fancy_syntax.specs.declared.tree.Tree.{Tree}
+use Rattle.fancy_syntax.specs.declared.error.Error.{Error}
+use Rattle.fancy_syntax.specs.declared.error.Error.TheVariants.{Memory, ParseError, CompileError, RuntimeError}
+use Rattle.fancy_syntax.specs.Views.{Refuses, Gives, GivesValue, part_of, IsTheReading, HasNoReading, Sequence, Alternation}
+
+pub true_is_false : true ≡ false → ⊥
+true_is_false h = cc
+
+pub some_is_none : {A : Type 0} {x : A} → Some x ≡ None → ⊥
+some_is_none h = cc
+
+pub some_pair : {A B : Type 0} {x y : A × B} → Some x ≡ Some y → (x.0 ≡ y.0) × (x.1 ≡ y.1)
+some_pair {A} {B} {x} {y} h = let e : x ≡ y = cc in (ap (λ (p : A × B). p.0) e, ap (λ (p : A × B). p.1) e)
+
+module _ {X T : Type 0} (view : X → T) (R : Place → T → Place → Type 0) where
+  -- the exit of a `?` on the parser's own error, and on one of memory
+  pub refused : (r : Result X Error) (p q : Place) (y e : Error) → r ≡ Err y → y ≡ e → Refuses e (HasNoReading R p) → Gives view R r p q
+  refused r p q y e a b h = rw (a, b) h
+
+  pub out_of_memory : (r : Result X Error) (p q : Place) (y : Error) → r ≡ Err y → y ≡ Memory → Gives view R r p q
+  out_of_memory r p q y a b = rw (a, b) tt
+
+pub Refuses-weaker : (e : Error) {A B : Type 0} → (A → B) → Refuses e A → Refuses e B
+Refuses-weaker Memory f h = tt
+Refuses-weaker (ParseError at kind) f h = f h
+Refuses-weaker (CompileError why) f h = absurd h
+Refuses-weaker (RuntimeError why) f h = absurd h
+
+pub is_at_any_some : (cs t : List ℕ) → is_at_any cs t ≡ true → 0 < length t
+is_at_any_some cs [] h = cc
+is_at_any_some cs (c ∷ t) h = omega arith
+
+-- the readings from p are those from q with these in front
+pub record GoesOn (R : Place → List Pattern → Place → Type 0) (p : Place) (done : List Pattern) (q : Place) : Type 0 where
+  pub forth : (ts : List Pattern) (r : Place) → R q ts r → R p (done ++ ts) r
+  pub back : (ts : List Pattern) (r : Place) → R p ts r → (us : List Pattern) × (ts ≡ done ++ us) × R q us r
+
+pub goes_on_here : (R : Place → List Pattern → Place → Type 0) (p : Place) → GoesOn R p [] p
+goes_on_here R p = record { forth = λ ts r h. h; back = λ ts r h. (ts, refl, h) }
+
+pub goes_on_then : {R : Place → List Pattern → Place → Type 0} {p q r : Place} {a b : List Pattern} → GoesOn R p a q → GoesOn R q b r → GoesOn R p (a ++ b) r
+goes_on_then {R} {p} {q} {r} {a} {b} g h = record {
+  forth = λ ts s x. subst (λ l. R p l s) (sym (append_assoc a b ts)) (g.forth (b ++ ts) s (h.forth ts s x));
+  back = λ ts s x. let y = g.back ts s x in let z = h.back y.0 s y.2 in (z.0, y.1 ∙ (ap (λ l. a ++ l) z.1 ∙ sym (append_assoc a b z.0)), z.2);
+}
+
+-- nothing more belongs to the branch
+pub parts_end : {k : ℕ} {p q : Place} {ts : List Pattern} → Parts k p ts q → ends_branch p.text ≡ true → (ts ≡ []) × (q ≡ p)
+parts_end (none h) e = (refl, refl)
+parts_end (next h i t) e = cc
+
+pub parts_next : {k : ℕ} {p r : Place} {ts : List Pattern} → Parts k p ts r → ends_branch p.text ≡ false →
+    (item : Option Pattern) × (us : List Pattern) × (q : Place) × (ts ≡ with_part item us) × Item k p item q × Parts k q us r
+parts_next (none h) e = cc
+parts_next (next {q = q} {item = item} {ps = us} h i t) e = (item, us, q, refl, i, t)
+
+abbrev pub parts_of : Option Pattern → List Pattern
+parts_of None = []
+parts_of (Some t) = t ∷ []
+
+pub with_part_is : (item : Option Pattern) (us : List Pattern) → with_part item us ≡ parts_of item ++ us
+with_part_is None us = refl
+with_part_is (Some t) us = refl
+
+-- one more item
+pub item_step : {k : ℕ} {p q : Place} {item : Option Pattern} → ends_branch p.text ≡ false → IsTheReading (Item k) p item q → GoesOn (Parts k) p (parts_of item) q
+item_step {k} {p} {q} {item} e h = record {
+  forth = λ ts r x. subst (λ l. Parts k p l r) (with_part_is item ts) (next e h.0 x);
+  back = λ ts r x.
+      let n = parts_next x e in
+      let o = h.1 n.0 n.2 n.4 in
+      (n.1, n.3 ∙ (ap (λ i. with_part i n.1) o.0 ∙ with_part_is item n.1), subst (λ s. Parts k s n.1 r) o.1 n.5);
+}
+
+pub no_item : {k : ℕ} {p q : Place} {done : List Pattern} → GoesOn (Parts k) p done q → ends_branch q.text ≡ false → HasNoReading (Item k) q → HasNoReading (Sequence k) p
+no_item g e nothing t r (ts, is, x) = let y = g.back ts r x in let n = parts_next y.2 e in nothing n.0 n.2 n.4
+
+pub sequence_is : {k : ℕ} {p q : Place} {done : List Pattern} (t : Pattern) → GoesOn (Parts k) p done q → ends_branch q.text ≡ true → t ≡ in_sequence done → IsTheReading (Sequence k) p t q
+sequence_is {k} {p} {q} {done} t g e is = (
+  (done, is, subst (λ l. Parts k p l q) (append-nil done) (g.forth [] q (none e))),
+  λ u r (ts, same, x).
+      let y = g.back ts r x in
+      let z = parts_end y.2 e in
+      (same ∙ (ap in_sequence (y.1 ∙ (ap (λ l. done ++ l) z.0 ∙ append-nil done)) ∙ sym is), z.1),
+)
+
+pub branches_first : {k : ℕ} {p q : Place} {bs : List Pattern} → Branches k p bs q →
+    (ts : List Pattern) × (r : Place) × (others : List Pattern) × Parts k p ts r × (bs ≡ in_sequence ts ∷ others)
+    × (((is_at "|" r.text ≡ false) × (others ≡ []) × (q ≡ r)) ⊎ ((is_at "|" r.text ≡ true) × Branches k (past 1 r) others q))
+branches_first (last {q = q} {ps = ts} h e) = (ts, q, [], h, refl, inl (e, refl, refl))
+branches_first (more {q = q} {ps = ts} {bs = bs} h e b) = (ts, q, bs, h, refl, inr (e, b))
+
+pub no_branch : {k : ℕ} {p q : Place} {done : List Pattern} → GoesOn (Branches k) p done q → HasNoReading (Sequence k) q → HasNoReading (Alternation k) p
+no_branch g nothing t r (bs, is, x) = let y = g.back bs r x in let f = branches_first y.2 in nothing (in_sequence f.0) f.1 (f.0, refl, f.3)
+
+pub branch_step : {k : ℕ} {p q : Place} {t : Pattern} → IsTheReading (Sequence k) p t q → is_at "|" q.text ≡ true → GoesOn (Branches k) p (t ∷ []) (past 1 q)
+branch_step {k} {p} {q} {t} h e = record {
+  forth = λ bs r x. subst (λ u. Branches k p (u ∷ bs) r) (sym h.0.1) (more h.0.2 e x);
+  back = λ bs r x.
+      let f = branches_first x in
+      let o = h.1 (in_sequence f.0) f.1 (f.0, refl, f.3) in
+      elim f.5 [
+        | inl l ↦ absurd (true_is_false (sym e ∙ (ap (λ (s : Place). is_at "|" s.text) (sym o.1) ∙ l.0)))
+        | inr l ↦ (f.2, f.4 ∙ ap (λ u. u ∷ f.2) o.0, subst (λ s. Branches k (past 1 s) f.2 r) o.1 l.1)
+      ];
+}
+
+pub alternation_is : {k : ℕ} {p q r : Place} {done : List Pattern} {t : Pattern} (whole : Pattern) → GoesOn (Branches k) p done q → IsTheReading (Sequence k) q t r
+    → is_at "|" r.text ≡ false → whole ≡ in_branches (done ++ t ∷ []) → IsTheReading (Alternation k) p whole r
+alternation_is {k} {p} {q} {r} {done} {t} whole g h e is = (
+  (done ++ t ∷ [], is, g.forth (t ∷ []) r (subst (λ u. Branches k q (u ∷ []) r) (sym h.0.1) (last h.0.2 e))),
+  λ u s (bs, same, x).
+      let y = g.back bs s x in
+      let f = branches_first y.2 in
+      let o = h.1 (in_sequence f.0) f.1 (f.0, refl, f.3) in
+      elim f.5 [
+        | inl l ↦ (same ∙ (ap in_branches (y.1 ∙ ap (λ v. done ++ v) (f.4 ∙ (ap (λ v. in_sequence f.0 ∷ v) l.1 ∙ ap (λ v. v ∷ []) o.0))) ∙ sym is), l.2 ∙ o.1)
+        | inr l ↦ absurd (true_is_false (sym l.0 ∙ (ap (λ (s : Place). is_at "|" s.text) o.1 ∙ e)))
+      ],
+)
+
+-- an item that is no group
+pub item_single : {k : ℕ} {p r : Place} {item : Option Pattern} → Item k p item r → is_at "(" p.text ≡ false →
+    (a : Pattern) × (q : Place) × (t : Pattern) × (atom p ≡ Some (a, q)) × (quantified a q ≡ Some (t, r)) × (item ≡ Some t)
+item_single (single {q = q} {a = a} {x = t} h f g) e = (a, q, t, f, g, refl)
+item_single (grouped h o b c f) e = absurd (true_is_false (sym h ∙ e))
+
+pub no_atom : {k : ℕ} {p : Place} → is_at "(" p.text ≡ false → atom p ≡ None → HasNoReading (Item k) p
+no_atom e nothing i r x = let s = item_single x e in some_is_none (sym s.3 ∙ nothing)
+
+pub no_quantified : {k : ℕ} {p q : Place} {a : Pattern} → is_at "(" p.text ≡ false → atom p ≡ Some (a, q) → quantified a q ≡ None → HasNoReading (Item k) p
+no_quantified e found nothing i r x =
+    let s = item_single x e in
+    let same = some_pair (sym s.3 ∙ found) in
+    some_is_none (sym s.4 ∙ (ap₂ quantified same.0 same.1 ∙ nothing))
+
+pub single_is : {k : ℕ} {p q r : Place} {a t : Pattern} → is_at "(" p.text ≡ false → atom p ≡ Some (a, q) → quantified a q ≡ Some (t, r) → IsTheReading (Item k) p (Some t) r
+single_is e found given = (
+  single e found given,
+  λ i s x.
+      let n = item_single x e in
+      let same = some_pair (sym n.3 ∙ found) in
+      let done = some_pair (sym n.4 ∙ (ap₂ quantified same.0 same.1 ∙ given)) in
+      (n.5 ∙ ap Some done.0, done.1),
+)
+
+pub quantified_single : (k : ℕ) (p s : Place) {q : Place} {a : Pattern} (r : Result Tree Error) → is_at "(" p.text ≡ false → atom p ≡ Some (a, q) → GivesValue pattern_of (quantified a q) r s → Gives part_of (Item k) r p s
+quantified_single k p s (Ok x) e found h = single_is e found h
+quantified_single k p s (Err y) e found h = Refuses-weaker y (no_quantified e found) h
+
+-- an item that begins with a parenthesis: what is inside, and what follows it
+pub record Body (k : ℕ) (p r : Place) (item : Option Pattern) : Type 0 where
+  pub how : Opening
+  pub inside : Place
+  pub room : ℕ
+  pub branches : List Pattern
+  pub end : Place
+  pub quantity : Pattern
+  pub opens : opening p ≡ Some (how, inside)
+  pub deeper : k ≡ suc room
+  pub reads : Branches room inside branches end
+  pub closes : is_at ")" end.text ≡ true
+  pub given : quantified (wrap how (in_branches branches)) (closed p end) ≡ Some (quantity, r)
+  pub is : item ≡ Some quantity
+
+pub item_body : {k : ℕ} {p r : Place} {item : Option Pattern} → is_at "(" p.text ≡ true → Item k p item r → Body k p r item
+item_body e (single h f g) = absurd (true_is_false (sym e ∙ h))
+item_body e (grouped {k = j} {inside = inside} {q = q} {how = how} {bs = bs} {x = x} h o b c f) =
+    record { how = how; inside = inside; room = j; branches = bs; end = q; quantity = x; opens = o; deeper = refl; reads = b; closes = c; given = f; is = refl }
+
+pub no_opening : {k : ℕ} {p : Place} → is_at "(" p.text ≡ true → opening p ≡ None → HasNoReading (Item k) p
+no_opening e nothing i r x = let b = item_body e x in some_is_none (sym b.opens ∙ nothing)
+
+pub no_room : {k : ℕ} {p : Place} → is_at "(" p.text ≡ true → k ≡ 0 → HasNoReading (Item k) p
+no_room e z i r x = let b = item_body e x in absurd (omega (arith, z, b.deeper))
+
+module _ {k j : ℕ} {p inside : Place} {how : Opening} (e : is_at "(" p.text ≡ true) (found : opening p ≡ Some (how, inside)) (deeper : k ≡ j + 1) where
+  pub body_reads : {r : Place} {item : Option Pattern} → Item k p item r → (bs : List Pattern) × (q : Place) × (t : Pattern) × Branches j inside bs q × (is_at ")" q.text ≡ true)
+      × (quantified (wrap how (in_branches bs)) (closed p q) ≡ Some (t, r)) × (item ≡ Some t)
+  body_reads {r} {item} x =
+      let b = item_body e x in
+      let same : b.room ≡ j = omega (arith, b.deeper, deeper) in
+      let opened = some_pair (sym b.opens ∙ found) in (
+        b.branches,
+        b.end,
+        b.quantity,
+        subst (λ m. Branches m inside b.branches b.end) same (subst (λ s. Branches b.room s b.branches b.end) opened.1 b.reads),
+        b.closes,
+        ap (λ h. quantified (wrap h (in_branches b.branches)) (closed p b.end)) (sym opened.0) ∙ b.given,
+        b.is,
+      )
+
+  pub no_body : HasNoReading (Alternation j) inside → HasNoReading (Item k) p
+  no_body nothing i r x = let b = body_reads x in nothing (in_branches b.0) b.1 (b.0, refl, b.3)
+
+  pub unclosed : {t : Pattern} {q : Place} → IsTheReading (Alternation j) inside t q → is_at ")" q.text ≡ false → HasNoReading (Item k) p
+  unclosed h f i r x =
+      let b = body_reads x in
+      let o = h.1 (in_branches b.0) b.1 (b.0, refl, b.3) in
+      true_is_false (sym b.4 ∙ (ap (λ (s : Place). is_at ")" s.text) o.1 ∙ f))
+
+  pub no_quantified_group : {t u : Pattern} {q : Place} → IsTheReading (Alternation j) inside t q → u ≡ wrap how t → quantified u (closed p q) ≡ None → HasNoReading (Item k) p
+  no_quantified_group {t} {u} {q} h made nothing i r x =
+      let b = body_reads x in
+      let o = h.1 (in_branches b.0) b.1 (b.0, refl, b.3) in
+      some_is_none (sym b.5 ∙ (ap₂ (λ (v : Pattern) (s : Place). quantified (wrap how v) (closed p s)) o.0 o.1 ∙ (ap (λ v. quantified v (closed p q)) (sym made) ∙ nothing)))
+
+  pub group_is : {t u v : Pattern} {q r : Place} → IsTheReading (Alternation j) inside t q → is_at ")" q.text ≡ true → u ≡ wrap how t → quantified u (closed p q) ≡ Some (v, r) → IsTheReading (Item k) p (Some v) r
+  group_is {t} {u} {v} {q} {r} h closes made given = (
+    subst (λ m. Item m p (Some v) r) (sym (deeper ∙ add-one j)) (grouped e found h.0.2 closes (ap (λ w. quantified (wrap how w) (closed p q)) (sym h.0.1) ∙ (ap (λ w. quantified w (closed p q)) (sym made) ∙ given))),
+    λ i s x.
+        let b = body_reads x in
+        let o = h.1 (in_branches b.0) b.1 (b.0, refl, b.3) in
+        let done = some_pair (sym b.5 ∙ (ap₂ (λ (w : Pattern) (y : Place). quantified (wrap how w) (closed p y)) o.0 o.1 ∙ (ap (λ w. quantified w (closed p q)) (sym made) ∙ given))) in
+        (b.6 ∙ ap Some done.0, done.1),
+  )
+
+pub quantified_group : (k : ℕ) (p s : Place) {j : ℕ} {inside q : Place} {how : Opening} {t u : Pattern} (r : Result Tree Error) → is_at "(" p.text ≡ true → opening p ≡ Some (how, inside) → k ≡ j + 1
+    → IsTheReading (Alternation j) inside t q → is_at ")" q.text ≡ true → u ≡ wrap how t → GivesValue pattern_of (quantified u (closed p q)) r s → Gives part_of (Item k) r p s
+quantified_group k p s (Ok x) e found deeper h closes made given = group_is e found deeper h closes made given
+quantified_group k p s (Err y) e found deeper h closes made given = Refuses-weaker y (no_quantified_group e found deeper h made) given
+
+pub no_whole_reading : {s : Scope} {text : Text} {p : Place} → p ≡ start s text → HasNoReading (Alternation 64) p → (t : Pattern) (end : Place) → Reads s text t end → ⊥
+no_whole_reading is nothing t end x = nothing t end (x.branches, x.is, subst (λ y. Branches 64 y x.branches end) (sym is) x.reads)
+
+pub not_whole : {s : Scope} {text : Text} {p q : Place} {found : Pattern} → p ≡ start s text → IsTheReading (Alternation 64) p found q → (q.text ≡ [] → ⊥) → (t : Pattern) (end : Place) → Reads s text t end → ⊥
+not_whole is h left t end x =
+    let o = h.1 t end (x.branches, x.is, subst (λ y. Branches 64 y x.branches end) (sym is) x.reads) in
+    left (ap (λ (s : Place). s.text) (sym o.1) ∙ x.all)
+
+pub whole_reading_is : {s : Scope} {text : Text} {p q : Place} {found : Pattern} → p ≡ start s text → IsTheReading (Alternation 64) p found q → q.text ≡ [] →
+    ((end : Place) × Reads s text found end) × ((t : Pattern) (end : Place) → Reads s text t end → t ≡ found)
+whole_reading_is {s} {text} {p} {q} is h all = (
+  (q, record { branches = h.0.0; is = h.0.1; reads = subst (λ y. Branches 64 y h.0.0 q) is h.0.2; all = all }),
+  λ t end x. (h.1 t end (x.branches, x.is, subst (λ y. Branches 64 y x.branches end) (sym is) x.reads)).0,
+)
+
+is_zero : (n : ℕ) → true ≡ (n == 0) → n ≡ 0
+is_zero n h = grind (arith, nat_tests)
+
+pub nothing_left : (t : Text) → true ≡ (length t == 0) → t ≡ []
+nothing_left t h = nil_from_length t (is_zero (length t) h)
+
+pub some_left : (t : Text) → false ≡ (length t == 0) → t ≡ [] → ⊥
+some_left [] h e = cc
+some_left (c ∷ t) h e = cc

@@ -1,0 +1,253 @@
+-- A text that spells something is read so, and what is read is spelled so.
+use Rattle.std.proofs.Common.{◌≡◌, ℕ, suc, ◌==◌, ◌||◌, ◌&&◌, not, Bool, true, false, List, [], ◌∷◌, ◌++◌, Option, Some, None, length, drop, take, refl, sym, ap, ◌∙◌, subst, append_assoc, append-nil, arith, ◌⊎◌, inl, inr, cond, codes, nat_eq}
+use Rattle.std.specs.List.{starts_with}
+use Rattle.std.proofs.lemmas.Bool.Decides.{nat_tests}
+use Rattle.std.proofs.lemmas.List.{take-append-drop}
+use Rattle.std.specs.Cmp.Lexicographic.{same_text}
+use Rattle.fancy_syntax.specs.declared.tree.Taste.{Taste}
+use Rattle.fancy_syntax.specs.Pattern.{Pattern, repeat, in_branches}
+use Rattle.fancy_syntax.specs.Sizes.{is_empty}
+use Rattle.fancy_syntax.specs.Words.{Text, is_at_any, is_at, begins, begins_count}
+use Rattle.fancy_syntax.specs.Dialect as d
+use Rattle.fancy_syntax.specs.Dialect.{Scope, back_to, is_special, is_escapable, literal_of, begins_quantifier, Quantifies, greedy_optional, lazy_optional, with_part}
+use Rattle.fancy_syntax.specs.Grammar as g
+use Rattle.fancy_syntax.specs.Grammar.{Place, past, opening, atom, wrap, closed, ends_branch, start}
+use Rattle.fancy_syntax.proofs.ReadingLemmas.{some_pair, some_is_none}
+
+either_false : (a b : Bool) → (a || b) ≡ false → (a ≡ false) × (b ≡ false)
+either_false true b h = cc
+either_false false b h = (refl, h)
+
+-- a literal is none of the special characters
+pub other_than : (c d : ℕ) → is_special c ≡ false → is_special d ≡ true → (d == c) ≡ false
+other_than c d h n = go (d == c) refl
+  where
+    go : (b : Bool) → (d == c) ≡ b → b ≡ false
+    go true e = let same : d ≡ c = grind (arith, nat_tests) in absurd (let no : false ≡ true = sym h ∙ (ap is_special (sym same) ∙ n) in cc)
+    go false e = refl
+
+pub no_paren : (c : ℕ) (t : Text) → is_special c ≡ false → is_at "(" (c ∷ t) ≡ false
+no_paren c t h = rw (other_than c 40 h refl) refl
+
+pub no_end : (c : ℕ) (t : Text) → is_special c ≡ false → ends_branch (c ∷ t) ≡ false
+no_end c t h = rw (other_than c 124 h refl, other_than c 41 h refl) refl
+
+-- What is spelled begins as an item may, and not where a branch ends.
+pub atom_begins : {k : ℕ} {s q : Scope} {t after : Text} {a : Pattern} → d.Atom k s t after a q → (rest : Text) → ends_branch (t ++ rest) ≡ false
+atom_begins (d.literal c h n) rest = no_end c rest h
+atom_begins (d.escaped c h) rest = refl
+atom_begins (d.plain b) rest = refl
+
+pub item_begins : {k : ℕ} {s q : Scope} {t after : Text} {x : Option Pattern} → d.Item k s t after x q → ends_branch (t ++ after) ≡ false
+item_begins (d.bare {after = after} a h) = atom_begins a after
+item_begins (d.quantified {t = t} {u = u} {after = after} a e h) = rw (append_assoc t u after) (atom_begins a (u ++ after))
+
+-- the quantifier that is spelled is read
+pub mark_is_read : {u after : Text} {low : ℕ} {high : Option ℕ} {taste : Taste} → Quantifies u after low high taste → (a : Pattern) (s : Scope) → is_empty a ≡ false
+    → g.quantified a (start s (u ++ after)) ≡ Some (repeat low high taste a, start s after)
+mark_is_read (greedy_optional {after = []} h) a s e = rw e refl
+mark_is_read (greedy_optional {after = c ∷ rest} h) a s e =
+    let m = either_false (63 == c) ((43 == c) || false) h in
+    let n = either_false (43 == c) false m.1 in
+    rw (e, m.0, n.0) refl
+mark_is_read (lazy_optional {after = after}) a s e = rw e refl
+
+pub bare_is_read : (a : Pattern) (s : Scope) (after : Text) → begins_quantifier after ≡ false → g.quantified a (start s after) ≡ Some (a, start s after)
+bare_is_read a s after h = rw h refl
+
+pub literal_is_read : (c : ℕ) (s : Scope) (after : Text) → is_special c ≡ false → begins_count (c ∷ after) ≡ false → atom (start s (c ∷ after)) ≡ Some (literal_of s.meaning c, start s after)
+literal_is_read c s [] h n = rw (h, n) refl
+literal_is_read c s (x ∷ rest) h n = let e = other_than c 92 h refl in let f = rw e at h in rw (e, f, n) refl
+
+pub escaped_is_read : (c : ℕ) (s : Scope) (after : Text) → is_escapable c ≡ true → atom (start s (92 ∷ c ∷ after)) ≡ Some (literal_of s.meaning c, start s after)
+escaped_is_read c s after h = rw h refl
+
+mutual
+  pub read_branches : {k : ℕ} {s r : Scope} {t after : Text} {bs : List Pattern} → d.Branches k s t after bs r → ends_branch after ≡ true → is_at "|" after ≡ false → g.Branches k (start s (t ++ after)) bs (start r after)
+  read_branches (d.one p) e f = g.last (read_parts p e) f
+  read_branches {after = after} (d.either {q = q} {t = t} {u = u} p b) e f = rw (append_assoc t (124 ∷ u) after) (g.more (read_parts p refl) refl (read_branches b e f))
+
+  pub read_parts : {k : ℕ} {s r : Scope} {t after : Text} {ps : List Pattern} → d.Parts k s t after ps r → ends_branch after ≡ true → g.Parts k (start s (t ++ after)) ps (start r after)
+  read_parts d.nothing e = g.none e
+  read_parts {after = after} (d.item {q = q} {t = t} {u = u} i p) e = rw (append_assoc t u after) (g.next (item_begins i) (read_item i) (read_parts p e))
+
+  pub read_item : {k : ℕ} {s r : Scope} {t after : Text} {x : Option Pattern} → d.Item k s t after x r → g.Item k (start s (t ++ after)) x (start r after)
+  read_item (d.bare {q = q} {after = after} {a = a} b h) = read_atom b (bare_is_read a q after h)
+  read_item (d.quantified {q = q} {t = t} {u = u} {after = after} {a = a} b e h) = rw (append_assoc t u after) (read_atom b (mark_is_read h a q e))
+
+  pub read_atom : {k : ℕ} {s q : Scope} {t after : Text} {a x : Pattern} {r : Place} → d.Atom k s t after a q → g.quantified a (start q after) ≡ Some (x, r) → g.Item k (start s (t ++ after)) (Some x) r
+  read_atom {s = s} {after = after} (d.literal c h n) f = g.single (no_paren c after h) (literal_is_read c s after h n) f
+  read_atom {s = s} {after = after} (d.escaped c h) f = g.single refl (escaped_is_read c s after h) f
+  read_atom {after = after} (d.plain {t = t} b) f = rw (append_assoc t (41 ∷ []) after) (g.grouped refl refl (read_branches b refl refl) refl f)
+
+-- which way a test went
+pub chosen : {A : Type 0} (b : Bool) (x y z : A) → cond b x y ≡ z → ((b ≡ true) × (x ≡ z)) ⊎ ((b ≡ false) × (y ≡ z))
+chosen true x y z h = inl (refl, h)
+chosen false x y z h = inr (refl, h)
+
+pub begins_with : (w t : Text) → starts_with nat_eq t w ≡ true → t ≡ w ++ drop (length w) t
+begins_with w t h = sym (take-append-drop (length w) t) ∙ ap (λ l. l ++ drop (length w) t) (sym (same_text w (take (length w) t) (sym h)))
+
+pub at_char : (c : ℕ) (t : Text) → is_at_any (c ∷ []) t ≡ true → t ≡ c ∷ drop 1 t
+at_char c [] h = cc
+at_char c (x ∷ t) h = ap (λ y. y ∷ t) (sym (same_char (c == x) h refl))
+  where
+    same_char : (b : Bool) → (b || false) ≡ true → (c == x) ≡ b → c ≡ x
+    same_char true h e = grind (arith, nat_tests)
+    same_char false h e = cc
+
+not_true : (b : Bool) → not b ≡ true → b ≡ false
+not_true true h = cc
+not_true false h = refl
+
+not_false : (b : Bool) → not b ≡ false → b ≡ true
+not_false true h = refl
+not_false false h = cc
+
+-- no longer quantifier than `?` stands at its place
+whole_mark : (u : Text) → begins "??" (63 ∷ u) ≡ false → begins "?+" (63 ∷ u) ≡ false → is_at "?+" u ≡ false
+whole_mark [] h f = refl
+whole_mark (x ∷ u) h f = go (63 == x) (43 == x) h f
+  where
+    go : (a b : Bool) → (a && true) ≡ false → (b && true) ≡ false → (a || (b || false)) ≡ false
+    go true b h f = cc
+    go false true h f = cc
+    go false false h f = refl
+
+-- what a parenthesis may open
+pub data Opened (p : Place) : g.Opening → Place → Type 0 where
+  as_plain : (u : Text) → p.text ≡ codes "(?:" ++ u → Opened p g.plain (start p.scope u)
+
+pub opened : (p : Place) (how : g.Opening) (q : Place) → opening p ≡ Some (how, q) → Opened p how q
+opened p how q h =
+    elim (chosen (begins "(?:" p.text) _ _ _ h) [
+      | inl x ↦ is_it x.1 (as_plain (drop 3 p.text) (begins_with (codes "(?:") p.text x.0))
+      | inr x ↦ absurd (some_is_none (sym x.1))
+    ]
+  where
+    is_it : {a : g.Opening} {b : Place} → ◌≡◌ {A = Option (g.Opening × Place)} (Some (a, b)) (Some (how, q)) → Opened p a b → Opened p how q
+    is_it {a} {b} s o = let t = some_pair s in subst (λ x. Opened p x q) t.0 (subst (λ y. Opened p a y) t.1 o)
+
+-- the quantifier that was read, or none
+pub data Quantity (a : Pattern) (q : Place) : Pattern → Place → Type 0 where
+  no_mark : begins_quantifier q.text ≡ false → Quantity a q a q
+  marked : {low : ℕ} {high : Option ℕ} {taste : Taste} (m u : Text) → q.text ≡ m ++ u → is_empty a ≡ false → Quantifies m u low high taste → Quantity a q (repeat low high taste a) (start q.scope u)
+
+pub quantity : (a : Pattern) (q : Place) (t : Pattern) (r : Place) → g.quantified a q ≡ Some (t, r) → Quantity a q t r
+quantity a q t r h =
+    elim (chosen (not (begins_quantifier q.text)) _ _ _ h) [
+      | inl x ↦ is_it x.1 (no_mark (not_true _ x.0))
+      | inr x ↦ elim (chosen (is_empty a || not (is_at "?" q.text) || begins "?+" q.text) _ _ _ x.1) [
+        | inl x ↦ absurd (some_is_none (sym x.1))
+        | inr x ↦
+            let f = none_of_three (is_empty a) (not (is_at "?" q.text)) (begins "?+" q.text) x.0 in
+            elim (chosen (begins "??" q.text) _ _ _ x.1) [
+              | inl x ↦ is_it x.1 (marked (codes "??") (drop 2 q.text) (begins_with (codes "??") q.text x.0) f.0 lazy_optional)
+              | inr x ↦
+                  let is = at_char 63 q.text (not_false _ f.1) in
+                  is_it x.1 (marked (codes "?") (drop 1 q.text) is f.0 (greedy_optional (whole_mark (drop 1 q.text) (rw is at x.0) (rw is at f.2))))
+            ]
+      ]
+    ]
+  where
+    none_of_three : (a b c : Bool) → ((a || b) || c) ≡ false → (a ≡ false) × (b ≡ false) × (c ≡ false)
+    none_of_three true b c h = cc
+    none_of_three false true c h = cc
+    none_of_three false false c h = (refl, refl, h)
+
+    is_it : {u : Pattern} {b : Place} → ◌≡◌ {A = Option (Pattern × Place)} (Some (u, b)) (Some (t, r)) → Quantity a q u b → Quantity a q t r
+    is_it {u} {b} s o = let e = some_pair s in subst (λ x. Quantity a q x r) e.0 (subst (λ y. Quantity a q u y) e.1 o)
+
+pub atom_is : (p : Place) (a : Pattern) (q : Place) → atom p ≡ Some (a, q) → (w : Text) × (p.text ≡ w ++ q.text) × ((k : ℕ) → d.Atom k p.scope w q.text a q.scope)
+atom_is p a q h = go p.text refl h
+  where
+    plainly : (c : ℕ) (t : Text) → p.text ≡ c ∷ t → cond {A = Option (Pattern × Place)} (is_special c || begins_count (c ∷ t)) None (Some (literal_of p.scope.meaning c, past 1 p)) ≡ Some (a, q) →
+        (w : Text) × (p.text ≡ w ++ q.text) × ((k : ℕ) → d.Atom k p.scope w q.text a q.scope)
+    plainly c t e h =
+        elim (chosen (is_special c || begins_count (c ∷ t)) _ _ _ h) [
+          | inl x ↦ absurd (some_is_none (sym x.1))
+          | inr x ↦
+              let s = some_pair x.1 in
+              let n = either_false (is_special c) (begins_count (c ∷ t)) x.0 in
+              let behind : t ≡ drop 1 p.text = ap (drop 1) (sym e) in
+              let no = subst (λ l. begins_count (c ∷ l) ≡ false) behind n.1 in (
+                c ∷ [],
+                e ∙ ap (λ l. c ∷ l) (behind ∙ ap (λ (y : Place). y.text) s.1),
+                λ k. subst (λ (y : Place). d.Atom k p.scope (c ∷ []) y.text a y.scope) s.1 (subst (λ b. d.Atom k p.scope (c ∷ []) (drop 1 p.text) b p.scope) s.0 (d.literal c n.0 no)),
+              )
+        ]
+
+    go : (t : Text) → p.text ≡ t → g.atom_in p t ≡ Some (a, q) → (w : Text) × (p.text ≡ w ++ q.text) × ((k : ℕ) → d.Atom k p.scope w q.text a q.scope)
+    go [] e h = absurd (some_is_none (sym h))
+    go (c ∷ []) e h = plainly c [] e h
+    go (c ∷ x ∷ t) e h =
+        elim (chosen (is_at "\\" (c ∷ [])) _ _ _ h) [
+          | inl y ↦ elim (chosen (is_escapable x) _ _ _ y.1) [
+            | inl z ↦
+                let s = some_pair z.1 in
+                let is : c ∷ x ∷ t ≡ 92 ∷ x ∷ t = ap (λ l. l ++ x ∷ t) (at_char 92 (c ∷ []) y.0) in (
+                  92 ∷ x ∷ [],
+                  e ∙ (is ∙ ap (λ l. 92 ∷ x ∷ l) (ap (drop 2) (sym e) ∙ ap (λ (y : Place). y.text) s.1)),
+                  λ k. subst (λ (y : Place). d.Atom k p.scope (92 ∷ x ∷ []) y.text a y.scope) s.1 (subst (λ b. d.Atom k p.scope (92 ∷ x ∷ []) (drop 2 p.text) b p.scope) s.0 (d.escaped x z.0)),
+                )
+            | inr z ↦ absurd (some_is_none (sym z.1))
+          ]
+          | inr y ↦ plainly c (x ∷ t) e y.1
+        ]
+
+-- an atom with what quantifies it
+pub spell_quantity : {k : ℕ} {s : Scope} {a t : Pattern} {q r : Place} {w : Text} → d.Atom k s w q.text a q.scope → Quantity a q t r → (v : Text) × (w ++ q.text ≡ v ++ r.text) × d.Item k s v r.text (Some t) r.scope
+spell_quantity {w = w} b (no_mark h) = (w, refl, d.bare b h)
+spell_quantity {k} {s} {a} {q = q} {w = w} b (marked m u e f h) =
+    (w ++ m, ap (λ l. w ++ l) e ∙ sym (append_assoc w m u), d.quantified (subst (λ l. d.Atom k s w l a q.scope) e b) f h)
+
+-- the group that a parenthesis opens, from what is inside it
+spell_group : {k : ℕ} {p inside : Place} {how : g.Opening} {t after : Text} {bs : List Pattern} {s : Scope} → Opened p how inside → inside.text ≡ t ++ 41 ∷ after
+    → d.Branches k inside.scope t (41 ∷ after) bs s → (w : Text) × (p.text ≡ w ++ after) × d.Atom (suc k) p.scope w after (wrap how (in_branches bs)) (back_to p.scope s)
+spell_group {t = t} {after = after} (as_plain u e) i b = (codes "(?:" ++ (t ++ codes ")"), e ∙ ap (λ l. codes "(?:" ++ l) (i ∙ sym (append_assoc t (41 ∷ []) after)), d.plain b)
+
+mutual
+  pub spell_branches : {k : ℕ} {p r : Place} {bs : List Pattern} → g.Branches k p bs r → (t : Text) × (p.text ≡ t ++ r.text) × d.Branches k p.scope t r.text bs r.scope
+  spell_branches (g.last b e) = let x = spell_parts b in (x.0, x.1, d.one x.2)
+  spell_branches {k} {p} {r} (g.more {q = q} {ps = ps} b e c) =
+      let x = spell_parts b in
+      let y = spell_branches c in
+      let is : q.text ≡ 124 ∷ (y.0 ++ r.text) = at_char 124 q.text e ∙ ap (λ l. 124 ∷ l) y.1 in
+      (x.0 ++ (124 ∷ y.0), x.1 ∙ (ap (λ l. x.0 ++ l) is ∙ sym (append_assoc x.0 (124 ∷ y.0) r.text)), d.either (subst (λ l. d.Parts k p.scope x.0 l ps q.scope) is x.2) y.2)
+
+  pub spell_parts : {k : ℕ} {p r : Place} {ps : List Pattern} → g.Parts k p ps r → (t : Text) × (p.text ≡ t ++ r.text) × d.Parts k p.scope t r.text ps r.scope
+  spell_parts (g.none e) = ([], refl, d.nothing)
+  spell_parts {k} {p} {r} (g.next {q = q} {item = item} h i ps) =
+      let x = spell_item i in
+      let y = spell_parts ps in
+      (x.0 ++ y.0, x.1 ∙ (ap (λ l. x.0 ++ l) y.1 ∙ sym (append_assoc x.0 y.0 r.text)), d.item (subst (λ l. d.Item k p.scope x.0 l item q.scope) y.1 x.2) y.2)
+
+  pub spell_item : {k : ℕ} {p r : Place} {x : Option Pattern} → g.Item k p x r → (t : Text) × (p.text ≡ t ++ r.text) × d.Item k p.scope t r.text x r.scope
+  spell_item {k} {p} (g.single {q = q} {r = r} {a = a} {x = x} e f h) =
+      let w = atom_is p a q f in
+      let y = spell_quantity (w.2 k) (quantity a q x r h) in
+      (y.0, w.1 ∙ y.1, y.2)
+  spell_item {p = p} (g.grouped {k = k} {inside = inside} {q = q} {r = r} {how = how} {bs = bs} {x = x} e o b c f) =
+      let y = spell_branches b in
+      let is : q.text ≡ 41 ∷ drop 1 q.text = at_char 41 q.text c in
+      let w = spell_group (opened p how inside o) (y.1 ∙ ap (λ l. y.0 ++ l) is) (subst (λ l. d.Branches k inside.scope y.0 l bs q.scope) is y.2) in
+      let z = spell_quantity w.2 (quantity _ _ x r f) in
+      (z.0, w.1 ∙ z.1, z.2)
+
+pub spelling_read : {s : Scope} {text : Text} {p : Pattern} {end : Scope} → d.Spells s text p end → g.Reads s text p (start end [])
+spelling_read {s} {text} {p} {end} x = record {
+  branches = x.branches;
+  is = x.is;
+  reads = subst (λ l. g.Branches 64 (start s l) x.branches (start end [])) (append-nil text) (read_branches x.spelled refl refl);
+  all = refl;
+}
+
+pub reading_spelled : {s : Scope} {text : Text} {p : Pattern} {end : Place} → g.Reads s text p end → d.Spells s text p end.scope
+reading_spelled {s} {text} {p} {end} x =
+    let y = spell_branches x.reads in
+    let same : y.0 ≡ text = sym (append-nil y.0) ∙ (ap (λ l. y.0 ++ l) (sym x.all) ∙ sym y.1) in
+    record {
+      branches = x.branches;
+      is = x.is;
+      spelled = subst (λ l. d.Branches 64 s l [] x.branches end.scope) same (subst (λ l. d.Branches 64 s y.0 l x.branches end.scope) x.all y.2);
+    }

@@ -1,0 +1,33 @@
+use Rattle.std.proofs.Common.{◌+◌, ◌*◌, ◌≤◌, length, map}
+use Rattle.fancy_syntax.specs.Views.{place}
+use Rattle.fancy_syntax.specs.Pattern.{pattern_of}
+use Rattle.fancy_syntax.specs.Grammar.{Parts, Branches}
+use Rattle.fancy_syntax.proofs.ReadingLemmas.{GoesOn}
+use Rattle.fancy_syntax.proofs.parser.Parser.+parser.Given as goal
+
+abbrev pub decreases-alternation : goal.decreases-alternation
+decreases-alternation l = 3 * l.room + 2
+
+abbrev pub decreases-sequence : goal.decreases-sequence
+decreases-sequence l = 3 * l.room + 1
+
+abbrev pub decreases-item : goal.decreases-item
+decreases-item l = 3 * l.room
+
+abbrev pub invariant-alternation-loop-found : goal.invariant-alternation-loop-found
+invariant-alternation-loop-found l = record {
+  goes_on : GoesOn (Branches l.room) (place l.fn.self) (map pattern_of l.found.items) (place l.self);
+  forward : length l.self.rest.now ≤ length l.fn.self.rest.now;
+}
+
+abbrev pub decreases-alternation-loop-found : goal.decreases-alternation-loop-found
+decreases-alternation-loop-found l = length l.self.rest.now
+
+abbrev pub invariant-sequence-loop-self : goal.invariant-sequence-loop-self
+invariant-sequence-loop-self l = record {
+  goes_on : GoesOn (Parts l.room) (place l.fn.self) (map pattern_of l.parts.items) (place l.self);
+  forward : length l.self.rest.now ≤ length l.fn.self.rest.now;
+}
+
+abbrev pub decreases-sequence-loop-self : goal.decreases-sequence-loop-self
+decreases-sequence-loop-self l = length l.self.rest.now

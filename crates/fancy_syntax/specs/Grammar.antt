@@ -1,0 +1,85 @@
+-- The dialect as it is read: a text is read from one place to another, and nothing here says in which order. Lemmas show that this reading and `Dialect` give the same patterns.
+use Rattle.std.specs.Prelude.{◌≡◌, ℕ, suc, Bool, true, false, not, ◌||◌, List, [], ◌∷◌, drop, Option, Some, None, if◌then◌else◌}
+use Rattle.fancy_syntax.specs.declared.tree.Taste.TheVariants.{Greedy, Lazy}
+use Rattle.fancy_syntax.specs.Pattern.{Pattern, repeat, in_sequence, in_branches}
+use Rattle.fancy_syntax.specs.Sizes.{is_empty}
+use Rattle.fancy_syntax.specs.Words.{Text, ◌∈◌, is_at, begins, begins_count}
+use Rattle.fancy_syntax.specs.Dialect.{Scope, back_to, is_special, is_escapable, literal_of, begins_quantifier, with_part}
+
+-- a place in a pattern: what follows, and what is in force there
+pub record Place : Type 0 where
+  pub text : Text
+  pub scope : Scope
+
+-- the place after the next n characters
+abbrev pub past : ℕ → Place → Place
+past n p = record p { text = drop n p.text }
+
+-- what a parenthesis opens
+pub data Opening : Type 0 where
+  -- a group that captures nothing
+  plain : Opening
+
+-- what a group makes of the pattern inside it
+abbrev pub wrap : Opening → Pattern → Pattern
+wrap plain p = p
+
+-- what the parenthesis here opens, and the place behind that
+abbrev pub opening : Place → Option (Opening × Place)
+opening p = if begins "(?:" p.text then Some (plain, past 3 p) else None
+
+-- the pattern of one character, or of a backslash and what it escapes, that begins here
+abbrev pub atom_in : Place → Text → Option (Pattern × Place)
+atom_in p [] = None
+atom_in p (c ∷ []) = if is_special c || begins_count (c ∷ []) then None else Some (literal_of p.scope.meaning c, past 1 p)
+atom_in p (c ∷ d ∷ t) =
+    if c ∈ "\\" then (if is_escapable d then Some (literal_of p.scope.meaning d, past 2 p) else None)
+    else if is_special c || begins_count (c ∷ d ∷ t) then None else Some (literal_of p.scope.meaning c, past 1 p)
+
+abbrev pub atom : Place → Option (Pattern × Place)
+atom p = atom_in p p.text
+
+-- the pattern with the quantifier that stands here, if one does
+abbrev pub quantified : Pattern → Place → Option (Pattern × Place)
+quantified a p =
+    if not (begins_quantifier p.text) then Some (a, p)
+    else if is_empty a || not (is_at "?" p.text) || begins "?+" p.text then None
+    else if begins "??" p.text then Some (repeat 0 (Some 1) Lazy a, past 2 p)
+    else Some (repeat 0 (Some 1) Greedy a, past 1 p)
+
+-- the place behind a group, which was opened outside and whose inside ends at q
+abbrev pub closed : Place → Place → Place
+closed outside q = record { text = drop 1 q.text; scope = back_to outside.scope q.scope }
+
+-- nothing more belongs to this branch
+abbrev pub ends_branch : Text → Bool
+ends_branch [] = true
+ends_branch (c ∷ t) = c ∈ "|)"
+
+-- The number says how many parentheses more may be open at one place.
+mutual
+  -- branches, joined by `|`, up to the end of the group or the pattern
+  pub data Branches : ℕ → Place → List Pattern → Place → Type 0 where
+    last : {k : ℕ} {p q : Place} {ps : List Pattern} → Parts k p ps q → is_at "|" q.text ≡ false → Branches k p (in_sequence ps ∷ []) q
+    more : {k : ℕ} {p q r : Place} {ps bs : List Pattern} → Parts k p ps q → is_at "|" q.text ≡ true → Branches k (past 1 q) bs r → Branches k p (in_sequence ps ∷ bs) r
+
+  -- the parts of one branch
+  pub data Parts : ℕ → Place → List Pattern → Place → Type 0 where
+    none : {k : ℕ} {p : Place} → ends_branch p.text ≡ true → Parts k p [] p
+    next : {k : ℕ} {p q r : Place} {item : Option Pattern} {ps : List Pattern} → ends_branch p.text ≡ false → Item k p item q → Parts k q ps r → Parts k p (with_part item ps) r
+
+  -- what can be quantified, with its quantifier
+  pub data Item : ℕ → Place → Option Pattern → Place → Type 0 where
+    single : {k : ℕ} {p q r : Place} {a x : Pattern} → is_at "(" p.text ≡ false → atom p ≡ Some (a, q) → quantified a q ≡ Some (x, r) → Item k p (Some x) r
+    grouped : {k : ℕ} {p inside q r : Place} {how : Opening} {bs : List Pattern} {x : Pattern} → is_at "(" p.text ≡ true → opening p ≡ Some (how, inside)
+        → Branches k inside bs q → is_at ")" q.text ≡ true → quantified (wrap how (in_branches bs)) (closed p q) ≡ Some (x, r) → Item (suc k) p (Some x) r
+
+abbrev pub start : Scope → Text → Place
+start s text = record { text = text; scope = s }
+
+-- the whole text has this pattern, with at most 64 parentheses open at one place
+pub record Reads (s : Scope) (text : Text) (p : Pattern) (end : Place) : Type 0 where
+  pub branches : List Pattern
+  pub is : p ≡ in_branches branches
+  pub reads : Branches 64 (start s text) branches end
+  pub all : end.text ≡ []

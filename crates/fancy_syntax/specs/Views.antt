@@ -1,0 +1,58 @@
+-- What the parser's functions promise each other.
+use Rattle.std.specs.Prelude.{◌≡◌, ℕ, ◌-◌, ◌^◌, min, List, length, take, sum_by, Option, Some, None, Result, Ok, Err}
+use Rattle.std.specs.Char.{len_utf8}
+use Rattle.fancy_syntax.specs.declared.parser.Parser.{Parser}
+use Rattle.fancy_syntax.specs.declared.error.Error.{Error}
+use Rattle.fancy_syntax.specs.declared.error.Error.TheVariants.{Memory, ParseError, CompileError, RuntimeError}
+use Rattle.fancy_syntax.specs.declared.groups.Opening.{Opening as Found}
+use Rattle.fancy_syntax.specs.declared.groups.Opening.TheVariants.{Plain}
+use Rattle.fancy_syntax.specs.declared.tree.Tree.{Tree}
+use Rattle.fancy_syntax.specs.Pattern.{Pattern, pattern_of, in_sequence, in_branches}
+use Rattle.fancy_syntax.specs.Words.{Text}
+use Rattle.fancy_syntax.specs.Dialect.{standard, begin}
+use Rattle.fancy_syntax.specs.Grammar.{Place, Opening, plain, Branches, Parts}
+
+-- The forms so far change nothing of what is in force.
+abbrev pub place : Parser → Place
+place p = record { text = p.rest.now; scope = begin standard }
+
+-- how many bytes of the whole pattern stand before the rest
+abbrev pub bytes_before : Text → Text → ℕ
+bytes_before whole rest = min (sum_by len_utf8 (take (length whole - length rest) whole)) (2 ^ 64 - 1)
+
+abbrev pub found : Found → Opening
+found Plain = plain
+
+-- memory ran out, or the claim holds
+abbrev pub Refuses : Error → Type 0 → Type 0
+Refuses Memory claim = Unit {0}
+Refuses (ParseError at kind) claim = claim
+Refuses (CompileError why) claim = ⊥
+Refuses (RuntimeError why) claim = ⊥
+
+-- from p there is this reading, up to q, and no other
+abbrev pub IsTheReading : {T : Type 0} → (Place → T → Place → Type 0) → Place → T → Place → Type 0
+IsTheReading R p t q = R p t q × ((u : _) (r : Place) → R p u r → (u ≡ t) × (r ≡ q))
+
+abbrev pub HasNoReading : {T : Type 0} → (Place → T → Place → Type 0) → Place → Type 0
+HasNoReading R p = (u : _) (r : Place) → R p u r → ⊥
+
+-- The result is the one reading from p, and q is where it ends; or there is none, unless memory ran out.
+abbrev pub Gives : {X T : Type 0} → (X → T) → (Place → T → Place → Type 0) → Result X Error → Place → Place → Type 0
+Gives view R (Ok x) p q = IsTheReading R p (view x) q
+Gives view R (Err e) p q = Refuses e (HasNoReading R p)
+
+-- the same where the grammar's own reading is a function
+abbrev pub GivesValue : {X T : Type 0} → (X → T) → Option (T × Place) → Result X Error → Place → Type 0
+GivesValue view o (Ok x) q = o ≡ Some (view x, q)
+GivesValue view o (Err e) q = Refuses e (o ≡ None)
+
+abbrev pub Alternation : ℕ → Place → Pattern → Place → Type 0
+Alternation k p x q = (bs : List Pattern) × (x ≡ in_branches bs) × Branches k p bs q
+
+abbrev pub Sequence : ℕ → Place → Pattern → Place → Type 0
+Sequence k p x q = (ps : List Pattern) × (x ≡ in_sequence ps) × Parts k p ps q
+
+-- the part that an item gives
+abbrev pub part_of : Tree → Option Pattern
+part_of t = Some (pattern_of t)

@@ -1,0 +1,77 @@
+//! Trees out of the parts that were read.
+
+ghost use Rattle.std.specs.Prelude.{◌≡◌, map, Some, IfOk};
+ghost use Rattle.fancy_syntax.specs.Pattern.{pattern_of, repeat, in_sequence, in_branches};
+ghost use Rattle.fancy_syntax.specs.Sizes.{is_empty};
+ghost use Rattle.fancy_syntax.specs.Grammar.{wrap};
+ghost use Rattle.fancy_syntax.specs.Views.{found};
+
+use crate::groups::Opening;
+use crate::tree::{Taste, Tree};
+use std::alloc::{AllocError, Global};
+
+/// One part behind the other.
+#[tactic(auto, using(crate::proofs::PatternLemmas::pattern_equations))]
+pub(crate) fn sequence(mut parts: Vec<Tree>) -> Tree
+    ensures { pattern_of result ≡ in_sequence (map pattern_of parts.items) }
+{
+    if parts.len() > 1 {
+        return Tree::Sequence(parts);
+    }
+    match parts.pop() {
+        Some(only) => only,
+        None => Tree::Empty,
+    }
+}
+
+/// One of the branches; a single one is no alternative.
+#[tactic(auto, using(crate::proofs::PatternLemmas::pattern_equations))]
+pub(crate) fn branches(mut branches: Vec<Tree>) -> Tree
+    ensures { pattern_of result ≡ in_branches (map pattern_of branches.items) }
+{
+    if branches.len() > 1 {
+        return Tree::Alternative(branches);
+    }
+    match branches.pop() {
+        Some(only) => only,
+        None => Tree::Empty,
+    }
+}
+
+/// Whether the tree is the leaf of a sequence without parts, which no quantifier may follow.
+#[tactic(auto, using(crate::proofs::PatternLemmas::pattern_equations))]
+pub(crate) fn is_empty(tree: &Tree) -> bool
+    ensures { result ≡ is_empty (pattern_of tree.now) }
+{
+    match tree {
+        Tree::Empty => true,
+        Tree::Sequence(parts) => match parts.as_slice() {
+            [] => true,
+            [only] => is_empty(only),
+            _ => false,
+        },
+        _ => false,
+    }
+}
+
+/// At most one turn of the body.
+#[tactic(auto, using(crate::proofs::PatternLemmas::pattern_equations))]
+pub(crate) fn optional(alloc: Global, taste: Taste, body: Tree) -> Result<Tree, AllocError>
+    ensures { IfOk result (λ t. pattern_of t ≡ repeat 0 (Some 1) taste (pattern_of body)) }
+{
+    Ok(Tree::Repeat {
+        low: 0,
+        high: Some(1),
+        taste,
+        body: Box::new(alloc, body)?,
+    })
+}
+
+/// What a group makes of its body.
+pub(crate) fn wrap(how: Opening, body: Tree) -> Tree
+    ensures { pattern_of result ≡ wrap (found how) (pattern_of body) }
+{
+    match how {
+        Opening::Plain => body,
+    }
+}

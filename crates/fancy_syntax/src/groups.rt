@@ -1,0 +1,8 @@
+//! What parentheses open.
+
+/// What a parenthesis opens.
+#[derive(Clone, Copy)]
+pub(crate) enum Opening {
+    /// `(?:`, a group that captures nothing.
+    Plain,
+}

@@ -1,0 +1,211 @@
+//! Patterns are read here.
+
+ghost use Rattle.std.specs.Prelude.{◌≡◌, IfOk, IfErr, chars};
+ghost use Rattle.fancy_syntax.specs.declared.error.Error.TheVariants.{Memory};
+ghost use Rattle.fancy_syntax.specs.Dialect.{standard, IsPattern};
+ghost use Rattle.fancy_syntax.specs.Pattern.{Pattern, pattern_of};
+ghost use Rattle.fancy_syntax.specs.Refusals.{IsRefused};
+
+use crate::error::{CompileError, Error, ParseErrorKind};
+use crate::parser::Parser;
+use crate::tree::Tree;
+use std::alloc::Global;
+
+/// How many parentheses may be open at one place.
+const MAX_DEPTH: u32 = 64;
+
+/// How many nodes a pattern may have, with counted repeats written out.
+const MAX_NODES: usize = 1_000_000;
+
+/// Reads a pattern.
+///
+/// The forms so far are literal characters, a backslash before ASCII punctuation (other than `<` and `>`) or a
+/// space, groups `(?:..)`, branches joined by `|`, and the quantifiers `?` and `??`.
+///
+/// A text that is no pattern is refused by an [`Error::ParseError`], whose place is a byte offset into it, of 0
+/// to the length of `pattern`; one of more than 1,000,000 nodes by [`CompileError::PatternTooComplex`]. Where
+/// memory runs out the answer is [`Error::Memory`], and a pattern is refused in no other case.
+///
+/// As an example `(?:a|b)?c` is the sequence of an optional alternative and a character, while `a)` is refused
+/// at place 1 with [`ParseErrorKind::GeneralParseError`].
+pub fn parse(alloc: Global, pattern: &str) -> Result<Tree, Error>
+    ensures accepted { IfOk result (λ t. IsPattern standard (chars pattern.now) (pattern_of t)) }
+    ensures refused { IfErr result (λ e. IsRefused e standard (chars pattern.now)) }
+    ensures succeeds { (p : Pattern) → IsPattern standard (chars pattern.now) p → IfErr result (λ e. e ≡ Memory) }
+{
+    let characters: Vec<char> = pattern.chars().collect(alloc)?;
+    let mut parser = Parser {
+        whole: &characters,
+        rest: &characters,
+        alloc,
+    };
+    let tree = parser.alternation(MAX_DEPTH)?;
+    if !parser.rest.is_empty() {
+        return Err(parser.error(ParseErrorKind::GeneralParseError));
+    }
+    if tree.nodes() > MAX_NODES {
+        return Err(Error::CompileError(CompileError::PatternTooComplex));
+    }
+    Ok(tree)
+}
+
+#[cfg(test)]
+mod tests {
+    use super::parse;
+    use crate::error::{CompileError, Error, ParseErrorKind, RuntimeError};
+    use crate::tree::Tree;
+    use std::test::Fail;
+
+    /// The place and kind of a pattern's error.
+    fn fault(found: Result<Tree, Error>) -> Option<(usize, ParseErrorKind)> {
+        match found {
+            Err(Error::ParseError(place, kind)) => Some((place, kind)),
+            _ => None,
+        }
+    }
+
+    #[test]
+    fn places_and_kinds(rt: HostRuntime) {
+        for (pattern, want) in [
+            ("", None),
+            ("a|(?:b|)??\\*\\ {x}]{,2", None),
+            ("?a", Some((0, ParseErrorKind::TargetNotRepeatable))),
+            ("{2}", Some((0, ParseErrorKind::TargetNotRepeatable))),
+            ("(?:(?:))?", Some((8, ParseErrorKind::TargetNotRepeatable))),
+            ("(?:)*", Some((4, ParseErrorKind::TargetNotRepeatable))),
+            ("a???", Some((3, ParseErrorKind::TargetNotRepeatable))),
+            ("a?{,2}", Some((2, ParseErrorKind::TargetNotRepeatable))),
+            ("a\\", Some((1, ParseErrorKind::TrailingBackslash))),
+            ("(a)", Some((0, ParseErrorKind::NotInProfile))),
+            ("a*", Some((1, ParseErrorKind::NotInProfile))),
+            ("a?+", Some((1, ParseErrorKind::NotInProfile))),
+            ("a{2}", Some((1, ParseErrorKind::NotInProfile))),
+            ("[a]", Some((0, ParseErrorKind::NotInProfile))),
+            ("\\d", Some((0, ParseErrorKind::NotInProfile))),
+            ("a)", Some((1, ParseErrorKind::GeneralParseError))),
+            ("é)", Some((2, ParseErrorKind::GeneralParseError))),
+            ("(?:a", Some((4, ParseErrorKind::UnclosedOpenParen))),
+        ] {
+            assert_eq!(rt; fault(parse(rt.alloc(), pattern)), want, "at {pattern}");
+        }
+    }
+
+    #[test]
+    fn limits(rt: HostRuntime) -> Result<(), Fail> {
+        for (groups, want) in [
+            (64, None),
+            (65, Some((195, ParseErrorKind::RecursionExceeded))),
+        ] {
+            let opened = "(?:".repeat(rt.alloc(), groups)?;
+            let closed = ")".repeat(rt.alloc(), groups)?;
+            let pattern = format!(in rt.alloc(); "{opened}{closed}")?;
+            assert_eq!(rt;
+                fault(parse(rt.alloc(), &pattern)),
+                want,
+                "at {groups} groups"
+            );
+        }
+        for (nodes, builds) in [(1_000_000, true), (1_000_001, false)] {
+            let pattern = "a".repeat(rt.alloc(), nodes)?;
+            let found = parse(rt.alloc(), &pattern);
+            let refused = matches!(
+                found,
+                Err(Error::CompileError(CompileError::PatternTooComplex))
+            );
+            assert_eq!(rt; refused, !builds, "at {nodes} nodes");
+            assert_eq!(rt; found.is_ok(), builds, "at {nodes} nodes");
+        }
+        Ok(())
+    }
+
+    #[test]
+    fn texts_of_errors(rt: HostRuntime) -> Result<(), Fail> {
+        for (kind, want) in [
+            (
+                ParseErrorKind::GeneralParseError,
+                "closing parenthesis without opening parenthesis",
+            ),
+            (
+                ParseErrorKind::UnclosedOpenParen,
+                "opening parenthesis without closing parenthesis",
+            ),
+            (ParseErrorKind::InvalidRepeat, "invalid bounds of a repeat"),
+            (
+                ParseErrorKind::TargetNotRepeatable,
+                "nothing to repeat before the quantifier",
+            ),
+            (
+                ParseErrorKind::RecursionExceeded,
+                "parentheses or brackets are nested too deep",
+            ),
+            (
+                ParseErrorKind::TrailingBackslash,
+                "backslash at the end of the pattern",
+            ),
+            (ParseErrorKind::InvalidEscape, "invalid escape"),
+            (ParseErrorKind::InvalidHex, "invalid hexadecimal digits"),
+            (
+                ParseErrorKind::InvalidCodepointValue,
+                "number of no character",
+            ),
+            (ParseErrorKind::InvalidClass, "invalid class"),
+            (ParseErrorKind::UnknownFlag, "unknown flag"),
+            (ParseErrorKind::InvalidGroupName, "invalid group name"),
+            (
+                ParseErrorKind::ChangingUnicodeModeUnsupported,
+                "changing the Unicode mode is not supported",
+            ),
+            (
+                ParseErrorKind::NotInProfile,
+                "form that is not in the dialect",
+            ),
+        ] {
+            let shown = format!(in rt.alloc(); "{}", Error::ParseError(3, kind))?;
+            let want = format!(in rt.alloc(); "parsing error at position 3: {want}")?;
+            assert_eq!(rt; shown, want);
+        }
+        let name = String::from_str(rt.alloc(), "n")?;
+        for (why, want) in [
+            (CompileError::InvalidBackref(2), "no group has the number 2"),
+            (
+                CompileError::InvalidGroupNameBackref(name),
+                "no group has the name n",
+            ),
+            (
+                CompileError::NamedBackrefOnly,
+                "groups are referred to by name alone here",
+            ),
+            (
+                CompileError::LookBehindNotConst,
+                "look-behind of no constant size",
+            ),
+            (
+                CompileError::PatternCanNeverMatch,
+                "pattern that can never match",
+            ),
+            (
+                CompileError::PatternTooComplex,
+                "pattern with more than 1000000 nodes",
+            ),
+        ] {
+            let shown = format!(in rt.alloc(); "{}", Error::CompileError(why))?;
+            let want = format!(in rt.alloc(); "error compiling regex: {want}")?;
+            assert_eq!(rt; shown, want);
+        }
+        for (error, want) in [
+            (Error::Memory, "out of memory"),
+            (
+                Error::RuntimeError(RuntimeError::BacktrackLimitExceeded),
+                "error executing regex: limit for backtracking exceeded",
+            ),
+            (
+                Error::RuntimeError(RuntimeError::StackOverflow),
+                "error executing regex: too many saved branches",
+            ),
+        ] {
+            let shown = format!(in rt.alloc(); "{error}")?;
+            assert_eq!(rt; shown.as_str(), want);
+        }
+        Ok(())
+    }
+}

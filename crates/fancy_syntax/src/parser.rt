@@ -1,0 +1,269 @@
+//! The parser: one pass over the characters, which goes deeper only at a parenthesis.
+
+ghost use Rattle.std.specs.Prelude.{◌≡◌, ◌+◌, ◌<◌, ◌≤◌, ◌^◌, ◌-◌, min, sum_by, true, false, if◌then◌else◌, length, nat_eq, OnOk, IsTrue};
+ghost use Rattle.std.specs.Char.{len_utf8};
+ghost use Rattle.std.specs.List.{starts_with};
+ghost use Rattle.fancy_syntax.specs.Dialect.{is_escapable, is_special};
+ghost use Rattle.fancy_syntax.specs.Words.{is_at_any, is_at};
+
+use crate::build::{branches, is_empty, optional, sequence, wrap};
+use crate::count::begins_count;
+use crate::error::{Error, ParseErrorKind};
+use crate::groups::Opening;
+use crate::tree::{Taste, Tree};
+use std::alloc::Global;
+
+/// A pattern, and what is left of it to read.
+#[derive(Drop)]
+pub(crate) struct Parser<'a> {
+    /// All characters of the pattern.
+    pub(crate) whole: &'a [char],
+    /// The last of them, which are still to be read.
+    pub(crate) rest: &'a [char],
+    pub(crate) alloc: Global,
+}
+
+/// The bytes that these characters take in UTF-8; `usize::MAX` stands for any number past it.
+fn bytes_of(characters: &[char]) -> usize
+    ensures { result ≡ min (sum_by len_utf8 characters.now) (2 ^ 64 - 1) }
+{
+    let mut bytes: usize = 0;
+    for c in characters {
+        bytes = bytes.saturating_add(c.len_utf8());
+    }
+    bytes
+}
+
+/// Whether a backslash makes this character a literal.
+fn is_escapable(c: char) -> bool
+    ensures { result ≡ is_escapable c }
+{
+    c == ' ' || (c.is_ascii_punctuation() && !['<', '>'].contains(&c))
+}
+
+/// Whether this character stands for itself only where it is escaped.
+fn is_special(c: char) -> bool
+    ensures { result ≡ is_special c }
+{
+    ['|', '(', ')', '*', '+', '?', '\\', '.', '^', '$', '['].contains(&c)
+}
+
+impl<'a> Parser<'a> {
+    ghost use Rattle.fancy_syntax.specs.declared.error.Error.TheVariants.{ParseError};
+    ghost use Rattle.fancy_syntax.specs.declared.error.ParseErrorKind.TheVariants.{NotInProfile, TargetNotRepeatable};
+    ghost use Rattle.fancy_syntax.specs.Views.{place, bytes_before};
+    ghost use Rattle.fancy_syntax.specs.Grammar.{past, ends_branch};
+    ghost use Rattle.fancy_syntax.specs.Dialect.{begins_quantifier};
+
+    /// An error of this kind at the place that is reached.
+    pub(crate) fn error(&self, kind: ParseErrorKind) -> Error
+        ensures { result ≡ ParseError (bytes_before self.now.whole.now self.now.rest.now) kind }
+    {
+        let passed = self.whole.len().saturating_sub(self.rest.len());
+        Error::ParseError(bytes_of(&self.whole[..passed]), kind)
+    }
+
+    /// The error where no item begins.
+    fn unexpected(&self) -> Error
+        ensures { result ≡ ParseError (bytes_before self.now.whole.now self.now.rest.now)
+            (if begins_quantifier self.now.rest.now then TargetNotRepeatable else NotInProfile) }
+    {
+        if self.begins_quantifier() {
+            self.error(ParseErrorKind::TargetNotRepeatable)
+        } else {
+            self.error(ParseErrorKind::NotInProfile)
+        }
+    }
+
+    fn skip(&mut self, count: usize)
+        requires { count ≤ length self.old.rest.now }
+        ensures place { place self.new ≡ past count (place self.old) }
+        ensures shorter { length self.new.rest.now + count ≡ length self.old.rest.now }
+        ensures whole { self.new.whole ≡ self.old.whole }
+    {
+        self.rest = &self.rest[count..];
+    }
+
+    fn begins(&self, word: &[char]) -> bool
+        ensures value { result ≡ starts_with nat_eq self.now.rest.now word.now }
+        ensures room { IsTrue result → length word.now ≤ length self.now.rest.now }
+    {
+        self.rest.starts_with(word)
+    }
+
+    fn is_at_any(&self, chars: &[char]) -> bool
+        ensures value { result ≡ is_at_any chars.now self.now.rest.now }
+        ensures room { IsTrue result → 0 < length self.now.rest.now }
+    {
+        match self.rest {
+            [c, ..] => chars.contains(c),
+            [] => false,
+        }
+    }
+
+    fn ends_branch(&self) -> bool
+        ensures { result ≡ ends_branch self.now.rest.now }
+    {
+        self.rest.is_empty() || self.is_at_any(&['|', ')'])
+    }
+
+    fn begins_quantifier(&self) -> bool
+        ensures { result ≡ begins_quantifier self.now.rest.now }
+    {
+        self.is_at_any(&['?', '*', '+']) || begins_count(self.rest)
+    }
+}
+
+impl<'a> Parser<'a> {
+    ghost use Rattle.fancy_syntax.specs.Views.{place, found, GivesValue};
+    ghost use Rattle.fancy_syntax.specs.Pattern.{pattern_of};
+    ghost use Rattle.fancy_syntax.specs.Grammar.{opening, atom, quantified};
+
+    /// Reads what a parenthesis opens.
+    fn opening(&mut self) -> Result<Opening, Error>
+        requires { is_at "(" self.old.rest.now ≡ true }
+        ensures value { GivesValue found (opening (place self.old)) result (place self.new) }
+        ensures progress { OnOk result (length self.new.rest.now < length self.old.rest.now) }
+    {
+        if self.begins(&['(', '?', ':']) {
+            self.skip(3);
+            return Ok(Opening::Plain);
+        }
+        Err(self.error(ParseErrorKind::NotInProfile))
+    }
+
+    /// Reads one character, or a backslash and what it escapes.
+    fn atom(&mut self) -> Result<Tree, Error>
+        ensures value { GivesValue pattern_of (atom (place self.old)) result (place self.new) }
+        ensures progress { OnOk result (length self.new.rest.now < length self.old.rest.now) }
+    {
+        if self.is_at_any(&['\\']) {
+            self.escape()
+        } else {
+            self.literal()
+        }
+    }
+
+    /// Reads a backslash and what it escapes.
+    #[tactic(auto, using(crate::proofs::PatternLemmas::pattern_equations))]
+    fn escape(&mut self) -> Result<Tree, Error>
+        requires { is_at "\\" self.old.rest.now ≡ true }
+        ensures value { GivesValue pattern_of (atom (place self.old)) result (place self.new) }
+        ensures progress { OnOk result (length self.new.rest.now < length self.old.rest.now) }
+    {
+        match self.rest {
+            [_, c, ..] => {
+                let c = *c;
+                if !is_escapable(c) {
+                    return Err(self.error(ParseErrorKind::NotInProfile));
+                }
+                self.skip(2);
+                Ok(Tree::Character(c))
+            }
+            _ => Err(self.error(ParseErrorKind::TrailingBackslash)),
+        }
+    }
+
+    /// Reads a character that stands for itself.
+    #[tactic(auto, using(crate::proofs::PatternLemmas::pattern_equations))]
+    fn literal(&mut self) -> Result<Tree, Error>
+        requires { is_at "\\" self.old.rest.now ≡ false }
+        ensures value { GivesValue pattern_of (atom (place self.old)) result (place self.new) }
+        ensures progress { OnOk result (length self.new.rest.now < length self.old.rest.now) }
+    {
+        match self.rest {
+            [c, ..] => {
+                let c = *c;
+                if is_special(c) || begins_count(self.rest) {
+                    return Err(self.unexpected());
+                }
+                self.skip(1);
+                Ok(Tree::Character(c))
+            }
+            [] => Err(self.unexpected()),
+        }
+    }
+
+    /// Puts the quantifier that stands here, if one does, on what was read.
+    #[tactic(auto, using(crate::proofs::PatternLemmas::pattern_equations))]
+    fn quantified(&mut self, part: Tree) -> Result<Tree, Error>
+        ensures value { GivesValue pattern_of (quantified (pattern_of part) (place self.old)) result (place self.new) }
+        ensures progress { OnOk result (length self.new.rest.now ≤ length self.old.rest.now) }
+    {
+        if !self.begins_quantifier() {
+            return Ok(part);
+        }
+        if is_empty(&part) {
+            return Err(self.error(ParseErrorKind::TargetNotRepeatable));
+        }
+        if !self.is_at_any(&['?']) || self.begins(&['?', '+']) {
+            return Err(self.error(ParseErrorKind::NotInProfile));
+        }
+        if self.begins(&['?', '?']) {
+            self.skip(2);
+            return Ok(optional(self.alloc, Taste::Lazy, part)?);
+        }
+        self.skip(1);
+        Ok(optional(self.alloc, Taste::Greedy, part)?)
+    }
+}
+
+impl<'a> Parser<'a> {
+    ghost use Rattle.fancy_syntax.specs.Views.{place, Gives, Alternation, Sequence, part_of};
+    ghost use Rattle.fancy_syntax.specs.Pattern.{pattern_of};
+    ghost use Rattle.fancy_syntax.specs.Grammar.{Item};
+
+    /// Reads branches up to the end of the group or of the pattern; `room` more groups may be opened inside.
+    #[cycle(parser)]
+    pub(crate) fn alternation(&mut self, room: u32) -> Result<Tree, Error>
+        ensures value { Gives pattern_of (Alternation room) result (place self.old) (place self.new) }
+        ensures forward { OnOk result (length self.new.rest.now ≤ length self.old.rest.now) }
+    {
+        let mut found = Vec::new(self.alloc);
+        loop {
+            let branch = self.sequence(room)?;
+            found.push(branch)?;
+            if !self.is_at_any(&['|']) {
+                break;
+            }
+            self.skip(1);
+        }
+        Ok(branches(found))
+    }
+
+    /// Reads one branch.
+    #[cycle(parser)]
+    fn sequence(&mut self, room: u32) -> Result<Tree, Error>
+        ensures value { Gives pattern_of (Sequence room) result (place self.old) (place self.new) }
+        ensures forward { OnOk result (length self.new.rest.now ≤ length self.old.rest.now) }
+    {
+        let mut parts = Vec::new(self.alloc);
+        while !self.ends_branch() {
+            let part = self.item(room)?;
+            parts.push(part)?;
+        }
+        Ok(sequence(parts))
+    }
+
+    /// Reads what can be quantified, with its quantifier.
+    #[cycle(parser)]
+    fn item(&mut self, room: u32) -> Result<Tree, Error>
+        ensures value { Gives part_of (Item room) result (place self.old) (place self.new) }
+        ensures progress { OnOk result (length self.new.rest.now < length self.old.rest.now) }
+    {
+        if !self.is_at_any(&['(']) {
+            let part = self.atom()?;
+            return self.quantified(part);
+        }
+        let how = self.opening()?;
+        if room == 0 {
+            return Err(self.error(ParseErrorKind::RecursionExceeded));
+        }
+        let body = self.alternation(room - 1)?;
+        if !self.is_at_any(&[')']) {
+            return Err(self.error(ParseErrorKind::UnclosedOpenParen));
+        }
+        self.skip(1);
+        self.quantified(wrap(how, body))
+    }
+}

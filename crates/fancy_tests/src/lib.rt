@@ -1,0 +1,7 @@
+//! Tests that cross the crates, through the public names alone.
+#![tactic(auto)]
+
+#[cfg(test)]
+mod finding;
+#[cfg(test)]
+mod refusals;

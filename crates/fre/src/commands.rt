@@ -1,0 +1,130 @@
+//! The commands of the program.
+//!
+//! | Words | Output | Status |
+//! |---|---|---|
+//! | `find P T` | `start..end text` of the first match of the pattern P in the text T | 0, or 1 without a match |
+//!
+//! A command that is refused writes one line `error: ` and what is wrong to its second writer, and its
+//! status is 2: `usage` for other words, the refusal's name for a pattern or a search, `Output` where the
+//! first writer fails. Faults are found in this order. A fault of the second writer is ignored.
+
+ghost use Rattle.std.specs.Prelude.{◌≤◌};
+
+use fancy_regex::{CompileError, Error, ParseErrorKind, Regex, RuntimeError};
+use std::alloc::Global;
+use std::io;
+
+/// Why a command ended early.
+#[derive(Drop)]
+enum Fault {
+    Usage,
+    Output,
+    Refused(Error),
+}
+
+impl From<Error> for Fault {
+    fn from(error: Error) -> Fault {
+        Fault::Refused(error)
+    }
+}
+
+impl From<io::Error> for Fault {
+    fn from(_error: io::Error) -> Fault {
+        Fault::Output
+    }
+}
+
+impl Fault {
+    /// What stands behind `error: `.
+    fn name(&self) -> &'static str {
+        match self {
+            Fault::Usage => "usage",
+            Fault::Output => "Output",
+            Fault::Refused(Error::Memory) => "Memory",
+            Fault::Refused(Error::ParseError(_, kind)) => parse_name(kind),
+            Fault::Refused(Error::CompileError(kind)) => compile_name(kind),
+            Fault::Refused(Error::RuntimeError(kind)) => runtime_name(kind),
+        }
+    }
+}
+
+fn parse_name(kind: &ParseErrorKind) -> &'static str {
+    match kind {
+        ParseErrorKind::GeneralParseError => "GeneralParseError",
+        ParseErrorKind::UnclosedOpenParen => "UnclosedOpenParen",
+        ParseErrorKind::InvalidRepeat => "InvalidRepeat",
+        ParseErrorKind::TargetNotRepeatable => "TargetNotRepeatable",
+        ParseErrorKind::RecursionExceeded => "RecursionExceeded",
+        ParseErrorKind::TrailingBackslash => "TrailingBackslash",
+        ParseErrorKind::InvalidEscape => "InvalidEscape",
+        ParseErrorKind::InvalidHex => "InvalidHex",
+        ParseErrorKind::InvalidCodepointValue => "InvalidCodepointValue",
+        ParseErrorKind::InvalidClass => "InvalidClass",
+        ParseErrorKind::UnknownFlag => "UnknownFlag",
+        ParseErrorKind::InvalidGroupName => "InvalidGroupName",
+        ParseErrorKind::ChangingUnicodeModeUnsupported => "ChangingUnicodeModeUnsupported",
+        ParseErrorKind::NotInProfile => "NotInProfile",
+    }
+}
+
+fn compile_name(kind: &CompileError) -> &'static str {
+    match kind {
+        CompileError::InvalidBackref(_) => "InvalidBackref",
+        CompileError::InvalidGroupNameBackref(_) => "InvalidGroupNameBackref",
+        CompileError::NamedBackrefOnly => "NamedBackrefOnly",
+        CompileError::LookBehindNotConst => "LookBehindNotConst",
+        CompileError::PatternCanNeverMatch => "PatternCanNeverMatch",
+        CompileError::PatternTooComplex => "PatternTooComplex",
+    }
+}
+
+fn runtime_name(kind: &RuntimeError) -> &'static str {
+    match kind {
+        RuntimeError::BacktrackLimitExceeded => "BacktrackLimitExceeded",
+        RuntimeError::StackOverflow => "StackOverflow",
+    }
+}
+
+/// Runs the command that `words`, those behind the program's name, spell, and answers the program's status:
+/// 0 where something was found, 1 where nothing was, 2 where the command was refused.
+pub fn run<W: io::Write, X: io::Write>(
+    alloc: Global,
+    words: &[String],
+    out: &mut W,
+    err: &mut X,
+) -> u8
+    ensures { result ≤ 2 }
+{
+    match command(alloc, words, out) {
+        Ok(true) => 0,
+        Ok(false) => 1,
+        Err(fault) => {
+            let _ = writeln!(err, "error: {}", fault.name());
+            2
+        }
+    }
+}
+
+/// Whether the command found something.
+fn command<W: io::Write>(alloc: Global, words: &[String], out: &mut W) -> Result<bool, Fault> {
+    match words {
+        [command, pattern, text] if command.as_str() == "find" => {
+            find(alloc, pattern.as_str(), text.as_str(), out)
+        }
+        _ => Err(Fault::Usage),
+    }
+}
+
+fn find<W: io::Write>(
+    alloc: Global,
+    pattern: &str,
+    text: &str,
+    out: &mut W,
+) -> Result<bool, Fault> {
+    let regex = Regex::new(alloc, pattern)?;
+    let Some(found) = regex.find(text)? else {
+        return Ok(false);
+    };
+    writeln!(out, "{}..{} {}", found.start(), found.end(), found.as_str())?;
+    Ok(true)
+}

@@ -1,0 +1,35 @@
+//! Searches texts from the command line.
+#![tactic(auto)]
+
+mod commands;
+#[cfg(test)]
+mod tests;
+
+use commands::run;
+use std::alloc::Global;
+use std::process::ExitCode;
+use std::io::Write;
+use std::rt::Env;
+use std::{env, io};
+
+/// The words behind the program's name.
+fn words(rt: &(impl Env + Alloc<A = Global>)) -> io::Result<Vec<String>> {
+    let mut words = Vec::new(rt.alloc());
+    for word in env::args(rt)?.skip(1) {
+        words.push(word)?;
+    }
+    Ok(words)
+}
+
+fn main(rt: HostRuntime) -> ExitCode {
+    let mut out = io::writer(&rt);
+    let mut err = rt.stderr();
+    let status = match words(&rt) {
+        Ok(words) => run(rt.alloc(), &words, &mut out, &mut err),
+        Err(_) => {
+            let _ = writeln!(err, "error: Memory");
+            2
+        }
+    };
+    ExitCode::from(status)
+}

@@ -1,0 +1,93 @@
+//! What the program prints, and its statuses.
+
+use crate::commands::run;
+use std::alloc::Global;
+use std::io;
+use std::process::Abort;
+use std::test::Fail;
+
+/// A writer that takes `left` bytes, and then fails.
+#[derive(Drop)]
+struct Broken {
+    left: usize,
+}
+
+impl io::Write for Broken {
+    fn write(&mut self, buf: &[u8]) -> io::Result<usize> {
+        let count = buf.len().min(self.left);
+        if count == 0 {
+            return Err(io::Error::from(io::ErrorKind::BrokenPipe));
+        }
+        self.left -= count;
+        Ok(count)
+    }
+
+    fn flush(&mut self) -> io::Result<()> {
+        Ok(())
+    }
+}
+
+fn words_of(alloc: Global, words: &[&str]) -> Result<Vec<String>, Fail> {
+    let mut owned = Vec::new(alloc);
+    for word in words {
+        owned.push(String::from_str(alloc, *word)?)?;
+    }
+    Ok(owned)
+}
+
+/// Runs the words, and compares what is printed and the status.
+fn expect_run(
+    rt: &impl Abort,
+    alloc: Global,
+    words: &[&str],
+    out: &str,
+    err: &str,
+    status: u8,
+) -> Result<(), Fail> {
+    let owned = words_of(alloc, words)?;
+    let mut printed = Vec::new(alloc);
+    let mut complained = Vec::new(alloc);
+    let answer = run(alloc, &owned, &mut printed, &mut complained);
+    assert_eq!(rt; printed.as_slice(), out.as_bytes());
+    assert_eq!(rt; complained.as_slice(), err.as_bytes());
+    assert_eq!(rt; answer, status);
+    Ok(())
+}
+
+#[test]
+fn prints_the_first_match(rt: HostRuntime) -> Result<(), Fail> {
+    let alloc = rt.alloc();
+    expect_run(&rt, alloc, &["find", "a|ab", "xab"], "1..2 a\n", "", 0)?;
+    expect_run(&rt, alloc, &["find", "", "b"], "0..0 \n", "", 0)?;
+    expect_run(&rt, alloc, &["find", "c", "xab"], "", "", 1)?;
+    Ok(())
+}
+
+#[test]
+fn names_what_is_wrong(rt: HostRuntime) -> Result<(), Fail> {
+    let alloc = rt.alloc();
+    expect_run(&rt, alloc, &[], "", "error: usage\n", 2)?;
+    expect_run(&rt, alloc, &["find", "a"], "", "error: usage\n", 2)?;
+    expect_run(&rt, alloc, &["seek", "a", "b"], "", "error: usage\n", 2)?;
+    expect_run(&rt, alloc, &["find", "(?:a", "x"], "", "error: UnclosedOpenParen\n", 2)?;
+    expect_run(&rt, alloc, &["find", "a)", "x"], "", "error: GeneralParseError\n", 2)?;
+    expect_run(&rt, alloc, &["find", "?a", "x"], "", "error: TargetNotRepeatable\n", 2)?;
+    expect_run(&rt, alloc, &["find", "[a]", "x"], "", "error: NotInProfile\n", 2)?;
+    Ok(())
+}
+
+#[test]
+fn a_writer_that_fails(rt: HostRuntime) -> Result<(), Fail> {
+    let alloc = rt.alloc();
+    let words = words_of(alloc, &["find", "a|ab", "xab"])?;
+    let mut complained = Vec::new(alloc);
+    let mut broken = Broken { left: 3 };
+    assert_eq!(rt; run(alloc, &words, &mut broken, &mut complained), 2);
+    assert_eq!(rt; complained.as_slice(), b"error: Output\n".as_slice());
+    let mut deaf = Broken { left: 0 };
+    let mut printed = Vec::new(alloc);
+    let none = words_of(alloc, &[])?;
+    assert_eq!(rt; run(alloc, &none, &mut printed, &mut deaf), 2);
+    assert_eq!(rt; printed.len(), 0);
+    Ok(())
+}
