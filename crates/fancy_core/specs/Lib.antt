@@ -1,1 +1,4 @@
+pub mod Options
+pub mod Builders
 pub mod Regexes
+pub mod Searching

@@ -1,4 +1,5 @@
 //! Regexes: a pattern that was read once, and the searches with it.
 #![tactic(auto)]
 
+pub mod options;
 pub mod regex;

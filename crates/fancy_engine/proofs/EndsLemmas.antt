@@ -1,5 +1,5 @@
 -- The outcomes of a simple pattern are its ends, and the equations of `ends`.
-use Rattle.std.proofs.Common.{◌≡◌, ℕ, ◌+◌, ◌<◌, ◌≤◌, Bool, true, false, List, [], ◌∷◌, ◌++◌, length, map, flat_map, Option, Some, None, if◌then◌else◌, ◌==◌, ◌&&◌, nat_le, All, IsTrue, true≢false, refl, sym, ap, ap₂, ◌∙◌, arith, append-nil, append_assoc, eqb-true}
+use Rattle.std.proofs.Common.{◌≡◌, ℕ, true, false, List, [], ◌∷◌, ◌++◌, map, flat_map, Option, Some, None, if◌then◌else◌, ◌==◌, ◌&&◌, nat_le, All, IsTrue, true≢false, refl, sym, ap, ap₂, ◌∙◌, append-nil, eqb-true}
 use Rattle.std.specs.Option.{option_to_list}
 use Rattle.std.proofs.lemmas.List.{map-append}
 use Rattle.std.proofs.lemmas.List.Folds.{flat_map-map}
@@ -12,7 +12,7 @@ use Rattle.fancy_syntax.specs.Pattern.{Pattern, empty, character, repeat, follow
 use Rattle.fancy_engine.specs.Context.{Context, State, past_item, unit_at, moved_to}
 use Rattle.fancy_engine.specs.Events.{Event, return, stay, bind, outcomes_in, either, move}
 use Rattle.fancy_engine.specs.Trace.{trace, outcomes}
-use Rattle.fancy_engine.specs.Simple.{is_optional, is_simple, plain, past_code, by_limit, optional_ends, ends}
+use Rattle.fancy_engine.specs.Simple.{is_optional, is_simple, past_code, by_limit, optional_ends, ends}
 use Rattle.fancy_engine.proofs.EventLemmas.{bind-stay, outcomes-append}
 use Rattle.fancy_engine.proofs.OutcomeLemmas.{outcomes-followed, outcomes-or_else}
 use Rattle.fancy_engine.proofs.SearchLemmas.{and_parts}
@@ -85,7 +85,7 @@ outcomes-are x limit (followed part rest) simple s =
     ∙ ap (flat_map (outcomes x limit rest)) (outcomes-are x limit part both.0 s)
     ∙ flat_map-map (outcomes x limit rest) (moved_to s) (ends x.meaning x.haystack limit part s.place)
     ∙ map_flat (moved_to s) (ends x.meaning x.haystack limit rest) (ends x.meaning x.haystack limit part s.place) _
-      (λ p. outcomes-are x limit rest both.1 (moved_to s p))
+    (λ p. outcomes-are x limit rest both.1 (moved_to s p))
 outcomes-are x limit (or_else branch others) simple s =
     let both = and_parts (is_simple branch) (is_simple others) simple in
     outcomes-or_else x limit branch others s

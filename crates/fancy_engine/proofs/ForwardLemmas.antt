@@ -3,12 +3,11 @@ use Rattle.std.proofs.Common.{◌≡◌, ℕ, zero, suc, ◌+◌, ◌-◌, ◌<�
 use borrow.Author.Tests.{eqb-false}
 use Rattle.fancy_syntax.specs.declared.tree.Taste.{Taste}
 use Rattle.fancy_syntax.specs.declared.tree.Taste.TheVariants.{Greedy, Lazy, Possessive}
-use Rattle.fancy_syntax.specs.Sets.{has}
 use Rattle.fancy_syntax.specs.Pattern.{Pattern, empty, character, member_of, raw_byte, backreference, assertion, group_test, keep_start, continue_here, group, repeat, look_ahead, look_behind, atomic, conditional, followed, or_else, last_branch}
 use Rattle.fancy_syntax.specs.Sizes.{is_empty}
 use Rattle.fancy_input.specs.Places.{has_bytes_at}
 use Rattle.fancy_engine.specs.Context.{Context, State, Unit_at, group_span, unit_at, past_item, past_byte, past_text, past_backreference, text_of, holds, continues, option_to}
-use Rattle.fancy_engine.specs.Events.{Event, mark, return, outcome, Walk, stay, bind, guarded, any, prefer, move, holding, copies, optionals, turns, star, put_back, ends_look, looked}
+use Rattle.fancy_engine.specs.Events.{Event, mark, return, outcome, Walk, stay, bind, any, prefer, move, holding, copies, optionals, turns, star, put_back, ends_look, looked}
 use Rattle.fancy_engine.specs.Trace.{trace, repeated, by_taste, is_greedy}
 use Rattle.fancy_engine.specs.Forward.{EachOutcome, IsBetween, LeadsOn}
 use Rattle.fancy_engine.proofs.EventLemmas.{bind_cong, EachOutcome-bind, EachOutcome-guarded, EachOutcome_all, EachOutcome-either, EachOutcome-prefer, EachOutcome-only_if, EachOutcome-if}

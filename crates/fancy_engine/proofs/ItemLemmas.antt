@@ -1,15 +1,14 @@
 -- What one item with a given code is, by the bytes at the place.
-use Rattle.std.proofs.Common.{◌≡◌, ℕ, ◌+◌, ◌<◌, ◌≤◌, Bool, true, false, List, [], ◌∷◌, ◌++◌, length, drop, nat_eq, Option, Some, None, if◌then◌else◌, ◌==◌, refl, sym, ap, ap₂, ◌∙◌, inl, inr, true≢false, arith, length-append, length-drop}
-use Rattle.std.specs.Prelude.{encode_utf8, slice_get}
+use Rattle.std.proofs.Common.{◌≡◌, ℕ, ◌+◌, ◌<◌, Bool, true, false, List, ◌++◌, length, drop, nat_eq, Option, Some, None, if◌then◌else◌, ◌==◌, refl, sym, ap, ap₂, ◌∙◌, inl, inr, true≢false, arith, length-append, length-drop}
+use Rattle.std.specs.Prelude.{encode_utf8}
 use Rattle.std.specs.Char.{IsScalar, len_utf8}
 use Rattle.std.specs.List.{starts_with}
 use Rattle.std.proofs.lemmas.Bool.Decides.{eqb_tells, nat_tests}
 use Rattle.std.proofs.lemmas.Str.{length-encode}
-use Rattle.fancy_syntax.specs.declared.tree.Meaning.{Meaning}
-use Rattle.fancy_syntax.specs.declared.tree.Meaning.TheVariants.{Unicode, Bytes, AsciiText}
+use Rattle.fancy_syntax.specs.declared.tree.Meaning.TheVariants.{Unicode, AsciiText}
 use Rattle.fancy_input.specs.Places.{has_bytes_at, char_at}
 use Rattle.fancy_input.proofs.CharacterLemmas.{char_at-is, char_at-bytes, bytes_at-begin}
-use Rattle.fancy_engine.specs.Context.{Unit_at, option_to, one_character, past_item, unit_at}
+use Rattle.fancy_engine.specs.Context.{option_to, one_character, past_item, unit_at}
 use Rattle.fancy_engine.specs.Simple.{past_code}
 
 -- in ASCII text an item is what it is in Unicode
@@ -64,8 +63,8 @@ unfolding has_bytes_at
 past_code_by_start haystack code p bs r h e f =
     past_code-Unicode haystack code p h
     ∙ ap₂ (λ (b : Bool) (n : ℕ). if b then Some (p + n) else None)
-      (sym (f ∙ ap (λ x. starts_with nat_eq (drop p haystack) x) e))
-      (sym (ap length e ∙ length-encode code))
+    (sym (f ∙ ap (λ x. starts_with nat_eq (drop p haystack) x) e))
+    (sym (ap length e ∙ length-encode code))
 
 len_utf8_pos : (c : ℕ) → 0 < len_utf8 c
 len_utf8_pos c = grind (arith, nat_tests)
@@ -80,7 +79,7 @@ past_code_past_end haystack code p lt =
     nothing None e = refl
     nothing (Some c) e =
         let at : length (drop p haystack) ≡ length (encode_utf8 c ++ drop (length (encode_utf8 c)) (drop p haystack)) =
-          ap length (bytes_at-begin haystack p (encode_utf8 c) (char_at-bytes haystack p c e)) in
+        ap length (bytes_at-begin haystack p (encode_utf8 c) (char_at-bytes haystack p c e)) in
         let some : length (encode_utf8 c) ≡ len_utf8 c = length-encode c in
         let pos : 0 < len_utf8 c = len_utf8_pos c in
         absurd (omega (arith, length-drop p haystack, length-append (encode_utf8 c) (drop (length (encode_utf8 c)) (drop p haystack))))

@@ -1,16 +1,15 @@
 -- The plain search: the answer at a position from the ends there, and the steps over the positions.
-use Rattle.std.proofs.Common.{◌≡◌, ℕ, zero, suc, ◌+◌, ◌-◌, ◌<◌, ◌≤◌, min, Bool, true, false, not, ◌&&◌, ◌||◌, ◌==◌, cond, List, [], ◌∷◌, ◌++◌, map, filter, Option, Some, None, option_map, if◌then◌else◌, All, IsTrue, refl, sym, ap, subst, ◌∙◌, arith, true≢false}
+use Rattle.std.proofs.Common.{◌≡◌, ℕ, suc, ◌+◌, ◌-◌, ◌<◌, ◌≤◌, min, Bool, true, false, ◌&&◌, cond, List, [], ◌∷◌, ◌++◌, map, filter, Option, Some, None, option_map, if◌then◌else◌, refl, ap, subst, ◌∙◌, arith}
 use Rattle.std.specs.Option.{option_or}
 use Rattle.fancy_syntax.specs.Pattern.{Pattern}
-use Rattle.fancy_input.specs.Places.{is_boundary}
 use Rattle.fancy_input.specs.Requests.{effective_start, positions}
 use Rattle.fancy_input.specs.declared.input.Request.{Request}
 use Rattle.fancy_engine.specs.declared.search.Manner.{Manner}
 use Rattle.fancy_engine.specs.Context.{State, moved_to}
 use Rattle.fancy_engine.specs.Events.{Event, mark, return, outcome, outcomes_in}
-use Rattle.fancy_engine.specs.Trace.{trace, outcomes}
+use Rattle.fancy_engine.specs.Trace.{outcomes}
 use Rattle.fancy_engine.specs.Forward.{EachOutcome, IsBetween}
-use Rattle.fancy_engine.specs.Search.{Query, Found, initial, context_of, outcomes_at, trace_at, accepted, first_one, answer_at, answer_from, search}
+use Rattle.fancy_engine.specs.Search.{Query, initial, context_of, trace_at, accepted, first_one, answer_at, answer_from}
 use Rattle.fancy_engine.specs.Answers.{IsFirstAccepted}
 use Rattle.fancy_engine.specs.Simple.{is_simple, ends}
 use Rattle.fancy_engine.specs.Plain.{query_of, may_stand, first_place, end_by}
@@ -58,7 +57,7 @@ module _ (m : Manner) (p : Pattern) (haystack : List ℕ) (r : Request) (simple 
   answer-ended position =
       ap (λ ss. first_one (filter (accepted q position) ss)) (outcomes-are (context_of q) r.range_end p simple (initial q position))
       ∙ first_where (moved_to (initial q position)) (accepted q position) (may_stand m.on_boundaries haystack)
-        (may_stand m.on_boundaries haystack position) (λ e. refl) (ends m.meaning haystack r.range_end p position)
+      (may_stand m.on_boundaries haystack position) (λ e. refl) (ends m.meaning haystack r.range_end p position)
 
   step : (bound position : ℕ) → position < bound → bound - position ≡ suc (bound - (position + 1))
   step bound position lt = omega arith
@@ -70,7 +69,7 @@ module _ (m : Manner) (p : Pattern) (haystack : List ℕ) (r : Request) (simple 
   passed_over bound position lt e =
       ap (λ n. answer_from q n position) (step bound position lt)
       ∙ ap (λ o. option_or (option_map (λ s. record { position = position; state = s }) o) (answer_from q (bound - (position + 1)) (position + 1)))
-        (answer-ended position ∙ ap (option_map (moved_to (initial q position))) e)
+      (answer-ended position ∙ ap (option_map (moved_to (initial q position))) e)
 
   -- a position with an answer is the end of the search
   pub answered : (bound position end : ℕ) → position < bound → ended position ≡ Some end →
@@ -79,7 +78,7 @@ module _ (m : Manner) (p : Pattern) (haystack : List ℕ) (r : Request) (simple 
   answered bound position end lt e =
       ap (λ n. answer_from q n position) (step bound position lt)
       ∙ ap (λ o. option_or (option_map (λ s. record { position = position; state = s }) o) (answer_from q (bound - (position + 1)) (position + 1)))
-        (answer-ended position ∙ ap (option_map (moved_to (initial q position))) e)
+      (answer-ended position ∙ ap (option_map (moved_to (initial q position))) e)
 
   -- the end is an outcome's, so that it lies between, and it is accepted
   pub ended-first : (position end : ℕ) → ended position ≡ Some end → IsFirstAccepted q position (moved_to (initial q position) end)

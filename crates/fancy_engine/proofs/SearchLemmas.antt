@@ -8,7 +8,7 @@ use Rattle.std.proofs.lemmas.Bool.Decides.{eqb_tells}
 use Rattle.fancy_input.specs.Requests.{effective_start, positions}
 use Rattle.fancy_engine.specs.Context.{State}
 use Rattle.fancy_engine.specs.Search.{Query, Found, outcomes_at, admits, accepted, IsAccepted, first_one, further, longest_one, answer_at, answer_from, search}
-use Rattle.fancy_engine.specs.Answers.{HasAccepted, IsPosition, HasNone, IsFirstAccepted, IsAnswer}
+use Rattle.fancy_engine.specs.Answers.{HasAccepted, HasNone, IsFirstAccepted, IsAnswer}
 
 pub and_parts : (a b : Bool) → (a && b) ≡ true → (a ≡ true) × (b ≡ true)
 and_parts true b e = (refl, e)
@@ -135,7 +135,7 @@ pub no_answer-is : (q : Query) (p : ℕ) → answer_at q p ≡ None → ¬ HasAc
 unfolding answer_at
 no_answer-is q p e h =
     let none : All (λ t. accepted q p t ≡ false) (outcomes_at q p) =
-      all_refused (accepted q p) (outcomes_at q p) (nothing_at q.sought.longest (filter (accepted q p) (outcomes_at q p)) e) in
+    all_refused (accepted q p) (outcomes_at q p) (nothing_at q.sought.longest (filter (accepted q p) (outcomes_at q p)) e) in
     refused-is q p h.state (All-contains (λ t. accepted q p t ≡ false) (outcomes_at q p) h.state none h.reached) h.stands
 
 pub is-no_answer : (q : Query) (p : ℕ) → ¬ HasAccepted q p → answer_at q p ≡ None
@@ -212,7 +212,7 @@ found_at q n p f None h later e =
       before = omega arith;
       is = rest.is;
       least = λ k from before.
-        elim (next_or_here p k from) [ inl same ↦ ap (answer_at q) same ∙ h | inr past ↦ rest.least k past before ];
+          elim (next_or_here p k from) [ inl same ↦ ap (answer_at q) same ∙ h | inr past ↦ rest.least k past before ];
     }
 
 pub found_from : (q : Query) (n p : ℕ) (f : Found) → answer_from q n p ≡ Some f → FoundFrom q n p f
@@ -225,7 +225,7 @@ pub none-is_none : (q : Query) → (search q ≡ None) ↔ HasNone q
 none-is_none q = (
   λ e p at. no_answer-is q p (none_from q (positions q.request) (effective_start q.request) e p at.from at.before),
   λ none. all_none q (positions q.request) (effective_start q.request)
-    (λ k from before. is-no_answer q k (none k (record { from = from; before = before }))),
+      (λ k from before. is-no_answer q k (none k (record { from = from; before = before }))),
 )
 
 -- the answer is the first accepted outcome at the least position that has one

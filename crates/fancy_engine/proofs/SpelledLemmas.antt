@@ -1,84 +1,75 @@
--- The patterns that texts spell are those that the walk serves.
-use Rattle.std.proofs.Common.{◌≡◌, ℕ, Bool, true, false, ◌&&◌, List, [], ◌∷◌, Option, Some, None, map, encode_utf8, refl, sym, ap, ap₂, ◌∙◌}
+-- Every pattern that a text spells is simple.
+use Rattle.std.proofs.Common.{◌≡◌, ℕ, Bool, true, false, ◌&&◌, List, [], ◌∷◌, map, Option, Some, None, refl, ap, ◌∙◌}
+use Rattle.std.specs.Prelude.{encode_utf8}
 use Rattle.fancy_syntax.specs.declared.tree.Meaning.{Meaning}
 use Rattle.fancy_syntax.specs.declared.tree.Meaning.TheVariants.{Unicode, Bytes, AsciiText}
 use Rattle.fancy_syntax.specs.declared.tree.Taste.{Taste}
-use Rattle.fancy_syntax.specs.Pattern.{Pattern, character, in_sequence, in_choice, in_branches}
 use Rattle.fancy_syntax.specs.Words.{Text}
-use Rattle.fancy_syntax.specs.Dialect as d
-use Rattle.fancy_syntax.specs.Dialect.{Scope, Spells, literal_of, with_part}
+use Rattle.fancy_syntax.specs.Pattern.{Pattern, character, in_sequence, in_choice, in_branches}
+use Rattle.fancy_syntax.specs.Dialect.{Scope, Quantifies, greedy_optional, lazy_optional, literal_of, Branches, one, either, Parts, nothing, item, Item, bare, quantified, Atom, literal, escaped, plain, Spells, with_part}
 use Rattle.fancy_engine.specs.Simple.{is_optional, is_simple}
 
-abbrev pub are_simple : List Pattern → Bool
-are_simple [] = true
-are_simple (p ∷ ps) = is_simple p && are_simple ps
+both : (a b : Bool) → a ≡ true → b ≡ true → (a && b) ≡ true
+both true b e f = f
+both false b e f = e
 
-both_true : {a b : Bool} → a ≡ true → b ≡ true → (a && b) ≡ true
-both_true h i = ap₂ ◌&&◌ h i
+abbrev AreSimple : List Pattern → Type 0
+AreSimple [] = Unit {0}
+AreSimple (p ∷ ps) = (is_simple p ≡ true) × AreSimple ps
 
-first_true : (a b : Bool) → (a && b) ≡ true → a ≡ true
-first_true true b h = refl
-first_true false b h = h
+are-in_sequence : (ps : List Pattern) → AreSimple ps → is_simple (in_sequence ps) ≡ true
+are-in_sequence [] h = refl
+are-in_sequence (p ∷ []) h = h.0
+are-in_sequence (p ∷ q ∷ ps) h = both (is_simple p) _ h.0 (are-in_sequence (q ∷ ps) h.1)
 
-second_true : (a b : Bool) → (a && b) ≡ true → b ≡ true
-second_true true b h = h
-second_true false b h = cc
+are-in_choice : (p : Pattern) (ps : List Pattern) → AreSimple (p ∷ ps) → is_simple (in_choice (p ∷ ps)) ≡ true
+are-in_choice p [] h = h.0
+are-in_choice p (q ∷ ps) h = both (is_simple p) _ h.0 (are-in_choice q ps h.1)
 
-simple-in_sequence : (ps : List Pattern) → are_simple ps ≡ true → is_simple (in_sequence ps) ≡ true
-simple-in_sequence [] h = refl
-simple-in_sequence (p ∷ []) h = first_true (is_simple p) true h
-simple-in_sequence (p ∷ q ∷ ps) h =
-    both_true (first_true (is_simple p) _ h) (simple-in_sequence (q ∷ ps) (second_true (is_simple p) _ h))
+are-in_branches : (ps : List Pattern) → AreSimple ps → is_simple (in_branches ps) ≡ true
+are-in_branches [] h = refl
+are-in_branches (p ∷ []) h = h.0
+are-in_branches (p ∷ q ∷ ps) h = are-in_choice p (q ∷ ps) h
 
-simple-in_choice : (p : Pattern) (ps : List Pattern) → are_simple (p ∷ ps) ≡ true → is_simple (in_choice (p ∷ ps)) ≡ true
-simple-in_choice p [] h = first_true (is_simple p) true h
-simple-in_choice p (q ∷ ps) h =
-    both_true (first_true (is_simple p) _ h) (simple-in_choice q ps (second_true (is_simple p) _ h))
+are_characters : (cs : List ℕ) → AreSimple (map character cs)
+are_characters [] = tt
+are_characters (c ∷ cs) = (refl, are_characters cs)
 
-simple-in_branches : (ps : List Pattern) → are_simple ps ≡ true → is_simple (in_branches ps) ≡ true
-simple-in_branches [] h = refl
-simple-in_branches (p ∷ []) h = first_true (is_simple p) true h
-simple-in_branches (p ∷ q ∷ ps) h = simple-in_choice p (q ∷ ps) h
+simple-literal_of : (m : Meaning) (c : ℕ) → is_simple (literal_of m c) ≡ true
+simple-literal_of Unicode c = refl
+simple-literal_of Bytes c = are-in_sequence (map character (encode_utf8 c)) (are_characters (encode_utf8 c))
+simple-literal_of AsciiText c = refl
 
-are_simple-characters : (cs : List ℕ) → are_simple (map character cs) ≡ true
-are_simple-characters [] = refl
-are_simple-characters (c ∷ cs) = are_simple-characters cs
+optional-Quantifies : {t after : Text} {low : ℕ} {high : Option ℕ} {taste : Taste} → Quantifies t after low high taste → is_optional low high taste ≡ true
+optional-Quantifies (greedy_optional e) = refl
+optional-Quantifies lazy_optional = refl
 
-simple-literal : (m : Meaning) (c : ℕ) → is_simple (literal_of m c) ≡ true
-simple-literal Unicode c = refl
-simple-literal Bytes c = simple-in_sequence (map character (encode_utf8 c)) (are_simple-characters (encode_utf8 c))
-simple-literal AsciiText c = refl
+abbrev IsSimpleItem : Option Pattern → Type 0
+IsSimpleItem None = Unit {0}
+IsSimpleItem (Some p) = is_simple p ≡ true
 
-abbrev is_simple_part : Option Pattern → Bool
-is_simple_part None = true
-is_simple_part (Some p) = is_simple p
-
-are_simple-with_part : (x : Option Pattern) (ps : List Pattern) → is_simple_part x ≡ true → are_simple ps ≡ true → are_simple (with_part x ps) ≡ true
-are_simple-with_part None ps h i = i
-are_simple-with_part (Some p) ps h i = both_true h i
-
-optional_of : {t after : Text} {low : ℕ} {high : Option ℕ} {taste : Taste} → d.Quantifies t after low high taste → is_optional low high taste ≡ true
-optional_of (d.greedy_optional h) = refl
-optional_of d.lazy_optional = refl
+are-with_part : (x : Option Pattern) (ps : List Pattern) → IsSimpleItem x → AreSimple ps → AreSimple (with_part x ps)
+are-with_part None ps h all = all
+are-with_part (Some p) ps h all = (h, all)
 
 mutual
-  simple_branches : {k : ℕ} {s r : Scope} {t after : Text} {bs : List Pattern} → d.Branches k s t after bs r → are_simple bs ≡ true
-  simple_branches (d.one {ps = ps} x) = both_true (simple-in_sequence ps (simple_parts x)) refl
-  simple_branches (d.either {ps = ps} x y) = both_true (simple-in_sequence ps (simple_parts x)) (simple_branches y)
+  simple-Branches : {k : ℕ} {s r : Scope} {t after : Text} {bs : List Pattern} → Branches k s t after bs r → AreSimple bs
+  simple-Branches (one parts) = (are-in_sequence _ (simple-Parts parts), tt)
+  simple-Branches (either parts rest) = (are-in_sequence _ (simple-Parts parts), simple-Branches rest)
 
-  simple_parts : {k : ℕ} {s r : Scope} {t after : Text} {ps : List Pattern} → d.Parts k s t after ps r → are_simple ps ≡ true
-  simple_parts d.nothing = refl
-  simple_parts (d.item {x = x} {ps = ps} i p) = are_simple-with_part x ps (simple_item i) (simple_parts p)
+  simple-Parts : {k : ℕ} {s r : Scope} {t after : Text} {ps : List Pattern} → Parts k s t after ps r → AreSimple ps
+  simple-Parts nothing = tt
+  simple-Parts (item first rest) = are-with_part _ _ (simple-Item first) (simple-Parts rest)
 
-  simple_item : {k : ℕ} {s r : Scope} {t after : Text} {x : Option Pattern} → d.Item k s t after x r → is_simple_part x ≡ true
-  simple_item (d.bare a h) = simple_atom a
-  simple_item (d.quantified a e q) = both_true (optional_of q) (simple_atom a)
+  simple-Item : {k : ℕ} {s r : Scope} {t after : Text} {x : Option Pattern} → Item k s t after x r → IsSimpleItem x
+  simple-Item (bare atom e) = simple-Atom atom
+  simple-Item (quantified atom e q) = both _ _ (optional-Quantifies q) (simple-Atom atom)
 
-  simple_atom : {k : ℕ} {s r : Scope} {t after : Text} {p : Pattern} → d.Atom k s t after p r → is_simple p ≡ true
-  simple_atom (d.literal {s = s} c h n) = simple-literal s.meaning c
-  simple_atom (d.escaped {s = s} c h) = simple-literal s.meaning c
-  simple_atom (d.plain {bs = bs} b) = simple-in_branches bs (simple_branches b)
+  simple-Atom : {k : ℕ} {s r : Scope} {t after : Text} {p : Pattern} → Atom k s t after p r → is_simple p ≡ true
+  simple-Atom (literal {s = s} c e f) = simple-literal_of s.meaning c
+  simple-Atom (escaped {s = s} c e) = simple-literal_of s.meaning c
+  simple-Atom (plain branches) = are-in_branches _ (simple-Branches branches)
 
--- what a text spells is simple
+-- a pattern that a text spells is simple
 pub simple_spelled : {s e : Scope} {text : Text} {p : Pattern} → Spells s text p e → is_simple p ≡ true
-simple_spelled x = ap is_simple x.is ∙ simple-in_branches x.branches (simple_branches x.spelled)
+simple_spelled h = ap is_simple h.is ∙ are-in_branches h.branches (simple-Branches h.spelled)

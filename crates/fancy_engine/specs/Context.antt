@@ -1,7 +1,6 @@
 -- What a match is looked for in, how far it has come, and what the leaves of a pattern see there. Places are byte offsets into the haystack.
-use Rattle.std.specs.Prelude.{ℕ, zero, suc, ◌+◌, ◌-◌, Bool, true, false, not, ◌&&◌, ◌||◌, List, [], ◌∷◌, length, drop, take, Option, Some, None, if◌then◌else◌, ◌==◌, slice_get, slice_index_or, slice_set}
+use Rattle.std.specs.Prelude.{ℕ, zero, suc, ◌+◌, ◌-◌, Bool, false, not, ◌&&◌, ◌||◌, List, length, drop, take, Option, Some, None, if◌then◌else◌, ◌==◌, slice_get, slice_index_or, slice_set}
 use Rattle.std.specs.Char.{len_utf8}
-use Rattle.std.specs.Option.{option_or}
 use Rattle.fancy_syntax.specs.declared.tree.Meaning.{Meaning}
 use Rattle.fancy_syntax.specs.declared.tree.Meaning.TheVariants.{Unicode, Bytes, AsciiText}
 use Rattle.fancy_syntax.specs.declared.tree.Assertion.{Assertion}

@@ -1,5 +1,5 @@
 -- Small searches whose answers are known from elsewhere.
-use Rattle.std.specs.Prelude.{◌≡◌, ℕ, Bool, true, false, List, [], ◌∷◌, Option, Some, None, option_map, codes}
+use Rattle.std.specs.Prelude.{◌≡◌, ℕ, true, false, List, [], ◌∷◌, Option, Some, None, option_map, codes}
 use Rattle.fancy_syntax.specs.declared.tree.Meaning.TheVariants.{Unicode}
 use Rattle.fancy_syntax.specs.declared.tree.Taste.TheVariants.{Greedy, Lazy, Possessive}
 use Rattle.fancy_syntax.specs.Pattern.{Pattern, empty, character, group_test, keep_start, group, repeat, look_ahead, look_behind, atomic, conditional, followed, or_else, last_branch}

@@ -1,11 +1,11 @@
 -- Laws of the trace and of the search, which the contracts of the module `laws` promise.
-use Rattle.std.specs.Prelude.{◌≡◌, ℕ, ◌≤◌, Bool, true, false, List, [], if◌then◌else◌, ◌==◌, Some, None, ◌↔◌}
+use Rattle.std.specs.Prelude.{◌≡◌, ℕ, ◌≤◌, Bool, true, false, [], if◌then◌else◌, ◌==◌, Some, None, ◌↔◌}
 use Rattle.fancy_syntax.specs.Pattern.{Pattern}
 use Rattle.fancy_engine.specs.Context.{Context, State}
 use Rattle.fancy_engine.specs.Events.{stay, bind, prefer, star}
 use Rattle.fancy_engine.specs.Trace.{trace}
 use Rattle.fancy_engine.specs.Search.{Query, Found, search, accepted, IsAccepted}
-use Rattle.fancy_engine.specs.Forward.{EachOutcome, IsBetween, LeadsOn}
+use Rattle.fancy_engine.specs.Forward.{EachOutcome, IsBetween}
 use Rattle.fancy_engine.specs.Answers.{HasNone, IsAnswer}
 
 -- The star is one more turn and then the star, or leaving; a turn that ends where it began fails. Greedy, the turn comes first, and lazy, leaving.

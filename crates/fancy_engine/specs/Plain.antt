@@ -1,5 +1,5 @@
 -- The plain search: what is asked of a search without groups, and what one attempt of it ends in.
-use Rattle.std.specs.Prelude.{ℕ, Bool, true, false, not, ◌||◌, List, [], ◌∷◌, filter, Option, Some, None, if◌then◌else◌, ◌≡◌, ◌≤◌, IsTrue}
+use Rattle.std.specs.Prelude.{ℕ, Bool, false, not, ◌||◌, List, [], ◌∷◌, filter, Option, Some, None, if◌then◌else◌, ◌≤◌, IsTrue}
 use Rattle.fancy_syntax.specs.Pattern.{Pattern}
 use Rattle.fancy_input.specs.Places.{is_boundary}
 use Rattle.fancy_input.specs.Requests.{effective_start}
@@ -8,7 +8,6 @@ use Rattle.fancy_engine.specs.declared.search.Manner.{Manner}
 use Rattle.fancy_engine.specs.declared.search.Found.{Found}
 use Rattle.fancy_engine.specs.Context.{Span}
 use Rattle.fancy_engine.specs.Search.{Sought, Query}
-use Rattle.fancy_engine.specs.Simple.{ends}
 
 -- the first match at a position, empty or not, and no group but the whole
 abbrev pub sought_by : Manner → Pattern → Sought

@@ -1,5 +1,5 @@
 -- The answer of a search, and the choices and returns that it takes.
-use Rattle.std.specs.Prelude.{◌≡◌, ◌≢◌, ℕ, zero, suc, ◌+◌, Bool, true, false, not, ◌&&◌, ◌||◌, List, [], ◌∷◌, ◌++◌, replicate, filter, Option, Some, None, option_map, if◌then◌else◌, ◌==◌, nat_lt, is_some, IsTrue}
+use Rattle.std.specs.Prelude.{◌≢◌, ℕ, zero, suc, ◌+◌, Bool, false, not, ◌&&◌, ◌||◌, List, [], ◌∷◌, ◌++◌, replicate, filter, Option, Some, None, option_map, if◌then◌else◌, ◌==◌, nat_lt, is_some, IsTrue}
 use Rattle.std.specs.Option.{option_or}
 use Rattle.fancy_syntax.specs.declared.tree.Meaning.{Meaning}
 use Rattle.fancy_syntax.specs.Pattern.{Pattern}

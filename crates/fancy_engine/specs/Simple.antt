@@ -5,7 +5,7 @@ use Rattle.fancy_syntax.specs.declared.tree.Meaning.{Meaning}
 use Rattle.fancy_syntax.specs.declared.tree.Taste.{Taste}
 use Rattle.fancy_syntax.specs.declared.tree.Taste.TheVariants.{Greedy, Lazy, Possessive}
 use Rattle.fancy_syntax.specs.Pattern.{Pattern, empty, character, repeat, followed, or_else, last_branch}
-use Rattle.fancy_engine.specs.Context.{Context, past_item, option_to}
+use Rattle.fancy_engine.specs.Context.{Context, past_item}
 
 abbrev pub is_optional : ℕ → Option ℕ → Taste → Bool
 is_optional low None taste = false

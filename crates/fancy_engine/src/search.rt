@@ -8,16 +8,17 @@ ghost use Rattle.fancy_engine.specs.Search.{search, span_of};
 ghost use Rattle.fancy_engine.specs.Simple.{is_simple, ends};
 ghost use Rattle.fancy_engine.specs.Plain.{query_of, ends_of, IsWithin, IsClean, may_stand, first_place, end_by};
 
+use crate::walk::Walk;
 use fancy_input::input::Request;
 use fancy_syntax::tree::{Meaning, Tree};
 use std::alloc::{AllocError, Global};
 
-use crate::walk::Walk;
-
 /// How a pattern is searched: what an item consumes, and whether matches stand on character boundaries alone.
 #[derive(Clone, Copy, PartialEq, Eq)]
 pub struct Manner {
+    /// What one item of the pattern consumes.
     pub meaning: Meaning,
+    /// Whether a match begins and ends only where no character is cut.
     pub on_boundaries: bool,
 }
 
@@ -29,7 +30,8 @@ pub struct Found {
 }
 
 /// The first match of a simple pattern: of the positions that the request has tried the least that has one,
-/// and there the one that the pattern prefers. `None` where no position has a match.
+/// and there the one that the pattern prefers. `None` where no position has a match, and `AllocError` where
+/// memory runs out. The request's `range_end` is at most the haystack's length.
 ///
 /// # Example
 ///
@@ -54,8 +56,7 @@ pub fn search(
         limit: request.range_end,
         meaning: manner.meaning,
     };
-    let first = request.start.max(request.range_start);
-    for position in first..past_last(request) {
+    for position in first_position(request)..past_last(request) {
         if let Some(end) = end_at(&walk, tree, manner.on_boundaries, position)? {
             return Ok(Some(Found {
                 start: position,
@@ -66,12 +67,19 @@ pub fn search(
     Ok(None)
 }
 
+/// The first position that is tried.
+fn first_position(request: Request) -> usize
+    ensures { result ≡ effective_start request }
+{
+    request.start.max(request.range_start)
+}
+
 /// The place behind the last position that is tried.
 fn past_last(request: Request) -> usize
     requires { request.range_end < 2 ^ 64 - 1 }
     ensures { result ≡ effective_start request + positions request }
 {
-    let first = request.start.max(request.range_start);
+    let first = first_position(request);
     if first > request.range_end {
         first
     } else if request.anchored {
@@ -121,8 +129,72 @@ fn may_stand(on_boundaries: bool, haystack: &[u8], place: usize) -> bool
 fn is_boundary(haystack: &[u8], place: usize) -> bool
     ensures { result ≡ is_boundary haystack.now place }
 {
-    place == 0
-        || place >= haystack.len()
-        || haystack[place] < 0x80
-        || haystack[place] >= 0xC0
+    place == 0 || place >= haystack.len() || haystack[place] < 0x80 || haystack[place] >= 0xC0
+}
+
+#[test]
+fn branches_and_characters(rt: HostRuntime) -> Result<(), AllocError> {
+    let alloc = rt.alloc();
+    let mut parts = Vec::new(alloc);
+    parts.push(Tree::Character('a'))?;
+    parts.push(Tree::Character('b'))?;
+    let mut branches = Vec::new(alloc);
+    branches.push(Tree::Character('a'))?;
+    branches.push(Tree::Sequence(parts))?;
+    let tree = Tree::Alternative(branches);
+    let text = Manner {
+        meaning: Meaning::Unicode,
+        on_boundaries: true,
+    };
+    let found = search(alloc, &tree, text, b"xab", whole(3))?;
+    assert!(rt; found == Some(Found { start: 1, end: 2 }));
+    let accented = Tree::Character('é');
+    let found = search(alloc, &accented, text, "xé".as_bytes(), whole(3))?;
+    assert!(rt; found == Some(Found { start: 1, end: 3 }));
+    let bytes = Manner {
+        meaning: Meaning::Bytes,
+        on_boundaries: false,
+    };
+    let found = search(alloc, &accented, bytes, b"x\xE9", whole(2))?;
+    assert!(rt; found == Some(Found { start: 1, end: 2 }));
+    Ok(())
+}
+
+#[test]
+fn a_hundred_thousand_characters(rt: HostRuntime) -> Result<(), AllocError> {
+    let alloc = rt.alloc();
+    let mut letters = Vec::new(alloc);
+    let mut matching = Vec::new(alloc);
+    let mut other = Vec::new(alloc);
+    for _ in 0..100_000 {
+        letters.push(Tree::Character('a'))?;
+        matching.push(b'a')?;
+        other.push(b'b')?;
+    }
+    let tree = Tree::Sequence(letters);
+    let text = Manner {
+        meaning: Meaning::Unicode,
+        on_boundaries: true,
+    };
+    let found = search(alloc, &tree, text, &matching, whole(100_000))?;
+    assert!(rt;
+        found
+            == Some(Found {
+                start: 0,
+                end: 100_000
+            })
+    );
+    let found = search(alloc, &tree, text, &other, whole(100_000))?;
+    assert!(rt; found.is_none());
+    Ok(())
+}
+
+#[cfg(test)]
+fn whole(length: usize) -> Request {
+    Request {
+        start: 0,
+        range_start: 0,
+        range_end: length,
+        anchored: false,
+    }
 }

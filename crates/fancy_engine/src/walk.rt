@@ -48,7 +48,12 @@ impl Walk<'_> {
     }
 
     #[cycle(ends)]
-    fn ends_of_optional(&self, taste: Taste, body: &Tree, start: usize) -> Result<Vec<usize>, AllocError>
+    fn ends_of_optional(
+        &self,
+        taste: Taste,
+        body: &Tree,
+        start: usize,
+    ) -> Result<Vec<usize>, AllocError>
         requires simple { IsTrue (is_simple (pattern_of body.now)) }
         ensures { IfOk result (λ v. v.items ≡ optional_ends taste (ends self.now.meaning self.now.haystack.now self.now.limit (pattern_of body.now) start) start) }
     {

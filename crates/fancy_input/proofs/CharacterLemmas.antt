@@ -1,8 +1,7 @@
 -- Where characters stand, and boundaries of text.
-use Rattle.std.proofs.Common.{◌≡◌, ℕ, ◌+◌, ◌<◌, ◌≤◌, ◌==◌, Bool, true, false, not, ◌&&◌, ◌||◌, nat_le, nat_lt, nat_eq, List, [], ◌∷◌, ◌++◌, length, drop, Option, Some, None, if◌then◌else◌, get_or, inl, inr, refl, sym, ap, subst, ◌∙◌, arith, true≢false, append-nil}
+use Rattle.std.proofs.Common.{◌≡◌, ℕ, ◌<◌, ◌≤◌, ◌==◌, Bool, true, false, not, ◌&&◌, ◌||◌, nat_le, List, [], ◌∷◌, ◌++◌, length, drop, Some, None, if◌then◌else◌, inl, inr, refl, sym, ap, subst, ◌∙◌, arith, true≢false, append-nil}
 use Rattle.std.specs.Prelude.{IsUtf8, IsCharBoundary, encode_utf8, slice_index, chars}
 use Rattle.std.specs.Char.{IsScalar}
-use Rattle.std.specs.List.{starts_with}
 use Rattle.std.proofs.lemmas.Bool.Decides.{eqb_tells, nat_tests, Decides-eqb}
 use Rattle.std.proofs.lemmas.Slice.Eq.{starts_is}
 use Rattle.std.proofs.lemmas.Str.{IsUtf8-encode, IsCharBoundary-start, chars-nil, chars-append, chars_past_char}
@@ -55,8 +54,8 @@ pub char_at-is : (haystack : List ℕ) (i c : ℕ) → IsScalar c → has_bytes_
 unfolding char_at
 char_at-is haystack i c h e =
     let first : slice_index (chars (drop i haystack)) 0 ≡ c =
-      ap (λ x. slice_index (chars x) 0) (bytes_at-begin haystack i (encode_utf8 c) e)
-      ∙ ap (λ x. slice_index x 0) (chars_first c (drop (length (encode_utf8 c)) (drop i haystack)) h) in
+    ap (λ x. slice_index (chars x) 0) (bytes_at-begin haystack i (encode_utf8 c) e)
+    ∙ ap (λ x. slice_index x 0) (chars_first c (drop (length (encode_utf8 c)) (drop i haystack)) h) in
     if_both _ _ _ c
     (ap is_scalar first ∙ is_scalar-scalar c ∙ h)
     (ap (λ d. has_bytes_at haystack i (encode_utf8 d)) first ∙ e)

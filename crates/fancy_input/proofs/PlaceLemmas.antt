@@ -125,6 +125,10 @@ pub next_place_most : (text : Bool) (bs : List ℕ) (i : ℕ) → i ≤ length b
 next_place_most true bs i h = omega (arith, continuations_within (drop (i + 1) bs), length-drop (i + 1) bs)
 next_place_most false bs i h = omega arith
 
+pub next_place_within : (text : Bool) (bs : List ℕ) (i : ℕ) → i < length bs → next_place text bs i ≤ length bs
+next_place_within true bs i h = omega (arith, continuations_within (drop (i + 1) bs), length-drop (i + 1) bs)
+next_place_within false bs i h = omega arith
+
 -- each byte that is counted continues a character
 counted : (x : ℕ) (xs : List ℕ) (b : Bool) (k : ℕ) → is_continuation x ≡ b → ((k' : ℕ) → k' < continuations xs → is_continuation (slice_index xs k') ≡ true)
     → k < (if b then suc (continuations xs) else zero) → is_continuation (slice_index (x ∷ xs) k) ≡ true

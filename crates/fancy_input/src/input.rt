@@ -1,6 +1,6 @@
 //! What can be searched, and what a search is asked.
 
-ghost use Rattle.std.specs.Prelude.{◌≡◌, ◌≤◌, ◌<◌, ◌↔◌, ◌+◌, ℕ, Bool, true, false, List, length, IsTrue, IsFalse, IsUtf8, IsAscii, IsCharBoundary};
+ghost use Rattle.std.specs.Prelude.{◌≡◌, ◌≤◌, ◌<◌, ◌↔◌, ◌+◌, ℕ, Bool, true, List, length, IsTrue, IsFalse, IsUtf8, IsAscii, IsCharBoundary};
 ghost use Rattle.fancy_input.specs.Requests.{effective_start};
 ghost use Rattle.fancy_input.specs.Places.{is_boundary, is_place, prev_place, next_place};
 
@@ -104,7 +104,7 @@ pub trait Input: Haystack {
         self.as_bytes().is_empty()
     }
 
-    /// Whether each byte is below `0x80`, as none is in the empty haystack.
+    /// Whether each byte is below `0x80`. The empty haystack is ASCII too.
     fn is_ascii(&self) -> bool
         ensures { IsTrue result ↔ IsAscii (Self.bytes self.now) }
     {
@@ -152,6 +152,7 @@ pub trait Input: Haystack {
         ensures value { result ≡ next_place (Self.text self.now) (Self.bytes self.now) i }
         ensures above { i < result }
         ensures most { result ≤ length (Self.bytes self.now) + 1 }
+        ensures within { i < length (Self.bytes self.now) → result ≤ length (Self.bytes self.now) }
         ensures boundary { Self.text self.now ≡ true → IsTrue (is_boundary (Self.bytes self.now) result) }
         ensures nearest { Self.text self.now ≡ true → (j : ℕ) → i < j → j < result → IsFalse (is_boundary (Self.bytes self.now) j) }
     {

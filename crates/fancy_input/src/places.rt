@@ -50,6 +50,7 @@ pub fn next_boundary(bytes: &[u8], i: usize) -> usize
     ensures value { result ≡ next_place true bytes.now i }
     ensures above { i < result }
     ensures most { result ≤ length bytes.now + 1 }
+    ensures within { i < length bytes.now → result ≤ length bytes.now }
 {
     let mut at = next_byte(bytes, i);
     while at < bytes.len() && is_continuation(bytes[at]) {

@@ -30,6 +30,22 @@ fn four_forms_state_their_facts(rt: HostRuntime) -> Result<(), Fail> {
     Ok(())
 }
 
+/// How many places a walk from the start to the end goes over.
+fn steps<S: Input>(haystack: S) -> usize {
+    let mut at = 0;
+    let mut count = 0usize;
+    while at < haystack.len() {
+        at = haystack.advance_position(at);
+        count = count.wrapping_add(1);
+    }
+    count
+}
+
+/// The match of the whole haystack.
+fn whole<S: Input>(haystack: S) -> S::Match {
+    haystack.make_match(0, haystack.len())
+}
+
 /// Which of the places 0 to 4 are boundaries.
 fn boundaries<S: Input>(haystack: S) -> [bool; 5] {
     let input = RegexInput::from(haystack);
@@ -70,6 +86,9 @@ fn steps_go_over_whole_characters_of_text(rt: HostRuntime) -> Result<(), Fail> {
     assert_eq!(rt; bytes.advance_position(1), 2);
     assert_eq!(rt; bytes.advance_position(3), 4);
     assert_eq!(rt; array.prev_codepoint_ix(2), 0);
+    assert_eq!(rt; steps(text), 2);
+    assert_eq!(rt; steps(bytes), 3);
+    assert!(rt; whole(text).as_str() == text && whole(bytes).as_bytes() == bytes);
     Ok(())
 }
 

@@ -1,6 +1,6 @@
 //! Regexes with look-around and backreferences whose answers are proved.
 //!
-//! A pattern is read once, and is then searched for:
+//! A pattern is read once, and is then searched for, in text or in bytes:
 //!
 //! ```text
 //! let regex = Regex::new(alloc, "a|ab")?;
@@ -10,6 +10,11 @@
 //! All offsets are byte offsets into the haystack. Whatever is refused has a name: see [`Error`].
 #![tactic(auto)]
 
+pub use fancy_core::options::RegexOptionsBuilder;
 pub use fancy_core::regex::Regex;
+pub use fancy_input::bytes::MatchBytes;
+pub use fancy_input::input::{Haystack, Input};
 pub use fancy_input::matches::Match;
+pub use fancy_input::regex_input::RegexInput;
 pub use fancy_syntax::error::{CompileError, Error, ParseErrorKind, Result, RuntimeError};
+pub use fancy_syntax::tree::BytesMode;

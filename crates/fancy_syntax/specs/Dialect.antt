@@ -103,6 +103,10 @@ no_flags = record { ignore_case = false; multi_line = false; dot_all = false; ig
 abbrev pub standard : Options
 standard = record { meaning = Unicode; flags = no_flags }
 
+-- the standard options, but in this meaning
+abbrev pub in_meaning : Meaning → Options
+in_meaning m = record standard { meaning = m }
+
 abbrev pub begin : Options → Scope
 begin o = record { meaning = o.meaning; flags = o.flags; opened = 0; names = []; in_look_around = false }
 

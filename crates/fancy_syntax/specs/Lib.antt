@@ -1,3 +1,4 @@
+pub mod Modes
 pub mod Sets
 pub mod Pattern
 pub mod Sizes

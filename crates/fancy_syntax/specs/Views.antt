@@ -9,12 +9,12 @@ use Rattle.fancy_syntax.specs.declared.groups.Opening.TheVariants.{Plain}
 use Rattle.fancy_syntax.specs.declared.tree.Tree.{Tree}
 use Rattle.fancy_syntax.specs.Pattern.{Pattern, pattern_of, in_sequence, in_branches}
 use Rattle.fancy_syntax.specs.Words.{Text}
-use Rattle.fancy_syntax.specs.Dialect.{standard, begin}
+use Rattle.fancy_syntax.specs.Dialect.{in_meaning, begin}
 use Rattle.fancy_syntax.specs.Grammar.{Place, Opening, plain, Branches, Parts}
 
 -- The forms so far change nothing of what is in force.
 abbrev pub place : Parser → Place
-place p = record { text = p.rest.now; scope = begin standard }
+place p = record { text = p.rest.now; scope = begin (in_meaning p.meaning) }
 
 -- how many bytes of the whole pattern stand before the rest
 abbrev pub bytes_before : Text → Text → ℕ

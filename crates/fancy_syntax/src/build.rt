@@ -1,13 +1,14 @@
 //! Trees out of the parts that were read.
 
 ghost use Rattle.std.specs.Prelude.{◌≡◌, map, Some, IfOk};
-ghost use Rattle.fancy_syntax.specs.Pattern.{pattern_of, repeat, in_sequence, in_branches};
+ghost use Rattle.fancy_syntax.specs.Pattern.{pattern_of, character, repeat, in_sequence, in_branches};
 ghost use Rattle.fancy_syntax.specs.Sizes.{is_empty};
+ghost use Rattle.fancy_syntax.specs.Dialect.{literal_of};
 ghost use Rattle.fancy_syntax.specs.Grammar.{wrap};
 ghost use Rattle.fancy_syntax.specs.Views.{found};
 
 use crate::groups::Opening;
-use crate::tree::{Taste, Tree};
+use crate::tree::{Meaning, Taste, Tree};
 use std::alloc::{AllocError, Global};
 
 /// One part behind the other.
@@ -52,6 +53,33 @@ pub(crate) fn is_empty(tree: &Tree) -> bool
         },
         _ => false,
     }
+}
+
+/// A literal character; in byte meaning it is the sequence of its bytes.
+#[tactic(auto, using(crate::proofs::PatternLemmas::pattern_equations))]
+pub(crate) fn literal(alloc: Global, meaning: Meaning, c: char) -> Result<Tree, AllocError>
+    ensures { IfOk result (λ t. pattern_of t ≡ literal_of meaning c) }
+{
+    match meaning {
+        Meaning::Unicode | Meaning::AsciiText => Ok(Tree::Character(c)),
+        Meaning::Bytes => {
+            let mut buffer = [0; 4];
+            let bytes = c.encode_utf8(&mut buffer).as_bytes();
+            Ok(sequence(one_by_one(alloc, bytes)?))
+        }
+    }
+}
+
+/// Each byte as an item of its own.
+#[tactic(auto, using(crate::proofs::PatternLemmas::pattern_equations))]
+fn one_by_one(alloc: Global, bytes: &[u8]) -> Result<Vec<Tree>, AllocError>
+    ensures { IfOk result (λ v. map pattern_of v.items ≡ map character bytes.now) }
+{
+    let mut parts = Vec::new(alloc);
+    for byte in bytes {
+        parts.push(Tree::Character(char::from(*byte)))?;
+    }
+    Ok(parts)
 }
 
 /// At most one turn of the body.

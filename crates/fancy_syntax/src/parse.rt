@@ -2,13 +2,13 @@
 
 ghost use Rattle.std.specs.Prelude.{◌≡◌, IfOk, IfErr, chars};
 ghost use Rattle.fancy_syntax.specs.declared.error.Error.TheVariants.{Memory};
-ghost use Rattle.fancy_syntax.specs.Dialect.{standard, IsPattern};
+ghost use Rattle.fancy_syntax.specs.Dialect.{standard, in_meaning, IsPattern};
 ghost use Rattle.fancy_syntax.specs.Pattern.{Pattern, pattern_of};
 ghost use Rattle.fancy_syntax.specs.Refusals.{IsRefused};
 
 use crate::error::{CompileError, Error, ParseErrorKind};
 use crate::parser::Parser;
-use crate::tree::Tree;
+use crate::tree::{Meaning, Tree};
 use std::alloc::Global;
 
 /// How many parentheses may be open at one place.
@@ -17,10 +17,11 @@ const MAX_DEPTH: u32 = 64;
 /// How many nodes a pattern may have, with counted repeats written out.
 const MAX_NODES: usize = 1_000_000;
 
-/// Reads a pattern.
+/// Reads a pattern, whose items are characters.
 ///
 /// The forms so far are literal characters, a backslash before ASCII punctuation (other than `<` and `>`) or a
-/// space, groups `(?:..)`, branches joined by `|`, and the quantifiers `?` and `??`.
+/// space, groups `(?:..)`, branches joined by `|`, and the quantifiers `?` and `??`. At most 64 parentheses are
+/// open at one place.
 ///
 /// A text that is no pattern is refused by an [`Error::ParseError`], whose place is a byte offset into it, of 0
 /// to the length of `pattern`; one of more than 1,000,000 nodes by [`CompileError::PatternTooComplex`]. Where
@@ -33,10 +34,22 @@ pub fn parse(alloc: Global, pattern: &str) -> Result<Tree, Error>
     ensures refused { IfErr result (λ e. IsRefused e standard (chars pattern.now)) }
     ensures succeeds { (p : Pattern) → IsPattern standard (chars pattern.now) p → IfErr result (λ e. e ≡ Memory) }
 {
+    parse_with(alloc, pattern, Meaning::Unicode)
+}
+
+/// Reads a pattern in this meaning, by the rules of [`parse`].
+///
+/// In [`Meaning::Bytes`] a literal past U+007F is the sequence of the bytes of its UTF-8, as `é` is of two.
+pub fn parse_with(alloc: Global, pattern: &str, meaning: Meaning) -> Result<Tree, Error>
+    ensures accepted { IfOk result (λ t. IsPattern (in_meaning meaning) (chars pattern.now) (pattern_of t)) }
+    ensures refused { IfErr result (λ e. IsRefused e (in_meaning meaning) (chars pattern.now)) }
+    ensures succeeds { (p : Pattern) → IsPattern (in_meaning meaning) (chars pattern.now) p → IfErr result (λ e. e ≡ Memory) }
+{
     let characters: Vec<char> = pattern.chars().collect(alloc)?;
     let mut parser = Parser {
         whole: &characters,
         rest: &characters,
+        meaning,
         alloc,
     };
     let tree = parser.alternation(MAX_DEPTH)?;
@@ -51,9 +64,9 @@ pub fn parse(alloc: Global, pattern: &str) -> Result<Tree, Error>
 
 #[cfg(test)]
 mod tests {
-    use super::parse;
+    use super::{parse, parse_with};
     use crate::error::{CompileError, Error, ParseErrorKind, RuntimeError};
-    use crate::tree::Tree;
+    use crate::tree::{Meaning, Tree};
     use std::test::Fail;
 
     /// The place and kind of a pattern's error.
@@ -87,6 +100,22 @@ mod tests {
             ("(?:a", Some((4, ParseErrorKind::UnclosedOpenParen))),
         ] {
             assert_eq!(rt; fault(parse(rt.alloc(), pattern)), want, "at {pattern}");
+        }
+    }
+
+    #[test]
+    fn sizes(rt: HostRuntime) {
+        for (pattern, meaning, want) in [
+            ("(?:a|b)?c", Meaning::Unicode, 7),
+            ("aé", Meaning::Bytes, 3),
+            ("aé", Meaning::AsciiText, 2),
+        ] {
+            let found = parse_with(rt.alloc(), pattern, meaning);
+            assert_eq!(rt;
+                found.map(|tree| tree.nodes()).ok(),
+                Some(want),
+                "at {pattern}"
+            );
         }
     }
 

@@ -6,11 +6,11 @@ ghost use Rattle.std.specs.List.{starts_with};
 ghost use Rattle.fancy_syntax.specs.Dialect.{is_escapable, is_special};
 ghost use Rattle.fancy_syntax.specs.Words.{is_at_any, is_at};
 
-use crate::build::{branches, is_empty, optional, sequence, wrap};
+use crate::build::{branches, is_empty, literal, optional, sequence, wrap};
 use crate::count::begins_count;
 use crate::error::{Error, ParseErrorKind};
 use crate::groups::Opening;
-use crate::tree::{Taste, Tree};
+use crate::tree::{Meaning, Taste, Tree};
 use std::alloc::Global;
 
 /// A pattern, and what is left of it to read.
@@ -20,6 +20,7 @@ pub(crate) struct Parser<'a> {
     pub(crate) whole: &'a [char],
     /// The last of them, which are still to be read.
     pub(crate) rest: &'a [char],
+    pub(crate) meaning: Meaning,
     pub(crate) alloc: Global,
 }
 
@@ -158,7 +159,7 @@ impl<'a> Parser<'a> {
                     return Err(self.error(ParseErrorKind::NotInProfile));
                 }
                 self.skip(2);
-                Ok(Tree::Character(c))
+                Ok(literal(self.alloc, self.meaning, c)?)
             }
             _ => Err(self.error(ParseErrorKind::TrailingBackslash)),
         }
@@ -178,7 +179,7 @@ impl<'a> Parser<'a> {
                     return Err(self.unexpected());
                 }
                 self.skip(1);
-                Ok(Tree::Character(c))
+                Ok(literal(self.alloc, self.meaning, c)?)
             }
             [] => Err(self.unexpected()),
         }

@@ -1,5 +1,56 @@
 //! A pattern as a tree.
 
+ghost use Rattle.std.specs.Prelude.{◌≡◌};
+ghost use Rattle.fancy_syntax.specs.Modes.{meaning_of, keeps_characters};
+ghost use Rattle.fancy_syntax.specs.declared.tree.BytesMode.TheVariants.{Unicode as ByCharacters};
+
+/// How bytes are read, in the pattern and in the haystack.
+///
+/// | Mode | An item is | A match begins and ends |
+/// |---|---|---|
+/// | `Unicode` | a character | on character boundaries |
+/// | `Ascii` | a byte | anywhere |
+/// | `UnicodeBytes` | a character | anywhere |
+#[derive(Clone, Copy, PartialEq, Eq)]
+pub enum BytesMode {
+    /// Characters are items, and matches stand on character boundaries.
+    Unicode,
+    /// Bytes are items.
+    Ascii,
+    /// Characters are items, and matches may stand anywhere.
+    UnicodeBytes,
+}
+
+impl BytesMode {
+    /// What an item consumes.
+    pub fn meaning(self) -> Meaning
+        ensures { result ≡ meaning_of self }
+    {
+        match self {
+            BytesMode::Unicode | BytesMode::UnicodeBytes => Meaning::Unicode,
+            BytesMode::Ascii => Meaning::Bytes,
+        }
+    }
+
+    /// Whether matches begin and end on character boundaries alone.
+    pub fn keeps_characters(self) -> bool
+        ensures { result ≡ keeps_characters self }
+    {
+        match self {
+            BytesMode::Unicode => true,
+            BytesMode::Ascii | BytesMode::UnicodeBytes => false,
+        }
+    }
+}
+
+impl Default for BytesMode {
+    ghost is_default = { λ m. m ≡ ByCharacters };
+
+    fn default() -> BytesMode {
+        BytesMode::Unicode
+    }
+}
+
 /// What one item of a pattern consumes.
 #[derive(Clone, Copy, PartialEq, Eq)]
 pub enum Meaning {

@@ -4,4 +4,6 @@
 #[cfg(test)]
 mod finding;
 #[cfg(test)]
+mod inputs;
+#[cfg(test)]
 mod refusals;

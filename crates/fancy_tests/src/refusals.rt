@@ -59,7 +59,12 @@ fn groups_nest_64_deep(rt: HostRuntime) -> Result<(), Fail> {
     let deepest = nested(alloc, 64)?;
     assert!(rt; Regex::new(alloc, deepest.as_str()).is_ok());
     let too_deep = nested(alloc, 65)?;
-    check_kind(&rt, alloc, too_deep.as_str(), ParseErrorKind::RecursionExceeded)
+    check_kind(
+        &rt,
+        alloc,
+        too_deep.as_str(),
+        ParseErrorKind::RecursionExceeded,
+    )
 }
 
 #[test]

@@ -7,8 +7,8 @@ mod tests;
 
 use commands::run;
 use std::alloc::Global;
-use std::process::ExitCode;
 use std::io::Write;
+use std::process::ExitCode;
 use std::rt::Env;
 use std::{env, io};
 

@@ -69,10 +69,38 @@ fn names_what_is_wrong(rt: HostRuntime) -> Result<(), Fail> {
     expect_run(&rt, alloc, &[], "", "error: usage\n", 2)?;
     expect_run(&rt, alloc, &["find", "a"], "", "error: usage\n", 2)?;
     expect_run(&rt, alloc, &["seek", "a", "b"], "", "error: usage\n", 2)?;
-    expect_run(&rt, alloc, &["find", "(?:a", "x"], "", "error: UnclosedOpenParen\n", 2)?;
-    expect_run(&rt, alloc, &["find", "a)", "x"], "", "error: GeneralParseError\n", 2)?;
-    expect_run(&rt, alloc, &["find", "?a", "x"], "", "error: TargetNotRepeatable\n", 2)?;
-    expect_run(&rt, alloc, &["find", "[a]", "x"], "", "error: NotInProfile\n", 2)?;
+    expect_run(
+        &rt,
+        alloc,
+        &["find", "(?:a", "x"],
+        "",
+        "error: UnclosedOpenParen\n",
+        2,
+    )?;
+    expect_run(
+        &rt,
+        alloc,
+        &["find", "a)", "x"],
+        "",
+        "error: GeneralParseError\n",
+        2,
+    )?;
+    expect_run(
+        &rt,
+        alloc,
+        &["find", "?a", "x"],
+        "",
+        "error: TargetNotRepeatable\n",
+        2,
+    )?;
+    expect_run(
+        &rt,
+        alloc,
+        &["find", "[a]", "x"],
+        "",
+        "error: NotInProfile\n",
+        2,
+    )?;
     Ok(())
 }
 

@@ -37,6 +37,8 @@ impl<'t> MatchBytes<'t> {
     pub fn range(&self) -> Range<usize>
         ensures starts { result.start ≡ (span_in_bytes self.now).0 }
         ensures ends { result.end ≡ (span_in_bytes self.now).1 }
+        ensures ordered { result.start ≤ result.end }
+        ensures inside { result.end ≤ length (bytes_in self.now) }
     {
         self.start..self.end
     }

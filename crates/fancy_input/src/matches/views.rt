@@ -41,6 +41,8 @@ impl<'t> Match<'t> {
     pub fn range(&self) -> Range<usize>
         ensures starts { result.start ≡ (span_in self.now).0 }
         ensures ends { result.end ≡ (span_in self.now).1 }
+        ensures ordered { result.start ≤ result.end }
+        ensures inside { result.end ≤ length (text_in self.now) }
     {
         self.start..self.end
     }

@@ -44,13 +44,17 @@ impl<S: Input> RegexInput<S> {
     pub fn get_range(&self) -> Range<usize>
         ensures starts { result.start ≡ (request_in self.now).range_start }
         ensures ends { result.end ≡ (request_in self.now).range_end }
+        ensures ordered { result.start ≤ result.end }
+        ensures inside { result.end ≤ length (S.bytes (haystack_in self.now)) }
     {
         self.request.range_start..self.request.range_end
     }
 
     /// All the settings.
     pub fn request(&self) -> Request
-        ensures { result ≡ request_in self.now }
+        ensures value { result ≡ request_in self.now }
+        ensures ordered { result.range_start ≤ result.range_end }
+        ensures inside { result.range_end ≤ length (S.bytes (haystack_in self.now)) }
     {
         self.request
     }

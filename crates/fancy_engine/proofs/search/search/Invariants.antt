@@ -10,5 +10,5 @@ abbrev pub invariant-loop-position : goal.invariant-loop-position
 invariant-loop-position l = record {
   from : effective_start l.fn.request ≤ l.position;
   still : search (query_of l.manner (pattern_of l.tree) l.haystack l.fn.request)
-    ≡ answer_from (query_of l.manner (pattern_of l.tree) l.haystack l.fn.request) (l.position-end - l.position) l.position;
+      ≡ answer_from (query_of l.manner (pattern_of l.tree) l.haystack l.fn.request) (l.position-end - l.position) l.position;
 }

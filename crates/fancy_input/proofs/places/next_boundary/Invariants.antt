@@ -6,6 +6,7 @@ abbrev pub invariant-loop-at : goal.invariant-loop-at
 invariant-loop-at l = record {
   above : l.i < l.at;
   most : l.at ≤ length l.bytes + 1;
+  within : l.i < length l.bytes → l.at ≤ length l.bytes;
   value : l.at + continuations (drop l.at l.bytes) ≡ l.i + 1 + continuations (drop (l.i + 1) l.bytes);
 }
 
