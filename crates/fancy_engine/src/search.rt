@@ -196,5 +196,8 @@ fn whole(length: usize) -> Request {
         range_start: 0,
         range_end: length,
         anchored: false,
+        start_text: true,
+        end_text: true,
+        continues: true,
     }
 }
