@@ -1,1 +1,3 @@
 pub mod NoneLemmas
+pub mod SearchedLemmas
+pub mod CutLemmas

@@ -1,9 +1,8 @@
 -- What the options of a regex choose.
 use Rattle.fancy_syntax.specs.declared.tree.BytesMode.TheVariants.{Unicode}
-use Rattle.fancy_syntax.specs.Modes.{meaning_of, keeps_characters}
+use Rattle.fancy_syntax.specs.Modes.{meaning_of}
 use Rattle.fancy_syntax.specs.Dialect as dialect
 use Rattle.fancy_syntax.specs.Dialect.{in_meaning}
-use Rattle.fancy_engine.specs.declared.search.Manner.{Manner}
 use Rattle.fancy_core.specs.declared.options.Options.{Options}
 
 abbrev pub by_default : Options
@@ -12,7 +11,3 @@ by_default = record { bytes_mode = Unicode }
 -- how patterns are read under these options
 abbrev pub dialect_of : Options → dialect.Options
 dialect_of o = in_meaning (meaning_of o.bytes_mode)
-
--- how they are searched
-abbrev pub manner_of : Options → Manner
-manner_of o = record { meaning = meaning_of o.bytes_mode; on_boundaries = keeps_characters o.bytes_mode }

@@ -1,10 +1,10 @@
 -- What a regex stands for, and what a search with it asks.
-use Rattle.std.specs.Prelude.{ℕ, List, string_bytes}
+use Rattle.std.specs.Prelude.{ℕ, false, List, string_bytes}
+use Rattle.fancy_syntax.specs.Modes.{meaning_of, keeps_characters}
 use Rattle.fancy_syntax.specs.Pattern.{Pattern, pattern_of}
 use Rattle.fancy_input.specs.declared.input.Request.{Request}
-use Rattle.fancy_engine.specs.Search.{Query}
-use Rattle.fancy_engine.specs.Plain.{query_of}
-use Rattle.fancy_core.specs.Options.{manner_of}
+use Rattle.fancy_engine.specs.Code.{code_len}
+use Rattle.fancy_engine.specs.Search.{Sought, Query}
 use Rattle.fancy_core.specs.declared.options.Options.{Options}
 use Rattle.fancy_core.specs.declared.regex.Regex.{Regex}
 
@@ -20,6 +20,25 @@ pattern_in r = pattern_of r.tree
 abbrev pub options_in : Regex → Options
 options_in r = r.options
 
+-- how many groups the pattern has, with group 0, the whole match
+abbrev pub groups_in : Regex → ℕ
+groups_in r = r.code.groups
+
+-- how many instructions its code has
+abbrev pub length_in : Regex → ℕ
+length_in r = code_len r.code
+
+-- what is searched for: the pattern, as the options have it
+abbrev pub sought_by : Options → ℕ → Pattern → Sought
+sought_by o groups p = record {
+  pattern = p;
+  meaning = meaning_of o.bytes_mode;
+  groups = groups;
+  on_boundaries = keeps_characters o.bytes_mode;
+  not_empty = false;
+  longest = false;
+}
+
 -- what a search with the regex asks
 abbrev pub asked : Regex → List ℕ → Request → Query
-asked r haystack request = query_of (manner_of (options_in r)) (pattern_in r) haystack request
+asked r haystack request = record { sought = sought_by (options_in r) (groups_in r) (pattern_in r); haystack = haystack; request = request }

@@ -1,13 +1,20 @@
 //! A compiled pattern, and what it finds.
 
-ghost use Rattle.std.specs.Prelude.{◌≡◌, ◌≤◌, ◌↔◌, None, Some, Ok, Err, IfOk, IfErr, IfSome, IsTrue, string_bytes, chars, option_map, is_some, true, length};
+ghost use Rattle.std.specs.Prelude.{◌≡◌, ◌≤◌, ◌↔◌, ◌+◌, ◌-◌, ◌*◌, None, Some, Ok, Err, IfOk, IfErr, IfSome, IsTrue, string_bytes, chars, option_map, is_some, true, false, length};
 ghost use Rattle.fancy_syntax.specs.Pattern.{Pattern, pattern_of};
 ghost use Rattle.fancy_syntax.specs.Dialect.{IsPattern, standard};
 ghost use Rattle.fancy_syntax.specs.Refusals.{IsRefused};
 ghost use Rattle.fancy_input.specs.Inputs.{haystack_in, request_in};
 ghost use Rattle.fancy_input.specs.Places.{is_boundary};
-ghost use Rattle.fancy_input.specs.Requests.{whole};
-ghost use Rattle.fancy_engine.specs.Simple.{is_simple};
+ghost use Rattle.fancy_input.specs.Requests.{whole, effective_start};
+ghost use Rattle.fancy_syntax.specs.Modes.{meaning_of};
+ghost use Rattle.fancy_syntax.specs.Sizes.{nodes};
+ghost use Rattle.fancy_engine.specs.Code.{code_len};
+ghost use Rattle.fancy_engine.specs.Means.{IsCodeOf, is_easy};
+ghost use Rattle.fancy_engine.specs.Queries.{way_in, answer_of};
+ghost use Rattle.fancy_engine.specs.Placed.{has_raw_byte};
+ghost use Rattle.fancy_core.specs.Groups.{AreCut, spans_of, found_at};
+ghost use Rattle.fancy_engine.specs.Work.{steps_of, returns_of};
 ghost use Rattle.fancy_engine.specs.Search.{search, span_of};
 ghost use Rattle.fancy_engine.specs.Answers.{HasNone};
 ghost use Rattle.fancy_core.specs.Builders.{options_of};
@@ -16,11 +23,14 @@ ghost use Rattle.fancy_core.specs.Searching.{Suits, StartsCleanly, CanSearch};
 ghost use Rattle.fancy_syntax.specs.Modes.{keeps_characters};
 
 use crate::options::{Options, RegexOptionsBuilder};
-use fancy_engine::search::{self, Found, Manner};
+use fancy_engine::code::Code;
+use fancy_engine::compile::compile;
+use fancy_engine::search::{self, Memory};
+use fancy_engine::work::Work;
 use fancy_input::input::{Haystack, Input, Request};
 use fancy_input::regex_input::RegexInput;
 use fancy_syntax::error::{Error, Result};
-use fancy_syntax::parse::parse_with;
+use fancy_syntax::parse::{Parsed, parse_with};
 use fancy_syntax::tree::Tree;
 use std::alloc::Global;
 use std::fmt;
@@ -34,11 +44,16 @@ pub struct Regex {
     pattern: String,
     options: Options,
     tree: Tree,
-    ghost simple: { is_simple (pattern_of tree) ≡ true },
+    code: Code,
+    ghost coded: { ∥ IsCodeOf (pattern_of tree) code ∥₁ },
+    ghost meant: { code.meaning ≡ meaning_of options.bytes_mode },
+    ghost short: { code_len code ≤ 4 * nodes (pattern_of tree) + 2 },
+    ghost easy: { is_easy (pattern_of tree) ≡ true },
+    ghost whole: { keeps_characters options.bytes_mode ≡ true → has_raw_byte (pattern_of tree) ≡ false },
 }
 
 impl Regex {
-    ghost use Rattle.fancy_core.specs.Regexes.{text_of, pattern_in, options_in, asked};
+    ghost use Rattle.fancy_core.specs.Regexes.{text_of, pattern_in, options_in, groups_in, length_in, asked};
 
     /// Reads a pattern, with the default options.
     ///
@@ -66,6 +81,34 @@ impl Regex {
         ensures { result.now ≡ text_of self.now }
     {
         self.pattern.as_str()
+    }
+
+    pub(crate) fn allocator(&self) -> Global {
+        *self.pattern.allocator()
+    }
+
+    /// How many groups the pattern has, with group 0, the whole match.
+    pub fn captures_len(&self) -> usize
+        ensures { result ≡ groups_in self.now }
+    {
+        self.code.groups
+    }
+
+    /// Whether a search takes at most [`Regex::code_len`] times the searched length plus one steps, whatever the
+    /// haystack.
+    pub fn is_easy(&self) -> bool
+        ensures { result ≡ is_easy (pattern_in self.now) }
+    {
+        true
+    }
+
+    /// How many instructions the pattern's code has: at most 4 for each node of the pattern with its counted repeats
+    /// written out, and 2 more.
+    pub fn code_len(&self) -> usize
+        ensures value { result ≡ length_in self.now }
+        ensures short { result ≤ 4 * nodes (pattern_in self.now) + 2 }
+    {
+        self.code.len()
     }
 
     /// Whether the input may be searched: for text, its start (if that is not past the end) and both ends of
@@ -122,22 +165,53 @@ impl Regex {
         ensures within { IfOk result (λ m. IfSome m (λ x. S.within x ≡ S.bytes (haystack_in input))) }
         ensures refused { IfErr result (λ e. e ≡ Error.Memory) }
     {
-        let found = self.located(input.haystack(), input.request())?;
+        let mut work = Work::new();
+        let found = self.located(input.haystack(), input.request(), &mut work)?;
+        Ok(found)
+    }
+
+    /// The first match that the input asks for, or none, as [`Regex::find_input`] answers; and in `work` how much
+    /// this call did, after a refusal how much up to it.
+    ///
+    /// An easy search takes at most [`Regex::code_len`] steps for each position of the searched text, its end
+    /// among them; from a start past the range's end it takes none.
+    pub fn find_input_counted<S: Input>(
+        &self,
+        input: RegexInput<S>,
+        work: &mut Work,
+    ) -> Result<Option<S::Match>>
+        requires searched { CanSearch (options_in self.now) (S.text (haystack_in input)) (S.bytes (haystack_in input)) (request_in input) }
+        ensures found { IfOk result (λ m. option_map S.span m ≡ option_map span_of (search (asked self.now (S.bytes (haystack_in input)) (request_in input)))) }
+        ensures within { IfOk result (λ m. IfSome m (λ x. S.within x ≡ S.bytes (haystack_in input))) }
+        ensures refused { IfErr result (λ e. e ≡ Error.Memory) }
+        ensures steps { IfOk result (λ _. steps_of work.new ≤ length_in self.now * ((request_in input).range_end + 1 - effective_start (request_in input))) }
+        ensures returns { IfOk result (λ _. returns_of work.new ≤ steps_of work.new) }
+    {
+        let found = self.located(input.haystack(), input.request(), work)?;
         Ok(found)
     }
 
     /// The first match in the haystack that the request asks for, or none.
-    fn located<S: Input>(&self, haystack: S, request: Request) -> Result<Option<S::Match>>
+    fn located<S: Input>(
+        &self,
+        haystack: S,
+        request: Request,
+        work: &mut Work,
+    ) -> Result<Option<S::Match>>
         requires inside { request.range_end ≤ length (S.bytes haystack) }
         requires suits { Suits (options_in self.now) (S.text haystack) (S.bytes haystack) }
         ensures found { IfOk result (λ m. option_map S.span m ≡ option_map span_of (search (asked self.now (S.bytes haystack) request))) }
         ensures within { IfOk result (λ m. IfSome m (λ x. S.within x ≡ S.bytes haystack)) }
         ensures refused { IfErr result (λ e. e ≡ Error.Memory) }
+        ensures steps { IfOk result (λ _. steps_of work.new ≤ length_in self.now * (request.range_end + 1 - effective_start request)) }
+        ensures returns { IfOk result (λ _. returns_of work.new ≤ steps_of work.new) }
     {
-        let Some(found) = self.search(haystack.as_bytes(), request)? else {
+        let mut memory = Memory::new(self.allocator());
+        let found = self.search(haystack.as_bytes(), request, &mut memory, work)?;
+        let Some(start) = found else {
             return Ok(None);
         };
-        Ok(Some(haystack.make_match(found.start, found.end)))
+        Ok(Some(haystack.make_match(start, memory.end())))
     }
 
     /// Whether the pattern matches anywhere in the haystack.
@@ -158,27 +232,35 @@ impl Regex {
         ensures refused { IfErr result (λ e. e ≡ Error.Memory) }
     {
         let haystack = input.haystack();
-        let found = self.search(haystack.as_bytes(), input.request())?;
+        let mut memory = Memory::new(self.allocator());
+        let mut work = Work::new();
+        let found = self.search(haystack.as_bytes(), input.request(), &mut memory, &mut work)?;
         Ok(found.is_some())
     }
 
-    /// The search below the public surface, over bytes.
-    fn search(&self, haystack: &[u8], request: Request) -> Result<Option<Found>>
+    /// The search below the public surface, over bytes: the position of the first match. Where it ends, and its
+    /// groups, stand in `memory` then.
+    pub(crate) fn search(
+        &self,
+        haystack: &[u8],
+        request: Request,
+        memory: &mut Memory,
+        work: &mut Work,
+    ) -> Result<Option<usize>>
         requires inside { request.range_end ≤ length haystack.now }
-        ensures found { IfOk result (λ m. option_map (λ f. (f.start, f.end)) m ≡ option_map span_of (search (asked self.now haystack.now request))) }
-        ensures ordered { IfOk result (λ m. IfSome m (λ f. f.start ≤ f.end)) }
-        ensures inside { IfOk result (λ m. IfSome m (λ f. f.end ≤ request.range_end)) }
-        ensures cleanly { IfOk result (λ m. IfSome m (λ f. IsTrue (keeps_characters (options_in self.now).bytes_mode) → IsTrue (is_boundary haystack.now f.start) × IsTrue (is_boundary haystack.now f.end))) }
+        ensures answer { IfOk result (λ m. answer_of m memory.new ≡ search (asked self.now haystack.now request)) }
+        ensures ordered { IfOk result (λ m. IfSome m (λ p. p ≤ (way_in memory.new).place)) }
+        ensures inside { IfOk result (λ m. IfSome m (λ _. (way_in memory.new).place ≤ request.range_end)) }
+        ensures cleanly { IsTrue (keeps_characters (options_in self.now).bytes_mode) → IfOk result (λ m. IfSome m (λ p. IsTrue (is_boundary haystack.now p) × IsTrue (is_boundary haystack.now (way_in memory.new).place))) }
+        ensures steps { IfOk result (λ _. steps_of work.new ≤ length_in self.now * (request.range_end + 1 - effective_start request)) }
+        ensures returns { IfOk result (λ _. returns_of work.new ≤ steps_of work.new) }
         ensures refused { IfErr result (λ e. e ≡ Error.Memory) }
     {
-        let mode = self.options.bytes_mode;
-        let manner = Manner {
-            meaning: mode.meaning(),
-            on_boundaries: mode.keeps_characters(),
-        };
-        let alloc = *self.pattern.allocator();
-        let found = search::search(alloc, &self.tree, manner, haystack, request)?;
-        Ok(found)
+        let on_boundaries = self.options.bytes_mode.keeps_characters();
+        match search::search(&self.code, haystack, request, on_boundaries, memory, work) {
+            Ok(found) => Ok(found),
+            Err(_) => Err(Error::Memory),
+        }
     }
 }
 
@@ -196,11 +278,14 @@ impl RegexOptionsBuilder {
     {
         let options = self.options();
         let alloc = *pattern.allocator();
-        let tree = parse_with(alloc, pattern.as_str(), options.bytes_mode.meaning())?;
+        let meaning = options.bytes_mode.meaning();
+        let Parsed { tree, groups } = parse_with(alloc, pattern.as_str(), meaning)?;
+        let code = compile(alloc, &tree, groups, meaning)?;
         Ok(Regex {
             pattern,
             options,
             tree,
+            code,
         })
     }
 }

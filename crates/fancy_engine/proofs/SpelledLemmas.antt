@@ -1,75 +1,121 @@
--- Every pattern that a text spells is simple.
-use Rattle.std.proofs.Common.{◌≡◌, ℕ, Bool, true, false, ◌&&◌, List, [], ◌∷◌, map, Option, Some, None, refl, ap, ◌∙◌}
+-- What holds of every pattern that a text spells: it asks for no single bytes, and is easy.
+use Rattle.std.proofs.Common.{◌≡◌, ℕ, Bool, true, false, ◌&&◌, ◌||◌, List, [], ◌∷◌, map, Option, Some, None, refl, sym, subst}
 use Rattle.std.specs.Prelude.{encode_utf8}
 use Rattle.fancy_syntax.specs.declared.tree.Meaning.{Meaning}
 use Rattle.fancy_syntax.specs.declared.tree.Meaning.TheVariants.{Unicode, Bytes, AsciiText}
 use Rattle.fancy_syntax.specs.declared.tree.Taste.{Taste}
 use Rattle.fancy_syntax.specs.Words.{Text}
-use Rattle.fancy_syntax.specs.Pattern.{Pattern, character, in_sequence, in_choice, in_branches}
-use Rattle.fancy_syntax.specs.Dialect.{Scope, Quantifies, greedy_optional, lazy_optional, literal_of, Branches, one, either, Parts, nothing, item, Item, bare, quantified, Atom, literal, escaped, plain, Spells, with_part}
-use Rattle.fancy_engine.specs.Simple.{is_optional, is_simple}
+use Rattle.fancy_syntax.specs.Pattern.{Pattern, empty, character, group, repeat, followed, or_else, last_branch, in_sequence, in_choice, in_branches}
+use Rattle.fancy_syntax.specs.Dialect.{Scope, Quantifies, greedily, lazily, literal_of, Branches, one, either, Parts, nothing, item, Item, bare, quantified, Atom, literal, escaped, plain, capture, Spells, with_part}
+use Rattle.fancy_engine.specs.Means.{is_easy, goes_back}
+use Rattle.fancy_engine.specs.Placed.{has_raw_byte}
 
-both : (a b : Bool) → a ≡ true → b ≡ true → (a && b) ≡ true
-both true b e f = f
-both false b e f = e
+-- A property of patterns that the forms of the dialect keep.
+record IsKept (nice : Pattern → Type 0) : Type 0 where
+  nothing_there : nice empty
+  characters : (c : ℕ) → nice (character c)
+  groups : (index : ℕ) (p : Pattern) → nice p → nice (group index p)
+  repeats : (low : ℕ) (high : Option ℕ) (taste : Taste) (p : Pattern) → goes_back taste ≡ true → nice p → nice (repeat low high taste p)
+  sequences : (p q : Pattern) → nice p → nice q → nice (followed p q)
+  choices : (p q : Pattern) → nice p → nice q → nice (or_else p q)
+  last : (p : Pattern) → nice p → nice (last_branch p)
 
-abbrev AreSimple : List Pattern → Type 0
-AreSimple [] = Unit {0}
-AreSimple (p ∷ ps) = (is_simple p ≡ true) × AreSimple ps
+goes_back-Quantifies : {t after : Text} {low : ℕ} {high : Option ℕ} {taste : Taste} → Quantifies t after low high taste → goes_back taste ≡ true
+goes_back-Quantifies (greedily turns e) = refl
+goes_back-Quantifies (lazily turns) = refl
 
-are-in_sequence : (ps : List Pattern) → AreSimple ps → is_simple (in_sequence ps) ≡ true
-are-in_sequence [] h = refl
-are-in_sequence (p ∷ []) h = h.0
-are-in_sequence (p ∷ q ∷ ps) h = both (is_simple p) _ h.0 (are-in_sequence (q ∷ ps) h.1)
+module _ (nice : Pattern → Type 0) (kept : IsKept nice) where
+  abbrev AreNice : List Pattern → Type 0
+  AreNice [] = Unit {0}
+  AreNice (p ∷ ps) = nice p × AreNice ps
 
-are-in_choice : (p : Pattern) (ps : List Pattern) → AreSimple (p ∷ ps) → is_simple (in_choice (p ∷ ps)) ≡ true
-are-in_choice p [] h = h.0
-are-in_choice p (q ∷ ps) h = both (is_simple p) _ h.0 (are-in_choice q ps h.1)
+  nice-in_sequence : (ps : List Pattern) → AreNice ps → nice (in_sequence ps)
+  nice-in_sequence [] h = kept.nothing_there
+  nice-in_sequence (p ∷ []) h = h.0
+  nice-in_sequence (p ∷ q ∷ ps) h = kept.sequences p _ h.0 (nice-in_sequence (q ∷ ps) h.1)
 
-are-in_branches : (ps : List Pattern) → AreSimple ps → is_simple (in_branches ps) ≡ true
-are-in_branches [] h = refl
-are-in_branches (p ∷ []) h = h.0
-are-in_branches (p ∷ q ∷ ps) h = are-in_choice p (q ∷ ps) h
+  nice-in_choice : (p : Pattern) (ps : List Pattern) → AreNice (p ∷ ps) → nice (in_choice (p ∷ ps))
+  nice-in_choice p [] h = kept.last p h.0
+  nice-in_choice p (q ∷ ps) h = kept.choices p _ h.0 (nice-in_choice q ps h.1)
 
-are_characters : (cs : List ℕ) → AreSimple (map character cs)
-are_characters [] = tt
-are_characters (c ∷ cs) = (refl, are_characters cs)
+  nice-in_branches : (ps : List Pattern) → AreNice ps → nice (in_branches ps)
+  nice-in_branches [] h = kept.nothing_there
+  nice-in_branches (p ∷ []) h = h.0
+  nice-in_branches (p ∷ q ∷ ps) h = nice-in_choice p (q ∷ ps) h
 
-simple-literal_of : (m : Meaning) (c : ℕ) → is_simple (literal_of m c) ≡ true
-simple-literal_of Unicode c = refl
-simple-literal_of Bytes c = are-in_sequence (map character (encode_utf8 c)) (are_characters (encode_utf8 c))
-simple-literal_of AsciiText c = refl
+  nice-characters : (cs : List ℕ) → AreNice (map character cs)
+  nice-characters [] = tt
+  nice-characters (c ∷ cs) = (kept.characters c, nice-characters cs)
 
-optional-Quantifies : {t after : Text} {low : ℕ} {high : Option ℕ} {taste : Taste} → Quantifies t after low high taste → is_optional low high taste ≡ true
-optional-Quantifies (greedy_optional e) = refl
-optional-Quantifies lazy_optional = refl
+  nice-literal_of : (m : Meaning) (c : ℕ) → nice (literal_of m c)
+  nice-literal_of Unicode c = kept.characters c
+  nice-literal_of Bytes c = nice-in_sequence (map character (encode_utf8 c)) (nice-characters (encode_utf8 c))
+  nice-literal_of AsciiText c = kept.characters c
 
-abbrev IsSimpleItem : Option Pattern → Type 0
-IsSimpleItem None = Unit {0}
-IsSimpleItem (Some p) = is_simple p ≡ true
+  abbrev IsNiceItem : Option Pattern → Type 0
+  IsNiceItem None = Unit {0}
+  IsNiceItem (Some p) = nice p
 
-are-with_part : (x : Option Pattern) (ps : List Pattern) → IsSimpleItem x → AreSimple ps → AreSimple (with_part x ps)
-are-with_part None ps h all = all
-are-with_part (Some p) ps h all = (h, all)
+  nice-with_part : (x : Option Pattern) (ps : List Pattern) → IsNiceItem x → AreNice ps → AreNice (with_part x ps)
+  nice-with_part None ps h all = all
+  nice-with_part (Some p) ps h all = (h, all)
 
-mutual
-  simple-Branches : {k : ℕ} {s r : Scope} {t after : Text} {bs : List Pattern} → Branches k s t after bs r → AreSimple bs
-  simple-Branches (one parts) = (are-in_sequence _ (simple-Parts parts), tt)
-  simple-Branches (either parts rest) = (are-in_sequence _ (simple-Parts parts), simple-Branches rest)
+  mutual
+    nice-Branches : {k : ℕ} {s r : Scope} {t after : Text} {bs : List Pattern} → Branches k s t after bs r → AreNice bs
+    nice-Branches (one parts) = (nice-in_sequence _ (nice-Parts parts), tt)
+    nice-Branches (either parts rest) = (nice-in_sequence _ (nice-Parts parts), nice-Branches rest)
 
-  simple-Parts : {k : ℕ} {s r : Scope} {t after : Text} {ps : List Pattern} → Parts k s t after ps r → AreSimple ps
-  simple-Parts nothing = tt
-  simple-Parts (item first rest) = are-with_part _ _ (simple-Item first) (simple-Parts rest)
+    nice-Parts : {k : ℕ} {s r : Scope} {t after : Text} {ps : List Pattern} → Parts k s t after ps r → AreNice ps
+    nice-Parts nothing = tt
+    nice-Parts (item first rest) = nice-with_part _ _ (nice-Item first) (nice-Parts rest)
 
-  simple-Item : {k : ℕ} {s r : Scope} {t after : Text} {x : Option Pattern} → Item k s t after x r → IsSimpleItem x
-  simple-Item (bare atom e) = simple-Atom atom
-  simple-Item (quantified atom e q) = both _ _ (optional-Quantifies q) (simple-Atom atom)
+    nice-Item : {k : ℕ} {s r : Scope} {t after : Text} {x : Option Pattern} → Item k s t after x r → IsNiceItem x
+    nice-Item (bare atom e) = nice-Atom atom
+    nice-Item (quantified atom e q) = kept.repeats _ _ _ _ (goes_back-Quantifies q) (nice-Atom atom)
 
-  simple-Atom : {k : ℕ} {s r : Scope} {t after : Text} {p : Pattern} → Atom k s t after p r → is_simple p ≡ true
-  simple-Atom (literal {s = s} c e f) = simple-literal_of s.meaning c
-  simple-Atom (escaped {s = s} c e) = simple-literal_of s.meaning c
-  simple-Atom (plain branches) = are-in_branches _ (simple-Branches branches)
+    nice-Atom : {k : ℕ} {s r : Scope} {t after : Text} {p : Pattern} → Atom k s t after p r → nice p
+    nice-Atom (literal {s = s} c e f) = nice-literal_of s.meaning c
+    nice-Atom (escaped {s = s} c e) = nice-literal_of s.meaning c
+    nice-Atom (plain branches) = nice-in_branches _ (nice-Branches branches)
+    nice-Atom (capture e branches) = kept.groups _ _ (nice-in_branches _ (nice-Branches branches))
 
--- a pattern that a text spells is simple
-pub simple_spelled : {s e : Scope} {text : Text} {p : Pattern} → Spells s text p e → is_simple p ≡ true
-simple_spelled h = ap is_simple h.is ∙ are-in_branches h.branches (simple-Branches h.spelled)
+  nice_spelled : {s e : Scope} {text : Text} {p : Pattern} → Spells s text p e → nice p
+  nice_spelled h = subst nice (sym h.is) (nice-in_branches h.branches (nice-Branches h.spelled))
+
+both_hold : (a b : Bool) → a ≡ true → b ≡ true → (a && b) ≡ true
+both_hold true b e f = f
+both_hold false b e f = e
+
+neither_holds : (a b : Bool) → a ≡ false → b ≡ false → (a || b) ≡ false
+neither_holds true b e f = e
+neither_holds false b e f = f
+
+-- no pattern that a text spells asks for a single byte
+pub no_raw_bytes : {s e : Scope} {text : Text} {p : Pattern} → Spells s text p e → has_raw_byte p ≡ false
+no_raw_bytes h =
+    nice_spelled (λ p. has_raw_byte p ≡ false)
+    (record {
+      nothing_there = refl;
+      characters = λ c. refl;
+      groups = λ index p e. e;
+      repeats = λ low high taste p g e. e;
+      sequences = λ p q e f. neither_holds (has_raw_byte p) (has_raw_byte q) e f;
+      choices = λ p q e f. neither_holds (has_raw_byte p) (has_raw_byte q) e f;
+      last = λ p e. e;
+    })
+    h
+
+-- each pattern that a text spells is easy
+pub easy_spelled : {s e : Scope} {text : Text} {p : Pattern} → Spells s text p e → is_easy p ≡ true
+easy_spelled h =
+    nice_spelled (λ p. is_easy p ≡ true)
+    (record {
+      nothing_there = refl;
+      characters = λ c. refl;
+      groups = λ index p e. e;
+      repeats = λ low high taste p g e. both_hold (goes_back taste) (is_easy p) g e;
+      sequences = λ p q e f. both_hold (is_easy p) (is_easy q) e f;
+      choices = λ p q e f. both_hold (is_easy p) (is_easy q) e f;
+      last = λ p e. e;
+    })
+    h

@@ -1,6 +1,6 @@
 //! Laws of the definitions: each contract here states one, and nothing is computed.
 
-ghost use Rattle.fancy_engine.specs.Laws.{StarIs, OutcomesStayWithin, AcceptanceIsDecided, NoneIsNone, AnswerIsLeastAndFirst};
+ghost use Rattle.fancy_engine.specs.Laws.{StarIs, OutcomesStayWithin, AcceptanceIsDecided, NoneIsNone, AnswerIsLeastAndFirst, GroupsLieWithin};
 ghost use Rattle.fancy_engine.specs.Examples.{WorkedExamples};
 
 /// A star is one more turn and then the star, or leaving, where a turn that consumes nothing fails.
@@ -26,6 +26,11 @@ pub fn none_is_none()
 /// What a search finds is the first accepted outcome of the least position that has one.
 pub fn answer_is_least_and_first()
     ensures { AnswerIsLeastAndFirst }
+{}
+
+/// What a search finds lies within its range, and its groups within the haystack, of text on character boundaries.
+pub fn groups_lie_within()
+    ensures { GroupsLieWithin }
 {}
 
 /// The definitions give the answers of some small searches that are known from elsewhere.

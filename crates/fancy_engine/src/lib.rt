@@ -1,6 +1,14 @@
 //! The engines: what a pattern finds in a haystack.
 #![tactic(auto)]
 
+pub mod code;
+pub mod compile;
 pub mod laws;
+pub mod reading;
+pub mod refusal;
+pub mod runner;
 pub mod search;
-mod walk;
+pub mod slot;
+pub mod table;
+pub mod ways;
+pub mod work;

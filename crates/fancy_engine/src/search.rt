@@ -1,133 +1,175 @@
-//! The search of simple patterns: literal characters, sequences, alternatives and optionals.
+//! Searches by the runner: their time is bounded by the product of the code's length and the text's.
 
-ghost use Rattle.std.specs.Prelude.{◌≡◌, ◌≤◌, ◌<◌, ◌+◌, ◌^◌, ◌-◌, IfOk, IfSome, IsTrue, length, filter, option_map};
-ghost use Rattle.fancy_syntax.specs.Pattern.{pattern_of};
-ghost use Rattle.fancy_input.specs.Places.{is_boundary};
+ghost use Rattle.std.specs.Prelude.{◌≡◌, ◌+◌, ◌-◌, ◌*◌, ◌^◌, ◌<◌, ◌≤◌, false, length, replicate, option_map, slice_index_or, map, IfOk, IfErr, OnOk};
+ghost use Rattle.fancy_syntax.specs.Pattern.{Pattern};
 ghost use Rattle.fancy_input.specs.Requests.{effective_start, positions};
-ghost use Rattle.fancy_engine.specs.Search.{search, span_of};
-ghost use Rattle.fancy_engine.specs.Simple.{is_simple, ends};
-ghost use Rattle.fancy_engine.specs.Plain.{query_of, ends_of, IsWithin, IsClean, may_stand, first_place, end_by};
+ghost use Rattle.fancy_engine.specs.Code.{code_len};
+ghost use Rattle.fancy_engine.specs.Means.{IsCodeOf};
+ghost use Rattle.fancy_engine.specs.Search.{search};
+ghost use Rattle.fancy_engine.specs.Threads.{span_of, ends_of};
+ghost use Rattle.fancy_engine.specs.Queries.{query_of, way_in, answer_of};
+ghost use Rattle.fancy_engine.specs.Work.{steps_of, returns_of};
 
-use crate::walk::Walk;
+use crate::code::Code;
+#[cfg(test)]
+use crate::compile::compile;
+use crate::refusal::Refusal;
+use crate::runner::{Bounds, follow, is_good_end};
+use crate::slot::Extent;
+use crate::table::Table;
+use crate::ways::Ways;
+use crate::work::Work;
 use fancy_input::input::Request;
+#[cfg(test)]
 use fancy_syntax::tree::{Meaning, Tree};
-use std::alloc::{AllocError, Global};
+#[cfg(test)]
+use std::alloc::AllocError;
+use std::alloc::Global;
 
-/// How a pattern is searched: what an item consumes, and whether matches stand on character boundaries alone.
-#[derive(Clone, Copy, PartialEq, Eq)]
-pub struct Manner {
-    /// What one item of the pattern consumes.
-    pub meaning: Meaning,
-    /// Whether a match begins and ends only where no character is cut.
-    pub on_boundaries: bool,
+/// The memory of searches, reused from one to the next.
+#[derive(Drop)]
+pub struct Memory {
+    ways: Ways,
+    table: Table,
 }
 
-/// The place of a match, in byte offsets.
-#[derive(Clone, Copy, PartialEq, Eq)]
-pub struct Found {
-    pub start: usize,
-    pub end: usize,
+impl Memory {
+    /// No memory yet: the searches take it.
+    pub fn new(alloc: Global) -> Memory {
+        Memory {
+            ways: Ways::new(alloc),
+            table: Table::new(alloc),
+        }
+    }
+
+    /// Where the match ends that the last search found, as a byte offset.
+    pub fn end(&self) -> usize
+        ensures { result ≡ (way_in self.now).place }
+    {
+        self.ways.place()
+    }
+
+    /// Where the group with this number stands in the match that the last search found. `None` where the group
+    /// took no part, or there is none with this number.
+    pub fn group(&self, number: usize) -> Option<Extent>
+        ensures { option_map ends_of result ≡ slice_index_or (map span_of (way_in self.now).slots) number None }
+    {
+        self.ways.slot(number).span
+    }
 }
 
-/// The first match of a simple pattern: of the positions that the request has tried the least that has one,
-/// and there the one that the pattern prefers. `None` where no position has a match, and `AllocError` where
-/// memory runs out. The request's `range_end` is at most the haystack's length.
+/// Begins the table anew, with a bit for each pair of an instruction and a place within the bounds. Where so
+/// many pairs are no `usize`, memory is refused.
+fn begin_table(table: &mut Table, count: usize, bounds: Bounds) -> Result<(), Refusal>
+    requires ordered { bounds.first ≤ bounds.last }
+    requires small { bounds.last < usize.MAX }
+    ensures clear { OnOk result (table.new ≡ replicate ((bounds.last - bounds.first + 1) * count) false) }
+    ensures small { OnOk result ((bounds.last - bounds.first + 1) * count < 2 ^ 64) }
+    ensures refused { IfErr result (λ e. e ≡ Refusal.Memory) }
+{
+    let Some(pairs) = (bounds.last - bounds.first + 1).checked_mul(count) else {
+        return Err(Refusal::Memory);
+    };
+    match table.reset(pairs) {
+        Ok(()) => Ok(()),
+        Err(_) => Err(Refusal::Memory),
+    }
+}
+
+/// The last position that is tried, where the first one is within the range.
+fn last_position(request: Request, first: usize) -> usize
+    requires first { first ≡ effective_start request }
+    requires ordered { first ≤ request.range_end }
+    ensures count { result + 1 - first ≡ positions request }
+    ensures inside { result ≤ request.range_end }
+{
+    if request.anchored {
+        first
+    } else {
+        request.range_end
+    }
+}
+
+/// Searches a haystack for the pattern of the code. Found is the position, a byte offset: that of the first
+/// attempt, from the effective start on, which has an outcome. The match then goes from there to
+/// `memory.end()`, and its groups stand in `memory`.
 ///
-/// # Example
+/// # Errors
 ///
-/// `a|ab` on `xab`, asked for the whole haystack, gives `Found { start: 1, end: 2 }`.
+/// `Refusal::Memory` where memory runs out, and no other.
 pub fn search(
-    alloc: Global,
-    tree: &Tree,
-    manner: Manner,
+    code: &Code,
     haystack: &[u8],
     request: Request,
-) -> Result<Option<Found>, AllocError>
-    requires simple { IsTrue (is_simple (pattern_of tree.now)) }
+    on_boundaries: bool,
+    memory: &mut Memory,
+    work: &mut Work,
+) -> Result<Option<usize>, Refusal>
     requires inside { request.range_end ≤ length haystack.now }
-    ensures answer { IfOk result (λ m. option_map ends_of m ≡ option_map span_of (search (query_of manner (pattern_of tree.now) haystack.now request))) }
-    ensures ordered { IfOk result (λ m. IfSome m (λ f. f.start ≤ f.end)) }
-    ensures inside { IfOk result (λ m. IfSome m (IsWithin request)) }
-    ensures cleanly { IsTrue manner.on_boundaries → IfOk result (λ m. IfSome m (IsClean haystack.now)) }
+    ensures answer { IfOk result (λ m. (p : Pattern) → IsCodeOf p code.now
+        → answer_of m memory.new ≡ search (query_of p code.now on_boundaries haystack.now request)) }
+    ensures steps { IfOk result (λ _. steps_of work.new ≤ code_len code.now * (request.range_end + 1 - effective_start request)) }
+    ensures returns { IfOk result (λ _. returns_of work.new ≤ steps_of work.new) }
+    ensures refused { IfErr result (λ e. e ≡ Refusal.Memory) }
 {
-    let walk = Walk {
-        alloc,
-        haystack,
-        limit: request.range_end,
-        meaning: manner.meaning,
+    *work = Work::new();
+    let first = request.start.max(request.range_start);
+    if first > request.range_end {
+        return Ok(None);
+    }
+    let bounds = Bounds {
+        first,
+        last: request.range_end,
+        on_boundaries,
     };
-    for position in first_position(request)..past_last(request) {
-        if let Some(end) = end_at(&walk, tree, manner.on_boundaries, position)? {
-            return Ok(Some(Found {
-                start: position,
-                end,
-            }));
+    let ways = &mut memory.ways;
+    let table = &mut memory.table;
+    begin_table(table, code.len(), bounds)?;
+    let last = last_position(request, first);
+    for place in first..last + 1 {
+        if !is_good_end(bounds, haystack, place) {
+            continue;
+        }
+        match ways.begin(code.start, place, code.groups, usize::MAX) {
+            Ok(()) => {}
+            Err(_) => return Err(Refusal::Memory),
+        }
+        if follow(code, haystack, bounds, ways, table, work)? {
+            return Ok(Some(place));
         }
     }
     Ok(None)
 }
 
-/// The first position that is tried.
-fn first_position(request: Request) -> usize
-    ensures { result ≡ effective_start request }
-{
-    request.start.max(request.range_start)
-}
-
-/// The place behind the last position that is tried.
-fn past_last(request: Request) -> usize
-    requires { request.range_end < 2 ^ 64 - 1 }
-    ensures { result ≡ effective_start request + positions request }
-{
-    let first = first_position(request);
-    if first > request.range_end {
-        first
-    } else if request.anchored {
-        first + 1
-    } else {
-        request.range_end + 1
-    }
-}
-
-/// Where the preferred match at this position ends. A position where none may begin is not walked from.
-fn end_at(
-    walk: &Walk,
-    tree: &Tree,
-    on_boundaries: bool,
-    position: usize,
-) -> Result<Option<usize>, AllocError>
-    requires simple { IsTrue (is_simple (pattern_of tree.now)) }
-    ensures { IfOk result (λ m. m ≡ end_by on_boundaries walk.now.haystack.now position (ends walk.now.meaning walk.now.haystack.now walk.now.limit (pattern_of tree.now) position)) }
-{
-    if !may_stand(on_boundaries, walk.haystack, position) {
-        return Ok(None);
-    }
-    let ends = walk.ends(tree, position)?;
-    Ok(first_standing(on_boundaries, walk.haystack, &ends))
-}
-
-/// The first of these places where a match may end.
-fn first_standing(on_boundaries: bool, haystack: &[u8], ends: &[usize]) -> Option<usize>
-    ensures { result ≡ first_place (filter (may_stand on_boundaries haystack.now) ends.now) }
-{
-    for &end in ends {
-        if may_stand(on_boundaries, haystack, end) {
-            return Some(end);
-        }
-    }
-    None
-}
-
-/// Whether a match may begin or end at this place.
-fn may_stand(on_boundaries: bool, haystack: &[u8], place: usize) -> bool
-    ensures { result ≡ may_stand on_boundaries haystack.now place }
-{
-    !on_boundaries || is_boundary(haystack, place)
-}
-
-/// Whether no character is cut at this place.
-fn is_boundary(haystack: &[u8], place: usize) -> bool
-    ensures { result ≡ is_boundary haystack.now place }
-{
-    place == 0 || place >= haystack.len() || haystack[place] < 0x80 || haystack[place] >= 0xC0
+// `(a|ab)c` matches `abc` by its second branch.
+#[test]
+#[tactic(auto, using(fancy_syntax::proofs::PatternLemmas::pattern_equations))]
+fn a_search_goes_back_to_a_branch(rt: HostRuntime) -> Result<(), AllocError> {
+    let alloc = rt.alloc();
+    let both = Tree::Sequence(vec![in alloc; Tree::Character('a'), Tree::Character('b')]?);
+    let either = Tree::Alternative(vec![in alloc; Tree::Character('a'), both]?);
+    let group = Tree::Group {
+        index: 1,
+        body: Box::new(alloc, either)?,
+    };
+    let tree = Tree::Sequence(vec![in alloc; group, Tree::Character('c')]?);
+    let code = compile(alloc, &tree, 2, Meaning::Unicode)?;
+    let mut memory = Memory::new(alloc);
+    let mut work = Work::new();
+    let mut request = Request {
+        start: 0,
+        range_start: 1,
+        range_end: 4,
+        anchored: false,
+    };
+    let found = search(&code, b"xabc", request, true, &mut memory, &mut work);
+    assert!(rt; found == Ok(Some(1)));
+    assert_eq!(rt; memory.end(), 4);
+    assert!(rt; memory.group(1) == Some(Extent { start: 1, end: 3 }));
+    assert!(rt; memory.group(2) == None);
+    assert_eq!(rt; work.returns(), 1);
+    request.range_end = 3;
+    let found = search(&code, b"xabc", request, true, &mut memory, &mut work);
+    assert!(rt; found == Ok(None));
+    Ok(())
 }

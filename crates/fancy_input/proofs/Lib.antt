@@ -1,2 +1,3 @@
 pub mod PlaceLemmas
 pub mod CharacterLemmas
+pub mod TextLemmas

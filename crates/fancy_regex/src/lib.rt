@@ -10,8 +10,10 @@
 //! All offsets are byte offsets into the haystack. Whatever is refused has a name: see [`Error`].
 #![tactic(auto)]
 
+pub use fancy_core::captures::{Captures, SubCaptureMatches};
 pub use fancy_core::options::RegexOptionsBuilder;
 pub use fancy_core::regex::Regex;
+pub use fancy_engine::work::Work;
 pub use fancy_input::bytes::MatchBytes;
 pub use fancy_input::input::{Haystack, Input};
 pub use fancy_input::matches::Match;

@@ -2,6 +2,8 @@ pub mod PatternLemmas
 pub mod SizeLemmas
 pub mod EmptyLemmas
 pub mod ReadingLemmas
+pub mod CountLemmas
 pub mod SpellingLemmas
 pub mod UniqueLemmas
 pub mod ParseLemmas
+pub mod GroupLemmas

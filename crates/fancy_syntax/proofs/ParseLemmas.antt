@@ -10,7 +10,7 @@ use Rattle.fancy_syntax.specs.Dialect.{Scope, Options, begin, Spells, IsPattern}
 use Rattle.fancy_syntax.specs.Grammar.{Place, start}
 use Rattle.fancy_syntax.specs.Refusals.{IsRefused}
 use Rattle.fancy_syntax.specs.Views.{Refuses, IsTheReading, HasNoReading, Alternation}
-use Rattle.fancy_syntax.proofs.ReadingLemmas.{no_whole_reading, not_whole, whole_reading_is}
+use Rattle.fancy_syntax.proofs.ReadingLemmas.{no_whole_reading, not_whole, whole_reading}
 use Rattle.fancy_syntax.proofs.SpellingLemmas.{spelling_read, reading_spelled}
 use Rattle.fancy_syntax.proofs.UniqueLemmas.{one_pattern}
 
@@ -25,8 +25,8 @@ pub no_pattern : {o : Options} {text : Text} {p q : Place} {found : Pattern} →
 no_pattern is h left t end x = not_whole is h left t _ (spelling_read x)
 
 pub spelled : {o : Options} {text : Text} {p q : Place} {found : Pattern} → p ≡ start (begin o) text → IsTheReading (Alternation 64) p found q → q.text ≡ []
-    → (end : Scope) × Spells (begin o) text found end
-spelled is h all = let r = whole_reading_is is h all in (_, reading_spelled r.0.1)
+    → Spells (begin o) text found q.scope
+spelled is h all = reading_spelled (whole_reading is h all)
 
 -- a pattern of the dialect is refused only for want of memory
 pub refused_is_memory : {o : Options} {text : Text} {p : Pattern} (e : Error) → IsRefused e o text → IsPattern o text p → e ≡ Memory

@@ -236,12 +236,8 @@ not_whole is h left t end x =
     let o = h.1 t end (x.branches, x.is, subst (λ y. Branches 64 y x.branches end) (sym is) x.reads) in
     left (ap (λ (s : Place). s.text) (sym o.1) ∙ x.all)
 
-pub whole_reading_is : {s : Scope} {text : Text} {p q : Place} {found : Pattern} → p ≡ start s text → IsTheReading (Alternation 64) p found q → q.text ≡ [] →
-    ((end : Place) × Reads s text found end) × ((t : Pattern) (end : Place) → Reads s text t end → t ≡ found)
-whole_reading_is {s} {text} {p} {q} is h all = (
-  (q, record { branches = h.0.0; is = h.0.1; reads = subst (λ y. Branches 64 y h.0.0 q) is h.0.2; all = all }),
-  λ t end x. (h.1 t end (x.branches, x.is, subst (λ y. Branches 64 y x.branches end) (sym is) x.reads)).0,
-)
+pub whole_reading : {s : Scope} {text : Text} {p q : Place} {found : Pattern} → p ≡ start s text → IsTheReading (Alternation 64) p found q → q.text ≡ [] → Reads s text found q
+whole_reading {q = q} is h all = record { branches = h.0.0; is = h.0.1; reads = subst (λ y. Branches 64 y h.0.0 q) is h.0.2; all = all }
 
 is_zero : (n : ℕ) → true ≡ (n == 0) → n ≡ 0
 is_zero n h = grind (arith, nat_tests)

@@ -1,18 +1,21 @@
 -- A text that spells something is read so, and what is read is spelled so.
-use Rattle.std.proofs.Common.{◌≡◌, ℕ, suc, ◌==◌, ◌||◌, ◌&&◌, not, Bool, true, false, List, [], ◌∷◌, ◌++◌, Option, Some, None, length, drop, take, refl, sym, ap, ◌∙◌, subst, append_assoc, append-nil, arith, ◌⊎◌, inl, inr, cond, codes, nat_eq}
+use Rattle.std.proofs.Common.{◌≡◌, ℕ, suc, ◌+◌, ◌==◌, ◌||◌, ◌&&◌, not, Bool, true, false, List, [], ◌∷◌, ◌++◌, Option, Some, None, length, drop, take, refl, sym, ap, ◌∙◌, subst, append_assoc, append-nil, arith, ◌⊎◌, inl, inr, cond, codes, nat_eq}
 use Rattle.std.specs.List.{starts_with}
+use Rattle.std.specs.Option.{option_map}
 use Rattle.std.proofs.lemmas.Bool.Decides.{nat_tests}
 use Rattle.std.proofs.lemmas.List.{take-append-drop}
 use Rattle.std.specs.Cmp.Lexicographic.{same_text}
 use Rattle.fancy_syntax.specs.declared.tree.Taste.{Taste}
+use Rattle.fancy_syntax.specs.declared.tree.Taste.TheVariants.{Greedy, Lazy}
 use Rattle.fancy_syntax.specs.Pattern.{Pattern, repeat, in_branches}
 use Rattle.fancy_syntax.specs.Sizes.{is_empty}
-use Rattle.fancy_syntax.specs.Words.{Text, is_at_any, is_at, begins, begins_count}
+use Rattle.fancy_syntax.specs.Words.{Text, is_at_any, is_at, begins, is_count, begins_count}
 use Rattle.fancy_syntax.specs.Dialect as d
-use Rattle.fancy_syntax.specs.Dialect.{Scope, back_to, is_special, is_escapable, literal_of, begins_quantifier, Quantifies, greedy_optional, lazy_optional, with_part}
+use Rattle.fancy_syntax.specs.Dialect.{Scope, one_more_group, back_to, is_special, is_escapable, literal_of, begins_quantifier, Turns, optional, star, plus, exactly, at_least, between, at_most, Quantifies, greedily, lazily, with_part}
 use Rattle.fancy_syntax.specs.Grammar as g
-use Rattle.fancy_syntax.specs.Grammar.{Place, past, opening, atom, wrap, closed, ends_branch, start}
+use Rattle.fancy_syntax.specs.Grammar.{Place, past, Bounds, bounds_in, past_count, are_bounds, opening, atom, wrap, closed, ends_branch, start}
 use Rattle.fancy_syntax.proofs.ReadingLemmas.{some_pair, some_is_none}
+use Rattle.fancy_syntax.proofs.CountLemmas.{both_true, first_is as at_char, IsRead, exactly_is_read, at_least_is_read, between_is_read, at_most_is_read, count_spelled}
 
 either_false : (a b : Bool) → (a || b) ≡ false → (a ≡ false) × (b ≡ false)
 either_false true b h = cc
@@ -37,20 +40,53 @@ pub atom_begins : {k : ℕ} {s q : Scope} {t after : Text} {a : Pattern} → d.A
 atom_begins (d.literal c h n) rest = no_end c rest h
 atom_begins (d.escaped c h) rest = refl
 atom_begins (d.plain b) rest = refl
+atom_begins (d.capture h b) rest = refl
 
 pub item_begins : {k : ℕ} {s q : Scope} {t after : Text} {x : Option Pattern} → d.Item k s t after x q → ends_branch (t ++ after) ≡ false
 item_begins (d.bare {after = after} a h) = atom_begins a after
 item_begins (d.quantified {t = t} {u = u} {after = after} a e h) = rw (append_assoc t u after) (atom_begins a (u ++ after))
 
 -- the quantifier that is spelled is read
-pub mark_is_read : {u after : Text} {low : ℕ} {high : Option ℕ} {taste : Taste} → Quantifies u after low high taste → (a : Pattern) (s : Scope) → is_empty a ≡ false
-    → g.quantified a (start s (u ++ after)) ≡ Some (repeat low high taste a, start s after)
-mark_is_read (greedy_optional {after = []} h) a s e = rw e refl
-mark_is_read (greedy_optional {after = c ∷ rest} h) a s e =
+turns_begin : {t : Text} {low : ℕ} {high : Option ℕ} → Turns t low high → (after : Text) → begins_quantifier (t ++ after) ≡ true
+turns_begin optional after = refl
+turns_begin star after = refl
+turns_begin plus after = refl
+turns_begin (exactly n h) after = rw (append_assoc n (125 ∷ []) after) (exactly_is_read n after h).begins
+turns_begin (at_least n h) after = rw (append_assoc n (44 ∷ 125 ∷ []) after) (at_least_is_read n after h).begins
+turns_begin (between n m h f le) after = rw (append_assoc n (44 ∷ (m ++ 125 ∷ [])) after, append_assoc m (125 ∷ []) after) (between_is_read n m after h f le).begins
+turns_begin (at_most m f) after = rw (append_assoc m (125 ∷ []) after) (at_most_is_read m after f).begins
+
+choose_count : (b : Bool) (c d : Bounds) (u v : Text) (s : Scope) → b ≡ true → c ≡ d → are_bounds d ≡ true → u ≡ v
+    → ◌≡◌ {A = Option (Bounds × Place)} (cond {A = Option (Bounds × Place)} (b && are_bounds c) (Some (c, start s u)) None) (Some (d, start s v))
+choose_count b c d u v s h e f w = rw (h, e, f, w) refl
+
+count_is_read : {t after : Text} {b : Bounds} → IsRead t after b → (s : Scope) → ◌≡◌ {A = Option (Bounds × Place)} (g.turns (start s (123 ∷ t))) (Some (b, start s after))
+count_is_read {t} {after} {b} x s = choose_count (begins_count (123 ∷ t)) (bounds_in t) b (past_count t) after s x.begins x.bounds x.fits x.behind
+
+turns_are_read : {t : Text} {low : ℕ} {high : Option ℕ} → Turns t low high → (s : Scope) (after : Text) → ◌≡◌ {A = Option (Bounds × Place)} (g.turns (start s (t ++ after))) (Some ((low, high), start s after))
+turns_are_read optional s after = refl
+turns_are_read star s after = refl
+turns_are_read plus s after = refl
+turns_are_read (exactly n h) s after = rw (append_assoc n (125 ∷ []) after) (count_is_read (exactly_is_read n after h) s)
+turns_are_read (at_least n h) s after = rw (append_assoc n (44 ∷ 125 ∷ []) after) (count_is_read (at_least_is_read n after h) s)
+turns_are_read (between n m h f le) s after = rw (append_assoc n (44 ∷ (m ++ 125 ∷ [])) after, append_assoc m (125 ∷ []) after) (count_is_read (between_is_read n m after h f le) s)
+turns_are_read (at_most m f) s after = rw (append_assoc m (125 ∷ []) after) (count_is_read (at_most_is_read m after f) s)
+
+greedy_is_read : (s : Scope) (after : Text) → is_at "?+" after ≡ false → ◌≡◌ {A = Option (Taste × Place)} (g.taste (start s after)) (Some (Greedy, start s after))
+greedy_is_read s [] h = refl
+greedy_is_read s (c ∷ rest) h =
     let m = either_false (63 == c) ((43 == c) || false) h in
     let n = either_false (43 == c) false m.1 in
-    rw (e, m.0, n.0) refl
-mark_is_read (lazy_optional {after = after}) a s e = rw e refl
+    rw (m.0, n.0) refl
+
+quantified_is : (a : Pattern) (p : Place) {q r : Place} {b : Bounds} {how : Taste} → begins_quantifier p.text ≡ true → is_empty a ≡ false → ◌≡◌ {A = Option (Bounds × Place)} (g.turns p) (Some (b, q))
+    → ◌≡◌ {A = Option (Taste × Place)} (g.taste q) (Some (how, r)) → ◌≡◌ {A = Option (Pattern × Place)} (g.quantified a p) (Some (repeat b.0 b.1 how a, r))
+quantified_is a p {b = b} h e f t = rw (h, e) (ap (g.tasted a) f ∙ ap (option_map (λ (found : Taste × Place). (repeat b.0 b.1 found.0 a, found.1))) t)
+
+pub mark_is_read : {u after : Text} {low : ℕ} {high : Option ℕ} {taste : Taste} → Quantifies u after low high taste → (a : Pattern) (s : Scope) → is_empty a ≡ false
+    → g.quantified a (start s (u ++ after)) ≡ Some (repeat low high taste a, start s after)
+mark_is_read {after = after} (greedily {t = t} w h) a s e = quantified_is a (start s (t ++ after)) (turns_begin w after) e (turns_are_read w s after) (greedy_is_read s after h)
+mark_is_read {after = after} (lazily {t = t} w) a s e = rw (append_assoc t (63 ∷ []) after) (quantified_is a (start s (t ++ 63 ∷ after)) (turns_begin w (63 ∷ after)) e (turns_are_read w s (63 ∷ after)) refl)
 
 pub bare_is_read : (a : Pattern) (s : Scope) (after : Text) → begins_quantifier after ≡ false → g.quantified a (start s after) ≡ Some (a, start s after)
 bare_is_read a s after h = rw h refl
@@ -61,6 +97,13 @@ literal_is_read c s (x ∷ rest) h n = let e = other_than c 92 h refl in let f =
 
 pub escaped_is_read : (c : ℕ) (s : Scope) (after : Text) → is_escapable c ≡ true → atom (start s (92 ∷ c ∷ after)) ≡ Some (literal_of s.meaning c, start s after)
 escaped_is_read c s after h = rw h refl
+
+pub capture_is_read : (s : Scope) (rest : Text) → is_at "?*" rest ≡ false → opening (start s (40 ∷ rest)) ≡ Some (g.capture (s.opened + 1), start (one_more_group s) rest)
+capture_is_read s [] h = refl
+capture_is_read s (x ∷ rest) h =
+    let m = either_false (63 == x) ((42 == x) || false) h in
+    let n = either_false (42 == x) false m.1 in
+    rw (m.0, n.0) refl
 
 mutual
   pub read_branches : {k : ℕ} {s r : Scope} {t after : Text} {bs : List Pattern} → d.Branches k s t after bs r → ends_branch after ≡ true → is_at "|" after ≡ false → g.Branches k (start s (t ++ after)) bs (start r after)
@@ -79,6 +122,7 @@ mutual
   read_atom {s = s} {after = after} (d.literal c h n) f = g.single (no_paren c after h) (literal_is_read c s after h n) f
   read_atom {s = s} {after = after} (d.escaped c h) f = g.single refl (escaped_is_read c s after h) f
   read_atom {after = after} (d.plain {t = t} b) f = rw (append_assoc t (41 ∷ []) after) (g.grouped refl refl (read_branches b refl refl) refl f)
+  read_atom {s = s} {after = after} (d.capture {t = t} h b) f = rw (append_assoc t (41 ∷ []) after) (g.grouped refl (capture_is_read s (t ++ (41 ∷ after)) h) (read_branches b refl refl) refl f)
 
 -- which way a test went
 pub chosen : {A : Type 0} (b : Bool) (x y z : A) → cond b x y ≡ z → ((b ≡ true) × (x ≡ z)) ⊎ ((b ≡ false) × (y ≡ z))
@@ -88,73 +132,142 @@ chosen false x y z h = inr (refl, h)
 pub begins_with : (w t : Text) → starts_with nat_eq t w ≡ true → t ≡ w ++ drop (length w) t
 begins_with w t h = sym (take-append-drop (length w) t) ∙ ap (λ l. l ++ drop (length w) t) (sym (same_text w (take (length w) t) (sym h)))
 
-pub at_char : (c : ℕ) (t : Text) → is_at_any (c ∷ []) t ≡ true → t ≡ c ∷ drop 1 t
-at_char c [] h = cc
-at_char c (x ∷ t) h = ap (λ y. y ∷ t) (sym (same_char (c == x) h refl))
-  where
-    same_char : (b : Bool) → (b || false) ≡ true → (c == x) ≡ b → c ≡ x
-    same_char true h e = grind (arith, nat_tests)
-    same_char false h e = cc
-
 not_true : (b : Bool) → not b ≡ true → b ≡ false
 not_true true h = cc
 not_true false h = refl
 
-not_false : (b : Bool) → not b ≡ false → b ≡ true
-not_false true h = refl
-not_false false h = cc
-
--- no longer quantifier than `?` stands at its place
-whole_mark : (u : Text) → begins "??" (63 ∷ u) ≡ false → begins "?+" (63 ∷ u) ≡ false → is_at "?+" u ≡ false
-whole_mark [] h f = refl
-whole_mark (x ∷ u) h f = go (63 == x) (43 == x) h f
+no_special : (u : Text) → (begins "(?" (40 ∷ u) || begins "(*" (40 ∷ u)) ≡ false → is_at "?*" u ≡ false
+no_special [] h = refl
+no_special (x ∷ u) h = go (63 == x) (42 == x) h
   where
-    go : (a b : Bool) → (a && true) ≡ false → (b && true) ≡ false → (a || (b || false)) ≡ false
-    go true b h f = cc
-    go false true h f = cc
-    go false false h f = refl
+    go : (a b : Bool) → ((a && true) || (b && true)) ≡ false → (a || (b || false)) ≡ false
+    go true b h = h
+    go false true h = h
+    go false false h = refl
 
 -- what a parenthesis may open
 pub data Opened (p : Place) : g.Opening → Place → Type 0 where
   as_plain : (u : Text) → p.text ≡ codes "(?:" ++ u → Opened p g.plain (start p.scope u)
+  as_capture : (u : Text) → p.text ≡ 40 ∷ u → is_at "?*" u ≡ false → Opened p (g.capture (p.scope.opened + 1)) (start (one_more_group p.scope) u)
 
-pub opened : (p : Place) (how : g.Opening) (q : Place) → opening p ≡ Some (how, q) → Opened p how q
-opened p how q h =
+pub opened : (p : Place) (how : g.Opening) (q : Place) → is_at "(" p.text ≡ true → opening p ≡ Some (how, q) → Opened p how q
+opened p how q e h =
     elim (chosen (begins "(?:" p.text) _ _ _ h) [
       | inl x ↦ is_it x.1 (as_plain (drop 3 p.text) (begins_with (codes "(?:") p.text x.0))
-      | inr x ↦ absurd (some_is_none (sym x.1))
+      | inr x ↦ elim (chosen (begins "(?" p.text || begins "(*" p.text) _ _ _ x.1) [
+        | inl x ↦ absurd (some_is_none (sym x.1))
+        | inr x ↦ is_it x.1 (as_capture (drop 1 p.text) (at_char 40 p.text e) (no_special (drop 1 p.text) (rw (at_char 40 p.text e) at x.0)))
+      ]
     ]
   where
     is_it : {a : g.Opening} {b : Place} → ◌≡◌ {A = Option (g.Opening × Place)} (Some (a, b)) (Some (how, q)) → Opened p a b → Opened p how q
     is_it {a} {b} s o = let t = some_pair s in subst (λ x. Opened p x q) t.0 (subst (λ y. Opened p a y) t.1 o)
+
+-- the number of turns that was read
+pub record Stated (p : Place) (b : Bounds) (q : Place) : Type 0 where
+  pub mark : Text
+  pub rest : Text
+  pub text : p.text ≡ mark ++ rest
+  pub states : Turns mark b.0 b.1
+  pub end : q ≡ start p.scope rest
+
+pub stated : (p : Place) (b : Bounds) (q : Place) → g.turns p ≡ Some (b, q) → Stated p b q
+stated p b q h =
+    elim (chosen (is_at "?" p.text) _ _ _ h) [
+      | inl x ↦ is_it x.1 (one_mark 63 optional x.0)
+      | inr x ↦ elim (chosen (is_at "*" p.text) _ _ _ x.1) [
+        | inl x ↦ is_it x.1 (one_mark 42 star x.0)
+        | inr x ↦ elim (chosen (is_at "+" p.text) _ _ _ x.1) [
+          | inl x ↦ is_it x.1 (one_mark 43 plus x.0)
+          | inr x ↦ elim (chosen (begins_count p.text && are_bounds (bounds_in (drop 1 p.text))) _ _ _ x.1) [
+            | inl x ↦ is_it x.1 (one_count x.0)
+            | inr x ↦ absurd (some_is_none (sym x.1))
+          ]
+        ]
+      ]
+    ]
+  where
+    one_count : (begins_count p.text && are_bounds (bounds_in (drop 1 p.text))) ≡ true → Stated p (bounds_in (drop 1 p.text)) (start p.scope (past_count (drop 1 p.text)))
+    one_count x =
+        let f = both_true (begins_count p.text) (are_bounds (bounds_in (drop 1 p.text))) x in
+        let b = both_true (is_at "{" p.text) (is_count (drop 1 p.text)) f.0 in
+        let c = count_spelled (drop 1 p.text) b.1 f.1 in
+        record { mark = 123 ∷ c.mark; rest = past_count (drop 1 p.text); text = at_char 123 p.text b.0 ∙ ap (λ l. 123 ∷ l) c.text; states = c.states; end = refl }
+
+    one_mark : (c : ℕ) {low : ℕ} {high : Option ℕ} → Turns (c ∷ []) low high → is_at_any (c ∷ []) p.text ≡ true → Stated p (low, high) (past 1 p)
+    one_mark c w x = record { mark = c ∷ []; rest = drop 1 p.text; text = at_char c p.text x; states = w; end = refl }
+
+    is_it : {a : Bounds} {r : Place} → ◌≡◌ {A = Option (Bounds × Place)} (Some (a, r)) (Some (b, q)) → Stated p a r → Stated p b q
+    is_it {a} {r} s o = let t = some_pair s in subst (λ x. Stated p x q) t.0 (subst (λ y. Stated p a y) t.1 o)
+
+-- the taste that was read
+pub data Tasted (p : Place) : Taste → Place → Type 0 where
+  no_suffix : is_at "?+" p.text ≡ false → Tasted p Greedy p
+  lazy_suffix : (u : Text) → p.text ≡ 63 ∷ u → Tasted p Lazy (start p.scope u)
+
+pub tasted : (p : Place) (how : Taste) (q : Place) → g.taste p ≡ Some (how, q) → Tasted p how q
+tasted p how q h =
+    elim (chosen (is_at "?" p.text) _ _ _ h) [
+      | inl x ↦ is_it x.1 (lazy_suffix (drop 1 p.text) (at_char 63 p.text x.0))
+      | inr x ↦ (let lazy = x.0 in elim (chosen (is_at "+" p.text) _ _ _ x.1) [
+        | inl x ↦ absurd (some_is_none (sym x.1))
+        | inr x ↦ is_it x.1 (no_suffix (neither_suffix p.text lazy x.0))
+      ])
+    ]
+  where
+    neither_suffix : (t : Text) → is_at "?" t ≡ false → is_at "+" t ≡ false → is_at "?+" t ≡ false
+    neither_suffix [] h f = refl
+    neither_suffix (c ∷ t) h f = go (63 == c) (43 == c) h f
+      where
+        go : (a b : Bool) → (a || false) ≡ false → (b || false) ≡ false → (a || (b || false)) ≡ false
+        go true b h f = cc
+        go false true h f = cc
+        go false false h f = refl
+
+    is_it : {a : Taste} {r : Place} → ◌≡◌ {A = Option (Taste × Place)} (Some (a, r)) (Some (how, q)) → Tasted p a r → Tasted p how q
+    is_it {a} {r} s o = let t = some_pair s in subst (λ x. Tasted p x q) t.0 (subst (λ y. Tasted p a y) t.1 o)
 
 -- the quantifier that was read, or none
 pub data Quantity (a : Pattern) (q : Place) : Pattern → Place → Type 0 where
   no_mark : begins_quantifier q.text ≡ false → Quantity a q a q
   marked : {low : ℕ} {high : Option ℕ} {taste : Taste} (m u : Text) → q.text ≡ m ++ u → is_empty a ≡ false → Quantifies m u low high taste → Quantity a q (repeat low high taste a) (start q.scope u)
 
+-- a repeat is its number of turns and its taste
+pub record Repeats (a : Pattern) (o : Option (Bounds × Place)) (t : Pattern) (r : Place) : Type 0 where
+  pub bounds : Bounds
+  pub behind : Place
+  pub how : Taste
+  pub turns : o ≡ Some (bounds, behind)
+  pub taste : g.taste behind ≡ Some (how, r)
+  pub is : repeat bounds.0 bounds.1 how a ≡ t
+
+pub repeats : (a : Pattern) (o : Option (Bounds × Place)) (t : Pattern) (r : Place) → g.tasted a o ≡ Some (t, r) → Repeats a o t r
+repeats a None t r h = absurd (some_is_none (sym h))
+repeats a (Some (b, p)) t r h = go (g.taste p) refl h
+  where
+    go : (o : Option (Taste × Place)) → g.taste p ≡ o → ◌≡◌ {A = Option (Pattern × Place)} (option_map {U = Pattern × Place} (λ (found : Taste × Place). (repeat b.0 b.1 found.0 a, found.1)) o) (Some (t, r)) → Repeats a (Some (b, p)) t r
+    go None e h = absurd (some_is_none (sym h))
+    go (Some (how, s)) e h = let x = some_pair h in record { bounds = b; behind = p; how = how; turns = refl; taste = e ∙ ap (λ (y : Place). Some (how, y)) x.1; is = x.0 }
+
+quantity_of : (a : Pattern) (q p : Place) {b : Bounds} {r : Place} {how : Taste} → is_empty a ≡ false → Stated q b p → Tasted p how r → Quantity a q (repeat b.0 b.1 how a) r
+quantity_of a q p {b} e s (no_suffix h) =
+    subst (λ y. Quantity a q (repeat b.0 b.1 Greedy a) y) (sym s.end) (marked s.mark s.rest s.text e (greedily s.states (ap (λ (y : Place). is_at "?+" y.text) (sym s.end) ∙ h)))
+quantity_of a q p {b} e s (lazy_suffix u h) =
+    subst (λ (y : Place). Quantity a q (repeat b.0 b.1 Lazy a) (start y.scope u)) (sym s.end)
+    (marked (s.mark ++ codes "?") u (s.text ∙ (ap (λ l. s.mark ++ l) (ap (λ (y : Place). y.text) (sym s.end) ∙ h) ∙ sym (append_assoc s.mark (63 ∷ []) u))) e (lazily s.states))
+
 pub quantity : (a : Pattern) (q : Place) (t : Pattern) (r : Place) → g.quantified a q ≡ Some (t, r) → Quantity a q t r
 quantity a q t r h =
     elim (chosen (not (begins_quantifier q.text)) _ _ _ h) [
       | inl x ↦ is_it x.1 (no_mark (not_true _ x.0))
-      | inr x ↦ elim (chosen (is_empty a || not (is_at "?" q.text) || begins "?+" q.text) _ _ _ x.1) [
+      | inr x ↦ elim (chosen (is_empty a) _ _ _ x.1) [
         | inl x ↦ absurd (some_is_none (sym x.1))
         | inr x ↦
-            let f = none_of_three (is_empty a) (not (is_at "?" q.text)) (begins "?+" q.text) x.0 in
-            elim (chosen (begins "??" q.text) _ _ _ x.1) [
-              | inl x ↦ is_it x.1 (marked (codes "??") (drop 2 q.text) (begins_with (codes "??") q.text x.0) f.0 lazy_optional)
-              | inr x ↦
-                  let is = at_char 63 q.text (not_false _ f.1) in
-                  is_it x.1 (marked (codes "?") (drop 1 q.text) is f.0 (greedy_optional (whole_mark (drop 1 q.text) (rw is at x.0) (rw is at f.2))))
-            ]
+            let w = repeats a (g.turns q) t r x.1 in
+            subst (λ y. Quantity a q y r) w.is (quantity_of a q w.behind x.0 (stated q w.bounds w.behind w.turns) (tasted w.behind w.how r w.taste))
       ]
     ]
   where
-    none_of_three : (a b c : Bool) → ((a || b) || c) ≡ false → (a ≡ false) × (b ≡ false) × (c ≡ false)
-    none_of_three true b c h = cc
-    none_of_three false true c h = cc
-    none_of_three false false c h = (refl, refl, h)
-
     is_it : {u : Pattern} {b : Place} → ◌≡◌ {A = Option (Pattern × Place)} (Some (u, b)) (Some (t, r)) → Quantity a q u b → Quantity a q t r
     is_it {u} {b} s o = let e = some_pair s in subst (λ x. Quantity a q x r) e.0 (subst (λ y. Quantity a q u y) e.1 o)
 
@@ -205,6 +318,7 @@ spell_quantity {k} {s} {a} {q = q} {w = w} b (marked m u e f h) =
 spell_group : {k : ℕ} {p inside : Place} {how : g.Opening} {t after : Text} {bs : List Pattern} {s : Scope} → Opened p how inside → inside.text ≡ t ++ 41 ∷ after
     → d.Branches k inside.scope t (41 ∷ after) bs s → (w : Text) × (p.text ≡ w ++ after) × d.Atom (suc k) p.scope w after (wrap how (in_branches bs)) (back_to p.scope s)
 spell_group {t = t} {after = after} (as_plain u e) i b = (codes "(?:" ++ (t ++ codes ")"), e ∙ ap (λ l. codes "(?:" ++ l) (i ∙ sym (append_assoc t (41 ∷ []) after)), d.plain b)
+spell_group {t = t} {after = after} (as_capture u e f) i b = (codes "(" ++ (t ++ codes ")"), e ∙ ap (λ l. 40 ∷ l) (i ∙ sym (append_assoc t (41 ∷ []) after)), d.capture (rw i at f) b)
 
 mutual
   pub spell_branches : {k : ℕ} {p r : Place} {bs : List Pattern} → g.Branches k p bs r → (t : Text) × (p.text ≡ t ++ r.text) × d.Branches k p.scope t r.text bs r.scope
@@ -230,7 +344,7 @@ mutual
   spell_item {p = p} (g.grouped {k = k} {inside = inside} {q = q} {r = r} {how = how} {bs = bs} {x = x} e o b c f) =
       let y = spell_branches b in
       let is : q.text ≡ 41 ∷ drop 1 q.text = at_char 41 q.text c in
-      let w = spell_group (opened p how inside o) (y.1 ∙ ap (λ l. y.0 ++ l) is) (subst (λ l. d.Branches k inside.scope y.0 l bs q.scope) is y.2) in
+      let w = spell_group (opened p how inside e o) (y.1 ∙ ap (λ l. y.0 ++ l) is) (subst (λ l. d.Branches k inside.scope y.0 l bs q.scope) is y.2) in
       let z = spell_quantity w.2 (quantity _ _ x r f) in
       (z.0, w.1 ∙ z.1, z.2)
 

@@ -1,13 +1,13 @@
 -- The dialect, over whole texts: which text spells which pattern. `after` is what follows the text in the whole pattern, so that each case can say that no longer form begins at its place; therefore the cases exclude one another, and a text spells at most one pattern.
-use Rattle.std.specs.Prelude.{◌≡◌, ℕ, suc, ◌≤◌, ◌==◌, Bool, true, false, not, ◌&&◌, ◌||◌, List, [], ◌∷◌, ◌++◌, Option, Some, None, codes, map, encode_utf8}
+use Rattle.std.specs.Prelude.{◌≡◌, ℕ, suc, ◌+◌, ◌≤◌, ◌==◌, Bool, true, false, not, ◌&&◌, ◌||◌, List, [], ◌∷◌, ◌++◌, Option, Some, None, codes, map, encode_utf8}
 use Rattle.std.specs.Char.{is_ascii_punctuation}
 use Rattle.fancy_syntax.specs.declared.tree.Meaning.{Meaning}
 use Rattle.fancy_syntax.specs.declared.tree.Meaning.TheVariants.{Unicode, Bytes, AsciiText}
 use Rattle.fancy_syntax.specs.declared.tree.Taste.{Taste}
 use Rattle.fancy_syntax.specs.declared.tree.Taste.TheVariants.{Greedy, Lazy}
-use Rattle.fancy_syntax.specs.Pattern.{Pattern, character, repeat, in_sequence, in_branches}
+use Rattle.fancy_syntax.specs.Pattern.{Pattern, character, group, repeat, in_sequence, in_branches}
 use Rattle.fancy_syntax.specs.Sizes.{nodes, is_empty}
-use Rattle.fancy_syntax.specs.Words.{Text, ◌∈◌, is_at, begins_count}
+use Rattle.fancy_syntax.specs.Words.{Text, ◌∈◌, is_at, is_at_digit, decimal, are_digits, begins_count}
 
 -- the flags `i m s x R`
 pub record Flags : Type 0 where
@@ -26,6 +26,10 @@ pub record Scope : Type 0 where
   -- the named ones among them
   pub names : List (Text × ℕ)
   pub in_look_around : Bool
+
+-- one more capturing group was opened
+abbrev pub one_more_group : Scope → Scope
+one_more_group s = record s { opened = s.opened + 1 }
 
 -- behind a group the flags are those from before it, and the groups opened inside it count
 abbrev pub back_to : Scope → Scope → Scope
@@ -49,10 +53,26 @@ literal_of AsciiText c = character c
 abbrev pub begins_quantifier : Text → Bool
 begins_quantifier t = is_at "?*+" t || begins_count t
 
--- this text is a quantifier: the least and the greatest number of turns, and the taste
+-- a row of digits, as a bound of a count
+pub record IsBound (t : Text) : Type 0 where
+  pub some : is_at_digit t ≡ true
+  pub digits : are_digits t ≡ true
+  pub small : decimal t ≤ 4294967295
+
+-- this text states the least and the greatest number of turns
+pub data Turns : Text → ℕ → Option ℕ → Type 0 where
+  optional : Turns (codes "?") 0 (Some 1)
+  star : Turns (codes "*") 0 None
+  plus : Turns (codes "+") 1 None
+  exactly : (n : Text) → IsBound n → Turns (codes "{" ++ (n ++ codes "}")) (decimal n) (Some (decimal n))
+  at_least : (n : Text) → IsBound n → Turns (codes "{" ++ (n ++ codes ",}")) (decimal n) None
+  between : (n m : Text) → IsBound n → IsBound m → decimal n ≤ decimal m → Turns (codes "{" ++ (n ++ (codes "," ++ (m ++ codes "}")))) (decimal n) (Some (decimal m))
+  at_most : (m : Text) → IsBound m → Turns (codes "{," ++ (m ++ codes "}")) 0 (Some (decimal m))
+
+-- this text is a quantifier, the longest that stands at its place: the least and the greatest number of turns, and the taste
 pub data Quantifies : Text → Text → ℕ → Option ℕ → Taste → Type 0 where
-  greedy_optional : {after : Text} → is_at "?+" after ≡ false → Quantifies (codes "?") after 0 (Some 1) Greedy
-  lazy_optional : {after : Text} → Quantifies (codes "??") after 0 (Some 1) Lazy
+  greedily : {t after : Text} {low : ℕ} {high : Option ℕ} → Turns t low high → is_at "?+" after ≡ false → Quantifies t after low high Greedy
+  lazily : {t after : Text} {low : ℕ} {high : Option ℕ} → Turns t low high → Quantifies (t ++ codes "?") after low high Lazy
 
 -- an item gives a sequence one part, or none
 abbrev pub with_part : Option Pattern → List Pattern → List Pattern
@@ -85,6 +105,9 @@ mutual
     escaped : {k : ℕ} {s : Scope} {after : Text} (c : ℕ) → is_escapable c ≡ true → Atom k s (codes "\\" ++ c ∷ []) after (literal_of s.meaning c) s
     plain : {k : ℕ} {s q : Scope} {t after : Text} {bs : List Pattern} → Branches k s t (codes ")" ++ after) bs q
         → Atom (suc k) s (codes "(?:" ++ (t ++ codes ")")) after (in_branches bs) (back_to s q)
+    -- the groups are numbered from 1 by their openings
+    capture : {k : ℕ} {s q : Scope} {t after : Text} {bs : List Pattern} → is_at "?*" (t ++ (codes ")" ++ after)) ≡ false → Branches k (one_more_group s) t (codes ")" ++ after) bs q
+        → Atom (suc k) s (codes "(" ++ (t ++ codes ")")) after (group (s.opened + 1) (in_branches bs)) (back_to s q)
 
 -- the whole text spells this pattern, with at most 64 parentheses open at one place
 pub record Spells (start : Scope) (text : Text) (p : Pattern) (end : Scope) : Type 0 where

@@ -1,10 +1,11 @@
 -- The dialect as it is read: a text is read from one place to another, and nothing here says in which order. Lemmas show that this reading and `Dialect` give the same patterns.
-use Rattle.std.specs.Prelude.{◌≡◌, ℕ, suc, Bool, true, false, not, ◌||◌, List, [], ◌∷◌, drop, Option, Some, None, if◌then◌else◌}
+use Rattle.std.specs.Prelude.{◌≡◌, ℕ, suc, ◌+◌, Bool, true, false, not, ◌||◌, ◌&&◌, nat_le, List, [], ◌∷◌, drop, Option, Some, None, option_map, if◌then◌else◌}
+use Rattle.fancy_syntax.specs.declared.tree.Taste.{Taste}
 use Rattle.fancy_syntax.specs.declared.tree.Taste.TheVariants.{Greedy, Lazy}
-use Rattle.fancy_syntax.specs.Pattern.{Pattern, repeat, in_sequence, in_branches}
+use Rattle.fancy_syntax.specs.Pattern.{Pattern, group, repeat, in_sequence, in_branches}
 use Rattle.fancy_syntax.specs.Sizes.{is_empty}
-use Rattle.fancy_syntax.specs.Words.{Text, ◌∈◌, is_at, begins, begins_count}
-use Rattle.fancy_syntax.specs.Dialect.{Scope, back_to, is_special, is_escapable, literal_of, begins_quantifier, with_part}
+use Rattle.fancy_syntax.specs.Words.{Text, ◌∈◌, is_at, begins, is_at_digit, past_digits, decimal, begins_count}
+use Rattle.fancy_syntax.specs.Dialect.{Scope, one_more_group, back_to, is_special, is_escapable, literal_of, begins_quantifier, with_part}
 
 -- a place in a pattern: what follows, and what is in force there
 pub record Place : Type 0 where
@@ -19,14 +20,20 @@ past n p = record p { text = drop n p.text }
 pub data Opening : Type 0 where
   -- a group that captures nothing
   plain : Opening
+  -- the capturing group of this number
+  capture : ℕ → Opening
 
 -- what a group makes of the pattern inside it
 abbrev pub wrap : Opening → Pattern → Pattern
 wrap plain p = p
+wrap (capture n) p = group n p
 
 -- what the parenthesis here opens, and the place behind that
 abbrev pub opening : Place → Option (Opening × Place)
-opening p = if begins "(?:" p.text then Some (plain, past 3 p) else None
+opening p =
+    if begins "(?:" p.text then Some (plain, past 3 p)
+    else if begins "(?" p.text || begins "(*" p.text then None
+    else Some (capture (p.scope.opened + 1), record { text = drop 1 p.text; scope = one_more_group p.scope })
 
 -- the pattern of one character, or of a backslash and what it escapes, that begins here
 abbrev pub atom_in : Place → Text → Option (Pattern × Place)
@@ -39,13 +46,53 @@ atom_in p (c ∷ d ∷ t) =
 abbrev pub atom : Place → Option (Pattern × Place)
 atom p = atom_in p p.text
 
+-- the least and the greatest number of turns
+abbrev pub Bounds : Type 0
+Bounds = ℕ × Option ℕ
+
+-- the bounds that stand behind a brace, where it begins a count
+abbrev pub bounds_in : Text → Bounds
+bounds_in t =
+    if is_at "}" (past_digits t) then (decimal t, Some (decimal t))
+    else if is_at_digit (drop 1 (past_digits t)) then (decimal t, Some (decimal (drop 1 (past_digits t))))
+    else (decimal t, None)
+
+-- what follows that count
+abbrev pub past_count : Text → Text
+past_count t = if is_at "}" (past_digits t) then drop 1 (past_digits t) else drop 1 (past_digits (drop 1 (past_digits t)))
+
+-- bounds of a repeat: not reversed, and below 2^32
+abbrev pub are_bounds : Bounds → Bool
+are_bounds (low, None) = nat_le low 4294967295
+are_bounds (low, Some high) = nat_le low high && nat_le high 4294967295
+
+-- the number of turns that a quantifier states here
+abbrev pub turns : Place → Option (Bounds × Place)
+turns p =
+    if is_at "?" p.text then Some ((0, Some 1), past 1 p)
+    else if is_at "*" p.text then Some ((0, None), past 1 p)
+    else if is_at "+" p.text then Some ((1, None), past 1 p)
+    else if begins_count p.text && are_bounds (bounds_in (drop 1 p.text)) then Some (bounds_in (drop 1 p.text), record p { text = past_count (drop 1 p.text) })
+    else None
+
+-- the taste by the suffix that stands here, if one does
+abbrev pub taste : Place → Option (Taste × Place)
+taste p =
+    if is_at "?" p.text then Some (Lazy, past 1 p)
+    else if is_at "+" p.text then None
+    else Some (Greedy, p)
+
+-- this many turns of the pattern, with the taste that stands here
+abbrev pub tasted : Pattern → Option (Bounds × Place) → Option (Pattern × Place)
+tasted a None = None
+tasted a (Some (bounds, p)) = option_map (λ found. (repeat bounds.0 bounds.1 found.0 a, found.1)) (taste p)
+
 -- the pattern with the quantifier that stands here, if one does
 abbrev pub quantified : Pattern → Place → Option (Pattern × Place)
 quantified a p =
     if not (begins_quantifier p.text) then Some (a, p)
-    else if is_empty a || not (is_at "?" p.text) || begins "?+" p.text then None
-    else if begins "??" p.text then Some (repeat 0 (Some 1) Lazy a, past 2 p)
-    else Some (repeat 0 (Some 1) Greedy a, past 1 p)
+    else if is_empty a then None
+    else tasted a (turns p)
 
 -- the place behind a group, which was opened outside and whose inside ends at q
 abbrev pub closed : Place → Place → Place

@@ -5,5 +5,6 @@ pub mod Sizes
 pub mod Words
 pub mod Dialect
 pub mod Grammar
+pub mod Groups
 pub mod Refusals
 pub mod Views

@@ -1,20 +1,21 @@
 -- What the parser's functions promise each other.
-use Rattle.std.specs.Prelude.{◌≡◌, ℕ, ◌-◌, ◌^◌, min, List, length, take, sum_by, Option, Some, None, Result, Ok, Err}
+use Rattle.std.specs.Prelude.{◌≡◌, ℕ, ◌-◌, ◌^◌, min, false, List, [], length, take, sum_by, Option, Some, None, Result, Ok, Err}
 use Rattle.std.specs.Char.{len_utf8}
 use Rattle.fancy_syntax.specs.declared.parser.Parser.{Parser}
 use Rattle.fancy_syntax.specs.declared.error.Error.{Error}
 use Rattle.fancy_syntax.specs.declared.error.Error.TheVariants.{Memory, ParseError, CompileError, RuntimeError}
 use Rattle.fancy_syntax.specs.declared.groups.Opening.{Opening as Found}
-use Rattle.fancy_syntax.specs.declared.groups.Opening.TheVariants.{Plain}
+use Rattle.fancy_syntax.specs.declared.groups.Opening.TheVariants.{Plain, Capture}
+use Rattle.fancy_syntax.specs.declared.count.Turns.{Turns}
 use Rattle.fancy_syntax.specs.declared.tree.Tree.{Tree}
 use Rattle.fancy_syntax.specs.Pattern.{Pattern, pattern_of, in_sequence, in_branches}
 use Rattle.fancy_syntax.specs.Words.{Text}
-use Rattle.fancy_syntax.specs.Dialect.{in_meaning, begin}
-use Rattle.fancy_syntax.specs.Grammar.{Place, Opening, plain, Branches, Parts}
+use Rattle.fancy_syntax.specs.Dialect.{no_flags}
+use Rattle.fancy_syntax.specs.Grammar.{Place, Opening, plain, capture, Bounds, Branches, Parts}
 
--- The forms so far change nothing of what is in force.
+-- The forms so far change nothing of what is in force, but for the groups that are opened.
 abbrev pub place : Parser → Place
-place p = record { text = p.rest.now; scope = begin (in_meaning p.meaning) }
+place p = record { text = p.rest.now; scope = record { meaning = p.meaning; flags = no_flags; opened = p.opened; names = []; in_look_around = false } }
 
 -- how many bytes of the whole pattern stand before the rest
 abbrev pub bytes_before : Text → Text → ℕ
@@ -22,6 +23,13 @@ bytes_before whole rest = min (sum_by len_utf8 (take (length whole - length rest
 
 abbrev pub found : Found → Opening
 found Plain = plain
+found (Capture n) = capture n
+
+abbrev pub bounds_of : Turns → Bounds
+bounds_of t = (t.low, t.high)
+
+abbrev pub itself : {T : Type 0} → T → T
+itself x = x
 
 -- memory ran out, or the claim holds
 abbrev pub Refuses : Error → Type 0 → Type 0

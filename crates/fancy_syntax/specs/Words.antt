@@ -1,5 +1,5 @@
 -- The words in which the grammar speaks of the characters of a pattern.
-use Rattle.std.specs.Prelude.{ℕ, ◌==◌, ◌||◌, ◌&&◌, Bool, false, nat_eq, List, [], ◌∷◌, codes, drop, if◌then◌else◌}
+use Rattle.std.specs.Prelude.{ℕ, ◌+◌, ◌-◌, ◌*◌, ◌==◌, ◌||◌, ◌&&◌, Bool, true, false, nat_eq, List, [], ◌∷◌, codes, drop, if◌then◌else◌}
 use Rattle.std.specs.List.{starts_with, list_any}
 use Rattle.std.specs.Char.{is_ascii_digit}
 use Prim.Native.String.{String}
@@ -35,6 +35,20 @@ is_at_digit (c ∷ t) = is_ascii_digit c
 abbrev pub past_digits : Text → Text
 past_digits [] = []
 past_digits (c ∷ t) = if is_ascii_digit c then past_digits t else c ∷ t
+
+-- Decimal digits behind a number: the number that the row of digits which stands first is, where n was read before it.
+unfoldable pub decimal_from : ℕ → Text → ℕ
+decimal_from n [] = n
+decimal_from n (c ∷ t) = if is_ascii_digit c then decimal_from (n * 10 + (c - 48)) t else n
+
+-- the number that the row of digits which stands first is, and 0 where there is none
+abbrev pub decimal : Text → ℕ
+decimal t = decimal_from 0 t
+
+-- each character is a digit
+abbrev pub are_digits : Text → Bool
+are_digits [] = true
+are_digits (c ∷ t) = is_ascii_digit c && are_digits t
 
 -- behind a brace: `n}`, `n,}`, `n,m}` or `,m}`
 abbrev pub is_count : Text → Bool

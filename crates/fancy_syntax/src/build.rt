@@ -1,12 +1,13 @@
 //! Trees out of the parts that were read.
 
-ghost use Rattle.std.specs.Prelude.{◌≡◌, map, Some, IfOk};
+ghost use Rattle.std.specs.Prelude.{◌≡◌, map, IfOk};
 ghost use Rattle.fancy_syntax.specs.Pattern.{pattern_of, character, repeat, in_sequence, in_branches};
 ghost use Rattle.fancy_syntax.specs.Sizes.{is_empty};
 ghost use Rattle.fancy_syntax.specs.Dialect.{literal_of};
 ghost use Rattle.fancy_syntax.specs.Grammar.{wrap};
 ghost use Rattle.fancy_syntax.specs.Views.{found};
 
+use crate::count::Turns;
 use crate::groups::Opening;
 use crate::tree::{Meaning, Taste, Tree};
 use std::alloc::{AllocError, Global};
@@ -82,24 +83,34 @@ fn one_by_one(alloc: Global, bytes: &[u8]) -> Result<Vec<Tree>, AllocError>
     Ok(parts)
 }
 
-/// At most one turn of the body.
+/// This many turns of the body.
 #[tactic(auto, using(crate::proofs::PatternLemmas::pattern_equations))]
-pub(crate) fn optional(alloc: Global, taste: Taste, body: Tree) -> Result<Tree, AllocError>
-    ensures { IfOk result (λ t. pattern_of t ≡ repeat 0 (Some 1) taste (pattern_of body)) }
+pub(crate) fn repeat(
+    alloc: Global,
+    turns: Turns,
+    taste: Taste,
+    body: Tree,
+) -> Result<Tree, AllocError>
+    ensures { IfOk result (λ t. pattern_of t ≡ repeat turns.low turns.high taste (pattern_of body)) }
 {
     Ok(Tree::Repeat {
-        low: 0,
-        high: Some(1),
+        low: turns.low,
+        high: turns.high,
         taste,
         body: Box::new(alloc, body)?,
     })
 }
 
 /// What a group makes of its body.
-pub(crate) fn wrap(how: Opening, body: Tree) -> Tree
-    ensures { pattern_of result ≡ wrap (found how) (pattern_of body) }
+#[tactic(auto, using(crate::proofs::PatternLemmas::pattern_equations))]
+pub(crate) fn wrap(alloc: Global, how: Opening, body: Tree) -> Result<Tree, AllocError>
+    ensures { IfOk result (λ t. pattern_of t ≡ wrap (found how) (pattern_of body)) }
 {
     match how {
-        Opening::Plain => body,
+        Opening::Plain => Ok(body),
+        Opening::Capture(index) => Ok(Tree::Group {
+            index,
+            body: Box::new(alloc, body)?,
+        }),
     }
 }

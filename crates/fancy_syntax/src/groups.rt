@@ -5,4 +5,6 @@
 pub(crate) enum Opening {
     /// `(?:`, a group that captures nothing.
     Plain,
+    /// `(`, the capturing group of this number.
+    Capture(usize),
 }

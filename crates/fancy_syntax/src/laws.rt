@@ -1,11 +1,18 @@
 //! What holds of the dialect itself.
 
-ghost use Rattle.std.specs.Prelude.{◌≡◌};
+ghost use Rattle.std.specs.Prelude.{◌≡◌, ◌+◌};
 ghost use Rattle.fancy_syntax.specs.Dialect.{Scope, Spells};
+ghost use Rattle.fancy_syntax.specs.Groups.{Numbered};
 ghost use Rattle.fancy_syntax.specs.Pattern.{Pattern};
 ghost use Rattle.fancy_syntax.specs.Words.{Text};
 
 /// A text spells at most one pattern.
 pub fn one_pattern()
     ensures { (s : Scope) (text : Text) (p q : Pattern) (e f : Scope) → Spells s text p e → Spells s text q f → p ≡ q }
+{}
+
+/// A group has a greater number than those opened before it, and a lesser one than those inside it; all numbers
+/// are at most how many were opened in the end.
+pub fn groups_are_numbered()
+    ensures { (s : Scope) (text : Text) (p : Pattern) (e : Scope) → Spells s text p e → Numbered (s.opened + 1) (e.opened + 1) p }
 {}

@@ -1,6 +1,6 @@
 //! Patterns are read here.
 
-ghost use Rattle.std.specs.Prelude.{◌≡◌, IfOk, IfErr, chars};
+ghost use Rattle.std.specs.Prelude.{◌≡◌, ◌+◌, IfOk, IfErr, chars};
 ghost use Rattle.fancy_syntax.specs.declared.error.Error.TheVariants.{Memory};
 ghost use Rattle.fancy_syntax.specs.Dialect.{standard, in_meaning, IsPattern};
 ghost use Rattle.fancy_syntax.specs.Pattern.{Pattern, pattern_of};
@@ -17,20 +17,31 @@ const MAX_DEPTH: u32 = 64;
 /// How many nodes a pattern may have, with counted repeats written out.
 const MAX_NODES: usize = 1_000_000;
 
+/// What the text of a pattern says.
+#[derive(Drop)]
+pub struct Parsed {
+    /// The pattern.
+    pub tree: Tree,
+    /// How many groups it has, with group 0, the whole match: those that are written have the numbers from 1 to
+    /// `groups - 1`, in the order of their openings.
+    pub groups: usize,
+}
+
 /// Reads a pattern, whose items are characters.
 ///
 /// The forms so far are literal characters, a backslash before ASCII punctuation (other than `<` and `>`) or a
-/// space, groups `(?:..)`, branches joined by `|`, and the quantifiers `?` and `??`. At most 64 parentheses are
-/// open at one place.
+/// space, groups `(..)`, which capture, and `(?:..)`, which do not, branches joined by `|`, and the quantifiers
+/// `?`, `*`, `+`, `{n}`, `{n,}`, `{n,m}` and `{,m}`, each with a `?` behind it where it is lazy. The bounds `n` and
+/// `m` are at most 4,294,967,295. At most 64 parentheses are open at one place.
 ///
 /// A text that is no pattern is refused by an [`Error::ParseError`], whose place is a byte offset into it, of 0
 /// to the length of `pattern`; one of more than 1,000,000 nodes by [`CompileError::PatternTooComplex`]. Where
 /// memory runs out the answer is [`Error::Memory`], and a pattern is refused in no other case.
 ///
-/// As an example `(?:a|b)?c` is the sequence of an optional alternative and a character, while `a)` is refused
-/// at place 1 with [`ParseErrorKind::GeneralParseError`].
-pub fn parse(alloc: Global, pattern: &str) -> Result<Tree, Error>
-    ensures accepted { IfOk result (λ t. IsPattern standard (chars pattern.now) (pattern_of t)) }
+/// As an example `(a|b)?c` is the sequence of an optional group 1 and a character, so that `groups` is 2, while
+/// `a)` is refused at place 1 with [`ParseErrorKind::GeneralParseError`].
+pub fn parse(alloc: Global, pattern: &str) -> Result<Parsed, Error>
+    ensures accepted { IfOk result (λ r. (h : IsPattern standard (chars pattern.now) (pattern_of r.tree)) × (h.end.opened + 1 ≡ r.groups)) }
     ensures refused { IfErr result (λ e. IsRefused e standard (chars pattern.now)) }
     ensures succeeds { (p : Pattern) → IsPattern standard (chars pattern.now) p → IfErr result (λ e. e ≡ Memory) }
 {
@@ -40,8 +51,8 @@ pub fn parse(alloc: Global, pattern: &str) -> Result<Tree, Error>
 /// Reads a pattern in this meaning, by the rules of [`parse`].
 ///
 /// In [`Meaning::Bytes`] a literal past U+007F is the sequence of the bytes of its UTF-8, as `é` is of two.
-pub fn parse_with(alloc: Global, pattern: &str, meaning: Meaning) -> Result<Tree, Error>
-    ensures accepted { IfOk result (λ t. IsPattern (in_meaning meaning) (chars pattern.now) (pattern_of t)) }
+pub fn parse_with(alloc: Global, pattern: &str, meaning: Meaning) -> Result<Parsed, Error>
+    ensures accepted { IfOk result (λ r. (h : IsPattern (in_meaning meaning) (chars pattern.now) (pattern_of r.tree)) × (h.end.opened + 1 ≡ r.groups)) }
     ensures refused { IfErr result (λ e. IsRefused e (in_meaning meaning) (chars pattern.now)) }
     ensures succeeds { (p : Pattern) → IsPattern (in_meaning meaning) (chars pattern.now) p → IfErr result (λ e. e ≡ Memory) }
 {
@@ -50,6 +61,7 @@ pub fn parse_with(alloc: Global, pattern: &str, meaning: Meaning) -> Result<Tree
         whole: &characters,
         rest: &characters,
         meaning,
+        opened: 0,
         alloc,
     };
     let tree = parser.alternation(MAX_DEPTH)?;
@@ -59,18 +71,21 @@ pub fn parse_with(alloc: Global, pattern: &str, meaning: Meaning) -> Result<Tree
     if tree.nodes() > MAX_NODES {
         return Err(Error::CompileError(CompileError::PatternTooComplex));
     }
-    Ok(tree)
+    Ok(Parsed {
+        tree,
+        groups: parser.opened.saturating_add(1),
+    })
 }
 
 #[cfg(test)]
 mod tests {
-    use super::{parse, parse_with};
+    use super::{Parsed, parse, parse_with};
     use crate::error::{CompileError, Error, ParseErrorKind, RuntimeError};
-    use crate::tree::{Meaning, Tree};
+    use crate::tree::Meaning;
     use std::test::Fail;
 
     /// The place and kind of a pattern's error.
-    fn fault(found: Result<Tree, Error>) -> Option<(usize, ParseErrorKind)> {
+    fn fault(found: Result<Parsed, Error>) -> Option<(usize, ParseErrorKind)> {
         match found {
             Err(Error::ParseError(place, kind)) => Some((place, kind)),
             _ => None,
@@ -89,10 +104,26 @@ mod tests {
             ("a???", Some((3, ParseErrorKind::TargetNotRepeatable))),
             ("a?{,2}", Some((2, ParseErrorKind::TargetNotRepeatable))),
             ("a\\", Some((1, ParseErrorKind::TrailingBackslash))),
-            ("(a)", Some((0, ParseErrorKind::NotInProfile))),
-            ("a*", Some((1, ParseErrorKind::NotInProfile))),
-            ("a?+", Some((1, ParseErrorKind::NotInProfile))),
-            ("a{2}", Some((1, ParseErrorKind::NotInProfile))),
+            ("(a)(b*?)+()*", None),
+            ("(?=a)", Some((0, ParseErrorKind::NotInProfile))),
+            ("(*a)", Some((0, ParseErrorKind::NotInProfile))),
+            ("(", Some((1, ParseErrorKind::UnclosedOpenParen))),
+            ("(+a)", Some((1, ParseErrorKind::TargetNotRepeatable))),
+            ("a?+", Some((2, ParseErrorKind::NotInProfile))),
+            ("a*+", Some((2, ParseErrorKind::NotInProfile))),
+            ("a++", Some((2, ParseErrorKind::NotInProfile))),
+            ("a**", Some((2, ParseErrorKind::TargetNotRepeatable))),
+            ("a+?+", Some((3, ParseErrorKind::TargetNotRepeatable))),
+            ("a{2}(?:b){2,}?c{,3}d{1,1000}", None),
+            ("a{2}+", Some((4, ParseErrorKind::NotInProfile))),
+            ("a{2}{3}", Some((4, ParseErrorKind::TargetNotRepeatable))),
+            ("a{2,1}", Some((1, ParseErrorKind::InvalidRepeat))),
+            ("a{4294967296}", Some((1, ParseErrorKind::InvalidRepeat))),
+            (
+                "a{99999999999999999999,}",
+                Some((1, ParseErrorKind::InvalidRepeat)),
+            ),
+            ("a{}{,}{1 }", None),
             ("[a]", Some((0, ParseErrorKind::NotInProfile))),
             ("\\d", Some((0, ParseErrorKind::NotInProfile))),
             ("a)", Some((1, ParseErrorKind::GeneralParseError))),
@@ -105,15 +136,23 @@ mod tests {
 
     #[test]
     fn sizes(rt: HostRuntime) {
-        for (pattern, meaning, want) in [
-            ("(?:a|b)?c", Meaning::Unicode, 7),
-            ("aé", Meaning::Bytes, 3),
-            ("aé", Meaning::AsciiText, 2),
+        for (pattern, meaning, nodes, groups) in [
+            ("(?:a|b)?c", Meaning::Unicode, 7, 1),
+            ("aé", Meaning::Bytes, 3, 1),
+            ("aé", Meaning::AsciiText, 2, 1),
+            ("a*", Meaning::Unicode, 3, 1),
+            ("a+", Meaning::Unicode, 4, 1),
+            ("a{3}", Meaning::Unicode, 4, 1),
+            ("a{02,2}", Meaning::Unicode, 3, 1),
+            ("a{2,5}", Meaning::Unicode, 9, 1),
+            ("a{,2}", Meaning::Unicode, 5, 1),
+            ("a{2,}", Meaning::Unicode, 5, 1),
+            ("((a)|b)(c)", Meaning::Unicode, 8, 4),
         ] {
             let found = parse_with(rt.alloc(), pattern, meaning);
             assert_eq!(rt;
-                found.map(|tree| tree.nodes()).ok(),
-                Some(want),
+                found.map(|found| (found.tree.nodes(), found.groups)).ok(),
+                Some((nodes, groups)),
                 "at {pattern}"
             );
         }

@@ -4,10 +4,10 @@ ghost use Rattle.std.specs.Prelude.{◌≡◌, ◌+◌, ◌<◌, ◌≤◌, ◌^
 ghost use Rattle.std.specs.Char.{len_utf8};
 ghost use Rattle.std.specs.List.{starts_with};
 ghost use Rattle.fancy_syntax.specs.Dialect.{is_escapable, is_special};
-ghost use Rattle.fancy_syntax.specs.Words.{is_at_any, is_at};
+ghost use Rattle.fancy_syntax.specs.Words.{is_at_any, is_at, begins_count};
 
-use crate::build::{branches, is_empty, literal, optional, sequence, wrap};
-use crate::count::begins_count;
+use crate::build::{branches, is_empty, literal, repeat, sequence, wrap};
+use crate::count::{Turns, begins_count, bounds, past_count};
 use crate::error::{Error, ParseErrorKind};
 use crate::groups::Opening;
 use crate::tree::{Meaning, Taste, Tree};
@@ -21,7 +21,11 @@ pub(crate) struct Parser<'a> {
     /// The last of them, which are still to be read.
     pub(crate) rest: &'a [char],
     pub(crate) meaning: Meaning,
+    /// How many capturing groups were opened so far.
+    pub(crate) opened: usize,
     pub(crate) alloc: Global,
+    ghost counted: { opened + length rest.now ≤ length whole.now },
+    ghost short: { length whole.now < 2 ^ 63 },
 }
 
 /// The bytes that these characters take in UTF-8; `usize::MAX` stands for any number past it.
@@ -116,9 +120,9 @@ impl<'a> Parser<'a> {
 }
 
 impl<'a> Parser<'a> {
-    ghost use Rattle.fancy_syntax.specs.Views.{place, found, GivesValue};
+    ghost use Rattle.fancy_syntax.specs.Views.{place, found, bounds_of, itself, GivesValue};
     ghost use Rattle.fancy_syntax.specs.Pattern.{pattern_of};
-    ghost use Rattle.fancy_syntax.specs.Grammar.{opening, atom, quantified};
+    ghost use Rattle.fancy_syntax.specs.Grammar.{opening, atom, quantified, turns, taste};
 
     /// Reads what a parenthesis opens.
     fn opening(&mut self) -> Result<Opening, Error>
@@ -130,7 +134,12 @@ impl<'a> Parser<'a> {
             self.skip(3);
             return Ok(Opening::Plain);
         }
-        Err(self.error(ParseErrorKind::NotInProfile))
+        if self.begins(&['(', '?']) || self.begins(&['(', '*']) {
+            return Err(self.error(ParseErrorKind::NotInProfile));
+        }
+        self.skip(1);
+        self.opened += 1;
+        Ok(Opening::Capture(self.opened))
     }
 
     /// Reads one character, or a backslash and what it escapes.
@@ -197,15 +206,68 @@ impl<'a> Parser<'a> {
         if is_empty(&part) {
             return Err(self.error(ParseErrorKind::TargetNotRepeatable));
         }
-        if !self.is_at_any(&['?']) || self.begins(&['?', '+']) {
+        let turns = self.turns()?;
+        let taste = self.taste()?;
+        Ok(repeat(self.alloc, turns, taste, part)?)
+    }
+
+    /// Reads the number of turns that a quantifier states.
+    fn turns(&mut self) -> Result<Turns, Error>
+        ensures value { GivesValue bounds_of (turns (place self.old)) result (place self.new) }
+        ensures progress { OnOk result (length self.new.rest.now ≤ length self.old.rest.now) }
+    {
+        if self.is_at_any(&['?']) {
+            self.skip(1);
+            return Ok(Turns {
+                low: 0,
+                high: Some(1),
+            });
+        }
+        if self.is_at_any(&['*']) {
+            self.skip(1);
+            return Ok(Turns { low: 0, high: None });
+        }
+        if self.is_at_any(&['+']) {
+            self.skip(1);
+            return Ok(Turns { low: 1, high: None });
+        }
+        if begins_count(self.rest) {
+            return self.count();
+        }
+        Err(self.error(ParseErrorKind::NotInProfile))
+    }
+
+    /// Reads a count.
+    fn count(&mut self) -> Result<Turns, Error>
+        requires { begins_count self.old.rest.now ≡ true }
+        ensures value { GivesValue bounds_of (turns (place self.old)) result (place self.new) }
+        ensures progress { OnOk result (length self.new.rest.now ≤ length self.old.rest.now) }
+    {
+        match self.rest {
+            [_, inside @ ..] => match bounds(inside) {
+                Some(turns) => {
+                    self.rest = past_count(inside);
+                    Ok(turns)
+                }
+                None => Err(self.error(ParseErrorKind::InvalidRepeat)),
+            },
+            [] => Err(self.error(ParseErrorKind::InvalidRepeat)),
+        }
+    }
+
+    /// Reads the suffix of a quantifier, if one stands here.
+    fn taste(&mut self) -> Result<Taste, Error>
+        ensures value { GivesValue itself (taste (place self.old)) result (place self.new) }
+        ensures progress { OnOk result (length self.new.rest.now ≤ length self.old.rest.now) }
+    {
+        if self.is_at_any(&['?']) {
+            self.skip(1);
+            return Ok(Taste::Lazy);
+        }
+        if self.is_at_any(&['+']) {
             return Err(self.error(ParseErrorKind::NotInProfile));
         }
-        if self.begins(&['?', '?']) {
-            self.skip(2);
-            return Ok(optional(self.alloc, Taste::Lazy, part)?);
-        }
-        self.skip(1);
-        Ok(optional(self.alloc, Taste::Greedy, part)?)
+        Ok(Taste::Greedy)
     }
 }
 
@@ -265,6 +327,7 @@ impl<'a> Parser<'a> {
             return Err(self.error(ParseErrorKind::UnclosedOpenParen));
         }
         self.skip(1);
-        self.quantified(wrap(how, body))
+        let group = wrap(self.alloc, how, body)?;
+        self.quantified(group)
     }
 }

@@ -108,9 +108,9 @@ pub enum Tree {
     KeepStart,
     /// `\G`: the search starts here.
     ContinueHere,
-    /// A capturing group.
+    /// A capturing group, with its number from 1 on.
     Group {
-        index: u32,
+        index: usize,
         body: Box<Tree>,
     },
     /// At least `low` turns, and at most `high` where that is set.

@@ -27,11 +27,13 @@ fn patterns_of_one_fault(rt: HostRuntime) -> Result<(), Fail> {
         ("(?:)?", ParseErrorKind::TargetNotRepeatable),
         ("a???", ParseErrorKind::TargetNotRepeatable),
         ("a\\", ParseErrorKind::TrailingBackslash),
-        ("(a)", ParseErrorKind::NotInProfile),
-        ("a*", ParseErrorKind::NotInProfile),
+        ("(?=a)", ParseErrorKind::NotInProfile),
+        ("a*+", ParseErrorKind::NotInProfile),
         ("[a]", ParseErrorKind::NotInProfile),
         ("\\d", ParseErrorKind::NotInProfile),
-        ("a{2}", ParseErrorKind::NotInProfile),
+        ("a{3}{2}", ParseErrorKind::TargetNotRepeatable),
+        ("x{3,1}", ParseErrorKind::InvalidRepeat),
+        ("a{4294967296}", ParseErrorKind::InvalidRepeat),
     ];
     let alloc = rt.alloc();
     for (pattern, kind) in &rows {

@@ -3,6 +3,7 @@
 //! | Words | Output | Status |
 //! |---|---|---|
 //! | `find P T` | `start..end text` of the first match of the pattern P in the text T | 0, or 1 without a match |
+//! | `captures P T` | for each group k of the first match `k start..end text`, or `k none` | 0, or 1 without a match |
 //!
 //! A command that is refused writes one line `error: ` and what is wrong to its second writer, and its
 //! status is 2: `usage` for other words, the refusal's name for a pattern or a search, `Output` where the
@@ -111,6 +112,9 @@ fn command<W: io::Write>(alloc: Global, words: &[String], out: &mut W) -> Result
         [command, pattern, text] if command.as_str() == "find" => {
             find(alloc, pattern.as_str(), text.as_str(), out)
         }
+        [command, pattern, text] if command.as_str() == "captures" => {
+            captures(alloc, pattern.as_str(), text.as_str(), out)
+        }
         _ => Err(Fault::Usage),
     }
 }
@@ -126,5 +130,30 @@ fn find<W: io::Write>(
         return Ok(false);
     };
     writeln!(out, "{}..{} {}", found.start(), found.end(), found.as_str())?;
+    Ok(true)
+}
+
+fn captures<W: io::Write>(
+    alloc: Global,
+    pattern: &str,
+    text: &str,
+    out: &mut W,
+) -> Result<bool, Fault> {
+    let regex = Regex::new(alloc, pattern)?;
+    let Some(captures) = regex.captures(text)? else {
+        return Ok(false);
+    };
+    for number in 0..captures.len() {
+        match captures.get(number) {
+            Some(group) => writeln!(
+                out,
+                "{number} {}..{} {}",
+                group.start(),
+                group.end(),
+                group.as_str()
+            )?,
+            None => writeln!(out, "{number} none")?,
+        }
+    }
     Ok(true)
 }

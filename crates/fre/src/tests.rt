@@ -60,6 +60,9 @@ fn prints_the_first_match(rt: HostRuntime) -> Result<(), Fail> {
     expect_run(&rt, alloc, &["find", "a|ab", "xab"], "1..2 a\n", "", 0)?;
     expect_run(&rt, alloc, &["find", "", "b"], "0..0 \n", "", 0)?;
     expect_run(&rt, alloc, &["find", "c", "xab"], "", "", 1)?;
+    let groups = "0 0..1 b\n1 none\n";
+    expect_run(&rt, alloc, &["captures", "(a)|b", "b"], groups, "", 0)?;
+    expect_run(&rt, alloc, &["captures", "(a)", "b"], "", "", 1)?;
     Ok(())
 }
 

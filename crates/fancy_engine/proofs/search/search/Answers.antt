@@ -1,49 +1,69 @@
-use Rattle.std.proofs.Common.{option_map, sym, ap, ◌∙◌, arith}
-use Rattle.fancy_syntax.specs.Pattern.{pattern_of}
-use Rattle.fancy_engine.specs.Search.{span_of}
-use Rattle.fancy_engine.specs.Plain.{query_of}
-use Rattle.fancy_engine.proofs.PlainLemmas.{passed_over, answered, exhausted, ended-first, first-between, position-within}
+use Rattle.std.proofs.Common.{◌+◌, ◌-◌, ◌*◌, ℕ, Bool, false, length, sym, refl, ap, ap₂, ◌∙◌, arith}
+use Rattle.std.proofs.lemmas.List.{length-replicate}
+use Rattle.fancy_engine.specs.Queries.{query_of}
+use Rattle.fancy_engine.specs.Readings.{plain}
+use Rattle.fancy_engine.specs.Search.{answer_from}
+use Rattle.fancy_engine.proofs.Marks.{marked_le}
+use Rattle.fancy_engine.proofs.Attempts.{deep, attempt_known, attempt_answer, search_hit, search_miss, search_skip, search_over, positions_none, unmarked_table, steps_bound}
 use Rattle.fancy_engine.proofs.search.search.Goals as goal
 
-pub returns-in-Some-clause-answer : goal.returns-in-Some-clause-answer
-returns-in-Some-clause-answer c =
-    sym (ap (option_map span_of)
-    (c.loop-position.invariant.still
-    ∙ answered c.args.manner (pattern_of c.args.tree.now) c.args.haystack.now c.args.request c.requires.simple
-    c.past_last-position-end.result c.loop-position.position c.in-Some.end (omega arith) (sym c.in_ok-end.ensures ∙ c.in-Some.is)))
+pub returns-then-first-request-clause-answer : goal.returns-then-first-request-clause-answer
+returns-then-first-request-clause-answer c p is =
+    sym (search_over (query_of p c.args.code.now c.args.on_boundaries c.args.haystack.now c.args.request) _ _ (positions_none c.args.request (omega (arith, c.max-first.ensures))))
 
-pub returns-in-Some-clause-ordered : goal.returns-in-Some-clause-ordered
-returns-in-Some-clause-ordered c =
-    (first-between (query_of c.args.manner (pattern_of c.args.tree.now) c.args.haystack.now c.args.request) c.loop-position.position _
-    (position-within c.args.request c.loop-position.position c.loop-position.invariant.from (omega arith))
-    (ended-first c.args.manner (pattern_of c.args.tree.now) c.args.haystack.now c.args.request c.requires.simple
-    c.loop-position.position c.in-Some.end (sym c.in_ok-end.ensures ∙ c.in-Some.is))).from
-
-pub returns-in-Some-clause-inside : goal.returns-in-Some-clause-inside
-returns-in-Some-clause-inside c = record {
-  from = c.loop-position.invariant.from;
-  to =
-      (first-between (query_of c.args.manner (pattern_of c.args.tree.now) c.args.haystack.now c.args.request) c.loop-position.position _
-      (position-within c.args.request c.loop-position.position c.loop-position.invariant.from (omega arith))
-      (ended-first c.args.manner (pattern_of c.args.tree.now) c.args.haystack.now c.args.request c.requires.simple
-      c.loop-position.position c.in-Some.end (sym c.in_ok-end.ensures ∙ c.in-Some.is))).to;
+pub loop-place-init : goal.loop-place-init
+loop-place-init c = record {
+  left = λ p is. ap₂ (answer_from (query_of p c.args.code.now c.args.on_boundaries c.args.haystack.now c.args.request)) (sym c.last_position-last.ensures.count) (sym c.max-first.ensures);
+  failed = λ p is q i seen hit. unmarked_table c.begin_table.new.table _ c.in_ok-begin_table.ensures.clear _ seen.1;
+  room = ap length c.in_ok-begin_table.ensures.clear ∙ length-replicate _ false ∙ ap (λ (n : ℕ). (c.args.request.range_end - c.max-first.result + 1) * n) c.len.ensures;
+  small = omega (arith, ap length c.in_ok-begin_table.ensures.clear, length-replicate {A = Bool}, c.in_ok-begin_table.ensures.small);
+  ticks = omega (arith, c.new.ensures.steps);
+  returns = omega (arith, c.new.ensures.returns);
 }
 
-pub returns-in-Some-clause-cleanly : goal.returns-in-Some-clause-cleanly
-returns-in-Some-clause-cleanly c on =
-    let first = ended-first c.args.manner (pattern_of c.args.tree.now) c.args.haystack.now c.args.request c.requires.simple
-    c.loop-position.position c.in-Some.end (sym c.in_ok-end.ensures ∙ c.in-Some.is) in
-    record { begins = first.stands.begins on; ends = first.stands.ends on }
+pub loop-place-preserved-then-not-is_good_end : goal.loop-place-preserved-then-not-is_good_end
+loop-place-preserved-then-not-is_good_end c = record {
+  left = λ p is. c.loop-place.invariant.left p is
+      ∙ search_miss (query_of p c.args.code.now c.args.on_boundaries c.args.haystack.now c.args.request) (c.last_position-last.result + 1 - c.loop-place.place) (c.last_position-last.result + 1 - (c.loop-place.place + 1)) c.loop-place.place (omega arith) (search_skip (query_of p c.args.code.now c.args.on_boundaries c.args.haystack.now c.args.request) c.loop-place.place refl (sym c.if-not-is_good_end.ensures));
+  failed = c.loop-place.invariant.failed;
+  room = c.loop-place.invariant.room;
+  small = c.loop-place.invariant.small;
+  ticks = c.loop-place.invariant.ticks;
+  returns = c.loop-place.invariant.returns;
+}
 
-pub loop-position-preserved : goal.loop-position-preserved
-loop-position-preserved c = record {
-  from = let from = c.loop-position.invariant.from in omega arith;
-  still = c.loop-position.invariant.still
-      ∙ passed_over c.args.manner (pattern_of c.args.tree.now) c.args.haystack.now c.args.request c.requires.simple
-      c.past_last-position-end.result c.loop-position.position (omega arith) (sym c.in_ok-end.ensures ∙ c.in_default.is);
+pub returns-then-branch-clause-answer : goal.returns-then-branch-clause-answer
+returns-then-branch-clause-answer c p is =
+    let known = attempt_known (query_of p c.args.code.now c.args.on_boundaries c.args.haystack.now c.args.request) c.args.code.now is refl refl refl c.requires.inside (plain c.args.haystack.now c.args.code.now.meaning c.max-first.result) (ap (plain c.args.haystack.now c.args.code.now.meaning) c.max-first.ensures) c.loop-place.place c.begin.new.self.current c.in-Ok.ensures.begun (omega (arith, c.last_position-last.ensures.inside)) in
+    let is_answer = attempt_answer (query_of p c.args.code.now c.args.on_boundaries c.args.haystack.now c.args.request) c.args.code.now is refl refl refl c.requires.inside (plain c.args.haystack.now c.args.code.now.meaning c.max-first.result) (ap (plain c.args.haystack.now c.args.code.now.meaning) c.max-first.ensures) c.loop-place.place c.begin.new.self.current c.in-Ok.ensures.begun (omega (arith, c.last_position-last.ensures.inside)) (sym c.if-not-is_good_end.ensures) in
+    let found = rw c.if-branch.true at (c.in_ok-follow.ensures.answer c.loop-place.place (deep (query_of p c.args.code.now c.args.on_boundaries c.args.haystack.now c.args.request) c.args.code.now is refl refl refl c.requires.inside (plain c.args.haystack.now c.args.code.now.meaning c.max-first.result) (ap (plain c.args.haystack.now c.args.code.now.meaning) c.max-first.ensures))) in
+    sym (c.loop-place.invariant.left p is
+    ∙ search_hit (query_of p c.args.code.now c.args.on_boundaries c.args.haystack.now c.args.request) (c.last_position-last.result + 1 - c.loop-place.place) (c.last_position-last.result + 1 - (c.loop-place.place + 1)) c.loop-place.place (omega arith) _ (sym is_answer ∙ sym (found known (c.loop-place.invariant.failed p is))))
+
+pub loop-place-preserved : goal.loop-place-preserved
+loop-place-preserved c = record {
+  left = λ p is.
+      (let known = attempt_known (query_of p c.args.code.now c.args.on_boundaries c.args.haystack.now c.args.request) c.args.code.now is refl refl refl c.requires.inside (plain c.args.haystack.now c.args.code.now.meaning c.max-first.result) (ap (plain c.args.haystack.now c.args.code.now.meaning) c.max-first.ensures) c.loop-place.place c.begin.new.self.current c.in-Ok.ensures.begun (omega (arith, c.last_position-last.ensures.inside)) in
+      let is_answer = attempt_answer (query_of p c.args.code.now c.args.on_boundaries c.args.haystack.now c.args.request) c.args.code.now is refl refl refl c.requires.inside (plain c.args.haystack.now c.args.code.now.meaning c.max-first.result) (ap (plain c.args.haystack.now c.args.code.now.meaning) c.max-first.ensures) c.loop-place.place c.begin.new.self.current c.in-Ok.ensures.begun (omega (arith, c.last_position-last.ensures.inside)) (sym c.if-not-is_good_end.ensures) in
+      let found = rw c.if-branch.false at (c.in_ok-follow.ensures.answer c.loop-place.place (deep (query_of p c.args.code.now c.args.on_boundaries c.args.haystack.now c.args.request) c.args.code.now is refl refl refl c.requires.inside (plain c.args.haystack.now c.args.code.now.meaning c.max-first.result) (ap (plain c.args.haystack.now c.args.code.now.meaning) c.max-first.ensures))) in
+      c.loop-place.invariant.left p is
+      ∙ search_miss (query_of p c.args.code.now c.args.on_boundaries c.args.haystack.now c.args.request) (c.last_position-last.result + 1 - c.loop-place.place) (c.last_position-last.result + 1 - (c.loop-place.place + 1)) c.loop-place.place (omega arith) (sym is_answer ∙ sym (found known (c.loop-place.invariant.failed p is))));
+  failed = λ p is. c.in_ok-follow.ensures.failed c.loop-place.place (deep (query_of p c.args.code.now c.args.on_boundaries c.args.haystack.now c.args.request) c.args.code.now is refl refl refl c.requires.inside (plain c.args.haystack.now c.args.code.now.meaning c.max-first.result) (ap (plain c.args.haystack.now c.args.code.now.meaning) c.max-first.ensures)) (attempt_known (query_of p c.args.code.now c.args.on_boundaries c.args.haystack.now c.args.request) c.args.code.now is refl refl refl c.requires.inside (plain c.args.haystack.now c.args.code.now.meaning c.max-first.result) (ap (plain c.args.haystack.now c.args.code.now.meaning) c.max-first.ensures) c.loop-place.place c.begin.new.self.current c.in-Ok.ensures.begun (omega (arith, c.last_position-last.ensures.inside))) (c.loop-place.invariant.failed p is) c.if-branch.false;
+  room = c.follow.ensures.room ∙ c.loop-place.invariant.room;
+  small = omega (arith, c.follow.ensures.room, c.loop-place.invariant.small);
+  ticks = c.in_ok-follow.ensures.ticks;
+  returns = c.in_ok-follow.ensures.returns;
 }
 
 pub returns-clause-answer : goal.returns-clause-answer
-returns-clause-answer c =
-    sym (ap (option_map span_of)
-    (c.loop-position.invariant.still ∙ exhausted _ c.past_last-position-end.result c.loop-position.position (omega arith)))
+returns-clause-answer c p is = sym (c.loop-place.invariant.left p is ∙ search_over (query_of p c.args.code.now c.args.on_boundaries c.args.haystack.now c.args.request) _ _ (omega arith))
+
+pub returns-then-branch-clause-steps : goal.returns-then-branch-clause-steps
+returns-then-branch-clause-steps c =
+    steps_bound _ c.args.request c.max-first.result _
+    (omega (arith, c.in_ok-follow.ensures.ticks, c.follow.ensures.room, c.loop-place.invariant.room, marked_le c.follow.new.table)) c.max-first.ensures (omega arith)
+
+pub returns-clause-steps : goal.returns-clause-steps
+returns-clause-steps c =
+    steps_bound _ c.args.request c.max-first.result _
+    (omega (arith, c.loop-place.invariant.ticks, c.loop-place.invariant.room, marked_le c.loop-place.table)) c.max-first.ensures (omega arith)

@@ -1,14 +1,23 @@
-use Rattle.std.proofs.Common.{◌≡◌, ◌-◌, ◌≤◌}
-use Rattle.fancy_syntax.specs.Pattern.{pattern_of}
-use Rattle.fancy_input.specs.Requests.{effective_start}
+use Rattle.std.proofs.Common.{◌≡◌, ◌+◌, ◌-◌, ◌*◌, ◌<◌, ◌≤◌, ◌^◌, length}
+use Rattle.fancy_syntax.specs.Pattern.{Pattern}
+use Rattle.fancy_engine.specs.Code.{instrs_of, code_len}
+use Rattle.fancy_engine.specs.Marked.{marked}
+use Rattle.fancy_engine.specs.Means.{IsCodeOf, depth}
+use Rattle.fancy_engine.specs.Queries.{query_of}
+use Rattle.fancy_engine.specs.Readings.{plain}
+use Rattle.fancy_engine.specs.Runner.{good_end, AllFailed}
 use Rattle.fancy_engine.specs.Search.{search, answer_from}
-use Rattle.fancy_engine.specs.Plain.{query_of}
+use Rattle.fancy_engine.specs.Work.{steps_of, returns_of}
 use Rattle.fancy_engine.proofs.search.search.Given as goal
 
--- what is still searched is the answer of the whole
-abbrev pub invariant-loop-position : goal.invariant-loop-position
-invariant-loop-position l = record {
-  from : effective_start l.fn.request ≤ l.position;
-  still : search (query_of l.manner (pattern_of l.tree) l.haystack l.fn.request)
-      ≡ answer_from (query_of l.manner (pattern_of l.tree) l.haystack l.fn.request) (l.position-end - l.position) l.position;
+abbrev pub invariant-loop-place : goal.invariant-loop-place
+invariant-loop-place l = record {
+  left : (p : Pattern) → IsCodeOf p l.code → search (query_of p l.code l.on_boundaries l.haystack l.fn.request)
+      ≡ answer_from (query_of p l.code l.on_boundaries l.haystack l.fn.request) (l.last + 1 - l.place) l.place;
+  failed : (p : Pattern) → IsCodeOf p l.code
+      → AllFailed (good_end l.bounds l.haystack) (plain l.haystack l.code.meaning l.bounds.first) l.bounds.first l.bounds.last (instrs_of l.code) (depth (length l.haystack) p + 1) l.table;
+  room : length l.table ≡ (l.bounds.last - l.bounds.first + 1) * code_len l.code;
+  small : length l.table < 2 ^ 64;
+  ticks : steps_of l.work ≤ marked l.table;
+  returns : returns_of l.work ≤ steps_of l.work;
 }

@@ -7,6 +7,7 @@ use Rattle.fancy_syntax.specs.Dialect.{in_meaning, begin}
 use Rattle.fancy_syntax.specs.Grammar.{start}
 use Rattle.fancy_syntax.specs.Sizes.{nodes}
 use Rattle.fancy_syntax.specs.Pattern.{pattern_of}
+use Rattle.fancy_syntax.specs.Views.{place}
 use Rattle.fancy_syntax.proofs.ReadingLemmas.{some_left, nothing_left}
 use Rattle.fancy_syntax.proofs.ParseLemmas.{refused_reading, refused_is_memory, no_pattern, spelled, more_nodes, few_nodes}
 use Rattle.fancy_syntax.proofs.parse.parse_with.Goals as goal
@@ -38,7 +39,7 @@ pub returns-then-nodes-gt-MAX_NODES-clause-refused :
 returns-then-nodes-gt-MAX_NODES-clause-refused c =
     let text : c.deref-2.result.now ≡ chars c.args.pattern.now = c.deref-2.ensures.value ∙ (search (rules, chars_from_encodes)) in
     let s = spelled (ap (start (begin (in_meaning c.args.meaning))) text) c.in_ok-tree.ensures.value (nothing_left _ c.if-not-is_empty.ensures) in
-    (pattern_of c.in_ok-tree.tree, s.0, s.1, more_nodes (nodes (pattern_of c.in_ok-tree.tree)) c.nodes.result c.nodes.ensures c.if-nodes-gt-MAX_NODES.true)
+    (pattern_of c.in_ok-tree.tree, _, s, more_nodes (nodes (pattern_of c.in_ok-tree.tree)) c.nodes.result c.nodes.ensures c.if-nodes-gt-MAX_NODES.true)
 
 pub returns-then-nodes-gt-MAX_NODES-clause-succeeds :
     goal.returns-then-nodes-gt-MAX_NODES-clause-succeeds
@@ -46,10 +47,10 @@ returns-then-nodes-gt-MAX_NODES-clause-succeeds c p x =
     let text : c.deref-2.result.now ≡ chars c.args.pattern.now = c.deref-2.ensures.value ∙ (search (rules, chars_from_encodes)) in
     let s = spelled (ap (start (begin (in_meaning c.args.meaning))) text) c.in_ok-tree.ensures.value (nothing_left _ c.if-not-is_empty.ensures) in
     refused_is_memory (CompileError PatternTooComplex)
-    (pattern_of c.in_ok-tree.tree, s.0, s.1, more_nodes (nodes (pattern_of c.in_ok-tree.tree)) c.nodes.result c.nodes.ensures c.if-nodes-gt-MAX_NODES.true) x
+    (pattern_of c.in_ok-tree.tree, _, s, more_nodes (nodes (pattern_of c.in_ok-tree.tree)) c.nodes.result c.nodes.ensures c.if-nodes-gt-MAX_NODES.true) x
 
 pub returns-clause-accepted : goal.returns-clause-accepted
 returns-clause-accepted c =
     let text : c.deref-2.result.now ≡ chars c.args.pattern.now = c.deref-2.ensures.value ∙ (search (rules, chars_from_encodes)) in
     let s = spelled (ap (start (begin (in_meaning c.args.meaning))) text) c.in_ok-tree.ensures.value (nothing_left _ c.if-not-is_empty.ensures) in
-    record { end = s.0; spelled = s.1; small = few_nodes (nodes (pattern_of c.in_ok-tree.tree)) c.nodes.result c.nodes.ensures (omega arith) }
+    (record { end = (place c.alternation.new.self).scope; spelled = s; small = few_nodes (nodes (pattern_of c.in_ok-tree.tree)) c.nodes.result c.nodes.ensures (omega arith) }, omega arith)

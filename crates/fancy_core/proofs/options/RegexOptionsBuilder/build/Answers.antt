@@ -1,10 +1,28 @@
-use Rattle.std.proofs.Common.{◌∙◌}
+use Rattle.std.proofs.Common.{◌∙◌, ◌+◌, arith}
 use Rattle.std.proofs.lemmas.Result.{err_from_is_err_and}
-use Rattle.fancy_engine.proofs.SpelledLemmas.{simple_spelled}
+use Rattle.fancy_syntax.specs.Pattern.{pattern_of}
+use Rattle.fancy_syntax.proofs.GroupLemmas.{numbered, wider}
+use Rattle.fancy_engine.proofs.SpelledLemmas.{easy_spelled, no_raw_bytes}
 use Rattle.fancy_core.proofs.options.RegexOptionsBuilder.build.Goals as goal
 
 pub returns-in_err-tree-clause-succeeds : goal.returns-in_err-tree-clause-succeeds
-returns-in_err-tree-clause-succeeds c = λ p h. let e = c.in_err-tree.ensures.succeeds p (rw (c.meaning.ensures, c.options-options.ensures, c.as_str.ensures.value) h) in let q = err_from_is_err_and c.from_residual.result c.from_residual.ensures.1 in rw q.1 (q.2 ∙ e)
+returns-in_err-tree-clause-succeeds c = λ p h.
+    let e = c.in_err-tree.ensures.succeeds p (rw (c.meaning-meaning.ensures, c.options-options.ensures, c.as_str.ensures.value) h) in
+    let q = err_from_is_err_and c.from_residual.result c.from_residual.ensures.1 in rw q.1 (q.2 ∙ e)
+
+pub compile-requires-clause-easy : goal.compile-requires-clause-easy
+compile-requires-clause-easy c = easy_spelled (c.in_ok-tree.ensures.accepted.0).spelled
+
+pub compile-requires-clause-numbered : goal.compile-requires-clause-numbered
+compile-requires-clause-numbered c =
+    let h = c.in_ok-tree.ensures.accepted in
+    wider (pattern_of c.in_ok-tree.field-0.tree) (0 + 1) ((h.0).end.opened + 1) 0 c.in_ok-tree.field-0.groups (omega arith) (omega (arith, h.1)) (numbered _ _ _ _ (h.0).spelled)
 
 pub invariant_of-result : goal.invariant_of-result
-invariant_of-result c = record { simple = simple_spelled (c.in_ok-tree.ensures.accepted).spelled }
+invariant_of-result c = record {
+  coded = ∣ c.in_ok-code.ensures.code ∣₁;
+  meant = c.in_ok-code.ensures.meaning ∙ (c.meaning-meaning.ensures);
+  short = c.in_ok-code.ensures.short;
+  easy = easy_spelled (c.in_ok-tree.ensures.accepted.0).spelled;
+  whole = λ _. no_raw_bytes (c.in_ok-tree.ensures.accepted.0).spelled;
+}

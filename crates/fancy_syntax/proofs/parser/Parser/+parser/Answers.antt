@@ -44,8 +44,8 @@ item-returns-then-not-is_at_any-2-clause-value t c =
 pub item-returns-clause-value : goal.item-returns-clause-value
 item-returns-clause-value t c =
     quantified_group c.args.room (place c.args.self.now) (place c.quantified-2.new.self) c.quantified-2.result (sym c.if-not-is_at_any.ensures.value) c.in_ok-how.ensures.value (omega arith)
-    c.in_ok-body.ensures.value (sym c.if-not-is_at_any-2.ensures.value) c.wrap.ensures
-    (subst (λ s. GivesValue pattern_of (quantified (pattern_of c.wrap.result) s) c.quantified-2.result (place c.quantified-2.new.self)) c.skip.ensures.place c.quantified-2.ensures.value)
+    c.in_ok-body.ensures.value (sym c.if-not-is_at_any-2.ensures.value) c.in_ok-group.ensures
+    (subst (λ s. GivesValue pattern_of (quantified (pattern_of c.in_ok-group.group) s) c.quantified-2.result (place c.quantified-2.new.self)) c.skip.ensures.place c.quantified-2.ensures.value)
 
 pub sequence-loop-self-preserved : goal.sequence-loop-self-preserved
 sequence-loop-self-preserved t c = record {

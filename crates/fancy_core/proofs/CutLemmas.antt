@@ -1,0 +1,90 @@
+-- The groups that a search finds are spans that the haystack can be cut at.
+use Rattle.std.proofs.Common.{◌≡◌, ◌≤◌, ◌<◌, ◌+◌, ◌==◌, ℕ, Bool, true, false, List, length, map, Option, Some, None, if◌then◌else◌, slice_index_or, IsUtf8, refl, sym, ap, ◌∙◌, subst, arith, inl, inr, ◌⊎◌}
+use Rattle.std.specs.List.{range_with_len}
+use Rattle.std.proofs.lemmas.List.{get_or_past}
+use Rattle.std.proofs.lemmas.List.FromFn.{length-map-range_with_len, get_or-map-range_with_len}
+use Rattle.fancy_syntax.specs.declared.tree.BytesMode.{BytesMode}
+use Rattle.fancy_syntax.specs.declared.tree.BytesMode.TheVariants.{Unicode, Ascii, UnicodeBytes}
+use Rattle.fancy_syntax.specs.Modes.{meaning_of, keeps_characters}
+use Rattle.fancy_input.specs.Places.{is_boundary}
+use Rattle.fancy_input.specs.declared.input.Request.{Request}
+use Rattle.fancy_engine.specs.Context.{Span, group_span}
+use Rattle.fancy_engine.specs.Search.{Query, Found, search, span_of}
+use Rattle.fancy_engine.specs.declared.search.Memory.{Memory}
+use Rattle.fancy_engine.specs.Placed.{any_place, IsSpan, LiesWithin, KeepsBoundaries, by_characters, of_ascii, reads_characters}
+use Rattle.fancy_engine.proofs.FoundLemmas.{answer_within, answer_on_boundaries}
+use Rattle.fancy_core.specs.declared.regex.Regex.{Regex}
+use Rattle.fancy_core.specs.Regexes.{options_in, groups_in, asked}
+use Rattle.fancy_core.specs.Searching.{Suits}
+use Rattle.fancy_core.specs.Groups.{span_of_group, spans_of, span_at, found_at, IsCut, AreCut}
+
+whole_characters : (m : BytesMode) → keeps_characters m ≡ true → reads_characters (meaning_of m) ≡ true
+whole_characters Unicode e = refl
+whole_characters Ascii e = cc
+whole_characters UnicodeBytes e = cc
+
+abbrev start_or : Option Span → ℕ
+start_or None = 0
+start_or (Some x) = x.0
+
+abbrev end_or : Option Span → ℕ
+end_or None = 0
+end_or (Some x) = x.1
+
+-- a number has its span in the list, or is past its end
+span_listed : (g : ℕ → Option Span) (n number : ℕ) (x : Span) → span_at (map g (range_with_len 0 n)) number ≡ Some x → g number ≡ Some x
+span_listed g n number x e =
+    elim (below number n) [
+      | inl h ↦ sym (get_or-map-range_with_len g 0 n number number None h (omega arith)) ∙ e
+      | inr h ↦ absurd (let none : None ≡ Some x = sym (get_or_past (map g (range_with_len 0 n)) number None (omega (arith, length-map-range_with_len g 0 n))) ∙ e in cc)
+    ]
+  where
+    below : (a b : ℕ) → (a < b) ⊎ (b ≤ a)
+    below a b = grind arith
+
+module _ (q : Query) (text : Bool) (position : ℕ) (memory : Memory) (within : LiesWithin q any_place (found_at position memory))
+    (cleanly : text ≡ true → LiesWithin q (is_boundary q.haystack) (found_at position memory)) (range : q.request.range_end ≤ length q.haystack) where
+  whole_cut : (s e : ℕ) → Some (span_of (found_at position memory)) ≡ Some (s, e) → IsCut text q.haystack s e
+  whole_cut s e h =
+      let begins : position ≡ s = ap start_or h in
+      let ends : (found_at position memory).state.place ≡ e = ap end_or h in
+      record {
+        ordered = omega (arith, within.begins);
+        inside = omega (arith, within.ends);
+        starts_cleanly = λ t. rw begins at (cleanly t).starts;
+        ends_cleanly = λ t. rw ends at (cleanly t).placed.stands;
+      }
+
+  group_cut : (number s e : ℕ) → group_span (found_at position memory).state number ≡ Some (s, e) → IsCut text q.haystack s e
+  group_cut number s e h =
+      let x = within.placed.spans number s e h in
+      record {
+        ordered = x.ordered;
+        inside = x.within;
+        starts_cleanly = λ t. ((cleanly t).placed.spans number s e h).begins;
+        ends_cleanly = λ t. ((cleanly t).placed.spans number s e h).ends;
+      }
+
+  either_cut : (b : Bool) (number s e : ℕ) →
+      (if b then Some (span_of (found_at position memory)) else group_span (found_at position memory).state number) ≡ Some (s, e) → IsCut text q.haystack s e
+  either_cut true number s e h = whole_cut s e h
+  either_cut false number s e h = group_cut number s e h
+
+  all_cut : (n : ℕ) → AreCut text q.haystack (spans_of n (found_at position memory))
+  all_cut n number s e h =
+      either_cut (number == 0) number s e (span_listed (span_of_group (found_at position memory)) n number (s, e) h)
+
+keeps_by : (r : Regex) (text : Bool) (haystack : List ℕ) (request : Request) (b : Bool) → keeps_characters (options_in r).bytes_mode ≡ b →
+    Suits (options_in r) text haystack → (text ≡ true → IsUtf8 haystack) → text ≡ true → KeepsBoundaries (asked r haystack request)
+keeps_by r text haystack request true e suits utf8 t = by_characters (utf8 t) (whole_characters _ e) (r.whole e) e
+keeps_by r text haystack request false e suits utf8 t = of_ascii (suits t e)
+
+-- what a search with a regex finds can be cut out of the haystack, with all its groups
+pub groups_cut : (r : Regex) (text : Bool) (haystack : List ℕ) (request : Request) (position : ℕ) (memory : Memory) (n : ℕ) →
+    request.range_end ≤ length haystack → Suits (options_in r) text haystack → (text ≡ true → IsUtf8 haystack) →
+    Some (found_at position memory) ≡ search (asked r haystack request) → AreCut text haystack (spans_of n (found_at position memory))
+groups_cut r text haystack request position memory n range suits utf8 e =
+    all_cut (asked r haystack request) text position memory
+    (answer_within (asked r haystack request) _ refl range (sym e))
+    (λ t. answer_on_boundaries (asked r haystack request) _ refl range (keeps_by r text haystack request _ refl suits utf8 t) (sym e))
+    range n

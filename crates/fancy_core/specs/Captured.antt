@@ -1,0 +1,12 @@
+-- What captures hold.
+use Rattle.std.specs.Prelude.{List, Option}
+use Rattle.fancy_engine.specs.Context.{Span}
+use Rattle.fancy_core.specs.declared.captures.Captures.{Captures}
+
+-- the spans of the groups, in order
+abbrev pub spans_in : {S : Type 0} {g : _} → Captures S g → List (Option Span)
+spans_in captures = captures.slots.items
+
+-- the haystack that they were found in
+abbrev pub searched_in : {S : Type 0} {g : _} → Captures S g → S
+searched_in captures = captures.haystack

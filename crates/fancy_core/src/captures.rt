@@ -1,0 +1,27 @@
+//! The groups of a match.
+
+ghost use Rattle.std.specs.Prelude.{◌≡◌};
+ghost use Rattle.fancy_core.specs.Groups.{AreCut};
+
+mod views;
+
+use crate::regex::Regex;
+use fancy_input::input::Haystack;
+pub use views::SubCaptureMatches;
+
+/// The groups of a match in a haystack of the form `S`, by their numbers: group 0 is the whole match, and the
+/// others go by the order in which they are opened. It borrows the regex that found it.
+///
+/// ```text
+/// let captures = Regex::new(alloc, "(a)|b")?.captures("b")?;  // Some
+/// captures.get(0)  // 0..1
+/// captures.get(1)  // None: the group took no part
+/// captures.get(2)  // None: there is no such group
+/// ```
+#[derive(Drop)]
+pub struct Captures<'r, S: Haystack> {
+    regex: &'r Regex,
+    haystack: S,
+    slots: Vec<Option<(usize, usize)>>,
+    pub ghost placed: { AreCut (S.text haystack) (S.bytes haystack) slots.items },
+}

@@ -1,0 +1,100 @@
+//! What captures say.
+
+ghost use Rattle.std.specs.Prelude.{◌≡◌, ◌-◌, IfSome, length, option_map, drop};
+ghost use Rattle.std.specs.Iterator.{YieldsFirstBy, at_most};
+ghost use Rattle.fancy_core.specs.Groups.{AreCut, span_at};
+ghost use Rattle.fancy_core.specs.Captured.{spans_in, searched_in};
+
+use crate::captures::Captures;
+use crate::regex::Regex;
+use fancy_input::input::{Haystack, Input};
+
+impl<'r, S: Input> Captures<'r, S> {
+    pub(crate) fn new(
+        regex: &'r Regex,
+        haystack: S,
+        slots: Vec<Option<(usize, usize)>>,
+    ) -> Captures<'r, S>
+        requires placed { AreCut (S.text haystack) (S.bytes haystack) slots.items }
+        ensures haystack { searched_in result ≡ haystack }
+        ensures slots { spans_in result ≡ slots.items }
+    {
+        Captures {
+            regex,
+            haystack,
+            slots,
+        }
+    }
+
+    /// How many groups the pattern has, with group 0, also those that took no part.
+    pub fn len(&self) -> usize
+        ensures { result ≡ length (spans_in self.now) }
+    {
+        self.slots.len()
+    }
+
+    /// What the group with this number matched. `None` where it took no part, and for every number past the last
+    /// group.
+    pub fn get(&self, number: usize) -> Option<S::Match>
+        ensures found { option_map S.span result ≡ span_at (spans_in self.now) number }
+        ensures within { IfSome result (λ m. S.within m ≡ S.bytes (searched_in self.now)) }
+    {
+        match slot_at(&self.slots, number) {
+            Some((start, end)) => Some(self.haystack.make_match(start, end)),
+            None => None,
+        }
+    }
+
+    /// The bytes of the whole haystack.
+    pub fn input_as_bytes(&self) -> &[u8]
+        ensures { result.now ≡ S.bytes (searched_in self.now) }
+    {
+        self.haystack.as_bytes()
+    }
+
+    /// What each group matched, in the order of their numbers.
+    pub fn iter<'c>(&'c self) -> SubCaptureMatches<'c, 'r, S>
+        ensures captures { result.captures.now ≡ self.now }
+        ensures start { result.next ≡ 0 }
+    {
+        SubCaptureMatches {
+            captures: self,
+            next: 0,
+        }
+    }
+}
+
+/// What the group with this number matched, if there is one and it took part.
+fn slot_at(slots: &[Option<(usize, usize)>], number: usize) -> Option<(usize, usize)>
+    ensures { result ≡ span_at slots.now number }
+{
+    if number < slots.len() {
+        slots[number]
+    } else {
+        None
+    }
+}
+
+/// What each group of a match matched, in the order of their numbers; made by [`Captures::iter`].
+#[derive(Drop)]
+pub struct SubCaptureMatches<'c, 'r, S: Haystack> {
+    captures: &'c Captures<'r, S>,
+    next: usize,
+}
+
+impl<'c, 'r, S: Input> Iterator for SubCaptureMatches<'c, 'r, S> {
+    type Item = Option<S::Match>;
+
+    ghost next_gives = { YieldsFirstBy (option_map S.span) (λ s. drop s.next (spans_in s.captures.now)) };
+
+    ghost remaining = { λ s. at_most (length (spans_in s.captures.now) - s.next) };
+
+    fn next(&mut self) -> Option<Option<S::Match>> {
+        if self.next >= self.captures.len() {
+            return None;
+        }
+        let group = self.captures.get(self.next);
+        self.next += 1;
+        Some(group)
+    }
+}

@@ -1,0 +1,164 @@
+-- What the engines read at a place.
+use Rattle.std.proofs.Common.{◌≡◌, ◌≢◌, ℕ, zero, suc, ◌+◌, ◌-◌, ◌<◌, ◌≤◌, ◌==◌, Bool, true, false, not, ◌&&◌, ◌||◌, List, [], ◌∷◌, length, take, get_or, Option, Some, None, if◌then◌else◌, nat_le, refl, sym, ap, ◌∙◌, arith, inl, inr, eq-eqb, ne_eqb}
+use Rattle.std.specs.Char.{len_utf8}
+use Rattle.std.proofs.lemmas.Bool.Decides.{eqb_tells}
+use Rattle.std.proofs.lemmas.Option.{none-some, slice_get-get_or}
+use Rattle.std.proofs.lemmas.Str.{len_utf8_ascii}
+use Rattle.std.specs.Prelude.{slice_get, option_map}
+use Rattle.fancy_syntax.specs.declared.tree.Meaning.{Meaning}
+use Rattle.fancy_syntax.specs.declared.tree.Meaning.TheVariants.{Unicode, Bytes, AsciiText}
+use Rattle.fancy_input.specs.Places.{char_at}
+use Rattle.fancy_engine.proofs.CharacterLemmas.{char_at-low, char_at-ascii}
+use Rattle.fancy_syntax.specs.declared.tree.Assertion.TheVariants.{TextStart, TextEnd, LineStart, LineEnd}
+use Rattle.fancy_syntax.specs.Sets.{differ, has}
+use Rattle.fancy_engine.specs.declared.reading.Reading.{Reading}
+use Rattle.fancy_engine.specs.Context.{Unit_at, one_character, one_byte, unit_in, unit_at, past_item, past_byte, option_to, byte_before, is_line_feed, holds}
+use Rattle.fancy_engine.specs.Readings.{read_of, plain}
+
+differ_swap : (a b z : Bool) → differ a (differ b z) ≡ differ b (differ a z)
+differ_swap true true z = refl
+differ_swap true false z = refl
+differ_swap false true z = refl
+differ_swap false false z = refl
+
+-- one edge more
+pub has_more : (es : List ℕ) (i c : ℕ) → i < length es → has (take (suc i) es) c ≡ differ (nat_le (get_or es i 0) c) (has (take i es) c)
+unfolding has
+has_more [] i c h = absurd (omega arith)
+has_more (e ∷ es) zero c h = refl
+has_more (e ∷ es) (suc i) c h =
+    ap (differ (nat_le e c)) (has_more es i c (omega arith)) ∙ differ_swap (nat_le e c) (nat_le (get_or es i 0) c) (has (take i es) c)
+
+pub has_none : (c : ℕ) → has [] c ≡ false
+unfolding has
+has_none c = refl
+
+module _ (haystack : List ℕ) (meaning : Meaning) (from p : ℕ) where
+  and_true : (b : Bool) → (b && not false) ≡ b
+  and_true true = refl
+  and_true false = refl
+
+  pub holds_text_start : holds (plain haystack meaning from) TextStart p ≡ (p == 0)
+  unfolding holds
+  holds_text_start = and_true (p == 0)
+
+  pub holds_text_end : holds (plain haystack meaning from) TextEnd p ≡ (p == length haystack)
+  unfolding holds
+  holds_text_end = and_true (p == length haystack)
+
+  pub holds_line_start : holds (plain haystack meaning from) LineStart p ≡ ((p == 0) || is_line_feed (byte_before haystack p))
+  unfolding holds
+  holds_line_start = refl
+
+  pub holds_line_end : holds (plain haystack meaning from) LineEnd p ≡ ((p == length haystack) || is_line_feed (slice_get haystack p))
+  unfolding holds
+  holds_line_end = refl
+
+pub byte_before-is : (haystack : List ℕ) (p : ℕ) → p ≢ 0 → byte_before haystack p ≡ slice_get haystack (p - 1)
+byte_before-is haystack zero h = absurd (h refl)
+byte_before-is haystack (suc p) h = ap (slice_get haystack) (let e : p ≡ suc p - 1 = omega arith in e)
+
+pub or_left : (a b : Bool) → a ≡ true → a ≡ (a || b)
+or_left true b e = refl
+or_left false b e = cc
+
+pub or_right : (a b : Bool) → a ≡ false → b ≡ (a || b)
+or_right true b e = cc
+or_right false b e = refl
+
+-- what an item reads, and whether the test passes
+module _ (haystack : List ℕ) (meaning : Meaning) (from : ℕ) (test : ℕ → Bool) (p : ℕ) (o : Option Reading) (e : option_map read_of o ≡ unit_in meaning haystack p) where
+  item_is : past_item (plain haystack meaning from) test p ≡ option_to (option_map read_of o) None (λ u. if test u.code then Some (p + u.width) else None)
+  unfolding past_item unit_at
+  item_is = ap (λ (u : Option Unit_at). option_to u None (λ u. if test u.code then Some (p + u.width) else None)) (sym e)
+
+  pub no_item : o ≡ None → None ≡ past_item (plain haystack meaning from) test p
+  no_item none = sym (item_is ∙ ap (λ (r : Option Reading). option_to (option_map read_of r) None (λ u. if test u.code then Some (p + u.width) else None)) none)
+
+  pub an_item : (r : Reading) → o ≡ Some r → test r.code ≡ true → Some (p + r.width) ≡ past_item (plain haystack meaning from) test p
+  an_item r some passes =
+      sym (item_is ∙ ap (λ (r : Option Reading). option_to (option_map read_of r) None (λ u. if test u.code then Some (p + u.width) else None)) some
+      ∙ ap (λ (b : Bool). if b then Some (p + r.width) else None) passes)
+
+  pub other_item : (r : Reading) → o ≡ Some r → test r.code ≡ false → None ≡ past_item (plain haystack meaning from) test p
+  other_item r some fails =
+      sym (item_is ∙ ap (λ (r : Option Reading). option_to (option_map read_of r) None (λ u. if test u.code then Some (p + u.width) else None)) some
+      ∙ ap (λ (b : Bool). if b then Some (p + r.width) else None) fails)
+
+-- whether the byte stands there
+module _ (haystack : List ℕ) (meaning : Meaning) (from byte p : ℕ) where
+  byte_is : past_byte (plain haystack meaning from) byte p ≡ option_to (slice_get haystack p) None (λ b. if b == byte then Some (p + 1) else None)
+  unfolding past_byte
+  byte_is = refl
+
+  pub no_byte : slice_get haystack p ≡ None → None ≡ past_byte (plain haystack meaning from) byte p
+  no_byte none = sym (byte_is ∙ ap (λ (o : Option ℕ). option_to o None (λ b. if b == byte then Some (p + 1) else None)) none)
+
+  pub a_byte : (b : ℕ) → slice_get haystack p ≡ Some b → (b == byte) ≡ true → Some (p + 1) ≡ past_byte (plain haystack meaning from) byte p
+  a_byte b some same =
+      sym (byte_is ∙ ap (λ (o : Option ℕ). option_to o None (λ b. if b == byte then Some (p + 1) else None)) some
+      ∙ ap (λ (b : Bool). if b then Some (p + 1) else None) same)
+
+  pub other_byte : (b : ℕ) → slice_get haystack p ≡ Some b → (b == byte) ≡ false → None ≡ past_byte (plain haystack meaning from) byte p
+  other_byte b some other =
+      sym (byte_is ∙ ap (λ (o : Option ℕ). option_to o None (λ b. if b == byte then Some (p + 1) else None)) some
+      ∙ ap (λ (b : Bool). if b then Some (p + 1) else None) other)
+
+pub byte_there : (haystack : List ℕ) (p b : ℕ) → p < length haystack → ((d : ℕ) → b ≡ get_or haystack p d) → slice_get haystack p ≡ Some b
+byte_there [] p b h e = absurd (omega arith)
+byte_there (a ∷ haystack) zero b h e = ap Some (sym (e 0))
+byte_there (a ∷ haystack) (suc p) b h e = byte_there haystack p b (omega arith) e
+
+pub byte_past : (haystack : List ℕ) (p : ℕ) → length haystack ≤ p → slice_get haystack p ≡ None
+byte_past [] p h = refl
+byte_past (a ∷ haystack) zero h = absurd (omega arith)
+byte_past (a ∷ haystack) (suc p) h = byte_past haystack p (omega arith)
+
+stands : (haystack : List ℕ) (p b : ℕ) → slice_get haystack p ≡ Some b → (p < length haystack) × (get_or haystack p 0 ≡ b)
+stands [] p b e = absurd (none-some b e)
+stands (a ∷ haystack) zero b e = (omega arith, cc)
+stands (a ∷ haystack) (suc p) b e = let k = stands haystack p b e in (omega (arith, k.0), k.1)
+
+if_other : (b c : ℕ) (o : Option ℕ) → b ≢ c → (if b == c then o else None) ≡ None
+if_other b c o ne = ap (λ (t : Bool). if t then o else None) (ne_eqb b c ne)
+
+if_equal : (b c : ℕ) (o : Option ℕ) → b ≡ c → (if b == c then o else None) ≡ o
+if_equal b c o e = ap (λ (t : Bool). if t then o else None) (eq-eqb b c e)
+
+-- an ASCII character is one byte, in any meaning
+low_test : (haystack : List ℕ) (p c : ℕ) → c < 128 → (o : Option ℕ) → o ≡ char_at haystack p → (b : Option ℕ) → b ≡ slice_get haystack p
+    → option_to b None (λ b. if b == c then Some (p + 1) else None) ≡ option_to (one_character o) None (λ u. if u.code == c then Some (p + u.width) else None)
+low_test haystack p c low None e None f = refl
+low_test haystack p c low None e (Some b) f =
+    let k = stands haystack p b (sym f) in
+    if_other b c (Some (p + 1)) (λ same. none-some _ (e ∙ char_at-ascii haystack p k.0 (omega (arith, k.1, same))))
+low_test haystack p c low (Some d) e None f =
+    sym (if_other d c (Some (p + len_utf8 d)) (λ same.
+    let k = char_at-low haystack p d (sym e) (omega (arith, same)) in none-some _ (f ∙ slice_get-get_or haystack p 0 k.0)))
+low_test haystack p c low (Some d) e (Some b) f =
+    let k = stands haystack p b (sym f) in
+    elim (eqb_tells d c) [
+      | inl same ↦
+          let there = char_at-low haystack p d (sym e) (omega (arith, same.1)) in
+          if_equal b c (Some (p + 1)) (sym k.1 ∙ there.1 ∙ same.1)
+          ∙ ap (λ (n : ℕ). Some (p + n)) (sym (len_utf8_ascii d (omega (arith, same.1))))
+          ∙ sym (if_equal d c (Some (p + len_utf8 d)) same.1)
+      | inr other ↦
+          if_other b c (Some (p + 1)) (λ same.
+          let read : Some d ≡ Some (get_or haystack p 0) = e ∙ char_at-ascii haystack p k.0 (omega (arith, k.1, same)) in
+          let code : d ≡ get_or haystack p 0 = cc in
+          other.1 (code ∙ k.1 ∙ same))
+          ∙ sym (if_other d c (Some (p + len_utf8 d)) other.1)
+    ]
+
+byte_test : (p c : ℕ) (o : Option ℕ)
+    → option_to o None (λ b. if b == c then Some (p + 1) else None) ≡ option_to (one_byte o) None (λ u. if u.code == c then Some (p + u.width) else None)
+byte_test p c None = refl
+byte_test p c (Some b) = refl
+
+pub low_character : (haystack : List ℕ) (meaning : Meaning) (from c p : ℕ) → c < 128
+    → past_byte (plain haystack meaning from) c p ≡ past_item (plain haystack meaning from) (λ d. d == c) p
+unfolding past_byte past_item unit_at
+low_character haystack Unicode from c p low = low_test haystack p c low (char_at haystack p) refl (slice_get haystack p) refl
+low_character haystack Bytes from c p low = byte_test p c (slice_get haystack p)
+low_character haystack AsciiText from c p low = low_test haystack p c low (char_at haystack p) refl (slice_get haystack p) refl

@@ -1,0 +1,68 @@
+use Rattle.std.proofs.Common.{◌≡◌, ◌+◌, ◌∷◌, length, List, ap, ◌∙◌, subst, arith}
+use Rattle.fancy_engine.specs.Threads.{Thread}
+use Rattle.fancy_engine.specs.Code.{instrs_of}
+use Rattle.fancy_engine.specs.Readings.{plain}
+use Rattle.fancy_engine.specs.Runner.{first_accepted, events_of, way, good_end, ends_well, AllWithin, Resting}
+use Rattle.fancy_engine.proofs.Logs.{some_long, backed_err}
+use Rattle.fancy_engine.proofs.Marks.{marked_le}
+use Rattle.fancy_engine.proofs.Visits.{rest_done, rest_back}
+use Rattle.fancy_engine.proofs.runner.follow.Goals as goal
+
+pub pairs-smaller-in-On : goal.pairs-smaller-in-On
+pairs-smaller-in-On c =
+    let progress = rw c.in-On.is at c.in_ok-visit.ensures.progress in
+    omega (arith, progress.0, progress.1, c.visit.ensures.room, marked_le c.visit.new.table)
+
+pub pairs-preserved-in-On : goal.pairs-preserved-in-On
+pairs-preserved-in-On c =
+    record {
+      running = λ kept deep known failed. rw c.in-On.is at (c.in_ok-visit.ensures.visited kept deep (first_accepted (ends_well (good_end c.args.bounds c.args.haystack.now)) (events_of (way (plain c.args.haystack.now c.args.code.now.meaning c.args.bounds.first) c.args.bounds.last (instrs_of c.args.code.now) deep kept c.args.ways.now.current))) (c.pairs.invariant.running kept deep known failed));
+      within = c.in_ok-visit.ensures.within;
+      room = c.visit.ensures.room ∙ c.pairs.invariant.room;
+      ticks = c.visit.ensures.ticks;
+      returns = omega (arith, c.visit.ensures.returns, c.in_ok-visit.ensures.tally, c.pairs.invariant.returns);
+      free = c.visit.ensures.free ∙ c.pairs.invariant.free;
+    }
+
+pub back-requires : goal.back-requires
+back-requires c = omega (arith, c.visit.ensures.returns, c.in_ok-visit.ensures.tally, c.visit.ensures.ticks, c.pairs.invariant.returns, c.pairs.invariant.room, c.visit.ensures.room, marked_le c.visit.new.table, c.requires.small)
+
+pub returns-in_err-back-in-Dead-clause-refused : goal.returns-in_err-back-in-Dead-clause-refused
+returns-in_err-back-in-Dead-clause-refused c e =
+    let b = backed_err _ _ _ _ _ _ c.in_err-back-in-Dead.ensures in
+    omega (arith, some_long c.visit.new.ways.saved b.0, b.1, c.visit.ensures.returns, c.in_ok-visit.ensures.tally, c.visit.ensures.ticks, c.pairs.invariant.returns, c.pairs.invariant.room, c.visit.ensures.room, marked_le c.visit.new.table, c.requires.small)
+
+pub returns-then-not-branch-clause-answer : goal.returns-then-not-branch-clause-answer
+returns-then-not-branch-clause-answer c kept deep known failed =
+    let rest = rw c.in-Dead.is at (c.in_ok-visit.ensures.visited kept deep (first_accepted (ends_well (good_end c.args.bounds c.args.haystack.now)) (events_of (way (plain c.args.haystack.now c.args.code.now.meaning c.args.bounds.first) c.args.bounds.last (instrs_of c.args.code.now) deep kept c.args.ways.now.current))) (c.pairs.invariant.running kept deep known failed)) in
+    let b = rw c.if-not-branch.true at c.in_ok-back-in-Dead.ensures in
+    (rest_done (good_end c.args.bounds c.args.haystack.now) (plain c.args.haystack.now c.args.code.now.meaning c.args.bounds.first) c.args.bounds.first c.args.bounds.last (instrs_of c.args.code.now) deep kept (first_accepted (ends_well (good_end c.args.bounds c.args.haystack.now)) (events_of (way (plain c.args.haystack.now c.args.code.now.meaning c.args.bounds.first) c.args.bounds.last (instrs_of c.args.code.now) deep kept c.args.ways.now.current))) c.visit.new.table
+    (subst (λ (x : List Thread). Resting (good_end c.args.bounds c.args.haystack.now) (plain c.args.haystack.now c.args.code.now.meaning c.args.bounds.first) c.args.bounds.first c.args.bounds.last (instrs_of c.args.code.now) deep kept (first_accepted (ends_well (good_end c.args.bounds c.args.haystack.now)) (events_of (way (plain c.args.haystack.now c.args.code.now.meaning c.args.bounds.first) c.args.bounds.last (instrs_of c.args.code.now) deep kept c.args.ways.now.current))) c.visit.new.table x) b.0 rest)).0
+
+pub returns-then-not-branch-clause-failed : goal.returns-then-not-branch-clause-failed
+returns-then-not-branch-clause-failed c kept deep known failed _ =
+    let rest = rw c.in-Dead.is at (c.in_ok-visit.ensures.visited kept deep (first_accepted (ends_well (good_end c.args.bounds c.args.haystack.now)) (events_of (way (plain c.args.haystack.now c.args.code.now.meaning c.args.bounds.first) c.args.bounds.last (instrs_of c.args.code.now) deep kept c.args.ways.now.current))) (c.pairs.invariant.running kept deep known failed)) in
+    let b = rw c.if-not-branch.true at c.in_ok-back-in-Dead.ensures in
+    (rest_done (good_end c.args.bounds c.args.haystack.now) (plain c.args.haystack.now c.args.code.now.meaning c.args.bounds.first) c.args.bounds.first c.args.bounds.last (instrs_of c.args.code.now) deep kept (first_accepted (ends_well (good_end c.args.bounds c.args.haystack.now)) (events_of (way (plain c.args.haystack.now c.args.code.now.meaning c.args.bounds.first) c.args.bounds.last (instrs_of c.args.code.now) deep kept c.args.ways.now.current))) c.visit.new.table
+    (subst (λ (x : List Thread). Resting (good_end c.args.bounds c.args.haystack.now) (plain c.args.haystack.now c.args.code.now.meaning c.args.bounds.first) c.args.bounds.first c.args.bounds.last (instrs_of c.args.code.now) deep kept (first_accepted (ends_well (good_end c.args.bounds c.args.haystack.now)) (events_of (way (plain c.args.haystack.now c.args.code.now.meaning c.args.bounds.first) c.args.bounds.last (instrs_of c.args.code.now) deep kept c.args.ways.now.current))) c.visit.new.table x) b.0 rest)).1
+
+pub pairs-preserved : goal.pairs-preserved
+pairs-preserved c =
+    let b = rw c.if-not-branch.false at c.in_ok-back-in-Dead.ensures in
+    let few : length c.visit.new.ways.saved ≡ length c.back.new.self.saved + 1 = ap length b.0 ∙ omega arith in
+    let within : AllWithin c.args.bounds (c.back.new.self.current ∷ c.back.new.self.saved) =
+    subst (λ (x : List Thread). AllWithin c.args.bounds x) b.0 c.in_ok-visit.ensures.within.2 in
+    record {
+      running = λ kept deep known failed.
+          (let rest = rw c.in-Dead.is at (c.in_ok-visit.ensures.visited kept deep (first_accepted (ends_well (good_end c.args.bounds c.args.haystack.now)) (events_of (way (plain c.args.haystack.now c.args.code.now.meaning c.args.bounds.first) c.args.bounds.last (instrs_of c.args.code.now) deep kept c.args.ways.now.current))) (c.pairs.invariant.running kept deep known failed)) in
+          rest_back (good_end c.args.bounds c.args.haystack.now) (plain c.args.haystack.now c.args.code.now.meaning c.args.bounds.first) c.args.bounds.first c.args.bounds.last (instrs_of c.args.code.now) deep kept (first_accepted (ends_well (good_end c.args.bounds c.args.haystack.now)) (events_of (way (plain c.args.haystack.now c.args.code.now.meaning c.args.bounds.first) c.args.bounds.last (instrs_of c.args.code.now) deep kept c.args.ways.now.current))) c.visit.new.table c.back.new.self.current c.back.new.self.saved
+          (subst (λ (x : List Thread). Resting (good_end c.args.bounds c.args.haystack.now) (plain c.args.haystack.now c.args.code.now.meaning c.args.bounds.first) c.args.bounds.first c.args.bounds.last (instrs_of c.args.code.now) deep kept (first_accepted (ends_well (good_end c.args.bounds c.args.haystack.now)) (events_of (way (plain c.args.haystack.now c.args.code.now.meaning c.args.bounds.first) c.args.bounds.last (instrs_of c.args.code.now) deep kept c.args.ways.now.current))) c.visit.new.table x) b.0 rest));
+      within = within;
+      room = c.visit.ensures.room ∙ c.pairs.invariant.room;
+      ticks = rw b.2 c.visit.ensures.ticks;
+      returns = rw b.2 (omega (arith, few, c.visit.ensures.returns, c.in_ok-visit.ensures.tally, c.pairs.invariant.returns));
+      free = b.1 ∙ c.visit.ensures.free ∙ c.pairs.invariant.free;
+    }
+
+pub returns-in-Found-clause-answer : goal.returns-in-Found-clause-answer
+returns-in-Found-clause-answer c kept deep known failed = rw c.in-Found.is at (c.in_ok-visit.ensures.visited kept deep (first_accepted (ends_well (good_end c.args.bounds c.args.haystack.now)) (events_of (way (plain c.args.haystack.now c.args.code.now.meaning c.args.bounds.first) c.args.bounds.last (instrs_of c.args.code.now) deep kept c.args.ways.now.current))) (c.pairs.invariant.running kept deep known failed))

@@ -1,0 +1,154 @@
+-- What the runner keeps true, which follows each pair of an instruction and a place at most once.
+use Rattle.std.specs.Prelude.{◌≡◌, ℕ, ◌+◌, ◌-◌, ◌*◌, ◌<◌, ◌≤◌, ◌⊎◌, Bool, true, false, not, ◌||◌, List, [], ◌∷◌, ◌++◌, length, Option, Some, None, if◌then◌else◌, slice_index_or, is_some}
+use Rattle.fancy_input.specs.Places.{is_boundary}
+use Rattle.fancy_engine.specs.declared.code.Instr.{Instr}
+use Rattle.fancy_engine.specs.declared.runner.Next.{Next}
+use Rattle.fancy_engine.specs.declared.runner.Next.TheVariants.{On, Dead, Found}
+use Rattle.fancy_engine.specs.declared.runner.Bounds.{Bounds}
+use Rattle.fancy_engine.specs.Context.{Context, State}
+use Rattle.fancy_engine.specs.Events.{Event, mark, return, outcome, either}
+use Rattle.fancy_engine.specs.Run.{Raw, run, erase}
+use Rattle.fancy_engine.specs.Threads.{Thread, state_of, starts_of}
+
+-- the first outcome that the test accepts
+abbrev pub first_accepted : (State → Bool) → List Event → Option State
+first_accepted ok [] = None
+first_accepted ok (mark ∷ es) = first_accepted ok es
+first_accepted ok (return ∷ es) = first_accepted ok es
+first_accepted ok (outcome s ∷ es) = if ok s then Some s else first_accepted ok es
+
+-- whether a match may begin or end at a place
+abbrev pub good_end : Bounds → List ℕ → ℕ → Bool
+good_end b haystack i = not b.on_boundaries || is_boundary haystack i
+
+-- an outcome is accepted by its place alone
+abbrev pub ends_well : (ℕ → Bool) → State → Bool
+ends_well good s = good s.place
+
+abbrev pub events_of : Option (List Raw) → List Event
+events_of None = []
+events_of (Some w) = erase w
+
+-- how many events the code gives, with those of the fetches
+abbrev pub size_of : Option (List Raw) → ℕ
+size_of None = 0
+size_of (Some w) = length w
+
+abbrev pub IsKnown : Option (List Raw) → Type 0
+IsKnown None = ⊥
+IsKnown (Some w) = Unit {0}
+
+-- only a step on may save a branch, and saves one at the same place
+abbrev pub Stacked : Next → Thread → List Thread → List Thread → Type 0
+Stacked On t ts us = (us ≡ ts) ⊎ ((b : Thread) × (b.place ≡ t.place) × (us ≡ b ∷ ts))
+Stacked Dead t ts us = us ≡ ts
+Stacked Found t ts us = us ≡ ts
+
+-- what moving on to a place does, if there is one by the limit
+abbrev pub Moved : Next → ℕ → Option ℕ → ℕ → Thread → Thread → Type 0
+Moved On limit None next t u = ⊥
+Moved On limit (Some p) next t u = (p ≤ limit) × (u ≡ record t { at = next; place = p })
+Moved Dead limit None next t u = u ≡ t
+Moved Dead limit (Some p) next t u = (limit < p) × (u ≡ t)
+Moved Found limit o next t u = ⊥
+
+-- each way stands at a place that is searched
+abbrev pub AllWithin : Bounds → List Thread → Type 0
+AllWithin b [] = Unit {0}
+AllWithin b (t ∷ ts) = (b.first ≤ t.place) × (t.place ≤ b.last) × AllWithin b ts
+
+-- what a visit may leave: one more branch, where it marked a pair
+abbrev pub Progresses : Next → ℕ → ℕ → ℕ → ℕ → Type 0
+Progresses On before after len now = (before < after) × (now ≤ len + 1)
+Progresses Dead before after len now = (before ≤ after) × (now ≡ len)
+Progresses Found before after len now = Unit {0}
+
+module _ (x : Context) (limit : ℕ) (code : List Instr) (deep : ℕ) where
+  -- what a way has before it, where the match will have begun at `kept`
+  abbrev pub way : ℕ → Thread → Option (List Raw)
+  way kept t = run x limit code deep t.at (state_of kept t) (starts_of t)
+
+  abbrev pub Known : ℕ → Thread → Type 0
+  Known kept t = IsKnown (way kept t)
+
+  abbrev pub AllKnown : ℕ → List Thread → Type 0
+  AllKnown kept [] = Unit {0}
+  AllKnown kept (t ∷ ts) = Known kept t × AllKnown kept ts
+
+  -- what the saved branches have before them, the last one first
+  abbrev pub pending : ℕ → List Thread → List Event
+  pending kept [] = []
+  pending kept (t ∷ ts) = return ∷ (events_of (way kept t) ++ pending kept ts)
+
+  -- the way went on to the next, and did so alone
+  abbrev pub Went : ℕ → Thread → Thread → Type 0
+  Went kept t u = Known kept u × (events_of (way kept t) ≡ events_of (way kept u)) × (size_of (way kept u) < size_of (way kept t))
+
+  -- the way saved a branch
+  abbrev pub Parted : ℕ → Thread → Thread → Thread → Type 0
+  Parted kept t u b = Known kept u × Known kept b × (events_of (way kept t) ≡ either (events_of (way kept u)) (events_of (way kept b)))
+      × (size_of (way kept u) + size_of (way kept b) < size_of (way kept t)) × (b.place ≡ t.place)
+
+  -- what a step did
+  abbrev pub Stepped : ℕ → Next → Thread → List Thread → Thread → List Thread → Type 0
+  Stepped kept On t ts u us = (Went kept t u × (us ≡ ts)) ⊎ ((b : Thread) × Parted kept t u b × (us ≡ b ∷ ts))
+  Stepped kept Dead t ts u us = (events_of (way kept t) ≡ []) × (us ≡ ts)
+  Stepped kept Found t ts u us = (events_of (way kept t) ≡ outcome (state_of kept t) ∷ []) × (u ≡ t) × (us ≡ ts)
+
+  -- what the code gives from the pair, where no group is written
+  abbrev pub pair_way : ℕ → ℕ → Option (List Raw)
+  pair_way q i = run x limit code deep q (record { place = i; captures = []; kept = 0 }) []
+
+  -- how many events the pair gives: fewer for each pair that follows
+  abbrev pub rank : ℕ → ℕ → ℕ
+  rank q i = size_of (pair_way q i)
+
+-- `good` tests the place of an outcome; positions and places are counted from `base`
+module _ (good : ℕ → Bool) (x : Context) (base limit : ℕ) (code : List Instr) (deep : ℕ) where
+  abbrev pub IsPair : ℕ → ℕ → Type 0
+  IsPair q i = (q < length code) × (base ≤ i) × (i ≤ limit)
+
+  -- the pair was visited
+  abbrev pub Seen : List Bool → ℕ → ℕ → Type 0
+  Seen table q i = IsPair q i × (slice_index_or table ((i - base) * length code + q) false ≡ true)
+
+  -- an accepted outcome comes from the pair, whatever the groups are
+  abbrev pub Hits : ℕ → ℕ → Type 0
+  Hits q i = is_some (first_accepted (ends_well good) (events_of (pair_way x limit code deep q i))) ≡ true
+
+  -- some way of these hits, and it and those before it rank below r
+  abbrev pub HitsBelow : ℕ → List Thread → Type 0
+  HitsBelow r [] = ⊥
+  HitsBelow r (t ∷ ts) = (rank x limit code deep t.at t.place < r) × (Hits t.at t.place ⊎ HitsBelow r ts)
+
+  -- a visited pair that hits is answered for by a way that is still to be followed
+  abbrev pub Covers : List Bool → List Thread → Type 0
+  Covers table ts = (q i : ℕ) → Seen table q i → Hits q i → HitsBelow (rank x limit code deep q i) ts
+
+  -- no visited pair hits
+  abbrev pub AllFailed : List Bool → Type 0
+  AllFailed table = (q i : ℕ) → Seen table q i → Hits q i → ⊥
+
+  -- what the runner has before it once the saved branches are all that is left
+  pub record Resting (kept : ℕ) (goal : Option State) (table : List Bool) (ts : List Thread) : Type 0 where
+    pub all : AllKnown x limit code deep kept ts
+    pub answer : first_accepted (ends_well good) (pending x limit code deep kept ts) ≡ goal
+    pub covers : Covers table ts
+
+  -- what the runner still has before it
+  pub record Running (kept : ℕ) (goal : Option State) (table : List Bool) (t : Thread) (ts : List Thread) : Type 0 where
+    pub known : Known x limit code deep kept t
+    pub all : AllKnown x limit code deep kept ts
+    pub answer : first_accepted (ends_well good) (events_of (way x limit code deep kept t) ++ pending x limit code deep kept ts) ≡ goal
+    pub covers : Covers table (t ∷ ts)
+
+  -- the same after a visit
+  abbrev pub Visited : ℕ → Next → Option State → List Bool → Thread → List Thread → Type 0
+  Visited kept On goal table t ts = Running kept goal table t ts
+  Visited kept Dead goal table t ts = Resting kept goal table ts
+  Visited kept Found goal table t ts = Some (state_of kept t) ≡ goal
+
+-- the state that a search stands at, if it found one
+abbrev pub found_state : ℕ → Bool → Thread → Option State
+found_state kept false t = None
+found_state kept true t = Some (state_of kept t)

@@ -1,0 +1,92 @@
+//! The code of a pattern: instructions that say where they go on.
+
+ghost use Rattle.std.specs.Prelude.{◌≡◌, ◌<◌};
+ghost use Rattle.fancy_engine.specs.Code.{instrs_of, code_len};
+ghost use Rattle.fancy_engine.specs.Run.{instr_at};
+ghost use Rattle.fancy_engine.specs.Work.{steps_of, stepped};
+
+use crate::work::Work;
+use fancy_syntax::tree::{Assertion, Meaning};
+
+/// One instruction. The last numbers of an instruction are those of the instructions that follow it.
+#[derive(Drop)]
+pub enum Instr {
+    /// The way ends with an outcome.
+    Match,
+    /// The way ends without one.
+    Fail,
+    /// One item with this code.
+    Character(char, usize),
+    /// One item of a set, which these rising numbers begin and end in turn.
+    Member(Vec<u32>, usize),
+    /// One byte, in any meaning.
+    RawByte(u8, usize),
+    /// A test of the place.
+    Assert(Assertion, usize),
+    /// Two ways, the first of which is preferred.
+    Split(usize, usize),
+    /// The group with this number begins.
+    Open(usize, usize),
+    /// The group with this number ends.
+    Close(usize, usize),
+}
+
+/// The number of the instruction that ends a way with an outcome.
+pub const MATCH: usize = 0;
+
+/// The number of the instruction that ends a way without one.
+pub const FAIL: usize = 1;
+
+/// Where to go on: once something was consumed since the innermost star's turn began, and before that.
+#[derive(Clone, Copy, PartialEq, Eq, Debug)]
+pub struct Entry {
+    pub moved: usize,
+    pub still: usize,
+}
+
+/// The instructions of a pattern.
+#[derive(Drop)]
+pub struct Code {
+    instrs: Vec<Instr>,
+    /// The number of the first instruction.
+    pub start: usize,
+    /// The groups of the pattern, with group 0.
+    pub groups: usize,
+    /// What one item consumes.
+    pub meaning: Meaning,
+}
+
+impl Code {
+    /// These instructions, which begin at `start`.
+    pub fn new(instrs: Vec<Instr>, start: usize, groups: usize, meaning: Meaning) -> Code
+        ensures instrs { instrs_of result ≡ instrs.items }
+        ensures start { result.start ≡ start }
+        ensures groups { result.groups ≡ groups }
+        ensures meaning { result.meaning ≡ meaning }
+    {
+        Code {
+            instrs,
+            start,
+            groups,
+            meaning,
+        }
+    }
+
+    /// The instruction with this number. Each call counts as one step.
+    pub fn fetch(&self, at: usize, work: &mut Work) -> &Instr
+        requires within { at < code_len self.now }
+        requires room { steps_of work.old < usize.MAX }
+        ensures instr { result.now ≡ instr_at (instrs_of self.now) at }
+        ensures work { work.new ≡ stepped work.old }
+    {
+        work.count_step();
+        &self.instrs[at]
+    }
+
+    /// How many instructions there are.
+    pub fn len(&self) -> usize
+        ensures { result ≡ code_len self.now }
+    {
+        self.instrs.len()
+    }
+}

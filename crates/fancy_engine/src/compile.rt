@@ -1,0 +1,375 @@
+//! From a pattern to its code, from the end to the start, so that each instruction is told where it goes on.
+
+ghost use Rattle.std.specs.Prelude.{◌≡◌, ◌+◌, ◌-◌, ◌*◌, ◌<◌, ◌≤◌, IfOk, IsTrue, All, map, sum_by, slice_set, vec_len};
+ghost use Rattle.fancy_syntax.specs.Pattern.{pattern_of, group, in_sequence, in_choice};
+ghost use Rattle.fancy_syntax.specs.Sizes.{nodes, repeat_nodes};
+ghost use Rattle.fancy_engine.specs.Code.{code_len};
+ghost use Rattle.fancy_engine.specs.Trace.{is_greedy};
+ghost use Rattle.fancy_syntax.specs.Groups.{Numbered};
+ghost use Rattle.fancy_engine.specs.Means.{Keeps, Has, HasBoth, Emitted, CopiesEmitted, OptionalsEmitted, StarEmitted, RestEmitted, RepeatEmitted, IsCodeOf, is_easy, split_of};
+
+use crate::code::{Code, Entry, FAIL, Instr, MATCH};
+use fancy_syntax::tree::{Meaning, Taste, Tree};
+use std::alloc::{AllocError, Global};
+
+/// One more instruction, and its number.
+fn put(code: &mut Vec<Instr>, instr: Instr) -> Result<usize, AllocError>
+    ensures at { IfOk result (λ at. at ≡ vec_len code.old) }
+    ensures length { IfOk result (λ _. vec_len code.new ≡ vec_len code.old + 1) }
+    ensures kept { IfOk result (λ _. Keeps code.old.items code.new.items) }
+    ensures stands { IfOk result (λ at. Has code.new.items at instr) }
+{
+    let at = code.len();
+    code.push(instr)?;
+    Ok(at)
+}
+
+/// One more instruction, for both forms.
+fn put_shared(code: &mut Vec<Instr>, instr: Instr) -> Result<Entry, AllocError>
+    ensures at { IfOk result (λ entry. entry.moved ≡ vec_len code.old) }
+    ensures still { IfOk result (λ entry. entry.still ≡ entry.moved) }
+    ensures length { IfOk result (λ _. vec_len code.new ≡ vec_len code.old + 1) }
+    ensures kept { IfOk result (λ _. Keeps code.old.items code.new.items) }
+    ensures stands { IfOk result (λ entry. Has code.new.items entry.moved instr) }
+{
+    let at = put(code, instr)?;
+    Ok(Entry {
+        moved: at,
+        still: at,
+    })
+}
+
+/// One more instruction for each form.
+fn put_both(code: &mut Vec<Instr>, moved: Instr, still: Instr) -> Result<Entry, AllocError>
+    ensures moved_at { IfOk result (λ entry. entry.moved ≡ vec_len code.old) }
+    ensures still_at { IfOk result (λ entry. entry.still ≡ vec_len code.old + 1) }
+    ensures length { IfOk result (λ _. vec_len code.new ≡ vec_len code.old + 2) }
+    ensures kept { IfOk result (λ _. Keeps code.old.items code.new.items) }
+    ensures stands { IfOk result (λ entry. HasBoth code.new.items entry moved still) }
+{
+    let moved = put(code, moved)?;
+    let still = put(code, still)?;
+    Ok(Entry { moved, still })
+}
+
+/// The instruction at `at`, which was reserved, is this one.
+fn write(code: &mut Vec<Instr>, at: usize, instr: Instr)
+    requires within { at < vec_len code.old }
+    ensures length { vec_len code.new ≡ vec_len code.old }
+    ensures items { code.new.items ≡ slice_set code.old.items at instr }
+{
+    code[at] = instr;
+}
+
+/// A choice between one more turn and none.
+fn split(greedy: bool, more: usize, less: usize) -> Instr
+    ensures { result ≡ split_of greedy more less }
+{
+    if greedy {
+        Instr::Split(more, less)
+    } else {
+        Instr::Split(less, more)
+    }
+}
+
+/// Whether one more turn is preferred.
+fn is_greedy(taste: Taste) -> bool
+    ensures { result ≡ is_greedy taste }
+{
+    match taste {
+        Taste::Greedy | Taste::Possessive => true,
+        Taste::Lazy => false,
+    }
+}
+
+/// Appends the code of a pattern that goes on at `next`, and returns where it begins.
+#[cycle(emit)]
+#[tactic(auto, using(fancy_syntax::proofs::PatternLemmas::pattern_equations), unfolding(fancy_syntax::specs::Sizes::nodes))]
+fn emit(alloc: Global, code: &mut Vec<Instr>, tree: &Tree, next: Entry) -> Result<Entry, AllocError>
+    requires easy { IsTrue (is_easy (pattern_of tree.now)) }
+    ensures kept { IfOk result (λ _. Keeps code.old.items code.new.items) }
+    ensures means { IfOk result (λ entry. Emitted (pattern_of tree.now) (vec_len code.old) code.new.items next entry) }
+    ensures longer { IfOk result (λ _. vec_len code.old ≤ vec_len code.new) }
+    ensures short { IfOk result (λ _. vec_len code.new ≤ vec_len code.old + 4 * nodes (pattern_of tree.now)) }
+{
+    match tree {
+        Tree::Empty => Ok(next),
+        Tree::Character(c) => {
+            let entry = put_shared(code, Instr::Character(*c, next.moved))?;
+            Ok(entry)
+        }
+        Tree::Member(edges) => {
+            let set = edges.to_vec(alloc)?;
+            let entry = put_shared(code, Instr::Member(set, next.moved))?;
+            Ok(entry)
+        }
+        Tree::RawByte(byte) => {
+            let entry = put_shared(code, Instr::RawByte(*byte, next.moved))?;
+            Ok(entry)
+        }
+        Tree::Assertion(a) => {
+            let entry = put_both(
+                code,
+                Instr::Assert(*a, next.moved),
+                Instr::Assert(*a, next.still),
+            )?;
+            Ok(entry)
+        }
+        Tree::Group { index, body } => {
+            let entry = emit_group(alloc, code, *index as usize, body, next)?;
+            Ok(entry)
+        }
+        Tree::Repeat {
+            low,
+            high,
+            taste,
+            body,
+        } => {
+            let greedy = is_greedy(*taste);
+            let entry = emit_repeat(alloc, code, greedy, *low, *high, body, next)?;
+            Ok(entry)
+        }
+        Tree::Sequence(parts) => {
+            let entry = emit_sequence(alloc, code, parts, next)?;
+            Ok(entry)
+        }
+        Tree::Alternative(branches) => {
+            let entry = emit_choice(alloc, code, branches, next)?;
+            Ok(entry)
+        }
+        Tree::Backreference(_)
+        | Tree::GroupTest(_)
+        | Tree::KeepStart
+        | Tree::ContinueHere
+        | Tree::LookAhead { .. }
+        | Tree::LookBehind { .. }
+        | Tree::Atomic(_)
+        | Tree::Conditional { .. } => unreachable!(),
+    }
+}
+
+/// Appends the code of a group.
+#[cycle(emit)]
+fn emit_group(
+    alloc: Global,
+    code: &mut Vec<Instr>,
+    index: usize,
+    body: &Tree,
+    next: Entry,
+) -> Result<Entry, AllocError>
+    requires easy { IsTrue (is_easy (pattern_of body.now)) }
+    ensures kept { IfOk result (λ _. Keeps code.old.items code.new.items) }
+    ensures means { IfOk result (λ entry. Emitted (group index (pattern_of body.now)) (vec_len code.old) code.new.items next entry) }
+    ensures longer { IfOk result (λ _. vec_len code.old ≤ vec_len code.new) }
+    ensures short { IfOk result (λ _. vec_len code.new ≤ vec_len code.old + 4 * (nodes (pattern_of body.now) + 1)) }
+{
+    let close = put_both(
+        code,
+        Instr::Close(index, next.moved),
+        Instr::Close(index, next.still),
+    )?;
+    let inner = emit(alloc, code, body, close)?;
+    let entry = put_both(
+        code,
+        Instr::Open(index, inner.moved),
+        Instr::Open(index, inner.still),
+    )?;
+    Ok(entry)
+}
+
+/// Appends the code of at least `low` turns, and at most `high` where that is set.
+#[cycle(emit)]
+fn emit_repeat(
+    alloc: Global,
+    code: &mut Vec<Instr>,
+    greedy: bool,
+    low: u32,
+    high: Option<u32>,
+    body: &Tree,
+    next: Entry,
+) -> Result<Entry, AllocError>
+    requires easy { IsTrue (is_easy (pattern_of body.now)) }
+    ensures kept { IfOk result (λ _. Keeps code.old.items code.new.items) }
+    ensures means { IfOk result (λ entry. RepeatEmitted greedy low high (pattern_of body.now) (vec_len code.old) code.new.items next entry) }
+    ensures longer { IfOk result (λ _. vec_len code.old ≤ vec_len code.new) }
+    ensures short { IfOk result (λ _. vec_len code.new ≤ vec_len code.old + 4 * repeat_nodes low high (nodes (pattern_of body.now))) }
+{
+    let rest = match high {
+        None => emit_star(alloc, code, greedy, body, next)?,
+        Some(high) => { emit_optionals(alloc, code, greedy, high.saturating_sub(low), body, next)? }
+    };
+    let entry = emit_copies(alloc, code, low, body, rest)?;
+    Ok(entry)
+}
+
+/// Appends the code of any number of turns. Both forms share one turn, which knows whether it has consumed anything.
+#[cycle(emit)]
+fn emit_star(
+    alloc: Global,
+    code: &mut Vec<Instr>,
+    greedy: bool,
+    body: &Tree,
+    next: Entry,
+) -> Result<Entry, AllocError>
+    requires easy { IsTrue (is_easy (pattern_of body.now)) }
+    ensures kept { IfOk result (λ _. Keeps code.old.items code.new.items) }
+    ensures means { IfOk result (λ entry. StarEmitted greedy (pattern_of body.now) (vec_len code.old) code.new.items next entry) }
+    ensures longer { IfOk result (λ _. vec_len code.old ≤ vec_len code.new) }
+    ensures short { IfOk result (λ _. vec_len code.new ≤ vec_len code.old + 4 * (nodes (pattern_of body.now) + 1)) }
+{
+    let moved = put(code, Instr::Fail)?;
+    let turn = emit(alloc, code, body, Entry { moved, still: FAIL })?;
+    write(code, moved, split(greedy, turn.still, next.moved));
+    let still = put(code, split(greedy, turn.still, next.still))?;
+    Ok(Entry { moved, still })
+}
+
+/// Appends the code of `count` copies, one behind the other.
+#[cycle(emit)]
+fn emit_copies(
+    alloc: Global,
+    code: &mut Vec<Instr>,
+    count: u32,
+    body: &Tree,
+    next: Entry,
+) -> Result<Entry, AllocError>
+    requires easy { IsTrue (is_easy (pattern_of body.now)) }
+    ensures kept { IfOk result (λ _. Keeps code.old.items code.new.items) }
+    ensures means { IfOk result (λ entry. CopiesEmitted count (pattern_of body.now) (vec_len code.old) code.new.items next entry) }
+    ensures longer { IfOk result (λ _. vec_len code.old ≤ vec_len code.new) }
+    ensures short { IfOk result (λ _. vec_len code.new ≤ vec_len code.old + 4 * (count * nodes (pattern_of body.now))) }
+{
+    let mut entry = next;
+    for copy in 0..count {
+        entry = emit(alloc, code, body, entry)?;
+    }
+    Ok(entry)
+}
+
+/// Appends the code of `count` optional copies, each inside the one before; any of them can go on at `next`.
+#[cycle(emit)]
+fn emit_optionals(
+    alloc: Global,
+    code: &mut Vec<Instr>,
+    greedy: bool,
+    count: u32,
+    body: &Tree,
+    next: Entry,
+) -> Result<Entry, AllocError>
+    requires easy { IsTrue (is_easy (pattern_of body.now)) }
+    ensures kept { IfOk result (λ _. Keeps code.old.items code.new.items) }
+    ensures means { IfOk result (λ entry. OptionalsEmitted greedy count (pattern_of body.now) (vec_len code.old) code.new.items next entry) }
+    ensures longer { IfOk result (λ _. vec_len code.old ≤ vec_len code.new) }
+    ensures short { IfOk result (λ _. vec_len code.new ≤ vec_len code.old + 4 * (count * (nodes (pattern_of body.now) + 1))) }
+{
+    let mut entry = next;
+    for copy in 0..count {
+        let turn = emit(alloc, code, body, entry)?;
+        entry = put_both(
+            code,
+            split(greedy, turn.moved, next.moved),
+            split(greedy, turn.still, next.still),
+        )?;
+    }
+    Ok(entry)
+}
+
+/// Appends the code of parts that stand one behind the other, the last one first.
+#[cycle(emit)]
+fn emit_sequence(
+    alloc: Global,
+    code: &mut Vec<Instr>,
+    parts: &[Tree],
+    next: Entry,
+) -> Result<Entry, AllocError>
+    requires easy { All (λ p. IsTrue (is_easy p)) (map pattern_of parts.now) }
+    ensures kept { IfOk result (λ _. Keeps code.old.items code.new.items) }
+    ensures means { IfOk result (λ entry. Emitted (in_sequence (map pattern_of parts.now)) (vec_len code.old) code.new.items next entry) }
+    ensures longer { IfOk result (λ _. vec_len code.old ≤ vec_len code.new) }
+    ensures short { IfOk result (λ _. vec_len code.new ≤ vec_len code.old + 4 * sum_by nodes (map pattern_of parts.now)) }
+{
+    let mut entry = next;
+    for i in (0..parts.len()).rev() {
+        entry = emit(alloc, code, &parts[i], entry)?;
+    }
+    Ok(entry)
+}
+
+/// Appends the code of branches, of which an earlier one is preferred, the last one first.
+#[cycle(emit)]
+fn emit_choice(
+    alloc: Global,
+    code: &mut Vec<Instr>,
+    branches: &[Tree],
+    next: Entry,
+) -> Result<Entry, AllocError>
+    requires easy { All (λ p. IsTrue (is_easy p)) (map pattern_of branches.now) }
+    ensures kept { IfOk result (λ _. Keeps code.old.items code.new.items) }
+    ensures means { IfOk result (λ entry. Emitted (in_choice (map pattern_of branches.now)) (vec_len code.old) code.new.items next entry) }
+    ensures longer { IfOk result (λ _. vec_len code.old ≤ vec_len code.new) }
+    ensures short { IfOk result (λ _. vec_len code.new ≤ vec_len code.old + 4 * nodes (in_choice (map pattern_of branches.now))) }
+{
+    if branches.is_empty() {
+        let nothing = put_shared(code, Instr::Member(Vec::new(alloc), next.moved))?;
+        return Ok(nothing);
+    }
+    let last = branches.len() - 1;
+    let mut entry = emit(alloc, code, &branches[last], next)?;
+    for i in (0..last).rev() {
+        let first = emit(alloc, code, &branches[i], next)?;
+        entry = put_both(
+            code,
+            Instr::Split(first.moved, entry.moved),
+            Instr::Split(first.still, entry.still),
+        )?;
+    }
+    Ok(entry)
+}
+
+/// The code of a pattern with so many groups, group 0 among them. It has at most 4 instructions for each node of
+/// the pattern with its counted repeats written out, and 2 more. The call fails only where memory runs out.
+///
+/// ```
+/// let code = compile(alloc, &Tree::Character('a'), 1, Meaning::Unicode)?;
+/// assert_eq!(code.len(), 3);
+/// ```
+pub fn compile(
+    alloc: Global,
+    tree: &Tree,
+    groups: usize,
+    meaning: Meaning,
+) -> Result<Code, AllocError>
+    requires easy { IsTrue (is_easy (pattern_of tree.now)) }
+    requires numbered { Numbered 0 groups (pattern_of tree.now) }
+    ensures code { IfOk result (λ code. IsCodeOf (pattern_of tree.now) code) }
+    ensures short { IfOk result (λ code. code_len code ≤ 4 * nodes (pattern_of tree.now) + 2) }
+    ensures groups { IfOk result (λ code. code.groups ≡ groups) }
+    ensures meaning { IfOk result (λ code. code.meaning ≡ meaning) }
+{
+    let mut instrs = Vec::new(alloc);
+    put(&mut instrs, Instr::Match)?;
+    put(&mut instrs, Instr::Fail)?;
+    let stop = Entry {
+        moved: MATCH,
+        still: MATCH,
+    };
+    let entry = emit(alloc, &mut instrs, tree, stop)?;
+    Ok(Code::new(instrs, entry.moved, groups, meaning))
+}
+
+#[test]
+#[tactic(auto, using(fancy_syntax::proofs::PatternLemmas::pattern_equations))]
+fn a_star_shares_its_turn(rt: HostRuntime) -> Result<(), AllocError> {
+    let alloc = rt.alloc();
+    let tree = Tree::Repeat {
+        low: 1,
+        high: None,
+        taste: Taste::Greedy,
+        body: Box::new(alloc, Tree::Character('a'))?,
+    };
+    let code = compile(alloc, &tree, 1, Meaning::Unicode)?;
+    assert_eq!(rt; code.len(), 6);
+    assert_eq!(rt; code.start, 5);
+    assert_eq!(rt; code.groups, 1);
+    Ok(())
+}

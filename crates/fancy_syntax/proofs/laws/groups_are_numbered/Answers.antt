@@ -1,0 +1,5 @@
+use Rattle.fancy_syntax.proofs.GroupLemmas.{numbered}
+use Rattle.fancy_syntax.proofs.laws.groups_are_numbered.Goals as goal
+
+pub returns : goal.returns
+returns c = numbered

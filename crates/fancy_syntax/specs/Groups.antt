@@ -1,0 +1,24 @@
+-- The numbers of a pattern's groups.
+use Rattle.std.specs.Prelude.{ℕ, ◌+◌, ◌<◌, ◌≤◌}
+use Rattle.fancy_syntax.specs.Pattern.{Pattern, empty, character, member_of, raw_byte, backreference, assertion, group_test, keep_start, continue_here, group, repeat, look_ahead, look_behind, atomic, conditional, followed, or_else, last_branch}
+
+-- each group of the pattern has a number from lo on and below hi, and those inside it have greater ones
+abbrev pub Numbered : ℕ → ℕ → Pattern → Type 0
+Numbered lo hi empty = Unit {0}
+Numbered lo hi (character c) = Unit {0}
+Numbered lo hi (member_of edges) = Unit {0}
+Numbered lo hi (raw_byte byte) = Unit {0}
+Numbered lo hi (backreference number) = Unit {0}
+Numbered lo hi (assertion a) = Unit {0}
+Numbered lo hi (group_test number) = Unit {0}
+Numbered lo hi keep_start = Unit {0}
+Numbered lo hi continue_here = Unit {0}
+Numbered lo hi (group index body) = (lo ≤ index) × (index < hi) × Numbered (index + 1) hi body
+Numbered lo hi (repeat low high taste body) = Numbered lo hi body
+Numbered lo hi (look_ahead negated body) = Numbered lo hi body
+Numbered lo hi (look_behind negated body) = Numbered lo hi body
+Numbered lo hi (atomic body) = Numbered lo hi body
+Numbered lo hi (conditional condition first second) = Numbered lo hi condition × Numbered lo hi first × Numbered lo hi second
+Numbered lo hi (followed part rest) = Numbered lo hi part × Numbered lo hi rest
+Numbered lo hi (or_else branch others) = Numbered lo hi branch × Numbered lo hi others
+Numbered lo hi (last_branch branch) = Numbered lo hi branch
