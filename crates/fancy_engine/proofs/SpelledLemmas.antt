@@ -6,7 +6,7 @@ use Rattle.fancy_syntax.specs.declared.tree.Meaning.TheVariants.{Unicode, Bytes,
 use Rattle.fancy_syntax.specs.declared.tree.Taste.{Taste}
 use Rattle.fancy_syntax.specs.Words.{Text}
 use Rattle.fancy_syntax.specs.Pattern.{Pattern, empty, character, group, repeat, followed, or_else, last_branch, in_sequence, in_choice, in_branches}
-use Rattle.fancy_syntax.specs.Dialect.{Scope, Quantifies, greedily, lazily, literal_of, Branches, one, either, Parts, nothing, item, Item, bare, quantified, Atom, literal, escaped, plain, capture, Spells, with_part}
+use Rattle.fancy_syntax.specs.Dialect.{Scope, Quantifies, greedily, lazily, literal_of, Branches, one, either, Parts, nothing, item, Item, set, bare, quantified, Atom, literal, escaped, plain, flagged, capture, Spells, with_part}
 use Rattle.fancy_engine.specs.Means.{is_easy, goes_back}
 use Rattle.fancy_engine.specs.Placed.{has_raw_byte}
 
@@ -66,17 +66,19 @@ module _ (nice : Pattern → Type 0) (kept : IsKept nice) where
     nice-Branches (either parts rest) = (nice-in_sequence _ (nice-Parts parts), nice-Branches rest)
 
     nice-Parts : {k : ℕ} {s r : Scope} {t after : Text} {ps : List Pattern} → Parts k s t after ps r → AreNice ps
-    nice-Parts nothing = tt
-    nice-Parts (item first rest) = nice-with_part _ _ (nice-Item first) (nice-Parts rest)
+    nice-Parts (nothing skipped) = tt
+    nice-Parts (item skipped first rest) = nice-with_part _ _ (nice-Item first) (nice-Parts rest)
 
     nice-Item : {k : ℕ} {s r : Scope} {t after : Text} {x : Option Pattern} → Item k s t after x r → IsNiceItem x
+    nice-Item (set setting) = tt
     nice-Item (bare atom e) = nice-Atom atom
-    nice-Item (quantified atom e q) = kept.repeats _ _ _ _ (goes_back-Quantifies q) (nice-Atom atom)
+    nice-Item (quantified atom e skipped q) = kept.repeats _ _ _ _ (goes_back-Quantifies q) (nice-Atom atom)
 
     nice-Atom : {k : ℕ} {s r : Scope} {t after : Text} {p : Pattern} → Atom k s t after p r → nice p
-    nice-Atom (literal {s = s} c e f) = nice-literal_of s.meaning c
+    nice-Atom (literal {s = s} c e f skipped) = nice-literal_of s.meaning c
     nice-Atom (escaped {s = s} c e) = nice-literal_of s.meaning c
     nice-Atom (plain branches) = nice-in_branches _ (nice-Branches branches)
+    nice-Atom (flagged setting branches) = nice-in_branches _ (nice-Branches branches)
     nice-Atom (capture e branches) = kept.groups _ _ (nice-in_branches _ (nice-Branches branches))
 
   nice_spelled : {s e : Scope} {text : Text} {p : Pattern} → Spells s text p e → nice p

@@ -161,6 +161,9 @@ fn a_search_goes_back_to_a_branch(rt: HostRuntime) -> Result<(), AllocError> {
         range_start: 1,
         range_end: 4,
         anchored: false,
+        start_text: true,
+        end_text: true,
+        continues: true,
     };
     let found = search(&code, b"xabc", request, true, &mut memory, &mut work);
     assert!(rt; found == Ok(Some(1)));

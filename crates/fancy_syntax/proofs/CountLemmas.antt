@@ -42,6 +42,10 @@ no_digit_at t i d n l h = rw (drop-cons t i d, decimal_stop (drop (suc i) t) n (
 pub no_more_digits : (t : Text) (i n : ℕ) → length t ≤ i → decimal_from n (drop i t) ≡ n
 no_more_digits t i n h = rw (drop_all i t h) (decimal_end n)
 
+pub either_no : (a b : Bool) → (a || b) ≡ false → (a ≡ false) × (b ≡ false)
+either_no true b h = cc
+either_no false b h = (refl, h)
+
 pub both_true : (a b : Bool) → (a && b) ≡ true → (a ≡ true) × (b ≡ true)
 both_true true b h = (refl, h)
 both_true false b h = cc
@@ -190,7 +194,7 @@ open_facts false false true true e h f = (refl, (refl, h))
 open_facts false false true false e h f = cc
 open_facts false false false d e h f = cc
 
-left_of : (a b : Bool) → (a || b) ≡ true → b ≡ false → a ≡ true
+pub left_of : (a b : Bool) → (a || b) ≡ true → b ≡ false → a ≡ true
 left_of true b h f = refl
 left_of false true h f = cc
 left_of false false h f = cc

@@ -5,7 +5,7 @@ use Rattle.fancy_syntax.specs.declared.tree.Meaning.{Meaning}
 use Rattle.fancy_syntax.specs.declared.tree.Meaning.TheVariants.{Unicode, Bytes, AsciiText}
 use Rattle.fancy_syntax.specs.Pattern.{Pattern, empty, character, member_of, raw_byte, backreference, assertion, group_test, keep_start, continue_here, group, repeat, look_ahead, look_behind, atomic, conditional, followed, or_else, last_branch, in_sequence, in_choice, in_branches}
 use Rattle.fancy_syntax.specs.Words.{Text}
-use Rattle.fancy_syntax.specs.Dialect.{Scope, literal_of, Branches, one, either, Parts, nothing, item, Item, bare, quantified, Atom, literal, escaped, plain, capture, Spells, with_part}
+use Rattle.fancy_syntax.specs.Dialect.{Scope, literal_of, Branches, one, either, Parts, nothing, item, Item, set, bare, quantified, Atom, literal, escaped, plain, flagged, capture, Spells, with_part}
 use Rattle.fancy_syntax.specs.Groups.{Numbered}
 
 -- numbers in a range are numbers in a wider one
@@ -91,8 +91,8 @@ mutual
       )
 
   numbered_parts : {k : ℕ} {s r : Scope} {t after : Text} {ps : List Pattern} → Parts k s t after ps r → (s.opened ≤ r.opened) × AllNumbered (s.opened + 1) (r.opened + 1) ps
-  numbered_parts nothing = (omega arith, tt)
-  numbered_parts (item {s = s} {q = q} {r = r} {x = i} {ps = ps} f g) =
+  numbered_parts (nothing b) = (omega arith, tt)
+  numbered_parts (item {s = s} {q = q} {r = r} {x = i} {ps = ps} b f g) =
       let x = numbered_item f in
       let y = numbered_parts g in (
         omega (arith, x.0, y.0),
@@ -101,13 +101,15 @@ mutual
       )
 
   numbered_item : {k : ℕ} {s r : Scope} {t after : Text} {x : Option Pattern} → Item k s t after x r → (s.opened ≤ r.opened) × PartNumbered (s.opened + 1) (r.opened + 1) x
+  numbered_item (set f) = (omega arith, tt)
   numbered_item (bare a e) = numbered_atom a
-  numbered_item (quantified a e q) = numbered_atom a
+  numbered_item (quantified a e b q) = numbered_atom a
 
   numbered_atom : {k : ℕ} {s r : Scope} {t after : Text} {p : Pattern} → Atom k s t after p r → (s.opened ≤ r.opened) × Numbered (s.opened + 1) (r.opened + 1) p
-  numbered_atom (literal {s = s} c e f) = (omega arith, literal_numbered (s.opened + 1) (s.opened + 1) s.meaning c)
+  numbered_atom (literal {s = s} c e f b) = (omega arith, literal_numbered (s.opened + 1) (s.opened + 1) s.meaning c)
   numbered_atom (escaped {s = s} c e) = (omega arith, literal_numbered (s.opened + 1) (s.opened + 1) s.meaning c)
   numbered_atom (plain {s = s} {q = q} {bs = bs} b) = let x = numbered_branches b in (x.0, branches_numbered (s.opened + 1) (q.opened + 1) bs x.1)
+  numbered_atom (flagged {s = s} {q = q} {bs = bs} f b) = let x = numbered_branches b in (x.0, branches_numbered (s.opened + 1) (q.opened + 1) bs x.1)
   numbered_atom (capture {s = s} {q = q} {bs = bs} e b) =
       let x = numbered_branches b in
       (omega (arith, x.0), (omega arith, omega (arith, x.0), branches_numbered (s.opened + 1 + 1) (q.opened + 1) bs x.1))

@@ -3,6 +3,8 @@ pub mod SizeLemmas
 pub mod EmptyLemmas
 pub mod ReadingLemmas
 pub mod CountLemmas
+pub mod BlankLemmas
+pub mod FlagLemmas
 pub mod SpellingLemmas
 pub mod UniqueLemmas
 pub mod ParseLemmas

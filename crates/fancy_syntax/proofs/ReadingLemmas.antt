@@ -5,11 +5,13 @@ use Rattle.std.proofs.lemmas.List.{nil_from_length}
 use Rattle.fancy_syntax.specs.Pattern.{Pattern, pattern_of, in_sequence, in_branches}
 use Rattle.fancy_syntax.specs.Words.{Text, is_at_any, is_at}
 use Rattle.fancy_syntax.specs.Dialect.{Scope, with_part}
-use Rattle.fancy_syntax.specs.Grammar.{Place, past, Opening, opening, atom, quantified, wrap, closed, ends_branch, Branches, last, more, Parts, none, next, Item, single, grouped, start, Reads}
+use Rattle.fancy_syntax.specs.Grammar.{Place, past, here, Opening, setting, plain, capture, opening, atom, quantified, wrap, closed, ends_branch, Branches, last, more, Parts, none, next, Item, sets, single, grouped, start, Reads}
 use Rattle.fancy_syntax.specs.declared.tree.Tree.{Tree}
 use Rattle.fancy_syntax.specs.declared.error.Error.{Error}
 use Rattle.fancy_syntax.specs.declared.error.Error.TheVariants.{Memory, ParseError, CompileError, RuntimeError}
-use Rattle.fancy_syntax.specs.Views.{Refuses, Gives, GivesValue, part_of, IsTheReading, HasNoReading, Sequence, Alternation}
+use Rattle.fancy_syntax.specs.declared.groups.Opening.{Opening as Found}
+use Rattle.fancy_syntax.specs.declared.groups.Opening.TheVariants.{Setting, Plain, Capture}
+use Rattle.fancy_syntax.specs.Views.{found, Refuses, Gives, GivesValue, part_of, IsTheReading, HasNoReading, Sequence, Alternation}
 
 pub true_is_false : true ≡ false → ⊥
 true_is_false h = cc
@@ -53,12 +55,12 @@ goes_on_then {R} {p} {q} {r} {a} {b} g h = record {
 }
 
 -- nothing more belongs to the branch
-pub parts_end : {k : ℕ} {p q : Place} {ts : List Pattern} → Parts k p ts q → ends_branch p.text ≡ true → (ts ≡ []) × (q ≡ p)
+pub parts_end : {k : ℕ} {p q : Place} {ts : List Pattern} → Parts k p ts q → ends_branch (here p).text ≡ true → (ts ≡ []) × (q ≡ here p)
 parts_end (none h) e = (refl, refl)
 parts_end (next h i t) e = cc
 
-pub parts_next : {k : ℕ} {p r : Place} {ts : List Pattern} → Parts k p ts r → ends_branch p.text ≡ false →
-    (item : Option Pattern) × (us : List Pattern) × (q : Place) × (ts ≡ with_part item us) × Item k p item q × Parts k q us r
+pub parts_next : {k : ℕ} {p r : Place} {ts : List Pattern} → Parts k p ts r → ends_branch (here p).text ≡ false →
+    (item : Option Pattern) × (us : List Pattern) × (q : Place) × (ts ≡ with_part item us) × Item k (here p) item q × Parts k q us r
 parts_next (none h) e = cc
 parts_next (next {q = q} {item = item} {ps = us} h i t) e = (item, us, q, refl, i, t)
 
@@ -71,7 +73,7 @@ with_part_is None us = refl
 with_part_is (Some t) us = refl
 
 -- one more item
-pub item_step : {k : ℕ} {p q : Place} {item : Option Pattern} → ends_branch p.text ≡ false → IsTheReading (Item k) p item q → GoesOn (Parts k) p (parts_of item) q
+pub item_step : {k : ℕ} {p q : Place} {item : Option Pattern} → ends_branch (here p).text ≡ false → IsTheReading (Item k) (here p) item q → GoesOn (Parts k) p (parts_of item) q
 item_step {k} {p} {q} {item} e h = record {
   forth = λ ts r x. subst (λ l. Parts k p l r) (with_part_is item ts) (next e h.0 x);
   back = λ ts r x.
@@ -80,17 +82,27 @@ item_step {k} {p} {q} {item} e h = record {
       (n.1, n.3 ∙ (ap (λ i. with_part i n.1) o.0 ∙ with_part_is item n.1), subst (λ s. Parts k s n.1 r) o.1 n.5);
 }
 
-pub no_item : {k : ℕ} {p q : Place} {done : List Pattern} → GoesOn (Parts k) p done q → ends_branch q.text ≡ false → HasNoReading (Item k) q → HasNoReading (Sequence k) p
+pub no_item : {k : ℕ} {p q : Place} {done : List Pattern} → GoesOn (Parts k) p done q → ends_branch (here q).text ≡ false → HasNoReading (Item k) (here q) → HasNoReading (Sequence k) p
 no_item g e nothing t r (ts, is, x) = let y = g.back ts r x in let n = parts_next y.2 e in nothing n.0 n.2 n.4
 
-pub sequence_is : {k : ℕ} {p q : Place} {done : List Pattern} (t : Pattern) → GoesOn (Parts k) p done q → ends_branch q.text ≡ true → t ≡ in_sequence done → IsTheReading (Sequence k) p t q
+pub sequence_is : {k : ℕ} {p q : Place} {done : List Pattern} (t : Pattern) → GoesOn (Parts k) p done q → ends_branch (here q).text ≡ true → t ≡ in_sequence done → IsTheReading (Sequence k) p t (here q)
 sequence_is {k} {p} {q} {done} t g e is = (
-  (done, is, subst (λ l. Parts k p l q) (append-nil done) (g.forth [] q (none e))),
+  (done, is, subst (λ l. Parts k p l (here q)) (append-nil done) (g.forth [] (here q) (none e))),
   λ u r (ts, same, x).
       let y = g.back ts r x in
       let z = parts_end y.2 e in
       (same ∙ (ap in_sequence (y.1 ∙ (ap (λ l. done ++ l) z.0 ∙ append-nil done)) ∙ sym is), z.1),
 )
+
+-- the same where the code has moved past the blanks
+pub item_step_at : {k : ℕ} {p s q : Place} {item : Option Pattern} → s ≡ here p → ends_branch s.text ≡ false → IsTheReading (Item k) s item q → GoesOn (Parts k) p (parts_of item) q
+item_step_at {k} {p} {s} {q} {item} e f h = item_step (ap (λ (x : Place). ends_branch x.text) (sym e) ∙ f) (subst (λ x. IsTheReading (Item k) x item q) e h)
+
+pub no_item_at : {k : ℕ} {p s q : Place} {done : List Pattern} → GoesOn (Parts k) p done q → s ≡ here q → ends_branch s.text ≡ false → HasNoReading (Item k) s → HasNoReading (Sequence k) p
+no_item_at {k} g e f h = no_item g (ap (λ (x : Place). ends_branch x.text) (sym e) ∙ f) (subst (λ x. HasNoReading (Item k) x) e h)
+
+pub sequence_is_at : {k : ℕ} {p s q : Place} {done : List Pattern} (t : Pattern) → GoesOn (Parts k) p done q → s ≡ here q → ends_branch s.text ≡ true → t ≡ in_sequence done → IsTheReading (Sequence k) p t s
+sequence_is_at {k} {p} t g e f is = subst (λ x. IsTheReading (Sequence k) p t x) (sym e) (sequence_is t g (ap (λ (x : Place). ends_branch x.text) (sym e) ∙ f) is)
 
 pub branches_first : {k : ℕ} {p q : Place} {bs : List Pattern} → Branches k p bs q →
     (ts : List Pattern) × (r : Place) × (others : List Pattern) × Parts k p ts r × (bs ≡ in_sequence ts ∷ others)
@@ -130,8 +142,9 @@ alternation_is {k} {p} {q} {r} {done} {t} whole g h e is = (
 -- an item that is no group
 pub item_single : {k : ℕ} {p r : Place} {item : Option Pattern} → Item k p item r → is_at "(" p.text ≡ false →
     (a : Pattern) × (q : Place) × (t : Pattern) × (atom p ≡ Some (a, q)) × (quantified a q ≡ Some (t, r)) × (item ≡ Some t)
+item_single (sets h o) e = absurd (true_is_false (sym h ∙ e))
 item_single (single {q = q} {a = a} {x = t} h f g) e = (a, q, t, f, g, refl)
-item_single (grouped h o b c f) e = absurd (true_is_false (sym h ∙ e))
+item_single (grouped h o n b c f) e = absurd (true_is_false (sym h ∙ e))
 
 pub no_atom : {k : ℕ} {p : Place} → is_at "(" p.text ≡ false → atom p ≡ None → HasNoReading (Item k) p
 no_atom e nothing i r x = let s = item_single x e in some_is_none (sym s.3 ∙ nothing)
@@ -152,51 +165,68 @@ single_is e found given = (
       (n.5 ∙ ap Some done.0, done.1),
 )
 
-pub quantified_single : (k : ℕ) (p s : Place) {q : Place} {a : Pattern} (r : Result Tree Error) → is_at "(" p.text ≡ false → atom p ≡ Some (a, q) → GivesValue pattern_of (quantified a q) r s → Gives part_of (Item k) r p s
-quantified_single k p s (Ok x) e found h = single_is e found h
-quantified_single k p s (Err y) e found h = Refuses-weaker y (no_quantified e found) h
+-- an item that begins with a parenthesis
+pub data Group (k : ℕ) (p r : Place) : Opening → Place → Option Pattern → Type 0 where
+  of_setting : {how : Opening} {j : ℕ} → how ≡ setting → k ≡ suc j → Group k p r how r None
+  of_body : {how : Opening} {inside : Place} {j : ℕ} {bs : List Pattern} {q : Place} {t : Pattern} → (how ≡ setting → ⊥) → k ≡ suc j → Branches j inside bs q → is_at ")" q.text ≡ true
+      → quantified (wrap how (in_branches bs)) (closed p q) ≡ Some (t, r) → Group k p r how inside (Some t)
 
--- an item that begins with a parenthesis: what is inside, and what follows it
-pub record Body (k : ℕ) (p r : Place) (item : Option Pattern) : Type 0 where
-  pub how : Opening
-  pub inside : Place
+pub item_group : {k : ℕ} {p r : Place} {item : Option Pattern} → Item k p item r → is_at "(" p.text ≡ true →
+    (how : Opening) × (inside : Place) × (opening p ≡ Some (how, inside)) × Group k p r how inside item
+item_group (sets {q = q} h o) e = (setting, q, o, of_setting refl refl)
+item_group (single h f g) e = absurd (true_is_false (sym e ∙ h))
+item_group (grouped {inside = inside} {how = how} h o n b c f) e = (how, inside, o, of_body n refl b c f)
+
+pub no_opening : {k : ℕ} {p : Place} → is_at "(" p.text ≡ true → opening p ≡ None → HasNoReading (Item k) p
+no_opening e nothing i r x = let g = item_group x e in some_is_none (sym g.2 ∙ nothing)
+
+pub setting_is : {k : ℕ} {p q : Place} (j : ℕ) → is_at "(" p.text ≡ true → opening p ≡ Some (setting, q) → k ≡ j + 1 → IsTheReading (Item k) p None q
+setting_is {k} {p} {q} j e opens deeper = (
+  subst (λ m. Item m p None q) (sym (deeper ∙ add-one j)) (sets e opens),
+  λ i r x. let g = item_group x e in let same = some_pair (sym g.2 ∙ opens) in of_a_setting g.3 same.0 same.1,
+)
+  where
+    of_a_setting : {how : Opening} {inside r : Place} {i : Option Pattern} → Group k p r how inside i → how ≡ setting → inside ≡ q → (i ≡ None) × (r ≡ q)
+    of_a_setting (of_setting h d) a b = (refl, b)
+    of_a_setting (of_body n h b f g) a c = absurd (n a)
+
+no_depth : {k : ℕ} {p r inside : Place} {how : Opening} {item : Option Pattern} → Group k p r how inside item → k ≡ 0 → ⊥
+no_depth (of_setting h d) z = absurd (omega (arith, z, d))
+no_depth (of_body n d b f g) z = absurd (omega (arith, z, d))
+
+pub no_room : {k : ℕ} {p : Place} → is_at "(" p.text ≡ true → k ≡ 0 → HasNoReading (Item k) p
+no_room e z i r x = no_depth (item_group x e).3 z
+
+-- what is inside the parentheses, and what follows it
+pub record Body (k : ℕ) (p r : Place) (how : Opening) (inside : Place) (item : Option Pattern) : Type 0 where
   pub room : ℕ
   pub branches : List Pattern
   pub end : Place
   pub quantity : Pattern
-  pub opens : opening p ≡ Some (how, inside)
   pub deeper : k ≡ suc room
   pub reads : Branches room inside branches end
   pub closes : is_at ")" end.text ≡ true
   pub given : quantified (wrap how (in_branches branches)) (closed p end) ≡ Some (quantity, r)
   pub is : item ≡ Some quantity
 
-pub item_body : {k : ℕ} {p r : Place} {item : Option Pattern} → is_at "(" p.text ≡ true → Item k p item r → Body k p r item
-item_body e (single h f g) = absurd (true_is_false (sym e ∙ h))
-item_body e (grouped {k = j} {inside = inside} {q = q} {how = how} {bs = bs} {x = x} h o b c f) =
-    record { how = how; inside = inside; room = j; branches = bs; end = q; quantity = x; opens = o; deeper = refl; reads = b; closes = c; given = f; is = refl }
+pub body_of : {k : ℕ} {p r : Place} {how : Opening} {inside : Place} {item : Option Pattern} → Group k p r how inside item → (how ≡ setting → ⊥) → Body k p r how inside item
+body_of (of_setting h d) n = absurd (n h)
+body_of (of_body {j = j} {bs = bs} {q = q} {t = t} m h b f g) n = record { room = j; branches = bs; end = q; quantity = t; deeper = h; reads = b; closes = f; given = g; is = refl }
 
-pub no_opening : {k : ℕ} {p : Place} → is_at "(" p.text ≡ true → opening p ≡ None → HasNoReading (Item k) p
-no_opening e nothing i r x = let b = item_body e x in some_is_none (sym b.opens ∙ nothing)
+pub item_body : {k : ℕ} {p r : Place} {how : Opening} {inside : Place} {item : Option Pattern} → is_at "(" p.text ≡ true → opening p ≡ Some (how, inside) → (how ≡ setting → ⊥)
+    → Item k p item r → Body k p r how inside item
+item_body {k} {p} {r} {how} {inside} {item} e found n x =
+    let g = item_group x e in
+    let same = some_pair (sym g.2 ∙ found) in
+    body_of (subst (λ h. Group k p r h inside item) same.0 (subst (λ s. Group k p r g.0 s item) same.1 g.3)) n
 
-pub no_room : {k : ℕ} {p : Place} → is_at "(" p.text ≡ true → k ≡ 0 → HasNoReading (Item k) p
-no_room e z i r x = let b = item_body e x in absurd (omega (arith, z, b.deeper))
-
-module _ {k j : ℕ} {p inside : Place} {how : Opening} (e : is_at "(" p.text ≡ true) (found : opening p ≡ Some (how, inside)) (deeper : k ≡ j + 1) where
+module _ {k j : ℕ} {p inside : Place} {how : Opening} (e : is_at "(" p.text ≡ true) (found : opening p ≡ Some (how, inside)) (n : how ≡ setting → ⊥) (deeper : k ≡ j + 1) where
   pub body_reads : {r : Place} {item : Option Pattern} → Item k p item r → (bs : List Pattern) × (q : Place) × (t : Pattern) × Branches j inside bs q × (is_at ")" q.text ≡ true)
       × (quantified (wrap how (in_branches bs)) (closed p q) ≡ Some (t, r)) × (item ≡ Some t)
   body_reads {r} {item} x =
-      let b = item_body e x in
+      let b = item_body e found n x in
       let same : b.room ≡ j = omega (arith, b.deeper, deeper) in
-      let opened = some_pair (sym b.opens ∙ found) in (
-        b.branches,
-        b.end,
-        b.quantity,
-        subst (λ m. Branches m inside b.branches b.end) same (subst (λ s. Branches b.room s b.branches b.end) opened.1 b.reads),
-        b.closes,
-        ap (λ h. quantified (wrap h (in_branches b.branches)) (closed p b.end)) (sym opened.0) ∙ b.given,
-        b.is,
-      )
+      (b.branches, b.end, b.quantity, subst (λ m. Branches m inside b.branches b.end) same b.reads, b.closes, b.given, b.is)
 
   pub no_body : HasNoReading (Alternation j) inside → HasNoReading (Item k) p
   no_body nothing i r x = let b = body_reads x in nothing (in_branches b.0) b.1 (b.0, refl, b.3)
@@ -215,7 +245,7 @@ module _ {k j : ℕ} {p inside : Place} {how : Opening} (e : is_at "(" p.text �
 
   pub group_is : {t u v : Pattern} {q r : Place} → IsTheReading (Alternation j) inside t q → is_at ")" q.text ≡ true → u ≡ wrap how t → quantified u (closed p q) ≡ Some (v, r) → IsTheReading (Item k) p (Some v) r
   group_is {t} {u} {v} {q} {r} h closes made given = (
-    subst (λ m. Item m p (Some v) r) (sym (deeper ∙ add-one j)) (grouped e found h.0.2 closes (ap (λ w. quantified (wrap how w) (closed p q)) (sym h.0.1) ∙ (ap (λ w. quantified w (closed p q)) (sym made) ∙ given))),
+    subst (λ m. Item m p (Some v) r) (sym (deeper ∙ add-one j)) (grouped e found n h.0.2 closes (ap (λ w. quantified (wrap how w) (closed p q)) (sym h.0.1) ∙ (ap (λ w. quantified w (closed p q)) (sym made) ∙ given))),
     λ i s x.
         let b = body_reads x in
         let o = h.1 (in_branches b.0) b.1 (b.0, refl, b.3) in
@@ -223,10 +253,10 @@ module _ {k j : ℕ} {p inside : Place} {how : Opening} (e : is_at "(" p.text �
         (b.6 ∙ ap Some done.0, done.1),
   )
 
-pub quantified_group : (k : ℕ) (p s : Place) {j : ℕ} {inside q : Place} {how : Opening} {t u : Pattern} (r : Result Tree Error) → is_at "(" p.text ≡ true → opening p ≡ Some (how, inside) → k ≡ j + 1
-    → IsTheReading (Alternation j) inside t q → is_at ")" q.text ≡ true → u ≡ wrap how t → GivesValue pattern_of (quantified u (closed p q)) r s → Gives part_of (Item k) r p s
-quantified_group k p s (Ok x) e found deeper h closes made given = group_is e found deeper h closes made given
-quantified_group k p s (Err y) e found deeper h closes made given = Refuses-weaker y (no_quantified_group e found deeper h made) given
+pub found_setting : (how : Found) → found how ≡ setting → how ≡ Setting
+found_setting Setting h = refl
+found_setting Plain h = cc
+found_setting (Capture n) h = cc
 
 pub no_whole_reading : {s : Scope} {text : Text} {p : Place} → p ≡ start s text → HasNoReading (Alternation 64) p → (t : Pattern) (end : Place) → Reads s text t end → ⊥
 no_whole_reading is nothing t end x = nothing t end (x.branches, x.is, subst (λ y. Branches 64 y x.branches end) (sym is) x.reads)

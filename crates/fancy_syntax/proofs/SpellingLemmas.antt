@@ -5,17 +5,20 @@ use Rattle.std.specs.Option.{option_map}
 use Rattle.std.proofs.lemmas.Bool.Decides.{nat_tests}
 use Rattle.std.proofs.lemmas.List.{take-append-drop}
 use Rattle.std.specs.Cmp.Lexicographic.{same_text}
+use Rattle.fancy_syntax.specs.declared.tree.Meaning.{Meaning}
 use Rattle.fancy_syntax.specs.declared.tree.Taste.{Taste}
 use Rattle.fancy_syntax.specs.declared.tree.Taste.TheVariants.{Greedy, Lazy}
 use Rattle.fancy_syntax.specs.Pattern.{Pattern, repeat, in_branches}
 use Rattle.fancy_syntax.specs.Sizes.{is_empty}
-use Rattle.fancy_syntax.specs.Words.{Text, is_at_any, is_at, begins, is_count, begins_count}
+use Rattle.fancy_syntax.specs.Words.{Text, ◌∈◌, is_at_any, is_at, begins, is_count, past_blank, past_blanks, begins_count}
 use Rattle.fancy_syntax.specs.Dialect as d
-use Rattle.fancy_syntax.specs.Dialect.{Scope, one_more_group, back_to, is_special, is_escapable, literal_of, begins_quantifier, Turns, optional, star, plus, exactly, at_least, between, at_most, Quantifies, greedily, lazily, with_part}
+use Rattle.fancy_syntax.specs.Dialect.{Flags, Scope, in_force, Setting, one_more_group, back_to, is_special, is_escapable, literal_of, begins_quantifier, Turns, optional, star, plus, exactly, at_least, between, at_most, Quantifies, greedily, lazily, Blanks, IsUnquantified, with_part}
 use Rattle.fancy_syntax.specs.Grammar as g
-use Rattle.fancy_syntax.specs.Grammar.{Place, past, Bounds, bounds_in, past_count, are_bounds, opening, atom, wrap, closed, ends_branch, start}
+use Rattle.fancy_syntax.specs.Grammar.{Place, past, here, Bounds, bounds_in, past_count, are_bounds, opening, atom, wrap, closed, ends_branch, start}
 use Rattle.fancy_syntax.proofs.ReadingLemmas.{some_pair, some_is_none}
-use Rattle.fancy_syntax.proofs.CountLemmas.{both_true, first_is as at_char, IsRead, exactly_is_read, at_least_is_read, between_is_read, at_most_is_read, count_spelled}
+use Rattle.fancy_syntax.proofs.FlagLemmas.{setting_is_read, no_colon_first, no_hash_first, setting_spelled}
+use Rattle.fancy_syntax.proofs.BlankLemmas.{chosen, char_is, begins_with, read_blanks, end_is_no_blank, quantifier_is_no_blank, unquantified_is_read, unquantified_is_spelled, skipped, no_blank_left}
+use Rattle.fancy_syntax.proofs.CountLemmas.{either_no, both_true, left_of, first_is as at_char, IsRead, exactly_is_read, at_least_is_read, between_is_read, at_most_is_read, count_spelled}
 
 either_false : (a b : Bool) → (a || b) ≡ false → (a ≡ false) × (b ≡ false)
 either_false true b h = cc
@@ -37,14 +40,36 @@ no_end c t h = rw (other_than c 124 h refl, other_than c 41 h refl) refl
 
 -- What is spelled begins as an item may, and not where a branch ends.
 pub atom_begins : {k : ℕ} {s q : Scope} {t after : Text} {a : Pattern} → d.Atom k s t after a q → (rest : Text) → ends_branch (t ++ rest) ≡ false
-atom_begins (d.literal c h n) rest = no_end c rest h
+atom_begins (d.literal c h n b) rest = no_end c rest h
 atom_begins (d.escaped c h) rest = refl
 atom_begins (d.plain b) rest = refl
+atom_begins (d.flagged f b) rest = refl
 atom_begins (d.capture h b) rest = refl
 
 pub item_begins : {k : ℕ} {s q : Scope} {t after : Text} {x : Option Pattern} → d.Item k s t after x q → ends_branch (t ++ after) ≡ false
+item_begins (d.set f) = refl
 item_begins (d.bare {after = after} a h) = atom_begins a after
-item_begins (d.quantified {t = t} {u = u} {after = after} a e h) = rw (append_assoc t u after) (atom_begins a (u ++ after))
+item_begins (d.quantified {t = t} {u = u} {v = v} {after = after} a e b h) = rw (append_assoc t (u ++ v) after) (atom_begins a ((u ++ v) ++ after))
+
+-- no blank begins there
+capture_is_no_blank : (x : Bool) (t : Text) → is_at "?*" t ≡ false → past_blank x (40 ∷ t) ≡ None
+capture_is_no_blank x [] h = refl
+capture_is_no_blank x (c ∷ t) h = let n = either_no (63 == c) ((42 == c) || false) h in rw n.0 refl
+
+flags_are_no_blank : (x : Bool) {m : Meaning} {t : Text} {f g : Flags} → Setting m t f g → (rest : Text) → past_blank x (40 ∷ 63 ∷ (t ++ rest)) ≡ None
+flags_are_no_blank x s rest = let n = no_hash_first s in rw n.2.0 (rw n.2.1 refl)
+
+pub atom_is_no_blank : {k : ℕ} {s q : Scope} {t after : Text} {a : Pattern} → d.Atom k s t after a q → past_blank s.flags.ignore_blanks (t ++ after) ≡ None
+atom_is_no_blank (d.literal c h n b) = b
+atom_is_no_blank (d.escaped c h) = refl
+atom_is_no_blank (d.plain b) = refl
+atom_is_no_blank {s = s} {after = after} (d.flagged {u = u} {t = t} f b) = rw (append_assoc u (58 ∷ (t ++ 41 ∷ [])) after) (flags_are_no_blank s.flags.ignore_blanks f ((58 ∷ (t ++ 41 ∷ [])) ++ after))
+atom_is_no_blank {s = s} {after = after} (d.capture {t = t} h b) = rw (append_assoc t (41 ∷ []) after) (capture_is_no_blank s.flags.ignore_blanks (t ++ 41 ∷ after) h)
+
+pub item_is_no_blank : {k : ℕ} {s q : Scope} {t after : Text} {x : Option Pattern} → d.Item k s t after x q → past_blank s.flags.ignore_blanks (t ++ after) ≡ None
+item_is_no_blank {s = s} {after = after} (d.set {t = t} f) = rw (append_assoc t (41 ∷ []) after) (flags_are_no_blank s.flags.ignore_blanks f (41 ∷ after))
+item_is_no_blank (d.bare a h) = atom_is_no_blank a
+item_is_no_blank (d.quantified {t = t} {u = u} {v = v} {after = after} a e b h) = rw (append_assoc t (u ++ v) after, append_assoc u v after) (atom_is_no_blank a)
 
 -- the quantifier that is spelled is read
 turns_begin : {t : Text} {low : ℕ} {high : Option ℕ} → Turns t low high → (after : Text) → begins_quantifier (t ++ after) ≡ true
@@ -79,17 +104,30 @@ greedy_is_read s (c ∷ rest) h =
     let n = either_false (43 == c) false m.1 in
     rw (m.0, n.0) refl
 
-quantified_is : (a : Pattern) (p : Place) {q r : Place} {b : Bounds} {how : Taste} → begins_quantifier p.text ≡ true → is_empty a ≡ false → ◌≡◌ {A = Option (Bounds × Place)} (g.turns p) (Some (b, q))
+quantified_is : (a : Pattern) (p : Place) {s q r : Place} {b : Bounds} {how : Taste} → here p ≡ s → begins_quantifier s.text ≡ true → is_empty a ≡ false → ◌≡◌ {A = Option (Bounds × Place)} (g.turns s) (Some (b, q))
     → ◌≡◌ {A = Option (Taste × Place)} (g.taste q) (Some (how, r)) → ◌≡◌ {A = Option (Pattern × Place)} (g.quantified a p) (Some (repeat b.0 b.1 how a, r))
-quantified_is a p {b = b} h e f t = rw (h, e) (ap (g.tasted a) f ∙ ap (option_map (λ (found : Taste × Place). (repeat b.0 b.1 found.0 a, found.1))) t)
+quantified_is a p {b = b} is h e f t =
+    let begun : begins_quantifier (here p).text ≡ true = ap (λ (y : Place). begins_quantifier y.text) is ∙ h in
+    rw (begun, e) (ap (g.tasted a) (ap g.turns is ∙ f) ∙ ap (option_map (λ (found : Taste × Place). (repeat b.0 b.1 found.0 a, found.1))) t)
 
-pub mark_is_read : {u after : Text} {low : ℕ} {high : Option ℕ} {taste : Taste} → Quantifies u after low high taste → (a : Pattern) (s : Scope) → is_empty a ≡ false
-    → g.quantified a (start s (u ++ after)) ≡ Some (repeat low high taste a, start s after)
-mark_is_read {after = after} (greedily {t = t} w h) a s e = quantified_is a (start s (t ++ after)) (turns_begin w after) e (turns_are_read w s after) (greedy_is_read s after h)
-mark_is_read {after = after} (lazily {t = t} w) a s e = rw (append_assoc t (63 ∷ []) after) (quantified_is a (start s (t ++ 63 ∷ after)) (turns_begin w (63 ∷ after)) e (turns_are_read w s (63 ∷ after)) refl)
+-- a quantifier that stands at once
+mark_here : {u after : Text} {low : ℕ} {high : Option ℕ} {taste : Taste} → Quantifies u after low high taste → (a : Pattern) (s : Scope) (p : Place) → here p ≡ start s (u ++ after) → is_empty a ≡ false
+    → g.quantified a p ≡ Some (repeat low high taste a, start s after)
+mark_here {after = after} (greedily {t = t} w h) a s p is e = quantified_is a p is (turns_begin w after) e (turns_are_read w s after) (greedy_is_read s after h)
+mark_here {after = after} (lazily {t = t} w) a s p is e =
+    quantified_is a p (is ∙ ap (start s) (append_assoc t (63 ∷ []) after)) (turns_begin w (63 ∷ after)) e (turns_are_read w s (63 ∷ after)) refl
 
-pub bare_is_read : (a : Pattern) (s : Scope) (after : Text) → begins_quantifier after ≡ false → g.quantified a (start s after) ≡ Some (a, start s after)
-bare_is_read a s after h = rw h refl
+quantifies_begin : {u after : Text} {low : ℕ} {high : Option ℕ} {taste : Taste} → Quantifies u after low high taste → begins_quantifier (u ++ after) ≡ true
+quantifies_begin {after = after} (greedily w h) = turns_begin w after
+quantifies_begin {after = after} (lazily {t = t} w) = rw (append_assoc t (63 ∷ []) after) (turns_begin w (63 ∷ after))
+
+pub mark_is_read : {w u after : Text} {low : ℕ} {high : Option ℕ} {taste : Taste} → Quantifies u after low high taste → (a : Pattern) (s : Scope) → Blanks s.flags.ignore_blanks w (u ++ after) → is_empty a ≡ false
+    → g.quantified a (start s (w ++ (u ++ after))) ≡ Some (repeat low high taste a, start s after)
+mark_is_read {w} {u} {after} q a s b e =
+    mark_here q a s (start s (w ++ (u ++ after))) (ap (start s) (read_blanks b (quantifier_is_no_blank s.flags.ignore_blanks (u ++ after) (quantifies_begin q)))) e
+
+pub bare_is_read : (a : Pattern) (s : Scope) (after : Text) → IsUnquantified s.flags.ignore_blanks after → g.quantified a (start s after) ≡ Some (a, start s after)
+bare_is_read a s after h = rw (unquantified_is_read s.flags.ignore_blanks after h) refl
 
 pub literal_is_read : (c : ℕ) (s : Scope) (after : Text) → is_special c ≡ false → begins_count (c ∷ after) ≡ false → atom (start s (c ∷ after)) ≡ Some (literal_of s.meaning c, start s after)
 literal_is_read c s [] h n = rw (h, n) refl
@@ -105,63 +143,99 @@ capture_is_read s (x ∷ rest) h =
     let n = either_false (42 == x) false m.1 in
     rw (m.0, n.0) refl
 
+plain_opens : g.plain ≡ g.setting → ⊥
+plain_opens e = cc
+
+capture_opens : (n : ℕ) → g.capture n ≡ g.setting → ⊥
+capture_opens n e = cc
+
+-- flags that are spelled open what they are to open
+pub flags_open : (s : Scope) {t : Text} {f : Flags} → Setting s.meaning t s.flags f → (d : ℕ) (rest : Text) → (d ∈ ":)") ≡ true
+    → ◌≡◌ {A = Option (g.Opening × Place)} (opening (start s (40 ∷ 63 ∷ (t ++ d ∷ rest)))) (Some (cond (58 == d) g.plain g.setting, start (in_force f s) rest))
+flags_open s {t} {f} l d rest h =
+    let n = no_colon_first l in
+    let other : begins "(?:" (40 ∷ 63 ∷ (t ++ d ∷ rest)) ≡ false = rw n.2.0 (rw n.2.1 refl) in
+    rw other (ap (g.flag_group (start s (40 ∷ 63 ∷ (t ++ d ∷ rest)))) (setting_is_read l d rest h))
+
 mutual
   pub read_branches : {k : ℕ} {s r : Scope} {t after : Text} {bs : List Pattern} → d.Branches k s t after bs r → ends_branch after ≡ true → is_at "|" after ≡ false → g.Branches k (start s (t ++ after)) bs (start r after)
   read_branches (d.one p) e f = g.last (read_parts p e) f
   read_branches {after = after} (d.either {q = q} {t = t} {u = u} p b) e f = rw (append_assoc t (124 ∷ u) after) (g.more (read_parts p refl) refl (read_branches b e f))
 
   pub read_parts : {k : ℕ} {s r : Scope} {t after : Text} {ps : List Pattern} → d.Parts k s t after ps r → ends_branch after ≡ true → g.Parts k (start s (t ++ after)) ps (start r after)
-  read_parts d.nothing e = g.none e
-  read_parts {after = after} (d.item {q = q} {t = t} {u = u} i p) e = rw (append_assoc t u after) (g.next (item_begins i) (read_item i) (read_parts p e))
+  read_parts {k} {s = s} {t = t} {after = after} (d.nothing b) e =
+      let left : past_blanks s.flags.ignore_blanks (t ++ after) ≡ after = read_blanks b (end_is_no_blank s.flags.ignore_blanks after e) in
+      subst (λ l. g.Parts k (start s (t ++ after)) [] (start s l)) left (g.none (ap ends_branch left ∙ e))
+  read_parts {k} {s = s} {r = r} {after = after} (d.item {q = q} {t = t} {u = u} {v = v} {x = x} b i p) e =
+      let left : past_blanks s.flags.ignore_blanks (t ++ (u ++ (v ++ after))) ≡ u ++ (v ++ after) = read_blanks b (item_is_no_blank i) in
+      rw (append_assoc t (u ++ v) after, append_assoc u v after)
+      (g.next (ap ends_branch left ∙ item_begins i) (subst (λ l. g.Item k (start s l) x (start q (v ++ after))) (sym left) (read_item i)) (read_parts p e))
 
   pub read_item : {k : ℕ} {s r : Scope} {t after : Text} {x : Option Pattern} → d.Item k s t after x r → g.Item k (start s (t ++ after)) x (start r after)
+  read_item {s = s} {after = after} (d.set {t = t} f) = rw (append_assoc t (41 ∷ []) after) (g.sets refl (flags_open s f 41 after refl))
   read_item (d.bare {q = q} {after = after} {a = a} b h) = read_atom b (bare_is_read a q after h)
-  read_item (d.quantified {q = q} {t = t} {u = u} {after = after} {a = a} b e h) = rw (append_assoc t u after) (read_atom b (mark_is_read h a q e))
+  read_item (d.quantified {q = q} {t = t} {u = u} {v = v} {after = after} {a = a} b e c h) = rw (append_assoc t (u ++ v) after, append_assoc u v after) (read_atom b (mark_is_read h a q c e))
 
   pub read_atom : {k : ℕ} {s q : Scope} {t after : Text} {a x : Pattern} {r : Place} → d.Atom k s t after a q → g.quantified a (start q after) ≡ Some (x, r) → g.Item k (start s (t ++ after)) (Some x) r
-  read_atom {s = s} {after = after} (d.literal c h n) f = g.single (no_paren c after h) (literal_is_read c s after h n) f
+  read_atom {s = s} {after = after} (d.literal c h n b) f = g.single (no_paren c after h) (literal_is_read c s after h n) f
   read_atom {s = s} {after = after} (d.escaped c h) f = g.single refl (escaped_is_read c s after h) f
-  read_atom {after = after} (d.plain {t = t} b) f = rw (append_assoc t (41 ∷ []) after) (g.grouped refl refl (read_branches b refl refl) refl f)
-  read_atom {s = s} {after = after} (d.capture {t = t} h b) f = rw (append_assoc t (41 ∷ []) after) (g.grouped refl (capture_is_read s (t ++ (41 ∷ after)) h) (read_branches b refl refl) refl f)
-
--- which way a test went
-pub chosen : {A : Type 0} (b : Bool) (x y z : A) → cond b x y ≡ z → ((b ≡ true) × (x ≡ z)) ⊎ ((b ≡ false) × (y ≡ z))
-chosen true x y z h = inl (refl, h)
-chosen false x y z h = inr (refl, h)
-
-pub begins_with : (w t : Text) → starts_with nat_eq t w ≡ true → t ≡ w ++ drop (length w) t
-begins_with w t h = sym (take-append-drop (length w) t) ∙ ap (λ l. l ++ drop (length w) t) (sym (same_text w (take (length w) t) (sym h)))
+  read_atom {after = after} (d.plain {t = t} b) f = rw (append_assoc t (41 ∷ []) after) (g.grouped refl refl plain_opens (read_branches b refl refl) refl f)
+  read_atom {s = s} {after = after} (d.flagged {u = u} {t = t} l b) f =
+      rw (append_assoc u (58 ∷ (t ++ 41 ∷ [])) after, append_assoc t (41 ∷ []) after) (g.grouped refl (flags_open s l 58 (t ++ 41 ∷ after) refl) plain_opens (read_branches b refl refl) refl f)
+  read_atom {s = s} {after = after} (d.capture {t = t} h b) f = rw (append_assoc t (41 ∷ []) after) (g.grouped refl (capture_is_read s (t ++ (41 ∷ after)) h) (capture_opens (s.opened + 1)) (read_branches b refl refl) refl f)
 
 not_true : (b : Bool) → not b ≡ true → b ≡ false
 not_true true h = cc
 not_true false h = refl
 
-no_special : (u : Text) → (begins "(?" (40 ∷ u) || begins "(*" (40 ∷ u)) ≡ false → is_at "?*" u ≡ false
-no_special [] h = refl
-no_special (x ∷ u) h = go (63 == x) (42 == x) h
+no_special : (u : Text) → begins "(?" (40 ∷ u) ≡ false → begins "(*" (40 ∷ u) ≡ false → is_at "?*" u ≡ false
+no_special [] h f = refl
+no_special (x ∷ u) h f = go (63 == x) (42 == x) h f
   where
-    go : (a b : Bool) → ((a && true) || (b && true)) ≡ false → (a || (b || false)) ≡ false
-    go true b h = h
-    go false true h = h
-    go false false h = refl
+    go : (a b : Bool) → (a && true) ≡ false → (b && true) ≡ false → (a || (b || false)) ≡ false
+    go true b h f = h
+    go false true h f = f
+    go false false h f = refl
 
 -- what a parenthesis may open
 pub data Opened (p : Place) : g.Opening → Place → Type 0 where
   as_plain : (u : Text) → p.text ≡ codes "(?:" ++ u → Opened p g.plain (start p.scope u)
+  as_flagged : (t u : Text) (f : Flags) → p.text ≡ codes "(?" ++ (t ++ 58 ∷ u) → Setting p.scope.meaning t p.scope.flags f → Opened p g.plain (start (in_force f p.scope) u)
+  as_setting : (t u : Text) (f : Flags) → p.text ≡ codes "(?" ++ (t ++ 41 ∷ u) → Setting p.scope.meaning t p.scope.flags f → Opened p g.setting (start (in_force f p.scope) u)
   as_capture : (u : Text) → p.text ≡ 40 ∷ u → is_at "?*" u ≡ false → Opened p (g.capture (p.scope.opened + 1)) (start (one_more_group p.scope) u)
+
+is_opened : {p : Place} {how : g.Opening} {q : Place} {a : g.Opening} {b : Place} → ◌≡◌ {A = Option (g.Opening × Place)} (Some (a, b)) (Some (how, q)) → Opened p a b → Opened p how q
+is_opened {p} {how} {q} {a} {b} s o = let t = some_pair s in subst (λ x. Opened p x q) t.0 (subst (λ y. Opened p a y) t.1 o)
+
+-- the opening by flags
+flags_opened : (p : Place) (how : g.Opening) (q : Place) (f : Flags) (t v : Text) → p.text ≡ codes "(?" ++ (t ++ v) → Setting p.scope.meaning t p.scope.flags f → is_at ":)" v ≡ true
+    → ◌≡◌ {A = Option (g.Opening × Place)} (g.flag_group p (Some (f, v))) (Some (how, q)) → Opened p how q
+flags_opened p how q f t [] is l e h = absurd (some_is_none (sym h))
+flags_opened p how q f t (c ∷ v) is l e h = go (58 == c) refl e h
+  where
+    go : (b : Bool) → (58 == c) ≡ b → (b || ((41 == c) || false)) ≡ true → ◌≡◌ {A = Option (g.Opening × Place)} (Some (cond b g.plain g.setting, start (in_force f p.scope) v)) (Some (how, q)) → Opened p how q
+    go true x e h = is_opened h (as_flagged t v f (is ∙ ap (λ d. 40 ∷ 63 ∷ (t ++ d ∷ v)) (char_is 58 c x)) l)
+    go false x e h = is_opened h (as_setting t v f (is ∙ ap (λ d. 40 ∷ 63 ∷ (t ++ d ∷ v)) (char_is 41 c (left_of (41 == c) false e refl))) l)
 
 pub opened : (p : Place) (how : g.Opening) (q : Place) → is_at "(" p.text ≡ true → opening p ≡ Some (how, q) → Opened p how q
 opened p how q e h =
     elim (chosen (begins "(?:" p.text) _ _ _ h) [
-      | inl x ↦ is_it x.1 (as_plain (drop 3 p.text) (begins_with (codes "(?:") p.text x.0))
-      | inr x ↦ elim (chosen (begins "(?" p.text || begins "(*" p.text) _ _ _ x.1) [
-        | inl x ↦ absurd (some_is_none (sym x.1))
-        | inr x ↦ is_it x.1 (as_capture (drop 1 p.text) (at_char 40 p.text e) (no_special (drop 1 p.text) (rw (at_char 40 p.text e) at x.0)))
+      | inl x ↦ is_opened x.1 (as_plain (drop 3 p.text) (begins_with (codes "(?:") p.text x.0))
+      | inr x ↦ elim (chosen (begins "(?" p.text) _ _ _ x.1) [
+        | inl y ↦ by_flags (g.flags_in p.scope.meaning (drop 2 p.text) (g.first_letter p.scope.flags)) refl (begins_with (codes "(?") p.text y.0) y.1
+        | inr y ↦ (let none = y.0 in elim (chosen (begins "(*" p.text) _ _ _ y.1) [
+          | inl x ↦ absurd (some_is_none (sym x.1))
+          | inr x ↦ is_opened x.1 (as_capture (drop 1 p.text) (at_char 40 p.text e) (no_special (drop 1 p.text) (rw (at_char 40 p.text e) at none) (rw (at_char 40 p.text e) at x.0)))
+        ])
       ]
     ]
   where
-    is_it : {a : g.Opening} {b : Place} → ◌≡◌ {A = Option (g.Opening × Place)} (Some (a, b)) (Some (how, q)) → Opened p a b → Opened p how q
-    is_it {a} {b} s o = let t = some_pair s in subst (λ x. Opened p x q) t.0 (subst (λ y. Opened p a y) t.1 o)
+    by_flags : (o : Option (Flags × Text)) → g.flags_in p.scope.meaning (drop 2 p.text) (g.first_letter p.scope.flags) ≡ o → p.text ≡ codes "(?" ++ drop 2 p.text
+        → ◌≡◌ {A = Option (g.Opening × Place)} (g.flag_group p o) (Some (how, q)) → Opened p how q
+    by_flags None x is h = absurd (some_is_none (sym h))
+    by_flags (Some (f, v)) x is h =
+        let r = setting_spelled p.scope.meaning (drop 2 p.text) p.scope.flags f v x in
+        flags_opened p how q f r.letters v (is ∙ ap (λ l. 40 ∷ 63 ∷ l) r.is) r.spelled r.ends h
 
 -- the number of turns that was read
 pub record Stated (p : Place) (b : Bounds) (q : Place) : Type 0 where
@@ -229,8 +303,9 @@ tasted p how q h =
 
 -- the quantifier that was read, or none
 pub data Quantity (a : Pattern) (q : Place) : Pattern → Place → Type 0 where
-  no_mark : begins_quantifier q.text ≡ false → Quantity a q a q
-  marked : {low : ℕ} {high : Option ℕ} {taste : Taste} (m u : Text) → q.text ≡ m ++ u → is_empty a ≡ false → Quantifies m u low high taste → Quantity a q (repeat low high taste a) (start q.scope u)
+  no_mark : IsUnquantified q.scope.flags.ignore_blanks q.text → Quantity a q a q
+  marked : {low : ℕ} {high : Option ℕ} {taste : Taste} (w m u : Text) → q.text ≡ w ++ (m ++ u) → Blanks q.scope.flags.ignore_blanks w (m ++ u) → is_empty a ≡ false → Quantifies m u low high taste
+      → Quantity a q (repeat low high taste a) (start q.scope u)
 
 -- a repeat is its number of turns and its taste
 pub record Repeats (a : Pattern) (o : Option (Bounds × Place)) (t : Pattern) (r : Place) : Type 0 where
@@ -249,30 +324,35 @@ repeats a (Some (b, p)) t r h = go (g.taste p) refl h
     go None e h = absurd (some_is_none (sym h))
     go (Some (how, s)) e h = let x = some_pair h in record { bounds = b; behind = p; how = how; turns = refl; taste = e ∙ ap (λ (y : Place). Some (how, y)) x.1; is = x.0 }
 
-quantity_of : (a : Pattern) (q p : Place) {b : Bounds} {r : Place} {how : Taste} → is_empty a ≡ false → Stated q b p → Tasted p how r → Quantity a q (repeat b.0 b.1 how a) r
+quantity_of : (a : Pattern) (q p : Place) {b : Bounds} {r : Place} {how : Taste} → is_empty a ≡ false → Stated (here q) b p → Tasted p how r → Quantity a q (repeat b.0 b.1 how a) r
 quantity_of a q p {b} e s (no_suffix h) =
-    subst (λ y. Quantity a q (repeat b.0 b.1 Greedy a) y) (sym s.end) (marked s.mark s.rest s.text e (greedily s.states (ap (λ (y : Place). is_at "?+" y.text) (sym s.end) ∙ h)))
+    let w = skipped q.scope.flags.ignore_blanks q.text in
+    subst (λ y. Quantity a q (repeat b.0 b.1 Greedy a) y) (sym s.end)
+    (marked w.row s.mark s.rest (w.is ∙ ap (λ l. w.row ++ l) s.text) (subst (λ l. Blanks q.scope.flags.ignore_blanks w.row l) s.text w.spelled) e
+    (greedily s.states (ap (λ (y : Place). is_at "?+" y.text) (sym s.end) ∙ h)))
 quantity_of a q p {b} e s (lazy_suffix u h) =
+    let w = skipped q.scope.flags.ignore_blanks q.text in
+    let is : (here q).text ≡ (s.mark ++ codes "?") ++ u = s.text ∙ (ap (λ l. s.mark ++ l) (ap (λ (y : Place). y.text) (sym s.end) ∙ h) ∙ sym (append_assoc s.mark (63 ∷ []) u)) in
     subst (λ (y : Place). Quantity a q (repeat b.0 b.1 Lazy a) (start y.scope u)) (sym s.end)
-    (marked (s.mark ++ codes "?") u (s.text ∙ (ap (λ l. s.mark ++ l) (ap (λ (y : Place). y.text) (sym s.end) ∙ h) ∙ sym (append_assoc s.mark (63 ∷ []) u))) e (lazily s.states))
+    (marked w.row (s.mark ++ codes "?") u (w.is ∙ ap (λ l. w.row ++ l) is) (subst (λ l. Blanks q.scope.flags.ignore_blanks w.row l) is w.spelled) e (lazily s.states))
 
 pub quantity : (a : Pattern) (q : Place) (t : Pattern) (r : Place) → g.quantified a q ≡ Some (t, r) → Quantity a q t r
 quantity a q t r h =
-    elim (chosen (not (begins_quantifier q.text)) _ _ _ h) [
-      | inl x ↦ is_it x.1 (no_mark (not_true _ x.0))
+    elim (chosen (not (begins_quantifier (here q).text)) _ _ _ h) [
+      | inl x ↦ is_it x.1 (no_mark (unquantified_is_spelled q.scope.flags.ignore_blanks q.text (not_true _ x.0)))
       | inr x ↦ elim (chosen (is_empty a) _ _ _ x.1) [
         | inl x ↦ absurd (some_is_none (sym x.1))
         | inr x ↦
-            let w = repeats a (g.turns q) t r x.1 in
-            subst (λ y. Quantity a q y r) w.is (quantity_of a q w.behind x.0 (stated q w.bounds w.behind w.turns) (tasted w.behind w.how r w.taste))
+            let w = repeats a (g.turns (here q)) t r x.1 in
+            subst (λ y. Quantity a q y r) w.is (quantity_of a q w.behind x.0 (stated (here q) w.bounds w.behind w.turns) (tasted w.behind w.how r w.taste))
       ]
     ]
   where
     is_it : {u : Pattern} {b : Place} → ◌≡◌ {A = Option (Pattern × Place)} (Some (u, b)) (Some (t, r)) → Quantity a q u b → Quantity a q t r
     is_it {u} {b} s o = let e = some_pair s in subst (λ x. Quantity a q x r) e.0 (subst (λ y. Quantity a q u y) e.1 o)
 
-pub atom_is : (p : Place) (a : Pattern) (q : Place) → atom p ≡ Some (a, q) → (w : Text) × (p.text ≡ w ++ q.text) × ((k : ℕ) → d.Atom k p.scope w q.text a q.scope)
-atom_is p a q h = go p.text refl h
+pub atom_is : (p : Place) (a : Pattern) (q : Place) → atom p ≡ Some (a, q) → past_blank p.scope.flags.ignore_blanks p.text ≡ None → (w : Text) × (p.text ≡ w ++ q.text) × ((k : ℕ) → d.Atom k p.scope w q.text a q.scope)
+atom_is p a q h clean = go p.text refl h
   where
     plainly : (c : ℕ) (t : Text) → p.text ≡ c ∷ t → cond {A = Option (Pattern × Place)} (is_special c || begins_count (c ∷ t)) None (Some (literal_of p.scope.meaning c, past 1 p)) ≡ Some (a, q) →
         (w : Text) × (p.text ≡ w ++ q.text) × ((k : ℕ) → d.Atom k p.scope w q.text a q.scope)
@@ -283,10 +363,11 @@ atom_is p a q h = go p.text refl h
               let s = some_pair x.1 in
               let n = either_false (is_special c) (begins_count (c ∷ t)) x.0 in
               let behind : t ≡ drop 1 p.text = ap (drop 1) (sym e) in
-              let no = subst (λ l. begins_count (c ∷ l) ≡ false) behind n.1 in (
+              let no = subst (λ l. begins_count (c ∷ l) ≡ false) behind n.1 in
+              let none = subst (λ l. past_blank p.scope.flags.ignore_blanks (c ∷ l) ≡ None) behind (ap (past_blank p.scope.flags.ignore_blanks) (sym e) ∙ clean) in (
                 c ∷ [],
                 e ∙ ap (λ l. c ∷ l) (behind ∙ ap (λ (y : Place). y.text) s.1),
-                λ k. subst (λ (y : Place). d.Atom k p.scope (c ∷ []) y.text a y.scope) s.1 (subst (λ b. d.Atom k p.scope (c ∷ []) (drop 1 p.text) b p.scope) s.0 (d.literal c n.0 no)),
+                λ k. subst (λ (y : Place). d.Atom k p.scope (c ∷ []) y.text a y.scope) s.1 (subst (λ b. d.Atom k p.scope (c ∷ []) (drop 1 p.text) b p.scope) s.0 (d.literal c n.0 no none)),
               )
         ]
 
@@ -311,14 +392,26 @@ atom_is p a q h = go p.text refl h
 -- an atom with what quantifies it
 pub spell_quantity : {k : ℕ} {s : Scope} {a t : Pattern} {q r : Place} {w : Text} → d.Atom k s w q.text a q.scope → Quantity a q t r → (v : Text) × (w ++ q.text ≡ v ++ r.text) × d.Item k s v r.text (Some t) r.scope
 spell_quantity {w = w} b (no_mark h) = (w, refl, d.bare b h)
-spell_quantity {k} {s} {a} {q = q} {w = w} b (marked m u e f h) =
-    (w ++ m, ap (λ l. w ++ l) e ∙ sym (append_assoc w m u), d.quantified (subst (λ l. d.Atom k s w l a q.scope) e b) f h)
+spell_quantity {k} {s} {a} {q = q} {w = w} b (marked v m u e c f h) =
+    (w ++ (v ++ m), ap (λ l. w ++ l) e ∙ (ap (λ l. w ++ l) (sym (append_assoc v m u)) ∙ sym (append_assoc w (v ++ m) u)), d.quantified (subst (λ l. d.Atom k s w l a q.scope) e b) f c h)
+
+spell_setting : {k : ℕ} {p q : Place} {how : g.Opening} → Opened p how q → how ≡ g.setting → (t : Text) × (p.text ≡ t ++ q.text) × d.Item (suc k) p.scope t q.text None q.scope
+spell_setting (as_plain u e) h = absurd (plain_opens h)
+spell_setting (as_flagged t u f e l) h = absurd (plain_opens h)
+spell_setting (as_setting t u f e l) h = (codes "(?" ++ (t ++ codes ")"), e ∙ ap (λ v. codes "(?" ++ v) (sym (append_assoc t (41 ∷ []) u)), d.set l)
+spell_setting {p = p} (as_capture u e f) h = absurd (capture_opens (p.scope.opened + 1) h)
 
 -- the group that a parenthesis opens, from what is inside it
-spell_group : {k : ℕ} {p inside : Place} {how : g.Opening} {t after : Text} {bs : List Pattern} {s : Scope} → Opened p how inside → inside.text ≡ t ++ 41 ∷ after
+spell_group : {k : ℕ} {p inside : Place} {how : g.Opening} {t after : Text} {bs : List Pattern} {s : Scope} → Opened p how inside → (how ≡ g.setting → ⊥) → inside.text ≡ t ++ 41 ∷ after
     → d.Branches k inside.scope t (41 ∷ after) bs s → (w : Text) × (p.text ≡ w ++ after) × d.Atom (suc k) p.scope w after (wrap how (in_branches bs)) (back_to p.scope s)
-spell_group {t = t} {after = after} (as_plain u e) i b = (codes "(?:" ++ (t ++ codes ")"), e ∙ ap (λ l. codes "(?:" ++ l) (i ∙ sym (append_assoc t (41 ∷ []) after)), d.plain b)
-spell_group {t = t} {after = after} (as_capture u e f) i b = (codes "(" ++ (t ++ codes ")"), e ∙ ap (λ l. 40 ∷ l) (i ∙ sym (append_assoc t (41 ∷ []) after)), d.capture (rw i at f) b)
+spell_group {t = t} {after = after} (as_plain u e) n i b = (codes "(?:" ++ (t ++ codes ")"), e ∙ ap (λ l. codes "(?:" ++ l) (i ∙ sym (append_assoc t (41 ∷ []) after)), d.plain b)
+spell_group {t = t} {after = after} (as_flagged v u f e l) n i b = (
+  codes "(?" ++ (v ++ (codes ":" ++ (t ++ codes ")"))),
+  e ∙ (ap (λ x. codes "(?" ++ (v ++ 58 ∷ x)) (i ∙ sym (append_assoc t (41 ∷ []) after)) ∙ ap (λ x. codes "(?" ++ x) (sym (append_assoc v (58 ∷ (t ++ 41 ∷ [])) after))),
+  d.flagged l b,
+)
+spell_group (as_setting v u f e l) n i b = absurd (n refl)
+spell_group {t = t} {after = after} (as_capture u e f) n i b = (codes "(" ++ (t ++ codes ")"), e ∙ ap (λ l. 40 ∷ l) (i ∙ sym (append_assoc t (41 ∷ []) after)), d.capture (rw i at f) b)
 
 mutual
   pub spell_branches : {k : ℕ} {p r : Place} {bs : List Pattern} → g.Branches k p bs r → (t : Text) × (p.text ≡ t ++ r.text) × d.Branches k p.scope t r.text bs r.scope
@@ -330,21 +423,27 @@ mutual
       (x.0 ++ (124 ∷ y.0), x.1 ∙ (ap (λ l. x.0 ++ l) is ∙ sym (append_assoc x.0 (124 ∷ y.0) r.text)), d.either (subst (λ l. d.Parts k p.scope x.0 l ps q.scope) is x.2) y.2)
 
   pub spell_parts : {k : ℕ} {p r : Place} {ps : List Pattern} → g.Parts k p ps r → (t : Text) × (p.text ≡ t ++ r.text) × d.Parts k p.scope t r.text ps r.scope
-  spell_parts (g.none e) = ([], refl, d.nothing)
+  spell_parts {p = p} (g.none e) = let w = skipped p.scope.flags.ignore_blanks p.text in (w.row, w.is, d.nothing w.spelled)
   spell_parts {k} {p} {r} (g.next {q = q} {item = item} h i ps) =
-      let x = spell_item i in
+      let w = skipped p.scope.flags.ignore_blanks p.text in
+      let x = spell_item i (no_blank_left p.scope.flags.ignore_blanks p.text) in
       let y = spell_parts ps in
-      (x.0 ++ y.0, x.1 ∙ (ap (λ l. x.0 ++ l) y.1 ∙ sym (append_assoc x.0 y.0 r.text)), d.item (subst (λ l. d.Item k p.scope x.0 l item q.scope) y.1 x.2) y.2)
+      let is : (here p).text ≡ x.0 ++ (y.0 ++ r.text) = x.1 ∙ ap (λ l. x.0 ++ l) y.1 in (
+        w.row ++ (x.0 ++ y.0),
+        w.is ∙ (ap (λ l. w.row ++ l) (is ∙ sym (append_assoc x.0 y.0 r.text)) ∙ sym (append_assoc w.row (x.0 ++ y.0) r.text)),
+        d.item (subst (λ l. Blanks p.scope.flags.ignore_blanks w.row l) is w.spelled) (subst (λ l. d.Item k p.scope x.0 l item q.scope) y.1 x.2) y.2,
+      )
 
-  pub spell_item : {k : ℕ} {p r : Place} {x : Option Pattern} → g.Item k p x r → (t : Text) × (p.text ≡ t ++ r.text) × d.Item k p.scope t r.text x r.scope
-  spell_item {k} {p} (g.single {q = q} {r = r} {a = a} {x = x} e f h) =
-      let w = atom_is p a q f in
+  pub spell_item : {k : ℕ} {p r : Place} {x : Option Pattern} → g.Item k p x r → past_blank p.scope.flags.ignore_blanks p.text ≡ None → (t : Text) × (p.text ≡ t ++ r.text) × d.Item k p.scope t r.text x r.scope
+  spell_item {p = p} (g.sets {q = q} e o) clean = spell_setting (opened p g.setting q e o) refl
+  spell_item {k} {p} (g.single {q = q} {r = r} {a = a} {x = x} e f h) clean =
+      let w = atom_is p a q f clean in
       let y = spell_quantity (w.2 k) (quantity a q x r h) in
       (y.0, w.1 ∙ y.1, y.2)
-  spell_item {p = p} (g.grouped {k = k} {inside = inside} {q = q} {r = r} {how = how} {bs = bs} {x = x} e o b c f) =
+  spell_item {p = p} (g.grouped {k = k} {inside = inside} {q = q} {r = r} {how = how} {bs = bs} {x = x} e o n b c f) clean =
       let y = spell_branches b in
       let is : q.text ≡ 41 ∷ drop 1 q.text = at_char 41 q.text c in
-      let w = spell_group (opened p how inside e o) (y.1 ∙ ap (λ l. y.0 ++ l) is) (subst (λ l. d.Branches k inside.scope y.0 l bs q.scope) is y.2) in
+      let w = spell_group (opened p how inside e o) n (y.1 ∙ ap (λ l. y.0 ++ l) is) (subst (λ l. d.Branches k inside.scope y.0 l bs q.scope) is y.2) in
       let z = spell_quantity w.2 (quantity _ _ x r f) in
       (z.0, w.1 ∙ z.1, z.2)
 

@@ -1,5 +1,5 @@
 -- The dialect, over whole texts: which text spells which pattern. `after` is what follows the text in the whole pattern, so that each case can say that no longer form begins at its place; therefore the cases exclude one another, and a text spells at most one pattern.
-use Rattle.std.specs.Prelude.{◌≡◌, ℕ, suc, ◌+◌, ◌≤◌, ◌==◌, Bool, true, false, not, ◌&&◌, ◌||◌, List, [], ◌∷◌, ◌++◌, Option, Some, None, codes, map, encode_utf8}
+use Rattle.std.specs.Prelude.{◌≡◌, ℕ, suc, ◌+◌, ◌≤◌, ◌==◌, Bool, true, false, not, ◌&&◌, ◌||◌, List, [], ◌∷◌, ◌++◌, Option, Some, None, codes, map, encode_utf8, if◌then◌else◌}
 use Rattle.std.specs.Char.{is_ascii_punctuation}
 use Rattle.fancy_syntax.specs.declared.tree.Meaning.{Meaning}
 use Rattle.fancy_syntax.specs.declared.tree.Meaning.TheVariants.{Unicode, Bytes, AsciiText}
@@ -7,7 +7,7 @@ use Rattle.fancy_syntax.specs.declared.tree.Taste.{Taste}
 use Rattle.fancy_syntax.specs.declared.tree.Taste.TheVariants.{Greedy, Lazy}
 use Rattle.fancy_syntax.specs.Pattern.{Pattern, character, group, repeat, in_sequence, in_branches}
 use Rattle.fancy_syntax.specs.Sizes.{nodes, is_empty}
-use Rattle.fancy_syntax.specs.Words.{Text, ◌∈◌, is_at, is_at_digit, decimal, are_digits, begins_count}
+use Rattle.fancy_syntax.specs.Words.{Text, ◌∈◌, is_among, is_at, is_at_digit, is_blank, past_blank, decimal, are_digits, begins_count}
 
 -- the flags `i m s x R`
 pub record Flags : Type 0 where
@@ -26,6 +26,39 @@ pub record Scope : Type 0 where
   -- the named ones among them
   pub names : List (Text × ℕ)
   pub in_look_around : Bool
+
+-- these flags are in force from here on
+abbrev pub in_force : Flags → Scope → Scope
+in_force f s = record s { flags = f }
+
+abbrev pub is_unicode : Meaning → Bool
+is_unicode Unicode = true
+is_unicode Bytes = false
+is_unicode AsciiText = false
+
+abbrev pub agrees : Bool → Bool → Bool
+agrees true y = y
+agrees false y = not y
+
+-- The flags with this letter's set, or cleared; none where it is no letter of a flag. `u` changes nothing: it states whether items are characters of all of Unicode, and must state what holds. The letter `i` is no letter yet.
+abbrev pub with_flag : Meaning → Bool → ℕ → Flags → Option Flags
+with_flag m on c f =
+    if 109 == c then Some (record f { multi_line = on })
+    else if 115 == c then Some (record f { dot_all = on })
+    else if 120 == c then Some (record f { ignore_blanks = on })
+    else if 82 == c then Some (record f { crlf = on })
+    else if (117 == c) && agrees on (is_unicode m) then Some f
+    else None
+
+-- letters of flags, each of which is set, or cleared, in turn
+pub data Letters : Meaning → Bool → Text → Flags → Flags → Type 0 where
+  no_letter : {m : Meaning} {on : Bool} {f : Flags} → Letters m on [] f f
+  letter : {m : Meaning} {on : Bool} {t : Text} {f g h : Flags} (c : ℕ) → with_flag m on c f ≡ Some g → Letters m on t g h → Letters m on (c ∷ t) f h
+
+-- letters of the flags that are set, and behind a dash of those that are cleared: at least one, and at least one behind the dash
+pub data Setting : Meaning → Text → Flags → Flags → Type 0 where
+  setting_on : {m : Meaning} {t : Text} {f g : Flags} (c : ℕ) → Letters m true (c ∷ t) f g → Setting m (c ∷ t) f g
+  setting_off : {m : Meaning} {t u : Text} {f g h : Flags} (c : ℕ) → Letters m true t f g → Letters m false (c ∷ u) g h → Setting m (t ++ (codes "-" ++ (c ∷ u))) f h
 
 -- one more capturing group was opened
 abbrev pub one_more_group : Scope → Scope
@@ -74,6 +107,22 @@ pub data Quantifies : Text → Text → ℕ → Option ℕ → Taste → Type 0 
   greedily : {t after : Text} {low : ℕ} {high : Option ℕ} → Turns t low high → is_at "?+" after ≡ false → Quantifies t after low high Greedy
   lazily : {t after : Text} {low : ℕ} {high : Option ℕ} → Turns t low high → Quantifies (t ++ codes "?") after low high Lazy
 
+-- This text is a comment, or where the flag is set a blank or a line behind `#`; at the pattern's end the line needs no line feed.
+pub data Blank : Bool → Text → Text → Type 0 where
+  comment : {ignore_blanks : Bool} {after : Text} (inside : Text) → is_among 41 inside ≡ false → Blank ignore_blanks (codes "(?#" ++ (inside ++ codes ")")) after
+  blank : {after : Text} (c : ℕ) → is_blank c ≡ true → Blank true (c ∷ []) after
+  line : {after : Text} (inside : Text) → is_among 10 inside ≡ false → Blank true (codes "#" ++ (inside ++ 10 ∷ [])) after
+  last_line : (inside : Text) → is_among 10 inside ≡ false → Blank true (codes "#" ++ inside) []
+
+-- a row of them, perhaps empty, which is skipped
+pub data Blanks : Bool → Text → Text → Type 0 where
+  no_blank : {ignore_blanks : Bool} {after : Text} → Blanks ignore_blanks [] after
+  blanks : {ignore_blanks : Bool} {t u after : Text} → Blank ignore_blanks t (u ++ after) → Blanks ignore_blanks u after → Blanks ignore_blanks (t ++ u) after
+
+-- no quantifier stands here, not behind blanks either
+abbrev pub IsUnquantified : Bool → Text → Type 0
+IsUnquantified ignore_blanks after = (t u : Text) → after ≡ t ++ u → Blanks ignore_blanks t u → begins_quantifier u ≡ false
+
 -- an item gives a sequence one part, or none
 abbrev pub with_part : Option Pattern → List Pattern → List Pattern
 with_part None ps = ps
@@ -87,24 +136,28 @@ mutual
     either : {k : ℕ} {s q r : Scope} {t u after : Text} {ps bs : List Pattern} → Parts k s t (codes "|" ++ (u ++ after)) ps q → Branches k q u after bs r
         → Branches k s (t ++ (codes "|" ++ u)) after (in_sequence ps ∷ bs) r
 
-  -- items, one behind the other
+  -- items, one behind the other, with blanks before and behind them
   pub data Parts : ℕ → Scope → Text → Text → List Pattern → Scope → Type 0 where
-    nothing : {k : ℕ} {s : Scope} {after : Text} → Parts k s [] after [] s
-    item : {k : ℕ} {s q r : Scope} {t u after : Text} {x : Option Pattern} {ps : List Pattern} → Item k s t (u ++ after) x q → Parts k q u after ps r
-        → Parts k s (t ++ u) after (with_part x ps) r
+    nothing : {k : ℕ} {s : Scope} {t after : Text} → Blanks s.flags.ignore_blanks t after → Parts k s t after [] s
+    item : {k : ℕ} {s q r : Scope} {t u v after : Text} {x : Option Pattern} {ps : List Pattern} → Blanks s.flags.ignore_blanks t (u ++ (v ++ after)) → Item k s u (v ++ after) x q
+        → Parts k q v after ps r → Parts k s (t ++ (u ++ v)) after (with_part x ps) r
 
-  -- an atom, perhaps with a quantifier
+  -- a setting of flags, or an atom, perhaps with a quantifier, and blanks between the two
   pub data Item : ℕ → Scope → Text → Text → Option Pattern → Scope → Type 0 where
-    bare : {k : ℕ} {s q : Scope} {t after : Text} {a : Pattern} → Atom k s t after a q → begins_quantifier after ≡ false → Item k s t after (Some a) q
-    quantified : {k low : ℕ} {high : Option ℕ} {taste : Taste} {s q : Scope} {t u after : Text} {a : Pattern} → Atom k s t (u ++ after) a q → is_empty a ≡ false
-        → Quantifies u after low high taste → Item k s (t ++ u) after (Some (repeat low high taste a)) q
+    -- a setting of flags gives no part, and holds up to the end of the enclosing group
+    set : {k : ℕ} {s : Scope} {t after : Text} {f : Flags} → Setting s.meaning t s.flags f → Item (suc k) s (codes "(?" ++ (t ++ codes ")")) after None (in_force f s)
+    bare : {k : ℕ} {s q : Scope} {t after : Text} {a : Pattern} → Atom k s t after a q → IsUnquantified q.flags.ignore_blanks after → Item k s t after (Some a) q
+    quantified : {k low : ℕ} {high : Option ℕ} {taste : Taste} {s q : Scope} {t u v after : Text} {a : Pattern} → Atom k s t (u ++ (v ++ after)) a q → is_empty a ≡ false
+        → Blanks q.flags.ignore_blanks u (v ++ after) → Quantifies v after low high taste → Item k s (t ++ (u ++ v)) after (Some (repeat low high taste a)) q
 
   -- a character, an escape or a group
   pub data Atom : ℕ → Scope → Text → Text → Pattern → Scope → Type 0 where
-    literal : {k : ℕ} {s : Scope} {after : Text} (c : ℕ) → is_special c ≡ false → begins_count (c ∷ after) ≡ false → Atom k s (c ∷ []) after (literal_of s.meaning c) s
+    literal : {k : ℕ} {s : Scope} {after : Text} (c : ℕ) → is_special c ≡ false → begins_count (c ∷ after) ≡ false → past_blank s.flags.ignore_blanks (c ∷ after) ≡ None → Atom k s (c ∷ []) after (literal_of s.meaning c) s
     escaped : {k : ℕ} {s : Scope} {after : Text} (c : ℕ) → is_escapable c ≡ true → Atom k s (codes "\\" ++ c ∷ []) after (literal_of s.meaning c) s
     plain : {k : ℕ} {s q : Scope} {t after : Text} {bs : List Pattern} → Branches k s t (codes ")" ++ after) bs q
         → Atom (suc k) s (codes "(?:" ++ (t ++ codes ")")) after (in_branches bs) (back_to s q)
+    flagged : {k : ℕ} {s q : Scope} {u t after : Text} {f : Flags} {bs : List Pattern} → Setting s.meaning u s.flags f → Branches k (in_force f s) t (codes ")" ++ after) bs q
+        → Atom (suc k) s (codes "(?" ++ (u ++ (codes ":" ++ (t ++ codes ")")))) after (in_branches bs) (back_to s q)
     -- the groups are numbered from 1 by their openings
     capture : {k : ℕ} {s q : Scope} {t after : Text} {bs : List Pattern} → is_at "?*" (t ++ (codes ")" ++ after)) ≡ false → Branches k (one_more_group s) t (codes ")" ++ after) bs q
         → Atom (suc k) s (codes "(" ++ (t ++ codes ")")) after (group (s.opened + 1) (in_branches bs)) (back_to s q)

@@ -1,11 +1,13 @@
 -- The dialect as it is read: a text is read from one place to another, and nothing here says in which order. Lemmas show that this reading and `Dialect` give the same patterns.
-use Rattle.std.specs.Prelude.{◌≡◌, ℕ, suc, ◌+◌, Bool, true, false, not, ◌||◌, ◌&&◌, nat_le, List, [], ◌∷◌, drop, Option, Some, None, option_map, if◌then◌else◌}
+use Rattle.std.specs.Prelude.{◌≡◌, ℕ, suc, ◌+◌, Bool, true, false, not, ◌||◌, ◌&&◌, nat_le, List, [], ◌∷◌, drop, Option, Some, None, option_map, ◌==◌, if◌then◌else◌}
+use Rattle.std.specs.Option.{option_and_then}
+use Rattle.fancy_syntax.specs.declared.tree.Meaning.{Meaning}
 use Rattle.fancy_syntax.specs.declared.tree.Taste.{Taste}
 use Rattle.fancy_syntax.specs.declared.tree.Taste.TheVariants.{Greedy, Lazy}
 use Rattle.fancy_syntax.specs.Pattern.{Pattern, group, repeat, in_sequence, in_branches}
 use Rattle.fancy_syntax.specs.Sizes.{is_empty}
-use Rattle.fancy_syntax.specs.Words.{Text, ◌∈◌, is_at, begins, is_at_digit, past_digits, decimal, begins_count}
-use Rattle.fancy_syntax.specs.Dialect.{Scope, one_more_group, back_to, is_special, is_escapable, literal_of, begins_quantifier, with_part}
+use Rattle.fancy_syntax.specs.Words.{Text, ◌∈◌, is_at, begins, is_at_digit, past_digits, past_blanks, decimal, begins_count}
+use Rattle.fancy_syntax.specs.Dialect.{Flags, Scope, in_force, with_flag, one_more_group, back_to, is_special, is_escapable, literal_of, begins_quantifier, with_part}
 
 -- a place in a pattern: what follows, and what is in force there
 pub record Place : Type 0 where
@@ -16,8 +18,14 @@ pub record Place : Type 0 where
 abbrev pub past : ℕ → Place → Place
 past n p = record p { text = drop n p.text }
 
+-- the place behind the blanks and comments that stand here
+abbrev pub here : Place → Place
+here p = record p { text = past_blanks p.scope.flags.ignore_blanks p.text }
+
 -- what a parenthesis opens
 pub data Opening : Type 0 where
+  -- no group: flags up to the end of the enclosing one
+  setting : Opening
   -- a group that captures nothing
   plain : Opening
   -- the capturing group of this number
@@ -25,14 +33,48 @@ pub data Opening : Type 0 where
 
 -- what a group makes of the pattern inside it
 abbrev pub wrap : Opening → Pattern → Pattern
+wrap setting p = p
 wrap plain p = p
 wrap (capture n) p = group n p
+
+-- letters of flags, as far as they were read: the flags by now, whether the next ones are set, and whether one was read since the start or the dash
+pub record LettersRead : Type 0 where
+  pub flags : Flags
+  pub on : Bool
+  pub some : Bool
+
+-- with one more character read
+abbrev pub next_letter : Meaning → ℕ → LettersRead → Option LettersRead
+next_letter m c l =
+    if (45 == c) && l.on then Some (record { flags = l.flags; on = false; some = false })
+    else option_map (λ f. record { flags = f; on = l.on; some = true }) (with_flag m l.on c l.flags)
+
+-- the flags that are read up to a colon or a parenthesis, and the text from there on
+unfoldable pub flags_in : Meaning → Text → LettersRead → Option (Flags × Text)
+flags_in m [] l = None
+flags_in m (c ∷ t) l =
+    if c ∈ ":)" then (if l.some then Some (l.flags, c ∷ t) else None)
+    else option_and_then (λ next. flags_in m t next) (next_letter m c l)
+
+-- a colon opens a group, and a parenthesis none
+abbrev pub flag_group : Place → Option (Flags × Text) → Option (Opening × Place)
+flag_group p None = None
+flag_group p (Some (f, [])) = None
+flag_group p (Some (f, c ∷ t)) = Some (if 58 == c then plain else setting, record { text = t; scope = in_force f p.scope })
+
+abbrev pub first_letter : Flags → LettersRead
+first_letter f = record { flags = f; on = true; some = false }
+
+-- what the letters of flags behind a parenthesis and its question mark open
+abbrev pub flagged : Place → Option (Opening × Place)
+flagged p = flag_group p (flags_in p.scope.meaning (drop 2 p.text) (first_letter p.scope.flags))
 
 -- what the parenthesis here opens, and the place behind that
 abbrev pub opening : Place → Option (Opening × Place)
 opening p =
     if begins "(?:" p.text then Some (plain, past 3 p)
-    else if begins "(?" p.text || begins "(*" p.text then None
+    else if begins "(?" p.text then flagged p
+    else if begins "(*" p.text then None
     else Some (capture (p.scope.opened + 1), record { text = drop 1 p.text; scope = one_more_group p.scope })
 
 -- the pattern of one character, or of a backslash and what it escapes, that begins here
@@ -90,9 +132,9 @@ tasted a (Some (bounds, p)) = option_map (λ found. (repeat bounds.0 bounds.1 fo
 -- the pattern with the quantifier that stands here, if one does
 abbrev pub quantified : Pattern → Place → Option (Pattern × Place)
 quantified a p =
-    if not (begins_quantifier p.text) then Some (a, p)
+    if not (begins_quantifier (here p).text) then Some (a, p)
     else if is_empty a then None
-    else tasted a (turns p)
+    else tasted a (turns (here p))
 
 -- the place behind a group, which was opened outside and whose inside ends at q
 abbrev pub closed : Place → Place → Place
@@ -112,13 +154,14 @@ mutual
 
   -- the parts of one branch
   pub data Parts : ℕ → Place → List Pattern → Place → Type 0 where
-    none : {k : ℕ} {p : Place} → ends_branch p.text ≡ true → Parts k p [] p
-    next : {k : ℕ} {p q r : Place} {item : Option Pattern} {ps : List Pattern} → ends_branch p.text ≡ false → Item k p item q → Parts k q ps r → Parts k p (with_part item ps) r
+    none : {k : ℕ} {p : Place} → ends_branch (here p).text ≡ true → Parts k p [] (here p)
+    next : {k : ℕ} {p q r : Place} {item : Option Pattern} {ps : List Pattern} → ends_branch (here p).text ≡ false → Item k (here p) item q → Parts k q ps r → Parts k p (with_part item ps) r
 
   -- what can be quantified, with its quantifier
   pub data Item : ℕ → Place → Option Pattern → Place → Type 0 where
+    sets : {k : ℕ} {p q : Place} → is_at "(" p.text ≡ true → opening p ≡ Some (setting, q) → Item (suc k) p None q
     single : {k : ℕ} {p q r : Place} {a x : Pattern} → is_at "(" p.text ≡ false → atom p ≡ Some (a, q) → quantified a q ≡ Some (x, r) → Item k p (Some x) r
-    grouped : {k : ℕ} {p inside q r : Place} {how : Opening} {bs : List Pattern} {x : Pattern} → is_at "(" p.text ≡ true → opening p ≡ Some (how, inside)
+    grouped : {k : ℕ} {p inside q r : Place} {how : Opening} {bs : List Pattern} {x : Pattern} → is_at "(" p.text ≡ true → opening p ≡ Some (how, inside) → (how ≡ setting → ⊥)
         → Branches k inside bs q → is_at ")" q.text ≡ true → quantified (wrap how (in_branches bs)) (closed p q) ≡ Some (x, r) → Item (suc k) p (Some x) r
 
 abbrev pub start : Scope → Text → Place

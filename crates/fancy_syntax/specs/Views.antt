@@ -1,27 +1,40 @@
 -- What the parser's functions promise each other.
-use Rattle.std.specs.Prelude.{◌≡◌, ℕ, ◌-◌, ◌^◌, min, false, List, [], length, take, sum_by, Option, Some, None, Result, Ok, Err}
+use Rattle.std.specs.Prelude.{◌≡◌, ℕ, ◌-◌, ◌^◌, min, false, List, [], length, take, sum_by, Option, Some, None, option_map, Result, Ok, Err}
+use Rattle.std.specs.Borrow.{Bor}
 use Rattle.std.specs.Char.{len_utf8}
 use Rattle.fancy_syntax.specs.declared.parser.Parser.{Parser}
 use Rattle.fancy_syntax.specs.declared.error.Error.{Error}
 use Rattle.fancy_syntax.specs.declared.error.Error.TheVariants.{Memory, ParseError, CompileError, RuntimeError}
 use Rattle.fancy_syntax.specs.declared.groups.Opening.{Opening as Found}
-use Rattle.fancy_syntax.specs.declared.groups.Opening.TheVariants.{Plain, Capture}
+use Rattle.fancy_syntax.specs.declared.groups.Opening.TheVariants.{Setting, Plain, Capture}
+use Rattle.fancy_syntax.specs.declared.flags.Letters.{Letters}
 use Rattle.fancy_syntax.specs.declared.count.Turns.{Turns}
+use Rattle.fancy_syntax.specs.declared.flags.Flags.{Flags as Found_flags}
 use Rattle.fancy_syntax.specs.declared.tree.Tree.{Tree}
 use Rattle.fancy_syntax.specs.Pattern.{Pattern, pattern_of, in_sequence, in_branches}
 use Rattle.fancy_syntax.specs.Words.{Text}
-use Rattle.fancy_syntax.specs.Dialect.{no_flags}
-use Rattle.fancy_syntax.specs.Grammar.{Place, Opening, plain, capture, Bounds, Branches, Parts}
+use Rattle.fancy_syntax.specs.Dialect.{Flags}
+use Rattle.fancy_syntax.specs.Grammar.{Place, Opening, setting, plain, capture, LettersRead, Bounds, Branches, Parts}
 
--- The forms so far change nothing of what is in force, but for the groups that are opened.
+abbrev pub flags_of : Found_flags → Flags
+flags_of f = record { ignore_case = f.ignore_case; multi_line = f.multi_line; dot_all = f.dot_all; ignore_blanks = f.ignore_blanks; crlf = f.crlf }
+
+abbrev pub letters_of : Letters → LettersRead
+letters_of l = record { flags = flags_of l.flags; on = l.on; some = l.some }
+
+-- flags, and the text behind them
+abbrev pub read_of : Found_flags × Bor Text → Flags × Text
+read_of r = (flags_of r.0, r.1.now)
+
 abbrev pub place : Parser → Place
-place p = record { text = p.rest.now; scope = record { meaning = p.meaning; flags = no_flags; opened = p.opened; names = []; in_look_around = false } }
+place p = record { text = p.rest.now; scope = record { meaning = p.meaning; flags = flags_of p.flags; opened = p.opened; names = []; in_look_around = false } }
 
 -- how many bytes of the whole pattern stand before the rest
 abbrev pub bytes_before : Text → Text → ℕ
 bytes_before whole rest = min (sum_by len_utf8 (take (length whole - length rest) whole)) (2 ^ 64 - 1)
 
 abbrev pub found : Found → Opening
+found Setting = setting
 found Plain = plain
 found (Capture n) = capture n
 
@@ -62,5 +75,5 @@ abbrev pub Sequence : ℕ → Place → Pattern → Place → Type 0
 Sequence k p x q = (ps : List Pattern) × (x ≡ in_sequence ps) × Parts k p ps q
 
 -- the part that an item gives
-abbrev pub part_of : Tree → Option Pattern
-part_of t = Some (pattern_of t)
+abbrev pub part_of : Option Tree → Option Pattern
+part_of t = option_map pattern_of t

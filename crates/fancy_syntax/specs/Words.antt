@@ -1,5 +1,5 @@
 -- The words in which the grammar speaks of the characters of a pattern.
-use Rattle.std.specs.Prelude.{ℕ, ◌+◌, ◌-◌, ◌*◌, ◌==◌, ◌||◌, ◌&&◌, Bool, true, false, nat_eq, List, [], ◌∷◌, codes, drop, if◌then◌else◌}
+use Rattle.std.specs.Prelude.{ℕ, zero, suc, ◌+◌, ◌-◌, ◌*◌, ◌==◌, ◌||◌, ◌&&◌, Bool, true, false, nat_eq, List, [], ◌∷◌, codes, drop, length, Option, Some, None, if◌then◌else◌}
 use Rattle.std.specs.List.{starts_with, list_any}
 use Rattle.std.specs.Char.{is_ascii_digit}
 use Prim.Native.String.{String}
@@ -60,3 +60,40 @@ is_count t =
 -- a count begins here
 abbrev pub begins_count : Text → Bool
 begins_count t = is_at "{" t && is_count (drop 1 t)
+
+-- space, TAB, LF and CR
+abbrev pub is_blank : ℕ → Bool
+is_blank c = is_among c (32 ∷ 9 ∷ 10 ∷ 13 ∷ [])
+
+-- what follows the line that stands first, with its end
+abbrev pub past_line : Text → Text
+past_line [] = []
+past_line (c ∷ t) = if c == 10 then t else past_line t
+
+-- what follows the next `)`, if there is one
+abbrev pub past_comment : Text → Option Text
+past_comment [] = None
+past_comment (c ∷ t) = if c == 41 then Some t else past_comment t
+
+-- what follows the blank or comment that stands first, if one does; blanks, and lines behind `#`, only where the flag is set
+abbrev pub past_blank : Bool → Text → Option Text
+past_blank ignore_blanks [] = None
+past_blank ignore_blanks (c ∷ t) =
+    if is_blank c && ignore_blanks then Some t
+    else if (35 == c) && ignore_blanks then Some (past_line t)
+    else if begins "(?#" (c ∷ t) then past_comment (drop 2 t)
+    else None
+
+-- this text, or where it is none the other
+abbrev pub text_or : (Text → Text) → Text → Option Text → Text
+text_or on t None = t
+text_or on t (Some u) = on u
+
+-- what follows n of them at most
+unfoldable pub past_blanks_in : ℕ → Bool → Text → Text
+past_blanks_in zero ignore_blanks t = t
+past_blanks_in (suc n) ignore_blanks t = text_or (past_blanks_in n ignore_blanks) t (past_blank ignore_blanks t)
+
+-- what follows all of them; a comment that is not closed is left
+abbrev pub past_blanks : Bool → Text → Text
+past_blanks ignore_blanks t = past_blanks_in (length t) ignore_blanks t

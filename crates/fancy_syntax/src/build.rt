@@ -107,7 +107,7 @@ pub(crate) fn wrap(alloc: Global, how: Opening, body: Tree) -> Result<Tree, Allo
     ensures { IfOk result (λ t. pattern_of t ≡ wrap (found how) (pattern_of body)) }
 {
     match how {
-        Opening::Plain => Ok(body),
+        Opening::Setting | Opening::Plain => Ok(body),
         Opening::Capture(index) => Ok(Tree::Group {
             index,
             body: Box::new(alloc, body)?,

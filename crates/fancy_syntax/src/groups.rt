@@ -3,7 +3,9 @@
 /// What a parenthesis opens.
 #[derive(Clone, Copy)]
 pub(crate) enum Opening {
-    /// `(?:`, a group that captures nothing.
+    /// Flags up to the end of the enclosing group, as `(?m)`.
+    Setting,
+    /// `(?:` or flags and a colon, a group that captures nothing.
     Plain,
     /// `(`, the capturing group of this number.
     Capture(usize),

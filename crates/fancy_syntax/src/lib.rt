@@ -1,9 +1,11 @@
 //! Patterns of the dialect: how they are read, what they are, and why they are refused.
 #![tactic(auto)]
 
+mod blank;
 mod build;
 mod count;
 pub mod error;
+mod flags;
 mod groups;
 pub mod laws;
 mod measure;

@@ -7,6 +7,7 @@ ghost use Rattle.fancy_syntax.specs.Pattern.{Pattern, pattern_of};
 ghost use Rattle.fancy_syntax.specs.Refusals.{IsRefused};
 
 use crate::error::{CompileError, Error, ParseErrorKind};
+use crate::flags::Flags;
 use crate::parser::Parser;
 use crate::tree::{Meaning, Tree};
 use std::alloc::Global;
@@ -61,6 +62,7 @@ pub fn parse_with(alloc: Global, pattern: &str, meaning: Meaning) -> Result<Pars
         whole: &characters,
         rest: &characters,
         meaning,
+        flags: Flags::NONE,
         opened: 0,
         alloc,
     };
@@ -124,6 +126,38 @@ mod tests {
                 Some((1, ParseErrorKind::InvalidRepeat)),
             ),
             ("a{}{,}{1 }", None),
+            ("(?#a)b(?#c)*(?#d)|(?#(?#)", None),
+            (
+                "(?x) a # b\n c(?-x: )(?s-x-)",
+                Some((20, ParseErrorKind::UnknownFlag)),
+            ),
+            ("(?x) a # b\n +(?-x: )(?smRx)(?m) |# c", None),
+            ("(?x:a b)(?ux-R: )", None),
+            ("(?)", Some((0, ParseErrorKind::UnknownFlag))),
+            ("(?-)", Some((0, ParseErrorKind::UnknownFlag))),
+            ("(?m-:a)", Some((0, ParseErrorKind::UnknownFlag))),
+            ("(?z)", Some((0, ParseErrorKind::UnknownFlag))),
+            ("(?Pa)", Some((0, ParseErrorKind::UnknownFlag))),
+            ("(?P<a>b)", Some((0, ParseErrorKind::NotInProfile))),
+            ("(?i)", Some((0, ParseErrorKind::NotInProfile))),
+            ("(?-1)", Some((0, ParseErrorKind::NotInProfile))),
+            (
+                "(?-u)",
+                Some((0, ParseErrorKind::ChangingUnicodeModeUnsupported)),
+            ),
+            ("(?m", Some((0, ParseErrorKind::UnclosedOpenParen))),
+            ("(?uz)", Some((0, ParseErrorKind::UnknownFlag))),
+            ("(?m)*", Some((4, ParseErrorKind::TargetNotRepeatable))),
+            ("(?:(?m))*", Some((8, ParseErrorKind::TargetNotRepeatable))),
+            ("(?x)a+ +", Some((7, ParseErrorKind::TargetNotRepeatable))),
+            ("(?x)a{1 }", None),
+            ("(?#a", Some((0, ParseErrorKind::UnclosedOpenParen))),
+            (
+                "a(?#b)+(?#c)+",
+                Some((12, ParseErrorKind::TargetNotRepeatable)),
+            ),
+            ("(?#a)+", Some((5, ParseErrorKind::TargetNotRepeatable))),
+            ("(?:(?#a))*", Some((9, ParseErrorKind::TargetNotRepeatable))),
             ("[a]", Some((0, ParseErrorKind::NotInProfile))),
             ("\\d", Some((0, ParseErrorKind::NotInProfile))),
             ("a)", Some((1, ParseErrorKind::GeneralParseError))),

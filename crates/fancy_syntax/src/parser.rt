@@ -3,12 +3,14 @@
 ghost use Rattle.std.specs.Prelude.{◌≡◌, ◌+◌, ◌<◌, ◌≤◌, ◌^◌, ◌-◌, min, sum_by, true, false, if◌then◌else◌, length, nat_eq, OnOk, IsTrue};
 ghost use Rattle.std.specs.Char.{len_utf8};
 ghost use Rattle.std.specs.List.{starts_with};
-ghost use Rattle.fancy_syntax.specs.Dialect.{is_escapable, is_special};
+ghost use Rattle.fancy_syntax.specs.Dialect.{is_escapable, is_special, begins_quantifier};
 ghost use Rattle.fancy_syntax.specs.Words.{is_at_any, is_at, begins_count};
 
+use crate::blank::past_blanks;
 use crate::build::{branches, is_empty, literal, repeat, sequence, wrap};
 use crate::count::{Turns, begins_count, bounds, past_count};
 use crate::error::{Error, ParseErrorKind};
+use crate::flags::{Flags, read_flags};
 use crate::groups::Opening;
 use crate::tree::{Meaning, Taste, Tree};
 use std::alloc::Global;
@@ -21,6 +23,8 @@ pub(crate) struct Parser<'a> {
     /// The last of them, which are still to be read.
     pub(crate) rest: &'a [char],
     pub(crate) meaning: Meaning,
+    /// The flags in force here.
+    pub(crate) flags: Flags,
     /// How many capturing groups were opened so far.
     pub(crate) opened: usize,
     pub(crate) alloc: Global,
@@ -53,12 +57,50 @@ fn is_special(c: char) -> bool
     ['|', '(', ')', '*', '+', '?', '\\', '.', '^', '$', '['].contains(&c)
 }
 
+/// Whether a quantifier begins here.
+fn begins_quantifier(text: &[char]) -> bool
+    ensures { result ≡ begins_quantifier text.now }
+{
+    match text {
+        ['?' | '*' | '+', ..] => true,
+        _ => begins_count(text),
+    }
+}
+
+/// What is wrong behind a parenthesis and its question mark, where no group and no flags stand.
+fn flags_fault(inside: &[char], meaning: Meaning) -> ParseErrorKind {
+    match inside {
+        ['#', ..] => return ParseErrorKind::UnclosedOpenParen,
+        ['P', '<' | '=' | '>', ..] | ['-', '0'..='9', ..] => return ParseErrorKind::NotInProfile,
+        [
+            '=' | '!' | '<' | '>' | '(' | '~' | '&' | '+' | '?' | '0'..='9',
+            ..
+        ] => {
+            return ParseErrorKind::NotInProfile;
+        }
+        _ => {}
+    }
+    let mut on = true;
+    for c in inside {
+        match c {
+            'm' | 's' | 'x' | 'R' => {}
+            'i' => return ParseErrorKind::NotInProfile,
+            'u' if on != matches!(meaning, Meaning::Unicode) => {
+                return ParseErrorKind::ChangingUnicodeModeUnsupported;
+            }
+            'u' => {}
+            '-' if on => on = false,
+            _ => return ParseErrorKind::UnknownFlag,
+        }
+    }
+    ParseErrorKind::UnclosedOpenParen
+}
+
 impl<'a> Parser<'a> {
     ghost use Rattle.fancy_syntax.specs.declared.error.Error.TheVariants.{ParseError};
     ghost use Rattle.fancy_syntax.specs.declared.error.ParseErrorKind.TheVariants.{NotInProfile, TargetNotRepeatable};
     ghost use Rattle.fancy_syntax.specs.Views.{place, bytes_before};
-    ghost use Rattle.fancy_syntax.specs.Grammar.{past, ends_branch};
-    ghost use Rattle.fancy_syntax.specs.Dialect.{begins_quantifier};
+    ghost use Rattle.fancy_syntax.specs.Grammar.{past, here, ends_branch};
 
     /// An error of this kind at the place that is reached.
     pub(crate) fn error(&self, kind: ParseErrorKind) -> Error
@@ -73,7 +115,7 @@ impl<'a> Parser<'a> {
         ensures { result ≡ ParseError (bytes_before self.now.whole.now self.now.rest.now)
             (if begins_quantifier self.now.rest.now then TargetNotRepeatable else NotInProfile) }
     {
-        if self.begins_quantifier() {
+        if begins_quantifier(self.rest) {
             self.error(ParseErrorKind::TargetNotRepeatable)
         } else {
             self.error(ParseErrorKind::NotInProfile)
@@ -106,23 +148,25 @@ impl<'a> Parser<'a> {
         }
     }
 
+    /// Moves past blanks and comments.
+    fn skip_blanks(&mut self)
+        ensures place { place self.new ≡ here (place self.old) }
+        ensures shorter { length self.new.rest.now ≤ length self.old.rest.now }
+    {
+        self.rest = past_blanks(self.rest, self.flags.ignore_blanks);
+    }
+
     fn ends_branch(&self) -> bool
         ensures { result ≡ ends_branch self.now.rest.now }
     {
         self.rest.is_empty() || self.is_at_any(&['|', ')'])
-    }
-
-    fn begins_quantifier(&self) -> bool
-        ensures { result ≡ begins_quantifier self.now.rest.now }
-    {
-        self.is_at_any(&['?', '*', '+']) || begins_count(self.rest)
     }
 }
 
 impl<'a> Parser<'a> {
     ghost use Rattle.fancy_syntax.specs.Views.{place, found, bounds_of, itself, GivesValue};
     ghost use Rattle.fancy_syntax.specs.Pattern.{pattern_of};
-    ghost use Rattle.fancy_syntax.specs.Grammar.{opening, atom, quantified, turns, taste};
+    ghost use Rattle.fancy_syntax.specs.Grammar.{opening, flagged, atom, quantified, turns, taste};
 
     /// Reads what a parenthesis opens.
     fn opening(&mut self) -> Result<Opening, Error>
@@ -134,12 +178,37 @@ impl<'a> Parser<'a> {
             self.skip(3);
             return Ok(Opening::Plain);
         }
-        if self.begins(&['(', '?']) || self.begins(&['(', '*']) {
+        if self.begins(&['(', '?']) {
+            return self.flagged();
+        }
+        if self.begins(&['(', '*']) {
             return Err(self.error(ParseErrorKind::NotInProfile));
         }
         self.skip(1);
         self.opened += 1;
         Ok(Opening::Capture(self.opened))
+    }
+
+    /// Reads flags, and what they open.
+    fn flagged(&mut self) -> Result<Opening, Error>
+        requires { 2 ≤ length self.old.rest.now }
+        ensures value { GivesValue found (flagged (place self.old)) result (place self.new) }
+        ensures progress { OnOk result (length self.new.rest.now < length self.old.rest.now) }
+    {
+        let inside = &self.rest[2..];
+        match read_flags(inside, self.meaning, self.flags) {
+            Some((flags, [c, behind @ ..])) => {
+                let how = if *c == ':' {
+                    Opening::Plain
+                } else {
+                    Opening::Setting
+                };
+                self.rest = behind;
+                self.flags = flags;
+                Ok(how)
+            }
+            _ => Err(self.error(flags_fault(inside, self.meaning))),
+        }
     }
 
     /// Reads one character, or a backslash and what it escapes.
@@ -200,9 +269,11 @@ impl<'a> Parser<'a> {
         ensures value { GivesValue pattern_of (quantified (pattern_of part) (place self.old)) result (place self.new) }
         ensures progress { OnOk result (length self.new.rest.now ≤ length self.old.rest.now) }
     {
-        if !self.begins_quantifier() {
+        let behind = past_blanks(self.rest, self.flags.ignore_blanks);
+        if !begins_quantifier(behind) {
             return Ok(part);
         }
+        self.rest = behind;
         if is_empty(&part) {
             return Err(self.error(ParseErrorKind::TargetNotRepeatable));
         }
@@ -301,33 +372,43 @@ impl<'a> Parser<'a> {
         ensures forward { OnOk result (length self.new.rest.now ≤ length self.old.rest.now) }
     {
         let mut parts = Vec::new(self.alloc);
-        while !self.ends_branch() {
-            let part = self.item(room)?;
-            parts.push(part)?;
+        loop {
+            self.skip_blanks();
+            if self.ends_branch() {
+                break;
+            }
+            if let Some(part) = self.item(room)? {
+                parts.push(part)?;
+            }
         }
         Ok(sequence(parts))
     }
 
-    /// Reads what can be quantified, with its quantifier.
+    /// Reads a setting of flags, which gives no part, or what can be quantified with its quantifier.
     #[cycle(parser)]
-    fn item(&mut self, room: u32) -> Result<Tree, Error>
+    fn item(&mut self, room: u32) -> Result<Option<Tree>, Error>
         ensures value { Gives part_of (Item room) result (place self.old) (place self.new) }
         ensures progress { OnOk result (length self.new.rest.now < length self.old.rest.now) }
     {
         if !self.is_at_any(&['(']) {
             let part = self.atom()?;
-            return self.quantified(part);
+            return Ok(Some(self.quantified(part)?));
         }
+        let flags = self.flags;
         let how = self.opening()?;
         if room == 0 {
             return Err(self.error(ParseErrorKind::RecursionExceeded));
+        }
+        if let Opening::Setting = how {
+            return Ok(None);
         }
         let body = self.alternation(room - 1)?;
         if !self.is_at_any(&[')']) {
             return Err(self.error(ParseErrorKind::UnclosedOpenParen));
         }
         self.skip(1);
+        self.flags = flags;
         let group = wrap(self.alloc, how, body)?;
-        self.quantified(group)
+        Ok(Some(self.quantified(group)?))
     }
 }

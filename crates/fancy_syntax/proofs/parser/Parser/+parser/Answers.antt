@@ -1,10 +1,11 @@
-use Rattle.std.proofs.Common.{◌∙◌, [], ◌∷◌, subst, sym, ap, map, arith}
+use Rattle.std.proofs.Common.{◌≡◌, ◌-◌, ◌∙◌, [], ◌∷◌, subst, sym, ap, map, append-nil, arith}
 use Rattle.std.proofs.lemmas.List.{map-append}
 use Rattle.std.proofs.lemmas.Result.{err_from_is_err_and}
 use Rattle.fancy_syntax.specs.Pattern.{pattern_of, in_branches}
-use Rattle.fancy_syntax.specs.Grammar.{Item, quantified}
-use Rattle.fancy_syntax.specs.Views.{place, part_of, Alternation, GivesValue}
-use Rattle.fancy_syntax.proofs.ReadingLemmas.{refused, Refuses-weaker, goes_on_then, no_branch, branch_step, alternation_is, item_step, sequence_is, quantified_single, no_body, unclosed, quantified_group}
+use Rattle.fancy_syntax.specs.Dialect.{back_to}
+use Rattle.fancy_syntax.specs.Grammar.{Place, Item, quantified}
+use Rattle.fancy_syntax.specs.Views.{place, part_of, Alternation, Sequence, GivesValue}
+use Rattle.fancy_syntax.proofs.ReadingLemmas.{refused, Refuses-weaker, goes_on_then, no_branch, branch_step, alternation_is, item_step_at, no_item_at, sequence_is_at, no_quantified, single_is, setting_is, no_room, no_body, unclosed, no_quantified_group, group_is, found_setting}
 use Rattle.fancy_syntax.proofs.parser.Parser.+parser.Goals as goal
 
 pub alternation-returns-in_err-branch-clause-value :
@@ -25,34 +26,81 @@ alternation-returns-clause-value t c =
     alternation_is {done = map pattern_of c.loop-found.found.items} (pattern_of c.branches.result) c.loop-found.invariant.goes_on c.in_ok-branch.ensures.value (sym c.if-not-is_at_any.ensures.value)
     (c.branches.ensures ∙ ap in_branches (ap (map pattern_of) c.in_ok-push.ensures.items ∙ map-append pattern_of c.loop-found.found.items (c.in_ok-branch.branch ∷ [])))
 
+pub item-returns-in_err-quantified-clause-value :
+    goal.item-returns-in_err-quantified-clause-value
+item-returns-in_err-quantified-clause-value t c =
+    let p = err_from_is_err_and c.from_residual-in_err-quantified.result c.from_residual-in_err-quantified.ensures.1 in
+    refused part_of (Item c.args.room) c.from_residual-in_err-quantified.result _ _ p.0 c.in_err-quantified.field-0.0 p.1 p.2
+    (Refuses-weaker c.in_err-quantified.field-0.0 (no_quantified (sym c.if-not-is_at_any.ensures.value) c.in_ok-part.ensures.value) c.in_err-quantified.ensures.value)
+
 pub item-returns-then-not-is_at_any-clause-value :
     goal.item-returns-then-not-is_at_any-clause-value
 item-returns-then-not-is_at_any-clause-value t c =
-    quantified_single c.args.room (place c.args.self.now) (place c.quantified.new.self) c.quantified.result (sym c.if-not-is_at_any.ensures.value) c.in_ok-part.ensures.value c.quantified.ensures.value
+    single_is (sym c.if-not-is_at_any.ensures.value) c.in_ok-part.ensures.value c.in_ok-quantified.ensures.value
 
-pub item-returns-in_err-body-clause-value : goal.item-returns-in_err-body-clause-value
-item-returns-in_err-body-clause-value t c =
+pub item-returns-in-Setting-clause-value : goal.item-returns-in-Setting-clause-value
+item-returns-in-Setting-clause-value t c =
+    setting_is (c.args.room - 1) (sym c.if-not-is_at_any.ensures.value) (rw c.in-Setting.is at c.in_ok-how.ensures.value) (omega arith)
+
+pub item-returns-in_err-body : goal.item-returns-in_err-body
+item-returns-in_err-body t c =
     let p = err_from_is_err_and c.from_residual-in_err-body.result c.from_residual-in_err-body.ensures.1 in
-    refused part_of (Item c.args.room) c.from_residual-in_err-body.result _ _ p.0 c.in_err-body.field-0.0 p.1 p.2
-    (Refuses-weaker c.in_err-body.field-0.0 (no_body (sym c.if-not-is_at_any.ensures.value) c.in_ok-how.ensures.value (omega arith)) c.in_err-body.ensures.value)
+    record {
+      value = refused part_of (Item c.args.room) c.from_residual-in_err-body.result _ _ p.0 c.in_err-body.field-0.0 p.1 p.2
+          (Refuses-weaker c.in_err-body.field-0.0 (no_body (sym c.if-not-is_at_any.ensures.value) c.in_ok-how.ensures.value (λ h. c.in_default.not-Setting (found_setting _ h)) (omega arith)) c.in_err-body.ensures.value);
+      progress = rw p.1 tt;
+    }
 
-pub item-returns-then-not-is_at_any-2-clause-value :
-    goal.item-returns-then-not-is_at_any-2-clause-value
-item-returns-then-not-is_at_any-2-clause-value t c =
-    rw c.error-then-not-is_at_any-2.ensures (unclosed (sym c.if-not-is_at_any.ensures.value) c.in_ok-how.ensures.value (omega arith) c.in_ok-body.ensures.value (sym c.if-not-is_at_any-2.ensures.value))
+pub item-returns-then-not-is_at_any-2 : goal.item-returns-then-not-is_at_any-2
+item-returns-then-not-is_at_any-2 t c = record {
+  value = rw c.error-then-not-is_at_any-2.ensures (unclosed (sym c.if-not-is_at_any.ensures.value) c.in_ok-how.ensures.value (λ h. c.in_default.not-Setting (found_setting _ h)) (omega arith)
+      c.in_ok-body.ensures.value (sym c.if-not-is_at_any-2.ensures.value));
+  progress = tt;
+}
 
-pub item-returns-clause-value : goal.item-returns-clause-value
-item-returns-clause-value t c =
-    quantified_group c.args.room (place c.args.self.now) (place c.quantified-2.new.self) c.quantified-2.result (sym c.if-not-is_at_any.ensures.value) c.in_ok-how.ensures.value (omega arith)
-    c.in_ok-body.ensures.value (sym c.if-not-is_at_any-2.ensures.value) c.in_ok-group.ensures
-    (subst (λ s. GivesValue pattern_of (quantified (pattern_of c.in_ok-group.group) s) c.quantified-2.result (place c.quantified-2.new.self)) c.skip.ensures.place c.quantified-2.ensures.value)
+pub item-returns-in_err-quantified-2 : goal.item-returns-in_err-quantified-2
+item-returns-in_err-quantified-2 t c =
+    let p = err_from_is_err_and c.from_residual-in_err-quantified-2.result c.from_residual-in_err-quantified-2.ensures.1 in
+    record {
+      value = refused part_of (Item c.args.room) c.from_residual-in_err-quantified-2.result _ _ p.0 c.in_err-quantified-2.field-0.0 p.1 p.2
+          (Refuses-weaker c.in_err-quantified-2.field-0.0
+          (λ none. no_quantified_group (sym c.if-not-is_at_any.ensures.value) c.in_ok-how.ensures.value (λ h. c.in_default.not-Setting (found_setting _ h)) (omega arith)
+          c.in_ok-body.ensures.value c.in_ok-group.ensures
+          (ap (λ (s : Place). quantified (pattern_of c.in_ok-group.group) (record { text = s.text; scope = back_to (place c.args.self.now).scope s.scope })) (sym c.skip.ensures.place) ∙ none)) c.in_err-quantified-2.ensures.value);
+      progress = rw p.1 tt;
+    }
+
+pub item-returns : goal.item-returns
+item-returns t c = record {
+  value = group_is (sym c.if-not-is_at_any.ensures.value) c.in_ok-how.ensures.value (λ h. c.in_default.not-Setting (found_setting _ h)) (omega arith)
+      c.in_ok-body.ensures.value (sym c.if-not-is_at_any-2.ensures.value) c.in_ok-group.ensures
+      (ap (λ (s : Place). quantified (pattern_of c.in_ok-group.group) (record { text = s.text; scope = back_to (place c.args.self.now).scope s.scope })) (sym c.skip.ensures.place) ∙ c.in_ok-quantified-2.ensures.value);
+  progress = omega (arith, c.in_ok-quantified-2.ensures.progress, c.skip.ensures.shorter, c.in_ok-body.ensures.forward, c.in_ok-how.ensures.progress);
+}
 
 pub sequence-loop-self-preserved : goal.sequence-loop-self-preserved
 sequence-loop-self-preserved t c = record {
-  goes_on = rw (c.in_ok-push.ensures.items, map-append) (goes_on_then c.loop-self.invariant.goes_on (item_step (sym c.loop-self-test.ensures) c.in_ok-part.ensures.value));
-  forward = omega (arith, c.loop-self.invariant.forward, c.in_ok-part.ensures.progress);
+  goes_on = rw append-nil at (goes_on_then c.loop-self.invariant.goes_on (item_step_at c.skip_blanks.ensures.place (sym c.if-ends_branch.ensures) (rw c.in_default.is at c.in_ok-part.ensures.value)));
+  forward = omega (arith, c.loop-self.invariant.forward, c.skip_blanks.ensures.shorter, c.in_ok-part.ensures.progress);
+}
+
+pub sequence-loop-self-preserved-in-Continue-branch-3 : goal.sequence-loop-self-preserved-in-Continue-branch-3
+sequence-loop-self-preserved-in-Continue-branch-3 t c = record {
+  goes_on = rw (c.in_ok-push.ensures.items, map-append) (goes_on_then c.loop-self.invariant.goes_on (item_step_at c.skip_blanks.ensures.place (sym c.if-ends_branch.ensures) (rw c.in-Some.is at c.in_ok-part.ensures.value)));
+  forward = omega (arith, c.loop-self.invariant.forward, c.skip_blanks.ensures.shorter, c.in_ok-part.ensures.progress);
 }
 
 pub sequence-returns-clause-value : goal.sequence-returns-clause-value
 sequence-returns-clause-value t c =
-    sequence_is (pattern_of c.sequence.result) c.loop-self.invariant.goes_on (sym c.loop-self-test.ensures) c.sequence.ensures
+    sequence_is_at (pattern_of c.sequence.result) c.loop-self.invariant.goes_on c.skip_blanks.ensures.place (sym c.if-ends_branch.ensures) c.sequence.ensures
+
+pub sequence-returns-in_err-part-clause-value :
+    goal.sequence-returns-in_err-part-clause-value
+sequence-returns-in_err-part-clause-value t c =
+    let p = err_from_is_err_and c.from_residual.result c.from_residual.ensures.1 in
+    refused pattern_of (Sequence c.args.room) c.from_residual.result _ _ p.0 c.in_err-part.field-0.0 p.1 p.2
+    (Refuses-weaker c.in_err-part.field-0.0 (no_item_at c.loop-self.invariant.goes_on c.skip_blanks.ensures.place (sym c.if-ends_branch.ensures)) c.in_err-part.ensures.value)
+
+pub item-returns-then-room-eq0-clause-value :
+    goal.item-returns-then-room-eq0-clause-value
+item-returns-then-room-eq0-clause-value t c = rw c.error.ensures (no_room (sym c.if-not-is_at_any.ensures.value) c.if-room-eq0.true)

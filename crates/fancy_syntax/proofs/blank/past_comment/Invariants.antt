@@ -1,0 +1,6 @@
+use Rattle.std.proofs.Common.{◌≡◌, drop}
+use Rattle.fancy_syntax.specs.Words.{past_comment}
+use Rattle.fancy_syntax.proofs.blank.past_comment.Given as goal
+
+abbrev pub invariant-loop-i : goal.invariant-loop-i
+invariant-loop-i l = past_comment l.text ≡ past_comment (drop l.i l.text)
