@@ -1,5 +1,5 @@
 -- The groups that a search finds are spans that the haystack can be cut at.
-use Rattle.std.proofs.Common.{◌≡◌, ◌≤◌, ◌<◌, ◌+◌, ◌==◌, ℕ, Bool, true, false, List, length, map, Option, Some, None, if◌then◌else◌, slice_index_or, IsUtf8, refl, sym, ap, ◌∙◌, subst, arith, inl, inr, ◌⊎◌}
+use Rattle.std.proofs.Common.{◌≡◌, ◌≤◌, ◌<◌, ◌==◌, ℕ, Bool, true, false, List, length, map, Option, Some, None, if◌then◌else◌, IsUtf8, refl, sym, ap, ◌∙◌, arith, inl, inr, ◌⊎◌}
 use Rattle.std.specs.List.{range_with_len}
 use Rattle.std.proofs.lemmas.List.{get_or_past}
 use Rattle.std.proofs.lemmas.List.FromFn.{length-map-range_with_len, get_or-map-range_with_len}
@@ -9,12 +9,12 @@ use Rattle.fancy_syntax.specs.Modes.{meaning_of, keeps_characters}
 use Rattle.fancy_input.specs.Places.{is_boundary}
 use Rattle.fancy_input.specs.declared.input.Request.{Request}
 use Rattle.fancy_engine.specs.Context.{Span, group_span}
-use Rattle.fancy_engine.specs.Search.{Query, Found, search, span_of}
+use Rattle.fancy_engine.specs.Search.{Query, search, span_of}
 use Rattle.fancy_engine.specs.declared.search.Memory.{Memory}
-use Rattle.fancy_engine.specs.Placed.{any_place, IsSpan, LiesWithin, KeepsBoundaries, by_characters, of_ascii, reads_characters}
+use Rattle.fancy_engine.specs.Placed.{any_place, LiesWithin, KeepsBoundaries, by_characters, of_ascii, reads_characters}
 use Rattle.fancy_engine.proofs.FoundLemmas.{answer_within, answer_on_boundaries}
 use Rattle.fancy_core.specs.declared.regex.Regex.{Regex}
-use Rattle.fancy_core.specs.Regexes.{options_in, groups_in, asked}
+use Rattle.fancy_core.specs.Regexes.{options_in, asked}
 use Rattle.fancy_core.specs.Searching.{Suits}
 use Rattle.fancy_core.specs.Groups.{span_of_group, spans_of, span_at, found_at, IsCut, AreCut}
 

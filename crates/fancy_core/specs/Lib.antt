@@ -4,3 +4,7 @@ pub mod Regexes
 pub mod Searching
 pub mod Groups
 pub mod Captured
+pub mod Matching
+pub mod Left
+pub mod Iterations
+pub mod CaptureIterations

@@ -94,7 +94,7 @@ impl Regex {
 }
 
 /// The spans of so many groups of the match that was found at `start`, in byte offsets.
-fn groups_found(
+pub(crate) fn groups_found(
     alloc: Global,
     count: usize,
     start: usize,

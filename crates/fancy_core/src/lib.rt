@@ -3,5 +3,10 @@
 
 pub mod captures;
 mod capturing;
+pub mod iter;
+#[cfg(test)]
+mod iter_tests;
+pub mod laws;
 pub mod options;
 pub mod regex;
+mod walk;

@@ -1,5 +1,5 @@
 -- What the engines read at a place.
-use Rattle.std.proofs.Common.{◌≡◌, ◌≢◌, ℕ, zero, suc, ◌+◌, ◌-◌, ◌<◌, ◌≤◌, ◌==◌, Bool, true, false, not, ◌&&◌, ◌||◌, List, [], ◌∷◌, length, take, get_or, Option, Some, None, if◌then◌else◌, nat_le, refl, sym, ap, ◌∙◌, arith, inl, inr, eq-eqb, ne_eqb}
+use Rattle.std.proofs.Common.{◌≡◌, ◌≢◌, ℕ, zero, suc, ◌+◌, ◌-◌, ◌<◌, ◌≤◌, ◌==◌, Bool, true, false, not, ◌&&◌, ◌||◌, List, [], ◌∷◌, length, take, drop, get_or, Option, Some, None, if◌then◌else◌, nat_le, refl, sym, ap, ◌∙◌, arith, inl, inr, eq-eqb, ne_eqb}
 use Rattle.std.specs.Char.{len_utf8}
 use Rattle.std.proofs.lemmas.Bool.Decides.{eqb_tells}
 use Rattle.std.proofs.lemmas.Option.{none-some, slice_get-get_or}
@@ -9,10 +9,10 @@ use Rattle.fancy_syntax.specs.declared.tree.Meaning.{Meaning}
 use Rattle.fancy_syntax.specs.declared.tree.Meaning.TheVariants.{Unicode, Bytes, AsciiText}
 use Rattle.fancy_input.specs.Places.{char_at}
 use Rattle.fancy_engine.proofs.CharacterLemmas.{char_at-low, char_at-ascii}
-use Rattle.fancy_syntax.specs.declared.tree.Assertion.TheVariants.{TextStart, TextEnd, LineStart, LineEnd}
+use Rattle.fancy_syntax.specs.declared.tree.Assertion.TheVariants.{TextStart, TextEnd, LineStart, LineEnd, LineStartCrlf, LineEndCrlf, LastLine, LastLineCrlf}
 use Rattle.fancy_syntax.specs.Sets.{differ, has}
 use Rattle.fancy_engine.specs.declared.reading.Reading.{Reading}
-use Rattle.fancy_engine.specs.Context.{Unit_at, one_character, one_byte, unit_in, unit_at, past_item, past_byte, option_to, byte_before, is_line_feed, holds}
+use Rattle.fancy_engine.specs.Context.{Unit_at, one_character, one_byte, unit_in, unit_at, past_item, past_byte, option_to, byte_before, is_line_feed, is_carriage_return, are_line_feeds, are_line_ends, holds}
 use Rattle.fancy_engine.specs.Readings.{read_of, plain}
 
 differ_swap : (a b z : Bool) → differ a (differ b z) ≡ differ b (differ a z)
@@ -53,6 +53,24 @@ module _ (haystack : List ℕ) (meaning : Meaning) (from p : ℕ) where
   pub holds_line_end : holds (plain haystack meaning from) LineEnd p ≡ ((p == length haystack) || is_line_feed (slice_get haystack p))
   unfolding holds
   holds_line_end = refl
+
+  pub holds_line_start_crlf : holds (plain haystack meaning from) LineStartCrlf p
+      ≡ ((p == 0) || (is_line_feed (byte_before haystack p) || (is_carriage_return (byte_before haystack p) && not (is_line_feed (slice_get haystack p)))))
+  unfolding holds
+  holds_line_start_crlf = refl
+
+  pub holds_line_end_crlf : holds (plain haystack meaning from) LineEndCrlf p
+      ≡ ((p == length haystack) || (is_carriage_return (slice_get haystack p) || (is_line_feed (slice_get haystack p) && not (is_carriage_return (byte_before haystack p)))))
+  unfolding holds
+  holds_line_end_crlf = refl
+
+  pub holds_last_line : holds (plain haystack meaning from) LastLine p ≡ are_line_feeds (drop p haystack)
+  unfolding holds
+  holds_last_line = refl
+
+  pub holds_last_line_crlf : holds (plain haystack meaning from) LastLineCrlf p ≡ are_line_ends (drop p haystack)
+  unfolding holds
+  holds_last_line_crlf = refl
 
 pub byte_before-is : (haystack : List ℕ) (p : ℕ) → p ≢ 0 → byte_before haystack p ≡ slice_get haystack (p - 1)
 byte_before-is haystack zero h = absurd (h refl)

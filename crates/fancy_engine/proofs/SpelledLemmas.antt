@@ -5,8 +5,11 @@ use Rattle.fancy_syntax.specs.declared.tree.Meaning.{Meaning}
 use Rattle.fancy_syntax.specs.declared.tree.Meaning.TheVariants.{Unicode, Bytes, AsciiText}
 use Rattle.fancy_syntax.specs.declared.tree.Taste.{Taste}
 use Rattle.fancy_syntax.specs.Words.{Text}
-use Rattle.fancy_syntax.specs.Pattern.{Pattern, empty, character, group, repeat, followed, or_else, last_branch, in_sequence, in_choice, in_branches}
-use Rattle.fancy_syntax.specs.Dialect.{Scope, Quantifies, greedily, lazily, literal_of, Branches, one, either, Parts, nothing, item, Item, set, bare, quantified, Atom, literal, escaped, plain, flagged, capture, Spells, with_part}
+use Rattle.std.specs.Prelude.{if◌then◌else◌}
+use Rattle.std.specs.Option.{option_map, option_or}
+use Rattle.fancy_syntax.specs.declared.tree.Assertion.{Assertion}
+use Rattle.fancy_syntax.specs.Pattern.{Pattern, empty, character, assertion, group, repeat, followed, or_else, last_branch, in_sequence, in_choice, in_branches}
+use Rattle.fancy_syntax.specs.Dialect.{Scope, Quantifies, greedily, lazily, literal_of, is_escapable, control_of, place_test, Branches, one, either, Parts, nothing, item, Item, set, bare, quantified, Atom, literal, anchor, escaped, plain, flagged, capture, Spells, with_part}
 use Rattle.fancy_engine.specs.Means.{is_easy, goes_back}
 use Rattle.fancy_engine.specs.Placed.{has_raw_byte}
 
@@ -14,6 +17,7 @@ use Rattle.fancy_engine.specs.Placed.{has_raw_byte}
 record IsKept (nice : Pattern → Type 0) : Type 0 where
   nothing_there : nice empty
   characters : (c : ℕ) → nice (character c)
+  assertions : (a : Assertion) → nice (assertion a)
   groups : (index : ℕ) (p : Pattern) → nice p → nice (group index p)
   repeats : (low : ℕ) (high : Option ℕ) (taste : Taste) (p : Pattern) → goes_back taste ≡ true → nice p → nice (repeat low high taste p)
   sequences : (p q : Pattern) → nice p → nice q → nice (followed p q)
@@ -60,6 +64,14 @@ module _ (nice : Pattern → Type 0) (kept : IsKept nice) where
   nice-with_part None ps h all = all
   nice-with_part (Some p) ps h all = (h, all)
 
+  -- what an escape stands for, by what it may be
+  nice-escape : (is_literal : Bool) (m : Meaning) (c : ℕ) (control : Option ℕ) (test : Option Assertion)
+      → IsNiceItem (if is_literal then Some (literal_of m c) else option_or (option_map (literal_of m) control) (option_map assertion test))
+  nice-escape true m c control test = nice-literal_of m c
+  nice-escape false m c (Some d) test = nice-literal_of m d
+  nice-escape false m c None (Some a) = kept.assertions a
+  nice-escape false m c None None = tt
+
   mutual
     nice-Branches : {k : ℕ} {s r : Scope} {t after : Text} {bs : List Pattern} → Branches k s t after bs r → AreNice bs
     nice-Branches (one parts) = (nice-in_sequence _ (nice-Parts parts), tt)
@@ -76,7 +88,8 @@ module _ (nice : Pattern → Type 0) (kept : IsKept nice) where
 
     nice-Atom : {k : ℕ} {s r : Scope} {t after : Text} {p : Pattern} → Atom k s t after p r → nice p
     nice-Atom (literal {s = s} c e f skipped) = nice-literal_of s.meaning c
-    nice-Atom (escaped {s = s} c e) = nice-literal_of s.meaning c
+    nice-Atom (anchor c e) = kept.assertions _
+    nice-Atom (escaped {s = s} c e) = subst IsNiceItem e (nice-escape (is_escapable c) s.meaning c (control_of c) (place_test s.flags c))
     nice-Atom (plain branches) = nice-in_branches _ (nice-Branches branches)
     nice-Atom (flagged setting branches) = nice-in_branches _ (nice-Branches branches)
     nice-Atom (capture e branches) = kept.groups _ _ (nice-in_branches _ (nice-Branches branches))
@@ -99,6 +112,7 @@ no_raw_bytes h =
     (record {
       nothing_there = refl;
       characters = λ c. refl;
+      assertions = λ a. refl;
       groups = λ index p e. e;
       repeats = λ low high taste p g e. e;
       sequences = λ p q e f. neither_holds (has_raw_byte p) (has_raw_byte q) e f;
@@ -114,6 +128,7 @@ easy_spelled h =
     (record {
       nothing_there = refl;
       characters = λ c. refl;
+      assertions = λ a. refl;
       groups = λ index p e. e;
       repeats = λ low high taste p g e. both_hold (goes_back taste) (is_easy p) g e;
       sequences = λ p q e f. both_hold (is_easy p) (is_easy q) e f;

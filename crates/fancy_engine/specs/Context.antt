@@ -1,10 +1,10 @@
 -- What a match is looked for in, how far it has come, and what the leaves of a pattern see there. Places are byte offsets into the haystack.
-use Rattle.std.specs.Prelude.{ℕ, zero, suc, ◌+◌, ◌-◌, Bool, false, not, ◌&&◌, ◌||◌, List, length, drop, take, Option, Some, None, if◌then◌else◌, ◌==◌, slice_get, slice_index_or, slice_set}
+use Rattle.std.specs.Prelude.{ℕ, zero, suc, ◌+◌, ◌-◌, Bool, true, false, not, ◌&&◌, ◌||◌, List, [], ◌∷◌, length, drop, take, Option, Some, None, if◌then◌else◌, ◌==◌, slice_get, slice_index_or, slice_set}
 use Rattle.std.specs.Char.{len_utf8}
 use Rattle.fancy_syntax.specs.declared.tree.Meaning.{Meaning}
 use Rattle.fancy_syntax.specs.declared.tree.Meaning.TheVariants.{Unicode, Bytes, AsciiText}
 use Rattle.fancy_syntax.specs.declared.tree.Assertion.{Assertion}
-use Rattle.fancy_syntax.specs.declared.tree.Assertion.TheVariants.{TextStart, TextEnd, LineStart, LineEnd}
+use Rattle.fancy_syntax.specs.declared.tree.Assertion.TheVariants.{TextStart, TextEnd, LineStart, LineEnd, LineStartCrlf, LineEndCrlf, LastLine, LastLineCrlf}
 use Rattle.fancy_input.specs.Places.{char_at, has_bytes_at, prev_place}
 
 pub record Context : Type 0 where
@@ -100,12 +100,33 @@ abbrev pub byte_before : List ℕ → ℕ → Option ℕ
 byte_before haystack zero = None
 byte_before haystack (suc p) = slice_get haystack p
 
+abbrev pub is_carriage_return : Option ℕ → Bool
+is_carriage_return None = false
+is_carriage_return (Some b) = b == 13
+
+-- a row of line feeds, perhaps empty
+abbrev pub are_line_feeds : List ℕ → Bool
+are_line_feeds [] = true
+are_line_feeds (b ∷ rest) = (b == 10) && are_line_feeds rest
+
+-- a row of line feeds, each perhaps with a carriage return before it, perhaps empty
+abbrev pub are_line_ends : List ℕ → Bool
+are_line_ends [] = true
+are_line_ends (b ∷ []) = b == 10
+are_line_ends (b ∷ c ∷ rest) = if b == 10 then are_line_ends (c ∷ rest) else ((b == 13) && ((c == 10) && are_line_ends rest))
+
 -- where an assertion holds; it reads the whole haystack
 unfoldable pub holds : Context → Assertion → ℕ → Bool
 holds x TextStart p = (p == 0) && not x.start_text_off
 holds x TextEnd p = (p == length x.haystack) && not x.end_text_off
 holds x LineStart p = (p == 0) || is_line_feed (byte_before x.haystack p)
 holds x LineEnd p = (p == length x.haystack) || is_line_feed (slice_get x.haystack p)
+holds x LineStartCrlf p =
+    (p == 0) || (is_line_feed (byte_before x.haystack p) || (is_carriage_return (byte_before x.haystack p) && not (is_line_feed (slice_get x.haystack p))))
+holds x LineEndCrlf p =
+    (p == length x.haystack) || (is_carriage_return (slice_get x.haystack p) || (is_line_feed (slice_get x.haystack p) && not (is_carriage_return (byte_before x.haystack p))))
+holds x LastLine p = are_line_feeds (drop p x.haystack)
+holds x LastLineCrlf p = are_line_ends (drop p x.haystack)
 
 unfoldable pub continues : Context → ℕ → Bool
 continues x p = option_to x.continues_at false (λ q. p == q)

@@ -1,10 +1,10 @@
 //! What one item of a pattern reads at a place.
 
-ghost use Rattle.std.specs.Prelude.{◌≡◌, ◌+◌, ◌-◌, ◌<◌, ◌≤◌, ℕ, List, Option, IfSome, length, option_map, slice_get};
+ghost use Rattle.std.specs.Prelude.{◌≡◌, drop, ◌+◌, ◌-◌, ◌<◌, ◌≤◌, ◌||◌, ◌&&◌, not, ℕ, List, Option, IfSome, length, option_map, slice_get};
 ghost use Rattle.std.specs.Str.{continuation_len};
 ghost use Rattle.fancy_syntax.specs.Sets.{has};
 ghost use Rattle.fancy_input.specs.Places.{char_at};
-ghost use Rattle.fancy_engine.specs.Context.{unit_in, is_line_feed, holds};
+ghost use Rattle.fancy_engine.specs.Context.{unit_in, is_line_feed, is_carriage_return, byte_before, are_line_feeds, are_line_ends, holds};
 ghost use Rattle.fancy_engine.specs.Readings.{read_of, plain};
 
 use fancy_syntax::tree::{Assertion, Meaning};
@@ -93,13 +93,96 @@ pub fn has_code(edges: &[u32], code: u32) -> bool
     inside
 }
 
-/// Whether a line feed stands at a place.
-fn is_line_feed_at(haystack: &[u8], place: usize) -> bool
-    ensures { result ≡ is_line_feed (slice_get haystack.now place) }
+/// The byte at a place; none at the end.
+fn byte_at(haystack: &[u8], place: usize) -> Option<u8>
+    ensures { result ≡ slice_get haystack.now place }
 {
-    match haystack.get(place) {
-        Some(byte) => *byte == b'\n',
-        None => false,
+    haystack.get(place).copied()
+}
+
+/// The byte before a place; none at the start.
+fn byte_before(haystack: &[u8], place: usize) -> Option<u8>
+    ensures { result ≡ byte_before haystack.now place }
+{
+    if place == 0 {
+        None
+    } else {
+        byte_at(haystack, place - 1)
+    }
+}
+
+/// Whether this is a line feed.
+fn is_line_feed(byte: Option<u8>) -> bool
+    ensures { result ≡ is_line_feed byte }
+{
+    matches!(byte, Some(b'\n'))
+}
+
+/// Whether this is a carriage return.
+fn is_carriage_return(byte: Option<u8>) -> bool
+    ensures { result ≡ is_carriage_return byte }
+{
+    matches!(byte, Some(b'\r'))
+}
+
+/// Whether a line starts between these two bytes, where a carriage return ends lines too.
+fn starts_line_crlf(before: Option<u8>, at: Option<u8>) -> bool
+    ensures { result ≡ (is_line_feed before || (is_carriage_return before && not (is_line_feed at))) }
+{
+    match before {
+        Some(b'\n') => true,
+        Some(b'\r') => !is_line_feed(at),
+        _ => false,
+    }
+}
+
+/// Whether a line ends between these two bytes, where a carriage return ends lines too.
+fn ends_line_crlf(before: Option<u8>, at: Option<u8>) -> bool
+    ensures { result ≡ (is_carriage_return at || (is_line_feed at && not (is_carriage_return before))) }
+{
+    match at {
+        Some(b'\r') => true,
+        Some(b'\n') => !is_carriage_return(before),
+        _ => false,
+    }
+}
+
+/// The bytes from a place on; none past the end.
+fn bytes_from(haystack: &[u8], place: usize) -> &[u8]
+    ensures { result.now ≡ drop place haystack.now }
+{
+    if place < haystack.len() {
+        &haystack[place..]
+    } else {
+        &[]
+    }
+}
+
+/// Whether these are line feeds, or nothing.
+fn are_line_feeds(bytes: &[u8]) -> bool
+    ensures { result ≡ are_line_feeds bytes.now }
+{
+    let mut rest = bytes;
+    while let [first, behind @ ..] = rest {
+        if *first != b'\n' {
+            return false;
+        }
+        rest = behind;
+    }
+    true
+}
+
+/// Whether these are line feeds, each perhaps behind a carriage return, or nothing.
+fn are_line_ends(bytes: &[u8]) -> bool
+    ensures { result ≡ are_line_ends bytes.now }
+{
+    let mut rest = bytes;
+    loop {
+        rest = match rest {
+            [] => return true,
+            [b'\n', behind @ ..] | [b'\r', b'\n', behind @ ..] => behind,
+            _ => return false,
+        };
     }
 }
 
@@ -110,7 +193,16 @@ pub fn holds_at(haystack: &[u8], assertion: Assertion, place: usize) -> bool
     match assertion {
         Assertion::TextStart => place == 0,
         Assertion::TextEnd => place == haystack.len(),
-        Assertion::LineStart => place == 0 || is_line_feed_at(haystack, place - 1),
-        Assertion::LineEnd => place == haystack.len() || is_line_feed_at(haystack, place),
+        Assertion::LineStart => place == 0 || is_line_feed(byte_before(haystack, place)),
+        Assertion::LineEnd => place == haystack.len() || is_line_feed(byte_at(haystack, place)),
+        Assertion::LineStartCrlf => {
+            place == 0 || starts_line_crlf(byte_before(haystack, place), byte_at(haystack, place))
+        }
+        Assertion::LineEndCrlf => {
+            place == haystack.len()
+                || ends_line_crlf(byte_before(haystack, place), byte_at(haystack, place))
+        }
+        Assertion::LastLine => are_line_feeds(bytes_from(haystack, place)),
+        Assertion::LastLineCrlf => are_line_ends(bytes_from(haystack, place)),
     }
 }

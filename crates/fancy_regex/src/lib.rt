@@ -11,6 +11,7 @@
 #![tactic(auto)]
 
 pub use fancy_core::captures::{Captures, SubCaptureMatches};
+pub use fancy_core::iter::{CaptureMatches, Matches};
 pub use fancy_core::options::RegexOptionsBuilder;
 pub use fancy_core::regex::Regex;
 pub use fancy_engine::work::Work;

@@ -1,10 +1,10 @@
 -- Blanks and comments: what is skipped is what the dialect calls a row of them.
-use Rattle.std.proofs.Common.{◌≡◌, ℕ, zero, suc, ◌+◌, ◌<◌, ◌≤◌, ◌==◌, ◌||◌, ◌&&◌, Bool, true, false, List, [], ◌∷◌, ◌++◌, Option, Some, None, drop, length, get_or, add-one, drop-cons, refl, sym, ap, ◌∙◌, subst, append_assoc, append-nil, arith, ◌⊎◌, inl, inr, cond, codes, take, length-append, nat_eq}
+use Rattle.std.proofs.Common.{◌≡◌, ℕ, zero, suc, ◌<◌, ◌≤◌, ◌==◌, ◌||◌, ◌&&◌, Bool, true, false, [], ◌∷◌, ◌++◌, Option, Some, None, drop, length, refl, sym, ap, ◌∙◌, subst, append_assoc, append-nil, arith, ◌⊎◌, inl, inr, cond, codes, take, length-append, nat_eq}
 use Rattle.std.specs.List.{starts_with}
 use Rattle.std.specs.Cmp.Lexicographic.{same_text}
 use Rattle.std.proofs.lemmas.Bool.Decides.{nat_tests}
 use Rattle.std.proofs.lemmas.List.{take-append-drop}
-use Rattle.fancy_syntax.specs.Words.{Text, is_among, is_at, is_at_any, begins, is_blank, past_line, past_comment, past_blank, past_blanks, past_blanks_in, text_or, begins_count}
+use Rattle.fancy_syntax.specs.Words.{Text, is_among, is_at, begins, is_blank, past_line, past_comment, past_blank, past_blanks, past_blanks_in, text_or, begins_count}
 use Rattle.fancy_syntax.specs.Dialect.{Blank, comment, blank, line, last_line, Blanks, no_blank, blanks, begins_quantifier, IsUnquantified}
 use Rattle.fancy_syntax.specs.Grammar.{ends_branch}
 use Rattle.fancy_syntax.proofs.ReadingLemmas.{some_is_none, true_is_false}

@@ -1,15 +1,13 @@
 -- Letters of flags, as they are spelled and as they are read.
-use Rattle.std.proofs.Common.{◌≡◌, ℕ, suc, ◌==◌, ◌||◌, ◌&&◌, Bool, true, false, List, [], ◌∷◌, ◌++◌, Option, Some, None, refl, sym, ap, ◌∙◌, subst, append_assoc, length, drop, get_or, add-one, drop-cons, take, ◌+◌, ◌-◌, ◌<◌, ◌≤◌, arith, ◌⊎◌, inl, inr, cond, codes}
-use Rattle.std.proofs.lemmas.Bool.Decides.{nat_tests}
+use Rattle.std.proofs.Common.{◌≡◌, ℕ, suc, ◌==◌, ◌&&◌, Bool, true, false, [], ◌∷◌, ◌++◌, Option, Some, None, refl, sym, ap, ◌∙◌, subst, append_assoc, length, drop, get_or, add-one, drop-cons, take, ◌+◌, ◌-◌, ◌<◌, ◌≤◌, arith, ◌⊎◌, inl, inr, cond}
 use Rattle.std.proofs.lemmas.List.{drop_all, take_all, length-drop}
 use Rattle.std.specs.Option.{option_map, option_and_then}
 use Rattle.fancy_syntax.specs.declared.tree.Meaning.{Meaning}
 use Rattle.fancy_syntax.specs.Words.{Text, ◌∈◌, is_at}
 use Rattle.fancy_syntax.specs.Dialect.{Flags, with_flag, Letters, no_letter, letter, Setting, setting_on, setting_off}
 use Rattle.fancy_syntax.specs.Grammar.{LettersRead, next_letter, flags_in, first_letter}
-use Rattle.fancy_syntax.proofs.ReadingLemmas.{some_is_none, some_pair, true_is_false}
-use Rattle.fancy_syntax.proofs.CountLemmas.{either_no}
-use Rattle.fancy_syntax.proofs.BlankLemmas.{chosen, same_some, char_is}
+use Rattle.fancy_syntax.proofs.ReadingLemmas.{some_is_none, some_pair}
+use Rattle.fancy_syntax.proofs.BlankLemmas.{chosen, char_is}
 
 abbrev pub reached : Flags → Bool → Bool → LettersRead
 reached f on some = record { flags = f; on = on; some = some }

@@ -1,17 +1,16 @@
 -- What the parser's loops and branches say of the grammar.
-use Rattle.std.proofs.Common.{◌≡◌, ℕ, suc, ◌+◌, ◌<◌, ◌==◌, true, false, List, [], ◌∷◌, ◌++◌, Option, Some, None, length, refl, sym, ap, ◌∙◌, subst, append_assoc, append-nil, arith, Result, Ok, Err, ◌⊎◌, inl, inr, ap₂, add-one}
+use Rattle.std.proofs.Common.{◌≡◌, ℕ, suc, ◌+◌, ◌<◌, ◌==◌, true, false, List, [], ◌∷◌, ◌++◌, Option, Some, None, length, refl, sym, ap, ◌∙◌, subst, append_assoc, append-nil, arith, Result, Err, ◌⊎◌, inl, inr, ap₂, add-one}
 use Rattle.std.proofs.lemmas.Bool.Decides.{nat_tests}
 use Rattle.std.proofs.lemmas.List.{nil_from_length}
-use Rattle.fancy_syntax.specs.Pattern.{Pattern, pattern_of, in_sequence, in_branches}
+use Rattle.fancy_syntax.specs.Pattern.{Pattern, in_sequence, in_branches}
 use Rattle.fancy_syntax.specs.Words.{Text, is_at_any, is_at}
 use Rattle.fancy_syntax.specs.Dialect.{Scope, with_part}
-use Rattle.fancy_syntax.specs.Grammar.{Place, past, here, Opening, setting, plain, capture, opening, atom, quantified, wrap, closed, ends_branch, Branches, last, more, Parts, none, next, Item, sets, single, grouped, start, Reads}
-use Rattle.fancy_syntax.specs.declared.tree.Tree.{Tree}
+use Rattle.fancy_syntax.specs.Grammar.{Place, past, here, Opening, setting, opening, atom, quantified, wrap, closed, ends_branch, Branches, last, more, Parts, none, next, Item, sets, single, grouped, start, Reads}
 use Rattle.fancy_syntax.specs.declared.error.Error.{Error}
 use Rattle.fancy_syntax.specs.declared.error.Error.TheVariants.{Memory, ParseError, CompileError, RuntimeError}
 use Rattle.fancy_syntax.specs.declared.groups.Opening.{Opening as Found}
 use Rattle.fancy_syntax.specs.declared.groups.Opening.TheVariants.{Setting, Plain, Capture}
-use Rattle.fancy_syntax.specs.Views.{found, Refuses, Gives, GivesValue, part_of, IsTheReading, HasNoReading, Sequence, Alternation}
+use Rattle.fancy_syntax.specs.Views.{found, Refuses, Gives, IsTheReading, HasNoReading, Sequence, Alternation}
 
 pub true_is_false : true ≡ false → ⊥
 true_is_false h = cc

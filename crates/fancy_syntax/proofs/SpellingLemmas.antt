@@ -1,18 +1,16 @@
 -- A text that spells something is read so, and what is read is spelled so.
-use Rattle.std.proofs.Common.{◌≡◌, ℕ, suc, ◌+◌, ◌==◌, ◌||◌, ◌&&◌, not, Bool, true, false, List, [], ◌∷◌, ◌++◌, Option, Some, None, length, drop, take, refl, sym, ap, ◌∙◌, subst, append_assoc, append-nil, arith, ◌⊎◌, inl, inr, cond, codes, nat_eq}
-use Rattle.std.specs.List.{starts_with}
+use Rattle.std.proofs.Common.{◌≡◌, ℕ, suc, ◌+◌, ◌==◌, ◌||◌, ◌&&◌, not, Bool, true, false, List, [], ◌∷◌, ◌++◌, Option, Some, None, drop, refl, sym, ap, ◌∙◌, subst, append_assoc, append-nil, arith, ◌⊎◌, inl, inr, cond, codes}
 use Rattle.std.specs.Option.{option_map}
 use Rattle.std.proofs.lemmas.Bool.Decides.{nat_tests}
-use Rattle.std.proofs.lemmas.List.{take-append-drop}
-use Rattle.std.specs.Cmp.Lexicographic.{same_text}
 use Rattle.fancy_syntax.specs.declared.tree.Meaning.{Meaning}
+use Rattle.fancy_syntax.specs.declared.tree.Assertion.{Assertion}
 use Rattle.fancy_syntax.specs.declared.tree.Taste.{Taste}
 use Rattle.fancy_syntax.specs.declared.tree.Taste.TheVariants.{Greedy, Lazy}
-use Rattle.fancy_syntax.specs.Pattern.{Pattern, repeat, in_branches}
+use Rattle.fancy_syntax.specs.Pattern.{Pattern, assertion, repeat, in_branches}
 use Rattle.fancy_syntax.specs.Sizes.{is_empty}
 use Rattle.fancy_syntax.specs.Words.{Text, ◌∈◌, is_at_any, is_at, begins, is_count, past_blank, past_blanks, begins_count}
 use Rattle.fancy_syntax.specs.Dialect as d
-use Rattle.fancy_syntax.specs.Dialect.{Flags, Scope, in_force, Setting, one_more_group, back_to, is_special, is_escapable, literal_of, begins_quantifier, Turns, optional, star, plus, exactly, at_least, between, at_most, Quantifies, greedily, lazily, Blanks, IsUnquantified, with_part}
+use Rattle.fancy_syntax.specs.Dialect.{Flags, Scope, in_force, Setting, one_more_group, back_to, is_special, literal_of, anchor_of, escape_of, begins_quantifier, Turns, optional, star, plus, exactly, at_least, between, at_most, Quantifies, greedily, lazily, Blanks, IsUnquantified, with_part}
 use Rattle.fancy_syntax.specs.Grammar as g
 use Rattle.fancy_syntax.specs.Grammar.{Place, past, here, Bounds, bounds_in, past_count, are_bounds, opening, atom, wrap, closed, ends_branch, start}
 use Rattle.fancy_syntax.proofs.ReadingLemmas.{some_pair, some_is_none}
@@ -38,9 +36,21 @@ no_paren c t h = rw (other_than c 40 h refl) refl
 pub no_end : (c : ℕ) (t : Text) → is_special c ≡ false → ends_branch (c ∷ t) ≡ false
 no_end c t h = rw (other_than c 124 h refl, other_than c 41 h refl) refl
 
+-- `^` or `$`
+anchor_char : (f : Flags) (c : ℕ) {a : Assertion} → anchor_of f c ≡ Some a → (c ≡ 94) ⊎ (c ≡ 36)
+anchor_char f c h =
+    elim (chosen (94 == c) _ _ _ h) [
+      | inl x ↦ inl (char_is 94 c x.0)
+      | inr x ↦ elim (chosen (36 == c) _ _ _ x.1) [ inl y ↦ inr (char_is 36 c y.0) | inr y ↦ absurd (some_is_none (sym y.1)) ]
+    ]
+
+anchored : (F : ℕ → Type 0) (f : Flags) (c : ℕ) {a : Assertion} → anchor_of f c ≡ Some a → F 94 → F 36 → F c
+anchored F f c h one two = elim (anchor_char f c h) [ inl e ↦ subst F (sym e) one | inr e ↦ subst F (sym e) two ]
+
 -- What is spelled begins as an item may, and not where a branch ends.
 pub atom_begins : {k : ℕ} {s q : Scope} {t after : Text} {a : Pattern} → d.Atom k s t after a q → (rest : Text) → ends_branch (t ++ rest) ≡ false
 atom_begins (d.literal c h n b) rest = no_end c rest h
+atom_begins {s = s} (d.anchor c h) rest = anchored (λ x. ends_branch (x ∷ rest) ≡ false) s.flags c h refl refl
 atom_begins (d.escaped c h) rest = refl
 atom_begins (d.plain b) rest = refl
 atom_begins (d.flagged f b) rest = refl
@@ -61,6 +71,7 @@ flags_are_no_blank x s rest = let n = no_hash_first s in rw n.2.0 (rw n.2.1 refl
 
 pub atom_is_no_blank : {k : ℕ} {s q : Scope} {t after : Text} {a : Pattern} → d.Atom k s t after a q → past_blank s.flags.ignore_blanks (t ++ after) ≡ None
 atom_is_no_blank (d.literal c h n b) = b
+atom_is_no_blank {s = s} {after = after} (d.anchor c h) = anchored (λ x. past_blank s.flags.ignore_blanks (x ∷ after) ≡ None) s.flags c h refl refl
 atom_is_no_blank (d.escaped c h) = refl
 atom_is_no_blank (d.plain b) = refl
 atom_is_no_blank {s = s} {after = after} (d.flagged {u = u} {t = t} f b) = rw (append_assoc u (58 ∷ (t ++ 41 ∷ [])) after) (flags_are_no_blank s.flags.ignore_blanks f ((58 ∷ (t ++ 41 ∷ [])) ++ after))
@@ -129,12 +140,24 @@ mark_is_read {w} {u} {after} q a s b e =
 pub bare_is_read : (a : Pattern) (s : Scope) (after : Text) → IsUnquantified s.flags.ignore_blanks after → g.quantified a (start s after) ≡ Some (a, start s after)
 bare_is_read a s after h = rw (unquantified_is_read s.flags.ignore_blanks after h) refl
 
-pub literal_is_read : (c : ℕ) (s : Scope) (after : Text) → is_special c ≡ false → begins_count (c ∷ after) ≡ false → atom (start s (c ∷ after)) ≡ Some (literal_of s.meaning c, start s after)
-literal_is_read c s [] h n = rw (h, n) refl
-literal_is_read c s (x ∷ rest) h n = let e = other_than c 92 h refl in let f = rw e at h in rw (e, f, n) refl
+no_anchor : (f : Flags) (c : ℕ) → is_special c ≡ false → anchor_of f c ≡ None
+no_anchor f c h = rw (other_than c 94 h refl, other_than c 36 h refl) refl
 
-pub escaped_is_read : (c : ℕ) (s : Scope) (after : Text) → is_escapable c ≡ true → atom (start s (92 ∷ c ∷ after)) ≡ Some (literal_of s.meaning c, start s after)
-escaped_is_read c s after h = rw h refl
+lone_literal : (s : Scope) (c : ℕ) (t : Text) → is_special c ≡ false → begins_count (c ∷ t) ≡ false → g.lone (start s (c ∷ t)) c t (anchor_of s.flags c) ≡ Some (literal_of s.meaning c, start s t)
+lone_literal s c t h n = ap (g.lone (start s (c ∷ t)) c t) (no_anchor s.flags c h) ∙ (rw (h, n) refl)
+
+pub literal_is_read : (c : ℕ) (s : Scope) (after : Text) → is_special c ≡ false → begins_count (c ∷ after) ≡ false → atom (start s (c ∷ after)) ≡ Some (literal_of s.meaning c, start s after)
+literal_is_read c s [] h n = lone_literal s c [] h n
+literal_is_read c s (x ∷ rest) h n = rw (other_than c 92 h refl) (lone_literal s c (x ∷ rest) h n)
+
+pub anchor_is_read : (c : ℕ) (s : Scope) (after : Text) {a : Assertion} → anchor_of s.flags c ≡ Some a → atom (start s (c ∷ after)) ≡ Some (assertion a, start s after)
+anchor_is_read c s [] h = ap (g.lone (start s (c ∷ [])) c []) h
+anchor_is_read c s (x ∷ rest) h =
+    let other : (92 == c) ≡ false = anchored (λ y. (92 == y) ≡ false) s.flags c h refl refl in
+    rw other (ap (g.lone (start s (c ∷ x ∷ rest)) c (x ∷ rest)) h)
+
+pub escaped_is_read : (c : ℕ) (s : Scope) (after : Text) {a : Pattern} → escape_of s c ≡ Some a → ◌≡◌ {A = Option (Pattern × Place)} (atom (start s (92 ∷ c ∷ after))) (Some (a, start s after))
+escaped_is_read c s after h = ap (option_map {U = Pattern × Place} (λ (x : Pattern). (x, start s after))) h
 
 pub capture_is_read : (s : Scope) (rest : Text) → is_at "?*" rest ≡ false → opening (start s (40 ∷ rest)) ≡ Some (g.capture (s.opened + 1), start (one_more_group s) rest)
 capture_is_read s [] h = refl
@@ -178,6 +201,7 @@ mutual
 
   pub read_atom : {k : ℕ} {s q : Scope} {t after : Text} {a x : Pattern} {r : Place} → d.Atom k s t after a q → g.quantified a (start q after) ≡ Some (x, r) → g.Item k (start s (t ++ after)) (Some x) r
   read_atom {s = s} {after = after} (d.literal c h n b) f = g.single (no_paren c after h) (literal_is_read c s after h n) f
+  read_atom {s = s} {after = after} (d.anchor c h) f = g.single (anchored (λ x. is_at "(" (x ∷ after) ≡ false) s.flags c h refl refl) (anchor_is_read c s after h) f
   read_atom {s = s} {after = after} (d.escaped c h) f = g.single refl (escaped_is_read c s after h) f
   read_atom {after = after} (d.plain {t = t} b) f = rw (append_assoc t (41 ∷ []) after) (g.grouped refl refl plain_opens (read_branches b refl refl) refl f)
   read_atom {s = s} {after = after} (d.flagged {u = u} {t = t} l b) f =
@@ -354,39 +378,47 @@ quantity a q t r h =
 pub atom_is : (p : Place) (a : Pattern) (q : Place) → atom p ≡ Some (a, q) → past_blank p.scope.flags.ignore_blanks p.text ≡ None → (w : Text) × (p.text ≡ w ++ q.text) × ((k : ℕ) → d.Atom k p.scope w q.text a q.scope)
 atom_is p a q h clean = go p.text refl h
   where
-    plainly : (c : ℕ) (t : Text) → p.text ≡ c ∷ t → cond {A = Option (Pattern × Place)} (is_special c || begins_count (c ∷ t)) None (Some (literal_of p.scope.meaning c, past 1 p)) ≡ Some (a, q) →
-        (w : Text) × (p.text ≡ w ++ q.text) × ((k : ℕ) → d.Atom k p.scope w q.text a q.scope)
-    plainly c t e h =
+    behind : (c : ℕ) (t : Text) → p.text ≡ c ∷ t → t ≡ drop 1 p.text
+    behind c t e = ap (drop 1) (sym e)
+
+    plainly : (c : ℕ) (t : Text) (o : Option Assertion) → anchor_of p.scope.flags c ≡ o → p.text ≡ c ∷ t → g.lone p c t o ≡ Some (a, q) → (w : Text) × (p.text ≡ w ++ q.text) × ((k : ℕ) → d.Atom k p.scope w q.text a q.scope)
+    plainly c t (Some x) is e h =
+        let s = some_pair h in (
+          c ∷ [],
+          e ∙ ap (λ l. c ∷ l) (behind c t e ∙ ap (λ (y : Place). y.text) s.1),
+          λ k. subst (λ (y : Place). d.Atom k p.scope (c ∷ []) y.text a y.scope) s.1 (subst (λ b. d.Atom k p.scope (c ∷ []) (drop 1 p.text) b p.scope) s.0 (d.anchor c is)),
+        )
+    plainly c t None is e h =
         elim (chosen (is_special c || begins_count (c ∷ t)) _ _ _ h) [
           | inl x ↦ absurd (some_is_none (sym x.1))
           | inr x ↦
               let s = some_pair x.1 in
               let n = either_false (is_special c) (begins_count (c ∷ t)) x.0 in
-              let behind : t ≡ drop 1 p.text = ap (drop 1) (sym e) in
-              let no = subst (λ l. begins_count (c ∷ l) ≡ false) behind n.1 in
-              let none = subst (λ l. past_blank p.scope.flags.ignore_blanks (c ∷ l) ≡ None) behind (ap (past_blank p.scope.flags.ignore_blanks) (sym e) ∙ clean) in (
+              let no = subst (λ l. begins_count (c ∷ l) ≡ false) (behind c t e) n.1 in
+              let none = subst (λ l. past_blank p.scope.flags.ignore_blanks (c ∷ l) ≡ None) (behind c t e) (ap (past_blank p.scope.flags.ignore_blanks) (sym e) ∙ clean) in (
                 c ∷ [],
-                e ∙ ap (λ l. c ∷ l) (behind ∙ ap (λ (y : Place). y.text) s.1),
+                e ∙ ap (λ l. c ∷ l) (behind c t e ∙ ap (λ (y : Place). y.text) s.1),
                 λ k. subst (λ (y : Place). d.Atom k p.scope (c ∷ []) y.text a y.scope) s.1 (subst (λ b. d.Atom k p.scope (c ∷ []) (drop 1 p.text) b p.scope) s.0 (d.literal c n.0 no none)),
               )
         ]
 
+    escape : (x : ℕ) (t : Text) (o : Option Pattern) → escape_of p.scope x ≡ o → p.text ≡ 92 ∷ x ∷ t → ◌≡◌ {A = Option (Pattern × Place)} (option_map {U = Pattern × Place} (λ (b : Pattern). (b, past 2 p)) o) (Some (a, q))
+        → (w : Text) × (p.text ≡ w ++ q.text) × ((k : ℕ) → d.Atom k p.scope w q.text a q.scope)
+    escape x t None is e h = absurd (some_is_none (sym h))
+    escape x t (Some b) is e h =
+        let s = some_pair h in (
+          92 ∷ x ∷ [],
+          e ∙ ap (λ l. 92 ∷ x ∷ l) (ap (drop 2) (sym e) ∙ ap (λ (y : Place). y.text) s.1),
+          λ k. subst (λ (y : Place). d.Atom k p.scope (92 ∷ x ∷ []) y.text a y.scope) s.1 (subst (λ b. d.Atom k p.scope (92 ∷ x ∷ []) (drop 2 p.text) b p.scope) s.0 (d.escaped x is)),
+        )
+
     go : (t : Text) → p.text ≡ t → g.atom_in p t ≡ Some (a, q) → (w : Text) × (p.text ≡ w ++ q.text) × ((k : ℕ) → d.Atom k p.scope w q.text a q.scope)
     go [] e h = absurd (some_is_none (sym h))
-    go (c ∷ []) e h = plainly c [] e h
+    go (c ∷ []) e h = plainly c [] (anchor_of p.scope.flags c) refl e h
     go (c ∷ x ∷ t) e h =
         elim (chosen (is_at "\\" (c ∷ [])) _ _ _ h) [
-          | inl y ↦ elim (chosen (is_escapable x) _ _ _ y.1) [
-            | inl z ↦
-                let s = some_pair z.1 in
-                let is : c ∷ x ∷ t ≡ 92 ∷ x ∷ t = ap (λ l. l ++ x ∷ t) (at_char 92 (c ∷ []) y.0) in (
-                  92 ∷ x ∷ [],
-                  e ∙ (is ∙ ap (λ l. 92 ∷ x ∷ l) (ap (drop 2) (sym e) ∙ ap (λ (y : Place). y.text) s.1)),
-                  λ k. subst (λ (y : Place). d.Atom k p.scope (92 ∷ x ∷ []) y.text a y.scope) s.1 (subst (λ b. d.Atom k p.scope (92 ∷ x ∷ []) (drop 2 p.text) b p.scope) s.0 (d.escaped x z.0)),
-                )
-            | inr z ↦ absurd (some_is_none (sym z.1))
-          ]
-          | inr y ↦ plainly c (x ∷ t) e y.1
+          | inl y ↦ escape x t (escape_of p.scope x) refl (e ∙ ap (λ l. l ++ x ∷ t) (at_char 92 (c ∷ []) y.0)) y.1
+          | inr y ↦ plainly c (x ∷ t) (anchor_of p.scope.flags c) refl e y.1
         ]
 
 -- an atom with what quantifies it

@@ -1,11 +1,14 @@
 -- The dialect, over whole texts: which text spells which pattern. `after` is what follows the text in the whole pattern, so that each case can say that no longer form begins at its place; therefore the cases exclude one another, and a text spells at most one pattern.
 use Rattle.std.specs.Prelude.{◌≡◌, ℕ, suc, ◌+◌, ◌≤◌, ◌==◌, Bool, true, false, not, ◌&&◌, ◌||◌, List, [], ◌∷◌, ◌++◌, Option, Some, None, codes, map, encode_utf8, if◌then◌else◌}
 use Rattle.std.specs.Char.{is_ascii_punctuation}
+use Rattle.std.specs.Option.{option_map, option_or}
 use Rattle.fancy_syntax.specs.declared.tree.Meaning.{Meaning}
 use Rattle.fancy_syntax.specs.declared.tree.Meaning.TheVariants.{Unicode, Bytes, AsciiText}
+use Rattle.fancy_syntax.specs.declared.tree.Assertion.{Assertion}
+use Rattle.fancy_syntax.specs.declared.tree.Assertion.TheVariants.{TextStart, TextEnd, LineStart, LineEnd, LineStartCrlf, LineEndCrlf, LastLine, LastLineCrlf}
 use Rattle.fancy_syntax.specs.declared.tree.Taste.{Taste}
 use Rattle.fancy_syntax.specs.declared.tree.Taste.TheVariants.{Greedy, Lazy}
-use Rattle.fancy_syntax.specs.Pattern.{Pattern, character, group, repeat, in_sequence, in_branches}
+use Rattle.fancy_syntax.specs.Pattern.{Pattern, character, assertion, group, repeat, in_sequence, in_branches}
 use Rattle.fancy_syntax.specs.Sizes.{nodes, is_empty}
 use Rattle.fancy_syntax.specs.Words.{Text, ◌∈◌, is_among, is_at, is_at_digit, is_blank, past_blank, decimal, are_digits, begins_count}
 
@@ -76,11 +79,44 @@ is_special c = c ∈ "|()*+?\\.^$["
 abbrev pub is_escapable : ℕ → Bool
 is_escapable c = (c == 32) || (is_ascii_punctuation c && not (c ∈ "<>"))
 
+-- the control characters that a backslash and a letter stand for
+abbrev pub control_of : ℕ → Option ℕ
+control_of d =
+    if 97 == d then Some 7
+    else if 101 == d then Some 27
+    else if 102 == d then Some 12
+    else if 110 == d then Some 10
+    else if 114 == d then Some 13
+    else if 116 == d then Some 9
+    else if 118 == d then Some 11
+    else None
+
+-- what `^` and `$` test: the text's ends, or those of lines
+abbrev pub anchor_of : Flags → ℕ → Option Assertion
+anchor_of f c =
+    if 94 == c then Some (if f.multi_line then (if f.crlf then LineStartCrlf else LineStart) else TextStart)
+    else if 36 == c then Some (if f.multi_line then (if f.crlf then LineEndCrlf else LineEnd) else TextEnd)
+    else None
+
+-- what `\A`, `\z` and `\Z` test
+abbrev pub place_test : Flags → ℕ → Option Assertion
+place_test f d =
+    if 65 == d then Some TextStart
+    else if 122 == d then Some TextEnd
+    else if 90 == d then Some (if f.crlf then LastLineCrlf else LastLine)
+    else None
+
 -- a literal character: one item, but in byte meaning the sequence of its bytes
 abbrev pub literal_of : Meaning → ℕ → Pattern
 literal_of Unicode c = character c
 literal_of Bytes c = in_sequence (map character (encode_utf8 c))
 literal_of AsciiText c = character c
+
+-- what a backslash and this character stand for
+abbrev pub escape_of : Scope → ℕ → Option Pattern
+escape_of s d =
+    if is_escapable d then Some (literal_of s.meaning d)
+    else option_or (option_map (literal_of s.meaning) (control_of d)) (option_map assertion (place_test s.flags d))
 
 -- a quantifier begins here
 abbrev pub begins_quantifier : Text → Bool
@@ -153,7 +189,8 @@ mutual
   -- a character, an escape or a group
   pub data Atom : ℕ → Scope → Text → Text → Pattern → Scope → Type 0 where
     literal : {k : ℕ} {s : Scope} {after : Text} (c : ℕ) → is_special c ≡ false → begins_count (c ∷ after) ≡ false → past_blank s.flags.ignore_blanks (c ∷ after) ≡ None → Atom k s (c ∷ []) after (literal_of s.meaning c) s
-    escaped : {k : ℕ} {s : Scope} {after : Text} (c : ℕ) → is_escapable c ≡ true → Atom k s (codes "\\" ++ c ∷ []) after (literal_of s.meaning c) s
+    anchor : {k : ℕ} {s : Scope} {after : Text} (c : ℕ) {a : Assertion} → anchor_of s.flags c ≡ Some a → Atom k s (c ∷ []) after (assertion a) s
+    escaped : {k : ℕ} {s : Scope} {after : Text} (c : ℕ) {a : Pattern} → escape_of s c ≡ Some a → Atom k s (codes "\\" ++ c ∷ []) after a s
     plain : {k : ℕ} {s q : Scope} {t after : Text} {bs : List Pattern} → Branches k s t (codes ")" ++ after) bs q
         → Atom (suc k) s (codes "(?:" ++ (t ++ codes ")")) after (in_branches bs) (back_to s q)
     flagged : {k : ℕ} {s q : Scope} {u t after : Text} {f : Flags} {bs : List Pattern} → Setting s.meaning u s.flags f → Branches k (in_force f s) t (codes ")" ++ after) bs q

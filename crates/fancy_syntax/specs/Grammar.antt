@@ -2,12 +2,13 @@
 use Rattle.std.specs.Prelude.{◌≡◌, ℕ, suc, ◌+◌, Bool, true, false, not, ◌||◌, ◌&&◌, nat_le, List, [], ◌∷◌, drop, Option, Some, None, option_map, ◌==◌, if◌then◌else◌}
 use Rattle.std.specs.Option.{option_and_then}
 use Rattle.fancy_syntax.specs.declared.tree.Meaning.{Meaning}
+use Rattle.fancy_syntax.specs.declared.tree.Assertion.{Assertion}
 use Rattle.fancy_syntax.specs.declared.tree.Taste.{Taste}
 use Rattle.fancy_syntax.specs.declared.tree.Taste.TheVariants.{Greedy, Lazy}
-use Rattle.fancy_syntax.specs.Pattern.{Pattern, group, repeat, in_sequence, in_branches}
+use Rattle.fancy_syntax.specs.Pattern.{Pattern, assertion, group, repeat, in_sequence, in_branches}
 use Rattle.fancy_syntax.specs.Sizes.{is_empty}
 use Rattle.fancy_syntax.specs.Words.{Text, ◌∈◌, is_at, begins, is_at_digit, past_digits, past_blanks, decimal, begins_count}
-use Rattle.fancy_syntax.specs.Dialect.{Flags, Scope, in_force, with_flag, one_more_group, back_to, is_special, is_escapable, literal_of, begins_quantifier, with_part}
+use Rattle.fancy_syntax.specs.Dialect.{Flags, Scope, in_force, with_flag, one_more_group, back_to, is_special, literal_of, anchor_of, escape_of, begins_quantifier, with_part}
 
 -- a place in a pattern: what follows, and what is in force there
 pub record Place : Type 0 where
@@ -77,13 +78,18 @@ opening p =
     else if begins "(*" p.text then None
     else Some (capture (p.scope.opened + 1), record { text = drop 1 p.text; scope = one_more_group p.scope })
 
+-- the pattern of one character, which stands for itself or for a place
+abbrev pub lone : Place → ℕ → Text → Option Assertion → Option (Pattern × Place)
+lone p c t (Some a) = Some (assertion a, past 1 p)
+lone p c t None = if is_special c || begins_count (c ∷ t) then None else Some (literal_of p.scope.meaning c, past 1 p)
+
 -- the pattern of one character, or of a backslash and what it escapes, that begins here
 abbrev pub atom_in : Place → Text → Option (Pattern × Place)
 atom_in p [] = None
-atom_in p (c ∷ []) = if is_special c || begins_count (c ∷ []) then None else Some (literal_of p.scope.meaning c, past 1 p)
+atom_in p (c ∷ []) = lone p c [] (anchor_of p.scope.flags c)
 atom_in p (c ∷ d ∷ t) =
-    if c ∈ "\\" then (if is_escapable d then Some (literal_of p.scope.meaning d, past 2 p) else None)
-    else if is_special c || begins_count (c ∷ d ∷ t) then None else Some (literal_of p.scope.meaning c, past 1 p)
+    if c ∈ "\\" then option_map (λ a. (a, past 2 p)) (escape_of p.scope d)
+    else lone p c (d ∷ t) (anchor_of p.scope.flags c)
 
 abbrev pub atom : Place → Option (Pattern × Place)
 atom p = atom_in p p.text

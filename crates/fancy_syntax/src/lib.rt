@@ -5,6 +5,7 @@ mod blank;
 mod build;
 mod count;
 pub mod error;
+mod escape;
 mod flags;
 mod groups;
 pub mod laws;

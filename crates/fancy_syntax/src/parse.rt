@@ -30,10 +30,19 @@ pub struct Parsed {
 
 /// Reads a pattern, whose items are characters.
 ///
-/// The forms so far are literal characters, a backslash before ASCII punctuation (other than `<` and `>`) or a
-/// space, groups `(..)`, which capture, and `(?:..)`, which do not, branches joined by `|`, and the quantifiers
-/// `?`, `*`, `+`, `{n}`, `{n,}`, `{n,m}` and `{,m}`, each with a `?` behind it where it is lazy. The bounds `n` and
-/// `m` are at most 4,294,967,295. At most 64 parentheses are open at one place.
+/// The forms so far:
+///
+/// - literal characters, and a backslash before ASCII punctuation (other than `<` and `>`) or a space;
+/// - the control characters `\a \e \f \n \r \t \v`, and the assertions `^ $ \A \z \Z`;
+/// - groups `(..)`, which capture and are numbered from 1 by their openings, and `(?:..)`, which do not;
+/// - branches joined by `|`;
+/// - the quantifiers `?`, `*`, `+`, `{n}`, `{n,}`, `{n,m}` and `{,m}`, each with a `?` behind it where it is lazy;
+///   the bounds `n` and `m` are at most 4,294,967,295;
+/// - comments `(?#..)` between items and before quantifiers;
+/// - the flags `m s x u R`, as `(?ms-x)` up to the end of the enclosing group, over later branches too, or as
+///   `(?ms-x:..)` for a group.
+///
+/// At most 64 parentheses are open at one place, among them those of flags, but not those of comments.
 ///
 /// A text that is no pattern is refused by an [`Error::ParseError`], whose place is a byte offset into it, of 0
 /// to the length of `pattern`; one of more than 1,000,000 nodes by [`CompileError::PatternTooComplex`]. Where
@@ -151,6 +160,11 @@ mod tests {
             ("(?:(?m))*", Some((8, ParseErrorKind::TargetNotRepeatable))),
             ("(?x)a+ +", Some((7, ParseErrorKind::TargetNotRepeatable))),
             ("(?x)a{1 }", None),
+            ("^a$\\A\\z\\Z\\n\\e(?mR)^*$", None),
+            ("\\q", Some((0, ParseErrorKind::InvalidEscape))),
+            ("\\0", Some((0, ParseErrorKind::InvalidEscape))),
+            ("\\k", Some((0, ParseErrorKind::InvalidEscape))),
+            ("\\k<a>", Some((0, ParseErrorKind::NotInProfile))),
             ("(?#a", Some((0, ParseErrorKind::UnclosedOpenParen))),
             (
                 "a(?#b)+(?#c)+",

@@ -1,6 +1,6 @@
 //! The parser: one pass over the characters, which goes deeper only at a parenthesis.
 
-ghost use Rattle.std.specs.Prelude.{◌≡◌, ◌+◌, ◌<◌, ◌≤◌, ◌^◌, ◌-◌, min, sum_by, true, false, if◌then◌else◌, length, nat_eq, OnOk, IsTrue};
+ghost use Rattle.std.specs.Prelude.{◌≡◌, ◌+◌, ◌<◌, ◌≤◌, ◌^◌, ◌-◌, min, sum_by, true, false, if◌then◌else◌, length, nat_eq, OnOk, IfOk, IsTrue, option_map};
 ghost use Rattle.std.specs.Char.{len_utf8};
 ghost use Rattle.std.specs.List.{starts_with};
 ghost use Rattle.fancy_syntax.specs.Dialect.{is_escapable, is_special, begins_quantifier};
@@ -10,10 +10,11 @@ use crate::blank::past_blanks;
 use crate::build::{branches, is_empty, literal, repeat, sequence, wrap};
 use crate::count::{Turns, begins_count, bounds, past_count};
 use crate::error::{Error, ParseErrorKind};
+use crate::escape::{anchor, control, escape_fault, place_test};
 use crate::flags::{Flags, read_flags};
 use crate::groups::Opening;
 use crate::tree::{Meaning, Taste, Tree};
-use std::alloc::Global;
+use std::alloc::{AllocError, Global};
 
 /// A pattern, and what is left of it to read.
 #[derive(Drop)]
@@ -166,6 +167,7 @@ impl<'a> Parser<'a> {
 impl<'a> Parser<'a> {
     ghost use Rattle.fancy_syntax.specs.Views.{place, found, bounds_of, itself, GivesValue};
     ghost use Rattle.fancy_syntax.specs.Pattern.{pattern_of};
+    ghost use Rattle.fancy_syntax.specs.Dialect.{escape_of};
     ghost use Rattle.fancy_syntax.specs.Grammar.{opening, flagged, atom, quantified, turns, taste};
 
     /// Reads what a parenthesis opens.
@@ -231,19 +233,35 @@ impl<'a> Parser<'a> {
         ensures progress { OnOk result (length self.new.rest.now < length self.old.rest.now) }
     {
         match self.rest {
-            [_, c, ..] => {
-                let c = *c;
-                if !is_escapable(c) {
-                    return Err(self.error(ParseErrorKind::NotInProfile));
+            [_, c, ..] => match self.escaped(*c)? {
+                Some(tree) => {
+                    self.skip(2);
+                    Ok(tree)
                 }
-                self.skip(2);
-                Ok(literal(self.alloc, self.meaning, c)?)
-            }
+                None => Err(self.error(escape_fault(&self.rest[1..]))),
+            },
             _ => Err(self.error(ParseErrorKind::TrailingBackslash)),
         }
     }
 
-    /// Reads a character that stands for itself.
+    /// What a backslash and this character stand for.
+    #[tactic(auto, using(crate::proofs::PatternLemmas::pattern_equations))]
+    fn escaped(&self, c: char) -> Result<Option<Tree>, AllocError>
+        ensures { IfOk result (λ o. option_map pattern_of o ≡ escape_of (place self.now).scope c) }
+    {
+        if is_escapable(c) {
+            return Ok(Some(literal(self.alloc, self.meaning, c)?));
+        }
+        if let Some(c) = control(c) {
+            return Ok(Some(literal(self.alloc, self.meaning, c)?));
+        }
+        match place_test(self.flags, c) {
+            Some(test) => Ok(Some(Tree::Assertion(test))),
+            None => Ok(None),
+        }
+    }
+
+    /// Reads a character that stands for itself, or for a place.
     #[tactic(auto, using(crate::proofs::PatternLemmas::pattern_equations))]
     fn literal(&mut self) -> Result<Tree, Error>
         requires { is_at "\\" self.old.rest.now ≡ false }
@@ -253,6 +271,10 @@ impl<'a> Parser<'a> {
         match self.rest {
             [c, ..] => {
                 let c = *c;
+                if let Some(test) = anchor(self.flags, c) {
+                    self.skip(1);
+                    return Ok(Tree::Assertion(test));
+                }
                 if is_special(c) || begins_count(self.rest) {
                     return Err(self.unexpected());
                 }

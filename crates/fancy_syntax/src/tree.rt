@@ -73,6 +73,14 @@ pub enum Assertion {
     LineStart,
     /// The text's end, or before a line feed.
     LineEnd,
+    /// The text's start, behind a line feed, or behind a carriage return that no line feed follows.
+    LineStartCrlf,
+    /// The text's end, before a carriage return, or before a line feed that no carriage return precedes.
+    LineEndCrlf,
+    /// Only line feeds follow, if anything.
+    LastLine,
+    /// Only line feeds follow, each perhaps with a carriage return before it, if anything.
+    LastLineCrlf,
 }
 
 /// Which number of turns a repeat prefers, and whether it goes back to another one.

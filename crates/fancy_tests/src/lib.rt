@@ -8,4 +8,6 @@ mod finding;
 #[cfg(test)]
 mod inputs;
 #[cfg(test)]
+mod iteration;
+#[cfg(test)]
 mod refusals;

@@ -1,10 +1,10 @@
-use Rattle.std.proofs.Common.{◌≡◌, ◌-◌, ◌∙◌, [], ◌∷◌, subst, sym, ap, map, append-nil, arith}
+use Rattle.std.proofs.Common.{◌-◌, ◌∙◌, [], ◌∷◌, sym, ap, map, append-nil, arith}
 use Rattle.std.proofs.lemmas.List.{map-append}
 use Rattle.std.proofs.lemmas.Result.{err_from_is_err_and}
 use Rattle.fancy_syntax.specs.Pattern.{pattern_of, in_branches}
 use Rattle.fancy_syntax.specs.Dialect.{back_to}
 use Rattle.fancy_syntax.specs.Grammar.{Place, Item, quantified}
-use Rattle.fancy_syntax.specs.Views.{place, part_of, Alternation, Sequence, GivesValue}
+use Rattle.fancy_syntax.specs.Views.{place, part_of, Alternation, Sequence}
 use Rattle.fancy_syntax.proofs.ReadingLemmas.{refused, Refuses-weaker, goes_on_then, no_branch, branch_step, alternation_is, item_step_at, no_item_at, sequence_is_at, no_quantified, single_is, setting_is, no_room, no_body, unclosed, no_quantified_group, group_is, found_setting}
 use Rattle.fancy_syntax.proofs.parser.Parser.+parser.Goals as goal
 

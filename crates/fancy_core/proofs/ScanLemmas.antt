@@ -1,0 +1,56 @@
+-- What the searches of an iteration owe its list.
+use Rattle.std.proofs.Common.{arith, ℕ, ◌≤◌, ◌≡◌, Bool, true, false, ◌&&◌, List, length, Option, Some, IsTrue, IsUtf8, refl, sym}
+use Rattle.std.proofs.lemmas.Grind.{common_steps}
+use Rattle.fancy_input.specs.declared.input.Request.{Request}
+use Rattle.fancy_input.specs.Requests.{effective_start}
+use Rattle.fancy_input.specs.Places.{next_place, is_boundary}
+use Rattle.fancy_input.proofs.PlaceLemmas.{next_place_above, next_place_boundary}
+use Rattle.fancy_engine.specs.Search.{Found, search}
+use Rattle.fancy_engine.specs.declared.search.Memory.{Memory}
+use Rattle.fancy_engine.specs.Threads.{state_of}
+use Rattle.fancy_engine.specs.Queries.{way_in, answer_of}
+use Rattle.fancy_engine.proofs.FoundLemmas.{answer_within}
+use Rattle.fancy_engine.proofs.SearchLemmas.{answer-is}
+use Rattle.fancy_core.specs.declared.regex.Regex.{Regex}
+use Rattle.fancy_core.specs.Regexes.{asked, options_in}
+use Rattle.fancy_core.specs.Searching.{Suits}
+use Rattle.fancy_core.specs.Matching.{Sound}
+use Rattle.fancy_core.specs.Left.{scan, HasGroups}
+use Rattle.fancy_core.proofs.CutLemmas.{groups_cut}
+
+-- what a search with the regex finds lies between its effective start and its range's end
+pub search_lies : (regex : Regex) (haystack : List ℕ) (r : Request) (f : Found) → r.range_end ≤ length haystack → search (asked regex haystack r) ≡ Some f →
+    (effective_start r ≤ f.state.kept) × (f.state.kept ≤ f.state.place) × (f.state.place ≤ r.range_end)
+search_lies regex haystack r f range e =
+    let within = answer_within (asked regex haystack r) f refl range e in
+    let first = answer-is (asked regex haystack r) f refl e in
+    let kept : f.state.kept ≡ f.position = within.kept regex.easy in
+    let a : effective_start r ≤ f.position = first.tried.from in
+    let b : f.position ≤ f.state.place = within.begins in
+    (omega (arith, a, kept), omega (arith, b, kept), within.ends)
+
+pub scan_sound : (regex : Regex) (text : Bool) (haystack : List ℕ) (r : Request) → r.range_end ≤ length haystack → Sound (scan regex text haystack r)
+scan_sound regex text haystack r range = record {
+  found = λ s c f e. let l = search_lies regex haystack (record r { start = s; continues = r.continues && c }) f range e in record { after = l.0; ordered = l.1; inside = l.2 };
+  advances = λ i. next_place_above text haystack i;
+}
+
+pub next_place_clean : (text : Bool) (haystack : List ℕ) (i : ℕ) → text ≡ true → IsTrue (is_boundary haystack (next_place text haystack i))
+next_place_clean true haystack i e = next_place_boundary haystack i
+next_place_clean false haystack i e = cc
+
+pub search_after : (regex : Regex) (haystack : List ℕ) (r : Request) (f : Found) → r.range_end ≤ length haystack → search (asked regex haystack r) ≡ Some f → r.start ≤ f.state.kept
+search_after regex haystack r f range e = let l : effective_start r ≤ f.state.kept = (search_lies regex haystack r f range e).0 in grind (arith, common_steps)
+
+-- the same of what a search answered: q is r but for `\G`
+pub answered_after : (regex : Regex) (bytes haystack : List ℕ) (r q : Request) (b : Bool) (m : Option ℕ) (p : ℕ) (memory : Memory) → r.range_end ≤ length haystack → bytes ≡ haystack → q ≡ record r { continues = b } → m ≡ Some p →
+    answer_of m memory ≡ search (asked regex bytes q) → r.start ≤ p
+answered_after regex bytes haystack r q b m p memory range same moved found e =
+    let f : search (asked regex haystack (record r { continues = b })) ≡ Some (record { position = p; state = state_of p (way_in memory) }) = sym (rw (found, same, moved) at e) in
+    search_after regex haystack (record r { continues = b }) _ range f
+
+pub answered_groups : (regex : Regex) (text : Bool) (bytes haystack : List ℕ) (r q : Request) (b : Bool) (m : Option ℕ) (p : ℕ) (memory : Memory) → r.range_end ≤ length haystack → bytes ≡ haystack → q ≡ record r { continues = b } → m ≡ Some p →
+    Suits (options_in regex) text haystack → (text ≡ true → IsUtf8 bytes) → answer_of m memory ≡ search (asked regex bytes q) → HasGroups text haystack p memory
+answered_groups regex text bytes haystack r q b m p memory range same moved found suits utf8 e = record {
+  cut = λ n. groups_cut regex text haystack (record r { continues = b }) p memory n range suits (λ t. rw same at (utf8 t)) (rw (found, same, moved) at e);
+}

@@ -1,0 +1,36 @@
+-- What stands for an iterator over matches with their groups.
+use Rattle.std.specs.Prelude.{◌≡◌, ◌+◌, ℕ, Bool, false, List, Option, Result, MatchOption, MatchResult, ⊤, map}
+use Rattle.fancy_syntax.specs.declared.error.Error.{Error}
+use Rattle.fancy_engine.specs.Context.{Span}
+use Rattle.fancy_core.specs.declared.iter.Matches.{Matches}
+use Rattle.fancy_core.specs.declared.iter.captures.CaptureMatches.{CaptureMatches}
+use Rattle.fancy_core.specs.Groups.{spans_of}
+use Rattle.fancy_core.specs.Matching.{Item}
+use Rattle.fancy_core.specs.Left.{GivesFirst, EndsUnlessOk, IfItem}
+use Rattle.fancy_core.specs.Regexes.{groups_in}
+use Rattle.fancy_core.specs.Iterations.{regex_in, text_of, next_request, has_ended, left_in}
+
+-- the iteration over the matches alone
+abbrev pub matches_in : {S : Type 0} {g : _} → CaptureMatches S g → Matches S g
+matches_in m = m.matches
+
+-- the spans of the groups of each of these, of so many groups
+abbrev pub groups_of_each : ℕ → List Item → List (List (Option Span))
+groups_of_each n items = map (λ i. spans_of n i.found) items
+
+-- the groups of the matches that are left
+abbrev pub groups_left : {S : Type 0} {g : _} → (S → Bool) → (S → List ℕ) → CaptureMatches S g → List (List (Option Span))
+groups_left text bytes m = groups_of_each (groups_in (regex_in (matches_in m))) (left_in text bytes (matches_in m))
+
+-- One call of `next`, from s to t. A haystack is text where `text` holds of it, and has these bytes.
+pub record IsNextCaptures {S A : Type 0} {g : _} (text : S → Bool) (bytes : S → List ℕ) (spans : A → List (Option Span)) (searched : A → S) (s : CaptureMatches S g) (r : Option (Result A Error)) (t : CaptureMatches S g) : Type 0 where
+  -- the first of the matches that are left, or a refusal behind which there is none
+  pub gives : GivesFirst spans (groups_left text bytes) s r t
+  pub within_text : IfItem r (λ x. searched x ≡ text_of (matches_in s))
+  pub same_regex : regex_in (matches_in t) ≡ regex_in (matches_in s)
+  pub same_text : text_of (matches_in t) ≡ text_of (matches_in s)
+  pub same_request : next_request (matches_in t) ≡ record (next_request (matches_in s)) { start = (next_request (matches_in t)).start }
+  pub refuses : MatchOption r ⊤ (λ item. MatchResult item (λ _. ⊤) (λ _. (next_request (matches_in t)).start ≡ (next_request (matches_in s)).range_end + 1))
+  -- a list that has ended stays so
+  pub ends : EndsUnlessOk r (has_ended (matches_in t))
+  pub unended : MatchOption r ⊤ (λ _. has_ended (matches_in s) ≡ false)

@@ -1,0 +1,70 @@
+-- What an iteration over the matches of a regex has left.
+use Rattle.std.specs.Prelude.{ℕ, zero, suc, ◌&&◌, length, ⊤, ◌≡◌, Bool, true, false, nat_eq, if◌then◌else◌, List, [], ◌∷◌, Option, Result, MatchOption, MatchResult}
+use Rattle.fancy_syntax.specs.declared.error.Error.{Error}
+use Rattle.fancy_syntax.specs.declared.error.Error.TheVariants.{Memory as OutOfMemory}
+use Rattle.fancy_input.specs.declared.input.Request.{Request}
+use Rattle.fancy_input.specs.Places.{next_place}
+use Rattle.fancy_engine.specs.declared.search.Memory.{Memory}
+use Rattle.fancy_engine.specs.Search.{search}
+use Rattle.fancy_engine.specs.Threads.{state_of}
+use Rattle.fancy_engine.specs.Queries.{way_in}
+use Rattle.fancy_core.specs.declared.regex.Regex.{Regex}
+use Rattle.fancy_core.specs.declared.walk.Located.{Located}
+use Rattle.fancy_core.specs.Regexes.{asked}
+use Rattle.fancy_core.specs.Groups.{AreCut, spans_of, found_at}
+use Rattle.fancy_core.specs.Matching.{Scan, Item, answer, unless_empty_at, items_from, matches}
+
+-- the iteration of a request; `text` says that the haystack is text
+abbrev pub scan : Regex → Bool → List ℕ → Request → Scan
+scan regex text haystack r = record {
+  find = λ s c. search (asked regex haystack (record r { start = s; continues = r.continues && c }));
+  advance = next_place text haystack;
+  floor = r.range_start;
+  last = r.range_end;
+}
+
+-- the matches that a request has one behind the other
+abbrev pub matches_of : Regex → Bool → List ℕ → Request → List Item
+matches_of regex text haystack r = matches (scan regex text haystack r) r.start
+
+-- the haystack can be cut at the groups of what the last search with this memory found
+pub record HasGroups (text : Bool) (haystack : List ℕ) (position : ℕ) (memory : Memory) : Type 0 where
+  pub cut : (n : ℕ) → AreCut text haystack (spans_of n (found_at position memory))
+
+-- what was located, with the groups that the search left in its memory
+abbrev pub item_in : Memory → Located → Item
+item_in memory l = record { found = record { position = l.start; state = state_of l.start (way_in memory) }; from = l.from; continues = l.continues }
+
+-- where the search behind a match starts: at its end, and behind an empty one at the next place
+abbrev pub start_behind : Bool → List ℕ → ℕ × ℕ → ℕ
+start_behind text haystack span = if nat_eq span.0 span.1 then next_place text haystack span.1 else span.1
+
+-- The next item, where an iteration stands at s: whether an empty match at s is passed over, and whether `\G` is on.
+abbrev pub upcoming_if : Bool → Scan → ℕ → Bool → Option Item
+upcoming_if false k s c = answer k s c
+upcoming_if true k s c = unless_empty_at k s (answer k s c)
+
+abbrev pub left_if : Bool → Scan → ℕ → Bool → Bool → List Item
+left_if true k s c b = []
+left_if false k s c b = items_from k (upcoming_if b k s c)
+
+-- the items that are left: whether the list has ended, whether `\G` is on, and whether an empty match at the start is passed over
+abbrev pub items_left : Regex → Bool → List ℕ → Request → Bool → Bool → Bool → List Item
+items_left regex text haystack r ended continues skips_empty = left_if ended (scan regex text haystack r) r.start continues skips_empty
+
+-- One step of an iterator of results over the list `rest`: the first of them, or a refusal for want of memory, after which it has ended.
+abbrev pub GivesFirst : {S A B : Type 0} → (A → B) → (S → List B) → S → Option (Result A Error) → S → Type 0
+GivesFirst view rest s r t = MatchOption r ((rest s ≡ []) × (rest t ≡ [])) (λ item. MatchResult item (λ x. rest s ≡ view x ∷ rest t) (λ e. (e ≡ OutOfMemory) × (rest t ≡ [])))
+
+-- how many items can still come: those that are left and one refusal
+abbrev pub turns_left : {A : Type 0} → Bool → List A → ℕ
+turns_left true items = zero
+turns_left false items = suc (length items)
+
+-- after a refusal, and where nothing is left, the list has ended
+abbrev pub EndsUnlessOk : {A E : Type 0} → Option (Result A E) → Bool → Type 0
+EndsUnlessOk r ended = MatchOption r (ended ≡ true) (λ item. MatchResult item (λ x. ended ≡ false) (λ e. ended ≡ true))
+
+-- P of the value, where there is one
+abbrev pub IfItem : {A E : Type 0} → Option (Result A E) → (A → Type 0) → Type 0
+IfItem r P = MatchOption r ⊤ (λ item. MatchResult item P (λ e. ⊤))

@@ -1,0 +1,120 @@
+//! Iterators over matches with their groups.
+
+ghost use Rattle.std.specs.Prelude.{◌≡◌};
+ghost use Rattle.std.specs.Iterator.{at_most};
+ghost use Rattle.fancy_input.specs.Inputs.{haystack_in, request_in};
+ghost use Rattle.fancy_input.specs.Requests.{whole};
+ghost use Rattle.fancy_core.specs.Captured.{spans_in, searched_in};
+ghost use Rattle.fancy_core.specs.Regexes.{options_in, groups_in};
+ghost use Rattle.fancy_core.specs.Searching.{Suits, CanSearch};
+ghost use Rattle.fancy_core.specs.Left.{matches_of};
+
+use crate::captures::Captures;
+use crate::capturing::groups_found;
+use crate::iter::Matches;
+use crate::regex::Regex;
+use fancy_input::input::{Haystack, Input};
+use fancy_input::regex_input::RegexInput;
+use fancy_syntax::error::{Error, Result};
+
+/// The matches of an input with their groups, one behind the other.
+///
+/// They are those of [`Matches`], in the same order. An item is `Error::Memory` where memory runs out, also for the
+/// groups, and nothing comes behind it.
+#[derive(Drop)]
+pub struct CaptureMatches<'r, S: Haystack> {
+    matches: Matches<'r, S>,
+}
+
+impl Regex {
+    ghost use Rattle.fancy_core.specs.CaptureIterations.{groups_left, groups_of_each, matches_in};
+    ghost use Rattle.fancy_core.specs.Iterations.{regex_in, text_of, next_request};
+
+    /// The matches in the haystack with their groups, from its start on.
+    ///
+    /// ```text
+    /// Regex::new(alloc, "a(b)?")?.captures_iter("aab")  // 0..1, and 1..3 with group 1 at 2..3
+    /// ```
+    pub fn captures_iter<S: Input>(&self, haystack: S) -> CaptureMatches<'_, S>
+        requires suits { Suits (options_in self.now) (S.text haystack) (S.bytes haystack) }
+        ensures matches { groups_left S.text S.bytes result ≡ groups_of_each (groups_in self.now) (matches_of self.now (S.text haystack) (S.bytes haystack) (whole (S.bytes haystack))) }
+        ensures regex { regex_in (matches_in result) ≡ self.now }
+        ensures text { text_of (matches_in result) ≡ haystack }
+        ensures request { next_request (matches_in result) ≡ whole (S.bytes haystack) }
+    {
+        CaptureMatches {
+            matches: self.find_iter(haystack),
+        }
+    }
+
+    /// The matches that the input asks for, with their groups.
+    pub fn captures_iter_input<S: Input>(&self, input: RegexInput<S>) -> CaptureMatches<'_, S>
+        requires searched { CanSearch (options_in self.now) (S.text (haystack_in input)) (S.bytes (haystack_in input)) (request_in input) }
+        ensures matches { groups_left S.text S.bytes result ≡ groups_of_each (groups_in self.now) (matches_of self.now (S.text (haystack_in input)) (S.bytes (haystack_in input)) (request_in input)) }
+        ensures regex { regex_in (matches_in result) ≡ self.now }
+        ensures text { text_of (matches_in result) ≡ haystack_in input }
+        ensures request { next_request (matches_in result) ≡ request_in input }
+    {
+        CaptureMatches {
+            matches: self.find_iter_input(input),
+        }
+    }
+}
+
+impl<'r, S: Input> CaptureMatches<'r, S> {
+    ghost use Rattle.fancy_core.specs.CaptureIterations.{matches_in};
+    ghost use Rattle.fancy_core.specs.Iterations.{regex_in, text_of, next_request};
+
+    /// The regex that searches.
+    pub fn regex(&self) -> &'r Regex
+        ensures { result.now ≡ regex_in (matches_in self.now) }
+    {
+        self.matches.regex()
+    }
+
+    /// The whole haystack.
+    pub fn text(&self) -> S
+        ensures { result ≡ text_of (matches_in self.now) }
+    {
+        self.matches.text()
+    }
+
+    /// The input of the next search, as [`Matches::input`] has it.
+    pub fn input(&self) -> RegexInput<S>
+        ensures haystack { haystack_in result ≡ text_of (matches_in self.now) }
+        ensures request { request_in result ≡ next_request (matches_in self.now) }
+    {
+        self.matches.input()
+    }
+}
+
+impl<'r, S: Input> Iterator for CaptureMatches<'r, S> {
+    ghost use Rattle.fancy_core.specs.CaptureIterations.{IsNextCaptures, matches_in};
+    ghost use Rattle.fancy_core.specs.Iterations.{turns_of};
+
+    type Item = Result<Captures<'r, S>>;
+
+    ghost next_gives = { IsNextCaptures S.text S.bytes (λ c. spans_in c) (λ c. searched_in c) };
+
+    ghost remaining = { λ m. at_most (turns_of S.text S.bytes (matches_in m)) };
+
+    fn next(&mut self) -> Option<Result<Captures<'r, S>>> {
+        let matches = &mut self.matches;
+        let regex = matches.regex;
+        let haystack = matches.walk.haystack();
+        match matches.walk.next_item(regex, &mut matches.memory) {
+            None => None,
+            Some(Ok(item)) => {
+                let count = regex.captures_len();
+                match groups_found(regex.allocator(), count, item.start, &matches.memory) {
+                    Ok(slots) => Some(Ok(Captures::new(regex, haystack, slots))),
+                    Err(_) => {
+                        matches.walk.refuse();
+                        Some(Err(Error::Memory))
+                    }
+                }
+            }
+            Some(Err(error)) => Some(Err(error)),
+        }
+    }
+}
