@@ -16,7 +16,6 @@ use crate::input::{Haystack, Request};
 /// RegexInput::new("abcabc").from_pos(1)           // finds `abc` at 3
 /// RegexInput::new("abcabc").range(0..2)           // finds no `abc`
 /// RegexInput::new("abcabc").from_pos(1).anchored(true)     // finds no `abc`: 1 alone is tried
-/// RegexInput::new("abcabc").start_text(false)     // finds no `^abc`
 /// ```
 #[derive(Drop)]
 pub struct RegexInput<S: Haystack> {
