@@ -5,3 +5,10 @@ pub mod MatchingLemmas
 pub mod ScanLemmas
 pub mod LeftLemmas
 pub mod StepLemmas
+pub mod RowLemmas
+pub mod TemplateLemmas
+pub mod FormLemmas
+pub mod WriteLemmas
+pub mod PieceLemmas
+pub mod EscapeLemmas
+pub mod ReadLemmas

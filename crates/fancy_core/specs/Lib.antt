@@ -8,3 +8,8 @@ pub mod Matching
 pub mod Left
 pub mod Iterations
 pub mod CaptureIterations
+pub mod Templates
+pub mod Expansions
+pub mod Escapes
+pub mod Expanders
+pub mod Pieces

@@ -1,12 +1,20 @@
-//! Regexes: a pattern that was read once, and the searches with it.
+//! Regexes: a pattern that was read once, and the searches with it; templates and escapes.
 #![tactic(auto)]
 
 pub mod captures;
 mod capturing;
+pub mod escape;
+pub mod expander;
 pub mod iter;
 #[cfg(test)]
 mod iter_tests;
 pub mod laws;
+pub(crate) mod letters;
 pub mod options;
 pub mod regex;
+pub mod steps;
+pub mod template_laws;
+#[cfg(test)]
+mod tests;
 mod walk;
+pub mod write;

@@ -1,6 +1,6 @@
 //! The table of visited pairs.
 
-ghost use Rattle.std.specs.Prelude.{◌≡◌, ◌+◌, ◌-◌, ◌*◌, ◌<◌, ◌≤◌, ◌^◌, ◌++◌, List, Bool, true, false, not, length, replicate, OnOk, IfOk, slice_index_or, slice_set, vec_len, vec_capacity};
+ghost use Rattle.std.specs.Prelude.{◌≡◌, ◌+◌, ◌-◌, ◌*◌, ◌<◌, ◌≤◌, ◌^◌, ◌++◌, [], List, Bool, true, false, not, length, replicate, OnOk, IfOk, slice_index_or, slice_set, vec_len, vec_capacity};
 ghost use Rattle.std.specs.Bool.{MatchBool};
 ghost use Rattle.fancy_engine.specs.Marked.{marked};
 ghost use Rattle.fancy_engine.specs.Bits.{bits_of};
@@ -37,7 +37,9 @@ impl Model for Table {
 
 impl Table {
     /// A table of no pairs.
-    pub fn new(alloc: Global) -> Table {
+    pub fn new(alloc: Global) -> Table
+        ensures { result ≡ [] }
+    {
         Table {
             words: Vec::new(alloc),
             pairs: 0,

@@ -9,3 +9,11 @@ pub mod SpellingLemmas
 pub mod UniqueLemmas
 pub mod ParseLemmas
 pub mod GroupLemmas
+pub mod EdgesLemmas
+pub mod SetLemmas
+pub mod BitLemmas
+pub mod PropertyLetters
+pub mod GatheredLemmas
+pub mod ClassSteps
+pub mod CanonicalLemmas
+pub mod SharingLemmas

@@ -8,3 +8,10 @@ pub mod Grammar
 pub mod Groups
 pub mod Refusals
 pub mod Views
+pub mod Members
+pub mod Widening
+pub mod Named
+pub mod Low
+pub mod Escapes
+pub mod ClassGrammar
+pub mod ClassViews

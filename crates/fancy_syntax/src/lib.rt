@@ -3,6 +3,8 @@
 
 mod blank;
 mod build;
+pub mod char_set;
+mod class;
 mod count;
 pub mod error;
 mod escape;
@@ -10,6 +12,12 @@ mod flags;
 mod groups;
 pub mod laws;
 mod measure;
+pub mod named;
+pub mod operation;
 pub mod parse;
 mod parser;
+pub mod property;
+pub mod set;
+pub mod sharing;
 pub mod tree;
+pub mod widening;

@@ -1,0 +1,7 @@
+use Rattle.std.proofs.Common.{refl}
+use Rattle.std.specs.Str.{chars}
+use Rattle.fancy_core.proofs.expander.ExpanderDefault.default.Goals as goal
+
+pub returns : goal.returns
+unfolding chars
+returns c = refl

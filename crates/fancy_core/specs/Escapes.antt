@@ -1,0 +1,34 @@
+-- Texts that are to stand for themselves, in a template or in a pattern.
+use Rattle.std.specs.Prelude.{ℕ, ◌==◌, Bool, [], ◌∷◌, ◌++◌, codes, flat_map, if◌then◌else◌}
+use Rattle.std.specs.List.{list_any}
+use Rattle.fancy_syntax.specs.Words.{Text, ◌∈◌}
+
+-- in a template each mark stands twice
+abbrev pub doubled_mark : ℕ → ℕ → Text
+doubled_mark mark c = if c == mark then c ∷ c ∷ [] else c ∷ []
+
+abbrev pub has_mark : ℕ → Text → Bool
+has_mark mark t = list_any (λ c. c == mark) t
+
+abbrev pub escaped_template : ℕ → Text → Text
+escaped_template mark t = flat_map (doubled_mark mark) t
+
+-- the characters that make a text need escapes in a pattern
+unfoldable pub is_special : ℕ → Bool
+is_special c = c ∈ "\\.+*?()|[]{}^$#"
+
+abbrev pub has_special : Text → Bool
+has_special t = list_any is_special t
+
+-- one character of such a text: LF, TAB and CR are written by letters
+unfoldable pub escaped_character : ℕ → Text
+escaped_character c =
+    if c == 10 then codes "\\n"
+    else if c == 9 then codes "\\t"
+    else if c == 13 then codes "\\r"
+    else if is_special c then codes "\\" ++ (c ∷ [])
+    else c ∷ []
+
+-- a text with none of them stays as it is, with its line feeds and tabs
+abbrev pub escaped_pattern : Text → Text
+escaped_pattern t = if has_special t then flat_map escaped_character t else t

@@ -1,0 +1,33 @@
+-- The parts of a text between spans, in byte offsets.
+use Rattle.std.specs.Prelude.{ℕ, zero, suc, ◌≤◌, List, [], ◌∷◌, ◌++◌, take, length, slice_range}
+
+-- The parts of t between the spans, from a place on: the part before the first span, and so on, and the rest after the last.
+abbrev pub pieces : List ℕ → ℕ → List (ℕ × ℕ) → List (List ℕ)
+pieces t at [] = slice_range t at (length t) ∷ []
+pieces t at (x ∷ xs) = slice_range t at x.0 ∷ pieces t x.1 xs
+
+-- Nothing for no pieces, else the pieces between the first n - 1 spans: the last of n pieces is the rest.
+abbrev pub first_pieces : ℕ → List ℕ → ℕ → List (ℕ × ℕ) → List (List ℕ)
+first_pieces zero t at xs = []
+first_pieces (suc n) t at xs = pieces t at (take n xs)
+
+-- the pieces with the given texts, in order, between them
+abbrev pub interleaved : List (List ℕ) → List (List ℕ) → List ℕ
+interleaved [] ts = []
+interleaved (p ∷ ps) [] = p ++ interleaved ps []
+interleaved (p ∷ ps) (a ∷ ts) = p ++ (a ++ interleaved ps ts)
+
+-- the texts of the spans
+abbrev pub texts : List ℕ → List (ℕ × ℕ) → List (List ℕ)
+texts t [] = []
+texts t (x ∷ xs) = slice_range t x.0 x.1 ∷ texts t xs
+
+-- the spans that a replacement with a limit takes: all of them for 0
+abbrev pub limited : ℕ → List (ℕ × ℕ) → List (ℕ × ℕ)
+limited zero xs = xs
+limited (suc n) xs = take (suc n) xs
+
+-- The spans lie one behind the other between two places. They may touch.
+abbrev pub AreBetween : ℕ → ℕ → List (ℕ × ℕ) → Type 0
+AreBetween at last [] = at ≤ last
+AreBetween at last (x ∷ xs) = (at ≤ x.0) × (x.0 ≤ x.1) × AreBetween x.1 last xs

@@ -1,0 +1,84 @@
+//! Reading a text from its front, character by character.
+
+ghost use Rattle.std.specs.Prelude.{◌≡◌, ◌∷◌, ◌++◌, ℕ, [], true, false, chars, drop, length, MatchOption, IfSome, ◌<◌, encode_utf8, IsUtf8};
+ghost use Rattle.fancy_core.specs.Templates.{begins_with, is_name_character, row, past_row};
+ghost use Rattle.fancy_core.specs.Expanders.{test_of};
+
+use unicode::properties::{GeneralCategory, is_alphabetic};
+
+/// What a row of characters is made of.
+#[derive(Clone, Copy)]
+pub(crate) enum Letters {
+    /// Alphabetic characters, numbers of any script, and `_`.
+    OfNames,
+    /// The ASCII digits.
+    Digits,
+}
+
+impl Letters {
+    /// Whether a character may stand in such a row.
+    pub(crate) fn include(self, c: char) -> bool
+        ensures { result ≡ test_of self c }
+    {
+        match self {
+            Letters::OfNames => is_name_character(c),
+            Letters::Digits => c.is_ascii_digit(),
+        }
+    }
+}
+
+/// Whether a character may stand in the name of a group: one that is alphabetic, of category Nd, Nl or No, or
+/// `_`.
+pub fn is_name_character(c: char) -> bool
+    ensures { result ≡ is_name_character c }
+{
+    if is_alphabetic(c) || c == '_' {
+        return true;
+    }
+    let category = GeneralCategory::for_char(c);
+    category == GeneralCategory::DecimalNumber
+        || category == GeneralCategory::LetterNumber
+        || category == GeneralCategory::OtherNumber
+}
+
+/// The first character, and what follows it.
+pub(crate) fn split_first(text: &str) -> Option<(char, &str)>
+    ensures chars { MatchOption result (chars text.now ≡ []) (λ x. chars text.now ≡ x.0 ∷ chars x.1.now) }
+    ensures bytes { MatchOption result (text.now ≡ []) (λ x. text.now ≡ encode_utf8 x.0 ++ x.1.now) }
+    ensures shorter { IfSome result (λ x. length x.1.now < length text.now) }
+{
+    let mut all = text.chars();
+    let first = all.next()?;
+    Some((first, all.as_str()))
+}
+
+/// What follows a character, if the text begins with it.
+pub(crate) fn after_char(text: &str, c: char) -> Option<&str>
+    ensures { MatchOption result (begins_with (c ∷ []) (chars text.now) ≡ false) (λ x. (begins_with (c ∷ []) (chars text.now) ≡ true) × (chars x.now ≡ drop 1 (chars text.now))) }
+{
+    let (first, rest) = split_first(text)?;
+    if first == c { Some(rest) } else { None }
+}
+
+/// What follows a word, if the text begins with it.
+pub(crate) fn after_word<'a>(text: &'a str, word: &str) -> Option<&'a str>
+    ensures { MatchOption result (begins_with (chars word.now) (chars text.now) ≡ false) (λ x. (begins_with (chars word.now) (chars text.now) ≡ true) × (chars x.now ≡ drop (length (chars word.now)) (chars text.now))) }
+{
+    text.strip_prefix(word)
+}
+
+/// The longest row of such characters at the front, which may be empty, and what follows it.
+pub(crate) fn split_row(text: &str, letters: Letters) -> (&str, &str)
+    ensures row { chars result.0.now ≡ row (test_of letters) (chars text.now) }
+    ensures rest { chars result.1.now ≡ past_row (test_of letters) (chars text.now) }
+    ensures text { IsUtf8 result.0.now }
+{
+    let mut rest = text;
+    while let Some((c, behind)) = split_first(rest) {
+        if !letters.include(c) {
+            break;
+        }
+        rest = behind;
+    }
+    text.split_at(text.len() - rest.len())
+}

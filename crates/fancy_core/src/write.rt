@@ -1,0 +1,27 @@
+//! Writing to any writer.
+
+ghost use Rattle.std.specs.Prelude.{◌≡◌, ◌≤◌, ◌<◌, ◌++◌, ℕ, take, length, OnOk, OnErr};
+ghost use Rattle.std.specs.Io.KnownBytes.{Appends};
+
+use std::io;
+use std::io::ErrorKind;
+
+/// Writes all of a text, in as many writes as the writer wants.
+///
+/// A write that is refused ends it, and so does one that takes no byte (`ErrorKind::WriteZero`). What the
+/// writer has taken by then is a beginning of the text, and not all of it. No write is tried again.
+pub fn write_whole<W: io::Write>(writer: &mut W, text: &[u8]) -> io::Result<()>
+    ensures ok { OnOk result (Appends (W.contents writer.old) (W.contents writer.new) text.now) }
+    ensures err { OnErr result ((count : ℕ) × (count < length text.now) × Appends (W.contents writer.old) (W.contents writer.new) (take count text.now)) }
+{
+    let mut at = 0;
+    while at < text.len() {
+        let (_, rest) = text.split_at(at);
+        let count = writer.write(rest)?;
+        if count == 0 {
+            return Err(ErrorKind::WriteZero.into());
+        }
+        at += count;
+    }
+    Ok(())
+}

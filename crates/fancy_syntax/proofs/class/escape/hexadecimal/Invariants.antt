@@ -1,0 +1,12 @@
+use Rattle.std.proofs.Common.{◌≡◌, ◌≤◌, length}
+use Rattle.fancy_syntax.specs.Escapes.{hexadecimal}
+use Rattle.fancy_syntax.proofs.class.escape.hexadecimal.Given as goal
+
+abbrev pub invariant-loop-rest : goal.invariant-loop-rest
+invariant-loop-rest l = record {
+  read : hexadecimal l.value l.rest ≡ hexadecimal 0 l.digits;
+  bound : l.value ≤ 0x11_0000;
+}
+
+abbrev pub decreases-loop-rest : goal.decreases-loop-rest
+decreases-loop-rest l = length l.rest

@@ -1,0 +1,186 @@
+-- The grammar of classes. A text is read from one place to another; nothing here says in which order.
+use Rattle.std.specs.Prelude.{◌≡◌, ℕ, suc, nat_lt, Bool, true, false, not, ◌||◌, ◌&&◌, List, [], ◌∷◌, drop, Option, Some, None, if◌then◌else◌}
+use Rattle.ucd_sets.specs.Sets.{in_set}
+use Rattle.ucd_sets.specs.declared.set.Set.{Set as PropertySet}
+use Rattle.fancy_syntax.specs.Words.{Text, is_at, begins}
+use Rattle.fancy_syntax.specs.Escapes.{single, set_here, letters, is_property, property_name, property_named}
+use Rattle.fancy_syntax.specs.Sets.{has, AreEdges, in_range}
+use Rattle.fancy_syntax.specs.Members.{Members, both, applied}
+use Rattle.fancy_syntax.specs.Named.{named, in_universe, is_unicode}
+use Rattle.fancy_syntax.specs.Widening.{widened}
+use Rattle.fancy_syntax.specs.declared.class.token.Token.{Token}
+use Rattle.fancy_syntax.specs.declared.class.token.Token.TheVariants.{Range, Named as NamedSet, Property}
+use Rattle.fancy_syntax.specs.declared.named.Named.{Named}
+use Rattle.fancy_syntax.specs.declared.named.Named.TheVariants.{Hexadecimal, Alphanumeric, Alphabetic, Ascii, Blank, Control, Graphic, Lowercase, Printable, Punctuation, AsciiSpace, Uppercase, AsciiWord, AsciiDigit}
+use Rattle.fancy_syntax.specs.declared.tree.Meaning.{Meaning}
+use Rattle.fancy_syntax.specs.declared.tree.Meaning.TheVariants.{Unicode, Bytes, AsciiText}
+use Rattle.fancy_syntax.specs.declared.operation.Operation.{Operation}
+use Rattle.fancy_syntax.specs.declared.operation.Operation.TheVariants.{Intersection, Difference, SymmetricDifference}
+
+-- the character, written as a byte or not, can be a member
+abbrev pub fits : Meaning → ℕ → Bool → Bool
+fits Unicode c is_byte = true
+fits Bytes c is_byte = is_byte || nat_lt c 128
+fits AsciiText c is_byte = nat_lt c 128
+
+abbrev pub is_ascii_meaning : Meaning → Bool
+is_ascii_meaning AsciiText = true
+is_ascii_meaning _ = false
+
+-- a set may have its complement taken
+abbrev pub may_turn : Meaning → Bool → Bool
+may_turn m negated = not (negated && is_ascii_meaning m)
+
+-- a hyphen that makes a range
+abbrev pub is_ranged : Text → Bool
+is_ranged t = is_at "-" t && not (is_at "]-" (drop 1 t))
+
+abbrev pub range_to : Meaning → ℕ → Option ((ℕ × Bool) × Text) → Option (Token × Text)
+range_to m a (Some ((b, is_byte), q)) = if not (fits m b is_byte) || nat_lt b a then None else Some (Range a b, q)
+range_to m a None = None
+
+abbrev pub range_from : Meaning → Option ((ℕ × Bool) × Text) → Option (Token × Text)
+range_from m (Some ((a, is_byte), q)) =
+    if not (fits m a is_byte) then None
+    else if is_ranged q then range_to m a (single (drop 1 q))
+    else Some (Range a a, q)
+range_from m None = None
+
+-- a single character, or a range
+abbrev pub range : Meaning → Text → Option (Token × Text)
+range m p = range_from m (single p)
+
+abbrev pub named_of : Meaning → Text → Named × Bool → Option (Token × Text)
+named_of m t (n, negated) = if may_turn m negated then Some (NamedSet n negated, t) else None
+
+-- the name of a POSIX set with what closes it, and their length
+abbrev pub posix_word : Text → Option (Named × ℕ)
+posix_word t =
+    if begins "alnum:]" t then Some (Alphanumeric, 7)
+    else if begins "alpha:]" t then Some (Alphabetic, 7)
+    else if begins "ascii:]" t then Some (Ascii, 7)
+    else if begins "blank:]" t then Some (Blank, 7)
+    else if begins "cntrl:]" t then Some (Control, 7)
+    else if begins "digit:]" t then Some (AsciiDigit, 7)
+    else if begins "graph:]" t then Some (Graphic, 7)
+    else if begins "lower:]" t then Some (Lowercase, 7)
+    else if begins "print:]" t then Some (Printable, 7)
+    else if begins "punct:]" t then Some (Punctuation, 7)
+    else if begins "space:]" t then Some (AsciiSpace, 7)
+    else if begins "upper:]" t then Some (Uppercase, 7)
+    else if begins "word:]" t then Some (AsciiWord, 6)
+    else if begins "xdigit:]" t then Some (Hexadecimal, 8)
+    else None
+
+abbrev pub is_posix_name : Text → Bool
+is_posix_name t = nat_lt 0 (letters t) && begins ":]" (drop (letters t) t)
+
+-- a POSIX set is written here, known or not
+abbrev pub is_posix : Text → Bool
+is_posix p = if begins "[:^" p then is_posix_name (drop 3 p) else begins "[:" p && is_posix_name (drop 2 p)
+
+abbrev pub posix_of : Meaning → Bool → Text → Option (Named × ℕ) → Option (Token × Text)
+posix_of m negated t (Some (n, len)) = named_of m (drop len t) (n, negated)
+posix_of m negated t None = None
+
+abbrev pub posix : Meaning → Text → Option (Token × Text)
+posix m p = if begins "[:^" p then posix_of m true (drop 3 p) (posix_word (drop 3 p)) else posix_of m false (drop 2 p) (posix_word (drop 2 p))
+
+abbrev pub found_property : Bool → Text → Option PropertySet → Option (Token × Text)
+found_property negated t (Some s) = Some (Property s negated, t)
+found_property negated t None = None
+
+abbrev pub property_of : Meaning → Bool → Option (Text × Text) → Option (Token × Text)
+property_of m negated (Some (name, t)) = if is_unicode m then found_property negated t (property_named name) else None
+property_of m negated None = None
+
+-- the set of a property, or its complement
+abbrev pub property : Meaning → Text → Option (Token × Text)
+property m p = property_of m (begins "\\P" p) (property_name (drop 2 p))
+
+abbrev pub token_of : Meaning → Text → Option (Named × Bool) → Option (Token × Text)
+token_of m p (Some found) = named_of m (drop 2 p) found
+token_of m p None = range m p
+
+-- a character, a range or the name of a set
+abbrev pub token : Meaning → Text → Option (Token × Text)
+token m p = if is_posix p then posix m p else if is_property p then property m p else token_of m p (set_here p)
+
+abbrev pub operator : Text → Option (Operation × Text)
+operator p =
+    if begins "&&" p then Some (Intersection, drop 2 p)
+    else if begins "--" p then Some (Difference, drop 2 p)
+    else if begins "~~" p then Some (SymmetricDifference, drop 2 p)
+    else None
+
+-- no item follows; at its start a class may have a bracket or two hyphens as members
+abbrev pub ends_operand : Bool → Text → Bool
+ends_operand first [] = true
+ends_operand first (c ∷ t) =
+    (not first && (is_at "]" (c ∷ t) || begins "--" (c ∷ t))) || begins "&&" (c ∷ t) || begins "~~" (c ∷ t)
+
+abbrev pub is_bracket : Text → Bool
+is_bracket t = is_at "[" t
+
+abbrev pub starts_class : Text → Bool
+starts_class t = is_bracket t && not (is_posix t)
+
+-- the members of a set, in a class under flag `i` or not
+abbrev pub folded : Meaning → Bool → Members → Members
+folded m false f = f
+folded m true f = widened m f
+
+abbrev pub complement : Meaning → Members → Members
+complement m f = λ c. in_universe m c && not (f c)
+
+abbrev pub turned : Meaning → Bool → Members → Members
+turned m false f = f
+turned m true f = complement m f
+
+-- the characters from the first to the last
+abbrev pub characters : ℕ → ℕ → Members
+characters a b = λ c. in_universe Unicode c && in_range (a, b) c
+
+abbrev pub has_property : PropertySet → Members
+has_property s = λ c. in_universe Unicode c && in_set s c
+
+abbrev pub token_members : Meaning → Bool → Token → Members
+token_members m i (Range a b) = folded m i (characters a b)
+token_members m i (NamedSet n negated) = turned m negated (folded m i (named m n))
+token_members m i (Property s negated) = turned m negated (folded m i (has_property s))
+
+abbrev pub none_of : Members
+none_of = λ c. false
+
+-- behind the bracket, whether `^` stands there, and the place of the first item
+abbrev pub opening : Text → Bool × Text
+opening t = if is_at "^" (drop 1 t) then (true, drop 2 t) else (false, drop 1 t)
+
+-- The number says how many brackets more may be open at one place.
+mutual
+  -- a class, from its bracket to behind the other one
+  pub data Class : Meaning → Bool → ℕ → Text → Members → Text → Type 0 where
+    class : {m : Meaning} {i : Bool} {k : ℕ} {p q r : Text} {f g : Members} → is_bracket p ≡ true → may_turn m (opening p).0 ≡ true → Items m i k true none_of (opening p).1 f q → Operands m i k f q g r → is_at "]" r ≡ true
+        → Class m i (suc k) p (turned m (opening p).0 g) (drop 1 r)
+
+  -- the items up to an operator or the end, behind others with these members
+  pub data Items : Meaning → Bool → ℕ → Bool → Members → Text → Members → Text → Type 0 where
+    none : {m : Meaning} {i : Bool} {k : ℕ} {first : Bool} {f : Members} {p : Text} → ends_operand first p ≡ true → Items m i k first f p f p
+    next : {m : Meaning} {i : Bool} {k : ℕ} {first : Bool} {f g x : Members} {p q r : Text} → ends_operand first p ≡ false → Item m i k p x q → Items m i k false (both f x) q g r → Items m i k first f p g r
+
+  -- the operators and what follows each, behind a set
+  pub data Operands : Meaning → Bool → ℕ → Members → Text → Members → Text → Type 0 where
+    last : {m : Meaning} {i : Bool} {k : ℕ} {f : Members} {p : Text} → operator p ≡ None → Operands m i k f p f p
+    more : {m : Meaning} {i : Bool} {k : ℕ} {f g x : Members} {how : Operation} {p q r s : Text} → operator p ≡ Some (how, q) → Items m i k false none_of q x r → Operands m i k (λ c. applied how (f c) (x c)) r g s → Operands m i k f p g s
+
+  pub data Item : Meaning → Bool → ℕ → Text → Members → Text → Type 0 where
+    simple : {m : Meaning} {i : Bool} {k : ℕ} {p q : Text} {t : Token} → starts_class p ≡ false → token m p ≡ Some (t, q) → Item m i k p (token_members m i t) q
+    nested : {m : Meaning} {i : Bool} {k : ℕ} {p q : Text} {f : Members} → starts_class p ≡ true → Class m i k p f q → Item m i k p f q
+
+-- a class at the start of the text, with at most 64 brackets open at one place
+abbrev pub ReadsClass : Meaning → Bool → Text → Members → Text → Type 0
+ReadsClass m i = Class m i 64
+
+-- the same, by the edges of its members, of which each set has one list
+abbrev pub ReadsEdges : Meaning → Bool → Text → List ℕ → Text → Type 0
+ReadsEdges m i p es q = AreEdges es × ReadsClass m i p (has es) q

@@ -1,0 +1,118 @@
+-- What stands behind a backslash in a class: characters by a letter or a number, and sets by a letter or a name.
+use Rattle.std.specs.Prelude.{ℕ, ◌+◌, ◌*◌, min, ◌==◌, ◌||◌, ◌&&◌, not, nat_lt, Bool, true, false, [], ◌∷◌, length, take, drop, Option, Some, None, if◌then◌else◌}
+use Rattle.std.specs.List.{list_all}
+use Rattle.std.specs.Char.{is_ascii, is_ascii_punctuation, is_ascii_alphabetic, digit_value}
+use Rattle.ucd_sets.specs.Lookup.{by_name}
+use Rattle.ucd_sets.specs.Loose.{normalize}
+use Rattle.ucd_sets.specs.declared.set.Set.{Set as PropertySet}
+use Rattle.fancy_syntax.specs.Words.{Text, ◌∈◌, is_at, begins}
+use Rattle.fancy_syntax.specs.declared.named.Named.{Named}
+use Rattle.fancy_syntax.specs.declared.named.Named.TheVariants.{Digit, Word, Space, Hexadecimal}
+
+-- the character that is meant by a letter or mark
+abbrev pub escaped : ℕ → Option ℕ
+escaped c =
+    if c == 98 then Some 8
+    else if c == 101 then Some 27
+    else if c == 110 then Some 10
+    else if c == 116 then Some 9
+    else if c == 114 then Some 13
+    else if c == 102 then Some 12
+    else if c == 118 then Some 11
+    else if c == 97 then Some 7
+    else if c == 32 then Some 32
+    else if is_ascii_punctuation c then Some c
+    else None
+
+-- the set that a letter names, and whether its complement is meant
+abbrev pub set_letter : ℕ → Option (Named × Bool)
+set_letter c =
+    if c == 100 then Some (Digit, false)
+    else if c == 68 then Some (Digit, true)
+    else if c == 119 then Some (Word, false)
+    else if c == 87 then Some (Word, true)
+    else if c == 115 then Some (Space, false)
+    else if c == 83 then Some (Space, true)
+    else if c == 104 then Some (Hexadecimal, false)
+    else if c == 72 then Some (Hexadecimal, true)
+    else None
+
+-- the set that an escape names here
+abbrev pub set_here : Text → Option (Named × Bool)
+set_here [] = None
+set_here (c ∷ []) = None
+set_here (c ∷ d ∷ t) = if c == 92 then set_letter d else None
+
+-- how many letters the text begins with
+abbrev pub letters : Text → ℕ
+letters [] = 0
+letters (c ∷ t) = if is_ascii_alphabetic c then 1 + letters t else 0
+
+-- how many characters stand before the first closing brace, or in the text where it has none
+abbrev pub before_brace : Text → ℕ
+before_brace [] = 0
+before_brace (c ∷ t) = if c == 125 then 0 else 1 + before_brace t
+
+-- a number that is a character's
+abbrev pub is_character : ℕ → Bool
+is_character n = nat_lt n 0xD800 || (nat_lt 0xDFFF n && nat_lt n 0x11_0000)
+
+-- The number that hexadecimal digits write behind others that write n, if each is a digit. The first number that is too large stands for all of them.
+abbrev pub hexadecimal : ℕ → Text → Option ℕ
+hexadecimal n [] = Some n
+hexadecimal n (c ∷ t) = if nat_lt (digit_value c) 16 then hexadecimal (min (n * 16 + digit_value c) 0x11_0000) t else None
+
+-- a character by its number, and whether it was written as a byte
+abbrev pub by_number : Option ℕ → Bool → Text → Option ((ℕ × Bool) × Text)
+by_number (Some n) is_byte t = if is_character n then Some ((n, is_byte), t) else None
+by_number None is_byte t = None
+
+-- so many digits, of which two write a byte
+abbrev pub fixed_number : ℕ → Text → Option ((ℕ × Bool) × Text)
+fixed_number count t = if nat_lt (length t) count then None else by_number (hexadecimal 0 (take count t)) (count == 2) (drop count t)
+
+-- one to eight digits and a closing brace
+abbrev pub braced_number : Text → Option ((ℕ × Bool) × Text)
+braced_number t =
+    if nat_lt 0 (before_brace t) && (nat_lt (before_brace t) 9 && nat_lt (before_brace t) (length t))
+    then by_number (hexadecimal 0 (take (before_brace t) t)) false (drop (before_brace t + 1) t)
+    else None
+
+-- what follows the letter of a number escape: so many digits, or one to eight in braces
+abbrev pub number : ℕ → Text → Option ((ℕ × Bool) × Text)
+number count t = if is_at "{" t then braced_number (drop 1 t) else fixed_number count t
+
+abbrev pub escape_at : Option ℕ → Text → Option ((ℕ × Bool) × Text)
+escape_at (Some e) t = Some ((e, false), t)
+escape_at None t = None
+
+-- one character, or an escape that stands for one; and whether it was written as a byte
+abbrev pub single : Text → Option ((ℕ × Bool) × Text)
+single [] = None
+single (c ∷ []) = if c ∈ "\\[" then None else Some ((c, false), [])
+single (c ∷ d ∷ t) =
+    if c == 92 then (if d == 120 then number 2 t else if d == 117 then number 4 t else if d == 85 then number 8 t else escape_at (escaped d) t)
+    else if c == 91 then None
+    else Some ((c, false), d ∷ t)
+
+-- an escape that names a property begins here
+abbrev pub is_property : Text → Bool
+is_property p = begins "\\p" p || begins "\\P" p
+
+-- the name of a property: what stands in braces, or one character
+abbrev pub property_name : Text → Option (Text × Text)
+property_name [] = None
+property_name (c ∷ t) =
+    if c == 123 then (if nat_lt (before_brace t) (length t) then Some (take (before_brace t) t, drop (before_brace t + 1) t) else None)
+    else Some (c ∷ [], t)
+
+abbrev pub is_name_character : ℕ → Bool
+is_name_character c = is_ascii c && not (c ∈ "=:")
+
+-- a name that can be one of a property
+abbrev pub is_property_name : Text → Bool
+is_property_name name = list_all is_name_character name && nat_lt 0 (length name)
+
+-- the property with the name, if there is one
+abbrev pub property_named : Text → Option PropertySet
+property_named name = if is_property_name name then by_name (normalize name) else None
