@@ -47,11 +47,11 @@ module _ {m : Meaning} {i : Bool} {k : ℕ} where
   pub items_start : {first : Bool} {f : Members} {p : Text} → f ≡ none_of → GoesOn (λ g r. Items m i k first none_of p g r) (λ g r. Items m i k first f p g r)
   items_start {first} {f} {p} e = record { forth = λ g r h. subst (λ x. Items m i k first x p g r) e h; back = λ g r h. subst (λ x. Items m i k first x p g r) (sym e) h }
 
-  items_end : {first : Bool} {f g : Members} {p r : Text} → Items m i k first f p g r → ends_operand first p ≡ true → (g ≡ f) × (r ≡ p)
+  pub items_end : {first : Bool} {f g : Members} {p r : Text} → Items m i k first f p g r → ends_operand first p ≡ true → (g ≡ f) × (r ≡ p)
   items_end (none e) h = (refl, refl)
   items_end (next e x y) h = cc
 
-  items_next : {first : Bool} {f g : Members} {p r : Text} → Items m i k first f p g r → ends_operand first p ≡ false → (x : Members) × (q : Text) × Item m i k p x q × Items m i k false (both f x) q g r
+  pub items_next : {first : Bool} {f g : Members} {p r : Text} → Items m i k first f p g r → ends_operand first p ≡ false → (x : Members) × (q : Text) × Item m i k p x q × Items m i k false (both f x) q g r
   items_next (none e) h = cc
   items_next (next {x = x} {q = q} e a b) h = (x, q, a, b)
 
@@ -77,11 +77,11 @@ module _ {m : Meaning} {i : Bool} {k : ℕ} where
       (subst (λ z. R z p) (sym is) h.0, λ g r y. let o = h.1 g r y in (o.0 ∙ sym is, o.1))
 
   -- ---- operands
-  operands_last : {f g : Members} {p r : Text} → Operands m i k f p g r → operator p ≡ None → (g ≡ f) × (r ≡ p)
+  pub operands_last : {f g : Members} {p r : Text} → Operands m i k f p g r → operator p ≡ None → (g ≡ f) × (r ≡ p)
   operands_last (last e) h = (refl, refl)
   operands_last (more e x y) h = absurd (some_is_none (sym e ∙ h))
 
-  operands_more : {f g : Members} {p r q : Text} {how : Operation} → Operands m i k f p g r → operator p ≡ Some (how, q) → (x : Members) × (s : Text) × Items m i k false none_of q x s × Operands m i k (λ c. applied how (f c) (x c)) s g r
+  pub operands_more : {f g : Members} {p r q : Text} {how : Operation} → Operands m i k f p g r → operator p ≡ Some (how, q) → (x : Members) × (s : Text) × Items m i k false none_of q x s × Operands m i k (λ c. applied how (f c) (x c)) s g r
   operands_more (last e) h = absurd (some_is_none (sym h ∙ e))
   operands_more {f} {g} {p} {r} {q} {how} (more {x = x} {how = other} {q = t} {r = v} e a b) h =
       let o = some_pair (sym e ∙ h) in
@@ -115,6 +115,10 @@ module _ {m : Meaning} {i : Bool} {k : ℕ} where
       only : {u : Members} {r : Text} → Item m i k p u r → (u ≡ x) × (r ≡ q)
       only (simple s f) = absurd (true_is_false (sym e ∙ s))
       only (nested s c) = h.1 _ _ c
+
+  pub nested_only : {p r : Text} {u : Members} → starts_class p ≡ true → Item m i k p u r → Class m i k p u r
+  nested_only e (simple s f) = absurd (true_is_false (sym e ∙ s))
+  nested_only e (nested s c) = c
 
   pub no_nested : {p : Text} → starts_class p ≡ true → HasNoReading (Class m i k) p → HasNoReading (Item m i k) p
   no_nested e nothing u r (simple s f) = true_is_false (sym e ∙ s)
@@ -151,7 +155,7 @@ pub no_room : {m : Meaning} {i : Bool} {k : ℕ} {p : Text} → k ≡ 0 → HasN
 no_room z u s y = let n = (inside y).deeper in absurd (omega arith)
 
 module _ {m : Meaning} {i : Bool} {k j : ℕ} {p q : Text} {negated : Bool} (starts : is_bracket p ≡ true) (at : opening p ≡ (negated, q)) (may : may_turn m negated ≡ true) (deeper : k ≡ j + 1) where
-  body : {u : Members} {s : Text} → Class m i k p u s → (f : Members) × (t : Text) × (g : Members) × (r : Text) × Items m i j true none_of q f t × Operands m i j f t g r × (is_at "]" r ≡ true) × (u ≡ turned m negated g) × (s ≡ drop 1 r)
+  pub body : {u : Members} {s : Text} → Class m i k p u s → (f : Members) × (t : Text) × (g : Members) × (r : Text) × Items m i j true none_of q f t × Operands m i j f t g r × (is_at "]" r ≡ true) × (u ≡ turned m negated g) × (s ≡ drop 1 r)
   body {u} {s} y =
       let n = inside y in
       let same : n.room ≡ j = omega (arith, n.deeper, deeper) in
@@ -208,3 +212,30 @@ pub gives_edges : (m : Meaning) (i : Bool) (r : Result Set Refusal) (p q : Text)
 gives_edges m i (Ok s) p q h = ((s.are_edges, h.0), λ u v y. let o = h.1 (has u) v y.1 in (edges_unique u (edges_of s) y.0 s.are_edges o.0, o.1))
 gives_edges m i (Err Memory) p q h = tt
 gives_edges m i (Err (Invalid kind)) p q h = λ u v y. h (has u) v y.1
+
+-- a text has at most one reading
+mutual
+  pub one_class : {m : Meaning} {i : Bool} {k : ℕ} {p q r : Text} {f g : Members} → Class m i k p f q → Class m i k p g r → (g ≡ f) × (r ≡ q)
+  one_class {m} {i} (class {k = j} {p = p} {f = f} starts may items operands closes) y =
+      let b = body starts refl may (sym (add-one j)) y in
+      let o = one_items items b.4 in
+      let w = one_operands operands (subst (λ z. Operands m i j f z b.2 b.3) o.1 (subst (λ z. Operands m i j z b.1 b.2 b.3) o.0 b.5)) in
+      (b.7 ∙ ap (turned m (opening p).0) w.0, b.8 ∙ ap (drop 1) w.1)
+
+  pub one_items : {m : Meaning} {i : Bool} {k : ℕ} {first : Bool} {e f g : Members} {p q r : Text} → Items m i k first e p f q → Items m i k first e p g r → (g ≡ f) × (r ≡ q)
+  one_items (none h) y = items_end y h
+  one_items {m} {i} {k} {e = e} {g = g} {r = r} (next {x = x} h piece rest) y =
+      let n = items_next y h in
+      let o = one_piece piece n.2 in
+      one_items rest (subst (λ s. Items m i k false (both e x) s g r) o.1 (subst (λ z. Items m i k false (both e z) n.1 g r) o.0 n.3))
+
+  pub one_operands : {m : Meaning} {i : Bool} {k : ℕ} {e f g : Members} {p q r : Text} → Operands m i k e p f q → Operands m i k e p g r → (g ≡ f) × (r ≡ q)
+  one_operands (last h) y = operands_last y h
+  one_operands {m} {i} {k} {e = e} {g = g} {r = r} (more {x = x} {how = how} h items rest) y =
+      let n = operands_more y h in
+      let o = one_items items n.2 in
+      one_operands rest (subst (λ s. Operands m i k (λ c. applied how (e c) (x c)) s g r) o.1 (subst (λ (z : Members). Operands m i k (λ c. applied how (e c) (z c)) n.1 g r) o.0 n.3))
+
+  pub one_piece : {m : Meaning} {i : Bool} {k : ℕ} {f g : Members} {p q r : Text} → Item m i k p f q → Item m i k p g r → (g ≡ f) × (r ≡ q)
+  one_piece (simple h found) y = (simple_is h found refl).1 _ _ y
+  one_piece (nested h inner) y = one_class inner (nested_only h y)

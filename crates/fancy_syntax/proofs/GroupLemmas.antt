@@ -1,15 +1,13 @@
 -- Groups are numbered by their openings.
 use Rattle.std.proofs.Common.{◌≡◌, ℕ, ◌+◌, ◌≤◌, List, [], ◌∷◌, map, Option, Some, None, sym, subst, arith, inl, inr}
-use Rattle.std.specs.Option.{option_map, option_or}
-use Rattle.fancy_syntax.specs.declared.tree.Assertion.{Assertion}
-use Rattle.fancy_syntax.proofs.ReadingLemmas.{some_is_none}
-use Rattle.fancy_syntax.proofs.BlankLemmas.{chosen, same_some}
+use Rattle.fancy_syntax.proofs.EndsLemmas as simple
+use Rattle.fancy_syntax.proofs.EndsLemmas.{IsSimple, simple_atom}
 use Rattle.std.specs.Prelude.{encode_utf8}
 use Rattle.fancy_syntax.specs.declared.tree.Meaning.{Meaning}
 use Rattle.fancy_syntax.specs.declared.tree.Meaning.TheVariants.{Unicode, Bytes, AsciiText}
 use Rattle.fancy_syntax.specs.Pattern.{Pattern, empty, character, member_of, raw_byte, backreference, assertion, group_test, keep_start, continue_here, group, repeat, look_ahead, look_behind, atomic, conditional, followed, or_else, last_branch, in_sequence, in_choice, in_branches}
 use Rattle.fancy_syntax.specs.Words.{Text}
-use Rattle.fancy_syntax.specs.Dialect.{Scope, is_escapable, control_of, place_test, escape_of, literal_of, Branches, one, either, Parts, nothing, item, Item, set, bare, quantified, Atom, literal, anchor, escaped, plain, flagged, capture, Spells, with_part}
+use Rattle.fancy_syntax.specs.Dialect.{Scope, literal_of, Branches, one, either, Parts, nothing, item, Item, set, bare, quantified, Atom, single, plain, flagged, capture, Spells, with_part}
 use Rattle.fancy_syntax.specs.Groups.{Numbered}
 
 -- numbers in a range are numbers in a wider one
@@ -68,17 +66,11 @@ module _ (lo hi : ℕ) where
   literal_numbered Bytes c = sequence_numbered (map character (encode_utf8 c)) (characters_numbered (encode_utf8 c))
   literal_numbered AsciiText c = tt
 
-escape_numbered : (lo hi : ℕ) (s : Scope) (c : ℕ) {p : Pattern} → escape_of s c ≡ Some p → Numbered lo hi p
-escape_numbered lo hi s c {p} h =
-    elim (chosen (is_escapable c) _ _ _ h) [
-      | inl x ↦ subst (Numbered lo hi) (same_some x.1) (literal_numbered lo hi s.meaning c)
-      | inr x ↦ other (control_of c) (place_test s.flags c) x.1
-    ]
-  where
-    other : (o : Option ℕ) (u : Option Assertion) → option_or (option_map (literal_of s.meaning) o) (option_map assertion u) ≡ Some p → Numbered lo hi p
-    other (Some d) u e = subst (Numbered lo hi) (same_some e) (literal_numbered lo hi s.meaning d)
-    other None (Some a) e = subst (Numbered lo hi) (same_some e) tt
-    other None None e = absurd (some_is_none (sym e))
+simple_numbered : (lo hi : ℕ) (s : Scope) {p : Pattern} → IsSimple s p → Numbered lo hi p
+simple_numbered lo hi s (simple.literal c) = literal_numbered lo hi s.meaning c
+simple_numbered lo hi s (simple.test a) = tt
+simple_numbered lo hi s (simple.item es) = tt
+simple_numbered lo hi s (simple.byte c k) = tt
 
 -- an item, which may give no part
 abbrev PartNumbered : ℕ → ℕ → Option Pattern → Type 0
@@ -122,9 +114,7 @@ mutual
   numbered_item (quantified a e b q) = numbered_atom a
 
   numbered_atom : {k : ℕ} {s r : Scope} {t after : Text} {p : Pattern} → Atom k s t after p r → (s.opened ≤ r.opened) × Numbered (s.opened + 1) (r.opened + 1) p
-  numbered_atom (literal {s = s} c e f b) = (omega arith, literal_numbered (s.opened + 1) (s.opened + 1) s.meaning c)
-  numbered_atom (anchor c e) = (omega arith, tt)
-  numbered_atom (escaped {s = s} c e) = (omega arith, escape_numbered (s.opened + 1) (s.opened + 1) s c e)
+  numbered_atom (single {s = s} b r) = (omega arith, simple_numbered (s.opened + 1) (s.opened + 1) s (simple_atom r))
   numbered_atom (plain {s = s} {q = q} {bs = bs} b) = let x = numbered_branches b in (x.0, branches_numbered (s.opened + 1) (q.opened + 1) bs x.1)
   numbered_atom (flagged {s = s} {q = q} {bs = bs} f b) = let x = numbered_branches b in (x.0, branches_numbered (s.opened + 1) (q.opened + 1) bs x.1)
   numbered_atom (capture {s = s} {q = q} {bs = bs} e b) =

@@ -1,3 +1,5 @@
+pub mod LexemeLemmas
+pub mod EndsLemmas
 pub mod PatternLemmas
 pub mod SizeLemmas
 pub mod EmptyLemmas

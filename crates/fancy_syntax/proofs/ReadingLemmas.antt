@@ -5,7 +5,7 @@ use Rattle.std.proofs.lemmas.List.{nil_from_length}
 use Rattle.fancy_syntax.specs.Pattern.{Pattern, in_sequence, in_branches}
 use Rattle.fancy_syntax.specs.Words.{Text, is_at_any, is_at}
 use Rattle.fancy_syntax.specs.Dialect.{Scope, with_part}
-use Rattle.fancy_syntax.specs.Grammar.{Place, past, here, Opening, setting, opening, atom, quantified, wrap, closed, ends_branch, Branches, last, more, Parts, none, next, Item, sets, single, grouped, start, Reads}
+use Rattle.fancy_syntax.specs.Grammar.{Place, past, here, Opening, setting, opening, IsAtom, quantified, wrap, closed, ends_branch, Branches, last, more, Parts, none, next, Item, sets, single, grouped, start, Reads}
 use Rattle.fancy_syntax.specs.declared.error.Error.{Error}
 use Rattle.fancy_syntax.specs.declared.error.Error.TheVariants.{Memory, ParseError, CompileError, RuntimeError}
 use Rattle.fancy_syntax.specs.declared.groups.Opening.{Opening as Found}
@@ -140,26 +140,26 @@ alternation_is {k} {p} {q} {r} {done} {t} whole g h e is = (
 
 -- an item that is no group
 pub item_single : {k : ℕ} {p r : Place} {item : Option Pattern} → Item k p item r → is_at "(" p.text ≡ false →
-    (a : Pattern) × (q : Place) × (t : Pattern) × (atom p ≡ Some (a, q)) × (quantified a q ≡ Some (t, r)) × (item ≡ Some t)
+    (a : Pattern) × (q : Place) × (t : Pattern) × IsAtom p a q × (quantified a q ≡ Some (t, r)) × (item ≡ Some t)
 item_single (sets h o) e = absurd (true_is_false (sym h ∙ e))
 item_single (single {q = q} {a = a} {x = t} h f g) e = (a, q, t, f, g, refl)
 item_single (grouped h o n b c f) e = absurd (true_is_false (sym h ∙ e))
 
-pub no_atom : {k : ℕ} {p : Place} → is_at "(" p.text ≡ false → atom p ≡ None → HasNoReading (Item k) p
-no_atom e nothing i r x = let s = item_single x e in some_is_none (sym s.3 ∙ nothing)
+pub no_atom : {k : ℕ} {p : Place} → is_at "(" p.text ≡ false → HasNoReading IsAtom p → HasNoReading (Item k) p
+no_atom e nothing i r x = let s = item_single x e in nothing s.0 s.1 s.3
 
-pub no_quantified : {k : ℕ} {p q : Place} {a : Pattern} → is_at "(" p.text ≡ false → atom p ≡ Some (a, q) → quantified a q ≡ None → HasNoReading (Item k) p
+pub no_quantified : {k : ℕ} {p q : Place} {a : Pattern} → is_at "(" p.text ≡ false → IsTheReading IsAtom p a q → quantified a q ≡ None → HasNoReading (Item k) p
 no_quantified e found nothing i r x =
     let s = item_single x e in
-    let same = some_pair (sym s.3 ∙ found) in
+    let same = found.1 s.0 s.1 s.3 in
     some_is_none (sym s.4 ∙ (ap₂ quantified same.0 same.1 ∙ nothing))
 
-pub single_is : {k : ℕ} {p q r : Place} {a t : Pattern} → is_at "(" p.text ≡ false → atom p ≡ Some (a, q) → quantified a q ≡ Some (t, r) → IsTheReading (Item k) p (Some t) r
+pub single_is : {k : ℕ} {p q r : Place} {a t : Pattern} → is_at "(" p.text ≡ false → IsTheReading IsAtom p a q → quantified a q ≡ Some (t, r) → IsTheReading (Item k) p (Some t) r
 single_is e found given = (
-  single e found given,
+  single e found.0 given,
   λ i s x.
       let n = item_single x e in
-      let same = some_pair (sym n.3 ∙ found) in
+      let same = found.1 n.0 n.1 n.3 in
       let done = some_pair (sym n.4 ∙ (ap₂ quantified same.0 same.1 ∙ given)) in
       (n.5 ∙ ap Some done.0, done.1),
 )

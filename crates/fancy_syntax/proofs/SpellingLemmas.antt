@@ -10,10 +10,11 @@ use Rattle.fancy_syntax.specs.Pattern.{Pattern, assertion, repeat, in_branches}
 use Rattle.fancy_syntax.specs.Sizes.{is_empty}
 use Rattle.fancy_syntax.specs.Words.{Text, ◌∈◌, is_at_any, is_at, begins, is_count, past_blank, past_blanks, begins_count}
 use Rattle.fancy_syntax.specs.Dialect as d
-use Rattle.fancy_syntax.specs.Dialect.{Flags, Scope, in_force, Setting, one_more_group, back_to, is_special, literal_of, anchor_of, escape_of, begins_quantifier, Turns, optional, star, plus, exactly, at_least, between, at_most, Quantifies, greedily, lazily, Blanks, IsUnquantified, with_part}
+use Rattle.fancy_syntax.specs.Dialect.{Flags, Scope, in_force, Setting, one_more_group, back_to, ReadsAtom, begins_quantifier, Turns, optional, star, plus, exactly, at_least, between, at_most, Quantifies, greedily, lazily, Blanks, IsUnquantified, with_part}
 use Rattle.fancy_syntax.specs.Grammar as g
-use Rattle.fancy_syntax.specs.Grammar.{Place, past, here, Bounds, bounds_in, past_count, are_bounds, opening, atom, wrap, closed, ends_branch, start}
+use Rattle.fancy_syntax.specs.Grammar.{Place, past, here, Bounds, bounds_in, past_count, are_bounds, opening, wrap, closed, ends_branch, start}
 use Rattle.fancy_syntax.proofs.ReadingLemmas.{some_pair, some_is_none}
+use Rattle.fancy_syntax.proofs.EndsLemmas.{ends_atom, no_paren, no_end}
 use Rattle.fancy_syntax.proofs.FlagLemmas.{setting_is_read, no_colon_first, no_hash_first, setting_spelled}
 use Rattle.fancy_syntax.proofs.BlankLemmas.{chosen, char_is, begins_with, read_blanks, end_is_no_blank, quantifier_is_no_blank, unquantified_is_read, unquantified_is_spelled, skipped, no_blank_left}
 use Rattle.fancy_syntax.proofs.CountLemmas.{either_no, both_true, left_of, first_is as at_char, IsRead, exactly_is_read, at_least_is_read, between_is_read, at_most_is_read, count_spelled}
@@ -22,44 +23,17 @@ either_false : (a b : Bool) → (a || b) ≡ false → (a ≡ false) × (b ≡ f
 either_false true b h = cc
 either_false false b h = (refl, h)
 
--- a literal is none of the special characters
-pub other_than : (c d : ℕ) → is_special c ≡ false → is_special d ≡ true → (d == c) ≡ false
-other_than c d h n = go (d == c) refl
-  where
-    go : (b : Bool) → (d == c) ≡ b → b ≡ false
-    go true e = let same : d ≡ c = grind (arith, nat_tests) in absurd (let no : false ≡ true = sym h ∙ (ap is_special (sym same) ∙ n) in cc)
-    go false e = refl
-
-pub no_paren : (c : ℕ) (t : Text) → is_special c ≡ false → is_at "(" (c ∷ t) ≡ false
-no_paren c t h = rw (other_than c 40 h refl) refl
-
-pub no_end : (c : ℕ) (t : Text) → is_special c ≡ false → ends_branch (c ∷ t) ≡ false
-no_end c t h = rw (other_than c 124 h refl, other_than c 41 h refl) refl
-
--- `^` or `$`
-anchor_char : (f : Flags) (c : ℕ) {a : Assertion} → anchor_of f c ≡ Some a → (c ≡ 94) ⊎ (c ≡ 36)
-anchor_char f c h =
-    elim (chosen (94 == c) _ _ _ h) [
-      | inl x ↦ inl (char_is 94 c x.0)
-      | inr x ↦ elim (chosen (36 == c) _ _ _ x.1) [ inl y ↦ inr (char_is 36 c y.0) | inr y ↦ absurd (some_is_none (sym y.1)) ]
-    ]
-
-anchored : (F : ℕ → Type 0) (f : Flags) (c : ℕ) {a : Assertion} → anchor_of f c ≡ Some a → F 94 → F 36 → F c
-anchored F f c h one two = elim (anchor_char f c h) [ inl e ↦ subst F (sym e) one | inr e ↦ subst F (sym e) two ]
-
 -- What is spelled begins as an item may, and not where a branch ends.
-pub atom_begins : {k : ℕ} {s q : Scope} {t after : Text} {a : Pattern} → d.Atom k s t after a q → (rest : Text) → ends_branch (t ++ rest) ≡ false
-atom_begins (d.literal c h n b) rest = no_end c rest h
-atom_begins {s = s} (d.anchor c h) rest = anchored (λ x. ends_branch (x ∷ rest) ≡ false) s.flags c h refl refl
-atom_begins (d.escaped c h) rest = refl
-atom_begins (d.plain b) rest = refl
-atom_begins (d.flagged f b) rest = refl
-atom_begins (d.capture h b) rest = refl
+pub atom_begins : {k : ℕ} {s q : Scope} {t after : Text} {a : Pattern} → d.Atom k s t after a q → ends_branch (t ++ after) ≡ false
+atom_begins (d.single b r) = no_end r
+atom_begins (d.plain b) = refl
+atom_begins (d.flagged f b) = refl
+atom_begins (d.capture h b) = refl
 
 pub item_begins : {k : ℕ} {s q : Scope} {t after : Text} {x : Option Pattern} → d.Item k s t after x q → ends_branch (t ++ after) ≡ false
 item_begins (d.set f) = refl
-item_begins (d.bare {after = after} a h) = atom_begins a after
-item_begins (d.quantified {t = t} {u = u} {v = v} {after = after} a e b h) = rw (append_assoc t (u ++ v) after) (atom_begins a ((u ++ v) ++ after))
+item_begins (d.bare a h) = atom_begins a
+item_begins (d.quantified {t = t} {u = u} {v = v} {after = after} a e b h) = rw (append_assoc t (u ++ v) after, append_assoc u v after) (atom_begins a)
 
 -- no blank begins there
 capture_is_no_blank : (x : Bool) (t : Text) → is_at "?*" t ≡ false → past_blank x (40 ∷ t) ≡ None
@@ -70,9 +44,7 @@ flags_are_no_blank : (x : Bool) {m : Meaning} {t : Text} {f g : Flags} → Setti
 flags_are_no_blank x s rest = let n = no_hash_first s in rw n.2.0 (rw n.2.1 refl)
 
 pub atom_is_no_blank : {k : ℕ} {s q : Scope} {t after : Text} {a : Pattern} → d.Atom k s t after a q → past_blank s.flags.ignore_blanks (t ++ after) ≡ None
-atom_is_no_blank (d.literal c h n b) = b
-atom_is_no_blank {s = s} {after = after} (d.anchor c h) = anchored (λ x. past_blank s.flags.ignore_blanks (x ∷ after) ≡ None) s.flags c h refl refl
-atom_is_no_blank (d.escaped c h) = refl
+atom_is_no_blank (d.single b r) = b
 atom_is_no_blank (d.plain b) = refl
 atom_is_no_blank {s = s} {after = after} (d.flagged {u = u} {t = t} f b) = rw (append_assoc u (58 ∷ (t ++ 41 ∷ [])) after) (flags_are_no_blank s.flags.ignore_blanks f ((58 ∷ (t ++ 41 ∷ [])) ++ after))
 atom_is_no_blank {s = s} {after = after} (d.capture {t = t} h b) = rw (append_assoc t (41 ∷ []) after) (capture_is_no_blank s.flags.ignore_blanks (t ++ 41 ∷ after) h)
@@ -140,25 +112,6 @@ mark_is_read {w} {u} {after} q a s b e =
 pub bare_is_read : (a : Pattern) (s : Scope) (after : Text) → IsUnquantified s.flags.ignore_blanks after → g.quantified a (start s after) ≡ Some (a, start s after)
 bare_is_read a s after h = rw (unquantified_is_read s.flags.ignore_blanks after h) refl
 
-no_anchor : (f : Flags) (c : ℕ) → is_special c ≡ false → anchor_of f c ≡ None
-no_anchor f c h = rw (other_than c 94 h refl, other_than c 36 h refl) refl
-
-lone_literal : (s : Scope) (c : ℕ) (t : Text) → is_special c ≡ false → begins_count (c ∷ t) ≡ false → g.lone (start s (c ∷ t)) c t (anchor_of s.flags c) ≡ Some (literal_of s.meaning c, start s t)
-lone_literal s c t h n = ap (g.lone (start s (c ∷ t)) c t) (no_anchor s.flags c h) ∙ (rw (h, n) refl)
-
-pub literal_is_read : (c : ℕ) (s : Scope) (after : Text) → is_special c ≡ false → begins_count (c ∷ after) ≡ false → atom (start s (c ∷ after)) ≡ Some (literal_of s.meaning c, start s after)
-literal_is_read c s [] h n = lone_literal s c [] h n
-literal_is_read c s (x ∷ rest) h n = rw (other_than c 92 h refl) (lone_literal s c (x ∷ rest) h n)
-
-pub anchor_is_read : (c : ℕ) (s : Scope) (after : Text) {a : Assertion} → anchor_of s.flags c ≡ Some a → atom (start s (c ∷ after)) ≡ Some (assertion a, start s after)
-anchor_is_read c s [] h = ap (g.lone (start s (c ∷ [])) c []) h
-anchor_is_read c s (x ∷ rest) h =
-    let other : (92 == c) ≡ false = anchored (λ y. (92 == y) ≡ false) s.flags c h refl refl in
-    rw other (ap (g.lone (start s (c ∷ x ∷ rest)) c (x ∷ rest)) h)
-
-pub escaped_is_read : (c : ℕ) (s : Scope) (after : Text) {a : Pattern} → escape_of s c ≡ Some a → ◌≡◌ {A = Option (Pattern × Place)} (atom (start s (92 ∷ c ∷ after))) (Some (a, start s after))
-escaped_is_read c s after h = ap (option_map {U = Pattern × Place} (λ (x : Pattern). (x, start s after))) h
-
 pub capture_is_read : (s : Scope) (rest : Text) → is_at "?*" rest ≡ false → opening (start s (40 ∷ rest)) ≡ Some (g.capture (s.opened + 1), start (one_more_group s) rest)
 capture_is_read s [] h = refl
 capture_is_read s (x ∷ rest) h =
@@ -200,9 +153,7 @@ mutual
   read_item (d.quantified {q = q} {t = t} {u = u} {v = v} {after = after} {a = a} b e c h) = rw (append_assoc t (u ++ v) after, append_assoc u v after) (read_atom b (mark_is_read h a q c e))
 
   pub read_atom : {k : ℕ} {s q : Scope} {t after : Text} {a x : Pattern} {r : Place} → d.Atom k s t after a q → g.quantified a (start q after) ≡ Some (x, r) → g.Item k (start s (t ++ after)) (Some x) r
-  read_atom {s = s} {after = after} (d.literal c h n b) f = g.single (no_paren c after h) (literal_is_read c s after h n) f
-  read_atom {s = s} {after = after} (d.anchor c h) f = g.single (anchored (λ x. is_at "(" (x ∷ after) ≡ false) s.flags c h refl refl) (anchor_is_read c s after h) f
-  read_atom {s = s} {after = after} (d.escaped c h) f = g.single refl (escaped_is_read c s after h) f
+  read_atom (d.single b r) f = g.single (no_paren r) (r, refl) f
   read_atom {after = after} (d.plain {t = t} b) f = rw (append_assoc t (41 ∷ []) after) (g.grouped refl refl plain_opens (read_branches b refl refl) refl f)
   read_atom {s = s} {after = after} (d.flagged {u = u} {t = t} l b) f =
       rw (append_assoc u (58 ∷ (t ++ 41 ∷ [])) after, append_assoc t (41 ∷ []) after) (g.grouped refl (flags_open s l 58 (t ++ 41 ∷ after) refl) plain_opens (read_branches b refl refl) refl f)
@@ -375,51 +326,14 @@ quantity a q t r h =
     is_it : {u : Pattern} {b : Place} → ◌≡◌ {A = Option (Pattern × Place)} (Some (u, b)) (Some (t, r)) → Quantity a q u b → Quantity a q t r
     is_it {u} {b} s o = let e = some_pair s in subst (λ x. Quantity a q x r) e.0 (subst (λ y. Quantity a q u y) e.1 o)
 
-pub atom_is : (p : Place) (a : Pattern) (q : Place) → atom p ≡ Some (a, q) → past_blank p.scope.flags.ignore_blanks p.text ≡ None → (w : Text) × (p.text ≡ w ++ q.text) × ((k : ℕ) → d.Atom k p.scope w q.text a q.scope)
-atom_is p a q h clean = go p.text refl h
-  where
-    behind : (c : ℕ) (t : Text) → p.text ≡ c ∷ t → t ≡ drop 1 p.text
-    behind c t e = ap (drop 1) (sym e)
-
-    plainly : (c : ℕ) (t : Text) (o : Option Assertion) → anchor_of p.scope.flags c ≡ o → p.text ≡ c ∷ t → g.lone p c t o ≡ Some (a, q) → (w : Text) × (p.text ≡ w ++ q.text) × ((k : ℕ) → d.Atom k p.scope w q.text a q.scope)
-    plainly c t (Some x) is e h =
-        let s = some_pair h in (
-          c ∷ [],
-          e ∙ ap (λ l. c ∷ l) (behind c t e ∙ ap (λ (y : Place). y.text) s.1),
-          λ k. subst (λ (y : Place). d.Atom k p.scope (c ∷ []) y.text a y.scope) s.1 (subst (λ b. d.Atom k p.scope (c ∷ []) (drop 1 p.text) b p.scope) s.0 (d.anchor c is)),
-        )
-    plainly c t None is e h =
-        elim (chosen (is_special c || begins_count (c ∷ t)) _ _ _ h) [
-          | inl x ↦ absurd (some_is_none (sym x.1))
-          | inr x ↦
-              let s = some_pair x.1 in
-              let n = either_false (is_special c) (begins_count (c ∷ t)) x.0 in
-              let no = subst (λ l. begins_count (c ∷ l) ≡ false) (behind c t e) n.1 in
-              let none = subst (λ l. past_blank p.scope.flags.ignore_blanks (c ∷ l) ≡ None) (behind c t e) (ap (past_blank p.scope.flags.ignore_blanks) (sym e) ∙ clean) in (
-                c ∷ [],
-                e ∙ ap (λ l. c ∷ l) (behind c t e ∙ ap (λ (y : Place). y.text) s.1),
-                λ k. subst (λ (y : Place). d.Atom k p.scope (c ∷ []) y.text a y.scope) s.1 (subst (λ b. d.Atom k p.scope (c ∷ []) (drop 1 p.text) b p.scope) s.0 (d.literal c n.0 no none)),
-              )
-        ]
-
-    escape : (x : ℕ) (t : Text) (o : Option Pattern) → escape_of p.scope x ≡ o → p.text ≡ 92 ∷ x ∷ t → ◌≡◌ {A = Option (Pattern × Place)} (option_map {U = Pattern × Place} (λ (b : Pattern). (b, past 2 p)) o) (Some (a, q))
-        → (w : Text) × (p.text ≡ w ++ q.text) × ((k : ℕ) → d.Atom k p.scope w q.text a q.scope)
-    escape x t None is e h = absurd (some_is_none (sym h))
-    escape x t (Some b) is e h =
-        let s = some_pair h in (
-          92 ∷ x ∷ [],
-          e ∙ ap (λ l. 92 ∷ x ∷ l) (ap (drop 2) (sym e) ∙ ap (λ (y : Place). y.text) s.1),
-          λ k. subst (λ (y : Place). d.Atom k p.scope (92 ∷ x ∷ []) y.text a y.scope) s.1 (subst (λ b. d.Atom k p.scope (92 ∷ x ∷ []) (drop 2 p.text) b p.scope) s.0 (d.escaped x is)),
-        )
-
-    go : (t : Text) → p.text ≡ t → g.atom_in p t ≡ Some (a, q) → (w : Text) × (p.text ≡ w ++ q.text) × ((k : ℕ) → d.Atom k p.scope w q.text a q.scope)
-    go [] e h = absurd (some_is_none (sym h))
-    go (c ∷ []) e h = plainly c [] (anchor_of p.scope.flags c) refl e h
-    go (c ∷ x ∷ t) e h =
-        elim (chosen (is_at "\\" (c ∷ [])) _ _ _ h) [
-          | inl y ↦ escape x t (escape_of p.scope x) refl (e ∙ ap (λ l. l ++ x ∷ t) (at_char 92 (c ∷ []) y.0)) y.1
-          | inr y ↦ plainly c (x ∷ t) (anchor_of p.scope.flags c) refl e y.1
-        ]
+pub atom_is : (p : Place) (a : Pattern) (q : Place) → g.IsAtom p a q → past_blank p.scope.flags.ignore_blanks p.text ≡ None → (w : Text) × (p.text ≡ w ++ q.text) × ((k : ℕ) → d.Atom k p.scope w q.text a q.scope)
+atom_is p a q h clean =
+    let e = ends_atom h.0 in (
+      e.front,
+      e.is,
+      λ k. subst (λ (z : Place). d.Atom k p.scope e.front q.text a z.scope) (sym h.1)
+          (d.single (subst (λ t. past_blank p.scope.flags.ignore_blanks t ≡ None) e.is clean) (subst (λ t. ReadsAtom p.scope t a q.text) e.is h.0)),
+    )
 
 -- an atom with what quantifies it
 pub spell_quantity : {k : ℕ} {s : Scope} {a t : Pattern} {q r : Place} {w : Text} → d.Atom k s w q.text a q.scope → Quantity a q t r → (v : Text) × (w ++ q.text ≡ v ++ r.text) × d.Item k s v r.text (Some t) r.scope

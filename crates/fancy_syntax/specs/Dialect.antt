@@ -1,16 +1,25 @@
 -- The dialect, over whole texts: which text spells which pattern. `after` is what follows the text in the whole pattern, so that each case can say that no longer form begins at its place; therefore the cases exclude one another, and a text spells at most one pattern.
-use Rattle.std.specs.Prelude.{◌≡◌, ℕ, suc, ◌+◌, ◌≤◌, ◌==◌, Bool, true, false, not, ◌&&◌, ◌||◌, List, [], ◌∷◌, ◌++◌, Option, Some, None, codes, map, encode_utf8, if◌then◌else◌}
+use Rattle.std.specs.Prelude.{◌≡◌, ℕ, suc, ◌+◌, ◌≤◌, ◌==◌, nat_lt, Bool, true, false, not, ◌&&◌, ◌||◌, List, [], ◌∷◌, ◌++◌, drop, Option, Some, None, codes, map, encode_utf8, if◌then◌else◌}
 use Rattle.std.specs.Char.{is_ascii_punctuation}
-use Rattle.std.specs.Option.{option_map, option_or}
+use Rattle.std.specs.Option.{option_map, option_or, option_and_then}
 use Rattle.fancy_syntax.specs.declared.tree.Meaning.{Meaning}
 use Rattle.fancy_syntax.specs.declared.tree.Meaning.TheVariants.{Unicode, Bytes, AsciiText}
 use Rattle.fancy_syntax.specs.declared.tree.Assertion.{Assertion}
-use Rattle.fancy_syntax.specs.declared.tree.Assertion.TheVariants.{TextStart, TextEnd, LineStart, LineEnd, LineStartCrlf, LineEndCrlf, LastLine, LastLineCrlf}
+use Rattle.fancy_syntax.specs.declared.tree.Assertion.TheVariants.{TextStart, TextEnd, LineStart, LineEnd, LineStartCrlf, LineEndCrlf, LastLine, LastLineCrlf, WordBoundary, NotWordBoundary, WordStart, WordEnd, WordStartHalf, WordEndHalf}
 use Rattle.fancy_syntax.specs.declared.tree.Taste.{Taste}
 use Rattle.fancy_syntax.specs.declared.tree.Taste.TheVariants.{Greedy, Lazy}
-use Rattle.fancy_syntax.specs.Pattern.{Pattern, character, assertion, group, repeat, in_sequence, in_branches}
+use Rattle.fancy_syntax.specs.declared.class.token.Token.{Token}
+use Rattle.fancy_syntax.specs.declared.class.token.Token.TheVariants.{Named as NamedSet}
+use Rattle.fancy_syntax.specs.declared.named.Named.{Named}
+use Rattle.fancy_syntax.specs.Pattern.{Pattern, character, member_of, raw_byte, assertion, group, repeat, in_sequence, in_branches}
 use Rattle.fancy_syntax.specs.Sizes.{nodes, is_empty}
-use Rattle.fancy_syntax.specs.Words.{Text, ◌∈◌, is_among, is_at, is_at_digit, is_blank, past_blank, decimal, are_digits, begins_count}
+use Rattle.fancy_syntax.specs.Words.{Text, ◌∈◌, is_among, is_at, begins, is_at_digit, is_blank, past_blank, decimal, are_digits, begins_count}
+use Rattle.fancy_syntax.specs.Sets.{has, AreEdges, in_range}
+use Rattle.fancy_syntax.specs.Members.{Members}
+use Rattle.fancy_syntax.specs.Named.{in_universe}
+use Rattle.fancy_syntax.specs.Widening.{widened}
+use Rattle.fancy_syntax.specs.Escapes.{set_letter, number}
+use Rattle.fancy_syntax.specs.ClassGrammar.{ReadsEdges, is_ascii_meaning, may_turn, token_members, property}
 
 -- the flags `i m s x R`
 pub record Flags : Type 0 where
@@ -23,6 +32,8 @@ pub record Flags : Type 0 where
 -- what is in force at a place of a pattern
 pub record Scope : Type 0 where
   pub meaning : Meaning
+  -- bytes are never items of their own: matches keep to whole characters
+  pub keeps_characters : Bool
   pub flags : Flags
   -- how many capturing groups were opened before it
   pub opened : ℕ
@@ -43,10 +54,11 @@ abbrev pub agrees : Bool → Bool → Bool
 agrees true y = y
 agrees false y = not y
 
--- The flags with this letter's set, or cleared; none where it is no letter of a flag. `u` changes nothing: it states whether items are characters of all of Unicode, and must state what holds. The letter `i` is no letter yet.
+-- The flags with this letter's set, or cleared; none where it is no letter of a flag. `u` changes nothing: it states whether items are characters of all of Unicode, and must state what holds.
 abbrev pub with_flag : Meaning → Bool → ℕ → Flags → Option Flags
 with_flag m on c f =
-    if 109 == c then Some (record f { multi_line = on })
+    if 105 == c then Some (record f { ignore_case = on })
+    else if 109 == c then Some (record f { multi_line = on })
     else if 115 == c then Some (record f { dot_all = on })
     else if 120 == c then Some (record f { ignore_blanks = on })
     else if 82 == c then Some (record f { crlf = on })
@@ -98,13 +110,25 @@ anchor_of f c =
     else if 36 == c then Some (if f.multi_line then (if f.crlf then LineEndCrlf else LineEnd) else TextEnd)
     else None
 
--- what `\A`, `\z` and `\Z` test
+-- what `\A`, `\z`, `\Z`, `\B`, `\<` and `\>` test
 abbrev pub place_test : Flags → ℕ → Option Assertion
 place_test f d =
     if 65 == d then Some TextStart
     else if 122 == d then Some TextEnd
     else if 90 == d then Some (if f.crlf then LastLineCrlf else LastLine)
+    else if 66 == d then Some NotWordBoundary
+    else if 60 == d then Some WordStart
+    else if 62 == d then Some WordEnd
     else None
+
+-- what `\b` tests, by the word in braces behind it, and what follows
+abbrev pub boundary : Text → Assertion × Text
+boundary t =
+    if begins "{start}" t then (WordStart, drop 7 t)
+    else if begins "{end}" t then (WordEnd, drop 5 t)
+    else if begins "{start-half}" t then (WordStartHalf, drop 12 t)
+    else if begins "{end-half}" t then (WordEndHalf, drop 10 t)
+    else (WordBoundary, t)
 
 -- a literal character: one item, but in byte meaning the sequence of its bytes
 abbrev pub literal_of : Meaning → ℕ → Pattern
@@ -112,11 +136,105 @@ literal_of Unicode c = character c
 literal_of Bytes c = in_sequence (map character (encode_utf8 c))
 literal_of AsciiText c = character c
 
--- what a backslash and this character stand for
-abbrev pub escape_of : Scope → ℕ → Option Pattern
-escape_of s d =
-    if is_escapable d then Some (literal_of s.meaning d)
-    else option_or (option_map (literal_of s.meaning) (control_of d)) (option_map assertion (place_test s.flags d))
+-- What stands for itself: a pattern, or one item of a set with these members.
+pub data Lexeme : Type 0 where
+  leaf : Pattern → Lexeme
+  one_of : Members → Lexeme
+
+-- This is the pattern. A set has one list of edges.
+pub data IsMeant : Lexeme → Pattern → Type 0 where
+  by_itself : {a : Pattern} → IsMeant (leaf a) a
+  by_edges : {f : Members} {es : List ℕ} → AreEdges es → ((c : ℕ) → has es c ≡ f c) → IsMeant (one_of f) (member_of es)
+
+-- the character is one item, so that flag `i` can give it others
+abbrev pub is_one_item : Meaning → ℕ → Bool
+is_one_item Unicode c = true
+is_one_item Bytes c = nat_lt c 128
+is_one_item AsciiText c = true
+
+-- a character, under flag `i` with those that share its simple folding
+abbrev pub spelled_character : Scope → ℕ → Lexeme
+spelled_character s c =
+    if s.flags.ignore_case && is_one_item s.meaning c
+    then one_of (widened s.meaning (in_range (c, c)))
+    else leaf (literal_of s.meaning c)
+
+-- A character by its number. Where matches may stand anywhere two digits behind `x` are a byte, if it is no ASCII.
+abbrev pub spelled_number : Scope → ℕ × Bool → Lexeme
+spelled_number s n = if n.1 && (nat_lt 127 n.0 && not s.keeps_characters) then leaf (raw_byte n.0) else spelled_character s n.0
+
+abbrev pub ends_line : Bool → ℕ → Bool
+ends_line crlf c = (c == 10) || (crlf && (c == 13))
+
+-- any code, or any but one that ends a line
+abbrev pub any_code : Scope → Bool → Members
+any_code s all = λ c. in_universe s.meaning c && (all || not (ends_line s.flags.crlf c))
+
+abbrev pub any_item : Scope → Bool → Option Lexeme
+any_item s all = if is_ascii_meaning s.meaning then None else Some (one_of (any_code s all))
+
+-- a set with the members that this stands for in a class
+abbrev pub spelled_set : Scope → Token → Lexeme
+spelled_set s x = one_of (token_members s.meaning s.flags.ignore_case x)
+
+-- the set of a letter, or its complement
+abbrev pub lettered_set : Scope → Named × Bool → Option Lexeme
+lettered_set s n = if may_turn s.meaning n.1 then Some (spelled_set s (NamedSet n.0 n.1)) else None
+
+-- what a letter alone stands for behind a backslash
+abbrev pub lettered : Scope → ℕ → Option Lexeme
+lettered s d =
+    option_or (option_map (spelled_character s) (control_of d))
+    (option_or (option_map (λ a. leaf (assertion a)) (place_test s.flags d))
+    (option_and_then (lettered_set s) (set_letter d)))
+
+abbrev pub followed_by : Text → Option Lexeme → Option (Lexeme × Text)
+followed_by t o = option_map (λ x. (x, t)) o
+
+abbrev pub numbered : Scope → ℕ → Text → Option (Lexeme × Text)
+numbered s count t = option_map (λ r. (spelled_number s r.0, r.1)) (number count t)
+
+abbrev pub boundary_here : Text → Lexeme × Text
+boundary_here t = (leaf (assertion (boundary t).0), (boundary t).1)
+
+abbrev pub property_here : Scope → Text → Option (Lexeme × Text)
+property_here s t = option_map (λ r. (spelled_set s r.0, r.1)) (property s.meaning t)
+
+-- what a backslash, this character and the text behind it begin with, and what follows that
+abbrev pub escape : Scope → ℕ → Text → Option (Lexeme × Text)
+escape s d t =
+    if is_escapable d then Some (spelled_character s d, t)
+    else if 98 == d then Some (boundary_here t)
+    else if 120 == d then numbered s 2 t
+    else if 117 == d then numbered s 4 t
+    else if 85 == d then numbered s 8 t
+    else if 79 == d then followed_by t (any_item s true)
+    else if 78 == d then followed_by t (any_item s false)
+    else if (112 == d) || (80 == d) then property_here s (92 ∷ d ∷ t)
+    else followed_by t (lettered s d)
+
+abbrev pub escape_in : Scope → Text → Option (Lexeme × Text)
+escape_in s [] = None
+escape_in s (d ∷ t) = escape s d t
+
+-- a character that stands for itself, or for a place
+abbrev pub lone : Scope → ℕ → Text → Option Lexeme
+lone s c t =
+    option_or (option_map (λ a. leaf (assertion a)) (anchor_of s.flags c))
+    (if is_special c || begins_count (c ∷ t) then None else Some (spelled_character s c))
+
+-- the character or escape at the start of a text, and what follows it
+abbrev pub lexeme : Scope → Text → Option (Lexeme × Text)
+lexeme s [] = None
+lexeme s (c ∷ t) =
+    if 92 == c then escape_in s t
+    else if 46 == c then followed_by t (any_item s s.flags.dot_all)
+    else followed_by t (lone s c t)
+
+-- A text begins with this atom, which is no group: a character, an escape or a class. The last index is what follows it.
+pub data ReadsAtom : Scope → Text → Pattern → Text → Type 0 where
+  by_lexeme : {s : Scope} {t u : Text} {x : Lexeme} {a : Pattern} → lexeme s t ≡ Some (x, u) → IsMeant x a → ReadsAtom s t a u
+  by_class : {s : Scope} {t u : Text} {es : List ℕ} → is_at "[" t ≡ true → ReadsEdges s.meaning s.flags.ignore_case t es u → ReadsAtom s t (member_of es) u
 
 -- a quantifier begins here
 abbrev pub begins_quantifier : Text → Bool
@@ -186,11 +304,9 @@ mutual
     quantified : {k low : ℕ} {high : Option ℕ} {taste : Taste} {s q : Scope} {t u v after : Text} {a : Pattern} → Atom k s t (u ++ (v ++ after)) a q → is_empty a ≡ false
         → Blanks q.flags.ignore_blanks u (v ++ after) → Quantifies v after low high taste → Item k s (t ++ (u ++ v)) after (Some (repeat low high taste a)) q
 
-  -- a character, an escape or a group
+  -- a character, an escape, a class or a group
   pub data Atom : ℕ → Scope → Text → Text → Pattern → Scope → Type 0 where
-    literal : {k : ℕ} {s : Scope} {after : Text} (c : ℕ) → is_special c ≡ false → begins_count (c ∷ after) ≡ false → past_blank s.flags.ignore_blanks (c ∷ after) ≡ None → Atom k s (c ∷ []) after (literal_of s.meaning c) s
-    anchor : {k : ℕ} {s : Scope} {after : Text} (c : ℕ) {a : Assertion} → anchor_of s.flags c ≡ Some a → Atom k s (c ∷ []) after (assertion a) s
-    escaped : {k : ℕ} {s : Scope} {after : Text} (c : ℕ) {a : Pattern} → escape_of s c ≡ Some a → Atom k s (codes "\\" ++ c ∷ []) after a s
+    single : {k : ℕ} {s : Scope} {t after : Text} {a : Pattern} → past_blank s.flags.ignore_blanks (t ++ after) ≡ None → ReadsAtom s (t ++ after) a after → Atom k s t after a s
     plain : {k : ℕ} {s q : Scope} {t after : Text} {bs : List Pattern} → Branches k s t (codes ")" ++ after) bs q
         → Atom (suc k) s (codes "(?:" ++ (t ++ codes ")")) after (in_branches bs) (back_to s q)
     flagged : {k : ℕ} {s q : Scope} {u t after : Text} {f : Flags} {bs : List Pattern} → Setting s.meaning u s.flags f → Branches k (in_force f s) t (codes ")" ++ after) bs q
@@ -208,20 +324,17 @@ pub record Spells (start : Scope) (text : Text) (p : Pattern) (end : Scope) : Ty
 -- the options that a pattern is read under
 pub record Options : Type 0 where
   pub meaning : Meaning
+  pub keeps_characters : Bool
   pub flags : Flags
 
 abbrev pub no_flags : Flags
 no_flags = record { ignore_case = false; multi_line = false; dot_all = false; ignore_blanks = false; crlf = false }
 
 abbrev pub standard : Options
-standard = record { meaning = Unicode; flags = no_flags }
-
--- the standard options, but in this meaning
-abbrev pub in_meaning : Meaning → Options
-in_meaning m = record standard { meaning = m }
+standard = record { meaning = Unicode; keeps_characters = true; flags = no_flags }
 
 abbrev pub begin : Options → Scope
-begin o = record { meaning = o.meaning; flags = o.flags; opened = 0; names = []; in_look_around = false }
+begin o = record { meaning = o.meaning; keeps_characters = o.keeps_characters; flags = o.flags; opened = 0; names = []; in_look_around = false }
 
 -- The text is a pattern of the dialect: it spells this one, which is not too complex.
 pub record IsPattern (o : Options) (text : Text) (p : Pattern) : Type 0 where

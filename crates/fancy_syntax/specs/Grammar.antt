@@ -2,13 +2,12 @@
 use Rattle.std.specs.Prelude.{◌≡◌, ℕ, suc, ◌+◌, Bool, true, false, not, ◌||◌, ◌&&◌, nat_le, List, [], ◌∷◌, drop, Option, Some, None, option_map, ◌==◌, if◌then◌else◌}
 use Rattle.std.specs.Option.{option_and_then}
 use Rattle.fancy_syntax.specs.declared.tree.Meaning.{Meaning}
-use Rattle.fancy_syntax.specs.declared.tree.Assertion.{Assertion}
 use Rattle.fancy_syntax.specs.declared.tree.Taste.{Taste}
 use Rattle.fancy_syntax.specs.declared.tree.Taste.TheVariants.{Greedy, Lazy}
-use Rattle.fancy_syntax.specs.Pattern.{Pattern, assertion, group, repeat, in_sequence, in_branches}
+use Rattle.fancy_syntax.specs.Pattern.{Pattern, group, repeat, in_sequence, in_branches}
 use Rattle.fancy_syntax.specs.Sizes.{is_empty}
 use Rattle.fancy_syntax.specs.Words.{Text, ◌∈◌, is_at, begins, is_at_digit, past_digits, past_blanks, decimal, begins_count}
-use Rattle.fancy_syntax.specs.Dialect.{Flags, Scope, in_force, with_flag, one_more_group, back_to, is_special, literal_of, anchor_of, escape_of, begins_quantifier, with_part}
+use Rattle.fancy_syntax.specs.Dialect.{Flags, Scope, in_force, with_flag, one_more_group, back_to, ReadsAtom, begins_quantifier, with_part}
 
 -- a place in a pattern: what follows, and what is in force there
 pub record Place : Type 0 where
@@ -78,21 +77,12 @@ opening p =
     else if begins "(*" p.text then None
     else Some (capture (p.scope.opened + 1), record { text = drop 1 p.text; scope = one_more_group p.scope })
 
--- the pattern of one character, which stands for itself or for a place
-abbrev pub lone : Place → ℕ → Text → Option Assertion → Option (Pattern × Place)
-lone p c t (Some a) = Some (assertion a, past 1 p)
-lone p c t None = if is_special c || begins_count (c ∷ t) then None else Some (literal_of p.scope.meaning c, past 1 p)
+abbrev pub start : Scope → Text → Place
+start s text = record { text = text; scope = s }
 
--- the pattern of one character, or of a backslash and what it escapes, that begins here
-abbrev pub atom_in : Place → Text → Option (Pattern × Place)
-atom_in p [] = None
-atom_in p (c ∷ []) = lone p c [] (anchor_of p.scope.flags c)
-atom_in p (c ∷ d ∷ t) =
-    if c ∈ "\\" then option_map (λ a. (a, past 2 p)) (escape_of p.scope d)
-    else lone p c (d ∷ t) (anchor_of p.scope.flags c)
-
-abbrev pub atom : Place → Option (Pattern × Place)
-atom p = atom_in p p.text
+-- what stands here and is no group, and the place behind it
+abbrev pub IsAtom : Place → Pattern → Place → Type 0
+IsAtom p a q = ReadsAtom p.scope p.text a q.text × (q ≡ start p.scope q.text)
 
 -- the least and the greatest number of turns
 abbrev pub Bounds : Type 0
@@ -166,12 +156,9 @@ mutual
   -- what can be quantified, with its quantifier
   pub data Item : ℕ → Place → Option Pattern → Place → Type 0 where
     sets : {k : ℕ} {p q : Place} → is_at "(" p.text ≡ true → opening p ≡ Some (setting, q) → Item (suc k) p None q
-    single : {k : ℕ} {p q r : Place} {a x : Pattern} → is_at "(" p.text ≡ false → atom p ≡ Some (a, q) → quantified a q ≡ Some (x, r) → Item k p (Some x) r
+    single : {k : ℕ} {p q r : Place} {a x : Pattern} → is_at "(" p.text ≡ false → IsAtom p a q → quantified a q ≡ Some (x, r) → Item k p (Some x) r
     grouped : {k : ℕ} {p inside q r : Place} {how : Opening} {bs : List Pattern} {x : Pattern} → is_at "(" p.text ≡ true → opening p ≡ Some (how, inside) → (how ≡ setting → ⊥)
         → Branches k inside bs q → is_at ")" q.text ≡ true → quantified (wrap how (in_branches bs)) (closed p q) ≡ Some (x, r) → Item (suc k) p (Some x) r
-
-abbrev pub start : Scope → Text → Place
-start s text = record { text = text; scope = s }
 
 -- the whole text has this pattern, with at most 64 parentheses open at one place
 pub record Reads (s : Scope) (text : Text) (p : Pattern) (end : Place) : Type 0 where

@@ -10,11 +10,14 @@ use Rattle.fancy_syntax.specs.declared.groups.Opening.TheVariants.{Setting, Plai
 use Rattle.fancy_syntax.specs.declared.flags.Letters.{Letters}
 use Rattle.fancy_syntax.specs.declared.count.Turns.{Turns}
 use Rattle.fancy_syntax.specs.declared.flags.Flags.{Flags as Found_flags}
+use Rattle.fancy_syntax.specs.declared.parse.Syntax.{Syntax}
+use Rattle.fancy_syntax.specs.declared.class.refusal.Refusal.{Refusal}
+use Rattle.fancy_syntax.specs.declared.class.refusal.Refusal.TheVariants.{Memory as OutOfMemory, Invalid}
 use Rattle.fancy_syntax.specs.declared.tree.Tree.{Tree}
 use Rattle.fancy_syntax.specs.Pattern.{Pattern, pattern_of, in_sequence, in_branches}
 use Rattle.fancy_syntax.specs.Words.{Text}
-use Rattle.fancy_syntax.specs.Dialect.{Flags}
-use Rattle.fancy_syntax.specs.Grammar.{Place, Opening, setting, plain, capture, LettersRead, Bounds, Branches, Parts}
+use Rattle.fancy_syntax.specs.Dialect.{Flags, Scope, Options, Lexeme, IsMeant}
+use Rattle.fancy_syntax.specs.Grammar.{Place, start, Opening, setting, plain, capture, LettersRead, Bounds, Branches, Parts}
 
 abbrev pub flags_of : Found_flags → Flags
 flags_of f = record { ignore_case = f.ignore_case; multi_line = f.multi_line; dot_all = f.dot_all; ignore_blanks = f.ignore_blanks; crlf = f.crlf }
@@ -26,8 +29,12 @@ letters_of l = record { flags = flags_of l.flags; on = l.on; some = l.some }
 abbrev pub read_of : Found_flags × Bor Text → Flags × Text
 read_of r = (flags_of r.0, r.1.now)
 
+-- what is in force where the parser stands
+abbrev pub scope_of : Parser → Scope
+scope_of p = record { meaning = p.meaning; keeps_characters = p.keeps_characters; flags = flags_of p.flags; opened = p.opened; names = []; in_look_around = false }
+
 abbrev pub place : Parser → Place
-place p = record { text = p.rest.now; scope = record { meaning = p.meaning; flags = flags_of p.flags; opened = p.opened; names = []; in_look_around = false } }
+place p = start (scope_of p) p.rest.now
 
 -- how many bytes of the whole pattern stand before the rest
 abbrev pub bytes_before : Text → Text → ℕ
@@ -43,6 +50,14 @@ bounds_of t = (t.low, t.high)
 
 abbrev pub itself : {T : Type 0} → T → T
 itself x = x
+
+-- the error at the place that the parser has reached, of what a class was refused for
+abbrev pub error_of : Parser → Refusal → Error
+error_of p OutOfMemory = Memory
+error_of p (Invalid kind) = ParseError (bytes_before p.whole.now p.rest.now) kind
+
+abbrev pub options_of : Syntax → Options
+options_of s = record { meaning = s.meaning; keeps_characters = s.keeps_characters; flags = flags_of s.flags }
 
 -- memory ran out, or the claim holds
 abbrev pub Refuses : Error → Type 0 → Type 0
@@ -67,6 +82,11 @@ Gives view R (Err e) p q = Refuses e (HasNoReading R p)
 abbrev pub GivesValue : {X T : Type 0} → (X → T) → Option (T × Place) → Result X Error → Place → Type 0
 GivesValue view o (Ok x) q = o ≡ Some (view x, q)
 GivesValue view o (Err e) q = Refuses e (o ≡ None)
+
+-- The result is what the lexeme that stands at p means, and q is the place behind it.
+abbrev pub GivesMeant : Option (Lexeme × Text) → Result Tree Error → Place → Place → Type 0
+GivesMeant o (Ok t) p q = (x : Lexeme) × (o ≡ Some (x, q.text)) × IsMeant x (pattern_of t) × (q ≡ start p.scope q.text)
+GivesMeant o (Err e) p q = Refuses e (o ≡ None)
 
 abbrev pub Alternation : ℕ → Place → Pattern → Place → Type 0
 Alternation k p x q = (bs : List Pattern) × (x ≡ in_branches bs) × Branches k p bs q

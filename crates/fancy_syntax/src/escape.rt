@@ -1,12 +1,36 @@
 //! Escapes and anchors: what one character means behind a backslash, or by itself.
 
 ghost use Rattle.std.specs.Prelude.{◌≡◌};
-ghost use Rattle.fancy_syntax.specs.Dialect.{control_of, anchor_of, place_test};
+ghost use Rattle.fancy_syntax.specs.Dialect.{control_of, anchor_of, place_test, is_escapable, is_special, is_one_item, ends_line};
 ghost use Rattle.fancy_syntax.specs.Views.{flags_of};
 
 use crate::error::ParseErrorKind;
 use crate::flags::Flags;
-use crate::tree::Assertion;
+use crate::tree::{Assertion, Meaning};
+
+/// Whether a backslash makes this character a literal.
+pub(crate) fn is_escapable(c: char) -> bool
+    ensures { result ≡ is_escapable c }
+{
+    c == ' ' || (c.is_ascii_punctuation() && !['<', '>'].contains(&c))
+}
+
+/// Whether this character stands for itself only where it is escaped.
+pub(crate) fn is_special(c: char) -> bool
+    ensures { result ≡ is_special c }
+{
+    ['|', '(', ')', '*', '+', '?', '\\', '.', '^', '$', '['].contains(&c)
+}
+
+/// Whether the character is one item, so that flag `i` can give it others.
+pub(crate) fn is_one_item(meaning: Meaning, c: char) -> bool
+    ensures { result ≡ is_one_item meaning c }
+{
+    match meaning {
+        Meaning::Unicode | Meaning::AsciiText => true,
+        Meaning::Bytes => (c as u32) < 128,
+    }
+}
 
 /// The control character that a backslash and this letter stand for.
 pub(crate) fn control(letter: char) -> Option<char>
@@ -39,7 +63,7 @@ pub(crate) fn anchor(flags: Flags, c: char) -> Option<Assertion>
     }
 }
 
-/// What `\A`, `\z` and `\Z` test.
+/// What `\A`, `\z`, `\Z`, `\B`, `\<` and `\>` test.
 pub(crate) fn place_test(flags: Flags, letter: char) -> Option<Assertion>
     ensures { result ≡ place_test (flags_of flags) letter }
 {
@@ -48,6 +72,9 @@ pub(crate) fn place_test(flags: Flags, letter: char) -> Option<Assertion>
         'z' => Some(Assertion::TextEnd),
         'Z' if flags.crlf => Some(Assertion::LastLineCrlf),
         'Z' => Some(Assertion::LastLine),
+        'B' => Some(Assertion::NotWordBoundary),
+        '<' => Some(Assertion::WordStart),
+        '>' => Some(Assertion::WordEnd),
         _ => None,
     }
 }
@@ -56,15 +83,10 @@ pub(crate) fn place_test(flags: Flags, letter: char) -> Option<Assertion>
 pub(crate) fn escape_fault(text: &[char]) -> ParseErrorKind {
     match text {
         [] => ParseErrorKind::TrailingBackslash,
-        [
-            'd' | 'D' | 's' | 'S' | 'w' | 'W' | 'h' | 'H' | 'p' | 'P',
-            ..
-        ]
-        | ['R' | 'X' | 'g' | 'G' | 'K' | 'O' | 'N', ..]
-        | ['b' | 'B' | '<' | '>', ..]
-        | ['x' | 'u' | 'U', ..]
-        | ['k', '<' | '\'', ..]
-        | ['1'..='9', ..] => ParseErrorKind::NotInProfile,
+        ['R' | 'X' | 'g' | 'G' | 'K', ..] | ['k', '<' | '\'', ..] | ['1'..='9', ..] => {
+            ParseErrorKind::NotInProfile
+        }
+        ['O' | 'N' | 'D' | 'S' | 'W' | 'H', ..] => ParseErrorKind::InvalidClass,
         _ => ParseErrorKind::InvalidEscape,
     }
 }

@@ -9,22 +9,22 @@ use crate::tree::Meaning;
 
 /// Which flags are set.
 #[derive(Clone, Copy, PartialEq, Eq)]
-pub(crate) struct Flags {
-    /// `i`: letters stand for either case.
-    pub(crate) ignore_case: bool,
+pub struct Flags {
+    /// `i`: characters stand also for those that share their simple folding.
+    pub ignore_case: bool,
     /// `m`: `^` and `$` hold at lines.
-    pub(crate) multi_line: bool,
+    pub multi_line: bool,
     /// `s`: `.` takes line feeds too.
-    pub(crate) dot_all: bool,
+    pub dot_all: bool,
     /// `x`: blanks and lines behind `#` are skipped.
-    pub(crate) ignore_blanks: bool,
+    pub ignore_blanks: bool,
     /// `R`: a carriage return ends a line too.
-    pub(crate) crlf: bool,
+    pub crlf: bool,
 }
 
 impl Flags {
     /// No flag is set.
-    pub(crate) const NONE: Flags = Flags {
+    pub const NONE: Flags = Flags {
         ignore_case: false,
         multi_line: false,
         dot_all: false,
@@ -38,6 +38,10 @@ impl Flags {
         ensures { option_map flags_of result ≡ with_flag meaning on letter (flags_of self) }
     {
         match letter {
+            'i' => Some(Flags {
+                ignore_case: on,
+                ..self
+            }),
             'm' => Some(Flags {
                 multi_line: on,
                 ..self

@@ -2,9 +2,10 @@
 
 ghost use Rattle.std.specs.Prelude.{◌≡◌, ◌+◌, IfOk, IfErr, chars};
 ghost use Rattle.fancy_syntax.specs.declared.error.Error.TheVariants.{Memory};
-ghost use Rattle.fancy_syntax.specs.Dialect.{standard, in_meaning, IsPattern};
+ghost use Rattle.fancy_syntax.specs.Dialect.{standard, IsPattern};
 ghost use Rattle.fancy_syntax.specs.Pattern.{Pattern, pattern_of};
 ghost use Rattle.fancy_syntax.specs.Refusals.{IsRefused};
+ghost use Rattle.fancy_syntax.specs.Views.{options_of};
 
 use crate::error::{CompileError, Error, ParseErrorKind};
 use crate::flags::Flags;
@@ -17,6 +18,26 @@ const MAX_DEPTH: u32 = 64;
 
 /// How many nodes a pattern may have, with counted repeats written out.
 const MAX_NODES: usize = 1_000_000;
+
+/// What holds at the start of a pattern.
+#[derive(Clone, Copy, PartialEq, Eq)]
+pub struct Syntax {
+    /// What an item consumes.
+    pub meaning: Meaning,
+    /// Whether matches begin and end on character boundaries alone. Where they do not, `\xE9` is a byte.
+    pub keeps_characters: bool,
+    /// The flags that are set.
+    pub flags: Flags,
+}
+
+impl Syntax {
+    /// Items are characters, and no flag is set.
+    pub const STANDARD: Syntax = Syntax {
+        meaning: Meaning::Unicode,
+        keeps_characters: true,
+        flags: Flags::NONE,
+    };
+}
 
 /// What the text of a pattern says.
 #[derive(Drop)]
@@ -55,23 +76,24 @@ pub fn parse(alloc: Global, pattern: &str) -> Result<Parsed, Error>
     ensures refused { IfErr result (λ e. IsRefused e standard (chars pattern.now)) }
     ensures succeeds { (p : Pattern) → IsPattern standard (chars pattern.now) p → IfErr result (λ e. e ≡ Memory) }
 {
-    parse_with(alloc, pattern, Meaning::Unicode)
+    parse_with(alloc, pattern, Syntax::STANDARD)
 }
 
-/// Reads a pattern in this meaning, by the rules of [`parse`].
+/// Reads a pattern by the rules of [`parse`], where this holds at its start.
 ///
 /// In [`Meaning::Bytes`] a literal past U+007F is the sequence of the bytes of its UTF-8, as `é` is of two.
-pub fn parse_with(alloc: Global, pattern: &str, meaning: Meaning) -> Result<Parsed, Error>
-    ensures accepted { IfOk result (λ r. (h : IsPattern (in_meaning meaning) (chars pattern.now) (pattern_of r.tree)) × (h.end.opened + 1 ≡ r.groups)) }
-    ensures refused { IfErr result (λ e. IsRefused e (in_meaning meaning) (chars pattern.now)) }
-    ensures succeeds { (p : Pattern) → IsPattern (in_meaning meaning) (chars pattern.now) p → IfErr result (λ e. e ≡ Memory) }
+pub fn parse_with(alloc: Global, pattern: &str, syntax: Syntax) -> Result<Parsed, Error>
+    ensures accepted { IfOk result (λ r. (h : IsPattern (options_of syntax) (chars pattern.now) (pattern_of r.tree)) × (h.end.opened + 1 ≡ r.groups)) }
+    ensures refused { IfErr result (λ e. IsRefused e (options_of syntax) (chars pattern.now)) }
+    ensures succeeds { (p : Pattern) → IsPattern (options_of syntax) (chars pattern.now) p → IfErr result (λ e. e ≡ Memory) }
 {
     let characters: Vec<char> = pattern.chars().collect(alloc)?;
     let mut parser = Parser {
         whole: &characters,
         rest: &characters,
-        meaning,
-        flags: Flags::NONE,
+        meaning: syntax.meaning,
+        keeps_characters: syntax.keeps_characters,
+        flags: syntax.flags,
         opened: 0,
         alloc,
     };

@@ -3,18 +3,17 @@
 ghost use Rattle.std.specs.Prelude.{◌≡◌, ◌+◌, ◌<◌, ◌≤◌, ◌^◌, ◌-◌, min, sum_by, true, false, if◌then◌else◌, length, nat_eq, OnOk, IfOk, IsTrue, option_map};
 ghost use Rattle.std.specs.Char.{len_utf8};
 ghost use Rattle.std.specs.List.{starts_with};
-ghost use Rattle.fancy_syntax.specs.Dialect.{is_escapable, is_special, begins_quantifier};
+ghost use Rattle.fancy_syntax.specs.Dialect.{begins_quantifier};
 ghost use Rattle.fancy_syntax.specs.Words.{is_at_any, is_at, begins_count};
 
 use crate::blank::past_blanks;
-use crate::build::{branches, is_empty, literal, repeat, sequence, wrap};
+use crate::build::{branches, is_empty, repeat, sequence, wrap};
 use crate::count::{Turns, begins_count, bounds, past_count};
 use crate::error::{Error, ParseErrorKind};
-use crate::escape::{anchor, control, escape_fault, place_test};
 use crate::flags::{Flags, read_flags};
 use crate::groups::Opening;
 use crate::tree::{Meaning, Taste, Tree};
-use std::alloc::{AllocError, Global};
+use std::alloc::Global;
 
 /// A pattern, and what is left of it to read.
 #[derive(Drop)]
@@ -24,6 +23,8 @@ pub(crate) struct Parser<'a> {
     /// The last of them, which are still to be read.
     pub(crate) rest: &'a [char],
     pub(crate) meaning: Meaning,
+    /// Matches keep to whole characters.
+    pub(crate) keeps_characters: bool,
     /// The flags in force here.
     pub(crate) flags: Flags,
     /// How many capturing groups were opened so far.
@@ -42,20 +43,6 @@ fn bytes_of(characters: &[char]) -> usize
         bytes = bytes.saturating_add(c.len_utf8());
     }
     bytes
-}
-
-/// Whether a backslash makes this character a literal.
-fn is_escapable(c: char) -> bool
-    ensures { result ≡ is_escapable c }
-{
-    c == ' ' || (c.is_ascii_punctuation() && !['<', '>'].contains(&c))
-}
-
-/// Whether this character stands for itself only where it is escaped.
-fn is_special(c: char) -> bool
-    ensures { result ≡ is_special c }
-{
-    ['|', '(', ')', '*', '+', '?', '\\', '.', '^', '$', '['].contains(&c)
 }
 
 /// Whether a quantifier begins here.
@@ -84,8 +71,7 @@ fn flags_fault(inside: &[char], meaning: Meaning) -> ParseErrorKind {
     let mut on = true;
     for c in inside {
         match c {
-            'm' | 's' | 'x' | 'R' => {}
-            'i' => return ParseErrorKind::NotInProfile,
+            'i' | 'm' | 's' | 'x' | 'R' => {}
             'u' if on != matches!(meaning, Meaning::Unicode) => {
                 return ParseErrorKind::ChangingUnicodeModeUnsupported;
             }
@@ -112,7 +98,7 @@ impl<'a> Parser<'a> {
     }
 
     /// The error where no item begins.
-    fn unexpected(&self) -> Error
+    pub(crate) fn unexpected(&self) -> Error
         ensures { result ≡ ParseError (bytes_before self.now.whole.now self.now.rest.now)
             (if begins_quantifier self.now.rest.now then TargetNotRepeatable else NotInProfile) }
     {
@@ -123,7 +109,7 @@ impl<'a> Parser<'a> {
         }
     }
 
-    fn skip(&mut self, count: usize)
+    pub(crate) fn skip(&mut self, count: usize)
         requires { count ≤ length self.old.rest.now }
         ensures place { place self.new ≡ past count (place self.old) }
         ensures shorter { length self.new.rest.now + count ≡ length self.old.rest.now }
@@ -139,7 +125,7 @@ impl<'a> Parser<'a> {
         self.rest.starts_with(word)
     }
 
-    fn is_at_any(&self, chars: &[char]) -> bool
+    pub(crate) fn is_at_any(&self, chars: &[char]) -> bool
         ensures value { result ≡ is_at_any chars.now self.now.rest.now }
         ensures room { IsTrue result → 0 < length self.now.rest.now }
     {
@@ -167,8 +153,7 @@ impl<'a> Parser<'a> {
 impl<'a> Parser<'a> {
     ghost use Rattle.fancy_syntax.specs.Views.{place, found, bounds_of, itself, GivesValue};
     ghost use Rattle.fancy_syntax.specs.Pattern.{pattern_of};
-    ghost use Rattle.fancy_syntax.specs.Dialect.{escape_of};
-    ghost use Rattle.fancy_syntax.specs.Grammar.{opening, flagged, atom, quantified, turns, taste};
+    ghost use Rattle.fancy_syntax.specs.Grammar.{opening, flagged, quantified, turns, taste};
 
     /// Reads what a parenthesis opens.
     fn opening(&mut self) -> Result<Opening, Error>
@@ -210,78 +195,6 @@ impl<'a> Parser<'a> {
                 Ok(how)
             }
             _ => Err(self.error(flags_fault(inside, self.meaning))),
-        }
-    }
-
-    /// Reads one character, or a backslash and what it escapes.
-    fn atom(&mut self) -> Result<Tree, Error>
-        ensures value { GivesValue pattern_of (atom (place self.old)) result (place self.new) }
-        ensures progress { OnOk result (length self.new.rest.now < length self.old.rest.now) }
-    {
-        if self.is_at_any(&['\\']) {
-            self.escape()
-        } else {
-            self.literal()
-        }
-    }
-
-    /// Reads a backslash and what it escapes.
-    #[tactic(auto, using(crate::proofs::PatternLemmas::pattern_equations))]
-    fn escape(&mut self) -> Result<Tree, Error>
-        requires { is_at "\\" self.old.rest.now ≡ true }
-        ensures value { GivesValue pattern_of (atom (place self.old)) result (place self.new) }
-        ensures progress { OnOk result (length self.new.rest.now < length self.old.rest.now) }
-    {
-        match self.rest {
-            [_, c, ..] => match self.escaped(*c)? {
-                Some(tree) => {
-                    self.skip(2);
-                    Ok(tree)
-                }
-                None => Err(self.error(escape_fault(&self.rest[1..]))),
-            },
-            _ => Err(self.error(ParseErrorKind::TrailingBackslash)),
-        }
-    }
-
-    /// What a backslash and this character stand for.
-    #[tactic(auto, using(crate::proofs::PatternLemmas::pattern_equations))]
-    fn escaped(&self, c: char) -> Result<Option<Tree>, AllocError>
-        ensures { IfOk result (λ o. option_map pattern_of o ≡ escape_of (place self.now).scope c) }
-    {
-        if is_escapable(c) {
-            return Ok(Some(literal(self.alloc, self.meaning, c)?));
-        }
-        if let Some(c) = control(c) {
-            return Ok(Some(literal(self.alloc, self.meaning, c)?));
-        }
-        match place_test(self.flags, c) {
-            Some(test) => Ok(Some(Tree::Assertion(test))),
-            None => Ok(None),
-        }
-    }
-
-    /// Reads a character that stands for itself, or for a place.
-    #[tactic(auto, using(crate::proofs::PatternLemmas::pattern_equations))]
-    fn literal(&mut self) -> Result<Tree, Error>
-        requires { is_at "\\" self.old.rest.now ≡ false }
-        ensures value { GivesValue pattern_of (atom (place self.old)) result (place self.new) }
-        ensures progress { OnOk result (length self.new.rest.now < length self.old.rest.now) }
-    {
-        match self.rest {
-            [c, ..] => {
-                let c = *c;
-                if let Some(test) = anchor(self.flags, c) {
-                    self.skip(1);
-                    return Ok(Tree::Assertion(test));
-                }
-                if is_special(c) || begins_count(self.rest) {
-                    return Err(self.unexpected());
-                }
-                self.skip(1);
-                Ok(literal(self.alloc, self.meaning, c)?)
-            }
-            [] => Err(self.unexpected()),
         }
     }
 

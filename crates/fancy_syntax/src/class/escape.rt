@@ -35,7 +35,7 @@ fn escaped(c: char) -> Option<char>
 }
 
 /// The set that a letter behind a backslash names, and whether its complement is meant.
-fn set_letter(c: char) -> Option<(Named, bool)>
+pub(crate) fn set_letter(c: char) -> Option<(Named, bool)>
     ensures { result ≡ set_letter c }
 {
     match c {

@@ -11,8 +11,10 @@ mod reader;
 mod refusal;
 mod token;
 
-pub(crate) use context::Context;
+pub(crate) use context::{Context, may_turn};
 pub(crate) use cursor::Cursor;
+pub(crate) use escape::set_letter;
+pub(crate) use gathered::Gathered;
 pub(crate) use refusal::Refusal;
 pub(crate) use token::Token;
 

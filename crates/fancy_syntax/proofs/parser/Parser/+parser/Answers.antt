@@ -5,7 +5,7 @@ use Rattle.fancy_syntax.specs.Pattern.{pattern_of, in_branches}
 use Rattle.fancy_syntax.specs.Dialect.{back_to}
 use Rattle.fancy_syntax.specs.Grammar.{Place, Item, quantified}
 use Rattle.fancy_syntax.specs.Views.{place, part_of, Alternation, Sequence}
-use Rattle.fancy_syntax.proofs.ReadingLemmas.{refused, Refuses-weaker, goes_on_then, no_branch, branch_step, alternation_is, item_step_at, no_item_at, sequence_is_at, no_quantified, single_is, setting_is, no_room, no_body, unclosed, no_quantified_group, group_is, found_setting}
+use Rattle.fancy_syntax.proofs.ReadingLemmas.{refused, Refuses-weaker, goes_on_then, no_branch, branch_step, alternation_is, item_step_at, no_item_at, sequence_is_at, no_atom, no_quantified, single_is, setting_is, no_room, no_body, unclosed, no_quantified_group, group_is, found_setting}
 use Rattle.fancy_syntax.proofs.parser.Parser.+parser.Goals as goal
 
 pub alternation-returns-in_err-branch-clause-value :
@@ -25,6 +25,12 @@ pub alternation-returns-clause-value : goal.alternation-returns-clause-value
 alternation-returns-clause-value t c =
     alternation_is {done = map pattern_of c.loop-found.found.items} (pattern_of c.branches.result) c.loop-found.invariant.goes_on c.in_ok-branch.ensures.value (sym c.if-not-is_at_any.ensures.value)
     (c.branches.ensures ∙ ap in_branches (ap (map pattern_of) c.in_ok-push.ensures.items ∙ map-append pattern_of c.loop-found.found.items (c.in_ok-branch.branch ∷ [])))
+
+pub item-returns-in_err-part-clause-value : goal.item-returns-in_err-part-clause-value
+item-returns-in_err-part-clause-value t c =
+    let p = err_from_is_err_and c.from_residual.result c.from_residual.ensures.1 in
+    refused part_of (Item c.args.room) c.from_residual.result _ _ p.0 c.in_err-part.field-0.0 p.1 p.2
+    (Refuses-weaker c.in_err-part.field-0.0 (no_atom (sym c.if-not-is_at_any.ensures.value)) c.in_err-part.ensures.value)
 
 pub item-returns-in_err-quantified-clause-value :
     goal.item-returns-in_err-quantified-clause-value

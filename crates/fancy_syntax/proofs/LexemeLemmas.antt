@@ -1,0 +1,168 @@
+-- What the functions that read characters and escapes give, is what the dialect means.
+use Rattle.std.proofs.Common.{◌≡◌, ℕ, zero, suc, ◌+◌, ◌*◌, ◌<◌, ◌≤◌, ◌==◌, ◌||◌, ◌&&◌, not, nat_lt, min, Bool, true, false, List, [], ◌∷◌, ◌++◌, take, Option, Some, None, drop, length, refl, sym, ap, ◌∙◌, subst, add_comm, arith, inl, inr, Result, Ok, Err}
+use Rattle.std.proofs.lemmas.Bool.Decides.{nat_tests}
+use Rattle.std.specs.Char.{digit_value}
+use Rattle.std.specs.Option.{option_map}
+use Rattle.std.specs.Prelude.{IfOk}
+use Rattle.std.specs.declared.alloc.AllocError.{AllocError}
+use Rattle.fancy_syntax.specs.declared.error.Error.{Error}
+use Rattle.fancy_syntax.specs.declared.error.Error.TheVariants.{Memory, ParseError, CompileError, RuntimeError}
+use Rattle.fancy_syntax.specs.declared.class.refusal.Refusal.{Refusal}
+use Rattle.fancy_syntax.specs.declared.class.refusal.Refusal.TheVariants as refusal
+use Rattle.fancy_syntax.specs.declared.tree.Meaning.{Meaning}
+use Rattle.fancy_syntax.specs.declared.tree.Assertion.{Assertion}
+use Rattle.std.proofs.lemmas.List.{drop-drop}
+use Rattle.fancy_syntax.specs.declared.parser.Parser.{Parser}
+use Rattle.fancy_syntax.specs.declared.tree.Tree.{Tree}
+use Rattle.fancy_syntax.specs.Pattern.{Pattern, pattern_of, member_of, assertion}
+use Rattle.fancy_syntax.specs.Words.{Text, ◌∈◌, is_at}
+use Rattle.fancy_syntax.specs.Sets.{has, AreEdges}
+use Rattle.fancy_syntax.specs.Members.{Members}
+use Rattle.fancy_syntax.specs.Escapes.{hexadecimal, number, fixed_number, braced_number, before_brace, by_number, is_character}
+use Rattle.fancy_syntax.specs.ClassGrammar.{ReadsEdges}
+use Rattle.fancy_syntax.specs.ClassViews as class
+use Rattle.fancy_syntax.specs.Dialect.{Scope, Lexeme, leaf, one_of, IsMeant, by_itself, by_edges, lexeme, ReadsAtom, by_lexeme, by_class, literal_of, spelled_character, spelled_number, is_one_item, numbered, boundary, boundary_here}
+use Rattle.fancy_syntax.specs.Grammar.{Place, past, start, IsAtom}
+use Rattle.fancy_syntax.specs.Views.{Refuses, IsTheReading, HasNoReading, Gives, GivesMeant, error_of}
+use Rattle.fancy_syntax.proofs.CanonicalLemmas.{edges_unique}
+use Rattle.fancy_syntax.proofs.ReadingLemmas.{some_pair, some_is_none, true_is_false}
+use Rattle.fancy_syntax.proofs.BlankLemmas.{chosen, same_some, char_is}
+use Rattle.fancy_syntax.proofs.CountLemmas.{left_of}
+use Rattle.fancy_syntax.proofs.ClassSteps.{one_class}
+use mathlib.Core.Path.{fun_ext}
+
+-- a place that moved on, and one that the text alone makes
+pub meant_past : {x : Lexeme} (p : Place) {q : Place} (n : ℕ) (t : Tree) → q ≡ past n p → IsMeant x (pattern_of t) → GivesMeant (Some (x, drop n p.text)) (Ok t) p q
+meant_past {x} p n t e m = (x, ap (λ (y : Place). Some (x, y.text)) (sym e), m, e ∙ ap (λ (y : Place). start p.scope y.text) (sym e))
+
+pub leaf_past : {a : Pattern} (p : Place) {q : Place} (n : ℕ) (t : Tree) → q ≡ past n p → pattern_of t ≡ a → GivesMeant (Some (leaf a, drop n p.text)) (Ok t) p q
+leaf_past {a} p n t e is = meant_past p n t e (subst (λ x. IsMeant (leaf a) x) (sym is) by_itself)
+
+pub leaf_is : {a b : Pattern} → b ≡ a → IsMeant (leaf a) b
+leaf_is {a} e = subst (λ x. IsMeant (leaf a) x) (sym e) by_itself
+
+-- characters
+pub one_character : (s : Scope) (c : ℕ) {a : Pattern} → (s.flags.ignore_case && is_one_item s.meaning c) ≡ false → a ≡ literal_of s.meaning c → IsMeant (spelled_character s c) a
+one_character s c h e = rw h (leaf_is e)
+
+pub if_literal : (s : Scope) (c : ℕ) (r : Result Tree AllocError) → (s.flags.ignore_case && is_one_item s.meaning c) ≡ false → IfOk r (λ t. pattern_of t ≡ literal_of s.meaning c) → IfOk r (λ t. IsMeant (spelled_character s c) (pattern_of t))
+if_literal s c (Ok t) h e = one_character s c h e
+if_literal s c (Err e) h f = tt
+
+-- two hexadecimal digits write a byte
+two_digits : (t : Text) (n : ℕ) → hexadecimal 0 (take 2 t) ≡ Some n → n ≤ 255
+two_digits [] n h = let e : 0 ≡ n = same_some h in omega (arith, e)
+two_digits (c ∷ []) n h =
+    elim (chosen (nat_lt (digit_value c) 16) _ _ _ h) [
+      | inl x ↦ (let e : min (0 * 16 + digit_value c) 0x11_0000 ≡ n = same_some x.1 in let d : digit_value c < 16 = grind (arith, nat_tests) in omega (arith, e, d))
+      | inr x ↦ absurd (some_is_none (sym x.1))
+    ]
+two_digits (c ∷ d ∷ t) n h =
+    elim (chosen (nat_lt (digit_value c) 16) _ _ _ h) [
+      | inl x ↦ elim (chosen (nat_lt (digit_value d) 16) _ _ _ x.1) [
+        | inl y ↦
+            (let e : min (min (0 * 16 + digit_value c) 0x11_0000 * 16 + digit_value d) 0x11_0000 ≡ n = same_some y.1 in
+            let f : digit_value c < 16 = grind (arith, nat_tests) in
+            let g : digit_value d < 16 = grind (arith, nat_tests) in
+            omega (arith, e, f, g))
+        | inr y ↦ absurd (some_is_none (sym y.1))
+      ]
+      | inr x ↦ absurd (some_is_none (sym x.1))
+    ]
+
+by_number_is : (o : Option ℕ) (b : Bool) (t : Text) {n : ℕ} {is_byte : Bool} {u : Text} → by_number o b t ≡ Some ((n, is_byte), u) → (o ≡ Some n) × (is_byte ≡ b) × (u ≡ t)
+by_number_is None b t h = absurd (some_is_none (sym h))
+by_number_is (Some m) b t {n} {is_byte} {u} h =
+    elim (chosen (is_character m) _ _ _ h) [
+      | inl x ↦ (let e = some_pair x.1 in (ap (λ (q : ℕ × Bool). Some q.0) e.0, ap (λ (q : ℕ × Bool). q.1) (sym e.0), sym e.1))
+      | inr x ↦ absurd (some_is_none (sym x.1))
+    ]
+
+pub byte_is_small : (count : ℕ) (t : Text) {n : ℕ} {is_byte : Bool} {u : Text} → number count t ≡ Some ((n, is_byte), u) → is_byte ≡ true → n ≤ 255
+byte_is_small count t {n} {is_byte} {u} h b =
+    elim (chosen (is_at "{" t) _ _ _ h) [
+      | inl x ↦ absurd (in_braces (drop 1 t) x.1)
+      | inr x ↦ plainly x.1
+    ]
+  where
+    in_braces : (v : Text) → braced_number v ≡ Some ((n, is_byte), u) → ⊥
+    in_braces v e =
+        elim (chosen (nat_lt 0 (before_brace v) && (nat_lt (before_brace v) 9 && nat_lt (before_brace v) (length v))) _ _ _ e) [
+          | inl x ↦ (let y = by_number_is (hexadecimal 0 (take (before_brace v) v)) false (drop (before_brace v + 1) v) x.1 in true_is_false (sym b ∙ y.1))
+          | inr x ↦ some_is_none (sym x.1)
+        ]
+
+    plainly : fixed_number count t ≡ Some ((n, is_byte), u) → n ≤ 255
+    plainly e =
+        elim (chosen (nat_lt (length t) count) _ _ _ e) [
+          | inl x ↦ absurd (some_is_none (sym x.1))
+          | inr x ↦
+              let y = by_number_is (hexadecimal 0 (take count t)) (count == 2) (drop count t) x.1 in
+              let two : count ≡ 2 = (let q : (count == 2) ≡ true = sym y.1 ∙ b in grind (arith, nat_tests)) in
+              two_digits t n (ap (λ k. hexadecimal 0 (take k t)) (sym two) ∙ y.0)
+        ]
+
+-- the number that is read where a letter of numbers stands
+pub number_meant : (s : Scope) (count : ℕ) (t : Text) {c : ℕ × Bool} {u : Text} (p : Place) {q : Place} (tree : Tree) → number count t ≡ Some (c, u) → q ≡ start s u → p.scope ≡ s → IsMeant (spelled_number s c) (pattern_of tree) → GivesMeant (numbered s count t) (Ok tree) p q
+number_meant s count t {c} {u} p {q} tree h e f m = (
+  spelled_number s c,
+  ap (option_map (λ (r : (ℕ × Bool) × Text). (spelled_number s r.0, r.1))) h ∙ ap (λ (y : Place). Some (spelled_number s c, y.text)) (sym e),
+  m,
+  e ∙ ap (λ (y : Place). start s y.text) (sym e) ∙ ap (λ (z : Scope). start z q.text) (sym f),
+)
+
+-- a refusal of the class's reader says of its text what the parser's says
+pub refuses_too : (p : Parser) (e : Refusal) {A B : Type 0} → (A → B) → class.Refuses e A → Refuses (error_of p e) B
+refuses_too p refusal.Memory f h = tt
+refuses_too p (refusal.Invalid kind) f h = f h
+
+pub numbered_none : (s : Scope) (count : ℕ) (t : Text) → number count t ≡ None → numbered s count t ≡ None
+numbered_none s count t h = ap (option_map (λ (r : (ℕ × Bool) × Text). (spelled_number s r.0, r.1))) h
+
+pub meant_same : {o n : Lexeme × Text} (t : Tree) (p q : Place) → o ≡ n → GivesMeant (Some n) (Ok t) p q → GivesMeant (Some o) (Ok t) p q
+meant_same t p q e h = subst (λ x. GivesMeant (Some x) (Ok t) p q) (sym e) h
+
+pub boundary_is : (t : Text) {a : Assertion} (w : ℕ) → boundary (drop 2 t) ≡ (a, drop w (drop 2 t)) → boundary_here (drop 2 t) ≡ (leaf (assertion a), drop (w + 2) t)
+boundary_is t {a} w e = ap (λ (r : Assertion × Text). (leaf (assertion r.0), r.1)) e ∙ ap (λ l. (leaf (assertion a), l)) (drop-drop w 2 t ∙ ap (λ k. drop k t) (add_comm 2 w))
+
+-- what a text means, it means alone
+pub one_meant : {x : Lexeme} {a b : Pattern} → IsMeant x a → IsMeant x b → b ≡ a
+one_meant by_itself by_itself = refl
+one_meant (by_edges {es = es} e h) (by_edges {es = fs} f k) = ap member_of (edges_unique fs es f e (fun_ext (λ c. k c ∙ sym (h c))))
+
+-- a class begins with a bracket, and no lexeme does
+no_lexeme : (s : Scope) (t : Text) → is_at "[" t ≡ true → lexeme s t ≡ None
+no_lexeme s [] h = refl
+no_lexeme s (c ∷ t) h = subst (λ d. lexeme s (d ∷ t) ≡ None) (sym (char_is 91 c (left_of (91 == c) false h refl))) refl
+
+-- an atom has one reading
+pub one_atom : {s : Scope} {t u v : Text} {a b : Pattern} → ReadsAtom s t a u → ReadsAtom s t b v → (b ≡ a) × (v ≡ u)
+one_atom {b = b} (by_lexeme h m) (by_lexeme k n) =
+    let e = some_pair (sym k ∙ h) in
+    (one_meant m (subst (λ x. IsMeant x b) e.0 n), e.1)
+one_atom {s} {t} (by_lexeme h m) (by_class k n) = absurd (some_is_none (sym h ∙ no_lexeme s t k))
+one_atom {s} {t} (by_class h m) (by_lexeme k n) = absurd (some_is_none (sym k ∙ no_lexeme s t h))
+one_atom (by_class {es = es} h m) (by_class {es = fs} k n) =
+    let o = one_class m.1 n.1 in
+    (ap member_of (edges_unique fs es n.0 m.0 o.0), o.1)
+
+pub the_atom : {p q : Place} {a : Pattern} → IsAtom p a q → IsTheReading IsAtom p a q
+the_atom {p} h = (h, λ b r k. let o = one_atom h.0 k.0 in (o.0, k.1 ∙ (ap (start p.scope) o.1 ∙ sym h.1)))
+
+no_atom_here : {p : Place} → is_at "[" p.text ≡ false → lexeme p.scope p.text ≡ None → HasNoReading IsAtom p
+no_atom_here h none a q (by_lexeme k m, there) = some_is_none (sym k ∙ none)
+no_atom_here h none a q (by_class k m, there) = true_is_false (sym k ∙ h)
+
+pub atom_given : (r : Result Tree Error) (p q : Place) → is_at "[" p.text ≡ false → GivesMeant (lexeme p.scope p.text) r p q → Gives pattern_of IsAtom r p q
+atom_given (Ok t) p q h (x, found, meant, there) = the_atom (by_lexeme found meant, there)
+atom_given (Err Memory) p q h none = tt
+atom_given (Err (ParseError at kind)) p q h none = no_atom_here h none
+atom_given (Err (CompileError why)) p q h none = none
+atom_given (Err (RuntimeError why)) p q h none = none
+
+no_class_here : {p : Place} → is_at "[" p.text ≡ true → ((es : List ℕ) (u : Text) → ReadsEdges p.scope.meaning p.scope.flags.ignore_case p.text es u → ⊥) → HasNoReading IsAtom p
+no_class_here {p} h none a q (by_lexeme k m, there) = some_is_none (sym k ∙ no_lexeme p.scope p.text h)
+no_class_here h none a q (by_class k m, there) = none _ _ m
+
+pub class_refused : (parser : Parser) (e : Refusal) (p : Place) → is_at "[" p.text ≡ true → class.Refuses e (class.HasNoReading (ReadsEdges p.scope.meaning p.scope.flags.ignore_case) p.text) → Refuses (error_of parser e) (HasNoReading IsAtom p)
+class_refused parser e p h none = refuses_too parser e (no_class_here h) none
