@@ -54,16 +54,21 @@ pub struct Parsed {
 /// The forms so far:
 ///
 /// - literal characters, and a backslash before ASCII punctuation (other than `<` and `>`) or a space;
-/// - the control characters `\a \e \f \n \r \t \v`, and the assertions `^ $ \A \z \Z`;
+/// - the control characters `\a \e \f \n \r \t \v`, and characters by their numbers, as `\xE9`, `\u00E9`,
+///   `\U000000E9` and `\x{E9}`;
+/// - `.`, `\O`, `\N`, the sets `\d \s \w \h` and their complements `\D \S \W \H`, properties of Unicode as
+///   `\p{Greek}`, `\pL` and `\P{Greek}`, and classes as `[a-z&&[^aeiou]]`;
+/// - the assertions `^ $ \A \z \Z \b \B \< \> \b{start} \b{end} \b{start-half} \b{end-half}`;
 /// - groups `(..)`, which capture and are numbered from 1 by their openings, and `(?:..)`, which do not;
 /// - branches joined by `|`;
 /// - the quantifiers `?`, `*`, `+`, `{n}`, `{n,}`, `{n,m}` and `{,m}`, each with a `?` behind it where it is lazy;
 ///   the bounds `n` and `m` are at most 4,294,967,295;
 /// - comments `(?#..)` between items and before quantifiers;
-/// - the flags `m s x u R`, as `(?ms-x)` up to the end of the enclosing group, over later branches too, or as
+/// - the flags `i m s x u R`, as `(?ms-x)` up to the end of the enclosing group, over later branches too, or as
 ///   `(?ms-x:..)` for a group.
 ///
-/// At most 64 parentheses are open at one place, among them those of flags, but not those of comments.
+/// At most 64 parentheses are open at one place, among them those of flags, but not those of comments; and at most 64
+/// brackets of classes.
 ///
 /// A text that is no pattern is refused by an [`Error::ParseError`], whose place is a byte offset into it, of 0
 /// to the length of `pattern`; one of more than 1,000,000 nodes by [`CompileError::PatternTooComplex`]. Where
@@ -112,7 +117,7 @@ pub fn parse_with(alloc: Global, pattern: &str, syntax: Syntax) -> Result<Parsed
 
 #[cfg(test)]
 mod tests {
-    use super::{Parsed, parse, parse_with};
+    use super::{Parsed, Syntax, parse, parse_with};
     use crate::error::{CompileError, Error, ParseErrorKind, RuntimeError};
     use crate::tree::Meaning;
     use std::test::Fail;
@@ -170,7 +175,7 @@ mod tests {
             ("(?z)", Some((0, ParseErrorKind::UnknownFlag))),
             ("(?Pa)", Some((0, ParseErrorKind::UnknownFlag))),
             ("(?P<a>b)", Some((0, ParseErrorKind::NotInProfile))),
-            ("(?i)", Some((0, ParseErrorKind::NotInProfile))),
+            ("(?i)a(?-i:B)", None),
             ("(?-1)", Some((0, ParseErrorKind::NotInProfile))),
             (
                 "(?-u)",
@@ -194,8 +199,25 @@ mod tests {
             ),
             ("(?#a)+", Some((5, ParseErrorKind::TargetNotRepeatable))),
             ("(?:(?#a))*", Some((9, ParseErrorKind::TargetNotRepeatable))),
-            ("[a]", Some((0, ParseErrorKind::NotInProfile))),
-            ("\\d", Some((0, ParseErrorKind::NotInProfile))),
+            ("[a-z&&[^aeiou]]+\\d*\\S\\pL\\P{Greek}", None),
+            ("[]a][a-][--a][a---b][a&&b]", None),
+            ("a[b-a]", Some((1, ParseErrorKind::InvalidClass))),
+            ("[a", Some((0, ParseErrorKind::InvalidClass))),
+            ("[]", Some((0, ParseErrorKind::InvalidClass))),
+            ("[^]", Some((0, ParseErrorKind::InvalidClass))),
+            ("[[:nope:]]", Some((0, ParseErrorKind::InvalidClass))),
+            ("\\p{Nope}", Some((0, ParseErrorKind::InvalidClass))),
+            ("\\p{a=b}", Some((0, ParseErrorKind::NotInProfile))),
+            ("\\xZ", Some((0, ParseErrorKind::InvalidHex))),
+            ("\\x{123456789}", Some((0, ParseErrorKind::InvalidHex))),
+            (
+                "\\x{110000}",
+                Some((0, ParseErrorKind::InvalidCodepointValue)),
+            ),
+            ("\\xE9\\u00e9\\U000000E9\\x{e9}", None),
+            ("\\b\\B\\<\\>\\b{start}\\b{end}\\b{start-half}\\b{end-half}", None),
+            (".\\O\\N(?s:.)", None),
+            ("\\R", Some((0, ParseErrorKind::NotInProfile))),
             ("a)", Some((1, ParseErrorKind::GeneralParseError))),
             ("é)", Some((2, ParseErrorKind::GeneralParseError))),
             ("(?:a", Some((4, ParseErrorKind::UnclosedOpenParen))),
@@ -210,6 +232,8 @@ mod tests {
             ("(?:a|b)?c", Meaning::Unicode, 7, 1),
             ("aé", Meaning::Bytes, 3, 1),
             ("aé", Meaning::AsciiText, 2, 1),
+            ("(?i)aé", Meaning::Bytes, 3, 1),
+            ("[a-c]\\d.", Meaning::Unicode, 3, 1),
             ("a*", Meaning::Unicode, 3, 1),
             ("a+", Meaning::Unicode, 4, 1),
             ("a{3}", Meaning::Unicode, 4, 1),
@@ -219,7 +243,11 @@ mod tests {
             ("a{2,}", Meaning::Unicode, 5, 1),
             ("((a)|b)(c)", Meaning::Unicode, 8, 4),
         ] {
-            let found = parse_with(rt.alloc(), pattern, meaning);
+            let syntax = Syntax {
+                meaning,
+                ..Syntax::STANDARD
+            };
+            let found = parse_with(rt.alloc(), pattern, syntax);
             assert_eq!(rt;
                 found.map(|found| (found.tree.nodes(), found.groups)).ok(),
                 Some((nodes, groups)),
@@ -241,6 +269,19 @@ mod tests {
                 fault(parse(rt.alloc(), &pattern)),
                 want,
                 "at {groups} groups"
+            );
+        }
+        for (brackets, want) in [
+            (64, None),
+            (65, Some((0, ParseErrorKind::RecursionExceeded))),
+        ] {
+            let opened = "[".repeat(rt.alloc(), brackets)?;
+            let closed = "]".repeat(rt.alloc(), brackets)?;
+            let pattern = format!(in rt.alloc(); "{opened}a{closed}")?;
+            assert_eq!(rt;
+                fault(parse(rt.alloc(), &pattern)),
+                want,
+                "at {brackets} brackets"
             );
         }
         for (nodes, builds) in [(1_000_000, true), (1_000_001, false)] {
