@@ -81,6 +81,18 @@ pub enum Assertion {
     LastLine,
     /// Only line feeds follow, each perhaps with a carriage return before it, if anything.
     LastLineCrlf,
+    /// A word character stands before or behind the place, but not both.
+    WordBoundary,
+    /// Word characters stand before and behind the place, or neither.
+    NotWordBoundary,
+    /// No word character stands before the place, and one behind it.
+    WordStart,
+    /// A word character stands before the place, and none behind it.
+    WordEnd,
+    /// No word character stands before the place.
+    WordStartHalf,
+    /// No word character stands behind the place.
+    WordEndHalf,
 }
 
 /// Which number of turns a repeat prefers, and whether it goes back to another one.
