@@ -35,6 +35,7 @@ sought_by o groups p = record {
   meaning = meaning_of o.bytes_mode;
   groups = groups;
   on_boundaries = keeps_characters o.bytes_mode;
+  overrides = o.allow_input_assertion_overrides;
   not_empty = false;
   longest = false;
 }

@@ -10,6 +10,7 @@ use fancy_syntax::tree::BytesMode;
 #[derive(Clone, Copy, PartialEq, Eq)]
 pub struct Options {
     pub bytes_mode: BytesMode,
+    pub allow_input_assertion_overrides: bool,
 }
 
 /// Builds regexes with options. Each setter changes one option and answers the builder, so that setters
@@ -26,13 +27,14 @@ pub struct RegexOptionsBuilder {
 impl RegexOptionsBuilder {
     ghost use Rattle.fancy_core.specs.Builders.{options_of};
 
-    /// A builder with the default options: `BytesMode::Unicode`.
+    /// A builder with the default options: `BytesMode::Unicode`, and every switch off.
     pub fn new() -> RegexOptionsBuilder
         ensures { options_of result ≡ by_default }
     {
         RegexOptionsBuilder {
             options: Options {
                 bytes_mode: BytesMode::Unicode,
+                allow_input_assertion_overrides: false,
             },
         }
     }
@@ -43,6 +45,25 @@ impl RegexOptionsBuilder {
         ensures value { options_of result.now ≡ record (options_of self.old) { bytes_mode = mode } }
     {
         self.options.bytes_mode = mode;
+        self
+    }
+
+    /// Whether an input may say that the text's start, or its end, does not count as one. Off by default.
+    ///
+    /// Where it is on, `^` and `\A` find no start in an input with `start_text(false)`, and `$` and `\z` no end
+    /// in one with `end_text(false)`. Under the flag `m`, `^` and `$` heed neither, and `\Z` never does. Where it
+    /// is off, the input's two settings have no effect.
+    ///
+    /// ```text
+    /// let regex = RegexOptionsBuilder::new().allow_input_assertion_overrides(true).build(pattern)?;    // of `^a`
+    /// regex.find_input(RegexInput::new("a").start_text(false))?    // None
+    /// regex.find_input(RegexInput::new("a"))?                      // Some: 0..1
+    /// ```
+    pub fn allow_input_assertion_overrides(&mut self, yes: bool) -> &mut Self
+        ensures same { result.ghost_name ≡ self.entry.ghost_name }
+        ensures value { options_of result.now ≡ record (options_of self.old) { allow_input_assertion_overrides = yes } }
+    {
+        self.options.allow_input_assertion_overrides = yes;
         self
     }
 

@@ -25,7 +25,7 @@ ghost use Rattle.fancy_syntax.specs.Modes.{keeps_characters};
 use crate::options::{Options, RegexOptionsBuilder};
 use fancy_engine::code::Code;
 use fancy_engine::compile::compile;
-use fancy_engine::search::{self, Memory};
+use fancy_engine::search::{self, Memory, Switches};
 use fancy_engine::work::Work;
 use fancy_input::input::{Haystack, Input, Request};
 use fancy_input::regex_input::RegexInput;
@@ -257,7 +257,11 @@ impl Regex {
         ensures refused { IfErr result (λ e. e ≡ Error.Memory) }
     {
         let on_boundaries = self.options.bytes_mode.keeps_characters();
-        match search::search(&self.code, haystack, request, on_boundaries, memory, work) {
+        let switches = Switches {
+            on_boundaries,
+            overrides: self.options.allow_input_assertion_overrides,
+        };
+        match search::search(&self.code, haystack, request, switches, memory, work) {
             Ok(found) => Ok(found),
             Err(_) => Err(Error::Memory),
         }

@@ -3,6 +3,7 @@ pub mod Bits
 pub mod Logs
 pub mod CharacterLemmas
 pub mod ReadingLemmas
+pub mod WordLemmas
 pub mod EventLemmas
 pub mod Runs
 pub mod Givens

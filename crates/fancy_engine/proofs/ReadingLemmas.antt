@@ -9,10 +9,11 @@ use Rattle.fancy_syntax.specs.declared.tree.Meaning.{Meaning}
 use Rattle.fancy_syntax.specs.declared.tree.Meaning.TheVariants.{Unicode, Bytes, AsciiText}
 use Rattle.fancy_input.specs.Places.{char_at}
 use Rattle.fancy_engine.proofs.CharacterLemmas.{char_at-low, char_at-ascii}
-use Rattle.fancy_syntax.specs.declared.tree.Assertion.TheVariants.{TextStart, TextEnd, LineStart, LineEnd, LineStartCrlf, LineEndCrlf, LastLine, LastLineCrlf}
+use Rattle.fancy_syntax.specs.declared.tree.Assertion.TheVariants.{TextStart, TextEnd, LineStart, LineEnd, LineStartCrlf, LineEndCrlf, LastLine, LastLineCrlf, WordBoundary, NotWordBoundary, WordStart, WordEnd, WordStartHalf, WordEndHalf}
 use Rattle.fancy_syntax.specs.Sets.{differ, has}
 use Rattle.fancy_engine.specs.declared.reading.Reading.{Reading}
-use Rattle.fancy_engine.specs.Context.{Unit_at, one_character, one_byte, unit_in, unit_at, past_item, past_byte, option_to, byte_before, is_line_feed, is_carriage_return, are_line_feeds, are_line_ends, holds}
+use Rattle.fancy_engine.specs.declared.reading.Suppressed.{Suppressed}
+use Rattle.fancy_engine.specs.Context.{Unit_at, one_character, one_byte, unit_in, unit_at, past_item, past_byte, option_to, byte_before, is_line_feed, is_carriage_return, are_line_feeds, are_line_ends, word_before, word_behind, holds}
 use Rattle.fancy_engine.specs.Readings.{read_of, plain}
 
 differ_swap : (a b z : Bool) → differ a (differ b z) ≡ differ b (differ a z)
@@ -33,44 +34,64 @@ pub has_none : (c : ℕ) → has [] c ≡ false
 unfolding has
 has_none c = refl
 
-module _ (haystack : List ℕ) (meaning : Meaning) (from p : ℕ) where
-  and_true : (b : Bool) → (b && not false) ≡ b
-  and_true true = refl
-  and_true false = refl
-
-  pub holds_text_start : holds (plain haystack meaning from) TextStart p ≡ (p == 0)
+module _ (haystack : List ℕ) (meaning : Meaning) (suppressed : Suppressed) (from p : ℕ) where
+  pub holds_text_start : holds (plain haystack meaning suppressed from) TextStart p ≡ ((p == 0) && not suppressed.start)
   unfolding holds
-  holds_text_start = and_true (p == 0)
+  holds_text_start = refl
 
-  pub holds_text_end : holds (plain haystack meaning from) TextEnd p ≡ (p == length haystack)
+  pub holds_text_end : holds (plain haystack meaning suppressed from) TextEnd p ≡ ((p == length haystack) && not suppressed.end)
   unfolding holds
-  holds_text_end = and_true (p == length haystack)
+  holds_text_end = refl
 
-  pub holds_line_start : holds (plain haystack meaning from) LineStart p ≡ ((p == 0) || is_line_feed (byte_before haystack p))
+  pub holds_line_start : holds (plain haystack meaning suppressed from) LineStart p ≡ ((p == 0) || is_line_feed (byte_before haystack p))
   unfolding holds
   holds_line_start = refl
 
-  pub holds_line_end : holds (plain haystack meaning from) LineEnd p ≡ ((p == length haystack) || is_line_feed (slice_get haystack p))
+  pub holds_line_end : holds (plain haystack meaning suppressed from) LineEnd p ≡ ((p == length haystack) || is_line_feed (slice_get haystack p))
   unfolding holds
   holds_line_end = refl
 
-  pub holds_line_start_crlf : holds (plain haystack meaning from) LineStartCrlf p
+  pub holds_line_start_crlf : holds (plain haystack meaning suppressed from) LineStartCrlf p
       ≡ ((p == 0) || (is_line_feed (byte_before haystack p) || (is_carriage_return (byte_before haystack p) && not (is_line_feed (slice_get haystack p)))))
   unfolding holds
   holds_line_start_crlf = refl
 
-  pub holds_line_end_crlf : holds (plain haystack meaning from) LineEndCrlf p
+  pub holds_line_end_crlf : holds (plain haystack meaning suppressed from) LineEndCrlf p
       ≡ ((p == length haystack) || (is_carriage_return (slice_get haystack p) || (is_line_feed (slice_get haystack p) && not (is_carriage_return (byte_before haystack p)))))
   unfolding holds
   holds_line_end_crlf = refl
 
-  pub holds_last_line : holds (plain haystack meaning from) LastLine p ≡ are_line_feeds (drop p haystack)
+  pub holds_last_line : holds (plain haystack meaning suppressed from) LastLine p ≡ are_line_feeds (drop p haystack)
   unfolding holds
   holds_last_line = refl
 
-  pub holds_last_line_crlf : holds (plain haystack meaning from) LastLineCrlf p ≡ are_line_ends (drop p haystack)
+  pub holds_last_line_crlf : holds (plain haystack meaning suppressed from) LastLineCrlf p ≡ are_line_ends (drop p haystack)
   unfolding holds
   holds_last_line_crlf = refl
+
+  pub holds_word_boundary : holds (plain haystack meaning suppressed from) WordBoundary p ≡ differ (word_before meaning haystack p) (word_behind meaning haystack p)
+  unfolding holds
+  holds_word_boundary = refl
+
+  pub holds_not_word_boundary : holds (plain haystack meaning suppressed from) NotWordBoundary p ≡ not (differ (word_before meaning haystack p) (word_behind meaning haystack p))
+  unfolding holds
+  holds_not_word_boundary = refl
+
+  pub holds_word_start : holds (plain haystack meaning suppressed from) WordStart p ≡ (not (word_before meaning haystack p) && word_behind meaning haystack p)
+  unfolding holds
+  holds_word_start = refl
+
+  pub holds_word_end : holds (plain haystack meaning suppressed from) WordEnd p ≡ (word_before meaning haystack p && not (word_behind meaning haystack p))
+  unfolding holds
+  holds_word_end = refl
+
+  pub holds_word_start_half : holds (plain haystack meaning suppressed from) WordStartHalf p ≡ not (word_before meaning haystack p)
+  unfolding holds
+  holds_word_start_half = refl
+
+  pub holds_word_end_half : holds (plain haystack meaning suppressed from) WordEndHalf p ≡ not (word_behind meaning haystack p)
+  unfolding holds
+  holds_word_end_half = refl
 
 pub byte_before-is : (haystack : List ℕ) (p : ℕ) → p ≢ 0 → byte_before haystack p ≡ slice_get haystack (p - 1)
 byte_before-is haystack zero h = absurd (h refl)
@@ -84,40 +105,48 @@ pub or_right : (a b : Bool) → a ≡ false → b ≡ (a || b)
 or_right true b e = cc
 or_right false b e = refl
 
+pub and_left : (a b : Bool) → a ≡ false → a ≡ (a && b)
+and_left true b e = cc
+and_left false b e = refl
+
+pub and_right : (a b : Bool) → a ≡ true → b ≡ (a && b)
+and_right true b e = refl
+and_right false b e = cc
+
 -- what an item reads, and whether the test passes
-module _ (haystack : List ℕ) (meaning : Meaning) (from : ℕ) (test : ℕ → Bool) (p : ℕ) (o : Option Reading) (e : option_map read_of o ≡ unit_in meaning haystack p) where
-  item_is : past_item (plain haystack meaning from) test p ≡ option_to (option_map read_of o) None (λ u. if test u.code then Some (p + u.width) else None)
+module _ (haystack : List ℕ) (meaning : Meaning) (suppressed : Suppressed) (from : ℕ) (test : ℕ → Bool) (p : ℕ) (o : Option Reading) (e : option_map read_of o ≡ unit_in meaning haystack p) where
+  item_is : past_item (plain haystack meaning suppressed from) test p ≡ option_to (option_map read_of o) None (λ u. if test u.code then Some (p + u.width) else None)
   unfolding past_item unit_at
   item_is = ap (λ (u : Option Unit_at). option_to u None (λ u. if test u.code then Some (p + u.width) else None)) (sym e)
 
-  pub no_item : o ≡ None → None ≡ past_item (plain haystack meaning from) test p
+  pub no_item : o ≡ None → None ≡ past_item (plain haystack meaning suppressed from) test p
   no_item none = sym (item_is ∙ ap (λ (r : Option Reading). option_to (option_map read_of r) None (λ u. if test u.code then Some (p + u.width) else None)) none)
 
-  pub an_item : (r : Reading) → o ≡ Some r → test r.code ≡ true → Some (p + r.width) ≡ past_item (plain haystack meaning from) test p
+  pub an_item : (r : Reading) → o ≡ Some r → test r.code ≡ true → Some (p + r.width) ≡ past_item (plain haystack meaning suppressed from) test p
   an_item r some passes =
       sym (item_is ∙ ap (λ (r : Option Reading). option_to (option_map read_of r) None (λ u. if test u.code then Some (p + u.width) else None)) some
       ∙ ap (λ (b : Bool). if b then Some (p + r.width) else None) passes)
 
-  pub other_item : (r : Reading) → o ≡ Some r → test r.code ≡ false → None ≡ past_item (plain haystack meaning from) test p
+  pub other_item : (r : Reading) → o ≡ Some r → test r.code ≡ false → None ≡ past_item (plain haystack meaning suppressed from) test p
   other_item r some fails =
       sym (item_is ∙ ap (λ (r : Option Reading). option_to (option_map read_of r) None (λ u. if test u.code then Some (p + u.width) else None)) some
       ∙ ap (λ (b : Bool). if b then Some (p + r.width) else None) fails)
 
 -- whether the byte stands there
-module _ (haystack : List ℕ) (meaning : Meaning) (from byte p : ℕ) where
-  byte_is : past_byte (plain haystack meaning from) byte p ≡ option_to (slice_get haystack p) None (λ b. if b == byte then Some (p + 1) else None)
+module _ (haystack : List ℕ) (meaning : Meaning) (suppressed : Suppressed) (from byte p : ℕ) where
+  byte_is : past_byte (plain haystack meaning suppressed from) byte p ≡ option_to (slice_get haystack p) None (λ b. if b == byte then Some (p + 1) else None)
   unfolding past_byte
   byte_is = refl
 
-  pub no_byte : slice_get haystack p ≡ None → None ≡ past_byte (plain haystack meaning from) byte p
+  pub no_byte : slice_get haystack p ≡ None → None ≡ past_byte (plain haystack meaning suppressed from) byte p
   no_byte none = sym (byte_is ∙ ap (λ (o : Option ℕ). option_to o None (λ b. if b == byte then Some (p + 1) else None)) none)
 
-  pub a_byte : (b : ℕ) → slice_get haystack p ≡ Some b → (b == byte) ≡ true → Some (p + 1) ≡ past_byte (plain haystack meaning from) byte p
+  pub a_byte : (b : ℕ) → slice_get haystack p ≡ Some b → (b == byte) ≡ true → Some (p + 1) ≡ past_byte (plain haystack meaning suppressed from) byte p
   a_byte b some same =
       sym (byte_is ∙ ap (λ (o : Option ℕ). option_to o None (λ b. if b == byte then Some (p + 1) else None)) some
       ∙ ap (λ (b : Bool). if b then Some (p + 1) else None) same)
 
-  pub other_byte : (b : ℕ) → slice_get haystack p ≡ Some b → (b == byte) ≡ false → None ≡ past_byte (plain haystack meaning from) byte p
+  pub other_byte : (b : ℕ) → slice_get haystack p ≡ Some b → (b == byte) ≡ false → None ≡ past_byte (plain haystack meaning suppressed from) byte p
   other_byte b some other =
       sym (byte_is ∙ ap (λ (o : Option ℕ). option_to o None (λ b. if b == byte then Some (p + 1) else None)) some
       ∙ ap (λ (b : Bool). if b then Some (p + 1) else None) other)
@@ -174,9 +203,9 @@ byte_test : (p c : ℕ) (o : Option ℕ)
 byte_test p c None = refl
 byte_test p c (Some b) = refl
 
-pub low_character : (haystack : List ℕ) (meaning : Meaning) (from c p : ℕ) → c < 128
-    → past_byte (plain haystack meaning from) c p ≡ past_item (plain haystack meaning from) (λ d. d == c) p
+pub low_character : (haystack : List ℕ) (meaning : Meaning) (suppressed : Suppressed) (from c p : ℕ) → c < 128
+    → past_byte (plain haystack meaning suppressed from) c p ≡ past_item (plain haystack meaning suppressed from) (λ d. d == c) p
 unfolding past_byte past_item unit_at
-low_character haystack Unicode from c p low = low_test haystack p c low (char_at haystack p) refl (slice_get haystack p) refl
-low_character haystack Bytes from c p low = byte_test p c (slice_get haystack p)
-low_character haystack AsciiText from c p low = low_test haystack p c low (char_at haystack p) refl (slice_get haystack p) refl
+low_character haystack Unicode suppressed from c p low = low_test haystack p c low (char_at haystack p) refl (slice_get haystack p) refl
+low_character haystack Bytes suppressed from c p low = byte_test p c (slice_get haystack p)
+low_character haystack AsciiText suppressed from c p low = low_test haystack p c low (char_at haystack p) refl (slice_get haystack p) refl

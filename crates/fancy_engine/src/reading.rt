@@ -3,11 +3,15 @@
 ghost use Rattle.std.specs.Prelude.{◌≡◌, drop, ◌+◌, ◌-◌, ◌<◌, ◌≤◌, ◌||◌, ◌&&◌, not, ℕ, List, Option, IfSome, length, option_map, slice_get};
 ghost use Rattle.std.specs.Str.{continuation_len};
 ghost use Rattle.fancy_syntax.specs.Sets.{has};
-ghost use Rattle.fancy_input.specs.Places.{char_at};
-ghost use Rattle.fancy_engine.specs.Context.{unit_in, is_line_feed, is_carriage_return, byte_before, are_line_feeds, are_line_ends, holds};
+ghost use Rattle.unicode.specs.Rows.{in_ranges};
+ghost use Rattle.fancy_syntax.specs.declared.named.Named.TheVariants.{Word};
+ghost use Rattle.fancy_syntax.specs.Named.{named, ascii_ranges};
+ghost use Rattle.fancy_input.specs.Places.{char_at, char_before, char_of_width_before};
+ghost use Rattle.fancy_engine.specs.Context.{unit_in, is_line_feed, is_carriage_return, byte_before, are_line_feeds, are_line_ends, is_word, word_before, word_behind, holds};
 ghost use Rattle.fancy_engine.specs.Readings.{read_of, plain};
 
 use fancy_syntax::tree::{Assertion, Meaning};
+use unicode::perl::is_word_code;
 
 /// How many bytes a character has whose UTF-8 starts with this byte.
 fn width_from(first: u8) -> usize
@@ -55,6 +59,15 @@ pub fn character_at(haystack: &[u8], place: usize) -> Option<char>
 pub struct Reading {
     pub code: u32,
     pub width: usize,
+}
+
+/// The ends of the text that do not count as such.
+#[derive(Clone, Copy, PartialEq, Eq, Debug)]
+pub struct Suppressed {
+    /// The text's start is none.
+    pub start: bool,
+    /// The text's end is none.
+    pub end: bool,
 }
 
 /// What one item reads at a place, if there is anything.
@@ -186,13 +199,105 @@ fn are_line_ends(bytes: &[u8]) -> bool
     }
 }
 
+/// The character of this many bytes that ends at a place.
+fn wide_before(haystack: &[u8], place: usize, width: usize) -> Option<char>
+    ensures { result ≡ char_of_width_before haystack.now width place }
+{
+    let start = place.checked_sub(width)?;
+    let c = character_at(haystack, start)?;
+    if c.len_utf8() == width { Some(c) } else { None }
+}
+
+/// The character whose UTF-8 ends at a place, a byte offset.
+///
+/// ```
+/// assert_eq!(character_before("aé".as_bytes(), 3), Some('é'));
+/// assert_eq!(character_before("aé".as_bytes(), 2), None);
+/// ```
+pub fn character_before(haystack: &[u8], place: usize) -> Option<char>
+    ensures { result ≡ char_before haystack.now place }
+{
+    for width in 1..5 {
+        let found = wide_before(haystack, place, width);
+        if found.is_some() {
+            return found;
+        }
+    }
+    None
+}
+
+/// Whether this is an ASCII letter, a digit or `_`.
+fn is_ascii_word(c: char) -> bool
+    ensures { result ≡ in_ranges (ascii_ranges Word) c }
+{
+    c.is_ascii_alphanumeric() || c == '_'
+}
+
+/// Whether `\w` has this character in Unicode meaning. The table is read past ASCII alone.
+fn is_unicode_word(c: char) -> bool
+    ensures { result ≡ named Meaning.Unicode Word c }
+{
+    is_word_code(c as u32)
+}
+
+/// Whether this is a word character; where there is no character, there is none.
+fn is_word_character(meaning: Meaning, c: Option<char>) -> bool
+    ensures { result ≡ is_word meaning c }
+{
+    match (meaning, c) {
+        (_, None) => false,
+        (Meaning::Unicode, Some(c)) => is_unicode_word(c),
+        (Meaning::Bytes | Meaning::AsciiText, Some(c)) => is_ascii_word(c),
+    }
+}
+
+/// Whether this byte is an ASCII word character; where there is no byte, there is none.
+fn is_word_byte(byte: Option<u8>) -> bool
+    ensures { result ≡ is_word Meaning.Bytes byte }
+{
+    match byte {
+        None => false,
+        Some(byte) => is_ascii_word(byte as char),
+    }
+}
+
+/// Whether a word character, in byte meaning such a byte, ends at a place.
+fn is_word_before(haystack: &[u8], meaning: Meaning, place: usize) -> bool
+    ensures { result ≡ word_before meaning haystack.now place }
+{
+    match meaning {
+        Meaning::Bytes => is_word_byte(byte_before(haystack, place)),
+        Meaning::Unicode | Meaning::AsciiText => {
+            is_word_character(meaning, character_before(haystack, place))
+        }
+    }
+}
+
+/// Whether a word character, in byte meaning such a byte, starts at a place.
+fn is_word_behind(haystack: &[u8], meaning: Meaning, place: usize) -> bool
+    ensures { result ≡ word_behind meaning haystack.now place }
+{
+    match meaning {
+        Meaning::Bytes => is_word_byte(byte_at(haystack, place)),
+        Meaning::Unicode | Meaning::AsciiText => {
+            is_word_character(meaning, character_at(haystack, place))
+        }
+    }
+}
+
 /// Whether an assertion holds at a place, a byte offset. It reads the whole haystack.
-pub fn holds_at(haystack: &[u8], assertion: Assertion, place: usize) -> bool
-    ensures { (meaning : Meaning) (from : ℕ) → result ≡ holds (plain haystack.now meaning from) assertion place }
+pub fn holds_at(
+    haystack: &[u8],
+    meaning: Meaning,
+    suppressed: Suppressed,
+    assertion: Assertion,
+    place: usize,
+) -> bool
+    ensures { (from : ℕ) → result ≡ holds (plain haystack.now meaning suppressed from) assertion place }
 {
     match assertion {
-        Assertion::TextStart => place == 0,
-        Assertion::TextEnd => place == haystack.len(),
+        Assertion::TextStart => place == 0 && !suppressed.start,
+        Assertion::TextEnd => place == haystack.len() && !suppressed.end,
         Assertion::LineStart => place == 0 || is_line_feed(byte_before(haystack, place)),
         Assertion::LineEnd => place == haystack.len() || is_line_feed(byte_at(haystack, place)),
         Assertion::LineStartCrlf => {
@@ -204,5 +309,19 @@ pub fn holds_at(haystack: &[u8], assertion: Assertion, place: usize) -> bool
         }
         Assertion::LastLine => are_line_feeds(bytes_from(haystack, place)),
         Assertion::LastLineCrlf => are_line_ends(bytes_from(haystack, place)),
+        Assertion::WordBoundary => {
+            is_word_before(haystack, meaning, place) != is_word_behind(haystack, meaning, place)
+        }
+        Assertion::NotWordBoundary => {
+            is_word_before(haystack, meaning, place) == is_word_behind(haystack, meaning, place)
+        }
+        Assertion::WordStart => {
+            !is_word_before(haystack, meaning, place) && is_word_behind(haystack, meaning, place)
+        }
+        Assertion::WordEnd => {
+            is_word_before(haystack, meaning, place) && !is_word_behind(haystack, meaning, place)
+        }
+        Assertion::WordStartHalf => !is_word_before(haystack, meaning, place),
+        Assertion::WordEndHalf => !is_word_behind(haystack, meaning, place),
     }
 }

@@ -11,7 +11,7 @@ ghost use Rattle.fancy_engine.specs.Runner.{good_end, ends_well, first_accepted,
 ghost use Rattle.fancy_engine.specs.Marked.{marked};
 
 use crate::code::{Code, Instr};
-use crate::reading::{has_code, holds_at, read_at};
+use crate::reading::{Suppressed, has_code, holds_at, read_at};
 use crate::refusal::Refusal;
 use crate::slot::{Extent, Slot};
 use crate::table::Table;
@@ -40,6 +40,8 @@ pub struct Bounds {
     pub last: usize,
     /// Matches begin and end on character boundaries alone.
     pub on_boundaries: bool,
+    /// The ends of the text that do not count as such.
+    pub suppressed: Suppressed,
 }
 
 /// Whether a match may begin or end at a place.
@@ -54,7 +56,7 @@ pub fn is_good_end(bounds: Bounds, haystack: &[u8], place: usize) -> bool
 
 /// The place behind the character at `place`, if it is this one.
 fn past_character(haystack: &[u8], meaning: Meaning, character: char, place: usize) -> Option<usize>
-    ensures past { (from : ℕ) → result ≡ past_item (plain haystack.now meaning from) (λ d. d == character) place }
+    ensures past { (suppressed : Suppressed) (from : ℕ) → result ≡ past_item (plain haystack.now meaning suppressed from) (λ d. d == character) place }
     ensures forth { IfSome result (λ p. place ≤ p) }
 {
     let code = character as u32;
@@ -71,7 +73,7 @@ fn past_character(haystack: &[u8], meaning: Meaning, character: char, place: usi
 
 /// The place behind the item at `place`, if the set has it.
 fn past_member(haystack: &[u8], meaning: Meaning, edges: &[u32], place: usize) -> Option<usize>
-    ensures past { (from : ℕ) → result ≡ past_item (plain haystack.now meaning from) (has edges.now) place }
+    ensures past { (suppressed : Suppressed) (from : ℕ) → result ≡ past_item (plain haystack.now meaning suppressed from) (has edges.now) place }
     ensures forth { IfSome result (λ p. place ≤ p) }
 {
     let reading = read_at(haystack, meaning, place)?;
@@ -84,7 +86,7 @@ fn past_member(haystack: &[u8], meaning: Meaning, edges: &[u32], place: usize) -
 
 /// The place behind the byte at `place`, if it is this one.
 fn past_raw_byte(haystack: &[u8], byte: u8, place: usize) -> Option<usize>
-    ensures past { (meaning : Meaning) (from : ℕ) → result ≡ past_byte (plain haystack.now meaning from) byte place }
+    ensures past { (meaning : Meaning) (suppressed : Suppressed) (from : ℕ) → result ≡ past_byte (plain haystack.now meaning suppressed from) byte place }
     ensures forth { IfSome result (λ p. place ≤ p) }
 {
     let found = *haystack.get(place)?;
@@ -164,6 +166,7 @@ fn step(
     code: &Code,
     haystack: &[u8],
     limit: usize,
+    suppressed: Suppressed,
     ways: &mut Ways,
     work: &mut Work,
 ) -> Result<Next, Refusal>
@@ -171,8 +174,8 @@ fn step(
     requires here { ways.old.current.at < code_len code.now }
     requires room { steps_of work.old < usize.MAX }
     ensures stepped { IfOk result (λ next. (from kept deep : ℕ)
-        → Known (plain haystack.now code.now.meaning from) limit (instrs_of code.now) deep kept ways.old.current
-        → Stepped (plain haystack.now code.now.meaning from) limit (instrs_of code.now) deep kept next
+        → Known (plain haystack.now code.now.meaning suppressed from) limit (instrs_of code.now) deep kept ways.old.current
+        → Stepped (plain haystack.now code.now.meaning suppressed from) limit (instrs_of code.now) deep kept next
         ways.old.current ways.old.saved ways.new.current ways.new.saved) }
     ensures refused { result ≢ Err Refusal.Returns }
     ensures full { result ≡ Err Refusal.Choices → length ways.old.saved ≡ ways.old.most }
@@ -199,7 +202,7 @@ fn step(
             Ok(advance(ways, *next, past, limit))
         }
         Instr::Assert(assertion, next) => {
-            if holds_at(haystack, *assertion, place) {
+            if holds_at(haystack, code.meaning, suppressed, *assertion, place) {
                 ways.go(*next);
                 Ok(Next::On)
             } else {
@@ -242,9 +245,9 @@ fn visit(
     requires few { length ways.old.saved ≤ steps_of work.old }
     requires free { ways.old.most ≡ usize.MAX }
     ensures visited { IfOk result (λ next. (kept deep : ℕ) (goal : Option State)
-        → Running (good_end bounds haystack.now) (plain haystack.now code.now.meaning bounds.first) bounds.first bounds.last
+        → Running (good_end bounds haystack.now) (plain haystack.now code.now.meaning bounds.suppressed bounds.first) bounds.first bounds.last
         (instrs_of code.now) deep kept goal table.old ways.old.current ways.old.saved
-        → Visited (good_end bounds haystack.now) (plain haystack.now code.now.meaning bounds.first) bounds.first bounds.last
+        → Visited (good_end bounds haystack.now) (plain haystack.now code.now.meaning bounds.suppressed bounds.first) bounds.first bounds.last
         (instrs_of code.now) deep kept next goal table.new ways.new.current ways.new.saved) }
     ensures progress { IfOk result (λ next. Progresses next (marked table.old) (marked table.new)
         (length ways.old.saved) (length ways.new.saved)) }
@@ -267,7 +270,7 @@ fn visit(
     if !table.mark(pair) {
         return Ok(Next::Dead);
     }
-    match step(code, haystack, bounds.last, ways, work) {
+    match step(code, haystack, bounds.last, bounds.suppressed, ways, work) {
         Ok(Next::On) => Ok(Next::On),
         Ok(Next::Dead) => Ok(Next::Dead),
         Ok(Next::Found) => {
@@ -301,18 +304,18 @@ pub fn follow(
     requires returns { returns_of work.old ≤ steps_of work.old }
     requires free { ways.old.most ≡ usize.MAX }
     ensures answer { IfOk result (λ found. (kept deep : ℕ)
-        → Known (plain haystack.now code.now.meaning bounds.first) bounds.last (instrs_of code.now) deep kept ways.old.current
-        → AllFailed (good_end bounds haystack.now) (plain haystack.now code.now.meaning bounds.first) bounds.first bounds.last
+        → Known (plain haystack.now code.now.meaning bounds.suppressed bounds.first) bounds.last (instrs_of code.now) deep kept ways.old.current
+        → AllFailed (good_end bounds haystack.now) (plain haystack.now code.now.meaning bounds.suppressed bounds.first) bounds.first bounds.last
         (instrs_of code.now) deep table.old
         → found_state kept found ways.new.current
         ≡ first_accepted (ends_well (good_end bounds haystack.now))
-        (events_of (way (plain haystack.now code.now.meaning bounds.first) bounds.last (instrs_of code.now) deep kept ways.old.current))) }
+        (events_of (way (plain haystack.now code.now.meaning bounds.suppressed bounds.first) bounds.last (instrs_of code.now) deep kept ways.old.current))) }
     ensures failed { IfOk result (λ found. (kept deep : ℕ)
-        → Known (plain haystack.now code.now.meaning bounds.first) bounds.last (instrs_of code.now) deep kept ways.old.current
-        → AllFailed (good_end bounds haystack.now) (plain haystack.now code.now.meaning bounds.first) bounds.first bounds.last
+        → Known (plain haystack.now code.now.meaning bounds.suppressed bounds.first) bounds.last (instrs_of code.now) deep kept ways.old.current
+        → AllFailed (good_end bounds haystack.now) (plain haystack.now code.now.meaning bounds.suppressed bounds.first) bounds.first bounds.last
         (instrs_of code.now) deep table.old
         → found ≡ false
-        → AllFailed (good_end bounds haystack.now) (plain haystack.now code.now.meaning bounds.first) bounds.first bounds.last
+        → AllFailed (good_end bounds haystack.now) (plain haystack.now code.now.meaning bounds.suppressed bounds.first) bounds.first bounds.last
         (instrs_of code.now) deep table.new) }
     ensures room { length table.new ≡ length table.old }
     ensures ticks { IfOk result (λ _. steps_of work.new ≤ marked table.new) }

@@ -8,11 +8,13 @@ ghost use Rattle.fancy_engine.specs.Means.{IsCodeOf};
 ghost use Rattle.fancy_engine.specs.Search.{search};
 ghost use Rattle.fancy_engine.specs.Threads.{span_of, ends_of};
 ghost use Rattle.fancy_engine.specs.Queries.{query_of, way_in, answer_of};
+ghost use Rattle.fancy_engine.specs.Readings.{suppressed_in};
 ghost use Rattle.fancy_engine.specs.Work.{steps_of, returns_of};
 
 use crate::code::Code;
 #[cfg(test)]
 use crate::compile::compile;
+use crate::reading::Suppressed;
 use crate::refusal::Refusal;
 use crate::runner::{Bounds, follow, is_good_end};
 use crate::slot::Extent;
@@ -25,6 +27,15 @@ use fancy_syntax::tree::{Meaning, Tree};
 #[cfg(test)]
 use std::alloc::AllocError;
 use std::alloc::Global;
+
+/// The options that hold while a haystack is searched.
+#[derive(Clone, Copy, PartialEq, Eq, Debug)]
+pub struct Switches {
+    /// Matches begin and end on character boundaries alone.
+    pub on_boundaries: bool,
+    /// A request may say that the text's start, or its end, does not count as one.
+    pub overrides: bool,
+}
 
 /// The memory of searches, reused from one to the next.
 #[derive(Drop)]
@@ -76,6 +87,16 @@ fn begin_table(table: &mut Table, count: usize, bounds: Bounds) -> Result<(), Re
     }
 }
 
+/// The ends of the text that the request suppresses, where it may.
+fn suppressed_in(overrides: bool, request: Request) -> Suppressed
+    ensures { result ≡ suppressed_in overrides request }
+{
+    Suppressed {
+        start: overrides && !request.start_text,
+        end: overrides && !request.end_text,
+    }
+}
+
 /// The last position that is tried, where the first one is within the range.
 fn last_position(request: Request, first: usize) -> usize
     requires first { first ≡ effective_start request }
@@ -101,13 +122,13 @@ pub fn search(
     code: &Code,
     haystack: &[u8],
     request: Request,
-    on_boundaries: bool,
+    switches: Switches,
     memory: &mut Memory,
     work: &mut Work,
 ) -> Result<Option<usize>, Refusal>
     requires inside { request.range_end ≤ length haystack.now }
     ensures answer { IfOk result (λ m. (p : Pattern) → IsCodeOf p code.now
-        → answer_of m memory.new ≡ search (query_of p code.now on_boundaries haystack.now request)) }
+        → answer_of m memory.new ≡ search (query_of p code.now switches haystack.now request)) }
     ensures steps { IfOk result (λ _. steps_of work.new ≤ code_len code.now * (request.range_end + 1 - effective_start request)) }
     ensures returns { IfOk result (λ _. returns_of work.new ≤ steps_of work.new) }
     ensures refused { IfErr result (λ e. e ≡ Refusal.Memory) }
@@ -120,7 +141,8 @@ pub fn search(
     let bounds = Bounds {
         first,
         last: request.range_end,
-        on_boundaries,
+        on_boundaries: switches.on_boundaries,
+        suppressed: suppressed_in(switches.overrides, request),
     };
     let ways = &mut memory.ways;
     let table = &mut memory.table;
@@ -165,14 +187,18 @@ fn a_search_goes_back_to_a_branch(rt: HostRuntime) -> Result<(), AllocError> {
         end_text: true,
         continues: true,
     };
-    let found = search(&code, b"xabc", request, true, &mut memory, &mut work);
+    let switches = Switches {
+        on_boundaries: true,
+        overrides: false,
+    };
+    let found = search(&code, b"xabc", request, switches, &mut memory, &mut work);
     assert!(rt; found == Ok(Some(1)));
     assert_eq!(rt; memory.end(), 4);
     assert!(rt; memory.group(1) == Some(Extent { start: 1, end: 3 }));
     assert!(rt; memory.group(2) == None);
     assert_eq!(rt; work.returns(), 1);
     request.range_end = 3;
-    let found = search(&code, b"xabc", request, true, &mut memory, &mut work);
+    let found = search(&code, b"xabc", request, switches, &mut memory, &mut work);
     assert!(rt; found == Ok(None));
     Ok(())
 }

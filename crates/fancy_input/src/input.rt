@@ -20,9 +20,9 @@ pub struct Request {
     pub range_end: usize,
     /// One position alone is tried.
     pub anchored: bool,
-    /// Whether the start of the text may be found; `false` suppresses `^` and `\A`.
+    /// Whether the start of the text may be found; `false` suppresses `^` and `\A` where the regex allows it.
     pub start_text: bool,
-    /// Whether the end of the text may be found; `false` suppresses `$` and `\z`.
+    /// Whether the end of the text may be found; `false` suppresses `$` and `\z` where the regex allows it.
     pub end_text: bool,
     /// Whether the end of the match before may be found; `false` suppresses `\G`.
     pub continues: bool,

@@ -90,8 +90,8 @@ impl<S: Input> RegexInput<S> {
         self
     }
 
-    /// With `false` nothing is the start of the text: `^` and `\A` do not hold there. `true`, which holds at
-    /// first, takes that back.
+    /// With `false` nothing is the start of the text: `^` and `\A` do not hold there, in a search by a regex that
+    /// was built with `allow_input_assertion_overrides`. `true`, which holds at first, takes that back.
     pub fn start_text(mut self, yes: bool) -> RegexInput<S>
         ensures haystack { haystack_in result ≡ haystack_in self }
         ensures request { request_in result ≡ record (request_in self) { start_text = yes } }
@@ -100,8 +100,8 @@ impl<S: Input> RegexInput<S> {
         self
     }
 
-    /// With `false` nothing is the end of the text: `$` and `\z` do not hold there. `true`, which holds at
-    /// first, takes that back.
+    /// With `false` nothing is the end of the text: `$` and `\z` do not hold there, in a search by a regex that
+    /// was built with `allow_input_assertion_overrides`. `true`, which holds at first, takes that back.
     pub fn end_text(mut self, yes: bool) -> RegexInput<S>
         ensures haystack { haystack_in result ≡ haystack_in self }
         ensures request { request_in result ≡ record (request_in self) { end_text = yes } }

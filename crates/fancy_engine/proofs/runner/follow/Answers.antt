@@ -16,7 +16,7 @@ pairs-smaller-in-On c =
 pub pairs-preserved-in-On : goal.pairs-preserved-in-On
 pairs-preserved-in-On c =
     record {
-      running = λ kept deep known failed. rw c.in-On.is at (c.in_ok-visit.ensures.visited kept deep (first_accepted (ends_well (good_end c.args.bounds c.args.haystack.now)) (events_of (way (plain c.args.haystack.now c.args.code.now.meaning c.args.bounds.first) c.args.bounds.last (instrs_of c.args.code.now) deep kept c.args.ways.now.current))) (c.pairs.invariant.running kept deep known failed));
+      running = λ kept deep known failed. rw c.in-On.is at (c.in_ok-visit.ensures.visited kept deep (first_accepted (ends_well (good_end c.args.bounds c.args.haystack.now)) (events_of (way (plain c.args.haystack.now c.args.code.now.meaning c.args.bounds.suppressed c.args.bounds.first) c.args.bounds.last (instrs_of c.args.code.now) deep kept c.args.ways.now.current))) (c.pairs.invariant.running kept deep known failed));
       within = c.in_ok-visit.ensures.within;
       room = c.visit.ensures.room ∙ c.pairs.invariant.room;
       ticks = c.visit.ensures.ticks;
@@ -34,17 +34,17 @@ returns-in_err-back-in-Dead-clause-refused c e =
 
 pub returns-then-not-branch-clause-answer : goal.returns-then-not-branch-clause-answer
 returns-then-not-branch-clause-answer c kept deep known failed =
-    let rest = rw c.in-Dead.is at (c.in_ok-visit.ensures.visited kept deep (first_accepted (ends_well (good_end c.args.bounds c.args.haystack.now)) (events_of (way (plain c.args.haystack.now c.args.code.now.meaning c.args.bounds.first) c.args.bounds.last (instrs_of c.args.code.now) deep kept c.args.ways.now.current))) (c.pairs.invariant.running kept deep known failed)) in
+    let rest = rw c.in-Dead.is at (c.in_ok-visit.ensures.visited kept deep (first_accepted (ends_well (good_end c.args.bounds c.args.haystack.now)) (events_of (way (plain c.args.haystack.now c.args.code.now.meaning c.args.bounds.suppressed c.args.bounds.first) c.args.bounds.last (instrs_of c.args.code.now) deep kept c.args.ways.now.current))) (c.pairs.invariant.running kept deep known failed)) in
     let b = rw c.if-not-branch.true at c.in_ok-back-in-Dead.ensures in
-    (rest_done (good_end c.args.bounds c.args.haystack.now) (plain c.args.haystack.now c.args.code.now.meaning c.args.bounds.first) c.args.bounds.first c.args.bounds.last (instrs_of c.args.code.now) deep kept (first_accepted (ends_well (good_end c.args.bounds c.args.haystack.now)) (events_of (way (plain c.args.haystack.now c.args.code.now.meaning c.args.bounds.first) c.args.bounds.last (instrs_of c.args.code.now) deep kept c.args.ways.now.current))) c.visit.new.table
-    (subst (λ (x : List Thread). Resting (good_end c.args.bounds c.args.haystack.now) (plain c.args.haystack.now c.args.code.now.meaning c.args.bounds.first) c.args.bounds.first c.args.bounds.last (instrs_of c.args.code.now) deep kept (first_accepted (ends_well (good_end c.args.bounds c.args.haystack.now)) (events_of (way (plain c.args.haystack.now c.args.code.now.meaning c.args.bounds.first) c.args.bounds.last (instrs_of c.args.code.now) deep kept c.args.ways.now.current))) c.visit.new.table x) b.0 rest)).0
+    (rest_done (good_end c.args.bounds c.args.haystack.now) (plain c.args.haystack.now c.args.code.now.meaning c.args.bounds.suppressed c.args.bounds.first) c.args.bounds.first c.args.bounds.last (instrs_of c.args.code.now) deep kept (first_accepted (ends_well (good_end c.args.bounds c.args.haystack.now)) (events_of (way (plain c.args.haystack.now c.args.code.now.meaning c.args.bounds.suppressed c.args.bounds.first) c.args.bounds.last (instrs_of c.args.code.now) deep kept c.args.ways.now.current))) c.visit.new.table
+    (subst (λ (x : List Thread). Resting (good_end c.args.bounds c.args.haystack.now) (plain c.args.haystack.now c.args.code.now.meaning c.args.bounds.suppressed c.args.bounds.first) c.args.bounds.first c.args.bounds.last (instrs_of c.args.code.now) deep kept (first_accepted (ends_well (good_end c.args.bounds c.args.haystack.now)) (events_of (way (plain c.args.haystack.now c.args.code.now.meaning c.args.bounds.suppressed c.args.bounds.first) c.args.bounds.last (instrs_of c.args.code.now) deep kept c.args.ways.now.current))) c.visit.new.table x) b.0 rest)).0
 
 pub returns-then-not-branch-clause-failed : goal.returns-then-not-branch-clause-failed
 returns-then-not-branch-clause-failed c kept deep known failed _ =
-    let rest = rw c.in-Dead.is at (c.in_ok-visit.ensures.visited kept deep (first_accepted (ends_well (good_end c.args.bounds c.args.haystack.now)) (events_of (way (plain c.args.haystack.now c.args.code.now.meaning c.args.bounds.first) c.args.bounds.last (instrs_of c.args.code.now) deep kept c.args.ways.now.current))) (c.pairs.invariant.running kept deep known failed)) in
+    let rest = rw c.in-Dead.is at (c.in_ok-visit.ensures.visited kept deep (first_accepted (ends_well (good_end c.args.bounds c.args.haystack.now)) (events_of (way (plain c.args.haystack.now c.args.code.now.meaning c.args.bounds.suppressed c.args.bounds.first) c.args.bounds.last (instrs_of c.args.code.now) deep kept c.args.ways.now.current))) (c.pairs.invariant.running kept deep known failed)) in
     let b = rw c.if-not-branch.true at c.in_ok-back-in-Dead.ensures in
-    (rest_done (good_end c.args.bounds c.args.haystack.now) (plain c.args.haystack.now c.args.code.now.meaning c.args.bounds.first) c.args.bounds.first c.args.bounds.last (instrs_of c.args.code.now) deep kept (first_accepted (ends_well (good_end c.args.bounds c.args.haystack.now)) (events_of (way (plain c.args.haystack.now c.args.code.now.meaning c.args.bounds.first) c.args.bounds.last (instrs_of c.args.code.now) deep kept c.args.ways.now.current))) c.visit.new.table
-    (subst (λ (x : List Thread). Resting (good_end c.args.bounds c.args.haystack.now) (plain c.args.haystack.now c.args.code.now.meaning c.args.bounds.first) c.args.bounds.first c.args.bounds.last (instrs_of c.args.code.now) deep kept (first_accepted (ends_well (good_end c.args.bounds c.args.haystack.now)) (events_of (way (plain c.args.haystack.now c.args.code.now.meaning c.args.bounds.first) c.args.bounds.last (instrs_of c.args.code.now) deep kept c.args.ways.now.current))) c.visit.new.table x) b.0 rest)).1
+    (rest_done (good_end c.args.bounds c.args.haystack.now) (plain c.args.haystack.now c.args.code.now.meaning c.args.bounds.suppressed c.args.bounds.first) c.args.bounds.first c.args.bounds.last (instrs_of c.args.code.now) deep kept (first_accepted (ends_well (good_end c.args.bounds c.args.haystack.now)) (events_of (way (plain c.args.haystack.now c.args.code.now.meaning c.args.bounds.suppressed c.args.bounds.first) c.args.bounds.last (instrs_of c.args.code.now) deep kept c.args.ways.now.current))) c.visit.new.table
+    (subst (λ (x : List Thread). Resting (good_end c.args.bounds c.args.haystack.now) (plain c.args.haystack.now c.args.code.now.meaning c.args.bounds.suppressed c.args.bounds.first) c.args.bounds.first c.args.bounds.last (instrs_of c.args.code.now) deep kept (first_accepted (ends_well (good_end c.args.bounds c.args.haystack.now)) (events_of (way (plain c.args.haystack.now c.args.code.now.meaning c.args.bounds.suppressed c.args.bounds.first) c.args.bounds.last (instrs_of c.args.code.now) deep kept c.args.ways.now.current))) c.visit.new.table x) b.0 rest)).1
 
 pub pairs-preserved : goal.pairs-preserved
 pairs-preserved c =
@@ -54,9 +54,9 @@ pairs-preserved c =
     subst (λ (x : List Thread). AllWithin c.args.bounds x) b.0 c.in_ok-visit.ensures.within.2 in
     record {
       running = λ kept deep known failed.
-          (let rest = rw c.in-Dead.is at (c.in_ok-visit.ensures.visited kept deep (first_accepted (ends_well (good_end c.args.bounds c.args.haystack.now)) (events_of (way (plain c.args.haystack.now c.args.code.now.meaning c.args.bounds.first) c.args.bounds.last (instrs_of c.args.code.now) deep kept c.args.ways.now.current))) (c.pairs.invariant.running kept deep known failed)) in
-          rest_back (good_end c.args.bounds c.args.haystack.now) (plain c.args.haystack.now c.args.code.now.meaning c.args.bounds.first) c.args.bounds.first c.args.bounds.last (instrs_of c.args.code.now) deep kept (first_accepted (ends_well (good_end c.args.bounds c.args.haystack.now)) (events_of (way (plain c.args.haystack.now c.args.code.now.meaning c.args.bounds.first) c.args.bounds.last (instrs_of c.args.code.now) deep kept c.args.ways.now.current))) c.visit.new.table c.back.new.self.current c.back.new.self.saved
-          (subst (λ (x : List Thread). Resting (good_end c.args.bounds c.args.haystack.now) (plain c.args.haystack.now c.args.code.now.meaning c.args.bounds.first) c.args.bounds.first c.args.bounds.last (instrs_of c.args.code.now) deep kept (first_accepted (ends_well (good_end c.args.bounds c.args.haystack.now)) (events_of (way (plain c.args.haystack.now c.args.code.now.meaning c.args.bounds.first) c.args.bounds.last (instrs_of c.args.code.now) deep kept c.args.ways.now.current))) c.visit.new.table x) b.0 rest));
+          (let rest = rw c.in-Dead.is at (c.in_ok-visit.ensures.visited kept deep (first_accepted (ends_well (good_end c.args.bounds c.args.haystack.now)) (events_of (way (plain c.args.haystack.now c.args.code.now.meaning c.args.bounds.suppressed c.args.bounds.first) c.args.bounds.last (instrs_of c.args.code.now) deep kept c.args.ways.now.current))) (c.pairs.invariant.running kept deep known failed)) in
+          rest_back (good_end c.args.bounds c.args.haystack.now) (plain c.args.haystack.now c.args.code.now.meaning c.args.bounds.suppressed c.args.bounds.first) c.args.bounds.first c.args.bounds.last (instrs_of c.args.code.now) deep kept (first_accepted (ends_well (good_end c.args.bounds c.args.haystack.now)) (events_of (way (plain c.args.haystack.now c.args.code.now.meaning c.args.bounds.suppressed c.args.bounds.first) c.args.bounds.last (instrs_of c.args.code.now) deep kept c.args.ways.now.current))) c.visit.new.table c.back.new.self.current c.back.new.self.saved
+          (subst (λ (x : List Thread). Resting (good_end c.args.bounds c.args.haystack.now) (plain c.args.haystack.now c.args.code.now.meaning c.args.bounds.suppressed c.args.bounds.first) c.args.bounds.first c.args.bounds.last (instrs_of c.args.code.now) deep kept (first_accepted (ends_well (good_end c.args.bounds c.args.haystack.now)) (events_of (way (plain c.args.haystack.now c.args.code.now.meaning c.args.bounds.suppressed c.args.bounds.first) c.args.bounds.last (instrs_of c.args.code.now) deep kept c.args.ways.now.current))) c.visit.new.table x) b.0 rest));
       within = within;
       room = c.visit.ensures.room ∙ c.pairs.invariant.room;
       ticks = rw b.2 c.visit.ensures.ticks;
@@ -65,4 +65,4 @@ pairs-preserved c =
     }
 
 pub returns-in-Found-clause-answer : goal.returns-in-Found-clause-answer
-returns-in-Found-clause-answer c kept deep known failed = rw c.in-Found.is at (c.in_ok-visit.ensures.visited kept deep (first_accepted (ends_well (good_end c.args.bounds c.args.haystack.now)) (events_of (way (plain c.args.haystack.now c.args.code.now.meaning c.args.bounds.first) c.args.bounds.last (instrs_of c.args.code.now) deep kept c.args.ways.now.current))) (c.pairs.invariant.running kept deep known failed))
+returns-in-Found-clause-answer c kept deep known failed = rw c.in-Found.is at (c.in_ok-visit.ensures.visited kept deep (first_accepted (ends_well (good_end c.args.bounds c.args.haystack.now)) (events_of (way (plain c.args.haystack.now c.args.code.now.meaning c.args.bounds.suppressed c.args.bounds.first) c.args.bounds.last (instrs_of c.args.code.now) deep kept c.args.ways.now.current))) (c.pairs.invariant.running kept deep known failed))

@@ -8,10 +8,10 @@ use Rattle.fancy_engine.proofs.runner.follow.Given as goal
 
 abbrev pub invariant-pairs : goal.invariant-pairs
 invariant-pairs l = record {
-  running : (kept deep : ℕ) → Known (plain l.haystack l.code.meaning l.bounds.first) l.bounds.last (instrs_of l.code) deep kept l.fn.ways.current
-      → AllFailed (good_end l.bounds l.haystack) (plain l.haystack l.code.meaning l.bounds.first) l.bounds.first l.bounds.last (instrs_of l.code) deep l.fn.table
-      → Running (good_end l.bounds l.haystack) (plain l.haystack l.code.meaning l.bounds.first) l.bounds.first l.bounds.last (instrs_of l.code) deep kept
-      (first_accepted (ends_well (good_end l.bounds l.haystack)) (events_of (way (plain l.haystack l.code.meaning l.bounds.first) l.bounds.last (instrs_of l.code) deep kept l.fn.ways.current)))
+  running : (kept deep : ℕ) → Known (plain l.haystack l.code.meaning l.bounds.suppressed l.bounds.first) l.bounds.last (instrs_of l.code) deep kept l.fn.ways.current
+      → AllFailed (good_end l.bounds l.haystack) (plain l.haystack l.code.meaning l.bounds.suppressed l.bounds.first) l.bounds.first l.bounds.last (instrs_of l.code) deep l.fn.table
+      → Running (good_end l.bounds l.haystack) (plain l.haystack l.code.meaning l.bounds.suppressed l.bounds.first) l.bounds.first l.bounds.last (instrs_of l.code) deep kept
+      (first_accepted (ends_well (good_end l.bounds l.haystack)) (events_of (way (plain l.haystack l.code.meaning l.bounds.suppressed l.bounds.first) l.bounds.last (instrs_of l.code) deep kept l.fn.ways.current)))
       l.table l.ways.current l.ways.saved;
   within : AllWithin l.bounds (l.ways.current ∷ l.ways.saved);
   room : length l.table ≡ length l.fn.table;

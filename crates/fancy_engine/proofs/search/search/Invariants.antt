@@ -12,10 +12,10 @@ use Rattle.fancy_engine.proofs.search.search.Given as goal
 
 abbrev pub invariant-loop-place : goal.invariant-loop-place
 invariant-loop-place l = record {
-  left : (p : Pattern) → IsCodeOf p l.code → search (query_of p l.code l.on_boundaries l.haystack l.fn.request)
-      ≡ answer_from (query_of p l.code l.on_boundaries l.haystack l.fn.request) (l.last + 1 - l.place) l.place;
+  left : (p : Pattern) → IsCodeOf p l.code → search (query_of p l.code l.fn.switches l.haystack l.fn.request)
+      ≡ answer_from (query_of p l.code l.fn.switches l.haystack l.fn.request) (l.last + 1 - l.place) l.place;
   failed : (p : Pattern) → IsCodeOf p l.code
-      → AllFailed (good_end l.bounds l.haystack) (plain l.haystack l.code.meaning l.bounds.first) l.bounds.first l.bounds.last (instrs_of l.code) (depth (length l.haystack) p + 1) l.table;
+      → AllFailed (good_end l.bounds l.haystack) (plain l.haystack l.code.meaning l.bounds.suppressed l.bounds.first) l.bounds.first l.bounds.last (instrs_of l.code) (depth (length l.haystack) p + 1) l.table;
   room : length l.table ≡ (l.bounds.last - l.bounds.first + 1) * code_len l.code;
   small : length l.table < 2 ^ 64;
   ticks : steps_of l.work ≤ marked l.table;
