@@ -18,10 +18,11 @@ use Rattle.fancy_core.specs.Regexes.{options_in, asked}
 use Rattle.fancy_core.specs.Searching.{Suits}
 use Rattle.fancy_core.specs.Groups.{span_of_group, spans_of, span_at, found_at, IsCut, AreCut}
 
-whole_characters : (m : BytesMode) → keeps_characters m ≡ true → reads_characters (meaning_of m) ≡ true
-whole_characters Unicode e = refl
-whole_characters Ascii e = cc
-whole_characters UnicodeBytes e = cc
+whole_characters : (m : BytesMode) (unicode : Bool) → keeps_characters m ≡ true → reads_characters (meaning_of m unicode) ≡ true
+whole_characters Unicode true e = refl
+whole_characters Unicode false e = refl
+whole_characters Ascii unicode e = cc
+whole_characters UnicodeBytes unicode e = cc
 
 abbrev start_or : Option Span → ℕ
 start_or None = 0
@@ -76,7 +77,7 @@ module _ (q : Query) (text : Bool) (position : ℕ) (memory : Memory) (within : 
 
 keeps_by : (r : Regex) (text : Bool) (haystack : List ℕ) (request : Request) (b : Bool) → keeps_characters (options_in r).bytes_mode ≡ b →
     Suits (options_in r) text haystack → (text ≡ true → IsUtf8 haystack) → text ≡ true → KeepsBoundaries (asked r haystack request)
-keeps_by r text haystack request true e suits utf8 t = by_characters (utf8 t) (whole_characters _ e) (r.whole e) e
+keeps_by r text haystack request true e suits utf8 t = by_characters (utf8 t) (whole_characters _ _ e) (r.whole e) e
 keeps_by r text haystack request false e suits utf8 t = of_ascii (suits t e)
 
 -- what a search with a regex finds can be cut out of the haystack, with all its groups

@@ -1,14 +1,25 @@
 -- What the options of a regex choose.
-use Rattle.std.specs.Prelude.{false}
+use Rattle.std.specs.Prelude.{true, false}
+use Rattle.fancy_syntax.specs.declared.tree.Meaning.{Meaning}
 use Rattle.fancy_syntax.specs.declared.tree.BytesMode.TheVariants.{Unicode}
-use Rattle.fancy_syntax.specs.Modes.{meaning_of}
+use Rattle.fancy_syntax.specs.Modes as modes
+use Rattle.fancy_syntax.specs.Modes.{keeps_characters}
 use Rattle.fancy_syntax.specs.Dialect as dialect
-use Rattle.fancy_syntax.specs.Dialect.{in_meaning}
+use Rattle.fancy_syntax.specs.Views.{flags_of}
 use Rattle.fancy_core.specs.declared.options.Options.{Options}
 
 abbrev pub by_default : Options
-by_default = record { bytes_mode = Unicode; allow_input_assertion_overrides = false }
+by_default = record {
+  bytes_mode = Unicode;
+  unicode_mode = true;
+  flags = record { ignore_case = false; multi_line = false; dot_all = false; ignore_blanks = false; crlf = false };
+  allow_input_assertion_overrides = false;
+}
+
+-- what an item consumes under these options
+abbrev pub meaning_in : Options → Meaning
+meaning_in o = modes.meaning_of o.bytes_mode o.unicode_mode
 
 -- how patterns are read under these options
 abbrev pub dialect_of : Options → dialect.Options
-dialect_of o = in_meaning (meaning_of o.bytes_mode)
+dialect_of o = record { meaning = meaning_in o; keeps_characters = keeps_characters o.bytes_mode; flags = flags_of o.flags }

@@ -1,11 +1,12 @@
 -- What a regex stands for, and what a search with it asks.
 use Rattle.std.specs.Prelude.{ℕ, false, List, string_bytes}
-use Rattle.fancy_syntax.specs.Modes.{meaning_of, keeps_characters}
+use Rattle.fancy_syntax.specs.Modes.{keeps_characters}
 use Rattle.fancy_syntax.specs.Pattern.{Pattern, pattern_of}
 use Rattle.fancy_input.specs.declared.input.Request.{Request}
 use Rattle.fancy_engine.specs.Code.{code_len}
 use Rattle.fancy_engine.specs.Search.{Sought, Query}
 use Rattle.fancy_core.specs.declared.options.Options.{Options}
+use Rattle.fancy_core.specs.Options.{meaning_in}
 use Rattle.fancy_core.specs.declared.regex.Regex.{Regex}
 
 -- the bytes of its pattern's text
@@ -32,7 +33,7 @@ length_in r = code_len r.code
 abbrev pub sought_by : Options → ℕ → Pattern → Sought
 sought_by o groups p = record {
   pattern = p;
-  meaning = meaning_of o.bytes_mode;
+  meaning = meaning_in o;
   groups = groups;
   on_boundaries = keeps_characters o.bytes_mode;
   overrides = o.allow_input_assertion_overrides;

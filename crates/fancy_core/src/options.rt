@@ -2,15 +2,44 @@
 
 ghost use Rattle.std.specs.Prelude.{◌≡◌, true, false};
 ghost use Rattle.fancy_syntax.specs.declared.tree.BytesMode.TheVariants.{Unicode as ByCharacters};
-ghost use Rattle.fancy_core.specs.Options.{by_default};
+ghost use Rattle.fancy_syntax.specs.Views.{options_of as syntax_options};
+ghost use Rattle.fancy_core.specs.Options.{by_default, meaning_in, dialect_of};
 
-use fancy_syntax::tree::BytesMode;
+use fancy_syntax::flags::Flags;
+use fancy_syntax::parse::Syntax;
+use fancy_syntax::tree::{BytesMode, Meaning};
 
 /// The switches of a regex.
 #[derive(Clone, Copy, PartialEq, Eq)]
 pub struct Options {
+    /// How bytes are read.
     pub bytes_mode: BytesMode,
+    /// Whether items are of all of Unicode.
+    pub unicode_mode: bool,
+    /// The flags that hold at the pattern's start.
+    pub flags: Flags,
+    /// Whether an input may suppress the text's start and its end.
     pub allow_input_assertion_overrides: bool,
+}
+
+impl Options {
+    /// What an item consumes.
+    pub(crate) fn meaning(&self) -> Meaning
+        ensures { result ≡ meaning_in self.now }
+    {
+        self.bytes_mode.meaning(self.unicode_mode)
+    }
+
+    /// What holds at the start of a pattern.
+    pub(crate) fn syntax(&self) -> Syntax
+        ensures { syntax_options result ≡ dialect_of self.now }
+    {
+        Syntax {
+            meaning: self.meaning(),
+            keeps_characters: self.bytes_mode.keeps_characters(),
+            flags: self.flags,
+        }
+    }
 }
 
 /// Builds regexes with options. Each setter changes one option and answers the builder, so that setters
@@ -27,13 +56,15 @@ pub struct RegexOptionsBuilder {
 impl RegexOptionsBuilder {
     ghost use Rattle.fancy_core.specs.Builders.{options_of};
 
-    /// A builder with the default options: `BytesMode::Unicode`, and every switch off.
+    /// A builder with the default options: `BytesMode::Unicode`, the Unicode mode on, and every other switch off.
     pub fn new() -> RegexOptionsBuilder
         ensures { options_of result ≡ by_default }
     {
         RegexOptionsBuilder {
             options: Options {
                 bytes_mode: BytesMode::Unicode,
+                unicode_mode: true,
+                flags: Flags::NONE,
                 allow_input_assertion_overrides: false,
             },
         }
@@ -45,6 +76,73 @@ impl RegexOptionsBuilder {
         ensures value { options_of result.now ≡ record (options_of self.old) { bytes_mode = mode } }
     {
         self.options.bytes_mode = mode;
+        self
+    }
+
+    /// Whether items are of all of Unicode. On by default.
+    ///
+    /// Where it is off, `BytesMode::UnicodeBytes` reads bytes, and in `BytesMode::Unicode` classes have ASCII
+    /// characters alone: `.` and complements are refused there.
+    pub fn unicode_mode(&mut self, yes: bool) -> &mut Self
+        ensures same { result.ghost_name ≡ self.entry.ghost_name }
+        ensures value { options_of result.now ≡ record (options_of self.old) { unicode_mode = yes } }
+    {
+        self.options.unicode_mode = yes;
+        self
+    }
+
+    /// Whether flag `i` holds at the pattern's start: characters stand also for those that share their simple
+    /// folding. Off by default.
+    pub fn case_insensitive(&mut self, yes: bool) -> &mut Self
+        ensures same { result.ghost_name ≡ self.entry.ghost_name }
+        ensures value { options_of result.now ≡ record (options_of self.old) { flags = record (options_of self.old).flags { ignore_case = yes } } }
+    {
+        self.options.flags.ignore_case = yes;
+        self
+    }
+
+    /// Whether flag `m` holds at the pattern's start: `^` and `$` hold at lines. Off by default.
+    pub fn multi_line(&mut self, yes: bool) -> &mut Self
+        ensures same { result.ghost_name ≡ self.entry.ghost_name }
+        ensures value { options_of result.now ≡ record (options_of self.old) { flags = record (options_of self.old).flags { multi_line = yes } } }
+    {
+        self.options.flags.multi_line = yes;
+        self
+    }
+
+    /// Whether flag `s` holds at the pattern's start: `.` takes line feeds too. Off by default.
+    pub fn dot_matches_new_line(&mut self, yes: bool) -> &mut Self
+        ensures same { result.ghost_name ≡ self.entry.ghost_name }
+        ensures value { options_of result.now ≡ record (options_of self.old) { flags = record (options_of self.old).flags { dot_all = yes } } }
+    {
+        self.options.flags.dot_all = yes;
+        self
+    }
+
+    /// Whether flag `x` holds at the pattern's start: blanks, and lines behind `#`, are skipped. Off by default.
+    pub fn ignore_whitespace(&mut self, yes: bool) -> &mut Self
+        ensures same { result.ghost_name ≡ self.entry.ghost_name }
+        ensures value { options_of result.now ≡ record (options_of self.old) { flags = record (options_of self.old).flags { ignore_blanks = yes } } }
+    {
+        self.options.flags.ignore_blanks = yes;
+        self
+    }
+
+    /// The same option as [`RegexOptionsBuilder::ignore_whitespace`], by another name.
+    pub fn verbose_mode(&mut self, yes: bool) -> &mut Self
+        ensures same { result.ghost_name ≡ self.entry.ghost_name }
+        ensures value { options_of result.now ≡ record (options_of self.old) { flags = record (options_of self.old).flags { ignore_blanks = yes } } }
+    {
+        self.options.flags.ignore_blanks = yes;
+        self
+    }
+
+    /// Whether flag `R` holds at the pattern's start: a carriage return ends a line too. Off by default.
+    pub fn crlf(&mut self, yes: bool) -> &mut Self
+        ensures same { result.ghost_name ≡ self.entry.ghost_name }
+        ensures value { options_of result.now ≡ record (options_of self.old) { flags = record (options_of self.old).flags { crlf = yes } } }
+    {
+        self.options.flags.crlf = yes;
         self
     }
 

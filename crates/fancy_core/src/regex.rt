@@ -7,7 +7,6 @@ ghost use Rattle.fancy_syntax.specs.Refusals.{IsRefused};
 ghost use Rattle.fancy_input.specs.Inputs.{haystack_in, request_in};
 ghost use Rattle.fancy_input.specs.Places.{is_boundary};
 ghost use Rattle.fancy_input.specs.Requests.{whole, effective_start};
-ghost use Rattle.fancy_syntax.specs.Modes.{meaning_of};
 ghost use Rattle.fancy_syntax.specs.Sizes.{nodes};
 ghost use Rattle.fancy_engine.specs.Code.{code_len};
 ghost use Rattle.fancy_engine.specs.Means.{IsCodeOf, is_easy};
@@ -18,7 +17,7 @@ ghost use Rattle.fancy_engine.specs.Work.{steps_of, returns_of};
 ghost use Rattle.fancy_engine.specs.Search.{search, span_of};
 ghost use Rattle.fancy_engine.specs.Answers.{HasNone};
 ghost use Rattle.fancy_core.specs.Builders.{options_of};
-ghost use Rattle.fancy_core.specs.Options.{by_default, dialect_of};
+ghost use Rattle.fancy_core.specs.Options.{by_default, dialect_of, meaning_in};
 ghost use Rattle.fancy_core.specs.Searching.{Suits, StartsCleanly, CanSearch};
 ghost use Rattle.fancy_syntax.specs.Modes.{keeps_characters};
 
@@ -46,7 +45,7 @@ pub struct Regex {
     tree: Tree,
     code: Code,
     ghost coded: { ∥ IsCodeOf (pattern_of tree) code ∥₁ },
-    ghost meant: { code.meaning ≡ meaning_of options.bytes_mode },
+    ghost meant: { code.meaning ≡ meaning_in options },
     ghost short: { code_len code ≤ 4 * nodes (pattern_of tree) + 2 },
     ghost easy: { is_easy (pattern_of tree) ≡ true },
     ghost whole: { keeps_characters options.bytes_mode ≡ true → has_raw_byte (pattern_of tree) ≡ false },
@@ -282,9 +281,8 @@ impl RegexOptionsBuilder {
     {
         let options = self.options();
         let alloc = *pattern.allocator();
-        let meaning = options.bytes_mode.meaning();
-        let Parsed { tree, groups } = parse_with(alloc, pattern.as_str(), meaning)?;
-        let code = compile(alloc, &tree, groups, meaning)?;
+        let Parsed { tree, groups } = parse_with(alloc, pattern.as_str(), options.syntax())?;
+        let code = compile(alloc, &tree, groups, options.meaning())?;
         Ok(Regex {
             pattern,
             options,

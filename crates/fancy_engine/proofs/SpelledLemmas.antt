@@ -1,21 +1,24 @@
--- What holds of every pattern that a text spells: it asks for no single bytes, and is easy.
-use Rattle.std.proofs.Common.{◌≡◌, ℕ, Bool, true, false, ◌&&◌, ◌||◌, List, [], ◌∷◌, map, Option, Some, None, refl, sym, subst}
+-- What holds of every pattern that a text spells: it is easy, and asks for no single bytes where matches keep to whole characters.
+use Rattle.std.proofs.Common.{◌≡◌, ℕ, Bool, true, false, ◌&&◌, ◌||◌, List, [], ◌∷◌, map, Option, Some, None, refl, sym, subst, ◌∙◌}
 use Rattle.std.specs.Prelude.{encode_utf8}
 use Rattle.fancy_syntax.specs.declared.tree.Meaning.{Meaning}
 use Rattle.fancy_syntax.specs.declared.tree.Meaning.TheVariants.{Unicode, Bytes, AsciiText}
 use Rattle.fancy_syntax.specs.declared.tree.Taste.{Taste}
 use Rattle.fancy_syntax.specs.Words.{Text}
-use Rattle.std.specs.Prelude.{if◌then◌else◌}
-use Rattle.std.specs.Option.{option_map, option_or}
 use Rattle.fancy_syntax.specs.declared.tree.Assertion.{Assertion}
-use Rattle.fancy_syntax.specs.Pattern.{Pattern, empty, character, assertion, group, repeat, followed, or_else, last_branch, in_sequence, in_choice, in_branches}
-use Rattle.fancy_syntax.specs.Dialect.{Scope, Quantifies, greedily, lazily, literal_of, is_escapable, control_of, place_test, Branches, one, either, Parts, nothing, item, Item, set, bare, quantified, Atom, literal, anchor, escaped, plain, flagged, capture, Spells, with_part}
+use Rattle.fancy_syntax.specs.Sets.{AreEdges}
+use Rattle.fancy_syntax.proofs.EndsLemmas as simple
+use Rattle.fancy_syntax.proofs.EndsLemmas.{IsSimple, simple_atom}
+use Rattle.fancy_syntax.specs.Pattern.{Pattern, empty, character, member_of, raw_byte, assertion, group, repeat, followed, or_else, last_branch, in_sequence, in_choice, in_branches}
+use Rattle.fancy_syntax.specs.Dialect.{Scope, Quantifies, greedily, lazily, literal_of, Branches, one, either, Parts, nothing, item, Item, set, bare, quantified, Atom, single, plain, flagged, capture, Spells, with_part}
 use Rattle.fancy_engine.specs.Means.{is_easy, goes_back}
 use Rattle.fancy_engine.specs.Placed.{has_raw_byte}
 
 -- A property of patterns that the forms of the dialect keep.
-record IsKept (nice : Pattern → Type 0) : Type 0 where
+record IsKept (keeps : Bool) (nice : Pattern → Type 0) : Type 0 where
   nothing_there : nice empty
+  sets : (edges : List ℕ) → AreEdges edges → nice (member_of edges)
+  bytes : (byte : ℕ) → keeps ≡ false → nice (raw_byte byte)
   characters : (c : ℕ) → nice (character c)
   assertions : (a : Assertion) → nice (assertion a)
   groups : (index : ℕ) (p : Pattern) → nice p → nice (group index p)
@@ -28,7 +31,7 @@ goes_back-Quantifies : {t after : Text} {low : ℕ} {high : Option ℕ} {taste :
 goes_back-Quantifies (greedily turns e) = refl
 goes_back-Quantifies (lazily turns) = refl
 
-module _ (nice : Pattern → Type 0) (kept : IsKept nice) where
+module _ (keeps : Bool) (nice : Pattern → Type 0) (kept : IsKept keeps nice) where
   abbrev AreNice : List Pattern → Type 0
   AreNice [] = Unit {0}
   AreNice (p ∷ ps) = nice p × AreNice ps
@@ -64,38 +67,38 @@ module _ (nice : Pattern → Type 0) (kept : IsKept nice) where
   nice-with_part None ps h all = all
   nice-with_part (Some p) ps h all = (h, all)
 
-  -- what an escape stands for, by what it may be
-  nice-escape : (is_literal : Bool) (m : Meaning) (c : ℕ) (control : Option ℕ) (test : Option Assertion)
-      → IsNiceItem (if is_literal then Some (literal_of m c) else option_or (option_map (literal_of m) control) (option_map assertion test))
-  nice-escape true m c control test = nice-literal_of m c
-  nice-escape false m c (Some d) test = nice-literal_of m d
-  nice-escape false m c None (Some a) = kept.assertions a
-  nice-escape false m c None None = tt
+  nice-simple : {s : Scope} {p : Pattern} → s.keeps_characters ≡ keeps → IsSimple s p → nice p
+  nice-simple {s} e (simple.literal c) = nice-literal_of s.meaning c
+  nice-simple e (simple.test a) = kept.assertions a
+  nice-simple e (simple.item edges h) = kept.sets edges h
+  nice-simple e (simple.byte c h) = kept.bytes c (sym e ∙ h)
 
+  -- all places of a pattern keep to whole characters, or none
   mutual
-    nice-Branches : {k : ℕ} {s r : Scope} {t after : Text} {bs : List Pattern} → Branches k s t after bs r → AreNice bs
-    nice-Branches (one parts) = (nice-in_sequence _ (nice-Parts parts), tt)
-    nice-Branches (either parts rest) = (nice-in_sequence _ (nice-Parts parts), nice-Branches rest)
+    nice-Branches : {k : ℕ} {s r : Scope} {t after : Text} {bs : List Pattern} → s.keeps_characters ≡ keeps → Branches k s t after bs r → AreNice bs × (r.keeps_characters ≡ keeps)
+    nice-Branches e (one parts) = let x = nice-Parts e parts in ((nice-in_sequence _ x.0, tt), x.1)
+    nice-Branches e (either parts rest) = let x = nice-Parts e parts in let y = nice-Branches x.1 rest in ((nice-in_sequence _ x.0, y.0), y.1)
 
-    nice-Parts : {k : ℕ} {s r : Scope} {t after : Text} {ps : List Pattern} → Parts k s t after ps r → AreNice ps
-    nice-Parts (nothing skipped) = tt
-    nice-Parts (item skipped first rest) = nice-with_part _ _ (nice-Item first) (nice-Parts rest)
+    nice-Parts : {k : ℕ} {s r : Scope} {t after : Text} {ps : List Pattern} → s.keeps_characters ≡ keeps → Parts k s t after ps r → AreNice ps × (r.keeps_characters ≡ keeps)
+    nice-Parts e (nothing skipped) = (tt, e)
+    nice-Parts e (item skipped first rest) = let x = nice-Item e first in let y = nice-Parts x.1 rest in (nice-with_part _ _ x.0 y.0, y.1)
 
-    nice-Item : {k : ℕ} {s r : Scope} {t after : Text} {x : Option Pattern} → Item k s t after x r → IsNiceItem x
-    nice-Item (set setting) = tt
-    nice-Item (bare atom e) = nice-Atom atom
-    nice-Item (quantified atom e skipped q) = kept.repeats _ _ _ _ (goes_back-Quantifies q) (nice-Atom atom)
+    nice-Item : {k : ℕ} {s r : Scope} {t after : Text} {x : Option Pattern} → s.keeps_characters ≡ keeps → Item k s t after x r → IsNiceItem x × (r.keeps_characters ≡ keeps)
+    nice-Item e (set setting) = (tt, e)
+    nice-Item e (bare atom h) = nice-Atom e atom
+    nice-Item e (quantified atom h skipped q) = let x = nice-Atom e atom in (kept.repeats _ _ _ _ (goes_back-Quantifies q) x.0, x.1)
 
-    nice-Atom : {k : ℕ} {s r : Scope} {t after : Text} {p : Pattern} → Atom k s t after p r → nice p
-    nice-Atom (literal {s = s} c e f skipped) = nice-literal_of s.meaning c
-    nice-Atom (anchor c e) = kept.assertions _
-    nice-Atom (escaped {s = s} c e) = subst IsNiceItem e (nice-escape (is_escapable c) s.meaning c (control_of c) (place_test s.flags c))
-    nice-Atom (plain branches) = nice-in_branches _ (nice-Branches branches)
-    nice-Atom (flagged setting branches) = nice-in_branches _ (nice-Branches branches)
-    nice-Atom (capture e branches) = kept.groups _ _ (nice-in_branches _ (nice-Branches branches))
+    nice-Atom : {k : ℕ} {s r : Scope} {t after : Text} {p : Pattern} → s.keeps_characters ≡ keeps → Atom k s t after p r → nice p × (r.keeps_characters ≡ keeps)
+    nice-Atom e (single skipped reads) = (nice-simple e (simple_atom reads), e)
+    nice-Atom e (plain branches) = let x = nice-Branches e branches in (nice-in_branches _ x.0, x.1)
+    nice-Atom e (flagged setting branches) = let x = nice-Branches e branches in (nice-in_branches _ x.0, x.1)
+    nice-Atom e (capture h branches) = let x = nice-Branches e branches in (kept.groups _ _ (nice-in_branches _ x.0), x.1)
 
-  nice_spelled : {s e : Scope} {text : Text} {p : Pattern} → Spells s text p e → nice p
-  nice_spelled h = subst nice (sym h.is) (nice-in_branches h.branches (nice-Branches h.spelled))
+  nice_spelled : {s e : Scope} {text : Text} {p : Pattern} → s.keeps_characters ≡ keeps → Spells s text p e → nice p
+  nice_spelled e h = subst nice (sym h.is) (nice-in_branches h.branches (nice-Branches e h.spelled).0)
+
+true_is_false : true ≡ false → ⊥
+true_is_false h = cc
 
 both_hold : (a b : Bool) → a ≡ true → b ≡ true → (a && b) ≡ true
 both_hold true b e f = f
@@ -105,12 +108,14 @@ neither_holds : (a b : Bool) → a ≡ false → b ≡ false → (a || b) ≡ fa
 neither_holds true b e f = e
 neither_holds false b e f = f
 
--- no pattern that a text spells asks for a single byte
-pub no_raw_bytes : {s e : Scope} {text : Text} {p : Pattern} → Spells s text p e → has_raw_byte p ≡ false
-no_raw_bytes h =
-    nice_spelled (λ p. has_raw_byte p ≡ false)
+-- no pattern that a text spells asks for a single byte, where matches keep to whole characters
+pub no_raw_bytes : {s e : Scope} {text : Text} {p : Pattern} → s.keeps_characters ≡ true → Spells s text p e → has_raw_byte p ≡ false
+no_raw_bytes k h =
+    nice_spelled true (λ p. has_raw_byte p ≡ false)
     (record {
       nothing_there = refl;
+      sets = λ edges e. refl;
+      bytes = λ byte e. absurd (true_is_false e);
       characters = λ c. refl;
       assertions = λ a. refl;
       groups = λ index p e. e;
@@ -119,14 +124,16 @@ no_raw_bytes h =
       choices = λ p q e f. neither_holds (has_raw_byte p) (has_raw_byte q) e f;
       last = λ p e. e;
     })
-    h
+    k h
 
 -- each pattern that a text spells is easy
 pub easy_spelled : {s e : Scope} {text : Text} {p : Pattern} → Spells s text p e → is_easy p ≡ true
-easy_spelled h =
-    nice_spelled (λ p. is_easy p ≡ true)
+easy_spelled {s} h =
+    nice_spelled s.keeps_characters (λ p. is_easy p ≡ true)
     (record {
       nothing_there = refl;
+      sets = λ edges e. refl;
+      bytes = λ byte e. refl;
       characters = λ c. refl;
       assertions = λ a. refl;
       groups = λ index p e. e;
@@ -135,4 +142,4 @@ easy_spelled h =
       choices = λ p q e f. both_hold (is_easy p) (is_easy q) e f;
       last = λ p e. e;
     })
-    h
+    refl h

@@ -15,6 +15,7 @@ use Rattle.fancy_syntax.specs.declared.operation.Operation.{Operation}
 use Rattle.fancy_syntax.specs.Pattern.{Pattern, member_of, raw_byte, assertion}
 use Rattle.fancy_syntax.specs.Words.{Text, ◌∈◌, is_at, begins, begins_count}
 use Rattle.fancy_syntax.specs.Members.{Members}
+use Rattle.fancy_syntax.specs.Sets.{AreEdges}
 use Rattle.fancy_syntax.specs.Escapes.{escaped, escape_at, hexadecimal, number, fixed_number, braced_number, before_brace, by_number, is_character, single, set_here, set_letter, is_property, property_name, property_named}
 use Rattle.fancy_syntax.specs.ClassGrammar.{is_ascii_meaning, fits, may_turn, range, range_from, range_to, is_ranged, named_of, posix, posix_of, posix_word, is_posix, property, property_of, found_property, token, token_of, operator, opening, Class, class, Items, none, next, Operands, last, more, Item, simple, nested}
 use Rattle.fancy_syntax.specs.Dialect.{Scope, Lexeme, leaf, one_of, IsMeant, by_itself, by_edges, lexeme, ReadsAtom, by_lexeme, by_class, literal_of, spelled_character, spelled_number, spelled_set, lettered_set, is_one_item, numbered, boundary, boundary_here, property_here, followed_by, any_item, any_code, lettered, control_of, place_test, anchor_of, lone, escape, escape_in, is_escapable, is_special}
@@ -372,12 +373,12 @@ ends_atom (by_class h m) = ends_class m.1
 pub data IsSimple (s : Scope) : Pattern → Type 0 where
   literal : (c : ℕ) → IsSimple s (literal_of s.meaning c)
   test : (a : Assertion) → IsSimple s (assertion a)
-  item : (es : List ℕ) → IsSimple s (member_of es)
+  item : (es : List ℕ) → AreEdges es → IsSimple s (member_of es)
   byte : (c : ℕ) → s.keeps_characters ≡ false → IsSimple s (raw_byte c)
 
 simple_leaf : (s : Scope) {a : Pattern} {x : Lexeme} → IsMeant x a → ((b : Pattern) → x ≡ leaf b → IsSimple s b) → IsSimple s a
 simple_leaf s {a} by_itself f = f a refl
-simple_leaf s (by_edges {es = es} e h) f = item es
+simple_leaf s (by_edges {es = es} e h) f = item es e
 
 leaf_same : {a b : Pattern} → leaf a ≡ leaf b → a ≡ b
 leaf_same h = cc
@@ -397,7 +398,7 @@ simple_of s (a_byte c k) m = simple_leaf s m (λ b e. subst (IsSimple s) (leaf_s
 
 pub simple_atom : {s : Scope} {t u : Text} {a : Pattern} → ReadsAtom s t a u → IsSimple s a
 simple_atom {s} {t} (by_lexeme h m) = simple_of s (lexed s t h).kind m
-simple_atom (by_class {es = es} h m) = item es
+simple_atom (by_class {es = es} h m) = item es m.0
 
 -- an atom begins with none of the characters that nothing begins with
 begins_otherwise : {s : Scope} {c : ℕ} {t u : Text} {a : Pattern} → ReadsAtom s (c ∷ t) a u → (d : ℕ) → lexeme s (d ∷ t) ≡ None → (91 == d) ≡ false → (d == c) ≡ false

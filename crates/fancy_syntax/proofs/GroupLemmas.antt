@@ -69,7 +69,7 @@ module _ (lo hi : ℕ) where
 simple_numbered : (lo hi : ℕ) (s : Scope) {p : Pattern} → IsSimple s p → Numbered lo hi p
 simple_numbered lo hi s (simple.literal c) = literal_numbered lo hi s.meaning c
 simple_numbered lo hi s (simple.test a) = tt
-simple_numbered lo hi s (simple.item es) = tt
+simple_numbered lo hi s (simple.item es e) = tt
 simple_numbered lo hi s (simple.byte c k) = tt
 
 -- an item, which may give no part

@@ -5,11 +5,13 @@ use Rattle.fancy_syntax.specs.declared.tree.Meaning.TheVariants as meaning
 use Rattle.fancy_syntax.specs.declared.tree.BytesMode.{BytesMode}
 use Rattle.fancy_syntax.specs.declared.tree.BytesMode.TheVariants.{Unicode, Ascii, UnicodeBytes}
 
--- what an item consumes
-abbrev pub meaning_of : BytesMode → Meaning
-meaning_of Unicode = meaning.Unicode
-meaning_of Ascii = meaning.Bytes
-meaning_of UnicodeBytes = meaning.Unicode
+-- what an item consumes, with the Unicode mode on or off
+abbrev pub meaning_of : BytesMode → Bool → Meaning
+meaning_of Unicode true = meaning.Unicode
+meaning_of Unicode false = meaning.AsciiText
+meaning_of Ascii _ = meaning.Bytes
+meaning_of UnicodeBytes true = meaning.Unicode
+meaning_of UnicodeBytes false = meaning.Bytes
 
 -- matches begin and end on character boundaries alone
 abbrev pub keeps_characters : BytesMode → Bool

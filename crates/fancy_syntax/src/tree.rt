@@ -6,11 +6,11 @@ ghost use Rattle.fancy_syntax.specs.declared.tree.BytesMode.TheVariants.{Unicode
 
 /// How bytes are read, in the pattern and in the haystack.
 ///
-/// | Mode | An item is | A match begins and ends |
-/// |---|---|---|
-/// | `Unicode` | a character | on character boundaries |
-/// | `Ascii` | a byte | anywhere |
-/// | `UnicodeBytes` | a character | anywhere |
+/// | Mode | An item is | with the Unicode mode off | A match begins and ends |
+/// |---|---|---|---|
+/// | `Unicode` | a character | a character, and classes are of ASCII | on character boundaries |
+/// | `Ascii` | a byte | a byte | anywhere |
+/// | `UnicodeBytes` | a character | a byte | anywhere |
 #[derive(Clone, Copy, PartialEq, Eq)]
 pub enum BytesMode {
     /// Characters are items, and matches stand on character boundaries.
@@ -22,13 +22,15 @@ pub enum BytesMode {
 }
 
 impl BytesMode {
-    /// What an item consumes.
-    pub fn meaning(self) -> Meaning
-        ensures { result ≡ meaning_of self }
+    /// What an item consumes, with the Unicode mode on or off.
+    pub fn meaning(self, unicode_mode: bool) -> Meaning
+        ensures { result ≡ meaning_of self unicode_mode }
     {
         match self {
-            BytesMode::Unicode | BytesMode::UnicodeBytes => Meaning::Unicode,
             BytesMode::Ascii => Meaning::Bytes,
+            _ if unicode_mode => Meaning::Unicode,
+            BytesMode::Unicode => Meaning::AsciiText,
+            BytesMode::UnicodeBytes => Meaning::Bytes,
         }
     }
 

@@ -1,4 +1,5 @@
-use Rattle.std.proofs.Common.{◌∙◌, ◌+◌, arith}
+use Rattle.std.proofs.Common.{◌∙◌, ◌+◌, ap, arith}
+use Rattle.fancy_syntax.specs.Dialect as dialect
 use Rattle.std.proofs.lemmas.Result.{err_from_is_err_and}
 use Rattle.fancy_syntax.specs.Pattern.{pattern_of}
 use Rattle.fancy_syntax.proofs.GroupLemmas.{numbered, wider}
@@ -7,7 +8,7 @@ use Rattle.fancy_core.proofs.options.RegexOptionsBuilder.build.Goals as goal
 
 pub returns-in_err-tree-clause-succeeds : goal.returns-in_err-tree-clause-succeeds
 returns-in_err-tree-clause-succeeds c = λ p h.
-    let e = c.in_err-tree.ensures.succeeds p (rw (c.meaning-meaning.ensures, c.options-options.ensures, c.as_str.ensures.value) h) in
+    let e = c.in_err-tree.ensures.succeeds p (rw (c.syntax.ensures, c.options-options.ensures, c.as_str.ensures.value) h) in
     let q = err_from_is_err_and c.from_residual.result c.from_residual.ensures.1 in rw q.1 (q.2 ∙ e)
 
 pub compile-requires-clause-easy : goal.compile-requires-clause-easy
@@ -21,8 +22,8 @@ compile-requires-clause-numbered c =
 pub invariant_of-result : goal.invariant_of-result
 invariant_of-result c = record {
   coded = ∣ c.in_ok-code.ensures.code ∣₁;
-  meant = c.in_ok-code.ensures.meaning ∙ (c.meaning-meaning.ensures);
+  meant = c.in_ok-code.ensures.meaning ∙ c.meaning.ensures;
   short = c.in_ok-code.ensures.short;
   easy = easy_spelled (c.in_ok-tree.ensures.accepted.0).spelled;
-  whole = λ _. no_raw_bytes (c.in_ok-tree.ensures.accepted.0).spelled;
+  whole = λ e. no_raw_bytes (ap (λ (o : dialect.Options). o.keeps_characters) c.syntax.ensures ∙ e) (c.in_ok-tree.ensures.accepted.0).spelled;
 }
