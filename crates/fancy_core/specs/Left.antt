@@ -82,10 +82,6 @@ turns_left false items = suc (length items)
 abbrev pub EndsUnlessOk : {A E : Type 0} → Option (Result A E) → Bool → Type 0
 EndsUnlessOk r ended = MatchOption r (ended ≡ true) (λ item. MatchResult item (λ x. ended ≡ false) (λ e. ended ≡ true))
 
--- at the list's end the next search stands at `end`
-abbrev pub StandsAtEnd : {A E : Type 0} → Option (Result A E) → ℕ → ℕ → Type 0
-StandsAtEnd r start end = MatchOption r (start ≡ end) (λ item. ⊤)
-
 -- P of the value, where there is one
 abbrev pub IfItem : {A E : Type 0} → Option (Result A E) → (A → Type 0) → Type 0
 IfItem r P = MatchOption r ⊤ (λ item. MatchResult item P (λ e. ⊤))

@@ -1,6 +1,6 @@
 //! Where an iteration over matches stands.
 
-ghost use Rattle.std.specs.Prelude.{◌≡◌, ◌≤◌, ◌<◌, ◌+◌, ◌^◌, ◌&&◌, not, nat_eq, true, false, option_map, length, IsTrue, IfOk, IfErr, IfSome, MatchOption, MatchResult, ⊤};
+ghost use Rattle.std.specs.Prelude.{◌≡◌, ◌≤◌, ◌<◌, ◌+◌, ◌^◌, ◌&&◌, not, nat_eq, true, false, option_map, length, IsTrue, IfOk, IfErr, IfSome, IfNone, MatchOption, MatchResult, ⊤};
 ghost use Rattle.fancy_input.specs.Inputs.{haystack_in, request_in};
 ghost use Rattle.fancy_input.specs.Places.{next_place, is_boundary};
 ghost use Rattle.fancy_engine.specs.Queries.{way_in};
@@ -8,7 +8,7 @@ ghost use Rattle.fancy_core.specs.Regexes.{options_in};
 ghost use Rattle.fancy_core.specs.Searching.{Suits};
 ghost use Rattle.fancy_core.specs.Matching.{answer};
 ghost use Rattle.fancy_core.specs.Groups.{IsCut};
-ghost use Rattle.fancy_core.specs.Left.{scan, items_left, end_left, item_in, upcoming_if, start_if, GivesFirst, EndsUnlessOk, StandsAtEnd, IfItem, HasGroups, start_behind};
+ghost use Rattle.fancy_core.specs.Left.{scan, items_left, end_left, item_in, upcoming_if, start_if, GivesFirst, EndsUnlessOk, IfItem, HasGroups, start_behind};
 
 use crate::regex::Regex;
 use fancy_engine::search::Memory;
@@ -206,7 +206,7 @@ impl<S: Input> Walk<S> {
         requires suits { Suits (options_in regex.now) (S.text self.old.haystack) (S.bytes self.old.haystack) }
         ensures steps { GivesFirst (item_in memory.new) (λ w. items_left regex.now (S.text w.haystack) (S.bytes w.haystack) w.request w.ended w.continues w.skips_empty) self.old result self.new }
         ensures keeps_end { IfItem result (λ _. end_left regex.now (S.text self.new.haystack) (S.bytes self.new.haystack) self.new.request self.new.ended self.new.continues self.new.skips_empty ≡ end_left regex.now (S.text self.old.haystack) (S.bytes self.old.haystack) self.old.request self.old.ended self.old.continues self.old.skips_empty) }
-        ensures rests { StandsAtEnd result self.new.request.start (end_left regex.now (S.text self.old.haystack) (S.bytes self.old.haystack) self.old.request self.old.ended self.old.continues self.old.skips_empty) }
+        ensures rests { IfNone result (self.new.request.start ≡ end_left regex.now (S.text self.old.haystack) (S.bytes self.old.haystack) self.old.request self.old.ended self.old.continues self.old.skips_empty) }
         ensures haystack { self.new.haystack ≡ self.old.haystack }
         ensures request { self.new.request ≡ record self.old.request { start = self.new.request.start } }
         ensures ends { EndsUnlessOk result self.new.ended }
