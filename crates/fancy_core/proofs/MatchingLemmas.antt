@@ -50,7 +50,7 @@ behind_follows k i h l = at_behind k i (is_empty i) h l refl
 abbrev pub Within : ℕ → Scan → Option Item → Type 0
 Within n k o = MatchOption o Unit (λ i. Lies k i × (k.last < n + i.from))
 
-within_behind : (n : ℕ) (k : Scan) (i : Item) (o : Option Item) → k.last < suc n + i.from → FollowsIf k i o → Within n k o
+pub within_behind : (n : ℕ) (k : Scan) (i : Item) (o : Option Item) → k.last < suc n + i.from → FollowsIf k i o → Within n k o
 within_behind n k i None p f = tt
 within_behind n k i (Some j) p f = (f.lies, omega (arith, f.later))
 

@@ -105,3 +105,8 @@ Behind i (j ∷ js) = (stop_of i ≤ start_of j) × (stop_of i < stop_of j) × B
 abbrev pub InOrder : List Item → Type 0
 InOrder [] = Unit
 InOrder (i ∷ is) = Behind i is
+
+-- the search from s, with `\G` on or off, finds none
+pub record FindsNone (k : Scan) (s : ℕ) : Type 0 where
+  pub continues : Bool
+  pub none : k.find s continues ≡ None
