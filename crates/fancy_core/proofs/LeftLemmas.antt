@@ -1,18 +1,20 @@
 -- Lemmas on what an iteration has left.
-use Rattle.std.proofs.Common.{arith, ℕ, ◌≤◌, ◌≡◌, Bool, true, false, not, ◌&&◌, nat_eq, max, [], ◌∷◌, Option, None, Some, MatchOption, option_map, if◌then◌else◌, refl, subst}
+use Rattle.std.proofs.Common.{arith, ℕ, ◌≤◌, ◌≡◌, Bool, true, false, not, ◌&&◌, nat_eq, max, [], ◌∷◌, Option, None, Some, MatchOption, option_map, if◌then◌else◌, refl, sym, subst}
 use Rattle.std.proofs.lemmas.Grind.{common_steps}
 use Rattle.fancy_engine.specs.Search.{Found}
-use Rattle.fancy_core.specs.Matching.{Scan, Item, start_of, stop_of, is_empty, item_of, answer, unless_empty_at, behind, Sound, Lies}
-use Rattle.fancy_core.specs.Left.{upcoming_if, left_if}
-use Rattle.fancy_core.proofs.MatchingLemmas.{LiesFrom, answer_lies, items_behind, items_none}
+use Rattle.fancy_core.specs.Matching.{Scan, Item, start_of, stop_of, is_empty, item_of, answer, unless_empty_at, behind, searched_behind, Sound, Lies}
+use Rattle.fancy_core.specs.Left.{upcoming_if, start_if, left_if, end_if}
+use Rattle.fancy_core.proofs.MatchingLemmas.{LiesFrom, answer_lies, items_behind, items_none, end_behind, end_none}
 
-pub behind_empty : (k : Scan) (i : Item) (e : ℕ) (c : Bool) → nat_eq (start_of i) (stop_of i) ≡ true → e ≡ k.advance (stop_of i) → c ≡ not (nat_eq i.from (stop_of i)) → upcoming_if false k e c ≡ behind k i
-unfolding behind
-behind_empty k i e c h p q = rw (h, p, q) refl
+-- an iteration stands behind an item: what comes next, and where that is searched from
+pub record StandsBehind (k : Scan) (i : Item) (s : ℕ) (c b : Bool) : Type 0 where
+  pub next : upcoming_if b k s c ≡ behind k i
+  pub start : start_if b k s c ≡ searched_behind k i
 
-pub behind_other : (k : Scan) (i : Item) (e : ℕ) (b c : Bool) → nat_eq (start_of i) (stop_of i) ≡ false → e ≡ (stop_of i) → b ≡ true → c ≡ true → upcoming_if b k e c ≡ behind k i
-unfolding behind
-behind_other k i e b c h p q r = rw (q, r, h, p) refl
+pub stands_behind : (k : Scan) (i : Item) (s : ℕ) (empty c b : Bool) → nat_eq (start_of i) (stop_of i) ≡ empty → s ≡ (if empty then k.advance (stop_of i) else stop_of i) → c ≡ not (empty && nat_eq i.from (stop_of i)) → b ≡ not empty → StandsBehind k i s c b
+unfolding behind searched_behind
+stands_behind k i s true c b h p q r = record { next = rw (h, p, q, r) refl; start = rw (h, p, q, r) refl }
+stands_behind k i s false c b h p q r = record { next = rw (h, p, q, r) refl; start = rw (h, p, q, r) refl }
 
 -- a skipped answer gives way to the next
 pub skips : (k : Scan) (s : ℕ) (c : Bool) (i : Item) → answer k s c ≡ Some i → (is_empty i && nat_eq (stop_of i) s) ≡ true → upcoming_if true k s c ≡ answer k (k.advance s) false
@@ -25,6 +27,15 @@ keeps k s c false i e h = e
 pub keeps_none : (k : Scan) (s : ℕ) (c b : Bool) → answer k s c ≡ None → upcoming_if b k s c ≡ None
 keeps_none k s c true e = rw e refl
 keeps_none k s c false e = e
+
+-- where nothing is passed over, the search stays where it is
+pub stays : (k : Scan) (s : ℕ) (c b : Bool) (i : Item) → answer k s c ≡ Some i → (b && (is_empty i && nat_eq (stop_of i) s)) ≡ false → start_if b k s c ≡ s
+stays k s c true i e h = rw (e, h) refl
+stays k s c false i e h = refl
+
+pub stays_none : (k : Scan) (s : ℕ) (c b : Bool) → answer k s c ≡ None → start_if b k s c ≡ s
+stays_none k s c true e = rw e refl
+stays_none k s c false e = refl
 
 abbrev LiesIf : Scan → Option Item → Type 0
 LiesIf k o = MatchOption o Unit (λ i. Lies k i)
@@ -50,13 +61,22 @@ lies_some k None i e l = cc
 lies_some k (Some j) i e l = let q : j ≡ i = cc in subst (λ (z : Item). Lies k z) q l
 
 -- the list before an item is the item and the list behind it
-pub next_left : (k : Scan) (s t : ℕ) (c d b a : Bool) (i : Item) → Sound k → upcoming_if b k s c ≡ Some i → upcoming_if a k t d ≡ behind k i → left_if false k s c b ≡ i ∷ left_if false k t d a
+pub next_left : (k : Scan) (s t : ℕ) (c d b a : Bool) (i : Item) → Sound k → upcoming_if b k s c ≡ Some i → StandsBehind k i t d a → left_if false k s c b ≡ i ∷ left_if false k t d a
 next_left k s t c d b a i h e f =
     let l = lies_some k _ i e (upcoming_lies k s c b h) in
-    rw (e, f) (items_behind k i h l)
+    rw (e, f.next) (items_behind k i h l)
+
+-- and both end in one place
+pub next_end : (k : Scan) (s t : ℕ) (c d b a : Bool) (i : Item) → Sound k → upcoming_if b k s c ≡ Some i → StandsBehind k i t d a → end_if false k t d a ≡ end_if false k s c b
+next_end k s t c d b a i h e f =
+    let l = lies_some k _ i e (upcoming_lies k s c b h) in
+    rw (e, f.next, f.start) (sym (end_behind k (start_if b k s c) i h l))
 
 pub none_left : (k : Scan) (s : ℕ) (c b : Bool) → upcoming_if b k s c ≡ None → left_if false k s c b ≡ []
 none_left k s c b e = rw e (items_none k)
+
+pub none_end : (k : Scan) (s : ℕ) (c b : Bool) → upcoming_if b k s c ≡ None → end_if false k s c b ≡ start_if b k s c
+none_end k s c b e = rw e (end_none k _)
 
 at_from : (k : Scan) (s : ℕ) (c : Bool) (o : Option Found) → MatchOption (option_map (item_of (max s k.floor) c) o) Unit (λ i. s ≤ i.from)
 at_from k s c None = tt

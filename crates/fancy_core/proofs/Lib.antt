@@ -2,6 +2,7 @@ pub mod NoneLemmas
 pub mod SearchedLemmas
 pub mod CutLemmas
 pub mod MatchingLemmas
+pub mod EndLemmas
 pub mod ScanLemmas
 pub mod LeftLemmas
 pub mod StepLemmas

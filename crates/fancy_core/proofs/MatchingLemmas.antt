@@ -2,7 +2,7 @@
 use Rattle.std.proofs.Common.{arith, ℕ, zero, suc, ◌+◌, ◌<◌, ◌≤◌, ◌≡◌, Bool, true, false, not, ◌&&◌, nat_eq, max, [], ◌∷◌, length, Option, None, Some, MatchOption, option_map, if◌then◌else◌, refl, ap}
 use Rattle.std.proofs.lemmas.Grind.{common_steps}
 use Rattle.fancy_engine.specs.Search.{Found}
-use Rattle.fancy_core.specs.Matching.{Scan, Item, start_of, stop_of, is_empty, item_of, answer, unless_empty_at, behind, chain, items_from, matches, Sound, Lies, Behind, InOrder}
+use Rattle.fancy_core.specs.Matching.{Scan, Item, start_of, stop_of, is_empty, item_of, answer, unless_empty_at, behind, searched_behind, chain, items_from, matches, chain_end, end_from, Sound, Lies, Behind, InOrder}
 
 -- an answer, if there is one, lies behind its start
 abbrev pub LiesFrom : Scan → ℕ → Option Item → Type 0
@@ -50,7 +50,7 @@ behind_follows k i h l = at_behind k i (is_empty i) h l refl
 abbrev pub Within : ℕ → Scan → Option Item → Type 0
 Within n k o = MatchOption o Unit (λ i. Lies k i × (k.last < n + i.from))
 
-within_behind : (n : ℕ) (k : Scan) (i : Item) (o : Option Item) → k.last < suc n + i.from → FollowsIf k i o → Within n k o
+pub within_behind : (n : ℕ) (k : Scan) (i : Item) (o : Option Item) → k.last < suc n + i.from → FollowsIf k i o → Within n k o
 within_behind n k i None p f = tt
 within_behind n k i (Some j) p f = (f.lies, omega (arith, f.later))
 
@@ -77,6 +77,26 @@ items_behind k i h l =
 pub items_none : (k : Scan) → items_from k None ≡ []
 unfolding items_from
 items_none k = refl
+
+-- any two numbers that suffice give one end
+chain_end_enough : (n m : ℕ) (k : Scan) (s : ℕ) (o : Option Item) → Sound k → Within n k o → Within m k o → chain_end n k s o ≡ chain_end m k s o
+chain_end_enough n m k s None h p q = refl
+chain_end_enough zero m k s (Some i) h p q = absurd (omega (arith, p.0.after, p.0.ordered, p.0.inside, p.1))
+chain_end_enough (suc n) zero k s (Some i) h p q = absurd (omega (arith, q.0.after, q.0.ordered, q.0.inside, q.1))
+chain_end_enough (suc n) (suc m) k s (Some i) h p q =
+    let f = behind_follows k i h p.0 in
+    chain_end_enough n m k (searched_behind k i) (behind k i) h (within_behind n k i _ p.1 f) (within_behind m k i _ q.1 f)
+
+-- the list ends where the list behind its first item ends
+pub end_behind : (k : Scan) (s : ℕ) (i : Item) → Sound k → Lies k i → end_from k s (Some i) ≡ end_from k (searched_behind k i) (behind k i)
+unfolding end_from
+end_behind k s i h l =
+    let w = within_behind k.last k i _ (omega arith) (behind_follows k i h l) in
+    chain_end_enough k.last (suc k.last) k (searched_behind k i) (behind k i) h w (more_within k (behind k i) w)
+
+pub end_none : (k : Scan) (s : ℕ) → end_from k s None ≡ s
+unfolding end_from
+end_none k s = refl
 
 -- Ends strictly increase, and each start is at or after the end before it
 chain_order : (n : ℕ) (k : Scan) (i : Item) (o : Option Item) → Sound k → FollowsIf k i o → Behind i (chain n k o)
@@ -120,3 +140,6 @@ answer_from k s c h (Some x) e = (h.found s c x e, omega arith)
 pub matches_count : (k : Scan) (s : ℕ) → Sound k → max s k.floor + length (matches k s) ≤ max (max s k.floor) (suc k.last)
 unfolding items_from answer
 matches_count k s h = chain_count (suc k.last) k (max s k.floor) (answer k s true) h (answer_from k s true h (k.find s true) refl)
+
+pub few_matches : (k : Scan) (s : ℕ) → Sound k → length (matches k s) ≤ suc k.last
+few_matches k s h = let c : max s k.floor + length (matches k s) ≤ max (max s k.floor) (suc k.last) = matches_count k s h in omega arith

@@ -1,5 +1,5 @@
 -- What the searches of an iteration owe its list.
-use Rattle.std.proofs.Common.{arith, ℕ, ◌≤◌, ◌≡◌, Bool, true, false, ◌&&◌, List, length, Option, Some, IsTrue, IsUtf8, refl, sym}
+use Rattle.std.proofs.Common.{arith, ℕ, suc, ◌≤◌, ◌<◌, ◌^◌, ◌≡◌, Bool, true, false, ◌&&◌, List, length, Option, Some, IsTrue, IsUtf8, refl, sym}
 use Rattle.std.proofs.lemmas.Grind.{common_steps}
 use Rattle.fancy_input.specs.declared.input.Request.{Request}
 use Rattle.fancy_input.specs.Requests.{effective_start}
@@ -15,8 +15,9 @@ use Rattle.fancy_core.specs.declared.regex.Regex.{Regex}
 use Rattle.fancy_core.specs.Regexes.{asked, options_in}
 use Rattle.fancy_core.specs.Searching.{Suits}
 use Rattle.fancy_core.specs.Matching.{Sound}
-use Rattle.fancy_core.specs.Left.{scan, HasGroups}
+use Rattle.fancy_core.specs.Left.{scan, HasGroups, matches_of, items_left, turns_left}
 use Rattle.fancy_core.proofs.CutLemmas.{groups_cut}
+use Rattle.fancy_core.proofs.MatchingLemmas.{few_matches}
 
 -- what a search with the regex finds lies between its effective start and its range's end
 pub search_lies : (regex : Regex) (haystack : List ℕ) (r : Request) (f : Found) → r.range_end ≤ length haystack → search (asked regex haystack r) ≡ Some f →
@@ -34,6 +35,12 @@ scan_sound regex text haystack r range = record {
   found = λ s c f e. let l = search_lies regex haystack (record r { start = s; continues = r.continues && c }) f range e in record { after = l.0; ordered = l.1; inside = l.2 };
   advances = λ i. next_place_above text haystack i;
 }
+
+-- a list of matches and one refusal can be counted
+pub few_turns : (regex : Regex) (text : Bool) (haystack : List ℕ) (r : Request) (ended continues skips_empty : Bool) → r.range_end ≤ length haystack → length haystack < 2 ^ 63 → ended ≡ false → continues ≡ true → skips_empty ≡ false → turns_left ended (items_left regex text haystack r ended continues skips_empty) < 2 ^ 64
+few_turns regex text haystack r ended continues skips_empty range short e f h =
+    let few : length (matches_of regex text haystack r) ≤ suc r.range_end = few_matches (scan regex text haystack r) r.start (scan_sound regex text haystack r range) in
+    rw (e, f, h) (omega (arith, few, range, short))
 
 pub next_place_clean : (text : Bool) (haystack : List ℕ) (i : ℕ) → text ≡ true → IsTrue (is_boundary haystack (next_place text haystack i))
 next_place_clean true haystack i e = next_place_boundary haystack i

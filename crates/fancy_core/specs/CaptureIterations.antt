@@ -1,5 +1,5 @@
 -- What stands for an iterator over matches with their groups.
-use Rattle.std.specs.Prelude.{◌≡◌, ◌+◌, ℕ, Bool, false, List, Option, Result, MatchOption, MatchResult, ⊤, map}
+use Rattle.std.specs.Prelude.{◌≡◌, ◌+◌, ℕ, Bool, false, List, Option, Result, IfNone, MatchOption, MatchResult, ⊤, map}
 use Rattle.fancy_syntax.specs.declared.error.Error.{Error}
 use Rattle.fancy_engine.specs.Context.{Span}
 use Rattle.fancy_core.specs.declared.iter.Matches.{Matches}
@@ -8,7 +8,7 @@ use Rattle.fancy_core.specs.Groups.{spans_of}
 use Rattle.fancy_core.specs.Matching.{Item}
 use Rattle.fancy_core.specs.Left.{GivesFirst, EndsUnlessOk, IfItem}
 use Rattle.fancy_core.specs.Regexes.{groups_in}
-use Rattle.fancy_core.specs.Iterations.{regex_in, text_of, next_request, has_ended, left_in}
+use Rattle.fancy_core.specs.Iterations.{regex_in, text_of, next_request, has_ended, left_in, end_in}
 
 -- the iteration over the matches alone
 abbrev pub matches_in : {S : Type 0} {g : _} → CaptureMatches S g → Matches S g
@@ -31,6 +31,9 @@ pub record IsNextCaptures {S A : Type 0} {g : _} (text : S → Bool) (bytes : S 
   pub same_text : text_of (matches_in t) ≡ text_of (matches_in s)
   pub same_request : next_request (matches_in t) ≡ record (next_request (matches_in s)) { start = (next_request (matches_in t)).start }
   pub refuses : MatchOption r ⊤ (λ item. MatchResult item (λ _. ⊤) (λ _. (next_request (matches_in t)).start ≡ (next_request (matches_in s)).range_end + 1))
+  -- an item leaves the list's end where it is, and there the next search is that which found none
+  pub keeps_end : IfItem r (λ _. end_in text bytes (matches_in t) ≡ end_in text bytes (matches_in s))
+  pub rests : IfNone r ((next_request (matches_in t)).start ≡ end_in text bytes (matches_in s))
   -- a list that has ended stays so
   pub ends : EndsUnlessOk r (has_ended (matches_in t))
   pub unended : MatchOption r ⊤ (λ _. has_ended (matches_in s) ≡ false)

@@ -1,11 +1,11 @@
 -- What stands for an iterator over matches: the regex, the haystack, what the next search is asked, and what is left.
-use Rattle.std.specs.Prelude.{◌≡◌, ◌+◌, ℕ, Bool, false, List, Option, Result, MatchOption, MatchResult, ⊤, map}
+use Rattle.std.specs.Prelude.{◌≡◌, ◌+◌, ℕ, Bool, false, List, Option, Result, IfNone, MatchOption, MatchResult, ⊤, map}
 use Rattle.fancy_syntax.specs.declared.error.Error.{Error}
 use Rattle.fancy_input.specs.declared.input.Request.{Request}
 use Rattle.fancy_core.specs.declared.regex.Regex.{Regex}
 use Rattle.fancy_core.specs.declared.iter.Matches.{Matches}
 use Rattle.fancy_core.specs.Matching.{Item, span_of_item}
-use Rattle.fancy_core.specs.Left.{items_left, turns_left, start_behind, GivesFirst, EndsUnlessOk, IfItem}
+use Rattle.fancy_core.specs.Left.{items_left, end_left, turns_left, start_behind, GivesFirst, EndsUnlessOk, IfItem}
 
 abbrev pub regex_in : {S : Type 0} {g : _} → Matches S g → Regex
 regex_in m = m.regex.now
@@ -29,6 +29,10 @@ left_in text bytes m = items_left m.regex.now (text m.walk.haystack) (bytes m.wa
 abbrev pub spans_left : {S : Type 0} {g : _} → (S → Bool) → (S → List ℕ) → Matches S g → List (ℕ × ℕ)
 spans_left text bytes m = map span_of_item (left_in text bytes m)
 
+-- where the search starts that finds none, at the end of the items that are left
+abbrev pub end_in : {S : Type 0} {g : _} → (S → Bool) → (S → List ℕ) → Matches S g → ℕ
+end_in text bytes m = end_left m.regex.now (text m.walk.haystack) (bytes m.walk.haystack) m.walk.request m.walk.ended m.walk.continues m.walk.skips_empty
+
 -- how many items can still come
 abbrev pub turns_of : {S : Type 0} {g : _} → (S → Bool) → (S → List ℕ) → Matches S g → ℕ
 turns_of text bytes m = turns_left m.walk.ended (left_in text bytes m)
@@ -44,6 +48,9 @@ pub record IsNext {S A : Type 0} {g : _} (text : S → Bool) (bytes : S → List
   -- the next search starts behind the item
   pub moves : IfItem r (λ x. (next_request t).start ≡ start_behind (text (text_of s)) (bytes (text_of s)) (span x))
   pub refuses : MatchOption r ⊤ (λ item. MatchResult item (λ _. ⊤) (λ _. (next_request t).start ≡ (next_request s).range_end + 1))
+  -- an item leaves the list's end where it is, and there the next search is that which found none
+  pub keeps_end : IfItem r (λ _. end_in text bytes t ≡ end_in text bytes s)
+  pub rests : IfNone r ((next_request t).start ≡ end_in text bytes s)
   -- a list that has ended stays so
   pub ends : EndsUnlessOk r (has_ended t)
   pub unended : MatchOption r ⊤ (λ _. has_ended s ≡ false)

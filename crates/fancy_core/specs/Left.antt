@@ -12,7 +12,7 @@ use Rattle.fancy_core.specs.declared.regex.Regex.{Regex}
 use Rattle.fancy_core.specs.declared.walk.Located.{Located}
 use Rattle.fancy_core.specs.Regexes.{asked}
 use Rattle.fancy_core.specs.Groups.{AreCut, spans_of, found_at}
-use Rattle.fancy_core.specs.Matching.{Scan, Item, answer, unless_empty_at, items_from, matches}
+use Rattle.fancy_core.specs.Matching.{Scan, Item, answer, unless_empty_at, start_unless_empty_at, items_from, end_from, matches, last_start}
 
 -- the iteration of a request; `text` says that the haystack is text
 abbrev pub scan : Regex → Bool → List ℕ → Request → Scan
@@ -26,6 +26,10 @@ scan regex text haystack r = record {
 -- the matches that a request has one behind the other
 abbrev pub matches_of : Regex → Bool → List ℕ → Request → List Item
 matches_of regex text haystack r = matches (scan regex text haystack r) r.start
+
+-- where the search starts that finds none, at the end of these
+abbrev pub last_start_of : Regex → Bool → List ℕ → Request → ℕ
+last_start_of regex text haystack r = last_start (scan regex text haystack r) r.start
 
 -- the haystack can be cut at the groups of what the last search with this memory found
 pub record HasGroups (text : Bool) (haystack : List ℕ) (position : ℕ) (memory : Memory) : Type 0 where
@@ -44,6 +48,11 @@ abbrev pub upcoming_if : Bool → Scan → ℕ → Bool → Option Item
 upcoming_if false k s c = answer k s c
 upcoming_if true k s c = unless_empty_at k s (answer k s c)
 
+-- where the search of the next item starts
+abbrev pub start_if : Bool → Scan → ℕ → Bool → ℕ
+start_if false k s c = s
+start_if true k s c = start_unless_empty_at k s (answer k s c)
+
 abbrev pub left_if : Bool → Scan → ℕ → Bool → Bool → List Item
 left_if true k s c b = []
 left_if false k s c b = items_from k (upcoming_if b k s c)
@@ -51,6 +60,14 @@ left_if false k s c b = items_from k (upcoming_if b k s c)
 -- the items that are left: whether the list has ended, whether `\G` is on, and whether an empty match at the start is passed over
 abbrev pub items_left : Regex → Bool → List ℕ → Request → Bool → Bool → Bool → List Item
 items_left regex text haystack r ended continues skips_empty = left_if ended (scan regex text haystack r) r.start continues skips_empty
+
+abbrev pub end_if : Bool → Scan → ℕ → Bool → Bool → ℕ
+end_if true k s c b = s
+end_if false k s c b = end_from k (start_if b k s c) (upcoming_if b k s c)
+
+-- where the search starts that finds none, at the end of the items that are left; a list that has ended stays where it is
+abbrev pub end_left : Regex → Bool → List ℕ → Request → Bool → Bool → Bool → ℕ
+end_left regex text haystack r ended continues skips_empty = end_if ended (scan regex text haystack r) r.start continues skips_empty
 
 -- One step of an iterator of results over the list `rest`: the first of them, or a refusal for want of memory, after which it has ended.
 abbrev pub GivesFirst : {S A B : Type 0} → (A → B) → (S → List B) → S → Option (Result A Error) → S → Type 0

@@ -39,12 +39,24 @@ abbrev pub unless_empty_at : Scan → ℕ → Option Item → Option Item
 unless_empty_at k e None = None
 unless_empty_at k e (Some i) = if is_empty i && nat_eq (stop_of i) e then answer k (k.advance e) false else Some i
 
+-- where the search starts whose answer that is: at e, and where the empty match at e is passed over, at the next place
+abbrev pub start_unless_empty_at : Scan → ℕ → Option Item → ℕ
+start_unless_empty_at k e None = e
+start_unless_empty_at k e (Some i) = if is_empty i && nat_eq (stop_of i) e then k.advance e else e
+
 -- What stands behind an item. Behind an empty one `\G` is off where that was searched from its own end.
 unfoldable pub behind : Scan → Item → Option Item
 behind k i =
     if is_empty i
     then answer k (k.advance (stop_of i)) (not (nat_eq i.from (stop_of i)))
     else unless_empty_at k (stop_of i) (answer k (stop_of i) true)
+
+-- where the search starts whose answer stands behind an item
+unfoldable pub searched_behind : Scan → Item → ℕ
+searched_behind k i =
+    if is_empty i
+    then k.advance (stop_of i)
+    else start_unless_empty_at k (stop_of i) (answer k (stop_of i) true)
 
 -- the item and those behind it, n at most
 abbrev pub chain : ℕ → Scan → Option Item → List Item
@@ -59,6 +71,20 @@ items_from k o = chain (suc k.last) k o
 -- the list of matches from a start
 abbrev pub matches : Scan → ℕ → List Item
 matches k s = items_from k (answer k s true)
+
+-- where the search starts that finds none behind the item and those behind it, n at most; without an item it is that from s
+abbrev pub chain_end : ℕ → Scan → ℕ → Option Item → ℕ
+chain_end n k s None = s
+chain_end zero k s (Some i) = s
+chain_end (suc n) k s (Some i) = chain_end n k (searched_behind k i) (behind k i)
+
+-- where the search starts that finds none behind the item and all those behind it
+unfoldable pub end_from : Scan → ℕ → Option Item → ℕ
+end_from k s o = chain_end (suc k.last) k s o
+
+-- where the search starts that finds none, at the end of the list of matches from a start
+abbrev pub last_start : Scan → ℕ → ℕ
+last_start k s = end_from k s (answer k s true)
 
 -- an item lies behind the start that it was searched from, and within the range
 pub record Lies (k : Scan) (i : Item) : Type 0 where
@@ -79,3 +105,8 @@ Behind i (j ∷ js) = (stop_of i ≤ start_of j) × (stop_of i < stop_of j) × B
 abbrev pub InOrder : List Item → Type 0
 InOrder [] = Unit
 InOrder (i ∷ is) = Behind i is
+
+-- the search from s, with `\G` on or off, finds none
+pub record FindsNone (k : Scan) (s : ℕ) : Type 0 where
+  pub continues : Bool
+  pub none : k.find s continues ≡ None

@@ -1,12 +1,12 @@
 //! Iterators over matches.
 
-ghost use Rattle.std.specs.Prelude.{◌≡◌};
+ghost use Rattle.std.specs.Prelude.{◌≡◌, ◌<◌, ◌^◌};
 ghost use Rattle.std.specs.Iterator.{at_most};
 ghost use Rattle.fancy_input.specs.Inputs.{haystack_in, request_in};
 ghost use Rattle.fancy_input.specs.Requests.{whole};
 ghost use Rattle.fancy_core.specs.Regexes.{options_in};
 ghost use Rattle.fancy_core.specs.Searching.{Suits, CanSearch};
-ghost use Rattle.fancy_core.specs.Left.{matches_of};
+ghost use Rattle.fancy_core.specs.Left.{matches_of, last_start_of};
 
 mod captures;
 
@@ -35,16 +35,19 @@ pub struct Matches<'r, S: Haystack> {
 }
 
 impl Regex {
-    ghost use Rattle.fancy_core.specs.Iterations.{left_in, regex_in, text_of, next_request};
+    ghost use Rattle.fancy_core.specs.Iterations.{left_in, end_in, turns_of, regex_in, text_of, next_request};
 
     /// The matches in the haystack, from its start on.
     ///
     /// ```text
     /// Regex::new(alloc, "a*")?.find_iter("baa")  // 0..0, 1..3
     /// ```
+    #[tactic(auto, using(crate::proofs::ScanLemmas::few_turns))]
     pub fn find_iter<S: Input>(&self, haystack: S) -> Matches<'_, S>
         requires suits { Suits (options_in self.now) (S.text haystack) (S.bytes haystack) }
         ensures matches { left_in S.text S.bytes result ≡ matches_of self.now (S.text haystack) (S.bytes haystack) (whole (S.bytes haystack)) }
+        ensures end { end_in S.text S.bytes result ≡ last_start_of self.now (S.text haystack) (S.bytes haystack) (whole (S.bytes haystack)) }
+        ensures countable { turns_of S.text S.bytes result < 2 ^ 64 }
         ensures regex { regex_in result ≡ self.now }
         ensures text { text_of result ≡ haystack }
         ensures request { next_request result ≡ whole (S.bytes haystack) }
@@ -57,9 +60,12 @@ impl Regex {
     }
 
     /// The matches that the input asks for.
+    #[tactic(auto, using(crate::proofs::ScanLemmas::few_turns))]
     pub fn find_iter_input<S: Input>(&self, input: RegexInput<S>) -> Matches<'_, S>
         requires searched { CanSearch (options_in self.now) (S.text (haystack_in input)) (S.bytes (haystack_in input)) (request_in input) }
         ensures matches { left_in S.text S.bytes result ≡ matches_of self.now (S.text (haystack_in input)) (S.bytes (haystack_in input)) (request_in input) }
+        ensures end { end_in S.text S.bytes result ≡ last_start_of self.now (S.text (haystack_in input)) (S.bytes (haystack_in input)) (request_in input) }
+        ensures countable { turns_of S.text S.bytes result < 2 ^ 64 }
         ensures regex { regex_in result ≡ self.now }
         ensures text { text_of result ≡ haystack_in input }
         ensures request { next_request result ≡ request_in input }

@@ -1,15 +1,14 @@
 //! Where an iteration over matches stands.
 
-ghost use Rattle.std.specs.Prelude.{◌≡◌, ◌≤◌, ◌<◌, ◌+◌, ◌&&◌, true, false, option_map, length, IsTrue, IfOk, IfErr, IfSome, MatchOption, MatchResult, ⊤};
+ghost use Rattle.std.specs.Prelude.{◌≡◌, ◌≤◌, ◌<◌, ◌+◌, ◌^◌, ◌&&◌, not, nat_eq, true, false, option_map, length, IsTrue, IfOk, IfErr, IfSome, IfNone, MatchOption, MatchResult, ⊤};
 ghost use Rattle.fancy_input.specs.Inputs.{haystack_in, request_in};
 ghost use Rattle.fancy_input.specs.Places.{next_place, is_boundary};
 ghost use Rattle.fancy_engine.specs.Queries.{way_in};
-ghost use Rattle.fancy_core.specs.declared.regex.Regex.{Regex};
 ghost use Rattle.fancy_core.specs.Regexes.{options_in};
 ghost use Rattle.fancy_core.specs.Searching.{Suits};
-ghost use Rattle.fancy_core.specs.Matching.{answer, behind, start_of, stop_of};
+ghost use Rattle.fancy_core.specs.Matching.{answer};
 ghost use Rattle.fancy_core.specs.Groups.{IsCut};
-ghost use Rattle.fancy_core.specs.Left.{scan, items_left, item_in, upcoming_if, GivesFirst, EndsUnlessOk, IfItem, HasGroups, start_behind};
+ghost use Rattle.fancy_core.specs.Left.{scan, items_left, end_left, item_in, upcoming_if, start_if, GivesFirst, EndsUnlessOk, IfItem, HasGroups, start_behind};
 
 use crate::regex::Regex;
 use fancy_engine::search::Memory;
@@ -43,6 +42,7 @@ pub(crate) struct Walk<S: Haystack> {
     ended: bool,
     pub ghost ordered: { request.range_start ≤ request.range_end },
     pub ghost inside: { request.range_end ≤ length (S.bytes haystack) },
+    pub ghost short: { length (S.bytes haystack) < 2 ^ 63 },
 }
 
 impl<S: Input> Walk<S> {
@@ -54,8 +54,11 @@ impl<S: Input> Walk<S> {
         ensures skips_empty { result.skips_empty ≡ false }
         ensures ended { result.ended ≡ false }
     {
+        let haystack = input.haystack();
+        // a slice is shorter than 2^63 bytes
+        let _bytes = haystack.as_bytes();
         Walk {
-            haystack: input.haystack(),
+            haystack,
             request: input.request(),
             continues: true,
             skips_empty: false,
@@ -119,13 +122,12 @@ impl<S: Input> Walk<S> {
     }
 
     /// The iteration from behind an item.
-    #[tactic(auto, using(crate::proofs::LeftLemmas::behind_empty, crate::proofs::LeftLemmas::behind_other))]
-    fn behind(&self, item: Located, _regex: &Regex, _memory: &Memory) -> Walk<S>
+    fn behind(&self, item: Located) -> Walk<S>
         requires span { IsCut (S.text self.now.haystack) (S.bytes self.now.haystack) item.start item.end }
-        requires end { item.end ≡ (way_in _memory.now).place }
         ensures haystack { result.haystack ≡ self.now.haystack }
         ensures request { result.request ≡ record self.now.request { start = result.request.start } }
-        ensures left { let k = scan _regex.now (S.text self.now.haystack) (S.bytes self.now.haystack) self.now.request in upcoming_if result.skips_empty k result.request.start result.continues ≡ behind k (item_in _memory.now item) }
+        ensures continues { result.continues ≡ not (nat_eq item.start item.end && nat_eq item.from item.end) }
+        ensures skips_empty { result.skips_empty ≡ not (nat_eq item.start item.end) }
         ensures ended { result.ended ≡ false }
         ensures moved { item.end ≤ result.request.start }
         ensures stands { result.request.start ≡ start_behind (S.text self.now.haystack) (S.bytes self.now.haystack) (item.start, item.end) }
@@ -172,11 +174,12 @@ impl<S: Input> Walk<S> {
     }
 
     /// The next item. An empty match that is passed over moves the iteration on.
-    #[tactic(auto, using(crate::proofs::LeftLemmas::skips, crate::proofs::LeftLemmas::keeps, crate::proofs::LeftLemmas::keeps_none))]
+    #[tactic(auto, using(crate::proofs::LeftLemmas::skips, crate::proofs::LeftLemmas::keeps, crate::proofs::LeftLemmas::keeps_none, crate::proofs::LeftLemmas::stays, crate::proofs::LeftLemmas::stays_none))]
     fn upcoming(&mut self, regex: &Regex, memory: &mut Memory) -> Result<Option<Located>>
         requires open { self.old.ended ≡ false }
         requires suits { Suits (options_in regex.now) (S.text self.old.haystack) (S.bytes self.old.haystack) }
         ensures value { IfOk result (λ o. option_map (item_in memory.new) o ≡ upcoming_if self.old.skips_empty (scan regex.now (S.text self.old.haystack) (S.bytes self.old.haystack) self.old.request) self.old.request.start self.old.continues) }
+        ensures start { IfOk result (λ _. self.new.request.start ≡ start_if self.old.skips_empty (scan regex.now (S.text self.old.haystack) (S.bytes self.old.haystack) self.old.request) self.old.request.start self.old.continues) }
         ensures end { IfOk result (λ o. IfSome o (λ i. i.end ≡ (way_in memory.new).place)) }
         ensures placed { IfOk result (λ o. IfSome o (λ i. IsCut (S.text self.old.haystack) (S.bytes self.old.haystack) i.start i.end)) }
         ensures after { IfOk result (λ o. IfSome o (λ i. self.old.request.start ≤ i.start)) }
@@ -198,10 +201,12 @@ impl<S: Input> Walk<S> {
     }
 
     /// Gives the next item and goes on behind it. A refusal ends the list.
-    #[tactic(auto, using(crate::proofs::ScanLemmas::scan_sound, crate::proofs::LeftLemmas::next_left, crate::proofs::LeftLemmas::none_left))]
+    #[tactic(auto, using(crate::proofs::ScanLemmas::scan_sound, crate::proofs::LeftLemmas::next_left, crate::proofs::LeftLemmas::none_left, crate::proofs::LeftLemmas::none_end))]
     pub fn next_item(&mut self, regex: &Regex, memory: &mut Memory) -> Option<Result<Located>>
         requires suits { Suits (options_in regex.now) (S.text self.old.haystack) (S.bytes self.old.haystack) }
         ensures steps { GivesFirst (item_in memory.new) (λ w. items_left regex.now (S.text w.haystack) (S.bytes w.haystack) w.request w.ended w.continues w.skips_empty) self.old result self.new }
+        ensures keeps_end { IfItem result (λ _. end_left regex.now (S.text self.new.haystack) (S.bytes self.new.haystack) self.new.request self.new.ended self.new.continues self.new.skips_empty ≡ end_left regex.now (S.text self.old.haystack) (S.bytes self.old.haystack) self.old.request self.old.ended self.old.continues self.old.skips_empty) }
+        ensures rests { IfNone result (self.new.request.start ≡ end_left regex.now (S.text self.old.haystack) (S.bytes self.old.haystack) self.old.request self.old.ended self.old.continues self.old.skips_empty) }
         ensures haystack { self.new.haystack ≡ self.old.haystack }
         ensures request { self.new.request ≡ record self.old.request { start = self.new.request.start } }
         ensures ends { EndsUnlessOk result self.new.ended }
@@ -219,7 +224,7 @@ impl<S: Input> Walk<S> {
         }
         match self.upcoming(regex, memory) {
             Ok(Some(item)) => {
-                *self = self.behind(item, regex, memory);
+                *self = self.behind(item);
                 Some(Ok(item))
             }
             Ok(None) => {
@@ -239,20 +244,7 @@ impl<S: Input> Walk<S> {
         ensures request { self.new.request ≡ record self.old.request { start = self.old.request.range_end + 1 } }
         ensures ended { self.new.ended ≡ true }
     {
-        let past = after(self.haystack.as_bytes(), self.request.range_end);
         self.ended = true;
-        self.request.start = past;
-    }
-}
-
-/// The number after an offset into the bytes.
-fn after(bytes: &[u8], offset: usize) -> usize
-    requires { offset ≤ length bytes.now }
-    ensures { result ≡ offset + 1 }
-{
-    if offset < bytes.len() {
-        offset + 1
-    } else {
-        bytes.len() + 1
+        self.request.start = self.request.range_end + 1;
     }
 }

@@ -454,3 +454,35 @@ fn collects_and_names_groups(rt: HostRuntime) -> Result<(), Fail> {
     assert_eq!(rt; all.len(), 2);
     Ok(())
 }
+
+#[test]
+fn counts_items(rt: HostRuntime) -> Result<(), Fail> {
+    let alloc = rt.alloc();
+    let regex = Regex::new(alloc, "a?")?;
+    let bytes: &[u8] = b"baa";
+    let text_from_one = RegexInput::new("baa").from_pos(1);
+    let bytes_from_one = RegexInput::new(bytes).from_pos(1);
+    assert_eq!(rt; regex.find_iter("baa").count(), 3);
+    assert_eq!(rt; regex.find_iter(bytes).count(), 3);
+    assert_eq!(rt; regex.find_iter_input(text_from_one.again()).count(), 2);
+    assert_eq!(rt; regex.find_iter_input(bytes_from_one.again()).count(), 2);
+    assert_eq!(rt; regex.captures_iter("baa").count(), 3);
+    assert_eq!(rt; regex.captures_iter(bytes).count(), 3);
+    assert_eq!(rt; regex.captures_iter_input(text_from_one).count(), 2);
+    assert_eq!(rt; regex.captures_iter_input(bytes_from_one).count(), 2);
+    Ok(())
+}
+
+#[test]
+fn counts_what_is_left(rt: HostRuntime) -> Result<(), Fail> {
+    let alloc = rt.alloc();
+    let regex = Regex::new(alloc, "a?")?;
+    let mut matches = regex.find_iter("baa");
+    let first = matches.next().ok_or("no match")??;
+    assert_eq!(rt; (first.start(), first.end()), (0, 0));
+    assert_eq!(rt; matches.count(), 2);
+    let regex = Regex::new(alloc, "(a)|b")?;
+    let groups = regex.captures("ba")?.ok_or("no match")?;
+    assert_eq!(rt; groups.iter().count(), 2);
+    Ok(())
+}

@@ -1,13 +1,13 @@
 //! Iterators over matches with their groups.
 
-ghost use Rattle.std.specs.Prelude.{◌≡◌};
+ghost use Rattle.std.specs.Prelude.{◌≡◌, ◌<◌, ◌^◌};
 ghost use Rattle.std.specs.Iterator.{at_most};
 ghost use Rattle.fancy_input.specs.Inputs.{haystack_in, request_in};
 ghost use Rattle.fancy_input.specs.Requests.{whole};
 ghost use Rattle.fancy_core.specs.Captured.{spans_in, searched_in};
 ghost use Rattle.fancy_core.specs.Regexes.{options_in, groups_in};
 ghost use Rattle.fancy_core.specs.Searching.{Suits, CanSearch};
-ghost use Rattle.fancy_core.specs.Left.{matches_of};
+ghost use Rattle.fancy_core.specs.Left.{matches_of, last_start_of};
 
 use crate::captures::Captures;
 use crate::capturing::groups_found;
@@ -28,7 +28,7 @@ pub struct CaptureMatches<'r, S: Haystack> {
 
 impl Regex {
     ghost use Rattle.fancy_core.specs.CaptureIterations.{groups_left, groups_of_each, matches_in};
-    ghost use Rattle.fancy_core.specs.Iterations.{regex_in, text_of, next_request};
+    ghost use Rattle.fancy_core.specs.Iterations.{end_in, turns_of, regex_in, text_of, next_request};
 
     /// The matches in the haystack with their groups, from its start on.
     ///
@@ -38,6 +38,8 @@ impl Regex {
     pub fn captures_iter<S: Input>(&self, haystack: S) -> CaptureMatches<'_, S>
         requires suits { Suits (options_in self.now) (S.text haystack) (S.bytes haystack) }
         ensures matches { groups_left S.text S.bytes result ≡ groups_of_each (groups_in self.now) (matches_of self.now (S.text haystack) (S.bytes haystack) (whole (S.bytes haystack))) }
+        ensures end { end_in S.text S.bytes (matches_in result) ≡ last_start_of self.now (S.text haystack) (S.bytes haystack) (whole (S.bytes haystack)) }
+        ensures countable { turns_of S.text S.bytes (matches_in result) < 2 ^ 64 }
         ensures regex { regex_in (matches_in result) ≡ self.now }
         ensures text { text_of (matches_in result) ≡ haystack }
         ensures request { next_request (matches_in result) ≡ whole (S.bytes haystack) }
@@ -51,6 +53,8 @@ impl Regex {
     pub fn captures_iter_input<S: Input>(&self, input: RegexInput<S>) -> CaptureMatches<'_, S>
         requires searched { CanSearch (options_in self.now) (S.text (haystack_in input)) (S.bytes (haystack_in input)) (request_in input) }
         ensures matches { groups_left S.text S.bytes result ≡ groups_of_each (groups_in self.now) (matches_of self.now (S.text (haystack_in input)) (S.bytes (haystack_in input)) (request_in input)) }
+        ensures end { end_in S.text S.bytes (matches_in result) ≡ last_start_of self.now (S.text (haystack_in input)) (S.bytes (haystack_in input)) (request_in input) }
+        ensures countable { turns_of S.text S.bytes (matches_in result) < 2 ^ 64 }
         ensures regex { regex_in (matches_in result) ≡ self.now }
         ensures text { text_of (matches_in result) ≡ haystack_in input }
         ensures request { next_request (matches_in result) ≡ request_in input }
