@@ -13,3 +13,4 @@ pub mod WriteLemmas
 pub mod PieceLemmas
 pub mod EscapeLemmas
 pub mod ReadLemmas
+pub mod SplitLemmas

@@ -13,3 +13,4 @@ pub mod Expansions
 pub mod Escapes
 pub mod Expanders
 pub mod Pieces
+pub mod Splits

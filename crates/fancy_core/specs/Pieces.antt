@@ -1,5 +1,5 @@
 -- The parts of a text between spans, in byte offsets.
-use Rattle.std.specs.Prelude.{ℕ, zero, suc, ◌≤◌, List, [], ◌∷◌, ◌++◌, take, length, slice_range}
+use Rattle.std.specs.Prelude.{ℕ, zero, suc, ◌≤◌, Bool, true, false, List, [], ◌∷◌, ◌++◌, take, length, slice_range, if◌then◌else◌}
 
 -- The parts of t between the spans, from a place on: the part before the first span, and so on, and the rest after the last.
 abbrev pub pieces : List ℕ → ℕ → List (ℕ × ℕ) → List (List ℕ)
@@ -31,3 +31,29 @@ limited (suc n) xs = take (suc n) xs
 abbrev pub AreBetween : ℕ → ℕ → List (ℕ × ℕ) → Type 0
 AreBetween at last [] = at ≤ last
 AreBetween at last (x ∷ xs) = (at ≤ x.0) × (x.0 ≤ x.1) × AreBetween x.1 last xs
+
+-- How far a split has come: its text, where the last match ended, the spans that are left, and whether the rest was given.
+pub record Progress : Type 0 where
+  pub text : List ℕ
+  pub last : ℕ
+  pub spans : List (ℕ × ℕ)
+  pub ended : Bool
+
+abbrev pub pieces_left : Progress → List (List ℕ)
+pieces_left p = if p.ended then [] else pieces p.text p.last p.spans
+
+-- the pieces that are left, n at most
+abbrev pub first_pieces_left : ℕ → Progress → List (List ℕ)
+first_pieces_left n p = if p.ended then [] else first_pieces n p.text p.last p.spans
+
+-- the rest of the text, from the last end on
+abbrev pub rest_of : Progress → List ℕ
+rest_of p = slice_range p.text p.last (length p.text)
+
+abbrev pub past_piece_before : Progress → List (ℕ × ℕ) → Progress
+past_piece_before p [] = record p { ended = true }
+past_piece_before p (x ∷ xs) = record p { last = x.1; spans = xs }
+
+-- Behind the next piece: the span that follows it is passed over; behind the rest nothing comes.
+abbrev pub past_piece : Progress → Progress
+past_piece p = past_piece_before p p.spans

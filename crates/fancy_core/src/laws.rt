@@ -1,10 +1,12 @@
 //! Laws of the lists over matches.
 
-ghost use Rattle.std.specs.Prelude.{◌≡◌, ◌≤◌, ◌+◌, suc, max, length};
+ghost use Rattle.std.specs.Prelude.{◌≡◌, ◌<◌, ◌≤◌, ◌+◌, ℕ, List, suc, max, min, length, take};
 ghost use Rattle.fancy_input.specs.Inputs.{haystack_in, request_in};
 ghost use Rattle.fancy_input.specs.Requests.{effective_start};
 ghost use Rattle.fancy_core.specs.Matching.{InOrder, FindsNone};
 ghost use Rattle.fancy_core.specs.Left.{scan, matches_of, last_start_of};
+ghost use Rattle.fancy_core.specs.Pieces.{pieces, first_pieces, interleaved, texts};
+ghost use Rattle.fancy_core.specs.Splits.{match_spans};
 
 use crate::regex::Regex;
 use fancy_input::input::Input;
@@ -22,4 +24,19 @@ pub fn ends_increase<S: Input>(_regex: &Regex, _input: &RegexInput<S>)
 #[tactic(auto, using(crate::proofs::EndLemmas::last_start_finds_none, crate::proofs::ScanLemmas::scan_sound))]
 pub fn last_search_finds_none<S: Input>(_regex: &Regex, _input: &RegexInput<S>)
     ensures { FindsNone (scan _regex.now (S.text (haystack_in _input.now)) (S.bytes (haystack_in _input.now)) (request_in _input.now)) (last_start_of _regex.now (S.text (haystack_in _input.now)) (S.bytes (haystack_in _input.now)) (request_in _input.now)) }
+{}
+
+/// The pieces of a text between its matches, with the texts of the matches between them, are the text; and so are the first
+/// pieces, with the texts of the matches that were cut at.
+pub fn pieces_with_matches_are_the_text(_regex: &Regex, _text: &str)
+    ensures all { interleaved (pieces _text.now 0 (match_spans _regex.now _text.now)) (texts _text.now (match_spans _regex.now _text.now)) ≡ _text.now }
+    ensures first { (n : ℕ) → interleaved (first_pieces (suc n) _text.now 0 (match_spans _regex.now _text.now)) (texts _text.now (take n (match_spans _regex.now _text.now))) ≡ _text.now }
+{}
+
+/// A text has one piece more than spans. Of these the first are as many as a limit allows: all of them if it can be, else
+/// those before the last, and then the rest.
+pub fn limits_cut_pieces_off()
+    ensures count { (n : ℕ) (t : List ℕ) (spans : List (ℕ × ℕ)) → length (first_pieces n t 0 spans) ≡ min n (suc (length spans)) }
+    ensures all { (n : ℕ) (t : List ℕ) (spans : List (ℕ × ℕ)) → length spans < n → first_pieces n t 0 spans ≡ pieces t 0 spans }
+    ensures before { (n : ℕ) (t : List ℕ) (spans : List (ℕ × ℕ)) → take n (first_pieces (suc n) t 0 spans) ≡ take n (pieces t 0 spans) }
 {}

@@ -12,6 +12,7 @@ pub mod laws;
 pub(crate) mod letters;
 pub mod options;
 pub mod regex;
+pub mod split;
 pub mod steps;
 pub mod template_laws;
 #[cfg(test)]

@@ -11,3 +11,5 @@ mod inputs;
 mod iteration;
 #[cfg(test)]
 mod refusals;
+#[cfg(test)]
+mod splitting;

@@ -4,6 +4,7 @@
 //! |---|---|---|
 //! | `find P T` | `start..end text` of the first match of the pattern P in the text T | 0, or 1 without a match |
 //! | `captures P T` | for each group k of the first match `k start..end text`, or `k none` | 0, or 1 without a match |
+//! | `split P T` | a line for each piece of the text T between the matches of the pattern P | 0 |
 //!
 //! A command that is refused writes one line `error: ` and what is wrong to its second writer, and its
 //! status is 2: `usage` for other words, the refusal's name for a pattern or a search, `Output` where the
@@ -87,7 +88,7 @@ fn runtime_name(kind: &RuntimeError) -> &'static str {
 }
 
 /// Runs the command that `words`, those behind the program's name, spell, and answers the program's status:
-/// 0 where something was found, 1 where nothing was, 2 where the command was refused.
+/// 0 where something was found or split, 1 where nothing was found, 2 where the command was refused.
 pub fn run<W: io::Write, X: io::Write>(
     alloc: Global,
     words: &[String],
@@ -106,7 +107,7 @@ pub fn run<W: io::Write, X: io::Write>(
     }
 }
 
-/// Whether the command found something.
+/// Whether the command found something. A split always does, since it has a piece.
 fn command<W: io::Write>(alloc: Global, words: &[String], out: &mut W) -> Result<bool, Fault> {
     match words {
         [command, pattern, text] if command.as_str() == "find" => {
@@ -114,6 +115,9 @@ fn command<W: io::Write>(alloc: Global, words: &[String], out: &mut W) -> Result
         }
         [command, pattern, text] if command.as_str() == "captures" => {
             captures(alloc, pattern.as_str(), text.as_str(), out)
+        }
+        [command, pattern, text] if command.as_str() == "split" => {
+            split(alloc, pattern.as_str(), text.as_str(), out)
         }
         _ => Err(Fault::Usage),
     }
@@ -154,6 +158,19 @@ fn captures<W: io::Write>(
             )?,
             None => writeln!(out, "{number} none")?,
         }
+    }
+    Ok(true)
+}
+
+fn split<W: io::Write>(
+    alloc: Global,
+    pattern: &str,
+    text: &str,
+    out: &mut W,
+) -> Result<bool, Fault> {
+    let regex = Regex::new(alloc, pattern)?;
+    for piece in regex.split(text) {
+        writeln!(out, "{}", piece?)?;
     }
     Ok(true)
 }

@@ -67,6 +67,25 @@ fn prints_the_first_match(rt: HostRuntime) -> Result<(), Fail> {
 }
 
 #[test]
+fn prints_the_pieces(rt: HostRuntime) -> Result<(), Fail> {
+    let alloc = rt.alloc();
+    expect_run(&rt, alloc, &["split", ",", "1,,2"], "1\n\n2\n", "", 0)?;
+    expect_run(&rt, alloc, &["split", "", "b"], "\nb\n\n", "", 0)?;
+    expect_run(&rt, alloc, &["split", "a", ""], "\n", "", 0)?;
+    expect_run(&rt, alloc, &["split", "c", "xab"], "xab\n", "", 0)?;
+    expect_run(&rt, alloc, &["split", "a"], "", "error: usage\n", 2)?;
+    expect_run(
+        &rt,
+        alloc,
+        &["split", "?a", "x"],
+        "",
+        "error: TargetNotRepeatable\n",
+        2,
+    )?;
+    Ok(())
+}
+
+#[test]
 fn names_what_is_wrong(rt: HostRuntime) -> Result<(), Fail> {
     let alloc = rt.alloc();
     expect_run(&rt, alloc, &[], "", "error: usage\n", 2)?;
@@ -111,6 +130,11 @@ fn names_what_is_wrong(rt: HostRuntime) -> Result<(), Fail> {
 fn a_writer_that_fails(rt: HostRuntime) -> Result<(), Fail> {
     let alloc = rt.alloc();
     let words = words_of(alloc, &["find", "a|ab", "xab"])?;
+    let mut complained = Vec::new(alloc);
+    let mut broken = Broken { left: 3 };
+    assert_eq!(rt; run(alloc, &words, &mut broken, &mut complained), 2);
+    assert_eq!(rt; complained.as_slice(), b"error: Output\n".as_slice());
+    let words = words_of(alloc, &["split", "a", "xab"])?;
     let mut complained = Vec::new(alloc);
     let mut broken = Broken { left: 3 };
     assert_eq!(rt; run(alloc, &words, &mut broken, &mut complained), 2);

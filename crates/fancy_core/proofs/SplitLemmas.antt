@@ -1,0 +1,62 @@
+-- Lemmas on the steps of a split.
+use Rattle.std.proofs.Common.{arith, ℕ, zero, suc, ◌+◌, ◌-◌, ◌<◌, ◌≤◌, ◌^◌, ◌≡◌, Bool, true, false, not, max, List, [], ◌∷◌, length, take, slice_range, Option, None, Some, Result, refl, ap}
+use Rattle.std.specs.Prelude.{Ok, Err}
+use Rattle.fancy_syntax.specs.declared.error.Error.{Error}
+use Rattle.fancy_input.specs.declared.input.Request.{Request}
+use Rattle.fancy_input.specs.Requests.{whole}
+use Rattle.fancy_core.specs.declared.regex.Regex.{Regex}
+use Rattle.fancy_core.specs.declared.split.Split.{Split}
+use Rattle.fancy_core.specs.declared.split.limited.SplitN.{SplitN}
+use Rattle.fancy_core.specs.Left.{matches_of, items_left, turns_left}
+use Rattle.fancy_core.specs.Pieces.{Progress, pieces, pieces_left, first_pieces_left, past_piece}
+use Rattle.fancy_core.specs.Splits.{progress, searches, MovesOn, IsNextPiece, IsNextOfFirst}
+use Rattle.fancy_core.proofs.MatchingLemmas.{matches_count}
+use Rattle.fancy_core.proofs.ScanLemmas.{scan_sound}
+
+-- at most as many items come from a whole text as a number holds
+pub few_turns : (regex : Regex) (t bs : List ℕ) (r : Request) (ended continues skips_empty : Bool) → length t < 2 ^ 63 → bs ≡ t → r ≡ whole t → ended ≡ false → continues ≡ true → skips_empty ≡ false →
+    suc (turns_left ended (items_left regex true bs r ended continues skips_empty)) < 2 ^ 64
+few_turns regex t bs r ended continues skips_empty short e1 e2 e3 e4 e5 =
+    let few : 0 + length (matches_of regex true t (whole t)) ≤ max 0 (suc (length t)) = matches_count _ 0 (scan_sound regex true t (whole t) (omega arith)) in
+    rw (e1, e2, e3, e4, e5) (omega arith)
+
+sub-one_more : (n : ℕ) → suc (suc n) - 1 ≡ suc n
+sub-one_more n = omega arith
+
+-- something is left before the end
+some_left : (t : List ℕ) (last : ℕ) (xs : List (ℕ × ℕ)) (ended : Bool) → ended ≡ false → pieces_left (record { text = t; last = last; spans = xs; ended = ended }) ≡ [] → ⊥
+some_left t last [] ended e g = let h : slice_range t last (length t) ∷ [] ≡ [] = rw e at g in cc
+some_left t last (x ∷ xs) ended e g = let h : slice_range t last x.0 ∷ pieces t x.1 xs ≡ [] = rw e at g in cc
+
+-- the first piece is the first of the first l pieces too, where the limit allows more than one
+first_gives : (l : ℕ) (t : List ℕ) (last : ℕ) (xs : List (ℕ × ℕ)) (ended : Bool) (q : Progress) (b : List ℕ) → 1 < l → ended ≡ false → q ≡ past_piece (record { text = t; last = last; spans = xs; ended = ended }) →
+    pieces_left (record { text = t; last = last; spans = xs; ended = ended }) ≡ b ∷ pieces_left q →
+    first_pieces_left l (record { text = t; last = last; spans = xs; ended = ended }) ≡ b ∷ first_pieces_left (l - 1) q
+first_gives zero t last xs ended q b more e m g = absurd (omega arith)
+first_gives (suc zero) t last xs ended q b more e m g = absurd (omega arith)
+first_gives (suc (suc n)) t last [] ended q b more e m g =
+    let h : slice_range t last (length t) ∷ [] ≡ b ∷ [] = rw (m, e) at g in
+    rw (m, e) h
+first_gives (suc (suc n)) t last (x ∷ xs) ended q b more e m g =
+    let h : slice_range t last x.0 ∷ pieces t x.1 xs ≡ b ∷ pieces t x.1 xs = rw (m, e) at g in
+    let first : slice_range t last x.0 ≡ b = cc in
+    rw (m, e, sub-one_more n) (ap (λ (z : List ℕ). z ∷ pieces t x.1 (take n xs)) first)
+
+-- a step of the pieces is a step of the first pieces, where the limit allows more than one
+pub next_of_first : {A : Type 0} (bytes : A → List ℕ) (s : SplitN) (r : Option (Result A Error)) (t : Split) → 1 < s.limit → s.split.ended ≡ false → IsNextPiece bytes s.split r t →
+    IsNextOfFirst bytes s r (record { split = t; limit = s.limit - 1 })
+next_of_first bytes s None t more e h = absurd (some_left _ _ _ _ e h.gives.0)
+next_of_first bytes s (Some (Ok x)) t more e h = record {
+  gives = first_gives s.limit _ _ _ _ (progress t) (bytes x) more e h.moves h.gives;
+  counts = refl;
+  moves = λ _. h.moves;
+  refuses = tt;
+  same_regex = h.same_regex;
+}
+next_of_first bytes s (Some (Err z)) t more e h = record {
+  gives = (h.gives.0, ap (first_pieces_left (s.limit - 1)) h.moves);
+  counts = refl;
+  moves = λ _. h.moves;
+  refuses = (more, h.refuses.0, h.refuses.1);
+  same_regex = h.same_regex;
+}
