@@ -10,7 +10,7 @@ use Rattle.std.specs.Option.{option_map, option_or}
 use Rattle.fancy_syntax.specs.declared.tree.Assertion.{Assertion}
 use Rattle.fancy_syntax.specs.Pattern.{Pattern, empty, character, assertion, group, repeat, followed, or_else, last_branch, in_sequence, in_choice, in_branches}
 use Rattle.fancy_syntax.specs.Dialect.{Scope, Quantifies, greedily, lazily, literal_of, is_escapable, control_of, place_test, Branches, one, either, Parts, nothing, item, Item, set, bare, quantified, Atom, literal, anchor, escaped, plain, flagged, capture, Spells, with_part}
-use Rattle.fancy_engine.specs.Means.{is_easy, goes_back}
+use Rattle.fancy_engine.specs.Means.{HasSets, is_easy, goes_back}
 use Rattle.fancy_engine.specs.Placed.{has_raw_byte}
 
 -- A property of patterns that the forms of the dialect keep.
@@ -134,5 +134,21 @@ easy_spelled h =
       sequences = λ p q e f. both_hold (is_easy p) (is_easy q) e f;
       choices = λ p q e f. both_hold (is_easy p) (is_easy q) e f;
       last = λ p e. e;
+    })
+    h
+
+-- the sets of each pattern that a text spells are by rising edges
+pub sets_spelled : {s e : Scope} {text : Text} {p : Pattern} → Spells s text p e → HasSets p
+sets_spelled h =
+    nice_spelled HasSets
+    (record {
+      nothing_there = tt;
+      characters = λ c. tt;
+      assertions = λ a. tt;
+      groups = λ index p h. h;
+      repeats = λ low high taste p g h. h;
+      sequences = λ p q h k. (h, k);
+      choices = λ p q h k. (h, k);
+      last = λ p h. h;
     })
     h
