@@ -11,7 +11,7 @@ use Rattle.fancy_syntax.proofs.EndsLemmas as simple
 use Rattle.fancy_syntax.proofs.EndsLemmas.{IsSimple, simple_atom}
 use Rattle.fancy_syntax.specs.Pattern.{Pattern, empty, character, member_of, raw_byte, assertion, group, repeat, followed, or_else, last_branch, in_sequence, in_choice, in_branches}
 use Rattle.fancy_syntax.specs.Dialect.{Scope, Quantifies, greedily, lazily, literal_of, Branches, one, either, Parts, nothing, item, Item, set, bare, quantified, Atom, single, plain, flagged, capture, Spells, with_part}
-use Rattle.fancy_engine.specs.Means.{is_easy, goes_back}
+use Rattle.fancy_engine.specs.Means.{HasSets, is_easy, goes_back}
 use Rattle.fancy_engine.specs.Placed.{has_raw_byte}
 
 -- A property of patterns that the forms of the dialect keep.
@@ -141,5 +141,23 @@ easy_spelled {s} h =
       sequences = λ p q e f. both_hold (is_easy p) (is_easy q) e f;
       choices = λ p q e f. both_hold (is_easy p) (is_easy q) e f;
       last = λ p e. e;
+    })
+    refl h
+
+-- the sets of each pattern that a text spells are by rising edges
+pub sets_spelled : {s e : Scope} {text : Text} {p : Pattern} → Spells s text p e → HasSets p
+sets_spelled {s} h =
+    nice_spelled s.keeps_characters HasSets
+    (record {
+      nothing_there = tt;
+      sets = λ edges e. e;
+      bytes = λ byte e. tt;
+      characters = λ c. tt;
+      assertions = λ a. tt;
+      groups = λ index p h. h;
+      repeats = λ low high taste p g h. h;
+      sequences = λ p q h k. (h, k);
+      choices = λ p q h k. (h, k);
+      last = λ p h. h;
     })
     refl h

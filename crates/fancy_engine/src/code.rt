@@ -6,6 +6,7 @@ ghost use Rattle.fancy_engine.specs.Run.{instr_at};
 ghost use Rattle.fancy_engine.specs.Work.{steps_of, stepped};
 
 use crate::work::Work;
+use fancy_syntax::char_set::CharSet;
 use fancy_syntax::tree::{Assertion, Meaning};
 
 /// One instruction. The last numbers of an instruction are those of the instructions that follow it.
@@ -17,8 +18,8 @@ pub enum Instr {
     Fail,
     /// One item with this code.
     Character(char, usize),
-    /// One item of a set, which these rising numbers begin and end in turn.
-    Member(Vec<u32>, usize),
+    /// One item of this set.
+    Member(Box<CharSet>, usize),
     /// One byte, in any meaning.
     RawByte(u8, usize),
     /// A test of the place.

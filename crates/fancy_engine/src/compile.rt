@@ -1,14 +1,17 @@
 //! From a pattern to its code, from the end to the start, so that each instruction is told where it goes on.
 
 ghost use Rattle.std.specs.Prelude.{◌≡◌, ◌+◌, ◌-◌, ◌*◌, ◌<◌, ◌≤◌, IfOk, IsTrue, All, map, sum_by, slice_set, vec_len};
-ghost use Rattle.fancy_syntax.specs.Pattern.{pattern_of, group, in_sequence, in_choice};
+ghost use Rattle.fancy_syntax.specs.Pattern.{pattern_of, member_of, group, in_sequence, in_choice};
+ghost use Rattle.fancy_syntax.specs.Sets.{AreEdges};
 ghost use Rattle.fancy_syntax.specs.Sizes.{nodes, repeat_nodes};
 ghost use Rattle.fancy_engine.specs.Code.{code_len};
 ghost use Rattle.fancy_engine.specs.Trace.{is_greedy};
 ghost use Rattle.fancy_syntax.specs.Groups.{Numbered};
-ghost use Rattle.fancy_engine.specs.Means.{Keeps, Has, HasBoth, Emitted, CopiesEmitted, OptionalsEmitted, StarEmitted, RestEmitted, RepeatEmitted, IsCodeOf, is_easy, split_of};
+ghost use Rattle.fancy_engine.specs.Means.{Keeps, Has, HasBoth, Emitted, CopiesEmitted, OptionalsEmitted, StarEmitted, RestEmitted, RepeatEmitted, IsCodeOf, HasSets, is_easy, split_of};
 
 use crate::code::{Code, Entry, FAIL, Instr, MATCH};
+use fancy_syntax::char_set::CharSet;
+use fancy_syntax::set::Set;
 use fancy_syntax::tree::{Meaning, Taste, Tree};
 use std::alloc::{AllocError, Global};
 
@@ -37,6 +40,23 @@ fn put_shared(code: &mut Vec<Instr>, instr: Instr) -> Result<Entry, AllocError>
         moved: at,
         still: at,
     })
+}
+
+/// One more instruction that consumes an item of the set by these edges, for both forms.
+fn put_member(
+    alloc: Global,
+    code: &mut Vec<Instr>,
+    edges: Vec<u32>,
+    next: Entry,
+) -> Result<Entry, AllocError>
+    requires edges { AreEdges edges.items }
+    ensures length { IfOk result (λ _. vec_len code.new ≡ vec_len code.old + 1) }
+    ensures kept { IfOk result (λ _. Keeps code.old.items code.new.items) }
+    ensures means { IfOk result (λ entry. Emitted (member_of edges.items) (vec_len code.old) code.new.items next entry) }
+{
+    let set = Box::new(alloc, CharSet::new(Set::from_edges(edges)))?;
+    let entry = put_shared(code, Instr::Member(set, next.moved))?;
+    Ok(entry)
 }
 
 /// One more instruction for each form.
@@ -87,6 +107,7 @@ fn is_greedy(taste: Taste) -> bool
 #[tactic(auto, using(fancy_syntax::proofs::PatternLemmas::pattern_equations), unfolding(fancy_syntax::specs::Sizes::nodes))]
 fn emit(alloc: Global, code: &mut Vec<Instr>, tree: &Tree, next: Entry) -> Result<Entry, AllocError>
     requires easy { IsTrue (is_easy (pattern_of tree.now)) }
+    requires sets { HasSets (pattern_of tree.now) }
     ensures kept { IfOk result (λ _. Keeps code.old.items code.new.items) }
     ensures means { IfOk result (λ entry. Emitted (pattern_of tree.now) (vec_len code.old) code.new.items next entry) }
     ensures longer { IfOk result (λ _. vec_len code.old ≤ vec_len code.new) }
@@ -99,8 +120,8 @@ fn emit(alloc: Global, code: &mut Vec<Instr>, tree: &Tree, next: Entry) -> Resul
             Ok(entry)
         }
         Tree::Member(edges) => {
-            let set = edges.to_vec(alloc)?;
-            let entry = put_shared(code, Instr::Member(set, next.moved))?;
+            let own = edges.to_vec(alloc)?;
+            let entry = put_member(alloc, code, own, next)?;
             Ok(entry)
         }
         Tree::RawByte(byte) => {
@@ -158,6 +179,7 @@ fn emit_group(
     next: Entry,
 ) -> Result<Entry, AllocError>
     requires easy { IsTrue (is_easy (pattern_of body.now)) }
+    requires sets { HasSets (pattern_of body.now) }
     ensures kept { IfOk result (λ _. Keeps code.old.items code.new.items) }
     ensures means { IfOk result (λ entry. Emitted (group index (pattern_of body.now)) (vec_len code.old) code.new.items next entry) }
     ensures longer { IfOk result (λ _. vec_len code.old ≤ vec_len code.new) }
@@ -189,6 +211,7 @@ fn emit_repeat(
     next: Entry,
 ) -> Result<Entry, AllocError>
     requires easy { IsTrue (is_easy (pattern_of body.now)) }
+    requires sets { HasSets (pattern_of body.now) }
     ensures kept { IfOk result (λ _. Keeps code.old.items code.new.items) }
     ensures means { IfOk result (λ entry. RepeatEmitted greedy low high (pattern_of body.now) (vec_len code.old) code.new.items next entry) }
     ensures longer { IfOk result (λ _. vec_len code.old ≤ vec_len code.new) }
@@ -212,6 +235,7 @@ fn emit_star(
     next: Entry,
 ) -> Result<Entry, AllocError>
     requires easy { IsTrue (is_easy (pattern_of body.now)) }
+    requires sets { HasSets (pattern_of body.now) }
     ensures kept { IfOk result (λ _. Keeps code.old.items code.new.items) }
     ensures means { IfOk result (λ entry. StarEmitted greedy (pattern_of body.now) (vec_len code.old) code.new.items next entry) }
     ensures longer { IfOk result (λ _. vec_len code.old ≤ vec_len code.new) }
@@ -234,6 +258,7 @@ fn emit_copies(
     next: Entry,
 ) -> Result<Entry, AllocError>
     requires easy { IsTrue (is_easy (pattern_of body.now)) }
+    requires sets { HasSets (pattern_of body.now) }
     ensures kept { IfOk result (λ _. Keeps code.old.items code.new.items) }
     ensures means { IfOk result (λ entry. CopiesEmitted count (pattern_of body.now) (vec_len code.old) code.new.items next entry) }
     ensures longer { IfOk result (λ _. vec_len code.old ≤ vec_len code.new) }
@@ -257,6 +282,7 @@ fn emit_optionals(
     next: Entry,
 ) -> Result<Entry, AllocError>
     requires easy { IsTrue (is_easy (pattern_of body.now)) }
+    requires sets { HasSets (pattern_of body.now) }
     ensures kept { IfOk result (λ _. Keeps code.old.items code.new.items) }
     ensures means { IfOk result (λ entry. OptionalsEmitted greedy count (pattern_of body.now) (vec_len code.old) code.new.items next entry) }
     ensures longer { IfOk result (λ _. vec_len code.old ≤ vec_len code.new) }
@@ -283,6 +309,7 @@ fn emit_sequence(
     next: Entry,
 ) -> Result<Entry, AllocError>
     requires easy { All (λ p. IsTrue (is_easy p)) (map pattern_of parts.now) }
+    requires sets { All HasSets (map pattern_of parts.now) }
     ensures kept { IfOk result (λ _. Keeps code.old.items code.new.items) }
     ensures means { IfOk result (λ entry. Emitted (in_sequence (map pattern_of parts.now)) (vec_len code.old) code.new.items next entry) }
     ensures longer { IfOk result (λ _. vec_len code.old ≤ vec_len code.new) }
@@ -304,13 +331,14 @@ fn emit_choice(
     next: Entry,
 ) -> Result<Entry, AllocError>
     requires easy { All (λ p. IsTrue (is_easy p)) (map pattern_of branches.now) }
+    requires sets { All HasSets (map pattern_of branches.now) }
     ensures kept { IfOk result (λ _. Keeps code.old.items code.new.items) }
     ensures means { IfOk result (λ entry. Emitted (in_choice (map pattern_of branches.now)) (vec_len code.old) code.new.items next entry) }
     ensures longer { IfOk result (λ _. vec_len code.old ≤ vec_len code.new) }
     ensures short { IfOk result (λ _. vec_len code.new ≤ vec_len code.old + 4 * nodes (in_choice (map pattern_of branches.now))) }
 {
     if branches.is_empty() {
-        let nothing = put_shared(code, Instr::Member(Vec::new(alloc), next.moved))?;
+        let nothing = put_member(alloc, code, Vec::new(alloc), next)?;
         return Ok(nothing);
     }
     let last = branches.len() - 1;
@@ -340,6 +368,7 @@ pub fn compile(
     meaning: Meaning,
 ) -> Result<Code, AllocError>
     requires easy { IsTrue (is_easy (pattern_of tree.now)) }
+    requires sets { HasSets (pattern_of tree.now) }
     requires numbered { Numbered 0 groups (pattern_of tree.now) }
     ensures code { IfOk result (λ code. IsCodeOf (pattern_of tree.now) code) }
     ensures short { IfOk result (λ code. code_len code ≤ 4 * nodes (pattern_of tree.now) + 2) }

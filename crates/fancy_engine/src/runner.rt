@@ -3,7 +3,7 @@
 ghost use Rattle.std.specs.Prelude.{◌≡◌, ◌+◌, ◌-◌, ◌*◌, ◌^◌, ◌<◌, ◌≤◌, ◌≢◌, [], ◌∷◌, ℕ, List, Option, Bool, Err, true, false, length, IfOk, OnOk, IfSome, option_map, slice_index, slice_set, if◌then◌else◌, ◌==◌};
 ghost use Rattle.fancy_syntax.specs.Sets.{has};
 ghost use Rattle.fancy_engine.specs.Context.{State, captured, past_item, past_byte};
-ghost use Rattle.fancy_engine.specs.Code.{instrs_of, code_len};
+ghost use Rattle.fancy_engine.specs.Code.{instrs_of, code_len, edges_in};
 ghost use Rattle.fancy_engine.specs.Work.{steps_of, returns_of, stepped};
 ghost use Rattle.fancy_engine.specs.Readings.{plain};
 ghost use Rattle.fancy_engine.specs.Threads.{state_of, starts_of};
@@ -11,12 +11,13 @@ ghost use Rattle.fancy_engine.specs.Runner.{good_end, ends_well, first_accepted,
 ghost use Rattle.fancy_engine.specs.Marked.{marked};
 
 use crate::code::{Code, Instr};
-use crate::reading::{Suppressed, has_code, holds_at, read_at};
+use crate::reading::{Suppressed, holds_at, read_at};
 use crate::refusal::Refusal;
 use crate::slot::{Extent, Slot};
 use crate::table::Table;
 use crate::ways::Ways;
 use crate::work::Work;
+use fancy_syntax::char_set::CharSet;
 use fancy_syntax::tree::Meaning;
 use std::alloc::AllocError;
 
@@ -72,12 +73,12 @@ fn past_character(haystack: &[u8], meaning: Meaning, character: char, place: usi
 }
 
 /// The place behind the item at `place`, if the set has it.
-fn past_member(haystack: &[u8], meaning: Meaning, edges: &[u32], place: usize) -> Option<usize>
-    ensures past { (suppressed : Suppressed) (from : ℕ) → result ≡ past_item (plain haystack.now meaning suppressed from) (has edges.now) place }
+fn past_member(haystack: &[u8], meaning: Meaning, set: &CharSet, place: usize) -> Option<usize>
+    ensures past { (suppressed : Suppressed) (from : ℕ) → result ≡ past_item (plain haystack.now meaning suppressed from) (has (edges_in set.now)) place }
     ensures forth { IfSome result (λ p. place ≤ p) }
 {
     let reading = read_at(haystack, meaning, place)?;
-    if has_code(edges, reading.code) {
+    if set.contains(reading.code) {
         Some(place + reading.width)
     } else {
         None
@@ -193,8 +194,8 @@ fn step(
             let past = past_character(haystack, code.meaning, *character, place);
             Ok(advance(ways, *next, past, limit))
         }
-        Instr::Member(edges, next) => {
-            let past = past_member(haystack, code.meaning, edges, place);
+        Instr::Member(set, next) => {
+            let past = past_member(haystack, code.meaning, set, place);
             Ok(advance(ways, *next, past, limit))
         }
         Instr::RawByte(byte, next) => {

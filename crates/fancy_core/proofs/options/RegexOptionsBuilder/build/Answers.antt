@@ -3,7 +3,7 @@ use Rattle.fancy_syntax.specs.Dialect as dialect
 use Rattle.std.proofs.lemmas.Result.{err_from_is_err_and}
 use Rattle.fancy_syntax.specs.Pattern.{pattern_of}
 use Rattle.fancy_syntax.proofs.GroupLemmas.{numbered, wider}
-use Rattle.fancy_engine.proofs.SpelledLemmas.{easy_spelled, no_raw_bytes}
+use Rattle.fancy_engine.proofs.SpelledLemmas.{easy_spelled, sets_spelled, no_raw_bytes}
 use Rattle.fancy_core.proofs.options.RegexOptionsBuilder.build.Goals as goal
 
 pub returns-in_err-tree-clause-succeeds : goal.returns-in_err-tree-clause-succeeds
@@ -13,6 +13,9 @@ returns-in_err-tree-clause-succeeds c = λ p h.
 
 pub compile-requires-clause-easy : goal.compile-requires-clause-easy
 compile-requires-clause-easy c = easy_spelled (c.in_ok-tree.ensures.accepted.0).spelled
+
+pub compile-requires-clause-sets : goal.compile-requires-clause-sets
+compile-requires-clause-sets c = sets_spelled (c.in_ok-tree.ensures.accepted.0).spelled
 
 pub compile-requires-clause-numbered : goal.compile-requires-clause-numbered
 compile-requires-clause-numbered c =
