@@ -9,7 +9,7 @@ use Rattle.std.specs.Prelude.{if◌then◌else◌}
 use Rattle.std.specs.Option.{option_map, option_or}
 use Rattle.fancy_syntax.specs.declared.tree.Assertion.{Assertion}
 use Rattle.fancy_syntax.specs.Pattern.{Pattern, empty, character, assertion, group, repeat, followed, or_else, last_branch, in_sequence, in_choice, in_branches}
-use Rattle.fancy_syntax.specs.Dialect.{Scope, Quantifies, greedily, lazily, literal_of, is_escapable, control_of, place_test, Branches, one, either, Parts, nothing, item, Item, set, bare, quantified, Atom, literal, anchor, escaped, plain, flagged, capture, Spells, with_part}
+use Rattle.fancy_syntax.specs.Dialect.{Scope, Quantifies, greedily, lazily, literal_of, is_escapable, control_of, place_test, Branches, one, either, Parts, nothing, item, Item, set, bare, quantified, Atom, literal, anchor, escaped, plain, flagged, capture, named, Spells, with_part}
 use Rattle.fancy_engine.specs.Means.{is_easy, goes_back}
 use Rattle.fancy_engine.specs.Placed.{has_raw_byte}
 
@@ -93,6 +93,7 @@ module _ (nice : Pattern → Type 0) (kept : IsKept nice) where
     nice-Atom (plain branches) = nice-in_branches _ (nice-Branches branches)
     nice-Atom (flagged setting branches) = nice-in_branches _ (nice-Branches branches)
     nice-Atom (capture e branches) = kept.groups _ _ (nice-in_branches _ (nice-Branches branches))
+    nice-Atom (named n m e branches) = kept.groups _ _ (nice-in_branches _ (nice-Branches branches))
 
   nice_spelled : {s e : Scope} {text : Text} {p : Pattern} → Spells s text p e → nice p
   nice_spelled h = subst nice (sym h.is) (nice-in_branches h.branches (nice-Branches h.spelled))

@@ -13,6 +13,7 @@ use Rattle.fancy_syntax.specs.declared.flags.Flags.{Flags as Found_flags}
 use Rattle.fancy_syntax.specs.declared.tree.Tree.{Tree}
 use Rattle.fancy_syntax.specs.Pattern.{Pattern, pattern_of, in_sequence, in_branches}
 use Rattle.fancy_syntax.specs.Words.{Text}
+use Rattle.fancy_syntax.specs.Names.{named_groups}
 use Rattle.fancy_syntax.specs.Dialect.{Flags}
 use Rattle.fancy_syntax.specs.Grammar.{Place, Opening, setting, plain, capture, LettersRead, Bounds, Branches, Parts}
 
@@ -27,7 +28,7 @@ abbrev pub read_of : Found_flags × Bor Text → Flags × Text
 read_of r = (flags_of r.0, r.1.now)
 
 abbrev pub place : Parser → Place
-place p = record { text = p.rest.now; scope = record { meaning = p.meaning; flags = flags_of p.flags; opened = p.opened; names = []; in_look_around = false } }
+place p = record { text = p.rest.now; scope = record { meaning = p.meaning; flags = flags_of p.flags; opened = p.opened; names = named_groups p.names.items; in_look_around = false } }
 
 -- how many bytes of the whole pattern stand before the rest
 abbrev pub bytes_before : Text → Text → ℕ

@@ -12,6 +12,7 @@ mod flags;
 mod groups;
 pub mod laws;
 mod measure;
+pub mod name;
 pub mod named;
 pub mod operation;
 pub mod parse;
