@@ -10,7 +10,7 @@ use Rattle.fancy_syntax.specs.Sets.{AreEdges}
 use Rattle.fancy_syntax.proofs.EndsLemmas as simple
 use Rattle.fancy_syntax.proofs.EndsLemmas.{IsSimple, simple_atom}
 use Rattle.fancy_syntax.specs.Pattern.{Pattern, empty, character, member_of, raw_byte, assertion, group, repeat, followed, or_else, last_branch, in_sequence, in_choice, in_branches}
-use Rattle.fancy_syntax.specs.Dialect.{Scope, Quantifies, greedily, lazily, literal_of, Branches, one, either, Parts, nothing, item, Item, set, bare, quantified, Atom, single, plain, flagged, capture, Spells, with_part}
+use Rattle.fancy_syntax.specs.Dialect.{Scope, Quantifies, greedily, lazily, literal_of, Branches, one, either, Parts, nothing, item, Item, set, bare, quantified, Atom, single, plain, flagged, capture, named, Spells, with_part}
 use Rattle.fancy_engine.specs.Means.{HasSets, is_easy, goes_back}
 use Rattle.fancy_engine.specs.Placed.{has_raw_byte}
 
@@ -93,6 +93,7 @@ module _ (keeps : Bool) (nice : Pattern → Type 0) (kept : IsKept keeps nice) w
     nice-Atom e (plain branches) = let x = nice-Branches e branches in (nice-in_branches _ x.0, x.1)
     nice-Atom e (flagged setting branches) = let x = nice-Branches e branches in (nice-in_branches _ x.0, x.1)
     nice-Atom e (capture h branches) = let x = nice-Branches e branches in (kept.groups _ _ (nice-in_branches _ x.0), x.1)
+    nice-Atom e (named n m h branches) = let x = nice-Branches e branches in (kept.groups _ _ (nice-in_branches _ x.0), x.1)
 
   nice_spelled : {s e : Scope} {text : Text} {p : Pattern} → s.keeps_characters ≡ keeps → Spells s text p e → nice p
   nice_spelled e h = subst nice (sym h.is) (nice-in_branches h.branches (nice-Branches e h.spelled).0)

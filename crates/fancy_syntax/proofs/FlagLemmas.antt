@@ -68,6 +68,12 @@ first_is_not {m} {f = f} (setting_off {t = t} {u = u} c l k) d e none = from_let
 pub no_colon_first : {m : Meaning} {t : Text} {f g : Flags} → Setting m t f g → (c : ℕ) × (u : Text) × ((t ≡ c ∷ u) × ((58 == c) ≡ false))
 no_colon_first s = first_is_not s 58 refl (λ on x. refl)
 
+pub no_angle_first : {m : Meaning} {t : Text} {f g : Flags} → Setting m t f g → (c : ℕ) × (u : Text) × ((t ≡ c ∷ u) × ((60 == c) ≡ false))
+no_angle_first s = first_is_not s 60 refl (λ on x. refl)
+
+pub no_p_first : {m : Meaning} {t : Text} {f g : Flags} → Setting m t f g → (c : ℕ) × (u : Text) × ((t ≡ c ∷ u) × ((80 == c) ≡ false))
+no_p_first s = first_is_not s 80 refl (λ on x. refl)
+
 pub no_hash_first : {m : Meaning} {t : Text} {f g : Flags} → Setting m t f g → (c : ℕ) × (u : Text) × ((t ≡ c ∷ u) × ((35 == c) ≡ false))
 no_hash_first s = first_is_not s 35 refl (λ on x. refl)
 

@@ -7,10 +7,12 @@ pub mod ReadingLemmas
 pub mod CountLemmas
 pub mod BlankLemmas
 pub mod FlagLemmas
+pub mod NameLemmas
 pub mod SpellingLemmas
 pub mod UniqueLemmas
 pub mod ParseLemmas
 pub mod GroupLemmas
+pub mod NameNumbers
 pub mod EdgesLemmas
 pub mod SetLemmas
 pub mod BitLemmas

@@ -1,11 +1,13 @@
 -- What the reading of a whole text says of its patterns.
-use Rattle.std.proofs.Common.{◌≡◌, ◌<◌, ◌≤◌, ◌-◌, ◌^◌, ℕ, min, [], refl, subst, arith}
+use Rattle.std.proofs.Common.{◌≡◌, ◌<◌, ◌≤◌, ◌-◌, ◌^◌, ℕ, min, List, [], refl, subst, arith}
 use Rattle.fancy_syntax.specs.declared.error.CompileError.TheVariants.{InvalidBackref, InvalidGroupNameBackref, NamedBackrefOnly, LookBehindNotConst, PatternCanNeverMatch, PatternTooComplex}
 use Rattle.fancy_syntax.specs.declared.error.Error.{Error}
 use Rattle.fancy_syntax.specs.declared.error.Error.TheVariants.{Memory, ParseError, CompileError, RuntimeError}
 use Rattle.fancy_syntax.specs.Pattern.{Pattern}
 use Rattle.fancy_syntax.specs.Sizes.{nodes}
 use Rattle.fancy_syntax.specs.Words.{Text}
+use Rattle.fancy_syntax.specs.Names.{named_groups}
+use Rattle.fancy_syntax.specs.declared.name.GroupName.{GroupName}
 use Rattle.fancy_syntax.specs.Dialect.{Scope, Options, begin, Spells, IsPattern}
 use Rattle.fancy_syntax.specs.Grammar.{Place, start}
 use Rattle.fancy_syntax.specs.Refusals.{IsRefused}
@@ -13,6 +15,10 @@ use Rattle.fancy_syntax.specs.Views.{Refuses, IsTheReading, HasNoReading, Altern
 use Rattle.fancy_syntax.proofs.ReadingLemmas.{no_whole_reading, not_whole, whole_reading}
 use Rattle.fancy_syntax.proofs.SpellingLemmas.{spelling_read, reading_spelled}
 use Rattle.fancy_syntax.proofs.UniqueLemmas.{one_pattern}
+
+-- where a parser begins
+pub begun : (o : Options) {names : List GroupName} {text whole : Text} → names ≡ [] → text ≡ whole → ◌≡◌ {A = Place} (record { text = text; scope = record (begin o) { names = named_groups names } }) (start (begin o) whole)
+begun o h e = rw (h, e) refl
 
 pub refused_reading : {o : Options} {text : Text} {p : Place} (e : Error) → p ≡ start (begin o) text → Refuses e (HasNoReading (Alternation 64) p) → IsRefused e o text
 refused_reading Memory is none = tt

@@ -1,5 +1,5 @@
 -- A text that spells something is read so, and what is read is spelled so.
-use Rattle.std.proofs.Common.{◌≡◌, ℕ, suc, ◌+◌, ◌==◌, ◌||◌, ◌&&◌, not, Bool, true, false, List, [], ◌∷◌, ◌++◌, Option, Some, None, drop, refl, sym, ap, ◌∙◌, subst, append_assoc, append-nil, arith, ◌⊎◌, inl, inr, cond, codes}
+use Rattle.std.proofs.Common.{◌≡◌, ℕ, suc, ◌+◌, ◌==◌, ◌||◌, ◌&&◌, not, Bool, true, false, List, [], ◌∷◌, ◌++◌, length, Option, Some, None, drop, refl, sym, ap, ◌∙◌, subst, append_assoc, append-nil, arith, ◌⊎◌, inl, inr, cond, codes}
 use Rattle.std.specs.Option.{option_map}
 use Rattle.std.proofs.lemmas.Bool.Decides.{nat_tests}
 use Rattle.fancy_syntax.specs.declared.tree.Meaning.{Meaning}
@@ -9,13 +9,15 @@ use Rattle.fancy_syntax.specs.declared.tree.Taste.TheVariants.{Greedy, Lazy}
 use Rattle.fancy_syntax.specs.Pattern.{Pattern, assertion, repeat, in_branches}
 use Rattle.fancy_syntax.specs.Sizes.{is_empty}
 use Rattle.fancy_syntax.specs.Words.{Text, ◌∈◌, is_at_any, is_at, begins, is_count, past_blank, past_blanks, begins_count}
+use Rattle.fancy_syntax.specs.Names.{is_name, name_here, past_name}
 use Rattle.fancy_syntax.specs.Dialect as d
-use Rattle.fancy_syntax.specs.Dialect.{Flags, Scope, in_force, Setting, one_more_group, back_to, ReadsAtom, begins_quantifier, Turns, optional, star, plus, exactly, at_least, between, at_most, Quantifies, greedily, lazily, Blanks, IsUnquantified, with_part}
+use Rattle.fancy_syntax.specs.Dialect.{Flags, Scope, in_force, Setting, one_more_group, one_more_name, NameMark, name_mark, name_mark_after_p, back_to, ReadsAtom, begins_quantifier, Turns, optional, star, plus, exactly, at_least, between, at_most, Quantifies, greedily, lazily, Blanks, IsUnquantified, with_part}
 use Rattle.fancy_syntax.specs.Grammar as g
 use Rattle.fancy_syntax.specs.Grammar.{Place, past, here, Bounds, bounds_in, past_count, are_bounds, opening, wrap, closed, ends_branch, start}
 use Rattle.fancy_syntax.proofs.ReadingLemmas.{some_pair, some_is_none}
 use Rattle.fancy_syntax.proofs.EndsLemmas.{ends_atom, no_paren, no_end}
-use Rattle.fancy_syntax.proofs.FlagLemmas.{setting_is_read, no_colon_first, no_hash_first, setting_spelled}
+use Rattle.fancy_syntax.proofs.FlagLemmas.{setting_is_read, no_colon_first, no_angle_first, no_p_first, no_hash_first, setting_spelled}
+use Rattle.fancy_syntax.proofs.NameLemmas.{name_is_read, past_read, name_is_some, row_is_name, row_then_rest}
 use Rattle.fancy_syntax.proofs.BlankLemmas.{chosen, char_is, begins_with, read_blanks, end_is_no_blank, quantifier_is_no_blank, unquantified_is_read, unquantified_is_spelled, skipped, no_blank_left}
 use Rattle.fancy_syntax.proofs.CountLemmas.{either_no, both_true, left_of, first_is as at_char, IsRead, exactly_is_read, at_least_is_read, between_is_read, at_most_is_read, count_spelled}
 
@@ -29,6 +31,7 @@ atom_begins (d.single b r) = no_end r
 atom_begins (d.plain b) = refl
 atom_begins (d.flagged f b) = refl
 atom_begins (d.capture h b) = refl
+atom_begins (d.named n m h b) = refl
 
 pub item_begins : {k : ℕ} {s q : Scope} {t after : Text} {x : Option Pattern} → d.Item k s t after x q → ends_branch (t ++ after) ≡ false
 item_begins (d.set f) = refl
@@ -43,11 +46,16 @@ capture_is_no_blank x (c ∷ t) h = let n = either_no (63 == c) ((42 == c) || fa
 flags_are_no_blank : (x : Bool) {m : Meaning} {t : Text} {f g : Flags} → Setting m t f g → (rest : Text) → past_blank x (40 ∷ 63 ∷ (t ++ rest)) ≡ None
 flags_are_no_blank x s rest = let n = no_hash_first s in rw n.2.0 (rw n.2.1 refl)
 
+name_is_no_blank : (x : Bool) {m : Text} → NameMark m → (t rest : Text) → past_blank x (40 ∷ 63 ∷ ((m ++ t) ++ rest)) ≡ None
+name_is_no_blank x name_mark t rest = refl
+name_is_no_blank x name_mark_after_p t rest = refl
+
 pub atom_is_no_blank : {k : ℕ} {s q : Scope} {t after : Text} {a : Pattern} → d.Atom k s t after a q → past_blank s.flags.ignore_blanks (t ++ after) ≡ None
 atom_is_no_blank (d.single b r) = b
 atom_is_no_blank (d.plain b) = refl
 atom_is_no_blank {s = s} {after = after} (d.flagged {u = u} {t = t} f b) = rw (append_assoc u (58 ∷ (t ++ 41 ∷ [])) after) (flags_are_no_blank s.flags.ignore_blanks f ((58 ∷ (t ++ 41 ∷ [])) ++ after))
 atom_is_no_blank {s = s} {after = after} (d.capture {t = t} h b) = rw (append_assoc t (41 ∷ []) after) (capture_is_no_blank s.flags.ignore_blanks (t ++ 41 ∷ after) h)
+atom_is_no_blank {s = s} {after = after} (d.named {t = t} n m h b) = name_is_no_blank s.flags.ignore_blanks m (n ++ (62 ∷ (t ++ 41 ∷ []))) after
 
 pub item_is_no_blank : {k : ℕ} {s q : Scope} {t after : Text} {x : Option Pattern} → d.Item k s t after x q → past_blank s.flags.ignore_blanks (t ++ after) ≡ None
 item_is_no_blank {s = s} {after = after} (d.set {t = t} f) = rw (append_assoc t (41 ∷ []) after) (flags_are_no_blank s.flags.ignore_blanks f (41 ∷ after))
@@ -131,7 +139,26 @@ pub flags_open : (s : Scope) {t : Text} {f : Flags} → Setting s.meaning t s.fl
 flags_open s {t} {f} l d rest h =
     let n = no_colon_first l in
     let other : begins "(?:" (40 ∷ 63 ∷ (t ++ d ∷ rest)) ≡ false = rw n.2.0 (rw n.2.1 refl) in
-    rw other (ap (g.flag_group (start s (40 ∷ 63 ∷ (t ++ d ∷ rest)))) (setting_is_read l d rest h))
+    let a = no_angle_first l in
+    let unnamed : begins "(?<" (40 ∷ 63 ∷ (t ++ d ∷ rest)) ≡ false = rw a.2.0 (rw a.2.1 refl) in
+    let p = no_p_first l in
+    let unnamed_after_p : begins "(?P<" (40 ∷ 63 ∷ (t ++ d ∷ rest)) ≡ false = rw p.2.0 (rw p.2.1 refl) in
+    rw (other, unnamed, unnamed_after_p) (ap (g.flag_group (start s (40 ∷ 63 ∷ (t ++ d ∷ rest)))) (setting_is_read l d rest h))
+
+choose_name : (s : Scope) (a b : Bool) (m n u v : Text) → a ≡ false → b ≡ true → m ≡ n → u ≡ v
+    → ◌≡◌ {A = Option (g.Opening × Place)} (cond {A = Option (g.Opening × Place)} (a || not b) None (Some (g.capture (s.opened + 1), start (one_more_name m s) (drop 1 u)))) (Some (g.capture (s.opened + 1), start (one_more_name n s) (drop 1 v)))
+choose_name s a b m n u v h e f w = rw (h, e, f, w) refl
+
+named_is_read : (s : Scope) (whole n rest : Text) → is_name n ≡ true → ◌≡◌ {A = Option (g.Opening × Place)} (g.named (start s whole) (n ++ 62 ∷ rest)) (Some (g.capture (s.opened + 1), start (one_more_name n s) rest))
+named_is_read s whole n rest h =
+    choose_name s (length (name_here (n ++ 62 ∷ rest)) == 0) (is_at ">" (past_name (n ++ 62 ∷ rest))) (name_here (n ++ 62 ∷ rest)) n (past_name (n ++ 62 ∷ rest)) (62 ∷ rest)
+    (ap (λ l. length l == 0) (name_is_read n rest h) ∙ name_is_some n h) (ap (is_at ">") (past_read n rest h)) (name_is_read n rest h) (past_read n rest h)
+
+-- a name that is spelled opens its group
+pub name_opens : (s : Scope) {m : Text} → NameMark m → (n rest : Text) → is_name n ≡ true
+    → ◌≡◌ {A = Option (g.Opening × Place)} (opening (start s (40 ∷ 63 ∷ (m ++ (n ++ 62 ∷ rest))))) (Some (g.capture (s.opened + 1), start (one_more_name n s) rest))
+name_opens s name_mark n rest h = named_is_read s (40 ∷ 63 ∷ 60 ∷ (n ++ 62 ∷ rest)) n rest h
+name_opens s name_mark_after_p n rest h = named_is_read s (40 ∷ 63 ∷ 80 ∷ 60 ∷ (n ++ 62 ∷ rest)) n rest h
 
 mutual
   pub read_branches : {k : ℕ} {s r : Scope} {t after : Text} {bs : List Pattern} → d.Branches k s t after bs r → ends_branch after ≡ true → is_at "|" after ≡ false → g.Branches k (start s (t ++ after)) bs (start r after)
@@ -158,10 +185,17 @@ mutual
   read_atom {s = s} {after = after} (d.flagged {u = u} {t = t} l b) f =
       rw (append_assoc u (58 ∷ (t ++ 41 ∷ [])) after, append_assoc t (41 ∷ []) after) (g.grouped refl (flags_open s l 58 (t ++ 41 ∷ after) refl) plain_opens (read_branches b refl refl) refl f)
   read_atom {s = s} {after = after} (d.capture {t = t} h b) f = rw (append_assoc t (41 ∷ []) after) (g.grouped refl (capture_is_read s (t ++ (41 ∷ after)) h) (capture_opens (s.opened + 1)) (read_branches b refl refl) refl f)
+  read_atom {s = s} {after = after} (d.named {m = m} {t = t} n l h b) f =
+      rw (append_assoc m (n ++ 62 ∷ (t ++ 41 ∷ [])) after, append_assoc n (62 ∷ (t ++ 41 ∷ [])) after, append_assoc t (41 ∷ []) after)
+      (g.grouped refl (name_opens s l n (t ++ 41 ∷ after) h) (capture_opens (s.opened + 1)) (read_branches b refl refl) refl f)
 
 not_true : (b : Bool) → not b ≡ true → b ≡ false
 not_true true h = cc
 not_true false h = refl
+
+not_false : (b : Bool) → not b ≡ false → b ≡ true
+not_false true h = refl
+not_false false h = cc
 
 no_special : (u : Text) → begins "(?" (40 ∷ u) ≡ false → begins "(*" (40 ∷ u) ≡ false → is_at "?*" u ≡ false
 no_special [] h f = refl
@@ -177,6 +211,7 @@ pub data Opened (p : Place) : g.Opening → Place → Type 0 where
   as_plain : (u : Text) → p.text ≡ codes "(?:" ++ u → Opened p g.plain (start p.scope u)
   as_flagged : (t u : Text) (f : Flags) → p.text ≡ codes "(?" ++ (t ++ 58 ∷ u) → Setting p.scope.meaning t p.scope.flags f → Opened p g.plain (start (in_force f p.scope) u)
   as_setting : (t u : Text) (f : Flags) → p.text ≡ codes "(?" ++ (t ++ 41 ∷ u) → Setting p.scope.meaning t p.scope.flags f → Opened p g.setting (start (in_force f p.scope) u)
+  as_name : (m n u : Text) → NameMark m → is_name n ≡ true → p.text ≡ codes "(?" ++ (m ++ (n ++ 62 ∷ u)) → Opened p (g.capture (p.scope.opened + 1)) (start (one_more_name n p.scope) u)
   as_capture : (u : Text) → p.text ≡ 40 ∷ u → is_at "?*" u ≡ false → Opened p (g.capture (p.scope.opened + 1)) (start (one_more_group p.scope) u)
 
 is_opened : {p : Place} {how : g.Opening} {q : Place} {a : g.Opening} {b : Place} → ◌≡◌ {A = Option (g.Opening × Place)} (Some (a, b)) (Some (how, q)) → Opened p a b → Opened p how q
@@ -192,16 +227,33 @@ flags_opened p how q f t (c ∷ v) is l e h = go (58 == c) refl e h
     go true x e h = is_opened h (as_flagged t v f (is ∙ ap (λ d. 40 ∷ 63 ∷ (t ++ d ∷ v)) (char_is 58 c x)) l)
     go false x e h = is_opened h (as_setting t v f (is ∙ ap (λ d. 40 ∷ 63 ∷ (t ++ d ∷ v)) (char_is 41 c (left_of (41 == c) false e refl))) l)
 
+-- the opening by a name
+name_opened : (p : Place) (how : g.Opening) (q : Place) (m t : Text) → NameMark m → p.text ≡ codes "(?" ++ (m ++ t) → g.named p t ≡ Some (how, q) → Opened p how q
+name_opened p how q m t l is h =
+    elim (chosen ((length (name_here t) == 0) || not (is_at ">" (past_name t))) _ _ _ h) [
+      | inl x ↦ absurd (some_is_none (sym x.1))
+      | inr x ↦
+          let n = either_false (length (name_here t) == 0) (not (is_at ">" (past_name t))) x.0 in
+          is_opened x.1 (as_name m (name_here t) (drop 1 (past_name t)) l (row_is_name t n.0)
+          (is ∙ ap (λ u. 40 ∷ 63 ∷ (m ++ u)) (row_then_rest t ∙ ap (λ u. name_here t ++ u) (at_char 62 (past_name t) (not_false (is_at ">" (past_name t)) n.1)))))
+    ]
+
 pub opened : (p : Place) (how : g.Opening) (q : Place) → is_at "(" p.text ≡ true → opening p ≡ Some (how, q) → Opened p how q
 opened p how q e h =
     elim (chosen (begins "(?:" p.text) _ _ _ h) [
       | inl x ↦ is_opened x.1 (as_plain (drop 3 p.text) (begins_with (codes "(?:") p.text x.0))
-      | inr x ↦ elim (chosen (begins "(?" p.text) _ _ _ x.1) [
-        | inl y ↦ by_flags (g.flags_in p.scope.meaning (drop 2 p.text) (g.first_letter p.scope.flags)) refl (begins_with (codes "(?") p.text y.0) y.1
-        | inr y ↦ (let none = y.0 in elim (chosen (begins "(*" p.text) _ _ _ y.1) [
-          | inl x ↦ absurd (some_is_none (sym x.1))
-          | inr x ↦ is_opened x.1 (as_capture (drop 1 p.text) (at_char 40 p.text e) (no_special (drop 1 p.text) (rw (at_char 40 p.text e) at none) (rw (at_char 40 p.text e) at x.0)))
-        ])
+      | inr x ↦ elim (chosen (begins "(?<" p.text) _ _ _ x.1) [
+        | inl y ↦ name_opened p how q (codes "<") (drop 3 p.text) name_mark (begins_with (codes "(?<") p.text y.0) y.1
+        | inr y ↦ elim (chosen (begins "(?P<" p.text) _ _ _ y.1) [
+          | inl z ↦ name_opened p how q (codes "P<") (drop 4 p.text) name_mark_after_p (begins_with (codes "(?P<") p.text z.0) z.1
+          | inr z ↦ elim (chosen (begins "(?" p.text) _ _ _ z.1) [
+            | inl y ↦ by_flags (g.flags_in p.scope.meaning (drop 2 p.text) (g.first_letter p.scope.flags)) refl (begins_with (codes "(?") p.text y.0) y.1
+            | inr y ↦ (let none = y.0 in elim (chosen (begins "(*" p.text) _ _ _ y.1) [
+              | inl x ↦ absurd (some_is_none (sym x.1))
+              | inr x ↦ is_opened x.1 (as_capture (drop 1 p.text) (at_char 40 p.text e) (no_special (drop 1 p.text) (rw (at_char 40 p.text e) at none) (rw (at_char 40 p.text e) at x.0)))
+            ])
+          ]
+        ]
       ]
     ]
   where
@@ -345,6 +397,7 @@ spell_setting : {k : ℕ} {p q : Place} {how : g.Opening} → Opened p how q →
 spell_setting (as_plain u e) h = absurd (plain_opens h)
 spell_setting (as_flagged t u f e l) h = absurd (plain_opens h)
 spell_setting (as_setting t u f e l) h = (codes "(?" ++ (t ++ codes ")"), e ∙ ap (λ v. codes "(?" ++ v) (sym (append_assoc t (41 ∷ []) u)), d.set l)
+spell_setting {p = p} (as_name m n u l f e) h = absurd (capture_opens (p.scope.opened + 1) h)
 spell_setting {p = p} (as_capture u e f) h = absurd (capture_opens (p.scope.opened + 1) h)
 
 -- the group that a parenthesis opens, from what is inside it
@@ -357,6 +410,13 @@ spell_group {t = t} {after = after} (as_flagged v u f e l) n i b = (
   d.flagged l b,
 )
 spell_group (as_setting v u f e l) n i b = absurd (n refl)
+spell_group {t = t} {after = after} (as_name m v u l f e) n i b = (
+  codes "(?" ++ (m ++ (v ++ (codes ">" ++ (t ++ codes ")")))),
+  e
+      ∙ (ap (λ x. codes "(?" ++ (m ++ (v ++ 62 ∷ x))) (i ∙ sym (append_assoc t (41 ∷ []) after))
+      ∙ (ap (λ x. codes "(?" ++ (m ++ x)) (sym (append_assoc v (62 ∷ (t ++ 41 ∷ [])) after)) ∙ ap (λ x. codes "(?" ++ x) (sym (append_assoc m (v ++ 62 ∷ (t ++ 41 ∷ [])) after)))),
+  d.named v l f b,
+)
 spell_group {t = t} {after = after} (as_capture u e f) n i b = (codes "(" ++ (t ++ codes ")"), e ∙ ap (λ l. 40 ∷ l) (i ∙ sym (append_assoc t (41 ∷ []) after)), d.capture (rw i at f) b)
 
 mutual

@@ -20,6 +20,7 @@ use Rattle.fancy_syntax.specs.Named.{in_universe}
 use Rattle.fancy_syntax.specs.Widening.{widened}
 use Rattle.fancy_syntax.specs.Escapes.{set_letter, number}
 use Rattle.fancy_syntax.specs.ClassGrammar.{ReadsEdges, is_ascii_meaning, may_turn, token_members, property}
+use Rattle.fancy_syntax.specs.Names.{is_name}
 
 -- the flags `i m s x R`
 pub record Flags : Type 0 where
@@ -37,7 +38,7 @@ pub record Scope : Type 0 where
   pub flags : Flags
   -- how many capturing groups were opened before it
   pub opened : ℕ
-  -- the named ones among them
+  -- the named ones among them, in the order of their openings
   pub names : List (Text × ℕ)
   pub in_look_around : Bool
 
@@ -78,6 +79,10 @@ pub data Setting : Meaning → Text → Flags → Flags → Type 0 where
 -- one more capturing group was opened
 abbrev pub one_more_group : Scope → Scope
 one_more_group s = record s { opened = s.opened + 1 }
+
+-- one more capturing group was opened, which has this name
+abbrev pub one_more_name : Text → Scope → Scope
+one_more_name n s = record s { opened = s.opened + 1; names = s.names ++ ((n, s.opened + 1) ∷ []) }
 
 -- behind a group the flags are those from before it, and the groups opened inside it count
 abbrev pub back_to : Scope → Scope → Scope
@@ -277,6 +282,11 @@ pub data Blanks : Bool → Text → Text → Type 0 where
 abbrev pub IsUnquantified : Bool → Text → Type 0
 IsUnquantified ignore_blanks after = (t u : Text) → after ≡ t ++ u → Blanks ignore_blanks t u → begins_quantifier u ≡ false
 
+-- what stands between the question mark of a group and its name
+pub data NameMark : Text → Type 0 where
+  name_mark : NameMark (codes "<")
+  name_mark_after_p : NameMark (codes "P<")
+
 -- an item gives a sequence one part, or none
 abbrev pub with_part : Option Pattern → List Pattern → List Pattern
 with_part None ps = ps
@@ -314,6 +324,9 @@ mutual
     -- the groups are numbered from 1 by their openings
     capture : {k : ℕ} {s q : Scope} {t after : Text} {bs : List Pattern} → is_at "?*" (t ++ (codes ")" ++ after)) ≡ false → Branches k (one_more_group s) t (codes ")" ++ after) bs q
         → Atom (suc k) s (codes "(" ++ (t ++ codes ")")) after (group (s.opened + 1) (in_branches bs)) (back_to s q)
+    -- a group with a name is numbered with the others
+    named : {k : ℕ} {s q : Scope} {m t after : Text} {bs : List Pattern} (n : Text) → NameMark m → is_name n ≡ true → Branches k (one_more_name n s) t (codes ")" ++ after) bs q
+        → Atom (suc k) s (codes "(?" ++ (m ++ (n ++ (codes ">" ++ (t ++ codes ")"))))) after (group (s.opened + 1) (in_branches bs)) (back_to s q)
 
 -- the whole text spells this pattern, with at most 64 parentheses open at one place
 pub record Spells (start : Scope) (text : Text) (p : Pattern) (end : Scope) : Type 0 where

@@ -1,5 +1,5 @@
 -- The dialect as it is read: a text is read from one place to another, and nothing here says in which order. Lemmas show that this reading and `Dialect` give the same patterns.
-use Rattle.std.specs.Prelude.{◌≡◌, ℕ, suc, ◌+◌, Bool, true, false, not, ◌||◌, ◌&&◌, nat_le, List, [], ◌∷◌, drop, Option, Some, None, option_map, ◌==◌, if◌then◌else◌}
+use Rattle.std.specs.Prelude.{◌≡◌, ℕ, suc, ◌+◌, Bool, true, false, not, ◌||◌, ◌&&◌, nat_le, List, [], ◌∷◌, drop, length, Option, Some, None, option_map, ◌==◌, if◌then◌else◌}
 use Rattle.std.specs.Option.{option_and_then}
 use Rattle.fancy_syntax.specs.declared.tree.Meaning.{Meaning}
 use Rattle.fancy_syntax.specs.declared.tree.Taste.{Taste}
@@ -7,7 +7,8 @@ use Rattle.fancy_syntax.specs.declared.tree.Taste.TheVariants.{Greedy, Lazy}
 use Rattle.fancy_syntax.specs.Pattern.{Pattern, group, repeat, in_sequence, in_branches}
 use Rattle.fancy_syntax.specs.Sizes.{is_empty}
 use Rattle.fancy_syntax.specs.Words.{Text, ◌∈◌, is_at, begins, is_at_digit, past_digits, past_blanks, decimal, begins_count}
-use Rattle.fancy_syntax.specs.Dialect.{Flags, Scope, in_force, with_flag, one_more_group, back_to, ReadsAtom, begins_quantifier, with_part}
+use Rattle.fancy_syntax.specs.Names.{name_here, past_name}
+use Rattle.fancy_syntax.specs.Dialect.{Flags, Scope, in_force, with_flag, one_more_group, one_more_name, back_to, ReadsAtom, begins_quantifier, with_part}
 
 -- a place in a pattern: what follows, and what is in force there
 pub record Place : Type 0 where
@@ -69,10 +70,18 @@ first_letter f = record { flags = f; on = true; some = false }
 abbrev pub flagged : Place → Option (Opening × Place)
 flagged p = flag_group p (flags_in p.scope.meaning (drop 2 p.text) (first_letter p.scope.flags))
 
+-- what the name that stands first in this text opens, up to its `>`
+abbrev pub named : Place → Text → Option (Opening × Place)
+named p t =
+    if (length (name_here t) == 0) || not (is_at ">" (past_name t)) then None
+    else Some (capture (p.scope.opened + 1), record { text = drop 1 (past_name t); scope = one_more_name (name_here t) p.scope })
+
 -- what the parenthesis here opens, and the place behind that
 abbrev pub opening : Place → Option (Opening × Place)
 opening p =
     if begins "(?:" p.text then Some (plain, past 3 p)
+    else if begins "(?<" p.text then named p (drop 3 p.text)
+    else if begins "(?P<" p.text then named p (drop 4 p.text)
     else if begins "(?" p.text then flagged p
     else if begins "(*" p.text then None
     else Some (capture (p.scope.opened + 1), record { text = drop 1 p.text; scope = one_more_group p.scope })

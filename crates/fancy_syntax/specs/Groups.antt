@@ -1,5 +1,6 @@
 -- The numbers of a pattern's groups.
-use Rattle.std.specs.Prelude.{ℕ, ◌+◌, ◌<◌, ◌≤◌}
+use Rattle.std.specs.Prelude.{ℕ, ◌+◌, ◌<◌, ◌≤◌, List, [], ◌∷◌}
+use Rattle.fancy_syntax.specs.Words.{Text}
 use Rattle.fancy_syntax.specs.Pattern.{Pattern, empty, character, member_of, raw_byte, backreference, assertion, group_test, keep_start, continue_here, group, repeat, look_ahead, look_behind, atomic, conditional, followed, or_else, last_branch}
 
 -- each group of the pattern has a number from lo on and below hi, and those inside it have greater ones
@@ -22,3 +23,8 @@ Numbered lo hi (conditional condition first second) = Numbered lo hi condition �
 Numbered lo hi (followed part rest) = Numbered lo hi part × Numbered lo hi rest
 Numbered lo hi (or_else branch others) = Numbered lo hi branch × Numbered lo hi others
 Numbered lo hi (last_branch branch) = Numbered lo hi branch
+
+-- each of these names has the number of a group, from lo on and below hi, and each number is greater than those before it
+abbrev pub Rising : ℕ → ℕ → List (Text × ℕ) → Type 0
+Rising lo hi [] = Unit {0}
+Rising lo hi (g ∷ names) = (lo ≤ g.1) × (g.1 < hi) × Rising (g.1 + 1) hi names

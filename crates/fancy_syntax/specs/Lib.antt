@@ -3,6 +3,7 @@ pub mod Sets
 pub mod Pattern
 pub mod Sizes
 pub mod Words
+pub mod Names
 pub mod Dialect
 pub mod Grammar
 pub mod Groups

@@ -16,6 +16,7 @@ use Rattle.fancy_syntax.specs.declared.class.refusal.Refusal.TheVariants.{Memory
 use Rattle.fancy_syntax.specs.declared.tree.Tree.{Tree}
 use Rattle.fancy_syntax.specs.Pattern.{Pattern, pattern_of, in_sequence, in_branches}
 use Rattle.fancy_syntax.specs.Words.{Text}
+use Rattle.fancy_syntax.specs.Names.{named_groups}
 use Rattle.fancy_syntax.specs.Dialect.{Flags, Scope, Options, Lexeme, IsMeant}
 use Rattle.fancy_syntax.specs.Grammar.{Place, start, Opening, setting, plain, capture, LettersRead, Bounds, Branches, Parts}
 
@@ -31,7 +32,7 @@ read_of r = (flags_of r.0, r.1.now)
 
 -- what is in force where the parser stands
 abbrev pub scope_of : Parser → Scope
-scope_of p = record { meaning = p.meaning; keeps_characters = p.keeps_characters; flags = flags_of p.flags; opened = p.opened; names = []; in_look_around = false }
+scope_of p = record { meaning = p.meaning; keeps_characters = p.keeps_characters; flags = flags_of p.flags; opened = p.opened; names = named_groups p.names.items; in_look_around = false }
 
 abbrev pub place : Parser → Place
 place p = start (scope_of p) p.rest.now

@@ -1,8 +1,8 @@
 //! What holds of the dialect itself.
 
 ghost use Rattle.std.specs.Prelude.{◌≡◌, ◌+◌};
-ghost use Rattle.fancy_syntax.specs.Dialect.{Scope, Spells};
-ghost use Rattle.fancy_syntax.specs.Groups.{Numbered};
+ghost use Rattle.fancy_syntax.specs.Dialect.{Scope, Options, begin, Spells};
+ghost use Rattle.fancy_syntax.specs.Groups.{Numbered, Rising};
 ghost use Rattle.fancy_syntax.specs.Pattern.{Pattern};
 ghost use Rattle.fancy_syntax.specs.Words.{Text};
 
@@ -15,4 +15,9 @@ pub fn one_pattern()
 /// are at most how many were opened in the end.
 pub fn groups_are_numbered()
     ensures { (s : Scope) (text : Text) (p : Pattern) (e : Scope) → Spells s text p e → Numbered (s.opened + 1) (e.opened + 1) p }
+{}
+
+/// A name stands on a group of the pattern, and each on another: their numbers rise in the order of the openings.
+pub fn names_are_numbered()
+    ensures { (o : Options) (text : Text) (p : Pattern) (e : Scope) → Spells (begin o) text p e → Rising 1 (e.opened + 1) e.names }
 {}

@@ -13,6 +13,7 @@ mod groups;
 pub mod laws;
 mod lexeme;
 mod measure;
+pub mod name;
 pub mod named;
 pub mod operation;
 pub mod parse;

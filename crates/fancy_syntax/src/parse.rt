@@ -3,12 +3,14 @@
 ghost use Rattle.std.specs.Prelude.{◌≡◌, ◌+◌, IfOk, IfErr, chars};
 ghost use Rattle.fancy_syntax.specs.declared.error.Error.TheVariants.{Memory};
 ghost use Rattle.fancy_syntax.specs.Dialect.{standard, IsPattern};
+ghost use Rattle.fancy_syntax.specs.Names.{named_groups};
 ghost use Rattle.fancy_syntax.specs.Pattern.{Pattern, pattern_of};
 ghost use Rattle.fancy_syntax.specs.Refusals.{IsRefused};
 ghost use Rattle.fancy_syntax.specs.Views.{options_of};
 
 use crate::error::{CompileError, Error, ParseErrorKind};
 use crate::flags::Flags;
+use crate::name::GroupName;
 use crate::parser::Parser;
 use crate::tree::{Meaning, Tree};
 use std::alloc::Global;
@@ -47,6 +49,8 @@ pub struct Parsed {
     /// How many groups it has, with group 0, the whole match: those that are written have the numbers from 1 to
     /// `groups - 1`, in the order of their openings.
     pub groups: usize,
+    /// The names of groups, in the order of their openings.
+    pub names: Vec<GroupName>,
 }
 
 /// Reads a pattern, whose items are characters.
@@ -60,6 +64,8 @@ pub struct Parsed {
 ///   `\p{Greek}`, `\pL` and `\P{Greek}`, and classes as `[a-z&&[^aeiou]]`;
 /// - the assertions `^ $ \A \z \Z \b \B \< \> \b{start} \b{end} \b{start-half} \b{end-half}`;
 /// - groups `(..)`, which capture and are numbered from 1 by their openings, and `(?:..)`, which do not;
+/// - capturing groups with a name, `(?<n>..)` and `(?P<n>..)`, where the name `n` is a row of alphabetic characters,
+///   numbers (of category Nd, Nl or No) and `_`; several groups may have one name;
 /// - branches joined by `|`;
 /// - the quantifiers `?`, `*`, `+`, `{n}`, `{n,}`, `{n,m}` and `{,m}`, each with a `?` behind it where it is lazy;
 ///   the bounds `n` and `m` are at most 4,294,967,295;
@@ -77,7 +83,7 @@ pub struct Parsed {
 /// As an example `(a|b)?c` is the sequence of an optional group 1 and a character, so that `groups` is 2, while
 /// `a)` is refused at place 1 with [`ParseErrorKind::GeneralParseError`].
 pub fn parse(alloc: Global, pattern: &str) -> Result<Parsed, Error>
-    ensures accepted { IfOk result (λ r. (h : IsPattern standard (chars pattern.now) (pattern_of r.tree)) × (h.end.opened + 1 ≡ r.groups)) }
+    ensures accepted { IfOk result (λ r. (h : IsPattern standard (chars pattern.now) (pattern_of r.tree)) × (h.end.opened + 1 ≡ r.groups) × (named_groups r.names.items ≡ h.end.names)) }
     ensures refused { IfErr result (λ e. IsRefused e standard (chars pattern.now)) }
     ensures succeeds { (p : Pattern) → IsPattern standard (chars pattern.now) p → IfErr result (λ e. e ≡ Memory) }
 {
@@ -88,7 +94,7 @@ pub fn parse(alloc: Global, pattern: &str) -> Result<Parsed, Error>
 ///
 /// In [`Meaning::Bytes`] a literal past U+007F is the sequence of the bytes of its UTF-8, as `é` is of two.
 pub fn parse_with(alloc: Global, pattern: &str, syntax: Syntax) -> Result<Parsed, Error>
-    ensures accepted { IfOk result (λ r. (h : IsPattern (options_of syntax) (chars pattern.now) (pattern_of r.tree)) × (h.end.opened + 1 ≡ r.groups)) }
+    ensures accepted { IfOk result (λ r. (h : IsPattern (options_of syntax) (chars pattern.now) (pattern_of r.tree)) × (h.end.opened + 1 ≡ r.groups) × (named_groups r.names.items ≡ h.end.names)) }
     ensures refused { IfErr result (λ e. IsRefused e (options_of syntax) (chars pattern.now)) }
     ensures succeeds { (p : Pattern) → IsPattern (options_of syntax) (chars pattern.now) p → IfErr result (λ e. e ≡ Memory) }
 {
@@ -100,6 +106,7 @@ pub fn parse_with(alloc: Global, pattern: &str, syntax: Syntax) -> Result<Parsed
         keeps_characters: syntax.keeps_characters,
         flags: syntax.flags,
         opened: 0,
+        names: Vec::new(alloc),
         alloc,
     };
     let tree = parser.alternation(MAX_DEPTH)?;
@@ -112,6 +119,7 @@ pub fn parse_with(alloc: Global, pattern: &str, syntax: Syntax) -> Result<Parsed
     Ok(Parsed {
         tree,
         groups: parser.opened.saturating_add(1),
+        names: parser.names,
     })
 }
 
@@ -174,8 +182,13 @@ mod tests {
             ("(?m-:a)", Some((0, ParseErrorKind::UnknownFlag))),
             ("(?z)", Some((0, ParseErrorKind::UnknownFlag))),
             ("(?Pa)", Some((0, ParseErrorKind::UnknownFlag))),
-            ("(?P<a>b)", Some((0, ParseErrorKind::NotInProfile))),
             ("(?i)a(?-i:B)", None),
+            ("(?P<a>b)(?<é²_1>)(?<1>a)(?<a>)*", None),
+            ("(?<>a)", Some((0, ParseErrorKind::InvalidGroupName))),
+            ("(?<a b>c)", Some((0, ParseErrorKind::InvalidGroupName))),
+            ("a(?P<=b)", Some((1, ParseErrorKind::InvalidGroupName))),
+            ("(?<=a)", Some((0, ParseErrorKind::NotInProfile))),
+            ("(?<!a)", Some((0, ParseErrorKind::NotInProfile))),
             ("(?-1)", Some((0, ParseErrorKind::NotInProfile))),
             (
                 "(?-u)",

@@ -12,6 +12,7 @@ use crate::count::{Turns, begins_count, bounds, past_count};
 use crate::error::{Error, ParseErrorKind};
 use crate::flags::{Flags, read_flags};
 use crate::groups::Opening;
+use crate::name::{GroupName, split_name, text_of};
 use crate::tree::{Meaning, Taste, Tree};
 use std::alloc::Global;
 
@@ -29,6 +30,8 @@ pub(crate) struct Parser<'a> {
     pub(crate) flags: Flags,
     /// How many capturing groups were opened so far.
     pub(crate) opened: usize,
+    /// The named ones among them.
+    pub(crate) names: Vec<GroupName>,
     pub(crate) alloc: Global,
     ghost counted: { opened + length rest.now ≤ length whole.now },
     ghost short: { length whole.now < 2 ^ 63 },
@@ -55,13 +58,21 @@ fn begins_quantifier(text: &[char]) -> bool
     }
 }
 
+/// What is wrong with a parenthesis where a group with a name begins.
+fn name_fault(text: &[char]) -> ParseErrorKind {
+    match text {
+        ['(', '?', '<', '=' | '!', ..] => ParseErrorKind::NotInProfile,
+        _ => ParseErrorKind::InvalidGroupName,
+    }
+}
+
 /// What is wrong behind a parenthesis and its question mark, where no group and no flags stand.
 fn flags_fault(inside: &[char], meaning: Meaning) -> ParseErrorKind {
     match inside {
         ['#', ..] => return ParseErrorKind::UnclosedOpenParen,
-        ['P', '<' | '=' | '>', ..] | ['-', '0'..='9', ..] => return ParseErrorKind::NotInProfile,
+        ['P', '=' | '>', ..] | ['-', '0'..='9', ..] => return ParseErrorKind::NotInProfile,
         [
-            '=' | '!' | '<' | '>' | '(' | '~' | '&' | '+' | '?' | '0'..='9',
+            '=' | '!' | '>' | '(' | '~' | '&' | '+' | '?' | '0'..='9',
             ..
         ] => {
             return ParseErrorKind::NotInProfile;
@@ -153,7 +164,7 @@ impl<'a> Parser<'a> {
 impl<'a> Parser<'a> {
     ghost use Rattle.fancy_syntax.specs.Views.{place, found, bounds_of, itself, GivesValue};
     ghost use Rattle.fancy_syntax.specs.Pattern.{pattern_of};
-    ghost use Rattle.fancy_syntax.specs.Grammar.{opening, flagged, quantified, turns, taste};
+    ghost use Rattle.fancy_syntax.specs.Grammar.{opening, named, flagged, quantified, turns, taste};
 
     /// Reads what a parenthesis opens.
     fn opening(&mut self) -> Result<Opening, Error>
@@ -165,6 +176,14 @@ impl<'a> Parser<'a> {
             self.skip(3);
             return Ok(Opening::Plain);
         }
+        if self.begins(&['(', '?', '<']) {
+            let inside = &self.rest[3..];
+            return self.named(inside);
+        }
+        if self.begins(&['(', '?', 'P', '<']) {
+            let inside = &self.rest[4..];
+            return self.named(inside);
+        }
         if self.begins(&['(', '?']) {
             return self.flagged();
         }
@@ -174,6 +193,26 @@ impl<'a> Parser<'a> {
         self.skip(1);
         self.opened += 1;
         Ok(Opening::Capture(self.opened))
+    }
+
+    /// Reads the name that stands first in `inside`, the last characters, and opens its group.
+    fn named(&mut self, inside: &'a [char]) -> Result<Opening, Error>
+        requires { length inside.now < length self.old.rest.now }
+        ensures value { GivesValue found (named (place self.old) inside.now) result (place self.new) }
+        ensures progress { OnOk result (length self.new.rest.now < length self.old.rest.now) }
+    {
+        let (name, behind) = split_name(inside);
+        match behind {
+            ['>', body @ ..] if !name.is_empty() => {
+                let name = text_of(self.alloc, name)?;
+                self.rest = body;
+                self.opened += 1;
+                let group = self.opened;
+                self.names.push(GroupName { name, group })?;
+                Ok(Opening::Capture(group))
+            }
+            _ => Err(self.error(name_fault(self.rest))),
+        }
     }
 
     /// Reads flags, and what they open.

@@ -5,7 +5,7 @@ use Rattle.fancy_syntax.specs.Pattern.{pattern_of, in_branches}
 use Rattle.fancy_syntax.specs.Dialect.{back_to}
 use Rattle.fancy_syntax.specs.Grammar.{Place, Item, quantified}
 use Rattle.fancy_syntax.specs.Views.{place, part_of, Alternation, Sequence}
-use Rattle.fancy_syntax.proofs.ReadingLemmas.{refused, Refuses-weaker, goes_on_then, no_branch, branch_step, alternation_is, item_step_at, no_item_at, sequence_is_at, no_atom, no_quantified, single_is, setting_is, no_room, no_body, unclosed, no_quantified_group, group_is, found_setting}
+use Rattle.fancy_syntax.proofs.ReadingLemmas.{refused, Refuses-weaker, goes_on_then, no_branch, branch_step, alternation_is, item_step_at, no_item_at, sequence_is_at, no_atom, no_opening, no_quantified, single_is, setting_is, no_room, no_body, unclosed, no_quantified_group, group_is, found_setting}
 use Rattle.fancy_syntax.proofs.parser.Parser.+parser.Goals as goal
 
 pub alternation-returns-in_err-branch-clause-value :
@@ -38,6 +38,13 @@ item-returns-in_err-quantified-clause-value t c =
     let p = err_from_is_err_and c.from_residual-in_err-quantified.result c.from_residual-in_err-quantified.ensures.1 in
     refused part_of (Item c.args.room) c.from_residual-in_err-quantified.result _ _ p.0 c.in_err-quantified.field-0.0 p.1 p.2
     (Refuses-weaker c.in_err-quantified.field-0.0 (no_quantified (sym c.if-not-is_at_any.ensures.value) c.in_ok-part.ensures.value) c.in_err-quantified.ensures.value)
+
+pub item-returns-in_err-how-clause-value :
+    goal.item-returns-in_err-how-clause-value
+item-returns-in_err-how-clause-value t c =
+    let p = err_from_is_err_and c.from_residual-in_err-how.result c.from_residual-in_err-how.ensures.1 in
+    refused part_of (Item c.args.room) c.from_residual-in_err-how.result _ _ p.0 c.in_err-how.field-0.0 p.1 p.2
+    (Refuses-weaker c.in_err-how.field-0.0 (no_opening (sym c.if-not-is_at_any.ensures.value)) c.in_err-how.ensures.value)
 
 pub item-returns-then-not-is_at_any-clause-value :
     goal.item-returns-then-not-is_at_any-clause-value

@@ -1,6 +1,6 @@
 use Rattle.std.proofs.Common.{rules}
-use Rattle.fancy_core.specs.Templates.{is_name_character}
-use Rattle.fancy_core.proofs.letters.is_name_character.Goals as goal
+use Rattle.fancy_syntax.specs.Names.{is_name_character}
+use Rattle.fancy_syntax.proofs.name.is_name_character.Goals as goal
 
 pub returns-then-is_alphabetic : goal.returns-then-is_alphabetic
 unfolding is_name_character

@@ -1,0 +1,68 @@
+-- Names stand on groups, one behind the other.
+use Rattle.std.proofs.Common.{◌≡◌, ℕ, ◌+◌, ◌<◌, ◌≤◌, List, [], ◌∷◌, ◌++◌, Option, sym, subst, ap, ◌∙◌, append_assoc, append-nil, arith}
+use Rattle.fancy_syntax.specs.Pattern.{Pattern}
+use Rattle.fancy_syntax.specs.Words.{Text}
+use Rattle.fancy_syntax.specs.Dialect.{Scope, Options, begin, Branches, one, either, Parts, nothing, item, Item, set, bare, quantified, Atom, literal, anchor, escaped, plain, flagged, capture, named, Spells}
+use Rattle.fancy_syntax.specs.Groups.{Rising}
+
+-- numbers that rise from a number on do so from a lesser one
+from_less : (a b hi : ℕ) (names : List (Text × ℕ)) → a ≤ b → Rising b hi names → Rising a hi names
+from_less a b hi [] l h = tt
+from_less a b hi (g ∷ rest) l h = (omega (arith, l, h.0), h.1, h.2)
+
+joined : (a b c : ℕ) (xs ys : List (Text × ℕ)) → a ≤ b → b ≤ c → Rising a b xs → Rising b c ys → Rising a c (xs ++ ys)
+joined a b c [] ys l m h f = from_less a b c ys l f
+joined a b c (g ∷ xs) ys l m h f = (h.0, omega (arith, h.1, m), joined (g.1 + 1) b c xs ys (omega (arith, h.1)) m h.2 f)
+
+-- the names that were put to those before
+record Named (s r : Scope) : Type 0 where
+  more : s.opened ≤ r.opened
+  new : List (Text × ℕ)
+  names : r.names ≡ s.names ++ new
+  rising : Rising (s.opened + 1) (r.opened + 1) new
+
+none : (s : Scope) → Named s s
+none s = record { more = omega arith; new = []; names = sym (append-nil s.names); rising = tt }
+
+then : {s q r : Scope} → Named s q → Named q r → Named s r
+then {s} {q} {r} a b = record {
+  more = omega (arith, a.more, b.more);
+  new = a.new ++ b.new;
+  names = b.names ∙ (ap (λ l. l ++ b.new) a.names ∙ append_assoc s.names a.new b.new);
+  rising = joined (s.opened + 1) (q.opened + 1) (r.opened + 1) a.new b.new (omega (arith, a.more)) (omega (arith, b.more)) a.rising b.rising;
+}
+
+mutual
+  named_branches : {k : ℕ} {s r : Scope} {t after : Text} {bs : List Pattern} → Branches k s t after bs r → Named s r
+  named_branches (one p) = named_parts p
+  named_branches (either p b) = then (named_parts p) (named_branches b)
+
+  named_parts : {k : ℕ} {s r : Scope} {t after : Text} {ps : List Pattern} → Parts k s t after ps r → Named s r
+  named_parts (nothing {s = s} b) = none s
+  named_parts (item b f g) = then (named_item f) (named_parts g)
+
+  named_item : {k : ℕ} {s r : Scope} {t after : Text} {x : Option Pattern} → Item k s t after x r → Named s r
+  named_item (set {s = s} f) = let x = none s in record { more = x.more; new = x.new; names = x.names; rising = x.rising }
+  named_item (bare a e) = named_atom a
+  named_item (quantified a e b q) = named_atom a
+
+  named_atom : {k : ℕ} {s r : Scope} {t after : Text} {p : Pattern} → Atom k s t after p r → Named s r
+  named_atom (literal {s = s} c e f b) = none s
+  named_atom (anchor {s = s} c e) = none s
+  named_atom (escaped {s = s} c e) = none s
+  named_atom (plain b) = let x = named_branches b in record { more = x.more; new = x.new; names = x.names; rising = x.rising }
+  named_atom (flagged f b) = let x = named_branches b in record { more = x.more; new = x.new; names = x.names; rising = x.rising }
+  named_atom (capture {s = s} {q = q} e b) =
+      let x = named_branches b in
+      record { more = omega (arith, x.more); new = x.new; names = x.names; rising = from_less (s.opened + 1) (s.opened + 1 + 1) (q.opened + 1) x.new (omega arith) x.rising }
+  named_atom (named {s = s} {q = q} n m e b) =
+      let x = named_branches b in
+      record {
+        more = omega (arith, x.more);
+        new = (n, s.opened + 1) ∷ x.new;
+        names = x.names ∙ append_assoc s.names ((n, s.opened + 1) ∷ []) x.new;
+        rising = (omega arith, omega (arith, x.more), x.rising);
+      }
+
+pub names_rise : (o : Options) (text : Text) (p : Pattern) (e : Scope) → Spells (begin o) text p e → Rising 1 (e.opened + 1) e.names
+names_rise o text p e x = let y = named_branches x.spelled in subst (λ l. Rising 1 (e.opened + 1) l) (sym y.names) y.rising
