@@ -2,7 +2,7 @@
 use Rattle.std.proofs.Common.{◌≡◌, ℕ, ◌+◌, ◌<◌, ◌≤◌, List, [], ◌∷◌, ◌++◌, Option, sym, subst, ap, ◌∙◌, append_assoc, append-nil, arith}
 use Rattle.fancy_syntax.specs.Pattern.{Pattern}
 use Rattle.fancy_syntax.specs.Words.{Text}
-use Rattle.fancy_syntax.specs.Dialect.{Scope, Options, begin, Branches, one, either, Parts, nothing, item, Item, set, bare, quantified, Atom, literal, anchor, escaped, plain, flagged, capture, named, Spells}
+use Rattle.fancy_syntax.specs.Dialect.{Scope, Options, begin, Branches, one, either, Parts, nothing, item, Item, set, bare, quantified, Atom, single, plain, flagged, capture, named, Spells}
 use Rattle.fancy_syntax.specs.Groups.{Rising}
 
 -- numbers that rise from a number on do so from a lesser one
@@ -47,9 +47,7 @@ mutual
   named_item (quantified a e b q) = named_atom a
 
   named_atom : {k : ℕ} {s r : Scope} {t after : Text} {p : Pattern} → Atom k s t after p r → Named s r
-  named_atom (literal {s = s} c e f b) = none s
-  named_atom (anchor {s = s} c e) = none s
-  named_atom (escaped {s = s} c e) = none s
+  named_atom (single {s = s} b r) = none s
   named_atom (plain b) = let x = named_branches b in record { more = x.more; new = x.new; names = x.names; rising = x.rising }
   named_atom (flagged f b) = let x = named_branches b in record { more = x.more; new = x.new; names = x.names; rising = x.rising }
   named_atom (capture {s = s} {q = q} e b) =
