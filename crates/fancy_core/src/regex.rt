@@ -281,7 +281,7 @@ impl RegexOptionsBuilder {
     {
         let options = self.options();
         let alloc = *pattern.allocator();
-        let Parsed { tree, groups } = parse_with(alloc, pattern.as_str(), options.syntax())?;
+        let Parsed { tree, groups, .. } = parse_with(alloc, pattern.as_str(), options.syntax())?;
         let code = compile(alloc, &tree, groups, options.meaning())?;
         Ok(Regex {
             pattern,
