@@ -1,5 +1,5 @@
 -- Lemmas on the steps of a split.
-use Rattle.std.proofs.Common.{arith, ℕ, zero, suc, ◌+◌, ◌-◌, ◌<◌, ◌≤◌, ◌^◌, ◌≡◌, Bool, true, false, not, max, List, [], ◌∷◌, length, take, slice_range, Option, None, Some, Result, refl, ap}
+use Rattle.std.proofs.Common.{arith, ℕ, zero, suc, ◌+◌, ◌-◌, ◌<◌, ◌≤◌, ◌^◌, ◌≡◌, Bool, true, false, max, List, [], ◌∷◌, length, take, slice_range, Option, None, Some, Result, refl, ap}
 use Rattle.std.specs.Prelude.{Ok, Err}
 use Rattle.fancy_syntax.specs.declared.error.Error.{Error}
 use Rattle.fancy_input.specs.declared.input.Request.{Request}
@@ -9,7 +9,7 @@ use Rattle.fancy_core.specs.declared.split.Split.{Split}
 use Rattle.fancy_core.specs.declared.split.limited.SplitN.{SplitN}
 use Rattle.fancy_core.specs.Left.{matches_of, items_left, turns_left}
 use Rattle.fancy_core.specs.Pieces.{Progress, pieces, pieces_left, first_pieces_left, past_piece}
-use Rattle.fancy_core.specs.Splits.{progress, searches, MovesOn, IsNextPiece, IsNextOfFirst}
+use Rattle.fancy_core.specs.Splits.{progress, IsNextPiece, IsNextOfFirst}
 use Rattle.fancy_core.proofs.MatchingLemmas.{matches_count}
 use Rattle.fancy_core.proofs.ScanLemmas.{scan_sound}
 

@@ -1,5 +1,5 @@
 -- The parts of a text between spans, in byte offsets.
-use Rattle.std.specs.Prelude.{ℕ, zero, suc, ◌≤◌, Bool, true, false, List, [], ◌∷◌, ◌++◌, take, length, slice_range, if◌then◌else◌}
+use Rattle.std.specs.Prelude.{ℕ, zero, suc, ◌≤◌, Bool, true, List, [], ◌∷◌, ◌++◌, take, length, slice_range, if◌then◌else◌}
 
 -- The parts of t between the spans, from a place on: the part before the first span, and so on, and the rest after the last.
 abbrev pub pieces : List ℕ → ℕ → List (ℕ × ℕ) → List (List ℕ)

@@ -1,5 +1,5 @@
 -- What stands for an iterator over the pieces of a text.
-use Rattle.std.specs.Prelude.{◌≡◌, ◌<◌, ◌-◌, ℕ, zero, suc, Bool, true, false, not, List, [], ◌∷◌, length, map, slice_range, Option, Result, MatchOption, MatchResult, ⊤}
+use Rattle.std.specs.Prelude.{◌≡◌, ◌<◌, ◌-◌, ℕ, zero, suc, Bool, true, false, not, List, [], ◌∷◌, map, Option, Result, MatchOption, MatchResult, ⊤}
 use Rattle.fancy_syntax.specs.declared.error.Error.{Error}
 use Rattle.fancy_syntax.specs.declared.error.Error.TheVariants.{Memory as OutOfMemory}
 use Rattle.fancy_input.specs.Requests.{whole}
@@ -29,11 +29,12 @@ progress s = record { text = s.walk.haystack.now; last = s.last; spans = spans_l
 abbrev pub searches : Split → Bool
 searches s = not s.walk.ended
 
--- how many items can still come: those that are left, one refusal and the rest
+-- none where it has ended, else one more than n
 abbrev pub turns_unless : Bool → ℕ → ℕ
 turns_unless true n = zero
 turns_unless false n = suc n
 
+-- how many items can still come: a piece before each match that is left, a refusal and the rest
 abbrev pub turns_of : Split → ℕ
 turns_of s = turns_unless s.ended (turns_left s.walk.ended (items_left s.regex.now true s.walk.haystack.now s.walk.request s.walk.ended s.walk.continues s.walk.skips_empty))
 
@@ -64,7 +65,7 @@ limit_in s = s.limit
 
 -- One call of `next`, from s to t. A piece has the bytes `bytes`.
 pub record IsNextOfFirst {A : Type 0} (bytes : A → List ℕ) (s : SplitN) (r : Option (Result A Error)) (t : SplitN) : Type 0 where
-  -- the first of the pieces that are left, or a refusal, behind which the rest from the last end is left, if one more item may come
+  -- the first of the pieces that are left, or a refusal, behind which the rest from the last end is left
   pub gives : GivesPiece bytes (λ x. first_pieces_left (limit_in x) (progress (split_in x))) (λ x. first_pieces_left (limit_in x - 1) (record (progress (split_in x)) { spans = [] })) s r t
   pub counts : limit_in t ≡ limit_in s - 1
   -- the last piece that may come is the rest, and is not searched for

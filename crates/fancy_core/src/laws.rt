@@ -33,8 +33,8 @@ pub fn pieces_with_matches_are_the_text(_regex: &Regex, _text: &str)
     ensures first { (n : ℕ) → interleaved (first_pieces (suc n) _text.now 0 (match_spans _regex.now _text.now)) (texts _text.now (take n (match_spans _regex.now _text.now))) ≡ _text.now }
 {}
 
-/// A text has one piece more than spans. Of these the first are as many as a limit allows: all of them if it can be, else
-/// those before the last, and then the rest.
+/// There is one piece more than there are spans. A limit that allows all of them cuts none off; any other leaves as many as
+/// it allows, which are the pieces up to the last of them.
 pub fn limits_cut_pieces_off()
     ensures count { (n : ℕ) (t : List ℕ) (spans : List (ℕ × ℕ)) → length (first_pieces n t 0 spans) ≡ min n (suc (length spans)) }
     ensures all { (n : ℕ) (t : List ℕ) (spans : List (ℕ × ℕ)) → length spans < n → first_pieces n t 0 spans ≡ pieces t 0 spans }

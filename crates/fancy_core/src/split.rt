@@ -19,8 +19,8 @@ pub use limited::SplitN;
 
 /// The pieces of a text between the matches in it, in order.
 ///
-/// A piece goes from the end of the last match, at first from the start of the text, to the start of the next match. After the last match
-/// the rest comes. So there is one piece more than there are matches, and pieces may be empty.
+/// A piece goes from the end of the last match, at first from the start of the text, to the start of the next match.
+/// After the last match the rest comes. So there is one piece more than there are matches, and pieces may be empty.
 ///
 /// The first `next` takes memory, which the later searches reuse. Where memory runs out an item is `Error::Memory`, and
 /// behind it the rest from the end of the last match still comes.

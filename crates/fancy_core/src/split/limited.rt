@@ -12,7 +12,8 @@ use fancy_syntax::error::Result;
 
 /// The pieces of a text between the matches in it, as [`Split`] has them, up to a limit.
 ///
-/// The last piece that the limit allows is the rest, and no search is made for it. An item that is an error uses one of the limit.
+/// The last piece that the limit allows is the rest, and no search is made for it. An item that is an error uses one of
+/// the limit.
 #[derive(Drop)]
 pub struct SplitN<'r, 't> {
     split: Split<'r, 't>,
@@ -23,7 +24,8 @@ pub struct SplitN<'r, 't> {
 impl Regex {
     ghost use Rattle.fancy_core.specs.Splits.{match_spans, progress, searches, regex_of, split_in, limit_in};
 
-    /// The pieces of a text between the matches in it, at most `limit` of them. The last is the rest. For the limit 0 there is none.
+    /// The pieces of a text between the matches in it, at most `limit` of them: the last of so many is the rest. For the
+    /// limit 0 there is none.
     ///
     /// ```text
     /// Regex::new(alloc, ",")?.splitn("1,2,3", 2)  // "1", "2,3"
