@@ -218,6 +218,8 @@ mod tests {
             ("[a", Some((0, ParseErrorKind::InvalidClass))),
             ("[]", Some((0, ParseErrorKind::InvalidClass))),
             ("[^]", Some((0, ParseErrorKind::InvalidClass))),
+            ("[a-\\d]", Some((0, ParseErrorKind::InvalidClass))),
+            ("(??a)", Some((0, ParseErrorKind::UnknownFlag))),
             ("[[:nope:]]", Some((0, ParseErrorKind::InvalidClass))),
             ("\\p{Nope}", Some((0, ParseErrorKind::InvalidClass))),
             ("\\p{a=b}", Some((0, ParseErrorKind::NotInProfile))),

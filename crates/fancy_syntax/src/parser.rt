@@ -72,7 +72,7 @@ fn flags_fault(inside: &[char], meaning: Meaning) -> ParseErrorKind {
         ['#', ..] => return ParseErrorKind::UnclosedOpenParen,
         ['P', '=' | '>', ..] | ['-', '0'..='9', ..] => return ParseErrorKind::NotInProfile,
         [
-            '=' | '!' | '>' | '(' | '~' | '&' | '+' | '?' | '0'..='9',
+            '=' | '!' | '>' | '(' | '~' | '&' | '+' | '0'..='9',
             ..
         ] => {
             return ParseErrorKind::NotInProfile;

@@ -1,6 +1,7 @@
 //! What stands in a class: characters, ranges, sets, operators.
 
 ghost use Rattle.std.specs.Prelude.{◌≡◌, ◌<◌, ◌≤◌, true, length, drop, option_map, IsTrue, IsSome, OnOk};
+ghost use Rattle.fancy_syntax.specs.Escapes.{single};
 ghost use Rattle.fancy_syntax.specs.ClassGrammar.{range, token, operator, ends_operand, is_ranged, starts_class, opening, is_bracket};
 ghost use Rattle.fancy_syntax.specs.ClassViews.{GivesValue, same};
 
@@ -25,6 +26,20 @@ impl<'a> Cursor<'a> {
         }
     }
 
+    /// Reads the last character of a range. An escape that stands for a set is none.
+    fn last_of_range(&mut self) -> Result<(char, bool), Refusal>
+        ensures value { GivesValue same (single self.old.rest.now) result self.new.rest.now }
+        ensures progress { OnOk result (length self.new.rest.now < length self.old.rest.now) }
+    {
+        let is_set = self.set_here().is_some() || self.is_property();
+        match self.single() {
+            Err(Refusal::Invalid(_)) if is_set => {
+                Err(Refusal::Invalid(ParseErrorKind::InvalidClass))
+            }
+            found => found,
+        }
+    }
+
     /// Reads a character or a range.
     fn range(&mut self, meaning: Meaning) -> Result<Token, Refusal>
         ensures value { GivesValue same (range meaning self.old.rest.now) result self.new.rest.now }
@@ -38,7 +53,7 @@ impl<'a> Cursor<'a> {
             return Ok(Token::Range(first, first));
         }
         self.skip(1);
-        let (last, is_byte) = self.single()?;
+        let (last, is_byte) = self.last_of_range()?;
         if !fits(meaning, last, is_byte) || last < first {
             return Err(Refusal::Invalid(ParseErrorKind::InvalidClass));
         }
