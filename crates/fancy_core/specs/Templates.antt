@@ -1,12 +1,11 @@
 -- Templates. A template is a text of characters, and is cut into steps.
-use Rattle.std.specs.Prelude.{ℕ, zero, suc, ◌+◌, ◌^◌, ◌==◌, ◌≡◌, Bool, true, false, not, ◌&&◌, ◌||◌, nat_eq, nat_lt, List, [], ◌∷◌, length, drop, codes, Option, None, Some, if◌then◌else◌}
+use Rattle.std.specs.Prelude.{ℕ, zero, suc, ◌+◌, ◌^◌, ◌==◌, ◌≡◌, Bool, true, false, not, ◌&&◌, nat_eq, nat_lt, List, [], ◌∷◌, length, drop, codes, Option, None, Some, if◌then◌else◌}
 use Rattle.std.specs.List.{starts_with, list_all}
 use Rattle.std.specs.Char.{is_ascii_digit}
 use Rattle.std.specs.Option.{option_or}
 use Rattle.std.specs.Str.Parse.{digits_value}
-use Rattle.unicode.specs.GeneralCategory.{general_category, general_category_number}
-use Rattle.unicode.specs.Binary.{is_alphabetic}
 use Rattle.fancy_syntax.specs.Words.{Text}
+unfoldable pub use Rattle.fancy_syntax.specs.Names.{is_name_character}
 
 -- how an expander wants its templates written
 pub record Syntax : Type 0 where
@@ -32,14 +31,6 @@ pub data Step : Type 0 where
   name : Text → Step
   number : ℕ → Step
   error : Step
-
--- The general categories Nd (decimal numbers), Nl (letters) and No (others), by the places that they have in the enum.
-abbrev pub is_number_category : ℕ → Bool
-is_number_category g = g == 8 || (g == 9 || g == 10)
-
--- the characters of names: alphabetic ones, numbers, and `_`
-unfoldable pub is_name_character : ℕ → Bool
-is_name_character c = is_alphabetic c || (c == 95 || is_number_category (general_category_number (general_category c)))
 
 -- the longest row of characters at the start that pass a test, and what follows it
 abbrev pub row : (ℕ → Bool) → Text → Text

@@ -1,10 +1,10 @@
 //! Reading a text from its front, character by character.
 
 ghost use Rattle.std.specs.Prelude.{◌≡◌, ◌∷◌, ◌++◌, ℕ, [], true, false, chars, drop, length, MatchOption, IfSome, ◌<◌, encode_utf8, IsUtf8};
-ghost use Rattle.fancy_core.specs.Templates.{begins_with, is_name_character, row, past_row};
+ghost use Rattle.fancy_core.specs.Templates.{begins_with, row, past_row};
 ghost use Rattle.fancy_core.specs.Expanders.{test_of};
 
-use unicode::properties::{GeneralCategory, is_alphabetic};
+use fancy_syntax::name::is_name_character;
 
 /// What a row of characters is made of.
 #[derive(Clone, Copy)]
@@ -25,20 +25,6 @@ impl Letters {
             Letters::Digits => c.is_ascii_digit(),
         }
     }
-}
-
-/// Whether a character may stand in the name of a group: one that is alphabetic, of category Nd, Nl or No, or
-/// `_`.
-pub fn is_name_character(c: char) -> bool
-    ensures { result ≡ is_name_character c }
-{
-    if is_alphabetic(c) || c == '_' {
-        return true;
-    }
-    let category = GeneralCategory::for_char(c);
-    category == GeneralCategory::DecimalNumber
-        || category == GeneralCategory::LetterNumber
-        || category == GeneralCategory::OtherNumber
 }
 
 /// The first character, and what follows it.

@@ -3,6 +3,7 @@
 ghost use Rattle.std.specs.Prelude.{◌≡◌, ◌≤◌, ◌↔◌, ◌+◌, ◌-◌, ◌*◌, None, Some, Ok, Err, IfOk, IfErr, IfSome, IsTrue, string_bytes, chars, option_map, is_some, true, false, length};
 ghost use Rattle.fancy_syntax.specs.Pattern.{Pattern, pattern_of};
 ghost use Rattle.fancy_syntax.specs.Dialect.{IsPattern, standard};
+ghost use Rattle.fancy_syntax.specs.Names.{named_groups};
 ghost use Rattle.fancy_syntax.specs.Refusals.{IsRefused};
 ghost use Rattle.fancy_input.specs.Inputs.{haystack_in, request_in};
 ghost use Rattle.fancy_input.specs.Places.{is_boundary};
@@ -30,6 +31,7 @@ use fancy_engine::work::Work;
 use fancy_input::input::{Haystack, Input, Request};
 use fancy_input::regex_input::RegexInput;
 use fancy_syntax::error::{Error, Result};
+use fancy_syntax::name::GroupName;
 use fancy_syntax::parse::{Parsed, parse_with};
 use fancy_syntax::tree::Tree;
 use std::alloc::Global;
@@ -45,6 +47,7 @@ pub struct Regex {
     options: Options,
     tree: Tree,
     code: Code,
+    names: Vec<GroupName>,
     ghost coded: { ∥ IsCodeOf (pattern_of tree) code ∥₁ },
     ghost meant: { code.meaning ≡ meaning_of options.bytes_mode },
     ghost short: { code_len code ≤ 4 * nodes (pattern_of tree) + 2 },
@@ -53,6 +56,7 @@ pub struct Regex {
 }
 
 impl Regex {
+    ghost use Rattle.fancy_core.specs.Names.{names_in};
     ghost use Rattle.fancy_core.specs.Regexes.{text_of, pattern_in, options_in, groups_in, length_in, asked};
 
     /// Reads a pattern, with the default options.
@@ -68,6 +72,7 @@ impl Regex {
         ensures text { IfOk result (λ r. text_of r ≡ pattern.now) }
         ensures options { IfOk result (λ r. options_in r ≡ by_default) }
         ensures accepted { IfOk result (λ r. IsPattern standard (chars pattern.now) (pattern_in r)) }
+        ensures groups { IfOk result (λ r. (h : IsPattern standard (chars pattern.now) (pattern_in r)) × (h.end.opened + 1 ≡ groups_in r) × (h.end.names ≡ names_in r)) }
         ensures refused { IfErr result (λ e. IsRefused e standard (chars pattern.now)) }
         ensures succeeds { (p : Pattern) → IsPattern standard (chars pattern.now) p → IfErr result (λ e. e ≡ Error.Memory) }
     {
@@ -85,6 +90,13 @@ impl Regex {
 
     pub(crate) fn allocator(&self) -> Global {
         *self.pattern.allocator()
+    }
+
+    /// The names of groups, in the order of their openings.
+    pub(crate) fn names(&self) -> &[GroupName]
+        ensures { named_groups result.now ≡ names_in self.now }
+    {
+        &self.names
     }
 
     /// How many groups the pattern has, with group 0, the whole match.
@@ -265,7 +277,8 @@ impl Regex {
 }
 
 impl RegexOptionsBuilder {
-    ghost use Rattle.fancy_core.specs.Regexes.{text_of, pattern_in, options_in};
+    ghost use Rattle.fancy_core.specs.Names.{names_in};
+    ghost use Rattle.fancy_core.specs.Regexes.{text_of, pattern_in, options_in, groups_in};
 
     /// Reads a pattern with these options. The allocator is the text's, which is given up also where the
     /// call refuses.
@@ -273,19 +286,25 @@ impl RegexOptionsBuilder {
         ensures text { IfOk result (λ r. text_of r ≡ string_bytes pattern) }
         ensures options { IfOk result (λ r. options_in r ≡ options_of self.now) }
         ensures accepted { IfOk result (λ r. IsPattern (dialect_of (options_of self.now)) (chars (string_bytes pattern)) (pattern_in r)) }
+        ensures groups { IfOk result (λ r. (h : IsPattern (dialect_of (options_of self.now)) (chars (string_bytes pattern)) (pattern_in r)) × (h.end.opened + 1 ≡ groups_in r) × (h.end.names ≡ names_in r)) }
         ensures refused { IfErr result (λ e. IsRefused e (dialect_of (options_of self.now)) (chars (string_bytes pattern))) }
         ensures succeeds { (p : Pattern) → IsPattern (dialect_of (options_of self.now)) (chars (string_bytes pattern)) p → IfErr result (λ e. e ≡ Error.Memory) }
     {
         let options = self.options();
         let alloc = *pattern.allocator();
         let meaning = options.bytes_mode.meaning();
-        let Parsed { tree, groups } = parse_with(alloc, pattern.as_str(), meaning)?;
+        let Parsed {
+            tree,
+            groups,
+            names,
+        } = parse_with(alloc, pattern.as_str(), meaning)?;
         let code = compile(alloc, &tree, groups, meaning)?;
         Ok(Regex {
             pattern,
             options,
             tree,
             code,
+            names,
         })
     }
 }

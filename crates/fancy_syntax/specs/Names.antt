@@ -1,5 +1,5 @@
 -- Names of groups.
-use Rattle.std.specs.Prelude.{ℕ, ◌==◌, ◌||◌, Bool, true, false, List, [], ◌∷◌, length, drop, chars, map, string_bytes, if◌then◌else◌}
+use Rattle.std.specs.Prelude.{ℕ, ◌==◌, ◌||◌, Bool, false, List, [], ◌∷◌, length, drop, chars, map, string_bytes, if◌then◌else◌}
 use Rattle.std.specs.List.{list_all}
 use Rattle.unicode.specs.GeneralCategory.{general_category, general_category_number}
 use Rattle.unicode.specs.Binary.{is_alphabetic}

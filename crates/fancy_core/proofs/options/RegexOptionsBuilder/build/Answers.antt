@@ -1,4 +1,4 @@
-use Rattle.std.proofs.Common.{◌∙◌, ◌+◌, arith}
+use Rattle.std.proofs.Common.{sym, ◌∙◌, ◌+◌, arith}
 use Rattle.std.proofs.lemmas.Result.{err_from_is_err_and}
 use Rattle.fancy_syntax.specs.Pattern.{pattern_of}
 use Rattle.fancy_syntax.proofs.GroupLemmas.{numbered, wider}
@@ -26,3 +26,8 @@ invariant_of-result c = record {
   easy = easy_spelled (c.in_ok-tree.ensures.accepted.0).spelled;
   whole = λ _. no_raw_bytes (c.in_ok-tree.ensures.accepted.0).spelled;
 }
+
+pub returns-clause-groups : goal.returns-clause-groups
+returns-clause-groups c =
+    let h = rw (c.meaning-meaning.ensures, c.options-options.ensures, c.as_str.ensures.value) at c.in_ok-tree.ensures.accepted in
+    (h.0, h.1 ∙ sym c.in_ok-code.ensures.groups, sym h.2)
