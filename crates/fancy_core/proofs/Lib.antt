@@ -1,6 +1,7 @@
 pub mod NoneLemmas
 pub mod SearchedLemmas
 pub mod CutLemmas
+pub mod NamesLemmas
 pub mod MatchingLemmas
 pub mod EndLemmas
 pub mod ScanLemmas

@@ -2,6 +2,7 @@
 use Rattle.std.specs.Prelude.{◌≡◌, ◌+◌, ℕ, Bool, false, List, Option, Result, IfNone, MatchOption, MatchResult, ⊤, map}
 use Rattle.fancy_syntax.specs.declared.error.Error.{Error}
 use Rattle.fancy_engine.specs.Context.{Span}
+use Rattle.fancy_core.specs.declared.regex.Regex.{Regex}
 use Rattle.fancy_core.specs.declared.iter.Matches.{Matches}
 use Rattle.fancy_core.specs.declared.iter.captures.CaptureMatches.{CaptureMatches}
 use Rattle.fancy_core.specs.Groups.{spans_of}
@@ -23,10 +24,11 @@ abbrev pub groups_left : {S : Type 0} {g : _} → (S → Bool) → (S → List �
 groups_left text bytes m = groups_of_each (groups_in (regex_in (matches_in m))) (left_in text bytes (matches_in m))
 
 -- One call of `next`, from s to t. A haystack is text where `text` holds of it, and has these bytes.
-pub record IsNextCaptures {S A : Type 0} {g : _} (text : S → Bool) (bytes : S → List ℕ) (spans : A → List (Option Span)) (searched : A → S) (s : CaptureMatches S g) (r : Option (Result A Error)) (t : CaptureMatches S g) : Type 0 where
+pub record IsNextCaptures {S A : Type 0} {g : _} (text : S → Bool) (bytes : S → List ℕ) (spans : A → List (Option Span)) (searched : A → S) (found_by : A → Regex) (s : CaptureMatches S g) (r : Option (Result A Error)) (t : CaptureMatches S g) : Type 0 where
   -- the first of the matches that are left, or a refusal behind which there is none
   pub gives : GivesFirst spans (groups_left text bytes) s r t
   pub within_text : IfItem r (λ x. searched x ≡ text_of (matches_in s))
+  pub within_regex : IfItem r (λ x. found_by x ≡ regex_in (matches_in s))
   pub same_regex : regex_in (matches_in t) ≡ regex_in (matches_in s)
   pub same_text : text_of (matches_in t) ≡ text_of (matches_in s)
   pub same_request : next_request (matches_in t) ≡ record (next_request (matches_in s)) { start = (next_request (matches_in t)).start }

@@ -2,6 +2,7 @@
 use Rattle.std.specs.Prelude.{List, Option}
 use Rattle.fancy_engine.specs.Context.{Span}
 use Rattle.fancy_core.specs.declared.captures.Captures.{Captures}
+use Rattle.fancy_core.specs.declared.regex.Regex.{Regex}
 
 -- the spans of the groups, in order
 abbrev pub spans_in : {S : Type 0} {g : _} → Captures S g → List (Option Span)
@@ -10,3 +11,7 @@ spans_in captures = captures.slots.items
 -- the haystack that they were found in
 abbrev pub searched_in : {S : Type 0} {g : _} → Captures S g → S
 searched_in captures = captures.haystack
+
+-- the regex that found them
+abbrev pub found_by : {S : Type 0} {g : _} → Captures S g → Regex
+found_by captures = captures.regex.now

@@ -4,6 +4,7 @@ pub mod Regexes
 pub mod Searching
 pub mod Groups
 pub mod Captured
+pub mod Names
 pub mod Matching
 pub mod Left
 pub mod Iterations

@@ -3,6 +3,9 @@
 ghost use Rattle.std.specs.Prelude.{◌≡◌};
 ghost use Rattle.fancy_core.specs.Groups.{AreCut};
 
+mod borrowed_text;
+mod named;
+mod owned_text;
 mod views;
 
 use crate::regex::Regex;

@@ -6,7 +6,7 @@ ghost use Rattle.fancy_input.specs.Inputs.{haystack_in, request_in};
 ghost use Rattle.fancy_input.specs.Requests.{whole};
 ghost use Rattle.fancy_engine.specs.Search.{search};
 ghost use Rattle.fancy_engine.specs.Answers.{HasNone};
-ghost use Rattle.fancy_core.specs.Captured.{spans_in, searched_in};
+ghost use Rattle.fancy_core.specs.Captured.{spans_in, searched_in, found_by};
 ghost use Rattle.fancy_core.specs.Groups.{spans_of, span_of_group, found_at};
 ghost use Rattle.fancy_core.specs.Regexes.{options_in, groups_in, asked};
 ghost use Rattle.fancy_core.specs.Searching.{Suits, StartsCleanly, CanSearch};
@@ -30,6 +30,7 @@ impl Regex {
         requires suits { Suits (options_in self.now) (S.text haystack) (S.bytes haystack) }
         ensures found { IfOk result (λ m. option_map (λ c. spans_in c) m ≡ option_map (spans_of (groups_in self.now)) (search (asked self.now (S.bytes haystack) (whole (S.bytes haystack))))) }
         ensures within { IfOk result (λ m. IfSome m (λ c. searched_in c ≡ haystack)) }
+        ensures regex { IfOk result (λ m. IfSome m (λ c. found_by c ≡ self.now)) }
         ensures refused { IfErr result (λ e. e ≡ Error.Memory) }
     {
         let input = RegexInput::new(haystack);
@@ -48,6 +49,7 @@ impl Regex {
         requires starts { StartsCleanly (S.text haystack) (S.bytes haystack) start }
         ensures found { IfOk result (λ m. option_map (λ c. spans_in c) m ≡ option_map (spans_of (groups_in self.now)) (search (asked self.now (S.bytes haystack) (record (whole (S.bytes haystack)) { start = start })))) }
         ensures within { IfOk result (λ m. IfSome m (λ c. searched_in c ≡ haystack)) }
+        ensures regex { IfOk result (λ m. IfSome m (λ c. found_by c ≡ self.now)) }
         ensures refused { IfErr result (λ e. e ≡ Error.Memory) }
     {
         let input = RegexInput::new(haystack).from_pos(start);
@@ -63,6 +65,7 @@ impl Regex {
         requires searched { CanSearch (options_in self.now) (S.text (haystack_in input)) (S.bytes (haystack_in input)) (request_in input) }
         ensures found { IfOk result (λ m. option_map (λ c. spans_in c) m ≡ option_map (spans_of (groups_in self.now)) (search (asked self.now (S.bytes (haystack_in input)) (request_in input)))) }
         ensures within { IfOk result (λ m. IfSome m (λ c. searched_in c ≡ haystack_in input)) }
+        ensures regex { IfOk result (λ m. IfSome m (λ c. found_by c ≡ self.now)) }
         ensures refused { IfErr result (λ e. e ≡ Error.Memory) }
     {
         let mut memory = Memory::new(self.allocator());
@@ -81,6 +84,7 @@ impl Regex {
         requires suits { Suits (options_in self.now) (S.text haystack) (S.bytes haystack) }
         ensures found { IfOk result (λ m. option_map (λ c. spans_in c) m ≡ option_map (spans_of (groups_in self.now)) (search (asked self.now (S.bytes haystack) request))) }
         ensures within { IfOk result (λ m. IfSome m (λ c. searched_in c ≡ haystack)) }
+        ensures regex { IfOk result (λ m. IfSome m (λ c. found_by c ≡ self.now)) }
         ensures refused { IfErr result (λ e. e ≡ Error.Memory) }
     {
         let mut work = Work::new();

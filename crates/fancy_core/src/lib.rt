@@ -10,6 +10,7 @@ pub mod iter;
 mod iter_tests;
 pub mod laws;
 pub(crate) mod letters;
+pub mod names;
 pub mod options;
 pub mod regex;
 pub mod split;

@@ -3,6 +3,7 @@
 ghost use Rattle.std.specs.Prelude.{◌≡◌, ◌≤◌, ◌↔◌, ◌+◌, ◌-◌, ◌*◌, None, Some, Ok, Err, IfOk, IfErr, IfSome, IsTrue, string_bytes, chars, option_map, is_some, true, false, length};
 ghost use Rattle.fancy_syntax.specs.Pattern.{Pattern, pattern_of};
 ghost use Rattle.fancy_syntax.specs.Dialect.{IsPattern, standard};
+ghost use Rattle.fancy_syntax.specs.Names.{named_groups};
 ghost use Rattle.fancy_syntax.specs.Refusals.{IsRefused};
 ghost use Rattle.fancy_input.specs.Inputs.{haystack_in, request_in};
 ghost use Rattle.fancy_input.specs.Places.{is_boundary};
@@ -29,6 +30,7 @@ use fancy_engine::work::Work;
 use fancy_input::input::{Haystack, Input, Request};
 use fancy_input::regex_input::RegexInput;
 use fancy_syntax::error::{Error, Result};
+use fancy_syntax::name::GroupName;
 use fancy_syntax::parse::{Parsed, parse_with};
 use fancy_syntax::tree::Tree;
 use std::alloc::Global;
@@ -44,6 +46,7 @@ pub struct Regex {
     options: Options,
     tree: Tree,
     code: Code,
+    names: Vec<GroupName>,
     ghost coded: { ∥ IsCodeOf (pattern_of tree) code ∥₁ },
     ghost meant: { code.meaning ≡ meaning_in options },
     ghost short: { code_len code ≤ 4 * nodes (pattern_of tree) + 2 },
@@ -52,6 +55,7 @@ pub struct Regex {
 }
 
 impl Regex {
+    ghost use Rattle.fancy_core.specs.Names.{names_in};
     ghost use Rattle.fancy_core.specs.Regexes.{text_of, pattern_in, options_in, groups_in, length_in, asked};
 
     /// Reads a pattern, with the default options.
@@ -67,6 +71,7 @@ impl Regex {
         ensures text { IfOk result (λ r. text_of r ≡ pattern.now) }
         ensures options { IfOk result (λ r. options_in r ≡ by_default) }
         ensures accepted { IfOk result (λ r. IsPattern standard (chars pattern.now) (pattern_in r)) }
+        ensures groups { IfOk result (λ r. (h : IsPattern standard (chars pattern.now) (pattern_in r)) × (h.end.opened + 1 ≡ groups_in r) × (h.end.names ≡ names_in r)) }
         ensures refused { IfErr result (λ e. IsRefused e standard (chars pattern.now)) }
         ensures succeeds { (p : Pattern) → IsPattern standard (chars pattern.now) p → IfErr result (λ e. e ≡ Error.Memory) }
     {
@@ -84,6 +89,13 @@ impl Regex {
 
     pub(crate) fn allocator(&self) -> Global {
         *self.pattern.allocator()
+    }
+
+    /// The names of groups, in the order of their openings.
+    pub(crate) fn names(&self) -> &[GroupName]
+        ensures { named_groups result.now ≡ names_in self.now }
+    {
+        &self.names
     }
 
     /// How many groups the pattern has, with group 0, the whole match.
@@ -268,7 +280,8 @@ impl Regex {
 }
 
 impl RegexOptionsBuilder {
-    ghost use Rattle.fancy_core.specs.Regexes.{text_of, pattern_in, options_in};
+    ghost use Rattle.fancy_core.specs.Names.{names_in};
+    ghost use Rattle.fancy_core.specs.Regexes.{text_of, pattern_in, options_in, groups_in};
 
     /// Reads a pattern with these options. The allocator is the text's, which is given up also where the
     /// call refuses.
@@ -276,18 +289,24 @@ impl RegexOptionsBuilder {
         ensures text { IfOk result (λ r. text_of r ≡ string_bytes pattern) }
         ensures options { IfOk result (λ r. options_in r ≡ options_of self.now) }
         ensures accepted { IfOk result (λ r. IsPattern (dialect_of (options_of self.now)) (chars (string_bytes pattern)) (pattern_in r)) }
+        ensures groups { IfOk result (λ r. (h : IsPattern (dialect_of (options_of self.now)) (chars (string_bytes pattern)) (pattern_in r)) × (h.end.opened + 1 ≡ groups_in r) × (h.end.names ≡ names_in r)) }
         ensures refused { IfErr result (λ e. IsRefused e (dialect_of (options_of self.now)) (chars (string_bytes pattern))) }
         ensures succeeds { (p : Pattern) → IsPattern (dialect_of (options_of self.now)) (chars (string_bytes pattern)) p → IfErr result (λ e. e ≡ Error.Memory) }
     {
         let options = self.options();
         let alloc = *pattern.allocator();
-        let Parsed { tree, groups, .. } = parse_with(alloc, pattern.as_str(), options.syntax())?;
+        let Parsed {
+            tree,
+            groups,
+            names,
+        } = parse_with(alloc, pattern.as_str(), options.syntax())?;
         let code = compile(alloc, &tree, groups, options.meaning())?;
         Ok(Regex {
             pattern,
             options,
             tree,
             code,
+            names,
         })
     }
 }

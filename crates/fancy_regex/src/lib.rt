@@ -12,6 +12,7 @@
 
 pub use fancy_core::captures::{Captures, SubCaptureMatches};
 pub use fancy_core::iter::{CaptureMatches, Matches};
+pub use fancy_core::names::CaptureNames;
 pub use fancy_core::options::RegexOptionsBuilder;
 pub use fancy_core::regex::Regex;
 pub use fancy_core::split::{Split, SplitN};

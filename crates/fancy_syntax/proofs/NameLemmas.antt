@@ -1,5 +1,5 @@
 -- Names, as they are spelled and as they are read.
-use Rattle.std.proofs.Common.{◌≡◌, ℕ, suc, ◌+◌, ◌<◌, ◌≤◌, ◌==◌, ◌||◌, ◌&&◌, not, Bool, true, false, List, [], ◌∷◌, ◌++◌, length, take, drop, get_or, refl, sym, ap, ◌∙◌, subst, append_assoc, append-nil, arith, cond, drop-cons, add-one, take-suc}
+use Rattle.std.proofs.Common.{◌≡◌, ℕ, suc, ◌+◌, ◌<◌, ◌≤◌, ◌==◌, Bool, true, false, [], ◌∷◌, ◌++◌, length, take, drop, get_or, refl, sym, ap, ◌∙◌, append_assoc, append-nil, arith, cond, drop-cons, add-one, take-suc}
 use Rattle.std.specs.List.{list_all}
 use Rattle.std.proofs.lemmas.List.{drop_all, take_all, length-take-le}
 use Rattle.std.proofs.lemmas.Bool.Decides.{nat_tests}
@@ -8,10 +8,9 @@ use Rattle.unicode.proofs.DerivedComputing.{ucd_derived}
 use Rattle.unicode.proofs.CategoryComputing.{ucd_category}
 use Rattle.unicode.specs.Binary.{is_alphabetic}
 use Rattle.unicode.specs.GeneralCategory.{general_category}
-use Rattle.fancy_syntax.specs.Words.{Text, is_at}
+use Rattle.fancy_syntax.specs.Words.{Text}
 use Rattle.fancy_syntax.specs.Names.{is_name_character, is_name, name_here, past_name}
-use Rattle.fancy_syntax.proofs.BlankLemmas.{chosen}
-use Rattle.fancy_syntax.proofs.CountLemmas.{both_true, first_is as at_char}
+use Rattle.fancy_syntax.proofs.CountLemmas.{both_true}
 
 -- `>` is no character of names
 pub no_closing : is_name_character 62 ≡ false

@@ -1,5 +1,5 @@
 -- Names stand on groups, one behind the other.
-use Rattle.std.proofs.Common.{◌≡◌, ℕ, ◌+◌, ◌<◌, ◌≤◌, List, [], ◌∷◌, ◌++◌, Option, sym, subst, ap, ◌∙◌, append_assoc, append-nil, arith}
+use Rattle.std.proofs.Common.{◌≡◌, ℕ, ◌+◌, ◌≤◌, List, [], ◌∷◌, ◌++◌, Option, sym, subst, ap, ◌∙◌, append_assoc, append-nil, arith}
 use Rattle.fancy_syntax.specs.Pattern.{Pattern}
 use Rattle.fancy_syntax.specs.Words.{Text}
 use Rattle.fancy_syntax.specs.Dialect.{Scope, Options, begin, Branches, one, either, Parts, nothing, item, Item, set, bare, quantified, Atom, single, plain, flagged, capture, named, Spells}

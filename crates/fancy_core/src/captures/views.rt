@@ -3,7 +3,7 @@
 ghost use Rattle.std.specs.Prelude.{◌≡◌, ◌-◌, IfSome, length, option_map, drop};
 ghost use Rattle.std.specs.Iterator.{YieldsFirstBy, at_most};
 ghost use Rattle.fancy_core.specs.Groups.{AreCut, span_at};
-ghost use Rattle.fancy_core.specs.Captured.{spans_in, searched_in};
+ghost use Rattle.fancy_core.specs.Captured.{spans_in, searched_in, found_by};
 
 use crate::captures::Captures;
 use crate::regex::Regex;
@@ -18,6 +18,7 @@ impl<'r, S: Input> Captures<'r, S> {
         requires placed { AreCut (S.text haystack) (S.bytes haystack) slots.items }
         ensures haystack { searched_in result ≡ haystack }
         ensures slots { spans_in result ≡ slots.items }
+        ensures regex { found_by result ≡ regex.now }
     {
         Captures {
             regex,

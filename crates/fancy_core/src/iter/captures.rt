@@ -4,7 +4,7 @@ ghost use Rattle.std.specs.Prelude.{◌≡◌, ◌<◌, ◌^◌};
 ghost use Rattle.std.specs.Iterator.{at_most};
 ghost use Rattle.fancy_input.specs.Inputs.{haystack_in, request_in};
 ghost use Rattle.fancy_input.specs.Requests.{whole};
-ghost use Rattle.fancy_core.specs.Captured.{spans_in, searched_in};
+ghost use Rattle.fancy_core.specs.Captured.{spans_in, searched_in, found_by};
 ghost use Rattle.fancy_core.specs.Regexes.{options_in, groups_in};
 ghost use Rattle.fancy_core.specs.Searching.{Suits, CanSearch};
 ghost use Rattle.fancy_core.specs.Left.{matches_of, last_start_of};
@@ -98,7 +98,7 @@ impl<'r, S: Input> Iterator for CaptureMatches<'r, S> {
 
     type Item = Result<Captures<'r, S>>;
 
-    ghost next_gives = { IsNextCaptures S.text S.bytes (λ c. spans_in c) (λ c. searched_in c) };
+    ghost next_gives = { IsNextCaptures S.text S.bytes (λ c. spans_in c) (λ c. searched_in c) (λ c. found_by c) };
 
     ghost remaining = { λ m. at_most (turns_of S.text S.bytes (matches_in m)) };
 

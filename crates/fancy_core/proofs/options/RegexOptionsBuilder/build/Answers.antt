@@ -1,4 +1,4 @@
-use Rattle.std.proofs.Common.{◌∙◌, ◌+◌, ap, arith}
+use Rattle.std.proofs.Common.{sym, ◌∙◌, ◌+◌, ap, arith}
 use Rattle.fancy_syntax.specs.Dialect as dialect
 use Rattle.std.proofs.lemmas.Result.{err_from_is_err_and}
 use Rattle.fancy_syntax.specs.Pattern.{pattern_of}
@@ -30,3 +30,8 @@ invariant_of-result c = record {
   easy = easy_spelled (c.in_ok-tree.ensures.accepted.0).spelled;
   whole = λ e. no_raw_bytes (ap (λ (o : dialect.Options). o.keeps_characters) c.syntax.ensures ∙ e) (c.in_ok-tree.ensures.accepted.0).spelled;
 }
+
+pub returns-clause-groups : goal.returns-clause-groups
+returns-clause-groups c =
+    let h = rw (c.syntax.ensures, c.options-options.ensures, c.as_str.ensures.value) at c.in_ok-tree.ensures.accepted in
+    (h.0, h.1 ∙ sym c.in_ok-code.ensures.groups, sym h.2)

@@ -1,0 +1,47 @@
+-- The names of a regex's groups. A name may stand on several groups, and then the last in the pattern is meant.
+use Rattle.std.specs.Prelude.{ℕ, ◌==◌, List, drop, map, reverse, find, Option, option_map, option_and_then, chars, bytes_eq}
+use Rattle.std.specs.List.{range_with_len}
+use Rattle.std.specs.Borrow.{Bor}
+use Rattle.fancy_syntax.specs.Words.{Text}
+use Rattle.fancy_syntax.specs.Names.{named_groups}
+use Rattle.fancy_engine.specs.Context.{Span}
+use Rattle.fancy_core.specs.declared.regex.Regex.{Regex}
+use Rattle.fancy_core.specs.declared.names.CaptureNames.{CaptureNames}
+use Rattle.fancy_core.specs.Regexes.{groups_in}
+use Rattle.fancy_core.specs.Groups.{span_at}
+
+-- the names, each with the number of its group, in the order of the groups' openings
+abbrev pub names_in : Regex → List (Text × ℕ)
+names_in r = named_groups r.names.items
+
+-- the number of the last of these groups that has the name
+abbrev pub last_named : Text → List (Text × ℕ) → Option ℕ
+last_named name groups = option_map (λ g. g.1) (find (λ g. bytes_eq g.0 name) (reverse groups))
+
+-- the number of the last group of the pattern that has the name
+abbrev pub group_named : Regex → Text → Option ℕ
+group_named r name = last_named name (names_in r)
+
+-- the name that these give to the group with this number
+abbrev pub name_among : List (Text × ℕ) → ℕ → Option Text
+name_among groups number = option_map (λ g. g.0) (find (λ g. g.1 == number) (reverse groups))
+
+-- the name of the group with this number, if it has one
+abbrev pub name_of_group : Regex → ℕ → Option Text
+name_of_group r number = name_among (names_in r) number
+
+-- the name of each group in turn, from group 0 on
+abbrev pub names_of_groups : Regex → List (Option Text)
+names_of_groups r = map (name_of_group r) (range_with_len 0 (groups_in r))
+
+-- the span of the last group that has the name, if that took part
+abbrev pub span_named : Regex → List (Option Span) → Text → Option Span
+span_named r spans name = option_and_then (span_at spans) (group_named r name)
+
+-- the characters of a name
+abbrev pub read_name : Option (Bor (List ℕ)) → Option Text
+read_name = option_map (λ n. chars n.now)
+
+-- the names that are still to come
+abbrev pub names_left : CaptureNames → List (Option Text)
+names_left n = drop n.next (map read_name n.names.items)

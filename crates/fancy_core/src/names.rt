@@ -1,0 +1,89 @@
+//! The names of groups.
+
+ghost use Rattle.std.specs.Prelude.{◌≡◌, ◌-◌, IfOk, IfErr, None, length, map, replicate, slice_index_or, chars};
+ghost use Rattle.std.specs.Iterator.{YieldsFirstBy, at_most};
+ghost use Rattle.fancy_core.specs.Names.{group_named, names_of_groups, names_left, read_name};
+
+use crate::regex::Regex;
+use fancy_syntax::error::{Error, Result};
+use std::alloc::{AllocError, Global};
+
+/// The name of each group of a regex, in the order of their numbers; made by [`Regex::capture_names`].
+#[derive(Drop)]
+pub struct CaptureNames<'r> {
+    names: Vec<Option<&'r str>>,
+    next: usize,
+}
+
+impl Regex {
+    /// The name of each group, or `None` for a group without one, in the order of their numbers. The first item stands
+    /// for group 0, the whole match, which has no name.
+    ///
+    /// ```text
+    /// Regex::new(alloc, "(?<a>x)(y)")?.capture_names()?  // None, Some("a"), None
+    /// ```
+    pub fn capture_names(&self) -> Result<CaptureNames<'_>>
+        ensures names { IfOk result (λ n. names_left n ≡ names_of_groups self.now) }
+        ensures refused { IfErr result (λ e. e ≡ Error.Memory) }
+    {
+        let mut names = unnamed(self.allocator(), self.captures_len())?;
+        let groups = self.names();
+        for named in groups {
+            if named.group < names.len() {
+                names[named.group] = Some(named.name.as_str());
+            }
+        }
+        Ok(CaptureNames { names, next: 0 })
+    }
+
+    /// The number of the last group in the pattern that has this name.
+    pub(crate) fn group_named(&self, name: &str) -> Option<usize>
+        ensures { result ≡ group_named self.now (chars name.now) }
+    {
+        let mut found = None;
+        let groups = self.names();
+        for named in groups {
+            if named.name.as_str() == name {
+                found = Some(named.group);
+            }
+        }
+        found
+    }
+}
+
+/// So many groups without names.
+fn unnamed<'r>(alloc: Global, count: usize) -> std::result::Result<Vec<Option<&'r str>>, AllocError>
+    ensures { IfOk result (λ v. v.items ≡ replicate count None) }
+{
+    let mut names = Vec::new(alloc);
+    names.resize(count, None)?;
+    Ok(names)
+}
+
+/// The name with this number among these.
+fn name_at<'r>(names: &[Option<&'r str>], number: usize) -> Option<&'r str>
+    ensures { read_name result ≡ slice_index_or (map read_name names.now) number None }
+{
+    if number < names.len() {
+        names[number]
+    } else {
+        None
+    }
+}
+
+impl<'r> Iterator for CaptureNames<'r> {
+    type Item = Option<&'r str>;
+
+    ghost next_gives = { YieldsFirstBy read_name names_left };
+
+    ghost remaining = { λ n. at_most (length n.names.items - n.next) };
+
+    fn next(&mut self) -> Option<Option<&'r str>> {
+        if self.next >= self.names.len() {
+            return None;
+        }
+        let name = name_at(&self.names, self.next);
+        self.next += 1;
+        Some(name)
+    }
+}
