@@ -12,3 +12,8 @@ pub mod WriteLemmas
 pub mod PieceLemmas
 pub mod EscapeLemmas
 pub mod ReadLemmas
+pub mod NumberLemmas
+pub mod ExpansionLemmas
+pub mod FixedLemmas
+pub mod ReplaceLemmas
+pub mod CheckLemmas

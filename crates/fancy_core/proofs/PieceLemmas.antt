@@ -1,5 +1,5 @@
 -- Lemmas on the parts of a text.
-use Rattle.std.proofs.Common.{ℕ, ◌≤◌, ◌≡◌, List, [], ◌∷◌, ◌++◌, length, slice_range, sym, ◌∙◌, ap, drop, append-nil}
+use Rattle.std.proofs.Common.{arith, ℕ, ◌≤◌, ◌≡◌, List, [], ◌∷◌, ◌++◌, length, slice_range, sym, ◌∙◌, ap, drop, append-nil}
 use Rattle.std.proofs.lemmas.List.Folds.{drop_split}
 use Rattle.std.proofs.Math.Seq.{drop-length}
 use Rattle.fancy_core.specs.Pieces.{pieces, interleaved, texts, AreBetween}
@@ -16,3 +16,6 @@ rejoin_from t at (x ∷ xs) h =
 
 pub rejoin : (t : List ℕ) (xs : List (ℕ × ℕ)) → AreBetween 0 (length t) xs → interleaved (pieces t 0 xs) (texts t xs) ≡ t
 rejoin t xs h = rejoin_from t 0 xs h
+
+pub whole_of : (t : List ℕ) → slice_range t 0 (length t) ≡ t
+whole_of t = rest_of t 0 (omega arith)

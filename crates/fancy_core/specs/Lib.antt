@@ -12,4 +12,10 @@ pub mod Templates
 pub mod Expansions
 pub mod Escapes
 pub mod Expanders
+pub mod GroupNames
+pub mod GroupTexts
+pub mod Expanded
+pub mod Checks
 pub mod Pieces
+pub mod Replacing
+pub mod Rewriting

@@ -3,6 +3,7 @@
 ghost use Rattle.std.specs.Prelude.{◌≡◌};
 ghost use Rattle.fancy_core.specs.Groups.{AreCut};
 
+mod texts;
 mod views;
 
 use crate::regex::Regex;

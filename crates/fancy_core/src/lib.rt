@@ -3,8 +3,11 @@
 
 pub mod captures;
 mod capturing;
+mod check;
 pub mod escape;
 pub mod expander;
+mod expansion;
+mod group_names;
 pub mod iter;
 #[cfg(test)]
 mod iter_tests;
@@ -12,6 +15,8 @@ pub mod laws;
 pub(crate) mod letters;
 pub mod options;
 pub mod regex;
+mod replace;
+pub mod replacer;
 pub mod steps;
 pub mod template_laws;
 #[cfg(test)]

@@ -8,6 +8,7 @@ ghost use Rattle.fancy_core.specs.Captured.{spans_in, searched_in};
 use crate::captures::Captures;
 use crate::regex::Regex;
 use fancy_input::input::{Haystack, Input};
+use std::alloc::Global;
 
 impl<'r, S: Input> Captures<'r, S> {
     pub(crate) fn new(
@@ -18,12 +19,18 @@ impl<'r, S: Input> Captures<'r, S> {
         requires placed { AreCut (S.text haystack) (S.bytes haystack) slots.items }
         ensures haystack { searched_in result ≡ haystack }
         ensures slots { spans_in result ≡ slots.items }
+        ensures regex { result.regex.now ≡ regex.now }
     {
         Captures {
             regex,
             haystack,
             slots,
         }
+    }
+
+    /// The allocator of the regex.
+    pub(crate) fn allocator(&self) -> Global {
+        self.regex.allocator()
     }
 
     /// How many groups the pattern has, with group 0, also those that took no part.
