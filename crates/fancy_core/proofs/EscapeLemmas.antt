@@ -53,6 +53,11 @@ unmarked : (m : ℕ) (t : Text) → list_any (λ c. c == m) t ≡ false → esca
 unmarked m [] e = refl
 unmarked m (c ∷ t) e = unmarked_at m c t (c == m) refl (left (c == m) (list_any (λ d. d == m) t) e) (unmarked m t (right (c == m) (list_any (λ d. d == m) t) e))
 
+-- a template without a mark stands for itself
+pub unmarked_expands : (s : Syntax) (k : Captured) (t : Text) → list_any (λ c. c == s.mark) t ≡ false → expansion s k t ≡ encode_utf8_all t
+unfolding expansion
+unmarked_expands s k t e = ap (λ (z : List Step). flat_map (expanded k) z) (ap (steps s) (sym (unmarked s.mark t e)) ∙ literals s t) ∙ expands_back k t
+
 pub unmarked_bytes : (m : ℕ) (text : List ℕ) → IsUtf8 text → list_any (λ c. c == m) (chars text) ≡ false → text ≡ encode_utf8_all (escaped_template m (chars text))
 unmarked_bytes m text u e = sym (encodes-chars text u) ∙ ap encode_utf8_all (sym (unmarked m (chars text) e))
 

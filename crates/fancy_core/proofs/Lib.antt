@@ -15,3 +15,8 @@ pub mod PieceLemmas
 pub mod EscapeLemmas
 pub mod ReadLemmas
 pub mod SplitLemmas
+pub mod NumberLemmas
+pub mod ExpansionLemmas
+pub mod FixedLemmas
+pub mod ReplaceLemmas
+pub mod CheckLemmas

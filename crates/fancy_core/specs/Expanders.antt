@@ -1,19 +1,31 @@
 -- What an expander and the steps that it has in hand stand for.
-use Rattle.std.specs.Prelude.{ℕ, Bool, true, false, List, ◌∷◌, chars, drop}
+use Rattle.std.specs.Prelude.{ℕ, Bool, true, false, List, ◌∷◌, chars, codes, drop}
 use Rattle.std.specs.Borrow.{Bor}
 use Rattle.std.specs.Char.{is_ascii_digit}
 use Rattle.fancy_syntax.specs.Words.{Text}
 use Rattle.fancy_core.specs.Templates.{Syntax, Step, literal, name, number, error, steps, Form, is_name_character}
 use Rattle.fancy_core.specs.declared.letters.Letters.{Letters}
 use Rattle.fancy_core.specs.declared.letters.Letters.TheVariants.{OfNames, Digits}
+use Rattle.fancy_core.specs.declared.expander.Delimiters.{Delimiters}
+use Rattle.fancy_core.specs.declared.expander.Delimiters.TheVariants.{Braces, Angles}
 use Rattle.fancy_core.specs.declared.expander.Expander.{Expander}
 use Rattle.fancy_core.specs.declared.steps.Step as read
 use Rattle.fancy_core.specs.declared.steps.Step.TheVariants.{Literal, Name, Number, Error}
 use Rattle.fancy_core.specs.declared.steps.Steps.{Steps}
 
+-- what stands before the name of a group
+abbrev pub opening_of : Delimiters → Text
+opening_of Braces = codes "{"
+opening_of Angles = codes "g<"
+
+-- and behind it
+abbrev pub closing_of : Delimiters → Text
+closing_of Braces = codes "}"
+closing_of Angles = codes ">"
+
 -- how its templates are written
 abbrev pub syntax_of : Expander → Syntax
-syntax_of e = record { mark = e.mark; opening = chars e.opening.now; closing = chars e.closing.now; undelimited = e.undelimited }
+syntax_of e = record { mark = e.mark; opening = opening_of e.delimiters; closing = closing_of e.delimiters; undelimited = e.undelimited }
 
 abbrev pub mark_of : Expander → ℕ
 mark_of e = e.mark

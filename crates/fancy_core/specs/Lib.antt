@@ -13,5 +13,10 @@ pub mod Templates
 pub mod Expansions
 pub mod Escapes
 pub mod Expanders
+pub mod GroupTexts
+pub mod Expanded
+pub mod Checks
 pub mod Pieces
 pub mod Splits
+pub mod Replacing
+pub mod Rewriting

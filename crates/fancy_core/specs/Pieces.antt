@@ -22,8 +22,8 @@ abbrev pub texts : List ℕ → List (ℕ × ℕ) → List (List ℕ)
 texts t [] = []
 texts t (x ∷ xs) = slice_range t x.0 x.1 ∷ texts t xs
 
--- the spans that a replacement with a limit takes: all of them for 0
-abbrev pub limited : ℕ → List (ℕ × ℕ) → List (ℕ × ℕ)
+-- what a replacement with a limit takes: all for 0, else the first so many
+abbrev pub limited : {A : Type 0} → ℕ → List A → List A
 limited zero xs = xs
 limited (suc n) xs = take (suc n) xs
 

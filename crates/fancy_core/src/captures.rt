@@ -6,6 +6,7 @@ ghost use Rattle.fancy_core.specs.Groups.{AreCut};
 mod borrowed_text;
 mod named;
 mod owned_text;
+mod texts;
 mod views;
 
 use crate::regex::Regex;

@@ -6,7 +6,7 @@ ghost use Rattle.std.specs.Cow.{cow_str_bytes, IsBorrowedStr};
 ghost use Rattle.fancy_core.specs.Templates.{steps, dollar_syntax, python_syntax};
 ghost use Rattle.fancy_core.specs.Expansions.{Captured, expansion};
 ghost use Rattle.fancy_core.specs.Escapes.{doubled_mark, escaped_template, has_mark};
-ghost use Rattle.fancy_core.specs.Expanders.{syntax_of, mark_of, steps_left};
+ghost use Rattle.fancy_core.specs.Expanders.{syntax_of, opening_of, closing_of, mark_of, steps_left};
 
 use crate::steps::Steps;
 use fancy_syntax::error::{Error, Result};
@@ -20,9 +20,37 @@ use std::borrow::CowStr;
 #[derive(Clone, Copy)]
 pub struct Expander {
     pub(crate) mark: char,
-    pub(crate) opening: &'static str,
-    pub(crate) closing: &'static str,
+    pub(crate) delimiters: Delimiters,
     pub(crate) undelimited: bool,
+}
+
+/// What stands before and behind the name of a group.
+#[derive(Clone, Copy)]
+pub(crate) enum Delimiters {
+    /// `{` and `}`.
+    Braces,
+    /// `g<` and `>`.
+    Angles,
+}
+
+impl Delimiters {
+    pub(crate) fn opening(self) -> &'static str
+        ensures { chars result.now ≡ opening_of self }
+    {
+        match self {
+            Delimiters::Braces => "{",
+            Delimiters::Angles => "g<",
+        }
+    }
+
+    pub(crate) fn closing(self) -> &'static str
+        ensures { chars result.now ≡ closing_of self }
+    {
+        match self {
+            Delimiters::Braces => "}",
+            Delimiters::Angles => ">",
+        }
+    }
 }
 
 impl Default for Expander {
@@ -31,8 +59,7 @@ impl Default for Expander {
     fn default() -> Expander {
         Expander {
             mark: '$',
-            opening: "{",
-            closing: "}",
+            delimiters: Delimiters::Braces,
             undelimited: true,
         }
     }
@@ -45,8 +72,7 @@ impl Expander {
     {
         Expander {
             mark: '\\',
-            opening: "g<",
-            closing: ">",
+            delimiters: Delimiters::Angles,
             undelimited: false,
         }
     }
@@ -83,7 +109,8 @@ impl Expander {
     }
 }
 
-fn includes(text: &str, mark: char) -> bool
+/// Whether the character stands in the text.
+pub(crate) fn includes(text: &str, mark: char) -> bool
     ensures { result ≡ has_mark mark (chars text.now) }
 {
     text.chars().any(|c| c == mark)

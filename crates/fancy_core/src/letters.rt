@@ -1,7 +1,10 @@
 //! Reading a text from its front, character by character.
 
 ghost use Rattle.std.specs.Prelude.{◌≡◌, ◌∷◌, ◌++◌, ℕ, [], true, false, chars, drop, length, MatchOption, IfSome, ◌<◌, encode_utf8, IsUtf8};
+ghost use Rattle.std.specs.List.{list_all};
+ghost use Rattle.std.specs.Char.{is_ascii_digit};
 ghost use Rattle.fancy_core.specs.Templates.{begins_with, row, past_row};
+ghost use Rattle.fancy_core.specs.Expansions.{as_number};
 ghost use Rattle.fancy_core.specs.Expanders.{test_of};
 
 use fancy_syntax::name::is_name_character;
@@ -67,4 +70,23 @@ pub(crate) fn split_row(text: &str, letters: Letters) -> (&str, &str)
         rest = behind;
     }
     text.split_at(text.len() - rest.len())
+}
+
+/// The number that a text of ASCII digits writes in decimal, where it fits `usize`.
+pub(crate) fn as_number(text: &str) -> Option<usize>
+    ensures { result ≡ as_number (chars text.now) }
+{
+    if !are_digits(text) {
+        return None;
+    }
+    match text.parse::<usize>() {
+        Ok(number) => Some(number),
+        Err(_) => None,
+    }
+}
+
+fn are_digits(text: &str) -> bool
+    ensures { result ≡ list_all is_ascii_digit (chars text.now) }
+{
+    text.chars().all(|c| c.is_ascii_digit())
 }

@@ -3,8 +3,10 @@
 
 pub mod captures;
 mod capturing;
+mod check;
 pub mod escape;
 pub mod expander;
+mod expansion;
 pub mod iter;
 #[cfg(test)]
 mod iter_tests;
@@ -13,6 +15,8 @@ pub(crate) mod letters;
 pub mod names;
 pub mod options;
 pub mod regex;
+mod replace;
+pub mod replacer;
 pub mod split;
 pub mod steps;
 pub mod template_laws;

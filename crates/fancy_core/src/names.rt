@@ -2,7 +2,7 @@
 
 ghost use Rattle.std.specs.Prelude.{◌≡◌, ◌-◌, IfOk, IfErr, None, length, map, replicate, slice_index_or, chars};
 ghost use Rattle.std.specs.Iterator.{YieldsFirstBy, at_most};
-ghost use Rattle.fancy_core.specs.Names.{group_named, names_of_groups, names_left, read_name};
+ghost use Rattle.fancy_core.specs.Names.{group_named, has_names, names_of_groups, names_left, read_name};
 
 use crate::regex::Regex;
 use fancy_syntax::error::{Error, Result};
@@ -48,6 +48,13 @@ impl Regex {
             }
         }
         found
+    }
+
+    /// Whether any group has a name.
+    pub(crate) fn has_names(&self) -> bool
+        ensures { result ≡ has_names self.now }
+    {
+        !self.names.is_empty()
     }
 }
 

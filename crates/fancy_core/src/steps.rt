@@ -86,14 +86,14 @@ fn read_form<'a>(expander: &Expander, text: &'a str) -> Option<(Step<'a>, &'a st
 fn read_delimited<'a>(expander: &Expander, text: &'a str) -> Option<(Step<'a>, &'a str)>
     ensures { option_map read_of result ≡ option_map (form_in (chars text.now)) (delimited (syntax_of expander.now) (chars text.now)) }
 {
-    let Some(inside) = after_word(text, expander.opening) else {
+    let Some(inside) = after_word(text, expander.delimiters.opening()) else {
         return None;
     };
     let (name, behind) = split_row(inside, Letters::OfNames);
     if name.is_empty() {
         return None;
     }
-    match after_word(behind, expander.closing) {
+    match after_word(behind, expander.delimiters.closing()) {
         Some(rest) => Some((Step::Name(name), rest)),
         None => None,
     }

@@ -1,10 +1,12 @@
 //! Laws of the definitions. Each is the contract of a function that does nothing.
 
-ghost use Rattle.std.specs.Prelude.{◌≡◌, ◌<◌, ◌^◌, ◌∷◌, ◌++◌, ℕ, List, [], true, false, length};
+ghost use Rattle.std.specs.Prelude.{◌≡◌, ◌<◌, ◌^◌, ◌∷◌, ◌++◌, ℕ, List, [], true, false, Some, length};
 ghost use Rattle.std.specs.Char.{is_ascii_digit};
 ghost use Rattle.std.specs.Str.Parse.{digits_value};
 ghost use Rattle.fancy_syntax.specs.Words.{Text};
 ghost use Rattle.fancy_core.specs.Templates.{Syntax, Step, literal, name, number, Cuts, steps, IsRow, is_name_character, begins_with};
+ghost use Rattle.fancy_core.specs.GroupTexts.{Seen};
+ghost use Rattle.fancy_core.specs.Replacing.{fixed_of, expansion_of};
 ghost use Rattle.fancy_core.specs.Pieces.{pieces, interleaved, texts, AreBetween};
 
 /// A template is cut into steps in one way, and in no other.
@@ -24,4 +26,10 @@ pub fn forms_are_read()
 /// The pieces of a text between spans, with the texts of the spans between them, are the text.
 pub fn pieces_rejoin()
     ensures { (t : List ℕ) (spans : List (ℕ × ℕ)) → AreBetween 0 (length t) spans → interleaved (pieces t 0 spans) (texts t spans) ≡ t }
+{}
+
+/// A template without `$` expands to its own characters, whatever was matched: the one text that a replacer has for
+/// all matches is what it appends for each.
+pub fn plain_template_is_its_expansion()
+    ensures { (template : List ℕ) (seen : Seen) (x : List ℕ) → fixed_of template ≡ Some x → expansion_of template seen ≡ x }
 {}

@@ -11,11 +11,14 @@
 #![tactic(auto)]
 
 pub use fancy_core::captures::{Captures, SubCaptureMatches};
+pub use fancy_core::escape::escape;
+pub use fancy_core::expander::Expander;
 pub use fancy_core::iter::{CaptureMatches, Matches};
 pub use fancy_core::names::CaptureNames;
 pub use fancy_core::options::RegexOptionsBuilder;
 pub use fancy_core::regex::Regex;
 pub use fancy_core::split::{Split, SplitN};
+pub use fancy_core::replacer::{NoExpand, ReplaceFn, Replacer, ReplacerRef};
 pub use fancy_engine::work::Work;
 pub use fancy_input::bytes::MatchBytes;
 pub use fancy_input::input::{Haystack, Input};

@@ -1,0 +1,12 @@
+use Rattle.std.proofs.Common.{List, ℕ, chars}
+use Rattle.std.specs.Io.KnownBytes.{Appends}
+use Rattle.fancy_core.specs.Expansions.{expansion}
+use Rattle.fancy_core.specs.Expanders.{syntax_of, steps_left}
+use Rattle.fancy_core.specs.GroupTexts.{captured, seen_in}
+use Rattle.fancy_core.proofs.ExpansionLemmas.{Given}
+use Rattle.fancy_core.proofs.expander.Expander.write_expansion.Given as goal
+
+abbrev pub invariant-loop-step : goal.invariant-loop-step
+invariant-loop-step g l =
+    let k = captured (seen_in g.S.Haystack.bytes l.captures) in
+    Given k (expansion (syntax_of l.self) k (chars l.template)) (λ (done : List ℕ). Appends (g.W.Write.contents l.fn.writer) (g.W.Write.contents l.writer) done) (steps_left l.step-iterator)

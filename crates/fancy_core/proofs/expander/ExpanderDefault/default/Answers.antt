@@ -1,7 +1,0 @@
-use Rattle.std.proofs.Common.{refl}
-use Rattle.std.specs.Str.{chars}
-use Rattle.fancy_core.proofs.expander.ExpanderDefault.default.Goals as goal
-
-pub returns : goal.returns
-unfolding chars
-returns c = refl

@@ -1,0 +1,56 @@
+-- What matches are replaced by, and what that makes of a text.
+use Rattle.std.specs.Prelude.{◌≡◌, ℕ, List, [], ◌∷◌, Option, None, Some, chars, encode_utf8_all, map, true, if◌then◌else◌}
+use Rattle.fancy_input.specs.Requests.{whole}
+use Rattle.fancy_core.specs.declared.regex.Regex.{Regex}
+use Rattle.fancy_core.specs.Escapes.{has_mark}
+use Rattle.fancy_core.specs.Expansions.{expansion}
+use Rattle.fancy_core.specs.GroupTexts.{Seen, captured}
+use Rattle.fancy_core.specs.Groups.{spans_of}
+use Rattle.fancy_core.specs.Left.{matches_of}
+use Rattle.fancy_core.specs.Matching.{Item, span_of_item}
+use Rattle.fancy_core.specs.Pieces.{pieces, interleaved}
+use Rattle.fancy_core.specs.Regexes.{groups_in}
+use Rattle.fancy_core.specs.Templates.{dollar_syntax}
+
+-- a template without `$` is one text for all matches: its own characters
+abbrev pub fixed_of : List ℕ → Option (List ℕ)
+fixed_of template = if has_mark 36 (chars template) then None else Some (encode_utf8_all (chars template))
+
+-- what a template gives for a match
+abbrev pub expansion_of : List ℕ → Seen → List ℕ
+expansion_of template seen = expansion dollar_syntax (captured seen) (chars template)
+
+-- A template appends this text for a match: what it expands to, and where it is one text for all matches, that text.
+pub record Expands (template : List ℕ) (seen : Seen) (text : List ℕ) : Type 0 where
+  pub value : text ≡ expansion_of template seen
+  pub fixed : (x : List ℕ) → fixed_of template ≡ Some x → text ≡ x
+
+-- what a replacer sees of an item
+abbrev pub seen_of : Regex → List ℕ → Item → Seen
+seen_of regex t i = record { regex = regex; haystack = t; spans = spans_of (groups_in regex) i.found }
+
+-- The answers to these matches, one after the other: each call goes on from the state that the one before left, and the last leaves this state.
+abbrev pub Answers : {R : Type 0} → (R → Seen → List ℕ → R → Type 0) → R → List Seen → List (List ℕ) → R → Type 0
+Answers gave r [] [] last = r ≡ last
+Answers gave r [] (a ∷ answers) last = ⊥
+Answers gave r (x ∷ xs) [] last = ⊥
+Answers gave r (x ∷ xs) (a ∷ answers) last = (next : _) × gave r x a next × Answers gave next xs answers last
+
+-- the answers of a replacer: its one text for all matches where it has one, else those of its calls
+abbrev pub AnswersOf : {R : Type 0} → Option (List ℕ) → (R → Seen → List ℕ → R → Type 0) → R → List Seen → List (List ℕ) → Type 0
+AnswersOf (Some x) gave r xs answers = answers ≡ map (λ _. x) xs
+AnswersOf None gave r xs answers = (last : _) × Answers gave r xs answers last
+
+-- the text with answers in the place of the items
+abbrev pub replaced : List ℕ → List Item → List (List ℕ) → List ℕ
+replaced t items answers = interleaved (pieces t 0 (map span_of_item items)) answers
+
+-- the matches in a text, from its start on
+abbrev pub all_matches : Regex → List ℕ → List Item
+all_matches regex t = matches_of regex true t (whole t)
+
+-- These items of the text were replaced, and this is what came of it.
+pub record IsReplaced {R : Type 0} (fixed : Option (List ℕ)) (gave : R → Seen → List ℕ → R → Type 0) (first : R) (regex : Regex) (t : List ℕ) (items : List Item) (result : List ℕ) : Type 0 where
+  pub answers : List (List ℕ)
+  pub given : AnswersOf fixed gave first (map (seen_of regex t) items) answers
+  pub joined : result ≡ replaced t items answers

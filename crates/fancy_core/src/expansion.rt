@@ -1,0 +1,204 @@
+//! What templates expand to.
+
+ghost use Rattle.std.specs.Prelude.{◌≡◌, ◌<◌, ◌++◌, ℕ, List, chars, string_bytes, take, length, option_map, IfOk, IfErr, OnOk, OnErr};
+ghost use Rattle.std.specs.Option.{option_or, option_and_then};
+ghost use Rattle.std.specs.Io.KnownBytes.{Appends};
+ghost use Rattle.fancy_core.specs.Templates.{dollar_syntax};
+ghost use Rattle.fancy_core.specs.Expansions.{expanded, expansion, as_number};
+ghost use Rattle.fancy_core.specs.Expanders.{syntax_of, step_of};
+ghost use Rattle.fancy_core.specs.Expanded.{bytes_of};
+ghost use Rattle.fancy_core.specs.GroupTexts.{AreOfText, captured, seen_in};
+
+use crate::captures::Captures;
+use crate::expander::Expander;
+use crate::letters::as_number;
+use crate::steps::Step;
+use crate::write::write_whole;
+use fancy_input::input::Input;
+use fancy_input::matches::Match;
+use fancy_syntax::error::{Error, Result};
+use std::alloc::AllocError;
+use std::io;
+
+/// What a step of a template gives.
+#[derive(Clone, Copy)]
+pub(crate) enum Expanded<'t> {
+    /// The character of a literal.
+    Character(char),
+    /// The text of a group, empty where it took no part and for what names none.
+    Text(&'t str),
+}
+
+impl Expander {
+    /// What a template expands to for these captures.
+    ///
+    /// ```text
+    /// // the captures of (b) on "abc"
+    /// Expander::default().expansion("${1}-$0", &captures)     // "b-b"
+    /// Expander::python().expansion("\\1\\g<0>\\\\x", &captures)   // "bb\x"
+    /// Expander::default().expansion("$10", &captures)         // "": there is no group 10
+    /// ```
+    pub fn expansion<'t, S: Input<Match = Match<'t>>>(
+        &self,
+        template: &str,
+        captures: &Captures<'_, S>,
+    ) -> Result<String>
+        requires of_text { AreOfText S.span S.within }
+        ensures value { IfOk result (λ s. string_bytes s ≡ expansion (syntax_of self.now) (captured (seen_in S.bytes captures.now)) (chars template.now)) }
+        ensures refused { IfErr result (λ e. e ≡ Error.Memory) }
+    {
+        let mut text = String::new(captures.allocator());
+        self.push_steps(&mut text, template, captures)?;
+        Ok(text)
+    }
+
+    /// Appends what a template expands to. A refusal leaves `dst` as it was.
+    pub fn append_expansion<'t, S: Input<Match = Match<'t>>>(
+        &self,
+        dst: &mut String,
+        template: &str,
+        captures: &Captures<'_, S>,
+    ) -> Result<()>
+        requires of_text { AreOfText S.span S.within }
+        ensures value { OnOk result (string_bytes dst.new ≡ string_bytes dst.old ++ expansion (syntax_of self.now) (captured (seen_in S.bytes captures.now)) (chars template.now)) }
+        ensures kept { OnErr result (string_bytes dst.new ≡ string_bytes dst.old) }
+        ensures refused { IfErr result (λ e. e ≡ Error.Memory) }
+    {
+        let length = dst.len();
+        match self.push_steps(dst, template, captures) {
+            Ok(()) => Ok(()),
+            Err(_) => {
+                dst.truncate(length);
+                Err(Error::Memory)
+            }
+        }
+    }
+
+    /// Appends what the steps of a template give, in order.
+    fn push_steps<'t, S: Input<Match = Match<'t>>>(
+        &self,
+        dst: &mut String,
+        template: &str,
+        captures: &Captures<'_, S>,
+    ) -> std::result::Result<(), AllocError>
+        requires of_text { AreOfText S.span S.within }
+        ensures value { OnOk result (string_bytes dst.new ≡ string_bytes dst.old ++ expansion (syntax_of self.now) (captured (seen_in S.bytes captures.now)) (chars template.now)) }
+        ensures begun { OnErr result ((more : List ℕ) × (string_bytes dst.new ≡ string_bytes dst.old ++ more)) }
+    {
+        for step in self.steps(template) {
+            push_expanded(dst, expand_step(step, captures))?;
+        }
+        Ok(())
+    }
+
+    /// Writes what a template expands to, and takes no memory.
+    ///
+    /// Each fault of a write ends it, and so does a write that takes no byte (`ErrorKind::WriteZero`). What the
+    /// writer has taken by then is a beginning of the expansion, and not all of it. No empty text is written.
+    pub fn write_expansion<'t, W: io::Write, S: Input<Match = Match<'t>>>(
+        &self,
+        writer: &mut W,
+        template: &str,
+        captures: &Captures<'_, S>,
+    ) -> io::Result<()>
+        requires of_text { AreOfText S.span S.within }
+        ensures ok { OnOk result (Appends (W.contents writer.old) (W.contents writer.new) (expansion (syntax_of self.now) (captured (seen_in S.bytes captures.now)) (chars template.now))) }
+        ensures err { let whole = expansion (syntax_of self.now) (captured (seen_in S.bytes captures.now)) (chars template.now) in OnErr result ((count : ℕ) × (count < length whole) × Appends (W.contents writer.old) (W.contents writer.new) (take count whole)) }
+    {
+        for step in self.steps(template) {
+            write_expanded(writer, expand_step(step, captures))?;
+        }
+        Ok(())
+    }
+
+    /// Appends the bytes of what a template expands to. A refusal leaves `dst` as it was.
+    pub fn write_expansion_vec<'t, S: Input<Match = Match<'t>>>(
+        &self,
+        dst: &mut Vec<u8>,
+        template: &str,
+        captures: &Captures<'_, S>,
+    ) -> Result<()>
+        requires of_text { AreOfText S.span S.within }
+        ensures value { OnOk result (dst.new.items ≡ dst.old.items ++ expansion (syntax_of self.now) (captured (seen_in S.bytes captures.now)) (chars template.now)) }
+        ensures kept { OnErr result (dst.new.items ≡ dst.old.items) }
+        ensures refused { IfErr result (λ e. e ≡ Error.Memory) }
+    {
+        let before = dst.len();
+        match self.write_expansion(dst, template, captures) {
+            Ok(()) => Ok(()),
+            Err(_) => {
+                dst.truncate(before);
+                Err(Error::Memory)
+            }
+        }
+    }
+}
+
+impl<'r, 't, S: Input<Match = Match<'t>>> Captures<'r, S> {
+    /// Appends what a template expands to, as [`Expander::default`] reads it. A refusal leaves `dst` as it was.
+    ///
+    /// ```text
+    /// // the captures of (?P<first>\w+)\s+(?P<second>\w+) on "deep fried"
+    /// captures.expand("${first}_$second", &mut dst)  // appends "deep_fried"
+    /// captures.expand("$1a", &mut dst)               // appends nothing: no group is named 1a
+    /// ```
+    pub fn expand(&self, template: &str, dst: &mut String) -> Result<()>
+        requires of_text { AreOfText S.span S.within }
+        ensures value { OnOk result (string_bytes dst.new ≡ string_bytes dst.old ++ expansion dollar_syntax (captured (seen_in S.bytes self.now)) (chars template.now)) }
+        ensures kept { OnErr result (string_bytes dst.new ≡ string_bytes dst.old) }
+        ensures refused { IfErr result (λ e. e ≡ Error.Memory) }
+    {
+        Expander::default().append_expansion(dst, template, self)
+    }
+}
+
+/// What a step gives for these captures.
+fn expand_step<'t, S: Input<Match = Match<'t>>>(
+    step: Step<'_>,
+    captures: &Captures<'_, S>,
+) -> Expanded<'t>
+    requires of_text { AreOfText S.span S.within }
+    ensures { bytes_of result ≡ expanded (captured (seen_in S.bytes captures.now)) (step_of step.entry) }
+{
+    match step {
+        Step::Literal(c) => Expanded::Character(c),
+        Step::Name(name) => Expanded::Text(text_of_name(name, captures).unwrap_or("")),
+        Step::Number(number) => Expanded::Text(captures.text_numbered(number).unwrap_or("")),
+        Step::Error => Expanded::Text(""),
+    }
+}
+
+/// The text of the group with this name where that took part, else of the one whose decimal number it is.
+fn text_of_name<'t, S: Input<Match = Match<'t>>>(
+    name: &str,
+    captures: &Captures<'_, S>,
+) -> Option<&'t str>
+    requires of_text { AreOfText S.span S.within }
+    ensures { let k = captured (seen_in S.bytes captures.now) in option_map (λ t. t.now) result ≡ option_or (k.text_of_name (chars name.now)) (option_and_then k.text_of_number (as_number (chars name.now))) }
+{
+    if let Some(text) = captures.text_named(name) {
+        return Some(text);
+    }
+    let number = as_number(name)?;
+    captures.text_numbered(number)
+}
+
+fn push_expanded(dst: &mut String, expanded: Expanded<'_>) -> std::result::Result<(), AllocError>
+    ensures value { OnOk result (string_bytes dst.new ≡ string_bytes dst.old ++ bytes_of expanded.entry) }
+    ensures kept { OnErr result (string_bytes dst.new ≡ string_bytes dst.old) }
+{
+    match expanded {
+        Expanded::Character(c) => dst.push(c),
+        Expanded::Text(text) => dst.push_str(text),
+    }
+}
+
+fn write_expanded<W: io::Write>(writer: &mut W, expanded: Expanded<'_>) -> io::Result<()>
+    ensures ok { OnOk result (Appends (W.contents writer.old) (W.contents writer.new) (bytes_of expanded.entry)) }
+    ensures err { OnErr result ((count : ℕ) × (count < length (bytes_of expanded.entry)) × Appends (W.contents writer.old) (W.contents writer.new) (take count (bytes_of expanded.entry))) }
+{
+    match expanded {
+        Expanded::Character(c) => write_whole(writer, c.encode_utf8(&mut [0; 4]).as_bytes()),
+        Expanded::Text(text) => write_whole(writer, text.as_bytes()),
+    }
+}

@@ -1,0 +1,74 @@
+//! What matches are replaced by.
+
+ghost use Rattle.std.specs.Prelude.{◌≡◌, ◌++◌, ⊤, ℕ, List, Option, Some, IfErr, OnOk, OnErr, option_map, string_bytes};
+ghost use Rattle.std.specs.Cow.{cow_str_bytes};
+ghost use Rattle.fancy_syntax.specs.declared.error.Error.{Error as Refusal};
+ghost use Rattle.fancy_core.specs.GroupTexts.{Seen, bytes_of_str, seen_in};
+
+mod functions;
+mod lent;
+mod literal;
+mod templates;
+
+use crate::captures::Captures;
+use fancy_syntax::error::Result;
+pub use functions::ReplaceFn;
+pub use lent::ReplacerRef;
+pub use literal::NoExpand;
+use std::alloc::Global;
+use std::borrow::CowStr;
+
+/// Gives the text that a match is replaced by.
+///
+/// A `&str`, `&String`, `String`, `CowStr` or `&CowStr` is a template, which [`Captures::expand`] expands. [`NoExpand`]
+/// is a text that is taken as it stands, [`ReplaceFn`] calls a function, and [`Replacer::by_ref`] lends a replacer.
+///
+/// Where a replacer has one text for all matches, that is what each call appends.
+pub trait Replacer {
+    // The text for all matches, if there is one.
+    ghost fixed: { Self → Option (List ℕ) };
+
+    // In which states a match may be handed to it.
+    ghost callable: { Self → Type 0 } = { λ _. ⊤ };
+
+    // What a call may append: the state before, the match, the text, and the state after.
+    ghost appends: { Self → Seen → List ℕ → Self → Type 0 };
+
+    // What a call may refuse with.
+    ghost refuses: { Self → Seen → Refusal → Type 0 };
+
+    /// Appends the text that the match is replaced by. A refusal leaves `dst` as it was.
+    fn replace_append(&mut self, captures: &Captures<'_, &str>, dst: &mut String) -> Result<()>
+        requires { callable self.old }
+        ensures ok { OnOk result ((text : List ℕ) × (string_bytes dst.new ≡ string_bytes dst.old ++ text) × appends self.old (seen_in bytes_of_str captures.now) text self.new) }
+        ensures kept { OnErr result (string_bytes dst.new ≡ string_bytes dst.old) }
+        ensures refused { IfErr result (λ e. refuses self.old (seen_in bytes_of_str captures.now) e) }
+        ensures again { callable self.new };
+
+    /// The text for all matches, if there is one. It is asked for once, before the first search.
+    fn fixed_text(&self) -> Option<&str>
+        ensures { option_map (λ t. t.now) result ≡ fixed self.now };
+
+    /// The text for all matches, if there is one, as [`Replacer::fixed_text`] gives it.
+    final fn no_expansion(&mut self) -> Option<CowStr<'_, Global>>
+        ensures { option_map cow_str_bytes result ≡ fixed self.old }
+    {
+        match self.fixed_text() {
+            Some(text) => Some(CowStr::Borrowed(text)),
+            None => None,
+        }
+    }
+
+    /// A replacer that lends this one, so that it can be handed in more than once.
+    final fn by_ref(&mut self) -> ReplacerRef<'_, Self>
+    where
+        Self: Sized,
+        ensures same { result.0.ghost_name ≡ self.entry.ghost_name }
+        ensures value { result.0.now ≡ self.old }
+    {
+        ReplacerRef(self)
+    }
+
+    // Where there is a text for all matches, that is what is appended.
+    ghost same: { (s t : Self) (seen : Seen) (x y : List ℕ) → fixed s ≡ Some x → appends s seen y t → y ≡ x };
+}

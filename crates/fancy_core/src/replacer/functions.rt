@@ -1,0 +1,62 @@
+//! Functions as replacers.
+
+ghost use Rattle.std.specs.Prelude.{◌≡◌, ◌⊎◌, None, Ok, Err, string_bytes};
+ghost use Rattle.std.proofs.Common.{rules};
+ghost use Rattle.fancy_syntax.specs.declared.error.Error.TheVariants.{Memory};
+ghost use Rattle.fancy_core.specs.GroupTexts.{bytes_of_str, seen_in};
+
+use crate::captures::Captures;
+use crate::replacer::Replacer;
+use fancy_syntax::error::Result;
+
+/// A function that gives the text for each match. It may keep a state from call to call.
+///
+/// ```text
+/// ReplaceFn::new(|captures: &Captures<'_, &str>| {
+///     calls = calls + 1;
+///     Ok(format!(in alloc; "{calls}")?)
+/// })
+/// ```
+pub struct ReplaceFn<F>(F);
+
+impl<F: Drop> Drop for ReplaceFn<F> {
+    fn drop(self) {
+        let ReplaceFn(_) = self;
+    }
+}
+
+impl<F: FnMut(&Captures<'_, &str>) -> Result<String>> ReplaceFn<F> {
+    /// The function as a replacer. It may always be called.
+    pub fn new(function: F) -> ReplaceFn<F>
+        requires { F.IsAlwaysCallable function }
+        ensures { result.0 ≡ function }
+    {
+        ReplaceFn(function)
+    }
+}
+
+impl<F: FnMut(&Captures<'_, &str>) -> Result<String>> Replacer for ReplaceFn<F> {
+    ghost fixed = { λ _. None };
+
+    ghost callable = { λ s. F.IsAlwaysCallable s.0 };
+
+    ghost appends = { λ s c text t. (captures : _) × (answer : _) × (seen_in bytes_of_str captures.now ≡ c) × F.step s.0 captures (Ok answer) t.0 × (text ≡ string_bytes answer) };
+
+    ghost refuses = { λ s c e. (e ≡ Memory) ⊎ ((captures : _) × (after : _) × (seen_in bytes_of_str captures.now ≡ c) × F.step s.0 captures (Err e) after) };
+
+    ghost same = { λ s t c x y f a. Prim.search rules };
+
+    fn replace_append(&mut self, captures: &Captures<'_, &str>, dst: &mut String) -> Result<()> {
+        match (self.0)(captures) {
+            Ok(text) => {
+                dst.push_str(text.as_str())?;
+                Ok(())
+            }
+            Err(error) => Err(error),
+        }
+    }
+
+    fn fixed_text(&self) -> Option<&str> {
+        None
+    }
+}

@@ -1,0 +1,36 @@
+//! A replacer that is lent.
+
+ghost use Rattle.std.specs.Prelude.{◌≡◌};
+
+use crate::captures::Captures;
+use crate::replacer::Replacer;
+use fancy_syntax::error::Result;
+
+/// A replacer that lends another one, made by [`Replacer::by_ref`].
+pub struct ReplacerRef<'a, R: Replacer>(pub &'a mut R);
+
+impl<'a, R: Replacer> Drop for ReplacerRef<'a, R> {
+    fn drop(self) {
+        let ReplacerRef(_) = self;
+    }
+}
+
+impl<'a, R: Replacer> Replacer for ReplacerRef<'a, R> {
+    ghost fixed = { λ s. R.fixed s.0.now };
+
+    ghost callable = { λ s. R.callable s.0.now };
+
+    ghost appends = { λ s c text t. R.appends s.0.now c text t.0.now };
+
+    ghost refuses = { λ s c e. R.refuses s.0.now c e };
+
+    ghost same = { λ s t c x y f a. R.same s.0.now t.0.now c x y f a };
+
+    fn replace_append(&mut self, captures: &Captures<'_, &str>, dst: &mut String) -> Result<()> {
+        self.0.replace_append(captures, dst)
+    }
+
+    fn fixed_text(&self) -> Option<&str> {
+        self.0.fixed_text()
+    }
+}
