@@ -54,7 +54,8 @@ impl Regex {
     pub(crate) fn has_names(&self) -> bool
         ensures { result ≡ has_names self.now }
     {
-        !self.names.is_empty()
+        let groups = self.names();
+        !groups.is_empty()
     }
 }
 
