@@ -98,7 +98,7 @@ impl Set {
         Set { edges }
     }
 
-    /// The numbers at which the set begins and ends in turn. They rise, and equal sets have equal ones.
+    /// The numbers at which the set begins and ends in turn. They rise.
     pub fn into_edges(self) -> Vec<u32>
         ensures edges { result.items ≡ edges_of self }
         ensures rising { AreEdges result.items }
