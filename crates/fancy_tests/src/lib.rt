@@ -11,3 +11,7 @@ mod inputs;
 mod iteration;
 #[cfg(test)]
 mod refusals;
+#[cfg(test)]
+mod replacement;
+#[cfg(test)]
+mod templates;
