@@ -7,7 +7,13 @@ use std::process::Abort;
 use std::test::Fail;
 
 /// Pattern, text, limit, template, and what is wanted.
-type Row = (&'static str, &'static str, usize, &'static str, &'static str);
+type Row = (
+    &'static str,
+    &'static str,
+    usize,
+    &'static str,
+    &'static str,
+);
 
 fn check_row(rt: &impl Abort, alloc: Global, row: &Row) -> Result<(), Fail> {
     let (pattern, text, limit, template, wanted) = *row;
@@ -17,16 +23,40 @@ fn check_row(rt: &impl Abort, alloc: Global, row: &Row) -> Result<(), Fail> {
     let tried = regex.try_replacen(text, limit, template)?;
     assert_eq!(rt; tried.as_str(), wanted, "{pattern}");
     let owned = String::from_str(alloc, template)?;
-    assert_eq!(rt; regex.replacen(text, limit, &owned)?.as_str(), wanted, "{pattern}");
+    assert_eq!(rt;
+        regex.replacen(text, limit, &owned)?.as_str(),
+        wanted,
+        "{pattern}"
+    );
     let copied: CowStr<'_, Global> = CowStr::Borrowed(template);
-    assert_eq!(rt; regex.replacen(text, limit, &copied)?.as_str(), wanted, "{pattern}");
-    assert_eq!(rt; regex.replacen(text, limit, copied)?.as_str(), wanted, "{pattern}");
-    assert_eq!(rt; regex.replacen(text, limit, owned)?.as_str(), wanted, "{pattern}");
+    assert_eq!(rt;
+        regex.replacen(text, limit, &copied)?.as_str(),
+        wanted,
+        "{pattern}"
+    );
+    assert_eq!(rt;
+        regex.replacen(text, limit, copied)?.as_str(),
+        wanted,
+        "{pattern}"
+    );
+    assert_eq!(rt;
+        regex.replacen(text, limit, owned)?.as_str(),
+        wanted,
+        "{pattern}"
+    );
     if limit == 0 {
-        assert_eq!(rt; regex.replace_all(text, template)?.as_str(), wanted, "{pattern}");
+        assert_eq!(rt;
+            regex.replace_all(text, template)?.as_str(),
+            wanted,
+            "{pattern}"
+        );
     }
     if limit == 1 {
-        assert_eq!(rt; regex.replace(text, template)?.as_str(), wanted, "{pattern}");
+        assert_eq!(rt;
+            regex.replace(text, template)?.as_str(),
+            wanted,
+            "{pattern}"
+        );
     }
     Ok(())
 }
@@ -137,10 +167,12 @@ fn an_error_of_a_replacer_is_the_answer(rt: HostRuntime) -> Result<(), Fail> {
         Ok(String::from_str(alloc, "x")?)
     });
     let answer = regex.replace_all("aaa", failing.by_ref());
-    assert!(rt; matches!(
-        answer,
-        Err(Error::RuntimeError(RuntimeError::BacktrackLimitExceeded))
-    ));
+    assert!(rt;
+        matches!(
+            answer,
+            Err(Error::RuntimeError(RuntimeError::BacktrackLimitExceeded))
+        )
+    );
     let mut calls = 0u32;
     let once = ReplaceFn::new(|_captures: &Captures<'_, &str>| {
         calls = calls.wrapping_add(1);
