@@ -14,4 +14,8 @@ mod overrides;
 #[cfg(test)]
 mod refusals;
 #[cfg(test)]
+mod replacement;
+#[cfg(test)]
 mod splitting;
+#[cfg(test)]
+mod templates;

@@ -5,6 +5,7 @@
 //! | `find P T` | `start..end text` of the first match of the pattern P in the text T | 0, or 1 without a match |
 //! | `captures P T` | for each group k of the first match `k start..end text`, or `k none` | 0, or 1 without a match |
 //! | `split P T` | a line for each piece of the text T between the matches of the pattern P | 0 |
+//! | `replace P T R` | the text T with all matches of P replaced by the template R | 0 |
 //!
 //! A command that is refused writes one line `error: ` and what is wrong to its second writer, and its
 //! status is 2: `usage` for other words, the refusal's name for a pattern or a search, `Output` where the
@@ -107,7 +108,7 @@ pub fn run<W: io::Write, X: io::Write>(
     }
 }
 
-/// Whether the command found something. A split always does, since it has a piece.
+/// Whether the command found something. A split always does, since it has a piece, and so does a replacement.
 fn command<W: io::Write>(alloc: Global, words: &[String], out: &mut W) -> Result<bool, Fault> {
     match words {
         [command, pattern, text] if command.as_str() == "find" => {
@@ -118,6 +119,10 @@ fn command<W: io::Write>(alloc: Global, words: &[String], out: &mut W) -> Result
         }
         [command, pattern, text] if command.as_str() == "split" => {
             split(alloc, pattern.as_str(), text.as_str(), out)
+        }
+        [command, pattern, text, template] if command.as_str() == "replace" => {
+            let template = template.as_str();
+            replace(alloc, pattern.as_str(), text.as_str(), template, out)
         }
         _ => Err(Fault::Usage),
     }
@@ -172,5 +177,18 @@ fn split<W: io::Write>(
     for piece in regex.split(text) {
         writeln!(out, "{}", piece?)?;
     }
+    Ok(true)
+}
+
+fn replace<W: io::Write>(
+    alloc: Global,
+    pattern: &str,
+    text: &str,
+    template: &str,
+    out: &mut W,
+) -> Result<bool, Fault> {
+    let regex = Regex::new(alloc, pattern)?;
+    let replaced = regex.replace_all(text, template)?;
+    writeln!(out, "{}", replaced.as_str())?;
     Ok(true)
 }

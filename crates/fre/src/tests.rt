@@ -86,6 +86,26 @@ fn prints_the_pieces(rt: HostRuntime) -> Result<(), Fail> {
 }
 
 #[test]
+fn prints_the_replaced_text(rt: HostRuntime) -> Result<(), Fail> {
+    let alloc = rt.alloc();
+    let twice = &["replace", "aa", "aaaa aaa aa a", "xx"];
+    expect_run(&rt, alloc, twice, "xxxx xxa xx a\n", "", 0)?;
+    let groups = &["replace", "(b)", "abc", "${1}-$0"];
+    expect_run(&rt, alloc, groups, "ab-bc\n", "", 0)?;
+    expect_run(&rt, alloc, &["replace", "x", "abc", "$0"], "abc\n", "", 0)?;
+    expect_run(
+        &rt,
+        alloc,
+        &["replace", "x", "abc"],
+        "",
+        "error: usage\n",
+        2,
+    )?;
+    let refused = &["replace", "a)", "x", "y"];
+    expect_run(&rt, alloc, refused, "", "error: GeneralParseError\n", 2)
+}
+
+#[test]
 fn names_what_is_wrong(rt: HostRuntime) -> Result<(), Fail> {
     let alloc = rt.alloc();
     expect_run(&rt, alloc, &[], "", "error: usage\n", 2)?;
@@ -118,7 +138,7 @@ fn names_what_is_wrong(rt: HostRuntime) -> Result<(), Fail> {
     expect_run(
         &rt,
         alloc,
-        &["find", "[a]", "x"],
+        &["find", "(?=a)", "x"],
         "",
         "error: NotInProfile\n",
         2,
