@@ -10,4 +10,6 @@ mod inputs;
 #[cfg(test)]
 mod iteration;
 #[cfg(test)]
+mod names;
+#[cfg(test)]
 mod refusals;
