@@ -10,6 +10,8 @@ mod inputs;
 #[cfg(test)]
 mod iteration;
 #[cfg(test)]
+mod names;
+#[cfg(test)]
 mod overrides;
 #[cfg(test)]
 mod refusals;
