@@ -2,7 +2,11 @@
 #![tactic(auto)]
 
 #[cfg(test)]
+mod asking;
+#[cfg(test)]
 mod captures;
+#[cfg(test)]
+mod dialect;
 #[cfg(test)]
 mod finding;
 #[cfg(test)]
@@ -10,8 +14,12 @@ mod inputs;
 #[cfg(test)]
 mod iteration;
 #[cfg(test)]
+mod options;
+#[cfg(test)]
 mod overrides;
 #[cfg(test)]
 mod refusals;
+#[cfg(test)]
+mod sets;
 #[cfg(test)]
 mod splitting;
