@@ -2,7 +2,11 @@
 #![tactic(auto)]
 
 #[cfg(test)]
+mod asking;
+#[cfg(test)]
 mod captures;
+#[cfg(test)]
+mod dialect;
 #[cfg(test)]
 mod finding;
 #[cfg(test)]
@@ -12,11 +16,15 @@ mod iteration;
 #[cfg(test)]
 mod names;
 #[cfg(test)]
+mod options;
+#[cfg(test)]
 mod overrides;
 #[cfg(test)]
 mod refusals;
 #[cfg(test)]
 mod replacement;
+#[cfg(test)]
+mod sets;
 #[cfg(test)]
 mod splitting;
 #[cfg(test)]
