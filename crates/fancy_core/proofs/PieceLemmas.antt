@@ -71,5 +71,6 @@ chain_between (suc n) k at (Some i) h a l = (l.1, l.0.ordered, chain_between n k
 pub matches_between : (k : Scan) (s : ℕ) → Sound k → s ≤ k.last → AreBetween s k.last (map span_of_item (matches k s))
 unfolding items_from
 matches_between k s h a = chain_between (suc k.last) k s (answer k s true) h a (starts_first k s _ (answer_lies k s true h))
+
 pub whole_of : (t : List ℕ) → slice_range t 0 (length t) ≡ t
 whole_of t = rest_of t 0 (omega arith)

@@ -1,5 +1,5 @@
 -- Groups are numbered by their openings.
-use Rattle.std.proofs.Common.{◌≡◌, ℕ, ◌+◌, ◌≤◌, List, [], ◌∷◌, map, Option, Some, None, sym, subst, arith, inl, inr}
+use Rattle.std.proofs.Common.{ℕ, ◌+◌, ◌≤◌, List, [], ◌∷◌, map, Option, Some, None, sym, subst, arith}
 use Rattle.fancy_syntax.proofs.EndsLemmas as simple
 use Rattle.fancy_syntax.proofs.EndsLemmas.{IsSimple, simple_atom}
 use Rattle.std.specs.Prelude.{encode_utf8}

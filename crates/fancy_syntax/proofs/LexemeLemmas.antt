@@ -1,5 +1,5 @@
 -- What the functions that read characters and escapes give, is what the dialect means.
-use Rattle.std.proofs.Common.{◌≡◌, ℕ, zero, suc, ◌+◌, ◌*◌, ◌<◌, ◌≤◌, ◌==◌, ◌||◌, ◌&&◌, not, nat_lt, min, Bool, true, false, List, [], ◌∷◌, ◌++◌, take, Option, Some, None, drop, length, refl, sym, ap, ◌∙◌, subst, add_comm, arith, inl, inr, Result, Ok, Err}
+use Rattle.std.proofs.Common.{◌≡◌, ℕ, ◌+◌, ◌*◌, ◌<◌, ◌≤◌, ◌==◌, ◌&&◌, nat_lt, min, Bool, true, false, List, [], ◌∷◌, take, Option, Some, None, drop, length, refl, sym, ap, ◌∙◌, subst, add_comm, arith, inl, inr, Result, Ok, Err}
 use Rattle.std.proofs.lemmas.Bool.Decides.{nat_tests}
 use Rattle.std.specs.Char.{digit_value}
 use Rattle.std.specs.Option.{option_map}
@@ -9,19 +9,16 @@ use Rattle.fancy_syntax.specs.declared.error.Error.{Error}
 use Rattle.fancy_syntax.specs.declared.error.Error.TheVariants.{Memory, ParseError, CompileError, RuntimeError}
 use Rattle.fancy_syntax.specs.declared.class.refusal.Refusal.{Refusal}
 use Rattle.fancy_syntax.specs.declared.class.refusal.Refusal.TheVariants as refusal
-use Rattle.fancy_syntax.specs.declared.tree.Meaning.{Meaning}
 use Rattle.fancy_syntax.specs.declared.tree.Assertion.{Assertion}
 use Rattle.std.proofs.lemmas.List.{drop-drop}
 use Rattle.fancy_syntax.specs.declared.parser.Parser.{Parser}
 use Rattle.fancy_syntax.specs.declared.tree.Tree.{Tree}
 use Rattle.fancy_syntax.specs.Pattern.{Pattern, pattern_of, member_of, assertion}
-use Rattle.fancy_syntax.specs.Words.{Text, ◌∈◌, is_at}
-use Rattle.fancy_syntax.specs.Sets.{has, AreEdges}
-use Rattle.fancy_syntax.specs.Members.{Members}
+use Rattle.fancy_syntax.specs.Words.{Text, is_at}
 use Rattle.fancy_syntax.specs.Escapes.{hexadecimal, number, fixed_number, braced_number, before_brace, by_number, is_character}
 use Rattle.fancy_syntax.specs.ClassGrammar.{ReadsEdges}
 use Rattle.fancy_syntax.specs.ClassViews as class
-use Rattle.fancy_syntax.specs.Dialect.{Scope, Lexeme, leaf, one_of, IsMeant, by_itself, by_edges, lexeme, ReadsAtom, by_lexeme, by_class, literal_of, spelled_character, spelled_number, is_one_item, numbered, boundary, boundary_here}
+use Rattle.fancy_syntax.specs.Dialect.{Scope, Lexeme, leaf, IsMeant, by_itself, by_edges, lexeme, ReadsAtom, by_lexeme, by_class, literal_of, spelled_character, spelled_number, is_one_item, numbered, boundary, boundary_here}
 use Rattle.fancy_syntax.specs.Grammar.{Place, past, start, IsAtom}
 use Rattle.fancy_syntax.specs.Views.{Refuses, IsTheReading, HasNoReading, Gives, GivesMeant, error_of}
 use Rattle.fancy_syntax.proofs.CanonicalLemmas.{edges_unique}

@@ -35,9 +35,7 @@ fn boundary(text: &[char]) -> (Assertion, usize)
         (Assertion::WordStart, 7)
     } else if text.starts_with(&['{', 'e', 'n', 'd', '}']) {
         (Assertion::WordEnd, 5)
-    } else if text.starts_with(&[
-        '{', 's', 't', 'a', 'r', 't', '-', 'h', 'a', 'l', 'f', '}',
-    ]) {
+    } else if text.starts_with(&['{', 's', 't', 'a', 'r', 't', '-', 'h', 'a', 'l', 'f', '}']) {
         (Assertion::WordStartHalf, 12)
     } else if text.starts_with(&['{', 'e', 'n', 'd', '-', 'h', 'a', 'l', 'f', '}']) {
         (Assertion::WordEndHalf, 10)

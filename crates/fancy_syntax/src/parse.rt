@@ -230,7 +230,10 @@ mod tests {
                 Some((0, ParseErrorKind::InvalidCodepointValue)),
             ),
             ("\\xE9\\u00e9\\U000000E9\\x{e9}", None),
-            ("\\b\\B\\<\\>\\b{start}\\b{end}\\b{start-half}\\b{end-half}", None),
+            (
+                "\\b\\B\\<\\>\\b{start}\\b{end}\\b{start-half}\\b{end-half}",
+                None,
+            ),
             (".\\O\\N(?s:.)", None),
             ("\\R", Some((0, ParseErrorKind::NotInProfile))),
             ("a)", Some((1, ParseErrorKind::GeneralParseError))),

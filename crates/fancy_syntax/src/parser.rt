@@ -71,10 +71,7 @@ fn flags_fault(inside: &[char], meaning: Meaning) -> ParseErrorKind {
     match inside {
         ['#', ..] => return ParseErrorKind::UnclosedOpenParen,
         ['P', '=' | '>', ..] | ['-', '0'..='9', ..] => return ParseErrorKind::NotInProfile,
-        [
-            '=' | '!' | '>' | '(' | '~' | '&' | '+' | '0'..='9',
-            ..
-        ] => {
+        ['=' | '!' | '>' | '(' | '~' | '&' | '+' | '0'..='9', ..] => {
             return ParseErrorKind::NotInProfile;
         }
         _ => {}

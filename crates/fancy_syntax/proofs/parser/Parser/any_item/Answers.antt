@@ -1,4 +1,4 @@
-use Rattle.std.proofs.Common.{sym, arith}
+use Rattle.std.proofs.Common.{sym}
 use Rattle.fancy_syntax.specs.Views.{place}
 use Rattle.fancy_syntax.proofs.LexemeLemmas.{meant_past}
 use Rattle.fancy_syntax.proofs.parser.Parser.any_item.Goals as goal
