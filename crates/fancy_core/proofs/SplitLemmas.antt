@@ -16,9 +16,9 @@ use Rattle.fancy_core.proofs.ScanLemmas.{scan_sound}
 -- at most as many items come from a whole text as a number holds
 pub few_turns : (regex : Regex) (t bs : List ℕ) (r : Request) (ended continues skips_empty : Bool) → length t < 2 ^ 63 → bs ≡ t → r ≡ whole t → ended ≡ false → continues ≡ true → skips_empty ≡ false →
     suc (turns_left ended (items_left regex true bs r ended continues skips_empty)) < 2 ^ 64
-few_turns regex t bs r ended continues skips_empty short e1 e2 e3 e4 e5 =
+few_turns regex t bs r ended continues skips_empty short same_bytes whole_request not_ended goes_on skips_none =
     let few : 0 + length (matches_of regex true t (whole t)) ≤ max 0 (suc (length t)) = matches_count _ 0 (scan_sound regex true t (whole t) (omega arith)) in
-    rw (e1, e2, e3, e4, e5) (omega arith)
+    rw (same_bytes, whole_request, not_ended, goes_on, skips_none) (omega arith)
 
 sub-one_more : (n : ℕ) → suc (suc n) - 1 ≡ suc n
 sub-one_more n = omega arith

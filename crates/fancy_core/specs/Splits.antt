@@ -2,17 +2,17 @@
 use Rattle.std.specs.Prelude.{◌≡◌, ◌<◌, ◌-◌, ℕ, zero, suc, Bool, true, false, not, List, [], ◌∷◌, map, Option, Result, MatchOption, MatchResult, ⊤}
 use Rattle.fancy_syntax.specs.declared.error.Error.{Error}
 use Rattle.fancy_syntax.specs.declared.error.Error.TheVariants.{Memory as OutOfMemory}
-use Rattle.fancy_input.specs.Requests.{whole}
 use Rattle.fancy_core.specs.declared.regex.Regex.{Regex}
 use Rattle.fancy_core.specs.declared.split.Split.{Split}
 use Rattle.fancy_core.specs.declared.split.limited.SplitN.{SplitN}
 use Rattle.fancy_core.specs.Matching.{span_of_item}
-use Rattle.fancy_core.specs.Left.{matches_of, items_left, turns_left}
+use Rattle.fancy_core.specs.Left.{items_left, turns_left}
+use Rattle.fancy_core.specs.Replacing.{all_matches}
 use Rattle.fancy_core.specs.Pieces.{Progress, pieces_left, first_pieces_left, past_piece, rest_of}
 
 -- the spans of the matches in a text
 abbrev pub match_spans : Regex → List ℕ → List (ℕ × ℕ)
-match_spans regex t = map span_of_item (matches_of regex true t (whole t))
+match_spans regex t = map span_of_item (all_matches regex t)
 
 abbrev pub regex_of : Split → Regex
 regex_of s = s.regex.now

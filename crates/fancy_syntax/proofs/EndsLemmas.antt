@@ -16,9 +16,9 @@ use Rattle.fancy_syntax.specs.Pattern.{Pattern, member_of, raw_byte, assertion}
 use Rattle.fancy_syntax.specs.Words.{Text, ◌∈◌, is_at, begins, begins_count}
 use Rattle.fancy_syntax.specs.Members.{Members}
 use Rattle.fancy_syntax.specs.Sets.{AreEdges}
-use Rattle.fancy_syntax.specs.Escapes.{escaped, escape_at, hexadecimal, number, braced_number, before_brace, by_number, is_character, single, set_here, set_letter, is_property, property_name, property_named}
+use Rattle.fancy_syntax.specs.Escapes.{control_of, escaped, escape_at, hexadecimal, number, braced_number, before_brace, by_number, is_character, single, set_here, set_letter, is_property, property_name, property_named}
 use Rattle.fancy_syntax.specs.ClassGrammar.{is_ascii_meaning, fits, may_turn, range, range_from, range_to, is_ranged, named_of, posix, posix_of, posix_word, is_posix, property, property_of, found_property, token, token_of, operator, opening, Class, class, Items, none, next, Operands, last, more, Item, simple, nested}
-use Rattle.fancy_syntax.specs.Dialect.{Scope, Lexeme, leaf, one_of, IsMeant, by_itself, by_edges, lexeme, ReadsAtom, by_lexeme, by_class, literal_of, spelled_character, spelled_number, spelled_set, lettered_set, is_one_item, numbered, boundary, property_here, followed_by, any_item, any_code, lettered, control_of, place_test, anchor_of, lone, escape, escape_in, is_escapable, is_special}
+use Rattle.fancy_syntax.specs.Dialect.{Scope, Lexeme, leaf, one_of, IsMeant, by_itself, by_edges, lexeme, ReadsAtom, by_lexeme, by_class, literal_of, spelled_character, spelled_number, spelled_set, lettered_set, is_one_item, numbered, boundary, property_here, followed_by, any_item, any_code, lettered, place_test, anchor_of, lone, escape, escape_in, is_escapable, is_special}
 use Rattle.fancy_syntax.proofs.ReadingLemmas.{some_pair, some_is_none, true_is_false}
 use Rattle.fancy_syntax.proofs.BlankLemmas.{chosen, same_some, char_is}
 

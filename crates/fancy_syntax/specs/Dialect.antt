@@ -16,9 +16,9 @@ use Rattle.fancy_syntax.specs.Sizes.{nodes, is_empty}
 use Rattle.fancy_syntax.specs.Words.{Text, ◌∈◌, is_among, is_at, begins, is_at_digit, is_blank, past_blank, decimal, are_digits, begins_count}
 use Rattle.fancy_syntax.specs.Sets.{has, AreEdges, in_range}
 use Rattle.fancy_syntax.specs.Members.{Members}
-use Rattle.fancy_syntax.specs.Named.{in_universe}
+use Rattle.fancy_syntax.specs.Named.{in_universe, is_unicode}
 use Rattle.fancy_syntax.specs.Widening.{widened}
-use Rattle.fancy_syntax.specs.Escapes.{set_letter, number}
+use Rattle.fancy_syntax.specs.Escapes.{control_of, set_letter, number}
 use Rattle.fancy_syntax.specs.ClassGrammar.{ReadsEdges, is_ascii_meaning, may_turn, token_members, property}
 use Rattle.fancy_syntax.specs.Names.{is_name}
 
@@ -45,11 +45,6 @@ pub record Scope : Type 0 where
 -- these flags are in force from here on
 abbrev pub in_force : Flags → Scope → Scope
 in_force f s = record s { flags = f }
-
-abbrev pub is_unicode : Meaning → Bool
-is_unicode Unicode = true
-is_unicode Bytes = false
-is_unicode AsciiText = false
 
 abbrev pub agrees : Bool → Bool → Bool
 agrees true y = y
@@ -95,18 +90,6 @@ is_special c = c ∈ "|()*+?\\.^$["
 -- the characters that a backslash makes literals
 abbrev pub is_escapable : ℕ → Bool
 is_escapable c = (c == 32) || (is_ascii_punctuation c && not (c ∈ "<>"))
-
--- the control characters that a backslash and a letter stand for
-abbrev pub control_of : ℕ → Option ℕ
-control_of d =
-    if 97 == d then Some 7
-    else if 101 == d then Some 27
-    else if 102 == d then Some 12
-    else if 110 == d then Some 10
-    else if 114 == d then Some 13
-    else if 116 == d then Some 9
-    else if 118 == d then Some 11
-    else None
 
 -- what `^` and `$` test: the text's ends, or those of lines
 abbrev pub anchor_of : Flags → ℕ → Option Assertion

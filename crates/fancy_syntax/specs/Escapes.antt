@@ -1,6 +1,7 @@
--- What stands behind a backslash in a class: characters by a letter or a number, and sets by a letter or a name.
+-- What stands behind a backslash: characters by a letter or a number, and sets by a letter or a name.
 use Rattle.std.specs.Prelude.{ℕ, ◌+◌, ◌*◌, min, ◌==◌, ◌||◌, ◌&&◌, not, nat_lt, Bool, true, false, [], ◌∷◌, length, take, drop, Option, Some, None, if◌then◌else◌}
 use Rattle.std.specs.List.{list_all}
+use Rattle.std.specs.Option.{option_or}
 use Rattle.std.specs.Char.{is_ascii, is_ascii_punctuation, is_ascii_alphabetic, digit_value}
 use Rattle.ucd_sets.specs.Lookup.{by_name}
 use Rattle.ucd_sets.specs.Loose.{normalize}
@@ -9,20 +10,23 @@ use Rattle.fancy_syntax.specs.Words.{Text, ◌∈◌, is_at, begins}
 use Rattle.fancy_syntax.specs.declared.named.Named.{Named}
 use Rattle.fancy_syntax.specs.declared.named.Named.TheVariants.{Digit, Word, Space, Hexadecimal}
 
--- the character that is meant by a letter or mark
+-- the control characters that a backslash and a letter stand for
+abbrev pub control_of : ℕ → Option ℕ
+control_of d =
+    if 97 == d then Some 7
+    else if 101 == d then Some 27
+    else if 102 == d then Some 12
+    else if 110 == d then Some 10
+    else if 114 == d then Some 13
+    else if 116 == d then Some 9
+    else if 118 == d then Some 11
+    else None
+
+-- the character that is meant by a letter or mark in a class
 abbrev pub escaped : ℕ → Option ℕ
 escaped c =
     if c == 98 then Some 8
-    else if c == 101 then Some 27
-    else if c == 110 then Some 10
-    else if c == 116 then Some 9
-    else if c == 114 then Some 13
-    else if c == 102 then Some 12
-    else if c == 118 then Some 11
-    else if c == 97 then Some 7
-    else if c == 32 then Some 32
-    else if is_ascii_punctuation c then Some c
-    else None
+    else option_or (control_of c) (if (c == 32) || is_ascii_punctuation c then Some c else None)
 
 -- the set that a letter names, and whether its complement is meant
 abbrev pub set_letter : ℕ → Option (Named × Bool)

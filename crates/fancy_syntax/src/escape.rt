@@ -1,7 +1,8 @@
 //! Escapes and anchors: what one character means behind a backslash, or by itself.
 
 ghost use Rattle.std.specs.Prelude.{◌≡◌};
-ghost use Rattle.fancy_syntax.specs.Dialect.{control_of, anchor_of, place_test, is_escapable, is_special, is_one_item, ends_line};
+ghost use Rattle.fancy_syntax.specs.Escapes.{control_of};
+ghost use Rattle.fancy_syntax.specs.Dialect.{anchor_of, place_test, is_escapable, is_special, is_one_item, ends_line};
 ghost use Rattle.fancy_syntax.specs.Views.{flags_of};
 
 use crate::error::ParseErrorKind;
@@ -79,14 +80,13 @@ pub(crate) fn place_test(flags: Flags, letter: char) -> Option<Assertion>
     }
 }
 
-/// What is wrong with the escape that begins here, behind its backslash.
+/// What is wrong with an escape by a letter that stands for nothing, or not in this meaning; from behind its backslash.
 pub(crate) fn escape_fault(text: &[char]) -> ParseErrorKind {
     match text {
-        [] => ParseErrorKind::TrailingBackslash,
         ['R' | 'X' | 'g' | 'G' | 'K', ..] | ['k', '<' | '\'', ..] | ['1'..='9', ..] => {
             ParseErrorKind::NotInProfile
         }
-        ['O' | 'N' | 'D' | 'S' | 'W' | 'H', ..] => ParseErrorKind::InvalidClass,
+        ['D' | 'S' | 'W' | 'H', ..] => ParseErrorKind::InvalidClass,
         _ => ParseErrorKind::InvalidEscape,
     }
 }

@@ -8,29 +8,23 @@ ghost use Rattle.fancy_syntax.specs.ClassViews.{GivesValue, same};
 use crate::class::cursor::Cursor;
 use crate::class::refusal::Refusal;
 use crate::error::ParseErrorKind;
+use crate::escape::control;
 use crate::named::Named;
 
-/// The character that a letter or mark behind a backslash stands for.
+/// The character that a letter or mark behind a backslash stands for in a class.
 fn escaped(c: char) -> Option<char>
     ensures { result ≡ escaped c }
 {
-    match c {
-        'b' => Some('\u{8}'),
-        'e' => Some('\u{1b}'),
-        'n' => Some('\n'),
-        't' => Some('\t'),
-        'r' => Some('\r'),
-        'f' => Some('\u{c}'),
-        'v' => Some('\u{b}'),
-        'a' => Some('\u{7}'),
-        ' ' => Some(' '),
-        _ => {
-            if c.is_ascii_punctuation() {
-                Some(c)
-            } else {
-                None
-            }
-        }
+    if c == 'b' {
+        return Some('\u{8}');
+    }
+    if let Some(meant) = control(c) {
+        return Some(meant);
+    }
+    if c == ' ' || c.is_ascii_punctuation() {
+        Some(c)
+    } else {
+        None
     }
 }
 
