@@ -13,6 +13,7 @@ by_default = record {
   bytes_mode = Unicode;
   unicode_mode = true;
   flags = record { ignore_case = false; multi_line = false; dot_all = false; ignore_blanks = false; crlf = false };
+  ignore_numbered_groups_when_named_groups_exist = false;
   allow_input_assertion_overrides = false;
 }
 
@@ -22,4 +23,4 @@ meaning_in o = modes.meaning_of o.bytes_mode o.unicode_mode
 
 -- how patterns are read under these options
 abbrev pub dialect_of : Options → dialect.Options
-dialect_of o = record { meaning = meaning_in o; keeps_characters = keeps_characters o.bytes_mode; flags = flags_of o.flags }
+dialect_of o = record { meaning = meaning_in o; keeps_characters = keeps_characters o.bytes_mode; only_named = o.ignore_numbered_groups_when_named_groups_exist; flags = flags_of o.flags }

@@ -18,6 +18,8 @@ pub struct Options {
     pub unicode_mode: bool,
     /// The flags that hold at the pattern's start.
     pub flags: Flags,
+    /// Whether groups without a name capture nothing where a group has one.
+    pub ignore_numbered_groups_when_named_groups_exist: bool,
     /// Whether an input may suppress the text's start and its end.
     pub allow_input_assertion_overrides: bool,
 }
@@ -37,6 +39,7 @@ impl Options {
         Syntax {
             meaning: self.meaning(),
             keeps_characters: self.bytes_mode.keeps_characters(),
+            only_named: self.ignore_numbered_groups_when_named_groups_exist,
             flags: self.flags,
         }
     }
@@ -65,6 +68,7 @@ impl RegexOptionsBuilder {
                 bytes_mode: BytesMode::Unicode,
                 unicode_mode: true,
                 flags: Flags::NONE,
+                ignore_numbered_groups_when_named_groups_exist: false,
                 allow_input_assertion_overrides: false,
             },
         }
@@ -143,6 +147,25 @@ impl RegexOptionsBuilder {
         ensures value { options_of result.now ≡ record (options_of self.old) { flags = record (options_of self.old).flags { crlf = yes } } }
     {
         self.options.flags.crlf = yes;
+        self
+    }
+
+    /// Whether groups without a name capture nothing where a group of the pattern has a name. Off by default.
+    ///
+    /// Where it is on and a group has a name, `(..)` is read as `(?:..)`: it takes no number, so that the groups
+    /// with names alone are numbered, and `()*` is refused. A pattern without names is read as where it is off.
+    ///
+    /// ```text
+    /// let mut builder = RegexOptionsBuilder::new();
+    /// builder.ignore_numbered_groups_when_named_groups_exist(true);
+    /// builder.build(pattern)?.captures_len()    // 2, of `(a)(?<n>b)`: group 1 is `n`
+    /// builder.build(pattern)?.captures_len()    // 2, of `(a)`
+    /// ```
+    pub fn ignore_numbered_groups_when_named_groups_exist(&mut self, yes: bool) -> &mut Self
+        ensures same { result.ghost_name ≡ self.entry.ghost_name }
+        ensures value { options_of result.now ≡ record (options_of self.old) { ignore_numbered_groups_when_named_groups_exist = yes } }
+    {
+        self.options.ignore_numbered_groups_when_named_groups_exist = yes;
         self
     }
 

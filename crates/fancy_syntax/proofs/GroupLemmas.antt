@@ -7,7 +7,7 @@ use Rattle.fancy_syntax.specs.declared.tree.Meaning.{Meaning}
 use Rattle.fancy_syntax.specs.declared.tree.Meaning.TheVariants.{Unicode, Bytes, AsciiText}
 use Rattle.fancy_syntax.specs.Pattern.{Pattern, empty, character, member_of, raw_byte, backreference, assertion, group_test, keep_start, continue_here, group, repeat, look_ahead, look_behind, atomic, conditional, followed, or_else, last_branch, in_sequence, in_choice, in_branches}
 use Rattle.fancy_syntax.specs.Words.{Text}
-use Rattle.fancy_syntax.specs.Dialect.{Scope, literal_of, Branches, one, either, Parts, nothing, item, Item, set, bare, quantified, Atom, single, plain, flagged, capture, named, Spells, with_part}
+use Rattle.fancy_syntax.specs.Dialect.{Scope, literal_of, Branches, one, either, Parts, nothing, item, Item, set, bare, quantified, Atom, single, plain, flagged, capture, unnamed, named, Spells, with_part}
 use Rattle.fancy_syntax.specs.Groups.{Numbered}
 
 -- numbers in a range are numbers in a wider one
@@ -117,7 +117,8 @@ mutual
   numbered_atom (single {s = s} b r) = (omega arith, simple_numbered (s.opened + 1) (s.opened + 1) s (simple_atom r))
   numbered_atom (plain {s = s} {q = q} {bs = bs} b) = let x = numbered_branches b in (x.0, branches_numbered (s.opened + 1) (q.opened + 1) bs x.1)
   numbered_atom (flagged {s = s} {q = q} {bs = bs} f b) = let x = numbered_branches b in (x.0, branches_numbered (s.opened + 1) (q.opened + 1) bs x.1)
-  numbered_atom (capture {s = s} {q = q} {bs = bs} e b) =
+  numbered_atom (unnamed {s = s} {q = q} {bs = bs} u e b) = let x = numbered_branches b in (x.0, branches_numbered (s.opened + 1) (q.opened + 1) bs x.1)
+  numbered_atom (capture {s = s} {q = q} {bs = bs} u e b) =
       let x = numbered_branches b in
       (omega (arith, x.0), (omega arith, omega (arith, x.0), branches_numbered (s.opened + 1 + 1) (q.opened + 1) bs x.1))
   numbered_atom (named {s = s} {q = q} {bs = bs} n m e b) =

@@ -1,8 +1,8 @@
 -- Names stand on groups, one behind the other.
-use Rattle.std.proofs.Common.{◌≡◌, ℕ, ◌+◌, ◌≤◌, List, [], ◌∷◌, ◌++◌, Option, sym, subst, ap, ◌∙◌, append_assoc, append-nil, arith}
+use Rattle.std.proofs.Common.{◌≡◌, ℕ, ◌+◌, ◌≤◌, Bool, List, [], ◌∷◌, ◌++◌, Option, sym, subst, ap, ◌∙◌, append_assoc, append-nil, arith}
 use Rattle.fancy_syntax.specs.Pattern.{Pattern}
 use Rattle.fancy_syntax.specs.Words.{Text}
-use Rattle.fancy_syntax.specs.Dialect.{Scope, Options, begin, Branches, one, either, Parts, nothing, item, Item, set, bare, quantified, Atom, single, plain, flagged, capture, named, Spells}
+use Rattle.fancy_syntax.specs.Dialect.{Scope, Options, begin, Branches, one, either, Parts, nothing, item, Item, set, bare, quantified, Atom, single, plain, flagged, capture, unnamed, named, Spells}
 use Rattle.fancy_syntax.specs.Groups.{Rising}
 
 -- numbers that rise from a number on do so from a lesser one
@@ -50,7 +50,8 @@ mutual
   named_atom (single {s = s} b r) = none s
   named_atom (plain b) = let x = named_branches b in record { more = x.more; new = x.new; names = x.names; rising = x.rising }
   named_atom (flagged f b) = let x = named_branches b in record { more = x.more; new = x.new; names = x.names; rising = x.rising }
-  named_atom (capture {s = s} {q = q} e b) =
+  named_atom (unnamed u e b) = let x = named_branches b in record { more = x.more; new = x.new; names = x.names; rising = x.rising }
+  named_atom (capture {s = s} {q = q} u e b) =
       let x = named_branches b in
       record { more = omega (arith, x.more); new = x.new; names = x.names; rising = from_less (s.opened + 1) (s.opened + 1 + 1) (q.opened + 1) x.new (omega arith) x.rising }
   named_atom (named {s = s} {q = q} n m e b) =
@@ -62,5 +63,5 @@ mutual
         rising = (omega arith, omega (arith, x.more), x.rising);
       }
 
-pub names_rise : (o : Options) (text : Text) (p : Pattern) (e : Scope) → Spells (begin o) text p e → Rising 1 (e.opened + 1) e.names
-names_rise o text p e x = let y = named_branches x.spelled in subst (λ l. Rising 1 (e.opened + 1) l) (sym y.names) y.rising
+pub names_rise : (unnamed : Bool) (o : Options) (text : Text) (p : Pattern) (e : Scope) → Spells (begin unnamed o) text p e → Rising 1 (e.opened + 1) e.names
+names_rise u o text p e x = let y = named_branches x.spelled in subst (λ l. Rising 1 (e.opened + 1) l) (sym y.names) y.rising

@@ -16,7 +16,7 @@ use Rattle.fancy_syntax.proofs.ReadingLemmas.{some_pair, some_is_none}
 use Rattle.fancy_syntax.proofs.EndsLemmas.{ends_atom, no_paren, no_end}
 use Rattle.fancy_syntax.proofs.FlagLemmas.{setting_is_read, no_colon_first, no_angle_first, no_p_first, no_hash_first, setting_spelled}
 use Rattle.fancy_syntax.proofs.NameLemmas.{name_is_read, past_read, name_is_some, row_is_name, row_then_rest}
-use Rattle.fancy_syntax.proofs.BlankLemmas.{chosen, char_is, begins_with, read_blanks, end_is_no_blank, quantifier_is_no_blank, unquantified_is_read, unquantified_is_spelled, skipped, no_blank_left}
+use Rattle.fancy_syntax.proofs.BlankLemmas.{chosen, same_some, char_is, begins_with, read_blanks, end_is_no_blank, quantifier_is_no_blank, unquantified_is_read, unquantified_is_spelled, skipped, no_blank_left}
 use Rattle.fancy_syntax.proofs.CountLemmas.{either_no, both_true, left_of, first_is as at_char, IsRead, exactly_is_read, at_least_is_read, between_is_read, at_most_is_read, count_spelled}
 
 either_false : (a b : Bool) → (a || b) ≡ false → (a ≡ false) × (b ≡ false)
@@ -28,7 +28,8 @@ pub atom_begins : {k : ℕ} {s q : Scope} {t after : Text} {a : Pattern} → d.A
 atom_begins (d.single b r) = no_end r
 atom_begins (d.plain b) = refl
 atom_begins (d.flagged f b) = refl
-atom_begins (d.capture h b) = refl
+atom_begins (d.capture n h b) = refl
+atom_begins (d.unnamed n h b) = refl
 atom_begins (d.named n m h b) = refl
 
 pub item_begins : {k : ℕ} {s q : Scope} {t after : Text} {x : Option Pattern} → d.Item k s t after x q → ends_branch (t ++ after) ≡ false
@@ -52,7 +53,8 @@ pub atom_is_no_blank : {k : ℕ} {s q : Scope} {t after : Text} {a : Pattern} �
 atom_is_no_blank (d.single b r) = b
 atom_is_no_blank (d.plain b) = refl
 atom_is_no_blank {s = s} {after = after} (d.flagged {u = u} {t = t} f b) = rw (append_assoc u (58 ∷ (t ++ 41 ∷ [])) after) (flags_are_no_blank s.flags.ignore_blanks f ((58 ∷ (t ++ 41 ∷ [])) ++ after))
-atom_is_no_blank {s = s} {after = after} (d.capture {t = t} h b) = rw (append_assoc t (41 ∷ []) after) (capture_is_no_blank s.flags.ignore_blanks (t ++ 41 ∷ after) h)
+atom_is_no_blank {s = s} {after = after} (d.capture {t = t} n h b) = rw (append_assoc t (41 ∷ []) after) (capture_is_no_blank s.flags.ignore_blanks (t ++ 41 ∷ after) h)
+atom_is_no_blank {s = s} {after = after} (d.unnamed {t = t} n h b) = rw (append_assoc t (41 ∷ []) after) (capture_is_no_blank s.flags.ignore_blanks (t ++ 41 ∷ after) h)
 atom_is_no_blank {s = s} {after = after} (d.named {t = t} n m h b) = name_is_no_blank s.flags.ignore_blanks m (n ++ (62 ∷ (t ++ 41 ∷ []))) after
 
 pub item_is_no_blank : {k : ℕ} {s q : Scope} {t after : Text} {x : Option Pattern} → d.Item k s t after x q → past_blank s.flags.ignore_blanks (t ++ after) ≡ None
@@ -118,12 +120,19 @@ mark_is_read {w} {u} {after} q a s b e =
 pub bare_is_read : (a : Pattern) (s : Scope) (after : Text) → IsUnquantified s.flags.ignore_blanks after → g.quantified a (start s after) ≡ Some (a, start s after)
 bare_is_read a s after h = rw (unquantified_is_read s.flags.ignore_blanks after h) refl
 
-pub capture_is_read : (s : Scope) (rest : Text) → is_at "?*" rest ≡ false → opening (start s (40 ∷ rest)) ≡ Some (g.capture (s.opened + 1), start (one_more_group s) rest)
-capture_is_read s [] h = refl
-capture_is_read s (x ∷ rest) h =
+unnamed_opens : (s : Scope) (rest : Text) → is_at "?*" rest ≡ false → ◌≡◌ {A = Option (g.Opening × Place)} (opening (start s (40 ∷ rest))) (Some (g.unnamed (start s (40 ∷ rest))))
+unnamed_opens s [] h = refl
+unnamed_opens s (x ∷ rest) h =
     let m = either_false (63 == x) ((42 == x) || false) h in
     let n = either_false (42 == x) false m.1 in
     rw (m.0, n.0) refl
+
+pub capture_is_read : (s : Scope) (rest : Text) → s.unnamed_capture ≡ true → is_at "?*" rest ≡ false
+    → ◌≡◌ {A = Option (g.Opening × Place)} (opening (start s (40 ∷ rest))) (Some (g.capture (s.opened + 1), start (one_more_group s) rest))
+capture_is_read s rest u h = unnamed_opens s rest h ∙ ap (λ b. Some (cond {A = g.Opening × Place} b (g.capture (s.opened + 1), start (one_more_group s) rest) (g.plain, start s rest))) u
+
+pub unnamed_is_read : (s : Scope) (rest : Text) → s.unnamed_capture ≡ false → is_at "?*" rest ≡ false → ◌≡◌ {A = Option (g.Opening × Place)} (opening (start s (40 ∷ rest))) (Some (g.plain, start s rest))
+unnamed_is_read s rest u h = unnamed_opens s rest h ∙ ap (λ b. Some (cond {A = g.Opening × Place} b (g.capture (s.opened + 1), start (one_more_group s) rest) (g.plain, start s rest))) u
 
 plain_opens : g.plain ≡ g.setting → ⊥
 plain_opens e = cc
@@ -182,7 +191,10 @@ mutual
   read_atom {after = after} (d.plain {t = t} b) f = rw (append_assoc t (41 ∷ []) after) (g.grouped refl refl plain_opens (read_branches b refl refl) refl f)
   read_atom {s = s} {after = after} (d.flagged {u = u} {t = t} l b) f =
       rw (append_assoc u (58 ∷ (t ++ 41 ∷ [])) after, append_assoc t (41 ∷ []) after) (g.grouped refl (flags_open s l 58 (t ++ 41 ∷ after) refl) plain_opens (read_branches b refl refl) refl f)
-  read_atom {s = s} {after = after} (d.capture {t = t} h b) f = rw (append_assoc t (41 ∷ []) after) (g.grouped refl (capture_is_read s (t ++ (41 ∷ after)) h) (capture_opens (s.opened + 1)) (read_branches b refl refl) refl f)
+  read_atom {s = s} {after = after} (d.capture {t = t} u h b) f =
+      rw (append_assoc t (41 ∷ []) after) (g.grouped refl (capture_is_read s (t ++ (41 ∷ after)) u h) (capture_opens (s.opened + 1)) (read_branches b refl refl) refl f)
+  read_atom {s = s} {after = after} (d.unnamed {t = t} u h b) f =
+      rw (append_assoc t (41 ∷ []) after) (g.grouped refl (unnamed_is_read s (t ++ (41 ∷ after)) u h) plain_opens (read_branches b refl refl) refl f)
   read_atom {s = s} {after = after} (d.named {m = m} {t = t} n l h b) f =
       rw (append_assoc m (n ++ 62 ∷ (t ++ 41 ∷ [])) after, append_assoc n (62 ∷ (t ++ 41 ∷ [])) after, append_assoc t (41 ∷ []) after)
       (g.grouped refl (name_opens s l n (t ++ 41 ∷ after) h) (capture_opens (s.opened + 1)) (read_branches b refl refl) refl f)
@@ -210,7 +222,8 @@ pub data Opened (p : Place) : g.Opening → Place → Type 0 where
   as_flagged : (t u : Text) (f : Flags) → p.text ≡ codes "(?" ++ (t ++ 58 ∷ u) → Setting p.scope.meaning t p.scope.flags f → Opened p g.plain (start (in_force f p.scope) u)
   as_setting : (t u : Text) (f : Flags) → p.text ≡ codes "(?" ++ (t ++ 41 ∷ u) → Setting p.scope.meaning t p.scope.flags f → Opened p g.setting (start (in_force f p.scope) u)
   as_name : (m n u : Text) → NameMark m → is_name n ≡ true → p.text ≡ codes "(?" ++ (m ++ (n ++ 62 ∷ u)) → Opened p (g.capture (p.scope.opened + 1)) (start (one_more_name n p.scope) u)
-  as_capture : (u : Text) → p.text ≡ 40 ∷ u → is_at "?*" u ≡ false → Opened p (g.capture (p.scope.opened + 1)) (start (one_more_group p.scope) u)
+  as_capture : (u : Text) → p.scope.unnamed_capture ≡ true → p.text ≡ 40 ∷ u → is_at "?*" u ≡ false → Opened p (g.capture (p.scope.opened + 1)) (start (one_more_group p.scope) u)
+  as_unnamed : (u : Text) → p.scope.unnamed_capture ≡ false → p.text ≡ 40 ∷ u → is_at "?*" u ≡ false → Opened p g.plain (start p.scope u)
 
 is_opened : {p : Place} {how : g.Opening} {q : Place} {a : g.Opening} {b : Place} → ◌≡◌ {A = Option (g.Opening × Place)} (Some (a, b)) (Some (how, q)) → Opened p a b → Opened p how q
 is_opened {p} {how} {q} {a} {b} s o = let t = some_pair s in subst (λ x. Opened p x q) t.0 (subst (λ y. Opened p a y) t.1 o)
@@ -236,6 +249,14 @@ name_opened p how q m t l is h =
           (is ∙ ap (λ u. 40 ∷ 63 ∷ (m ++ u)) (row_then_rest t ∙ ap (λ u. name_here t ++ u) (at_char 62 (past_name t) (not_false (is_at ">" (past_name t)) n.1)))))
     ]
 
+-- the opening that nothing distinguishes
+unnamed_opened : (p : Place) (how : g.Opening) (q : Place) → p.text ≡ 40 ∷ drop 1 p.text → is_at "?*" (drop 1 p.text) ≡ false → ◌≡◌ {A = Option (g.Opening × Place)} (Some (g.unnamed p)) (Some (how, q)) → Opened p how q
+unnamed_opened p how q is n h =
+    elim (chosen p.scope.unnamed_capture (g.capture (p.scope.opened + 1), start (one_more_group p.scope) (drop 1 p.text)) (g.plain, past 1 p) (how, q) (same_some h)) [
+      | inl x ↦ is_opened (ap Some x.1) (as_capture (drop 1 p.text) x.0 is n)
+      | inr x ↦ is_opened (ap Some x.1) (as_unnamed (drop 1 p.text) x.0 is n)
+    ]
+
 pub opened : (p : Place) (how : g.Opening) (q : Place) → is_at "(" p.text ≡ true → opening p ≡ Some (how, q) → Opened p how q
 opened p how q e h =
     elim (chosen (begins "(?:" p.text) _ _ _ h) [
@@ -248,7 +269,7 @@ opened p how q e h =
             | inl y ↦ by_flags (g.flags_in p.scope.meaning (drop 2 p.text) (g.first_letter p.scope.flags)) refl (begins_with (codes "(?") p.text y.0) y.1
             | inr y ↦ (let none = y.0 in elim (chosen (begins "(*" p.text) _ _ _ y.1) [
               | inl x ↦ absurd (some_is_none (sym x.1))
-              | inr x ↦ is_opened x.1 (as_capture (drop 1 p.text) (at_char 40 p.text e) (no_special (drop 1 p.text) (rw (at_char 40 p.text e) at none) (rw (at_char 40 p.text e) at x.0)))
+              | inr x ↦ unnamed_opened p how q (at_char 40 p.text e) (no_special (drop 1 p.text) (rw (at_char 40 p.text e) at none) (rw (at_char 40 p.text e) at x.0)) x.1
             ])
           ]
         ]
@@ -396,7 +417,8 @@ spell_setting (as_plain u e) h = absurd (plain_opens h)
 spell_setting (as_flagged t u f e l) h = absurd (plain_opens h)
 spell_setting (as_setting t u f e l) h = (codes "(?" ++ (t ++ codes ")"), e ∙ ap (λ v. codes "(?" ++ v) (sym (append_assoc t (41 ∷ []) u)), d.set l)
 spell_setting {p = p} (as_name m n u l f e) h = absurd (capture_opens (p.scope.opened + 1) h)
-spell_setting {p = p} (as_capture u e f) h = absurd (capture_opens (p.scope.opened + 1) h)
+spell_setting {p = p} (as_capture u c e f) h = absurd (capture_opens (p.scope.opened + 1) h)
+spell_setting (as_unnamed u c e f) h = absurd (plain_opens h)
 
 -- the group that a parenthesis opens, from what is inside it
 spell_group : {k : ℕ} {p inside : Place} {how : g.Opening} {t after : Text} {bs : List Pattern} {s : Scope} → Opened p how inside → (how ≡ g.setting → ⊥) → inside.text ≡ t ++ 41 ∷ after
@@ -415,7 +437,8 @@ spell_group {t = t} {after = after} (as_name m v u l f e) n i b = (
       ∙ (ap (λ x. codes "(?" ++ (m ++ x)) (sym (append_assoc v (62 ∷ (t ++ 41 ∷ [])) after)) ∙ ap (λ x. codes "(?" ++ x) (sym (append_assoc m (v ++ 62 ∷ (t ++ 41 ∷ [])) after)))),
   d.named v l f b,
 )
-spell_group {t = t} {after = after} (as_capture u e f) n i b = (codes "(" ++ (t ++ codes ")"), e ∙ ap (λ l. 40 ∷ l) (i ∙ sym (append_assoc t (41 ∷ []) after)), d.capture (rw i at f) b)
+spell_group {t = t} {after = after} (as_capture u c e f) n i b = (codes "(" ++ (t ++ codes ")"), e ∙ ap (λ l. 40 ∷ l) (i ∙ sym (append_assoc t (41 ∷ []) after)), d.capture c (rw i at f) b)
+spell_group {t = t} {after = after} (as_unnamed u c e f) n i b = (codes "(" ++ (t ++ codes ")"), e ∙ ap (λ l. 40 ∷ l) (i ∙ sym (append_assoc t (41 ∷ []) after)), d.unnamed c (rw i at f) b)
 
 mutual
   pub spell_branches : {k : ℕ} {p r : Place} {bs : List Pattern} → g.Branches k p bs r → (t : Text) × (p.text ≡ t ++ r.text) × d.Branches k p.scope t r.text bs r.scope

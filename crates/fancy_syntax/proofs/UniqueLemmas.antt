@@ -48,3 +48,6 @@ one_pattern s text p q e f x y =
     let a = spelling_read x in
     let b = spelling_read y in
     a.is ∙ (ap in_branches (sym (one_branches a.reads b.reads).0) ∙ sym b.is)
+
+pub one_end : (s : Scope) (text : Text) (p q : Pattern) (e f : Scope) → Spells s text p e → Spells s text q f → e ≡ f
+one_end s text p q e f x y = ap (λ (r : Place). r.scope) (sym (one_branches (spelling_read x).reads (spelling_read y).reads).1)

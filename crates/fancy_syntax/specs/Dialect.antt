@@ -35,6 +35,8 @@ pub record Scope : Type 0 where
   pub meaning : Meaning
   -- bytes are never items of their own: matches keep to whole characters
   pub keeps_characters : Bool
+  -- groups without a name capture
+  pub unnamed_capture : Bool
   pub flags : Flags
   -- how many capturing groups were opened before it
   pub opened : ℕ
@@ -304,9 +306,12 @@ mutual
         → Atom (suc k) s (codes "(?:" ++ (t ++ codes ")")) after (in_branches bs) (back_to s q)
     flagged : {k : ℕ} {s q : Scope} {u t after : Text} {f : Flags} {bs : List Pattern} → Setting s.meaning u s.flags f → Branches k (in_force f s) t (codes ")" ++ after) bs q
         → Atom (suc k) s (codes "(?" ++ (u ++ (codes ":" ++ (t ++ codes ")")))) after (in_branches bs) (back_to s q)
-    -- the groups are numbered from 1 by their openings
-    capture : {k : ℕ} {s q : Scope} {t after : Text} {bs : List Pattern} → is_at "?*" (t ++ (codes ")" ++ after)) ≡ false → Branches k (one_more_group s) t (codes ")" ++ after) bs q
+    -- the groups that capture are numbered from 1 by their openings
+    capture : {k : ℕ} {s q : Scope} {t after : Text} {bs : List Pattern} → s.unnamed_capture ≡ true → is_at "?*" (t ++ (codes ")" ++ after)) ≡ false → Branches k (one_more_group s) t (codes ")" ++ after) bs q
         → Atom (suc k) s (codes "(" ++ (t ++ codes ")")) after (group (s.opened + 1) (in_branches bs)) (back_to s q)
+    -- where groups without a name do not capture, they take no number
+    unnamed : {k : ℕ} {s q : Scope} {t after : Text} {bs : List Pattern} → s.unnamed_capture ≡ false → is_at "?*" (t ++ (codes ")" ++ after)) ≡ false → Branches k s t (codes ")" ++ after) bs q
+        → Atom (suc k) s (codes "(" ++ (t ++ codes ")")) after (in_branches bs) (back_to s q)
     -- a group with a name is numbered with the others
     named : {k : ℕ} {s q : Scope} {m t after : Text} {bs : List Pattern} (n : Text) → NameMark m → is_name n ≡ true → Branches k (one_more_name n s) t (codes ")" ++ after) bs q
         → Atom (suc k) s (codes "(?" ++ (m ++ (n ++ (codes ">" ++ (t ++ codes ")"))))) after (group (s.opened + 1) (in_branches bs)) (back_to s q)
@@ -321,19 +326,33 @@ pub record Spells (start : Scope) (text : Text) (p : Pattern) (end : Scope) : Ty
 pub record Options : Type 0 where
   pub meaning : Meaning
   pub keeps_characters : Bool
+  -- where a group has a name, those without capture nothing
+  pub only_named : Bool
   pub flags : Flags
 
 abbrev pub no_flags : Flags
 no_flags = record { ignore_case = false; multi_line = false; dot_all = false; ignore_blanks = false; crlf = false }
 
 abbrev pub standard : Options
-standard = record { meaning = Unicode; keeps_characters = true; flags = no_flags }
+standard = record { meaning = Unicode; keeps_characters = true; only_named = false; flags = no_flags }
 
-abbrev pub begin : Options → Scope
-begin o = record { meaning = o.meaning; keeps_characters = o.keeps_characters; flags = o.flags; opened = 0; names = []; in_look_around = false }
+-- what is in force where a pattern begins, by whether its groups without a name capture
+abbrev pub begin : Bool → Options → Scope
+begin captures o = record { meaning = o.meaning; keeps_characters = o.keeps_characters; unnamed_capture = captures; flags = o.flags; opened = 0; names = []; in_look_around = false }
+
+-- a group has a name
+abbrev pub has_name : List (Text × ℕ) → Bool
+has_name [] = false
+has_name (g ∷ names) = true
+
+-- The text spells this pattern under these options. Its groups without a name capture, but not where only those with a name are to and there is one.
+pub record SpellsUnder (o : Options) (text : Text) (p : Pattern) (end : Scope) : Type 0 where
+  pub unnamed : Bool
+  pub spelled : Spells (begin unnamed o) text p end
+  pub settled : unnamed ≡ not (o.only_named && has_name end.names)
 
 -- The text is a pattern of the dialect: it spells this one, which is not too complex.
 pub record IsPattern (o : Options) (text : Text) (p : Pattern) : Type 0 where
   pub end : Scope
-  pub spelled : Spells (begin o) text p end
+  pub spelled : SpellsUnder o text p end
   pub small : nodes p ≤ 1000000

@@ -76,6 +76,12 @@ named p t =
     if (length (name_here t) == 0) || not (is_at ">" (past_name t)) then None
     else Some (capture (p.scope.opened + 1), record { text = drop 1 (past_name t); scope = one_more_name (name_here t) p.scope })
 
+-- what a parenthesis opens that nothing distinguishes
+abbrev pub unnamed : Place → Opening × Place
+unnamed p =
+    if p.scope.unnamed_capture then (capture (p.scope.opened + 1), record { text = drop 1 p.text; scope = one_more_group p.scope })
+    else (plain, past 1 p)
+
 -- what the parenthesis here opens, and the place behind that
 abbrev pub opening : Place → Option (Opening × Place)
 opening p =
@@ -84,7 +90,7 @@ opening p =
     else if begins "(?P<" p.text then named p (drop 4 p.text)
     else if begins "(?" p.text then flagged p
     else if begins "(*" p.text then None
-    else Some (capture (p.scope.opened + 1), record { text = drop 1 p.text; scope = one_more_group p.scope })
+    else Some (unnamed p)
 
 abbrev pub start : Scope → Text → Place
 start s text = record { text = text; scope = s }

@@ -1,5 +1,5 @@
 -- What the parser's functions promise each other.
-use Rattle.std.specs.Prelude.{◌≡◌, ℕ, ◌-◌, ◌^◌, min, false, List, length, take, sum_by, Option, Some, None, option_map, Result, Ok, Err}
+use Rattle.std.specs.Prelude.{◌≡◌, ℕ, ◌+◌, ◌-◌, ◌^◌, min, false, List, length, take, sum_by, Option, Some, None, option_map, Result, Ok, Err}
 use Rattle.std.specs.Borrow.{Bor}
 use Rattle.std.specs.Char.{len_utf8}
 use Rattle.fancy_syntax.specs.declared.parser.Parser.{Parser}
@@ -11,6 +11,7 @@ use Rattle.fancy_syntax.specs.declared.flags.Letters.{Letters}
 use Rattle.fancy_syntax.specs.declared.count.Turns.{Turns}
 use Rattle.fancy_syntax.specs.declared.flags.Flags.{Flags as Found_flags}
 use Rattle.fancy_syntax.specs.declared.parse.Syntax.{Syntax}
+use Rattle.fancy_syntax.specs.declared.parse.Parsed.{Parsed}
 use Rattle.fancy_syntax.specs.declared.class.refusal.Refusal.{Refusal}
 use Rattle.fancy_syntax.specs.declared.class.refusal.Refusal.TheVariants.{Memory as OutOfMemory, Invalid}
 use Rattle.fancy_syntax.specs.declared.tree.Tree.{Tree}
@@ -32,7 +33,7 @@ read_of r = (flags_of r.0, r.1.now)
 
 -- what is in force where the parser stands
 abbrev pub scope_of : Parser → Scope
-scope_of p = record { meaning = p.meaning; keeps_characters = p.keeps_characters; flags = flags_of p.flags; opened = p.opened; names = named_groups p.names.items; in_look_around = false }
+scope_of p = record { meaning = p.meaning; keeps_characters = p.keeps_characters; unnamed_capture = p.unnamed_capture; flags = flags_of p.flags; opened = p.opened; names = named_groups p.names.items; in_look_around = false }
 
 abbrev pub place : Parser → Place
 place p = start (scope_of p) p.rest.now
@@ -58,7 +59,7 @@ error_of p OutOfMemory = Memory
 error_of p (Invalid kind) = ParseError (bytes_before p.whole.now p.rest.now) kind
 
 abbrev pub options_of : Syntax → Options
-options_of s = record { meaning = s.meaning; keeps_characters = s.keeps_characters; flags = flags_of s.flags }
+options_of s = record { meaning = s.meaning; keeps_characters = s.keeps_characters; only_named = s.only_named; flags = flags_of s.flags }
 
 -- memory ran out, or the claim holds
 abbrev pub Refuses : Error → Type 0 → Type 0
@@ -66,6 +67,14 @@ Refuses Memory claim = Unit {0}
 Refuses (ParseError at kind) claim = claim
 Refuses (CompileError why) claim = ⊥
 Refuses (RuntimeError why) claim = ⊥
+
+-- The pattern was spelled, in one of these ways: with so many groups, and these names.
+abbrev pub SpellsParsed : (Pattern → Scope → Type 0) → Parsed → Type 0
+SpellsParsed S r = (end : Scope) × S (pattern_of r.tree) end × (end.opened + 1 ≡ r.groups) × (named_groups r.names.items ≡ end.names)
+
+-- nothing is spelled, in none of these ways
+abbrev pub HasNoSpelling : (Pattern → Scope → Type 0) → Type 0
+HasNoSpelling S = (p : Pattern) (end : Scope) → S p end → ⊥
 
 -- from p there is this reading, up to q, and no other
 abbrev pub IsTheReading : {T : Type 0} → (Place → T → Place → Type 0) → Place → T → Place → Type 0

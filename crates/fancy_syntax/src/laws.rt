@@ -1,14 +1,15 @@
 //! What holds of the dialect itself.
 
-ghost use Rattle.std.specs.Prelude.{◌≡◌, ◌+◌};
-ghost use Rattle.fancy_syntax.specs.Dialect.{Scope, Options, begin, Spells};
+ghost use Rattle.std.specs.Prelude.{◌≡◌, ◌+◌, Bool};
+ghost use Rattle.fancy_syntax.specs.Dialect.{Scope, Options, begin, Spells, IsPattern};
 ghost use Rattle.fancy_syntax.specs.Groups.{Numbered, Rising};
 ghost use Rattle.fancy_syntax.specs.Pattern.{Pattern};
 ghost use Rattle.fancy_syntax.specs.Words.{Text};
 
-/// A text spells at most one pattern.
+/// A text spells at most one pattern, from one scope on and under one set of options.
 pub fn one_pattern()
-    ensures { (s : Scope) (text : Text) (p q : Pattern) (e f : Scope) → Spells s text p e → Spells s text q f → p ≡ q }
+    ensures spelled { (s : Scope) (text : Text) (p q : Pattern) (e f : Scope) → Spells s text p e → Spells s text q f → p ≡ q }
+    ensures under_options { (o : Options) (text : Text) (p q : Pattern) → IsPattern o text p → IsPattern o text q → p ≡ q }
 {}
 
 /// A group has a greater number than those opened before it, and a lesser one than those inside it; all numbers
@@ -19,5 +20,5 @@ pub fn groups_are_numbered()
 
 /// A name stands on a group of the pattern, and each on another: their numbers rise in the order of the openings.
 pub fn names_are_numbered()
-    ensures { (o : Options) (text : Text) (p : Pattern) (e : Scope) → Spells (begin o) text p e → Rising 1 (e.opened + 1) e.names }
+    ensures { (unnamed : Bool) (o : Options) (text : Text) (p : Pattern) (e : Scope) → Spells (begin unnamed o) text p e → Rising 1 (e.opened + 1) e.names }
 {}

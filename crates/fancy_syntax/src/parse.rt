@@ -1,12 +1,12 @@
 //! Patterns are read here.
 
-ghost use Rattle.std.specs.Prelude.{◌≡◌, ◌+◌, IfOk, IfErr, chars};
+ghost use Rattle.std.specs.Prelude.{◌≡◌, ◌+◌, ◌<◌, ◌^◌, length, IfOk, IfErr, chars};
 ghost use Rattle.fancy_syntax.specs.declared.error.Error.TheVariants.{Memory};
-ghost use Rattle.fancy_syntax.specs.Dialect.{standard, IsPattern};
+ghost use Rattle.fancy_syntax.specs.Dialect.{standard, begin, Spells, SpellsUnder, IsPattern};
 ghost use Rattle.fancy_syntax.specs.Names.{named_groups};
 ghost use Rattle.fancy_syntax.specs.Pattern.{Pattern, pattern_of};
 ghost use Rattle.fancy_syntax.specs.Refusals.{IsRefused};
-ghost use Rattle.fancy_syntax.specs.Views.{options_of};
+ghost use Rattle.fancy_syntax.specs.Views.{options_of, Refuses, SpellsParsed, HasNoSpelling};
 
 use crate::error::{CompileError, Error, ParseErrorKind};
 use crate::flags::Flags;
@@ -28,6 +28,8 @@ pub struct Syntax {
     pub meaning: Meaning,
     /// Whether matches begin and end on character boundaries alone. Where they do not, `\xE9` is a byte.
     pub keeps_characters: bool,
+    /// Whether groups without a name capture nothing where a group has one.
+    pub only_named: bool,
     /// The flags that are set.
     pub flags: Flags,
 }
@@ -37,6 +39,7 @@ impl Syntax {
     pub const STANDARD: Syntax = Syntax {
         meaning: Meaning::Unicode,
         keeps_characters: true,
+        only_named: false,
         flags: Flags::NONE,
     };
 }
@@ -99,11 +102,43 @@ pub fn parse_with(alloc: Global, pattern: &str, syntax: Syntax) -> Result<Parsed
     ensures succeeds { (p : Pattern) → IsPattern (options_of syntax) (chars pattern.now) p → IfErr result (λ e. e ≡ Memory) }
 {
     let characters: Vec<char> = pattern.chars().collect(alloc)?;
+    let parsed = read(alloc, &characters, syntax)?;
+    if parsed.tree.nodes() > MAX_NODES {
+        return Err(Error::CompileError(CompileError::PatternTooComplex));
+    }
+    Ok(parsed)
+}
+
+/// Reads a whole pattern: once more where a group has a name and those without are to capture nothing then.
+fn read(alloc: Global, characters: &[char], syntax: Syntax) -> Result<Parsed, Error>
+    requires { length characters.now < 2 ^ 63 }
+    ensures value { IfOk result (λ r. SpellsParsed (SpellsUnder (options_of syntax) characters.now) r) }
+    ensures refused { IfErr result (λ e. Refuses e (HasNoSpelling (SpellsUnder (options_of syntax) characters.now))) }
+{
+    let capturing = read_whole(alloc, characters, syntax, true)?;
+    if syntax.only_named && !capturing.names.is_empty() {
+        return read_whole(alloc, characters, syntax, false);
+    }
+    Ok(capturing)
+}
+
+/// Reads a whole pattern, whose groups without a name capture, or do not.
+fn read_whole(
+    alloc: Global,
+    characters: &[char],
+    syntax: Syntax,
+    unnamed_capture: bool,
+) -> Result<Parsed, Error>
+    requires { length characters.now < 2 ^ 63 }
+    ensures value { IfOk result (λ r. SpellsParsed (Spells (begin unnamed_capture (options_of syntax)) characters.now) r) }
+    ensures refused { IfErr result (λ e. Refuses e (HasNoSpelling (Spells (begin unnamed_capture (options_of syntax)) characters.now))) }
+{
     let mut parser = Parser {
-        whole: &characters,
-        rest: &characters,
+        whole: characters,
+        rest: characters,
         meaning: syntax.meaning,
         keeps_characters: syntax.keeps_characters,
+        unnamed_capture,
         flags: syntax.flags,
         opened: 0,
         names: Vec::new(alloc),
@@ -112,9 +147,6 @@ pub fn parse_with(alloc: Global, pattern: &str, syntax: Syntax) -> Result<Parsed
     let tree = parser.alternation(MAX_DEPTH)?;
     if !parser.rest.is_empty() {
         return Err(parser.error(ParseErrorKind::GeneralParseError));
-    }
-    if tree.nodes() > MAX_NODES {
-        return Err(Error::CompileError(CompileError::PatternTooComplex));
     }
     Ok(Parsed {
         tree,
@@ -129,6 +161,12 @@ mod tests {
     use crate::error::{CompileError, Error, ParseErrorKind, RuntimeError};
     use crate::tree::Meaning;
     use std::test::Fail;
+
+    /// Where a group has a name, those without capture nothing.
+    const ONLY_NAMED: Syntax = Syntax {
+        only_named: true,
+        ..Syntax::STANDARD
+    };
 
     /// The place and kind of a pattern's error.
     fn fault(found: Result<Parsed, Error>) -> Option<(usize, ParseErrorKind)> {
@@ -245,6 +283,49 @@ mod tests {
     }
 
     #[test]
+    fn places_and_kinds_where_only_named_groups_capture(rt: HostRuntime) {
+        for (pattern, want) in [
+            ("()*", None),
+            ("(|)*(()())*(?<n>)*", None),
+            ("()*(?<n>a)", Some((2, ParseErrorKind::TargetNotRepeatable))),
+            ("(?<n>a)()*", Some((9, ParseErrorKind::TargetNotRepeatable))),
+            ("(?P<n>()*)", Some((8, ParseErrorKind::TargetNotRepeatable))),
+            (
+                "((?i))*(?<n>a)",
+                Some((6, ParseErrorKind::TargetNotRepeatable)),
+            ),
+            ("(a(?<n>b)", Some((9, ParseErrorKind::UnclosedOpenParen))),
+            ("(?<n>a)(*b)", Some((7, ParseErrorKind::NotInProfile))),
+        ] {
+            let found = parse_with(rt.alloc(), pattern, ONLY_NAMED);
+            assert_eq!(rt; fault(found), want, "at {pattern}");
+        }
+    }
+
+    #[test]
+    fn sizes_where_only_named_groups_capture(rt: HostRuntime) {
+        for (pattern, nodes, groups, names) in [
+            ("((a)|b)(c)", 8, 4, 0),
+            ("()*", 4, 2, 0),
+            ("(a)(?<n>b)", 3, 2, 1),
+            ("(?<n>(a)(b))", 3, 2, 1),
+            ("(a)(?<n>b)(?<n>c)", 5, 3, 2),
+            ("((?<n>a)|(b))(c)", 6, 2, 1),
+            ("(a){3}(?<n>b)", 6, 2, 1),
+            ("(|)*(?<n>a)", 8, 2, 1),
+        ] {
+            let found = parse_with(rt.alloc(), pattern, ONLY_NAMED);
+            assert_eq!(rt;
+                found
+                    .map(|found| (found.tree.nodes(), found.groups, found.names.len()))
+                    .ok(),
+                Some((nodes, groups, names)),
+                "at {pattern}"
+            );
+        }
+    }
+
+    #[test]
     fn sizes(rt: HostRuntime) {
         for (pattern, meaning, nodes, groups) in [
             ("(?:a|b)?c", Meaning::Unicode, 7, 1),
@@ -301,6 +382,12 @@ mod tests {
                 want,
                 "at {brackets} brackets"
             );
+        }
+        let groups = "(a)".repeat(rt.alloc(), 500_000)?;
+        let pattern = format!(in rt.alloc(); "{groups}(?<n>b)")?;
+        for (syntax, builds) in [(Syntax::STANDARD, false), (ONLY_NAMED, true)] {
+            let found = parse_with(rt.alloc(), &pattern, syntax);
+            assert_eq!(rt; found.is_ok(), builds, "with groups in each part");
         }
         for (nodes, builds) in [(1_000_000, true), (1_000_001, false)] {
             let pattern = "a".repeat(rt.alloc(), nodes)?;

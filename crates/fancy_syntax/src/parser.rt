@@ -26,6 +26,8 @@ pub(crate) struct Parser<'a> {
     pub(crate) meaning: Meaning,
     /// Matches keep to whole characters.
     pub(crate) keeps_characters: bool,
+    /// Groups without a name capture.
+    pub(crate) unnamed_capture: bool,
     /// The flags in force here.
     pub(crate) flags: Flags,
     /// How many capturing groups were opened so far.
@@ -188,6 +190,9 @@ impl<'a> Parser<'a> {
             return Err(self.error(ParseErrorKind::NotInProfile));
         }
         self.skip(1);
+        if !self.unnamed_capture {
+            return Ok(Opening::Plain);
+        }
         self.opened += 1;
         Ok(Opening::Capture(self.opened))
     }

@@ -1,7 +1,7 @@
 //! What each option changes, and what is so without it.
 
 use crate::asking::{Span, span_in_bytes, span_in_text};
-use fancy_regex::{BytesMode, Regex, RegexInput, RegexOptionsBuilder};
+use fancy_regex::{BytesMode, Error, ParseErrorKind, Regex, RegexInput, RegexOptionsBuilder};
 use std::alloc::Global;
 use std::process::Abort;
 use std::test::Fail;
@@ -110,6 +110,66 @@ fn the_mode_changes_answers(rt: HostRuntime) -> Result<(), Fail> {
         let found = span_in_bytes(&rt, &regex, RegexInput::new(haystack))?;
         assert_eq!(rt; found, wanted, "{}", regex.as_str());
     }
+    Ok(())
+}
+
+/// A pattern, and how many groups it has with [`RegexOptionsBuilder::ignore_numbered_groups_when_named_groups_exist`]
+/// off and on; or why it is refused.
+type Grouped = (
+    &'static str,
+    Result<usize, ParseErrorKind>,
+    Result<usize, ParseErrorKind>,
+);
+
+/// How many groups the pattern has, where the option is on or off.
+fn groups_of(
+    alloc: Global,
+    pattern: &str,
+    yes: bool,
+) -> Result<Result<usize, ParseErrorKind>, Fail> {
+    let mut builder = RegexOptionsBuilder::new();
+    builder.ignore_numbered_groups_when_named_groups_exist(!yes);
+    builder.ignore_numbered_groups_when_named_groups_exist(yes);
+    match builder.build(String::from_str(alloc, pattern)?) {
+        Err(Error::ParseError(_, kind)) => Ok(Err(kind)),
+        found => Ok(Ok(found?.captures_len())),
+    }
+}
+
+#[test]
+fn numbered_groups_give_way_to_named_ones(rt: HostRuntime) -> Result<(), Fail> {
+    let unrepeatable = ParseErrorKind::TargetNotRepeatable;
+    let rows: [Grouped; 6] = [
+        ("(a)(?<n>b)", Ok(3), Ok(2)),
+        ("(?<n>(a)(b))", Ok(4), Ok(2)),
+        ("(a)", Ok(2), Ok(2)),
+        ("()*", Ok(2), Ok(2)),
+        ("()*(?<n>a)", Ok(3), Err(unrepeatable)),
+        ("(?:)*(?<n>a)", Err(unrepeatable), Err(unrepeatable)),
+    ];
+    let alloc = rt.alloc();
+    for (pattern, off, on) in rows {
+        assert_eq!(rt; groups_of(alloc, pattern, false)?, off, "{pattern}");
+        assert_eq!(rt; groups_of(alloc, pattern, true)?, on, "{pattern}");
+    }
+    Ok(())
+}
+
+#[test]
+fn named_groups_alone_are_captured(rt: HostRuntime) -> Result<(), Fail> {
+    let alloc = rt.alloc();
+    let pattern = String::from_str(alloc, "(a)(?<n>b)")?;
+    let mut builder = RegexOptionsBuilder::new();
+    let regex = builder
+        .ignore_numbered_groups_when_named_groups_exist(true)
+        .build(pattern)?;
+    let captures = regex.captures("ab")?.ok_or("no match")?;
+    assert_eq!(rt; captures.len(), 2);
+    assert_eq!(rt; captures.get(1).map(|m| (m.start(), m.end())), Some((1, 2)));
+    assert_eq!(rt;
+        captures.name("n").map(|m| (m.start(), m.end())),
+        Some((1, 2))
+    );
     Ok(())
 }
 

@@ -12,23 +12,23 @@ returns-in_err-tree-clause-succeeds c = λ p h.
     let q = err_from_is_err_and c.from_residual.result c.from_residual.ensures.1 in rw q.1 (q.2 ∙ e)
 
 pub compile-requires-clause-easy : goal.compile-requires-clause-easy
-compile-requires-clause-easy c = easy_spelled (c.in_ok-tree.ensures.accepted.0).spelled
+compile-requires-clause-easy c = easy_spelled (c.in_ok-tree.ensures.accepted.0).spelled.spelled
 
 pub compile-requires-clause-sets : goal.compile-requires-clause-sets
-compile-requires-clause-sets c = sets_spelled (c.in_ok-tree.ensures.accepted.0).spelled
+compile-requires-clause-sets c = sets_spelled (c.in_ok-tree.ensures.accepted.0).spelled.spelled
 
 pub compile-requires-clause-numbered : goal.compile-requires-clause-numbered
 compile-requires-clause-numbered c =
     let h = c.in_ok-tree.ensures.accepted in
-    wider (pattern_of c.in_ok-tree.field-0.tree) (0 + 1) ((h.0).end.opened + 1) 0 c.in_ok-tree.field-0.groups (omega arith) (omega (arith, h.1)) (numbered _ _ _ _ (h.0).spelled)
+    wider (pattern_of c.in_ok-tree.field-0.tree) (0 + 1) ((h.0).end.opened + 1) 0 c.in_ok-tree.field-0.groups (omega arith) (omega (arith, h.1)) (numbered _ _ _ _ (h.0).spelled.spelled)
 
 pub invariant_of-result : goal.invariant_of-result
 invariant_of-result c = record {
   coded = ∣ c.in_ok-code.ensures.code ∣₁;
   meant = c.in_ok-code.ensures.meaning ∙ c.meaning.ensures;
   short = c.in_ok-code.ensures.short;
-  easy = easy_spelled (c.in_ok-tree.ensures.accepted.0).spelled;
-  whole = λ e. no_raw_bytes (ap (λ (o : dialect.Options). o.keeps_characters) c.syntax.ensures ∙ e) (c.in_ok-tree.ensures.accepted.0).spelled;
+  easy = easy_spelled (c.in_ok-tree.ensures.accepted.0).spelled.spelled;
+  whole = λ e. no_raw_bytes (ap (λ (o : dialect.Options). o.keeps_characters) c.syntax.ensures ∙ e) (c.in_ok-tree.ensures.accepted.0).spelled.spelled;
 }
 
 pub returns-clause-groups : goal.returns-clause-groups
