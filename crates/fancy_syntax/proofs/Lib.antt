@@ -10,6 +10,7 @@ pub mod FlagLemmas
 pub mod NameLemmas
 pub mod SpellingLemmas
 pub mod UniqueLemmas
+pub mod LiteralLemmas
 pub mod ParseLemmas
 pub mod GroupLemmas
 pub mod NameNumbers
