@@ -1,8 +1,10 @@
 -- Texts of which each character stands for itself, as it is or behind a backslash.
-use Rattle.std.proofs.Common.{◌≡◌, ℕ, ◌==◌, ◌&&◌, ◌||◌, Bool, true, false, List, [], ◌∷◌, ◌++◌, codes, map, Some, None, refl, sym, ap, ◌∙◌, subst}
+use Rattle.std.proofs.Common.{◌≡◌, ℕ, ◌==◌, ◌&&◌, ◌||◌, Bool, true, false, List, [], ◌∷◌, ◌++◌, codes, map, Some, None, length, max, sum_by, arith, refl, sym, ap, ◌∙◌, subst}
 use Rattle.std.specs.List.{list_all}
+use Rattle.std.proofs.lemmas.List.Sums.{sum_by-cons}
 use Rattle.fancy_syntax.specs.declared.tree.Meaning.TheVariants.{Unicode}
 use Rattle.fancy_syntax.specs.Pattern.{Pattern, character, in_sequence}
+use Rattle.fancy_syntax.specs.Sizes.{nodes}
 use Rattle.fancy_syntax.specs.Words.{Text, is_among, is_at, is_at_any, past_blank, is_blank}
 use Rattle.fancy_syntax.specs.Dialect.{Scope, Spells, leaf, by_itself, by_lexeme, lexeme, escape, is_escapable, spelled_character, begins_quantifier}
 use Rattle.fancy_syntax.specs.Grammar.{Place, here, start, ends_branch, last, Parts, none, next, Item, single}
@@ -10,6 +12,7 @@ use Rattle.fancy_syntax.proofs.ReadingLemmas.{true_is_false}
 use Rattle.fancy_syntax.proofs.CountLemmas.{both_true}
 use Rattle.fancy_syntax.proofs.BlankLemmas.{blanks_stop, char_is}
 use Rattle.fancy_syntax.proofs.SpellingLemmas.{reading_spelled}
+use Rattle.fancy_syntax.proofs.SizeLemmas.{nodes-in_sequence}
 use Rattle.fancy_syntax.proofs.UniqueLemmas.{one_pattern}
 
 -- a character that is not among these is none of them
@@ -123,6 +126,15 @@ words_spell {s} plain x = reading_spelled (record { branches = _ ∷ []; is = re
 
 pub words_spell_one : {s : Scope} {v t : Text} {p : Pattern} {end : Scope} → IsPlain s → StandFor s v t → Spells s v p end → p ≡ in_sequence (map character t)
 words_spell_one {s} {v} plain x h = one_pattern s v _ _ _ s h (words_spell plain x)
+
+-- a sequence of characters has a node for each, and one where it has none
+characters_counted : (t : Text) → sum_by nodes (map character t) ≡ length t
+unfolding nodes
+characters_counted [] = refl
+characters_counted (c ∷ t) = omega (arith, characters_counted t, sum_by-cons nodes (character c) (map character t))
+
+pub nodes-characters : (t : Text) → nodes (in_sequence (map character t)) ≡ max (length t) 1
+nodes-characters t = omega (arith, nodes-in_sequence (map character t), characters_counted t)
 
 -- an escape that stands for a character
 pub by_escape : (s : Scope) (d c : ℕ) → IsPlain s → ((rest : Text) → escape s d rest ≡ Some (spelled_character s c, rest)) → StandsFor s (92 ∷ d ∷ []) c
