@@ -13,6 +13,7 @@ pub mod FormLemmas
 pub mod WriteLemmas
 pub mod PieceLemmas
 pub mod EscapeLemmas
+pub mod LiteralLemmas
 pub mod ReadLemmas
 pub mod SplitLemmas
 pub mod NumberLemmas

@@ -1,5 +1,5 @@
 -- Texts that are to stand for themselves, in a template or in a pattern.
-use Rattle.std.specs.Prelude.{ℕ, ◌==◌, Bool, [], ◌∷◌, ◌++◌, codes, flat_map, if◌then◌else◌}
+use Rattle.std.specs.Prelude.{ℕ, ◌==◌, Bool, List, [], ◌∷◌, ◌++◌, chars, codes, encode_utf8_all, flat_map, if◌then◌else◌}
 use Rattle.std.specs.List.{list_any}
 use Rattle.fancy_syntax.specs.Words.{Text, ◌∈◌}
 
@@ -32,3 +32,7 @@ escaped_character c =
 -- a text with none of them stays as it is, with its line feeds and tabs
 abbrev pub escaped_pattern : Text → Text
 escaped_pattern t = if has_special t then flat_map escaped_character t else t
+
+-- the bytes of what stands for a text of these bytes
+abbrev pub escape_of : List ℕ → List ℕ
+escape_of text = encode_utf8_all (escaped_pattern (chars text))

@@ -12,6 +12,7 @@ pub mod CaptureIterations
 pub mod Templates
 pub mod Expansions
 pub mod Escapes
+pub mod Literals
 pub mod Expanders
 pub mod GroupTexts
 pub mod Expanded

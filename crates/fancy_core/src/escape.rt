@@ -2,7 +2,7 @@
 
 ghost use Rattle.std.specs.Prelude.{◌≡◌, ◌↔◌, ◌++◌, false, chars, IfOk, IfErr, OnOk, string_bytes, encode_utf8_all, flat_map};
 ghost use Rattle.std.specs.Cow.{cow_str_bytes, IsBorrowedStr};
-ghost use Rattle.fancy_core.specs.Escapes.{is_special, has_special, escaped_character, escaped_pattern};
+ghost use Rattle.fancy_core.specs.Escapes.{is_special, has_special, escaped_character, escape_of};
 
 use fancy_syntax::error::{Error, Result};
 use std::alloc::{AllocError, Global};
@@ -13,12 +13,15 @@ use std::borrow::CowStr;
 /// Where none of `\ . + * ? ( ) | [ ] { } ^ $ #` stands in it, the text is given back as it is. Else each of
 /// these gets a backslash, and line feeds, tabs and carriage returns become `\n`, `\t` and `\r`.
 ///
+/// With the default options the regex of it finds the text itself and nothing else (the law
+/// [`crate::laws::escapes_find_their_text`]). Under flag `x` a text with blanks does not stand for itself.
+///
 /// ```text
 /// escape(alloc, "@foo")   // borrowed
 /// escape(alloc, "fø*ø")   // fø\*ø
 /// ```
 pub fn escape(alloc: Global, text: &str) -> Result<CowStr<'_, Global>>
-    ensures value { IfOk result (λ r. cow_str_bytes r ≡ encode_utf8_all (escaped_pattern (chars text.now))) }
+    ensures value { IfOk result (λ r. cow_str_bytes r ≡ escape_of text.now) }
     ensures borrowed { IfOk result (λ r. IsBorrowedStr r ↔ (has_special (chars text.now) ≡ false)) }
     ensures refused { IfErr result (λ e. e ≡ Error.Memory) }
 {

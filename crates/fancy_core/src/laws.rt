@@ -1,8 +1,16 @@
-//! Laws of the lists over matches.
+//! Laws of searches: of the lists over matches, and of escaped texts.
 
-ghost use Rattle.std.specs.Prelude.{◌≡◌, ◌<◌, ◌≤◌, ◌+◌, ℕ, List, suc, max, min, length, take};
+ghost use Rattle.std.specs.Prelude.{◌≡◌, ◌<◌, ◌≤◌, ◌↔◌, ◌+◌, ◌&&◌, ℕ, true, List, suc, max, min, length, take, chars, IsUtf8};
+ghost use Rattle.fancy_syntax.specs.Dialect.{IsPattern, standard};
+ghost use Rattle.fancy_syntax.specs.Pattern.{Pattern};
 ghost use Rattle.fancy_input.specs.Inputs.{haystack_in, request_in};
-ghost use Rattle.fancy_input.specs.Requests.{effective_start};
+ghost use Rattle.fancy_input.specs.Requests.{effective_start, positions};
+ghost use Rattle.fancy_input.specs.declared.input.Request.{Request};
+ghost use Rattle.fancy_engine.specs.Literals.{stands_within, cuts_none, span_if, first_span};
+ghost use Rattle.fancy_core.specs.Escapes.{escaped_pattern};
+ghost use Rattle.fancy_core.specs.Literals.{literally, IsOfEscape, span_found};
+ghost use Rattle.fancy_core.specs.Regexes.{options_in};
+ghost use Rattle.fancy_core.specs.Searching.{CanSearch};
 ghost use Rattle.fancy_core.specs.Matching.{InOrder, FindsNone};
 ghost use Rattle.fancy_core.specs.Left.{scan, matches_of, last_start_of};
 ghost use Rattle.fancy_core.specs.Pieces.{pieces, first_pieces, interleaved, texts};
@@ -39,4 +47,28 @@ pub fn limits_cut_pieces_off()
     ensures count { (n : ℕ) (t : List ℕ) (spans : List (ℕ × ℕ)) → length (first_pieces n t 0 spans) ≡ min n (suc (length spans)) }
     ensures all { (n : ℕ) (t : List ℕ) (spans : List (ℕ × ℕ)) → length spans < n → first_pieces n t 0 spans ≡ pieces t 0 spans }
     ensures before { (n : ℕ) (t : List ℕ) (spans : List (ℕ × ℕ)) → take n (first_pieces (suc n) t 0 spans) ≡ take n (pieces t 0 spans) }
+{}
+
+/// What `escape` makes of a text is a pattern where the text has at most 1,000,000 characters: these characters, one behind
+/// the other, and no other pattern.
+pub fn escapes_spell_their_text(_text: &str)
+    ensures { (p : Pattern) → IsPattern standard (escaped_pattern (chars _text.now)) p ↔ ((p ≡ literally _text.now) × (length (chars _text.now) ≤ 1000000)) }
+{}
+
+/// The regex of what `escape` makes of a text finds the text, and nothing else: at the least place where it stands within
+/// the range and cuts no character of the haystack at its ends.
+///
+/// An anchored search finds it at the effective start or nowhere, and where the haystack is text, it finds it there wherever
+/// it stands there within the range.
+///
+/// ```text
+/// // of `a.b`, with the escape `a\.b`
+/// "a-b a.b"               // 4..7
+/// "a-b a.b", anchored     // none
+/// "a.b", range 0..2       // none
+/// ```
+pub fn escapes_find_their_text(_text: &str, _regex: &Regex)
+    ensures first { IsOfEscape _regex.now _text.now → (haystack : List ℕ) (r : Request) → span_found _regex.now haystack r ≡ first_span _text.now haystack r.range_end (positions r) (effective_start r) }
+    ensures anchored { IsOfEscape _regex.now _text.now → (haystack : List ℕ) (r : Request) → r.anchored ≡ true → span_found _regex.now haystack r ≡ span_if (stands_within _text.now haystack r.range_end (effective_start r) && cuts_none _text.now haystack (effective_start r)) _text.now (effective_start r) }
+    ensures anchored_in_text { IsOfEscape _regex.now _text.now → (haystack : List ℕ) (r : Request) → r.anchored ≡ true → IsUtf8 haystack → r.range_end ≤ length haystack → CanSearch (options_in _regex.now) true haystack r → span_found _regex.now haystack r ≡ span_if (stands_within _text.now haystack r.range_end (effective_start r)) _text.now (effective_start r) }
 {}

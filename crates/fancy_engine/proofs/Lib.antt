@@ -30,3 +30,4 @@ pub mod LeadsLemmas
 pub mod SpelledLemmas
 pub mod PlacedLemmas
 pub mod FoundLemmas
+pub mod LiteralLemmas

@@ -14,7 +14,7 @@ pub and_parts : (a b : Bool) → (a && b) ≡ true → (a ≡ true) × (b ≡ tr
 and_parts true b e = (refl, e)
 and_parts false b e = absurd (true≢false (sym e))
 
-and_make : (a b : Bool) → a ≡ true → b ≡ true → (a && b) ≡ true
+pub and_make : (a b : Bool) → a ≡ true → b ≡ true → (a && b) ≡ true
 and_make true b d e = e
 and_make false b d e = absurd (true≢false (sym d))
 
@@ -144,7 +144,7 @@ is-no_answer q p h =
     nothing_there q.sought.longest (filter (accepted q p) (outcomes_at q p))
     (kept_none (accepted q p) (outcomes_at q p) (λ s c e. h (record { state = s; reached = c; stands = accepted-is q p s e })))
 
-if_false : (b : Bool) (x y : Option State) → b ≡ false → (if b then x else y) ≡ y
+pub if_false : (b : Bool) (x y : Option State) → b ≡ false → (if b then x else y) ≡ y
 if_false true x y e = absurd (true≢false e)
 if_false false x y e = refl
 

@@ -2,6 +2,7 @@ pub mod Context
 pub mod Events
 pub mod Trace
 pub mod Search
+pub mod Literals
 pub mod Work
 pub mod Code
 pub mod Run

@@ -11,6 +11,7 @@ pub mod NameLemmas
 pub mod SpellingLemmas
 pub mod UniqueLemmas
 pub mod UnnamedLemmas
+pub mod LiteralLemmas
 pub mod ParseLemmas
 pub mod GroupLemmas
 pub mod NameNumbers
