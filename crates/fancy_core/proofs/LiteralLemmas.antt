@@ -72,8 +72,8 @@ text_stands s t plain = go (has_special t) refl
     go true e = escaped_stand s t plain
     go false e = unescaped_stand s t plain e
 
-begins_plain : IsPlain (begin standard)
-begins_plain = record { meaning = refl; ignore_case = refl; ignore_blanks = refl }
+begins_plain : (unnamed : Bool) → IsPlain (begin unnamed standard)
+begins_plain unnamed = record { meaning = refl; ignore_case = refl; ignore_blanks = refl }
 
 -- the effective start of a search in text is a boundary, unless it is past the end
 starts_cleanly : {o : Options} (haystack : List ℕ) (r : Request) → CanSearch o true haystack r → effective_start r ≤ length haystack → IsTrue (is_boundary haystack (effective_start r))
@@ -86,7 +86,8 @@ starts_cleanly haystack r can within =
 -- the escape of a text of at most a million characters is a pattern, that of its characters, and of no other one
 pub escape_spells : (t : Text) (p : Pattern) → IsPattern standard (escaped_pattern t) p → (p ≡ in_sequence (map character t)) × (length t ≤ 1000000)
 escape_spells t p h =
-    let is = words_spell_one begins_plain (text_stands (begin standard) t begins_plain) h.spelled in
+    let s = h.spelled in
+    let is = words_spell_one (begins_plain s.unnamed) (text_stands (begin s.unnamed standard) t (begins_plain s.unnamed)) s.spelled in
     let small = h.small in
     (is, omega (arith, small, ap nodes is, nodes-characters t))
 
@@ -95,8 +96,12 @@ spells_escape t p h =
     let is = h.0 in
     let few = h.1 in
     record {
-      end = begin standard;
-      spelled = subst (λ a. Spells (begin standard) (escaped_pattern t) a (begin standard)) (sym is) (words_spell begins_plain (text_stands (begin standard) t begins_plain));
+      end = begin true standard;
+      spelled = record {
+        unnamed = true;
+        spelled = subst (λ a. Spells (begin true standard) (escaped_pattern t) a (begin true standard)) (sym is) (words_spell (begins_plain true) (text_stands (begin true standard) t (begins_plain true)));
+        settled = refl;
+      };
       small = omega (arith, few, ap nodes is, nodes-characters t);
     }
 
