@@ -8,6 +8,8 @@ mod captures;
 #[cfg(test)]
 mod dialect;
 #[cfg(test)]
+mod escapes;
+#[cfg(test)]
 mod finding;
 #[cfg(test)]
 mod inputs;
