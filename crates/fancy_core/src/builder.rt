@@ -42,7 +42,7 @@ impl RegexBuilder {
         })
     }
 
-    /// Puts this pattern in the place of the one before, which is given up. The options stay.
+    /// Puts this pattern in the place of the one before, which is given up. The options stay, and no memory is taken.
     pub fn pattern(&mut self, pattern: String) -> &mut Self
         ensures same { result.ghost_name ≡ self.entry.ghost_name }
         ensures pattern { pattern_set result.now ≡ string_bytes pattern }

@@ -9,7 +9,7 @@ use fancy_input::input::Input;
 
 impl<'r, S: Input> Captures<'r, S> {
     /// What the last group in the pattern with this name matched. `None` where that group took no part, and where no
-    /// group has the name.
+    /// group has the name. Group 0, the whole match, never has a name.
     ///
     /// ```text
     /// let captures = Regex::new(alloc, "(?<a>x)(?<a>y)")?.captures("xy")?;  // Some
