@@ -2,6 +2,8 @@ pub mod NoneLemmas
 pub mod SearchedLemmas
 pub mod CutLemmas
 pub mod NamesLemmas
+pub mod RisingLemmas
+pub mod NumberedLemmas
 pub mod MatchingLemmas
 pub mod EndLemmas
 pub mod ScanLemmas

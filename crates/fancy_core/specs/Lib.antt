@@ -5,6 +5,7 @@ pub mod Searching
 pub mod Groups
 pub mod Captured
 pub mod Names
+pub mod Built
 pub mod Matching
 pub mod Left
 pub mod Iterations

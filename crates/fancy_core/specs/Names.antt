@@ -1,5 +1,5 @@
 -- The names of a regex's groups. A name may stand on several groups, and then the last in the pattern is meant.
-use Rattle.std.specs.Prelude.{ℕ, ◌==◌, Bool, not, length, List, drop, map, reverse, find, Option, option_map, option_and_then, chars, bytes_eq}
+use Rattle.std.specs.Prelude.{ℕ, ◌<◌, ◌==◌, Bool, not, length, List, drop, map, reverse, find, Option, IfSome, option_map, option_and_then, chars, bytes_eq}
 use Rattle.std.specs.List.{range_with_len}
 use Rattle.std.specs.Borrow.{Bor}
 use Rattle.fancy_syntax.specs.Words.{Text}
@@ -21,6 +21,10 @@ last_named name groups = option_map (λ g. g.1) (find (λ g. bytes_eq g.0 name) 
 -- the number of the last group of the pattern that has the name
 abbrev pub group_named : Regex → Text → Option ℕ
 group_named r name = last_named name (names_in r)
+
+-- The name stands on a group of the pattern, which is never group 0, the whole match; or on none.
+abbrev pub StandsOnGroup : Regex → Text → Type 0
+StandsOnGroup r name = IfSome (group_named r name) (λ number. (0 < number) × (number < groups_in r))
 
 -- whether any group has a name
 abbrev pub has_names : Regex → Bool

@@ -1,6 +1,7 @@
 //! Regexes: a pattern that was read once, and the searches with it; templates and escapes.
 #![tactic(auto)]
 
+pub mod builder;
 pub mod captures;
 mod capturing;
 mod check;

@@ -1,8 +1,9 @@
 //! The names of groups.
 
-ghost use Rattle.std.specs.Prelude.{◌≡◌, ◌-◌, IfOk, IfErr, None, length, map, replicate, slice_index_or, chars};
+ghost use Rattle.std.specs.Prelude.{◌≡◌, ◌-◌, IfOk, IfErr, None, Some, length, map, replicate, slice_get, slice_index_or, chars};
 ghost use Rattle.std.specs.Iterator.{YieldsFirstBy, at_most};
 ghost use Rattle.fancy_core.specs.Names.{group_named, has_names, names_of_groups, names_left, read_name};
+ghost use Rattle.fancy_core.specs.Regexes.{groups_in};
 
 use crate::regex::Regex;
 use fancy_syntax::error::{Error, Result};
@@ -24,6 +25,8 @@ impl Regex {
     /// ```
     pub fn capture_names(&self) -> Result<CaptureNames<'_>>
         ensures names { IfOk result (λ n. names_left n ≡ names_of_groups self.now) }
+        ensures count { IfOk result (λ n. length (names_left n) ≡ groups_in self.now) }
+        ensures whole_match { IfOk result (λ n. slice_get (names_left n) 0 ≡ Some None) }
         ensures refused { IfErr result (λ e. e ≡ Error.Memory) }
     {
         let mut names = unnamed(self.allocator(), self.captures_len())?;

@@ -137,8 +137,7 @@ impl RegexOptionsBuilder {
         ensures same { result.ghost_name ≡ self.entry.ghost_name }
         ensures value { options_of result.now ≡ record (options_of self.old) { flags = record (options_of self.old).flags { ignore_blanks = yes } } }
     {
-        self.options.flags.ignore_blanks = yes;
-        self
+        self.ignore_whitespace(yes)
     }
 
     /// Whether flag `R` holds at the pattern's start: a carriage return ends a line too. Off by default.

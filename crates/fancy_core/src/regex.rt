@@ -3,6 +3,7 @@
 ghost use Rattle.std.specs.Prelude.{◌≡◌, ◌≤◌, ◌↔◌, ◌+◌, ◌-◌, ◌*◌, None, Some, Ok, Err, IfOk, IfErr, IfSome, IsTrue, string_bytes, chars, option_map, is_some, true, false, length};
 ghost use Rattle.fancy_syntax.specs.Pattern.{Pattern, pattern_of};
 ghost use Rattle.fancy_syntax.specs.Dialect.{IsPattern, standard};
+ghost use Rattle.fancy_syntax.specs.Groups.{Rising};
 ghost use Rattle.fancy_syntax.specs.Names.{named_groups};
 ghost use Rattle.fancy_syntax.specs.Refusals.{IsRefused};
 ghost use Rattle.fancy_input.specs.Inputs.{haystack_in, request_in};
@@ -52,6 +53,8 @@ pub struct Regex {
     ghost short: { code_len code ≤ 4 * nodes (pattern_of tree) + 2 },
     ghost easy: { is_easy (pattern_of tree) ≡ true },
     ghost whole: { keeps_characters options.bytes_mode ≡ true → has_raw_byte (pattern_of tree) ≡ false },
+    ghost counted: { 1 ≤ code.groups },
+    ghost named: { ∥ Rising 1 code.groups (named_groups names.items) ∥₁ },
 }
 
 impl Regex {
@@ -308,6 +311,20 @@ impl RegexOptionsBuilder {
             code,
             names,
         })
+    }
+}
+
+impl TryFrom<String> for Regex {
+    type Error = Error;
+
+    ghost use Rattle.fancy_core.specs.Built.{IsReading};
+
+    ghost try_from_gives = { λ pattern answer. IsReading by_default (string_bytes pattern) answer };
+
+    /// Reads the text as [`Regex::new`] does, with the default options. The text becomes the regex's own, with its
+    /// allocator; it is given up also where the call refuses.
+    fn try_from(pattern: String) -> Result<Regex> {
+        RegexOptionsBuilder::new().build(pattern)
     }
 }
 

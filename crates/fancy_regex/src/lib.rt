@@ -10,6 +10,7 @@
 //! All offsets are byte offsets into the haystack. Whatever is refused has a name: see [`Error`].
 #![tactic(auto)]
 
+pub use fancy_core::builder::RegexBuilder;
 pub use fancy_core::captures::{Captures, SubCaptureMatches};
 pub use fancy_core::escape::escape;
 pub use fancy_core::expander::Expander;

@@ -4,6 +4,8 @@
 #[cfg(test)]
 mod asking;
 #[cfg(test)]
+mod builders;
+#[cfg(test)]
 mod captures;
 #[cfg(test)]
 mod dialect;

@@ -1,7 +1,9 @@
 //! What each option changes, and what is so without it.
 
 use crate::asking::{Span, span_in_bytes, span_in_text};
-use fancy_regex::{BytesMode, Error, ParseErrorKind, Regex, RegexInput, RegexOptionsBuilder};
+use fancy_regex::{
+    BytesMode, Error, ParseErrorKind, Regex, RegexBuilder, RegexInput, RegexOptionsBuilder,
+};
 use std::alloc::Global;
 use std::process::Abort;
 use std::test::Fail;
@@ -39,12 +41,38 @@ fn set(builder: &mut RegexOptionsBuilder, switch: Switch, yes: bool) {
     };
 }
 
+fn set_beside_the_pattern(builder: &mut RegexBuilder, switch: Switch, yes: bool) {
+    match switch {
+        Switch::CaseInsensitive => builder.case_insensitive(yes),
+        Switch::MultiLine => builder.multi_line(yes),
+        Switch::IgnoreWhitespace => builder.ignore_whitespace(yes),
+        Switch::VerboseMode => builder.verbose_mode(yes),
+        Switch::DotMatchesNewLine => builder.dot_matches_new_line(yes),
+        Switch::Crlf => builder.crlf(yes),
+        Switch::UnicodeMode => builder.unicode_mode(yes),
+    };
+}
+
 /// What the pattern is read as with this option alone.
 fn read_with(alloc: Global, pattern: &str, switch: Switch, yes: bool) -> Result<Regex, Fail> {
     let mut builder = RegexOptionsBuilder::new();
     set(&mut builder, switch, !yes);
     set(&mut builder, switch, yes);
     let regex = builder.build(String::from_str(alloc, pattern)?)?;
+    Ok(regex)
+}
+
+/// The same, by a builder that holds the pattern.
+fn read_by_its_builder(
+    alloc: Global,
+    pattern: &str,
+    switch: Switch,
+    yes: bool,
+) -> Result<Regex, Fail> {
+    let mut builder = RegexBuilder::new(alloc, pattern)?;
+    set_beside_the_pattern(&mut builder, switch, !yes);
+    set_beside_the_pattern(&mut builder, switch, yes);
+    let regex = builder.build()?;
     Ok(regex)
 }
 
@@ -62,10 +90,14 @@ fn check_row(rt: &impl Abort, alloc: Global, row: &Row) -> Result<(), Fail> {
         default,
         "{pattern}"
     );
-    let regex = read_with(alloc, pattern, switch, false)?;
-    assert_eq!(rt; span_in_text(rt, &regex, input.again())?, off, "{pattern}");
-    let regex = read_with(alloc, pattern, switch, true)?;
-    assert_eq!(rt; span_in_text(rt, &regex, input)?, on, "{pattern}");
+    for (yes, wanted) in [(false, off), (true, on)] {
+        let regex = read_with(alloc, pattern, switch, yes)?;
+        let found = span_in_text(rt, &regex, input.again())?;
+        assert_eq!(rt; found, wanted, "{pattern}");
+        let regex = read_by_its_builder(alloc, pattern, switch, yes)?;
+        let found = span_in_text(rt, &regex, input.again())?;
+        assert_eq!(rt; found, wanted, "{pattern}");
+    }
     Ok(())
 }
 
@@ -107,6 +139,10 @@ fn the_mode_changes_answers(rt: HostRuntime) -> Result<(), Fail> {
         let mut builder = RegexOptionsBuilder::new();
         let pattern = String::from_str(rt.alloc(), pattern)?;
         let regex = builder.bytes_mode(mode).build(pattern)?;
+        let found = span_in_bytes(&rt, &regex, RegexInput::new(haystack))?;
+        assert_eq!(rt; found, wanted, "{}", regex.as_str());
+        let mut builder = RegexBuilder::new(rt.alloc(), regex.as_str())?;
+        let regex = builder.bytes_mode(mode).build()?;
         let found = span_in_bytes(&rt, &regex, RegexInput::new(haystack))?;
         assert_eq!(rt; found, wanted, "{}", regex.as_str());
     }

@@ -1,0 +1,167 @@
+//! A pattern and its options, set one after another.
+
+ghost use Rattle.std.specs.Prelude.{◌≡◌, ◌+◌, IfOk, IfErr, string_bytes, chars};
+ghost use Rattle.fancy_syntax.specs.Pattern.{Pattern};
+ghost use Rattle.fancy_syntax.specs.Dialect.{IsPattern};
+ghost use Rattle.fancy_syntax.specs.Refusals.{IsRefused};
+ghost use Rattle.fancy_core.specs.Builders.{options_set, pattern_set};
+ghost use Rattle.fancy_core.specs.Options.{by_default, dialect_of};
+ghost use Rattle.fancy_core.specs.Names.{names_in};
+ghost use Rattle.fancy_core.specs.Regexes.{text_of, pattern_in, options_in, groups_in};
+
+use crate::options::RegexOptionsBuilder;
+use crate::regex::Regex;
+use fancy_syntax::error::{Error, Result};
+use fancy_syntax::tree::BytesMode;
+use std::alloc::Global;
+
+/// Builds regexes from a pattern that it holds, with options. Each setter changes the pattern or one option and
+/// answers the builder, so that setters chain:
+///
+/// ```text
+/// let mut builder = RegexBuilder::new(alloc, "^b$")?;
+/// builder.multi_line(true).build()?.find("a\nb")?    // Some: 2..3
+/// ```
+#[derive(Drop)]
+pub struct RegexBuilder {
+    pattern: String,
+    options: RegexOptionsBuilder,
+}
+
+impl RegexBuilder {
+    /// A builder with a copy of this text as its pattern, and the options of [`RegexOptionsBuilder::new`]. It is
+    /// refused only where memory runs out: the text is not read yet.
+    pub fn new(alloc: Global, pattern: &str) -> Result<RegexBuilder>
+        ensures pattern { IfOk result (λ b. pattern_set b ≡ pattern.now) }
+        ensures options { IfOk result (λ b. options_set b ≡ by_default) }
+        ensures refused { IfErr result (λ e. e ≡ Error.Memory) }
+    {
+        Ok(RegexBuilder {
+            pattern: String::from_str(alloc, pattern)?,
+            options: RegexOptionsBuilder::new(),
+        })
+    }
+
+    /// Puts this pattern in the place of the one before, which is given up. The options stay, and no memory is taken.
+    pub fn pattern(&mut self, pattern: String) -> &mut Self
+        ensures same { result.ghost_name ≡ self.entry.ghost_name }
+        ensures pattern { pattern_set result.now ≡ string_bytes pattern }
+        ensures options { options_set result.now ≡ options_set self.old }
+    {
+        self.pattern = pattern;
+        self
+    }
+
+    /// Sets the option of [`RegexOptionsBuilder::bytes_mode`].
+    pub fn bytes_mode(&mut self, mode: BytesMode) -> &mut Self
+        ensures same { result.ghost_name ≡ self.entry.ghost_name }
+        ensures pattern { pattern_set result.now ≡ pattern_set self.old }
+        ensures value { options_set result.now ≡ record (options_set self.old) { bytes_mode = mode } }
+    {
+        self.options.bytes_mode(mode);
+        self
+    }
+
+    /// Sets the option of [`RegexOptionsBuilder::unicode_mode`].
+    pub fn unicode_mode(&mut self, yes: bool) -> &mut Self
+        ensures same { result.ghost_name ≡ self.entry.ghost_name }
+        ensures pattern { pattern_set result.now ≡ pattern_set self.old }
+        ensures value { options_set result.now ≡ record (options_set self.old) { unicode_mode = yes } }
+    {
+        self.options.unicode_mode(yes);
+        self
+    }
+
+    /// Sets the option of [`RegexOptionsBuilder::case_insensitive`].
+    pub fn case_insensitive(&mut self, yes: bool) -> &mut Self
+        ensures same { result.ghost_name ≡ self.entry.ghost_name }
+        ensures pattern { pattern_set result.now ≡ pattern_set self.old }
+        ensures value { options_set result.now ≡ record (options_set self.old) { flags = record (options_set self.old).flags { ignore_case = yes } } }
+    {
+        self.options.case_insensitive(yes);
+        self
+    }
+
+    /// Sets the option of [`RegexOptionsBuilder::multi_line`].
+    pub fn multi_line(&mut self, yes: bool) -> &mut Self
+        ensures same { result.ghost_name ≡ self.entry.ghost_name }
+        ensures pattern { pattern_set result.now ≡ pattern_set self.old }
+        ensures value { options_set result.now ≡ record (options_set self.old) { flags = record (options_set self.old).flags { multi_line = yes } } }
+    {
+        self.options.multi_line(yes);
+        self
+    }
+
+    /// Sets the option of [`RegexOptionsBuilder::dot_matches_new_line`].
+    pub fn dot_matches_new_line(&mut self, yes: bool) -> &mut Self
+        ensures same { result.ghost_name ≡ self.entry.ghost_name }
+        ensures pattern { pattern_set result.now ≡ pattern_set self.old }
+        ensures value { options_set result.now ≡ record (options_set self.old) { flags = record (options_set self.old).flags { dot_all = yes } } }
+    {
+        self.options.dot_matches_new_line(yes);
+        self
+    }
+
+    /// Sets the option of [`RegexOptionsBuilder::ignore_whitespace`].
+    pub fn ignore_whitespace(&mut self, yes: bool) -> &mut Self
+        ensures same { result.ghost_name ≡ self.entry.ghost_name }
+        ensures pattern { pattern_set result.now ≡ pattern_set self.old }
+        ensures value { options_set result.now ≡ record (options_set self.old) { flags = record (options_set self.old).flags { ignore_blanks = yes } } }
+    {
+        self.options.ignore_whitespace(yes);
+        self
+    }
+
+    /// The same option as [`RegexBuilder::ignore_whitespace`], by another name.
+    pub fn verbose_mode(&mut self, yes: bool) -> &mut Self
+        ensures same { result.ghost_name ≡ self.entry.ghost_name }
+        ensures pattern { pattern_set result.now ≡ pattern_set self.old }
+        ensures value { options_set result.now ≡ record (options_set self.old) { flags = record (options_set self.old).flags { ignore_blanks = yes } } }
+    {
+        self.ignore_whitespace(yes)
+    }
+
+    /// Sets the option of [`RegexOptionsBuilder::crlf`].
+    pub fn crlf(&mut self, yes: bool) -> &mut Self
+        ensures same { result.ghost_name ≡ self.entry.ghost_name }
+        ensures pattern { pattern_set result.now ≡ pattern_set self.old }
+        ensures value { options_set result.now ≡ record (options_set self.old) { flags = record (options_set self.old).flags { crlf = yes } } }
+    {
+        self.options.crlf(yes);
+        self
+    }
+
+    /// Sets the option of [`RegexOptionsBuilder::ignore_numbered_groups_when_named_groups_exist`].
+    pub fn ignore_numbered_groups_when_named_groups_exist(&mut self, yes: bool) -> &mut Self
+        ensures same { result.ghost_name ≡ self.entry.ghost_name }
+        ensures pattern { pattern_set result.now ≡ pattern_set self.old }
+        ensures value { options_set result.now ≡ record (options_set self.old) { ignore_numbered_groups_when_named_groups_exist = yes } }
+    {
+        self.options.ignore_numbered_groups_when_named_groups_exist(yes);
+        self
+    }
+
+    /// Sets the option of [`RegexOptionsBuilder::allow_input_assertion_overrides`].
+    pub fn allow_input_assertion_overrides(&mut self, yes: bool) -> &mut Self
+        ensures same { result.ghost_name ≡ self.entry.ghost_name }
+        ensures pattern { pattern_set result.now ≡ pattern_set self.old }
+        ensures value { options_set result.now ≡ record (options_set self.old) { allow_input_assertion_overrides = yes } }
+    {
+        self.options.allow_input_assertion_overrides(yes);
+        self
+    }
+
+    /// Reads the pattern with these options, as [`RegexOptionsBuilder::build`] does, and stays as it is. The regex has
+    /// a copy of the text, and the allocator of the pattern.
+    pub fn build(&self) -> Result<Regex>
+        ensures text { IfOk result (λ r. text_of r ≡ pattern_set self.now) }
+        ensures options { IfOk result (λ r. options_in r ≡ options_set self.now) }
+        ensures accepted { IfOk result (λ r. IsPattern (dialect_of (options_set self.now)) (chars (pattern_set self.now)) (pattern_in r)) }
+        ensures groups { IfOk result (λ r. (h : IsPattern (dialect_of (options_set self.now)) (chars (pattern_set self.now)) (pattern_in r)) × (h.end.opened + 1 ≡ groups_in r) × (h.end.names ≡ names_in r)) }
+        ensures refused { IfErr result (λ e. IsRefused e (dialect_of (options_set self.now)) (chars (pattern_set self.now))) }
+        ensures succeeds { (p : Pattern) → IsPattern (dialect_of (options_set self.now)) (chars (pattern_set self.now)) p → IfErr result (λ e. e ≡ Error.Memory) }
+    {
+        let pattern = self.pattern.clone()?;
+        self.options.build(pattern)
+    }
+}
