@@ -1,83 +1,158 @@
 -- Lemmas on replacing matches one after the other.
-use Rattle.std.proofs.Common.{arith, ℕ, zero, suc, ◌-◌, ◌≡◌, Bool, true, false, List, [], ◌∷◌, ◌++◌, Option, None, Some, Result, Ok, Err, IfOk, IfErr, length, map, slice_range, refl, sym, ◌∙◌, ap, subst, append-nil, append_assoc}
-use Rattle.std.proofs.Math.Seq.{take-nil}
+use Rattle.std.proofs.Common.{arith, ℕ, zero, suc, ◌-◌, ◌<◌, ◌≡◌, Bool, true, false, List, [], ◌∷◌, ◌++◌, Option, None, Some, Result, Ok, Err, IfOk, length, map, slice_range, refl, sym, ◌∙◌, ap, subst, append-nil, append_assoc, inl, inr}
+use Rattle.std.specs.Prelude.{MatchBool, ◌↔◌, ◌⊎◌}
+use Rattle.std.proofs.lemmas.List.{map-append}
+use Rattle.fancy_syntax.specs.declared.error.Error.{Error}
 use Rattle.fancy_engine.specs.Context.{Span}
 use Rattle.fancy_core.specs.declared.regex.Regex.{Regex}
 use Rattle.fancy_core.specs.GroupTexts.{Seen}
 use Rattle.fancy_core.specs.Matching.{Item, span_of_item, start_of, stop_of}
 use Rattle.fancy_core.specs.Pieces.{pieces, interleaved, limited}
-use Rattle.fancy_core.specs.Replacing.{Answers, IsReplaced, replaced, seen_of}
-use Rattle.fancy_core.specs.Rewriting.{up_to, limit_of, is_reached, one_fewer}
+use Rattle.fancy_core.specs.Replacing.{Answers, IsReplaced, IsRefused, replaced, filled, seen_of}
+use Rattle.fancy_core.specs.Limits.{up_to, is_reached, one_fewer}
 use Rattle.fancy_core.proofs.PieceLemmas.{whole_of}
 
--- The matches in t are replaced from the state `first` on. Whatever answers to the items that are to be done come, from the state `now` on, they make up the whole with what was given before: the text is `out` and then the rest from `at` on.
-pub record Goes {R : Type 0} (gave : R → Seen → List ℕ → R → Type 0) (regex : Regex) (t : List ℕ) (all : List Item) (first now : R) (out : List ℕ) (at : ℕ) (todo : List Item) : Type 0 where
-  pub whole : (answers : List (List ℕ)) (last : R) → Answers gave now (map (seen_of regex t) todo) answers last
-      → ((us : List (List ℕ)) × Answers gave first (map (seen_of regex t) all) us last × (replaced t all us ≡ out ++ interleaved (pieces t at (map span_of_item todo)) answers))
+no_end : {A : Type 0} (xs : List A) (x : A) → xs ++ (x ∷ []) ≡ [] → ⊥
+no_end [] x e = absurd (cc)
+no_end (y ∷ xs) x e = absurd (cc)
 
-regroup : (a b c d : List ℕ) → a ++ (b ++ (c ++ d)) ≡ ((a ++ b) ++ c) ++ d
-regroup a b c d = simp append_assoc
+limited_nil : {A : Type 0} (n : ℕ) → limited {A = A} n [] ≡ []
+limited_nil zero = refl
+limited_nil (suc n) = refl
 
-module _ {R : Type 0} (gave : R → Seen → List ℕ → R → Type 0) (regex : Regex) (t : List ℕ) where
-  pub goes_first : (all todo : List Item) (r : R) (out : List ℕ) → todo ≡ all → out ≡ [] → Goes gave regex t all r r out 0 todo
-  goes_first all todo r out e f = rw (e, f) (record { whole = λ answers last h. (answers, h, refl) })
-
-  pub goes_on : (all : List Item) (first now next : R) (out more : List ℕ) (at end : ℕ) (x : Item) (todo rest : List Item) (seen : Seen) (a : List ℕ) → todo ≡ x ∷ rest → seen ≡ seen_of regex t x → gave now seen a next → more ≡ (out ++ slice_range t at (start_of x)) ++ a → end ≡ stop_of x
-      → Goes gave regex t all first now out at todo → Goes gave regex t all first next more end rest
-  goes_on all first now next out more at end x todo rest seen a e s g m f h = record {
-    whole = λ answers last w.
-        let todo_is : Goes gave regex t all first now out at (x ∷ rest) = subst (λ (z : List Item). Goes gave regex t all first now out at z) e h in
-        let given : gave now (seen_of regex t x) a next = subst (λ (z : Seen). gave now z a next) s g in
-        let r = todo_is.whole (a ∷ answers) last (next, given, w) in
-        let tail : List ℕ = interleaved (pieces t (stop_of x) (map span_of_item rest)) answers in
-        let joined : replaced t all r.0 ≡ more ++ tail = r.2 ∙ (regroup out (slice_range t at (start_of x)) a tail ∙ ap (λ (z : List ℕ). z ++ tail) (sym m)) in
-        (r.0, r.1, joined ∙ ap (λ (z : ℕ). more ++ interleaved (pieces t z (map span_of_item rest)) answers) (sym f));
-  }
-
-  pub goes_last : (all : List Item) (first now : R) (out result : List ℕ) (at : ℕ) (todo : List Item) → todo ≡ [] → result ≡ out ++ slice_range t at (length t) → Goes gave regex t all first now out at todo → IsReplaced None gave first regex t all result
-  goes_last all first now out result at todo e w h =
-      let todo_is : Goes gave regex t all first now out at [] = subst (λ (z : List Item). Goes gave regex t all first now out at z) e h in
-      let r = todo_is.whole [] now refl in
-      record { answers = r.0; given = (now, r.1); joined = w ∙ (ap (λ (z : List ℕ). out ++ z) (sym (append-nil (slice_range t at (length t)))) ∙ sym r.2) }
-
-  -- where nothing is replaced the text stays
-  pub replaces_none : (all : List Item) (first : R) (result : List ℕ) → all ≡ [] → result ≡ t → IsReplaced None gave first regex t all result
-  replaces_none all first result e f = rw (e, f) (record { answers = []; given = (first, refl); joined = sym (append-nil _ ∙ whole_of t) })
-
-pub limit_is : {A : Type 0} (n : ℕ) (xs : List A) → up_to (limit_of n) xs ≡ limited n xs
-limit_is zero xs = refl
-limit_is (suc n) xs = refl
-
-pub limited_none : {A : Type 0} (n : ℕ) (xs : List A) → limited n xs ≡ [] → xs ≡ []
+limited_none : {A : Type 0} (n : ℕ) (xs : List A) → limited n xs ≡ [] → xs ≡ []
 limited_none zero xs e = e
 limited_none (suc n) [] e = refl
 limited_none (suc n) (x ∷ xs) e = absurd (cc)
 
-pub nothing_left : {A : Type 0} (left : Option ℕ) (xs : List A) → xs ≡ [] → up_to left xs ≡ []
-nothing_left None xs e = e
-nothing_left (Some n) xs e = rw e (take-nil n)
+-- How far a replacement has come in these matches in t. The state `first` answered to those that are done and left the state `now`. Whatever answers to those that are left come, with the answers so far they make up `out` and then the rest from `at` on.
+pub record Goes {R : Type 0} (gave : R → Seen → List ℕ → R → Type 0) (regex : Regex) (t : List ℕ) (all : List Item) (first now : R) (out : List ℕ) (at : ℕ) (found : Bool) (todo : List Item) : Type 0 where
+  pub done : List Item
+  pub order : all ≡ done ++ todo
+  pub answers : List (List ℕ)
+  pub given : Answers gave first (map (seen_of regex t) done) answers now
+  pub joined : (more : List (List ℕ)) → replaced t all (answers ++ more) ≡ out ++ interleaved (pieces t at (map span_of_item todo)) more
+  pub none : found ≡ false → done ≡ []
+  pub some : found ≡ true → done ≡ [] → ⊥
+
+regroup : (a b c d : List ℕ) → a ++ (b ++ (c ++ d)) ≡ ((a ++ b) ++ c) ++ d
+regroup a b c d = simp append_assoc
+
+module _ {R : Type 0} (gave : R → Seen → List ℕ → R → Type 0) where
+  -- one answer more
+  answers_more : (first now next : R) (x : Seen) (a : List ℕ) (xs : List Seen) (answers : List (List ℕ)) → Answers gave first xs answers now → gave now x a next → Answers gave first (xs ++ (x ∷ [])) (answers ++ (a ∷ [])) next
+  answers_more first now next x a [] [] h g = (next, subst (λ (z : R). gave z x a next) (sym h) g, refl)
+  answers_more first now next x a [] (b ∷ answers) h g = absurd h
+  answers_more first now next x a (y ∷ xs) [] h g = absurd h
+  answers_more first now next x a (y ∷ xs) (b ∷ answers) (middle, here, behind) g = (middle, here, answers_more middle now next x a xs answers behind g)
+
+  module _ (regex : Regex) (t : List ℕ) where
+    pub goes_first : (all todo : List Item) (r : R) (out : List ℕ) (at : ℕ) (found : Bool) → todo ≡ all → out ≡ [] → at ≡ 0 → found ≡ false → Goes gave regex t all r r out at found todo
+    goes_first all todo r out at found e f g h = rw (e, f, g, h) (record {
+      done = [];
+      order = refl;
+      answers = [];
+      given = refl;
+      joined = λ more. refl;
+      none = λ _. refl;
+      some = λ (w : false ≡ true) _. absurd (cc);
+    })
+
+    pub goes_on : (all : List Item) (first now next : R) (out more : List ℕ) (at end : ℕ) (found found_one : Bool) (x : Item) (todo rest : List Item) (seen : Seen) (a : List ℕ) → todo ≡ x ∷ rest → seen ≡ seen_of regex t x → gave now seen a next → more ≡ (out ++ slice_range t at (start_of x)) ++ a → end ≡ stop_of x → found_one ≡ true
+        → Goes gave regex t all first now out at found todo → Goes gave regex t all first next more end found_one rest
+    goes_on all first now next out more at end found found_one x todo rest seen a e s g m f i h = record {
+      done = h.done ++ (x ∷ []);
+      order = h.order ∙ (ap (λ (z : List Item). h.done ++ z) e ∙ sym (append_assoc h.done (x ∷ []) rest));
+      answers = h.answers ++ (a ∷ []);
+      given =
+          let step : gave now (seen_of regex t x) a next = subst (λ (z : Seen). gave now z a next) s g in
+          rw (map-append (seen_of regex t) h.done (x ∷ [])) (answers_more first now next (seen_of regex t x) a (map (seen_of regex t) h.done) h.answers h.given step);
+      joined = λ others.
+          let tail : List ℕ = interleaved (pieces t (stop_of x) (map span_of_item rest)) others in
+          let before : replaced t all (h.answers ++ (a ∷ others)) ≡ out ++ interleaved (pieces t at (map span_of_item (x ∷ rest))) (a ∷ others) = subst (λ (z : List Item). replaced t all (h.answers ++ (a ∷ others)) ≡ out ++ interleaved (pieces t at (map span_of_item z)) (a ∷ others)) e (h.joined (a ∷ others)) in
+          let joined : replaced t all (h.answers ++ (a ∷ others)) ≡ more ++ tail = before ∙ (regroup out (slice_range t at (start_of x)) a tail ∙ ap (λ (z : List ℕ). z ++ tail) (sym m)) in
+          ap (replaced t all) (append_assoc h.answers (a ∷ []) others) ∙ (joined ∙ ap (λ (z : ℕ). more ++ interleaved (pieces t z (map span_of_item rest)) others) (sym f));
+      none = λ (w : found_one ≡ false). absurd (cc);
+      some = λ _ (w : h.done ++ (x ∷ []) ≡ []). no_end h.done x w;
+    }
+
+    -- where no match is left, nothing was written any more
+    pub goes_over : (all : List Item) (first now : R) (out out_now : List ℕ) (at at_now : ℕ) (found found_now : Bool) (todo : List Item) → todo ≡ [] → out_now ≡ out → at_now ≡ at → found_now ≡ found → Goes gave regex t all first now out at found todo → Goes gave regex t all first now out_now at_now found_now []
+    goes_over all first now out out_now at at_now found found_now todo d e f g h = rw (e, f, g) (subst (λ (z : List Item). Goes gave regex t all first now out at found z) d h)
+
+    done_is_all : (all : List Item) (first now : R) (out : List ℕ) (at : ℕ) (found : Bool) (h : Goes gave regex t all first now out at found []) → all ≡ h.done
+    done_is_all all first now out at found h = h.order ∙ append-nil h.done
+
+    pub goes_last : (all : List Item) (first now : R) (out result : List ℕ) (at : ℕ) (found : Bool) → MatchBool found (result ≡ out ++ slice_range t at (length t)) (result ≡ t) → Goes gave regex t all first now out at found [] → IsReplaced None gave first regex t all result
+    goes_last all first now out result at true w h =
+        let over : all ≡ h.done = done_is_all all first now out at true h in
+        record {
+          answers = h.answers;
+          given = (now, subst (λ (z : List Item). Answers gave first (map (seen_of regex t) z) h.answers now) (sym over) h.given);
+          joined = w ∙ (ap (λ (z : List ℕ). out ++ z) (sym (append-nil (slice_range t at (length t)))) ∙ (sym (h.joined []) ∙ ap (replaced t all) (append-nil h.answers)));
+        }
+    goes_last all first now out result at false w h =
+        let over : all ≡ [] = done_is_all all first now out at false h ∙ h.none refl in
+        rw (over, w) (record { answers = []; given = (first, refl); joined = sym (append-nil _ ∙ whole_of t) })
+
+    -- where no match is left, one was found exactly where there are any
+    pub goes_found : (n : ℕ) (matches : List Item) (first now : R) (out : List ℕ) (at : ℕ) (found : Bool) → Goes gave regex t (limited n matches) first now out at found [] → (found ≡ false) ↔ (matches ≡ [])
+    goes_found n matches first now out at true h =
+        (λ (w : true ≡ false). absurd (cc), λ (w : matches ≡ []). absurd (h.some refl (sym (done_is_all (limited n matches) first now out at true h) ∙ (ap (limited n) w ∙ limited_nil n))))
+    goes_found n matches first now out at false h =
+        (λ _. limited_none n matches (done_is_all (limited n matches) first now out at false h ∙ h.none refl), λ _. refl)
+
+    -- a call that refuses, of a replacer with no one text for all matches
+    pub goes_refused : (refuses : R → Seen → Error → Type 0) (all : List Item) (first now : R) (out : List ℕ) (at : ℕ) (found : Bool) (x : Item) (todo rest : List Item) (seen : Seen) (error : Error) → todo ≡ x ∷ rest → seen ≡ seen_of regex t x → refuses now seen error
+        → Goes gave regex t all first now out at found todo → IsRefused None gave refuses first regex t all error
+    goes_refused refuses all first now out at found x todo rest seen error e s r h = record {
+      unfixed = refl;
+      done = h.done;
+      next = x;
+      later = rest;
+      order = h.order ∙ ap (λ (z : List Item). h.done ++ z) e;
+      answers = h.answers;
+      state = now;
+      given = h.given;
+      refused = subst (λ (z : Seen). refuses now z error) s r;
+    }
 
 pub one_taken : {A : Type 0} (left : Option ℕ) (xs ys : List A) (x : A) → is_reached left ≡ false → xs ≡ x ∷ ys → up_to left xs ≡ x ∷ up_to (one_fewer left) ys
 one_taken None xs ys x h e = e
 one_taken (Some zero) xs ys x h e = absurd (cc)
 one_taken (Some (suc n)) xs ys x h e = let q : suc n - 1 ≡ n = omega arith in rw (e, q) refl
 
--- answers that are each one text
-pub all_the_same : {R : Type 0} (gave : R → Seen → List ℕ → R → Type 0) (says : R → List ℕ) (x : List ℕ) → ((r next : R) (c : Seen) (a : List ℕ) → gave r c a next → (next ≡ r) × (a ≡ says r))
-    → (r : R) → says r ≡ x → (xs : List Seen) (answers : List (List ℕ)) (last : R) → Answers gave r xs answers last → answers ≡ map (λ _. x) xs
-all_the_same gave says x h r e [] [] last w = refl
-all_the_same gave says x h r e [] (a ∷ answers) last w = absurd w
-all_the_same gave says x h r e (c ∷ xs) [] last w = absurd w
-all_the_same gave says x h r e (c ∷ xs) (a ∷ answers) last (next, g, w) =
-    let k = h r next c a g in
-    let q : answers ≡ map (λ _. x) xs = all_the_same gave says x h next (ap says k.0 ∙ e) xs answers last w in
-    let p : a ≡ x = k.1 ∙ e in
+-- a text that answers itself to every match
+abbrev pub SaysItself : List ℕ → Seen → List ℕ → List ℕ → Type 0
+SaysItself x seen answer next = (next ≡ x) × (answer ≡ x)
+
+same_answers : (x y : List ℕ) → y ≡ x → (xs : List Seen) (answers : List (List ℕ)) (last : List ℕ) → Answers SaysItself y xs answers last → answers ≡ map (λ _. x) xs
+same_answers x y e [] [] last w = refl
+same_answers x y e [] (a ∷ answers) last w = absurd w
+same_answers x y e (c ∷ xs) [] last w = absurd w
+same_answers x y e (c ∷ xs) (a ∷ answers) last (next, (g, h), w) =
+    let q : answers ≡ map (λ _. x) xs = same_answers x next (g ∙ e) xs answers last w in
+    let p : a ≡ x = h ∙ e in
     rw (p, q) refl
 
-pub fixed_replaces : {R Q : Type 0} (gave : Q → Seen → List ℕ → Q → Type 0) (other : R → Seen → List ℕ → R → Type 0) (says : Q → List ℕ) (fixed : Option (List ℕ)) (x : List ℕ) → fixed ≡ Some x → ((r next : Q) (c : Seen) (a : List ℕ) → gave r c a next → (next ≡ r) × (a ≡ says r))
-    → (q : Q) (r : R) → says q ≡ x → (regex : Regex) (t : List ℕ) (all : List Item) (result : List ℕ) → IsReplaced None gave q regex t all result → IsReplaced fixed other r regex t all result
-fixed_replaces gave other says fixed x f h q r e regex t all result w =
-    rw f (record { answers = w.answers; given = all_the_same gave says x h q e (map (seen_of regex t) all) w.answers w.given.0 w.given.1; joined = w.joined })
+each_same : {A B C : Type 0} (f : A → B) (x : C) (xs : List A) → map (λ _. x) (map f xs) ≡ map (λ _. x) xs
+each_same f x [] = refl
+each_same f x (y ∷ xs) = ap (λ (z : List _). x ∷ z) (each_same f x xs)
+
+-- one text for all matches makes the text that is filled with it
+pub same_fills : (x : List ℕ) (regex : Regex) (t : List ℕ) (all : List Item) (result : List ℕ) → IsReplaced None SaysItself x regex t all result → result ≡ filled t all x
+same_fills x regex t all result w =
+    w.joined ∙ ap (replaced t all) (same_answers x x refl (map (seen_of regex t) all) w.answers w.given.0 w.given.1 ∙ each_same (seen_of regex t) x all)
+
+pub filled_replaces : {R : Type 0} (gave : R → Seen → List ℕ → R → Type 0) (first : R) (fixed : Option (List ℕ)) (x : List ℕ) (regex : Regex) (t : List ℕ) (all : List Item) (result : List ℕ) → fixed ≡ Some x → result ≡ filled t all x → IsReplaced fixed gave first regex t all result
+filled_replaces gave first fixed x regex t all result e f = rw e (record { answers = map (λ _. x) all; given = sym (each_same (seen_of regex t) x all); joined = f })
+
+pub one_done : {A : Type 0} (xs rest : List A) (x : A) → xs ≡ x ∷ rest → length rest < length xs
+one_done xs rest x e = rw e (omega arith)
+
+-- what a replacer sees depends on the regex, the text and the match
+pub seen_same : (a b : Regex) (t u : List ℕ) (x : Item) → a ≡ b → t ≡ u → seen_of a t x ≡ seen_of b u x
+seen_same a b t u x e f = ap (λ (z : Regex). seen_of z t x) e ∙ ap (λ (z : List ℕ). seen_of b z x) f
 
 pub seen_is : (a b : Seen) → a.regex ≡ b.regex → a.haystack ≡ b.haystack → a.spans ≡ b.spans → a ≡ b
 seen_is a b e f g =
@@ -85,27 +160,19 @@ seen_is a b e f g =
     let two : record { regex = b.regex; haystack = a.haystack; spans = a.spans } ≡ record { regex = b.regex; haystack = b.haystack; spans = a.spans } = ap (λ (z : List ℕ). record { regex = b.regex; haystack = z; spans = a.spans }) f in
     one ∙ (two ∙ ap (λ (z : List (Option Span)). record { regex = b.regex; haystack = b.haystack; spans = z }) g)
 
-limited_nil : {A : Type 0} (n : ℕ) → limited {A = A} n [] ≡ []
-limited_nil zero = refl
-limited_nil (suc n) = refl
-
--- where an item is left, there are matches
-pub some_found : (found : Bool) (n : ℕ) (todo rest all : List Item) (x : Item) → (found ≡ false → todo ≡ limited n all) → (found ≡ true → all ≡ [] → ⊥) → todo ≡ x ∷ rest → all ≡ [] → ⊥
-some_found true n todo rest all x none some e h = some refl h
-some_found false n todo rest all x none some e h = let k : x ∷ rest ≡ [] = sym e ∙ (none refl ∙ (ap (limited n) h ∙ limited_nil n)) in absurd (cc)
-
 pub none_is : {A : Type 0} (o : Option A) → ((x : A) → o ≡ Some x → ⊥) → o ≡ None
 none_is None h = refl
 none_is (Some x) h = absurd (h x refl)
-
--- the text of a match is that part of the haystack
-pub part_of : (h t : List ℕ) (x y : ℕ × ℕ) (r : List ℕ) → r ≡ slice_range h x.0 x.1 → h ≡ t → x ≡ y → r ≡ slice_range t y.0 y.1
-part_of h t x y r e f g = e ∙ (ap (λ (z : List ℕ). slice_range z x.0 x.1) f ∙ ap (λ (z : ℕ × ℕ). slice_range t z.0 z.1) g)
 
 pub if_ok : {A E : Type 0} (P Q : A → Type 0) → ((a : A) → P a → Q a) → (r : Result A E) → IfOk r P → IfOk r Q
 if_ok P Q f (Ok a) h = f a h
 if_ok P Q f (Err e) h = tt
 
-pub if_err : {A E : Type 0} (P Q : E → Type 0) → ((e : E) → P e → Q e) → (r : Result A E) → IfErr r P → IfErr r Q
-if_err P Q f (Ok a) h = tt
-if_err P Q f (Err e) h = f e h
+-- what is borrowed where nothing was found is borrowed where there are no matches
+pub borrowed_is : {A : Type 0} {E : Type 0} (r : Result A E) (P : A → Type 0) (Q W : Type 0) → IfOk r (λ a. P a ↔ Q) → Q ↔ W → IfOk r (λ a. P a ↔ W)
+borrowed_is (Ok a) P Q W h k = (λ p. k.0 (h.0 p), λ w. h.1 (k.1 w))
+borrowed_is (Err e) P Q W h k = tt
+
+pub or_else : (P Q W : Type 0) → (Q → W) → P ⊎ Q → P ⊎ W
+or_else P Q W f (inl p) = inl p
+or_else P Q W f (inr q) = inr (f q)

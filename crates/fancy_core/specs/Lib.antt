@@ -19,6 +19,8 @@ pub mod GroupTexts
 pub mod Expanded
 pub mod Checks
 pub mod Pieces
+pub mod Walks
 pub mod Splits
 pub mod Replacing
+pub mod Limits
 pub mod Rewriting

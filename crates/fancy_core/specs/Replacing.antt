@@ -1,5 +1,6 @@
 -- What matches are replaced by, and what that makes of a text.
-use Rattle.std.specs.Prelude.{◌≡◌, ℕ, List, [], ◌∷◌, Option, None, Some, chars, encode_utf8_all, map, true, if◌then◌else◌}
+use Rattle.std.specs.Prelude.{◌≡◌, ℕ, List, [], ◌∷◌, ◌++◌, Option, None, Some, chars, encode_utf8_all, map, true, if◌then◌else◌}
+use Rattle.fancy_syntax.specs.declared.error.Error.{Error}
 use Rattle.fancy_input.specs.Requests.{whole}
 use Rattle.fancy_core.specs.declared.regex.Regex.{Regex}
 use Rattle.fancy_core.specs.Escapes.{has_mark}
@@ -45,6 +46,10 @@ AnswersOf None gave r xs answers = (last : _) × Answers gave r xs answers last
 abbrev pub replaced : List ℕ → List Item → List (List ℕ) → List ℕ
 replaced t items answers = interleaved (pieces t 0 (map span_of_item items)) answers
 
+-- the text with one and the same text in the place of each of the items
+abbrev pub filled : List ℕ → List Item → List ℕ → List ℕ
+filled t items x = replaced t items (map (λ _. x) items)
+
 -- the matches in a text, from its start on
 abbrev pub all_matches : Regex → List ℕ → List Item
 all_matches regex t = matches_of regex true t (whole t)
@@ -54,3 +59,15 @@ pub record IsReplaced {R : Type 0} (fixed : Option (List ℕ)) (gave : R → See
   pub answers : List (List ℕ)
   pub given : AnswersOf fixed gave first (map (seen_of regex t) items) answers
   pub joined : result ≡ replaced t items answers
+
+-- A call for one of these items refused with this error. There is no one text for all matches; the calls for the items before answered, in order from the first state on, and in the state that they left the call for the next item refuses.
+pub record IsRefused {R : Type 0} (fixed : Option (List ℕ)) (gave : R → Seen → List ℕ → R → Type 0) (refuses : R → Seen → Error → Type 0) (first : R) (regex : Regex) (t : List ℕ) (items : List Item) (error : Error) : Type 0 where
+  pub unfixed : fixed ≡ None
+  pub done : List Item
+  pub next : Item
+  pub later : List Item
+  pub order : items ≡ done ++ (next ∷ later)
+  pub answers : List (List ℕ)
+  pub state : R
+  pub given : Answers gave first (map (seen_of regex t) done) answers state
+  pub refused : refuses state (seen_of regex t next) error

@@ -1,31 +1,25 @@
--- What stands for a replacement on its way: the items that are left, and how many of them may still be replaced.
-use Rattle.std.specs.Prelude.{ℕ, zero, suc, ◌-◌, ◌==◌, Bool, true, false, List, take, Option, None, Some}
-use Rattle.std.specs.Borrow.{Bor}
+-- What stands for a text on its way to having its matches replaced.
+use Rattle.std.specs.Prelude.{◌≡◌, List, ℕ}
 use Rattle.fancy_core.specs.declared.regex.Regex.{Regex}
-use Rattle.fancy_core.specs.declared.walk.Walk.{Walk}
-use Rattle.fancy_core.specs.Left.{items_left}
+use Rattle.fancy_core.specs.declared.rewriting.Rewriting.{Rewriting}
+use Rattle.fancy_core.specs.Limits.{up_to}
 use Rattle.fancy_core.specs.Matching.{Item}
+use Rattle.fancy_core.specs.Walks.{left_of}
 
--- the items that an iteration over a text has left
-abbrev pub left_of : {g : _} → Regex → Walk (Bor (List ℕ)) g → List Item
-left_of regex w = items_left regex true w.haystack.now w.request w.ended w.continues w.skips_empty
+abbrev pub regex_of : Rewriting → Regex
+regex_of w = w.regex.now
 
--- the first so many of these, and all of them without a limit
-abbrev pub up_to : {A : Type 0} → Option ℕ → List A → List A
-up_to None xs = xs
-up_to (Some n) xs = take n xs
+abbrev pub text_of : Rewriting → List ℕ
+text_of w = w.walk.haystack.now
 
--- how many may be replaced: 0 stands for no limit
-abbrev pub limit_of : ℕ → Option ℕ
-limit_of zero = None
-limit_of (suc n) = Some (suc n)
+-- the matches that are still to be replaced
+abbrev pub todo_of : Rewriting → List Item
+todo_of w = up_to w.left (left_of w.regex.now w.walk)
 
--- none may be replaced any more
-abbrev pub is_reached : Option ℕ → Bool
-is_reached None = false
-is_reached (Some n) = n == 0
-
--- how many more may be replaced behind one
-abbrev pub one_fewer : Option ℕ → Option ℕ
-one_fewer None = None
-one_fewer (Some n) = Some (n - 1)
+-- nothing changed but what was written
+pub record Stays (s t : Rewriting) : Type 0 where
+  pub regex : regex_of t ≡ regex_of s
+  pub text : text_of t ≡ text_of s
+  pub todo : todo_of t ≡ todo_of s
+  pub last : t.last ≡ s.last
+  pub found : t.found ≡ s.found

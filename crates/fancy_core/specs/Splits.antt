@@ -6,9 +6,10 @@ use Rattle.fancy_core.specs.declared.regex.Regex.{Regex}
 use Rattle.fancy_core.specs.declared.split.Split.{Split}
 use Rattle.fancy_core.specs.declared.split.limited.SplitN.{SplitN}
 use Rattle.fancy_core.specs.Matching.{span_of_item}
-use Rattle.fancy_core.specs.Left.{items_left, turns_left}
+use Rattle.fancy_core.specs.Left.{turns_left}
 use Rattle.fancy_core.specs.Replacing.{all_matches}
 use Rattle.fancy_core.specs.Pieces.{Progress, pieces_left, first_pieces_left, past_piece, rest_of}
+use Rattle.fancy_core.specs.Walks.{left_of}
 
 -- the spans of the matches in a text
 abbrev pub match_spans : Regex → List ℕ → List (ℕ × ℕ)
@@ -19,7 +20,7 @@ regex_of s = s.regex.now
 
 -- the spans of the matches that are left
 abbrev pub spans_left : Split → List (ℕ × ℕ)
-spans_left s = map span_of_item (items_left s.regex.now true s.walk.haystack.now s.walk.request s.walk.ended s.walk.continues s.walk.skips_empty)
+spans_left s = map span_of_item (left_of s.regex.now s.walk)
 
 -- how far it has come
 abbrev pub progress : Split → Progress
@@ -36,7 +37,7 @@ turns_unless false n = suc n
 
 -- how many items can still come: a piece before each match that is left, a refusal and the rest
 abbrev pub turns_of : Split → ℕ
-turns_of s = turns_unless s.ended (turns_left s.walk.ended (items_left s.regex.now true s.walk.haystack.now s.walk.request s.walk.ended s.walk.continues s.walk.skips_empty))
+turns_of s = turns_unless s.ended (turns_left s.walk.ended (left_of s.regex.now s.walk))
 
 -- One step over the list `rest`: the first of it, or a refusal for want of memory, behind which the list `after` is left.
 abbrev pub GivesPiece : {S A : Type 0} → (A → List ℕ) → (S → List (List ℕ)) → (S → List (List ℕ)) → S → Option (Result A Error) → S → Type 0

@@ -93,8 +93,9 @@ impl Expander {
 
     /// Writes what a template expands to, and takes no memory.
     ///
-    /// Each fault of a write ends it, and so does a write that takes no byte (`ErrorKind::WriteZero`). What the
-    /// writer has taken by then is a beginning of the expansion, and not all of it. No empty text is written.
+    /// A write that is refused ends it with the writer's error, and one that takes no byte with `ErrorKind::WriteZero`;
+    /// which of them it is stands in no clause. What the writer has taken by then is a beginning of the expansion, and
+    /// not all of it. No empty text is written.
     pub fn write_expansion<'t, W: io::Write, S: Input<Match = Match<'t>>>(
         &self,
         writer: &mut W,

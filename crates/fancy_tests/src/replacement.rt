@@ -69,14 +69,26 @@ fn texts_are_replaced(rt: HostRuntime) -> Result<(), Fail> {
         ("bla", "blablabla", 1, "foo", "fooblabla"),
         ("bla", "blablabla", 9, "foo", "foofoofoo"),
         (
-            "(Springsteen), (Bruce)",
+            "([^,\\s]+),\\s+(\\S+)",
             "Springsteen, Bruce",
             0,
             "$2 $1",
             "Bruce Springsteen",
         ),
-        ("(deep) (fried)", "deep fried", 1, "${1}_$2", "deep_fried"),
-        ("(deep) (fried)", "deep fried", 1, "$1a", ""),
+        (
+            "(?P<first>\\w+)\\s+(?P<second>\\w+)",
+            "deep fried",
+            1,
+            "${first}_$second",
+            "deep_fried",
+        ),
+        (
+            "(?P<first>\\w+)\\s+(?P<second>\\w+)",
+            "deep fried",
+            1,
+            "$1a",
+            "",
+        ),
         ("", "123", 0, "-", "-1-2-3-"),
         ("a*", "baaac", 0, "<$0>", "<>b<aaa>c<>"),
         ("é", "aéb", 0, "$$", "a$b"),
@@ -103,7 +115,7 @@ fn a_text_without_matches_is_borrowed(rt: HostRuntime) -> Result<(), Fail> {
 #[test]
 fn literal_texts_are_not_expanded(rt: HostRuntime) -> Result<(), Fail> {
     let alloc = rt.alloc();
-    let regex = Regex::new(alloc, "(Springsteen), (Bruce)")?;
+    let regex = Regex::new(alloc, "([^,\\s]+),\\s+(\\S+)")?;
     let text = "Springsteen, Bruce";
     let replaced = regex.replace_all(text, NoExpand("$2 $last"))?;
     assert_eq!(rt; replaced.as_str(), "$2 $last");
@@ -121,7 +133,7 @@ fn literal_texts_are_not_expanded(rt: HostRuntime) -> Result<(), Fail> {
 #[test]
 fn functions_replace(rt: HostRuntime) -> Result<(), Fail> {
     let alloc = rt.alloc();
-    let regex = Regex::new(alloc, "(Springsteen), (Bruce)")?;
+    let regex = Regex::new(alloc, "([^,\\s]+),\\s+(\\S+)")?;
     let swap = ReplaceFn::new(|captures: &Captures<'_, &str>| {
         let mut text = String::new(alloc);
         if let Some(group) = captures.get(2) {

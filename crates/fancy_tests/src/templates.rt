@@ -152,6 +152,28 @@ fn the_first_faulty_step_is_told(rt: HostRuntime) -> Result<(), Fail> {
 }
 
 #[test]
+fn numbers_beside_names_are_refused(rt: HostRuntime) -> Result<(), Fail> {
+    let alloc = rt.alloc();
+    let regex = Regex::new(alloc, "(?P<first>\\w+)\\s+(?P<second>\\w+)")?;
+    let expander = Expander::default();
+    assert!(rt;
+        matches!(
+            expander.check("$1", &regex),
+            Err(Error::CompileError(CompileError::NamedBackrefOnly))
+        )
+    );
+    assert!(rt;
+        matches!(
+            expander.check("a$", &regex),
+            Err(Error::ParseError(0, ParseErrorKind::GeneralParseError))
+        )
+    );
+    assert!(rt; expander.check("$0", &regex).is_ok());
+    assert!(rt; expander.check("${first}_$second", &regex).is_ok());
+    Ok(())
+}
+
+#[test]
 fn texts_are_escaped(rt: HostRuntime) -> Result<(), Fail> {
     let alloc = rt.alloc();
     let text = Expander::default().escape(alloc, "Has a literal $ sign.")?;

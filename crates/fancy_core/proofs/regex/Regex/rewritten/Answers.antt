@@ -1,63 +1,67 @@
-use Rattle.std.proofs.Common.{rules, arith, List, ℕ, ◌≡◌, ◌++◌, true, false, length, string_bytes, slice_range, refl, sym, ◌∙◌, ap, inr, Bor}
+use Rattle.std.proofs.Common.{rules, List, ℕ, ◌≡◌, [], ◌∷◌, ◌++◌, string_bytes, slice_range, sym, ◌∙◌, ap}
 use Rattle.std.proofs.lemmas.Result.{err_from_is_err_and}
-use Rattle.fancy_input.specs.Spans.{span_in, text_in}
-use Rattle.fancy_core.specs.GroupTexts.{bytes_of_str, seen_in}
-use Rattle.fancy_core.specs.Groups.{IsCut}
+use Rattle.fancy_syntax.specs.declared.error.Error.TheVariants.{Memory}
 use Rattle.fancy_core.specs.Left.{item_in}
+use Rattle.fancy_core.specs.Matching.{Item}
 use Rattle.fancy_core.specs.Pieces.{limited}
-use Rattle.fancy_core.specs.Replacing.{all_matches}
-use Rattle.fancy_core.specs.Rewriting.{left_of, up_to}
-use Rattle.fancy_core.proofs.ReplaceLemmas.{goes_first, goes_on, goes_last, replaces_none, limit_is, some_found, none_is, part_of}
+use Rattle.fancy_core.specs.Replacing.{all_matches, seen_of}
+use Rattle.fancy_core.specs.Rewriting.{regex_of, text_of, todo_of}
+use Rattle.fancy_core.proofs.ReplaceLemmas.{Goes, goes_first, goes_on, goes_over, goes_last, goes_found, goes_refused, or_else, one_done, none_is, if_ok, borrowed_is, seen_same}
 use Rattle.fancy_core.proofs.regex.Regex.rewritten.Goals as goal
 
 pub matches-init : goal.matches-init
-matches-init g c =
-    let fresh : left_of c.args.self.now c.new-walk.result ≡ all_matches c.args.self.now c.args.text.now = search rules in
-    let todo : up_to c.limit_of-left.result (left_of c.args.self.now c.new-walk.result) ≡ limited c.args.limit (all_matches c.args.self.now c.args.text.now) = rw c.limit_of-left.ensures (limit_is c.args.limit _ ∙ ap (limited c.args.limit) fresh) in
-    record {
-      callable = c.requires.callable;
-      haystack = search rules;
-      goes = goes_first _ _ _ _ _ _ _ todo c.new-out.ensures.bytes;
-      none_yet = λ _. todo;
-      some = λ (h : false ≡ true) _. absurd (cc);
-      inside = omega arith;
-      clean = search rules;
-      before = omega arith;
-    }
+matches-init g c = record {
+  callable = c.requires.callable;
+  regex = c.new-rewriting.ensures.regex;
+  text = c.new-rewriting.ensures.text;
+  goes = goes_first _ _ _ _ _ _ _ _ _ c.new-rewriting.ensures.todo c.new-rewriting.ensures.out c.new-rewriting.ensures.last c.new-rewriting.ensures.found;
+}
 
 pub matches-preserved : goal.matches-preserved
 matches-preserved g c =
     let item = c.in-Some.item in
+    let before = c.matches.rewriting in
+    let match = c.next_match.new.self in
+    let behind = c.push_answer.new.self in
+    let stays = c.in_ok-push_answer.ensures.stays in
+    let ok = c.in_ok-push_answer.ensures.ok in
     let steps = rw c.in-Some.is at c.in_ok-item.ensures.steps in
-    let placed = rw c.in-Some.is at c.in_ok-item.ensures.placed in
-    let cut : IsCut true c.args.text.now item.start item.end = rw c.matches.invariant.haystack at placed in
-    let ok = c.in_ok-replace_append.ensures.ok in
-    let part : c.as_str.result.now ≡ slice_range c.args.text.now c.matches.last item.start = part_of (text_in c.new-in-Some.result) c.args.text.now (span_in c.new-in-Some.result) (c.matches.last, item.start) c.as_str.result.now c.as_str.ensures c.new-in-Some.ensures.haystack c.new-in-Some.ensures.span in
-    let piece : string_bytes c.push_str.new.self ≡ string_bytes c.matches.out ++ slice_range c.args.text.now c.matches.last item.start = c.in_ok-push_str.ensures.bytes ∙ ap (λ (z : List ℕ). string_bytes c.matches.out ++ z) part in
-    let more : string_bytes c.replace_append.new.dst ≡ (string_bytes c.matches.out ++ slice_range c.args.text.now c.matches.last item.start) ++ ok.0 = ok.1 ∙ ap (λ (z : List ℕ). z ++ ok.0) piece in
+    let written = rw c.in-Some.is at c.in_ok-item.ensures.written in
+    let last = rw c.in-Some.is at c.in_ok-item.ensures.last in
+    let found = rw c.in-Some.is at c.in_ok-item.ensures.found in
+    let regex : regex_of match ≡ c.args.self.now = c.in_ok-item.ensures.regex ∙ c.matches.invariant.regex in
+    let text : text_of match ≡ c.args.text.now = c.in_ok-item.ensures.text ∙ c.matches.invariant.text in
+    let todo : todo_of before ≡ item_in match.memory item ∷ todo_of behind = steps ∙ ap (λ (z : List Item). item_in match.memory item ∷ z) (sym stays.todo) in
+    let part : string_bytes match.out ≡ string_bytes before.out ++ slice_range c.args.text.now before.last item.start = written ∙ ap (λ (z : List ℕ). string_bytes before.out ++ slice_range z before.last item.start) c.matches.invariant.text in
+    let more : string_bytes behind.out ≡ (string_bytes before.out ++ slice_range c.args.text.now before.last item.start) ++ ok.0 = ok.1 ∙ ap (λ (z : List ℕ). z ++ ok.0) part in
     record {
-      callable = c.in_ok-replace_append.ensures.again;
-      haystack = ap (λ (z : Bor (List ℕ)). z.now) c.in_ok-item.ensures.haystack ∙ c.matches.invariant.haystack;
-      goes = rw c.one_fewer-left.ensures (goes_on g.R.Replacer.appends c.args.self.now c.args.text.now (limited c.args.limit (all_matches c.args.self.now c.args.text.now)) c.args.replacer.now c.matches.replacer c.replace_append.new.self (string_bytes c.matches.out) (string_bytes c.replace_append.new.dst) c.matches.last item.end (item_in c.following.new.memory item) _ _ (seen_in bytes_of_str c.in_ok-captures.captures) ok.0 steps c.in_ok-captures.ensures.seen ok.2 more (rw c.in-Some.is at c.in_ok-item.ensures.end) c.matches.invariant.goes);
-      none_yet = λ (h : true ≡ false). absurd (cc);
-      some = λ _ none. some_found c.matches.found c.args.limit _ _ _ _ c.matches.invariant.none_yet c.matches.invariant.some steps none;
-      inside = cut.inside;
-      clean = cut.ends_cleanly refl;
-      before = rw c.in-Some.is at c.in_ok-item.ensures.moved;
+      callable = c.in_ok-push_answer.ensures.again;
+      regex = stays.regex ∙ regex;
+      text = stays.text ∙ text;
+      goes = goes_on g.R.Replacer.appends c.args.self.now c.args.text.now _ _ _ _ _ _ _ _ _ _ (item_in match.memory item) _ _ _ ok.0 todo (seen_same _ _ _ _ (item_in match.memory item) regex text) ok.2 more (stays.last ∙ last) (stays.found ∙ found) c.matches.invariant.goes;
     }
 
-pub returns-in_err-replace_append-clause-refused : goal.returns-in_err-replace_append-clause-refused
-returns-in_err-replace_append-clause-refused g c =
-    let q = err_from_is_err_and c.from_residual-in_err-replace_append.result c.from_residual-in_err-replace_append.ensures.1 in
-    rw q.1 (inr (c.matches.replacer, seen_in bytes_of_str c.in_ok-captures.captures, rw q.2 c.in_err-replace_append.ensures.refused))
+pub matches-smaller : goal.matches-smaller
+matches-smaller g c = one_done _ _ _ (rw c.in-Some.is at c.in_ok-item.ensures.steps ∙ ap (λ (z : List Item). item_in c.next_match.new.self.memory c.in-Some.item ∷ z) (sym c.in_ok-push_answer.ensures.stays.todo))
 
-pub returns-then-not-found-clause-text : goal.returns-then-not-found-clause-text
-returns-then-not-found-clause-text g c =
-    let over = rw (none_is c.in_ok-item.field-0 c.in_default.not-Some) at c.in_ok-item.ensures.steps in
-    replaces_none _ _ _ _ _ _ (sym (c.matches.invariant.none_yet (search rules)) ∙ over) refl
+pub returns : goal.returns
+returns g c =
+    let none = none_is c.in_ok-item.field-0 c.in_default.not-Some in
+    let all = limited c.args.limit (all_matches c.args.self.now c.args.text.now) in
+    let text : text_of c.next_match.new.self ≡ c.args.text.now = c.in_ok-item.ensures.text ∙ c.matches.invariant.text in
+    let goes : Goes g.R.Replacer.appends c.args.self.now c.args.text.now all c.args.replacer.now c.matches.replacer (string_bytes c.next_match.new.self.out) c.next_match.new.self.last c.next_match.new.self.found [] = goes_over _ _ _ _ _ _ _ _ _ _ _ _ _ (rw none at c.in_ok-item.ensures.steps) (ap string_bytes (rw none at c.in_ok-item.ensures.written)) (rw none at c.in_ok-item.ensures.last) (rw none at c.in_ok-item.ensures.found) c.matches.invariant.goes in
+    record {
+      borrowed = borrowed_is c.finish.result _ _ _ c.finish.ensures.borrowed (goes_found _ _ _ c.args.limit _ _ _ _ _ _ goes);
+      kept = search rules;
+      text = if_ok _ _ (λ _ w. goes_last _ _ _ _ _ _ _ _ _ _ (rw text at w) goes) c.finish.result c.finish.ensures.value;
+      refused = search rules;
+      again = search rules;
+    }
 
-pub returns-clause-text : goal.returns-clause-text
-returns-clause-text g c =
-    let over = rw (none_is c.in_ok-item.field-0 c.in_default.not-Some) at c.in_ok-item.ensures.steps in
-    let part : c.as_str-2.result.now ≡ slice_range c.args.text.now c.matches.last (length c.args.text.now) = part_of (text_in c.new-2.result) c.args.text.now (span_in c.new-2.result) (c.matches.last, length c.args.text.now) c.as_str-2.result.now c.as_str-2.ensures c.new-2.ensures.haystack c.new-2.ensures.span in
-    goes_last _ _ _ _ _ _ _ _ _ _ over (c.in_ok-push_str-2.ensures.bytes ∙ ap (λ (z : List ℕ). string_bytes c.matches.out ++ z) part) c.matches.invariant.goes
+pub returns-in_err-push_answer-clause-refused : goal.returns-in_err-push_answer-clause-refused
+returns-in_err-push_answer-clause-refused g c =
+    let q = err_from_is_err_and c.from_residual-in_err-push_answer.result c.from_residual-in_err-push_answer.ensures.1 in
+    let regex : regex_of c.next_match.new.self ≡ c.args.self.now = c.in_ok-item.ensures.regex ∙ c.matches.invariant.regex in
+    let text : text_of c.next_match.new.self ≡ c.args.text.now = c.in_ok-item.ensures.text ∙ c.matches.invariant.text in
+    let seen = seen_same (regex_of c.next_match.new.self) c.args.self.now (text_of c.next_match.new.self) c.args.text.now (item_in c.next_match.new.self.memory c.in-Some.item) regex text in
+    rw q.1 (or_else (q.0 ≡ Memory) _ _ (λ r. goes_refused g.R.Replacer.appends c.args.self.now c.args.text.now g.R.Replacer.refuses (limited c.args.limit (all_matches c.args.self.now c.args.text.now)) c.args.replacer.now c.matches.replacer (string_bytes c.matches.rewriting.out) c.matches.rewriting.last c.matches.rewriting.found (item_in c.next_match.new.self.memory c.in-Some.item) (todo_of c.matches.rewriting) (todo_of c.next_match.new.self) (seen_of (regex_of c.next_match.new.self) (text_of c.next_match.new.self) (item_in c.next_match.new.self.memory c.in-Some.item)) q.0 (rw c.in-Some.is at c.in_ok-item.ensures.steps) seen r c.matches.invariant.goes) (rw q.2 c.in_err-push_answer.ensures.refused))

@@ -1,0 +1,51 @@
+use Rattle.std.proofs.Common.{rules, List, ℕ, ◌≡◌, [], ◌∷◌, ◌++◌, string_bytes, slice_range, refl, sym, ◌∙◌, ap}
+use Rattle.fancy_core.specs.Left.{item_in}
+use Rattle.fancy_core.specs.Matching.{Item}
+use Rattle.fancy_core.specs.Pieces.{limited}
+use Rattle.fancy_core.specs.Replacing.{all_matches}
+use Rattle.fancy_core.specs.Rewriting.{text_of, todo_of}
+use Rattle.fancy_core.proofs.ReplaceLemmas.{SaysItself, Goes, goes_first, goes_on, goes_over, goes_last, goes_found, one_done, none_is, if_ok, borrowed_is, same_fills}
+use Rattle.fancy_core.proofs.regex.Regex.filled.Goals as goal
+
+pub matches-init : goal.matches-init
+matches-init c = record {
+  regex = c.new-rewriting.ensures.regex;
+  text = c.new-rewriting.ensures.text;
+  goes = goes_first _ _ _ _ _ _ _ _ _ c.new-rewriting.ensures.todo c.new-rewriting.ensures.out c.new-rewriting.ensures.last c.new-rewriting.ensures.found;
+}
+
+pub matches-preserved : goal.matches-preserved
+matches-preserved c =
+    let item = c.in-Some.field-0 in
+    let before = c.matches.rewriting in
+    let match = c.next_match.new.self in
+    let behind = c.push.new.self in
+    let stays = c.in_ok-push.ensures.stays in
+    let steps = rw c.in-Some.is at c.in_ok-next_match.ensures.steps in
+    let written = rw c.in-Some.is at c.in_ok-next_match.ensures.written in
+    let last = rw c.in-Some.is at c.in_ok-next_match.ensures.last in
+    let found = rw c.in-Some.is at c.in_ok-next_match.ensures.found in
+    let todo : todo_of before ≡ item_in match.memory item ∷ todo_of behind = steps ∙ ap (λ (z : List Item). item_in match.memory item ∷ z) (sym stays.todo) in
+    let part : string_bytes match.out ≡ string_bytes before.out ++ slice_range c.args.text.now before.last item.start = written ∙ ap (λ (z : List ℕ). string_bytes before.out ++ slice_range z before.last item.start) c.matches.invariant.text in
+    let more : string_bytes behind.out ≡ (string_bytes before.out ++ slice_range c.args.text.now before.last item.start) ++ c.args.fixed.now = c.in_ok-push.ensures.ok ∙ ap (λ (z : List ℕ). z ++ c.args.fixed.now) part in
+    record {
+      regex = stays.regex ∙ (c.in_ok-next_match.ensures.regex ∙ c.matches.invariant.regex);
+      text = stays.text ∙ (c.in_ok-next_match.ensures.text ∙ c.matches.invariant.text);
+      goes = goes_on SaysItself c.args.self.now c.args.text.now _ _ _ _ _ _ _ _ _ _ (item_in match.memory item) _ _ _ c.args.fixed.now todo refl (refl, refl) more (stays.last ∙ last) (stays.found ∙ found) c.matches.invariant.goes;
+    }
+
+pub matches-smaller : goal.matches-smaller
+matches-smaller c = one_done _ _ _ (rw c.in-Some.is at c.in_ok-next_match.ensures.steps ∙ ap (λ (z : List Item). item_in c.next_match.new.self.memory c.in-Some.field-0 ∷ z) (sym c.in_ok-push.ensures.stays.todo))
+
+pub returns : goal.returns
+returns c =
+    let none = none_is c.in_ok-next_match.field-0 c.in_default.not-Some in
+    let all = limited c.args.limit (all_matches c.args.self.now c.args.text.now) in
+    let text : text_of c.next_match.new.self ≡ c.args.text.now = c.in_ok-next_match.ensures.text ∙ c.matches.invariant.text in
+    let goes : Goes SaysItself c.args.self.now c.args.text.now all c.args.fixed.now c.args.fixed.now (string_bytes c.next_match.new.self.out) c.next_match.new.self.last c.next_match.new.self.found [] = goes_over _ _ _ _ _ _ _ _ _ _ _ _ _ (rw none at c.in_ok-next_match.ensures.steps) (ap string_bytes (rw none at c.in_ok-next_match.ensures.written)) (rw none at c.in_ok-next_match.ensures.last) (rw none at c.in_ok-next_match.ensures.found) c.matches.invariant.goes in
+    record {
+      borrowed = borrowed_is c.finish.result _ _ _ c.finish.ensures.borrowed (goes_found _ _ _ c.args.limit _ _ _ _ _ _ goes);
+      kept = search rules;
+      text = if_ok _ _ (λ _ w. same_fills _ _ _ _ _ (goes_last _ _ _ _ _ _ _ _ _ _ (rw text at w) goes)) c.finish.result c.finish.ensures.value;
+      refused = search rules;
+    }
