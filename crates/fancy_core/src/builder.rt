@@ -137,7 +137,8 @@ impl RegexBuilder {
         ensures pattern { pattern_set result.now ≡ pattern_set self.old }
         ensures value { options_set result.now ≡ record (options_set self.old) { ignore_numbered_groups_when_named_groups_exist = yes } }
     {
-        self.options.ignore_numbered_groups_when_named_groups_exist(yes);
+        self.options
+            .ignore_numbered_groups_when_named_groups_exist(yes);
         self
     }
 

@@ -2,6 +2,7 @@ use Rattle.std.proofs.Common.{sym, ◌∙◌, ◌+◌, ap, arith}
 use Rattle.fancy_syntax.specs.Dialect as dialect
 use Rattle.std.proofs.lemmas.Result.{err_from_is_err_and}
 use Rattle.fancy_syntax.specs.Pattern.{pattern_of}
+use Rattle.fancy_syntax.specs.Views.{options_of}
 use Rattle.fancy_syntax.proofs.GroupLemmas.{numbered, wider}
 use Rattle.fancy_engine.proofs.SpelledLemmas.{easy_spelled, sets_spelled, no_raw_bytes}
 use Rattle.fancy_core.proofs.RisingLemmas.{rising_names}
@@ -30,7 +31,7 @@ invariant_of-result c = record {
   short = c.in_ok-code.ensures.short;
   easy = easy_spelled (c.in_ok-tree.ensures.accepted.0).spelled.spelled;
   counted = omega (arith, c.in_ok-tree.ensures.accepted.1, c.in_ok-code.ensures.groups);
-  named = ∣ rising_names _ _ _ _ _ _ _ (c.in_ok-tree.ensures.accepted.0).spelled.spelled (c.in_ok-tree.ensures.accepted.1 ∙ sym c.in_ok-code.ensures.groups) c.in_ok-tree.ensures.accepted.2 ∣₁;
+  named = ∣ rising_names _ (options_of c.syntax.result) _ _ _ _ _ (c.in_ok-tree.ensures.accepted.0).spelled.spelled (c.in_ok-tree.ensures.accepted.1 ∙ sym c.in_ok-code.ensures.groups) c.in_ok-tree.ensures.accepted.2 ∣₁;
   whole = λ e. no_raw_bytes (ap (λ (o : dialect.Options). o.keeps_characters) c.syntax.ensures ∙ e) (c.in_ok-tree.ensures.accepted.0).spelled.spelled;
 }
 
