@@ -28,7 +28,7 @@ pub struct Syntax {
     pub meaning: Meaning,
     /// Whether matches begin and end on character boundaries alone. Where they do not, `\xE9` is a byte.
     pub keeps_characters: bool,
-    /// Whether groups without a name capture nothing where a group has one.
+    /// Whether groups without a name capture nothing, and have no number, where a group has one.
     pub only_named: bool,
     /// The flags that are set.
     pub flags: Flags,
@@ -96,6 +96,10 @@ pub fn parse(alloc: Global, pattern: &str) -> Result<Parsed, Error>
 /// Reads a pattern by the rules of [`parse`], where this holds at its start.
 ///
 /// In [`Meaning::Bytes`] a literal past U+007F is the sequence of the bytes of its UTF-8, as `é` is of two.
+///
+/// Where `only_named` is set and a group has a name, `(..)` is read as `(?:..)`: `(a)(?<n>b)` has 2 groups, of which
+/// `n` is number 1, and `()*(?<n>b)` is refused at place 2 with [`ParseErrorKind::TargetNotRepeatable`]. A pattern
+/// without names is read as where it is not set.
 pub fn parse_with(alloc: Global, pattern: &str, syntax: Syntax) -> Result<Parsed, Error>
     ensures accepted { IfOk result (λ r. (h : IsPattern (options_of syntax) (chars pattern.now) (pattern_of r.tree)) × (h.end.opened + 1 ≡ r.groups) × (named_groups r.names.items ≡ h.end.names)) }
     ensures refused { IfErr result (λ e. IsRefused e (options_of syntax) (chars pattern.now)) }
