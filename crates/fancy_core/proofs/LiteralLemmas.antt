@@ -83,7 +83,7 @@ starts_cleanly haystack r can within =
       | inr sooner ↦ (let lt = sooner.1 in subst (λ p. IsTrue (is_boundary haystack p)) (omega (arith, lt)) (can.starts refl (omega (arith, within, lt))))
     ]
 
--- the escape of a text of at most a million characters is a pattern, that of its characters, and of no other one
+-- the escape of a text is a pattern exactly where the text has at most a million characters, and then the one of these characters
 pub escape_spells : (t : Text) (p : Pattern) → IsPattern standard (escaped_pattern t) p → (p ≡ in_sequence (map character t)) × (length t ≤ 1000000)
 escape_spells t p h =
     let s = h.spelled in
