@@ -29,9 +29,12 @@ nothing_found {X} p (x ∷ xs) all = let here : p x ≡ false = all 0 x (omega a
 
 -- every name of a regex stands on a group behind group 0
 module _ (r : Regex) where
+  some_group : 1 ≤ groups_in r
+  some_group = ∥∥₁_elim r.compiled (hlevel props) (λ h. h.counted)
+
   numbered : All (λ (g : Text × ℕ). (1 ≤ g.1) × (g.1 < groups_in r)) (reverse (names_in r))
   numbered =
-      let all : All (λ (g : Text × ℕ). (1 ≤ g.1) × (g.1 < groups_in r)) (names_in r) = ∥∥₁_elim r.named (hlevel props) (λ h. rising_within 1 (groups_in r) (names_in r) h) in
+      let all : All (λ (g : Text × ℕ). (1 ≤ g.1) × (g.1 < groups_in r)) (names_in r) = ∥∥₁_elim r.compiled (hlevel props) (λ h. rising_within 1 (groups_in r) (names_in r) h.named) in
       All-permutation (λ (g : Text × ℕ). (1 ≤ g.1) × (g.1 < groups_in r)) (names_in r) (reverse (names_in r)) (IsPermutation-reverse (names_in r)) all
 
   pub stands_on_group : (name : Text) → StandsOnGroup r name
@@ -50,6 +53,6 @@ module _ (r : Regex) where
 
   pub first_is_none : slice_get (names_of_groups r) 0 ≡ Some None
   first_is_none =
-      let inside : 0 < length (names_of_groups r) = omega (arith, as_many_as_groups, r.counted) in
+      let inside : 0 < length (names_of_groups r) = omega (arith, as_many_as_groups, some_group) in
       slice_get-get_or (names_of_groups r) 0 None inside
-      ∙ ap Some (get_or-map-range_with_len (name_of_group r) 0 (groups_in r) 0 0 None (omega (arith, r.counted)) (omega arith) ∙ whole_match_nameless)
+      ∙ ap Some (get_or-map-range_with_len (name_of_group r) 0 (groups_in r) 0 0 None some_group (omega arith) ∙ whole_match_nameless)

@@ -1,5 +1,6 @@
 pub mod Options
 pub mod Builders
+pub mod Compiled
 pub mod Regexes
 pub mod Searching
 pub mod Groups

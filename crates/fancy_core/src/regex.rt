@@ -3,7 +3,6 @@
 ghost use Rattle.std.specs.Prelude.{◌≡◌, ◌≤◌, ◌↔◌, ◌+◌, ◌-◌, ◌*◌, None, Some, Ok, Err, IfOk, IfErr, IfSome, IsTrue, string_bytes, chars, option_map, is_some, true, false, length};
 ghost use Rattle.fancy_syntax.specs.Pattern.{Pattern, pattern_of};
 ghost use Rattle.fancy_syntax.specs.Dialect.{IsPattern, standard};
-ghost use Rattle.fancy_syntax.specs.Groups.{Rising};
 ghost use Rattle.fancy_syntax.specs.Names.{named_groups};
 ghost use Rattle.fancy_syntax.specs.Refusals.{IsRefused};
 ghost use Rattle.fancy_input.specs.Inputs.{haystack_in, request_in};
@@ -11,7 +10,7 @@ ghost use Rattle.fancy_input.specs.Places.{is_boundary};
 ghost use Rattle.fancy_input.specs.Requests.{whole, effective_start};
 ghost use Rattle.fancy_syntax.specs.Sizes.{nodes};
 ghost use Rattle.fancy_engine.specs.Code.{code_len};
-ghost use Rattle.fancy_engine.specs.Means.{IsCodeOf, is_easy};
+ghost use Rattle.fancy_engine.specs.Means.{is_easy};
 ghost use Rattle.fancy_engine.specs.Queries.{way_in, answer_of};
 ghost use Rattle.fancy_engine.specs.Placed.{has_raw_byte};
 ghost use Rattle.fancy_core.specs.Groups.{AreCut, spans_of, found_at};
@@ -19,6 +18,7 @@ ghost use Rattle.fancy_engine.specs.Work.{steps_of, returns_of};
 ghost use Rattle.fancy_engine.specs.Search.{search, span_of};
 ghost use Rattle.fancy_engine.specs.Answers.{HasNone};
 ghost use Rattle.fancy_core.specs.Builders.{options_of};
+ghost use Rattle.fancy_core.specs.Compiled.{IsCompiled};
 ghost use Rattle.fancy_core.specs.Options.{by_default, dialect_of, meaning_in};
 ghost use Rattle.fancy_core.specs.Searching.{Suits, StartsCleanly, CanSearch};
 ghost use Rattle.fancy_syntax.specs.Modes.{keeps_characters};
@@ -48,13 +48,11 @@ pub struct Regex {
     tree: Tree,
     code: Code,
     names: Vec<GroupName>,
-    ghost coded: { ∥ IsCodeOf (pattern_of tree) code ∥₁ },
+    ghost compiled: { ∥ IsCompiled (pattern_of tree) code (named_groups names.items) ∥₁ },
     ghost meant: { code.meaning ≡ meaning_in options },
     ghost short: { code_len code ≤ 4 * nodes (pattern_of tree) + 2 },
     ghost easy: { is_easy (pattern_of tree) ≡ true },
     ghost whole: { keeps_characters options.bytes_mode ≡ true → has_raw_byte (pattern_of tree) ≡ false },
-    ghost counted: { 1 ≤ code.groups },
-    ghost named: { ∥ Rising 1 code.groups (named_groups names.items) ∥₁ },
 }
 
 impl Regex {

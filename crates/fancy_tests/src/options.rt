@@ -141,10 +141,22 @@ fn the_mode_changes_answers(rt: HostRuntime) -> Result<(), Fail> {
         let regex = builder.bytes_mode(mode).build(pattern)?;
         let found = span_in_bytes(&rt, &regex, RegexInput::new(haystack))?;
         assert_eq!(rt; found, wanted, "{}", regex.as_str());
-        let mut builder = RegexBuilder::new(rt.alloc(), regex.as_str())?;
+    }
+    Ok(())
+}
+
+#[test]
+fn the_mode_of_a_builder_with_a_pattern_changes_answers(rt: HostRuntime) -> Result<(), Fail> {
+    let haystack: &[u8] = b"\x80";
+    for (mode, pattern, wanted) in [
+        (BytesMode::Unicode, "\\x80", None),
+        (BytesMode::Ascii, "\\x80", Some((0, 1))),
+        (BytesMode::UnicodeBytes, ".", None),
+    ] {
+        let mut builder = RegexBuilder::new(rt.alloc(), pattern)?;
         let regex = builder.bytes_mode(mode).build()?;
         let found = span_in_bytes(&rt, &regex, RegexInput::new(haystack))?;
-        assert_eq!(rt; found, wanted, "{}", regex.as_str());
+        assert_eq!(rt; found, wanted, "{pattern}");
     }
     Ok(())
 }

@@ -26,12 +26,14 @@ compile-requires-clause-numbered c =
 
 pub invariant_of-result : goal.invariant_of-result
 invariant_of-result c = record {
-  coded = ∣ c.in_ok-code.ensures.code ∣₁;
+  compiled = ∣ record {
+    coded = c.in_ok-code.ensures.code;
+    counted = omega (arith, c.in_ok-tree.ensures.accepted.1, c.in_ok-code.ensures.groups);
+    named = rising_names _ (options_of c.syntax.result) _ _ _ _ _ (c.in_ok-tree.ensures.accepted.0).spelled.spelled (c.in_ok-tree.ensures.accepted.1 ∙ sym c.in_ok-code.ensures.groups) c.in_ok-tree.ensures.accepted.2;
+  } ∣₁;
   meant = c.in_ok-code.ensures.meaning ∙ c.meaning.ensures;
   short = c.in_ok-code.ensures.short;
   easy = easy_spelled (c.in_ok-tree.ensures.accepted.0).spelled.spelled;
-  counted = omega (arith, c.in_ok-tree.ensures.accepted.1, c.in_ok-code.ensures.groups);
-  named = ∣ rising_names _ (options_of c.syntax.result) _ _ _ _ _ (c.in_ok-tree.ensures.accepted.0).spelled.spelled (c.in_ok-tree.ensures.accepted.1 ∙ sym c.in_ok-code.ensures.groups) c.in_ok-tree.ensures.accepted.2 ∣₁;
   whole = λ e. no_raw_bytes (ap (λ (o : dialect.Options). o.keeps_characters) c.syntax.ensures ∙ e) (c.in_ok-tree.ensures.accepted.0).spelled.spelled;
 }
 

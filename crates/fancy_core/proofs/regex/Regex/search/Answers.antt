@@ -4,8 +4,8 @@ use Rattle.fancy_core.proofs.SearchedLemmas.{known, ordered_found, inside_found,
 use Rattle.fancy_core.proofs.regex.Regex.search.Goals as goal
 
 pub returns-in-Ok-clause-answer : goal.returns-in-Ok-clause-answer
-returns-in-Ok-clause-answer c = known _ _ c.args.self.now.coded
-    (λ coded. rw (c.args.self.now.meant, c.keeps_characters-on_boundaries.ensures) at (c.in-Ok.ensures.answer _ coded))
+returns-in-Ok-clause-answer c = known _ _ c.args.self.now.compiled
+    (λ compiled. rw (c.args.self.now.meant, c.keeps_characters-on_boundaries.ensures) at (c.in-Ok.ensures.answer _ compiled.coded))
 
 pub returns-in-Ok-clause-ordered : goal.returns-in-Ok-clause-ordered
 returns-in-Ok-clause-ordered c =
