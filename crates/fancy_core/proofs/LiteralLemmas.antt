@@ -19,17 +19,17 @@ use Rattle.fancy_core.specs.declared.regex.Regex.{Regex}
 use Rattle.fancy_core.specs.Options.{meaning_in}
 use Rattle.fancy_core.specs.Regexes.{text_of, pattern_in, options_in, asked}
 use Rattle.fancy_core.specs.Searching.{CanSearch}
-use Rattle.fancy_core.specs.Escapes.{is_special, has_special, escaped_character, escaped_pattern}
+use Rattle.fancy_core.specs.Escapes.{special, is_special, has_special, escaped_character, escaped_pattern}
 use Rattle.fancy_core.specs.Literals.{IsOfEscape, span_found}
 
 -- what is escaped can be, and what is not means nothing else
 special_escapable : (c : ℕ) → is_special c ≡ true → is_escapable c ≡ true
 unfolding is_special
-special_escapable c h = holds_among is_escapable c (codes "\\.+*?()|[]{}^$#") refl h
+special_escapable c h = holds_among is_escapable c special refl h
 
 others_plain : (s : Scope) (c : ℕ) → IsPlain s → is_special c ≡ false → StandsFor s (c ∷ []) c
 unfolding is_special
-others_plain s c plain h = by_itself_alone s c plain (not_among_fewer c meant (codes "\\.+*?()|[]{}^$#") refl h)
+others_plain s c plain h = by_itself_alone s c plain (not_among_fewer c meant special refl h)
 
 -- the escaped form of a character stands for it
 character_stands : (s : Scope) (c : ℕ) → IsPlain s → StandsFor s (escaped_character c) c

@@ -1,7 +1,7 @@
 -- Texts that are to stand for themselves, in a template or in a pattern.
 use Rattle.std.specs.Prelude.{ℕ, ◌==◌, Bool, List, [], ◌∷◌, ◌++◌, chars, codes, encode_utf8_all, flat_map, if◌then◌else◌}
 use Rattle.std.specs.List.{list_any}
-use Rattle.fancy_syntax.specs.Words.{Text, ◌∈◌}
+use Rattle.fancy_syntax.specs.Words.{Text, is_among}
 
 -- in a template each mark stands twice
 abbrev pub doubled_mark : ℕ → ℕ → Text
@@ -14,8 +14,11 @@ abbrev pub escaped_template : ℕ → Text → Text
 escaped_template mark t = flat_map (doubled_mark mark) t
 
 -- the characters that make a text need escapes in a pattern
+abbrev pub special : Text
+special = codes "\\.+*?()|[]{}^$#"
+
 unfoldable pub is_special : ℕ → Bool
-is_special c = c ∈ "\\.+*?()|[]{}^$#"
+is_special c = is_among c special
 
 abbrev pub has_special : Text → Bool
 has_special t = list_any is_special t

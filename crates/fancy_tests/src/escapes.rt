@@ -15,13 +15,22 @@ fn regex_of(alloc: Global, text: &str) -> Result<Regex, Fail> {
     Ok(regex)
 }
 
+/// Where the first match that the input asks for starts and ends.
+fn span_found(
+    rt: &impl Abort,
+    regex: &Regex,
+    input: RegexInput<&str>,
+) -> Result<Option<(usize, usize)>, Fail> {
+    assert!(rt; regex.can_search(&input));
+    let found = regex.find_input(input)?;
+    Ok(found.map(|m| (m.start(), m.end())))
+}
+
 fn check_row(rt: &impl Abort, alloc: Global, row: &Row) -> Result<(), Fail> {
     let (text, haystack, at, wanted) = *row;
     let regex = regex_of(alloc, text)?;
     let input = RegexInput::new(haystack).from_pos(at).anchored(true);
-    assert!(rt; regex.can_search(&input), "{haystack} at {at}");
-    let found = regex.find_input(input)?;
-    let span = found.map(|m| (m.start(), m.end()));
+    let span = span_found(rt, &regex, input)?;
     assert_eq!(rt; span, wanted, "{text} on {haystack} at {at}");
     Ok(())
 }
@@ -61,8 +70,8 @@ fn escapes_of_all_ascii_are_found(rt: HostRuntime) -> Result<(), Fail> {
         text.push(char::from(byte))?;
     }
     let regex = regex_of(alloc, text.as_str())?;
-    let found = regex.find(text.as_str())?.ok_or("no match")?;
-    assert_eq!(rt; (found.start(), found.end()), (0, 128));
+    let input = RegexInput::new(text.as_str());
+    assert_eq!(rt; span_found(&rt, &regex, input)?, Some((0, 128)));
     Ok(())
 }
 
@@ -70,13 +79,13 @@ fn escapes_of_all_ascii_are_found(rt: HostRuntime) -> Result<(), Fail> {
 fn escapes_are_found_at_the_first_place(rt: HostRuntime) -> Result<(), Fail> {
     let alloc = rt.alloc();
     let regex = regex_of(alloc, "a.b")?;
-    let found = regex.find("a-b a.b a.b")?.ok_or("no match")?;
-    assert_eq!(rt; (found.start(), found.end()), (4, 7));
-    assert!(rt; regex.find("a-b")?.is_none());
+    let first = RegexInput::new("a-b a.b a.b");
+    assert_eq!(rt; span_found(&rt, &regex, first)?, Some((4, 7)));
+    let none = RegexInput::new("a-b");
+    assert!(rt; span_found(&rt, &regex, none)?.is_none());
     let haystack = "a.b";
     assert!(rt; 2 <= haystack.len());
     let short = RegexInput::new(haystack).range(0..2);
-    assert!(rt; regex.can_search(&short));
-    assert!(rt; regex.find_input(short)?.is_none());
+    assert!(rt; span_found(&rt, &regex, short)?.is_none());
     Ok(())
 }
