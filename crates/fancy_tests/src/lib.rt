@@ -20,6 +20,8 @@ mod options;
 #[cfg(test)]
 mod overrides;
 #[cfg(test)]
+mod readme;
+#[cfg(test)]
 mod refusals;
 #[cfg(test)]
 mod replacement;
