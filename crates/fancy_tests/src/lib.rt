@@ -6,6 +6,8 @@ mod asking;
 #[cfg(test)]
 mod captures;
 #[cfg(test)]
+mod combined;
+#[cfg(test)]
 mod dialect;
 #[cfg(test)]
 mod finding;
