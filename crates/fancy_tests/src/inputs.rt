@@ -2,8 +2,10 @@
 //!
 //! The first rows of each table were worked out by hand, the others by an independent model of the search.
 
+use crate::asking::{span, span_of_bytes};
 use fancy_input::input::Input;
-use fancy_regex::{BytesMode, Match, MatchBytes, Regex, RegexInput, RegexOptionsBuilder};
+use fancy_regex::BytesMode::{Ascii, Unicode, UnicodeBytes};
+use fancy_regex::{BytesMode, Regex, RegexInput, RegexOptionsBuilder};
 use std::alloc::Global;
 use std::process::Abort;
 use std::test::Fail;
@@ -47,489 +49,215 @@ fn searched<S: Input>(
     Ok(found)
 }
 
+const TEXTS: &[Row<&str>] = &[
+    (Unicode, "abc", "zabc", 0, (0, 4), false, Some((1, 4))),
+    (Unicode, "abc", "zabc", 0, (0, 4), true, None),
+    (Unicode, "abc", "zabc", 1, (0, 4), true, Some((1, 4))),
+    (Unicode, "a?", "a", 1, (0, 1), false, Some((1, 1))),
+    (Unicode, "a?", "a", 2, (0, 1), false, None),
+    (Unicode, "ab", "abab", 0, (1, 4), false, Some((2, 4))),
+    (Unicode, "ab", "abab", 0, (1, 3), false, None),
+    (Unicode, "ab", "abab", 1, (2, 4), false, Some((2, 4))),
+    (Unicode, "a", "a", usize::MAX, (0, 1), false, None),
+    (Unicode, "ab|x??", "ab", 9, (0, 2), true, None),
+    (Unicode, "\\~|c", "cca", 0, (0, 3), false, Some((0, 1))),
+    (Unicode, "a", "a", 0, (0, 1), true, Some((0, 1))),
+    (Ascii, "本?", "a", 0, (0, 1), false, Some((0, 0))),
+    (Unicode, "(?:É??)|b|S", "ÉS", 0, (2, 3), true, Some((2, 2))),
+    (Ascii, "(?:a|)a|c", "a", 0, (0, 1), false, Some((0, 1))),
+    (UnicodeBytes, "b??", "", 0, (0, 0), true, Some((0, 0))),
+    (
+        UnicodeBytes,
+        "c??a|cb|ba(?:(?:a??))",
+        "ababaa",
+        0,
+        (2, 4),
+        false,
+        Some((2, 3)),
+    ),
+    (Ascii, "", "z", 0, (1, 1), true, Some((1, 1))),
+    (UnicodeBytes, "b??", "bbb", 2, (1, 3), true, Some((2, 2))),
+    (Ascii, "σX?|k??", "", 1, (0, 0), true, None),
+    (Unicode, "\\?|bc", "bc?", 3, (0, 2), true, None),
+    (Ascii, "c|c?", "b", 0, (0, 1), true, Some((0, 0))),
+    (Ascii, "a?|a", "3ba", 3, (3, 3), false, Some((3, 3))),
+    (
+        Unicode,
+        "(?:a|ẞ?c)ẞſ?|S日??",
+        "S日ẞcẞſ",
+        4,
+        (0, 13),
+        false,
+        Some((4, 13)),
+    ),
+    (Unicode, "|😀??", "Éſ+", 0, (5, 5), false, Some((5, 5))),
+    (UnicodeBytes, "a", "aaacaa", 0, (0, 6), false, Some((0, 1))),
+    (
+        UnicodeBytes,
+        "accb|a??",
+        "accba",
+        2,
+        (0, 5),
+        false,
+        Some((2, 2)),
+    ),
+    (Ascii, "b??(?:ax)a|a", "", 1, (0, 0), true, None),
+    (Ascii, "b??|c?cba??", "ab", 1, (0, 2), false, Some((1, 1))),
+    (UnicodeBytes, "b", "b", 0, (0, 1), true, Some((0, 1))),
+    (UnicodeBytes, "(?:a|(?:a??a)b)", "", 7, (0, 0), true, None),
+    (
+        UnicodeBytes,
+        "b?x|b?",
+        "baxb",
+        2,
+        (1, 4),
+        false,
+        Some((2, 3)),
+    ),
+    (Unicode, "a??|acab", "x1baa", 1, (1, 1), false, Some((1, 1))),
+];
+
 #[test]
 fn searches_text(rt: HostRuntime) -> Result<(), Fail> {
-    let rows: [Row<&str>; 33] = [
-        (
-            BytesMode::Unicode,
-            "abc",
-            "zabc",
-            0,
-            (0, 4),
-            false,
-            Some((1, 4)),
-        ),
-        (BytesMode::Unicode, "abc", "zabc", 0, (0, 4), true, None),
-        (
-            BytesMode::Unicode,
-            "abc",
-            "zabc",
-            1,
-            (0, 4),
-            true,
-            Some((1, 4)),
-        ),
-        (
-            BytesMode::Unicode,
-            "a?",
-            "a",
-            1,
-            (0, 1),
-            false,
-            Some((1, 1)),
-        ),
-        (BytesMode::Unicode, "a?", "a", 2, (0, 1), false, None),
-        (
-            BytesMode::Unicode,
-            "ab",
-            "abab",
-            0,
-            (1, 4),
-            false,
-            Some((2, 4)),
-        ),
-        (BytesMode::Unicode, "ab", "abab", 0, (1, 3), false, None),
-        (
-            BytesMode::Unicode,
-            "ab",
-            "abab",
-            1,
-            (2, 4),
-            false,
-            Some((2, 4)),
-        ),
-        (
-            BytesMode::Unicode,
-            "a",
-            "a",
-            usize::MAX,
-            (0, 1),
-            false,
-            None,
-        ),
-        (BytesMode::Unicode, "ab|x??", "ab", 9, (0, 2), true, None),
-        (
-            BytesMode::Unicode,
-            "\\~|c",
-            "cca",
-            0,
-            (0, 3),
-            false,
-            Some((0, 1)),
-        ),
-        (BytesMode::Unicode, "a", "a", 0, (0, 1), true, Some((0, 1))),
-        (BytesMode::Ascii, "本?", "a", 0, (0, 1), false, Some((0, 0))),
-        (
-            BytesMode::Unicode,
-            "(?:É??)|b|S",
-            "ÉS",
-            0,
-            (2, 3),
-            true,
-            Some((2, 2)),
-        ),
-        (
-            BytesMode::Ascii,
-            "(?:a|)a|c",
-            "a",
-            0,
-            (0, 1),
-            false,
-            Some((0, 1)),
-        ),
-        (
-            BytesMode::UnicodeBytes,
-            "b??",
-            "",
-            0,
-            (0, 0),
-            true,
-            Some((0, 0)),
-        ),
-        (
-            BytesMode::UnicodeBytes,
-            "c??a|cb|ba(?:(?:a??))",
-            "ababaa",
-            0,
-            (2, 4),
-            false,
-            Some((2, 3)),
-        ),
-        (BytesMode::Ascii, "", "z", 0, (1, 1), true, Some((1, 1))),
-        (
-            BytesMode::UnicodeBytes,
-            "b??",
-            "bbb",
-            2,
-            (1, 3),
-            true,
-            Some((2, 2)),
-        ),
-        (BytesMode::Ascii, "σX?|k??", "", 1, (0, 0), true, None),
-        (BytesMode::Unicode, "\\?|bc", "bc?", 3, (0, 2), true, None),
-        (BytesMode::Ascii, "c|c?", "b", 0, (0, 1), true, Some((0, 0))),
-        (
-            BytesMode::Ascii,
-            "a?|a",
-            "3ba",
-            3,
-            (3, 3),
-            false,
-            Some((3, 3)),
-        ),
-        (
-            BytesMode::Unicode,
-            "(?:a|ẞ?c)ẞſ?|S日??",
-            "S日ẞcẞſ",
-            4,
-            (0, 13),
-            false,
-            Some((4, 13)),
-        ),
-        (
-            BytesMode::Unicode,
-            "|😀??",
-            "Éſ+",
-            0,
-            (5, 5),
-            false,
-            Some((5, 5)),
-        ),
-        (
-            BytesMode::UnicodeBytes,
-            "a",
-            "aaacaa",
-            0,
-            (0, 6),
-            false,
-            Some((0, 1)),
-        ),
-        (
-            BytesMode::UnicodeBytes,
-            "accb|a??",
-            "accba",
-            2,
-            (0, 5),
-            false,
-            Some((2, 2)),
-        ),
-        (BytesMode::Ascii, "b??(?:ax)a|a", "", 1, (0, 0), true, None),
-        (
-            BytesMode::Ascii,
-            "b??|c?cba??",
-            "ab",
-            1,
-            (0, 2),
-            false,
-            Some((1, 1)),
-        ),
-        (
-            BytesMode::UnicodeBytes,
-            "b",
-            "b",
-            0,
-            (0, 1),
-            true,
-            Some((0, 1)),
-        ),
-        (
-            BytesMode::UnicodeBytes,
-            "(?:a|(?:a??a)b)",
-            "",
-            7,
-            (0, 0),
-            true,
-            None,
-        ),
-        (
-            BytesMode::UnicodeBytes,
-            "b?x|b?",
-            "baxb",
-            2,
-            (1, 4),
-            false,
-            Some((2, 3)),
-        ),
-        (
-            BytesMode::Unicode,
-            "a??|acab",
-            "x1baa",
-            1,
-            (1, 1),
-            false,
-            Some((1, 1)),
-        ),
-    ];
-    for row in &rows {
-        let found: Option<Match<'_>> = searched(&rt, rt.alloc(), row)?;
-        assert_eq!(rt;
-            found.map(|m| (m.start(), m.end())),
-            row.6,
-            "{} on {}",
-            row.1,
-            row.2
-        );
+    for row in TEXTS {
+        let found = searched(&rt, rt.alloc(), row)?;
+        assert_eq!(rt; found.map(span), row.6, "{} on {}", row.1, row.2);
     }
     Ok(())
 }
 
+const BYTES: &[Row<&[u8]>] = &[
+    (Unicode, "a", b"a\x80", 0, (0, 2), false, None),
+    (UnicodeBytes, "a", b"a\x80", 0, (0, 2), false, Some((0, 1))),
+    (Ascii, "é", b"\xC3\xA9", 0, (0, 2), false, Some((0, 2))),
+    (Unicode, "a", b"\x80a", 0, (0, 2), false, Some((1, 2))),
+    (Unicode, "a", b"a\x80a", 0, (0, 3), false, Some((2, 3))),
+    (
+        Unicode,
+        "(?:x|a)|b??|a?",
+        b"\xC3a\xA9a\xE2",
+        0,
+        (1, 2),
+        false,
+        Some((1, 1)),
+    ),
+    (
+        Ascii,
+        "a?|(?:b??(?:a)|)",
+        b"]baa",
+        0,
+        (2, 2),
+        true,
+        Some((2, 2)),
+    ),
+    (Ascii, "b", b"b\xC3", 0, (0, 2), false, Some((0, 1))),
+    (
+        UnicodeBytes,
+        "a??|c|(?:x|ax|a?)?",
+        b"",
+        0,
+        (0, 0),
+        false,
+        Some((0, 0)),
+    ),
+    (
+        UnicodeBytes,
+        "É?|S|K?(?:本)??",
+        b"\x80",
+        1,
+        (0, 1),
+        false,
+        Some((1, 1)),
+    ),
+    (UnicodeBytes, "-|ẞ|μ", b"\xCE\xBC", 9, (0, 1), true, None),
+    (Ascii, "|a|a??", b"\xC3\x9Fb", 4, (1, 3), true, None),
+    (
+        UnicodeBytes,
+        "-?a",
+        b"a\xE6\xC3\x9C\xAC\xE2\xCF\x83a",
+        0,
+        (0, 9),
+        true,
+        Some((0, 1)),
+    ),
+    (
+        Unicode,
+        "(?:b?μ|c)σa??",
+        b"c\xCF\x83c\xA9\xCF\x83ab\x80\xCE\xBC\xCF\x83",
+        5,
+        (5, 13),
+        false,
+        None,
+    ),
+    (Unicode, "a|\\[a", b"[aa[a", 0, (0, 5), false, Some((0, 2))),
+    (Unicode, "b", b"bbab\xC3", 0, (3, 5), true, Some((3, 4))),
+    (
+        UnicodeBytes,
+        "ẞ?a??|😀Kx",
+        b"_\xC3\xE2\x89a",
+        0,
+        (3, 4),
+        true,
+        Some((3, 3)),
+    ),
+    (
+        Ascii,
+        "x??(?:σ?\\^)??\\\"??",
+        b"",
+        0,
+        (0, 0),
+        true,
+        Some((0, 0)),
+    ),
+    (Ascii, "a", b"\xA9a\x80", 0, (0, 3), false, Some((1, 2))),
+    (
+        UnicodeBytes,
+        "asc(?:b??c|Σ(?:ẞ)|µc)",
+        b"-\xC2\xB5asacbcasc\xCE\xA3\xE1\xBA\x9E",
+        0,
+        (0, 17),
+        false,
+        Some((9, 17)),
+    ),
+    (
+        UnicodeBytes,
+        "c?a?|",
+        b"cbab",
+        1,
+        (1, 4),
+        false,
+        Some((1, 1)),
+    ),
+    (
+        Unicode,
+        "x?(?:a??c??)a",
+        b"aaca",
+        1,
+        (0, 4),
+        false,
+        Some((1, 2)),
+    ),
+    (Unicode, "c|a(?:a?)??aa?|aca", b"aca", 2, (0, 3), true, None),
+    (Unicode, "(?:aa??)b", b"ab", 0, (0, 2), true, Some((0, 2))),
+    (
+        Ascii,
+        "c(?:x\\|?)",
+        b"\xE2\x80aaa\x80",
+        5,
+        (0, 6),
+        true,
+        None,
+    ),
+    (Ascii, "b", b"ca\x80\xA9\xFF", 1, (0, 5), false, None),
+    (UnicodeBytes, "b??a", b"baba", 1, (0, 4), true, Some((1, 2))),
+    (Ascii, "c?", b"\x80a", 1, (1, 2), false, Some((1, 1))),
+];
+
 #[test]
 fn searches_bytes(rt: HostRuntime) -> Result<(), Fail> {
-    let rows: [Row<&[u8]>; 28] = [
-        (BytesMode::Unicode, "a", b"a\x80", 0, (0, 2), false, None),
-        (
-            BytesMode::UnicodeBytes,
-            "a",
-            b"a\x80",
-            0,
-            (0, 2),
-            false,
-            Some((0, 1)),
-        ),
-        (
-            BytesMode::Ascii,
-            "é",
-            b"\xC3\xA9",
-            0,
-            (0, 2),
-            false,
-            Some((0, 2)),
-        ),
-        (
-            BytesMode::Unicode,
-            "a",
-            b"\x80a",
-            0,
-            (0, 2),
-            false,
-            Some((1, 2)),
-        ),
-        (
-            BytesMode::Unicode,
-            "a",
-            b"a\x80a",
-            0,
-            (0, 3),
-            false,
-            Some((2, 3)),
-        ),
-        (
-            BytesMode::Unicode,
-            "(?:x|a)|b??|a?",
-            b"\xC3a\xA9a\xE2",
-            0,
-            (1, 2),
-            false,
-            Some((1, 1)),
-        ),
-        (
-            BytesMode::Ascii,
-            "a?|(?:b??(?:a)|)",
-            b"]baa",
-            0,
-            (2, 2),
-            true,
-            Some((2, 2)),
-        ),
-        (
-            BytesMode::Ascii,
-            "b",
-            b"b\xC3",
-            0,
-            (0, 2),
-            false,
-            Some((0, 1)),
-        ),
-        (
-            BytesMode::UnicodeBytes,
-            "a??|c|(?:x|ax|a?)?",
-            b"",
-            0,
-            (0, 0),
-            false,
-            Some((0, 0)),
-        ),
-        (
-            BytesMode::UnicodeBytes,
-            "É?|S|K?(?:本)??",
-            b"\x80",
-            1,
-            (0, 1),
-            false,
-            Some((1, 1)),
-        ),
-        (
-            BytesMode::UnicodeBytes,
-            "-|ẞ|μ",
-            b"\xCE\xBC",
-            9,
-            (0, 1),
-            true,
-            None,
-        ),
-        (
-            BytesMode::Ascii,
-            "|a|a??",
-            b"\xC3\x9Fb",
-            4,
-            (1, 3),
-            true,
-            None,
-        ),
-        (
-            BytesMode::UnicodeBytes,
-            "-?a",
-            b"a\xE6\xC3\x9C\xAC\xE2\xCF\x83a",
-            0,
-            (0, 9),
-            true,
-            Some((0, 1)),
-        ),
-        (
-            BytesMode::Unicode,
-            "(?:b?μ|c)σa??",
-            b"c\xCF\x83c\xA9\xCF\x83ab\x80\xCE\xBC\xCF\x83",
-            5,
-            (5, 13),
-            false,
-            None,
-        ),
-        (
-            BytesMode::Unicode,
-            "a|\\[a",
-            b"[aa[a",
-            0,
-            (0, 5),
-            false,
-            Some((0, 2)),
-        ),
-        (
-            BytesMode::Unicode,
-            "b",
-            b"bbab\xC3",
-            0,
-            (3, 5),
-            true,
-            Some((3, 4)),
-        ),
-        (
-            BytesMode::UnicodeBytes,
-            "ẞ?a??|😀Kx",
-            b"_\xC3\xE2\x89a",
-            0,
-            (3, 4),
-            true,
-            Some((3, 3)),
-        ),
-        (
-            BytesMode::Ascii,
-            "x??(?:σ?\\^)??\\\"??",
-            b"",
-            0,
-            (0, 0),
-            true,
-            Some((0, 0)),
-        ),
-        (
-            BytesMode::Ascii,
-            "a",
-            b"\xA9a\x80",
-            0,
-            (0, 3),
-            false,
-            Some((1, 2)),
-        ),
-        (
-            BytesMode::UnicodeBytes,
-            "asc(?:b??c|Σ(?:ẞ)|µc)",
-            b"-\xC2\xB5asacbcasc\xCE\xA3\xE1\xBA\x9E",
-            0,
-            (0, 17),
-            false,
-            Some((9, 17)),
-        ),
-        (
-            BytesMode::UnicodeBytes,
-            "c?a?|",
-            b"cbab",
-            1,
-            (1, 4),
-            false,
-            Some((1, 1)),
-        ),
-        (
-            BytesMode::Unicode,
-            "x?(?:a??c??)a",
-            b"aaca",
-            1,
-            (0, 4),
-            false,
-            Some((1, 2)),
-        ),
-        (
-            BytesMode::Unicode,
-            "c|a(?:a?)??aa?|aca",
-            b"aca",
-            2,
-            (0, 3),
-            true,
-            None,
-        ),
-        (
-            BytesMode::Unicode,
-            "(?:aa??)b",
-            b"ab",
-            0,
-            (0, 2),
-            true,
-            Some((0, 2)),
-        ),
-        (
-            BytesMode::Ascii,
-            "c(?:x\\|?)",
-            b"\xE2\x80aaa\x80",
-            5,
-            (0, 6),
-            true,
-            None,
-        ),
-        (
-            BytesMode::Ascii,
-            "b",
-            b"ca\x80\xA9\xFF",
-            1,
-            (0, 5),
-            false,
-            None,
-        ),
-        (
-            BytesMode::UnicodeBytes,
-            "b??a",
-            b"baba",
-            1,
-            (0, 4),
-            true,
-            Some((1, 2)),
-        ),
-        (
-            BytesMode::Ascii,
-            "c?",
-            b"\x80a",
-            1,
-            (1, 2),
-            false,
-            Some((1, 1)),
-        ),
-    ];
-    for row in &rows {
-        let found: Option<MatchBytes<'_>> = searched(&rt, rt.alloc(), row)?;
-        assert_eq!(rt;
-            found.map(|m| (m.start(), m.end())),
-            row.6,
-            "{} on {:?}",
-            row.1,
-            row.2
-        );
+    for row in BYTES {
+        let found = searched(&rt, rt.alloc(), row)?;
+        assert_eq!(rt; found.map(span_of_bytes), row.6, "{} on {:?}", row.1, row.2);
     }
     Ok(())
 }
@@ -539,9 +267,15 @@ fn searches_each_form(rt: HostRuntime) -> Result<(), Fail> {
     let alloc = rt.alloc();
     let regex = Regex::new(alloc, "b")?;
     let owned = String::from_str(alloc, "ab")?;
-    assert_eq!(rt; regex.find("ab")?.map(|m| m.start()), Some(1));
-    assert_eq!(rt; regex.find(&owned)?.map(|m| m.start()), Some(1));
-    assert_eq!(rt; regex.find(b"ab")?.map(|m| m.start()), Some(1));
+    assert_eq!(rt; regex.find("ab")?.map(span), Some((1, 2)));
+    assert_eq!(rt; regex.find(&owned)?.map(span), Some((1, 2)));
+    assert_eq!(rt; regex.find(b"ab")?.map(span_of_bytes), Some((1, 2)));
+    Ok(())
+}
+
+#[test]
+fn searches_bytes_from_a_start(rt: HostRuntime) -> Result<(), Fail> {
+    let regex = Regex::new(rt.alloc(), "b")?;
     let bytes: &[u8] = b"ab";
     let found = regex.find_from_pos(bytes, 1)?.ok_or("no match")?;
     assert_eq!(rt; found.as_bytes(), b"b".as_slice());
@@ -549,17 +283,23 @@ fn searches_each_form(rt: HostRuntime) -> Result<(), Fail> {
     Ok(())
 }
 
+fn may_start(regex: &Regex, haystack: &str, start: usize) -> bool {
+    regex.can_search(&RegexInput::new(haystack).from_pos(start))
+}
+
 #[test]
-fn says_what_may_be_searched(rt: HostRuntime) -> Result<(), Fail> {
-    let alloc = rt.alloc();
-    let by_characters = Regex::new(alloc, "a")?;
-    let inside = RegexInput::new("é").from_pos(1);
-    assert!(rt; !by_characters.can_search(&inside));
-    let past = RegexInput::new("é").from_pos(3);
-    assert!(rt; by_characters.can_search(&past));
-    let by_bytes = regex_of(alloc, BytesMode::Ascii, "a")?;
-    assert!(rt; !by_bytes.can_search(&RegexInput::new("é")));
-    assert!(rt; by_bytes.can_search(&RegexInput::new("e")));
+fn says_where_text_may_be_searched(rt: HostRuntime) -> Result<(), Fail> {
+    let by_characters = Regex::new(rt.alloc(), "a")?;
+    assert!(rt; !may_start(&by_characters, "é", 1));
+    assert!(rt; may_start(&by_characters, "é", 3));
+    Ok(())
+}
+
+#[test]
+fn says_what_may_be_searched_by_bytes(rt: HostRuntime) -> Result<(), Fail> {
+    let by_bytes = regex_of(rt.alloc(), BytesMode::Ascii, "a")?;
+    assert!(rt; !may_start(&by_bytes, "é", 0));
+    assert!(rt; may_start(&by_bytes, "e", 0));
     let bytes: &[u8] = b"\xC3\xA9";
     assert!(rt; by_bytes.can_search(&RegexInput::new(bytes).from_pos(1)));
     assert!(rt; BytesMode::default() == BytesMode::Unicode);

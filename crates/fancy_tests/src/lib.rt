@@ -8,6 +8,8 @@ mod builders;
 #[cfg(test)]
 mod captures;
 #[cfg(test)]
+mod combined;
+#[cfg(test)]
 mod dialect;
 #[cfg(test)]
 mod escapes;
@@ -23,6 +25,8 @@ mod names;
 mod options;
 #[cfg(test)]
 mod overrides;
+#[cfg(test)]
+mod readme;
 #[cfg(test)]
 mod refusals;
 #[cfg(test)]

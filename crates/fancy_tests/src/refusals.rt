@@ -1,10 +1,15 @@
 //! What is refused, and why.
 
-use crate::asking::{ASCII_TEXT, BYTES, BYTES_WITHOUT_UNICODE, Mode, read};
+use crate::asking::{
+    ASCII_TEXT, BYTES, BYTES_WITHOUT_UNICODE, Mode, is_too_deep, read, read_nested,
+};
 use fancy_regex::{CompileError, Error, ParseErrorKind, Regex};
 use std::alloc::Global;
 use std::process::Abort;
 use std::test::Fail;
+
+/// A pattern, and the kind of its fault.
+type Fault = (&'static str, ParseErrorKind);
 
 fn check_kind(
     rt: &impl Abort,
@@ -19,94 +24,125 @@ fn check_kind(
     Ok(())
 }
 
+const FAULTY_PATTERNS: &[Fault] = &[
+    ("a)", ParseErrorKind::GeneralParseError),
+    ("(?:a", ParseErrorKind::UnclosedOpenParen),
+    ("(a", ParseErrorKind::UnclosedOpenParen),
+    ("a(?#b", ParseErrorKind::UnclosedOpenParen),
+    ("(?=a)", ParseErrorKind::NotInProfile),
+    ("a*+", ParseErrorKind::NotInProfile),
+    ("(?z)", ParseErrorKind::UnknownFlag),
+    ("(?)", ParseErrorKind::UnknownFlag),
+    ("(?i-)", ParseErrorKind::UnknownFlag),
+    ("(?i-m-s)", ParseErrorKind::UnknownFlag),
+    ("(?P!a)", ParseErrorKind::UnknownFlag),
+    ("(?-u)", ParseErrorKind::ChangingUnicodeModeUnsupported),
+    ("(?<>a)", ParseErrorKind::InvalidGroupName),
+];
+
 #[test]
 fn patterns_of_one_fault(rt: HostRuntime) -> Result<(), Fail> {
-    let rows = [
-        ("a)", ParseErrorKind::GeneralParseError),
-        ("(?:a", ParseErrorKind::UnclosedOpenParen),
-        ("(a", ParseErrorKind::UnclosedOpenParen),
-        ("a(?#b", ParseErrorKind::UnclosedOpenParen),
-        ("(?=a)", ParseErrorKind::NotInProfile),
-        ("a*+", ParseErrorKind::NotInProfile),
-        ("(?z)", ParseErrorKind::UnknownFlag),
-        ("(?)", ParseErrorKind::UnknownFlag),
-        ("(?i-)", ParseErrorKind::UnknownFlag),
-        ("(?i-m-s)", ParseErrorKind::UnknownFlag),
-        ("(?-u)", ParseErrorKind::ChangingUnicodeModeUnsupported),
-    ];
     let alloc = rt.alloc();
-    for (pattern, kind) in &rows {
+    for (pattern, kind) in FAULTY_PATTERNS {
         check_kind(&rt, alloc, pattern, *kind)?;
     }
     Ok(())
 }
+
+const FAULTY_REPEATS: &[Fault] = &[
+    ("?a", ParseErrorKind::TargetNotRepeatable),
+    ("{2}", ParseErrorKind::TargetNotRepeatable),
+    ("(?:)?", ParseErrorKind::TargetNotRepeatable),
+    ("(?:)+", ParseErrorKind::TargetNotRepeatable),
+    ("(?i)*", ParseErrorKind::TargetNotRepeatable),
+    ("a???", ParseErrorKind::TargetNotRepeatable),
+    ("a{3}{2}", ParseErrorKind::TargetNotRepeatable),
+    ("(?x)a+ +", ParseErrorKind::TargetNotRepeatable),
+    ("x{3,1}", ParseErrorKind::InvalidRepeat),
+    ("a{4294967296}", ParseErrorKind::InvalidRepeat),
+    ("a{,4294967296}", ParseErrorKind::InvalidRepeat),
+];
 
 #[test]
 fn repeats_of_one_fault(rt: HostRuntime) -> Result<(), Fail> {
-    let rows = [
-        ("?a", ParseErrorKind::TargetNotRepeatable),
-        ("{2}", ParseErrorKind::TargetNotRepeatable),
-        ("(?:)?", ParseErrorKind::TargetNotRepeatable),
-        ("(?:)+", ParseErrorKind::TargetNotRepeatable),
-        ("(?i)*", ParseErrorKind::TargetNotRepeatable),
-        ("a???", ParseErrorKind::TargetNotRepeatable),
-        ("a{3}{2}", ParseErrorKind::TargetNotRepeatable),
-        ("(?x)a+ +", ParseErrorKind::TargetNotRepeatable),
-        ("x{3,1}", ParseErrorKind::InvalidRepeat),
-        ("a{4294967296}", ParseErrorKind::InvalidRepeat),
-    ];
     let alloc = rt.alloc();
-    for (pattern, kind) in &rows {
+    for (pattern, kind) in FAULTY_REPEATS {
         check_kind(&rt, alloc, pattern, *kind)?;
     }
     Ok(())
 }
+
+const FAULTY_ESCAPES: &[Fault] = &[
+    ("a\\", ParseErrorKind::TrailingBackslash),
+    ("\\q", ParseErrorKind::InvalidEscape),
+    ("\\0", ParseErrorKind::InvalidEscape),
+    ("\\ka", ParseErrorKind::InvalidEscape),
+    ("\\é", ParseErrorKind::InvalidEscape),
+    ("\\xZ", ParseErrorKind::InvalidHex),
+    ("\\x", ParseErrorKind::InvalidHex),
+    ("\\x{000000041}", ParseErrorKind::InvalidHex),
+    ("\\u12", ParseErrorKind::InvalidHex),
+    ("\\x{110000}", ParseErrorKind::InvalidCodepointValue),
+    ("\\u{}", ParseErrorKind::InvalidHex),
+    ("\\uD800", ParseErrorKind::InvalidCodepointValue),
+    ("\\U0011FFFF", ParseErrorKind::InvalidCodepointValue),
+    ("\\R", ParseErrorKind::NotInProfile),
+    ("\\X", ParseErrorKind::NotInProfile),
+    ("\\g", ParseErrorKind::NotInProfile),
+];
 
 #[test]
 fn escapes_of_one_fault(rt: HostRuntime) -> Result<(), Fail> {
-    let rows = [
-        ("a\\", ParseErrorKind::TrailingBackslash),
-        ("\\q", ParseErrorKind::InvalidEscape),
-        ("\\0", ParseErrorKind::InvalidEscape),
-        ("\\ka", ParseErrorKind::InvalidEscape),
-        ("\\é", ParseErrorKind::InvalidEscape),
-        ("\\xZ", ParseErrorKind::InvalidHex),
-        ("\\x", ParseErrorKind::InvalidHex),
-        ("\\x{000000041}", ParseErrorKind::InvalidHex),
-        ("\\u12", ParseErrorKind::InvalidHex),
-        ("\\x{110000}", ParseErrorKind::InvalidCodepointValue),
-        ("\\uD800", ParseErrorKind::InvalidCodepointValue),
-        ("\\R", ParseErrorKind::NotInProfile),
-        ("\\X", ParseErrorKind::NotInProfile),
-        ("\\g", ParseErrorKind::NotInProfile),
-    ];
     let alloc = rt.alloc();
-    for (pattern, kind) in &rows {
+    for (pattern, kind) in FAULTY_ESCAPES {
         check_kind(&rt, alloc, pattern, *kind)?;
     }
     Ok(())
 }
 
+const FAULTY_CLASSES: &[Fault] = &[
+    ("[b-a]", ParseErrorKind::InvalidClass),
+    ("[a", ParseErrorKind::InvalidClass),
+    ("[]", ParseErrorKind::InvalidClass),
+    ("[^]", ParseErrorKind::InvalidClass),
+    ("[[:nope:]]", ParseErrorKind::InvalidClass),
+    ("[a-&&b]", ParseErrorKind::InvalidClass),
+    ("[a-[b]]", ParseErrorKind::InvalidClass),
+    ("[a-\\d]", ParseErrorKind::InvalidClass),
+    ("\\p{Nope}", ParseErrorKind::InvalidClass),
+    ("\\p", ParseErrorKind::InvalidClass),
+    ("\\p{L", ParseErrorKind::InvalidClass),
+    ("\\p{é}", ParseErrorKind::InvalidClass),
+    ("\\p{sc=Greek}", ParseErrorKind::NotInProfile),
+    ("[\\q]", ParseErrorKind::InvalidEscape),
+    ("[\\xZ]", ParseErrorKind::InvalidHex),
+];
+
 #[test]
 fn classes_of_one_fault(rt: HostRuntime) -> Result<(), Fail> {
-    let rows = [
-        ("[b-a]", ParseErrorKind::InvalidClass),
-        ("[a", ParseErrorKind::InvalidClass),
-        ("[]", ParseErrorKind::InvalidClass),
-        ("[^]", ParseErrorKind::InvalidClass),
-        ("[[:nope:]]", ParseErrorKind::InvalidClass),
-        ("[a-&&b]", ParseErrorKind::InvalidClass),
-        ("[a-[b]]", ParseErrorKind::InvalidClass),
-        ("\\p{Nope}", ParseErrorKind::InvalidClass),
-        ("\\p", ParseErrorKind::InvalidClass),
-        ("\\p{L", ParseErrorKind::InvalidClass),
-        ("\\p{é}", ParseErrorKind::InvalidClass),
-        ("\\p{sc=Greek}", ParseErrorKind::NotInProfile),
-        ("[\\q]", ParseErrorKind::InvalidEscape),
-        ("[\\xZ]", ParseErrorKind::InvalidHex),
-    ];
     let alloc = rt.alloc();
-    for (pattern, kind) in &rows {
+    for (pattern, kind) in FAULTY_CLASSES {
+        check_kind(&rt, alloc, pattern, *kind)?;
+    }
+    Ok(())
+}
+
+const LEFT_OUT: &[Fault] = &[
+    ("(*FAIL)", ParseErrorKind::NotInProfile),
+    ("(?~a)", ParseErrorKind::NotInProfile),
+    ("(?&n)", ParseErrorKind::NotInProfile),
+    ("(?P>n)", ParseErrorKind::NotInProfile),
+    ("(?1)", ParseErrorKind::NotInProfile),
+    ("(?+1)", ParseErrorKind::NotInProfile),
+    ("(?-1)", ParseErrorKind::NotInProfile),
+    ("(?(DEFINE)a)", ParseErrorKind::NotInProfile),
+    ("(?(?=a)b)", ParseErrorKind::NotInProfile),
+];
+
+#[test]
+fn forms_that_are_left_out(rt: HostRuntime) -> Result<(), Fail> {
+    let alloc = rt.alloc();
+    for (pattern, kind) in LEFT_OUT {
         check_kind(&rt, alloc, pattern, *kind)?;
     }
     Ok(())
@@ -120,28 +156,29 @@ fn is_no_class(alloc: Global, mode: Mode, pattern: &str) -> bool {
     )
 }
 
+const NO_SETS_OF_ASCII_TEXT: &[&str] = &[
+    ".",
+    "\\O",
+    "\\N",
+    "\\W",
+    "\\D",
+    "\\S",
+    "\\H",
+    "[^a]",
+    "[[:^alpha:]]",
+    "[a[^b]]",
+    "[\\D]",
+    "[é]",
+    "[a-é]",
+    "[\\xE9]",
+    "\\p{L}",
+    "\\P{L}",
+    "[\\p{L}]",
+];
+
 #[test]
 fn ascii_text_has_no_complements(rt: HostRuntime) -> Result<(), Fail> {
-    let rows = [
-        ".",
-        "\\O",
-        "\\N",
-        "\\W",
-        "\\D",
-        "\\S",
-        "\\H",
-        "[^a]",
-        "[[:^alpha:]]",
-        "[a[^b]]",
-        "[\\D]",
-        "[é]",
-        "[a-é]",
-        "[\\xE9]",
-        "\\p{L}",
-        "\\P{L}",
-        "[\\p{L}]",
-    ];
-    for pattern in rows {
+    for pattern in NO_SETS_OF_ASCII_TEXT {
         assert!(rt; is_no_class(rt.alloc(), ASCII_TEXT, pattern), "{pattern}");
     }
     Ok(())
@@ -167,43 +204,29 @@ fn bytes_have_no_characters_past_ascii(rt: HostRuntime) -> Result<(), Fail> {
     Ok(())
 }
 
-/// So many groups that are opened so, each inside the one before.
-fn nested(alloc: Global, opening: &str, depth: usize) -> Result<String, Fail> {
-    let mut text = opening.repeat(alloc, depth)?;
-    text.push('a')?;
-    text.push_str(")".repeat(alloc, depth)?.as_str())?;
-    Ok(text)
-}
-
 #[test]
 fn groups_nest_64_deep(rt: HostRuntime) -> Result<(), Fail> {
-    let alloc = rt.alloc();
     for opening in ["(?:", "(", "(?i:"] {
-        let deepest = nested(alloc, opening, 64)?;
-        assert!(rt; Regex::new(alloc, deepest.as_str()).is_ok(), "{opening}");
-        let too_deep = nested(alloc, opening, 65)?;
-        check_kind(
-            &rt,
-            alloc,
-            too_deep.as_str(),
-            ParseErrorKind::RecursionExceeded,
-        )?;
+        let deepest = read_nested(rt.alloc(), opening, ")", 64);
+        assert!(rt; deepest.is_ok(), "{opening}");
+        let too_deep = read_nested(rt.alloc(), opening, ")", 65);
+        assert!(rt; is_too_deep(&too_deep), "{opening}");
     }
     Ok(())
 }
 
+/// What is read of so many `a`.
+fn read_many(alloc: Global, count: usize) -> fancy_regex::Result<Regex> {
+    let pattern = "a".repeat(alloc, count)?;
+    Regex::new(alloc, pattern.as_str())
+}
+
 #[test]
 fn a_pattern_has_a_million_nodes(rt: HostRuntime) -> Result<(), Fail> {
-    let alloc = rt.alloc();
-    let mut text = String::new(alloc);
-    for _ in 0..1_000_000 {
-        text.push('a')?;
-    }
-    assert!(rt; Regex::new(alloc, text.as_str()).is_ok());
-    text.push('a')?;
+    assert!(rt; read_many(rt.alloc(), 1_000_000).is_ok());
     assert!(rt;
         matches!(
-            Regex::new(alloc, text.as_str()),
+            read_many(rt.alloc(), 1_000_001),
             Err(Error::CompileError(CompileError::PatternTooComplex))
         )
     );

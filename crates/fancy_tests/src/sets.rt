@@ -1,95 +1,85 @@
 //! What classes and the other sets of characters have as members.
 
 use crate::asking::{
-    ASCII_TEXT, BYTES, BYTES_WITHOUT_UNICODE, CHARACTERS, CHARACTERS_ANYWHERE, Mode, Span, read,
-    span_in_bytes, span_in_text,
+    ASCII_TEXT, BYTES, BYTES_WITHOUT_UNICODE, BytesRow, CHARACTERS, CHARACTERS_ANYWHERE, Mode,
+    TextRow, check_bytes, check_text, is_too_deep, read, read_nested, span, span_in_bytes,
 };
-use fancy_regex::{Error, ParseErrorKind, Regex, RegexInput};
+use fancy_regex::{Regex, RegexInput};
 use std::alloc::Global;
 use std::process::Abort;
 use std::test::Fail;
 
-/// A pattern, a text, and where the first match starts and ends.
-type Row = (&'static str, &'static str, Option<Span>);
-
-fn check_text(rt: &impl Abort, alloc: Global, row: &Row) -> Result<(), Fail> {
-    let (pattern, haystack, wanted) = *row;
-    let regex = Regex::new(alloc, pattern)?;
-    let found = span_in_text(rt, &regex, RegexInput::new(haystack))?;
-    assert_eq!(rt; found, wanted, "{pattern} on {haystack}");
-    let by_bytes = span_in_bytes(rt, &regex, RegexInput::new(haystack.as_bytes()))?;
-    assert_eq!(rt; by_bytes, wanted, "{pattern} on the bytes of {haystack}");
-    Ok(())
-}
+const OPERATORS: &[TextRow] = &[
+    ("[a-z&&[^aeiou]]+", "aebcd", Some((2, 5))),
+    ("[a-c--b]+", "abc", Some((0, 1))),
+    ("[[:alpha:]&&[^b]]+", "abc", Some((0, 1))),
+    ("[a-c~~b-d]+", "bcda", Some((2, 4))),
+    ("[a&&b]", "a", None),
+    ("[a&&b]", "", None),
+    ("[^a&&b]", "a", Some((0, 1))),
+    ("[a-d--b&&c]+", "abcd", Some((2, 3))),
+    ("[&&a]", "a", None),
+    ("[a~~]", "a", Some((0, 1))),
+    ("[[a-c]x[^a-y]]+", "bxzy", Some((0, 3))),
+    ("[[[a]]]", "a", Some((0, 1))),
+    ("(?m:^)(\\d+)", "1 test 123\n2 foo", Some((0, 1))),
+];
 
 #[test]
 fn classes_have_operators(rt: HostRuntime) -> Result<(), Fail> {
-    let rows: [Row; 13] = [
-        ("[a-z&&[^aeiou]]+", "aebcd", Some((2, 5))),
-        ("[a-c--b]+", "abc", Some((0, 1))),
-        ("[[:alpha:]&&[^b]]+", "abc", Some((0, 1))),
-        ("[a-c~~b-d]+", "bcda", Some((2, 4))),
-        ("[a&&b]", "a", None),
-        ("[a&&b]", "", None),
-        ("[^a&&b]", "a", Some((0, 1))),
-        ("[a-d--b&&c]+", "abcd", Some((2, 3))),
-        ("[&&a]", "a", None),
-        ("[a~~]", "a", Some((0, 1))),
-        ("[[a-c]x[^a-y]]+", "bxzy", Some((0, 3))),
-        ("[[[a]]]", "a", Some((0, 1))),
-        ("(?m:^)(\\d+)", "1 test 123\n2 foo", Some((0, 1))),
-    ];
     let alloc = rt.alloc();
-    for row in &rows {
+    for row in OPERATORS {
         check_text(&rt, alloc, row)?;
     }
     Ok(())
 }
+
+const HYPHENS_AND_BRACKETS: &[TextRow] = &[
+    ("[]a]", "]", Some((0, 1))),
+    ("[]a]", "a", Some((0, 1))),
+    ("[^]a]", "]", None),
+    ("[a-]", "-", Some((0, 1))),
+    ("[--a]", ".", Some((0, 1))),
+    ("[--a]", ",", None),
+    ("[a---b]", "a", Some((0, 1))),
+    ("[a---b]", "b", None),
+    ("[a---b]", "-", None),
+    ("[a\\-c]+", "b-", Some((1, 2))),
+    ("[\\b]", "\u{8}", Some((0, 1))),
+    ("[a-c]", "c", Some((0, 1))),
+    ("[a-c]", "d", None),
+    ("[é-ü]", "ö", Some((0, 2))),
+];
 
 #[test]
 fn hyphens_and_brackets_have_their_places(rt: HostRuntime) -> Result<(), Fail> {
-    let rows: [Row; 14] = [
-        ("[]a]", "]", Some((0, 1))),
-        ("[]a]", "a", Some((0, 1))),
-        ("[^]a]", "]", None),
-        ("[a-]", "-", Some((0, 1))),
-        ("[--a]", ".", Some((0, 1))),
-        ("[--a]", ",", None),
-        ("[a---b]", "a", Some((0, 1))),
-        ("[a---b]", "b", None),
-        ("[a---b]", "-", None),
-        ("[a\\-c]+", "b-", Some((1, 2))),
-        ("[\\b]", "\u{8}", Some((0, 1))),
-        ("[a-c]", "c", Some((0, 1))),
-        ("[a-c]", "d", None),
-        ("[é-ü]", "ö", Some((0, 2))),
-    ];
     let alloc = rt.alloc();
-    for row in &rows {
+    for row in HYPHENS_AND_BRACKETS {
         check_text(&rt, alloc, row)?;
     }
     Ok(())
 }
 
+const WIDENED_SETS: &[TextRow] = &[
+    ("(?i)[^k]", "K", None),
+    ("(?i)[^k]", "\u{212A}", None),
+    ("(?i)[k]", "\u{212A}", Some((0, 3))),
+    ("(?i)[[:alpha:]]", "\u{17F}", Some((0, 2))),
+    ("(?i)[[:^alpha:]]", "\u{212A}", None),
+    ("(?i)[a-z--k]", "K", None),
+    ("(?i)[α-ω]", "Σ", Some((0, 2))),
+    ("(?i)\\p{Lu}", "a", Some((0, 1))),
+    ("(?i)\\P{Lu}", "a", None),
+    ("\\p{L}+", "aé1", Some((0, 3))),
+    ("\\pl", "é", Some((0, 2))),
+    ("\\PL+", "aé1", Some((3, 4))),
+    ("\\p{Greek}", "α", Some((0, 2))),
+];
+
 #[test]
 fn sets_are_widened(rt: HostRuntime) -> Result<(), Fail> {
-    let rows: [Row; 13] = [
-        ("(?i)[^k]", "K", None),
-        ("(?i)[^k]", "\u{212A}", None),
-        ("(?i)[k]", "\u{212A}", Some((0, 3))),
-        ("(?i)[[:alpha:]]", "\u{17F}", Some((0, 2))),
-        ("(?i)[[:^alpha:]]", "\u{212A}", None),
-        ("(?i)[a-z--k]", "K", None),
-        ("(?i)[α-ω]", "Σ", Some((0, 2))),
-        ("(?i)\\p{Lu}", "a", Some((0, 1))),
-        ("(?i)\\P{Lu}", "a", None),
-        ("\\p{L}+", "aé1", Some((0, 3))),
-        ("\\pl", "é", Some((0, 2))),
-        ("\\PL+", "aé1", Some((3, 4))),
-        ("\\p{Greek}", "α", Some((0, 2))),
-    ];
     let alloc = rt.alloc();
-    for row in &rows {
+    for row in WIDENED_SETS {
         check_text(&rt, alloc, row)?;
     }
     Ok(())
@@ -101,40 +91,22 @@ fn searches_a_class_from_a_start(rt: HostRuntime) -> Result<(), Fail> {
     let input = RegexInput::new("1 test 123\n2 foo").from_pos(7);
     assert!(rt; regex.can_search(&input));
     let captures = regex.captures_input(input)?.ok_or("no match")?;
-    for number in 0..2 {
-        let span = captures.get(number).map(|m| (m.start(), m.end()));
-        assert_eq!(rt; span, Some((11, 12)), "group {number}");
-    }
+    assert_eq!(rt; captures.get(0).map(span), Some((11, 12)));
+    assert_eq!(rt; captures.get(1).map(span), Some((11, 12)));
     Ok(())
-}
-
-/// So many brackets, each inside the one before.
-fn nested(alloc: Global, depth: usize) -> Result<String, Fail> {
-    let mut text = "[".repeat(alloc, depth)?;
-    text.push('a')?;
-    text.push_str("]".repeat(alloc, depth)?.as_str())?;
-    Ok(text)
 }
 
 #[test]
 fn brackets_nest_64_deep(rt: HostRuntime) -> Result<(), Fail> {
-    let alloc = rt.alloc();
-    let deepest = nested(alloc, 64)?;
-    assert!(rt; Regex::new(alloc, deepest.as_str()).is_ok());
-    let too_deep = nested(alloc, 65)?;
-    assert!(rt;
-        matches!(
-            Regex::new(alloc, too_deep.as_str()),
-            Err(Error::ParseError(_, ParseErrorKind::RecursionExceeded))
-        )
-    );
+    assert!(rt; read_nested(rt.alloc(), "[", "]", 64).is_ok());
+    assert!(rt; is_too_deep(&read_nested(rt.alloc(), "[", "]", 65)));
     Ok(())
 }
 
 /// A set, its complement, and the ranges of its members.
 type SetRow = (&'static str, &'static str, &'static [(u32, u32)]);
 
-const POSIX_SETS: [SetRow; 14] = [
+const POSIX_SETS: &[SetRow] = &[
     (
         "[[:alnum:]]",
         "[[:^alnum:]]",
@@ -168,7 +140,7 @@ const POSIX_SETS: [SetRow; 14] = [
 ];
 
 /// The sets of letters behind a backslash, with their members in ASCII.
-const LETTERED_SETS: [SetRow; 4] = [
+const LETTERED_SETS: &[SetRow] = &[
     ("\\d", "\\D", &[(0x30, 0x39)]),
     ("\\s", "\\S", &[(0x09, 0x0D), (0x20, 0x20)]),
     (
@@ -185,69 +157,112 @@ fn is_within(ranges: &[(u32, u32)], number: u32) -> bool {
         .any(|(first, last)| *first <= number && number <= *last)
 }
 
-/// Checks a set and its complement on every byte.
-fn check_every_byte(rt: &impl Abort, alloc: Global, mode: Mode, row: &SetRow) -> Result<(), Fail> {
-    let (pattern, complement, ranges) = *row;
-    let set = read(alloc, mode, pattern)?;
-    let others = read(alloc, mode, complement)?;
+/// Checks on every byte whether it is within the ranges, or outside of them where these are no members.
+fn check_every_byte(
+    rt: &impl Abort,
+    regex: &Regex,
+    ranges: &[(u32, u32)],
+    members: bool,
+) -> Result<(), Fail> {
     for byte in 0..=255u8 {
         let haystack: &[u8] = &[byte];
-        let wanted = is_within(ranges, byte as u32);
-        let found = span_in_bytes(rt, &set, RegexInput::new(haystack))?;
-        assert!(rt; found.is_some() == wanted, "{byte} in {pattern}");
-        let found = span_in_bytes(rt, &others, RegexInput::new(haystack))?;
-        assert!(rt; found.is_some() != wanted, "{byte} in {complement}");
+        let wanted = is_within(ranges, byte as u32) == members;
+        let found = span_in_bytes(rt, regex, RegexInput::new(haystack))?;
+        assert!(rt; found.is_some() == wanted, "{byte} in {}", regex.as_str());
+    }
+    Ok(())
+}
+
+fn check_set_of_bytes(
+    rt: &impl Abort,
+    alloc: Global,
+    mode: Mode,
+    row: &SetRow,
+) -> Result<(), Fail> {
+    let (pattern, complement, ranges) = *row;
+    check_every_byte(rt, &read(alloc, mode, pattern)?, ranges, true)?;
+    check_every_byte(rt, &read(alloc, mode, complement)?, ranges, false)
+}
+
+fn check_sets_of_bytes(rt: &impl Abort, alloc: Global, rows: &[SetRow]) -> Result<(), Fail> {
+    for row in rows {
+        check_set_of_bytes(rt, alloc, BYTES, row)?;
+        check_set_of_bytes(rt, alloc, BYTES_WITHOUT_UNICODE, row)?;
     }
     Ok(())
 }
 
 #[test]
 fn sets_of_bytes(rt: HostRuntime) -> Result<(), Fail> {
-    let alloc = rt.alloc();
-    for row in POSIX_SETS.iter().chain(&LETTERED_SETS) {
-        check_every_byte(&rt, alloc, BYTES, row)?;
-        check_every_byte(&rt, alloc, BYTES_WITHOUT_UNICODE, row)?;
+    check_sets_of_bytes(&rt, rt.alloc(), POSIX_SETS)?;
+    check_sets_of_bytes(&rt, rt.alloc(), LETTERED_SETS)
+}
+
+/// Checks that the pattern matches the bytes of this character, or does not.
+fn check_character(
+    rt: &impl Abort,
+    alloc: Global,
+    regex: &Regex,
+    c: char,
+    wanted: bool,
+) -> Result<(), Fail> {
+    let mut text = String::new(alloc);
+    text.push(c)?;
+    let input = RegexInput::new(text.as_str().as_bytes());
+    let found = span_in_bytes(rt, regex, input)?;
+    assert!(rt;
+        found.is_some() == wanted,
+        "{} in {}",
+        c as u32,
+        regex.as_str()
+    );
+    Ok(())
+}
+
+fn check_characters(
+    rt: &impl Abort,
+    alloc: Global,
+    regex: &Regex,
+    text: &str,
+    wanted: bool,
+) -> Result<(), Fail> {
+    for c in text.chars() {
+        check_character(rt, alloc, regex, c, wanted)?;
     }
     Ok(())
 }
 
-/// Whether the pattern matches the bytes of this character.
-fn matches(rt: &impl Abort, alloc: Global, regex: &Regex, c: char) -> Result<bool, Fail> {
-    let mut text = String::new(alloc);
-    text.push(c)?;
-    let input = RegexInput::new(text.as_str().as_bytes());
-    Ok(span_in_bytes(rt, regex, input)?.is_some())
+/// Checks a set on the first 256 characters.
+fn check_first_characters(
+    rt: &impl Abort,
+    alloc: Global,
+    regex: &Regex,
+    ranges: &[(u32, u32)],
+) -> Result<(), Fail> {
+    for byte in 0..=255u8 {
+        let wanted = is_within(ranges, byte as u32);
+        check_character(rt, alloc, regex, byte as char, wanted)?;
+    }
+    Ok(())
 }
 
-/// Checks a set on the first 256 characters, and on some others, which it lacks.
-fn check_in_ascii(rt: &impl Abort, alloc: Global, mode: Mode, row: &SetRow) -> Result<(), Fail> {
-    let (pattern, _, ranges) = *row;
-    let set = read(alloc, mode, pattern)?;
-    for number in 0..256u32 {
-        let c = char::from_u32(number).ok_or("no character")?;
-        let wanted = is_within(ranges, number);
-        assert!(rt;
-            matches(rt, alloc, &set, c)? == wanted,
-            "{number} in {pattern}"
-        );
-    }
-    for c in "\u{660}\u{3000}\u{FF21}\u{FF3F}\u{1D7CE}\u{10FFFF}".chars() {
-        assert!(rt; !matches(rt, alloc, &set, c)?, "{c} in {pattern}");
+/// Checks sets on the first 256 characters, and on some others, which they lack.
+fn check_in_ascii(rt: &impl Abort, alloc: Global, mode: Mode, rows: &[SetRow]) -> Result<(), Fail> {
+    let others = "\u{660}\u{3000}\u{FF21}\u{FF3F}\u{1D7CE}\u{10FFFF}";
+    for &(pattern, _, ranges) in rows {
+        let set = read(alloc, mode, pattern)?;
+        check_first_characters(rt, alloc, &set, ranges)?;
+        check_characters(rt, alloc, &set, others, false)?;
     }
     Ok(())
 }
 
 #[test]
 fn sets_of_ascii(rt: HostRuntime) -> Result<(), Fail> {
-    let alloc = rt.alloc();
-    for row in POSIX_SETS.iter().chain(&LETTERED_SETS) {
-        check_in_ascii(&rt, alloc, ASCII_TEXT, row)?;
-    }
-    for row in &POSIX_SETS {
-        check_in_ascii(&rt, alloc, CHARACTERS, row)?;
-        check_in_ascii(&rt, alloc, CHARACTERS_ANYWHERE, row)?;
-    }
-    Ok(())
+    check_in_ascii(&rt, rt.alloc(), ASCII_TEXT, POSIX_SETS)?;
+    check_in_ascii(&rt, rt.alloc(), ASCII_TEXT, LETTERED_SETS)?;
+    check_in_ascii(&rt, rt.alloc(), CHARACTERS, POSIX_SETS)?;
+    check_in_ascii(&rt, rt.alloc(), CHARACTERS_ANYWHERE, POSIX_SETS)
 }
 
 /// A set, its complement, characters that are members, and characters that are none.
@@ -262,62 +277,50 @@ fn check_edges(
     wanted: bool,
 ) -> Result<(), Fail> {
     for mode in [CHARACTERS, CHARACTERS_ANYWHERE] {
-        let set = read(alloc, mode, patterns.0)?;
-        let others = read(alloc, mode, patterns.1)?;
-        for c in text.chars() {
-            let number = c as u32;
-            assert!(rt;
-                matches(rt, alloc, &set, c)? == wanted,
-                "{number} in {}",
-                patterns.0
-            );
-            assert!(rt;
-                matches(rt, alloc, &others, c)? != wanted,
-                "{number} in {}",
-                patterns.1
-            );
-        }
+        check_characters(rt, alloc, &read(alloc, mode, patterns.0)?, text, wanted)?;
+        check_characters(rt, alloc, &read(alloc, mode, patterns.1)?, text, !wanted)?;
     }
     Ok(())
 }
 
+const EDGES: &[EdgeRow] = &[
+    (
+        "\\d",
+        "\\D",
+        "09\u{660}\u{669}\u{966}\u{96F}\u{FF10}\u{FF19}\u{1D7CE}\u{1D7FF}",
+        "/:\u{65F}\u{66A}\u{B2}\u{B9}\u{2160}\u{FF1A}\u{1D7CD}\u{1D800}\u{10FFFF}",
+    ),
+    (
+        "\\s",
+        "\\S",
+        "\t\n\u{B}\u{C}\r \u{85}\u{A0}\u{1680}\u{2000}\u{200A}\u{2028}\u{2029}\u{202F}\u{205F}\u{3000}",
+        "\0\u{8}\u{E}\u{1C}\u{1F}!\u{84}\u{86}\u{9F}\u{A1}\u{167F}\u{1681}\u{180E}\u{1FFF}\u{200B}\u{FEFF}",
+    ),
+    (
+        "\\S",
+        "\\s",
+        "\u{2027}\u{202A}\u{202E}\u{2030}\u{205E}\u{2060}\u{2FFF}\u{3001}\u{D7FF}\u{E000}\u{10FFFF}",
+        " ",
+    ),
+    (
+        "\\w",
+        "\\W",
+        "09AZ_az\u{AA}\u{B5}\u{BA}\u{C0}\u{D6}\u{D8}\u{F6}\u{F8}\u{2C1}\u{300}\u{488}\u{660}\u{903}",
+        "/:@[^`{\u{A9}\u{AB}\u{B2}\u{B4}\u{B6}\u{B9}\u{BB}\u{BF}\u{D7}\u{F7}\u{2C2}\u{2FF}",
+    ),
+    (
+        "\\w",
+        "\\W",
+        "\u{200C}\u{200D}\u{203F}\u{2040}\u{2160}\u{24B6}\u{4E00}\u{FF3F}\u{1D7FF}\u{1F130}",
+        "\u{200B}\u{200E}\u{203E}\u{2041}\u{2460}\u{D7FF}\u{E000}\u{1F600}\u{10FFFF}",
+    ),
+    ("\\h", "\\H", "09AFaf", "/:@G`g\u{660}\u{FF21}\u{10FFFF}"),
+];
+
 #[test]
 fn sets_of_unicode(rt: HostRuntime) -> Result<(), Fail> {
-    let rows: [EdgeRow; 6] = [
-        (
-            "\\d",
-            "\\D",
-            "09\u{660}\u{669}\u{966}\u{96F}\u{FF10}\u{FF19}\u{1D7CE}\u{1D7FF}",
-            "/:\u{65F}\u{66A}\u{B2}\u{B9}\u{2160}\u{FF1A}\u{1D7CD}\u{1D800}\u{10FFFF}",
-        ),
-        (
-            "\\s",
-            "\\S",
-            "\t\n\u{B}\u{C}\r \u{85}\u{A0}\u{1680}\u{2000}\u{200A}\u{2028}\u{2029}\u{202F}\u{205F}\u{3000}",
-            "\0\u{8}\u{E}\u{1C}\u{1F}!\u{84}\u{86}\u{9F}\u{A1}\u{167F}\u{1681}\u{180E}\u{1FFF}\u{200B}\u{FEFF}",
-        ),
-        (
-            "\\S",
-            "\\s",
-            "\u{2027}\u{202A}\u{202E}\u{2030}\u{205E}\u{2060}\u{2FFF}\u{3001}\u{D7FF}\u{E000}\u{10FFFF}",
-            " ",
-        ),
-        (
-            "\\w",
-            "\\W",
-            "09AZ_az\u{AA}\u{B5}\u{BA}\u{C0}\u{D6}\u{D8}\u{F6}\u{F8}\u{2C1}\u{300}\u{488}\u{660}\u{903}",
-            "/:@[^`{\u{A9}\u{AB}\u{B2}\u{B4}\u{B6}\u{B9}\u{BB}\u{BF}\u{D7}\u{F7}\u{2C2}\u{2FF}",
-        ),
-        (
-            "\\w",
-            "\\W",
-            "\u{200C}\u{200D}\u{203F}\u{2040}\u{2160}\u{24B6}\u{4E00}\u{FF3F}\u{1D7FF}\u{1F130}",
-            "\u{200B}\u{200E}\u{203E}\u{2041}\u{2460}\u{D7FF}\u{E000}\u{1F600}\u{10FFFF}",
-        ),
-        ("\\h", "\\H", "09AFaf", "/:@G`g\u{660}\u{FF21}\u{10FFFF}"),
-    ];
     let alloc = rt.alloc();
-    for (set, complement, members, others) in rows {
+    for &(set, complement, members, others) in EDGES {
         check_edges(&rt, alloc, (set, complement), members, true)?;
         check_edges(&rt, alloc, (set, complement), others, false)?;
     }
@@ -327,7 +330,7 @@ fn sets_of_unicode(rt: HostRuntime) -> Result<(), Fail> {
 #[test]
 fn complements_have_all_of_unicode(rt: HostRuntime) -> Result<(), Fail> {
     let alloc = rt.alloc();
-    for (set, complement, _) in &POSIX_SETS {
+    for &(set, complement, _) in POSIX_SETS {
         check_edges(
             &rt,
             alloc,
@@ -339,29 +342,26 @@ fn complements_have_all_of_unicode(rt: HostRuntime) -> Result<(), Fail> {
     Ok(())
 }
 
-/// How items are read, a pattern, bytes, and where the first match starts and ends.
-type BytesRow = (Mode, &'static str, &'static [u8], Option<Span>);
+const ITEMS: &[BytesRow] = &[
+    (CHARACTERS, "[^a]", b"\xC0\x80", None),
+    (CHARACTERS, "[^a]", b"\xED\xA0\x80", None),
+    (CHARACTERS_ANYWHERE, "\\W", b"\xED\xA0\x80", None),
+    (CHARACTERS_ANYWHERE, "[\\xE9]", b"\xE9", None),
+    (CHARACTERS_ANYWHERE, "[\\xE9]", b"\xC3\xA9", Some((0, 2))),
+    (BYTES, "[\\xE9]", b"\xE9", Some((0, 1))),
+    (BYTES, "[\\x80-\\xFF]+", b"\xC3\xA9a", Some((0, 2))),
+    (BYTES, "[^a]", b"\xC3", Some((0, 1))),
+    (BYTES, "(?i)[k]", b"K", Some((0, 1))),
+    (BYTES, "(?i)[^k]", b"K", None),
+    (ASCII_TEXT, "[a-z]+", b"\xC3\xA9ab", Some((2, 4))),
+    (ASCII_TEXT, "(?i)[k]", b"\xE2\x84\xAAK", Some((3, 4))),
+];
 
 #[test]
 fn items_of_sets_are_characters_or_bytes(rt: HostRuntime) -> Result<(), Fail> {
-    let rows: [BytesRow; 12] = [
-        (CHARACTERS, "[^a]", b"\xC0\x80", None),
-        (CHARACTERS, "[^a]", b"\xED\xA0\x80", None),
-        (CHARACTERS_ANYWHERE, "\\W", b"\xED\xA0\x80", None),
-        (CHARACTERS_ANYWHERE, "[\\xE9]", b"\xE9", None),
-        (CHARACTERS_ANYWHERE, "[\\xE9]", b"\xC3\xA9", Some((0, 2))),
-        (BYTES, "[\\xE9]", b"\xE9", Some((0, 1))),
-        (BYTES, "[\\x80-\\xFF]+", b"\xC3\xA9a", Some((0, 2))),
-        (BYTES, "[^a]", b"\xC3", Some((0, 1))),
-        (BYTES, "(?i)[k]", b"K", Some((0, 1))),
-        (BYTES, "(?i)[^k]", b"K", None),
-        (ASCII_TEXT, "[a-z]+", b"\xC3\xA9ab", Some((2, 4))),
-        (ASCII_TEXT, "(?i)[k]", b"\xE2\x84\xAAK", Some((3, 4))),
-    ];
-    for (mode, pattern, haystack, wanted) in rows {
-        let regex = read(rt.alloc(), mode, pattern)?;
-        let found = span_in_bytes(&rt, &regex, RegexInput::new(haystack))?;
-        assert_eq!(rt; found, wanted, "{pattern}");
+    let alloc = rt.alloc();
+    for row in ITEMS {
+        check_bytes(&rt, alloc, row)?;
     }
     Ok(())
 }

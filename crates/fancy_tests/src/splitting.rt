@@ -2,7 +2,7 @@
 //!
 //! The first rows of each table were worked out by hand, the others by an independent model of the search.
 
-use fancy_regex::{BytesMode, Regex, RegexOptionsBuilder};
+use fancy_regex::{BytesMode, Regex, RegexOptionsBuilder, Split, SplitN};
 use std::alloc::Global;
 use std::process::Abort;
 use std::test::Fail;
@@ -32,91 +32,113 @@ fn check_limited_row(rt: &impl Abort, alloc: Global, row: &LimitedRow) -> Result
     Ok(())
 }
 
+const PIECES: &[Row] = &[
+    ("", "123", &["", "1", "2", "3", ""]),
+    (",", "1,2,3", &["1", "2", "3"]),
+    ("a|ab", "xabab", &["x", "b", "b"]),
+    ("a", "", &[""]),
+    ("", "", &["", ""]),
+    ("x", "aé", &["aé"]),
+    ("a", "a", &["", ""]),
+    ("a", "aba", &["", "b", ""]),
+    ("(?: |\t)+", "a b \t  c\td    e", &["a", "b", "c", "d", "e"]),
+    ("é", "aéb", &["a", "b"]),
+    ("", "aé", &["", "a", "é", ""]),
+    ("a*", "", &["", ""]),
+    ("a*", "baa", &["", "b", ""]),
+    ("a|", "baa", &["", "b", "", ""]),
+    ("a|", "aab", &["", "", "b", ""]),
+    ("(?:aa)?", "baaa", &["", "b", "a", ""]),
+    ("a{2}", "aaaaa", &["", "", "a"]),
+    (",+?", "1,,2", &["1", "", "2"]),
+    ("(a)(b)?", "abcab", &["", "c", ""]),
+    ("^", "ab", &["", "ab"]),
+    ("(?m)^", "a\nb", &["", "a\n", "b"]),
+    ("(?m)$", "a\nb", &["a", "\nb", ""]),
+];
+
 #[test]
 fn splits_at_matches(rt: HostRuntime) -> Result<(), Fail> {
-    let rows: [Row; 22] = [
-        ("", "123", &["", "1", "2", "3", ""]),
-        (",", "1,2,3", &["1", "2", "3"]),
-        ("a|ab", "xabab", &["x", "b", "b"]),
-        ("a", "", &[""]),
-        ("", "", &["", ""]),
-        ("x", "aé", &["aé"]),
-        ("a", "a", &["", ""]),
-        ("a", "aba", &["", "b", ""]),
-        ("(?: |\t)+", "a b \t  c\td    e", &["a", "b", "c", "d", "e"]),
-        ("é", "aéb", &["a", "b"]),
-        ("", "aé", &["", "a", "é", ""]),
-        ("a*", "", &["", ""]),
-        ("a*", "baa", &["", "b", ""]),
-        ("a|", "baa", &["", "b", "", ""]),
-        ("a|", "aab", &["", "", "b", ""]),
-        ("(?:aa)?", "baaa", &["", "b", "a", ""]),
-        ("a{2}", "aaaaa", &["", "", "a"]),
-        (",+?", "1,,2", &["1", "", "2"]),
-        ("(a)(b)?", "abcab", &["", "c", ""]),
-        ("^", "ab", &["", "ab"]),
-        ("(?m)^", "a\nb", &["", "a\n", "b"]),
-        ("(?m)$", "a\nb", &["a", "\nb", ""]),
-    ];
     let alloc = rt.alloc();
-    for row in &rows {
+    for row in PIECES {
         check_row(&rt, alloc, row)?;
     }
     Ok(())
 }
 
+const FIRST_PIECES: &[LimitedRow] = &[
+    ("", "123", 0, &[]),
+    (",", "1,2,3", 1, &["1,2,3"]),
+    (",", "1,2,3", 2, &["1", "2,3"]),
+    (",", "1,2,3", 3, &["1", "2", "3"]),
+    (",", "1,2,3", usize::MAX, &["1", "2", "3"]),
+    (
+        "(?: |\t)+",
+        "a b \t  c\td    e",
+        3,
+        &["a", "b", "c\td    e"],
+    ),
+    ("a|ab", "xabab", 2, &["x", "bab"]),
+    ("", "", 0, &[]),
+    ("", "", 1, &[""]),
+    ("", "", 2, &["", ""]),
+    ("a", "", 2, &[""]),
+    ("x", "aé", 1, &["aé"]),
+    ("x", "aé", 2, &["aé"]),
+    ("a", "aba", 2, &["", "ba"]),
+    ("a", "aba", 3, &["", "b", ""]),
+    ("", "aé", 3, &["", "a", "é"]),
+    ("a|", "baa", 3, &["", "b", "a"]),
+    ("a*", "baa", 2, &["", "baa"]),
+    ("(a)(b)?", "abcab", 2, &["", "cab"]),
+];
+
 #[test]
 fn splits_up_to_a_limit(rt: HostRuntime) -> Result<(), Fail> {
-    let rows: [LimitedRow; 19] = [
-        ("", "123", 0, &[]),
-        (",", "1,2,3", 1, &["1,2,3"]),
-        (",", "1,2,3", 2, &["1", "2,3"]),
-        (",", "1,2,3", 3, &["1", "2", "3"]),
-        (",", "1,2,3", usize::MAX, &["1", "2", "3"]),
-        (
-            "(?: |\t)+",
-            "a b \t  c\td    e",
-            3,
-            &["a", "b", "c\td    e"],
-        ),
-        ("a|ab", "xabab", 2, &["x", "bab"]),
-        ("", "", 0, &[]),
-        ("", "", 1, &[""]),
-        ("", "", 2, &["", ""]),
-        ("a", "", 2, &[""]),
-        ("x", "aé", 1, &["aé"]),
-        ("x", "aé", 2, &["aé"]),
-        ("a", "aba", 2, &["", "ba"]),
-        ("a", "aba", 3, &["", "b", ""]),
-        ("", "aé", 3, &["", "a", "é"]),
-        ("a|", "baa", 3, &["", "b", "a"]),
-        ("a*", "baa", 2, &["", "baa"]),
-        ("(a)(b)?", "abcab", 2, &["", "cab"]),
-    ];
     let alloc = rt.alloc();
-    for row in &rows {
+    for row in FIRST_PIECES {
         check_limited_row(&rt, alloc, row)?;
     }
     Ok(())
 }
 
+/// Whether a split has ended, and stays so.
+fn has_ended(mut split: Split<'_, '_>) -> bool {
+    split.next().is_none() && split.next().is_none()
+}
+
+/// Whether a limited split has ended, and stays so.
+fn has_ended_by_limit(mut split: SplitN<'_, '_>) -> bool {
+    split.next().is_none() && split.next().is_none()
+}
+
 #[test]
 fn an_ended_split_stays_ended(rt: HostRuntime) -> Result<(), Fail> {
-    let alloc = rt.alloc();
-    let regex = Regex::new(alloc, ",")?;
+    let regex = Regex::new(rt.alloc(), ",")?;
     let mut split = regex.split("1,2");
     assert_eq!(rt; split.next().ok_or("no piece")??, "1");
     assert_eq!(rt; split.next().ok_or("no piece")??, "2");
-    assert!(rt; split.next().is_none() && split.next().is_none());
+    assert!(rt; has_ended(split));
+    Ok(())
+}
+
+#[test]
+fn a_split_without_its_limit_stays_ended(rt: HostRuntime) -> Result<(), Fail> {
+    let regex = Regex::new(rt.alloc(), ",")?;
     let mut split = regex.splitn("1,2", 9);
     assert_eq!(rt; split.next().ok_or("no piece")??, "1");
     assert_eq!(rt; split.next().ok_or("no piece")??, "2");
-    assert!(rt; split.next().is_none() && split.next().is_none());
+    assert!(rt; has_ended_by_limit(split));
+    Ok(())
+}
+
+#[test]
+fn a_limited_split_stays_ended(rt: HostRuntime) -> Result<(), Fail> {
+    let regex = Regex::new(rt.alloc(), ",")?;
     let mut split = regex.splitn("1,2", 1);
     assert_eq!(rt; split.next().ok_or("no piece")??, "1,2");
-    assert!(rt; split.next().is_none() && split.next().is_none());
-    let mut split = regex.splitn("1,2", 0);
-    assert!(rt; split.next().is_none() && split.next().is_none());
+    assert!(rt; has_ended_by_limit(split));
+    assert!(rt; has_ended_by_limit(regex.splitn("1,2", 0)));
     Ok(())
 }
 
