@@ -3,7 +3,7 @@
 use crate::asking::{Span, span, span_in_text, span_of_bytes};
 use fancy_regex::{
     BytesMode, Captures, CompileError, Error, Expander, NoExpand, ParseErrorKind, Regex,
-    RegexInput, RegexOptionsBuilder, ReplaceFn, Replacer, Work, escape,
+    RegexBuilder, RegexInput, RegexOptionsBuilder, ReplaceFn, Replacer, Work, escape,
 };
 use std::alloc::Global;
 use std::process::Abort;
@@ -163,6 +163,39 @@ fn allow_input_assertion_overrides(rt: HostRuntime) -> Result<(), Fail> {
     ] {
         assert_eq!(rt; span_in_text(&rt, &inner, input)?, None);
     }
+    Ok(())
+}
+
+#[test]
+fn ignore_numbered_groups(rt: HostRuntime) -> Result<(), Fail> {
+    let pattern = String::from_str(rt.alloc(), "(a)(?<n>b)")?;
+    let named = RegexOptionsBuilder::new()
+        .ignore_numbered_groups_when_named_groups_exist(true)
+        .build(pattern)?;
+    let captures = named.captures("ab")?.ok_or("no match")?;
+    assert_eq!(rt; captures.len(), 2);
+    assert_eq!(rt; captures.get(1).map(span), Some((1, 2)));
+    assert_eq!(rt; captures.name("n").map(span), Some((1, 2)));
+    Ok(())
+}
+
+#[test]
+fn builder(rt: HostRuntime) -> Result<(), Fail> {
+    let mut builder = RegexBuilder::new(rt.alloc(), "a b")?;
+    let first = builder.ignore_whitespace(true).build()?;
+    let found = span_in_text(&rt, &first, RegexInput::new("ab"))?;
+    assert_eq!(rt; found, Some((0, 2)));
+    let other = String::from_str(rt.alloc(), "b #")?;
+    let second = builder.pattern(other).build()?;
+    let found = span_in_text(&rt, &second, RegexInput::new("ab"))?;
+    assert_eq!(rt; found, Some((1, 2)));
+    Ok(())
+}
+
+#[test]
+fn try_from(rt: HostRuntime) -> Result<(), Fail> {
+    let owned = Regex::try_from(String::from_str(rt.alloc(), "a|ab")?)?;
+    assert_eq!(rt; owned.as_str(), "a|ab");
     Ok(())
 }
 
