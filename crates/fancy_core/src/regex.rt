@@ -150,8 +150,8 @@ impl Regex {
         ensures within { IfOk result (λ m. IfSome m (λ x. S.within x ≡ S.bytes haystack)) }
         ensures refused { IfErr result (λ e. e ≡ Error.Memory) }
     {
-        let input = RegexInput::new(haystack);
-        let found = self.find_input(input)?;
+        let whole = RegexInput::new(haystack);
+        let found = self.find_input(whole)?;
         Ok(found)
     }
 
