@@ -8,7 +8,7 @@ use Rattle.fancy_core.specs.declared.regex.Regex.{Regex}
 use Rattle.fancy_core.specs.GroupTexts.{Seen}
 use Rattle.fancy_core.specs.Matching.{Item, span_of_item, start_of, stop_of}
 use Rattle.fancy_core.specs.Pieces.{pieces, interleaved, limited}
-use Rattle.fancy_core.specs.Replacing.{Answers, IsReplaced, IsRefused, replaced, filled, seen_of}
+use Rattle.fancy_core.specs.Replacing.{Answers, IsReplaced, IsRefusedByReplacer, replaced, filled, seen_of}
 use Rattle.fancy_core.specs.Limits.{up_to, is_reached, one_fewer}
 use Rattle.fancy_core.proofs.PieceLemmas.{whole_of}
 
@@ -104,7 +104,7 @@ module _ {R : Type 0} (gave : R → Seen → List ℕ → R → Type 0) where
 
     -- a call that refuses, of a replacer with no one text for all matches
     pub goes_refused : (refuses : R → Seen → Error → Type 0) (all : List Item) (first now : R) (out : List ℕ) (at : ℕ) (found : Bool) (x : Item) (todo rest : List Item) (seen : Seen) (error : Error) → todo ≡ x ∷ rest → seen ≡ seen_of regex t x → refuses now seen error
-        → Goes gave regex t all first now out at found todo → IsRefused None gave refuses first regex t all error
+        → Goes gave regex t all first now out at found todo → IsRefusedByReplacer None gave refuses first regex t all error
     goes_refused refuses all first now out at found x todo rest seen error e s r h = record {
       unfixed = refl;
       done = h.done;

@@ -61,7 +61,7 @@ pub record IsReplaced {R : Type 0} (fixed : Option (List ℕ)) (gave : R → See
   pub joined : result ≡ replaced t items answers
 
 -- A call for one of these items refused with this error. There is no one text for all matches; the calls for the items before answered, in order from the first state on, and in the state that they left the call for the next item refuses.
-pub record IsRefused {R : Type 0} (fixed : Option (List ℕ)) (gave : R → Seen → List ℕ → R → Type 0) (refuses : R → Seen → Error → Type 0) (first : R) (regex : Regex) (t : List ℕ) (items : List Item) (error : Error) : Type 0 where
+pub record IsRefusedByReplacer {R : Type 0} (fixed : Option (List ℕ)) (gave : R → Seen → List ℕ → R → Type 0) (refuses : R → Seen → Error → Type 0) (first : R) (regex : Regex) (t : List ℕ) (items : List Item) (error : Error) : Type 0 where
   pub unfixed : fixed ≡ None
   pub done : List Item
   pub next : Item
