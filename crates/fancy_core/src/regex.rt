@@ -335,7 +335,9 @@ impl fmt::Display for Regex {
 }
 
 impl fmt::Debug for Regex {
+    ghost debug_output = { λ r. Some (string_bytes r.pattern) };
+
     fn fmt<W: fmt::Write>(&self, f: &mut fmt::Formatter<W>) -> fmt::Result {
-        write!(f, "{}", self.as_str())
+        f.write_str(self.as_str())
     }
 }
