@@ -115,31 +115,19 @@ fn emit(alloc: Global, code: &mut Vec<Instr>, tree: &Tree, next: Entry) -> Resul
 {
     match tree {
         Tree::Empty => Ok(next),
-        Tree::Character(c) => {
-            let entry = put_shared(code, Instr::Character(*c, next.moved))?;
-            Ok(entry)
-        }
+        Tree::Character(c) => put_shared(code, Instr::Character(*c, next.moved)),
         Tree::Member(edges) => {
             let own = edges.to_vec(alloc)?;
             let entry = put_member(alloc, code, own, next)?;
             Ok(entry)
         }
-        Tree::RawByte(byte) => {
-            let entry = put_shared(code, Instr::RawByte(*byte, next.moved))?;
-            Ok(entry)
-        }
-        Tree::Assertion(a) => {
-            let entry = put_both(
-                code,
-                Instr::Assert(*a, next.moved),
-                Instr::Assert(*a, next.still),
-            )?;
-            Ok(entry)
-        }
-        Tree::Group { index, body } => {
-            let entry = emit_group(alloc, code, *index as usize, body, next)?;
-            Ok(entry)
-        }
+        Tree::RawByte(byte) => put_shared(code, Instr::RawByte(*byte, next.moved)),
+        Tree::Assertion(a) => put_both(
+            code,
+            Instr::Assert(*a, next.moved),
+            Instr::Assert(*a, next.still),
+        ),
+        Tree::Group { index, body } => emit_group(alloc, code, *index as usize, body, next),
         Tree::Repeat {
             low,
             high,
@@ -154,10 +142,7 @@ fn emit(alloc: Global, code: &mut Vec<Instr>, tree: &Tree, next: Entry) -> Resul
             let entry = emit_sequence(alloc, code, parts, next)?;
             Ok(entry)
         }
-        Tree::Alternative(branches) => {
-            let entry = emit_choice(alloc, code, branches, next)?;
-            Ok(entry)
-        }
+        Tree::Alternative(branches) => emit_choice(alloc, code, branches, next),
         Tree::Backreference(_)
         | Tree::GroupTest(_)
         | Tree::KeepStart
