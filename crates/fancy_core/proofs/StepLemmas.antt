@@ -1,6 +1,7 @@
 -- Lemmas on one step of an iteration, over a haystack of any type.
 use Rattle.std.proofs.Common.{arith, ℕ, ◌≡◌, ◌≤◌, length, Bool, true, false, not, ◌&&◌, nat_eq, List, ◌∷◌, Some, refl, sym, ◌∙◌, ap, subst}
 use Rattle.std.proofs.lemmas.Grind.{common_steps}
+use Rattle.std.specs.Cmp.Derive.{both_true}
 use Rattle.fancy_input.specs.declared.input.Request.{Request}
 use Rattle.fancy_input.specs.Places.{next_place}
 use Rattle.fancy_engine.specs.declared.search.Memory.{Memory}
@@ -18,14 +19,11 @@ scan_moved p t bs r q s e = ap (scan p t bs) e
 nat_same : (n : ℕ) → nat_eq n n ≡ true
 nat_same n = grind (arith, common_steps)
 
-both_true : (a b : Bool) → a ≡ true → b ≡ true → (a && b) ≡ true
-both_true a b p q = rw (p, q) refl
-
 -- an empty match that is passed over
 pub passes : {H : Type 0} (tx : H → Bool) (by : H → List ℕ) (p : Regex) (h g : H) (r q : Request) (b c d : Bool) (i : Item) (end : ℕ) → g ≡ h → answer (scan p (tx h) (by h) r) r.start c ≡ Some i → b ≡ true → nat_eq (start_of i) (stop_of i) ≡ true → (stop_of i) ≡ r.start → end ≡ r.start → q ≡ record r { start = next_place (tx h) (by h) end } → d ≡ false → answer (scan p (tx g) (by g) q) q.start d ≡ upcoming_if b (scan p (tx h) (by h) r) r.start c
 passes tx by p h g r q b c d i end eg ea eb en es ee eq ed =
     let k = scan p (tx h) (by h) r in
-    let skipped : upcoming_if true k r.start c ≡ answer k (k.advance r.start) false = skips k r.start c i ea (both_true _ _ en (rw es (nat_same r.start))) in
+    let skipped : upcoming_if true k r.start c ≡ answer k (k.advance r.start) false = skips k r.start c i ea (both_true en (rw es (nat_same r.start))) in
     rw (eb, eg, eq, ed, skipped, ee) refl
 
 -- An item is given: it is the first of those that are left, and the list's end stays where it is.

@@ -1,4 +1,4 @@
-//! Laws of searches: of the lists over matches, and of escaped texts.
+//! Laws of regexes: of the names of groups, of the lists over matches, and of escaped texts.
 
 ghost use Rattle.std.specs.Prelude.{◌≡◌, ◌<◌, ◌≤◌, ◌↔◌, ◌+◌, ◌&&◌, ℕ, true, List, suc, max, min, length, take, chars, IsUtf8};
 ghost use Rattle.fancy_syntax.specs.Dialect.{IsPattern, standard};
@@ -11,6 +11,7 @@ ghost use Rattle.fancy_core.specs.Escapes.{escaped_pattern};
 ghost use Rattle.fancy_core.specs.Literals.{literally, IsOfEscape, span_found};
 ghost use Rattle.fancy_core.specs.Regexes.{options_in};
 ghost use Rattle.fancy_core.specs.Searching.{CanSearch};
+ghost use Rattle.fancy_core.specs.Names.{StandsOnGroup};
 ghost use Rattle.fancy_core.specs.Matching.{InOrder, FindsNone};
 ghost use Rattle.fancy_core.specs.Left.{scan, matches_of, last_start_of};
 ghost use Rattle.fancy_core.specs.Pieces.{pieces, first_pieces, interleaved, texts};
@@ -19,6 +20,12 @@ ghost use Rattle.fancy_core.specs.Splits.{match_spans};
 use crate::regex::Regex;
 use fancy_input::input::Input;
 use fancy_input::regex_input::RegexInput;
+
+/// A name stands on a group of the pattern, which is never group 0, the whole match; or on none.
+#[tactic(auto, using(crate::proofs::NumberedLemmas::stands_on_group))]
+pub fn names_stand_on_groups(_regex: &Regex, _name: &str)
+    ensures { StandsOnGroup _regex.now (chars _name.now) }
+{}
 
 /// The ends of the matches strictly increase, and each start is at or after the end before it. There are at most as many
 /// as there are places to search: the searched length in bytes, and one more.

@@ -11,16 +11,8 @@ use Rattle.fancy_syntax.specs.declared.operation.Operation.{Operation}
 use Rattle.fancy_syntax.specs.declared.set.Set.{Set}
 use Rattle.fancy_syntax.specs.declared.tree.Meaning.{Meaning}
 use Rattle.fancy_syntax.specs.Sets.{has}
+use Rattle.fancy_syntax.proofs.ReadingLemmas.{true_is_false, some_is_none, some_pair}
 use Rattle.fancy_syntax.proofs.CanonicalLemmas.{edges_unique}
-
-pub true_is_false : true ≡ false → ⊥
-true_is_false h = cc
-
-pub some_is_none : {A : Type 0} {x : A} → Some x ≡ None → ⊥
-some_is_none h = cc
-
-pub some_pair : {A B : Type 0} {x y : A × B} → Some x ≡ Some y → (x.0 ≡ y.0) × (x.1 ≡ y.1)
-some_pair {A} {B} {x} {y} h = let e : x ≡ y = cc in (ap (λ (p : A × B). p.0) e, ap (λ (p : A × B). p.1) e)
 
 pub Refuses-weaker : (e : Refusal) {A B : Type 0} → (A → B) → Refuses e A → Refuses e B
 Refuses-weaker Memory f h = tt

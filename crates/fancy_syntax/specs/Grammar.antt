@@ -76,7 +76,7 @@ named p t =
     if (length (name_here t) == 0) || not (is_at ">" (past_name t)) then None
     else Some (capture (p.scope.opened + 1), record { text = drop 1 (past_name t); scope = one_more_name (name_here t) p.scope })
 
--- what a parenthesis opens that nothing distinguishes
+-- what a parenthesis opens that no mark follows
 abbrev pub unnamed : Place → Opening × Place
 unnamed p =
     if p.scope.unnamed_capture then (capture (p.scope.opened + 1), record { text = drop 1 p.text; scope = one_more_group p.scope })

@@ -2,25 +2,23 @@
 
 ghost use Rattle.std.specs.Prelude.{◌≡◌, IfSome, chars, option_map};
 ghost use Rattle.fancy_core.specs.Captured.{spans_in, searched_in, found_by};
-ghost use Rattle.fancy_core.specs.Names.{StandsOnGroup, span_named};
+ghost use Rattle.fancy_core.specs.Names.{span_named};
 
 use crate::captures::Captures;
 use fancy_input::input::Input;
 
 impl<'r, S: Input> Captures<'r, S> {
     /// What the last group in the pattern with this name matched. `None` where that group took no part, and where no
-    /// group has the name. Group 0, the whole match, never has a name.
+    /// group has the name. Group 0, the whole match, never has a name (the law [`crate::laws::names_stand_on_groups`]).
     ///
     /// ```text
     /// let captures = Regex::new(alloc, "(?<a>x)(?<a>y)")?.captures("xy")?;  // Some
     /// captures.name("a")  // 1..2
     /// captures.name("b")  // None
     /// ```
-    #[tactic(auto, using(crate::proofs::NumberedLemmas::stands_on_group))]
     pub fn name(&self, name: &str) -> Option<S::Match>
         ensures found { option_map S.span result ≡ span_named (found_by self.now) (spans_in self.now) (chars name.now) }
         ensures within { IfSome result (λ m. S.within m ≡ S.bytes (searched_in self.now)) }
-        ensures numbered { StandsOnGroup (found_by self.now) (chars name.now) }
     {
         let number = self.regex.group_named(name)?;
         self.get(number)
