@@ -9,8 +9,8 @@ ghost use Rattle.fancy_input.specs.Inputs.{haystack_in, request_in};
 ghost use Rattle.fancy_input.specs.Places.{is_boundary};
 ghost use Rattle.fancy_input.specs.Requests.{whole, effective_start};
 ghost use Rattle.fancy_syntax.specs.Sizes.{nodes};
-ghost use Rattle.fancy_engine.specs.Code.{code_len};
-ghost use Rattle.fancy_engine.specs.Means.{is_easy};
+ghost use Rattle.fancy_engine.specs.Code.{code_len, instrs_of};
+ghost use Rattle.fancy_engine.specs.Means.{is_easy, are_easy};
 ghost use Rattle.fancy_engine.specs.Queries.{way_in, answer_of};
 ghost use Rattle.fancy_engine.specs.Placed.{has_raw_byte};
 ghost use Rattle.fancy_core.specs.Groups.{AreCut, spans_of, found_at};
@@ -52,6 +52,7 @@ pub struct Regex {
     ghost meant: { code.meaning ≡ meaning_in options },
     ghost short: { code_len code ≤ 4 * nodes (pattern_of tree) + 2 },
     ghost easy: { is_easy (pattern_of tree) ≡ true },
+    ghost light: { are_easy (instrs_of code) ≡ true },
     ghost whole: { keeps_characters options.bytes_mode ≡ true → has_raw_byte (pattern_of tree) ≡ false },
 }
 

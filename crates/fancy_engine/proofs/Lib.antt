@@ -10,9 +10,11 @@ pub mod Runs
 pub mod Givens
 pub mod Past
 pub mod Follow
+pub mod Regions
 pub mod Follows
 pub mod Programs
 pub mod Easy
+pub mod EasyLemmas
 pub mod Hits
 pub mod Steps
 pub mod Visits

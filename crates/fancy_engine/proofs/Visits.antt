@@ -10,11 +10,10 @@ use Rattle.fancy_engine.specs.declared.runner.Next.TheVariants.{On}
 use Rattle.fancy_engine.specs.declared.runner.Bounds.{Bounds}
 use Rattle.fancy_engine.specs.Context.{Context, State}
 use Rattle.fancy_engine.specs.Events.{Event, mark, return, outcome, either}
-use Rattle.fancy_engine.specs.Run.{instr_at}
 use Rattle.fancy_engine.specs.Threads.{Thread, starts_of, state_of}
 use Rattle.fancy_engine.specs.Runner.{events_of, size_of, Known, AllKnown, way, pending, Stepped, Stacked, first_accepted, ends_well, AllWithin, IsPair, Seen, pair_way, rank, Hits, HitsBelow, Covers, AllFailed, Resting, Running}
-use Rattle.fancy_engine.specs.Means.{IsEasyInstr}
-use Rattle.fancy_engine.proofs.Easy.{always_easy, run_both}
+use Rattle.fancy_engine.specs.Means.{AreEasy}
+use Rattle.fancy_engine.proofs.Easy.{run_both}
 use Rattle.fancy_engine.proofs.Hits.{both_size, both_hits}
 use Rattle.fancy_engine.proofs.Marks.{member-set}
 
@@ -51,10 +50,7 @@ none_or (Some x) b e = absurd (true≢false e)
 choice_some : (ok : State → Bool) (a b : List Event) → is_some (first_accepted ok (either a b)) ≡ is_some (first_accepted ok a) || is_some (first_accepted ok b)
 choice_some ok a b = ap is_some (first_or ok a (return ∷ b)) ∙ some_or (first_accepted ok a) (first_accepted ok b)
 
-module _ (good : ℕ → Bool) (cx : Context) (base limit : ℕ) (code : List Instr) (deep : ℕ) where
-  easy : (q : ℕ) → IsEasyInstr (instr_at code q)
-  easy q = always_easy (instr_at code q)
-
+module _ (good : ℕ → Bool) (cx : Context) (base limit : ℕ) (code : List Instr) (easy : AreEasy code) (deep : ℕ) where
   -- a way is as good as its pair
   rank_is : (kept : ℕ) (t : Thread) → size_of (way cx limit code deep kept t) ≡ rank cx limit code deep t.at t.place
   rank_is kept t = both_size _ _ (run_both cx limit code easy deep t.at (state_of kept t) (record { place = t.place; captures = []; kept = 0 }) (starts_of t) [] refl)

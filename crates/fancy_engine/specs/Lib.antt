@@ -1,5 +1,6 @@
 pub mod Context
 pub mod Events
+pub mod Folding
 pub mod Trace
 pub mod Search
 pub mod Literals

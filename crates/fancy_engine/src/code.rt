@@ -30,6 +30,26 @@ pub enum Instr {
     Open(usize, usize),
     /// The group with this number ends.
     Close(usize, usize),
+    /// A part begins of which the first way that stops is taken, and no other.
+    Enter(usize),
+    /// The way stops, and what is round it goes on there.
+    Commit(usize),
+    /// A look-around begins: whether it looks behind, its body, and what follows.
+    Look(bool, usize, usize),
+    /// A negated look-around begins: whether it looks behind, its body, and what follows where that finds nothing.
+    Deny(bool, usize, usize),
+    /// A condition begins; what follows where it finds nothing.
+    Test(usize, usize),
+    /// So many units back.
+    Back(usize, usize),
+    /// The text of the group with this number once more: what follows a text, and what follows an empty one.
+    Recall(usize, usize, usize),
+    /// The match starts here.
+    Keep(usize),
+    /// The search starts here.
+    Continue(usize),
+    /// The group with this number has taken part.
+    Taken(usize, usize),
 }
 
 /// The number of the instruction that ends a way with an outcome.
@@ -81,6 +101,14 @@ impl Code {
         ensures work { work.new ≡ stepped work.old }
     {
         work.count_step();
+        &self.instrs[at]
+    }
+
+    /// The instruction with this number. The call counts as no step.
+    pub fn instr(&self, at: usize) -> &Instr
+        requires within { at < code_len self.now }
+        ensures instr { result.now ≡ instr_at (instrs_of self.now) at }
+    {
         &self.instrs[at]
     }
 

@@ -1,13 +1,13 @@
 //! From a pattern to its code, from the end to the start, so that each instruction is told where it goes on.
 
-ghost use Rattle.std.specs.Prelude.{◌≡◌, ◌+◌, ◌-◌, ◌*◌, ◌<◌, ◌≤◌, IfOk, IsTrue, All, map, sum_by, slice_set, vec_len};
-ghost use Rattle.fancy_syntax.specs.Pattern.{pattern_of, member_of, group, in_sequence, in_choice};
+ghost use Rattle.std.specs.Prelude.{◌≡◌, ◌+◌, ◌-◌, ◌*◌, ◌<◌, ◌≤◌, ◌&&◌, IfOk, IsTrue, All, map, sum_by, slice_set, true, vec_len};
+ghost use Rattle.fancy_syntax.specs.Pattern.{pattern_of, member_of, group, repeat, look_ahead, atomic, in_sequence, in_choice};
+ghost use Rattle.fancy_syntax.specs.declared.tree.Taste.TheVariants.{Possessive};
 ghost use Rattle.fancy_syntax.specs.Sets.{AreEdges};
-ghost use Rattle.fancy_syntax.specs.Sizes.{nodes, repeat_nodes};
-ghost use Rattle.fancy_engine.specs.Code.{code_len};
-ghost use Rattle.fancy_engine.specs.Trace.{is_greedy};
+ghost use Rattle.fancy_syntax.specs.Sizes.{nodes, repeat_nodes, taste_nodes, is_empty};
+ghost use Rattle.fancy_engine.specs.Code.{code_len, instrs_of};
 ghost use Rattle.fancy_syntax.specs.Groups.{Numbered};
-ghost use Rattle.fancy_engine.specs.Means.{Keeps, Has, HasBoth, Emitted, CopiesEmitted, OptionalsEmitted, StarEmitted, RestEmitted, RepeatEmitted, IsCodeOf, HasSets, is_easy, split_of};
+ghost use Rattle.fancy_engine.specs.Means.{Keeps, Has, HasBoth, Emitted, CopiesEmitted, OptionalsEmitted, StarEmitted, RestEmitted, RepeatEmitted, TestEmitted, IsCodeOf, HasSets, StaysEasy, goes_back, is_easy, is_easy_instr, are_easy, is_ready, split_of, look_of};
 
 use crate::code::{Code, Entry, FAIL, Instr, MATCH};
 use fancy_syntax::char_set::CharSet;
@@ -20,6 +20,7 @@ fn put(code: &mut Vec<Instr>, instr: Instr) -> Result<usize, AllocError>
     ensures at { IfOk result (λ at. at ≡ vec_len code.old) }
     ensures length { IfOk result (λ _. vec_len code.new ≡ vec_len code.old + 1) }
     ensures kept { IfOk result (λ _. Keeps code.old.items code.new.items) }
+    ensures easy { IfOk result (λ _. is_easy_instr instr ≡ true → StaysEasy code.old.items code.new.items) }
     ensures stands { IfOk result (λ at. Has code.new.items at instr) }
 {
     let at = code.len();
@@ -33,6 +34,7 @@ fn put_shared(code: &mut Vec<Instr>, instr: Instr) -> Result<Entry, AllocError>
     ensures still { IfOk result (λ entry. entry.still ≡ entry.moved) }
     ensures length { IfOk result (λ _. vec_len code.new ≡ vec_len code.old + 1) }
     ensures kept { IfOk result (λ _. Keeps code.old.items code.new.items) }
+    ensures easy { IfOk result (λ _. is_easy_instr instr ≡ true → StaysEasy code.old.items code.new.items) }
     ensures stands { IfOk result (λ entry. Has code.new.items entry.moved instr) }
 {
     let at = put(code, instr)?;
@@ -46,13 +48,15 @@ fn put_shared(code: &mut Vec<Instr>, instr: Instr) -> Result<Entry, AllocError>
 fn put_member(
     alloc: Global,
     code: &mut Vec<Instr>,
+    meaning: Meaning,
     edges: Vec<u32>,
     next: Entry,
 ) -> Result<Entry, AllocError>
     requires edges { AreEdges edges.items }
     ensures length { IfOk result (λ _. vec_len code.new ≡ vec_len code.old + 1) }
     ensures kept { IfOk result (λ _. Keeps code.old.items code.new.items) }
-    ensures means { IfOk result (λ entry. Emitted (member_of edges.items) (vec_len code.old) code.new.items next entry) }
+    ensures easy { IfOk result (λ _. StaysEasy code.old.items code.new.items) }
+    ensures means { IfOk result (λ entry. Emitted meaning (member_of edges.items) (vec_len code.old) code.new.items next entry) }
 {
     let set = Box::new(alloc, CharSet::new(Set::from_edges(edges)))?;
     let entry = put_shared(code, Instr::Member(set, next.moved))?;
@@ -65,6 +69,7 @@ fn put_both(code: &mut Vec<Instr>, moved: Instr, still: Instr) -> Result<Entry, 
     ensures still_at { IfOk result (λ entry. entry.still ≡ vec_len code.old + 1) }
     ensures length { IfOk result (λ _. vec_len code.new ≡ vec_len code.old + 2) }
     ensures kept { IfOk result (λ _. Keeps code.old.items code.new.items) }
+    ensures easy { IfOk result (λ _. is_easy_instr moved ≡ true → is_easy_instr still ≡ true → StaysEasy code.old.items code.new.items) }
     ensures stands { IfOk result (λ entry. HasBoth code.new.items entry moved still) }
 {
     let moved = put(code, moved)?;
@@ -92,24 +97,32 @@ fn split(greedy: bool, more: usize, less: usize) -> Instr
     }
 }
 
-/// Whether one more turn is preferred.
-fn is_greedy(taste: Taste) -> bool
-    ensures { result ≡ is_greedy taste }
+/// The start of a look-around.
+fn look(negated: bool, behind: bool, body: usize, next: usize) -> Instr
+    ensures { result ≡ look_of negated behind body next }
 {
-    match taste {
-        Taste::Greedy | Taste::Possessive => true,
-        Taste::Lazy => false,
+    if negated {
+        Instr::Deny(behind, body, next)
+    } else {
+        Instr::Look(behind, body, next)
     }
 }
 
 /// Appends the code of a pattern that goes on at `next`, and returns where it begins.
 #[cycle(emit)]
 #[tactic(auto, using(fancy_syntax::proofs::PatternLemmas::pattern_equations), unfolding(fancy_syntax::specs::Sizes::nodes))]
-fn emit(alloc: Global, code: &mut Vec<Instr>, tree: &Tree, next: Entry) -> Result<Entry, AllocError>
-    requires easy { IsTrue (is_easy (pattern_of tree.now)) }
+fn emit(
+    alloc: Global,
+    code: &mut Vec<Instr>,
+    meaning: Meaning,
+    tree: &Tree,
+    next: Entry,
+) -> Result<Entry, AllocError>
+    requires ready { IsTrue (is_ready (pattern_of tree.now)) }
     requires sets { HasSets (pattern_of tree.now) }
     ensures kept { IfOk result (λ _. Keeps code.old.items code.new.items) }
-    ensures means { IfOk result (λ entry. Emitted (pattern_of tree.now) (vec_len code.old) code.new.items next entry) }
+    ensures easy { IfOk result (λ _. is_easy (pattern_of tree.now) ≡ true → StaysEasy code.old.items code.new.items) }
+    ensures means { IfOk result (λ entry. Emitted meaning (pattern_of tree.now) (vec_len code.old) code.new.items next entry) }
     ensures longer { IfOk result (λ _. vec_len code.old ≤ vec_len code.new) }
     ensures short { IfOk result (λ _. vec_len code.new ≤ vec_len code.old + 4 * nodes (pattern_of tree.now)) }
 {
@@ -118,7 +131,7 @@ fn emit(alloc: Global, code: &mut Vec<Instr>, tree: &Tree, next: Entry) -> Resul
         Tree::Character(c) => put_shared(code, Instr::Character(*c, next.moved)),
         Tree::Member(edges) => {
             let own = edges.to_vec(alloc)?;
-            let entry = put_member(alloc, code, own, next)?;
+            let entry = put_member(alloc, code, meaning, own, next)?;
             Ok(entry)
         }
         Tree::RawByte(byte) => put_shared(code, Instr::RawByte(*byte, next.moved)),
@@ -127,30 +140,63 @@ fn emit(alloc: Global, code: &mut Vec<Instr>, tree: &Tree, next: Entry) -> Resul
             Instr::Assert(*a, next.moved),
             Instr::Assert(*a, next.still),
         ),
-        Tree::Group { index, body } => emit_group(alloc, code, *index as usize, body, next),
+        Tree::Group { index, body } => emit_group(
+            alloc,
+            code,
+            meaning,
+            *index as usize,
+            body,
+            next,
+        ),
         Tree::Repeat {
             low,
             high,
             taste,
             body,
-        } => {
-            let greedy = is_greedy(*taste);
-            let entry = emit_repeat(alloc, code, greedy, *low, *high, body, next)?;
-            Ok(entry)
-        }
+        } => { emit_taste(alloc, code, meaning, *taste, *low, *high, body, next) }
         Tree::Sequence(parts) => {
-            let entry = emit_sequence(alloc, code, parts, next)?;
+            let entry = emit_sequence(alloc, code, meaning, parts, next)?;
             Ok(entry)
         }
-        Tree::Alternative(branches) => emit_choice(alloc, code, branches, next),
-        Tree::Backreference(_)
-        | Tree::GroupTest(_)
-        | Tree::KeepStart
-        | Tree::ContinueHere
-        | Tree::LookAhead { .. }
-        | Tree::LookBehind { .. }
-        | Tree::Atomic(_)
-        | Tree::Conditional { .. } => unreachable!(),
+        Tree::Alternative(branches) => {
+            let entry = emit_choice(alloc, code, meaning, branches, next)?;
+            Ok(entry)
+        }
+        Tree::Backreference(number) => put_both(
+            code,
+            Instr::Recall(*number as usize, next.moved, next.moved),
+            Instr::Recall(*number as usize, next.moved, next.still),
+        ),
+        Tree::GroupTest(number) => put_both(
+            code,
+            Instr::Taken(*number as usize, next.moved),
+            Instr::Taken(*number as usize, next.still),
+        ),
+        Tree::KeepStart => put_both(code, Instr::Keep(next.moved), Instr::Keep(next.still)),
+        Tree::ContinueHere => put_both(
+            code,
+            Instr::Continue(next.moved),
+            Instr::Continue(next.still),
+        ),
+        Tree::LookAhead { negated, body } => {
+            emit_ahead(alloc, code, meaning, *negated, body, next)
+        }
+        Tree::Atomic(body) => emit_atomic(alloc, code, meaning, body, next),
+        Tree::Conditional {
+            condition,
+            on_match,
+            otherwise,
+        } => {
+            if are_empty(on_match, otherwise) {
+                let entry = emit_atomic(alloc, code, meaning, condition, next)?;
+                return Ok(entry);
+            }
+            let one = emit(alloc, code, meaning, on_match, next)?;
+            let two = emit(alloc, code, meaning, otherwise, next)?;
+            let entry = emit_condition(alloc, code, meaning, condition, one, two)?;
+            Ok(entry)
+        }
+        Tree::LookBehind { .. } => unreachable!(),
     }
 }
 
@@ -159,14 +205,16 @@ fn emit(alloc: Global, code: &mut Vec<Instr>, tree: &Tree, next: Entry) -> Resul
 fn emit_group(
     alloc: Global,
     code: &mut Vec<Instr>,
+    meaning: Meaning,
     index: usize,
     body: &Tree,
     next: Entry,
 ) -> Result<Entry, AllocError>
-    requires easy { IsTrue (is_easy (pattern_of body.now)) }
+    requires ready { IsTrue (is_ready (pattern_of body.now)) }
     requires sets { HasSets (pattern_of body.now) }
     ensures kept { IfOk result (λ _. Keeps code.old.items code.new.items) }
-    ensures means { IfOk result (λ entry. Emitted (group index (pattern_of body.now)) (vec_len code.old) code.new.items next entry) }
+    ensures easy { IfOk result (λ _. is_easy (pattern_of body.now) ≡ true → StaysEasy code.old.items code.new.items) }
+    ensures means { IfOk result (λ entry. Emitted meaning (group index (pattern_of body.now)) (vec_len code.old) code.new.items next entry) }
     ensures longer { IfOk result (λ _. vec_len code.old ≤ vec_len code.new) }
     ensures short { IfOk result (λ _. vec_len code.new ≤ vec_len code.old + 4 * (nodes (pattern_of body.now) + 1)) }
 {
@@ -175,7 +223,7 @@ fn emit_group(
         Instr::Close(index, next.moved),
         Instr::Close(index, next.still),
     )?;
-    let inner = emit(alloc, code, body, close)?;
+    let inner = emit(alloc, code, meaning, body, close)?;
     let entry = put_both(
         code,
         Instr::Open(index, inner.moved),
@@ -184,29 +232,178 @@ fn emit_group(
     Ok(entry)
 }
 
+/// Appends the code of an atomic group.
+#[cycle(emit)]
+fn emit_atomic(
+    alloc: Global,
+    code: &mut Vec<Instr>,
+    meaning: Meaning,
+    body: &Tree,
+    next: Entry,
+) -> Result<Entry, AllocError>
+    requires ready { IsTrue (is_ready (pattern_of body.now)) }
+    requires sets { HasSets (pattern_of body.now) }
+    ensures kept { IfOk result (λ _. Keeps code.old.items code.new.items) }
+    ensures means { IfOk result (λ entry. Emitted meaning (atomic (pattern_of body.now)) (vec_len code.old) code.new.items next entry) }
+    ensures longer { IfOk result (λ _. vec_len code.old ≤ vec_len code.new) }
+    ensures short { IfOk result (λ _. vec_len code.new ≤ vec_len code.old + 4 * (nodes (pattern_of body.now) + 1)) }
+{
+    let close = put_both(code, Instr::Commit(next.moved), Instr::Commit(next.still))?;
+    let inner = emit(alloc, code, meaning, body, close)?;
+    let entry = put_both(code, Instr::Enter(inner.moved), Instr::Enter(inner.still))?;
+    Ok(entry)
+}
+
+/// Appends the code of a look-ahead.
+#[cycle(emit)]
+fn emit_ahead(
+    alloc: Global,
+    code: &mut Vec<Instr>,
+    meaning: Meaning,
+    negated: bool,
+    body: &Tree,
+    next: Entry,
+) -> Result<Entry, AllocError>
+    requires ready { IsTrue (is_ready (pattern_of body.now)) }
+    requires sets { HasSets (pattern_of body.now) }
+    ensures kept { IfOk result (λ _. Keeps code.old.items code.new.items) }
+    ensures means { IfOk result (λ entry. Emitted meaning (look_ahead negated (pattern_of body.now)) (vec_len code.old) code.new.items next entry) }
+    ensures longer { IfOk result (λ _. vec_len code.old ≤ vec_len code.new) }
+    ensures short { IfOk result (λ _. vec_len code.new ≤ vec_len code.old + 4 * (nodes (pattern_of body.now) + 1)) }
+{
+    let stop = Entry {
+        moved: MATCH,
+        still: MATCH,
+    };
+    let inner = emit(alloc, code, meaning, body, stop)?;
+    let entry = put_both(
+        code,
+        look(negated, false, inner.moved, next.moved),
+        look(negated, false, inner.moved, next.still),
+    )?;
+    Ok(entry)
+}
+
+/// Whether both are sequences without parts.
+fn are_empty(first: &Tree, second: &Tree) -> bool
+    ensures { result ≡ (is_empty (pattern_of first.now) && is_empty (pattern_of second.now)) }
+{
+    first.is_empty() && second.is_empty()
+}
+
+/// Appends the code of a condition that goes on at `one`, and where it fails at `two`.
+#[cycle(emit)]
+fn emit_condition(
+    alloc: Global,
+    code: &mut Vec<Instr>,
+    meaning: Meaning,
+    condition: &Tree,
+    one: Entry,
+    two: Entry,
+) -> Result<Entry, AllocError>
+    requires ready { IsTrue (is_ready (pattern_of condition.now)) }
+    requires sets { HasSets (pattern_of condition.now) }
+    ensures kept { IfOk result (λ _. Keeps code.old.items code.new.items) }
+    ensures means { IfOk result (λ entry. TestEmitted meaning (pattern_of condition.now) (vec_len code.old) code.new.items one two entry) }
+    ensures longer { IfOk result (λ _. vec_len code.old ≤ vec_len code.new) }
+    ensures short { IfOk result (λ _. vec_len code.new ≤ vec_len code.old + 4 * (nodes (pattern_of condition.now) + 1)) }
+{
+    let close = put_both(code, Instr::Commit(one.moved), Instr::Commit(one.still))?;
+    let inner = emit(alloc, code, meaning, condition, close)?;
+    let entry = put_both(
+        code,
+        Instr::Test(inner.moved, two.moved),
+        Instr::Test(inner.still, two.still),
+    )?;
+    Ok(entry)
+}
+
+/// Appends the code of a repeat of this taste.
+#[cycle(emit)]
+fn emit_taste(
+    alloc: Global,
+    code: &mut Vec<Instr>,
+    meaning: Meaning,
+    taste: Taste,
+    low: u32,
+    high: Option<u32>,
+    body: &Tree,
+    next: Entry,
+) -> Result<Entry, AllocError>
+    requires ready { IsTrue (is_ready (pattern_of body.now)) }
+    requires sets { HasSets (pattern_of body.now) }
+    ensures kept { IfOk result (λ _. Keeps code.old.items code.new.items) }
+    ensures easy { IfOk result (λ _. goes_back taste ≡ true → is_easy (pattern_of body.now) ≡ true → StaysEasy code.old.items code.new.items) }
+    ensures means { IfOk result (λ entry. Emitted meaning (repeat low high taste (pattern_of body.now)) (vec_len code.old) code.new.items next entry) }
+    ensures longer { IfOk result (λ _. vec_len code.old ≤ vec_len code.new) }
+    ensures short { IfOk result (λ _. vec_len code.new ≤ vec_len code.old + 4 * (repeat_nodes low high (nodes (pattern_of body.now)) + taste_nodes taste)) }
+{
+    match taste {
+        Taste::Greedy => emit_repeat(alloc, code, meaning, true, low, high, body, next),
+        Taste::Lazy => emit_repeat(alloc, code, meaning, false, low, high, body, next),
+        Taste::Possessive => emit_possessive(alloc, code, meaning, low, high, body, next),
+    }
+}
+
+/// Appends the code of a possessive repeat, which is an atomic group round the greedy one.
+#[cycle(emit)]
+fn emit_possessive(
+    alloc: Global,
+    code: &mut Vec<Instr>,
+    meaning: Meaning,
+    low: u32,
+    high: Option<u32>,
+    body: &Tree,
+    next: Entry,
+) -> Result<Entry, AllocError>
+    requires ready { IsTrue (is_ready (pattern_of body.now)) }
+    requires sets { HasSets (pattern_of body.now) }
+    ensures kept { IfOk result (λ _. Keeps code.old.items code.new.items) }
+    ensures means { IfOk result (λ entry. Emitted meaning (repeat low high Possessive (pattern_of body.now)) (vec_len code.old) code.new.items next entry) }
+    ensures longer { IfOk result (λ _. vec_len code.old ≤ vec_len code.new) }
+    ensures short { IfOk result (λ _. vec_len code.new ≤ vec_len code.old + 4 * (repeat_nodes low high (nodes (pattern_of body.now)) + 1)) }
+{
+    let close = put_both(code, Instr::Commit(next.moved), Instr::Commit(next.still))?;
+    let inner = emit_repeat(alloc, code, meaning, true, low, high, body, close)?;
+    let entry = put_both(code, Instr::Enter(inner.moved), Instr::Enter(inner.still))?;
+    Ok(entry)
+}
+
 /// Appends the code of at least `low` turns, and at most `high` where that is set.
 #[cycle(emit)]
 fn emit_repeat(
     alloc: Global,
     code: &mut Vec<Instr>,
+    meaning: Meaning,
     greedy: bool,
     low: u32,
     high: Option<u32>,
     body: &Tree,
     next: Entry,
 ) -> Result<Entry, AllocError>
-    requires easy { IsTrue (is_easy (pattern_of body.now)) }
+    requires ready { IsTrue (is_ready (pattern_of body.now)) }
     requires sets { HasSets (pattern_of body.now) }
     ensures kept { IfOk result (λ _. Keeps code.old.items code.new.items) }
-    ensures means { IfOk result (λ entry. RepeatEmitted greedy low high (pattern_of body.now) (vec_len code.old) code.new.items next entry) }
+    ensures easy { IfOk result (λ _. is_easy (pattern_of body.now) ≡ true → StaysEasy code.old.items code.new.items) }
+    ensures means { IfOk result (λ entry. RepeatEmitted meaning greedy low high (pattern_of body.now) (vec_len code.old) code.new.items next entry) }
     ensures longer { IfOk result (λ _. vec_len code.old ≤ vec_len code.new) }
     ensures short { IfOk result (λ _. vec_len code.new ≤ vec_len code.old + 4 * repeat_nodes low high (nodes (pattern_of body.now))) }
 {
     let rest = match high {
-        None => emit_star(alloc, code, greedy, body, next)?,
-        Some(high) => { emit_optionals(alloc, code, greedy, high.saturating_sub(low), body, next)? }
+        None => emit_star(alloc, code, meaning, greedy, body, next)?,
+        Some(high) => {
+            emit_optionals(
+                alloc,
+                code,
+                meaning,
+                greedy,
+                high.saturating_sub(low),
+                body,
+                next,
+            )?
+        }
     };
-    let entry = emit_copies(alloc, code, low, body, rest)?;
+    let entry = emit_copies(alloc, code, meaning, low, body, rest)?;
     Ok(entry)
 }
 
@@ -215,19 +412,21 @@ fn emit_repeat(
 fn emit_star(
     alloc: Global,
     code: &mut Vec<Instr>,
+    meaning: Meaning,
     greedy: bool,
     body: &Tree,
     next: Entry,
 ) -> Result<Entry, AllocError>
-    requires easy { IsTrue (is_easy (pattern_of body.now)) }
+    requires ready { IsTrue (is_ready (pattern_of body.now)) }
     requires sets { HasSets (pattern_of body.now) }
     ensures kept { IfOk result (λ _. Keeps code.old.items code.new.items) }
-    ensures means { IfOk result (λ entry. StarEmitted greedy (pattern_of body.now) (vec_len code.old) code.new.items next entry) }
+    ensures easy { IfOk result (λ _. is_easy (pattern_of body.now) ≡ true → StaysEasy code.old.items code.new.items) }
+    ensures means { IfOk result (λ entry. StarEmitted meaning greedy (pattern_of body.now) (vec_len code.old) code.new.items next entry) }
     ensures longer { IfOk result (λ _. vec_len code.old ≤ vec_len code.new) }
     ensures short { IfOk result (λ _. vec_len code.new ≤ vec_len code.old + 4 * (nodes (pattern_of body.now) + 1)) }
 {
     let moved = put(code, Instr::Fail)?;
-    let turn = emit(alloc, code, body, Entry { moved, still: FAIL })?;
+    let turn = emit(alloc, code, meaning, body, Entry { moved, still: FAIL })?;
     write(code, moved, split(greedy, turn.still, next.moved));
     let still = put(code, split(greedy, turn.still, next.still))?;
     Ok(Entry { moved, still })
@@ -238,20 +437,22 @@ fn emit_star(
 fn emit_copies(
     alloc: Global,
     code: &mut Vec<Instr>,
+    meaning: Meaning,
     count: u32,
     body: &Tree,
     next: Entry,
 ) -> Result<Entry, AllocError>
-    requires easy { IsTrue (is_easy (pattern_of body.now)) }
+    requires ready { IsTrue (is_ready (pattern_of body.now)) }
     requires sets { HasSets (pattern_of body.now) }
     ensures kept { IfOk result (λ _. Keeps code.old.items code.new.items) }
-    ensures means { IfOk result (λ entry. CopiesEmitted count (pattern_of body.now) (vec_len code.old) code.new.items next entry) }
+    ensures easy { IfOk result (λ _. is_easy (pattern_of body.now) ≡ true → StaysEasy code.old.items code.new.items) }
+    ensures means { IfOk result (λ entry. CopiesEmitted meaning count (pattern_of body.now) (vec_len code.old) code.new.items next entry) }
     ensures longer { IfOk result (λ _. vec_len code.old ≤ vec_len code.new) }
     ensures short { IfOk result (λ _. vec_len code.new ≤ vec_len code.old + 4 * (count * nodes (pattern_of body.now))) }
 {
     let mut entry = next;
     for copy in 0..count {
-        entry = emit(alloc, code, body, entry)?;
+        entry = emit(alloc, code, meaning, body, entry)?;
     }
     Ok(entry)
 }
@@ -261,21 +462,23 @@ fn emit_copies(
 fn emit_optionals(
     alloc: Global,
     code: &mut Vec<Instr>,
+    meaning: Meaning,
     greedy: bool,
     count: u32,
     body: &Tree,
     next: Entry,
 ) -> Result<Entry, AllocError>
-    requires easy { IsTrue (is_easy (pattern_of body.now)) }
+    requires ready { IsTrue (is_ready (pattern_of body.now)) }
     requires sets { HasSets (pattern_of body.now) }
     ensures kept { IfOk result (λ _. Keeps code.old.items code.new.items) }
-    ensures means { IfOk result (λ entry. OptionalsEmitted greedy count (pattern_of body.now) (vec_len code.old) code.new.items next entry) }
+    ensures easy { IfOk result (λ _. is_easy (pattern_of body.now) ≡ true → StaysEasy code.old.items code.new.items) }
+    ensures means { IfOk result (λ entry. OptionalsEmitted meaning greedy count (pattern_of body.now) (vec_len code.old) code.new.items next entry) }
     ensures longer { IfOk result (λ _. vec_len code.old ≤ vec_len code.new) }
     ensures short { IfOk result (λ _. vec_len code.new ≤ vec_len code.old + 4 * (count * (nodes (pattern_of body.now) + 1))) }
 {
     let mut entry = next;
     for copy in 0..count {
-        let turn = emit(alloc, code, body, entry)?;
+        let turn = emit(alloc, code, meaning, body, entry)?;
         entry = put_both(
             code,
             split(greedy, turn.moved, next.moved),
@@ -290,19 +493,21 @@ fn emit_optionals(
 fn emit_sequence(
     alloc: Global,
     code: &mut Vec<Instr>,
+    meaning: Meaning,
     parts: &[Tree],
     next: Entry,
 ) -> Result<Entry, AllocError>
-    requires easy { All (λ p. IsTrue (is_easy p)) (map pattern_of parts.now) }
+    requires ready { All (λ p. IsTrue (is_ready p)) (map pattern_of parts.now) }
     requires sets { All HasSets (map pattern_of parts.now) }
     ensures kept { IfOk result (λ _. Keeps code.old.items code.new.items) }
-    ensures means { IfOk result (λ entry. Emitted (in_sequence (map pattern_of parts.now)) (vec_len code.old) code.new.items next entry) }
+    ensures easy { IfOk result (λ _. All (λ p. IsTrue (is_easy p)) (map pattern_of parts.now) → StaysEasy code.old.items code.new.items) }
+    ensures means { IfOk result (λ entry. Emitted meaning (in_sequence (map pattern_of parts.now)) (vec_len code.old) code.new.items next entry) }
     ensures longer { IfOk result (λ _. vec_len code.old ≤ vec_len code.new) }
     ensures short { IfOk result (λ _. vec_len code.new ≤ vec_len code.old + 4 * sum_by nodes (map pattern_of parts.now)) }
 {
     let mut entry = next;
     for i in (0..parts.len()).rev() {
-        entry = emit(alloc, code, &parts[i], entry)?;
+        entry = emit(alloc, code, meaning, &parts[i], entry)?;
     }
     Ok(entry)
 }
@@ -312,24 +517,26 @@ fn emit_sequence(
 fn emit_choice(
     alloc: Global,
     code: &mut Vec<Instr>,
+    meaning: Meaning,
     branches: &[Tree],
     next: Entry,
 ) -> Result<Entry, AllocError>
-    requires easy { All (λ p. IsTrue (is_easy p)) (map pattern_of branches.now) }
+    requires ready { All (λ p. IsTrue (is_ready p)) (map pattern_of branches.now) }
     requires sets { All HasSets (map pattern_of branches.now) }
     ensures kept { IfOk result (λ _. Keeps code.old.items code.new.items) }
-    ensures means { IfOk result (λ entry. Emitted (in_choice (map pattern_of branches.now)) (vec_len code.old) code.new.items next entry) }
+    ensures easy { IfOk result (λ _. All (λ p. IsTrue (is_easy p)) (map pattern_of branches.now) → StaysEasy code.old.items code.new.items) }
+    ensures means { IfOk result (λ entry. Emitted meaning (in_choice (map pattern_of branches.now)) (vec_len code.old) code.new.items next entry) }
     ensures longer { IfOk result (λ _. vec_len code.old ≤ vec_len code.new) }
     ensures short { IfOk result (λ _. vec_len code.new ≤ vec_len code.old + 4 * nodes (in_choice (map pattern_of branches.now))) }
 {
     if branches.is_empty() {
-        let nothing = put_member(alloc, code, Vec::new(alloc), next)?;
+        let nothing = put_member(alloc, code, meaning, Vec::new(alloc), next)?;
         return Ok(nothing);
     }
     let last = branches.len() - 1;
-    let mut entry = emit(alloc, code, &branches[last], next)?;
+    let mut entry = emit(alloc, code, meaning, &branches[last], next)?;
     for i in (0..last).rev() {
-        let first = emit(alloc, code, &branches[i], next)?;
+        let first = emit(alloc, code, meaning, &branches[i], next)?;
         entry = put_both(
             code,
             Instr::Split(first.moved, entry.moved),
@@ -352,10 +559,11 @@ pub fn compile(
     groups: usize,
     meaning: Meaning,
 ) -> Result<Code, AllocError>
-    requires easy { IsTrue (is_easy (pattern_of tree.now)) }
+    requires ready { IsTrue (is_ready (pattern_of tree.now)) }
     requires sets { HasSets (pattern_of tree.now) }
     requires numbered { Numbered 0 groups (pattern_of tree.now) }
     ensures code { IfOk result (λ code. IsCodeOf (pattern_of tree.now) code) }
+    ensures easy { IfOk result (λ code. is_easy (pattern_of tree.now) ≡ true → are_easy (instrs_of code) ≡ true) }
     ensures short { IfOk result (λ code. code_len code ≤ 4 * nodes (pattern_of tree.now) + 2) }
     ensures groups { IfOk result (λ code. code.groups ≡ groups) }
     ensures meaning { IfOk result (λ code. code.meaning ≡ meaning) }
@@ -367,7 +575,7 @@ pub fn compile(
         moved: MATCH,
         still: MATCH,
     };
-    let entry = emit(alloc, &mut instrs, tree, stop)?;
+    let entry = emit(alloc, &mut instrs, meaning, tree, stop)?;
     Ok(Code::new(instrs, entry.moved, groups, meaning))
 }
 

@@ -4,6 +4,8 @@ ghost use Rattle.std.specs.Prelude.{◌≡◌, ◌+◌, ◌-◌, ◌*◌, ◌^�
 ghost use Rattle.fancy_syntax.specs.Sets.{has};
 ghost use Rattle.fancy_engine.specs.Context.{State, captured, past_item, past_byte};
 ghost use Rattle.fancy_engine.specs.Code.{instrs_of, code_len, edges_in};
+ghost use Rattle.fancy_engine.specs.Run.{instr_at};
+ghost use Rattle.fancy_engine.specs.Means.{IsEasyInstr, AreEasy};
 ghost use Rattle.fancy_engine.specs.Work.{steps_of, returns_of, stepped};
 ghost use Rattle.fancy_engine.specs.Readings.{plain};
 ghost use Rattle.fancy_engine.specs.Threads.{state_of, starts_of};
@@ -56,7 +58,12 @@ pub fn is_good_end(bounds: Bounds, haystack: &[u8], place: usize) -> bool
 }
 
 /// The place behind the character at `place`, if it is this one.
-fn past_character(haystack: &[u8], meaning: Meaning, character: char, place: usize) -> Option<usize>
+pub fn past_character(
+    haystack: &[u8],
+    meaning: Meaning,
+    character: char,
+    place: usize,
+) -> Option<usize>
     ensures past { (suppressed : Suppressed) (from : ℕ) → result ≡ past_item (plain haystack.now meaning suppressed from) (λ d. d == character) place }
     ensures forth { IfSome result (λ p. place ≤ p) }
 {
@@ -73,7 +80,7 @@ fn past_character(haystack: &[u8], meaning: Meaning, character: char, place: usi
 }
 
 /// The place behind the item at `place`, if the set has it.
-fn past_member(haystack: &[u8], meaning: Meaning, set: &CharSet, place: usize) -> Option<usize>
+pub fn past_member(haystack: &[u8], meaning: Meaning, set: &CharSet, place: usize) -> Option<usize>
     ensures past { (suppressed : Suppressed) (from : ℕ) → result ≡ past_item (plain haystack.now meaning suppressed from) (has (edges_in set.now)) place }
     ensures forth { IfSome result (λ p. place ≤ p) }
 {
@@ -86,7 +93,7 @@ fn past_member(haystack: &[u8], meaning: Meaning, set: &CharSet, place: usize) -
 }
 
 /// The place behind the byte at `place`, if it is this one.
-fn past_raw_byte(haystack: &[u8], byte: u8, place: usize) -> Option<usize>
+pub fn past_raw_byte(haystack: &[u8], byte: u8, place: usize) -> Option<usize>
     ensures past { (meaning : Meaning) (suppressed : Suppressed) (from : ℕ) → result ≡ past_byte (plain haystack.now meaning suppressed from) byte place }
     ensures forth { IfSome result (λ p. place ≤ p) }
 {
@@ -173,6 +180,7 @@ fn step(
 ) -> Result<Next, Refusal>
     requires inside { limit ≤ length haystack.now }
     requires here { ways.old.current.at < code_len code.now }
+    requires easy { IsEasyInstr (instr_at (instrs_of code.now) ways.old.current.at) }
     requires room { steps_of work.old < usize.MAX }
     ensures stepped { IfOk result (λ next. (from kept deep : ℕ)
         → Known (plain haystack.now code.now.meaning suppressed from) limit (instrs_of code.now) deep kept ways.old.current
@@ -226,6 +234,16 @@ fn step(
             Ok(()) => Ok(Next::On),
             Err(_) => Err(Refusal::Memory),
         },
+        Instr::Enter(_)
+        | Instr::Commit(_)
+        | Instr::Look(_, _, _)
+        | Instr::Deny(_, _, _)
+        | Instr::Test(_, _)
+        | Instr::Back(_, _)
+        | Instr::Recall(_, _, _)
+        | Instr::Keep(_)
+        | Instr::Continue(_)
+        | Instr::Taken(_, _) => unreachable!(),
     }
 }
 
@@ -239,6 +257,7 @@ fn visit(
     work: &mut Work,
 ) -> Result<Next, Refusal>
     requires inside { bounds.last ≤ length haystack.now }
+    requires easy { AreEasy (instrs_of code.now) }
     requires within { AllWithin bounds (ways.old.current ∷ ways.old.saved) }
     requires room { (bounds.last - bounds.first + 1) * code_len code.now ≤ length table.old }
     requires small { length table.old < 2 ^ 64 }
@@ -296,6 +315,7 @@ pub fn follow(
     work: &mut Work,
 ) -> Result<bool, Refusal>
     requires inside { bounds.last ≤ length haystack.now }
+    requires easy { AreEasy (instrs_of code.now) }
     requires low { bounds.first ≤ ways.old.current.place }
     requires high { ways.old.current.place ≤ bounds.last }
     requires fresh { ways.old.saved ≡ [] }

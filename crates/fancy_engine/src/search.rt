@@ -3,8 +3,8 @@
 ghost use Rattle.std.specs.Prelude.{◌≡◌, ◌+◌, ◌-◌, ◌*◌, ◌^◌, ◌<◌, ◌≤◌, false, length, replicate, option_map, slice_index_or, map, IfOk, IfErr, OnOk};
 ghost use Rattle.fancy_syntax.specs.Pattern.{Pattern};
 ghost use Rattle.fancy_input.specs.Requests.{effective_start, positions};
-ghost use Rattle.fancy_engine.specs.Code.{code_len};
-ghost use Rattle.fancy_engine.specs.Means.{IsCodeOf};
+ghost use Rattle.fancy_engine.specs.Code.{code_len, instrs_of};
+ghost use Rattle.fancy_engine.specs.Means.{IsCodeOf, AreEasy};
 ghost use Rattle.fancy_engine.specs.Search.{search};
 ghost use Rattle.fancy_engine.specs.Threads.{span_of, ends_of};
 ghost use Rattle.fancy_engine.specs.Queries.{query_of, way_in, answer_of};
@@ -127,6 +127,7 @@ pub fn search(
     work: &mut Work,
 ) -> Result<Option<usize>, Refusal>
     requires inside { request.range_end ≤ length haystack.now }
+    requires easy { AreEasy (instrs_of code.now) }
     ensures answer { IfOk result (λ m. (p : Pattern) → IsCodeOf p code.now
         → answer_of m memory.new ≡ search (query_of p code.now switches haystack.now request)) }
     ensures steps { IfOk result (λ _. steps_of work.new ≤ code_len code.now * (request.range_end + 1 - effective_start request)) }

@@ -2,8 +2,9 @@
 
 ghost use Rattle.std.specs.Prelude.{◌≡◌, ℕ, ◌+◌, ◌-◌, ◌^◌, min, map, sum_by};
 ghost use Rattle.fancy_syntax.specs.Pattern.{pattern_of};
-ghost use Rattle.fancy_syntax.specs.Sizes.{nodes, repeat_nodes, taste_nodes};
+ghost use Rattle.fancy_syntax.specs.Sizes.{nodes, repeat_nodes, taste_nodes, is_empty};
 
+use crate::build;
 use crate::tree::{Taste, Tree};
 
 impl Tree {
@@ -47,6 +48,15 @@ impl Tree {
                 .saturating_add(branches.len())
                 .max(1),
         }
+    }
+}
+
+impl Tree {
+    /// Whether this is a sequence without parts.
+    pub fn is_empty(&self) -> bool
+        ensures { result ≡ is_empty (pattern_of self.now) }
+    {
+        build::is_empty(self)
     }
 }
 

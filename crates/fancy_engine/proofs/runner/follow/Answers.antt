@@ -36,14 +36,14 @@ pub returns-then-not-branch-clause-answer : goal.returns-then-not-branch-clause-
 returns-then-not-branch-clause-answer c kept deep known failed =
     let rest = rw c.in-Dead.is at (c.in_ok-visit.ensures.visited kept deep (first_accepted (ends_well (good_end c.args.bounds c.args.haystack.now)) (events_of (way (plain c.args.haystack.now c.args.code.now.meaning c.args.bounds.suppressed c.args.bounds.first) c.args.bounds.last (instrs_of c.args.code.now) deep kept c.args.ways.now.current))) (c.pairs.invariant.running kept deep known failed)) in
     let b = rw c.if-not-branch.true at c.in_ok-back-in-Dead.ensures in
-    (rest_done (good_end c.args.bounds c.args.haystack.now) (plain c.args.haystack.now c.args.code.now.meaning c.args.bounds.suppressed c.args.bounds.first) c.args.bounds.first c.args.bounds.last (instrs_of c.args.code.now) deep kept (first_accepted (ends_well (good_end c.args.bounds c.args.haystack.now)) (events_of (way (plain c.args.haystack.now c.args.code.now.meaning c.args.bounds.suppressed c.args.bounds.first) c.args.bounds.last (instrs_of c.args.code.now) deep kept c.args.ways.now.current))) c.visit.new.table
+    (rest_done (good_end c.args.bounds c.args.haystack.now) (plain c.args.haystack.now c.args.code.now.meaning c.args.bounds.suppressed c.args.bounds.first) c.args.bounds.first c.args.bounds.last (instrs_of c.args.code.now) c.requires.easy deep kept (first_accepted (ends_well (good_end c.args.bounds c.args.haystack.now)) (events_of (way (plain c.args.haystack.now c.args.code.now.meaning c.args.bounds.suppressed c.args.bounds.first) c.args.bounds.last (instrs_of c.args.code.now) deep kept c.args.ways.now.current))) c.visit.new.table
     (subst (λ (x : List Thread). Resting (good_end c.args.bounds c.args.haystack.now) (plain c.args.haystack.now c.args.code.now.meaning c.args.bounds.suppressed c.args.bounds.first) c.args.bounds.first c.args.bounds.last (instrs_of c.args.code.now) deep kept (first_accepted (ends_well (good_end c.args.bounds c.args.haystack.now)) (events_of (way (plain c.args.haystack.now c.args.code.now.meaning c.args.bounds.suppressed c.args.bounds.first) c.args.bounds.last (instrs_of c.args.code.now) deep kept c.args.ways.now.current))) c.visit.new.table x) b.0 rest)).0
 
 pub returns-then-not-branch-clause-failed : goal.returns-then-not-branch-clause-failed
 returns-then-not-branch-clause-failed c kept deep known failed _ =
     let rest = rw c.in-Dead.is at (c.in_ok-visit.ensures.visited kept deep (first_accepted (ends_well (good_end c.args.bounds c.args.haystack.now)) (events_of (way (plain c.args.haystack.now c.args.code.now.meaning c.args.bounds.suppressed c.args.bounds.first) c.args.bounds.last (instrs_of c.args.code.now) deep kept c.args.ways.now.current))) (c.pairs.invariant.running kept deep known failed)) in
     let b = rw c.if-not-branch.true at c.in_ok-back-in-Dead.ensures in
-    (rest_done (good_end c.args.bounds c.args.haystack.now) (plain c.args.haystack.now c.args.code.now.meaning c.args.bounds.suppressed c.args.bounds.first) c.args.bounds.first c.args.bounds.last (instrs_of c.args.code.now) deep kept (first_accepted (ends_well (good_end c.args.bounds c.args.haystack.now)) (events_of (way (plain c.args.haystack.now c.args.code.now.meaning c.args.bounds.suppressed c.args.bounds.first) c.args.bounds.last (instrs_of c.args.code.now) deep kept c.args.ways.now.current))) c.visit.new.table
+    (rest_done (good_end c.args.bounds c.args.haystack.now) (plain c.args.haystack.now c.args.code.now.meaning c.args.bounds.suppressed c.args.bounds.first) c.args.bounds.first c.args.bounds.last (instrs_of c.args.code.now) c.requires.easy deep kept (first_accepted (ends_well (good_end c.args.bounds c.args.haystack.now)) (events_of (way (plain c.args.haystack.now c.args.code.now.meaning c.args.bounds.suppressed c.args.bounds.first) c.args.bounds.last (instrs_of c.args.code.now) deep kept c.args.ways.now.current))) c.visit.new.table
     (subst (λ (x : List Thread). Resting (good_end c.args.bounds c.args.haystack.now) (plain c.args.haystack.now c.args.code.now.meaning c.args.bounds.suppressed c.args.bounds.first) c.args.bounds.first c.args.bounds.last (instrs_of c.args.code.now) deep kept (first_accepted (ends_well (good_end c.args.bounds c.args.haystack.now)) (events_of (way (plain c.args.haystack.now c.args.code.now.meaning c.args.bounds.suppressed c.args.bounds.first) c.args.bounds.last (instrs_of c.args.code.now) deep kept c.args.ways.now.current))) c.visit.new.table x) b.0 rest)).1
 
 pub pairs-preserved : goal.pairs-preserved
@@ -55,7 +55,7 @@ pairs-preserved c =
     record {
       running = λ kept deep known failed.
           (let rest = rw c.in-Dead.is at (c.in_ok-visit.ensures.visited kept deep (first_accepted (ends_well (good_end c.args.bounds c.args.haystack.now)) (events_of (way (plain c.args.haystack.now c.args.code.now.meaning c.args.bounds.suppressed c.args.bounds.first) c.args.bounds.last (instrs_of c.args.code.now) deep kept c.args.ways.now.current))) (c.pairs.invariant.running kept deep known failed)) in
-          rest_back (good_end c.args.bounds c.args.haystack.now) (plain c.args.haystack.now c.args.code.now.meaning c.args.bounds.suppressed c.args.bounds.first) c.args.bounds.first c.args.bounds.last (instrs_of c.args.code.now) deep kept (first_accepted (ends_well (good_end c.args.bounds c.args.haystack.now)) (events_of (way (plain c.args.haystack.now c.args.code.now.meaning c.args.bounds.suppressed c.args.bounds.first) c.args.bounds.last (instrs_of c.args.code.now) deep kept c.args.ways.now.current))) c.visit.new.table c.back.new.self.current c.back.new.self.saved
+          rest_back (good_end c.args.bounds c.args.haystack.now) (plain c.args.haystack.now c.args.code.now.meaning c.args.bounds.suppressed c.args.bounds.first) c.args.bounds.first c.args.bounds.last (instrs_of c.args.code.now) c.requires.easy deep kept (first_accepted (ends_well (good_end c.args.bounds c.args.haystack.now)) (events_of (way (plain c.args.haystack.now c.args.code.now.meaning c.args.bounds.suppressed c.args.bounds.first) c.args.bounds.last (instrs_of c.args.code.now) deep kept c.args.ways.now.current))) c.visit.new.table c.back.new.self.current c.back.new.self.saved
           (subst (λ (x : List Thread). Resting (good_end c.args.bounds c.args.haystack.now) (plain c.args.haystack.now c.args.code.now.meaning c.args.bounds.suppressed c.args.bounds.first) c.args.bounds.first c.args.bounds.last (instrs_of c.args.code.now) deep kept (first_accepted (ends_well (good_end c.args.bounds c.args.haystack.now)) (events_of (way (plain c.args.haystack.now c.args.code.now.meaning c.args.bounds.suppressed c.args.bounds.first) c.args.bounds.last (instrs_of c.args.code.now) deep kept c.args.ways.now.current))) c.visit.new.table x) b.0 rest));
       within = within;
       room = c.visit.ensures.room ∙ c.pairs.invariant.room;

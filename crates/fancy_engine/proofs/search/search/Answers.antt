@@ -34,21 +34,21 @@ loop-place-preserved-then-not-is_good_end c = record {
 
 pub returns-then-branch-clause-answer : goal.returns-then-branch-clause-answer
 returns-then-branch-clause-answer c p is =
-    let known = attempt_known (query_of p c.args.code.now c.args.switches c.args.haystack.now c.args.request) c.args.code.now is refl refl refl c.requires.inside (plain c.args.haystack.now c.args.code.now.meaning c.suppressed_in.result c.max-first.result) (ap₂ (plain c.args.haystack.now c.args.code.now.meaning) c.suppressed_in.ensures c.max-first.ensures) c.loop-place.place c.begin.new.self.current c.in-Ok.ensures.begun (omega (arith, c.last_position-last.ensures.inside)) in
-    let is_answer = attempt_answer (query_of p c.args.code.now c.args.switches c.args.haystack.now c.args.request) c.args.code.now is refl refl refl c.requires.inside (plain c.args.haystack.now c.args.code.now.meaning c.suppressed_in.result c.max-first.result) (ap₂ (plain c.args.haystack.now c.args.code.now.meaning) c.suppressed_in.ensures c.max-first.ensures) c.loop-place.place c.begin.new.self.current c.in-Ok.ensures.begun (omega (arith, c.last_position-last.ensures.inside)) (sym c.if-not-is_good_end.ensures) in
-    let found = rw c.if-branch.true at (c.in_ok-follow.ensures.answer c.loop-place.place (deep (query_of p c.args.code.now c.args.switches c.args.haystack.now c.args.request) c.args.code.now is refl refl refl c.requires.inside (plain c.args.haystack.now c.args.code.now.meaning c.suppressed_in.result c.max-first.result) (ap₂ (plain c.args.haystack.now c.args.code.now.meaning) c.suppressed_in.ensures c.max-first.ensures))) in
+    let known = attempt_known (query_of p c.args.code.now c.args.switches c.args.haystack.now c.args.request) c.args.code.now is refl refl refl refl c.requires.inside (plain c.args.haystack.now c.args.code.now.meaning c.suppressed_in.result c.max-first.result) (ap₂ (plain c.args.haystack.now c.args.code.now.meaning) c.suppressed_in.ensures c.max-first.ensures) c.loop-place.place c.begin.new.self.current c.in-Ok.ensures.begun (omega (arith, c.last_position-last.ensures.inside)) in
+    let is_answer = attempt_answer (query_of p c.args.code.now c.args.switches c.args.haystack.now c.args.request) c.args.code.now is refl refl refl refl c.requires.inside (plain c.args.haystack.now c.args.code.now.meaning c.suppressed_in.result c.max-first.result) (ap₂ (plain c.args.haystack.now c.args.code.now.meaning) c.suppressed_in.ensures c.max-first.ensures) c.requires.easy c.loop-place.place c.begin.new.self.current c.in-Ok.ensures.begun (omega (arith, c.last_position-last.ensures.inside)) (sym c.if-not-is_good_end.ensures) in
+    let found = rw c.if-branch.true at (c.in_ok-follow.ensures.answer c.loop-place.place (deep (query_of p c.args.code.now c.args.switches c.args.haystack.now c.args.request) c.args.code.now is refl refl refl refl c.requires.inside (plain c.args.haystack.now c.args.code.now.meaning c.suppressed_in.result c.max-first.result) (ap₂ (plain c.args.haystack.now c.args.code.now.meaning) c.suppressed_in.ensures c.max-first.ensures))) in
     sym (c.loop-place.invariant.left p is
     ∙ search_hit (query_of p c.args.code.now c.args.switches c.args.haystack.now c.args.request) (c.last_position-last.result + 1 - c.loop-place.place) (c.last_position-last.result + 1 - (c.loop-place.place + 1)) c.loop-place.place (omega arith) _ (sym is_answer ∙ sym (found known (c.loop-place.invariant.failed p is))))
 
 pub loop-place-preserved : goal.loop-place-preserved
 loop-place-preserved c = record {
   left = λ p is.
-      (let known = attempt_known (query_of p c.args.code.now c.args.switches c.args.haystack.now c.args.request) c.args.code.now is refl refl refl c.requires.inside (plain c.args.haystack.now c.args.code.now.meaning c.suppressed_in.result c.max-first.result) (ap₂ (plain c.args.haystack.now c.args.code.now.meaning) c.suppressed_in.ensures c.max-first.ensures) c.loop-place.place c.begin.new.self.current c.in-Ok.ensures.begun (omega (arith, c.last_position-last.ensures.inside)) in
-      let is_answer = attempt_answer (query_of p c.args.code.now c.args.switches c.args.haystack.now c.args.request) c.args.code.now is refl refl refl c.requires.inside (plain c.args.haystack.now c.args.code.now.meaning c.suppressed_in.result c.max-first.result) (ap₂ (plain c.args.haystack.now c.args.code.now.meaning) c.suppressed_in.ensures c.max-first.ensures) c.loop-place.place c.begin.new.self.current c.in-Ok.ensures.begun (omega (arith, c.last_position-last.ensures.inside)) (sym c.if-not-is_good_end.ensures) in
-      let found = rw c.if-branch.false at (c.in_ok-follow.ensures.answer c.loop-place.place (deep (query_of p c.args.code.now c.args.switches c.args.haystack.now c.args.request) c.args.code.now is refl refl refl c.requires.inside (plain c.args.haystack.now c.args.code.now.meaning c.suppressed_in.result c.max-first.result) (ap₂ (plain c.args.haystack.now c.args.code.now.meaning) c.suppressed_in.ensures c.max-first.ensures))) in
+      (let known = attempt_known (query_of p c.args.code.now c.args.switches c.args.haystack.now c.args.request) c.args.code.now is refl refl refl refl c.requires.inside (plain c.args.haystack.now c.args.code.now.meaning c.suppressed_in.result c.max-first.result) (ap₂ (plain c.args.haystack.now c.args.code.now.meaning) c.suppressed_in.ensures c.max-first.ensures) c.loop-place.place c.begin.new.self.current c.in-Ok.ensures.begun (omega (arith, c.last_position-last.ensures.inside)) in
+      let is_answer = attempt_answer (query_of p c.args.code.now c.args.switches c.args.haystack.now c.args.request) c.args.code.now is refl refl refl refl c.requires.inside (plain c.args.haystack.now c.args.code.now.meaning c.suppressed_in.result c.max-first.result) (ap₂ (plain c.args.haystack.now c.args.code.now.meaning) c.suppressed_in.ensures c.max-first.ensures) c.requires.easy c.loop-place.place c.begin.new.self.current c.in-Ok.ensures.begun (omega (arith, c.last_position-last.ensures.inside)) (sym c.if-not-is_good_end.ensures) in
+      let found = rw c.if-branch.false at (c.in_ok-follow.ensures.answer c.loop-place.place (deep (query_of p c.args.code.now c.args.switches c.args.haystack.now c.args.request) c.args.code.now is refl refl refl refl c.requires.inside (plain c.args.haystack.now c.args.code.now.meaning c.suppressed_in.result c.max-first.result) (ap₂ (plain c.args.haystack.now c.args.code.now.meaning) c.suppressed_in.ensures c.max-first.ensures))) in
       c.loop-place.invariant.left p is
       ∙ search_miss (query_of p c.args.code.now c.args.switches c.args.haystack.now c.args.request) (c.last_position-last.result + 1 - c.loop-place.place) (c.last_position-last.result + 1 - (c.loop-place.place + 1)) c.loop-place.place (omega arith) (sym is_answer ∙ sym (found known (c.loop-place.invariant.failed p is))));
-  failed = λ p is. c.in_ok-follow.ensures.failed c.loop-place.place (deep (query_of p c.args.code.now c.args.switches c.args.haystack.now c.args.request) c.args.code.now is refl refl refl c.requires.inside (plain c.args.haystack.now c.args.code.now.meaning c.suppressed_in.result c.max-first.result) (ap₂ (plain c.args.haystack.now c.args.code.now.meaning) c.suppressed_in.ensures c.max-first.ensures)) (attempt_known (query_of p c.args.code.now c.args.switches c.args.haystack.now c.args.request) c.args.code.now is refl refl refl c.requires.inside (plain c.args.haystack.now c.args.code.now.meaning c.suppressed_in.result c.max-first.result) (ap₂ (plain c.args.haystack.now c.args.code.now.meaning) c.suppressed_in.ensures c.max-first.ensures) c.loop-place.place c.begin.new.self.current c.in-Ok.ensures.begun (omega (arith, c.last_position-last.ensures.inside))) (c.loop-place.invariant.failed p is) c.if-branch.false;
+  failed = λ p is. c.in_ok-follow.ensures.failed c.loop-place.place (deep (query_of p c.args.code.now c.args.switches c.args.haystack.now c.args.request) c.args.code.now is refl refl refl refl c.requires.inside (plain c.args.haystack.now c.args.code.now.meaning c.suppressed_in.result c.max-first.result) (ap₂ (plain c.args.haystack.now c.args.code.now.meaning) c.suppressed_in.ensures c.max-first.ensures)) (attempt_known (query_of p c.args.code.now c.args.switches c.args.haystack.now c.args.request) c.args.code.now is refl refl refl refl c.requires.inside (plain c.args.haystack.now c.args.code.now.meaning c.suppressed_in.result c.max-first.result) (ap₂ (plain c.args.haystack.now c.args.code.now.meaning) c.suppressed_in.ensures c.max-first.ensures) c.loop-place.place c.begin.new.self.current c.in-Ok.ensures.begun (omega (arith, c.last_position-last.ensures.inside))) (c.loop-place.invariant.failed p is) c.if-branch.false;
   room = c.follow.ensures.room ∙ c.loop-place.invariant.room;
   small = omega (arith, c.follow.ensures.room, c.loop-place.invariant.small);
   ticks = c.in_ok-follow.ensures.ticks;

@@ -1,7 +1,11 @@
 use Rattle.std.proofs.Common.{refl}
+use Rattle.fancy_engine.proofs.EasyLemmas.{easy_code}
 use Rattle.fancy_core.specs.Regexes.{asked}
 use Rattle.fancy_core.proofs.SearchedLemmas.{known, ordered_found, inside_found, clean_found}
 use Rattle.fancy_core.proofs.regex.Regex.search.Goals as goal
+
+pub search-requires-clause-easy : goal.search-requires-clause-easy
+search-requires-clause-easy c = easy_code _ c.args.self.now.light
 
 pub returns-in-Ok-clause-answer : goal.returns-in-Ok-clause-answer
 returns-in-Ok-clause-answer c = known _ _ c.args.self.now.compiled

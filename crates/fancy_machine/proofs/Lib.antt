@@ -1,0 +1,9 @@
+pub mod Closing
+pub mod Steps
+pub mod Searches
+pub mod Layers
+pub mod Stops
+pub mod Seen
+pub mod Positions
+pub mod BackLemmas
+pub mod RecallLemmas

@@ -1,0 +1,160 @@
+-- An attempt at a position, and the positions of a search by the machine.
+use Rattle.std.proofs.Common.{◌≡◌, ℕ, suc, ◌+◌, ◌≤◌, Bool, true, false, not, ◌&&◌, ◌||◌, ◌==◌, List, [], ◌∷◌, ◌++◌, filter, length, map, replicate, Option, Some, None, refl, sym, ap, ap₂, ◌∙◌, subst, arith}
+use Rattle.std.specs.Prelude.{if◌then◌else◌, is_some}
+use Rattle.std.proofs.lemmas.List.{length-replicate, append-nil}
+use Rattle.fancy_engine.specs.declared.code.Code.{Code}
+use Rattle.fancy_engine.specs.Code.{instrs_of}
+use Rattle.fancy_engine.specs.Context.{Context, State, Span}
+use Rattle.fancy_engine.specs.Events.{Event, mark, return, outcome, outcomes_in, marks_in, returns_in}
+use Rattle.fancy_engine.specs.Trace.{trace, outcomes}
+use Rattle.fancy_engine.specs.Run.{Raw, Given, run}
+use Rattle.fancy_engine.specs.Means.{IsCodeOf, depth}
+use Rattle.fancy_engine.specs.Search.{Query, context_of, initial, trace_at, outcomes_at, admits, accepted, first_one, longest_one, answer_at, before_accepted, gone_through, gone_from}
+use Rattle.fancy_engine.specs.Threads.{empty, span_of, from_of}
+use Rattle.fancy_engine.proofs.Logs.{map-replicate}
+use Rattle.fancy_engine.proofs.Programs.{Whole, program_gives}
+use Rattle.fancy_machine.specs.declared.machine.Field.{Field}
+use Rattle.fancy_machine.specs.Field.{context_in, accepts, code_in}
+use Rattle.fancy_machine.specs.Asked.{all_tried}
+use Rattle.fancy_machine.specs.Frames.{Spot}
+use Rattle.fancy_input.specs.Places.{is_boundary}
+use Rattle.fancy_machine.specs.Held.{spot_of}
+use Rattle.fancy_machine.specs.Machine.{IsKnown, events_of, after, chosen, final, returns_to, marks_to}
+
+-- the first outcome that is accepted, and what comes before it
+module _ (ok good : State → Bool) (same : (s : State) → ok s ≡ good s) where
+  chosen_if : (c d : Bool) (s : State) (ss : List State) (o : Option State) → c ≡ d → o ≡ first_one ss → (if c then Some s else o) ≡ first_one (if d then (s ∷ ss) else ss)
+  chosen_if true true s ss o e f = refl
+  chosen_if false false s ss o e f = f
+  chosen_if true false s ss o e f = cc
+  chosen_if false true s ss o e f = cc
+
+  pub chosen_is : (es : List Event) → chosen false ok None es ≡ first_one (filter good (outcomes_in es))
+  chosen_is [] = refl
+  chosen_is (mark ∷ es) = chosen_is es
+  chosen_is (return ∷ es) = chosen_is es
+  chosen_is (outcome s ∷ es) = chosen_if (ok s) (good s) s (filter good (outcomes_in es)) (chosen false ok None es) (same s) (chosen_is es)
+
+  count_if : (c d : Bool) (s : State) (es : List Event) (n : ℕ) → c ≡ d → n ≡ returns_in es → (if (c && true) then 0 else n) ≡ returns_in (if d then [] else (outcome s ∷ es))
+  count_if true true s es n e f = refl
+  count_if false false s es n e f = f
+  count_if true false s es n e f = cc
+  count_if false true s es n e f = cc
+
+  pub returns_is : (es : List Event) → returns_to (final false ok) es ≡ returns_in (before_accepted good es)
+  returns_is [] = refl
+  returns_is (mark ∷ es) = returns_is es
+  returns_is (return ∷ es) = ap suc (returns_is es)
+  returns_is (outcome s ∷ es) = count_if (ok s) (good s) s (before_accepted good es) (returns_to (final false ok) es) (same s) (returns_is es)
+
+  mark_if : (c d : Bool) (s : State) (es : List Event) (n : ℕ) → c ≡ d → n ≡ marks_in es → (if (c && true) then 0 else n) ≡ marks_in (if d then [] else (outcome s ∷ es))
+  mark_if true true s es n e f = refl
+  mark_if false false s es n e f = f
+  mark_if true false s es n e f = cc
+  mark_if false true s es n e f = cc
+
+  pub marks_is : (es : List Event) → marks_to (final false ok) es ≡ marks_in (before_accepted good es)
+  marks_is [] = refl
+  marks_is (mark ∷ es) = ap suc (marks_is es)
+  marks_is (return ∷ es) = marks_is es
+  marks_is (outcome s ∷ es) = mark_if (ok s) (good s) s (before_accepted good es) (marks_to (final false ok) es) (same s) (marks_is es)
+
+known_events : (o : Option (List Raw)) (es : List Event) → Given Whole o es → IsKnown o × (events_of o ≡ es)
+known_events o es g = (subst IsKnown (sym g.1) tt, ap events_of g.1 ∙ g.2)
+
+module _ (q : Query) (code : Code) (is : IsCodeOf q.sought.pattern code) (groups : q.sought.groups ≡ code.groups) (meant : q.sought.meaning ≡ code.meaning)
+    (shortest : q.sought.longest ≡ false) (inside : q.request.range_end ≤ length q.haystack) (f : Field)
+    (seen : context_in q.haystack code.meaning f ≡ context_of q) (bounds : f.on_boundaries ≡ q.sought.on_boundaries) (filled : f.not_empty ≡ q.sought.not_empty) where
+  -- how deep the code goes
+  abbrev pub deep : ℕ
+  deep = depth (length q.haystack) q.sought.pattern + 1
+
+  begun : (p : ℕ) → (spot_of code.start q.request.range_end p p (replicate code.groups empty)).state ≡ initial q p
+  begun p =
+      let g : List (Option Span) → State = λ l. record { place = p; captures = l; kept = p } in
+      ap g (map-replicate span_of code.groups empty ∙ ap (λ (n : ℕ). replicate n None) (sym groups))
+
+  starts : length (map from_of (replicate code.groups empty)) ≡ code.groups
+  starts = ap length (map-replicate from_of code.groups empty) ∙ length-replicate code.groups 0
+
+  pub attempt_begins : (p : ℕ) (x : Spot) → x ≡ spot_of code.start q.request.range_end p p (replicate code.groups empty) → p ≤ q.request.range_end
+      → IsKnown (after (code_in q.haystack code f deep) x) × (events_of (after (code_in q.haystack code f deep) x) ≡ trace_at q p)
+  attempt_begins p x e le =
+      let y = spot_of code.start q.request.range_end p p (replicate code.groups empty) in
+      let g = program_gives (context_of q) q.request.range_end q.sought.pattern code is meant inside y.state y.starts le starts in
+      subst (λ (z : Spot). IsKnown (after (code_in q.haystack code f deep) z) × (events_of (after (code_in q.haystack code f deep) z) ≡ trace_at q p)) (sym e)
+      (subst (λ (cx : Context). IsKnown (run cx q.request.range_end (instrs_of code) deep code.start y.state y.starts) × (events_of (run cx q.request.range_end (instrs_of code) deep code.start y.state y.starts) ≡ trace_at q p)) (sym seen)
+      (known_events _ _ (g.0, g.1, g.2 ∙ ap (trace (context_of q) q.request.range_end q.sought.pattern) (begun p), g.3)))
+
+  -- where the position is admitted, the machine accepts what the query accepts
+  accepts_is : (p : ℕ) → admits q p ≡ true → (s : State) → accepts f q.haystack s ≡ accepted q p s
+  accepts_is p may s =
+      ap₂ (λ (b n : Bool). good b s.kept && (good b s.place && (not n || not (s.kept == s.place)))) bounds filled
+      ∙ sym (ap (λ (b : Bool). b && (admits q s.kept && (admits q s.place && (not q.sought.not_empty || not (s.kept == s.place))))) may) where
+        good : Bool → ℕ → Bool
+        good b i = not b || is_boundary q.haystack i
+
+  module _ (p : ℕ) (may : admits q p ≡ true) where
+    pub answer_is : chosen false (accepts f q.haystack) None (trace_at q p) ≡ answer_at q p
+    unfolding answer_at outcomes
+    answer_is =
+        chosen_is (accepts f q.haystack) (accepted q p) (accepts_is p may) (trace_at q p)
+        ∙ sym (ap (λ (b : Bool). if b then (longest_one (filter (accepted q p) (outcomes_at q p))) else (first_one (filter (accepted q p) (outcomes_at q p)))) shortest)
+
+    through : gone_through q p ≡ before_accepted (accepted q p) (trace_at q p)
+    unfolding gone_through
+    through = ap (λ (b : Bool). if b then trace_at q p else before_accepted (accepted q p) (trace_at q p)) shortest
+
+    pub returns_at : returns_to (final false (accepts f q.haystack)) (trace_at q p) ≡ returns_in (gone_through q p)
+    returns_at = returns_is (accepts f q.haystack) (accepted q p) (accepts_is p may) (trace_at q p) ∙ sym (ap returns_in through)
+
+    pub marks_at : marks_to (final false (accepts f q.haystack)) (trace_at q p) ≡ marks_in (gone_through q p)
+    marks_at = marks_is (accepts f q.haystack) (accepted q p) (accepts_is p may) (trace_at q p) ∙ sym (ap marks_in through)
+
+returns-append : (a b : List Event) → returns_in (a ++ b) ≡ returns_in a + returns_in b
+returns-append [] b = omega arith
+returns-append (mark ∷ a) b = returns-append a b
+returns-append (return ∷ a) b = omega (arith, returns-append a b)
+returns-append (outcome s ∷ a) b = returns-append a b
+
+marks-append : (a b : List Event) → marks_in (a ++ b) ≡ marks_in a + marks_in b
+marks-append [] b = omega arith
+marks-append (mark ∷ a) b = omega (arith, marks-append a b)
+marks-append (return ∷ a) b = marks-append a b
+marks-append (outcome s ∷ a) b = marks-append a b
+
+module _ (q : Query) (n m p : ℕ) (e : n ≡ suc m) where
+  unrolled : gone_from q all_tried n p ≡ (if admits q p && true then gone_through q p else []) ++ (if is_some (answer_at q p) then [] else gone_from q all_tried m (p + 1))
+  unfolding gone_from
+  unrolled = subst (λ (j : ℕ). gone_from q all_tried j p ≡ (if admits q p && true then gone_through q p else []) ++ (if is_some (answer_at q p) then [] else gone_from q all_tried m (p + 1))) (sym e) refl
+
+  pub gone_skip : admits q p ≡ false → answer_at q p ≡ None → gone_from q all_tried n p ≡ gone_from q all_tried m (p + 1)
+  gone_skip may none =
+      unrolled ∙ ap₂ (λ (b : Bool) (o : Option State). (if b && true then gone_through q p else []) ++ (if is_some o then [] else gone_from q all_tried m (p + 1))) may none
+
+  pub gone_miss : admits q p ≡ true → answer_at q p ≡ None → gone_from q all_tried n p ≡ gone_through q p ++ gone_from q all_tried m (p + 1)
+  gone_miss may none =
+      unrolled ∙ ap₂ (λ (b : Bool) (o : Option State). (if b && true then gone_through q p else []) ++ (if is_some o then [] else gone_from q all_tried m (p + 1))) may none
+
+  pub gone_hit : (s : State) → admits q p ≡ true → answer_at q p ≡ Some s → gone_from q all_tried n p ≡ gone_through q p
+  gone_hit s may some =
+      unrolled ∙ ap₂ (λ (b : Bool) (o : Option State). (if b && true then gone_through q p else []) ++ (if is_some o then [] else gone_from q all_tried m (p + 1))) may some
+      ∙ append-nil (gone_through q p)
+
+  -- the attempt at p is among what the search goes through
+  pub gone_more : admits q p ≡ true → (returns_in (gone_through q p) ≤ returns_in (gone_from q all_tried n p)) × (marks_in (gone_through q p) ≤ marks_in (gone_from q all_tried n p))
+  gone_more may =
+      let rest = if is_some (answer_at q p) then [] else gone_from q all_tried m (p + 1) in
+      let u : gone_from q all_tried n p ≡ gone_through q p ++ rest = unrolled ∙ ap (λ (b : Bool). (if b && true then gone_through q p else []) ++ rest) may in
+      (omega (arith, ap returns_in u, returns-append (gone_through q p) rest), omega (arith, ap marks_in u, marks-append (gone_through q p) rest))
+
+  pub gone_counts : admits q p ≡ true → answer_at q p ≡ None
+      → (returns_in (gone_from q all_tried n p) ≡ returns_in (gone_through q p) + returns_in (gone_from q all_tried m (p + 1)))
+      × (marks_in (gone_from q all_tried n p) ≡ marks_in (gone_through q p) + marks_in (gone_from q all_tried m (p + 1)))
+  gone_counts may none =
+      let u = gone_miss may none in
+      (ap returns_in u ∙ returns-append (gone_through q p) (gone_from q all_tried m (p + 1)), ap marks_in u ∙ marks-append (gone_through q p) (gone_from q all_tried m (p + 1)))
+
+pub gone_over : (q : Query) (n p : ℕ) → n ≡ 0 → gone_from q all_tried n p ≡ []
+unfolding gone_from
+gone_over q n p e = ap (λ (j : ℕ). gone_from q all_tried j p) e

@@ -1,0 +1,19 @@
+use Rattle.std.proofs.Common.{◌≡◌, ◌+◌, ◌≤◌, None, false}
+use Rattle.fancy_engine.specs.Work.{returns_of}
+use Rattle.fancy_machine.specs.Field.{accepts, code_in}
+use Rattle.fancy_machine.specs.Machine.{Searching, chosen, final, returns_to, marks_to, events_of, after, left, size_of}
+use Rattle.fancy_machine.proofs.machine.attempt.Given as goal
+
+abbrev pub invariant-steps : goal.invariant-steps
+invariant-steps g l = record {
+  searching : Searching false (accepts l.field l.haystack)
+      (chosen false (accepts l.field l.haystack) None (events_of (after (code_in l.haystack l.code l.field g.deep) l.fn.trail.now)))
+      (returns_of l.fn.work + returns_to (final false (accepts l.field l.haystack)) (events_of (after (code_in l.haystack l.code l.field g.deep) l.fn.trail.now)))
+      (marks_to (final false (accepts l.field l.haystack)) (events_of (after (code_in l.haystack l.code l.field g.deep) l.fn.trail.now)))
+      (left (code_in l.haystack l.code l.field g.deep) l.trail.now l.trail.frames) l.trail.frames None (returns_of l.work);
+  room : returns_of l.work ≤ l.limit;
+  most : l.trail.most ≡ l.fn.trail.most;
+}
+
+abbrev pub decreases-steps : goal.decreases-steps
+decreases-steps g l = size_of (left (code_in l.haystack l.code l.field g.deep) l.trail.now l.trail.frames)

@@ -1,0 +1,151 @@
+use Rattle.std.proofs.Common.{◌≡◌, ℕ, suc, ◌+◌, ◌-◌, ◌∙◌, Bool, true, false, Option, Some, None, Result, Ok, Err, refl, sym, ap, ap₂, arith}
+use Rattle.fancy_engine.specs.declared.refusal.Refusal.{Refusal}
+use Rattle.fancy_engine.specs.declared.reading.Suppressed.{Suppressed}
+use Rattle.fancy_engine.specs.Events.{marks_in, returns_in}
+use Rattle.fancy_engine.specs.Search.{context_of, admits}
+use Rattle.fancy_engine.proofs.Attempts.{search_hit, search_miss, search_skip, search_over, positions_none}
+use Rattle.fancy_machine.specs.declared.machine.Field.{Field}
+use Rattle.fancy_machine.specs.Asked.{asked}
+use Rattle.fancy_machine.specs.Field.{context_in, accepts}
+use Rattle.fancy_machine.specs.Machine.{chosen, final, returns_to, marks_to}
+use Rattle.fancy_machine.proofs.Positions.{attempt_begins, answer_is, returns_at, marks_at, gone_skip, gone_hit, gone_more, gone_counts, gone_over}
+use Rattle.fancy_machine.proofs.search.search.Goals as goal
+
+-- the same refusal of another call
+abbrev again : Result (Option ℕ) Refusal → Result Bool Refusal
+again (Ok n) = Ok false
+again (Err e) = Err e
+
+pub returns-then-first-request-clause-answer : goal.returns-then-first-request-clause-answer
+returns-then-first-request-clause-answer g c =
+    sym (search_over (asked g.p c.args.code.now c.args.options c.args.haystack.now c.args.request) _ _ (positions_none c.args.request (omega (arith, c.max-first.ensures))))
+
+pub returns-then-first-request-clause-count : goal.returns-then-first-request-clause-count
+returns-then-first-request-clause-count g c =
+    c.new.ensures.returns ∙ sym (ap returns_in (gone_over (asked g.p c.args.code.now c.args.options c.args.haystack.now c.args.request) _ _ (positions_none c.args.request (omega (arith, c.max-first.ensures)))))
+
+pub loop-place-preserved-then-not-is_good : goal.loop-place-preserved-then-not-is_good
+loop-place-preserved-then-not-is_good g c =
+    let f : Field = record { continues = Some c.max-first.result; suppressed = c.suppressed_in.result; on_boundaries = c.args.options.on_boundaries; not_empty = c.args.options.not_empty } in
+    let q = (asked g.p c.args.code.now c.args.options c.args.haystack.now c.args.request) in
+    let seen : context_in c.args.haystack.now c.args.code.now.meaning f ≡ context_of q =
+    ap₂ (λ (n : ℕ) (s : Suppressed). record { haystack = c.args.haystack.now; meaning = c.args.code.now.meaning; continues_at = Some n; start_text_off = s.start; end_text_off = s.end }) c.max-first.ensures c.suppressed_in.ensures in
+    let may : admits q c.loop-place.place ≡ false = sym c.if-not-is_good.ensures in
+    let en : (c.last_position-last.result + 1 - c.loop-place.place) ≡ suc (c.last_position-last.result + 1 - (c.loop-place.place + 1)) = omega arith in
+    let none = search_skip q c.loop-place.place refl may in
+    let skip = gone_skip q (c.last_position-last.result + 1 - c.loop-place.place) (c.last_position-last.result + 1 - (c.loop-place.place + 1)) c.loop-place.place en may none in
+    record {
+      left = c.loop-place.invariant.left ∙ search_miss q (c.last_position-last.result + 1 - c.loop-place.place) (c.last_position-last.result + 1 - (c.loop-place.place + 1)) c.loop-place.place en none;
+      count = omega (arith, ap returns_in skip, c.loop-place.invariant.count);
+      room = omega (arith, ap marks_in skip, c.loop-place.invariant.room);
+      fits = c.loop-place.invariant.fits;
+    }
+
+pub attempt-requires : goal.attempt-requires
+attempt-requires g c =
+    let f : Field = record { continues = Some c.max-first.result; suppressed = c.suppressed_in.result; on_boundaries = c.args.options.on_boundaries; not_empty = c.args.options.not_empty } in
+    let q = (asked g.p c.args.code.now c.args.options c.args.haystack.now c.args.request) in
+    let seen : context_in c.args.haystack.now c.args.code.now.meaning f ≡ context_of q =
+    ap₂ (λ (n : ℕ) (s : Suppressed). record { haystack = c.args.haystack.now; meaning = c.args.code.now.meaning; continues_at = Some n; start_text_off = s.start; end_text_off = s.end }) c.max-first.ensures c.suppressed_in.ensures in
+    let may : admits q c.loop-place.place ≡ true = sym c.if-not-is_good.ensures in
+    let k = attempt_begins q c.args.code.now c.requires.0 refl refl refl c.requires.1 f seen refl refl c.loop-place.place c.begin.new.self.now c.in-Ok.ensures.begun (omega (arith, c.last_position-last.ensures.inside)) in
+    let ok = accepts f c.args.haystack.now in
+    let er = ap (returns_to (final false ok)) k.1 ∙ returns_at q c.args.code.now c.requires.0 refl refl refl c.requires.1 f seen refl refl c.loop-place.place may in
+    let em = ap (marks_to (final false ok)) k.1 ∙ marks_at q c.args.code.now c.requires.0 refl refl refl c.requires.1 f seen refl refl c.loop-place.place may in
+    let en : (c.last_position-last.result + 1 - c.loop-place.place) ≡ suc (c.last_position-last.result + 1 - (c.loop-place.place + 1)) = omega arith in
+    (k.0, (c.begin.ensures.frames, c.loop-place.invariant.fits))
+
+pub returns-in-Err-attempt-clause-refused : goal.returns-in-Err-attempt-clause-refused
+returns-in-Err-attempt-clause-refused g c e =
+    let f : Field = record { continues = Some c.max-first.result; suppressed = c.suppressed_in.result; on_boundaries = c.args.options.on_boundaries; not_empty = c.args.options.not_empty } in
+    let q = (asked g.p c.args.code.now c.args.options c.args.haystack.now c.args.request) in
+    let seen : context_in c.args.haystack.now c.args.code.now.meaning f ≡ context_of q =
+    ap₂ (λ (n : ℕ) (s : Suppressed). record { haystack = c.args.haystack.now; meaning = c.args.code.now.meaning; continues_at = Some n; start_text_off = s.start; end_text_off = s.end }) c.max-first.ensures c.suppressed_in.ensures in
+    let may : admits q c.loop-place.place ≡ true = sym c.if-not-is_good.ensures in
+    let k = attempt_begins q c.args.code.now c.requires.0 refl refl refl c.requires.1 f seen refl refl c.loop-place.place c.begin.new.self.now c.in-Ok.ensures.begun (omega (arith, c.last_position-last.ensures.inside)) in
+    let ok = accepts f c.args.haystack.now in
+    let er = ap (returns_to (final false ok)) k.1 ∙ returns_at q c.args.code.now c.requires.0 refl refl refl c.requires.1 f seen refl refl c.loop-place.place may in
+    let em = ap (marks_to (final false ok)) k.1 ∙ marks_at q c.args.code.now c.requires.0 refl refl refl c.requires.1 f seen refl refl c.loop-place.place may in
+    let en : (c.last_position-last.result + 1 - c.loop-place.place) ≡ suc (c.last_position-last.result + 1 - (c.loop-place.place + 1)) = omega arith in
+    let lt = c.in-Err-attempt.ensures.refused (ap again e) in
+    let more = gone_more q (c.last_position-last.result + 1 - c.loop-place.place) (c.last_position-last.result + 1 - (c.loop-place.place + 1)) c.loop-place.place en may in
+    omega (arith, lt, er, more.0, c.loop-place.invariant.count)
+
+pub returns-in-Err-attempt-clause-crowded : goal.returns-in-Err-attempt-clause-crowded
+returns-in-Err-attempt-clause-crowded g c e =
+    let f : Field = record { continues = Some c.max-first.result; suppressed = c.suppressed_in.result; on_boundaries = c.args.options.on_boundaries; not_empty = c.args.options.not_empty } in
+    let q = (asked g.p c.args.code.now c.args.options c.args.haystack.now c.args.request) in
+    let seen : context_in c.args.haystack.now c.args.code.now.meaning f ≡ context_of q =
+    ap₂ (λ (n : ℕ) (s : Suppressed). record { haystack = c.args.haystack.now; meaning = c.args.code.now.meaning; continues_at = Some n; start_text_off = s.start; end_text_off = s.end }) c.max-first.ensures c.suppressed_in.ensures in
+    let may : admits q c.loop-place.place ≡ true = sym c.if-not-is_good.ensures in
+    let k = attempt_begins q c.args.code.now c.requires.0 refl refl refl c.requires.1 f seen refl refl c.loop-place.place c.begin.new.self.now c.in-Ok.ensures.begun (omega (arith, c.last_position-last.ensures.inside)) in
+    let ok = accepts f c.args.haystack.now in
+    let er = ap (returns_to (final false ok)) k.1 ∙ returns_at q c.args.code.now c.requires.0 refl refl refl c.requires.1 f seen refl refl c.loop-place.place may in
+    let em = ap (marks_to (final false ok)) k.1 ∙ marks_at q c.args.code.now c.requires.0 refl refl refl c.requires.1 f seen refl refl c.loop-place.place may in
+    let en : (c.last_position-last.result + 1 - c.loop-place.place) ≡ suc (c.last_position-last.result + 1 - (c.loop-place.place + 1)) = omega arith in
+    let lt = c.in-Err-attempt.ensures.crowded (ap again e) in
+    let more = gone_more q (c.last_position-last.result + 1 - c.loop-place.place) (c.last_position-last.result + 1 - (c.loop-place.place + 1)) c.loop-place.place en may in
+    omega (arith, lt, c.begin.ensures.most, em, more.1, c.loop-place.invariant.room)
+
+pub returns-then-found-clause-answer : goal.returns-then-found-clause-answer
+returns-then-found-clause-answer g c =
+    let f : Field = record { continues = Some c.max-first.result; suppressed = c.suppressed_in.result; on_boundaries = c.args.options.on_boundaries; not_empty = c.args.options.not_empty } in
+    let q = (asked g.p c.args.code.now c.args.options c.args.haystack.now c.args.request) in
+    let seen : context_in c.args.haystack.now c.args.code.now.meaning f ≡ context_of q =
+    ap₂ (λ (n : ℕ) (s : Suppressed). record { haystack = c.args.haystack.now; meaning = c.args.code.now.meaning; continues_at = Some n; start_text_off = s.start; end_text_off = s.end }) c.max-first.ensures c.suppressed_in.ensures in
+    let may : admits q c.loop-place.place ≡ true = sym c.if-not-is_good.ensures in
+    let k = attempt_begins q c.args.code.now c.requires.0 refl refl refl c.requires.1 f seen refl refl c.loop-place.place c.begin.new.self.now c.in-Ok.ensures.begun (omega (arith, c.last_position-last.ensures.inside)) in
+    let ok = accepts f c.args.haystack.now in
+    let er = ap (returns_to (final false ok)) k.1 ∙ returns_at q c.args.code.now c.requires.0 refl refl refl c.requires.1 f seen refl refl c.loop-place.place may in
+    let em = ap (marks_to (final false ok)) k.1 ∙ marks_at q c.args.code.now c.requires.0 refl refl refl c.requires.1 f seen refl refl c.loop-place.place may in
+    let en : (c.last_position-last.result + 1 - c.loop-place.place) ≡ suc (c.last_position-last.result + 1 - (c.loop-place.place + 1)) = omega arith in
+    let a = rw c.if-found.true at c.in-Ok-attempt.ensures.answer in
+    let hit = sym (a ∙ ap (chosen false ok None) k.1 ∙ answer_is q c.args.code.now c.requires.0 refl refl refl c.requires.1 f seen refl refl c.loop-place.place may) in
+    sym (c.loop-place.invariant.left ∙ search_hit q (c.last_position-last.result + 1 - c.loop-place.place) (c.last_position-last.result + 1 - (c.loop-place.place + 1)) c.loop-place.place en _ hit)
+
+pub returns-then-found-clause-count : goal.returns-then-found-clause-count
+returns-then-found-clause-count g c =
+    let f : Field = record { continues = Some c.max-first.result; suppressed = c.suppressed_in.result; on_boundaries = c.args.options.on_boundaries; not_empty = c.args.options.not_empty } in
+    let q = (asked g.p c.args.code.now c.args.options c.args.haystack.now c.args.request) in
+    let seen : context_in c.args.haystack.now c.args.code.now.meaning f ≡ context_of q =
+    ap₂ (λ (n : ℕ) (s : Suppressed). record { haystack = c.args.haystack.now; meaning = c.args.code.now.meaning; continues_at = Some n; start_text_off = s.start; end_text_off = s.end }) c.max-first.ensures c.suppressed_in.ensures in
+    let may : admits q c.loop-place.place ≡ true = sym c.if-not-is_good.ensures in
+    let k = attempt_begins q c.args.code.now c.requires.0 refl refl refl c.requires.1 f seen refl refl c.loop-place.place c.begin.new.self.now c.in-Ok.ensures.begun (omega (arith, c.last_position-last.ensures.inside)) in
+    let ok = accepts f c.args.haystack.now in
+    let er = ap (returns_to (final false ok)) k.1 ∙ returns_at q c.args.code.now c.requires.0 refl refl refl c.requires.1 f seen refl refl c.loop-place.place may in
+    let em = ap (marks_to (final false ok)) k.1 ∙ marks_at q c.args.code.now c.requires.0 refl refl refl c.requires.1 f seen refl refl c.loop-place.place may in
+    let en : (c.last_position-last.result + 1 - c.loop-place.place) ≡ suc (c.last_position-last.result + 1 - (c.loop-place.place + 1)) = omega arith in
+    let a = rw c.if-found.true at c.in-Ok-attempt.ensures.answer in
+    let hit = sym (a ∙ ap (chosen false ok None) k.1 ∙ answer_is q c.args.code.now c.requires.0 refl refl refl c.requires.1 f seen refl refl c.loop-place.place may) in
+    let through = gone_hit q (c.last_position-last.result + 1 - c.loop-place.place) (c.last_position-last.result + 1 - (c.loop-place.place + 1)) c.loop-place.place en _ may hit in
+    omega (arith, c.in-Ok-attempt.ensures.count, er, ap returns_in through, c.loop-place.invariant.count)
+
+pub loop-place-preserved : goal.loop-place-preserved
+loop-place-preserved g c =
+    let f : Field = record { continues = Some c.max-first.result; suppressed = c.suppressed_in.result; on_boundaries = c.args.options.on_boundaries; not_empty = c.args.options.not_empty } in
+    let q = (asked g.p c.args.code.now c.args.options c.args.haystack.now c.args.request) in
+    let seen : context_in c.args.haystack.now c.args.code.now.meaning f ≡ context_of q =
+    ap₂ (λ (n : ℕ) (s : Suppressed). record { haystack = c.args.haystack.now; meaning = c.args.code.now.meaning; continues_at = Some n; start_text_off = s.start; end_text_off = s.end }) c.max-first.ensures c.suppressed_in.ensures in
+    let may : admits q c.loop-place.place ≡ true = sym c.if-not-is_good.ensures in
+    let k = attempt_begins q c.args.code.now c.requires.0 refl refl refl c.requires.1 f seen refl refl c.loop-place.place c.begin.new.self.now c.in-Ok.ensures.begun (omega (arith, c.last_position-last.ensures.inside)) in
+    let ok = accepts f c.args.haystack.now in
+    let er = ap (returns_to (final false ok)) k.1 ∙ returns_at q c.args.code.now c.requires.0 refl refl refl c.requires.1 f seen refl refl c.loop-place.place may in
+    let em = ap (marks_to (final false ok)) k.1 ∙ marks_at q c.args.code.now c.requires.0 refl refl refl c.requires.1 f seen refl refl c.loop-place.place may in
+    let en : (c.last_position-last.result + 1 - c.loop-place.place) ≡ suc (c.last_position-last.result + 1 - (c.loop-place.place + 1)) = omega arith in
+    let a = rw c.if-found.false at c.in-Ok-attempt.ensures.answer in
+    let none = sym (a ∙ ap (chosen false ok None) k.1 ∙ answer_is q c.args.code.now c.requires.0 refl refl refl c.requires.1 f seen refl refl c.loop-place.place may) in
+    let counts = gone_counts q (c.last_position-last.result + 1 - c.loop-place.place) (c.last_position-last.result + 1 - (c.loop-place.place + 1)) c.loop-place.place en may none in
+    record {
+      left = c.loop-place.invariant.left ∙ search_miss q (c.last_position-last.result + 1 - c.loop-place.place) (c.last_position-last.result + 1 - (c.loop-place.place + 1)) c.loop-place.place en none;
+      count = omega (arith, c.in-Ok-attempt.ensures.count, er, counts.0, c.loop-place.invariant.count);
+      room = omega (arith, counts.1, c.loop-place.invariant.room);
+      fits = c.attempt.ensures.fits;
+    }
+
+pub returns-clause-answer : goal.returns-clause-answer
+returns-clause-answer g c =
+    sym (c.loop-place.invariant.left ∙ search_over (asked g.p c.args.code.now c.args.options c.args.haystack.now c.args.request) _ _ (omega arith))
+
+pub returns-clause-count : goal.returns-clause-count
+returns-clause-count g c =
+    omega (arith, c.loop-place.invariant.count, ap returns_in (gone_over (asked g.p c.args.code.now c.args.options c.args.haystack.now c.args.request) (c.last_position-last.result + 1 - c.loop-place.place) c.loop-place.place (omega arith)))

@@ -1,0 +1,81 @@
+use Rattle.std.proofs.Common.{◌≡◌, ◌∙◌, List, ◌∷◌, length, arith, ap, ap₂, sym, subst}
+use Rattle.std.proofs.lemmas.List.{length-take-le}
+use Rattle.fancy_engine.specs.declared.slot.Slot.{Slot}
+use Rattle.fancy_engine.specs.declared.slot.Write.{Write}
+use Rattle.fancy_engine.specs.Work.{returns_of, went_back}
+use Rattle.fancy_machine.specs.declared.layer.Layer.{Layer}
+use Rattle.fancy_machine.specs.Frames.{Spot, Frame}
+use Rattle.fancy_machine.specs.Held.{spot_of, spot_at, frame_at, frames_of, Rises}
+use Rattle.fancy_machine.specs.Machine.{IsSpent, Takes}
+use Rattle.fancy_machine.proofs.Layers.{counted_snoc, saves_one, saves_none, rises_pop, rises_more, frames_snoc, frames_undone, takes_by, takes_past, spent_past, unspent_past}
+use Rattle.fancy_machine.proofs.trail.Trail.back.Goals as goal
+
+pub layers-preserved : goal.layers-preserved
+layers-preserved c =
+    let l = c.in-Some.layer in
+    let log = c.layers.self-inside.log.items in
+    let slots = c.layers.self-inside.slots.items in
+    let rest = c.pop.new.self.items in
+    let e : frames_of log slots c.layers.self-inside.layers.items ≡ frame_at log slots l ∷ frames_of log slots rest = ap (frames_of log slots) c.in-Some.ensures.items ∙ frames_snoc log slots rest l in
+    let r = rises_pop 0 (length log) rest l (subst (λ (ls : List Layer). Rises 0 ls (length log)) c.in-Some.ensures.items c.layers.invariant.rises) in
+    record {
+      branches = omega (arith, c.layers.invariant.branches, counted_snoc _ _ l c.in-Some.ensures.items, saves_none l.kind c.if-not-is_saved.ensures);
+      few = c.layers.invariant.few;
+      rises = rises_more 0 l.log (length log) rest r.1 r.0;
+      most = c.layers.invariant.most;
+      work = c.layers.invariant.work;
+      takes = λ y more t. c.layers.invariant.takes y more (subst (λ (fs : List Frame). Takes fs y more) (sym e) (takes_past l.kind (spot_at log slots l) y _ more c.if-not-is_saved.ensures t));
+      spent = λ t. c.layers.invariant.spent (subst IsSpent (sym e) (spent_past l.kind (spot_at log slots l) _ c.if-not-is_saved.ensures t));
+      unspent = λ t. unspent_past l.kind (spot_at log slots l) _ c.if-not-is_saved.ensures (subst IsSpent e (c.layers.invariant.unspent t));
+    }
+
+pub overflow_sub-self : goal.overflow_sub-self
+overflow_sub-self c =
+    omega (arith, c.layers.invariant.branches, counted_snoc _ _ c.in-Some.layer c.in-Some.ensures.items, saves_one c.in-Some.layer.kind c.if-not-is_saved.ensures)
+
+pub invariant_of-self-then-returns-limit : goal.invariant_of-self-then-returns-limit
+invariant_of-self-then-returns-limit c =
+    let l = c.in-Some.layer in
+    let log = c.layers.self-inside.log.items in
+    let r = rises_pop 0 (length log) c.pop.new.self.items l (subst (λ (ls : List Layer). Rises 0 ls (length log)) c.in-Some.ensures.items c.layers.invariant.rises) in (
+      omega (arith, c.layers.invariant.branches, counted_snoc _ _ l c.in-Some.ensures.items, saves_one l.kind c.if-not-is_saved.ensures),
+      omega (arith, c.layers.invariant.few),
+      rises_more 0 l.log (length log) c.pop.new.self.items r.1 r.0,
+    )
+
+pub undo-requires : goal.undo-requires
+undo-requires c =
+    let l = c.in-Some.layer in
+    let log = c.layers.self-inside.log.items in
+    let r = rises_pop 0 (length log) c.pop.new.self.items l (subst (λ (ls : List Layer). Rises 0 ls (length log)) c.in-Some.ensures.items c.layers.invariant.rises) in
+    omega (arith, r.1, c.layers.self-inside.log.ok.0)
+
+pub invariant_of-self-in-layers : goal.invariant_of-self-in-layers
+invariant_of-self-in-layers c =
+    let l = c.in-Some.layer in
+    let log = c.layers.self-inside.log.items in
+    let r = rises_pop 0 (length log) c.pop.new.self.items l (subst (λ (ls : List Layer). Rises 0 ls (length log)) c.in-Some.ensures.items c.layers.invariant.rises) in (
+      omega (arith, c.layers.invariant.branches, counted_snoc _ _ l c.in-Some.ensures.items, saves_one l.kind c.if-not-is_saved.ensures),
+      omega (arith, c.layers.invariant.few),
+      rises_more 0 l.log _ c.pop.new.self.items (omega (arith, ap length c.undo.ensures.log, length-take-le l.log log r.1)) r.0,
+    )
+
+pub returns-in-layers : goal.returns-in-layers
+returns-in-layers c =
+    let l = c.in-Some.layer in
+    let log = c.layers.self-inside.log.items in
+    let slots = c.layers.self-inside.slots.items in
+    let rest = c.pop.new.self.items in
+    let r = rises_pop 0 (length log) rest l (subst (λ (ls : List Layer). Rises 0 ls (length log)) c.in-Some.ensures.items c.layers.invariant.rises) in
+    let e : frames_of log slots c.layers.self-inside.layers.items ≡ frame_at log slots l ∷ frames_of log slots rest = ap (frames_of log slots) c.in-Some.ensures.items ∙ frames_snoc log slots rest l in
+    let below : frames_of c.undo.new.log.items c.undo.new.slots.items rest ≡ frames_of log slots rest =
+    ap₂ (λ (g : List Write) (s : List Slot). frames_of g s rest) c.undo.ensures.log c.undo.ensures.slots ∙ frames_undone slots log l.log rest r.0 r.1 in
+    let here : spot_of l.at l.limit l.place l.kept c.undo.new.slots.items ≡ spot_at log slots l = ap (spot_of l.at l.limit l.place l.kept) c.undo.ensures.slots in (
+      c.layers.invariant.takes _ _ (subst (λ (fs : List Frame). Takes fs (spot_of l.at l.limit l.place l.kept c.undo.new.slots.items) (frames_of c.undo.new.log.items c.undo.new.slots.items rest)) (sym e)
+          (subst (λ (y : Spot). Takes (frame_at log slots l ∷ frames_of log slots rest) y (frames_of c.undo.new.log.items c.undo.new.slots.items rest)) (sym here)
+          (subst (λ (fs : List Frame). Takes (frame_at log slots l ∷ frames_of log slots rest) (spot_at log slots l) fs) (sym below)
+          (takes_by l.kind (spot_at log slots l) (frames_of log slots rest) c.if-not-is_saved.ensures)))),
+      c.layers.invariant.most,
+      c.count_return.ensures ∙ ap went_back c.layers.invariant.work,
+      omega (arith, c.if-returns-limit.false, c.returns.ensures, ap returns_of c.layers.invariant.work),
+    )

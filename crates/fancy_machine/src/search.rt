@@ -1,0 +1,114 @@
+//! Searches by the machine.
+
+ghost use Rattle.std.specs.Prelude.{◌≡◌, ◌+◌, ◌-◌, ◌<◌, ◌≤◌, ◌&&◌, not, Option, Some, None, Err, IfOk, length};
+ghost use Rattle.fancy_syntax.specs.Pattern.{Pattern};
+ghost use Rattle.fancy_input.specs.Requests.{effective_start, positions};
+ghost use Rattle.fancy_engine.specs.Means.{IsCodeOf};
+ghost use Rattle.fancy_engine.specs.Readings.{suppressed_in};
+ghost use Rattle.fancy_engine.specs.Search.{search, returns, choices};
+ghost use Rattle.fancy_engine.specs.Work.{returns_of};
+ghost use Rattle.fancy_machine.specs.Asked.{asked, answer_of, all_tried};
+
+use crate::machine::{Field, attempt, is_good};
+use crate::trail::Trail;
+use fancy_engine::code::Code;
+use fancy_engine::reading::Suppressed;
+use fancy_engine::refusal::Refusal;
+use fancy_engine::work::Work;
+use fancy_input::input::Request;
+
+/// The most branches that are saved at once.
+pub const MOST: usize = 1_000_000;
+
+/// The options that hold while a haystack is searched.
+#[derive(Clone, Copy, PartialEq, Eq, Debug)]
+pub struct Options {
+    /// Matches begin and end on character boundaries alone.
+    pub on_boundaries: bool,
+    /// A request may say that the text's start, or its end, does not count as one.
+    pub overrides: bool,
+    /// An empty match is refused.
+    pub not_empty: bool,
+    /// The most returns of a search.
+    pub limit: usize,
+}
+
+/// The ends of the text that the request suppresses, where it may.
+fn suppressed_in(overrides: bool, request: Request) -> Suppressed
+    ensures { result ≡ suppressed_in overrides request }
+{
+    Suppressed {
+        start: overrides && !request.start_text,
+        end: overrides && !request.end_text,
+    }
+}
+
+/// The last position that is tried, where the first one is within the range.
+fn last_position(request: Request, first: usize) -> usize
+    requires first { first ≡ effective_start request }
+    requires ordered { first ≤ request.range_end }
+    ensures count { result + 1 - first ≡ positions request }
+    ensures inside { result ≤ request.range_end }
+{
+    if request.anchored {
+        first
+    } else {
+        request.range_end
+    }
+}
+
+/// Searches a haystack for the pattern of the code. Found is the position, a byte offset: that of the first attempt,
+/// from the effective start on, which has an accepted outcome; the trail then stands there.
+///
+/// # Errors
+///
+/// `Refusal::Memory` where memory runs out, `Refusal::Returns` where the search takes more returns than the options
+/// allow, and `Refusal::Choices` where it would save more than 1,000,000 branches at once.
+pub fn search(
+    code: &Code,
+    haystack: &[u8],
+    request: Request,
+    options: Options,
+    trail: &mut Trail,
+    work: &mut Work,
+) -> Result<Option<usize>, Refusal>
+    ghost p: { Pattern }
+    requires code { IsCodeOf p code.now }
+    requires inside { request.range_end ≤ length haystack.now }
+    ensures answer { IfOk result (λ m. answer_of m trail.new.now ≡ search (asked p code.now options haystack.now request)) }
+    ensures count { IfOk result (λ _. returns_of work.new ≡ returns (asked p code.now options haystack.now request) all_tried) }
+    ensures refused { result ≡ Err Refusal.Returns → options.limit < returns (asked p code.now options haystack.now request) all_tried }
+    ensures stopped { result ≡ Err Refusal.Returns → returns_of work.new ≡ options.limit }
+    ensures fits { returns_of work.new ≤ options.limit }
+    ensures crowded { result ≡ Err Refusal.Choices → 1000000 < choices (asked p code.now options haystack.now request) all_tried }
+{
+    *work = Work::new();
+    let first = request.start.max(request.range_start);
+    if first > request.range_end {
+        return Ok(None);
+    }
+    let field = Field {
+        continues: Some(first),
+        suppressed: suppressed_in(options.overrides, request),
+        on_boundaries: options.on_boundaries,
+        not_empty: options.not_empty,
+    };
+    let last = last_position(request, first);
+    for place in first..last + 1 {
+        if !is_good(field, haystack, place) {
+            continue;
+        }
+        match trail.begin(code.start, place, request.range_end, code.groups, MOST) {
+            Ok(()) => {}
+            Err(_) => return Err(Refusal::Memory),
+        }
+        let found = match attempt(code, haystack, field, trail, options.limit, work) {
+            Ok(found) => found,
+            Err(refusal) => return Err(refusal),
+        };
+        if found {
+            return Ok(Some(place));
+        }
+    }
+    Ok(None)
+}

@@ -1,0 +1,420 @@
+//! The way that the machine follows, with the branches that it saved and the regions that are open.
+
+ghost use Rattle.std.specs.Prelude.{◌≡◌, ◌≢◌, ◌+◌, ◌-◌, ◌<◌, ◌≤◌, [], ◌∷◌, ◌++◌, ℕ, List, Err, Some, length, take, drop, replicate, OnOk, IfOk, vec_len, slice_index, slice_index_or, slice_set, if◌then◌else◌, ◌==◌, true, is_some, option_map};
+ghost use Rattle.fancy_engine.specs.Context.{group_span};
+ghost use Rattle.fancy_engine.specs.Run.{Raw, Stop, Note, fetched, Go};
+ghost use Rattle.fancy_engine.specs.Threads.{undone, empty, span_of, ends_of};
+ghost use Rattle.fancy_engine.specs.Work.{returns_of};
+ghost use Rattle.fancy_engine.specs.declared.slot.Write.{Write};
+ghost use Rattle.fancy_engine.specs.declared.slot.Slot.{Slot as SlotIs};
+ghost use Rattle.fancy_machine.specs.declared.layer.Layer.{Layer as LayerIs};
+ghost use Rattle.fancy_machine.specs.Frames.{saved};
+ghost use Rattle.fancy_machine.specs.Held.{spot_of, frame_by, saves, is_one, branches_in, frames_of};
+ghost use Rattle.fancy_machine.specs.Machine.{at_instr, at_place, opened_at, closed_at, kept_at, within_at, finish, Stepped, Backed, Reaches, IsBranch, ends_kind};
+
+use crate::layer::{Kind, Layer};
+use fancy_engine::refusal::Refusal;
+use fancy_engine::runner::Next;
+use fancy_engine::slot::{EMPTY, Extent, Slot, Write};
+use fancy_engine::ways::undo;
+use fancy_engine::work::Work;
+use std::alloc::{AllocError, Global};
+use std::marker::Model;
+
+/// How many layers stand up to the innermost that is no saved branch, if there is one.
+fn innermost(layers: &[Layer]) -> usize
+    ensures reaches { Reaches result layers.now }
+    ensures open { (d : LayerIs) → 0 < result → IsBranch (slice_index_or layers.now (result - 1) d).kind → ⊥ }
+{
+    let mut top = layers.len();
+    while top > 0 {
+        match layers[top - 1].kind {
+            Kind::Branch => {}
+            _ => return top,
+        }
+        top -= 1;
+    }
+    0
+}
+
+/// Whether a look-around from a place may end at another: one that looks behind ends where it began.
+fn ends(behind: bool, from: usize, place: usize) -> bool
+    ensures { result ≡ (if behind then place == from else true) }
+{
+    if behind {
+        return place == from;
+    }
+    true
+}
+
+/// Whether a way that stops at a place ends the region of a layer of this kind.
+fn is_ended(kind: Kind, from: usize, place: usize) -> bool
+    ensures { result ≡ ends_kind kind from place }
+{
+    match kind {
+        Kind::Branch => true,
+        Kind::Atom => true,
+        Kind::Look(behind) => ends(behind, from, place),
+        Kind::Denial(behind) => ends(behind, from, place),
+        Kind::Condition => true,
+    }
+}
+
+/// Whether a layer of this kind saves a branch.
+fn is_saved(kind: Kind) -> bool
+    ensures { result ≡ is_one (saves kind) }
+{
+    match kind {
+        Kind::Branch | Kind::Denial(_) | Kind::Condition => true,
+        Kind::Atom | Kind::Look(_) => false,
+    }
+}
+
+/// What is known of a group.
+fn slot_at(slots: &[Slot], number: usize) -> Slot
+    ensures { result ≡ slice_index_or slots.now number empty }
+{
+    match slots.get(number) {
+        Some(slot) => *slot,
+        None => EMPTY,
+    }
+}
+
+/// Whether the group of a slot has taken part.
+fn has_span(slot: Slot) -> bool
+    ensures { result ≡ is_some (span_of slot) }
+{
+    match slot.span {
+        Some(_) => true,
+        None => false,
+    }
+}
+
+/// Keeps the lowest layers, so many.
+fn cut(layers: &mut Vec<Layer>, branches: &mut usize, len: usize)
+    requires counted { branches.old ≡ branches_in layers.old.items }
+    requires fits { len ≤ vec_len layers.old }
+    ensures kept { layers.new.items ≡ take len layers.old.items }
+    ensures counted { branches.new ≡ branches_in layers.new.items }
+    ensures fewer { branches.new ≤ branches.old }
+{
+    'layers: while layers.len() > len {
+        let Some(layer) = layers.pop() else {
+            return;
+        };
+        if is_saved(layer.kind) {
+            *branches -= 1;
+        }
+    }
+}
+
+/// The way that is followed, the saved branches and the open regions. Each is seen with the slots that there were
+/// when it was made; what is kept is one list of slots and a log of the writes that were done since.
+#[derive(Drop)]
+pub struct Trail {
+    at: usize,
+    limit: usize,
+    place: usize,
+    kept: usize,
+    slots: Vec<Slot>,
+    layers: Vec<Layer>,
+    branches: usize,
+    log: Vec<Write>,
+    most: usize,
+}
+
+impl Model for Trail {
+    ghost use Rattle.std.specs.Prelude.{◌≡◌, ◌≤◌, length};
+    ghost use Rattle.fancy_machine.specs.Frames.{Held};
+    ghost use Rattle.fancy_machine.specs.Held.{spot_of, frames_of, branches_in, Rises};
+
+    ghost Value = { Held };
+
+    ghost view = { λ t. record {
+      now = spot_of t.at t.limit t.place t.kept t.slots.items;
+      frames = frames_of t.log.items t.slots.items t.layers.items;
+      most = t.most;
+    } };
+
+    ghost invariant = { λ t. (t.branches ≡ branches_in t.layers.items) × (t.branches ≤ t.most) × Rises 0 t.layers.items (length t.log.items) };
+}
+
+impl Trail {
+    /// No way and no branch.
+    pub fn new(alloc: Global) -> Trail
+        ensures frames { result.frames ≡ [] }
+        ensures most { result.most ≡ 0 }
+    {
+        Trail {
+            at: 0,
+            limit: 0,
+            place: 0,
+            kept: 0,
+            slots: Vec::new(alloc),
+            layers: Vec::new(alloc),
+            branches: 0,
+            log: Vec::new(alloc),
+            most: 0,
+        }
+    }
+
+    /// Begins anew with so many slots, none written, and lets at most so many branches be saved. The memory that it
+    /// has is kept.
+    pub fn begin(
+        &mut self,
+        at: usize,
+        place: usize,
+        limit: usize,
+        count: usize,
+        most: usize,
+    ) -> Result<(), AllocError>
+        ensures begun { OnOk result (self.new.now ≡ spot_of at limit place place (replicate count empty)) }
+        ensures frames { self.new.frames ≡ [] }
+        ensures most { self.new.most ≡ most }
+    {
+        self.layers.clear();
+        self.branches = 0;
+        self.log.clear();
+        self.slots.clear();
+        self.at = at;
+        self.limit = limit;
+        self.place = place;
+        self.kept = place;
+        self.most = most;
+        self.slots.resize(count, EMPTY)
+    }
+
+    /// The next instruction.
+    pub fn at(&self) -> usize
+        ensures { result ≡ self.now.now.at }
+    {
+        self.at
+    }
+
+    /// Consumed text ends here at the latest, a byte offset.
+    pub fn limit(&self) -> usize
+        ensures { result ≡ self.now.now.limit }
+    {
+        self.limit
+    }
+
+    /// The place, a byte offset.
+    pub fn place(&self) -> usize
+        ensures { result ≡ self.now.now.state.place }
+    {
+        self.place
+    }
+
+    /// Where the match starts, a byte offset.
+    pub fn kept(&self) -> usize
+        ensures { result ≡ self.now.now.state.kept }
+    {
+        self.kept
+    }
+
+    /// Whether a group has taken part.
+    pub fn is_taken(&self, group: usize) -> bool
+        ensures { result ≡ is_some (group_span self.now.now.state group) }
+    {
+        has_span(slot_at(&self.slots, group))
+    }
+
+    /// Where the text of a group stands, if it has taken part.
+    pub fn span(&self, group: usize) -> Option<Extent>
+        ensures { option_map ends_of result ≡ group_span self.now.now.state group }
+    {
+        slot_at(&self.slots, group).span
+    }
+
+    /// Goes on at another instruction.
+    pub fn go(&mut self, next: usize)
+        ensures now { self.new.now ≡ at_instr next self.old.now }
+        ensures frames { self.new.frames ≡ self.old.frames }
+        ensures most { self.new.most ≡ self.old.most }
+    {
+        self.at = next;
+    }
+
+    /// Goes on at another instruction and place.
+    pub fn go_to(&mut self, next: usize, place: usize)
+        ensures now { self.new.now ≡ at_place next place self.old.now }
+        ensures frames { self.new.frames ≡ self.old.frames }
+        ensures most { self.new.most ≡ self.old.most }
+    {
+        self.at = next;
+        self.place = place;
+    }
+
+    /// Goes on at another instruction, where consumed text ends by another limit.
+    pub fn go_within(&mut self, next: usize, limit: usize)
+        ensures now { self.new.now ≡ within_at next limit self.old.now }
+        ensures frames { self.new.frames ≡ self.old.frames }
+        ensures most { self.new.most ≡ self.old.most }
+    {
+        self.at = next;
+        self.limit = limit;
+    }
+
+    /// The match starts at the place.
+    pub fn keep(&mut self, next: usize)
+        ensures now { self.new.now ≡ kept_at next self.old.now }
+        ensures frames { self.new.frames ≡ self.old.frames }
+        ensures most { self.new.most ≡ self.old.most }
+    {
+        self.at = next;
+        self.kept = self.place;
+    }
+
+    /// One more layer, which is no saved branch.
+    pub fn enter(&mut self, kind: Kind, at: usize) -> Result<(), AllocError>
+        requires { saves kind ≡ 0 }
+        ensures now { self.new.now ≡ self.old.now }
+        ensures entered { OnOk result (self.new.frames ≡ frame_by kind (at_instr at self.old.now) ∷ self.old.frames) }
+        ensures most { self.new.most ≡ self.old.most }
+    {
+        let layer = Layer {
+            kind,
+            at,
+            place: self.place,
+            kept: self.kept,
+            limit: self.limit,
+            log: self.log.len(),
+        };
+        self.layers.push(layer)?;
+        Ok(())
+    }
+
+    /// One more layer, which is a saved branch.
+    pub fn save(&mut self, kind: Kind, at: usize) -> Result<(), Refusal>
+        requires { saves kind ≡ 1 }
+        ensures now { self.new.now ≡ self.old.now }
+        ensures saved { OnOk result (self.new.frames ≡ frame_by kind (at_instr at self.old.now) ∷ self.old.frames) }
+        ensures refused { result ≢ Err Refusal.Returns }
+        ensures full { result ≡ Err Refusal.Choices → self.old.most ≤ saved self.old.frames }
+        ensures most { self.new.most ≡ self.old.most }
+    {
+        if self.branches >= self.most {
+            return Err(Refusal::Choices);
+        }
+        let layer = Layer {
+            kind,
+            at,
+            place: self.place,
+            kept: self.kept,
+            limit: self.limit,
+            log: self.log.len(),
+        };
+        match self.layers.push(layer) {
+            Ok(()) => {
+                self.branches += 1;
+                Ok(())
+            }
+            Err(_) => Err(Refusal::Memory),
+        }
+    }
+
+    /// A group begins.
+    pub fn open_group(&mut self, group: usize, next: usize) -> Result<(), AllocError>
+        ensures now { OnOk result (self.new.now ≡ opened_at group next self.old.now) }
+        ensures frames { OnOk result (self.new.frames ≡ self.old.frames) }
+        ensures most { self.new.most ≡ self.old.most }
+    {
+        self.at = next;
+        if group >= self.slots.len() {
+            return Ok(());
+        }
+        let old = self.slots[group];
+        self.log.push(Write { slot: group, old })?;
+        self.slots[group] = Slot {
+            from: self.place,
+            span: old.span,
+        };
+        Ok(())
+    }
+
+    /// A group ends.
+    pub fn close_group(&mut self, group: usize, next: usize) -> Result<(), AllocError>
+        ensures now { OnOk result (self.new.now ≡ closed_at group next self.old.now) }
+        ensures frames { OnOk result (self.new.frames ≡ self.old.frames) }
+        ensures most { self.new.most ≡ self.old.most }
+    {
+        self.at = next;
+        if group >= self.slots.len() {
+            return Ok(());
+        }
+        let old = self.slots[group];
+        self.log.push(Write { slot: group, old })?;
+        let extent = Extent {
+            start: old.from,
+            end: self.place,
+        };
+        self.slots[group] = Slot {
+            from: old.from,
+            span: Some(extent),
+        };
+        Ok(())
+    }
+
+    /// The way stops: the innermost region ends where it may, and what is round it goes on at `next`.
+    pub fn stop(&mut self, next: usize) -> Next
+        ensures stopped { (go : ℕ → Go) (u : List Raw) → finish go self.old.frames (Some (Stop next self.old.now.state self.old.now.starts ∷ [])) ≡ Some u
+            → Stepped go result (Note fetched ∷ u) self.old.now self.old.frames self.new.now self.new.frames }
+        ensures most { self.new.most ≡ self.old.most }
+    {
+        let top = innermost(&self.layers);
+        if top == 0 {
+            return Next::Found;
+        }
+        let layer = self.layers[top - 1];
+        if !is_ended(layer.kind, layer.place, self.place) {
+            return Next::Dead;
+        }
+        cut(&mut self.layers, &mut self.branches, top - 1);
+        match layer.kind {
+            Kind::Branch => Next::Dead,
+            Kind::Atom => {
+                self.at = next;
+                self.limit = layer.limit;
+                Next::On
+            }
+            Kind::Condition => {
+                self.at = next;
+                self.limit = layer.limit;
+                Next::On
+            }
+            Kind::Look(_) => {
+                self.at = layer.at;
+                self.place = layer.place;
+                self.limit = layer.limit;
+                Next::On
+            }
+            Kind::Denial(_) => Next::Dead,
+        }
+    }
+
+    /// Takes the branch that was saved last, which is one return, and goes back to what was written then.
+    pub fn back(&mut self, limit: usize, work: &mut Work) -> Result<bool, Refusal>
+        requires { returns_of work.old ≤ limit }
+        ensures { Backed result limit self.old self.new work.old work.new }
+    {
+        'layers: loop {
+            let Some(layer) = self.layers.pop() else {
+                return Ok(false);
+            };
+            if !is_saved(layer.kind) {
+                continue;
+            }
+            self.branches -= 1;
+            if work.returns() >= limit {
+                return Err(Refusal::Returns);
+            }
+            work.count_return();
+            self.at = layer.at;
+            self.place = layer.place;
+            self.kept = layer.kept;
+            self.limit = layer.limit;
+            undo(&mut self.slots, &mut self.log, layer.log);
+            return Ok(true);
+        }
+    }
+}
