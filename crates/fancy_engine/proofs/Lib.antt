@@ -4,6 +4,7 @@ pub mod Logs
 pub mod CharacterLemmas
 pub mod ReadingLemmas
 pub mod WordLemmas
+pub mod LastLinesLemmas
 pub mod ReachLemmas
 pub mod EventLemmas
 pub mod Runs

@@ -11,6 +11,7 @@ pub mod Marked
 pub mod Bits
 pub mod Threads
 pub mod Readings
+pub mod LastLines
 pub mod Runner
 pub mod Queries
 pub mod Means

@@ -3,6 +3,7 @@
 
 pub mod code;
 pub mod compile;
+pub mod last_lines;
 pub mod laws;
 pub mod reading;
 pub mod refusal;

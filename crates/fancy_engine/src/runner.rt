@@ -8,11 +8,13 @@ ghost use Rattle.fancy_engine.specs.Run.{instr_at};
 ghost use Rattle.fancy_engine.specs.Means.{IsEasyInstr, AreEasy};
 ghost use Rattle.fancy_engine.specs.Work.{steps_of, returns_of, stepped};
 ghost use Rattle.fancy_engine.specs.Readings.{plain};
+ghost use Rattle.fancy_engine.specs.LastLines.{KnowsLastLines};
 ghost use Rattle.fancy_engine.specs.Threads.{state_of, starts_of};
 ghost use Rattle.fancy_engine.specs.Runner.{good_end, ends_well, first_accepted, events_of, found_state, way, Known, Stepped, Stacked, Moved, AllFailed, AllWithin, Running, Visited, Progresses};
 ghost use Rattle.fancy_engine.specs.Marked.{marked};
 
 use crate::code::{Code, Instr};
+use crate::last_lines::LastLines;
 use crate::reading::{Suppressed, holds_at, read_at};
 use crate::refusal::Refusal;
 use crate::slot::{Extent, Slot};
@@ -176,12 +178,14 @@ fn step(
     limit: usize,
     suppressed: Suppressed,
     ways: &mut Ways,
+    last_lines: &mut LastLines,
     work: &mut Work,
 ) -> Result<Next, Refusal>
     requires inside { limit ≤ length haystack.now }
     requires here { ways.old.current.at < code_len code.now }
     requires easy { IsEasyInstr (instr_at (instrs_of code.now) ways.old.current.at) }
     requires room { steps_of work.old < usize.MAX }
+    requires last_lines { KnowsLastLines haystack.now last_lines.old }
     ensures stepped { IfOk result (λ next. (from kept deep : ℕ)
         → Known (plain haystack.now code.now.meaning suppressed from) limit (instrs_of code.now) deep kept ways.old.current
         → Stepped (plain haystack.now code.now.meaning suppressed from) limit (instrs_of code.now) deep kept next
@@ -193,6 +197,7 @@ fn step(
     ensures stacked { IfOk result (λ next. Stacked next ways.old.current ways.old.saved ways.new.saved) }
     ensures most { ways.new.most ≡ ways.old.most }
     ensures work { work.new ≡ stepped work.old }
+    ensures last_lines { KnowsLastLines haystack.now last_lines.new }
 {
     let place = ways.place();
     match code.fetch(ways.at(), work) {
@@ -211,7 +216,14 @@ fn step(
             Ok(advance(ways, *next, past, limit))
         }
         Instr::Assert(assertion, next) => {
-            if holds_at(haystack, code.meaning, suppressed, *assertion, place) {
+            if holds_at(
+                haystack,
+                code.meaning,
+                suppressed,
+                *assertion,
+                place,
+                last_lines,
+            ) {
                 ways.go(*next);
                 Ok(Next::On)
             } else {
@@ -254,6 +266,7 @@ fn visit(
     bounds: Bounds,
     ways: &mut Ways,
     table: &mut Table,
+    last_lines: &mut LastLines,
     work: &mut Work,
 ) -> Result<Next, Refusal>
     requires inside { bounds.last ≤ length haystack.now }
@@ -264,6 +277,7 @@ fn visit(
     requires ticks { steps_of work.old ≤ marked table.old }
     requires few { length ways.old.saved ≤ steps_of work.old }
     requires free { ways.old.most ≡ usize.MAX }
+    requires last_lines { KnowsLastLines haystack.now last_lines.old }
     ensures visited { IfOk result (λ next. (kept deep : ℕ) (goal : Option State)
         → Running (good_end bounds haystack.now) (plain haystack.now code.now.meaning bounds.suppressed bounds.first) bounds.first bounds.last
         (instrs_of code.now) deep kept goal table.old ways.old.current ways.old.saved
@@ -280,6 +294,7 @@ fn visit(
     ensures free { ways.new.most ≡ ways.old.most }
     ensures refused { result ≢ Err Refusal.Returns }
     ensures full { result ≢ Err Refusal.Choices }
+    ensures last_lines { KnowsLastLines haystack.now last_lines.new }
 {
     let at = ways.at();
     let count = code.len();
@@ -290,7 +305,15 @@ fn visit(
     if !table.mark(pair) {
         return Ok(Next::Dead);
     }
-    match step(code, haystack, bounds.last, bounds.suppressed, ways, work) {
+    match step(
+        code,
+        haystack,
+        bounds.last,
+        bounds.suppressed,
+        ways,
+        last_lines,
+        work,
+    ) {
         Ok(Next::On) => Ok(Next::On),
         Ok(Next::Dead) => Ok(Next::Dead),
         Ok(Next::Found) => {
@@ -312,6 +335,7 @@ pub fn follow(
     bounds: Bounds,
     ways: &mut Ways,
     table: &mut Table,
+    last_lines: &mut LastLines,
     work: &mut Work,
 ) -> Result<bool, Refusal>
     requires inside { bounds.last ≤ length haystack.now }
@@ -324,6 +348,7 @@ pub fn follow(
     requires ticks { steps_of work.old ≤ marked table.old }
     requires returns { returns_of work.old ≤ steps_of work.old }
     requires free { ways.old.most ≡ usize.MAX }
+    requires last_lines { KnowsLastLines haystack.now last_lines.old }
     ensures answer { IfOk result (λ found. (kept deep : ℕ)
         → Known (plain haystack.now code.now.meaning bounds.suppressed bounds.first) bounds.last (instrs_of code.now) deep kept ways.old.current
         → AllFailed (good_end bounds haystack.now) (plain haystack.now code.now.meaning bounds.suppressed bounds.first) bounds.first bounds.last
@@ -344,9 +369,10 @@ pub fn follow(
     ensures free { IfOk result (λ _. ways.new.most ≡ ways.old.most) }
     ensures refused { result ≢ Err Refusal.Returns }
     ensures full { result ≢ Err Refusal.Choices }
+    ensures last_lines { KnowsLastLines haystack.now last_lines.new }
 {
     'pairs: loop {
-        match visit(code, haystack, bounds, ways, table, work)? {
+        match visit(code, haystack, bounds, ways, table, last_lines, work)? {
             Next::On => {}
             Next::Dead => {
                 if !ways.back(usize::MAX, work)? {

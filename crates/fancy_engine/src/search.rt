@@ -14,6 +14,7 @@ ghost use Rattle.fancy_engine.specs.Work.{steps_of, returns_of};
 use crate::code::Code;
 #[cfg(test)]
 use crate::compile::compile;
+use crate::last_lines::LastLines;
 use crate::reading::Suppressed;
 use crate::refusal::Refusal;
 use crate::runner::{Bounds, follow, is_good_end};
@@ -149,6 +150,7 @@ pub fn search(
     let table = &mut memory.table;
     begin_table(table, code.len(), bounds)?;
     let last = last_position(request, first);
+    let mut last_lines = LastLines::new(haystack);
     for place in first..last + 1 {
         if !is_good_end(bounds, haystack, place) {
             continue;
@@ -157,7 +159,7 @@ pub fn search(
             Ok(()) => {}
             Err(_) => return Err(Refusal::Memory),
         }
-        if follow(code, haystack, bounds, ways, table, work)? {
+        if follow(code, haystack, bounds, ways, table, &mut last_lines, work)? {
             return Ok(Some(place));
         }
     }

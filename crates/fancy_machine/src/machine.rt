@@ -4,6 +4,7 @@ ghost use Rattle.std.specs.Prelude.{◌≡◌, ◌≢◌, ◌+◌, ◌-◌, ◌<
 ghost use Rattle.fancy_syntax.specs.declared.tree.Meaning.{Meaning as MeaningIs};
 ghost use Rattle.fancy_engine.specs.Context.{continues, Span};
 ghost use Rattle.fancy_engine.specs.Run.{Raw};
+ghost use Rattle.fancy_engine.specs.LastLines.{KnowsLastLines};
 ghost use Rattle.fancy_engine.specs.Work.{returns_of};
 ghost use Rattle.fancy_machine.specs.Field.{context_in, good_end, accepts, code_in, found_state};
 ghost use Rattle.fancy_machine.specs.Machine.{Stepped, Turned, Crowded, MovedTo, RecalledTo, left, after, chosen, final, returns_to, marks_to, events_of, IsKnown};
@@ -13,6 +14,7 @@ use crate::texts::past_span;
 use crate::trail::Trail;
 use crate::units::units_back;
 use fancy_engine::code::{Code, Instr};
+use fancy_engine::last_lines::LastLines;
 use fancy_engine::reading::{Suppressed, holds_at};
 use fancy_engine::refusal::Refusal;
 use fancy_engine::runner::{Next, past_character, past_member, past_raw_byte};
@@ -79,8 +81,10 @@ fn step(
     haystack: &[u8],
     field: Field,
     trail: &mut Trail,
+    last_lines: &mut LastLines,
     work: &mut Work,
 ) -> Result<Next, Refusal>
+    requires { KnowsLastLines haystack.now last_lines.old }
     ensures stepped { IfOk result (λ next. (deep : ℕ) (w : List Raw) → left (code_in haystack.now code.now field deep) trail.old.now trail.old.frames ≡ Some w
         → Stepped (code_in haystack.now code.now field deep) next w trail.old.now trail.old.frames trail.new.now trail.new.frames) }
     ensures refused { result ≢ Err Refusal.Returns }
@@ -88,6 +92,7 @@ fn step(
         → Crowded trail.old.most w trail.old.frames }
     ensures most { trail.new.most ≡ trail.old.most }
     ensures returns { returns_of work.new ≡ returns_of work.old }
+    ensures last_lines { KnowsLastLines haystack.now last_lines.new }
 {
     work.count_step_within();
     let at = trail.at();
@@ -113,7 +118,14 @@ fn step(
             Ok(advance(trail, *next, past))
         }
         Instr::Assert(assertion, next) => {
-            if holds_at(haystack, code.meaning, field.suppressed, *assertion, place) {
+            if holds_at(
+                haystack,
+                code.meaning,
+                field.suppressed,
+                *assertion,
+                place,
+                last_lines,
+            ) {
                 trail.go(*next);
                 return Ok(Next::On);
             }
@@ -224,8 +236,10 @@ fn turn(
     haystack: &[u8],
     field: Field,
     trail: &mut Trail,
+    last_lines: &mut LastLines,
     work: &mut Work,
 ) -> Result<Next, Refusal>
+    requires { KnowsLastLines haystack.now last_lines.old }
     ensures turned { IfOk result (λ next. (deep : ℕ) (w : List Raw) → left (code_in haystack.now code.now field deep) trail.old.now trail.old.frames ≡ Some w
         → Turned (code_in haystack.now code.now field deep) false (accepts field haystack.now) next w None trail.old.frames trail.new.now None trail.new.frames) }
     ensures refused { result ≢ Err Refusal.Returns }
@@ -233,8 +247,9 @@ fn turn(
         → Crowded trail.old.most w trail.old.frames }
     ensures most { trail.new.most ≡ trail.old.most }
     ensures returns { returns_of work.new ≡ returns_of work.old }
+    ensures last_lines { KnowsLastLines haystack.now last_lines.new }
 {
-    let next = match step(code, haystack, field, trail, work) {
+    let next = match step(code, haystack, field, trail, last_lines, work) {
         Ok(next) => next,
         Err(refusal) => return Err(refusal),
     };
@@ -258,12 +273,14 @@ pub fn attempt(
     field: Field,
     trail: &mut Trail,
     limit: usize,
+    last_lines: &mut LastLines,
     work: &mut Work,
 ) -> Result<bool, Refusal>
     ghost deep: { ℕ }
     requires known { IsKnown (after (code_in haystack.now code.now field deep) trail.old.now) }
     requires fresh { trail.old.frames ≡ [] }
     requires room { returns_of work.old ≤ limit }
+    requires last_lines { KnowsLastLines haystack.now last_lines.old }
     ensures answer { IfOk result (λ found. found_state found trail.new.now
         ≡ chosen false (accepts field haystack.now) None (events_of (after (code_in haystack.now code.now field deep) trail.old.now))) }
     ensures count { IfOk result (λ _. returns_of work.new
@@ -272,11 +289,12 @@ pub fn attempt(
         < returns_of work.old + returns_to (final false (accepts field haystack.now)) (events_of (after (code_in haystack.now code.now field deep) trail.old.now)) }
     ensures stopped { result ≡ Err Refusal.Returns → returns_of work.new ≡ limit }
     ensures fits { returns_of work.new ≤ limit }
+    ensures last_lines { KnowsLastLines haystack.now last_lines.new }
     ensures crowded { result ≡ Err Refusal.Choices → trail.old.most
         < marks_to (final false (accepts field haystack.now)) (events_of (after (code_in haystack.now code.now field deep) trail.old.now)) }
 {
     'steps: loop {
-        let next = match turn(code, haystack, field, trail, work) {
+        let next = match turn(code, haystack, field, trail, last_lines, work) {
             Ok(next) => next,
             Err(refusal) => return Err(refusal),
         };

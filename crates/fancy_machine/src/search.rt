@@ -12,6 +12,7 @@ ghost use Rattle.fancy_machine.specs.Asked.{asked, answer_of, all_tried};
 use crate::machine::{Field, attempt, is_good};
 use crate::trail::Trail;
 use fancy_engine::code::Code;
+use fancy_engine::last_lines::LastLines;
 use fancy_engine::reading::Suppressed;
 use fancy_engine::refusal::Refusal;
 use fancy_engine::work::Work;
@@ -94,6 +95,7 @@ pub fn search(
         not_empty: options.not_empty,
     };
     let last = last_position(request, first);
+    let mut last_lines = LastLines::new(haystack);
     for place in first..last + 1 {
         if !is_good(field, haystack, place) {
             continue;
@@ -102,7 +104,15 @@ pub fn search(
             Ok(()) => {}
             Err(_) => return Err(Refusal::Memory),
         }
-        let found = match attempt(code, haystack, field, trail, options.limit, work) {
+        let found = match attempt(
+            code,
+            haystack,
+            field,
+            trail,
+            options.limit,
+            &mut last_lines,
+            work,
+        ) {
             Ok(found) => found,
             Err(refusal) => return Err(refusal),
         };

@@ -22,6 +22,7 @@ pairs-preserved-in-On c =
       ticks = c.visit.ensures.ticks;
       returns = omega (arith, c.visit.ensures.returns, c.in_ok-visit.ensures.tally, c.pairs.invariant.returns);
       free = c.visit.ensures.free ∙ c.pairs.invariant.free;
+      last_lines = c.visit.ensures.last_lines;
     }
 
 pub back-requires : goal.back-requires
@@ -62,6 +63,7 @@ pairs-preserved c =
       ticks = rw b.2 c.visit.ensures.ticks;
       returns = rw b.2 (omega (arith, few, c.visit.ensures.returns, c.in_ok-visit.ensures.tally, c.pairs.invariant.returns));
       free = b.1 ∙ c.visit.ensures.free ∙ c.pairs.invariant.free;
+      last_lines = c.visit.ensures.last_lines;
     }
 
 pub returns-in-Found-clause-answer : goal.returns-in-Found-clause-answer

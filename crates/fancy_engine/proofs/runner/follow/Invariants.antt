@@ -2,6 +2,7 @@ use Rattle.std.proofs.Common.{ℕ, ◌≡◌, ◌+◌, ◌-◌, ◌*◌, ◌≤�
 use Rattle.fancy_engine.specs.Code.{instrs_of}
 use Rattle.fancy_engine.specs.Work.{steps_of, returns_of}
 use Rattle.fancy_engine.specs.Readings.{plain}
+use Rattle.fancy_engine.specs.LastLines.{KnowsLastLines}
 use Rattle.fancy_engine.specs.Runner.{Known, first_accepted, events_of, way, good_end, ends_well, AllFailed, AllWithin, Running}
 use Rattle.fancy_engine.specs.Marked.{marked}
 use Rattle.fancy_engine.proofs.runner.follow.Given as goal
@@ -18,6 +19,7 @@ invariant-pairs l = record {
   ticks : steps_of l.work ≤ marked l.table;
   returns : returns_of l.work + length l.ways.saved ≤ steps_of l.work;
   free : l.ways.most ≡ l.fn.ways.most;
+  last_lines : KnowsLastLines l.haystack l.last_lines;
 }
 
 abbrev pub decreases-pairs : goal.decreases-pairs

@@ -19,6 +19,7 @@ loop-place-init c = record {
   small = omega (arith, ap length c.in_ok-begin_table.ensures.clear, length-replicate {A = Bool}, c.in_ok-begin_table.ensures.small);
   ticks = omega (arith, c.new.ensures.steps);
   returns = omega (arith, c.new.ensures.returns);
+  last_lines = c.new-last_lines.ensures;
 }
 
 pub loop-place-preserved-then-not-is_good_end : goal.loop-place-preserved-then-not-is_good_end
@@ -30,6 +31,7 @@ loop-place-preserved-then-not-is_good_end c = record {
   small = c.loop-place.invariant.small;
   ticks = c.loop-place.invariant.ticks;
   returns = c.loop-place.invariant.returns;
+  last_lines = c.loop-place.invariant.last_lines;
 }
 
 pub returns-then-branch-clause-answer : goal.returns-then-branch-clause-answer
@@ -53,6 +55,7 @@ loop-place-preserved c = record {
   small = omega (arith, c.follow.ensures.room, c.loop-place.invariant.small);
   ticks = c.in_ok-follow.ensures.ticks;
   returns = c.in_ok-follow.ensures.returns;
+  last_lines = c.follow.ensures.last_lines;
 }
 
 pub returns-clause-answer : goal.returns-clause-answer

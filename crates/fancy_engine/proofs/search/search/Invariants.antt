@@ -5,6 +5,7 @@ use Rattle.fancy_engine.specs.Marked.{marked}
 use Rattle.fancy_engine.specs.Means.{IsCodeOf, depth}
 use Rattle.fancy_engine.specs.Queries.{query_of}
 use Rattle.fancy_engine.specs.Readings.{plain}
+use Rattle.fancy_engine.specs.LastLines.{KnowsLastLines}
 use Rattle.fancy_engine.specs.Runner.{good_end, AllFailed}
 use Rattle.fancy_engine.specs.Search.{search, answer_from}
 use Rattle.fancy_engine.specs.Work.{steps_of, returns_of}
@@ -20,4 +21,5 @@ invariant-loop-place l = record {
   small : length l.table < 2 ^ 64;
   ticks : steps_of l.work ≤ marked l.table;
   returns : returns_of l.work ≤ steps_of l.work;
+  last_lines : KnowsLastLines l.haystack l.last_lines;
 }

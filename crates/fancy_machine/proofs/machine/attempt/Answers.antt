@@ -13,6 +13,7 @@ steps-preserved-in-On g c = record {
   searching = rw c.turn.ensures.returns (search_on (code_in c.args.haystack.now c.args.code.now c.args.field g.deep) false (accepts c.args.field c.args.haystack.now) (chosen false (accepts c.args.field c.args.haystack.now) None (events_of (after (code_in c.args.haystack.now c.args.code.now c.args.field g.deep) c.args.trail.now.now))) (returns_of c.args.work.now + returns_to (final false (accepts c.args.field c.args.haystack.now)) (events_of (after (code_in c.args.haystack.now c.args.code.now c.args.field g.deep) c.args.trail.now.now))) (marks_to (final false (accepts c.args.field c.args.haystack.now)) (events_of (after (code_in c.args.haystack.now c.args.code.now c.args.field g.deep) c.args.trail.now.now))) c.steps.trail.now c.steps.trail.frames None (returns_of c.steps.work) c.steps.invariant.searching c.turn.new.trail.now c.turn.new.trail.frames None (rw c.in-On.is at (c.in-Ok.ensures.turned g.deep c.steps.invariant.searching.rest c.steps.invariant.searching.known)));
   room = omega (arith, c.turn.ensures.returns, c.steps.invariant.room);
   most = c.turn.ensures.most ∙ c.steps.invariant.most;
+  last_lines = c.turn.ensures.last_lines;
 }
 
 pub returns-in-Found-clause-answer : goal.returns-in-Found-clause-answer
@@ -49,4 +50,5 @@ steps-preserved g c =
       searching = rw (b.2, c.turn.ensures.returns) (search_back (code_in c.args.haystack.now c.args.code.now c.args.field g.deep) false (accepts c.args.field c.args.haystack.now) (chosen false (accepts c.args.field c.args.haystack.now) None (events_of (after (code_in c.args.haystack.now c.args.code.now c.args.field g.deep) c.args.trail.now.now))) (returns_of c.args.work.now + returns_to (final false (accepts c.args.field c.args.haystack.now)) (events_of (after (code_in c.args.haystack.now c.args.code.now c.args.field g.deep) c.args.trail.now.now))) (marks_to (final false (accepts c.args.field c.args.haystack.now)) (events_of (after (code_in c.args.haystack.now c.args.code.now c.args.field g.deep) c.args.trail.now.now))) c.steps.trail.now c.steps.trail.frames None (returns_of c.steps.work) c.steps.invariant.searching c.turn.new.trail.now c.turn.new.trail.frames None c.back.new.self.now c.back.new.self.frames (rw c.in-Dead.is at (c.in-Ok.ensures.turned g.deep c.steps.invariant.searching.rest c.steps.invariant.searching.known)) b.0);
       room = rw b.2 (omega (arith, b.3));
       most = b.1 ∙ c.turn.ensures.most ∙ c.steps.invariant.most;
+      last_lines = c.turn.ensures.last_lines;
     }

@@ -1,4 +1,5 @@
 use Rattle.std.proofs.Common.{◌≡◌, ◌+◌, ◌≤◌, None, false}
+use Rattle.fancy_engine.specs.LastLines.{KnowsLastLines}
 use Rattle.fancy_engine.specs.Work.{returns_of}
 use Rattle.fancy_machine.specs.Field.{accepts, code_in}
 use Rattle.fancy_machine.specs.Machine.{Searching, chosen, final, returns_to, marks_to, events_of, after, left, size_of}
@@ -13,6 +14,7 @@ invariant-steps g l = record {
       (left (code_in l.haystack l.code l.field g.deep) l.trail.now l.trail.frames) l.trail.frames None (returns_of l.work);
   room : returns_of l.work ≤ l.limit;
   most : l.trail.most ≡ l.fn.trail.most;
+  last_lines : KnowsLastLines l.haystack l.last_lines;
 }
 
 abbrev pub decreases-steps : goal.decreases-steps

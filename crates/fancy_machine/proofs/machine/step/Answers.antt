@@ -61,11 +61,11 @@ returns-in-RawByte-clause-stepped c deep w known =
 pub returns-then-holds_at-clause-stepped : goal.returns-then-holds_at-clause-stepped
 returns-then-holds_at-clause-stepped c deep w known =
     rw (c.go.ensures.now, c.go.ensures.frames)
-    (held (context_in c.args.haystack.now c.args.code.now.meaning c.args.field) (instrs_of c.args.code.now) deep c.args.trail.now.now c.args.trail.now.frames w known (i.Assert c.in-Assert.assertion c.in-Assert.next) c.in-Assert.next (holds (context_in c.args.haystack.now c.args.code.now.meaning c.args.field) c.in-Assert.assertion c.args.trail.now.now.state.place) (ap (instr_at (instrs_of c.args.code.now)) (sym c.at-at.ensures) ∙ sym c.instr.ensures.instr ∙ c.in-Assert.is) refl (sym (c.if-holds_at.ensures 0 ∙ holds_seen c.args.haystack.now c.args.code.now.meaning c.args.field 0 c.place-place.result c.in-Assert.assertion ∙ ap (holds (context_in c.args.haystack.now c.args.code.now.meaning c.args.field) c.in-Assert.assertion) c.place-place.ensures)))
+    (held (context_in c.args.haystack.now c.args.code.now.meaning c.args.field) (instrs_of c.args.code.now) deep c.args.trail.now.now c.args.trail.now.frames w known (i.Assert c.in-Assert.assertion c.in-Assert.next) c.in-Assert.next (holds (context_in c.args.haystack.now c.args.code.now.meaning c.args.field) c.in-Assert.assertion c.args.trail.now.now.state.place) (ap (instr_at (instrs_of c.args.code.now)) (sym c.at-at.ensures) ∙ sym c.instr.ensures.instr ∙ c.in-Assert.is) refl (sym (c.if-holds_at.ensures.held 0 ∙ holds_seen c.args.haystack.now c.args.code.now.meaning c.args.field 0 c.place-place.result c.in-Assert.assertion ∙ ap (holds (context_in c.args.haystack.now c.args.code.now.meaning c.args.field) c.in-Assert.assertion) c.place-place.ensures)))
 
 pub returns-else-holds_at-clause-stepped : goal.returns-else-holds_at-clause-stepped
 returns-else-holds_at-clause-stepped c deep w known =
-    refuted (context_in c.args.haystack.now c.args.code.now.meaning c.args.field) (instrs_of c.args.code.now) deep c.args.trail.now.now c.args.trail.now.frames w known (i.Assert c.in-Assert.assertion c.in-Assert.next) c.in-Assert.next (holds (context_in c.args.haystack.now c.args.code.now.meaning c.args.field) c.in-Assert.assertion c.args.trail.now.now.state.place) c.args.trail.now.now (ap (instr_at (instrs_of c.args.code.now)) (sym c.at-at.ensures) ∙ sym c.instr.ensures.instr ∙ c.in-Assert.is) refl (sym (c.if-holds_at.ensures 0 ∙ holds_seen c.args.haystack.now c.args.code.now.meaning c.args.field 0 c.place-place.result c.in-Assert.assertion ∙ ap (holds (context_in c.args.haystack.now c.args.code.now.meaning c.args.field) c.in-Assert.assertion) c.place-place.ensures))
+    refuted (context_in c.args.haystack.now c.args.code.now.meaning c.args.field) (instrs_of c.args.code.now) deep c.args.trail.now.now c.args.trail.now.frames w known (i.Assert c.in-Assert.assertion c.in-Assert.next) c.in-Assert.next (holds (context_in c.args.haystack.now c.args.code.now.meaning c.args.field) c.in-Assert.assertion c.args.trail.now.now.state.place) c.args.trail.now.now (ap (instr_at (instrs_of c.args.code.now)) (sym c.at-at.ensures) ∙ sym c.instr.ensures.instr ∙ c.in-Assert.is) refl (sym (c.if-holds_at.ensures.held 0 ∙ holds_seen c.args.haystack.now c.args.code.now.meaning c.args.field 0 c.place-place.result c.in-Assert.assertion ∙ ap (holds (context_in c.args.haystack.now c.args.code.now.meaning c.args.field) c.in-Assert.assertion) c.place-place.ensures))
 
 pub returns-then-is_continued-clause-stepped : goal.returns-then-is_continued-clause-stepped
 returns-then-is_continued-clause-stepped c deep w known =

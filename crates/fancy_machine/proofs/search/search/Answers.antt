@@ -39,6 +39,7 @@ loop-place-preserved-then-not-is_good g c =
       count = omega (arith, ap returns_in skip, c.loop-place.invariant.count);
       room = omega (arith, ap marks_in skip, c.loop-place.invariant.room);
       fits = c.loop-place.invariant.fits;
+      last_lines = c.loop-place.invariant.last_lines;
     }
 
 pub attempt-requires : goal.attempt-requires
@@ -53,7 +54,7 @@ attempt-requires g c =
     let er = ap (returns_to (final false ok)) k.1 ∙ returns_at q c.args.code.now c.requires.0 refl refl refl c.requires.1 f seen refl refl c.loop-place.place may in
     let em = ap (marks_to (final false ok)) k.1 ∙ marks_at q c.args.code.now c.requires.0 refl refl refl c.requires.1 f seen refl refl c.loop-place.place may in
     let en : (c.last_position-last.result + 1 - c.loop-place.place) ≡ suc (c.last_position-last.result + 1 - (c.loop-place.place + 1)) = omega arith in
-    (k.0, (c.begin.ensures.frames, c.loop-place.invariant.fits))
+    (k.0, (c.begin.ensures.frames, (c.loop-place.invariant.fits, c.loop-place.invariant.last_lines)))
 
 pub returns-in-Err-attempt-clause-refused : goal.returns-in-Err-attempt-clause-refused
 returns-in-Err-attempt-clause-refused g c e =
@@ -140,6 +141,7 @@ loop-place-preserved g c =
       count = omega (arith, c.in-Ok-attempt.ensures.count, er, counts.0, c.loop-place.invariant.count);
       room = omega (arith, counts.1, c.loop-place.invariant.room);
       fits = c.attempt.ensures.fits;
+      last_lines = c.attempt.ensures.last_lines;
     }
 
 pub returns-clause-answer : goal.returns-clause-answer

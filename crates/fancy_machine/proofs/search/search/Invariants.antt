@@ -2,6 +2,7 @@ use Rattle.std.proofs.Common.{◌≡◌, ◌+◌, ◌-◌, ◌≤◌, length}
 use Rattle.fancy_engine.specs.Events.{marks_in, returns_in}
 use Rattle.fancy_engine.specs.Means.{depth}
 use Rattle.fancy_engine.specs.Search.{search, returns, choices, answer_from, gone_from}
+use Rattle.fancy_engine.specs.LastLines.{KnowsLastLines}
 use Rattle.fancy_engine.specs.Work.{returns_of}
 use Rattle.fancy_machine.specs.Asked.{asked, all_tried}
 use Rattle.fancy_machine.proofs.search.search.Given as goal
@@ -14,6 +15,7 @@ invariant-loop-place g l = record {
   room : marks_in (gone_from (asked g.p l.code l.options l.haystack l.request) all_tried (l.last + 1 - l.place) l.place)
       ≤ choices (asked g.p l.code l.options l.haystack l.request) all_tried;
   fits : returns_of l.work ≤ l.options.limit;
+  last_lines : KnowsLastLines l.haystack l.last_lines;
 }
 
 abbrev pub ghost-attempt : goal.ghost-attempt
