@@ -9,8 +9,6 @@ pub mod escape;
 pub mod expander;
 mod expansion;
 pub mod iter;
-#[cfg(test)]
-mod iter_tests;
 pub mod laws;
 pub(crate) mod letters;
 mod limits;
@@ -23,7 +21,5 @@ mod rewriting;
 pub mod split;
 pub mod steps;
 pub mod template_laws;
-#[cfg(test)]
-mod tests;
 mod walk;
 pub mod write;

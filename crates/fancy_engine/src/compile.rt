@@ -578,20 +578,3 @@ pub fn compile(
     let entry = emit(alloc, &mut instrs, meaning, tree, stop)?;
     Ok(Code::new(instrs, entry.moved, groups, meaning))
 }
-
-#[test]
-#[tactic(auto, using(fancy_syntax::proofs::PatternLemmas::pattern_equations))]
-fn a_star_shares_its_turn(rt: HostRuntime) -> Result<(), AllocError> {
-    let alloc = rt.alloc();
-    let tree = Tree::Repeat {
-        low: 1,
-        high: None,
-        taste: Taste::Greedy,
-        body: Box::new(alloc, Tree::Character('a'))?,
-    };
-    let code = compile(alloc, &tree, 1, Meaning::Unicode)?;
-    assert_eq!(rt; code.len(), 6);
-    assert_eq!(rt; code.start, 5);
-    assert_eq!(rt; code.groups, 1);
-    Ok(())
-}

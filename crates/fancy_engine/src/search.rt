@@ -12,8 +12,6 @@ ghost use Rattle.fancy_engine.specs.Readings.{suppressed_in};
 ghost use Rattle.fancy_engine.specs.Work.{steps_of, returns_of};
 
 use crate::code::Code;
-#[cfg(test)]
-use crate::compile::compile;
 use crate::last_lines::LastLines;
 use crate::reading::Suppressed;
 use crate::refusal::Refusal;
@@ -23,10 +21,6 @@ use crate::table::Table;
 use crate::ways::Ways;
 use crate::work::Work;
 use fancy_input::input::Request;
-#[cfg(test)]
-use fancy_syntax::tree::{Meaning, Tree};
-#[cfg(test)]
-use std::alloc::AllocError;
 use std::alloc::Global;
 
 /// The options that hold while a haystack is searched.
@@ -164,44 +158,4 @@ pub fn search(
         }
     }
     Ok(None)
-}
-
-// `(a|ab)c` matches `abc` by its second branch.
-#[test]
-#[tactic(auto, using(fancy_syntax::proofs::PatternLemmas::pattern_equations))]
-fn a_search_goes_back_to_a_branch(rt: HostRuntime) -> Result<(), AllocError> {
-    let alloc = rt.alloc();
-    let both = Tree::Sequence(vec![in alloc; Tree::Character('a'), Tree::Character('b')]?);
-    let either = Tree::Alternative(vec![in alloc; Tree::Character('a'), both]?);
-    let group = Tree::Group {
-        index: 1,
-        body: Box::new(alloc, either)?,
-    };
-    let tree = Tree::Sequence(vec![in alloc; group, Tree::Character('c')]?);
-    let code = compile(alloc, &tree, 2, Meaning::Unicode)?;
-    let mut memory = Memory::new(alloc);
-    let mut work = Work::new();
-    let mut request = Request {
-        start: 0,
-        range_start: 1,
-        range_end: 4,
-        anchored: false,
-        start_text: true,
-        end_text: true,
-        continues: true,
-    };
-    let switches = Switches {
-        on_boundaries: true,
-        overrides: false,
-    };
-    let found = search(&code, b"xabc", request, switches, &mut memory, &mut work);
-    assert!(rt; found == Ok(Some(1)));
-    assert_eq!(rt; memory.end(), 4);
-    assert!(rt; memory.group(1) == Some(Extent { start: 1, end: 3 }));
-    assert!(rt; memory.group(2) == None);
-    assert_eq!(rt; work.returns(), 1);
-    request.range_end = 3;
-    let found = search(&code, b"xabc", request, switches, &mut memory, &mut work);
-    assert!(rt; found == Ok(None));
-    Ok(())
 }

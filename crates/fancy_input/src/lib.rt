@@ -8,5 +8,3 @@ pub mod input;
 pub mod matches;
 mod places;
 pub mod regex_input;
-#[cfg(test)]
-mod tests;

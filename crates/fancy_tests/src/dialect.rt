@@ -1,13 +1,10 @@
 //! What the forms of the dialect mean that are no sets: counted repeats, flags, assertions, escapes and `.`.
 
 use crate::asking::{
-    BYTES, BYTES_WITHOUT_UNICODE, BytesRow, CHARACTERS, CHARACTERS_ANYWHERE, Mode, Span, TextRow,
-    check_bytes, check_text, read, span, span_in_text, span_of_bytes,
+    BYTES, BYTES_WITHOUT_UNICODE, BytesRow, CHARACTERS, CHARACTERS_ANYWHERE, ListRow, SearchRow,
+    TextRow, check_list, check_search, check_span, check_texts, is_too_complex,
 };
-use fancy_regex::{CompileError, Error, Regex, RegexInput};
-use std::alloc::Global;
-use std::process::Abort;
-use std::test::Fail;
+use fancy_regex::Regex;
 
 const COUNTED_REPEATS: &[TextRow] = &[
     ("a{2,3}?", "aaaa", Some((0, 2))),
@@ -25,42 +22,21 @@ const COUNTED_REPEATS: &[TextRow] = &[
 ];
 
 #[test]
-fn repeats_are_counted(rt: HostRuntime) -> Result<(), Fail> {
-    let alloc = rt.alloc();
-    for row in COUNTED_REPEATS {
-        check_text(&rt, alloc, row)?;
-    }
-    Ok(())
+fn repeats_are_counted(rt: HostRuntime) {
+    check_texts(&rt, rt.alloc(), COUNTED_REPEATS);
 }
 
 #[test]
-fn no_turn_takes_no_part(rt: HostRuntime) -> Result<(), Fail> {
-    let regex = Regex::new(rt.alloc(), "(a){0}b")?;
-    assert_eq!(rt; regex.captures_len(), 2);
-    let captures = regex.captures("b")?.ok_or("no match")?;
-    assert_eq!(rt; captures.get(0).map(span), Some((0, 1)));
-    assert!(rt; captures.get(1).is_none());
-    Ok(())
-}
-
-fn is_too_complex(alloc: Global, pattern: &str) -> bool {
-    matches!(
-        Regex::new(alloc, pattern),
-        Err(Error::CompileError(CompileError::PatternTooComplex))
-    )
-}
-
-#[test]
-fn repeats_are_written_out(rt: HostRuntime) -> Result<(), Fail> {
+fn repeats_are_written_out(rt: HostRuntime) {
     assert!(rt; Regex::new(rt.alloc(), "a{999999}").is_ok());
     for pattern in [
         "a{1000000}",
         "(?:(?:a{4294967295}){4294967295}){2}",
         "(){4294967295}",
     ] {
-        assert!(rt; is_too_complex(rt.alloc(), pattern), "{pattern}");
+        let read = Regex::new(rt.alloc(), pattern);
+        assert!(rt; is_too_complex(&read), "{pattern}");
     }
-    Ok(())
 }
 
 const FLAGS: &[TextRow] = &[
@@ -81,12 +57,8 @@ const FLAGS: &[TextRow] = &[
 ];
 
 #[test]
-fn flags_hold_to_the_end_of_their_group(rt: HostRuntime) -> Result<(), Fail> {
-    let alloc = rt.alloc();
-    for row in FLAGS {
-        check_text(&rt, alloc, row)?;
-    }
-    Ok(())
+fn flags_hold_to_the_end_of_their_group(rt: HostRuntime) {
+    check_texts(&rt, rt.alloc(), FLAGS);
 }
 
 const EITHER_CASE: &[TextRow] = &[
@@ -109,15 +81,11 @@ const EITHER_CASE_IN_BYTES: &[BytesRow] = &[
 ];
 
 #[test]
-fn letters_stand_for_either_case(rt: HostRuntime) -> Result<(), Fail> {
-    let alloc = rt.alloc();
-    for row in EITHER_CASE {
-        check_text(&rt, alloc, row)?;
-    }
+fn letters_stand_for_either_case(rt: HostRuntime) {
+    check_texts(&rt, rt.alloc(), EITHER_CASE);
     for row in EITHER_CASE_IN_BYTES {
-        check_bytes(&rt, alloc, row)?;
+        check_span(&rt, rt.alloc(), row);
     }
-    Ok(())
 }
 
 const LINES: &[TextRow] = &[
@@ -140,12 +108,8 @@ const LINES: &[TextRow] = &[
 ];
 
 #[test]
-fn assertions_read_lines(rt: HostRuntime) -> Result<(), Fail> {
-    let alloc = rt.alloc();
-    for row in LINES {
-        check_text(&rt, alloc, row)?;
-    }
-    Ok(())
+fn assertions_read_lines(rt: HostRuntime) {
+    check_texts(&rt, rt.alloc(), LINES);
 }
 
 const WORDS: &[TextRow] = &[
@@ -173,50 +137,28 @@ const WORDS_IN_BYTES: &[BytesRow] = &[
 ];
 
 #[test]
-fn assertions_read_words(rt: HostRuntime) -> Result<(), Fail> {
-    let alloc = rt.alloc();
-    for row in WORDS {
-        check_text(&rt, alloc, row)?;
-    }
+fn assertions_read_words(rt: HostRuntime) {
+    check_texts(&rt, rt.alloc(), WORDS);
     for row in WORDS_IN_BYTES {
-        check_bytes(&rt, alloc, row)?;
+        check_span(&rt, rt.alloc(), row);
     }
-    Ok(())
 }
 
-const BEYOND_THE_RANGE: &[(&str, (usize, usize), Option<Span>)] = &[
-    ("$", (0, 1), None),
-    ("$", (0, 2), Some((2, 2))),
-    ("\\bb", (1, 2), None),
-    ("\\Bb", (1, 2), Some((1, 2))),
-    ("^b", (1, 2), None),
-    ("a\\b", (0, 1), None),
+const BEYOND_THE_RANGE: &[SearchRow<&str>] = &[
+    (CHARACTERS, "$", "ab", 0, (0, 1), false, None),
+    (CHARACTERS, "$", "ab", 0, (0, 2), false, Some((2, 2))),
+    (CHARACTERS, "\\bb", "ab", 0, (1, 2), false, None),
+    (CHARACTERS, "\\Bb", "ab", 0, (1, 2), false, Some((1, 2))),
+    (CHARACTERS, "^b", "ab", 0, (1, 2), false, None),
+    (CHARACTERS, "a\\b", "ab", 0, (0, 1), false, None),
+    (CHARACTERS, "a", "a", 2, (0, 1), false, None),
 ];
 
-fn check_within(
-    rt: &impl Abort,
-    alloc: Global,
-    pattern: &str,
-    haystack: &str,
-    range: Span,
-    wanted: Option<Span>,
-) -> Result<(), Fail> {
-    let regex = Regex::new(alloc, pattern)?;
-    assert!(rt; range.0 <= range.1 && range.1 <= haystack.len());
-    let input = RegexInput::new(haystack).range(range.0..range.1);
-    assert_eq!(rt; span_in_text(rt, &regex, input)?, wanted, "{pattern}");
-    Ok(())
-}
-
 #[test]
-fn assertions_read_beyond_the_range(rt: HostRuntime) -> Result<(), Fail> {
-    for &(pattern, range, wanted) in BEYOND_THE_RANGE {
-        check_within(&rt, rt.alloc(), pattern, "ab", range, wanted)?;
+fn assertions_read_beyond_the_range(rt: HostRuntime) {
+    for row in BEYOND_THE_RANGE {
+        check_search(&rt, rt.alloc(), row);
     }
-    let regex = Regex::new(rt.alloc(), "a")?;
-    let past = RegexInput::new("a").from_pos(2);
-    assert!(rt; span_in_text(&rt, &regex, past)?.is_none());
-    Ok(())
 }
 
 const ESCAPES: &[TextRow] = &[
@@ -241,12 +183,8 @@ const ESCAPES: &[TextRow] = &[
 ];
 
 #[test]
-fn escapes_stand_for_characters(rt: HostRuntime) -> Result<(), Fail> {
-    let alloc = rt.alloc();
-    for row in ESCAPES {
-        check_text(&rt, alloc, row)?;
-    }
-    Ok(())
+fn escapes_stand_for_characters(rt: HostRuntime) {
+    check_texts(&rt, rt.alloc(), ESCAPES);
 }
 
 const NUMBERED_BYTES: &[BytesRow] = &[
@@ -263,12 +201,10 @@ const NUMBERED_BYTES: &[BytesRow] = &[
 ];
 
 #[test]
-fn numbers_stand_for_bytes(rt: HostRuntime) -> Result<(), Fail> {
-    let alloc = rt.alloc();
+fn numbers_stand_for_bytes(rt: HostRuntime) {
     for row in NUMBERED_BYTES {
-        check_bytes(&rt, alloc, row)?;
+        check_span(&rt, rt.alloc(), row);
     }
-    Ok(())
 }
 
 const ANY_ITEM: &[BytesRow] = &[
@@ -289,33 +225,13 @@ const ANY_ITEM: &[BytesRow] = &[
 ];
 
 #[test]
-fn any_item_is_a_character_or_a_byte(rt: HostRuntime) -> Result<(), Fail> {
-    let alloc = rt.alloc();
+fn any_item_is_a_character_or_a_byte(rt: HostRuntime) {
     for row in ANY_ITEM {
-        check_bytes(&rt, alloc, row)?;
+        check_span(&rt, rt.alloc(), row);
     }
-    Ok(())
 }
 
-/// How items are read, a pattern, bytes, and where the matches start and end.
-type IterationRow = (Mode, &'static str, &'static [u8], &'static [Span]);
-
-fn check_iteration(rt: &impl Abort, alloc: Global, row: &IterationRow) -> Result<(), Fail> {
-    let (mode, pattern, haystack, wanted) = *row;
-    let regex = read(alloc, mode, pattern)?;
-    let input = RegexInput::new(haystack);
-    assert!(rt; regex.can_search(&input), "{pattern}");
-    let mut at = 0usize;
-    for found in regex.find_iter_input(input) {
-        let span = found.map(span_of_bytes)?;
-        assert!(rt; wanted.get(at) == Some(&span), "match {at} of {pattern}");
-        at = at.wrapping_add(1);
-    }
-    assert_eq!(rt; at, wanted.len(), "{pattern}");
-    Ok(())
-}
-
-const ITERATIONS: &[IterationRow] = &[
+const ITERATIONS: &[ListRow<&[u8]>] = &[
     (CHARACTERS, "(?m)^", b"a\n", &[(0, 0), (2, 2)]),
     (CHARACTERS, "(?m)$", b"a\n", &[(1, 1), (2, 2)]),
     (CHARACTERS, "(?mR)^.*$", b"a\r\nb", &[(0, 1), (3, 4)]),
@@ -329,10 +245,8 @@ const ITERATIONS: &[IterationRow] = &[
 ];
 
 #[test]
-fn iterates_over_lines_and_items(rt: HostRuntime) -> Result<(), Fail> {
-    let alloc = rt.alloc();
+fn iterates_over_lines_and_items(rt: HostRuntime) {
     for row in ITERATIONS {
-        check_iteration(&rt, alloc, row)?;
+        check_list(&rt, rt.alloc(), row);
     }
-    Ok(())
 }

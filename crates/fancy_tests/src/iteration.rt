@@ -1,48 +1,27 @@
 //! Iteration over matches and captures.
 //!
-//! The first rows of each table were worked out by hand, the others by an independent model of the search.
+//! The first rows of the first two tables were worked out by hand, the others by an independent model of the search.
 
-use crate::asking::{Span, span, span_of_bytes};
-use fancy_regex::{BytesMode, Input, Match, MatchBytes, Regex, RegexInput, RegexOptionsBuilder};
+use crate::asking::{
+    AllGroupsRow, BYTES, CHARACTERS, CHARACTERS_ANYWHERE, Settings, Span, Spanned, TextListRow,
+    check_all_groups, check_text_list, regex_with, span,
+};
+use fancy_regex::{Captures, Input, Match, MatchBytes, Regex, RegexInput};
 use std::alloc::Global;
 use std::process::Abort;
-use std::test::Fail;
 
 /// An iteration: what is searched, where its matches start and end, and where the search starts that is next: at
 /// first, behind each match, and at the end.
 #[derive(Clone, Copy)]
 struct Row<S> {
-    mode: BytesMode,
+    settings: Settings,
     pattern: &'static str,
     haystack: S,
     from: usize,
-    range: (usize, usize),
+    range: Span,
     anchored: bool,
     spans: &'static [Span],
     starts: &'static [usize],
-}
-
-fn regex_of(alloc: Global, mode: BytesMode, pattern: &str) -> Result<Regex, Fail> {
-    let pattern = String::from_str(alloc, pattern)?;
-    let regex = RegexOptionsBuilder::new().bytes_mode(mode).build(pattern)?;
-    Ok(regex)
-}
-
-/// A match, which says where it starts and ends.
-trait Spanned: Copy {
-    fn span(self) -> Span;
-}
-
-impl<'t> Spanned for Match<'t> {
-    fn span(self) -> Span {
-        span(self)
-    }
-}
-
-impl<'t> Spanned for MatchBytes<'t> {
-    fn span(self) -> Span {
-        span_of_bytes(self)
-    }
 }
 
 /// What a row searches.
@@ -56,78 +35,59 @@ fn input_of<S: Input>(rt: &impl Abort, row: &Row<S>) -> RegexInput<S> {
 }
 
 /// Checks where the captures of an iteration start and end.
-fn check_captures<M: Spanned, S: Input<Match = M>>(
-    rt: &impl Abort,
-    regex: &Regex,
-    row: &Row<S>,
-) -> Result<(), Fail> {
+fn check_captures<M: Spanned, S: Input<Match = M>>(rt: &impl Abort, regex: &Regex, row: &Row<S>) {
     let input = input_of(rt, row);
     assert!(rt; regex.can_search(&input), "{}", row.pattern);
     let mut at = 0usize;
     for captures in regex.captures_iter_input(input) {
-        let found = captures?.get(0).map(|m| m.span());
+        let whole = captures.expect(rt, row.pattern).get(0);
+        let found = whole.expect(rt, row.pattern).span();
         assert!(rt;
-            found == row.spans.get(at).copied(),
+            row.spans.get(at) == Some(&found),
             "match {at} of {}",
             row.pattern
         );
         at = at.wrapping_add(1);
     }
     assert_eq!(rt; at, row.spans.len(), "{}", row.pattern);
-    Ok(())
 }
 
 /// Checks where the matches of an iteration start and end, and where it goes on after each.
-fn check_matches<M: Spanned, S: Input<Match = M>>(
-    rt: &impl Abort,
-    regex: &Regex,
-    row: &Row<S>,
-) -> Result<(), Fail> {
+fn check_matches<M: Spanned, S: Input<Match = M>>(rt: &impl Abort, regex: &Regex, row: &Row<S>) {
+    let pattern = row.pattern;
     let input = input_of(rt, row);
-    assert!(rt; regex.can_search(&input), "{}", row.pattern);
+    assert!(rt; regex.can_search(&input), "{pattern}");
     let mut matches = regex.find_iter_input(input);
     for at in 0..row.spans.len() {
+        let start = matches.input().start();
         assert!(rt;
-            row.starts.get(at) == Some(&matches.input().start()),
-            "start {at} of {}",
-            row.pattern
+            row.starts.get(at) == Some(&start),
+            "start {at} of {pattern}"
         );
-        let found = matches.next().ok_or("no match")??;
+        let next = matches.next().expect(rt, pattern);
+        let found = next.expect(rt, pattern).span();
         assert!(rt;
-            row.spans.get(at) == Some(&found.span()),
-            "match {at} of {}",
-            row.pattern
+            row.spans.get(at) == Some(&found),
+            "match {at} of {pattern}"
         );
     }
-    assert!(rt;
-        matches.next().is_none() && matches.next().is_none(),
-        "{}",
-        row.pattern
-    );
-    assert!(rt;
-        row.starts.last() == Some(&matches.input().start()),
-        "end of {}",
-        row.pattern
-    );
-    Ok(())
+    let has_ended = matches.next().is_none() && matches.next().is_none();
+    assert!(rt; has_ended, "{pattern}");
+    let start = matches.input().start();
+    assert!(rt; row.starts.last() == Some(&start), "end of {pattern}");
 }
 
-fn check_rows<M: Spanned, S: Input<Match = M>>(
-    rt: &impl Abort,
-    alloc: Global,
-    rows: &[Row<S>],
-) -> Result<(), Fail> {
+fn check_rows<M: Spanned, S: Input<Match = M>>(rt: &impl Abort, alloc: Global, rows: &[Row<S>]) {
     for row in rows {
-        let regex = regex_of(alloc, row.mode, row.pattern)?;
-        check_captures(rt, &regex, row)?;
-        check_matches(rt, &regex, row)?;
+        let regex = regex_with(rt, alloc, row.settings, row.pattern);
+        check_captures(rt, &regex, row);
+        check_matches(rt, &regex, row);
     }
-    Ok(())
 }
 
-const TEXTS: &[Row<&str>] = &[
+const IN_TEXT: &[Row<&str>] = &[
     Row {
-        mode: BytesMode::Unicode,
+        settings: CHARACTERS,
         pattern: "a*",
         haystack: "aab",
         from: 0,
@@ -137,7 +97,7 @@ const TEXTS: &[Row<&str>] = &[
         starts: &[0, 2, 4, 4],
     },
     Row {
-        mode: BytesMode::Unicode,
+        settings: CHARACTERS,
         pattern: "x*",
         haystack: "é",
         from: 0,
@@ -147,7 +107,7 @@ const TEXTS: &[Row<&str>] = &[
         starts: &[0, 2, 3, 3],
     },
     Row {
-        mode: BytesMode::Unicode,
+        settings: CHARACTERS,
         pattern: "a?",
         haystack: "baa",
         from: 0,
@@ -157,7 +117,7 @@ const TEXTS: &[Row<&str>] = &[
         starts: &[0, 1, 2, 3, 4],
     },
     Row {
-        mode: BytesMode::Unicode,
+        settings: CHARACTERS,
         pattern: "",
         haystack: "é",
         from: 0,
@@ -167,7 +127,7 @@ const TEXTS: &[Row<&str>] = &[
         starts: &[0, 2, 3, 3],
     },
     Row {
-        mode: BytesMode::Unicode,
+        settings: CHARACTERS,
         pattern: "x*",
         haystack: "ab",
         from: 0,
@@ -177,7 +137,7 @@ const TEXTS: &[Row<&str>] = &[
         starts: &[0, 2, 2],
     },
     Row {
-        mode: BytesMode::Unicode,
+        settings: CHARACTERS,
         pattern: "x*",
         haystack: "ab",
         from: usize::MAX,
@@ -187,7 +147,7 @@ const TEXTS: &[Row<&str>] = &[
         starts: &[usize::MAX, usize::MAX],
     },
     Row {
-        mode: BytesMode::Unicode,
+        settings: CHARACTERS,
         pattern: "\\(??|\\.??Σ",
         haystack: ".Σ",
         from: 0,
@@ -197,7 +157,7 @@ const TEXTS: &[Row<&str>] = &[
         starts: &[0, 1, 3, 4, 4],
     },
     Row {
-        mode: BytesMode::Ascii,
+        settings: BYTES,
         pattern: "-+?|",
         haystack: "a ",
         from: 0,
@@ -207,7 +167,7 @@ const TEXTS: &[Row<&str>] = &[
         starts: &[0, 1, 2, 3, 3],
     },
     Row {
-        mode: BytesMode::Unicode,
+        settings: CHARACTERS,
         pattern: "b*?",
         haystack: "bbb",
         from: 0,
@@ -217,7 +177,7 @@ const TEXTS: &[Row<&str>] = &[
         starts: &[0, 1, 2, 3, 4, 4],
     },
     Row {
-        mode: BytesMode::UnicodeBytes,
+        settings: CHARACTERS_ANYWHERE,
         pattern: "bc|c??|()",
         haystack: "cc",
         from: 0,
@@ -227,7 +187,7 @@ const TEXTS: &[Row<&str>] = &[
         starts: &[0, 1, 2, 3, 3],
     },
     Row {
-        mode: BytesMode::Ascii,
+        settings: BYTES,
         pattern: "é*",
         haystack: "2a",
         from: 0,
@@ -237,7 +197,7 @@ const TEXTS: &[Row<&str>] = &[
         starts: &[0, 1, 2, 3, 3],
     },
     Row {
-        mode: BytesMode::Unicode,
+        settings: CHARACTERS,
         pattern: "|(a)(ca)??",
         haystack: "xxacax",
         from: 0,
@@ -247,7 +207,7 @@ const TEXTS: &[Row<&str>] = &[
         starts: &[0, 1, 2, 3, 4, 5, 6, 7, 7],
     },
     Row {
-        mode: BytesMode::Unicode,
+        settings: CHARACTERS,
         pattern: "(b)|(a+)|\\%*",
         haystack: "b%c\nb",
         from: 0,
@@ -257,7 +217,7 @@ const TEXTS: &[Row<&str>] = &[
         starts: &[0, 2, 4, 5, 5],
     },
     Row {
-        mode: BytesMode::UnicodeBytes,
+        settings: CHARACTERS_ANYWHERE,
         pattern: "b?|a+",
         haystack: "aaaa",
         from: 1,
@@ -267,7 +227,7 @@ const TEXTS: &[Row<&str>] = &[
         starts: &[1, 2, 3, 4, 5, 5],
     },
     Row {
-        mode: BytesMode::Unicode,
+        settings: CHARACTERS,
         pattern: "a??",
         haystack: "abaaaa",
         from: 3,
@@ -277,7 +237,7 @@ const TEXTS: &[Row<&str>] = &[
         starts: &[3, 5, 6, 7, 7],
     },
     Row {
-        mode: BytesMode::Unicode,
+        settings: CHARACTERS,
         pattern: "(?:É+)??|(ß)?",
         haystack: "ÉÉÉ",
         from: 0,
@@ -289,13 +249,13 @@ const TEXTS: &[Row<&str>] = &[
 ];
 
 #[test]
-fn iterates_over_text(rt: HostRuntime) -> Result<(), Fail> {
-    check_rows(&rt, rt.alloc(), TEXTS)
+fn iterates_over_text(rt: HostRuntime) {
+    check_rows(&rt, rt.alloc(), IN_TEXT);
 }
 
-const BYTES: &[Row<&[u8]>] = &[
+const IN_BYTES: &[Row<&[u8]>] = &[
     Row {
-        mode: BytesMode::Unicode,
+        settings: CHARACTERS,
         pattern: "x?",
         haystack: b"\xC3\xA9",
         from: 0,
@@ -305,7 +265,7 @@ const BYTES: &[Row<&[u8]>] = &[
         starts: &[0, 1, 3, 3],
     },
     Row {
-        mode: BytesMode::Ascii,
+        settings: BYTES,
         pattern: "x?",
         haystack: b"\xC3\xA9",
         from: 0,
@@ -315,7 +275,7 @@ const BYTES: &[Row<&[u8]>] = &[
         starts: &[0, 1, 2, 3, 3],
     },
     Row {
-        mode: BytesMode::Unicode,
+        settings: CHARACTERS,
         pattern: "a*",
         haystack: b"aab",
         from: 0,
@@ -325,7 +285,7 @@ const BYTES: &[Row<&[u8]>] = &[
         starts: &[0, 2, 4, 4],
     },
     Row {
-        mode: BytesMode::UnicodeBytes,
+        settings: CHARACTERS_ANYWHERE,
         pattern: "",
         haystack: b"b2\x80\xA9",
         from: 0,
@@ -335,7 +295,7 @@ const BYTES: &[Row<&[u8]>] = &[
         starts: &[0, 1, 2, 3, 4, 5, 5],
     },
     Row {
-        mode: BytesMode::Unicode,
+        settings: CHARACTERS,
         pattern: "|a",
         haystack: b"bxa",
         from: 0,
@@ -345,7 +305,7 @@ const BYTES: &[Row<&[u8]>] = &[
         starts: &[0, 1, 2, 3, 4, 4],
     },
     Row {
-        mode: BytesMode::UnicodeBytes,
+        settings: CHARACTERS_ANYWHERE,
         pattern: "x*?",
         haystack: b"a\xE2\xCF\x83xSx",
         from: 0,
@@ -355,7 +315,7 @@ const BYTES: &[Row<&[u8]>] = &[
         starts: &[0, 5, 6, 7, 7],
     },
     Row {
-        mode: BytesMode::UnicodeBytes,
+        settings: CHARACTERS_ANYWHERE,
         pattern: "(?:|(?:a|b*)+)|a",
         haystack: b"aa",
         from: 0,
@@ -365,7 +325,7 @@ const BYTES: &[Row<&[u8]>] = &[
         starts: &[0, 1, 2, 3, 3],
     },
     Row {
-        mode: BytesMode::UnicodeBytes,
+        settings: CHARACTERS_ANYWHERE,
         pattern: "a?",
         haystack: b"\xC3\xCF\x82caaa\xFF",
         from: 2,
@@ -375,7 +335,7 @@ const BYTES: &[Row<&[u8]>] = &[
         starts: &[2, 3, 4, 5, 6, 7, 9, 9],
     },
     Row {
-        mode: BytesMode::Ascii,
+        settings: BYTES,
         pattern: "(?:😀k|(\\})*?)*",
         haystack: b"-c\xA9\x5C",
         from: 0,
@@ -385,7 +345,7 @@ const BYTES: &[Row<&[u8]>] = &[
         starts: &[0, 1, 2, 3, 4, 5, 5],
     },
     Row {
-        mode: BytesMode::UnicodeBytes,
+        settings: CHARACTERS_ANYWHERE,
         pattern: "| *",
         haystack: b"  Ka\xC3\xE2\xC3\xE2\x89 ",
         from: 6,
@@ -395,7 +355,7 @@ const BYTES: &[Row<&[u8]>] = &[
         starts: &[6, 7, 8, 9, 10, 11, 11],
     },
     Row {
-        mode: BytesMode::Unicode,
+        settings: CHARACTERS,
         pattern: "(cb|)??",
         haystack: b"caxcbab",
         from: 4,
@@ -405,7 +365,7 @@ const BYTES: &[Row<&[u8]>] = &[
         starts: &[4, 5, 6, 7, 8, 8],
     },
     Row {
-        mode: BytesMode::Ascii,
+        settings: BYTES,
         pattern: "b*?|x*",
         haystack: b"\x80\xC3a",
         from: 0,
@@ -415,7 +375,7 @@ const BYTES: &[Row<&[u8]>] = &[
         starts: &[0, 1, 2, 3, 4, 4],
     },
     Row {
-        mode: BytesMode::Ascii,
+        settings: BYTES,
         pattern: "",
         haystack: b"\xC3ba",
         from: 0,
@@ -427,39 +387,74 @@ const BYTES: &[Row<&[u8]>] = &[
 ];
 
 #[test]
-fn iterates_over_bytes(rt: HostRuntime) -> Result<(), Fail> {
-    check_rows(&rt, rt.alloc(), BYTES)
+fn iterates_over_bytes(rt: HostRuntime) {
+    check_rows(&rt, rt.alloc(), IN_BYTES);
 }
 
+const LISTS: &[TextListRow] = &[
+    ("a|", "baa", &[(0, 0), (1, 2), (2, 3)]),
+    ("a|", "aab", &[(0, 1), (1, 2), (3, 3)]),
+    ("(?:aa)?", "baaa", &[(0, 0), (1, 3), (4, 4)]),
+    ("", "aé", &[(0, 0), (1, 1), (3, 3)]),
+    ("aa", "aaaaa", &[(0, 2), (2, 4)]),
+    ("x", "aé", &[]),
+];
+
 #[test]
-fn names_groups(rt: HostRuntime) -> Result<(), Fail> {
-    let regex = Regex::new(rt.alloc(), "(a)|b")?;
-    let mut found = Vec::new(rt.alloc());
-    for captures in regex.captures_iter("ba") {
-        let captures = captures?;
-        let whole = captures.get(0).map(span);
-        let group = captures.get(1).map(span);
-        found.push((whole, group))?;
+fn matches_come_one_behind_the_other(rt: HostRuntime) {
+    for row in LISTS {
+        check_text_list(&rt, rt.alloc(), row);
     }
-    let wanted = [(Some((0, 1)), None), (Some((1, 2)), Some((1, 2)))];
-    assert!(rt; found.as_slice() == wanted.as_slice());
-    Ok(())
+}
+
+const GROUPS_OF_ALL_MATCHES: &[AllGroupsRow] = &[
+    (
+        "(a)|b",
+        "ba",
+        &[&[Some((0, 1)), None], &[Some((1, 2)), Some((1, 2))]],
+    ),
+    (
+        "a(b)?",
+        "aab",
+        &[&[Some((0, 1)), None], &[Some((1, 3)), Some((2, 3))]],
+    ),
+];
+
+#[test]
+fn groups_come_with_each_match(rt: HostRuntime) {
+    for row in GROUPS_OF_ALL_MATCHES {
+        check_all_groups(&rt, rt.alloc(), row);
+    }
 }
 
 #[test]
-fn collects_matches(rt: HostRuntime) -> Result<(), Fail> {
-    let regex = Regex::new(rt.alloc(), "(a)|b")?;
-    let all: Vec<Match<'_>> = regex.find_iter("ba").try_collect(rt.alloc())?;
-    assert_eq!(rt; all.len(), 2);
-    let bytes: &[u8] = b"ba";
-    let all: Vec<MatchBytes<'_>> = regex.find_iter(bytes).try_collect(rt.alloc())?;
-    assert_eq!(rt; all.len(), 2);
-    Ok(())
+fn collects_matches(rt: HostRuntime) {
+    let alloc = rt.alloc();
+    for (pattern, text, count) in [("(a)|b", "ba", 2), ("a|", "bab", 3)] {
+        let regex = Regex::new(alloc, pattern).expect(&rt, pattern);
+        let in_text = regex.find_iter(text).try_collect(alloc);
+        let all: Vec<Match<'_>> = in_text.expect(&rt, pattern);
+        assert_eq!(rt; all.len(), count, "{pattern}");
+        let in_bytes = regex.find_iter(text.as_bytes()).try_collect(alloc);
+        let all: Vec<MatchBytes<'_>> = in_bytes.expect(&rt, pattern);
+        assert_eq!(rt; all.len(), count, "{pattern}");
+    }
 }
 
 #[test]
-fn counts_matches(rt: HostRuntime) -> Result<(), Fail> {
-    let regex = Regex::new(rt.alloc(), "a?")?;
+fn ends_of_matches_in_bytes(rt: HostRuntime) {
+    let regex = Regex::new(rt.alloc(), "a|").expect(&rt, "a regex");
+    let bytes: &[u8] = b"bab";
+    let mut total = 0usize;
+    for found in regex.find_iter(bytes) {
+        total = total.wrapping_add(found.expect(&rt, "a match").end());
+    }
+    assert_eq!(rt; total, 5);
+}
+
+#[test]
+fn counts_matches(rt: HostRuntime) {
+    let regex = Regex::new(rt.alloc(), "a?").expect(&rt, "a regex");
     let bytes: &[u8] = b"baa";
     assert_eq!(rt; regex.find_iter("baa").count(), 3);
     assert_eq!(rt; regex.find_iter(bytes).count(), 3);
@@ -467,12 +462,11 @@ fn counts_matches(rt: HostRuntime) -> Result<(), Fail> {
     assert_eq!(rt; regex.find_iter_input(from_one).count(), 2);
     let from_one = RegexInput::new(bytes).from_pos(1);
     assert_eq!(rt; regex.find_iter_input(from_one).count(), 2);
-    Ok(())
 }
 
 #[test]
-fn counts_captures(rt: HostRuntime) -> Result<(), Fail> {
-    let regex = Regex::new(rt.alloc(), "a?")?;
+fn counts_captures(rt: HostRuntime) {
+    let regex = Regex::new(rt.alloc(), "a?").expect(&rt, "a regex");
     let bytes: &[u8] = b"baa";
     assert_eq!(rt; regex.captures_iter("baa").count(), 3);
     assert_eq!(rt; regex.captures_iter(bytes).count(), 3);
@@ -480,23 +474,57 @@ fn counts_captures(rt: HostRuntime) -> Result<(), Fail> {
     assert_eq!(rt; regex.captures_iter_input(from_one).count(), 2);
     let from_one = RegexInput::new(bytes).from_pos(1);
     assert_eq!(rt; regex.captures_iter_input(from_one).count(), 2);
-    Ok(())
 }
 
 #[test]
-fn counts_the_matches_left(rt: HostRuntime) -> Result<(), Fail> {
-    let regex = Regex::new(rt.alloc(), "a?")?;
+fn counts_the_matches_left(rt: HostRuntime) {
+    let regex = Regex::new(rt.alloc(), "a?").expect(&rt, "a regex");
     let mut matches = regex.find_iter("baa");
-    let first = matches.next().ok_or("no match")??;
+    let first = matches
+        .next()
+        .expect(&rt, "a match")
+        .expect(&rt, "a search");
     assert_eq!(rt; span(first), (0, 0));
     assert_eq!(rt; matches.count(), 2);
-    Ok(())
 }
 
 #[test]
-fn counts_groups(rt: HostRuntime) -> Result<(), Fail> {
-    let regex = Regex::new(rt.alloc(), "(a)|b")?;
-    let groups = regex.captures("ba")?.ok_or("no match")?;
-    assert_eq!(rt; groups.iter().count(), 2);
-    Ok(())
+fn counts_groups(rt: HostRuntime) {
+    let regex = Regex::new(rt.alloc(), "(a)|b").expect(&rt, "a regex");
+    let found = regex.captures("ba").expect(&rt, "a search");
+    assert_eq!(rt; found.expect(&rt, "a match").iter().count(), 2);
+}
+
+#[test]
+fn the_input_moves_on(rt: HostRuntime) {
+    let regex = Regex::new(rt.alloc(), "a|").expect(&rt, "a regex");
+    let mut matches = regex.find_iter_input(RegexInput::new("éa").from_pos(2));
+    assert_eq!(rt; matches.input().start(), 2);
+    let first = matches
+        .next()
+        .expect(&rt, "a match")
+        .expect(&rt, "a search");
+    assert_eq!(rt; span(first), (2, 3));
+    assert_eq!(rt; matches.input().start(), 3);
+    assert!(rt; matches.next().is_none() && matches.next().is_none());
+    assert_eq!(rt; matches.input().start(), 4);
+    assert!(rt; matches.text() == "éa" && matches.regex().as_str() == "a|");
+    let mut matches = regex.find_iter("é");
+    let empty = matches
+        .next()
+        .expect(&rt, "a match")
+        .expect(&rt, "a search");
+    assert_eq!(rt; span(empty), (0, 0));
+    assert_eq!(rt; matches.input().start(), 2);
+}
+
+#[test]
+fn captures_in_bytes_are_collected(rt: HostRuntime) {
+    let regex = Regex::new(rt.alloc(), "a(b)?").expect(&rt, "a regex");
+    let bytes: &[u8] = b"aab";
+    let matches = regex.captures_iter_input(RegexInput::new(bytes).from_pos(1));
+    assert!(rt; matches.text() == bytes && matches.regex().captures_len() == 2);
+    assert_eq!(rt; matches.input().start(), 1);
+    let all: Vec<Captures<'_, &[u8]>> = matches.try_collect(rt.alloc()).expect(&rt, "a search");
+    assert_eq!(rt; all.len(), 1);
 }

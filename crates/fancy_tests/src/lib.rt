@@ -8,13 +8,17 @@ mod builders;
 #[cfg(test)]
 mod captures;
 #[cfg(test)]
-mod combined;
+mod classes;
 #[cfg(test)]
 mod dialect;
+#[cfg(test)]
+mod errors;
 #[cfg(test)]
 mod escapes;
 #[cfg(test)]
 mod finding;
+#[cfg(test)]
+mod haystacks;
 #[cfg(test)]
 mod inputs;
 #[cfg(test)]
@@ -25,6 +29,8 @@ mod names;
 mod options;
 #[cfg(test)]
 mod overrides;
+#[cfg(test)]
+mod parsing;
 #[cfg(test)]
 mod readme;
 #[cfg(test)]

@@ -1,12 +1,14 @@
 //! What each option changes, and what is so without it.
 
-use crate::asking::{Span, span_in_bytes, span_in_text};
+use crate::asking::{
+    BYTES, BytesRow, CHARACTERS, CHARACTERS_ANYWHERE, ONLY_NAMED, Settings, Span, check_span,
+    first_span, kind_of, regex_with, span,
+};
 use fancy_regex::{
-    BytesMode, Error, ParseErrorKind, Regex, RegexBuilder, RegexInput, RegexOptionsBuilder,
+    BytesMode, ParseErrorKind, Regex, RegexBuilder, RegexInput, RegexOptionsBuilder,
 };
 use std::alloc::Global;
 use std::process::Abort;
-use std::test::Fail;
 
 /// The options that are on or off.
 #[derive(Clone, Copy)]
@@ -54,111 +56,97 @@ fn set_beside_the_pattern(builder: &mut RegexBuilder, switch: Switch, yes: bool)
 }
 
 /// What the pattern is read as with this option alone.
-fn read_with(alloc: Global, pattern: &str, switch: Switch, yes: bool) -> Result<Regex, Fail> {
+fn read_with(rt: &impl Abort, alloc: Global, pattern: &str, switch: Switch, yes: bool) -> Regex {
     let mut builder = RegexOptionsBuilder::new();
     set(&mut builder, switch, !yes);
     set(&mut builder, switch, yes);
-    let regex = builder.build(String::from_str(alloc, pattern)?)?;
-    Ok(regex)
+    let text = String::from_str(alloc, pattern).expect(rt, pattern);
+    builder.build(text).expect(rt, pattern)
 }
 
 /// The same, by a builder that holds the pattern.
 fn read_by_its_builder(
+    rt: &impl Abort,
     alloc: Global,
     pattern: &str,
     switch: Switch,
     yes: bool,
-) -> Result<Regex, Fail> {
-    let mut builder = RegexBuilder::new(alloc, pattern)?;
+) -> Regex {
+    let mut builder = RegexBuilder::new(alloc, pattern).expect(rt, pattern);
     set_beside_the_pattern(&mut builder, switch, !yes);
     set_beside_the_pattern(&mut builder, switch, yes);
-    let regex = builder.build()?;
-    Ok(regex)
+    builder.build().expect(rt, pattern)
 }
 
-fn check_row(rt: &impl Abort, alloc: Global, row: &Row) -> Result<(), Fail> {
+fn check_found(rt: &impl Abort, regex: &Regex, haystack: &str, wanted: Option<Span>) {
+    let found = first_span(rt, regex, RegexInput::new(haystack));
+    assert_eq!(rt; found, wanted, "{}", regex.as_str());
+}
+
+fn check_row(rt: &impl Abort, alloc: Global, row: &Row) {
     let (switch, pattern, haystack, off, on) = *row;
-    let default = if matches!(switch, Switch::UnicodeMode) {
-        on
-    } else {
-        off
-    };
-    let input = RegexInput::new(haystack);
-    let regex = Regex::new(alloc, pattern)?;
-    assert_eq!(rt;
-        span_in_text(rt, &regex, input.again())?,
-        default,
-        "{pattern}"
-    );
+    let is_on = matches!(switch, Switch::UnicodeMode);
+    let regex = Regex::new(alloc, pattern).expect(rt, pattern);
+    check_found(rt, &regex, haystack, if is_on { on } else { off });
     for (yes, wanted) in [(false, off), (true, on)] {
-        let regex = read_with(alloc, pattern, switch, yes)?;
-        let found = span_in_text(rt, &regex, input.again())?;
-        assert_eq!(rt; found, wanted, "{pattern}");
-        let regex = read_by_its_builder(alloc, pattern, switch, yes)?;
-        let found = span_in_text(rt, &regex, input.again())?;
-        assert_eq!(rt; found, wanted, "{pattern}");
+        let regex = read_with(rt, alloc, pattern, switch, yes);
+        check_found(rt, &regex, haystack, wanted);
+        let regex = read_by_its_builder(rt, alloc, pattern, switch, yes);
+        check_found(rt, &regex, haystack, wanted);
     }
-    Ok(())
+}
+
+const ROWS: &[Row] = &[
+    (Switch::CaseInsensitive, "k", "K", None, Some((0, 1))),
+    (Switch::CaseInsensitive, "[^k]", "K", Some((0, 1)), None),
+    (Switch::MultiLine, "^b", "a\nb", None, Some((2, 3))),
+    (Switch::MultiLine, "a$", "a\nb", None, Some((0, 1))),
+    (Switch::IgnoreWhitespace, "a b #c", "ab", None, Some((0, 2))),
+    (Switch::IgnoreWhitespace, "a b", "a b", Some((0, 3)), None),
+    (Switch::VerboseMode, "a b #c", "ab", None, Some((0, 2))),
+    (Switch::DotMatchesNewLine, ".", "\n", None, Some((0, 1))),
+    (Switch::Crlf, ".", "\r", Some((0, 1)), None),
+    (Switch::Crlf, "a\\Z", "a\r\n", None, Some((0, 1))),
+    (Switch::UnicodeMode, "\\d", "\u{660}", None, Some((0, 2))),
+    (Switch::UnicodeMode, "(?i)k", "\u{212A}", None, Some((0, 3))),
+];
+
+#[test]
+fn each_switch_changes_answers(rt: HostRuntime) {
+    for row in ROWS {
+        check_row(&rt, rt.alloc(), row);
+    }
+}
+
+const MODES: &[BytesRow] = &[
+    (CHARACTERS, ".", b"\x80", None),
+    (BYTES, ".", b"\x80", Some((0, 1))),
+    (CHARACTERS_ANYWHERE, ".", b"\x80", None),
+    (CHARACTERS, "\\x80", b"\x80", None),
+    (BYTES, "\\x80", b"\x80", Some((0, 1))),
+    (CHARACTERS_ANYWHERE, "\\x80", b"\x80", Some((0, 1))),
+];
+
+#[test]
+fn the_mode_changes_answers(rt: HostRuntime) {
+    for row in MODES {
+        check_span(&rt, rt.alloc(), row);
+    }
 }
 
 #[test]
-fn each_switch_changes_answers(rt: HostRuntime) -> Result<(), Fail> {
-    let rows: [Row; 12] = [
-        (Switch::CaseInsensitive, "k", "K", None, Some((0, 1))),
-        (Switch::CaseInsensitive, "[^k]", "K", Some((0, 1)), None),
-        (Switch::MultiLine, "^b", "a\nb", None, Some((2, 3))),
-        (Switch::MultiLine, "a$", "a\nb", None, Some((0, 1))),
-        (Switch::IgnoreWhitespace, "a b #c", "ab", None, Some((0, 2))),
-        (Switch::IgnoreWhitespace, "a b", "a b", Some((0, 3)), None),
-        (Switch::VerboseMode, "a b #c", "ab", None, Some((0, 2))),
-        (Switch::DotMatchesNewLine, ".", "\n", None, Some((0, 1))),
-        (Switch::Crlf, ".", "\r", Some((0, 1)), None),
-        (Switch::Crlf, "a\\Z", "a\r\n", None, Some((0, 1))),
-        (Switch::UnicodeMode, "\\d", "\u{660}", None, Some((0, 2))),
-        (Switch::UnicodeMode, "(?i)k", "\u{212A}", None, Some((0, 3))),
-    ];
-    let alloc = rt.alloc();
-    for row in &rows {
-        check_row(&rt, alloc, row)?;
-    }
-    Ok(())
-}
-
-#[test]
-fn the_mode_changes_answers(rt: HostRuntime) -> Result<(), Fail> {
-    let rows = [
-        (BytesMode::Unicode, ".", None),
-        (BytesMode::Ascii, ".", Some((0, 1))),
-        (BytesMode::UnicodeBytes, ".", None),
-        (BytesMode::Unicode, "\\x80", None),
-        (BytesMode::Ascii, "\\x80", Some((0, 1))),
-        (BytesMode::UnicodeBytes, "\\x80", Some((0, 1))),
-    ];
-    let haystack: &[u8] = b"\x80";
-    for (mode, pattern, wanted) in rows {
-        let mut builder = RegexOptionsBuilder::new();
-        let pattern = String::from_str(rt.alloc(), pattern)?;
-        let regex = builder.bytes_mode(mode).build(pattern)?;
-        let found = span_in_bytes(&rt, &regex, RegexInput::new(haystack))?;
-        assert_eq!(rt; found, wanted, "{}", regex.as_str());
-    }
-    Ok(())
-}
-
-#[test]
-fn the_mode_of_a_builder_with_a_pattern_changes_answers(rt: HostRuntime) -> Result<(), Fail> {
+fn the_mode_of_a_builder_with_a_pattern_changes_answers(rt: HostRuntime) {
     let haystack: &[u8] = b"\x80";
     for (mode, pattern, wanted) in [
         (BytesMode::Unicode, "\\x80", None),
         (BytesMode::Ascii, "\\x80", Some((0, 1))),
         (BytesMode::UnicodeBytes, ".", None),
     ] {
-        let mut builder = RegexBuilder::new(rt.alloc(), pattern)?;
-        let regex = builder.bytes_mode(mode).build()?;
-        let found = span_in_bytes(&rt, &regex, RegexInput::new(haystack))?;
+        let mut builder = RegexBuilder::new(rt.alloc(), pattern).expect(&rt, pattern);
+        let regex = builder.bytes_mode(mode).build().expect(&rt, pattern);
+        let found = first_span(&rt, &regex, RegexInput::new(haystack));
         assert_eq!(rt; found, wanted, "{pattern}");
     }
-    Ok(())
 }
 
 /// A pattern, and how many groups it has with [`RegexOptionsBuilder::ignore_numbered_groups_when_named_groups_exist`]
@@ -169,82 +157,90 @@ type Grouped = (
     Result<usize, ParseErrorKind>,
 );
 
-/// How many groups the pattern has, where the option is on or off.
-fn groups_of(
+/// Checks how many groups the pattern has, where the option is first set otherwise.
+fn check_groups(
+    rt: &impl Abort,
     alloc: Global,
     pattern: &str,
     yes: bool,
-) -> Result<Result<usize, ParseErrorKind>, Fail> {
+    wanted: Result<usize, ParseErrorKind>,
+) {
     let mut builder = RegexOptionsBuilder::new();
     builder.ignore_numbered_groups_when_named_groups_exist(!yes);
     builder.ignore_numbered_groups_when_named_groups_exist(yes);
-    match builder.build(String::from_str(alloc, pattern)?) {
-        Err(Error::ParseError(_, kind)) => Ok(Err(kind)),
-        found => Ok(Ok(found?.captures_len())),
+    let read = builder.build(String::from_str(alloc, pattern).expect(rt, pattern));
+    match wanted {
+        Ok(count) => assert_eq!(rt; read.expect(rt, pattern).captures_len(), count, "{pattern}"),
+        Err(kind) => assert!(rt; kind_of(&read) == Some(kind), "{pattern}"),
+    }
+}
+
+const GROUPED: &[Grouped] = &[
+    ("(a)(?<n>b)", Ok(3), Ok(2)),
+    ("(?<n>(a)(b))", Ok(4), Ok(2)),
+    ("(a)", Ok(2), Ok(2)),
+    ("()*", Ok(2), Ok(2)),
+    (
+        "()*(?<n>a)",
+        Ok(3),
+        Err(ParseErrorKind::TargetNotRepeatable),
+    ),
+    (
+        "(?:)*(?<n>a)",
+        Err(ParseErrorKind::TargetNotRepeatable),
+        Err(ParseErrorKind::TargetNotRepeatable),
+    ),
+];
+
+#[test]
+fn numbered_groups_give_way_to_named_ones(rt: HostRuntime) {
+    for &(pattern, off, on) in GROUPED {
+        check_groups(&rt, rt.alloc(), pattern, false, off);
+        check_groups(&rt, rt.alloc(), pattern, true, on);
     }
 }
 
 #[test]
-fn numbered_groups_give_way_to_named_ones(rt: HostRuntime) -> Result<(), Fail> {
-    let unrepeatable = ParseErrorKind::TargetNotRepeatable;
-    let rows: [Grouped; 6] = [
-        ("(a)(?<n>b)", Ok(3), Ok(2)),
-        ("(?<n>(a)(b))", Ok(4), Ok(2)),
-        ("(a)", Ok(2), Ok(2)),
-        ("()*", Ok(2), Ok(2)),
-        ("()*(?<n>a)", Ok(3), Err(unrepeatable)),
-        ("(?:)*(?<n>a)", Err(unrepeatable), Err(unrepeatable)),
-    ];
-    let alloc = rt.alloc();
-    for (pattern, off, on) in rows {
-        assert_eq!(rt; groups_of(alloc, pattern, false)?, off, "{pattern}");
-        assert_eq!(rt; groups_of(alloc, pattern, true)?, on, "{pattern}");
-    }
-    Ok(())
-}
-
-#[test]
-fn named_groups_alone_are_captured(rt: HostRuntime) -> Result<(), Fail> {
-    let alloc = rt.alloc();
-    let pattern = String::from_str(alloc, "(a)(?<n>b)")?;
-    let mut builder = RegexOptionsBuilder::new();
-    let regex = builder
-        .ignore_numbered_groups_when_named_groups_exist(true)
-        .build(pattern)?;
-    let captures = regex.captures("ab")?.ok_or("no match")?;
+fn named_groups_alone_are_captured(rt: HostRuntime) {
+    let regex = regex_with(&rt, rt.alloc(), ONLY_NAMED, "(a)(?<n>b)");
+    assert!(rt; regex.can_search(&RegexInput::new("ab")));
+    let found = regex.captures("ab").expect(&rt, "a search");
+    let captures = found.expect(&rt, "a match");
     assert_eq!(rt; captures.len(), 2);
-    assert_eq!(rt; captures.get(1).map(|m| (m.start(), m.end())), Some((1, 2)));
-    assert_eq!(rt;
-        captures.name("n").map(|m| (m.start(), m.end())),
-        Some((1, 2))
-    );
-    Ok(())
+    assert_eq!(rt; captures.get(1).map(span), Some((1, 2)));
+    assert_eq!(rt; captures.name("n").map(span), Some((1, 2)));
+}
+
+const TOGETHER: &[BytesRow] = &[(
+    Settings {
+        bytes_mode: BytesMode::Ascii,
+        unicode_mode: false,
+        case_insensitive: true,
+        multi_line: true,
+        ignore_whitespace: true,
+        dot_matches_new_line: true,
+        crlf: true,
+        overrides: true,
+        only_named: false,
+    },
+    "^ a . $",
+    b"b\rA\xFF\r\n",
+    Some((2, 4)),
+)];
+
+#[test]
+fn setters_chain(rt: HostRuntime) {
+    for row in TOGETHER {
+        check_span(&rt, rt.alloc(), row);
+    }
 }
 
 #[test]
-fn setters_chain(rt: HostRuntime) -> Result<(), Fail> {
-    let alloc = rt.alloc();
-    let pattern = String::from_str(alloc, "^ a . $")?;
-    let mut builder = RegexOptionsBuilder::new();
-    let regex = builder
-        .bytes_mode(BytesMode::Ascii)
-        .case_insensitive(true)
-        .multi_line(true)
-        .ignore_whitespace(true)
-        .dot_matches_new_line(true)
-        .crlf(true)
-        .unicode_mode(false)
-        .allow_input_assertion_overrides(true)
-        .build(pattern)?;
-    let haystack: &[u8] = b"b\rA\xFF\r\n";
-    let input = RegexInput::new(haystack);
-    assert_eq!(rt; span_in_bytes(&rt, &regex, input)?, Some((2, 4)));
-    let builder = RegexOptionsBuilder::default();
-    let regex = builder.build(String::from_str(alloc, "a b")?)?;
-    assert_eq!(rt; span_in_text(&rt, &regex, RegexInput::new("ab"))?, None);
-    assert_eq!(rt;
-        span_in_text(&rt, &regex, RegexInput::new("a b"))?,
-        Some((0, 3))
-    );
-    Ok(())
+fn the_default_options(rt: HostRuntime) {
+    let pattern = String::from_str(rt.alloc(), "a b").expect(&rt, "a text");
+    let regex = RegexOptionsBuilder::default()
+        .build(pattern)
+        .expect(&rt, "a regex");
+    check_found(&rt, &regex, "ab", None);
+    check_found(&rt, &regex, "a b", Some((0, 3)));
 }

@@ -1,30 +1,20 @@
 //! What is refused, and why.
 
 use crate::asking::{
-    ASCII_TEXT, BYTES, BYTES_WITHOUT_UNICODE, Mode, is_too_deep, read, read_nested,
+    ASCII_TEXT, BYTES, BYTES_WITHOUT_UNICODE, KindRow, Settings, check_kind, fault_of,
+    is_too_complex, kind_of, read, read_many, read_nested,
 };
-use fancy_regex::{CompileError, Error, ParseErrorKind, Regex};
+use fancy_regex::ParseErrorKind;
 use std::alloc::Global;
 use std::process::Abort;
-use std::test::Fail;
 
-/// A pattern, and the kind of its fault.
-type Fault = (&'static str, ParseErrorKind);
-
-fn check_kind(
-    rt: &impl Abort,
-    alloc: Global,
-    pattern: &str,
-    wanted: ParseErrorKind,
-) -> Result<(), Fail> {
-    match Regex::new(alloc, pattern) {
-        Err(Error::ParseError(_, kind)) => assert!(rt; kind == wanted, "{pattern}"),
-        _ => assert!(rt; false, "{pattern}"),
+fn check_kinds(rt: &impl Abort, alloc: Global, rows: &[KindRow]) {
+    for row in rows {
+        check_kind(rt, alloc, row);
     }
-    Ok(())
 }
 
-const FAULTY_PATTERNS: &[Fault] = &[
+const FAULTY_PATTERNS: &[KindRow] = &[
     ("a)", ParseErrorKind::GeneralParseError),
     ("(?:a", ParseErrorKind::UnclosedOpenParen),
     ("(a", ParseErrorKind::UnclosedOpenParen),
@@ -41,15 +31,11 @@ const FAULTY_PATTERNS: &[Fault] = &[
 ];
 
 #[test]
-fn patterns_of_one_fault(rt: HostRuntime) -> Result<(), Fail> {
-    let alloc = rt.alloc();
-    for (pattern, kind) in FAULTY_PATTERNS {
-        check_kind(&rt, alloc, pattern, *kind)?;
-    }
-    Ok(())
+fn patterns_of_one_fault(rt: HostRuntime) {
+    check_kinds(&rt, rt.alloc(), FAULTY_PATTERNS);
 }
 
-const FAULTY_REPEATS: &[Fault] = &[
+const FAULTY_REPEATS: &[KindRow] = &[
     ("?a", ParseErrorKind::TargetNotRepeatable),
     ("{2}", ParseErrorKind::TargetNotRepeatable),
     ("(?:)?", ParseErrorKind::TargetNotRepeatable),
@@ -64,15 +50,11 @@ const FAULTY_REPEATS: &[Fault] = &[
 ];
 
 #[test]
-fn repeats_of_one_fault(rt: HostRuntime) -> Result<(), Fail> {
-    let alloc = rt.alloc();
-    for (pattern, kind) in FAULTY_REPEATS {
-        check_kind(&rt, alloc, pattern, *kind)?;
-    }
-    Ok(())
+fn repeats_of_one_fault(rt: HostRuntime) {
+    check_kinds(&rt, rt.alloc(), FAULTY_REPEATS);
 }
 
-const FAULTY_ESCAPES: &[Fault] = &[
+const FAULTY_ESCAPES: &[KindRow] = &[
     ("a\\", ParseErrorKind::TrailingBackslash),
     ("\\q", ParseErrorKind::InvalidEscape),
     ("\\0", ParseErrorKind::InvalidEscape),
@@ -92,15 +74,11 @@ const FAULTY_ESCAPES: &[Fault] = &[
 ];
 
 #[test]
-fn escapes_of_one_fault(rt: HostRuntime) -> Result<(), Fail> {
-    let alloc = rt.alloc();
-    for (pattern, kind) in FAULTY_ESCAPES {
-        check_kind(&rt, alloc, pattern, *kind)?;
-    }
-    Ok(())
+fn escapes_of_one_fault(rt: HostRuntime) {
+    check_kinds(&rt, rt.alloc(), FAULTY_ESCAPES);
 }
 
-const FAULTY_CLASSES: &[Fault] = &[
+const FAULTY_CLASSES: &[KindRow] = &[
     ("[b-a]", ParseErrorKind::InvalidClass),
     ("[a", ParseErrorKind::InvalidClass),
     ("[]", ParseErrorKind::InvalidClass),
@@ -119,15 +97,11 @@ const FAULTY_CLASSES: &[Fault] = &[
 ];
 
 #[test]
-fn classes_of_one_fault(rt: HostRuntime) -> Result<(), Fail> {
-    let alloc = rt.alloc();
-    for (pattern, kind) in FAULTY_CLASSES {
-        check_kind(&rt, alloc, pattern, *kind)?;
-    }
-    Ok(())
+fn classes_of_one_fault(rt: HostRuntime) {
+    check_kinds(&rt, rt.alloc(), FAULTY_CLASSES);
 }
 
-const LEFT_OUT: &[Fault] = &[
+const LEFT_OUT: &[KindRow] = &[
     ("(*FAIL)", ParseErrorKind::NotInProfile),
     ("(?~a)", ParseErrorKind::NotInProfile),
     ("(?&n)", ParseErrorKind::NotInProfile),
@@ -140,20 +114,19 @@ const LEFT_OUT: &[Fault] = &[
 ];
 
 #[test]
-fn forms_that_are_left_out(rt: HostRuntime) -> Result<(), Fail> {
-    let alloc = rt.alloc();
-    for (pattern, kind) in LEFT_OUT {
-        check_kind(&rt, alloc, pattern, *kind)?;
-    }
-    Ok(())
+fn forms_that_are_left_out(rt: HostRuntime) {
+    check_kinds(&rt, rt.alloc(), LEFT_OUT);
 }
 
-/// Whether a pattern is refused as a class that its mode does not have.
-fn is_no_class(alloc: Global, mode: Mode, pattern: &str) -> bool {
-    matches!(
-        read(alloc, mode, pattern),
-        Err(Error::ParseError(_, ParseErrorKind::InvalidClass))
-    )
+/// Checks that the patterns are refused as classes that these options do not have.
+fn check_no_classes(rt: &impl Abort, alloc: Global, settings: Settings, patterns: &[&str]) {
+    for pattern in patterns {
+        let read = read(alloc, settings, *pattern);
+        assert!(rt;
+            kind_of(&read) == Some(ParseErrorKind::InvalidClass),
+            "{pattern}"
+        );
+    }
 }
 
 const NO_SETS_OF_ASCII_TEXT: &[&str] = &[
@@ -176,59 +149,46 @@ const NO_SETS_OF_ASCII_TEXT: &[&str] = &[
     "[\\p{L}]",
 ];
 
+const NO_SETS_OF_BYTES: &[&str] = &[
+    "\\p{L}",
+    "\\PL",
+    "[\\p{L}]",
+    "[é]",
+    "[a-é]",
+    "[\\x{E9}]",
+    "[\\u00E9]",
+];
+
 #[test]
-fn ascii_text_has_no_complements(rt: HostRuntime) -> Result<(), Fail> {
-    for pattern in NO_SETS_OF_ASCII_TEXT {
-        assert!(rt; is_no_class(rt.alloc(), ASCII_TEXT, pattern), "{pattern}");
+fn sets_that_a_mode_does_not_have(rt: HostRuntime) {
+    check_no_classes(&rt, rt.alloc(), ASCII_TEXT, NO_SETS_OF_ASCII_TEXT);
+    check_no_classes(&rt, rt.alloc(), BYTES, NO_SETS_OF_BYTES);
+    check_no_classes(&rt, rt.alloc(), BYTES_WITHOUT_UNICODE, NO_SETS_OF_BYTES);
+}
+
+/// What opens, stands within and closes, and the place of the refusal, where it is told.
+const DEEP: &[((&str, &str, &str), Option<usize>)] = &[
+    (("(?:", "a", ")"), None),
+    (("(?:", "", ")"), Some(195)),
+    (("(", "a", ")"), None),
+    (("(?i:", "a", ")"), None),
+    (("[", "a", "]"), Some(0)),
+];
+
+#[test]
+fn parentheses_and_brackets_nest_64_deep(rt: HostRuntime) {
+    for &(parts, place) in DEEP {
+        let deepest = read_nested(&rt, rt.alloc(), parts, 64);
+        assert!(rt; deepest.is_ok(), "{}", parts.0);
+        let too_deep = read_nested(&rt, rt.alloc(), parts, 65);
+        let (at, kind) = fault_of(&too_deep).expect(&rt, parts.0);
+        assert!(rt; kind == ParseErrorKind::RecursionExceeded, "{}", parts.0);
+        assert!(rt; place.is_none() || place == Some(at), "{}", parts.0);
     }
-    Ok(())
 }
 
 #[test]
-fn bytes_have_no_characters_past_ascii(rt: HostRuntime) -> Result<(), Fail> {
-    for pattern in [
-        "\\p{L}",
-        "\\PL",
-        "[\\p{L}]",
-        "[é]",
-        "[a-é]",
-        "[\\x{E9}]",
-        "[\\u00E9]",
-    ] {
-        assert!(rt; is_no_class(rt.alloc(), BYTES, pattern), "{pattern}");
-        assert!(rt;
-            is_no_class(rt.alloc(), BYTES_WITHOUT_UNICODE, pattern),
-            "{pattern}"
-        );
-    }
-    Ok(())
-}
-
-#[test]
-fn groups_nest_64_deep(rt: HostRuntime) -> Result<(), Fail> {
-    for opening in ["(?:", "(", "(?i:"] {
-        let deepest = read_nested(rt.alloc(), opening, ")", 64);
-        assert!(rt; deepest.is_ok(), "{opening}");
-        let too_deep = read_nested(rt.alloc(), opening, ")", 65);
-        assert!(rt; is_too_deep(&too_deep), "{opening}");
-    }
-    Ok(())
-}
-
-/// What is read of so many `a`.
-fn read_many(alloc: Global, count: usize) -> fancy_regex::Result<Regex> {
-    let pattern = "a".repeat(alloc, count)?;
-    Regex::new(alloc, pattern.as_str())
-}
-
-#[test]
-fn a_pattern_has_a_million_nodes(rt: HostRuntime) -> Result<(), Fail> {
-    assert!(rt; read_many(rt.alloc(), 1_000_000).is_ok());
-    assert!(rt;
-        matches!(
-            read_many(rt.alloc(), 1_000_001),
-            Err(Error::CompileError(CompileError::PatternTooComplex))
-        )
-    );
-    Ok(())
+fn a_pattern_has_a_million_nodes(rt: HostRuntime) {
+    assert!(rt; read_many(&rt, rt.alloc(), 1_000_000).is_ok());
+    assert!(rt; is_too_complex(&read_many(&rt, rt.alloc(), 1_000_001)));
 }

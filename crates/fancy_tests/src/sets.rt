@@ -1,13 +1,12 @@
 //! What classes and the other sets of characters have as members.
 
 use crate::asking::{
-    ASCII_TEXT, BYTES, BYTES_WITHOUT_UNICODE, BytesRow, CHARACTERS, CHARACTERS_ANYWHERE, Mode,
-    TextRow, check_bytes, check_text, is_too_deep, read, read_nested, span, span_in_bytes,
+    ASCII_TEXT, BYTES, BYTES_WITHOUT_UNICODE, BytesRow, CHARACTERS, CHARACTERS_ANYWHERE, Settings,
+    TextRow, check_span, check_texts, first_span, regex_with,
 };
 use fancy_regex::{Regex, RegexInput};
 use std::alloc::Global;
 use std::process::Abort;
-use std::test::Fail;
 
 const OPERATORS: &[TextRow] = &[
     ("[a-z&&[^aeiou]]+", "aebcd", Some((2, 5))),
@@ -26,12 +25,8 @@ const OPERATORS: &[TextRow] = &[
 ];
 
 #[test]
-fn classes_have_operators(rt: HostRuntime) -> Result<(), Fail> {
-    let alloc = rt.alloc();
-    for row in OPERATORS {
-        check_text(&rt, alloc, row)?;
-    }
-    Ok(())
+fn classes_have_operators(rt: HostRuntime) {
+    check_texts(&rt, rt.alloc(), OPERATORS);
 }
 
 const HYPHENS_AND_BRACKETS: &[TextRow] = &[
@@ -52,12 +47,8 @@ const HYPHENS_AND_BRACKETS: &[TextRow] = &[
 ];
 
 #[test]
-fn hyphens_and_brackets_have_their_places(rt: HostRuntime) -> Result<(), Fail> {
-    let alloc = rt.alloc();
-    for row in HYPHENS_AND_BRACKETS {
-        check_text(&rt, alloc, row)?;
-    }
-    Ok(())
+fn hyphens_and_brackets_have_their_places(rt: HostRuntime) {
+    check_texts(&rt, rt.alloc(), HYPHENS_AND_BRACKETS);
 }
 
 const WIDENED_SETS: &[TextRow] = &[
@@ -77,30 +68,8 @@ const WIDENED_SETS: &[TextRow] = &[
 ];
 
 #[test]
-fn sets_are_widened(rt: HostRuntime) -> Result<(), Fail> {
-    let alloc = rt.alloc();
-    for row in WIDENED_SETS {
-        check_text(&rt, alloc, row)?;
-    }
-    Ok(())
-}
-
-#[test]
-fn searches_a_class_from_a_start(rt: HostRuntime) -> Result<(), Fail> {
-    let regex = Regex::new(rt.alloc(), "(?m:^)(\\d+)")?;
-    let input = RegexInput::new("1 test 123\n2 foo").from_pos(7);
-    assert!(rt; regex.can_search(&input));
-    let captures = regex.captures_input(input)?.ok_or("no match")?;
-    assert_eq!(rt; captures.get(0).map(span), Some((11, 12)));
-    assert_eq!(rt; captures.get(1).map(span), Some((11, 12)));
-    Ok(())
-}
-
-#[test]
-fn brackets_nest_64_deep(rt: HostRuntime) -> Result<(), Fail> {
-    assert!(rt; read_nested(rt.alloc(), "[", "]", 64).is_ok());
-    assert!(rt; is_too_deep(&read_nested(rt.alloc(), "[", "]", 65)));
-    Ok(())
+fn sets_are_widened(rt: HostRuntime) {
+    check_texts(&rt, rt.alloc(), WIDENED_SETS);
 }
 
 /// A set, its complement, and the ranges of its members.
@@ -158,111 +127,73 @@ fn is_within(ranges: &[(u32, u32)], number: u32) -> bool {
 }
 
 /// Checks on every byte whether it is within the ranges, or outside of them where these are no members.
-fn check_every_byte(
-    rt: &impl Abort,
-    regex: &Regex,
-    ranges: &[(u32, u32)],
-    members: bool,
-) -> Result<(), Fail> {
+fn check_every_byte(rt: &impl Abort, regex: &Regex, ranges: &[(u32, u32)], members: bool) {
     for byte in 0..=255u8 {
         let haystack: &[u8] = &[byte];
         let wanted = is_within(ranges, byte as u32) == members;
-        let found = span_in_bytes(rt, regex, RegexInput::new(haystack))?;
+        let found = first_span(rt, regex, RegexInput::new(haystack));
         assert!(rt; found.is_some() == wanted, "{byte} in {}", regex.as_str());
     }
-    Ok(())
 }
 
-fn check_set_of_bytes(
-    rt: &impl Abort,
-    alloc: Global,
-    mode: Mode,
-    row: &SetRow,
-) -> Result<(), Fail> {
-    let (pattern, complement, ranges) = *row;
-    check_every_byte(rt, &read(alloc, mode, pattern)?, ranges, true)?;
-    check_every_byte(rt, &read(alloc, mode, complement)?, ranges, false)
-}
-
-fn check_sets_of_bytes(rt: &impl Abort, alloc: Global, rows: &[SetRow]) -> Result<(), Fail> {
-    for row in rows {
-        check_set_of_bytes(rt, alloc, BYTES, row)?;
-        check_set_of_bytes(rt, alloc, BYTES_WITHOUT_UNICODE, row)?;
+/// Checks sets and their complements on every byte.
+fn check_sets_of_bytes(rt: &impl Abort, alloc: Global, settings: Settings, rows: &[SetRow]) {
+    for &(pattern, complement, ranges) in rows {
+        let set = regex_with(rt, alloc, settings, pattern);
+        check_every_byte(rt, &set, ranges, true);
+        let others = regex_with(rt, alloc, settings, complement);
+        check_every_byte(rt, &others, ranges, false);
     }
-    Ok(())
 }
 
 #[test]
-fn sets_of_bytes(rt: HostRuntime) -> Result<(), Fail> {
-    check_sets_of_bytes(&rt, rt.alloc(), POSIX_SETS)?;
-    check_sets_of_bytes(&rt, rt.alloc(), LETTERED_SETS)
+fn sets_of_bytes(rt: HostRuntime) {
+    for settings in [BYTES, BYTES_WITHOUT_UNICODE] {
+        check_sets_of_bytes(&rt, rt.alloc(), settings, POSIX_SETS);
+        check_sets_of_bytes(&rt, rt.alloc(), settings, LETTERED_SETS);
+    }
 }
 
 /// Checks that the pattern matches the bytes of this character, or does not.
-fn check_character(
-    rt: &impl Abort,
-    alloc: Global,
-    regex: &Regex,
-    c: char,
-    wanted: bool,
-) -> Result<(), Fail> {
+fn check_character(rt: &impl Abort, alloc: Global, regex: &Regex, c: char, wanted: bool) {
     let mut text = String::new(alloc);
-    text.push(c)?;
+    text.push(c).expect(rt, "no memory");
     let input = RegexInput::new(text.as_str().as_bytes());
-    let found = span_in_bytes(rt, regex, input)?;
-    assert!(rt;
-        found.is_some() == wanted,
-        "{} in {}",
-        c as u32,
-        regex.as_str()
-    );
-    Ok(())
+    let found = first_span(rt, regex, input);
+    let number = c as u32;
+    assert!(rt; found.is_some() == wanted, "{number} in {}", regex.as_str());
 }
 
-fn check_characters(
-    rt: &impl Abort,
-    alloc: Global,
-    regex: &Regex,
-    text: &str,
-    wanted: bool,
-) -> Result<(), Fail> {
+fn check_characters(rt: &impl Abort, alloc: Global, regex: &Regex, text: &str, wanted: bool) {
     for c in text.chars() {
-        check_character(rt, alloc, regex, c, wanted)?;
+        check_character(rt, alloc, regex, c, wanted);
     }
-    Ok(())
 }
 
 /// Checks a set on the first 256 characters.
-fn check_first_characters(
-    rt: &impl Abort,
-    alloc: Global,
-    regex: &Regex,
-    ranges: &[(u32, u32)],
-) -> Result<(), Fail> {
+fn check_first_characters(rt: &impl Abort, alloc: Global, regex: &Regex, ranges: &[(u32, u32)]) {
     for byte in 0..=255u8 {
         let wanted = is_within(ranges, byte as u32);
-        check_character(rt, alloc, regex, byte as char, wanted)?;
+        check_character(rt, alloc, regex, byte as char, wanted);
     }
-    Ok(())
 }
 
 /// Checks sets on the first 256 characters, and on some others, which they lack.
-fn check_in_ascii(rt: &impl Abort, alloc: Global, mode: Mode, rows: &[SetRow]) -> Result<(), Fail> {
+fn check_in_ascii(rt: &impl Abort, alloc: Global, settings: Settings, rows: &[SetRow]) {
     let others = "\u{660}\u{3000}\u{FF21}\u{FF3F}\u{1D7CE}\u{10FFFF}";
     for &(pattern, _, ranges) in rows {
-        let set = read(alloc, mode, pattern)?;
-        check_first_characters(rt, alloc, &set, ranges)?;
-        check_characters(rt, alloc, &set, others, false)?;
+        let set = regex_with(rt, alloc, settings, pattern);
+        check_first_characters(rt, alloc, &set, ranges);
+        check_characters(rt, alloc, &set, others, false);
     }
-    Ok(())
 }
 
 #[test]
-fn sets_of_ascii(rt: HostRuntime) -> Result<(), Fail> {
-    check_in_ascii(&rt, rt.alloc(), ASCII_TEXT, POSIX_SETS)?;
-    check_in_ascii(&rt, rt.alloc(), ASCII_TEXT, LETTERED_SETS)?;
-    check_in_ascii(&rt, rt.alloc(), CHARACTERS, POSIX_SETS)?;
-    check_in_ascii(&rt, rt.alloc(), CHARACTERS_ANYWHERE, POSIX_SETS)
+fn sets_of_ascii(rt: HostRuntime) {
+    check_in_ascii(&rt, rt.alloc(), ASCII_TEXT, POSIX_SETS);
+    check_in_ascii(&rt, rt.alloc(), ASCII_TEXT, LETTERED_SETS);
+    check_in_ascii(&rt, rt.alloc(), CHARACTERS, POSIX_SETS);
+    check_in_ascii(&rt, rt.alloc(), CHARACTERS_ANYWHERE, POSIX_SETS);
 }
 
 /// A set, its complement, characters that are members, and characters that are none.
@@ -272,15 +203,16 @@ type EdgeRow = (&'static str, &'static str, &'static str, &'static str);
 fn check_edges(
     rt: &impl Abort,
     alloc: Global,
-    patterns: (&str, &str),
+    (set, complement): (&str, &str),
     text: &str,
     wanted: bool,
-) -> Result<(), Fail> {
-    for mode in [CHARACTERS, CHARACTERS_ANYWHERE] {
-        check_characters(rt, alloc, &read(alloc, mode, patterns.0)?, text, wanted)?;
-        check_characters(rt, alloc, &read(alloc, mode, patterns.1)?, text, !wanted)?;
+) {
+    for settings in [CHARACTERS, CHARACTERS_ANYWHERE] {
+        let members = regex_with(rt, alloc, settings, set);
+        check_characters(rt, alloc, &members, text, wanted);
+        let others = regex_with(rt, alloc, settings, complement);
+        check_characters(rt, alloc, &others, text, !wanted);
     }
-    Ok(())
 }
 
 const EDGES: &[EdgeRow] = &[
@@ -318,28 +250,19 @@ const EDGES: &[EdgeRow] = &[
 ];
 
 #[test]
-fn sets_of_unicode(rt: HostRuntime) -> Result<(), Fail> {
-    let alloc = rt.alloc();
+fn sets_of_unicode(rt: HostRuntime) {
     for &(set, complement, members, others) in EDGES {
-        check_edges(&rt, alloc, (set, complement), members, true)?;
-        check_edges(&rt, alloc, (set, complement), others, false)?;
+        check_edges(&rt, rt.alloc(), (set, complement), members, true);
+        check_edges(&rt, rt.alloc(), (set, complement), others, false);
     }
-    Ok(())
 }
 
 #[test]
-fn complements_have_all_of_unicode(rt: HostRuntime) -> Result<(), Fail> {
-    let alloc = rt.alloc();
+fn complements_have_all_of_unicode(rt: HostRuntime) {
+    let text = "\u{80}é\u{212A}\u{D7FF}\u{E000}\u{10FFFF}";
     for &(set, complement, _) in POSIX_SETS {
-        check_edges(
-            &rt,
-            alloc,
-            (complement, set),
-            "\u{80}é\u{212A}\u{D7FF}\u{E000}\u{10FFFF}",
-            true,
-        )?;
+        check_edges(&rt, rt.alloc(), (complement, set), text, true);
     }
-    Ok(())
 }
 
 const ITEMS: &[BytesRow] = &[
@@ -358,10 +281,8 @@ const ITEMS: &[BytesRow] = &[
 ];
 
 #[test]
-fn items_of_sets_are_characters_or_bytes(rt: HostRuntime) -> Result<(), Fail> {
-    let alloc = rt.alloc();
+fn items_of_sets_are_characters_or_bytes(rt: HostRuntime) {
     for row in ITEMS {
-        check_bytes(&rt, alloc, row)?;
+        check_span(&rt, rt.alloc(), row);
     }
-    Ok(())
 }

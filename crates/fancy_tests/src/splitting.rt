@@ -2,37 +2,14 @@
 //!
 //! The first rows of each table were worked out by hand, the others by an independent model of the search.
 
-use fancy_regex::{BytesMode, Regex, RegexOptionsBuilder, Split, SplitN};
-use std::alloc::Global;
+use crate::asking::{
+    BYTES, CHARACTERS, CHARACTERS_ANYWHERE, FirstPiecesRow, PiecesRow, check_first_pieces,
+    check_pieces, regex_with,
+};
+use fancy_regex::{Regex, RegexInput, Split, SplitN};
 use std::process::Abort;
-use std::test::Fail;
 
-/// A pattern, a text, and its pieces.
-type Row = (&'static str, &'static str, &'static [&'static str]);
-
-/// A pattern, a text, a limit, and the first pieces.
-type LimitedRow = (&'static str, &'static str, usize, &'static [&'static str]);
-
-fn check_row(rt: &impl Abort, alloc: Global, row: &Row) -> Result<(), Fail> {
-    let (pattern, text, wanted) = *row;
-    let regex = Regex::new(alloc, pattern)?;
-    let pieces: Vec<&str> = regex.split(text).try_collect(alloc)?;
-    assert!(rt; pieces.as_slice() == wanted, "{pattern} on {text}");
-    Ok(())
-}
-
-fn check_limited_row(rt: &impl Abort, alloc: Global, row: &LimitedRow) -> Result<(), Fail> {
-    let (pattern, text, limit, wanted) = *row;
-    let regex = Regex::new(alloc, pattern)?;
-    let pieces: Vec<&str> = regex.splitn(text, limit).try_collect(alloc)?;
-    assert!(rt;
-        pieces.as_slice() == wanted,
-        "{limit} of {pattern} on {text}"
-    );
-    Ok(())
-}
-
-const PIECES: &[Row] = &[
+const PIECES: &[PiecesRow] = &[
     ("", "123", &["", "1", "2", "3", ""]),
     (",", "1,2,3", &["1", "2", "3"]),
     ("a|ab", "xabab", &["x", "b", "b"]),
@@ -58,15 +35,13 @@ const PIECES: &[Row] = &[
 ];
 
 #[test]
-fn splits_at_matches(rt: HostRuntime) -> Result<(), Fail> {
-    let alloc = rt.alloc();
+fn splits_at_matches(rt: HostRuntime) {
     for row in PIECES {
-        check_row(&rt, alloc, row)?;
+        check_pieces(&rt, rt.alloc(), row);
     }
-    Ok(())
 }
 
-const FIRST_PIECES: &[LimitedRow] = &[
+const FIRST_PIECES: &[FirstPiecesRow] = &[
     ("", "123", 0, &[]),
     (",", "1,2,3", 1, &["1,2,3"]),
     (",", "1,2,3", 2, &["1", "2,3"]),
@@ -91,79 +66,55 @@ const FIRST_PIECES: &[LimitedRow] = &[
     ("a|", "baa", 3, &["", "b", "a"]),
     ("a*", "baa", 2, &["", "baa"]),
     ("(a)(b)?", "abcab", 2, &["", "cab"]),
+    ("[ \\t]+", "a b \t  c\td    e", 3, &["a", "b", "c\td    e"]),
 ];
 
 #[test]
-fn splits_up_to_a_limit(rt: HostRuntime) -> Result<(), Fail> {
-    let alloc = rt.alloc();
+fn splits_up_to_a_limit(rt: HostRuntime) {
     for row in FIRST_PIECES {
-        check_limited_row(&rt, alloc, row)?;
+        check_first_pieces(&rt, rt.alloc(), row);
     }
-    Ok(())
 }
 
-/// Whether a split has ended, and stays so.
-fn has_ended(mut split: Split<'_, '_>) -> bool {
-    split.next().is_none() && split.next().is_none()
+/// Checks that these are the pieces left, and that the split then stays ended.
+fn check_the_rest(rt: &impl Abort, mut split: Split<'_, '_>, pieces: &[&str]) {
+    for piece in pieces {
+        let next = split.next().expect(rt, *piece);
+        assert_eq!(rt; next.expect(rt, *piece), *piece);
+    }
+    assert!(rt; split.next().is_none() && split.next().is_none());
 }
 
-/// Whether a limited split has ended, and stays so.
-fn has_ended_by_limit(mut split: SplitN<'_, '_>) -> bool {
-    split.next().is_none() && split.next().is_none()
-}
-
-#[test]
-fn an_ended_split_stays_ended(rt: HostRuntime) -> Result<(), Fail> {
-    let regex = Regex::new(rt.alloc(), ",")?;
-    let mut split = regex.split("1,2");
-    assert_eq!(rt; split.next().ok_or("no piece")??, "1");
-    assert_eq!(rt; split.next().ok_or("no piece")??, "2");
-    assert!(rt; has_ended(split));
-    Ok(())
+/// The same of a split with a limit.
+fn check_the_first(rt: &impl Abort, mut split: SplitN<'_, '_>, pieces: &[&str]) {
+    for piece in pieces {
+        let next = split.next().expect(rt, *piece);
+        assert_eq!(rt; next.expect(rt, *piece), *piece);
+    }
+    assert!(rt; split.next().is_none() && split.next().is_none());
 }
 
 #[test]
-fn a_split_without_its_limit_stays_ended(rt: HostRuntime) -> Result<(), Fail> {
-    let regex = Regex::new(rt.alloc(), ",")?;
-    let mut split = regex.splitn("1,2", 9);
-    assert_eq!(rt; split.next().ok_or("no piece")??, "1");
-    assert_eq!(rt; split.next().ok_or("no piece")??, "2");
-    assert!(rt; has_ended_by_limit(split));
-    Ok(())
+fn an_ended_split_stays_ended(rt: HostRuntime) {
+    let regex = Regex::new(rt.alloc(), ",").expect(&rt, "a regex");
+    check_the_rest(&rt, regex.split("1,2"), &["1", "2"]);
+    check_the_first(&rt, regex.splitn("1,2", 9), &["1", "2"]);
+    check_the_first(&rt, regex.splitn("1,2", 1), &["1,2"]);
+    check_the_first(&rt, regex.splitn("1,2", 0), &[]);
 }
 
 #[test]
-fn a_limited_split_stays_ended(rt: HostRuntime) -> Result<(), Fail> {
-    let regex = Regex::new(rt.alloc(), ",")?;
-    let mut split = regex.splitn("1,2", 1);
-    assert_eq!(rt; split.next().ok_or("no piece")??, "1,2");
-    assert!(rt; has_ended_by_limit(split));
-    assert!(rt; has_ended_by_limit(regex.splitn("1,2", 0)));
-    Ok(())
-}
-
-#[test]
-fn pieces_are_counted(rt: HostRuntime) -> Result<(), Fail> {
-    let alloc = rt.alloc();
-    let regex = Regex::new(alloc, ",")?;
+fn pieces_are_counted(rt: HostRuntime) {
+    let regex = Regex::new(rt.alloc(), ",").expect(&rt, "a regex");
     assert_eq!(rt; regex.split("1,2,3").count(), 3);
     assert_eq!(rt; regex.splitn("1,2,3", 2).count(), 2);
-    Ok(())
 }
 
 #[test]
-fn ascii_text_is_split_in_every_mode(rt: HostRuntime) -> Result<(), Fail> {
-    let alloc = rt.alloc();
-    let modes = [
-        BytesMode::Unicode,
-        BytesMode::UnicodeBytes,
-        BytesMode::Ascii,
-    ];
-    for mode in modes {
-        let pattern = String::from_str(alloc, "b*")?;
-        let regex = RegexOptionsBuilder::new().bytes_mode(mode).build(pattern)?;
-        let pieces: Vec<&str> = regex.split("abba").try_collect(alloc)?;
-        assert!(rt; pieces.as_slice() == ["", "a", "a", ""].as_slice());
+fn ascii_text_is_split_in_every_mode(rt: HostRuntime) {
+    for settings in [CHARACTERS, CHARACTERS_ANYWHERE, BYTES] {
+        let regex = regex_with(&rt, rt.alloc(), settings, "b*");
+        assert!(rt; regex.can_search(&RegexInput::new("abba")));
+        check_the_rest(&rt, regex.split("abba"), &["", "a", "a", ""]);
     }
-    Ok(())
 }

@@ -1,11 +1,88 @@
 //! What templates expand to, which of them a regex allows, and escapes.
 
+use fancy_core::steps::Step;
+use fancy_core::write::write_whole;
 use fancy_regex::{Captures, CompileError, Error, Expander, ParseErrorKind, Regex, escape};
 use std::alloc::Global;
 use std::borrow::CowStr;
 use std::io;
 use std::process::Abort;
-use std::test::Fail;
+
+/// One step, shown as `'c'`, `<name>`, `number` or `!`.
+fn shown(alloc: Global, step: Step<'_>) -> fancy_regex::Result<String> {
+    let text = match step {
+        Step::Literal(c) => format!(in alloc; "'{c}'")?,
+        Step::Name(name) => format!(in alloc; "<{name}>")?,
+        Step::Number(number) => format!(in alloc; "{number}")?,
+        Step::Error => format!(in alloc; "!")?,
+    };
+    Ok(text)
+}
+
+/// Checks the steps of a template, shown one behind the other.
+fn check_steps(rt: &impl Abort, alloc: Global, expander: &Expander, template: &str, wanted: &str) {
+    let mut all = String::new(alloc);
+    for step in expander.steps(template) {
+        let text = shown(alloc, step).expect(rt, template);
+        all.push_str(text.as_str()).expect(rt, template);
+    }
+    assert_eq!(rt; all.as_str(), wanted);
+}
+
+const DOLLAR_STEPS: &[(&str, &str)] = &[
+    ("$1a", "<1a>"),
+    ("$10", "<10>"),
+    ("${1}a", "<1>'a'"),
+    ("$$1", "'$''1'"),
+    ("${1", "!'$''{''1'"),
+    ("${}", "!'$''{''}'"),
+    ("$-", "!'$''-'"),
+    ("$", "!'$'"),
+    ("x$é_2.", "'x'<é_2>'.'"),
+    ("$²", "<²>"),
+];
+
+const PYTHON_STEPS: &[(&str, &str)] = &[
+    ("\\10", "10"),
+    ("\\1\\g<0>\\\\x", "1<0>'\\''x'"),
+    ("\\a", "!'\\''a'"),
+    ("\\g<a", "!'\\''g''<''a'"),
+    ("\\18446744073709551615", "18446744073709551615"),
+    ("\\0001x", "1'x'"),
+    (
+        "\\18446744073709551616",
+        "!'\\''1''8''4''4''6''7''4''4''0''7''3''7''0''9''5''5''1''6''1''6'",
+    ),
+];
+
+#[test]
+fn templates_have_steps(rt: HostRuntime) {
+    for &(template, wanted) in DOLLAR_STEPS {
+        check_steps(&rt, rt.alloc(), &Expander::default(), template, wanted);
+    }
+    for &(template, wanted) in PYTHON_STEPS {
+        check_steps(&rt, rt.alloc(), &Expander::python(), template, wanted);
+    }
+}
+
+/// Compares what is written of an expansion with what is wanted.
+fn check_written(
+    rt: &impl Abort,
+    alloc: Global,
+    expander: &Expander,
+    template: &str,
+    captures: &Captures<'_, &str>,
+    wanted: &str,
+) {
+    let mut bytes = Vec::new(alloc);
+    let answer = expander.write_expansion_vec(&mut bytes, template, captures);
+    answer.expect(rt, template);
+    assert_eq!(rt; bytes.as_slice(), wanted.as_bytes(), "{template}");
+    let mut written = Vec::new(alloc);
+    let answer = expander.write_expansion(&mut written, template, captures);
+    answer.expect(rt, template);
+    assert_eq!(rt; written.as_slice(), wanted.as_bytes(), "{template}");
+}
 
 /// Compares every form of expansion with what is wanted.
 fn check_forms(
@@ -15,181 +92,220 @@ fn check_forms(
     template: &str,
     captures: &Captures<'_, &str>,
     wanted: &str,
-) -> Result<(), Fail> {
-    let text = expander.expansion(template, captures)?;
+) {
+    let text = expander.expansion(template, captures).expect(rt, template);
     assert_eq!(rt; text.as_str(), wanted, "{template}");
-    let mut dst = String::from_str(alloc, "é")?;
-    expander.append_expansion(&mut dst, template, captures)?;
+    let mut appended = String::from_str(alloc, "é").expect(rt, template);
+    let answer = expander.append_expansion(&mut appended, template, captures);
+    answer.expect(rt, template);
     assert_eq!(rt;
-        dst.as_str(),
-        format!(in alloc; "é{wanted}")?.as_str(),
+        appended.as_str().strip_prefix("é"),
+        Some(wanted),
         "{template}"
     );
-    let mut bytes = Vec::new(alloc);
-    expander.write_expansion_vec(&mut bytes, template, captures)?;
-    assert_eq!(rt; bytes.as_slice(), wanted.as_bytes(), "{template}");
-    let mut written = Vec::new(alloc);
-    assert!(rt;
-        expander
-            .write_expansion(&mut written, template, captures)
-            .is_ok()
-    );
-    assert_eq!(rt; written.as_slice(), wanted.as_bytes(), "{template}");
-    Ok(())
+    check_written(rt, alloc, expander, template, captures, wanted);
 }
 
+/// Compares the expansion by the captures with what is wanted.
+fn check_expand(
+    rt: &impl Abort,
+    alloc: Global,
+    template: &str,
+    captures: &Captures<'_, &str>,
+    wanted: &str,
+) {
+    let mut text = String::from_str(alloc, "x").expect(rt, template);
+    captures.expand(template, &mut text).expect(rt, template);
+    assert_eq!(rt; text.as_str().strip_prefix("x"), Some(wanted), "{template}");
+}
+
+/// Templates, and what they expand to where group 1 is `b`.
+const DOLLAR_TEMPLATES: &[(&str, &str)] = &[
+    ("", ""),
+    ("x", "x"),
+    ("$0", "b"),
+    ("${1", "${1"),
+    ("$$1", "$1"),
+    ("$10", ""),
+    ("$1a", ""),
+    ("a$ b", "a$ b"),
+    ("${18446744073709551616}", ""),
+    ("${1}-$0", "b-b"),
+    ("$1é$", "$"),
+    ("${1}é$", "bé$"),
+    ("$1!", "b!"),
+    ("<$0>", "<b>"),
+];
+
+const PYTHON_TEMPLATES: &[(&str, &str)] = &[
+    ("\\1\\g<0>\\\\x", "bb\\x"),
+    ("\\18446744073709551616", "\\18446744073709551616"),
+    ("\\10", ""),
+    ("\\g<1", "\\g<1"),
+    ("$1\\x", "$1\\x"),
+];
+
 #[test]
-fn default_templates_expand(rt: HostRuntime) -> Result<(), Fail> {
-    let rows = [
-        ("", ""),
-        ("x", "x"),
-        ("$0", "b"),
-        ("${1", "${1"),
-        ("$$1", "$1"),
-        ("$10", ""),
-        ("$1a", ""),
-        ("a$ b", "a$ b"),
-        ("${18446744073709551616}", ""),
-        ("${1}-$0", "b-b"),
-        ("$1é$", "$"),
-        ("${1}é$", "bé$"),
-    ];
+fn templates_expand(rt: HostRuntime) {
     let alloc = rt.alloc();
-    let regex = Regex::new(alloc, "(b)")?;
-    let captures = regex.captures("abc")?.ok_or("no match")?;
-    for (template, wanted) in &rows {
-        check_forms(
-            &rt,
-            alloc,
-            &Expander::default(),
-            *template,
-            &captures,
-            *wanted,
-        )?;
-        let mut dst = String::from_str(alloc, "x")?;
-        captures.expand(*template, &mut dst)?;
-        assert_eq!(rt; dst.as_str(), format!(in alloc; "x{wanted}")?.as_str());
+    let regex = Regex::new(alloc, "(b)").expect(&rt, "a regex");
+    let found = regex.captures("abc").expect(&rt, "a search");
+    let captures = found.expect(&rt, "a match");
+    let by_dollar = Expander::default();
+    for &(template, wanted) in DOLLAR_TEMPLATES {
+        check_forms(&rt, alloc, &by_dollar, template, &captures, wanted);
+        check_expand(&rt, alloc, template, &captures, wanted);
     }
-    Ok(())
-}
-
-#[test]
-fn python_templates_expand(rt: HostRuntime) -> Result<(), Fail> {
-    let rows = [
-        ("\\1\\g<0>\\\\x", "bb\\x"),
-        ("\\18446744073709551616", "\\18446744073709551616"),
-        ("\\10", ""),
-        ("\\g<1", "\\g<1"),
-        ("$1\\x", "$1\\x"),
-    ];
-    let alloc = rt.alloc();
-    let regex = Regex::new(alloc, "(b)")?;
-    let captures = regex.captures("abc")?.ok_or("no match")?;
-    for (template, wanted) in &rows {
-        check_forms(
-            &rt,
-            alloc,
-            &Expander::python(),
-            *template,
-            &captures,
-            *wanted,
-        )?;
+    let python = Expander::python();
+    for &(template, wanted) in PYTHON_TEMPLATES {
+        check_forms(&rt, alloc, &python, template, &captures, wanted);
     }
-    Ok(())
 }
 
 #[test]
-fn captures_of_owned_text_expand(rt: HostRuntime) -> Result<(), Fail> {
-    let alloc = rt.alloc();
-    let haystack = String::from_str(alloc, "éab")?;
-    let regex = Regex::new(alloc, "(é)(x)?a")?;
-    let captures = regex.captures(&haystack)?.ok_or("no match")?;
-    let text = Expander::default().expansion("$2[$1]$0", &captures)?;
-    assert_eq!(rt; text.as_str(), "[é]éa");
-    Ok(())
+fn captures_of_owned_text_expand(rt: HostRuntime) {
+    let haystack = String::from_str(rt.alloc(), "éab").expect(&rt, "a text");
+    let regex = Regex::new(rt.alloc(), "(é)(x)?a").expect(&rt, "a regex");
+    let found = regex.captures(&haystack).expect(&rt, "a search");
+    let captures = found.expect(&rt, "a match");
+    let answer = Expander::default().expansion("$2[$1]$0", &captures);
+    assert_eq!(rt; answer.expect(&rt, "a text").as_str(), "[é]éa");
 }
 
-#[test]
-fn the_first_faulty_step_is_told(rt: HostRuntime) -> Result<(), Fail> {
-    let alloc = rt.alloc();
-    let regex = Regex::new(alloc, "(b)")?;
-    let expander = Expander::default();
-    for template in &["", "x", "$0", "$1", "${1}", "$$9", "$00", "$01"] {
-        assert!(rt; expander.check(*template, &regex).is_ok(), "{template}");
+/// What a check says of a template.
+#[derive(Clone, Copy)]
+enum Told {
+    Fits,
+    NoForm,
+    NoNumber(usize),
+    NoName(&'static str),
+    NamesAlone,
+}
+
+/// Whether the answer of a check says this.
+fn is_told(answer: &fancy_regex::Result<()>, wanted: Told) -> bool {
+    match (answer, wanted) {
+        (Ok(()), Told::Fits) => true,
+        (Err(Error::ParseError(0, kind)), Told::NoForm) => *kind
+            == ParseErrorKind::GeneralParseError,
+        (Err(Error::CompileError(CompileError::InvalidBackref(number))), Told::NoNumber(wanted)) =>
+            { *number == wanted }
+        (
+            Err(Error::CompileError(CompileError::InvalidGroupNameBackref(name))),
+            Told::NoName(wanted),
+        ) => name.as_str() == wanted,
+        (Err(Error::CompileError(CompileError::NamedBackrefOnly)), Told::NamesAlone) => true,
+        _ => false,
     }
-    assert!(rt;
-        matches!(
-            expander.check("a$", &regex),
-            Err(Error::ParseError(0, ParseErrorKind::GeneralParseError))
-        )
-    );
-    assert!(rt;
-        matches!(
-            expander.check("$1$2$x", &regex),
-            Err(Error::CompileError(CompileError::InvalidBackref(2)))
-        )
-    );
-    for (template, wanted) in &[
-        ("$1a$2", "1a"),
-        ("${18446744073709551616}", "18446744073709551616"),
-        ("$é", "é"),
-    ] {
-        match expander.check(*template, &regex) {
-            Err(Error::CompileError(CompileError::InvalidGroupNameBackref(name))) => {
-                assert_eq!(rt; name.as_str(), *wanted)
-            }
-            _ => assert!(rt; false, "{template}"),
-        }
+}
+
+/// A pattern, a template, and what is told of it.
+type CheckedRow = (&'static str, &'static str, Told);
+
+fn check_told(rt: &impl Abort, alloc: Global, expander: &Expander, row: &CheckedRow) {
+    let (pattern, template, wanted) = *row;
+    let regex = Regex::new(alloc, pattern).expect(rt, pattern);
+    let answer = expander.check(template, &regex);
+    assert!(rt; is_told(&answer, wanted), "{template}");
+}
+
+const TWO_WORDS: &str = "(?P<first>\\w+)\\s+(?P<second>\\w+)";
+
+const DOLLAR_CHECKS: &[CheckedRow] = &[
+    ("(b)", "", Told::Fits),
+    ("(b)", "x", Told::Fits),
+    ("(b)", "$0", Told::Fits),
+    ("(b)", "$1", Told::Fits),
+    ("(b)", "${1}", Told::Fits),
+    ("(b)", "$$9", Told::Fits),
+    ("(b)", "$00", Told::Fits),
+    ("(b)", "$01", Told::Fits),
+    ("(b)", "a$", Told::NoForm),
+    ("(b)", "$2", Told::NoNumber(2)),
+    ("(b)", "$1$2$x", Told::NoNumber(2)),
+    ("(b)", "$1a$2", Told::NoName("1a")),
+    (
+        "(b)",
+        "${18446744073709551616}",
+        Told::NoName("18446744073709551616"),
+    ),
+    ("(b)", "$é", Told::NoName("é")),
+    (TWO_WORDS, "$1", Told::NamesAlone),
+    (TWO_WORDS, "a$", Told::NoForm),
+    (TWO_WORDS, "$0", Told::Fits),
+    (TWO_WORDS, "${first}_$second", Told::Fits),
+];
+
+const PYTHON_CHECKS: &[CheckedRow] = &[
+    ("(b)", "\\1\\g<0>\\\\x", Told::Fits),
+    ("(b)", "\\18446744073709551616", Told::NoForm),
+];
+
+#[test]
+fn the_first_faulty_step_is_told(rt: HostRuntime) {
+    for row in DOLLAR_CHECKS {
+        check_told(&rt, rt.alloc(), &Expander::default(), row);
     }
-    assert!(rt; Expander::python().check("\\1\\g<0>\\\\x", &regex).is_ok());
-    assert!(rt;
-        matches!(
-            Expander::python().check("\\18446744073709551616", &regex),
-            Err(Error::ParseError(0, ParseErrorKind::GeneralParseError))
-        )
-    );
-    Ok(())
+    for row in PYTHON_CHECKS {
+        check_told(&rt, rt.alloc(), &Expander::python(), row);
+    }
 }
 
-#[test]
-fn numbers_beside_names_are_refused(rt: HostRuntime) -> Result<(), Fail> {
-    let alloc = rt.alloc();
-    let regex = Regex::new(alloc, "(?P<first>\\w+)\\s+(?P<second>\\w+)")?;
-    let expander = Expander::default();
+/// Checks that an escape gives this text, which is the one that was given where it is the same.
+fn check_escaped(
+    rt: &impl Abort,
+    answer: fancy_regex::Result<CowStr<'_, Global>>,
+    text: &str,
+    wanted: &str,
+) {
+    let escaped = answer.expect(rt, text);
+    assert_eq!(rt; escaped.as_str(), wanted);
     assert!(rt;
-        matches!(
-            expander.check("$1", &regex),
-            Err(Error::CompileError(CompileError::NamedBackrefOnly))
-        )
+        matches!(escaped, CowStr::Borrowed(_)) == (text == wanted),
+        "{text}"
     );
-    assert!(rt;
-        matches!(
-            expander.check("a$", &regex),
-            Err(Error::ParseError(0, ParseErrorKind::GeneralParseError))
-        )
-    );
-    assert!(rt; expander.check("$0", &regex).is_ok());
-    assert!(rt; expander.check("${first}_$second", &regex).is_ok());
-    Ok(())
 }
 
+/// Texts, and what stands for them in a pattern.
+const ESCAPED_PATTERNS: &[(&str, &str)] = &[
+    ("@foo", "@foo"),
+    ("a\nb", "a\nb"),
+    ("a\tb", "a\tb"),
+    ("", ""),
+    ("1+1", "1\\+1"),
+    ("fø*ø", "fø\\*ø"),
+    ("#\n", "\\#\\n"),
+    ("#\n\t\r", "\\#\\n\\t\\r"),
+    (
+        "\\.+*?()|[]{}^$#",
+        "\\\\\\.\\+\\*\\?\\(\\)\\|\\[\\]\\{\\}\\^\\$\\#",
+    ),
+];
+
+/// Texts, and what stands for them in a template.
+const ESCAPED_FOR_DOLLAR: &[(&str, &str)] = &[
+    ("Has a literal $ sign.", "Has a literal $$ sign."),
+    ("5 $", "5 $$"),
+];
+
+const ESCAPED_FOR_PYTHON: &[(&str, &str)] = &[
+    ("Has a literal $ sign.", "Has a literal $ sign."),
+    ("$1", "$1"),
+    ("\\1", "\\\\1"),
+];
+
 #[test]
-fn texts_are_escaped(rt: HostRuntime) -> Result<(), Fail> {
+fn texts_are_escaped(rt: HostRuntime) {
     let alloc = rt.alloc();
-    let text = Expander::default().escape(alloc, "Has a literal $ sign.")?;
-    assert_eq!(rt; text.as_str(), "Has a literal $$ sign.");
-    assert!(rt;
-        matches!(
-            Expander::python().escape(alloc, "$1")?,
-            CowStr::Borrowed("$1")
-        )
-    );
-    assert_eq!(rt; Expander::python().escape(alloc, "\\1")?.as_str(), "\\\\1");
-    assert!(rt; matches!(escape(alloc, "@foo")?, CowStr::Borrowed("@foo")));
-    assert_eq!(rt; escape(alloc, "fø*ø")?.as_str(), "fø\\*ø");
-    assert!(rt; matches!(escape(alloc, "a\tb")?, CowStr::Borrowed("a\tb")));
-    assert_eq!(rt; escape(alloc, "#\n")?.as_str(), "\\#\\n");
-    Ok(())
+    for &(text, wanted) in ESCAPED_PATTERNS {
+        check_escaped(&rt, escape(alloc, text), text, wanted);
+    }
+    for &(text, wanted) in ESCAPED_FOR_DOLLAR {
+        check_escaped(&rt, Expander::default().escape(alloc, text), text, wanted);
+    }
+    for &(text, wanted) in ESCAPED_FOR_PYTHON {
+        check_escaped(&rt, Expander::python().escape(alloc, text), text, wanted);
+    }
 }
 
 /// A writer that takes `most` bytes in a call and `left` in all, and then fails or takes none.
@@ -221,15 +337,10 @@ impl io::Write for Narrow {
 }
 
 /// Writes an expansion of three bytes to a writer that takes `left` of them.
-fn check_writer(
-    rt: &impl Abort,
-    alloc: Global,
-    most: usize,
-    left: usize,
-    fails: bool,
-) -> Result<(), Fail> {
-    let regex = Regex::new(alloc, "(b)")?;
-    let captures = regex.captures("abc")?.ok_or("no match")?;
+fn check_writer(rt: &impl Abort, alloc: Global, most: usize, left: usize, fails: bool) {
+    let regex = Regex::new(alloc, "(b)").expect(rt, "a regex");
+    let found = regex.captures("abc").expect(rt, "a search");
+    let captures = found.expect(rt, "a match");
     let mut writer = Narrow {
         taken: Vec::new(alloc),
         calls: 0,
@@ -239,36 +350,33 @@ fn check_writer(
     };
     let answer = Expander::default().write_expansion(&mut writer, "${1}-$0", &captures);
     let whole = "b-b".as_bytes();
-    let wanted = whole.get(..left.min(3)).ok_or("no part")?;
+    let wanted = whole.get(..left.min(3)).expect(rt, "no part");
     assert_eq!(rt; writer.taken.as_slice(), wanted, "{left}");
     match answer {
         Ok(()) => assert!(rt; left >= 3),
         Err(error) if fails => assert!(rt; left < 3 && error.kind() == io::ErrorKind::BrokenPipe),
         Err(error) => assert!(rt; left < 3 && error.kind() == io::ErrorKind::WriteZero),
     }
-    Ok(())
 }
 
 #[test]
-fn a_fault_ends_the_writing(rt: HostRuntime) -> Result<(), Fail> {
-    let alloc = rt.alloc();
+fn a_fault_ends_the_writing(rt: HostRuntime) {
     for left in 0..5usize {
         for fails in [true, false] {
-            check_writer(&rt, alloc, 1, left, fails)?;
-            check_writer(&rt, alloc, 9, left, fails)?;
+            check_writer(&rt, rt.alloc(), 1, left, fails);
+            check_writer(&rt, rt.alloc(), 9, left, fails);
         }
     }
-    Ok(())
 }
 
 #[test]
-fn nothing_is_written_for_nothing(rt: HostRuntime) -> Result<(), Fail> {
-    let alloc = rt.alloc();
-    let regex = Regex::new(alloc, "(b)|c")?;
-    let captures = regex.captures("c")?.ok_or("no match")?;
+fn nothing_is_written_for_nothing(rt: HostRuntime) {
+    let regex = Regex::new(rt.alloc(), "(b)|c").expect(&rt, "a regex");
+    let found = regex.captures("c").expect(&rt, "a search");
+    let captures = found.expect(&rt, "a match");
     for template in &["", "$1", "$7$x"] {
         let mut writer = Narrow {
-            taken: Vec::new(alloc),
+            taken: Vec::new(rt.alloc()),
             calls: 0,
             most: 0,
             left: 0,
@@ -278,5 +386,31 @@ fn nothing_is_written_for_nothing(rt: HostRuntime) -> Result<(), Fail> {
         assert!(rt; answer.is_ok(), "{template}");
         assert_eq!(rt; writer.calls, 0, "{template}");
     }
-    Ok(())
+}
+
+#[test]
+fn all_is_written(rt: HostRuntime) {
+    let mut out = Vec::new(rt.alloc());
+    write_whole(&mut out, b"abc").expect(&rt, "a write");
+    write_whole(&mut out, b"d").expect(&rt, "a write");
+    assert_eq!(rt; out.as_slice(), b"abcd".as_slice());
+}
+
+#[test]
+fn a_text_is_not_written_past_a_fault(rt: HostRuntime) {
+    for (left, fails, kind) in [
+        (2, true, io::ErrorKind::BrokenPipe),
+        (1, false, io::ErrorKind::WriteZero),
+    ] {
+        let mut writer = Narrow {
+            taken: Vec::new(rt.alloc()),
+            calls: 0,
+            most: 1,
+            left,
+            fails,
+        };
+        let fault = write_whole(&mut writer, b"abc");
+        assert!(rt; matches!(&fault, Err(e) if e.kind() == kind));
+        assert_eq!(rt; writer.taken.len(), left);
+    }
 }

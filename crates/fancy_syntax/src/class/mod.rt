@@ -17,6 +17,3 @@ pub(crate) use escape::set_letter;
 pub(crate) use gathered::Gathered;
 pub(crate) use refusal::Refusal;
 pub(crate) use token::Token;
-
-#[cfg(test)]
-mod tests;

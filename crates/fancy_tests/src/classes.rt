@@ -1,56 +1,69 @@
-use crate::class::{Context, Cursor, Refusal};
-use crate::error::ParseErrorKind;
-use crate::tree::Meaning;
-use std::test::Fail;
+//! The members of classes, by the sets that they are read as, and why classes are refused.
 
-/// Which of the probe's characters the class has, each other one shown as a dot; or why it is refused.
-fn shown(
-    rt: &HostRuntime,
-    meaning: Meaning,
-    fold: bool,
-    pattern: &str,
-    probe: &str,
-) -> Result<Result<String, Option<ParseErrorKind>>, Fail> {
-    let alloc = rt.alloc();
-    let chars: Vec<char> = pattern.chars().collect(alloc)?;
-    let mut cursor = Cursor { rest: &chars };
-    if !cursor.is_at_any(&['[']) {
-        return Ok(Err(None));
-    }
-    let context = Context {
-        meaning,
-        fold,
-        alloc,
-    };
-    match cursor.class(context) {
-        Ok(set) => {
-            let mut members = String::new(alloc);
-            for c in probe.chars() {
-                members.push(if set.contains(c as u32) { c } else { '.' })?;
-            }
-            for c in cursor.rest {
-                members.push(*c)?;
-            }
-            Ok(Ok(members))
+use crate::asking::{TextListRow, check_text_list, kind_of};
+use fancy_syntax::error::ParseErrorKind;
+use fancy_syntax::flags::Flags;
+use fancy_syntax::parse::{Syntax, parse_with};
+use fancy_syntax::tree::{Meaning, Tree};
+use std::alloc::Global;
+use std::process::Abort;
+
+const UNICODE: Syntax = Syntax::STANDARD;
+
+const FOLDED: Syntax = Syntax {
+    flags: Flags {
+        ignore_case: true,
+        ..Flags::NONE
+    },
+    ..Syntax::STANDARD
+};
+
+const BYTES: Syntax = Syntax {
+    meaning: Meaning::Bytes,
+    ..Syntax::STANDARD
+};
+
+const FOLDED_BYTES: Syntax = Syntax {
+    meaning: Meaning::Bytes,
+    ..FOLDED
+};
+
+const ASCII: Syntax = Syntax {
+    meaning: Meaning::AsciiText,
+    ..Syntax::STANDARD
+};
+
+/// Whether a number is within the ranges that these rising numbers begin and end in turn.
+fn is_within(edges: &[u32], number: u32) -> bool {
+    let mut within = false;
+    for edge in edges {
+        if *edge <= number {
+            within = !within;
         }
-        Err(Refusal::Memory) => Ok(Err(None)),
-        Err(Refusal::Invalid(kind)) => Ok(Err(Some(kind))),
     }
+    within
 }
 
-const UNICODE: (Meaning, bool) = (Meaning::Unicode, false);
+/// What holds at the start, a class, probed characters, and the same with each that is no member shown as a dot.
+type MembersRow = (Syntax, &'static str, &'static str, &'static str);
 
-const FOLDED: (Meaning, bool) = (Meaning::Unicode, true);
-
-const BYTES: (Meaning, bool) = (Meaning::Bytes, false);
-
-const ASCII: (Meaning, bool) = (Meaning::AsciiText, false);
-
-/// A meaning and whether flag `i` is on, a class, probed characters, and what is shown of them.
-type MembersRow = ((Meaning, bool), &'static str, &'static str, &'static str);
+fn check_members(rt: &impl Abort, alloc: Global, row: &MembersRow) {
+    let (syntax, pattern, probe, wanted) = *row;
+    let found = parse_with(alloc, pattern, syntax).expect(rt, pattern);
+    let Tree::Member(edges) = &found.tree else {
+        rt.panic(pattern)
+    };
+    let mut shown = String::new(alloc);
+    for c in probe.chars() {
+        let is_member = is_within(edges.as_slice(), c as u32);
+        shown
+            .push(if is_member { c } else { '.' })
+            .expect(rt, pattern);
+    }
+    assert_eq!(rt; shown.as_str(), wanted, "{pattern}");
+}
 
 const MEMBERS: &[MembersRow] = &[
-    (UNICODE, "[a-c]z", "abcd", "abc.z"),
     (UNICODE, "[^a-c]", "abcd", "...d"),
     (UNICODE, "[]a]", "]ab", "]a."),
     (UNICODE, "[^]a]", "]ab", "..b"),
@@ -96,7 +109,7 @@ const MEMBERS: &[MembersRow] = &[
         "k\u{212A}\u{17F}.",
     ),
     (FOLDED, "[[:^alpha:]]", "k\u{212A}\u{17F}1", "...1"),
-    ((Meaning::Bytes, true), "[k]", "kK\u{212A}", "kK."),
+    (FOLDED_BYTES, "[k]", "kK\u{212A}", "kK."),
     (BYTES, "[\\xE9\\x41]", "\u{e9}A", "\u{e9}A"),
     (BYTES, "[^a]", "ab\u{ff}\u{100}", ".b\u{ff}."),
     (BYTES, "[\\w]", "aé", "a."),
@@ -104,19 +117,23 @@ const MEMBERS: &[MembersRow] = &[
 ];
 
 #[test]
-fn members(rt: HostRuntime) -> Result<(), Fail> {
-    for &((meaning, fold), pattern, probe, want) in MEMBERS {
-        assert_eq!(rt;
-            shown(&rt, meaning, fold, pattern, probe)?,
-            Ok(String::from_str(rt.alloc(), want)?),
-            "at {pattern}"
-        );
+fn members(rt: HostRuntime) {
+    for row in MEMBERS {
+        check_members(&rt, rt.alloc(), row);
     }
-    Ok(())
 }
 
-/// A meaning and whether flag `i` is on, a class, and why it is refused.
-type RefusalRow = ((Meaning, bool), &'static str, ParseErrorKind);
+const ENDED_CLASSES: &[TextListRow] = &[("[a-c]z", "azbzczdz", &[(0, 2), (2, 4), (4, 6)])];
+
+#[test]
+fn a_bracket_ends_a_class(rt: HostRuntime) {
+    for row in ENDED_CLASSES {
+        check_text_list(&rt, rt.alloc(), row);
+    }
+}
+
+/// What holds at the start, a class, and why it is refused.
+type RefusalRow = (Syntax, &'static str, ParseErrorKind);
 
 const REFUSALS: &[RefusalRow] = &[
     (UNICODE, "[]", ParseErrorKind::InvalidClass),
@@ -158,28 +175,9 @@ const REFUSALS: &[RefusalRow] = &[
 ];
 
 #[test]
-fn refusals(rt: HostRuntime) -> Result<(), Fail> {
-    for &((meaning, fold), pattern, want) in REFUSALS {
-        assert_eq!(rt;
-            shown(&rt, meaning, fold, pattern, "")?,
-            Err(Some(want)),
-            "at {pattern}"
-        );
+fn refusals(rt: HostRuntime) {
+    for &(syntax, pattern, wanted) in REFUSALS {
+        let found = parse_with(rt.alloc(), pattern, syntax);
+        assert!(rt; kind_of(&found) == Some(wanted), "{pattern}");
     }
-    Ok(())
-}
-
-#[test]
-fn nesting(rt: HostRuntime) -> Result<(), Fail> {
-    for (brackets, want) in [
-        (64, Ok(())),
-        (65, Err(Some(ParseErrorKind::RecursionExceeded))),
-    ] {
-        let opened = "[".repeat(rt.alloc(), brackets)?;
-        let closed = "]".repeat(rt.alloc(), brackets)?;
-        let pattern = format!(in rt.alloc(); "{opened}a{closed}")?;
-        let found = shown(&rt, Meaning::Unicode, false, &pattern, "a")?.map(|_| ());
-        assert_eq!(rt; found, want, "at {brackets} brackets");
-    }
-    Ok(())
 }

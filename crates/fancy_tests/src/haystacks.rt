@@ -1,13 +1,13 @@
+//! Haystacks of each form, what is asked of them, and matches.
+
 ghost use Rattle.std.specs.Prelude.{◌≡◌, ◌↔◌, IsTrue};
 ghost use Rattle.fancy_input.specs.Spans.{span_in, text_in, span_in_bytes, bytes_in};
 
-use crate::bytes::MatchBytes;
-use crate::input::Input;
-use crate::matches::Match;
-use crate::regex_input::RegexInput;
+use fancy_input::bytes::MatchBytes;
+use fancy_input::input::Input;
+use fancy_input::matches::Match;
+use fancy_input::regex_input::RegexInput;
 use std::ops::Range;
-use std::process::Abort;
-use std::test::Fail;
 
 /// What a form says of itself: its length, whether it is empty, ASCII and text.
 fn facts<S: Input>(haystack: S) -> (usize, bool, bool, bool) {
@@ -17,9 +17,9 @@ fn facts<S: Input>(haystack: S) -> (usize, bool, bool, bool) {
 }
 
 #[test]
-fn four_forms_state_their_facts(rt: HostRuntime) -> Result<(), Fail> {
+fn four_forms_state_their_facts(rt: HostRuntime) {
     let text = "aé";
-    let owned = String::from_str(rt.alloc(), text)?;
+    let owned = String::from_str(rt.alloc(), text).expect(&rt, text);
     let bytes: &[u8] = text.as_bytes();
     let array = [97u8, 98];
     assert!(rt; facts(text) == (3, false, false, true));
@@ -27,7 +27,6 @@ fn four_forms_state_their_facts(rt: HostRuntime) -> Result<(), Fail> {
     assert!(rt; facts(bytes) == (3, false, false, false));
     assert!(rt; facts(&array) == (2, false, true, false));
     assert!(rt; facts("") == (0, true, true, true));
-    Ok(())
 }
 
 /// How many places a walk from the start to the end goes over.
@@ -60,20 +59,19 @@ fn boundaries<S: Input>(haystack: S) -> [bool; 5] {
 }
 
 #[test]
-fn boundaries_of_each_form(rt: HostRuntime) -> Result<(), Fail> {
+fn boundaries_of_each_form(rt: HostRuntime) {
     let text = "aé";
-    let owned = String::from_str(rt.alloc(), text)?;
+    let owned = String::from_str(rt.alloc(), text).expect(&rt, text);
     let bytes: &[u8] = text.as_bytes();
     let array = [97u8, 0xC3, 0xA9];
     assert!(rt; boundaries(text) == [true, true, false, true, false]);
     assert!(rt; boundaries(&owned) == [true, true, false, true, false]);
     assert!(rt; boundaries(bytes) == [true, true, false, true, true]);
     assert!(rt; boundaries(&array) == [true, true, false, true, true]);
-    Ok(())
 }
 
 #[test]
-fn steps_go_over_whole_characters_of_text(rt: HostRuntime) -> Result<(), Fail> {
+fn steps_go_over_whole_characters_of_text(rt: HostRuntime) {
     let text = "aé";
     let bytes: &[u8] = text.as_bytes();
     let array = [0x80u8, 0x80];
@@ -89,17 +87,16 @@ fn steps_go_over_whole_characters_of_text(rt: HostRuntime) -> Result<(), Fail> {
     assert_eq!(rt; steps(text), 2);
     assert_eq!(rt; steps(bytes), 3);
     assert!(rt; whole(text).as_str() == text && whole(bytes).as_bytes() == bytes);
-    Ok(())
 }
 
 #[test]
-fn settings_change_one_at_a_time(rt: HostRuntime) -> Result<(), Fail> {
+fn settings_change_one_at_a_time(rt: HostRuntime) {
     let input = RegexInput::new("abcabc");
     assert!(rt; input.start() == 0 && input.get_range() == (0..6));
     let input = input.range(2..5).from_pos(1).anchored(true);
     assert!(rt; input.start() == 1 && input.get_range() == (2..5));
     assert_eq!(rt; input.effective_start(), 2);
-    let copy = input.clone()?;
+    let copy = input.clone().expect(&rt, "a copy");
     assert!(rt; copy.request() == input.request());
     let changed = input.again().start_text(false).end_text(false);
     let changed = changed.continue_from_previous_match_end(false);
@@ -109,7 +106,6 @@ fn settings_change_one_at_a_time(rt: HostRuntime) -> Result<(), Fail> {
     let back = changed.start_text(true).end_text(true);
     let back = back.continue_from_previous_match_end(true);
     assert!(rt; back.request() == input.request());
-    Ok(())
 }
 
 /// Equal matches have equal texts and ends, and matches with those are equal.
@@ -126,7 +122,7 @@ fn is_same_in_bytes(one: MatchBytes<'_>, other: MatchBytes<'_>) -> bool
 }
 
 #[test]
-fn matches_convert_and_compare(rt: HostRuntime) -> Result<(), Fail> {
+fn matches_convert_and_compare(rt: HostRuntime) {
     let text = "aé";
     assert!(rt; text.is_char_boundary(1) && text.is_char_boundary(3));
     let found: Match<'_> = text.make_match(1, 3);
@@ -134,15 +130,14 @@ fn matches_convert_and_compare(rt: HostRuntime) -> Result<(), Fail> {
     assert!(rt; range == (1..3) && found.range() == (1..3));
     let part: &str = found.into();
     assert!(rt; part == "é" && found.as_str() == "é");
-    assert!(rt; found == found.clone()? && found != text.make_match(1, 1));
+    assert!(rt; found == found.clone().expect(&rt, "a copy") && found != text.make_match(1, 1));
     let other = "bé";
     assert!(rt; other.is_char_boundary(1) && other.is_char_boundary(3));
     assert!(rt; !is_same(found, other.make_match(1, 3)));
-    Ok(())
 }
 
 #[test]
-fn matches_of_bytes_convert_and_compare(rt: HostRuntime) -> Result<(), Fail> {
+fn matches_of_bytes_convert_and_compare(rt: HostRuntime) {
     let bytes = [97u8, 0xFF, 98];
     let found: MatchBytes<'_> = (&bytes).make_match(1, 2);
     let range: Range<usize> = found.into();
@@ -154,5 +149,4 @@ fn matches_of_bytes_convert_and_compare(rt: HostRuntime) -> Result<(), Fail> {
     assert!(rt;
         found == slice.make_match(1, 2) && !is_same_in_bytes(found, slice.make_match(0, 2))
     );
-    Ok(())
 }

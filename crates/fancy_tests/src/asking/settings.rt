@@ -1,0 +1,98 @@
+//! The options of a row.
+
+use fancy_regex::{BytesMode, Regex, RegexOptionsBuilder};
+use std::alloc::Global;
+use std::process::Abort;
+
+/// The options that a pattern is read with.
+#[derive(Clone, Copy)]
+pub(crate) struct Settings {
+    pub(crate) bytes_mode: BytesMode,
+    pub(crate) unicode_mode: bool,
+    pub(crate) case_insensitive: bool,
+    pub(crate) multi_line: bool,
+    pub(crate) ignore_whitespace: bool,
+    pub(crate) dot_matches_new_line: bool,
+    pub(crate) crlf: bool,
+    /// Whether an input may say that the text's start, or its end, does not count as one.
+    pub(crate) overrides: bool,
+    /// Whether groups without a name capture nothing where a group has one.
+    pub(crate) only_named: bool,
+}
+
+/// Items are characters, and matches stand between characters: what holds by default.
+pub(crate) const CHARACTERS: Settings = Settings {
+    bytes_mode: BytesMode::Unicode,
+    unicode_mode: true,
+    case_insensitive: false,
+    multi_line: false,
+    ignore_whitespace: false,
+    dot_matches_new_line: false,
+    crlf: false,
+    overrides: false,
+    only_named: false,
+};
+
+/// Items are characters, and matches may stand anywhere.
+pub(crate) const CHARACTERS_ANYWHERE: Settings = Settings {
+    bytes_mode: BytesMode::UnicodeBytes,
+    ..CHARACTERS
+};
+
+/// Items are bytes.
+pub(crate) const BYTES: Settings = Settings {
+    bytes_mode: BytesMode::Ascii,
+    ..CHARACTERS
+};
+
+/// Items are bytes, by the other way to say so.
+pub(crate) const BYTES_WITHOUT_UNICODE: Settings = Settings {
+    bytes_mode: BytesMode::UnicodeBytes,
+    unicode_mode: false,
+    ..CHARACTERS
+};
+
+/// Items are characters, and sets are of ASCII.
+pub(crate) const ASCII_TEXT: Settings = Settings {
+    unicode_mode: false,
+    ..CHARACTERS
+};
+
+/// Inputs may say what counts as the text's start and end.
+pub(crate) const OVERRIDING: Settings = Settings {
+    overrides: true,
+    ..CHARACTERS
+};
+
+/// Numbered groups give way to named ones.
+pub(crate) const ONLY_NAMED: Settings = Settings {
+    only_named: true,
+    ..CHARACTERS
+};
+
+/// What the pattern is read as.
+pub(crate) fn read(alloc: Global, settings: Settings, pattern: &str) -> fancy_regex::Result<Regex> {
+    let pattern = String::from_str(alloc, pattern)?;
+    let mut builder = RegexOptionsBuilder::new();
+    builder
+        .bytes_mode(settings.bytes_mode)
+        .unicode_mode(settings.unicode_mode)
+        .case_insensitive(settings.case_insensitive)
+        .multi_line(settings.multi_line)
+        .ignore_whitespace(settings.ignore_whitespace)
+        .dot_matches_new_line(settings.dot_matches_new_line)
+        .crlf(settings.crlf)
+        .allow_input_assertion_overrides(settings.overrides)
+        .ignore_numbered_groups_when_named_groups_exist(settings.only_named)
+        .build(pattern)
+}
+
+/// The regex of the pattern.
+pub(crate) fn regex_with(
+    rt: &impl Abort,
+    alloc: Global,
+    settings: Settings,
+    pattern: &str,
+) -> Regex {
+    read(alloc, settings, pattern).expect(rt, pattern)
+}
