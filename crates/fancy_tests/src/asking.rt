@@ -8,24 +8,28 @@ mod refusals;
 mod replaced;
 mod settings;
 mod spans;
+mod templates;
 
 pub(crate) use groups::{
-    AllGroupsRow, GroupsRow, LaterGroupsRow, NameRow, TextsRow, check_all_groups, check_groups,
-    check_later_groups, check_name, check_owned_texts, check_texts_of_groups,
+    AllGroupsRow, GroupsRow, LaterGroupsRow, NameRow, NamesRow, TextsRow, check_all_groups,
+    check_groups, check_later_groups, check_name, check_names, check_owned_texts,
+    check_texts_of_groups,
 };
 pub(crate) use lists::{ListRow, TextListRow, check_list, check_text_list};
 pub(crate) use nested::{read_many, read_nested, repeated};
 pub(crate) use pieces::{FirstPiecesRow, PiecesRow, check_first_pieces, check_pieces};
 pub(crate) use refusals::{
-    FaultRow, KindRow, ModeRow, check_fault, check_kind, check_kind_in_mode, fault_of,
-    is_too_complex, kind_of,
+    FaultRow, KindRow, check_fault, check_kind, fault_of, is_too_complex, kind_of,
 };
-pub(crate) use replaced::{ReplacedRow, check_answer, check_replaced};
+pub(crate) use replaced::{ReplacedRow, check_answer, check_fixed, check_replaced};
 pub(crate) use settings::{
     ASCII_TEXT, BYTES, BYTES_WITHOUT_UNICODE, CHARACTERS, CHARACTERS_ANYWHERE, ONLY_NAMED,
     OVERRIDING, Settings, read, regex_with,
 };
 pub(crate) use spans::{
-    BytesRow, SearchRow, Span, SpanRow, Spanned, TextRow, check_search, check_span, check_text,
-    check_texts, first_span, span, span_of_bytes,
+    BytesRow, SearchRow, Span, SpanRow, Spanned, TextRow, check_search, check_span, check_texts,
+    first_span, span, span_of_bytes,
+};
+pub(crate) use templates::{
+    CheckedRow, TemplateRow, Told, check_escaped, check_expanded, check_templates, check_told,
 };

@@ -1,6 +1,8 @@
 //! What groups a search finds, and what it counts.
 
-use crate::asking::{GroupsRow, LaterGroupsRow, check_groups, check_later_groups, repeated};
+use crate::asking::{
+    GroupsRow, LaterGroupsRow, check_groups, check_later_groups, first_span, repeated, span,
+};
 use fancy_regex::{Regex, RegexInput, Work};
 use std::alloc::Global;
 use std::process::Abort;
@@ -79,6 +81,24 @@ fn a_search_is_bounded(rt: HostRuntime) {
     assert!(rt; regex.is_easy());
     check_twins(&rt, rt.alloc(), &regex);
     check_many(&rt, rt.alloc(), &regex);
+}
+
+#[test]
+fn a_search_goes_back_to_a_branch(rt: HostRuntime) {
+    let regex = Regex::new(rt.alloc(), "(a|ab)c").expect(&rt, "a regex");
+    let haystack = "xabc";
+    assert!(rt; 4 <= haystack.len());
+    let mut work = Work::new();
+    let input = RegexInput::new(haystack).range(1..4);
+    let found = regex.find_input_counted(input.again(), &mut work);
+    assert_eq!(rt; found.expect(&rt, "a search").map(span), Some((1, 4)));
+    assert_eq!(rt; work.returns(), 1);
+    let found = regex.captures_input(input).expect(&rt, "a search");
+    let captures = found.expect(&rt, "a match");
+    assert_eq!(rt; captures.get(1).map(span), Some((1, 3)));
+    assert!(rt; captures.get(2).is_none());
+    let short = RegexInput::new(haystack).range(1..3);
+    assert!(rt; first_span(&rt, &regex, short).is_none());
 }
 
 #[test]

@@ -35,16 +35,6 @@ fn reads_a_match(rt: HostRuntime) {
 }
 
 #[test]
-fn reads_a_pattern(rt: HostRuntime) {
-    for pattern in ["é", "(?<first>a)(b)"] {
-        let regex = Regex::new(rt.alloc(), pattern).expect(&rt, pattern);
-        let text = regex.to_string(rt.alloc()).expect(&rt, pattern);
-        assert_eq!(rt; text.as_str(), pattern);
-        assert_eq!(rt; regex.as_str(), pattern);
-    }
-}
-
-#[test]
 fn a_long_pattern_is_not_deep(rt: HostRuntime) {
     let long = repeated(&rt, rt.alloc(), "a", 100_000);
     let regex = Regex::new(rt.alloc(), long.as_str()).expect(&rt, "a regex");

@@ -12,6 +12,8 @@ mod classes;
 #[cfg(test)]
 mod dialect;
 #[cfg(test)]
+mod engines;
+#[cfg(test)]
 mod errors;
 #[cfg(test)]
 mod escapes;

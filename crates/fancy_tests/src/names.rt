@@ -1,9 +1,10 @@
 //! Groups by their names.
 
 use crate::asking::{
-    NameRow, TextsRow, check_kind, check_name, check_owned_texts, check_texts_of_groups,
+    NameRow, NamesRow, TextsRow, check_kind, check_name, check_names, check_owned_texts,
+    check_texts_of_groups,
 };
-use fancy_regex::{ParseErrorKind, Regex};
+use fancy_regex::ParseErrorKind;
 
 const SPANS_OF_NAMES: &[NameRow] = &[
     ("(?<y>1|2)-(?<y>1|2)", "1-2", "y", Some((2, 3))),
@@ -21,23 +22,19 @@ fn the_last_group_of_a_name_is_meant(rt: HostRuntime) {
     }
 }
 
-const NAMES: &[(&str, &[Option<&str>])] = &[
+const NAMES: &[NamesRow] = &[
     ("(?<y>\\d+)-(?<y>\\d+)", &[None, Some("y"), Some("y")]),
     ("(?<y>1|2)-(?<y>1|2)", &[None, Some("y"), Some("y")]),
     ("(a)(?:b)(?<c>d)()", &[None, None, Some("c"), None]),
     ("((?P<é_1>a)|b)c", &[None, None, Some("é_1")]),
     ("(?<a>(?<b>x))(?m)", &[None, Some("a"), Some("b")]),
-    ("(?<first>a)(b)", &[None, Some("first"), None]),
+    ("é", &[None]),
 ];
 
 #[test]
 fn names_stand_at_their_numbers(rt: HostRuntime) {
-    for &(pattern, wanted) in NAMES {
-        let regex = Regex::new(rt.alloc(), pattern).expect(&rt, pattern);
-        assert_eq!(rt; regex.captures_len(), wanted.len(), "{pattern}");
-        let names = regex.capture_names().expect(&rt, pattern);
-        let names: Vec<Option<&str>> = names.collect(rt.alloc()).expect(&rt, pattern);
-        assert!(rt; names.as_slice() == wanted, "{pattern}");
+    for row in NAMES {
+        check_names(&rt, rt.alloc(), row);
     }
 }
 

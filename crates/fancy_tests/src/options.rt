@@ -1,8 +1,8 @@
 //! What each option changes, and what is so without it.
 
 use crate::asking::{
-    BYTES, BytesRow, CHARACTERS, CHARACTERS_ANYWHERE, ONLY_NAMED, Settings, Span, check_span,
-    first_span, kind_of, regex_with, span,
+    BYTES, BytesRow, CHARACTERS, CHARACTERS_ANYWHERE, Settings, Span, check_span, first_span,
+    kind_of,
 };
 use fancy_regex::{
     BytesMode, ParseErrorKind, Regex, RegexBuilder, RegexInput, RegexOptionsBuilder,
@@ -198,17 +198,6 @@ fn numbered_groups_give_way_to_named_ones(rt: HostRuntime) {
         check_groups(&rt, rt.alloc(), pattern, false, off);
         check_groups(&rt, rt.alloc(), pattern, true, on);
     }
-}
-
-#[test]
-fn named_groups_alone_are_captured(rt: HostRuntime) {
-    let regex = regex_with(&rt, rt.alloc(), ONLY_NAMED, "(a)(?<n>b)");
-    assert!(rt; regex.can_search(&RegexInput::new("ab")));
-    let found = regex.captures("ab").expect(&rt, "a search");
-    let captures = found.expect(&rt, "a match");
-    assert_eq!(rt; captures.len(), 2);
-    assert_eq!(rt; captures.get(1).map(span), Some((1, 2)));
-    assert_eq!(rt; captures.name("n").map(span), Some((1, 2)));
 }
 
 const TOGETHER: &[BytesRow] = &[(

@@ -2,7 +2,7 @@
 
 use crate::asking::{CHARACTERS, FaultRow, ONLY_NAMED, check_fault, is_too_complex, repeated};
 use fancy_syntax::error::ParseErrorKind;
-use fancy_syntax::parse::{Syntax, parse_with};
+use fancy_syntax::parse::{Syntax, parse, parse_with};
 use fancy_syntax::tree::Meaning;
 use std::alloc::Global;
 use std::process::Abort;
@@ -369,7 +369,7 @@ fn sizes(rt: HostRuntime) {
 fn groups_that_capture_nothing_are_no_nodes(rt: HostRuntime) {
     let mut pattern = repeated(&rt, rt.alloc(), "(a)", 500_000);
     pattern.push_str("(?<n>b)").expect(&rt, "no memory");
-    let found = parse_with(rt.alloc(), pattern.as_str(), Syntax::STANDARD);
+    let found = parse(rt.alloc(), pattern.as_str());
     assert!(rt; is_too_complex(&found));
     let found = parse_with(rt.alloc(), pattern.as_str(), OF_NAMED_GROUPS);
     assert!(rt; found.is_ok());

@@ -1,12 +1,18 @@
-//! The examples of the README that stand in no other module. The rows of each table are in its order.
+//! The examples of the README. The tests, and the rows of each table, are in its order.
 
 use crate::asking::{
-    ASCII_TEXT, BYTES, BytesRow, CHARACTERS, GroupsRow, LaterGroupsRow, NameRow, PiecesRow,
-    ReplacedRow, SearchRow, Settings, SpanRow, TextListRow, TextsRow, check_answer, check_groups,
-    check_later_groups, check_name, check_pieces, check_replaced, check_search, check_span,
-    check_text_list, check_texts_of_groups, first_span, span,
+    ASCII_TEXT, AllGroupsRow, BYTES, BytesRow, CHARACTERS, CheckedRow, FaultRow, FirstPiecesRow,
+    GroupsRow, LaterGroupsRow, NameRow, NamesRow, ONLY_NAMED, OVERRIDING, PiecesRow, ReplacedRow,
+    SearchRow, Settings, SpanRow, TemplateRow, TextListRow, TextsRow, Told, check_all_groups,
+    check_answer, check_escaped, check_expanded, check_fault, check_first_pieces, check_fixed,
+    check_groups, check_later_groups, check_name, check_names, check_pieces, check_replaced,
+    check_search, check_span, check_templates, check_text_list, check_texts_of_groups, check_told,
+    first_span, regex_with, span,
 };
-use fancy_regex::{NoExpand, Regex, RegexBuilder, RegexInput, RegexOptionsBuilder, Replacer, Work};
+use fancy_regex::{
+    Captures, Expander, NoExpand, ParseErrorKind, Regex, RegexBuilder, RegexInput,
+    RegexOptionsBuilder, ReplaceFn, Replacer, Work, escape,
+};
 
 #[test]
 fn a_first_match(rt: HostRuntime) {
@@ -107,6 +113,26 @@ fn verbose_mode(rt: HostRuntime) {
 }
 
 #[test]
+fn overrides_of_an_input(rt: HostRuntime) {
+    let inner = regex_with(&rt, rt.alloc(), OVERRIDING, "^a$");
+    let input = RegexInput::new("a").start_text(false);
+    assert!(rt; first_span(&rt, &inner, input).is_none());
+    let input = RegexInput::new("a").end_text(false);
+    assert!(rt; first_span(&rt, &inner, input).is_none());
+}
+
+#[test]
+fn named_groups_alone_are_captured(rt: HostRuntime) {
+    let regex = regex_with(&rt, rt.alloc(), ONLY_NAMED, "(a)(?<n>b)");
+    assert!(rt; regex.can_search(&RegexInput::new("ab")));
+    let found = regex.captures("ab").expect(&rt, "a search");
+    let captures = found.expect(&rt, "a match");
+    assert_eq!(rt; captures.len(), 2);
+    assert_eq!(rt; captures.get(1).map(span), Some((1, 2)));
+    assert_eq!(rt; captures.name("n").map(span), Some((1, 2)));
+}
+
+#[test]
 fn a_builder(rt: HostRuntime) {
     let mut builder = RegexBuilder::new(rt.alloc(), "a b").expect(&rt, "a builder");
     let first = builder
@@ -121,7 +147,20 @@ fn a_builder(rt: HostRuntime) {
     assert_eq!(rt; found, Some((1, 2)));
 }
 
-const NAMES: &[NameRow] = &[
+#[test]
+fn try_from(rt: HostRuntime) {
+    let pattern = String::from_str(rt.alloc(), "a|ab").expect(&rt, "a text");
+    let owned = Regex::try_from(pattern).expect(&rt, "a regex");
+    assert_eq!(rt; owned.as_str(), "a|ab");
+}
+
+const PAIRS: &[GroupsRow] = &[(
+    "(a)?(b|)",
+    "ab",
+    &[Some((0, 2)), Some((0, 1)), Some((1, 2))],
+)];
+
+const NAMED_SPANS: &[NameRow] = &[
     (
         "(?<year>\\d{4})-(?<month>\\d\\d)",
         "on 2026-11",
@@ -130,6 +169,8 @@ const NAMES: &[NameRow] = &[
     ),
     ("(?<first>a)(b)", "xab", "first", Some((1, 2))),
 ];
+
+const NAMES: &[NamesRow] = &[("(?<first>a)(b)", &[None, Some("first"), None])];
 
 const TEXTS: &[TextsRow] = &[(
     "(?<first>a)(b)",
@@ -153,8 +194,14 @@ const LATER_GROUPS: &[LaterGroupsRow] = &[(
 
 #[test]
 fn groups(rt: HostRuntime) {
-    for row in NAMES {
+    for row in PAIRS {
+        check_groups(&rt, rt.alloc(), row);
+    }
+    for row in NAMED_SPANS {
         check_name(&rt, rt.alloc(), row);
+    }
+    for row in NAMES {
+        check_names(&rt, rt.alloc(), row);
     }
     for row in TEXTS {
         check_texts_of_groups(&rt, rt.alloc(), row);
@@ -185,8 +232,17 @@ fn all_matches(rt: HostRuntime) {
     assert!(rt; matches.next().is_none());
 }
 
+const ALL_GROUPS: &[AllGroupsRow] = &[(
+    "(a)|b",
+    "ba",
+    &[&[Some((0, 1)), None], &[Some((1, 2)), Some((1, 2))]],
+)];
+
 #[test]
 fn groups_of_all_matches(rt: HostRuntime) {
+    for row in ALL_GROUPS {
+        check_all_groups(&rt, rt.alloc(), row);
+    }
     let regex = Regex::new(rt.alloc(), "(a)|b").expect(&rt, "a regex");
     let input = RegexInput::new("ba").from_pos(1);
     let mut groups = regex.captures_iter_input(input);
@@ -196,23 +252,73 @@ fn groups_of_all_matches(rt: HostRuntime) {
     assert!(rt; groups.next().is_none());
 }
 
-const PIECES: &[PiecesRow] = &[("\\s*,\\s*", "a , b,c", &["a", "b", "c"])];
+const PIECES: &[PiecesRow] = &[
+    ("a|ab", "xabab", &["x", "b", "b"]),
+    ("\\s*,\\s*", "a , b,c", &["a", "b", "c"]),
+];
+
+const FIRST_PIECES: &[FirstPiecesRow] = &[("a|ab", "xabab", 2, &["x", "bab"])];
+
+#[test]
+fn pieces(rt: HostRuntime) {
+    for row in PIECES {
+        check_pieces(&rt, rt.alloc(), row);
+    }
+    for row in FIRST_PIECES {
+        check_first_pieces(&rt, rt.alloc(), row);
+    }
+}
 
 const REPLACED: &[ReplacedRow] = &[
     ("(b)", "abc", 0, "${1}-$0", "ab-bc"),
+    ("bla", "blablabla", 2, "foo", "foofoobla"),
     ("a", "aaa", 1, "x", "xaa"),
 ];
 
 #[test]
-fn pieces_and_replacement(rt: HostRuntime) {
-    for row in PIECES {
-        check_pieces(&rt, rt.alloc(), row);
-    }
+fn replacement(rt: HostRuntime) {
     for row in REPLACED {
         check_replaced(&rt, rt.alloc(), row);
     }
     let regex = Regex::new(rt.alloc(), "a|ab").expect(&rt, "a regex");
     check_answer(&rt, regex.replace("xab", NoExpand("$0")), "x$0b");
+    check_fixed(&rt, &mut NoExpand("$0"), Some("$0"));
+    check_fixed(&rt, &mut "$0", None);
+}
+
+#[test]
+fn a_lent_function_keeps_its_state(rt: HostRuntime) {
+    let alloc = rt.alloc();
+    let regex = Regex::new(alloc, "a").expect(&rt, "a regex");
+    let mut calls = 0u32;
+    let mut counting = ReplaceFn::new(|_captures: &Captures<'_, &str>| {
+        calls = calls.wrapping_add(1);
+        Ok(format!(in alloc; "{calls}")?)
+    });
+    check_answer(&rt, regex.replace_all("aba", counting.by_ref()), "1b2");
+    check_answer(&rt, regex.replace_all("aba", counting.by_ref()), "3b4");
+}
+
+const PYTHON_TEMPLATES: &[TemplateRow] = &[("\\1\\g<0>\\\\x", "bb\\x")];
+
+const TEMPLATES: &[TemplateRow] = &[
+    ("$1!", "b!"),
+    ("${1}-$0", "b-b"),
+    ("<$0>", "<b>"),
+    ("$10", ""),
+    ("a$ b", "a$ b"),
+];
+
+const CHECKS: &[CheckedRow] = &[("(b)", "$2", Told::NoNumber(2))];
+
+#[test]
+fn templates(rt: HostRuntime) {
+    check_templates(&rt, rt.alloc(), &Expander::python(), PYTHON_TEMPLATES);
+    check_templates(&rt, rt.alloc(), &Expander::default(), TEMPLATES);
+    check_expanded(&rt, rt.alloc(), TEMPLATES);
+    for row in CHECKS {
+        check_told(&rt, rt.alloc(), &Expander::default(), row);
+    }
 }
 
 #[test]
@@ -228,6 +334,13 @@ fn replace_append(rt: HostRuntime) {
 }
 
 #[test]
+fn escapes(rt: HostRuntime) {
+    let safe = Expander::default().escape(rt.alloc(), "5 $");
+    check_escaped(&rt, safe, "5 $", "5 $$");
+    check_escaped(&rt, escape(rt.alloc(), "1+1"), "1+1", "1\\+1");
+}
+
+#[test]
 fn work(rt: HostRuntime) {
     let regex = Regex::new(rt.alloc(), "a|ab").expect(&rt, "a regex");
     let mut work = Work::new();
@@ -236,4 +349,17 @@ fn work(rt: HostRuntime) {
     assert_eq!(rt; found.map(span), Some((1, 2)));
     assert!(rt; regex.is_easy());
     assert!(rt; work.steps() <= regex.code_len().saturating_mul(4));
+}
+
+const REFUSED: &[FaultRow] = &[(
+    CHARACTERS,
+    "(?:a",
+    Some((4, ParseErrorKind::UnclosedOpenParen)),
+)];
+
+#[test]
+fn a_refused_pattern(rt: HostRuntime) {
+    for row in REFUSED {
+        check_fault(&rt, rt.alloc(), row);
+    }
 }

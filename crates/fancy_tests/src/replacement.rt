@@ -1,6 +1,6 @@
 //! What comes of a text whose matches are replaced.
 
-use crate::asking::{ReplacedRow, check_answer, check_replaced};
+use crate::asking::{ReplacedRow, check_answer, check_fixed, check_replaced};
 use fancy_regex::{Captures, Error, NoExpand, Regex, ReplaceFn, Replacer, RuntimeError};
 use std::alloc::Global;
 use std::borrow::CowStr;
@@ -59,23 +59,12 @@ fn a_text_without_matches_is_borrowed(rt: HostRuntime) {
     assert!(rt; matches!(same.replace_all("abc", "b"), Ok(CowStr::Owned(_))));
 }
 
-/// Checks what text a replacer always gives, if it does.
-fn check_fixed<R: Replacer>(rt: &impl Abort, replacer: &mut R, wanted: Option<&str>) {
-    let fixed = replacer.no_expansion();
-    match wanted {
-        Some(text) => assert_eq!(rt; fixed.expect(rt, text).as_str(), text),
-        None => assert!(rt; fixed.is_none()),
-    }
-}
-
 #[test]
 fn literal_texts_are_not_expanded(rt: HostRuntime) {
     let regex = Regex::new(rt.alloc(), "([^,\\s]+),\\s+(\\S+)").expect(&rt, "a regex");
     let replaced = regex.replace_all("Springsteen, Bruce", NoExpand("$2 $last"));
     check_answer(&rt, replaced, "$2 $last");
-    check_fixed(&rt, &mut NoExpand("$0"), Some("$0"));
     check_fixed(&rt, &mut NoExpand("$2"), Some("$2"));
-    check_fixed(&rt, &mut "$0", None);
     check_fixed(&rt, &mut "$2", None);
     check_fixed(&rt, &mut "2", Some("2"));
 }
@@ -100,19 +89,6 @@ fn functions_replace(rt: HostRuntime) {
     let swap = ReplaceFn::new(|captures: &Captures<'_, &str>| swapped(alloc, captures));
     let replaced = regex.replace("Springsteen, Bruce", swap);
     check_answer(&rt, replaced, "Bruce Springsteen");
-}
-
-#[test]
-fn a_lent_function_keeps_its_state(rt: HostRuntime) {
-    let alloc = rt.alloc();
-    let regex = Regex::new(alloc, "a").expect(&rt, "a regex");
-    let mut calls = 0u32;
-    let mut counting = ReplaceFn::new(|_captures: &Captures<'_, &str>| {
-        calls = calls.wrapping_add(1);
-        Ok(format!(in alloc; "{calls}")?)
-    });
-    check_answer(&rt, regex.replace_all("aba", counting.by_ref()), "1b2");
-    check_answer(&rt, regex.replace_all("aba", counting.by_ref()), "3b4");
 }
 
 /// An `x`, but an error at the second call.

@@ -1,10 +1,12 @@
 //! What templates expand to, which of them a regex allows, and escapes.
 
+use crate::asking::{
+    CheckedRow, TemplateRow, Told, check_escaped, check_expanded, check_templates, check_told,
+};
 use fancy_core::steps::Step;
 use fancy_core::write::write_whole;
-use fancy_regex::{Captures, CompileError, Error, Expander, ParseErrorKind, Regex, escape};
+use fancy_regex::{Expander, Regex, escape};
 use std::alloc::Global;
-use std::borrow::CowStr;
 use std::io;
 use std::process::Abort;
 
@@ -65,62 +67,7 @@ fn templates_have_steps(rt: HostRuntime) {
     }
 }
 
-/// Compares what is written of an expansion with what is wanted.
-fn check_written(
-    rt: &impl Abort,
-    alloc: Global,
-    expander: &Expander,
-    template: &str,
-    captures: &Captures<'_, &str>,
-    wanted: &str,
-) {
-    let mut bytes = Vec::new(alloc);
-    let answer = expander.write_expansion_vec(&mut bytes, template, captures);
-    answer.expect(rt, template);
-    assert_eq!(rt; bytes.as_slice(), wanted.as_bytes(), "{template}");
-    let mut written = Vec::new(alloc);
-    let answer = expander.write_expansion(&mut written, template, captures);
-    answer.expect(rt, template);
-    assert_eq!(rt; written.as_slice(), wanted.as_bytes(), "{template}");
-}
-
-/// Compares every form of expansion with what is wanted.
-fn check_forms(
-    rt: &impl Abort,
-    alloc: Global,
-    expander: &Expander,
-    template: &str,
-    captures: &Captures<'_, &str>,
-    wanted: &str,
-) {
-    let text = expander.expansion(template, captures).expect(rt, template);
-    assert_eq!(rt; text.as_str(), wanted, "{template}");
-    let mut appended = String::from_str(alloc, "é").expect(rt, template);
-    let answer = expander.append_expansion(&mut appended, template, captures);
-    answer.expect(rt, template);
-    assert_eq!(rt;
-        appended.as_str().strip_prefix("é"),
-        Some(wanted),
-        "{template}"
-    );
-    check_written(rt, alloc, expander, template, captures, wanted);
-}
-
-/// Compares the expansion by the captures with what is wanted.
-fn check_expand(
-    rt: &impl Abort,
-    alloc: Global,
-    template: &str,
-    captures: &Captures<'_, &str>,
-    wanted: &str,
-) {
-    let mut text = String::from_str(alloc, "x").expect(rt, template);
-    captures.expand(template, &mut text).expect(rt, template);
-    assert_eq!(rt; text.as_str().strip_prefix("x"), Some(wanted), "{template}");
-}
-
-/// Templates, and what they expand to where group 1 is `b`.
-const DOLLAR_TEMPLATES: &[(&str, &str)] = &[
+const DOLLAR_TEMPLATES: &[TemplateRow] = &[
     ("", ""),
     ("x", "x"),
     ("$0", "b"),
@@ -137,7 +84,7 @@ const DOLLAR_TEMPLATES: &[(&str, &str)] = &[
     ("<$0>", "<b>"),
 ];
 
-const PYTHON_TEMPLATES: &[(&str, &str)] = &[
+const PYTHON_TEMPLATES: &[TemplateRow] = &[
     ("\\1\\g<0>\\\\x", "bb\\x"),
     ("\\18446744073709551616", "\\18446744073709551616"),
     ("\\10", ""),
@@ -147,19 +94,9 @@ const PYTHON_TEMPLATES: &[(&str, &str)] = &[
 
 #[test]
 fn templates_expand(rt: HostRuntime) {
-    let alloc = rt.alloc();
-    let regex = Regex::new(alloc, "(b)").expect(&rt, "a regex");
-    let found = regex.captures("abc").expect(&rt, "a search");
-    let captures = found.expect(&rt, "a match");
-    let by_dollar = Expander::default();
-    for &(template, wanted) in DOLLAR_TEMPLATES {
-        check_forms(&rt, alloc, &by_dollar, template, &captures, wanted);
-        check_expand(&rt, alloc, template, &captures, wanted);
-    }
-    let python = Expander::python();
-    for &(template, wanted) in PYTHON_TEMPLATES {
-        check_forms(&rt, alloc, &python, template, &captures, wanted);
-    }
+    check_templates(&rt, rt.alloc(), &Expander::default(), DOLLAR_TEMPLATES);
+    check_templates(&rt, rt.alloc(), &Expander::python(), PYTHON_TEMPLATES);
+    check_expanded(&rt, rt.alloc(), DOLLAR_TEMPLATES);
 }
 
 #[test]
@@ -170,43 +107,6 @@ fn captures_of_owned_text_expand(rt: HostRuntime) {
     let captures = found.expect(&rt, "a match");
     let answer = Expander::default().expansion("$2[$1]$0", &captures);
     assert_eq!(rt; answer.expect(&rt, "a text").as_str(), "[é]éa");
-}
-
-/// What a check says of a template.
-#[derive(Clone, Copy)]
-enum Told {
-    Fits,
-    NoForm,
-    NoNumber(usize),
-    NoName(&'static str),
-    NamesAlone,
-}
-
-/// Whether the answer of a check says this.
-fn is_told(answer: &fancy_regex::Result<()>, wanted: Told) -> bool {
-    match (answer, wanted) {
-        (Ok(()), Told::Fits) => true,
-        (Err(Error::ParseError(0, kind)), Told::NoForm) => *kind
-            == ParseErrorKind::GeneralParseError,
-        (Err(Error::CompileError(CompileError::InvalidBackref(number))), Told::NoNumber(wanted)) =>
-            { *number == wanted }
-        (
-            Err(Error::CompileError(CompileError::InvalidGroupNameBackref(name))),
-            Told::NoName(wanted),
-        ) => name.as_str() == wanted,
-        (Err(Error::CompileError(CompileError::NamedBackrefOnly)), Told::NamesAlone) => true,
-        _ => false,
-    }
-}
-
-/// A pattern, a template, and what is told of it.
-type CheckedRow = (&'static str, &'static str, Told);
-
-fn check_told(rt: &impl Abort, alloc: Global, expander: &Expander, row: &CheckedRow) {
-    let (pattern, template, wanted) = *row;
-    let regex = Regex::new(alloc, pattern).expect(rt, pattern);
-    let answer = expander.check(template, &regex);
-    assert!(rt; is_told(&answer, wanted), "{template}");
 }
 
 const TWO_WORDS: &str = "(?P<first>\\w+)\\s+(?P<second>\\w+)";
@@ -249,21 +149,6 @@ fn the_first_faulty_step_is_told(rt: HostRuntime) {
     for row in PYTHON_CHECKS {
         check_told(&rt, rt.alloc(), &Expander::python(), row);
     }
-}
-
-/// Checks that an escape gives this text, which is the one that was given where it is the same.
-fn check_escaped(
-    rt: &impl Abort,
-    answer: fancy_regex::Result<CowStr<'_, Global>>,
-    text: &str,
-    wanted: &str,
-) {
-    let escaped = answer.expect(rt, text);
-    assert_eq!(rt; escaped.as_str(), wanted);
-    assert!(rt;
-        matches!(escaped, CowStr::Borrowed(_)) == (text == wanted),
-        "{text}"
-    );
 }
 
 /// Texts, and what stands for them in a pattern.

@@ -96,6 +96,22 @@ pub(crate) fn check_name(rt: &impl Abort, alloc: Global, row: &NameRow) {
     assert_eq!(rt; group.map(span), wanted, "{name} of {pattern}");
 }
 
+/// A pattern, and the names of its groups, from group 0 on.
+pub(crate) type NamesRow = (&'static str, &'static [Option<&'static str>]);
+
+/// Checks the names, and that the regex gives its pattern back.
+pub(crate) fn check_names(rt: &impl Abort, alloc: Global, row: &NamesRow) {
+    let (pattern, wanted) = *row;
+    let regex = Regex::new(alloc, pattern).expect(rt, pattern);
+    assert_eq!(rt; regex.captures_len(), wanted.len(), "{pattern}");
+    assert_eq!(rt; regex.as_str(), pattern);
+    let text = regex.to_string(alloc).expect(rt, pattern);
+    assert_eq!(rt; text.as_str(), pattern);
+    let names = regex.capture_names().expect(rt, pattern);
+    let names: Vec<Option<&str>> = names.collect(alloc).expect(rt, pattern);
+    assert!(rt; names.as_slice() == wanted, "{pattern}");
+}
+
 /// A pattern, a text, the texts of groups by their numbers, from group 0 on, and by names.
 pub(crate) type TextsRow = (
     &'static str,

@@ -38,16 +38,7 @@ pub(crate) fn check_kind(rt: &impl Abort, alloc: Global, row: &KindRow) {
     assert!(rt; kind_of(&read) == Some(wanted), "{pattern}");
 }
 
-/// Options, a pattern, and the kind of its fault with these.
-pub(crate) type ModeRow = (Settings, &'static str, ParseErrorKind);
-
-pub(crate) fn check_kind_in_mode(rt: &impl Abort, alloc: Global, row: &ModeRow) {
-    let (settings, pattern, wanted) = *row;
-    let read = read(alloc, settings, pattern);
-    assert!(rt; kind_of(&read) == Some(wanted), "{pattern}");
-}
-
-/// A pattern, and the place and kind of its fault, or none where it has none.
+/// Options, a pattern, and the place and kind of its fault, or none where it has none.
 pub(crate) type FaultRow = (Settings, &'static str, Option<(usize, ParseErrorKind)>);
 
 /// Checks that a pattern is read, or where it is refused and why.

@@ -1,6 +1,6 @@
 //! Texts whose matches are replaced.
 
-use fancy_regex::Regex;
+use fancy_regex::{Regex, Replacer};
 use std::alloc::Global;
 use std::borrow::CowStr;
 use std::process::Abort;
@@ -41,5 +41,14 @@ pub(crate) fn check_replaced(rt: &impl Abort, alloc: Global, row: &ReplacedRow) 
     }
     if limit == 1 {
         check_answer(rt, regex.replace(text, template), wanted);
+    }
+}
+
+/// Checks what text a replacer always gives, if it does.
+pub(crate) fn check_fixed<R: Replacer>(rt: &impl Abort, replacer: &mut R, wanted: Option<&str>) {
+    let fixed = replacer.no_expansion();
+    match wanted {
+        Some(text) => assert_eq!(rt; fixed.expect(rt, text).as_str(), text),
+        None => assert!(rt; fixed.is_none()),
     }
 }

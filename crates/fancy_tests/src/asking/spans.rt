@@ -50,7 +50,7 @@ pub(crate) fn first_span<M: Spanned, S: Input<Match = M>>(
 pub(crate) type TextRow = (&'static str, &'static str, Option<Span>);
 
 /// Checks a row on its text, and on the bytes of it.
-pub(crate) fn check_text(rt: &impl Abort, alloc: Global, row: &TextRow) {
+fn check_text(rt: &impl Abort, alloc: Global, row: &TextRow) {
     let (pattern, haystack, wanted) = *row;
     let regex = Regex::new(alloc, pattern).expect(rt, pattern);
     let first = regex.find(haystack).expect(rt, pattern);

@@ -1,0 +1,140 @@
+//! Templates, and texts that are escaped for them.
+
+use fancy_regex::{Captures, CompileError, Error, Expander, ParseErrorKind, Regex};
+use std::alloc::Global;
+use std::borrow::CowStr;
+use std::process::Abort;
+
+/// Compares what is written of an expansion with what is wanted.
+fn check_written(
+    rt: &impl Abort,
+    alloc: Global,
+    expander: &Expander,
+    template: &str,
+    captures: &Captures<'_, &str>,
+    wanted: &str,
+) {
+    let mut bytes = Vec::new(alloc);
+    let answer = expander.write_expansion_vec(&mut bytes, template, captures);
+    answer.expect(rt, template);
+    assert_eq!(rt; bytes.as_slice(), wanted.as_bytes(), "{template}");
+    let mut written = Vec::new(alloc);
+    let answer = expander.write_expansion(&mut written, template, captures);
+    answer.expect(rt, template);
+    assert_eq!(rt; written.as_slice(), wanted.as_bytes(), "{template}");
+}
+
+/// Compares every form of expansion with what is wanted.
+fn check_forms(
+    rt: &impl Abort,
+    alloc: Global,
+    expander: &Expander,
+    template: &str,
+    captures: &Captures<'_, &str>,
+    wanted: &str,
+) {
+    let text = expander.expansion(template, captures).expect(rt, template);
+    assert_eq!(rt; text.as_str(), wanted, "{template}");
+    let mut appended = String::from_str(alloc, "é").expect(rt, template);
+    let answer = expander.append_expansion(&mut appended, template, captures);
+    answer.expect(rt, template);
+    assert_eq!(rt;
+        appended.as_str().strip_prefix("é"),
+        Some(wanted),
+        "{template}"
+    );
+    check_written(rt, alloc, expander, template, captures, wanted);
+}
+
+/// Compares the expansion by the captures with what is wanted.
+fn check_expand(
+    rt: &impl Abort,
+    alloc: Global,
+    template: &str,
+    captures: &Captures<'_, &str>,
+    wanted: &str,
+) {
+    let mut text = String::from_str(alloc, "x").expect(rt, template);
+    captures.expand(template, &mut text).expect(rt, template);
+    assert_eq!(rt; text.as_str().strip_prefix("x"), Some(wanted), "{template}");
+}
+
+/// A template, and what it expands to where `b` is group 1 and the whole match.
+pub(crate) type TemplateRow = (&'static str, &'static str);
+
+/// Checks every form of expansion by an expander.
+pub(crate) fn check_templates(
+    rt: &impl Abort,
+    alloc: Global,
+    expander: &Expander,
+    rows: &[TemplateRow],
+) {
+    let regex = Regex::new(alloc, "(b)").expect(rt, "a regex");
+    let found = regex.captures("abc").expect(rt, "a search");
+    let captures = found.expect(rt, "a match");
+    for &(template, wanted) in rows {
+        check_forms(rt, alloc, expander, template, &captures, wanted);
+    }
+}
+
+/// Checks the expansion by the captures.
+pub(crate) fn check_expanded(rt: &impl Abort, alloc: Global, rows: &[TemplateRow]) {
+    let regex = Regex::new(alloc, "(b)").expect(rt, "a regex");
+    let found = regex.captures("abc").expect(rt, "a search");
+    let captures = found.expect(rt, "a match");
+    for &(template, wanted) in rows {
+        check_expand(rt, alloc, template, &captures, wanted);
+    }
+}
+
+/// What a check says of a template.
+#[derive(Clone, Copy)]
+pub(crate) enum Told {
+    Fits,
+    NoForm,
+    NoNumber(usize),
+    NoName(&'static str),
+    NamesAlone,
+}
+
+/// Whether the answer of a check says this.
+fn is_told(answer: &fancy_regex::Result<()>, wanted: Told) -> bool {
+    match (answer, wanted) {
+        (Ok(()), Told::Fits) => true,
+        (Err(Error::ParseError(0, kind)), Told::NoForm) => *kind
+            == ParseErrorKind::GeneralParseError,
+        (Err(Error::CompileError(CompileError::InvalidBackref(number))), Told::NoNumber(wanted)) =>
+            { *number == wanted }
+        (
+            Err(Error::CompileError(CompileError::InvalidGroupNameBackref(name))),
+            Told::NoName(wanted),
+        ) => name.as_str() == wanted,
+        (Err(Error::CompileError(CompileError::NamedBackrefOnly)), Told::NamesAlone) => true,
+        _ => false,
+    }
+}
+
+/// A pattern, a template, and what is told of it.
+pub(crate) type CheckedRow = (&'static str, &'static str, Told);
+
+pub(crate) fn check_told(rt: &impl Abort, alloc: Global, expander: &Expander, row: &CheckedRow) {
+    let (pattern, template, wanted) = *row;
+    let regex = Regex::new(alloc, pattern).expect(rt, pattern);
+    let answer = expander.check(template, &regex);
+    assert!(rt; is_told(&answer, wanted), "{template}");
+}
+
+/// Checks that an escape gives this text, which is the one that was given where it is the same.
+pub(crate) fn check_escaped(
+    rt: &impl Abort,
+    answer: fancy_regex::Result<CowStr<'_, Global>>,
+    text: &str,
+    wanted: &str,
+) {
+    let escaped = answer.expect(rt, text);
+    assert_eq!(rt; escaped.as_str(), wanted);
+    assert!(rt;
+        matches!(escaped, CowStr::Borrowed(_)) == (text == wanted),
+        "{text}"
+    );
+}
