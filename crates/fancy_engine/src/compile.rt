@@ -162,15 +162,15 @@ fn emit(
             let entry = emit_choice(alloc, code, meaning, branches, next)?;
             Ok(entry)
         }
-        Tree::Backreference(number) => put_both(
+        Tree::Backreference { group, .. } => put_both(
             code,
-            Instr::Recall(*number as usize, next.moved, next.moved),
-            Instr::Recall(*number as usize, next.moved, next.still),
+            Instr::Recall(*group, next.moved, next.moved),
+            Instr::Recall(*group, next.moved, next.still),
         ),
         Tree::GroupTest(number) => put_both(
             code,
-            Instr::Taken(*number as usize, next.moved),
-            Instr::Taken(*number as usize, next.still),
+            Instr::Taken(*number, next.moved),
+            Instr::Taken(*number, next.still),
         ),
         Tree::KeepStart => put_both(code, Instr::Keep(next.moved), Instr::Keep(next.still)),
         Tree::ContinueHere => put_both(

@@ -30,10 +30,10 @@ pub pattern-RawByte : (byte : ℕ) →
 pattern-RawByte byte =
     ap pattern_of (sym (made.rolls-RawByte byte)) ∙ fold-roll-Tree Pattern node_pattern (Tree-F.RawByte byte)
 
-pub pattern-Backreference : (number : ℕ) →
-    pattern_of (made.Backreference number) ≡ backreference number
-pattern-Backreference number =
-    ap pattern_of (sym (made.rolls-Backreference number)) ∙ fold-roll-Tree Pattern node_pattern (Tree-F.Backreference number)
+pub pattern-Backreference : (folded : Bool) (number : ℕ) →
+    pattern_of (made.Backreference folded number) ≡ backreference folded number
+pattern-Backreference folded number =
+    ap pattern_of (sym (made.rolls-Backreference folded number)) ∙ fold-roll-Tree Pattern node_pattern (Tree-F.Backreference folded number)
 
 pub pattern-Assertion : (a : Assertion) →
     pattern_of (made.Assertion a) ≡ assertion a

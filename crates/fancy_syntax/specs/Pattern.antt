@@ -15,8 +15,8 @@ pub data Pattern : Type 0 where
   member_of : List ℕ → Pattern
   -- one byte, in any meaning
   raw_byte : ℕ → Pattern
-  -- the text of this group
-  backreference : ℕ → Pattern
+  -- the text of this group; under flag `i`, if the flag is true
+  backreference : Bool → ℕ → Pattern
   assertion : Assertion → Pattern
   -- the group has taken part
   group_test : ℕ → Pattern
@@ -64,7 +64,7 @@ node_pattern Tree-F.Empty = empty
 node_pattern (Tree-F.Character c) = character c
 node_pattern (Tree-F.Member edges) = member_of edges.items
 node_pattern (Tree-F.RawByte byte) = raw_byte byte
-node_pattern (Tree-F.Backreference number) = backreference number
+node_pattern (Tree-F.Backreference folded group) = backreference folded group
 node_pattern (Tree-F.Assertion a) = assertion a
 node_pattern (Tree-F.GroupTest number) = group_test number
 node_pattern Tree-F.KeepStart = keep_start

@@ -19,7 +19,7 @@ impl Tree {
             | Tree::Character(_)
             | Tree::Member(_)
             | Tree::RawByte(_)
-            | Tree::Backreference(_)
+            | Tree::Backreference { .. }
             | Tree::Assertion(_)
             | Tree::GroupTest(_)
             | Tree::KeepStart

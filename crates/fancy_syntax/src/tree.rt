@@ -120,12 +120,15 @@ pub enum Tree {
     Member(Vec<u32>),
     /// One byte, in any meaning.
     RawByte(u8),
-    /// The text of the group with this number.
-    Backreference(u32),
+    /// The text of the group with this number; under flag `i` where it is folded.
+    Backreference {
+        folded: bool,
+        group: usize,
+    },
     /// A test of the place.
     Assertion(Assertion),
     /// Whether the group with this number has taken part.
-    GroupTest(u32),
+    GroupTest(usize),
     /// `\K`: the match starts here.
     KeepStart,
     /// `\G`: the search starts here.
