@@ -15,7 +15,7 @@ pub data Pattern : Type 0 where
   member_of : List ℕ → Pattern
   -- one byte, in any meaning
   raw_byte : ℕ → Pattern
-  -- the text of this group; under flag `i`, if the flag is true
+  -- the text of this group; under flag `i` where it is true
   backreference : Bool → ℕ → Pattern
   assertion : Assertion → Pattern
   -- the group has taken part
@@ -64,7 +64,7 @@ node_pattern Tree-F.Empty = empty
 node_pattern (Tree-F.Character c) = character c
 node_pattern (Tree-F.Member edges) = member_of edges.items
 node_pattern (Tree-F.RawByte byte) = raw_byte byte
-node_pattern (Tree-F.Backreference folded group) = backreference folded group
+node_pattern (Tree-F.Backreference folded number) = backreference folded number
 node_pattern (Tree-F.Assertion a) = assertion a
 node_pattern (Tree-F.GroupTest number) = group_test number
 node_pattern Tree-F.KeepStart = keep_start
