@@ -29,6 +29,7 @@ pub mod SearchLemmas
 pub mod ExampleLemmas
 pub mod WalkLemmas
 pub mod KeptLemmas
+pub mod BackreferenceLemmas
 pub mod LeadsLemmas
 pub mod SpelledLemmas
 pub mod PlacedLemmas

@@ -5,7 +5,8 @@ use Rattle.std.proofs.lemmas.List.{append-nil}
 use Rattle.fancy_engine.specs.declared.code.Instr.{Instr}
 use Rattle.fancy_engine.specs.declared.code.Instr.TheVariants as i
 use Rattle.fancy_engine.specs.declared.code.Entry.{Entry}
-use Rattle.fancy_engine.specs.Context.{Context, State, moved_to, past_backreference, units_back}
+use Rattle.fancy_engine.specs.Context.{Context, State, moved_to, units_back}
+use Rattle.fancy_engine.specs.Backreference.{past_backreference}
 use Rattle.fancy_engine.specs.Events.{Event, mark, return, Walk, stay, bind, guarded, any, ends_look, put_back, looked, move, holding}
 use Rattle.fancy_engine.specs.Trace.{from_before}
 use Rattle.fancy_engine.specs.Run.{Ends, Gives, Note, returned, before, resume, halt, act, run}
@@ -202,19 +203,19 @@ module _ (x : Context) (limit : ℕ) (code : List Instr) (hi : ℕ) where
   }
 
   -- a group's text once more
-  pub recall_follows : (number lo : ℕ) (next entry : Entry) → HasBoth code entry (i.Recall number next.moved next.moved) (i.Recall number next.moved next.still)
-      → Follow x limit code hi (λ s. move limit s (past_backreference x number s)) 1 lo next entry
-  recall_follows number lo next entry has = record {
+  pub recall_follows : (folded : Bool) (number lo : ℕ) (next entry : Entry) → HasBoth code entry (i.Recall folded number next.moved next.moved) (i.Recall folded number next.moved next.still)
+      → Follow x limit code hi (λ s. move limit s (past_backreference x folded number s)) 1 lo next entry
+  recall_follows folded number lo next entry has = record {
     moved = λ P m w s v le len go.
         gives_more x limit code P (suc m) (1 + m) entry.moved s v _ (omega arith)
-        (gives_act x limit code P m entry.moved (i.Recall number next.moved next.moved) s v _ has.0
-        (given_rejoin P limit (run x limit code m) next.moved next.moved s v w (past_backreference x number s)
-        (λ p e within same. go (moved_to s p) v (recall_beyond x number s p e) within (below_same lo v))
-        (λ p e within other. go (moved_to s p) v (recall_beyond x number s p e) within (below_same lo v))));
+        (gives_act x limit code P m entry.moved (i.Recall folded number next.moved next.moved) s v _ has.0
+        (given_rejoin P limit (run x limit code m) next.moved next.moved s v w (past_backreference x folded number s)
+        (λ p e within same. go (moved_to s p) v (recall_beyond x folded number s p e) within (below_same lo v))
+        (λ p e within other. go (moved_to s p) v (recall_beyond x folded number s p e) within (below_same lo v))));
     still = λ P m w s v le len go at.
         gives_more x limit code P (suc m) (1 + m) entry.still s v _ (omega arith)
-        (gives_act x limit code P m entry.still (i.Recall number next.moved next.still) s v _ has.1
-        (given_rejoin P limit (run x limit code m) next.moved next.still s v w (past_backreference x number s)
+        (gives_act x limit code P m entry.still (i.Recall folded number next.moved next.still) s v _ has.1
+        (given_rejoin P limit (run x limit code m) next.moved next.still s v w (past_backreference x folded number s)
         (λ p e within same. at (moved_to s p) v same (below_same lo v))
-        (λ p e within other. go (moved_to s p) v (omega (arith, recall_beyond x number s p e, other)) within (below_same lo v))));
+        (λ p e within other. go (moved_to s p) v (omega (arith, recall_beyond x folded number s p e, other)) within (below_same lo v))));
   }

@@ -1,42 +1,49 @@
--- The text of a group once more, under flag `i`.
-use Rattle.std.specs.Prelude.{ℕ, zero, suc, ◌+◌, Bool, ◌||◌, ◌==◌, List, [], ◌∷◌, length, drop, Option, Some, None, if◌then◌else◌, slice_get}
+-- The text of a group once more, and under flag `i` what differs from it in case alone.
+use Rattle.std.specs.Prelude.{ℕ, zero, suc, ◌+◌, ◌-◌, Bool, true, false, ◌==◌, List, [], ◌∷◌, length, drop, take, Option, Some, None, if◌then◌else◌}
 use Rattle.std.specs.Char.{len_utf8}
+use Rattle.std.specs.Str.{str_eq_ignore_ascii_case}
 use Rattle.unicode.specs.CaseFolding.{simple_fold}
 use Rattle.fancy_syntax.specs.declared.tree.Meaning.{Meaning}
 use Rattle.fancy_syntax.specs.declared.tree.Meaning.TheVariants.{Unicode, Bytes, AsciiText}
-use Rattle.fancy_syntax.specs.Widening.{in_pairs, ascii_pairs}
-use Rattle.fancy_input.specs.Places.{char_at}
-use Rattle.fancy_engine.specs.Context.{Context, State, group_span, past_byte, text_of, option_to, past_text}
+use Rattle.fancy_input.specs.Places.{char_at, has_bytes_at}
+use Rattle.fancy_engine.specs.Context.{Context, State, Span, group_span, past_item, past_byte, option_to}
 
--- one byte, or an ASCII letter in the other case
-abbrev pub same_letter : ℕ → ℕ → Bool
-same_letter a b = (a == b) || in_pairs ascii_pairs (λ d. d == a) b
+unfoldable pub text_of : Context → Span → List ℕ
+text_of x span = take (span.1 - span.0) (drop span.0 x.haystack)
 
--- the place behind these bytes, ASCII letters in either case
-abbrev pub past_letters : Context → List ℕ → ℕ → Option ℕ
-past_letters x [] p = Some p
-past_letters x (b ∷ bs) p = option_to (slice_get x.haystack p) None (λ d. if same_letter b d then past_letters x bs (p + 1) else None)
+-- the place behind the bytes at p that equal these
+unfoldable pub past_text : Context → List ℕ → ℕ → Option ℕ
+past_text x text p = if has_bytes_at x.haystack p text then Some (p + length text) else None
 
--- the place behind the character at p that has the simple folding of c
-abbrev pub past_folded : Context → ℕ → ℕ → Option ℕ
-past_folded x c p = option_to (char_at x.haystack p) None (λ d. if simple_fold d == simple_fold c then Some (p + len_utf8 d) else None)
+-- the place behind the bytes at p that equal these, ASCII letters in either case
+unfoldable pub past_letters : Context → List ℕ → ℕ → Option ℕ
+past_letters x text p = if str_eq_ignore_ascii_case (take (length text) (drop p x.haystack)) text then Some (p + length text) else None
 
--- The place behind a text that is cut from the left into well-formed characters and single other bytes: each character is matched by one with the same simple folding, each other byte by itself. A text of at most n bytes.
-abbrev pub past_characters : Context → ℕ → List ℕ → ℕ → Option ℕ
+-- the two characters have the same simple folding
+abbrev pub shares_folding : ℕ → ℕ → Bool
+shares_folding c d = simple_fold d == simple_fold c
+
+-- The place behind what matches a text of at most n bytes. The text is cut from the left into well-formed characters and single other bytes: each character is matched by one with the same simple folding, each other byte by itself.
+unfoldable pub past_characters : Context → ℕ → List ℕ → ℕ → Option ℕ
 past_characters x zero text p = Some p
 past_characters x (suc n) [] p = Some p
 past_characters x (suc n) (b ∷ bs) p =
     option_to (char_at (b ∷ bs) 0)
     (option_to (past_byte x b p) None (λ r. past_characters x n bs r))
-    (λ c. option_to (past_folded x c p) None (λ r. past_characters x n (drop (len_utf8 c) (b ∷ bs)) r))
+    (λ c. option_to (past_item x (shares_folding c) p) None (λ r. past_characters x n (drop (len_utf8 c) (b ∷ bs)) r))
 
-abbrev pub past_widened : Context → Meaning → List ℕ → ℕ → Option ℕ
-past_widened x Unicode text p = past_characters x (length text) text p
-past_widened x Bytes text p = past_letters x text p
-past_widened x AsciiText text p = past_letters x text p
+-- the place behind what matches a text under flag `i`
+abbrev pub past_folded : Context → Meaning → List ℕ → ℕ → Option ℕ
+past_folded x Unicode text p = past_characters x (length text) text p
+past_folded x Bytes text p = past_letters x text p
+past_folded x AsciiText text p = past_letters x text p
 
--- what a backreference reads, under flag `i` or without it
-unfoldable pub past_repeated : Context → Bool → ℕ → State → Option ℕ
-past_repeated x folded number s =
-    option_to (group_span s number) None
-    (λ span. if folded then past_widened x x.meaning (text_of x span) s.place else past_text x (text_of x span) s.place)
+-- the place behind the text of a span once more; where it is folded, under flag `i`
+abbrev pub past_span : Context → Bool → Option Span → ℕ → Option ℕ
+past_span x folded None p = None
+past_span x false (Some span) p = past_text x (text_of x span) p
+past_span x true (Some span) p = past_folded x x.meaning (text_of x span) p
+
+-- the place behind a group's text; none where the group has taken no part
+unfoldable pub past_backreference : Context → Bool → ℕ → State → Option ℕ
+past_backreference x folded number s = past_span x folded (group_span s number) s.place

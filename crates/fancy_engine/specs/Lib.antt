@@ -1,6 +1,6 @@
 pub mod Context
 pub mod Events
-pub mod Folding
+pub mod Backreference
 pub mod Trace
 pub mod Search
 pub mod Literals

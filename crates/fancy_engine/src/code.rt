@@ -42,8 +42,17 @@ pub enum Instr {
     Test(usize, usize),
     /// So many units back.
     Back(usize, usize),
-    /// The text of the group with this number once more: what follows a text, and what follows an empty one.
-    Recall(usize, usize, usize),
+    /// The text of a group once more.
+    Recall {
+        /// Letters are matched in either case.
+        folded: bool,
+        /// The group's number.
+        group: usize,
+        /// What follows where something was consumed.
+        moved: usize,
+        /// What follows where nothing was.
+        still: usize,
+    },
     /// The match starts here.
     Keep(usize),
     /// The search starts here.

@@ -162,10 +162,20 @@ fn emit(
             let entry = emit_choice(alloc, code, meaning, branches, next)?;
             Ok(entry)
         }
-        Tree::Backreference { group, .. } => put_both(
+        Tree::Backreference { folded, group } => put_both(
             code,
-            Instr::Recall(*group, next.moved, next.moved),
-            Instr::Recall(*group, next.moved, next.still),
+            Instr::Recall {
+                folded: *folded,
+                group: *group,
+                moved: next.moved,
+                still: next.moved,
+            },
+            Instr::Recall {
+                folded: *folded,
+                group: *group,
+                moved: next.moved,
+                still: next.still,
+            },
         ),
         Tree::GroupTest(number) => put_both(
             code,

@@ -252,7 +252,7 @@ fn step(
         | Instr::Deny(_, _, _)
         | Instr::Test(_, _)
         | Instr::Back(_, _)
-        | Instr::Recall(_, _, _)
+        | Instr::Recall { .. }
         | Instr::Keep(_)
         | Instr::Continue(_)
         | Instr::Taken(_, _) => unreachable!(),
