@@ -1,23 +1,162 @@
 -- What a backreference sees.
-use Rattle.std.proofs.Common.{◌≡◌, ℕ, Bool, List, drop, Option, Some, None, nat_eq, refl, sym, ap, ◌∙◌}
+use Rattle.std.proofs.Common.{◌≡◌, ℕ, zero, suc, ◌+◌, ◌-◌, ◌<◌, ◌≤◌, ◌==◌, Bool, true, false, List, [], ◌∷◌, length, map, take, drop, IsTrue, Option, Some, None, option_map, nat_eq, if◌then◌else◌, refl, sym, ap, ap₂, ◌∙◌, arith, le_refl, length-drop}
+use Rattle.std.specs.Prelude.{slice_index}
+use Rattle.std.specs.Char.{len_utf8, is_ascii, to_ascii_lowercase}
+use Rattle.std.specs.Str.{str_eq_ignore_ascii_case}
 use Rattle.std.specs.List.{starts_with}
+use Rattle.std.proofs.lemmas.Bool.Decides.{nat_tests}
+use Rattle.std.proofs.lemmas.Slice.Eq.{bytes_eq-Decides}
+use Rattle.std.proofs.lemmas.Str.{len_utf8_bounds}
+use Rattle.unicode.proofs.CaseFoldingLemmas.{simple_fold-ascii}
 use Rattle.fancy_syntax.specs.declared.tree.Meaning.{Meaning}
-use Rattle.fancy_input.specs.Places.{has_bytes_at}
-use Rattle.fancy_engine.specs.Context.{State, Span, group_span, option_to, past_text, text_of, past_backreference}
+use Rattle.fancy_syntax.specs.declared.tree.Meaning.TheVariants.{Unicode}
+use Rattle.fancy_input.specs.Places.{char_at, has_bytes_at}
+use Rattle.fancy_engine.specs.Context.{Context, State, group_span, unit_at, past_item, past_byte, one_character, option_to}
+use Rattle.fancy_engine.specs.declared.slot.Extent.{Extent}
+use Rattle.fancy_engine.specs.Threads.{ends_of}
+use Rattle.fancy_engine.specs.Backreference.{text_of, past_text, past_folded, past_characters, past_span, past_backreference, shares_folding}
+use Rattle.fancy_engine.proofs.CharacterLemmas.{char_at-fits}
 use Rattle.fancy_machine.specs.declared.machine.Field.{Field}
-use Rattle.fancy_machine.specs.Field.{context_in, past_span}
+use Rattle.fancy_machine.specs.Field.{context_in}
 
-seen : (haystack : List ℕ) (m : Meaning) (f : Field) (o : Option Span) (p : ℕ)
-    → option_to o None (λ span. past_text (context_in haystack m f) (text_of (context_in haystack m f) span) p) ≡ past_span haystack o p
-unfolding past_text text_of
-seen haystack m f None p = refl
-seen haystack m f (Some span) p = refl
-
-pub recall_seen : (haystack : List ℕ) (m : Meaning) (f : Field) (number : ℕ) (s : State) → past_backreference (context_in haystack m f) number s ≡ past_span haystack (group_span s number) s.place
+pub recall_seen : (x : Context) (folded : Bool) (number : ℕ) (s : State) → past_backreference x folded number s ≡ past_span x folded (group_span s number) s.place
 unfolding past_backreference
-recall_seen haystack m f number s = seen haystack m f (group_span s number) s.place
+recall_seen x folded number s = refl
 
 -- what a test for a text says
 pub stands_if : (haystack rest text : List ℕ) (p : ℕ) (b : Bool) → rest ≡ drop p haystack → b ≡ starts_with nat_eq rest text → has_bytes_at haystack p text ≡ b
 unfolding has_bytes_at
 stands_if haystack rest text p b e f = ap (λ (r : List ℕ). starts_with nat_eq r text) (sym e) ∙ sym f
+
+same_bool : (a b : Bool) → (a ≡ true → b ≡ true) → (b ≡ true → a ≡ true) → a ≡ b
+same_bool true b f g = sym (f refl)
+same_bool false true f g = g refl
+same_bool false false f g = refl
+
+-- what a test for a text in either case says
+pub letters_if : (haystack rest next text : List ℕ) (p : ℕ) (b : Bool) → rest ≡ drop p haystack → next ≡ take (length text) rest
+    → (IsTrue b → map to_ascii_lowercase next ≡ map to_ascii_lowercase text) × (map to_ascii_lowercase next ≡ map to_ascii_lowercase text → IsTrue b)
+    → str_eq_ignore_ascii_case (take (length text) (drop p haystack)) text ≡ b
+letters_if haystack rest next text p b e f g =
+    let decides = bytes_eq-Decides (map to_ascii_lowercase next) (map to_ascii_lowercase text) in
+    ap (λ (l : List ℕ). str_eq_ignore_ascii_case l text) (ap (take (length text)) (sym e) ∙ sym f)
+    ∙ same_bool (str_eq_ignore_ascii_case next text) b (λ h. g.1 (decides.0 h)) (λ h. decides.1 (g.0 h))
+
+pub ascii_low : (c : ℕ) (b : Bool) → b ≡ is_ascii c → b ≡ true → c < 128
+ascii_low c b e f = grind (arith, nat_tests)
+
+-- what a test for an empty text says
+pub something_left : (text : List ℕ) (b : Bool) → b ≡ (length text == 0) → b ≡ false → 0 < length text
+something_left text b e f = grind (arith, nat_tests)
+
+pub none_left : (text : List ℕ) (b : Bool) → b ≡ (length text == 0) → b ≡ true → length text ≡ 0
+none_left text b e f = grind (arith, nat_tests)
+
+-- of two ASCII characters the folding is that of their letters
+pub shares_ascii : (c d : ℕ) → c < 128 → d < 128 → shares_folding c d ≡ (to_ascii_lowercase d == to_ascii_lowercase c)
+shares_ascii c d low_c low_d = ap₂ (λ (a b : ℕ). a == b) (simple_fold-ascii d low_d) (simple_fold-ascii c low_c)
+
+module _ (haystack : List ℕ) (f : Field) (c p : ℕ) where
+  -- what the character at p gives
+  sharing_seen : (o : Option ℕ) → o ≡ char_at haystack p
+      → past_item (context_in haystack Unicode f) (shares_folding c) p ≡ option_to (one_character o) None (λ u. if shares_folding c u.code then Some (p + u.width) else None)
+  unfolding past_item unit_at
+  sharing_seen o e = ap (λ (o : Option ℕ). option_to (one_character o) None (λ u. if shares_folding c u.code then Some (p + u.width) else None)) (sym e)
+
+  pub sharing_none : None ≡ char_at haystack p → past_item (context_in haystack Unicode f) (shares_folding c) p ≡ None
+  sharing_none e = sharing_seen None e
+
+  pub sharing_other : (d : ℕ) (b : Bool) → Some d ≡ char_at haystack p → b ≡ shares_folding c d → b ≡ false
+      → past_item (context_in haystack Unicode f) (shares_folding c) p ≡ None
+  sharing_other d b e h n = sharing_seen (Some d) e ∙ ap (λ (b : Bool). if b then Some (p + len_utf8 d) else None) (sym h ∙ n)
+
+  pub sharing_some : (d : ℕ) (b : Bool) → Some d ≡ char_at haystack p → b ≡ shares_folding c d → b ≡ true
+      → past_item (context_in haystack Unicode f) (shares_folding c) p ≡ Some (p + len_utf8 d)
+  sharing_some d b e h y = sharing_seen (Some d) e ∙ ap (λ (b : Bool). if b then Some (p + len_utf8 d) else None) (sym h ∙ y)
+
+pub character_fits : (haystack : List ℕ) (i c : ℕ) → Some c ≡ char_at haystack i → i + len_utf8 c ≤ length haystack
+character_fits haystack i c e = char_at-fits haystack i c (sym e)
+
+module _ (x : Context) where
+  -- more steps than the text has bytes change nothing
+  enough : (n m : ℕ) (text : List ℕ) (p : ℕ) → length text ≤ n → length text ≤ m → past_characters x n text p ≡ past_characters x m text p
+  unfolding past_characters
+  enough zero zero text p a b = refl
+  enough zero (suc m) [] p a b = refl
+  enough zero (suc m) (t ∷ ts) p a b = absurd (omega arith)
+  enough (suc n) zero [] p a b = refl
+  enough (suc n) zero (t ∷ ts) p a b = absurd (omega arith)
+  enough (suc n) (suc m) [] p a b = refl
+  enough (suc n) (suc m) (t ∷ ts) p a b =
+      elim (char_at (t ∷ ts) 0) as (λ (o : Option ℕ).
+          option_to o (option_to (past_byte x t p) None (λ r. past_characters x n ts r))
+          (λ c. option_to (past_item x (shares_folding c) p) None (λ r. past_characters x n (drop (len_utf8 c) (t ∷ ts)) r))
+          ≡ option_to o (option_to (past_byte x t p) None (λ r. past_characters x m ts r))
+          (λ c. option_to (past_item x (shares_folding c) p) None (λ r. past_characters x m (drop (len_utf8 c) (t ∷ ts)) r))) [
+        | None ↦ λ i. option_to (past_byte x t p) None (λ r. enough n m ts r (omega arith) (omega arith) i)
+        | Some c ↦ λ i. option_to (past_item x (shares_folding c) p) None (λ r. enough n m (drop (len_utf8 c) (t ∷ ts)) r
+            (omega (arith, length-drop (len_utf8 c) (t ∷ ts), (len_utf8_bounds c).0)) (omega (arith, length-drop (len_utf8 c) (t ∷ ts), (len_utf8_bounds c).0)) i)
+      ]
+
+  -- the text begins with a character
+  by_character : (text : List ℕ) (p c : ℕ) (o : Option ℕ) → Some c ≡ char_at text 0 → o ≡ past_item x (shares_folding c) p
+      → past_characters x (length text) text p ≡ option_to o None (λ r. past_characters x (length (drop (len_utf8 c) text)) (drop (len_utf8 c) text) r)
+  unfolding past_characters
+  by_character [] p c o e f = absurd (omega (arith, character_fits [] 0 c e, (len_utf8_bounds c).0))
+  by_character (t ∷ ts) p c o e f =
+      ap (λ (o : Option ℕ).
+          option_to o (option_to (past_byte x t p) None (λ r. past_characters x (length ts) ts r))
+          (λ c. option_to (past_item x (shares_folding c) p) None (λ r. past_characters x (length ts) (drop (len_utf8 c) (t ∷ ts)) r))) (sym e)
+      ∙ ap (λ (o : Option ℕ). option_to o None (λ r. past_characters x (length ts) (drop (len_utf8 c) (t ∷ ts)) r)) (sym f)
+      ∙ (λ i. option_to o None (λ r. enough (length ts) (length (drop (len_utf8 c) (t ∷ ts))) (drop (len_utf8 c) (t ∷ ts)) r
+          (omega (arith, length-drop (len_utf8 c) (t ∷ ts), (len_utf8_bounds c).0)) (le_refl (length (drop (len_utf8 c) (t ∷ ts)))) i))
+
+  -- the text begins with another byte
+  by_byte : (text : List ℕ) (p : ℕ) (o : Option ℕ) → 0 < length text → None ≡ char_at text 0 → o ≡ past_byte x (slice_index text 0) p
+      → past_characters x (length text) text p ≡ option_to o None (λ r. past_characters x (length (drop 1 text)) (drop 1 text) r)
+  unfolding past_characters
+  by_byte [] p o lt e f = absurd (omega arith)
+  by_byte (t ∷ ts) p o lt e f =
+      ap (λ (o : Option ℕ).
+          option_to o (option_to (past_byte x t p) None (λ r. past_characters x (length ts) ts r))
+          (λ c. option_to (past_item x (shares_folding c) p) None (λ r. past_characters x (length ts) (drop (len_utf8 c) (t ∷ ts)) r))) (sym e)
+      ∙ ap (λ (o : Option ℕ). option_to o None (λ r. past_characters x (length ts) ts r)) (sym f)
+
+  pub character_stops : (text : List ℕ) (p c : ℕ) → Some c ≡ char_at text 0 → None ≡ past_item x (shares_folding c) p → past_characters x (length text) text p ≡ None
+  character_stops text p c e f = by_character text p c None e f
+
+  pub character_leads : (text : List ℕ) (p c r : ℕ) → Some c ≡ char_at text 0 → Some r ≡ past_item x (shares_folding c) p
+      → past_characters x (length text) text p ≡ past_characters x (length (drop (len_utf8 c) text)) (drop (len_utf8 c) text) r
+  character_leads text p c r e f = by_character text p c (Some r) e f
+
+  pub byte_stops : (text : List ℕ) (p : ℕ) → 0 < length text → None ≡ char_at text 0 → None ≡ past_byte x (slice_index text 0) p → past_characters x (length text) text p ≡ None
+  byte_stops text p lt e f = by_byte text p None lt e f
+
+  pub byte_leads : (text : List ℕ) (p r : ℕ) → 0 < length text → None ≡ char_at text 0 → Some r ≡ past_byte x (slice_index text 0) p
+      → past_characters x (length text) text p ≡ past_characters x (length (drop 1 text)) (drop 1 text) r
+  byte_leads text p r lt e f = by_byte text p (Some r) lt e f
+
+  pub nothing_left : (text : List ℕ) (p : ℕ) → length text ≡ 0 → past_characters x (length text) text p ≡ Some p
+  unfolding past_characters
+  nothing_left [] p e = refl
+  nothing_left (t ∷ ts) p e = absurd (omega arith)
+
+-- the text of a span, and what matches it
+
+pub text_seen : (haystack : List ℕ) (m : Meaning) (f : Field) (e : Extent) (rest text : List ℕ) (n : ℕ) → rest ≡ drop e.start haystack → text ≡ take n rest → n ≡ e.end - e.start
+    → text ≡ text_of (context_in haystack m f) (ends_of e)
+unfolding text_of
+text_seen haystack m f e rest text n is cut long = cut ∙ ap₂ (λ (n : ℕ) (l : List ℕ). take n l) long is
+
+pub again_exact : (x : Context) (folded : Bool) (o : Option Extent) (e : Extent) (p : ℕ) (text : List ℕ) → folded ≡ false → o ≡ Some e → text ≡ text_of x (ends_of e)
+    → past_text x text p ≡ past_span x folded (option_map ends_of o) p
+again_exact x folded o e p text exact some is =
+    ap (λ (t : List ℕ). past_text x t p) is ∙ sym (ap₂ (λ (b : Bool) (o : Option Extent). past_span x b (option_map ends_of o) p) exact some)
+
+-- under flag `i`, where the meaning is n
+pub again_folded : (haystack : List ℕ) (m n : Meaning) (f : Field) (folded : Bool) (o : Option Extent) (e : Extent) (p : ℕ) (text : List ℕ) → m ≡ n → folded ≡ true → o ≡ Some e
+    → text ≡ text_of (context_in haystack m f) (ends_of e) → past_folded (context_in haystack n f) n text p ≡ past_span (context_in haystack m f) folded (option_map ends_of o) p
+again_folded haystack m n f folded o e p text same fold some is =
+    ap (λ (n : Meaning). past_folded (context_in haystack n f) n text p) (sym same)
+    ∙ ap (λ (t : List ℕ). past_folded (context_in haystack m f) m t p) is
+    ∙ sym (ap₂ (λ (b : Bool) (o : Option Extent). past_span (context_in haystack m f) b (option_map ends_of o) p) fold some)

@@ -6,7 +6,8 @@ use Rattle.fancy_engine.specs.declared.code.Instr.{Instr}
 use Rattle.fancy_engine.specs.declared.code.Instr.TheVariants as i
 use Rattle.fancy_engine.specs.declared.runner.Next.{Next}
 use Rattle.fancy_engine.specs.declared.runner.Next.TheVariants.{On, Dead, Found}
-use Rattle.fancy_engine.specs.Context.{Context, moved_to, past_backreference, units_back, option_to}
+use Rattle.fancy_engine.specs.Context.{Context, moved_to, units_back, option_to}
+use Rattle.fancy_engine.specs.Backreference.{past_backreference}
 use Rattle.fancy_engine.specs.Run.{Raw, Note, Stop, marked, fetched, Go, before, instr_at, act, run, onward, rejoin}
 use Rattle.fancy_engine.proofs.Runs.{known_act}
 use Rattle.fancy_machine.specs.Frames.{Spot, Region, Frame, Atom, Look, Denial, Condition, Saved, Within, saved}
@@ -159,34 +160,34 @@ module _ (cx : Context) (code : List Instr) (deep : ℕ) (x : Spot) (fs : List F
       on (i.Back n next) e (at_place next p x) fs
       (ap (λ (o : Option ℕ). finish go fs (option_to o (Some []) (λ p. go x.limit next (moved_to x.state p) x.starts))) some) (omega arith)
 
-  forgotten : (g a b : ℕ) (y : Spot) → instr_at code x.at ≡ i.Recall g a b → past_backreference cx g x.state ≡ None → Stepped go Dead w x fs y fs
-  forgotten g a b y e none = dead (i.Recall g a b) e y (ap (rejoin x.limit (go x.limit) a b x.state x.starts) none)
+  forgotten : (d : Bool) (g a b : ℕ) (y : Spot) → instr_at code x.at ≡ i.Recall d g a b → past_backreference cx d g x.state ≡ None → Stepped go Dead w x fs y fs
+  forgotten d g a b y e none = dead (i.Recall d g a b) e y (ap (rejoin x.limit (go x.limit) a b x.state x.starts) none)
 
-  recalls : (g a b p : ℕ) → past_backreference cx g x.state ≡ Some p → (c : Bool) → nat_le p x.limit ≡ c → (d : Bool) → (p == x.state.place) ≡ d
-      → does (i.Recall g a b) ≡ (if c then (if d then (go x.limit b (moved_to x.state p) x.starts) else (go x.limit a (moved_to x.state p) x.starts)) else (Some []))
-  recalls g a b p some c ec d ed =
+  recalls : (d : Bool) (g a b p : ℕ) → past_backreference cx d g x.state ≡ Some p → (c : Bool) → nat_le p x.limit ≡ c → (e : Bool) → (p == x.state.place) ≡ e
+      → does (i.Recall d g a b) ≡ (if c then (if e then (go x.limit b (moved_to x.state p) x.starts) else (go x.limit a (moved_to x.state p) x.starts)) else (Some []))
+  recalls d g a b p some c ec e ee =
       ap (rejoin x.limit (go x.limit) a b x.state x.starts) some
       ∙ ap (λ (t : Bool). if t then (if p == x.state.place then (go x.limit b (moved_to x.state p) x.starts) else (go x.limit a (moved_to x.state p) x.starts)) else (Some [])) ec
-      ∙ ap (λ (t : Bool). if c then (if t then (go x.limit b (moved_to x.state p) x.starts) else (go x.limit a (moved_to x.state p) x.starts)) else (Some [])) ed
+      ∙ ap (λ (t : Bool). if c then (if t then (go x.limit b (moved_to x.state p) x.starts) else (go x.limit a (moved_to x.state p) x.starts)) else (Some [])) ee
 
-  beyond : (g a b p : ℕ) (y : Spot) → instr_at code x.at ≡ i.Recall g a b → past_backreference cx g x.state ≡ Some p → x.limit < p → Stepped go Dead w x fs y fs
-  beyond g a b p y e some lt = dead (i.Recall g a b) e y (recalls g a b p some false (lt-leb p x.limit lt) (p == x.state.place) refl)
+  beyond : (d : Bool) (g a b p : ℕ) (y : Spot) → instr_at code x.at ≡ i.Recall d g a b → past_backreference cx d g x.state ≡ Some p → x.limit < p → Stepped go Dead w x fs y fs
+  beyond d g a b p y e some lt = dead (i.Recall d g a b) e y (recalls d g a b p some false (lt-leb p x.limit lt) (p == x.state.place) refl)
 
-  recalled : (g a b p : ℕ) → instr_at code x.at ≡ i.Recall g a b → past_backreference cx g x.state ≡ Some p → p ≤ x.limit → (c : Bool) → (p == x.state.place) ≡ c
+  recalled : (d : Bool) (g a b p : ℕ) → instr_at code x.at ≡ i.Recall d g a b → past_backreference cx d g x.state ≡ Some p → p ≤ x.limit → (c : Bool) → (p == x.state.place) ≡ c
       → Stepped go On w x fs (at_place (if c then b else a) p x) fs
-  recalled g a b p e some le true same =
-      on (i.Recall g a b) e (at_place b p x) fs (ap (finish go fs) (recalls g a b p some true (le-leb p x.limit le) true same)) (omega arith)
-  recalled g a b p e some le false same =
-      on (i.Recall g a b) e (at_place a p x) fs (ap (finish go fs) (recalls g a b p some true (le-leb p x.limit le) false same)) (omega arith)
+  recalled d g a b p e some le true same =
+      on (i.Recall d g a b) e (at_place b p x) fs (ap (finish go fs) (recalls d g a b p some true (le-leb p x.limit le) true same)) (omega arith)
+  recalled d g a b p e some le false same =
+      on (i.Recall d g a b) e (at_place a p x) fs (ap (finish go fs) (recalls d g a b p some true (le-leb p x.limit le) false same)) (omega arith)
 
   -- what moving on behind a text did
-  pub recalled_by : (next : Next) (g a b : ℕ) (o : Option ℕ) (y : Spot) (gs : List Frame) → instr_at code x.at ≡ i.Recall g a b → past_backreference cx g x.state ≡ o
+  pub recalled_by : (next : Next) (d : Bool) (g a b : ℕ) (o : Option ℕ) (y : Spot) (gs : List Frame) → instr_at code x.at ≡ i.Recall d g a b → past_backreference cx d g x.state ≡ o
       → RecalledTo next a b o x y → gs ≡ fs → Stepped go next w x fs y gs
-  recalled_by On g a b None y gs e is m f = absurd m
-  recalled_by On g a b (Some p) y gs e is m f =
+  recalled_by On d g a b None y gs e is m f = absurd m
+  recalled_by On d g a b (Some p) y gs e is m f =
       let next = if p == x.state.place then b else a in
       subst (λ (z : Spot). Stepped go On w x fs z gs) (sym m.1)
-      (subst (λ (l : List Frame). Stepped go On w x fs (at_place next p x) l) (sym f) (recalled g a b p e is m.0 (p == x.state.place) refl))
-  recalled_by Dead g a b None y gs e is m f = subst (λ (l : List Frame). Stepped go Dead w x fs y l) (sym f) (forgotten g a b y e is)
-  recalled_by Dead g a b (Some p) y gs e is m f = subst (λ (l : List Frame). Stepped go Dead w x fs y l) (sym f) (beyond g a b p y e is m)
-  recalled_by Found g a b o y gs e is m f = absurd m
+      (subst (λ (l : List Frame). Stepped go On w x fs (at_place next p x) l) (sym f) (recalled d g a b p e is m.0 (p == x.state.place) refl))
+  recalled_by Dead d g a b None y gs e is m f = subst (λ (l : List Frame). Stepped go Dead w x fs y l) (sym f) (forgotten d g a b y e is)
+  recalled_by Dead d g a b (Some p) y gs e is m f = subst (λ (l : List Frame). Stepped go Dead w x fs y l) (sym f) (beyond d g a b p y e is m)
+  recalled_by Found d g a b o y gs e is m f = absurd m

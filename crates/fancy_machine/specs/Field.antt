@@ -1,8 +1,8 @@
 -- What the machine sees, and what it accepts.
-use Rattle.std.specs.Prelude.{ℕ, ◌+◌, ◌-◌, length, take, drop, if◌then◌else◌, Bool, true, false, Some, None, not, ◌&&◌, ◌||◌, List, Option, ◌==◌}
+use Rattle.std.specs.Prelude.{ℕ, Bool, true, false, Some, None, not, ◌&&◌, ◌||◌, List, Option, ◌==◌}
 use Rattle.fancy_syntax.specs.declared.tree.Meaning.{Meaning}
-use Rattle.fancy_input.specs.Places.{has_bytes_at, is_boundary}
-use Rattle.fancy_engine.specs.Context.{Context, State, Span}
+use Rattle.fancy_input.specs.Places.{is_boundary}
+use Rattle.fancy_engine.specs.Context.{Context, State}
 use Rattle.fancy_engine.specs.declared.code.Code.{Code}
 use Rattle.fancy_engine.specs.Code.{instrs_of}
 use Rattle.fancy_engine.specs.Run.{Go, run}
@@ -24,15 +24,6 @@ good_end f haystack p = not f.on_boundaries || is_boundary haystack p
 -- whether an outcome is accepted
 abbrev pub accepts : Field → List ℕ → State → Bool
 accepts f haystack s = good_end f haystack s.kept && (good_end f haystack s.place && (not f.not_empty || not (s.kept == s.place)))
-
--- the place behind a text that stands at p, if it does
-abbrev pub past_bytes : List ℕ → List ℕ → ℕ → Option ℕ
-past_bytes haystack text p = if has_bytes_at haystack p text then Some (p + length text) else None
-
--- the place behind the text of a span that stands at p once more, if it does
-abbrev pub past_span : List ℕ → Option Span → ℕ → Option ℕ
-past_span haystack None p = None
-past_span haystack (Some span) p = past_bytes haystack (take (span.1 - span.0) (drop span.0 haystack)) p
 
 -- what the code gives where consumed text ends by a limit
 abbrev pub code_in : List ℕ → Code → Field → ℕ → ℕ → Go

@@ -204,8 +204,14 @@ fn step(
             }
             Ok(Next::Dead)
         }
-        Instr::Recall(group, moved, still) => {
-            let past = past_span(haystack, trail.span(*group), place);
+        Instr::Recall {
+            folded,
+            group,
+            moved,
+            still,
+        } => {
+            let span = trail.span(*group);
+            let past = past_span(haystack, code.meaning, *folded, span, place);
             Ok(recall(trail, *moved, *still, past))
         }
     }

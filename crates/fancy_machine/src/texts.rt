@@ -1,11 +1,18 @@
 //! The text of a group once more.
 
-ghost use Rattle.std.specs.Prelude.{◌≡◌, ◌+◌, ◌-◌, Some, None, take, drop, length, option_map, if◌then◌else◌};
-ghost use Rattle.fancy_input.specs.Places.{has_bytes_at};
+ghost use Rattle.std.specs.Prelude.{◌≡◌, take, drop, length, option_map};
+ghost use Rattle.fancy_engine.specs.Backreference.{past_text, past_letters, past_characters, past_span, shares_folding};
+ghost use Rattle.fancy_engine.specs.Context.{past_item};
 ghost use Rattle.fancy_engine.specs.Threads.{ends_of};
-ghost use Rattle.fancy_machine.specs.Field.{past_span};
+ghost use Rattle.fancy_machine.specs.declared.machine.Field.{Field as FieldIs};
+ghost use Rattle.fancy_machine.specs.Field.{context_in};
+ghost use Rattle.fancy_syntax.specs.declared.tree.Meaning.{Meaning as MeaningIs};
 
+use fancy_engine::reading::character_at;
+use fancy_engine::runner::past_raw_byte;
 use fancy_engine::slot::Extent;
+use fancy_syntax::tree::Meaning;
+use unicode::case::simple_fold;
 
 /// The bytes from a place on; none past the end.
 fn bytes_from(haystack: &[u8], place: usize) -> &[u8]
@@ -31,7 +38,7 @@ fn first_of(bytes: &[u8], count: usize) -> &[u8]
 
 /// The place behind a text that stands at a place, if it does.
 fn past_text(haystack: &[u8], text: &[u8], place: usize) -> Option<usize>
-    ensures { result ≡ (if has_bytes_at haystack.now place text.now then Some (place + length text.now) else None) }
+    ensures { (meaning : MeaningIs) (field : FieldIs) → result ≡ past_text (context_in haystack.now meaning field) text.now place }
 {
     if bytes_from(haystack, place).starts_with(text) {
         return Some(place + text.len());
@@ -39,16 +46,80 @@ fn past_text(haystack: &[u8], text: &[u8], place: usize) -> Option<usize>
     None
 }
 
-/// The place behind the text of a span that stands at a place once more, if it does.
-pub fn past_span(haystack: &[u8], span: Option<Extent>, place: usize) -> Option<usize>
-    ensures { result ≡ past_span haystack.now (option_map ends_of span) place }
+/// The same where ASCII letters stand in either case.
+fn past_letters(haystack: &[u8], text: &[u8], place: usize) -> Option<usize>
+    ensures { (meaning : MeaningIs) (field : FieldIs) → result ≡ past_letters (context_in haystack.now meaning field) text.now place }
 {
-    match span {
-        Some(span) => {
-            let rest = bytes_from(haystack, span.start);
-            let text = first_of(rest, span.end.saturating_sub(span.start));
-            past_text(haystack, text, place)
+    let next = first_of(bytes_from(haystack, place), text.len());
+    if next.eq_ignore_ascii_case(text) {
+        return Some(place + text.len());
+    }
+    None
+}
+
+/// Whether two characters have the same simple folding.
+fn shares_folding(c: char, d: char) -> bool
+    ensures { result ≡ shares_folding c d }
+{
+    if c.is_ascii() && d.is_ascii() {
+        return d.eq_ignore_ascii_case(&c);
+    }
+    simple_fold(d) == simple_fold(c)
+}
+
+/// The place behind the character at a place, if it has the same simple folding as this one.
+fn past_sharing(haystack: &[u8], c: char, place: usize) -> Option<usize>
+    ensures { (field : FieldIs) → result ≡ past_item (context_in haystack.now Meaning.Unicode field) (shares_folding c) place }
+{
+    let found = character_at(haystack, place)?;
+    if !shares_folding(c, found) {
+        return None;
+    }
+    Some(place + found.len_utf8())
+}
+
+/// The place behind what matches a text under flag `i` in Unicode meaning: a character is matched by one with
+/// the same simple folding, and a byte that is in none by itself.
+fn past_characters(haystack: &[u8], text: &[u8], place: usize) -> Option<usize>
+    ensures { (field : FieldIs) → result ≡ past_characters (context_in haystack.now Meaning.Unicode field) (length text.now) text.now place }
+{
+    let mut at = place;
+    let mut rest = text;
+    while !rest.is_empty() {
+        match character_at(rest, 0) {
+            Some(c) => {
+                at = past_sharing(haystack, c, at)?;
+                rest = bytes_from(rest, c.len_utf8());
+            }
+            None => {
+                at = past_raw_byte(haystack, rest[0], at)?;
+                rest = bytes_from(rest, 1);
+            }
         }
-        None => None,
+    }
+    Some(at)
+}
+
+/// The place behind the text of a span that stands at a place once more, if it does; where it is folded, under
+/// flag `i`.
+pub fn past_span(
+    haystack: &[u8],
+    meaning: Meaning,
+    folded: bool,
+    span: Option<Extent>,
+    place: usize,
+) -> Option<usize>
+    ensures { (field : FieldIs) → result ≡ past_span (context_in haystack.now meaning field) folded (option_map ends_of span) place }
+{
+    let span = span?;
+    let rest = bytes_from(haystack, span.start);
+    let text = first_of(rest, span.end.saturating_sub(span.start));
+    if !folded {
+        return past_text(haystack, text, place);
+    }
+    match meaning {
+        Meaning::Unicode => past_characters(haystack, text, place),
+        Meaning::Bytes => past_letters(haystack, text, place),
+        Meaning::AsciiText => past_letters(haystack, text, place),
     }
 }

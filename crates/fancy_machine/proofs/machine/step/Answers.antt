@@ -7,10 +7,11 @@ use Rattle.fancy_engine.specs.declared.runner.Next.{Next}
 use Rattle.fancy_engine.specs.declared.refusal.Refusal.{Refusal}
 use Rattle.fancy_engine.specs.Code.{instrs_of, edges_in}
 use Rattle.fancy_engine.specs.Context.{Span, group_span, past_item, past_byte, holds, continues, units_back}
+use Rattle.fancy_engine.specs.Backreference.{past_span}
 use Rattle.fancy_engine.specs.Readings.{plain}
 use Rattle.fancy_engine.specs.Run.{Raw, Stop, onward, instr_at}
 use Rattle.fancy_engine.proofs.Steps.{past_end}
-use Rattle.fancy_machine.specs.Field.{context_in, code_in, past_span}
+use Rattle.fancy_machine.specs.Field.{context_in, code_in}
 use Rattle.fancy_machine.specs.Machine.{Stepped}
 use Rattle.fancy_machine.proofs.Seen.{item_seen, byte_seen, holds_seen}
 use Rattle.fancy_machine.proofs.Steps.{stopped, failed, moved_by, held, refuted, parted, parted_crowded, opened, closed, kept, entered, looked, denied, denied_crowded, tested, tested_crowded, no_units, went_back, recalled_by}
@@ -140,9 +141,9 @@ returns-else-is_taken-clause-stepped c deep w known =
 
 pub returns-in-Recall-clause-stepped : goal.returns-in-Recall-clause-stepped
 returns-in-Recall-clause-stepped c deep w known =
-    recalled_by (context_in c.args.haystack.now c.args.code.now.meaning c.args.field) (instrs_of c.args.code.now) deep c.args.trail.now.now c.args.trail.now.frames w known c.recall.result c.in-Recall.group c.in-Recall.moved c.in-Recall.still _ c.recall.new.trail.now c.recall.new.trail.frames (ap (instr_at (instrs_of c.args.code.now)) (sym c.at-at.ensures) ∙ sym c.instr.ensures.instr ∙ c.in-Recall.is)
-    (recall_seen c.args.haystack.now c.args.code.now.meaning c.args.field c.in-Recall.group c.args.trail.now.now.state
-    ∙ ap (λ (o : Option Span). past_span c.args.haystack.now o c.args.trail.now.now.state.place) (sym c.span.ensures)
-    ∙ ap (past_span c.args.haystack.now _) (sym c.place-place.ensures)
-    ∙ sym c.past_span-past.ensures)
+    recalled_by (context_in c.args.haystack.now c.args.code.now.meaning c.args.field) (instrs_of c.args.code.now) deep c.args.trail.now.now c.args.trail.now.frames w known c.recall.result c.in-Recall.folded c.in-Recall.group c.in-Recall.moved c.in-Recall.still _ c.recall.new.trail.now c.recall.new.trail.frames (ap (instr_at (instrs_of c.args.code.now)) (sym c.at-at.ensures) ∙ sym c.instr.ensures.instr ∙ c.in-Recall.is)
+    (recall_seen (context_in c.args.haystack.now c.args.code.now.meaning c.args.field) c.in-Recall.folded c.in-Recall.group c.args.trail.now.now.state
+    ∙ ap (λ (o : Option Span). past_span (context_in c.args.haystack.now c.args.code.now.meaning c.args.field) c.in-Recall.folded o c.args.trail.now.now.state.place) (sym c.span-span.ensures)
+    ∙ ap (past_span (context_in c.args.haystack.now c.args.code.now.meaning c.args.field) c.in-Recall.folded _) (sym c.place-place.ensures)
+    ∙ sym (c.past_span-past.ensures c.args.field))
     c.recall.ensures.recalled c.recall.ensures.frames
