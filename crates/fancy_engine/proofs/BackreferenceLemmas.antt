@@ -72,8 +72,8 @@ characters_end x (suc n) (b ∷ bs) (c ∷ cs) p m whole are e within here =
     let rest : drop (len_utf8 c) (b ∷ bs) ≡ encode_utf8_all cs =
     ap (λ (k : ℕ). drop k (b ∷ bs)) (sym (zero-add (len_utf8 c))) ∙ drop_past_char (b ∷ bs) (encode_utf8_all cs) 0 c (sym e) in
     subst (λ (o : Option ℕ).
-        EndsWell x.haystack (option_to o (option_to (past_byte x b p) None (λ r. past_characters x n bs r))
-        (λ c. option_to (past_item x (shares_folding c) p) None (λ r. past_characters x n (drop (len_utf8 c) (b ∷ bs)) r))))
+    EndsWell x.haystack (option_to o (option_to (past_byte x b p) None (λ r. past_characters x n bs r))
+    (λ c. option_to (past_item x (shares_folding c) p) None (λ r. past_characters x n (drop (len_utf8 c) (b ∷ bs)) r))))
     (sym first)
     (ends_then x.haystack (past_item x (shares_folding c) p) (past_characters x n (drop (len_utf8 c) (b ∷ bs))) (item_ends x (shares_folding c) p m whole within here)
     (λ r within here. characters_end x n (drop (len_utf8 c) (b ∷ bs)) cs r m whole good.1 (sym rest) within here))

@@ -8,6 +8,7 @@ use Rattle.fancy_syntax.specs.declared.tree.Meaning.TheVariants.{Unicode, Bytes,
 use Rattle.fancy_input.specs.Places.{char_at, has_bytes_at}
 use Rattle.fancy_engine.specs.Context.{Context, State, Span, group_span, past_item, past_byte, option_to}
 
+-- the bytes of a span
 unfoldable pub text_of : Context → Span → List ℕ
 text_of x span = take (span.1 - span.0) (drop span.0 x.haystack)
 

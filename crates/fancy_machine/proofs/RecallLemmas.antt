@@ -89,10 +89,10 @@ module _ (x : Context) where
   enough (suc n) (suc m) [] p a b = refl
   enough (suc n) (suc m) (t ∷ ts) p a b =
       elim (char_at (t ∷ ts) 0) as (λ (o : Option ℕ).
-          option_to o (option_to (past_byte x t p) None (λ r. past_characters x n ts r))
-          (λ c. option_to (past_item x (shares_folding c) p) None (λ r. past_characters x n (drop (len_utf8 c) (t ∷ ts)) r))
-          ≡ option_to o (option_to (past_byte x t p) None (λ r. past_characters x m ts r))
-          (λ c. option_to (past_item x (shares_folding c) p) None (λ r. past_characters x m (drop (len_utf8 c) (t ∷ ts)) r))) [
+      option_to o (option_to (past_byte x t p) None (λ r. past_characters x n ts r))
+      (λ c. option_to (past_item x (shares_folding c) p) None (λ r. past_characters x n (drop (len_utf8 c) (t ∷ ts)) r))
+      ≡ option_to o (option_to (past_byte x t p) None (λ r. past_characters x m ts r))
+      (λ c. option_to (past_item x (shares_folding c) p) None (λ r. past_characters x m (drop (len_utf8 c) (t ∷ ts)) r))) [
         | None ↦ λ i. option_to (past_byte x t p) None (λ r. enough n m ts r (omega arith) (omega arith) i)
         | Some c ↦ λ i. option_to (past_item x (shares_folding c) p) None (λ r. enough n m (drop (len_utf8 c) (t ∷ ts)) r
             (omega (arith, length-drop (len_utf8 c) (t ∷ ts), (len_utf8_bounds c).0)) (omega (arith, length-drop (len_utf8 c) (t ∷ ts), (len_utf8_bounds c).0)) i)
@@ -105,11 +105,11 @@ module _ (x : Context) where
   by_character [] p c o e f = absurd (omega (arith, character_fits [] 0 c e, (len_utf8_bounds c).0))
   by_character (t ∷ ts) p c o e f =
       ap (λ (o : Option ℕ).
-          option_to o (option_to (past_byte x t p) None (λ r. past_characters x (length ts) ts r))
-          (λ c. option_to (past_item x (shares_folding c) p) None (λ r. past_characters x (length ts) (drop (len_utf8 c) (t ∷ ts)) r))) (sym e)
+      option_to o (option_to (past_byte x t p) None (λ r. past_characters x (length ts) ts r))
+      (λ c. option_to (past_item x (shares_folding c) p) None (λ r. past_characters x (length ts) (drop (len_utf8 c) (t ∷ ts)) r))) (sym e)
       ∙ ap (λ (o : Option ℕ). option_to o None (λ r. past_characters x (length ts) (drop (len_utf8 c) (t ∷ ts)) r)) (sym f)
       ∙ (λ i. option_to o None (λ r. enough (length ts) (length (drop (len_utf8 c) (t ∷ ts))) (drop (len_utf8 c) (t ∷ ts)) r
-          (omega (arith, length-drop (len_utf8 c) (t ∷ ts), (len_utf8_bounds c).0)) (le_refl (length (drop (len_utf8 c) (t ∷ ts)))) i))
+      (omega (arith, length-drop (len_utf8 c) (t ∷ ts), (len_utf8_bounds c).0)) (le_refl (length (drop (len_utf8 c) (t ∷ ts)))) i))
 
   -- the text begins with another byte
   by_byte : (text : List ℕ) (p : ℕ) (o : Option ℕ) → 0 < length text → None ≡ char_at text 0 → o ≡ past_byte x (slice_index text 0) p
@@ -118,8 +118,8 @@ module _ (x : Context) where
   by_byte [] p o lt e f = absurd (omega arith)
   by_byte (t ∷ ts) p o lt e f =
       ap (λ (o : Option ℕ).
-          option_to o (option_to (past_byte x t p) None (λ r. past_characters x (length ts) ts r))
-          (λ c. option_to (past_item x (shares_folding c) p) None (λ r. past_characters x (length ts) (drop (len_utf8 c) (t ∷ ts)) r))) (sym e)
+      option_to o (option_to (past_byte x t p) None (λ r. past_characters x (length ts) ts r))
+      (λ c. option_to (past_item x (shares_folding c) p) None (λ r. past_characters x (length ts) (drop (len_utf8 c) (t ∷ ts)) r))) (sym e)
       ∙ ap (λ (o : Option ℕ). option_to o None (λ r. past_characters x (length ts) ts r)) (sym f)
 
   pub character_stops : (text : List ℕ) (p c : ℕ) → Some c ≡ char_at text 0 → None ≡ past_item x (shares_folding c) p → past_characters x (length text) text p ≡ None

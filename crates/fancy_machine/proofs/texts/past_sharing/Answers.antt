@@ -1,5 +1,4 @@
-use Rattle.std.proofs.Common.{◌+◌, Bool, Some, None, Option, ℕ, sym, ap, ◌∙◌, arith}
-use Rattle.std.specs.Prelude.{if◌then◌else◌}
+use Rattle.std.proofs.Common.{◌+◌, Some, ℕ, sym, ap, ◌∙◌, arith}
 use Rattle.fancy_machine.proofs.RecallLemmas.{sharing_none, sharing_other, sharing_some, character_fits}
 use Rattle.fancy_machine.proofs.texts.past_sharing.Goals as goal
 
