@@ -2,6 +2,9 @@ pub mod LexemeLemmas
 pub mod EndsLemmas
 pub mod PatternLemmas
 pub mod SizeLemmas
+pub mod PartLemmas
+pub mod FittingLemmas
+pub mod ChoiceLemmas
 pub mod EmptyLemmas
 pub mod ReadingLemmas
 pub mod CountLemmas

@@ -1,5 +1,5 @@
 -- The size of a pattern in units (bytes in byte meaning, else characters), and the number of its nodes.
-use Rattle.std.specs.Prelude.{ℕ, ◌+◌, ◌-◌, ◌*◌, Bool, true, false, ◌&&◌, Option, Some, None, if◌then◌else◌, ◌==◌}
+use Rattle.std.specs.Prelude.{ℕ, ◌+◌, ◌-◌, ◌*◌, Bool, true, false, ◌&&◌, Option, Some, None, if◌then◌else◌, ◌==◌, ◌^◌, nat_lt}
 use Rattle.fancy_syntax.specs.declared.tree.Taste.{Taste}
 use Rattle.fancy_syntax.specs.declared.tree.Taste.TheVariants.{Greedy, Lazy, Possessive}
 use Rattle.fancy_syntax.specs.declared.tree.Meaning.{Meaning}
@@ -64,6 +64,11 @@ size m (conditional condition first second) =
 size m (followed part rest) = plus_size (size m part) (size m rest)
 size m (or_else branch others) = common_size (size m branch) (size m others)
 size m (last_branch branch) = size m branch
+
+-- the size where a `usize` holds it, and none where it is too large
+abbrev pub fitting_size : Option ℕ → Option ℕ
+fitting_size None = None
+fitting_size (Some n) = if nat_lt n (2 ^ 64) then Some n else None
 
 abbrev pub taste_nodes : Taste → ℕ
 taste_nodes Greedy = 0

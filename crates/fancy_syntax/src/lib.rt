@@ -12,7 +12,7 @@ pub mod flags;
 mod groups;
 pub mod laws;
 mod lexeme;
-mod measure;
+pub mod measure;
 pub mod name;
 pub mod named;
 pub mod operation;
