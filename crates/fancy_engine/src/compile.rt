@@ -1,16 +1,17 @@
 //! From a pattern to its code, from the end to the start, so that each instruction is told where it goes on.
 
-ghost use Rattle.std.specs.Prelude.{◌≡◌, ◌+◌, ◌-◌, ◌*◌, ◌<◌, ◌≤◌, ◌&&◌, IfOk, IsTrue, All, map, sum_by, slice_set, true, vec_len};
-ghost use Rattle.fancy_syntax.specs.Pattern.{pattern_of, member_of, group, repeat, look_ahead, atomic, in_sequence, in_choice};
+ghost use Rattle.std.specs.Prelude.{◌≡◌, ◌+◌, ◌-◌, ◌*◌, ◌^◌, ◌<◌, ◌≤◌, IfOk, IsTrue, All, map, sum_by, slice_set, true, length, vec_len};
+ghost use Rattle.fancy_syntax.specs.Pattern.{pattern_of, member_of, group, repeat, look_ahead, look_behind, atomic, in_sequence, in_choice};
 ghost use Rattle.fancy_syntax.specs.declared.tree.Taste.TheVariants.{Possessive};
 ghost use Rattle.fancy_syntax.specs.Sets.{AreEdges};
-ghost use Rattle.fancy_syntax.specs.Sizes.{nodes, repeat_nodes, taste_nodes, is_empty};
+ghost use Rattle.fancy_syntax.specs.Sizes.{nodes, repeat_nodes, taste_nodes};
 ghost use Rattle.fancy_engine.specs.Code.{code_len, instrs_of};
 ghost use Rattle.fancy_syntax.specs.Groups.{Numbered};
-ghost use Rattle.fancy_engine.specs.Means.{Keeps, Has, HasBoth, Emitted, CopiesEmitted, OptionalsEmitted, StarEmitted, RestEmitted, RepeatEmitted, TestEmitted, IsCodeOf, HasSets, StaysEasy, goes_back, is_easy, is_easy_instr, are_easy, is_ready, split_of, look_of};
+ghost use Rattle.fancy_engine.specs.Means.{Keeps, Has, HasBoth, Emitted, CopiesEmitted, OptionalsEmitted, StarEmitted, RestEmitted, RepeatEmitted, TestEmitted, BackEmitted, BehindEmitted, IsCodeOf, HasSets, StaysEasy, goes_back, is_easy, is_easy_instr, are_easy, split_of, look_of};
 
 use crate::code::{Code, Entry, FAIL, Instr, MATCH};
 use fancy_syntax::char_set::CharSet;
+use fancy_syntax::measure::are_empty;
 use fancy_syntax::set::Set;
 use fancy_syntax::tree::{Meaning, Taste, Tree};
 use std::alloc::{AllocError, Global};
@@ -118,7 +119,7 @@ fn emit(
     tree: &Tree,
     next: Entry,
 ) -> Result<Entry, AllocError>
-    requires ready { IsTrue (is_ready (pattern_of tree.now)) }
+    requires small { nodes (pattern_of tree.now) < 2 ^ 64 }
     requires sets { HasSets (pattern_of tree.now) }
     ensures kept { IfOk result (λ _. Keeps code.old.items code.new.items) }
     ensures easy { IfOk result (λ _. is_easy (pattern_of tree.now) ≡ true → StaysEasy code.old.items code.new.items) }
@@ -206,7 +207,9 @@ fn emit(
             let entry = emit_condition(alloc, code, meaning, condition, one, two)?;
             Ok(entry)
         }
-        Tree::LookBehind { .. } => unreachable!(),
+        Tree::LookBehind { negated, body } => {
+            emit_behind(alloc, code, meaning, *negated, body, next)
+        }
     }
 }
 
@@ -220,7 +223,7 @@ fn emit_group(
     body: &Tree,
     next: Entry,
 ) -> Result<Entry, AllocError>
-    requires ready { IsTrue (is_ready (pattern_of body.now)) }
+    requires small { nodes (pattern_of body.now) < 2 ^ 64 }
     requires sets { HasSets (pattern_of body.now) }
     ensures kept { IfOk result (λ _. Keeps code.old.items code.new.items) }
     ensures easy { IfOk result (λ _. is_easy (pattern_of body.now) ≡ true → StaysEasy code.old.items code.new.items) }
@@ -251,7 +254,7 @@ fn emit_atomic(
     body: &Tree,
     next: Entry,
 ) -> Result<Entry, AllocError>
-    requires ready { IsTrue (is_ready (pattern_of body.now)) }
+    requires small { nodes (pattern_of body.now) < 2 ^ 64 }
     requires sets { HasSets (pattern_of body.now) }
     ensures kept { IfOk result (λ _. Keeps code.old.items code.new.items) }
     ensures means { IfOk result (λ entry. Emitted meaning (atomic (pattern_of body.now)) (vec_len code.old) code.new.items next entry) }
@@ -274,7 +277,7 @@ fn emit_ahead(
     body: &Tree,
     next: Entry,
 ) -> Result<Entry, AllocError>
-    requires ready { IsTrue (is_ready (pattern_of body.now)) }
+    requires small { nodes (pattern_of body.now) < 2 ^ 64 }
     requires sets { HasSets (pattern_of body.now) }
     ensures kept { IfOk result (λ _. Keeps code.old.items code.new.items) }
     ensures means { IfOk result (λ entry. Emitted meaning (look_ahead negated (pattern_of body.now)) (vec_len code.old) code.new.items next entry) }
@@ -294,11 +297,131 @@ fn emit_ahead(
     Ok(entry)
 }
 
-/// Whether both are sequences without parts.
-fn are_empty(first: &Tree, second: &Tree) -> bool
-    ensures { result ≡ (is_empty (pattern_of first.now) && is_empty (pattern_of second.now)) }
+/// Appends the code of a look-behind.
+#[cycle(emit)]
+fn emit_behind(
+    alloc: Global,
+    code: &mut Vec<Instr>,
+    meaning: Meaning,
+    negated: bool,
+    body: &Tree,
+    next: Entry,
+) -> Result<Entry, AllocError>
+    requires small { nodes (pattern_of body.now) < 2 ^ 64 }
+    requires sets { HasSets (pattern_of body.now) }
+    ensures kept { IfOk result (λ _. Keeps code.old.items code.new.items) }
+    ensures means { IfOk result (λ entry. Emitted meaning (look_behind negated (pattern_of body.now)) (vec_len code.old) code.new.items next entry) }
+    ensures longer { IfOk result (λ _. vec_len code.old ≤ vec_len code.new) }
+    ensures short { IfOk result (λ _. vec_len code.new ≤ vec_len code.old + 4 * (nodes (pattern_of body.now) + 1)) }
 {
-    first.is_empty() && second.is_empty()
+    let start = emit_backward(alloc, code, meaning, body)?;
+    let entry = put_both(
+        code,
+        look(negated, true, start, next.moved),
+        look(negated, true, start, next.still),
+    )?;
+    Ok(entry)
+}
+
+/// Appends the code of a look-behind's body, and returns where it begins. Each branch of an alternative goes back by
+/// its own size.
+#[cycle(emit)]
+#[tactic(auto, using(fancy_syntax::proofs::PatternLemmas::pattern_equations), unfolding(fancy_syntax::specs::Sizes::nodes))]
+fn emit_backward(
+    alloc: Global,
+    code: &mut Vec<Instr>,
+    meaning: Meaning,
+    body: &Tree,
+) -> Result<usize, AllocError>
+    requires small { nodes (pattern_of body.now) < 2 ^ 64 }
+    requires sets { HasSets (pattern_of body.now) }
+    ensures kept { IfOk result (λ _. Keeps code.old.items code.new.items) }
+    ensures means { IfOk result (λ start. BehindEmitted meaning (pattern_of body.now) (vec_len code.old) code.new.items start) }
+    ensures longer { IfOk result (λ _. vec_len code.old ≤ vec_len code.new) }
+    ensures short { IfOk result (λ _. vec_len code.new ≤ vec_len code.old + 4 * nodes (pattern_of body.now) + 1) }
+{
+    match body {
+        Tree::Sequence(parts) => match parts.as_slice() {
+            [] => {
+                let empty = emit_back(alloc, code, meaning, body)?;
+                Ok(empty)
+            }
+            [only] => {
+                let start = emit_backward(alloc, code, meaning, only)?;
+                Ok(start)
+            }
+            _ => {
+                let start = emit_back(alloc, code, meaning, body)?;
+                Ok(start)
+            }
+        },
+        Tree::Alternative(branches) => {
+            if branches.is_empty() {
+                let nothing = emit_back(alloc, code, meaning, body)?;
+                return Ok(nothing);
+            }
+            let start = emit_backward_choice(alloc, code, meaning, branches)?;
+            Ok(start)
+        }
+        _ => {
+            let start = emit_back(alloc, code, meaning, body)?;
+            Ok(start)
+        }
+    }
+}
+
+/// Appends the code of branches that go back each by its own size, the last one first.
+#[cycle(emit)]
+fn emit_backward_choice(
+    alloc: Global,
+    code: &mut Vec<Instr>,
+    meaning: Meaning,
+    branches: &[Tree],
+) -> Result<usize, AllocError>
+    requires some { 0 < length branches.now }
+    requires small { nodes (in_choice (map pattern_of branches.now)) < 2 ^ 64 }
+    requires sets { All HasSets (map pattern_of branches.now) }
+    ensures kept { IfOk result (λ _. Keeps code.old.items code.new.items) }
+    ensures means { IfOk result (λ start. BehindEmitted meaning (in_choice (map pattern_of branches.now)) (vec_len code.old) code.new.items start) }
+    ensures longer { IfOk result (λ _. vec_len code.old ≤ vec_len code.new) }
+    ensures short { IfOk result (λ _. vec_len code.new ≤ vec_len code.old + 4 * nodes (in_choice (map pattern_of branches.now))) }
+{
+    let last = branches.len() - 1;
+    let mut start = emit_back(alloc, code, meaning, &branches[last])?;
+    for i in (0..last).rev() {
+        let first = emit_back(alloc, code, meaning, &branches[i])?;
+        start = put(code, Instr::Split(first, start))?;
+    }
+    Ok(start)
+}
+
+/// Appends the code of a branch that goes back by its size first, and returns where it begins. Without a size it fails.
+#[cycle(emit)]
+fn emit_back(
+    alloc: Global,
+    code: &mut Vec<Instr>,
+    meaning: Meaning,
+    branch: &Tree,
+) -> Result<usize, AllocError>
+    requires small { nodes (pattern_of branch.now) < 2 ^ 64 }
+    requires sets { HasSets (pattern_of branch.now) }
+    ensures kept { IfOk result (λ _. Keeps code.old.items code.new.items) }
+    ensures means { IfOk result (λ start. BackEmitted meaning (pattern_of branch.now) (vec_len code.old) code.new.items start) }
+    ensures longer { IfOk result (λ _. vec_len code.old ≤ vec_len code.new) }
+    ensures short { IfOk result (λ _. vec_len code.new ≤ vec_len code.old + 4 * nodes (pattern_of branch.now) + 1) }
+{
+    match branch.size(meaning) {
+        None => Ok(FAIL),
+        Some(size) => {
+            let stop = Entry {
+                moved: MATCH,
+                still: MATCH,
+            };
+            let inner = emit(alloc, code, meaning, branch, stop)?;
+            let start = put(code, Instr::Back(size, inner.moved))?;
+            Ok(start)
+        }
+    }
 }
 
 /// Appends the code of a condition that goes on at `one`, and where it fails at `two`.
@@ -311,7 +434,7 @@ fn emit_condition(
     one: Entry,
     two: Entry,
 ) -> Result<Entry, AllocError>
-    requires ready { IsTrue (is_ready (pattern_of condition.now)) }
+    requires small { nodes (pattern_of condition.now) < 2 ^ 64 }
     requires sets { HasSets (pattern_of condition.now) }
     ensures kept { IfOk result (λ _. Keeps code.old.items code.new.items) }
     ensures means { IfOk result (λ entry. TestEmitted meaning (pattern_of condition.now) (vec_len code.old) code.new.items one two entry) }
@@ -340,7 +463,7 @@ fn emit_taste(
     body: &Tree,
     next: Entry,
 ) -> Result<Entry, AllocError>
-    requires ready { IsTrue (is_ready (pattern_of body.now)) }
+    requires small { repeat_nodes low high (nodes (pattern_of body.now)) < 2 ^ 64 }
     requires sets { HasSets (pattern_of body.now) }
     ensures kept { IfOk result (λ _. Keeps code.old.items code.new.items) }
     ensures easy { IfOk result (λ _. goes_back taste ≡ true → is_easy (pattern_of body.now) ≡ true → StaysEasy code.old.items code.new.items) }
@@ -366,7 +489,7 @@ fn emit_possessive(
     body: &Tree,
     next: Entry,
 ) -> Result<Entry, AllocError>
-    requires ready { IsTrue (is_ready (pattern_of body.now)) }
+    requires small { repeat_nodes low high (nodes (pattern_of body.now)) < 2 ^ 64 }
     requires sets { HasSets (pattern_of body.now) }
     ensures kept { IfOk result (λ _. Keeps code.old.items code.new.items) }
     ensures means { IfOk result (λ entry. Emitted meaning (repeat low high Possessive (pattern_of body.now)) (vec_len code.old) code.new.items next entry) }
@@ -391,7 +514,7 @@ fn emit_repeat(
     body: &Tree,
     next: Entry,
 ) -> Result<Entry, AllocError>
-    requires ready { IsTrue (is_ready (pattern_of body.now)) }
+    requires small { repeat_nodes low high (nodes (pattern_of body.now)) < 2 ^ 64 }
     requires sets { HasSets (pattern_of body.now) }
     ensures kept { IfOk result (λ _. Keeps code.old.items code.new.items) }
     ensures easy { IfOk result (λ _. is_easy (pattern_of body.now) ≡ true → StaysEasy code.old.items code.new.items) }
@@ -427,7 +550,7 @@ fn emit_star(
     body: &Tree,
     next: Entry,
 ) -> Result<Entry, AllocError>
-    requires ready { IsTrue (is_ready (pattern_of body.now)) }
+    requires small { nodes (pattern_of body.now) < 2 ^ 64 }
     requires sets { HasSets (pattern_of body.now) }
     ensures kept { IfOk result (λ _. Keeps code.old.items code.new.items) }
     ensures easy { IfOk result (λ _. is_easy (pattern_of body.now) ≡ true → StaysEasy code.old.items code.new.items) }
@@ -452,7 +575,7 @@ fn emit_copies(
     body: &Tree,
     next: Entry,
 ) -> Result<Entry, AllocError>
-    requires ready { IsTrue (is_ready (pattern_of body.now)) }
+    requires small { count * nodes (pattern_of body.now) < 2 ^ 64 }
     requires sets { HasSets (pattern_of body.now) }
     ensures kept { IfOk result (λ _. Keeps code.old.items code.new.items) }
     ensures easy { IfOk result (λ _. is_easy (pattern_of body.now) ≡ true → StaysEasy code.old.items code.new.items) }
@@ -478,7 +601,7 @@ fn emit_optionals(
     body: &Tree,
     next: Entry,
 ) -> Result<Entry, AllocError>
-    requires ready { IsTrue (is_ready (pattern_of body.now)) }
+    requires small { count * (nodes (pattern_of body.now) + 1) < 2 ^ 64 }
     requires sets { HasSets (pattern_of body.now) }
     ensures kept { IfOk result (λ _. Keeps code.old.items code.new.items) }
     ensures easy { IfOk result (λ _. is_easy (pattern_of body.now) ≡ true → StaysEasy code.old.items code.new.items) }
@@ -507,7 +630,7 @@ fn emit_sequence(
     parts: &[Tree],
     next: Entry,
 ) -> Result<Entry, AllocError>
-    requires ready { All (λ p. IsTrue (is_ready p)) (map pattern_of parts.now) }
+    requires small { sum_by nodes (map pattern_of parts.now) < 2 ^ 64 }
     requires sets { All HasSets (map pattern_of parts.now) }
     ensures kept { IfOk result (λ _. Keeps code.old.items code.new.items) }
     ensures easy { IfOk result (λ _. All (λ p. IsTrue (is_easy p)) (map pattern_of parts.now) → StaysEasy code.old.items code.new.items) }
@@ -531,7 +654,7 @@ fn emit_choice(
     branches: &[Tree],
     next: Entry,
 ) -> Result<Entry, AllocError>
-    requires ready { All (λ p. IsTrue (is_ready p)) (map pattern_of branches.now) }
+    requires small { nodes (in_choice (map pattern_of branches.now)) < 2 ^ 64 }
     requires sets { All HasSets (map pattern_of branches.now) }
     ensures kept { IfOk result (λ _. Keeps code.old.items code.new.items) }
     ensures easy { IfOk result (λ _. All (λ p. IsTrue (is_easy p)) (map pattern_of branches.now) → StaysEasy code.old.items code.new.items) }
@@ -557,7 +680,8 @@ fn emit_choice(
 }
 
 /// The code of a pattern with so many groups, group 0 among them. It has at most 4 instructions for each node of
-/// the pattern with its counted repeats written out, and 2 more. The call fails only where memory runs out.
+/// the pattern with its counted repeats written out, and 2 more. A branch of a look-behind that has no size, as
+/// `a*`, matches nowhere. The call fails only where memory runs out.
 ///
 /// ```
 /// let code = compile(alloc, &Tree::Character('a'), 1, Meaning::Unicode)?;
@@ -569,7 +693,7 @@ pub fn compile(
     groups: usize,
     meaning: Meaning,
 ) -> Result<Code, AllocError>
-    requires ready { IsTrue (is_ready (pattern_of tree.now)) }
+    requires small { nodes (pattern_of tree.now) < 2 ^ 64 }
     requires sets { HasSets (pattern_of tree.now) }
     requires numbered { Numbered 0 groups (pattern_of tree.now) }
     ensures code { IfOk result (λ code. IsCodeOf (pattern_of tree.now) code) }

@@ -4,7 +4,6 @@ pub mod PatternLemmas
 pub mod SizeLemmas
 pub mod PartLemmas
 pub mod FittingLemmas
-pub mod ChoiceLemmas
 pub mod EmptyLemmas
 pub mod ReadingLemmas
 pub mod CountLemmas

@@ -116,7 +116,10 @@ impl Tree {
             Tree::Group { body, .. } => body.size(meaning),
             Tree::Atomic(body) => body.size(meaning),
             Tree::Repeat {
-                low, high, body, ..
+                low,
+                high,
+                body,
+                ..
             } => size_of_repeat(*low, *high, body.size(meaning)),
             Tree::Conditional {
                 condition,

@@ -1,4 +1,4 @@
-use Rattle.std.proofs.Common.{◌+◌, ◌-◌, ◌<◌, length, map, sym, ap, ◌∙◌, arith}
+use Rattle.std.proofs.Common.{◌-◌, length, map, sym, ap, ◌∙◌, arith}
 use Rattle.fancy_syntax.specs.Pattern.{pattern_of}
 use Rattle.fancy_syntax.proofs.PatternLemmas.{pattern-Repeat, pattern-Conditional}
 use Rattle.fancy_syntax.proofs.PartLemmas.{no_parts, some_parts}

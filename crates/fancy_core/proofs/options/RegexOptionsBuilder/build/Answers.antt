@@ -4,7 +4,7 @@ use Rattle.std.proofs.lemmas.Result.{err_from_is_err_and}
 use Rattle.fancy_syntax.specs.Pattern.{pattern_of}
 use Rattle.fancy_syntax.specs.Views.{options_of}
 use Rattle.fancy_syntax.proofs.GroupLemmas.{numbered, wider}
-use Rattle.fancy_engine.proofs.SpelledLemmas.{easy_spelled, ready_spelled, sets_spelled, no_raw_bytes}
+use Rattle.fancy_engine.proofs.SpelledLemmas.{easy_spelled, sets_spelled, no_raw_bytes}
 use Rattle.fancy_core.proofs.RisingLemmas.{rising_names}
 use Rattle.fancy_core.proofs.options.RegexOptionsBuilder.build.Goals as goal
 
@@ -13,8 +13,8 @@ returns-in_err-tree-clause-succeeds c = λ p h.
     let e = c.in_err-tree.ensures.succeeds p (rw (c.syntax.ensures, c.options-options.ensures, c.as_str.ensures.value) h) in
     let q = err_from_is_err_and c.from_residual.result c.from_residual.ensures.1 in rw q.1 (q.2 ∙ e)
 
-pub compile-requires-clause-ready : goal.compile-requires-clause-ready
-compile-requires-clause-ready c = ready_spelled (c.in_ok-tree.ensures.accepted.0).spelled.spelled
+pub compile-requires-clause-small : goal.compile-requires-clause-small
+compile-requires-clause-small c = omega (arith, (c.in_ok-tree.ensures.accepted.0).small)
 
 pub compile-requires-clause-sets : goal.compile-requires-clause-sets
 compile-requires-clause-sets c = sets_spelled (c.in_ok-tree.ensures.accepted.0).spelled.spelled
