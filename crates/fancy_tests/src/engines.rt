@@ -1,9 +1,10 @@
 //! The two engines on trees that are made by hand: the machine runs forms that no pattern has yet.
 
-ghost use Rattle.std.specs.Prelude.{◌≡◌, ◌≤◌, ◌∷◌, [], IsTrue, length};
-ghost use Rattle.fancy_syntax.specs.Pattern.{pattern_of};
+ghost use Rattle.std.specs.Prelude.{◌≡◌, ◌<◌, ◌≤◌, ◌^◌, ◌∷◌, [], false, length};
+ghost use Rattle.fancy_syntax.specs.Pattern.{pattern_of, backreference};
 ghost use Rattle.fancy_syntax.specs.Groups.{Numbered};
-ghost use Rattle.fancy_engine.specs.Means.{is_ready, HasSets};
+ghost use Rattle.fancy_syntax.specs.Sizes.{nodes};
+ghost use Rattle.fancy_engine.specs.Means.{HasSets};
 
 use fancy_engine::compile::compile;
 use fancy_engine::refusal::Refusal;
@@ -27,6 +28,17 @@ fn two(rt: &impl Abort, alloc: Global, first: Tree, second: Tree) -> Vec<Tree>
 {
     let parts = vec![in alloc; first, second];
     parts.expect(rt, "no memory")
+}
+
+/// The text of a group once more.
+#[tactic(auto, using(fancy_syntax::proofs::PatternLemmas::pattern_equations))]
+fn again(group: usize) -> Tree
+    ensures { pattern_of result ≡ backreference false group }
+{
+    Tree::Backreference {
+        folded: false,
+        group,
+    }
 }
 
 /// A search within the first bytes.
@@ -54,7 +66,7 @@ fn machine_finds(
     request: Request,
     limit: usize,
 ) -> Result<Option<(usize, usize, usize)>, Refusal>
-    requires ready { IsTrue (is_ready (pattern_of tree.now)) }
+    requires small { nodes (pattern_of tree.now) < 2 ^ 64 }
     requires sets { HasSets (pattern_of tree.now) }
     requires numbered { Numbered 0 groups (pattern_of tree.now) }
     requires inside { request.range_end ≤ length haystack.now }
@@ -77,7 +89,7 @@ fn machine_finds(
 
 // `b(?=c)`
 #[test]
-#[tactic(auto, using(fancy_syntax::proofs::PatternLemmas::pattern_equations))]
+#[tactic(auto, using(fancy_syntax::proofs::PatternLemmas::pattern_equations), unfolding(fancy_syntax::specs::Sizes::nodes))]
 fn look_ahead_reads_past_the_range(rt: HostRuntime) {
     let alloc = rt.alloc();
     let ahead = Tree::LookAhead {
@@ -93,7 +105,7 @@ fn look_ahead_reads_past_the_range(rt: HostRuntime) {
 
 // `b(?!c)`
 #[test]
-#[tactic(auto, using(fancy_syntax::proofs::PatternLemmas::pattern_equations))]
+#[tactic(auto, using(fancy_syntax::proofs::PatternLemmas::pattern_equations), unfolding(fancy_syntax::specs::Sizes::nodes))]
 fn a_refused_look_ahead_goes_back(rt: HostRuntime) {
     let alloc = rt.alloc();
     let ahead = Tree::LookAhead {
@@ -107,7 +119,7 @@ fn a_refused_look_ahead_goes_back(rt: HostRuntime) {
 
 // `(?:a|b)(?=c)`
 #[test]
-#[tactic(auto, using(fancy_syntax::proofs::PatternLemmas::pattern_equations))]
+#[tactic(auto, using(fancy_syntax::proofs::PatternLemmas::pattern_equations), unfolding(fancy_syntax::specs::Sizes::nodes))]
 fn returns_are_limited(rt: HostRuntime) {
     let alloc = rt.alloc();
     let ahead = Tree::LookAhead {
@@ -124,7 +136,7 @@ fn returns_are_limited(rt: HostRuntime) {
 
 // `(?>a|ab)c`
 #[test]
-#[tactic(auto, using(fancy_syntax::proofs::PatternLemmas::pattern_equations))]
+#[tactic(auto, using(fancy_syntax::proofs::PatternLemmas::pattern_equations), unfolding(fancy_syntax::specs::Sizes::nodes))]
 fn an_atomic_group_keeps_its_first_outcome(rt: HostRuntime) {
     let alloc = rt.alloc();
     let both = Tree::Sequence(two(&rt, alloc, Tree::Character('a'), Tree::Character('b')));
@@ -137,7 +149,7 @@ fn an_atomic_group_keeps_its_first_outcome(rt: HostRuntime) {
 
 // `a{2}+a` and `a++a`
 #[test]
-#[tactic(auto, using(fancy_syntax::proofs::PatternLemmas::pattern_equations))]
+#[tactic(auto, using(fancy_syntax::proofs::PatternLemmas::pattern_equations), unfolding(fancy_syntax::specs::Sizes::nodes))]
 fn a_possessive_repeat_gives_nothing_back(rt: HostRuntime) {
     let alloc = rt.alloc();
     let turns = Tree::Repeat {
@@ -162,7 +174,7 @@ fn a_possessive_repeat_gives_nothing_back(rt: HostRuntime) {
 
 // `a\Kb` and `\Gx`
 #[test]
-#[tactic(auto, using(fancy_syntax::proofs::PatternLemmas::pattern_equations))]
+#[tactic(auto, using(fancy_syntax::proofs::PatternLemmas::pattern_equations), unfolding(fancy_syntax::specs::Sizes::nodes))]
 fn a_match_starts_where_it_says(rt: HostRuntime) {
     let alloc = rt.alloc();
     let kept = Tree::Sequence(two(&rt, alloc, Tree::KeepStart, Tree::Character('b')));
@@ -178,7 +190,7 @@ fn a_match_starts_where_it_says(rt: HostRuntime) {
 
 // `(a+)\1`
 #[test]
-#[tactic(auto, using(fancy_syntax::proofs::PatternLemmas::pattern_equations))]
+#[tactic(auto, using(fancy_syntax::proofs::PatternLemmas::pattern_equations), unfolding(fancy_syntax::specs::Sizes::nodes))]
 fn a_text_is_repeated_within_the_range(rt: HostRuntime) {
     let alloc = rt.alloc();
     let turns = Tree::Repeat {
@@ -191,7 +203,7 @@ fn a_text_is_repeated_within_the_range(rt: HostRuntime) {
         index: 1,
         body: boxed(&rt, alloc, turns),
     };
-    let tree = Tree::Sequence(two(&rt, alloc, group, Tree::Backreference(1)));
+    let tree = Tree::Sequence(two(&rt, alloc, group, again(1)));
     let found = machine_finds(&rt, alloc, &tree, 2, b"aaa", within(3), 1000);
     assert!(rt; matches!(found, Ok(Some((0, 2, _)))));
     let found = machine_finds(&rt, alloc, &tree, 2, b"aaa", within(1), 1000);
@@ -200,24 +212,24 @@ fn a_text_is_repeated_within_the_range(rt: HostRuntime) {
 
 // `\1` and `()\1`
 #[test]
-#[tactic(auto, using(fancy_syntax::proofs::PatternLemmas::pattern_equations))]
+#[tactic(auto, using(fancy_syntax::proofs::PatternLemmas::pattern_equations), unfolding(fancy_syntax::specs::Sizes::nodes))]
 fn a_group_is_to_have_taken_part(rt: HostRuntime) {
     let alloc = rt.alloc();
-    let tree = Tree::Backreference(1);
+    let tree = again(1);
     let found = machine_finds(&rt, alloc, &tree, 2, b"aaa", within(3), 1000);
     assert!(rt; found == Ok(None));
     let group = Tree::Group {
         index: 1,
         body: boxed(&rt, alloc, Tree::Empty),
     };
-    let tree = Tree::Sequence(two(&rt, alloc, group, Tree::Backreference(1)));
+    let tree = Tree::Sequence(two(&rt, alloc, group, again(1)));
     let found = machine_finds(&rt, alloc, &tree, 2, b"a", within(1), 1000);
     assert!(rt; matches!(found, Ok(Some((0, 0, _)))));
 }
 
 // `(a)?(?(1)b|c)`
 #[test]
-#[tactic(auto, using(fancy_syntax::proofs::PatternLemmas::pattern_equations))]
+#[tactic(auto, using(fancy_syntax::proofs::PatternLemmas::pattern_equations), unfolding(fancy_syntax::specs::Sizes::nodes))]
 fn a_condition_chooses_a_branch(rt: HostRuntime) {
     let alloc = rt.alloc();
     let group = Tree::Group {
@@ -246,7 +258,7 @@ fn a_condition_chooses_a_branch(rt: HostRuntime) {
 
 // `(a)?`, a test of the group, and `b`
 #[test]
-#[tactic(auto, using(fancy_syntax::proofs::PatternLemmas::pattern_equations))]
+#[tactic(auto, using(fancy_syntax::proofs::PatternLemmas::pattern_equations), unfolding(fancy_syntax::specs::Sizes::nodes))]
 fn a_group_is_tested(rt: HostRuntime) {
     let alloc = rt.alloc();
     let group = Tree::Group {
@@ -267,7 +279,7 @@ fn a_group_is_tested(rt: HostRuntime) {
 
 // `(?(a|ab)|)c`
 #[test]
-#[tactic(auto, using(fancy_syntax::proofs::PatternLemmas::pattern_equations))]
+#[tactic(auto, using(fancy_syntax::proofs::PatternLemmas::pattern_equations), unfolding(fancy_syntax::specs::Sizes::nodes))]
 fn a_condition_without_branches_is_atomic(rt: HostRuntime) {
     let alloc = rt.alloc();
     let both = Tree::Sequence(two(&rt, alloc, Tree::Character('a'), Tree::Character('b')));
@@ -291,7 +303,7 @@ fn units_stand_before_a_place(rt: HostRuntime) {
 
 // `a+`
 #[test]
-#[tactic(auto, using(fancy_syntax::proofs::PatternLemmas::pattern_equations))]
+#[tactic(auto, using(fancy_syntax::proofs::PatternLemmas::pattern_equations), unfolding(fancy_syntax::specs::Sizes::nodes))]
 fn a_star_shares_its_turn(rt: HostRuntime) {
     let alloc = rt.alloc();
     let tree = Tree::Repeat {
