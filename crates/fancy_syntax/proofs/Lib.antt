@@ -6,6 +6,9 @@ pub mod PartLemmas
 pub mod FittingLemmas
 pub mod EmptyLemmas
 pub mod ReadingLemmas
+pub mod ReferenceLemmas
+pub mod RefersLemmas
+pub mod ResolveLemmas
 pub mod CountLemmas
 pub mod BlankLemmas
 pub mod FlagLemmas
