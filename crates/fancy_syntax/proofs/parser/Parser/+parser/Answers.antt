@@ -81,9 +81,11 @@ item-returns-in_err-quantified-2 t c =
       progress = rw p.1 tt;
     }
 
-pub item-returns-in-Reference-clause-value : goal.item-returns-in-Reference-clause-value
-item-returns-in-Reference-clause-value t c =
-    reference_is (sym c.if-not-is_at_any.ensures.value) (rw c.in-Reference.is at c.in_ok-how.ensures.value) (c.args.room - 1) (omega arith) (rw c.reference.ensures at c.in_ok-quantified-2.ensures.value)
+pub item-returns-in-Reference : goal.item-returns-in-Reference
+item-returns-in-Reference t c = record {
+  value = reference_is (sym c.if-not-is_at_any.ensures.value) (rw c.in-Reference.is at c.in_ok-how.ensures.value) (c.args.room - 1) (omega arith) (rw c.reference.ensures at c.in_ok-quantified-2.ensures.value);
+  progress = omega (arith, c.in_ok-quantified-2.ensures.progress, c.in_ok-how.ensures.progress);
+}
 
 pub item-returns-in_err-quantified-3 : goal.item-returns-in_err-quantified-3
 item-returns-in_err-quantified-3 t c =
