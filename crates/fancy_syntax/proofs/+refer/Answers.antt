@@ -3,7 +3,7 @@ use Rattle.std.proofs.lemmas.List.{length-map}
 use Rattle.fancy_syntax.specs.declared.tree.Tree.{Tree}
 use Rattle.fancy_syntax.specs.Pattern.{Pattern, pattern_of, group, repeat, look_ahead, look_behind, atomic, conditional, in_sequence, in_choice}
 use Rattle.fancy_syntax.specs.References.{number_in, refers_to}
-use Rattle.fancy_syntax.proofs.PatternLemmas.{pattern_equations}
+use Rattle.fancy_syntax.proofs.PatternLemmas.{pattern_equations, pattern-Conditional}
 use Rattle.fancy_syntax.proofs.RefersLemmas.{refers_to-in_sequence, refers_to-in_choice, same_conditional, changed_next}
 use Rattle.fancy_syntax.proofs.+refer.Goals as goal
 
@@ -42,12 +42,15 @@ tree::Tree::refer-returns-in-Atomic t c =
     rw c.in-Atomic.is (search (rules, pattern_equations, ap (atomic) inside))
 
 pub tree::Tree::refer-returns-in-Conditional : goal.tree::Tree::refer-returns-in-Conditional
-unfolding Rattle.fancy_syntax.specs.declared.tree.Tree.TheViews.out-Tree refers_to denote.Hole.Carrier.out
+unfolding refers_to
 tree::Tree::refer-returns-in-Conditional t c =
     let first = c.refer-in-Conditional.ensures ∙ ap (λ (x : Tree). refers_to (number_in c.args.numbers.now) (pattern_of x)) (c.deref_mut-in-Conditional.ensures.value ∙ ap (λ (b : Box Tree Global). b.value) c.in-Conditional.condition-is) in
     let second = c.refer-in-Conditional-2.ensures ∙ ap (λ (x : Tree). refers_to (number_in c.args.numbers.now) (pattern_of x)) (c.deref_mut-in-Conditional-2.ensures.value ∙ ap (λ (b : Box Tree Global). b.value) c.in-Conditional.on_match-is) in
     let third = c.refer-in-Conditional-3.ensures ∙ ap (λ (x : Tree). refers_to (number_in c.args.numbers.now) (pattern_of x)) (c.deref_mut-in-Conditional-3.ensures.value ∙ ap (λ (b : Box Tree Global). b.value) c.in-Conditional.otherwise-is) in
-    rw c.in-Conditional.is (search (rules, pattern_equations, same_conditional first second third))
+    pattern-Conditional _ _ _
+    ∙ (same_conditional first second third
+    ∙ sym (ap (λ (x : Tree). refers_to (number_in c.args.numbers.now) (pattern_of x)) c.in-Conditional.is
+    ∙ ap (refers_to (number_in c.args.numbers.now)) (pattern-Conditional c.in-Conditional.condition c.in-Conditional.on_match c.in-Conditional.otherwise)))
 
 pub tree::Tree::refer-returns-in-Sequence : goal.tree::Tree::refer-returns-in-Sequence
 unfolding Rattle.fancy_syntax.specs.declared.tree.Tree.TheViews.out-Tree denote.Hole.Carrier.out

@@ -15,7 +15,7 @@ returns-in_ok-push-in-Some-clause-value c =
     the_reference (place c.args.self.now) (sym c.in_ok-found.ensures.value ∙ ap (option_map reading_of) c.in-Some.is)
     (c.reference.ensures ∙ ap (backreference c.args.self.now.flags.ignore_case) count)
     (ap (λ (l : List Target). start (record (scope_of c.args.self.now) { wanted = l }) c.in-Some.behind.now)
-    (ap (map target_of) c.in_ok-push.ensures.items ∙ map-append target_of c.args.self.now.wanted.items (c.in-Some.target ∷ [])))
+    (ap (map target_of) c.in_ok-push-in-Some.ensures.items ∙ map-append target_of c.args.self.now.wanted.items (c.in-Some.target ∷ [])))
 
 pub returns-in-None-clause-value : goal.returns-in-None-clause-value
 returns-in-None-clause-value c = rw c.error.ensures (no_reference_here (place c.args.self.now) c.requires (sym c.in_ok-found.ensures.value ∙ ap (option_map reading_of) c.in-None.is))
