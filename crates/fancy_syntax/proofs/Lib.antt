@@ -8,6 +8,7 @@ pub mod EmptyLemmas
 pub mod ReadingLemmas
 pub mod ReferenceLemmas
 pub mod RefersLemmas
+pub mod RefersFacts
 pub mod ResolveLemmas
 pub mod CountLemmas
 pub mod BlankLemmas

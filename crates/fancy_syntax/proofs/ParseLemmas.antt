@@ -1,5 +1,5 @@
 -- What the reading of a whole text says of its patterns.
-use Rattle.std.proofs.Common.{◌≡◌, ◌<◌, ◌≤◌, ◌+◌, ◌-◌, ◌^◌, ℕ, ◌==◌, ◌&&◌, not, min, Bool, true, false, List, [], ◌∷◌, length, map, get_or, All, Any, Option, Some, None, Result, Ok, Err, IfOk, IfErr, chars, string_bytes, refl, sym, ap, ap₂, ◌∙◌, subst, arith}
+use Rattle.std.proofs.Common.{◌≡◌, ◌<◌, ◌≤◌, ◌+◌, ◌-◌, ◌^◌, ℕ, ◌==◌, ◌&&◌, not, min, Bool, true, false, List, [], ◌∷◌, length, map, All, Any, Some, None, Result, Ok, Err, IfOk, IfErr, refl, sym, ap, ap₂, ◌∙◌, subst, arith}
 use Rattle.std.proofs.Math.ListN as math
 use Rattle.std.proofs.lemmas.List.{length-map}
 use Rattle.std.proofs.lemmas.List.Elements.{All-map}
@@ -16,7 +16,7 @@ use Rattle.fancy_syntax.specs.declared.parse.Draft.{Draft}
 use Rattle.fancy_syntax.specs.declared.reference.Target.{Target as Found_target}
 use Rattle.fancy_syntax.specs.declared.error.CompileError.{CompileError as Compiling}
 use Rattle.fancy_syntax.specs.References as references
-use Rattle.fancy_syntax.specs.References.{Target, Fault, by_name_alone, no_number, no_name, Groups, group_for, number_in, refers_to}
+use Rattle.fancy_syntax.specs.References.{Target, Fault, Groups, group_for, number_in, refers_to}
 use Rattle.fancy_syntax.specs.Dialect.{Scope, Options, begin, has_name, groups_at, fault_of, numbers, Spells, SpellsUnder, IsPattern}
 use Rattle.fancy_syntax.specs.Grammar.{Place, start}
 use Rattle.fancy_syntax.specs.Refusals.{IsRefused, IsNotAccepted}

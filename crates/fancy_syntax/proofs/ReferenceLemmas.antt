@@ -10,7 +10,7 @@ use Rattle.fancy_syntax.specs.Dialect.{Scope, lexeme, ReadsAtom, by_lexeme, by_c
 use Rattle.fancy_syntax.specs.Grammar.{ends_branch}
 use Rattle.fancy_syntax.proofs.ReadingLemmas.{some_pair, some_is_none, true_is_false}
 use Rattle.fancy_syntax.proofs.BlankLemmas.{chosen, char_is, begins_with}
-use Rattle.fancy_syntax.proofs.CountLemmas.{both_true, left_of, first_is}
+use Rattle.fancy_syntax.proofs.CountLemmas.{both_true, left_of}
 use Rattle.fancy_syntax.proofs.EndsLemmas.{Ends, ends_here, ends_drop, ends_then, ends_at, behind_one}
 
 -- ---- what follows a reference ends the text

@@ -6,11 +6,10 @@ use Rattle.fancy_syntax.specs.declared.tree.Meaning.{Meaning}
 use Rattle.fancy_syntax.specs.declared.tree.Taste.{Taste}
 use Rattle.fancy_syntax.specs.declared.tree.Taste.TheVariants.{Greedy, Lazy, Possessive}
 use Rattle.fancy_syntax.specs.declared.groups.Grouping.{Grouping}
-use Rattle.fancy_syntax.specs.declared.groups.Grouping.TheVariants.{Atomic, LookAhead, LookBehind}
 use Rattle.fancy_syntax.specs.Pattern.{Pattern, backreference, repeat, in_branches}
 use Rattle.fancy_syntax.specs.Sizes.{is_empty}
 use Rattle.fancy_syntax.specs.Words.{Text, ◌∈◌, is_at_any, is_at, begins, is_count, past_blank, past_blanks, begins_count}
-use Rattle.fancy_syntax.specs.Names.{is_name, is_name_character, name_here, past_name}
+use Rattle.fancy_syntax.specs.Names.{is_name, name_here, past_name}
 use Rattle.fancy_syntax.specs.References as references
 use Rattle.fancy_syntax.specs.References.{Target, called}
 use Rattle.fancy_syntax.specs.Dialect as d

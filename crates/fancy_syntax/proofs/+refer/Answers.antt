@@ -1,7 +1,7 @@
-use Rattle.std.proofs.Common.{rules, ◌≡◌, ◌<◌, length, map, List, Vec, Box, Global, sym, ap, ◌∙◌, arith}
+use Rattle.std.proofs.Common.{rules, ◌<◌, length, map, Vec, Box, Global, sym, ap, ◌∙◌, arith}
 use Rattle.std.proofs.lemmas.List.{length-map}
 use Rattle.fancy_syntax.specs.declared.tree.Tree.{Tree}
-use Rattle.fancy_syntax.specs.Pattern.{Pattern, pattern_of, group, repeat, look_ahead, look_behind, atomic, conditional, in_sequence, in_choice}
+use Rattle.fancy_syntax.specs.Pattern.{pattern_of, group, repeat, look_ahead, look_behind, atomic, in_sequence, in_choice}
 use Rattle.fancy_syntax.specs.References.{number_in, refers_to}
 use Rattle.fancy_syntax.proofs.PatternLemmas.{pattern_equations, pattern-Conditional}
 use Rattle.fancy_syntax.proofs.RefersLemmas.{refers_to-in_sequence, refers_to-in_choice, same_conditional, changed_next}
