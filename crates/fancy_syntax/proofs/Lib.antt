@@ -5,6 +5,7 @@ pub mod SizeLemmas
 pub mod PartLemmas
 pub mod FittingLemmas
 pub mod EmptyLemmas
+pub mod BehindLemmas
 pub mod ReadingLemmas
 pub mod ReferenceLemmas
 pub mod RefersLemmas

@@ -7,7 +7,7 @@ use Rattle.fancy_syntax.specs.declared.error.CompileError.TheVariants.{InvalidBa
 use Rattle.fancy_syntax.specs.declared.error.Error.{Error}
 use Rattle.fancy_syntax.specs.declared.error.Error.TheVariants.{Memory, ParseError, CompileError, RuntimeError}
 use Rattle.fancy_syntax.specs.Pattern.{Pattern, pattern_of}
-use Rattle.fancy_syntax.specs.Sizes.{nodes}
+use Rattle.fancy_syntax.specs.Sizes.{nodes, are_sized}
 use Rattle.fancy_syntax.specs.Words.{Text}
 use Rattle.fancy_syntax.specs.Names.{named_groups}
 use Rattle.fancy_syntax.specs.declared.name.GroupName.{GroupName}
@@ -88,7 +88,9 @@ refused_is_memory {o} {text} {p} (CompileError PatternTooComplex) (q, end, y, la
 refused_is_memory (CompileError (InvalidBackref n)) (q, end, y, some) x = absurd (no_fault_under x y some)
 refused_is_memory (CompileError (InvalidGroupNameBackref n)) (q, end, y, some) x = absurd (no_fault_under x y some)
 refused_is_memory (CompileError NamedBackrefOnly) (q, end, y, some) x = absurd (no_fault_under x y some)
-refused_is_memory (CompileError LookBehindNotConst) h x = absurd h
+refused_is_memory {o} {p = p} (CompileError LookBehindNotConst) (q, end, y, unsized) x =
+    let same : refers_to (numbers o end) q ≡ p = ap₂ (λ (e : Scope) (w : Pattern). refers_to (numbers o e) w) (one_end_under y x.spelled) (one_under y x.spelled) ∙ sym x.is in
+    absurd (true_is_false (sym x.sized ∙ (ap (are_sized o.meaning) (sym same) ∙ unsized)))
 refused_is_memory (CompileError PatternCanNeverMatch) h x = absurd h
 refused_is_memory (RuntimeError why) h x = absurd h
 
@@ -116,15 +118,16 @@ module _ (o : Options) {text whole : Text} (draft : Draft) (s : SpellsDraft (Spe
       let opened : draft.groups - 1 ≡ s.0.opened = omega (arith, s.2) in
       ap₂ (λ (n : ℕ) (names : List (Text × ℕ)). let g : Groups = record { by_name = o.only_named && has_name names; opened = n; names = names } in g) opened s.3
 
-  pub accepted : {m : ℕ} (r : Result Parsed Error) → m ≡ min (nodes (pattern_of draft.tree)) (2 ^ 64 - 1) → m ≤ 1000000
-      → IfOk r (λ p. pattern_of p.tree ≡ refers_to (number_in (map (group_for (groups_in o.only_named draft)) (targets_of draft.wanted.items))) (pattern_of draft.tree))
-      → IfOk r (λ p. (p.groups ≡ draft.groups) × (p.names ≡ draft.names))
-      → IfOk r (λ p. All (λ w. references.fault_of (groups_in o.only_named draft) (target_of w) ≡ None) draft.wanted.items)
+  pub accepted : {m : ℕ} (first : Parsed) (r : Result Parsed Error) → m ≡ min (nodes (pattern_of draft.tree)) (2 ^ 64 - 1) → m ≤ 1000000
+      → pattern_of first.tree ≡ refers_to (number_in (map (group_for (groups_in o.only_named draft)) (targets_of draft.wanted.items))) (pattern_of draft.tree)
+      → (first.groups ≡ draft.groups) × (first.names ≡ draft.names)
+      → All (λ w. references.fault_of (groups_in o.only_named draft) (target_of w) ≡ None) draft.wanted.items
+      → IfOk r (λ p. (p ≡ first) × (are_sized o.meaning (pattern_of p.tree) ≡ true))
       → IfOk r (λ p. (h : IsPattern o whole (pattern_of p.tree)) × (h.end.opened + 1 ≡ p.groups) × (named_groups p.names.items ≡ h.end.names))
-  accepted (Err e) n few tree kept all = tt
-  accepted (Ok p) n few tree kept all =
+  accepted first (Err e) n few tree kept all sized = tt
+  accepted first (Ok p) n few tree kept all (same_one, sized) =
       let is : pattern_of p.tree ≡ refers_to (numbers o s.0) (pattern_of draft.tree) =
-      tree ∙ ap₂ (λ (g : Groups) (ws : List Target). refers_to (number_in (map (group_for g) ws)) (pattern_of draft.tree)) groups_are s.4 in
+      ap (λ (x : Parsed). pattern_of x.tree) same_one ∙ tree ∙ ap₂ (λ (g : Groups) (ws : List Target). refers_to (number_in (map (group_for g) ws)) (pattern_of draft.tree)) groups_are s.4 in
       let resolved : All (λ w. fault_of o s.0 w ≡ None) s.0.wanted =
       subst (λ (ws : List Target). All (λ w. fault_of o s.0 w ≡ None) ws) s.4
       (All-map (λ w. fault_of o s.0 w ≡ None) target_of draft.wanted.items (subst (λ (g : Groups). All (λ w. references.fault_of g (target_of w) ≡ None) draft.wanted.items) groups_are all)) in
@@ -136,10 +139,11 @@ module _ (o : Options) {text whole : Text} (draft : Draft) (s : SpellsDraft (Spe
           spelled = subst (λ t. SpellsUnder o t (pattern_of draft.tree) s.0) same s.1;
           is = is;
           resolved = resolved;
+          sized = sized;
           small = omega (arith, few_written, as_many);
         },
-        s.2 ∙ sym kept.0,
-        ap (λ v. named_groups v.items) kept.1 ∙ s.3,
+        s.2 ∙ sym (ap (λ (x : Parsed). x.groups) same_one ∙ kept.0),
+        ap (λ (x : Parsed). named_groups x.names.items) same_one ∙ ap (λ v. named_groups v.items) kept.1 ∙ s.3,
       )
 
   -- a reference that names no group is the reason of a refusal
@@ -156,15 +160,21 @@ module _ (o : Options) {text whole : Text} (draft : Draft) (s : SpellsDraft (Spe
   not_accepted PatternCanNeverMatch f e some = absurd (some_is_none (sym e))
   not_accepted PatternTooComplex f e some = absurd (some_is_none (sym e))
 
-  refused_by : (e : Error) → RefusesReference e (λ f. Any (λ w. references.fault_of (groups_in o.only_named draft) (target_of w) ≡ Some f) draft.wanted.items) → IsRefused e o whole
+  pub refused_by : (e : Error) → RefusesReference e (λ f. Any (λ w. references.fault_of (groups_in o.only_named draft) (target_of w) ≡ Some f) draft.wanted.items) → IsRefused e o whole
   refused_by Memory h = tt
   refused_by (ParseError at kind) h = absurd h
   refused_by (CompileError why) (f, e, some) = not_accepted why f e (has_fault some)
   refused_by (RuntimeError why) h = absurd h
 
-  pub refused_reference : (r : Result Parsed Error) → IfErr r (λ e. RefusesReference e (λ f. Any (λ w. references.fault_of (groups_in o.only_named draft) (target_of w) ≡ Some f) draft.wanted.items)) → IfErr r (λ e. IsRefused e o whole)
-  refused_reference (Ok p) h = tt
-  refused_reference (Err e) h = refused_by e h
+  -- a look-behind without a size is the reason of a refusal
+  pub refused_sizes : (first : Parsed) (r : Result Parsed Error)
+      → pattern_of first.tree ≡ refers_to (number_in (map (group_for (groups_in o.only_named draft)) (targets_of draft.wanted.items))) (pattern_of draft.tree)
+      → IfErr r (λ e. (e ≡ CompileError LookBehindNotConst) × (are_sized o.meaning (pattern_of first.tree) ≡ false)) → IfErr r (λ e. IsRefused e o whole)
+  refused_sizes first (Ok p) tree h = tt
+  refused_sizes first (Err e) tree (is, unsized) =
+      let same_one = tree ∙ ap₂ (λ (g : Groups) (ws : List Target). refers_to (number_in (map (group_for g) ws)) (pattern_of draft.tree)) groups_are s.4 in
+      subst (λ x. IsRefused x o whole) (sym is)
+      (pattern_of draft.tree, s.0, subst (λ t. SpellsUnder o t (pattern_of draft.tree) s.0) same s.1, subst (λ (q : Pattern). are_sized o.meaning q ≡ false) same_one unsized)
 
 pub only_memory : {o : Options} {text : Text} {p : Pattern} (r : Result Parsed Error) → IfErr r (λ e. IsRefused e o text) → IsPattern o text p → IfErr r (λ e. e ≡ Memory)
 only_memory (Ok p) h x = tt

@@ -14,7 +14,7 @@ use Rattle.fancy_syntax.specs.declared.class.token.Token.{Token}
 use Rattle.fancy_syntax.specs.declared.class.token.Token.TheVariants.{Named as NamedSet}
 use Rattle.fancy_syntax.specs.declared.named.Named.{Named}
 use Rattle.fancy_syntax.specs.Pattern.{Pattern, character, member_of, raw_byte, backreference, assertion, group, repeat, look_ahead, look_behind, atomic, in_sequence, in_branches}
-use Rattle.fancy_syntax.specs.Sizes.{nodes, is_empty}
+use Rattle.fancy_syntax.specs.Sizes.{nodes, are_sized, is_empty}
 use Rattle.fancy_syntax.specs.Words.{Text, ◌∈◌, is_among, is_at, begins, is_at_digit, is_blank, past_blank, decimal, are_digits, begins_count}
 use Rattle.fancy_syntax.specs.Sets.{has, AreEdges, in_range}
 use Rattle.fancy_syntax.specs.Members.{Members}
@@ -404,11 +404,12 @@ fault_of o end w = references.fault_of (groups_at o end) w
 abbrev pub numbers : Options → Scope → ℕ → ℕ
 numbers o end = number_in (map (group_for (groups_at o end)) end.wanted)
 
--- The text is a pattern of the dialect: it spells this one, whose references each name a group, and which is not too complex.
+-- The text is a pattern of the dialect: it spells this one, whose references each name a group, whose look-behind has sizes, and which is not too complex.
 pub record IsPattern (o : Options) (text : Text) (p : Pattern) : Type 0 where
   pub written : Pattern
   pub end : Scope
   pub spelled : SpellsUnder o text written end
   pub is : p ≡ refers_to (numbers o end) written
   pub resolved : All (λ w. fault_of o end w ≡ None) end.wanted
+  pub sized : are_sized o.meaning p ≡ true
   pub small : nodes p ≤ 1000000

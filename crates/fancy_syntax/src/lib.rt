@@ -1,6 +1,7 @@
 //! Patterns of the dialect: how they are read, what they are, and why they are refused.
 #![tactic(auto)]
 
+mod behind;
 mod blank;
 mod build;
 pub mod char_set;

@@ -1,7 +1,9 @@
 //! Patterns are read here.
 
-ghost use Rattle.std.specs.Prelude.{◌≡◌, ◌+◌, ◌<◌, ◌^◌, length, map, All, Any, IfOk, IfErr, None, Some, chars};
-ghost use Rattle.fancy_syntax.specs.declared.error.Error.TheVariants.{Memory};
+ghost use Rattle.std.specs.Prelude.{◌≡◌, ◌+◌, ◌<◌, ◌^◌, length, map, All, Any, IfOk, IfErr, None, Some, true, false, chars};
+ghost use Rattle.fancy_syntax.specs.declared.error.Error.TheVariants.{Memory, CompileError as Compile};
+ghost use Rattle.fancy_syntax.specs.declared.error.CompileError.TheVariants.{LookBehindNotConst};
+ghost use Rattle.fancy_syntax.specs.Sizes.{are_sized};
 ghost use Rattle.fancy_syntax.specs.Dialect.{standard, begin, Spells, SpellsUnder, IsPattern};
 ghost use Rattle.fancy_syntax.specs.Names.{named_groups};
 ghost use Rattle.fancy_syntax.specs.Pattern.{Pattern, pattern_of};
@@ -89,8 +91,9 @@ pub struct Parsed {
 /// A text that is no pattern is refused by an [`Error::ParseError`], whose place is a byte offset into it, of 0
 /// to the length of `pattern`; one of more than 1,000,000 nodes by [`CompileError::PatternTooComplex`]. A reference to a
 /// group that the pattern does not have is refused by [`CompileError::InvalidBackref`] with its number, or by
-/// [`CompileError::InvalidGroupNameBackref`] with its name; a number above 4,294,967,295 stands as that. Where memory
-/// runs out the answer is [`Error::Memory`], and a pattern is refused in no other case.
+/// [`CompileError::InvalidGroupNameBackref`] with its name; a number above 4,294,967,295 stands as that. A look-behind
+/// whose body has no one size, and is no alternative of branches that each have one, is refused by
+/// [`CompileError::LookBehindNotConst`], as `(?<=a+)`; `(?<=a|bc)` is not. Where memory runs out the answer is [`Error::Memory`], and a pattern is refused in no other case.
 ///
 /// As an example `(a|b)?c` is the sequence of an optional group 1 and a character, so that `groups` is 2, while
 /// `a)` is refused at place 1 with [`ParseErrorKind::GeneralParseError`].
@@ -120,7 +123,21 @@ pub fn parse_with(alloc: Global, pattern: &str, syntax: Syntax) -> Result<Parsed
     if draft.tree.nodes() > MAX_NODES {
         return Err(Error::CompileError(CompileError::PatternTooComplex));
     }
-    draft.resolved(alloc, syntax.only_named)
+    let parsed = draft.resolved(alloc, syntax.only_named)?;
+    parsed.with_sizes(syntax.meaning)
+}
+
+impl Parsed {
+    /// This pattern, if each look-behind in it can step back.
+    fn with_sizes(self, meaning: Meaning) -> Result<Parsed, Error>
+        ensures value { IfOk result (λ r. (r ≡ self) × (are_sized meaning (pattern_of r.tree) ≡ true)) }
+        ensures refused { IfErr result (λ e. (e ≡ Compile LookBehindNotConst) × (are_sized meaning (pattern_of self.tree) ≡ false)) }
+    {
+        if !self.tree.is_sized(meaning) {
+            return Err(Error::CompileError(CompileError::LookBehindNotConst));
+        }
+        Ok(self)
+    }
 }
 
 /// What the text of a pattern says, before its references are resolved: in the place of its group's number each has

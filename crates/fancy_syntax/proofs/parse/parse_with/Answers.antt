@@ -3,7 +3,7 @@ use Rattle.std.proofs.lemmas.Result.{err_from_is_err_and}
 use Rattle.fancy_syntax.specs.declared.error.Error.TheVariants.{CompileError}
 use Rattle.fancy_syntax.specs.declared.error.CompileError.TheVariants.{PatternTooComplex}
 use Rattle.fancy_syntax.specs.Views.{options_of}
-use Rattle.fancy_syntax.proofs.ParseLemmas.{refused_as, refused_is_memory, accepted, refused_reference, only_memory, too_complex}
+use Rattle.fancy_syntax.proofs.ParseLemmas.{refused_as, refused_is_memory, accepted, refused_by, refused_sizes, only_memory, too_complex}
 use Rattle.fancy_syntax.proofs.parse.parse_with.Goals as goal
 
 pub returns-in_err-draft-clause-refused : goal.returns-in_err-draft-clause-refused
@@ -26,16 +26,31 @@ pub returns-then-nodes-gt-MAX_NODES-clause-succeeds :
 returns-then-nodes-gt-MAX_NODES-clause-succeeds c p x =
     refused_is_memory (CompileError PatternTooComplex) (too_complex c.in_ok-draft.draft c.in_ok-draft.ensures.value (c.deref.ensures.value ∙ c.in_ok-characters.ensures) c.nodes.ensures c.if-nodes-gt-MAX_NODES.true) x
 
+pub returns-in_err-parsed-clause-refused : goal.returns-in_err-parsed-clause-refused
+returns-in_err-parsed-clause-refused c =
+    let p = err_from_is_err_and c.from_residual-in_err-parsed.result c.from_residual-in_err-parsed.ensures.1 in
+    rw (p.1, p.2)
+    (refused_by (options_of c.args.syntax) c.in_ok-draft.draft c.in_ok-draft.ensures.value (c.deref.ensures.value ∙ c.in_ok-characters.ensures) c.in_err-parsed.field-0.0 c.in_err-parsed.ensures.refused)
+
+pub returns-in_err-parsed-clause-succeeds : goal.returns-in_err-parsed-clause-succeeds
+returns-in_err-parsed-clause-succeeds c q x =
+    let p = err_from_is_err_and c.from_residual-in_err-parsed.result c.from_residual-in_err-parsed.ensures.1 in
+    rw (p.1, p.2)
+    (refused_is_memory c.in_err-parsed.field-0.0
+    (refused_by (options_of c.args.syntax) c.in_ok-draft.draft c.in_ok-draft.ensures.value (c.deref.ensures.value ∙ c.in_ok-characters.ensures) c.in_err-parsed.field-0.0 c.in_err-parsed.ensures.refused) x)
+
 pub returns-clause-accepted : goal.returns-clause-accepted
 returns-clause-accepted c =
-    accepted (options_of c.args.syntax) c.in_ok-draft.draft c.in_ok-draft.ensures.value (c.deref.ensures.value ∙ c.in_ok-characters.ensures) c.resolved.result c.nodes.ensures (omega arith)
-    c.resolved.ensures.tree c.resolved.ensures.same c.resolved.ensures.resolved
+    accepted (options_of c.args.syntax) c.in_ok-draft.draft c.in_ok-draft.ensures.value (c.deref.ensures.value ∙ c.in_ok-characters.ensures) c.in_ok-parsed.parsed c.with_sizes.result c.nodes.ensures (omega arith)
+    c.in_ok-parsed.ensures.tree c.in_ok-parsed.ensures.same c.in_ok-parsed.ensures.resolved c.with_sizes.ensures.value
 
 pub returns-clause-refused : goal.returns-clause-refused
 returns-clause-refused c =
-    refused_reference (options_of c.args.syntax) c.in_ok-draft.draft c.in_ok-draft.ensures.value (c.deref.ensures.value ∙ c.in_ok-characters.ensures) c.resolved.result c.resolved.ensures.refused
+    refused_sizes (options_of c.args.syntax) c.in_ok-draft.draft c.in_ok-draft.ensures.value (c.deref.ensures.value ∙ c.in_ok-characters.ensures) c.in_ok-parsed.parsed c.with_sizes.result
+    c.in_ok-parsed.ensures.tree c.with_sizes.ensures.refused
 
 pub returns-clause-succeeds : goal.returns-clause-succeeds
 returns-clause-succeeds c p x =
-    only_memory c.resolved.result
-    (refused_reference (options_of c.args.syntax) c.in_ok-draft.draft c.in_ok-draft.ensures.value (c.deref.ensures.value ∙ c.in_ok-characters.ensures) c.resolved.result c.resolved.ensures.refused) x
+    only_memory c.with_sizes.result
+    (refused_sizes (options_of c.args.syntax) c.in_ok-draft.draft c.in_ok-draft.ensures.value (c.deref.ensures.value ∙ c.in_ok-characters.ensures) c.in_ok-parsed.parsed c.with_sizes.result
+    c.in_ok-parsed.ensures.tree c.with_sizes.ensures.refused) x
