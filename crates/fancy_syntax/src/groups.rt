@@ -5,7 +5,7 @@ ghost use Rattle.fancy_syntax.specs.Grammar.{mark_here};
 
 /// A group that captures nothing, and does more than keep its parts together.
 #[derive(Clone, Copy)]
-pub(crate) enum Grouping {
+pub enum Grouping {
     /// `(?>`: an atomic group.
     Atomic,
     /// `(?=`, and negated `(?!`.

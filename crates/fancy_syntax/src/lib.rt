@@ -10,7 +10,7 @@ mod count;
 pub mod error;
 mod escape;
 pub mod flags;
-mod groups;
+pub mod groups;
 pub mod laws;
 mod lexeme;
 pub mod measure;
