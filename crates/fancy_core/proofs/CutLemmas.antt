@@ -10,13 +10,14 @@ use Rattle.fancy_input.specs.Places.{is_boundary}
 use Rattle.fancy_input.specs.declared.input.Request.{Request}
 use Rattle.fancy_engine.specs.Context.{Span, group_span}
 use Rattle.fancy_engine.specs.Search.{Query, search, span_of}
-use Rattle.fancy_engine.specs.declared.search.Memory.{Memory}
-use Rattle.fancy_engine.specs.Placed.{any_place, LiesWithin, KeepsBoundaries, by_characters, of_ascii, reads_characters}
+use Rattle.fancy_core.specs.declared.scratch.Scratch.{Scratch}
+use Rattle.fancy_core.specs.Scratch.{found_at}
+use Rattle.fancy_engine.specs.Placed.{has_keep_start, any_place, LiesWithin, KeepsBoundaries, by_characters, of_ascii, reads_characters}
 use Rattle.fancy_engine.proofs.FoundLemmas.{answer_within, answer_on_boundaries}
 use Rattle.fancy_core.specs.declared.regex.Regex.{Regex}
 use Rattle.fancy_core.specs.Regexes.{options_in, asked}
 use Rattle.fancy_core.specs.Searching.{Suits}
-use Rattle.fancy_core.specs.Groups.{span_of_group, spans_of, span_at, found_at, IsCut, AreCut}
+use Rattle.fancy_core.specs.Groups.{span_of_group, spans_of, span_at, IsCut, AreCut}
 
 whole_characters : (m : BytesMode) (unicode : Bool) → keeps_characters m ≡ true → reads_characters (meaning_of m unicode) ≡ true
 whole_characters Unicode true e = refl
@@ -43,16 +44,18 @@ span_listed g n number x e =
     below : (a b : ℕ) → (a < b) ⊎ (b ≤ a)
     below a b = grind arith
 
-module _ (q : Query) (text : Bool) (position : ℕ) (memory : Memory) (within : LiesWithin q any_place (found_at position memory))
-    (cleanly : text ≡ true → LiesWithin q (is_boundary q.haystack) (found_at position memory)) (range : q.request.range_end ≤ length q.haystack) where
+module _ (q : Query) (text : Bool) (position : ℕ) (memory : Scratch) (within : LiesWithin q any_place (found_at position memory))
+    (cleanly : text ≡ true → LiesWithin q (is_boundary q.haystack) (found_at position memory)) (range : q.request.range_end ≤ length q.haystack)
+    (without : has_keep_start q.sought.pattern ≡ false) where
   whole_cut : (s e : ℕ) → Some (span_of (found_at position memory)) ≡ Some (s, e) → IsCut text q.haystack s e
   whole_cut s e h =
-      let begins : position ≡ s = ap start_or h in
+      let begins : (found_at position memory).state.kept ≡ s = ap start_or h in
+      let kept : (found_at position memory).state.kept ≡ position = within.kept without in
       let ends : (found_at position memory).state.place ≡ e = ap end_or h in
       record {
-        ordered = omega (arith, within.begins);
-        inside = omega (arith, within.ends);
-        starts_cleanly = λ t. rw begins at (cleanly t).starts;
+        ordered = omega (arith, within.begins, kept, begins, ends);
+        inside = omega (arith, within.ends, ends, range);
+        starts_cleanly = λ t. rw (sym kept ∙ begins) at (cleanly t).starts;
         ends_cleanly = λ t. rw ends at (cleanly t).placed.stands;
       }
 
@@ -81,11 +84,11 @@ keeps_by r text haystack request true e suits utf8 t = by_characters (utf8 t) (w
 keeps_by r text haystack request false e suits utf8 t = of_ascii (suits t e)
 
 -- what a search with a regex finds can be cut out of the haystack, with all its groups
-pub groups_cut : (r : Regex) (text : Bool) (haystack : List ℕ) (request : Request) (position : ℕ) (memory : Memory) (n : ℕ) →
+pub groups_cut : (r : Regex) (text : Bool) (haystack : List ℕ) (request : Request) (position : ℕ) (memory : Scratch) (n : ℕ) →
     request.range_end ≤ length haystack → Suits (options_in r) text haystack → (text ≡ true → IsUtf8 haystack) →
     Some (found_at position memory) ≡ search (asked r haystack request) → AreCut text haystack (spans_of n (found_at position memory))
 groups_cut r text haystack request position memory n range suits utf8 e =
     all_cut (asked r haystack request) text position memory
     (answer_within (asked r haystack request) _ refl range (sym e))
     (λ t. answer_on_boundaries (asked r haystack request) _ refl range (keeps_by r text haystack request _ refl suits utf8 t) (sym e))
-    range n
+    range r.starts n

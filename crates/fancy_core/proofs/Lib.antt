@@ -1,5 +1,6 @@
 pub mod NoneLemmas
 pub mod SearchedLemmas
+pub mod ServedLemmas
 pub mod CutLemmas
 pub mod NamesLemmas
 pub mod RisingLemmas

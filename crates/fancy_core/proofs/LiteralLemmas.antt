@@ -2,10 +2,13 @@
 use Rattle.std.proofs.Common.{◌≡◌, ℕ, ◌≤◌, ◌==◌, ◌&&◌, Bool, true, false, List, [], ◌∷◌, ◌++◌, codes, length, map, flat_map, chars, IsUtf8, IsTrue, if◌then◌else◌, inl, inr, refl, sym, ap, subst, ◌∙◌, arith, eqb-true}
 use Rattle.std.proofs.lemmas.Bool.Decides.{leb_tells}
 use Rattle.std.proofs.lemmas.Str.{encodes-chars, scalars-chars, chars_from_encodes, IsUtf8-string_bytes}
-use Rattle.fancy_syntax.specs.Pattern.{Pattern, character, in_sequence}
-use Rattle.fancy_syntax.specs.Dialect.{Scope, Spells, IsPattern, standard, begin, is_escapable}
+use Rattle.fancy_syntax.specs.declared.tree.Meaning.{Meaning}
+use Rattle.fancy_syntax.specs.declared.tree.Meaning.TheVariants.{Unicode}
+use Rattle.fancy_syntax.specs.References.{refers_to}
+use Rattle.fancy_syntax.specs.Pattern.{Pattern, character, followed, in_sequence}
+use Rattle.fancy_syntax.specs.Dialect.{Scope, Spells, IsPattern, standard, begin, numbers, is_escapable}
 use Rattle.fancy_syntax.specs.Modes.{keeps_characters}
-use Rattle.fancy_syntax.specs.Sizes.{nodes}
+use Rattle.fancy_syntax.specs.Sizes.{nodes, are_sized}
 use Rattle.fancy_syntax.specs.Words.{Text}
 use Rattle.fancy_syntax.proofs.CountLemmas.{either_no}
 use Rattle.fancy_syntax.proofs.LiteralLemmas.{IsPlain, StandsFor, StandFor, no_word, word, meant, by_escape, by_backslash, by_itself_alone, not_among_fewer, holds_among, words_spell, words_spell_one, nodes-characters}
@@ -83,11 +86,25 @@ starts_cleanly haystack r can within =
       | inr sooner ↦ (let lt = sooner.1 in subst (λ p. IsTrue (is_boundary haystack p)) (omega (arith, lt)) (can.starts refl (omega (arith, within, lt))))
     ]
 
+-- characters refer to nothing, and have sizes
+refers-characters : (f : ℕ → ℕ) (t : Text) → refers_to f (in_sequence (map character t)) ≡ in_sequence (map character t)
+unfolding refers_to
+refers-characters f [] = refl
+refers-characters f (c ∷ []) = refl
+refers-characters f (c ∷ d ∷ t) = ap (followed (character c)) (refers-characters f (d ∷ t))
+
+sized-characters : (m : Meaning) (t : Text) → are_sized m (in_sequence (map character t)) ≡ true
+unfolding are_sized
+sized-characters m [] = refl
+sized-characters m (c ∷ []) = refl
+sized-characters m (c ∷ d ∷ t) = sized-characters m (d ∷ t)
+
 -- the escape of a text is a pattern exactly where the text has at most a million characters, and then the one of these characters
 pub escape_spells : (t : Text) (p : Pattern) → IsPattern standard (escaped_pattern t) p → (p ≡ in_sequence (map character t)) × (length t ≤ 1000000)
 escape_spells t p h =
     let s = h.spelled in
-    let is = words_spell_one (begins_plain s.unnamed) (text_stands (begin s.unnamed standard) t (begins_plain s.unnamed)) s.spelled in
+    let written = words_spell_one (begins_plain s.unnamed) (text_stands (begin s.unnamed standard) t (begins_plain s.unnamed)) s.spelled in
+    let is : p ≡ in_sequence (map character t) = h.is ∙ (ap (refers_to (numbers standard h.end)) written ∙ refers-characters (numbers standard h.end) t) in
     let small = h.small in
     (is, omega (arith, small, ap nodes is, nodes-characters t))
 
@@ -96,12 +113,16 @@ spells_escape t p h =
     let is = h.0 in
     let few = h.1 in
     record {
+      written = in_sequence (map character t);
       end = begin true standard;
       spelled = record {
         unnamed = true;
-        spelled = subst (λ a. Spells (begin true standard) (escaped_pattern t) a (begin true standard)) (sym is) (words_spell (begins_plain true) (text_stands (begin true standard) t (begins_plain true)));
+        spelled = words_spell (begins_plain true) (text_stands (begin true standard) t (begins_plain true));
         settled = refl;
       };
+      is = is ∙ sym (refers-characters (numbers standard (begin true standard)) t);
+      resolved = λ k d below. absurd (omega (arith, below));
+      sized = ap (are_sized Unicode) is ∙ sized-characters Unicode t;
       small = omega (arith, few, ap nodes is, nodes-characters t);
     }
 

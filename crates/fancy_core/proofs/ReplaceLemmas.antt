@@ -1,16 +1,35 @@
 -- Lemmas on replacing matches one after the other.
-use Rattle.std.proofs.Common.{arith, ℕ, zero, suc, ◌-◌, ◌<◌, ◌≡◌, Bool, true, false, List, [], ◌∷◌, ◌++◌, Option, None, Some, Result, Ok, Err, IfOk, length, map, slice_range, refl, sym, ◌∙◌, ap, subst, append-nil, append_assoc, inl, inr}
+use Rattle.std.proofs.Common.{arith, ℕ, zero, suc, ◌-◌, ◌<◌, ◌≡◌, Bool, true, false, ◌&&◌, List, [], ◌∷◌, ◌++◌, Option, None, Some, Result, Ok, Err, IfOk, IfErr, length, map, slice_range, refl, sym, ◌∙◌, ap, subst, append-nil, append_assoc, inl, inr}
 use Rattle.std.specs.Prelude.{MatchBool, ◌↔◌, ◌⊎◌}
 use Rattle.std.proofs.lemmas.List.{map-append}
 use Rattle.fancy_syntax.specs.declared.error.Error.{Error}
+use Rattle.fancy_syntax.specs.declared.error.Error.TheVariants.{Memory}
+use Rattle.fancy_input.specs.declared.input.Request.{Request}
+use Rattle.fancy_input.specs.Requests.{whole}
+use Rattle.fancy_input.specs.Places.{next_place}
+use Rattle.fancy_core.specs.Left.{refused_next, at_first, at_next}
+use Rattle.fancy_core.specs.Limited.{Refuses}
+use Rattle.fancy_engine.specs.Search.{Query}
 use Rattle.fancy_engine.specs.Context.{Span}
 use Rattle.fancy_core.specs.declared.regex.Regex.{Regex}
 use Rattle.fancy_core.specs.GroupTexts.{Seen}
 use Rattle.fancy_core.specs.Matching.{Item, span_of_item, start_of, stop_of}
 use Rattle.fancy_core.specs.Pieces.{pieces, interleaved, limited}
-use Rattle.fancy_core.specs.Replacing.{Answers, IsReplaced, IsRefusedByReplacer, replaced, filled, seen_of}
+use Rattle.fancy_core.specs.Replacing.{Answers, IsReplaced, IsRefusedByReplacer, IsRefusedBySearch, replaced, filled, seen_of}
 use Rattle.fancy_core.specs.Limits.{up_to, is_reached, one_fewer}
 use Rattle.fancy_core.proofs.PieceLemmas.{whole_of}
+
+-- memory may run out in any search
+pub out_of_memory : (regex : Regex) (q : Query) (e : Error) → e ≡ Memory → Refuses regex q e
+out_of_memory regex q e h = subst (Refuses regex q) (sym h) tt
+
+pub text_out_of_memory : (regex : Regex) (t : List ℕ) (e : Error) → e ≡ Memory → IsRefusedBySearch regex t e
+text_out_of_memory regex t e h = (whole t, out_of_memory regex _ e h)
+
+-- the next search of an iteration over a text is a search of it
+pub text_refused : (regex : Regex) (text : Bool) (t : List ℕ) (r : Request) (c b : Bool) (e : Error) → refused_next regex text t r c b e → IsRefusedBySearch regex t e
+text_refused regex text t r c b e (at_first x) = (record r { continues = r.continues && c }, x)
+text_refused regex text t r c b e (at_next i on found empty stops x) = (record r { start = next_place text t r.start; continues = r.continues && false }, x)
 
 no_end : {A : Type 0} (xs : List A) (x : A) → xs ++ (x ∷ []) ≡ [] → ⊥
 no_end [] x e = absurd (cc)
@@ -163,6 +182,14 @@ seen_is a b e f g =
 pub none_is : {A : Type 0} (o : Option A) → ((x : A) → o ≡ Some x → ⊥) → o ≡ None
 none_is None h = refl
 none_is (Some x) h = absurd (h x refl)
+
+pub if_err : {A E : Type 0} (P Q : E → Type 0) → ((e : E) → P e → Q e) → (r : Result A E) → IfErr r P → IfErr r Q
+if_err P Q f (Ok a) h = tt
+if_err P Q f (Err e) h = f e h
+
+pub or_both : (A B C D : Type 0) → (A → C) → (B → D) → A ⊎ B → C ⊎ D
+or_both A B C D f g (inl a) = inl (f a)
+or_both A B C D f g (inr b) = inr (g b)
 
 pub if_ok : {A E : Type 0} (P Q : A → Type 0) → ((a : A) → P a → Q a) → (r : Result A E) → IfOk r P → IfOk r Q
 if_ok P Q f (Ok a) h = f a h

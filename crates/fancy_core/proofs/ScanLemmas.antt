@@ -6,9 +6,8 @@ use Rattle.fancy_input.specs.Requests.{effective_start}
 use Rattle.fancy_input.specs.Places.{next_place, is_boundary}
 use Rattle.fancy_input.proofs.PlaceLemmas.{next_place_above, next_place_boundary}
 use Rattle.fancy_engine.specs.Search.{Found, search}
-use Rattle.fancy_engine.specs.declared.search.Memory.{Memory}
-use Rattle.fancy_engine.specs.Threads.{state_of}
-use Rattle.fancy_engine.specs.Queries.{way_in, answer_of}
+use Rattle.fancy_core.specs.declared.scratch.Scratch.{Scratch}
+use Rattle.fancy_core.specs.Scratch.{found_at, answer_of}
 use Rattle.fancy_engine.proofs.FoundLemmas.{answer_within}
 use Rattle.fancy_engine.proofs.SearchLemmas.{answer-is}
 use Rattle.fancy_core.specs.declared.regex.Regex.{Regex}
@@ -25,7 +24,7 @@ pub search_lies : (regex : Regex) (haystack : List ℕ) (r : Request) (f : Found
 search_lies regex haystack r f range e =
     let within = answer_within (asked regex haystack r) f refl range e in
     let first = answer-is (asked regex haystack r) f refl e in
-    let kept : f.state.kept ≡ f.position = within.kept regex.easy in
+    let kept : f.state.kept ≡ f.position = within.kept regex.starts in
     let a : effective_start r ≤ f.position = first.tried.from in
     let b : f.position ≤ f.state.place = within.begins in
     (omega (arith, a, kept), omega (arith, b, kept), within.ends)
@@ -50,13 +49,13 @@ pub search_after : (regex : Regex) (haystack : List ℕ) (r : Request) (f : Foun
 search_after regex haystack r f range e = let l : effective_start r ≤ f.state.kept = (search_lies regex haystack r f range e).0 in grind (arith, common_steps)
 
 -- the same of what a search answered: q is r but for `\G`
-pub answered_after : (regex : Regex) (bytes haystack : List ℕ) (r q : Request) (b : Bool) (m : Option ℕ) (p : ℕ) (memory : Memory) → r.range_end ≤ length haystack → bytes ≡ haystack → q ≡ record r { continues = b } → m ≡ Some p →
-    answer_of m memory ≡ search (asked regex bytes q) → r.start ≤ p
+pub answered_after : (regex : Regex) (bytes haystack : List ℕ) (r q : Request) (b : Bool) (m : Option ℕ) (p : ℕ) (memory : Scratch) → r.range_end ≤ length haystack → bytes ≡ haystack → q ≡ record r { continues = b } → m ≡ Some p →
+    answer_of m memory ≡ search (asked regex bytes q) → r.start ≤ (found_at p memory).state.kept
 answered_after regex bytes haystack r q b m p memory range same moved found e =
-    let f : search (asked regex haystack (record r { continues = b })) ≡ Some (record { position = p; state = state_of p (way_in memory) }) = sym (rw (found, same, moved) at e) in
+    let f : search (asked regex haystack (record r { continues = b })) ≡ Some (found_at p memory) = sym (rw (found, same, moved) at e) in
     search_after regex haystack (record r { continues = b }) _ range f
 
-pub answered_groups : (regex : Regex) (text : Bool) (bytes haystack : List ℕ) (r q : Request) (b : Bool) (m : Option ℕ) (p : ℕ) (memory : Memory) → r.range_end ≤ length haystack → bytes ≡ haystack → q ≡ record r { continues = b } → m ≡ Some p →
+pub answered_groups : (regex : Regex) (text : Bool) (bytes haystack : List ℕ) (r q : Request) (b : Bool) (m : Option ℕ) (p : ℕ) (memory : Scratch) → r.range_end ≤ length haystack → bytes ≡ haystack → q ≡ record r { continues = b } → m ≡ Some p →
     Suits (options_in regex) text haystack → (text ≡ true → IsUtf8 bytes) → answer_of m memory ≡ search (asked regex bytes q) → HasGroups text haystack p memory
 answered_groups regex text bytes haystack r q b m p memory range same moved found suits utf8 e = record {
   cut = λ n. groups_cut regex text haystack (record r { continues = b }) p memory n range suits (λ t. rw same at (utf8 t)) (rw (found, same, moved) at e);

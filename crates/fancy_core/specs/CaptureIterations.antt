@@ -9,7 +9,7 @@ use Rattle.fancy_core.specs.Groups.{spans_of}
 use Rattle.fancy_core.specs.Matching.{Item}
 use Rattle.fancy_core.specs.Left.{GivesFirst, EndsUnlessOk, IfItem}
 use Rattle.fancy_core.specs.Regexes.{groups_in}
-use Rattle.fancy_core.specs.Iterations.{regex_in, text_of, next_request, has_ended, left_in, end_in}
+use Rattle.fancy_core.specs.Iterations.{regex_in, text_of, next_request, has_ended, left_in, end_in, refuses_next}
 
 -- the iteration over the matches alone
 abbrev pub matches_in : {S : Type 0} {g : _} → CaptureMatches S g → Matches S g
@@ -26,7 +26,7 @@ groups_left text bytes m = groups_of_each (groups_in (regex_in (matches_in m))) 
 -- One call of `next`, from s to t. A haystack is text where `text` holds of it, and has these bytes.
 pub record IsNextCaptures {S A : Type 0} {g : _} (text : S → Bool) (bytes : S → List ℕ) (spans : A → List (Option Span)) (searched : A → S) (found_by : A → Regex) (s : CaptureMatches S g) (r : Option (Result A Error)) (t : CaptureMatches S g) : Type 0 where
   -- the first of the matches that are left, or a refusal behind which there is none
-  pub gives : GivesFirst spans (groups_left text bytes) s r t
+  pub gives : GivesFirst (λ m e. refuses_next text bytes (matches_in m) e) spans (groups_left text bytes) s r t
   pub within_text : IfItem r (λ x. searched x ≡ text_of (matches_in s))
   pub within_regex : IfItem r (λ x. found_by x ≡ regex_in (matches_in s))
   pub same_regex : regex_in (matches_in t) ≡ regex_in (matches_in s)

@@ -4,9 +4,6 @@ use Rattle.std.specs.List.{range_with_len}
 use Rattle.fancy_input.specs.Places.{is_boundary}
 use Rattle.fancy_engine.specs.Context.{Span, group_span}
 use Rattle.fancy_engine.specs.Search.{Found, span_of}
-use Rattle.fancy_engine.specs.Queries.{way_in}
-use Rattle.fancy_engine.specs.Threads.{state_of}
-use Rattle.fancy_engine.specs.declared.search.Memory.{Memory}
 
 -- the span of one group, if it took part
 abbrev pub span_of_group : Found → ℕ → Option Span
@@ -19,10 +16,6 @@ spans_of n f = map (span_of_group f) (range_with_len 0 n)
 -- the span of a group among these; none past the last
 abbrev pub span_at : List (Option Span) → ℕ → Option Span
 span_at spans number = slice_index_or spans number None
-
--- what the last search with this memory found, at this position
-abbrev pub found_at : ℕ → Memory → Found
-found_at position memory = record { position = position; state = state_of position (way_in memory) }
 
 -- a haystack can be cut at both ends, and for text no character is cut
 pub record IsCut (text : Bool) (haystack : List ℕ) (start end : ℕ) : Type 0 where

@@ -5,7 +5,7 @@ use Rattle.fancy_input.specs.declared.input.Request.{Request}
 use Rattle.fancy_core.specs.declared.regex.Regex.{Regex}
 use Rattle.fancy_core.specs.declared.iter.Matches.{Matches}
 use Rattle.fancy_core.specs.Matching.{Item, span_of_item}
-use Rattle.fancy_core.specs.Left.{items_left, end_left, turns_left, start_behind, GivesFirst, EndsUnlessOk, IfItem}
+use Rattle.fancy_core.specs.Left.{items_left, end_left, turns_left, start_behind, refused_next, GivesFirst, EndsUnlessOk, IfItem}
 
 abbrev pub regex_in : {S : Type 0} {g : _} → Matches S g → Regex
 regex_in m = m.regex.now
@@ -33,6 +33,10 @@ spans_left text bytes m = map span_of_item (left_in text bytes m)
 abbrev pub end_in : {S : Type 0} {g : _} → (S → Bool) → (S → List ℕ) → Matches S g → ℕ
 end_in text bytes m = end_left m.regex.now (text m.walk.haystack) (bytes m.walk.haystack) m.walk.request m.walk.ended m.walk.continues m.walk.skips_empty
 
+-- the next search may be refused by this error
+abbrev pub refuses_next : {S : Type 0} {g : _} → (S → Bool) → (S → List ℕ) → Matches S g → Error → Type 0
+refuses_next text bytes m e = refused_next m.regex.now (text m.walk.haystack) (bytes m.walk.haystack) m.walk.request m.walk.continues m.walk.skips_empty e
+
 -- how many items can still come
 abbrev pub turns_of : {S : Type 0} {g : _} → (S → Bool) → (S → List ℕ) → Matches S g → ℕ
 turns_of text bytes m = turns_left m.walk.ended (left_in text bytes m)
@@ -40,7 +44,7 @@ turns_of text bytes m = turns_left m.walk.ended (left_in text bytes m)
 -- One call of `next`, from s to t. A haystack is text where `text` holds of it, and has these bytes; an item stands in `within` and has the span `span`.
 pub record IsNext {S A : Type 0} {g : _} (text : S → Bool) (bytes : S → List ℕ) (within : A → List ℕ) (span : A → ℕ × ℕ) (s : Matches S g) (r : Option (Result A Error)) (t : Matches S g) : Type 0 where
   -- the first of the spans that are left, or a refusal behind which there is none
-  pub gives : GivesFirst span (spans_left text bytes) s r t
+  pub gives : GivesFirst (refuses_next text bytes) span (spans_left text bytes) s r t
   pub within_text : IfItem r (λ x. within x ≡ bytes (text_of s))
   pub same_regex : regex_in t ≡ regex_in s
   pub same_text : text_of t ≡ text_of s

@@ -1,18 +1,17 @@
 -- What an iteration over the matches of a regex has left.
-use Rattle.std.specs.Prelude.{ℕ, zero, suc, ◌&&◌, length, ⊤, ◌≡◌, Bool, true, false, nat_eq, if◌then◌else◌, List, [], ◌∷◌, Option, Result, MatchOption, MatchResult}
+use Rattle.std.specs.Prelude.{ℕ, zero, suc, ◌&&◌, length, ⊤, ◌≡◌, Bool, true, false, nat_eq, if◌then◌else◌, List, [], ◌∷◌, Option, Some, Result, MatchOption, MatchResult}
 use Rattle.fancy_syntax.specs.declared.error.Error.{Error}
-use Rattle.fancy_syntax.specs.declared.error.Error.TheVariants.{Memory as OutOfMemory}
 use Rattle.fancy_input.specs.declared.input.Request.{Request}
 use Rattle.fancy_input.specs.Places.{next_place}
-use Rattle.fancy_engine.specs.declared.search.Memory.{Memory}
 use Rattle.fancy_engine.specs.Search.{search}
-use Rattle.fancy_engine.specs.Threads.{state_of}
-use Rattle.fancy_engine.specs.Queries.{way_in}
 use Rattle.fancy_core.specs.declared.regex.Regex.{Regex}
 use Rattle.fancy_core.specs.declared.walk.Located.{Located}
 use Rattle.fancy_core.specs.Regexes.{asked}
-use Rattle.fancy_core.specs.Groups.{AreCut, spans_of, found_at}
-use Rattle.fancy_core.specs.Matching.{Scan, Item, answer, unless_empty_at, start_unless_empty_at, items_from, end_from, matches, last_start}
+use Rattle.fancy_core.specs.declared.scratch.Scratch.{Scratch}
+use Rattle.fancy_core.specs.Groups.{AreCut, spans_of}
+use Rattle.fancy_core.specs.Limited.{Refuses}
+use Rattle.fancy_core.specs.Scratch.{found_at}
+use Rattle.fancy_core.specs.Matching.{Scan, Item, stop_of, is_empty, answer, unless_empty_at, start_unless_empty_at, items_from, end_from, matches, last_start}
 
 -- the iteration of a request; `text` says that the haystack is text
 abbrev pub scan : Regex → Bool → List ℕ → Request → Scan
@@ -32,12 +31,12 @@ abbrev pub last_start_of : Regex → Bool → List ℕ → Request → ℕ
 last_start_of regex text haystack r = last_start (scan regex text haystack r) r.start
 
 -- the haystack can be cut at the groups of what the last search with this memory found
-pub record HasGroups (text : Bool) (haystack : List ℕ) (position : ℕ) (memory : Memory) : Type 0 where
+pub record HasGroups (text : Bool) (haystack : List ℕ) (position : ℕ) (memory : Scratch) : Type 0 where
   pub cut : (n : ℕ) → AreCut text haystack (spans_of n (found_at position memory))
 
 -- what was located, with the groups that the search left in its memory
-abbrev pub item_in : Memory → Located → Item
-item_in memory l = record { found = record { position = l.start; state = state_of l.start (way_in memory) }; from = l.from; continues = l.continues }
+abbrev pub item_in : Scratch → Located → Item
+item_in memory l = record { found = found_at l.position memory; from = l.from; continues = l.continues }
 
 -- where the search behind a match starts: at its end, and behind an empty one at the next place
 abbrev pub start_behind : Bool → List ℕ → ℕ × ℕ → ℕ
@@ -69,9 +68,23 @@ end_if false k s c b = end_from k (start_if b k s c) (upcoming_if b k s c)
 abbrev pub end_left : Regex → Bool → List ℕ → Request → Bool → Bool → Bool → ℕ
 end_left regex text haystack r ended continues skips_empty = end_if ended (scan regex text haystack r) r.start continues skips_empty
 
--- One step of an iterator of results over the list `rest`: the first of them, or a refusal for want of memory, after which it has ended.
-abbrev pub GivesFirst : {S A B : Type 0} → (A → B) → (S → List B) → S → Option (Result A Error) → S → Type 0
-GivesFirst view rest s r t = MatchOption r ((rest s ≡ []) × (rest t ≡ [])) (λ item. MatchResult item (λ x. rest s ≡ view x ∷ rest t) (λ e. (e ≡ OutOfMemory) × (rest t ≡ [])))
+-- the search from s, with `\G` on or off, may be refused by this error
+abbrev pub refuses_at : Regex → List ℕ → Request → ℕ → Bool → Error → Type 0
+refuses_at regex haystack r s c e = Refuses regex (asked regex haystack (record r { start = s; continues = r.continues && c })) e
+
+-- The next search may be refused by this error, where an iteration stands at s: that from s, or that from the next place, where the empty match at s is passed over.
+pub data RefusesNext (refuses : ℕ → Bool → Error → Type 0) (k : Scan) (skips_empty : Bool) (s : ℕ) (c : Bool) (e : Error) : Type 0 where
+  at_first : refuses s c e → RefusesNext refuses k skips_empty s c e
+  at_next : (i : Item) → skips_empty ≡ true → answer k s c ≡ Some i → is_empty i ≡ true → stop_of i ≡ s → refuses (k.advance s) false e → RefusesNext refuses k skips_empty s c e
+
+-- the next search of what is left of an iteration may be refused by this error
+abbrev pub refused_next : Regex → Bool → List ℕ → Request → Bool → Bool → Error → Type 0
+refused_next regex text haystack r continues skips_empty e =
+    RefusesNext (refuses_at regex haystack r) (scan regex text haystack r) skips_empty r.start continues e
+
+-- One step of an iterator of results over the list `rest`: the first of them, or a refusal of its next search, after which it has ended.
+abbrev pub GivesFirst : {S A B : Type 0} → (S → Error → Type 0) → (A → B) → (S → List B) → S → Option (Result A Error) → S → Type 0
+GivesFirst refuses view rest s r t = MatchOption r ((rest s ≡ []) × (rest t ≡ [])) (λ item. MatchResult item (λ x. rest s ≡ view x ∷ rest t) (λ e. refuses s e × (rest t ≡ [])))
 
 -- how many items can still come: those that are left and one refusal
 abbrev pub turns_left : {A : Type 0} → Bool → List A → ℕ

@@ -3,6 +3,8 @@ pub mod Builders
 pub mod Compiled
 pub mod Regexes
 pub mod Searching
+pub mod Scratch
+pub mod Limited
 pub mod Groups
 pub mod Captured
 pub mod Names

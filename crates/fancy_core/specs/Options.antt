@@ -15,6 +15,7 @@ by_default = record {
   flags = record { ignore_case = false; multi_line = false; dot_all = false; ignore_blanks = false; crlf = false };
   ignore_numbered_groups_when_named_groups_exist = false;
   allow_input_assertion_overrides = false;
+  backtrack_limit = 1000000;
 }
 
 -- what an item consumes under these options

@@ -29,6 +29,10 @@ groups_in r = r.code.groups
 abbrev pub length_in : Regex → ℕ
 length_in r = code_len r.code
 
+-- how many returns a search may take
+abbrev pub limit_in : Regex → ℕ
+limit_in r = r.options.backtrack_limit
+
 -- what is searched for: the pattern, as the options have it
 abbrev pub sought_by : Options → ℕ → Pattern → Sought
 sought_by o groups p = record {

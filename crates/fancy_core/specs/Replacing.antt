@@ -7,10 +7,12 @@ use Rattle.fancy_core.specs.Escapes.{has_mark}
 use Rattle.fancy_core.specs.Expansions.{expansion}
 use Rattle.fancy_core.specs.GroupTexts.{Seen, captured}
 use Rattle.fancy_core.specs.Groups.{spans_of}
+use Rattle.fancy_input.specs.declared.input.Request.{Request}
 use Rattle.fancy_core.specs.Left.{matches_of}
+use Rattle.fancy_core.specs.Limited.{Refuses}
 use Rattle.fancy_core.specs.Matching.{Item, span_of_item}
 use Rattle.fancy_core.specs.Pieces.{pieces, interleaved}
-use Rattle.fancy_core.specs.Regexes.{groups_in}
+use Rattle.fancy_core.specs.Regexes.{groups_in, asked}
 use Rattle.fancy_core.specs.Templates.{dollar_syntax}
 
 -- a template without `$` is one text for all matches: its own characters
@@ -53,6 +55,10 @@ filled t items x = replaced t items (map (λ _. x) items)
 -- the matches in a text, from its start on
 abbrev pub all_matches : Regex → List ℕ → List Item
 all_matches regex t = matches_of regex true t (whole t)
+
+-- Some search of the text may be refused by this error.
+abbrev pub IsRefusedBySearch : Regex → List ℕ → Error → Type 0
+IsRefusedBySearch regex t e = (r : Request) × Refuses regex (asked regex t r) e
 
 -- These items of the text were replaced, and this is what came of it.
 pub record IsReplaced {R : Type 0} (fixed : Option (List ℕ)) (gave : R → Seen → List ℕ → R → Type 0) (first : R) (regex : Regex) (t : List ℕ) (items : List Item) (result : List ℕ) : Type 0 where

@@ -1,12 +1,11 @@
 -- What stands for an iterator over the pieces of a text.
 use Rattle.std.specs.Prelude.{◌≡◌, ◌<◌, ◌-◌, ℕ, zero, suc, Bool, true, false, not, List, [], ◌∷◌, map, Option, Result, MatchOption, MatchResult, ⊤}
 use Rattle.fancy_syntax.specs.declared.error.Error.{Error}
-use Rattle.fancy_syntax.specs.declared.error.Error.TheVariants.{Memory as OutOfMemory}
 use Rattle.fancy_core.specs.declared.regex.Regex.{Regex}
 use Rattle.fancy_core.specs.declared.split.Split.{Split}
 use Rattle.fancy_core.specs.declared.split.limited.SplitN.{SplitN}
 use Rattle.fancy_core.specs.Matching.{span_of_item}
-use Rattle.fancy_core.specs.Left.{turns_left}
+use Rattle.fancy_core.specs.Left.{turns_left, refused_next}
 use Rattle.fancy_core.specs.Replacing.{all_matches}
 use Rattle.fancy_core.specs.Pieces.{Progress, pieces_left, first_pieces_left, past_piece, rest_of}
 use Rattle.fancy_core.specs.Walks.{left_of}
@@ -39,9 +38,13 @@ turns_unless false n = suc n
 abbrev pub turns_of : Split → ℕ
 turns_of s = turns_unless s.ended (turns_left s.walk.ended (left_of s.regex.now s.walk))
 
--- One step over the list `rest`: the first of it, or a refusal for want of memory, behind which the list `after` is left.
-abbrev pub GivesPiece : {S A : Type 0} → (A → List ℕ) → (S → List (List ℕ)) → (S → List (List ℕ)) → S → Option (Result A Error) → S → Type 0
-GivesPiece bytes rest after s r t = MatchOption r ((rest s ≡ []) × (rest t ≡ [])) (λ item. MatchResult item (λ x. rest s ≡ bytes x ∷ rest t) (λ e. (e ≡ OutOfMemory) × (rest t ≡ after s)))
+-- its next search may be refused by this error
+abbrev pub refuses_next : Split → Error → Type 0
+refuses_next s e = refused_next s.regex.now true s.walk.haystack.now s.walk.request s.walk.continues s.walk.skips_empty e
+
+-- One step over the list `rest`: the first of it, or a refusal of the next search, behind which the list `after` is left.
+abbrev pub GivesPiece : {S A : Type 0} → (S → Error → Type 0) → (A → List ℕ) → (S → List (List ℕ)) → (S → List (List ℕ)) → S → Option (Result A Error) → S → Type 0
+GivesPiece refuses bytes rest after s r t = MatchOption r ((rest s ≡ []) × (rest t ≡ [])) (λ item. MatchResult item (λ x. rest s ≡ bytes x ∷ rest t) (λ e. refuses s e × (rest t ≡ after s)))
 
 -- a step goes on past the piece that it gives; behind a refusal no matches are left, and nothing is searched any more
 abbrev pub MovesOn : {A : Type 0} → Split → Option (Result A Error) → Split → Type 0
@@ -50,7 +53,7 @@ MovesOn s r t = MatchOption r (progress t ≡ progress s) (λ item. MatchResult 
 -- One call of `next`, from s to t. A piece has the bytes `bytes`.
 pub record IsNextPiece {A : Type 0} (bytes : A → List ℕ) (s : Split) (r : Option (Result A Error)) (t : Split) : Type 0 where
   -- the first of the pieces that are left, or a refusal, behind which the rest from the last end is left
-  pub gives : GivesPiece bytes (λ x. pieces_left (progress x)) (λ x. rest_of (progress x) ∷ []) s r t
+  pub gives : GivesPiece refuses_next bytes (λ x. pieces_left (progress x)) (λ x. rest_of (progress x) ∷ []) s r t
   pub moves : MovesOn s r t
   -- a refusal is that of a search, and the last one
   pub refuses : MatchOption r ⊤ (λ item. MatchResult item (λ _. ⊤) (λ _. (searches s ≡ true) × (searches t ≡ false)))
@@ -67,7 +70,7 @@ limit_in s = s.limit
 -- One call of `next`, from s to t. A piece has the bytes `bytes`.
 pub record IsNextOfFirst {A : Type 0} (bytes : A → List ℕ) (s : SplitN) (r : Option (Result A Error)) (t : SplitN) : Type 0 where
   -- the first of the pieces that are left, or a refusal, behind which the rest from the last end is left
-  pub gives : GivesPiece bytes (λ x. first_pieces_left (limit_in x) (progress (split_in x))) (λ x. first_pieces_left (limit_in x - 1) (record (progress (split_in x)) { spans = [] })) s r t
+  pub gives : GivesPiece (λ x e. refuses_next (split_in x) e) bytes (λ x. first_pieces_left (limit_in x) (progress (split_in x))) (λ x. first_pieces_left (limit_in x - 1) (record (progress (split_in x)) { spans = [] })) s r t
   pub counts : limit_in t ≡ limit_in s - 1
   -- the last piece that may come is the rest, and is not searched for
   pub moves : 1 < limit_in s → MovesOn (split_in s) r (split_in t)

@@ -7,13 +7,15 @@ ghost use Rattle.fancy_input.specs.Requests.{whole};
 ghost use Rattle.fancy_engine.specs.Search.{search};
 ghost use Rattle.fancy_engine.specs.Answers.{HasNone};
 ghost use Rattle.fancy_core.specs.Captured.{spans_in, searched_in, found_by};
-ghost use Rattle.fancy_core.specs.Groups.{spans_of, span_of_group, found_at};
+ghost use Rattle.fancy_core.specs.Groups.{spans_of, span_of_group};
+ghost use Rattle.fancy_core.specs.Limited.{Refuses, Allows};
+ghost use Rattle.fancy_core.specs.Scratch.{found_at};
 ghost use Rattle.fancy_core.specs.Regexes.{options_in, groups_in, asked};
 ghost use Rattle.fancy_core.specs.Searching.{Suits, StartsCleanly, CanSearch};
 
 use crate::captures::Captures;
 use crate::regex::Regex;
-use fancy_engine::search::Memory;
+use crate::scratch::Scratch;
 use fancy_engine::work::Work;
 use fancy_input::input::{Input, Request};
 use fancy_input::regex_input::RegexInput;
@@ -31,7 +33,8 @@ impl Regex {
         ensures found { IfOk result (λ m. option_map (λ c. spans_in c) m ≡ option_map (spans_of (groups_in self.now)) (search (asked self.now (S.bytes haystack) (whole (S.bytes haystack))))) }
         ensures within { IfOk result (λ m. IfSome m (λ c. searched_in c ≡ haystack)) }
         ensures regex { IfOk result (λ m. IfSome m (λ c. found_by c ≡ self.now)) }
-        ensures refused { IfErr result (λ e. e ≡ Error.Memory) }
+        ensures refused { IfErr result (λ e. Refuses self.now (asked self.now (S.bytes haystack) (whole (S.bytes haystack))) e) }
+        ensures allowed { IfOk result (λ _. Allows self.now (asked self.now (S.bytes haystack) (whole (S.bytes haystack)))) }
     {
         let input = RegexInput::new(haystack);
         let found = self.captures_input(input)?;
@@ -50,7 +53,8 @@ impl Regex {
         ensures found { IfOk result (λ m. option_map (λ c. spans_in c) m ≡ option_map (spans_of (groups_in self.now)) (search (asked self.now (S.bytes haystack) (record (whole (S.bytes haystack)) { start = start })))) }
         ensures within { IfOk result (λ m. IfSome m (λ c. searched_in c ≡ haystack)) }
         ensures regex { IfOk result (λ m. IfSome m (λ c. found_by c ≡ self.now)) }
-        ensures refused { IfErr result (λ e. e ≡ Error.Memory) }
+        ensures refused { IfErr result (λ e. Refuses self.now (asked self.now (S.bytes haystack) (record (whole (S.bytes haystack)) { start = start })) e) }
+        ensures allowed { IfOk result (λ _. Allows self.now (asked self.now (S.bytes haystack) (record (whole (S.bytes haystack)) { start = start }))) }
     {
         let input = RegexInput::new(haystack).from_pos(start);
         let found = self.captures_input(input)?;
@@ -66,9 +70,10 @@ impl Regex {
         ensures found { IfOk result (λ m. option_map (λ c. spans_in c) m ≡ option_map (spans_of (groups_in self.now)) (search (asked self.now (S.bytes (haystack_in input)) (request_in input)))) }
         ensures within { IfOk result (λ m. IfSome m (λ c. searched_in c ≡ haystack_in input)) }
         ensures regex { IfOk result (λ m. IfSome m (λ c. found_by c ≡ self.now)) }
-        ensures refused { IfErr result (λ e. e ≡ Error.Memory) }
+        ensures refused { IfErr result (λ e. Refuses self.now (asked self.now (S.bytes (haystack_in input)) (request_in input)) e) }
+        ensures allowed { IfOk result (λ _. Allows self.now (asked self.now (S.bytes (haystack_in input)) (request_in input))) }
     {
-        let mut memory = Memory::new(self.allocator());
+        let mut memory = Scratch::new(self.allocator());
         let found = self.captured(input.haystack(), input.request(), &mut memory)?;
         Ok(found)
     }
@@ -78,47 +83,48 @@ impl Regex {
         &'r self,
         haystack: S,
         request: Request,
-        memory: &mut Memory,
+        memory: &mut Scratch,
     ) -> Result<Option<Captures<'r, S>>>
         requires inside { request.range_end ≤ length (S.bytes haystack) }
         requires suits { Suits (options_in self.now) (S.text haystack) (S.bytes haystack) }
         ensures found { IfOk result (λ m. option_map (λ c. spans_in c) m ≡ option_map (spans_of (groups_in self.now)) (search (asked self.now (S.bytes haystack) request))) }
         ensures within { IfOk result (λ m. IfSome m (λ c. searched_in c ≡ haystack)) }
         ensures regex { IfOk result (λ m. IfSome m (λ c. found_by c ≡ self.now)) }
-        ensures refused { IfErr result (λ e. e ≡ Error.Memory) }
+        ensures refused { IfErr result (λ e. Refuses self.now (asked self.now (S.bytes haystack) request) e) }
+        ensures allowed { IfOk result (λ _. Allows self.now (asked self.now (S.bytes haystack) request)) }
     {
         let mut work = Work::new();
         let found = self.search(haystack.as_bytes(), request, memory, &mut work)?;
-        let Some(start) = found else {
+        let Some(position) = found else {
             return Ok(None);
         };
-        let slots = groups_found(self.allocator(), self.captures_len(), start, memory)?;
+        let slots = groups_found(self.allocator(), self.captures_len(), position, memory)?;
         Ok(Some(Captures::new(self, haystack, slots)))
     }
 }
 
-/// The spans of so many groups of the match that was found at `start`, in byte offsets.
+/// The spans of so many groups of the match that was found at a position, in byte offsets.
 pub(crate) fn groups_found(
     alloc: Global,
     count: usize,
-    start: usize,
-    memory: &Memory,
+    position: usize,
+    memory: &Scratch,
 ) -> std::result::Result<Vec<Option<(usize, usize)>>, AllocError>
-    ensures { IfOk result (λ slots. slots.items ≡ spans_of count (found_at start memory.now)) }
+    ensures { IfOk result (λ slots. slots.items ≡ spans_of count (found_at position memory.now)) }
 {
     let mut slots = Vec::new(alloc);
     for number in 0..count {
-        slots.push(group_found(number, start, memory))?;
+        slots.push(group_found(number, position, memory))?;
     }
     Ok(slots)
 }
 
-/// The span of the group with this number in the match that was found at `start`; group 0 is the match itself.
-fn group_found(number: usize, start: usize, memory: &Memory) -> Option<(usize, usize)>
-    ensures { result ≡ span_of_group (found_at start memory.now) number }
+/// The span of the group with this number in the match that was found at a position; group 0 is the match itself.
+fn group_found(number: usize, position: usize, memory: &Scratch) -> Option<(usize, usize)>
+    ensures { result ≡ span_of_group (found_at position memory.now) number }
 {
     if number == 0 {
-        return Some((start, memory.end()));
+        return Some((memory.start(position), memory.end()));
     }
     match memory.group(number) {
         Some(extent) => Some((extent.start, extent.end)),

@@ -11,9 +11,9 @@ ghost use Rattle.fancy_core.specs.Left.{matches_of, last_start_of};
 mod captures;
 
 use crate::regex::Regex;
+use crate::scratch::Scratch;
 use crate::walk::Walk;
 pub use captures::CaptureMatches;
-use fancy_engine::search::Memory;
 use fancy_input::input::{Haystack, Input};
 use fancy_input::regex_input::RegexInput;
 use fancy_syntax::error::Result;
@@ -30,7 +30,7 @@ use fancy_syntax::error::Result;
 pub struct Matches<'r, S: Haystack> {
     regex: &'r Regex,
     walk: Walk<S>,
-    memory: Memory,
+    memory: Scratch,
     ghost suits: { Suits (options_in regex.now) (S.text walk.haystack) (S.bytes walk.haystack) },
 }
 
@@ -55,7 +55,7 @@ impl Regex {
         Matches {
             regex: self,
             walk: Walk::new(RegexInput::new(haystack)),
-            memory: Memory::new(self.allocator()),
+            memory: Scratch::new(self.allocator()),
         }
     }
 
@@ -73,7 +73,7 @@ impl Regex {
         Matches {
             regex: self,
             walk: Walk::new(input),
-            memory: Memory::new(self.allocator()),
+            memory: Scratch::new(self.allocator()),
         }
     }
 }

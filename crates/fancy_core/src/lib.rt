@@ -18,6 +18,7 @@ pub mod regex;
 mod replace;
 pub mod replacer;
 mod rewriting;
+mod scratch;
 pub mod split;
 pub mod steps;
 pub mod template_laws;

@@ -9,6 +9,9 @@ use fancy_syntax::flags::Flags;
 use fancy_syntax::parse::Syntax;
 use fancy_syntax::tree::{BytesMode, Meaning};
 
+/// How many returns a search may take where nothing else is set.
+const BACKTRACK_LIMIT: usize = 1_000_000;
+
 /// The switches of a regex.
 #[derive(Clone, Copy, PartialEq, Eq)]
 pub struct Options {
@@ -22,6 +25,8 @@ pub struct Options {
     pub ignore_numbered_groups_when_named_groups_exist: bool,
     /// Whether an input may suppress the text's start and its end.
     pub allow_input_assertion_overrides: bool,
+    /// How many returns to an earlier choice a search for a hard pattern may take.
+    pub backtrack_limit: usize,
 }
 
 impl Options {
@@ -70,6 +75,7 @@ impl RegexOptionsBuilder {
                 flags: Flags::NONE,
                 ignore_numbered_groups_when_named_groups_exist: false,
                 allow_input_assertion_overrides: false,
+                backtrack_limit: BACKTRACK_LIMIT,
             },
         }
     }
@@ -184,6 +190,25 @@ impl RegexOptionsBuilder {
         ensures value { options_of result.now ≡ record (options_of self.old) { allow_input_assertion_overrides = yes } }
     {
         self.options.allow_input_assertion_overrides = yes;
+        self
+    }
+
+    /// How many returns to an earlier choice a search for a hard pattern may take, before it is refused as
+    /// `RuntimeError(BacktrackLimitExceeded)`. 1,000,000 by default.
+    ///
+    /// A return is counted each time that the search goes back to a choice and takes its later side; going on to
+    /// the next position of the text is none. Patterns that are easy ([`Regex::is_easy`](crate::regex::Regex::is_easy))
+    /// do not heed it: their searches are bounded by the lengths of code and text.
+    ///
+    /// ```text
+    /// let regex = RegexOptionsBuilder::new().backtrack_limit(0).build(pattern)?;    // of `(?:a|b)(?=c)`
+    /// regex.find("bc")    // Err(RuntimeError(BacktrackLimitExceeded)): the second branch is one return
+    /// ```
+    pub fn backtrack_limit(&mut self, limit: usize) -> &mut Self
+        ensures same { result.ghost_name ≡ self.entry.ghost_name }
+        ensures value { options_of result.now ≡ record (options_of self.old) { backtrack_limit = limit } }
+    {
+        self.options.backtrack_limit = limit;
         self
     }
 

@@ -11,26 +11,30 @@ ghost use Rattle.fancy_input.specs.Requests.{whole, effective_start};
 ghost use Rattle.fancy_syntax.specs.Sizes.{nodes};
 ghost use Rattle.fancy_engine.specs.Code.{code_len, instrs_of};
 ghost use Rattle.fancy_engine.specs.Means.{is_easy, are_easy};
-ghost use Rattle.fancy_engine.specs.Queries.{way_in, answer_of};
-ghost use Rattle.fancy_engine.specs.Placed.{has_raw_byte};
-ghost use Rattle.fancy_core.specs.Groups.{AreCut, spans_of, found_at};
+ghost use Rattle.fancy_engine.specs.Placed.{has_raw_byte, has_keep_start};
 ghost use Rattle.fancy_engine.specs.Work.{steps_of, returns_of};
 ghost use Rattle.fancy_engine.specs.Search.{search, span_of};
 ghost use Rattle.fancy_engine.specs.Answers.{HasNone};
 ghost use Rattle.fancy_core.specs.Builders.{options_of};
 ghost use Rattle.fancy_core.specs.Compiled.{IsCompiled};
+ghost use Rattle.fancy_core.specs.Scratch.{state_in, answer_of};
+ghost use Rattle.fancy_syntax.specs.declared.error.RuntimeError.TheVariants.{BacktrackLimitExceeded};
 ghost use Rattle.fancy_core.specs.Options.{by_default, dialect_of, meaning_in};
 ghost use Rattle.fancy_core.specs.Searching.{Suits, StartsCleanly, CanSearch};
 ghost use Rattle.fancy_syntax.specs.Modes.{keeps_characters};
 
 use crate::options::{Options, RegexOptionsBuilder};
+use crate::scratch::{Engine, Scratch};
 use fancy_engine::code::Code;
 use fancy_engine::compile::compile;
-use fancy_engine::search::{self, Memory, Switches};
+use fancy_engine::classify::is_easy;
+use fancy_engine::refusal::Refusal;
+use fancy_engine::search::{self as runner, Switches};
 use fancy_engine::work::Work;
 use fancy_input::input::{Haystack, Input, Request};
 use fancy_input::regex_input::RegexInput;
-use fancy_syntax::error::{Error, Result};
+use fancy_machine::search as machine;
+use fancy_syntax::error::{Error, Result, RuntimeError};
 use fancy_syntax::name::GroupName;
 use fancy_syntax::parse::{Parsed, parse_with};
 use fancy_syntax::tree::Tree;
@@ -48,17 +52,21 @@ pub struct Regex {
     tree: Tree,
     code: Code,
     names: Vec<GroupName>,
+    // which engine serves is decided once
+    easy: bool,
     ghost compiled: { ∥ IsCompiled (pattern_of tree) code (named_groups names.items) ∥₁ },
     ghost meant: { code.meaning ≡ meaning_in options },
     ghost short: { code_len code ≤ 4 * nodes (pattern_of tree) + 2 },
-    ghost easy: { is_easy (pattern_of tree) ≡ true },
-    ghost light: { are_easy (instrs_of code) ≡ true },
+    ghost decided: { easy ≡ is_easy (pattern_of tree) },
+    ghost light: { is_easy (pattern_of tree) ≡ true → are_easy (instrs_of code) ≡ true },
+    ghost starts: { has_keep_start (pattern_of tree) ≡ false },
     ghost whole: { keeps_characters options.bytes_mode ≡ true → has_raw_byte (pattern_of tree) ≡ false },
 }
 
 impl Regex {
     ghost use Rattle.fancy_core.specs.Names.{names_in};
-    ghost use Rattle.fancy_core.specs.Regexes.{text_of, pattern_in, options_in, groups_in, length_in, asked};
+    ghost use Rattle.fancy_core.specs.Regexes.{text_of, pattern_in, options_in, groups_in, length_in, limit_in, asked};
+    ghost use Rattle.fancy_core.specs.Limited.{IsHard, Refuses, Allows, returns_in};
 
     /// Reads a pattern, with the default options.
     ///
@@ -112,7 +120,7 @@ impl Regex {
     pub fn is_easy(&self) -> bool
         ensures { result ≡ is_easy (pattern_in self.now) }
     {
-        true
+        self.easy
     }
 
     /// How many instructions the pattern's code has: at most 4 for each node of the pattern with its counted repeats
@@ -149,7 +157,8 @@ impl Regex {
         ensures found { IfOk result (λ m. option_map S.span m ≡ option_map span_of (search (asked self.now (S.bytes haystack) (whole (S.bytes haystack))))) }
         ensures none { IfOk result (λ m. (m ≡ None) ↔ HasNone (asked self.now (S.bytes haystack) (whole (S.bytes haystack)))) }
         ensures within { IfOk result (λ m. IfSome m (λ x. S.within x ≡ S.bytes haystack)) }
-        ensures refused { IfErr result (λ e. e ≡ Error.Memory) }
+        ensures refused { IfErr result (λ e. Refuses self.now (asked self.now (S.bytes haystack) (whole (S.bytes haystack))) e) }
+        ensures allowed { IfOk result (λ _. Allows self.now (asked self.now (S.bytes haystack) (whole (S.bytes haystack)))) }
     {
         let whole = RegexInput::new(haystack);
         let found = self.find_input(whole)?;
@@ -163,7 +172,8 @@ impl Regex {
         ensures found { IfOk result (λ m. option_map S.span m ≡ option_map span_of (search (asked self.now (S.bytes haystack) (record (whole (S.bytes haystack)) { start = start })))) }
         ensures none { IfOk result (λ m. (m ≡ None) ↔ HasNone (asked self.now (S.bytes haystack) (record (whole (S.bytes haystack)) { start = start }))) }
         ensures within { IfOk result (λ m. IfSome m (λ x. S.within x ≡ S.bytes haystack)) }
-        ensures refused { IfErr result (λ e. e ≡ Error.Memory) }
+        ensures refused { IfErr result (λ e. Refuses self.now (asked self.now (S.bytes haystack) (record (whole (S.bytes haystack)) { start = start })) e) }
+        ensures allowed { IfOk result (λ _. Allows self.now (asked self.now (S.bytes haystack) (record (whole (S.bytes haystack)) { start = start }))) }
     {
         let input = RegexInput::new(haystack).from_pos(start);
         let found = self.find_input(input)?;
@@ -176,7 +186,8 @@ impl Regex {
         ensures found { IfOk result (λ m. option_map S.span m ≡ option_map span_of (search (asked self.now (S.bytes (haystack_in input)) (request_in input)))) }
         ensures none { IfOk result (λ m. (m ≡ None) ↔ HasNone (asked self.now (S.bytes (haystack_in input)) (request_in input))) }
         ensures within { IfOk result (λ m. IfSome m (λ x. S.within x ≡ S.bytes (haystack_in input))) }
-        ensures refused { IfErr result (λ e. e ≡ Error.Memory) }
+        ensures refused { IfErr result (λ e. Refuses self.now (asked self.now (S.bytes (haystack_in input)) (request_in input)) e) }
+        ensures allowed { IfOk result (λ _. Allows self.now (asked self.now (S.bytes (haystack_in input)) (request_in input))) }
     {
         let mut work = Work::new();
         let found = self.located(input.haystack(), input.request(), &mut work)?;
@@ -196,9 +207,12 @@ impl Regex {
         requires searched { CanSearch (options_in self.now) (S.text (haystack_in input)) (S.bytes (haystack_in input)) (request_in input) }
         ensures found { IfOk result (λ m. option_map S.span m ≡ option_map span_of (search (asked self.now (S.bytes (haystack_in input)) (request_in input)))) }
         ensures within { IfOk result (λ m. IfSome m (λ x. S.within x ≡ S.bytes (haystack_in input))) }
-        ensures refused { IfErr result (λ e. e ≡ Error.Memory) }
-        ensures steps { IfOk result (λ _. steps_of work.new ≤ length_in self.now * ((request_in input).range_end + 1 - effective_start (request_in input))) }
-        ensures returns { IfOk result (λ _. returns_of work.new ≤ steps_of work.new) }
+        ensures refused { IfErr result (λ e. Refuses self.now (asked self.now (S.bytes (haystack_in input)) (request_in input)) e) }
+        ensures steps { is_easy (pattern_in self.now) ≡ true → IfOk result (λ _. steps_of work.new ≤ length_in self.now * ((request_in input).range_end + 1 - effective_start (request_in input))) }
+        ensures returns { is_easy (pattern_in self.now) ≡ true → IfOk result (λ _. returns_of work.new ≤ steps_of work.new) }
+        ensures counted { IsHard self.now → IfOk result (λ _. returns_of work.new ≡ returns_in (asked self.now (S.bytes (haystack_in input)) (request_in input))) }
+        ensures stopped { IsHard self.now → result ≡ Err (Error.RuntimeError BacktrackLimitExceeded) → returns_of work.new ≡ limit_in self.now }
+        ensures fits { IsHard self.now → returns_of work.new ≤ limit_in self.now }
     {
         let found = self.located(input.haystack(), input.request(), work)?;
         Ok(found)
@@ -215,23 +229,27 @@ impl Regex {
         requires suits { Suits (options_in self.now) (S.text haystack) (S.bytes haystack) }
         ensures found { IfOk result (λ m. option_map S.span m ≡ option_map span_of (search (asked self.now (S.bytes haystack) request))) }
         ensures within { IfOk result (λ m. IfSome m (λ x. S.within x ≡ S.bytes haystack)) }
-        ensures refused { IfErr result (λ e. e ≡ Error.Memory) }
-        ensures steps { IfOk result (λ _. steps_of work.new ≤ length_in self.now * (request.range_end + 1 - effective_start request)) }
-        ensures returns { IfOk result (λ _. returns_of work.new ≤ steps_of work.new) }
+        ensures refused { IfErr result (λ e. Refuses self.now (asked self.now (S.bytes haystack) request) e) }
+        ensures steps { is_easy (pattern_in self.now) ≡ true → IfOk result (λ _. steps_of work.new ≤ length_in self.now * (request.range_end + 1 - effective_start request)) }
+        ensures returns { is_easy (pattern_in self.now) ≡ true → IfOk result (λ _. returns_of work.new ≤ steps_of work.new) }
+        ensures counted { IsHard self.now → IfOk result (λ _. returns_of work.new ≡ returns_in (asked self.now (S.bytes haystack) request)) }
+        ensures stopped { IsHard self.now → result ≡ Err (Error.RuntimeError BacktrackLimitExceeded) → returns_of work.new ≡ limit_in self.now }
+        ensures fits { IsHard self.now → returns_of work.new ≤ limit_in self.now }
     {
-        let mut memory = Memory::new(self.allocator());
+        let mut memory = Scratch::new(self.allocator());
         let found = self.search(haystack.as_bytes(), request, &mut memory, work)?;
-        let Some(start) = found else {
+        let Some(position) = found else {
             return Ok(None);
         };
-        Ok(Some(haystack.make_match(start, memory.end())))
+        Ok(Some(haystack.make_match(memory.start(position), memory.end())))
     }
 
     /// Whether the pattern matches anywhere in the haystack.
     pub fn is_match<S: Input>(&self, haystack: S) -> Result<bool>
         requires suits { Suits (options_in self.now) (S.text haystack) (S.bytes haystack) }
         ensures found { IfOk result (λ b. b ≡ is_some (search (asked self.now (S.bytes haystack) (whole (S.bytes haystack))))) }
-        ensures refused { IfErr result (λ e. e ≡ Error.Memory) }
+        ensures refused { IfErr result (λ e. Refuses self.now (asked self.now (S.bytes haystack) (whole (S.bytes haystack))) e) }
+        ensures allowed { IfOk result (λ _. Allows self.now (asked self.now (S.bytes haystack) (whole (S.bytes haystack)))) }
     {
         let input = RegexInput::new(haystack);
         let found = self.is_match_input(input)?;
@@ -242,10 +260,11 @@ impl Regex {
     pub fn is_match_input<S: Input>(&self, input: RegexInput<S>) -> Result<bool>
         requires searched { CanSearch (options_in self.now) (S.text (haystack_in input)) (S.bytes (haystack_in input)) (request_in input) }
         ensures found { IfOk result (λ b. b ≡ is_some (search (asked self.now (S.bytes (haystack_in input)) (request_in input)))) }
-        ensures refused { IfErr result (λ e. e ≡ Error.Memory) }
+        ensures refused { IfErr result (λ e. Refuses self.now (asked self.now (S.bytes (haystack_in input)) (request_in input)) e) }
+        ensures allowed { IfOk result (λ _. Allows self.now (asked self.now (S.bytes (haystack_in input)) (request_in input))) }
     {
         let haystack = input.haystack();
-        let mut memory = Memory::new(self.allocator());
+        let mut memory = Scratch::new(self.allocator());
         let mut work = Work::new();
         let found = self.search(haystack.as_bytes(), input.request(), &mut memory, &mut work)?;
         Ok(found.is_some())
@@ -257,14 +276,38 @@ impl Regex {
         &self,
         haystack: &[u8],
         request: Request,
-        memory: &mut Memory,
+        memory: &mut Scratch,
         work: &mut Work,
     ) -> Result<Option<usize>>
         requires inside { request.range_end ≤ length haystack.now }
         ensures answer { IfOk result (λ m. answer_of m memory.new ≡ search (asked self.now haystack.now request)) }
-        ensures ordered { IfOk result (λ m. IfSome m (λ p. p ≤ (way_in memory.new).place)) }
-        ensures inside { IfOk result (λ m. IfSome m (λ _. (way_in memory.new).place ≤ request.range_end)) }
-        ensures cleanly { IsTrue (keeps_characters (options_in self.now).bytes_mode) → IfOk result (λ m. IfSome m (λ p. IsTrue (is_boundary haystack.now p) × IsTrue (is_boundary haystack.now (way_in memory.new).place))) }
+        ensures ordered { IfOk result (λ m. IfSome m (λ p. (state_in p memory.new).kept ≤ (state_in p memory.new).place)) }
+        ensures inside { IfOk result (λ m. IfSome m (λ p. (state_in p memory.new).place ≤ request.range_end)) }
+        ensures cleanly { IsTrue (keeps_characters (options_in self.now).bytes_mode) → IfOk result (λ m. IfSome m (λ p. IsTrue (is_boundary haystack.now (state_in p memory.new).kept) × IsTrue (is_boundary haystack.now (state_in p memory.new).place))) }
+        ensures steps { is_easy (pattern_in self.now) ≡ true → IfOk result (λ _. steps_of work.new ≤ length_in self.now * (request.range_end + 1 - effective_start request)) }
+        ensures returns { is_easy (pattern_in self.now) ≡ true → IfOk result (λ _. returns_of work.new ≤ steps_of work.new) }
+        ensures counted { IsHard self.now → IfOk result (λ _. returns_of work.new ≡ returns_in (asked self.now haystack.now request)) }
+        ensures stopped { IsHard self.now → result ≡ Err (Error.RuntimeError BacktrackLimitExceeded) → returns_of work.new ≡ limit_in self.now }
+        ensures fits { IsHard self.now → returns_of work.new ≤ limit_in self.now }
+        ensures refused { IfErr result (λ e. Refuses self.now (asked self.now haystack.now request) e) }
+    {
+        if self.easy {
+            return self.run(haystack, request, memory, work);
+        }
+        self.backtrack(haystack, request, memory, work)
+    }
+
+    /// The search for an easy pattern, by the memoised runner.
+    fn run(
+        &self,
+        haystack: &[u8],
+        request: Request,
+        memory: &mut Scratch,
+        work: &mut Work,
+    ) -> Result<Option<usize>>
+        requires inside { request.range_end ≤ length haystack.now }
+        requires easy { is_easy (pattern_in self.now) ≡ true }
+        ensures answer { IfOk result (λ m. answer_of m memory.new ≡ search (asked self.now haystack.now request)) }
         ensures steps { IfOk result (λ _. steps_of work.new ≤ length_in self.now * (request.range_end + 1 - effective_start request)) }
         ensures returns { IfOk result (λ _. returns_of work.new ≤ steps_of work.new) }
         ensures refused { IfErr result (λ e. e ≡ Error.Memory) }
@@ -274,9 +317,46 @@ impl Regex {
             on_boundaries,
             overrides: self.options.allow_input_assertion_overrides,
         };
-        match search::search(&self.code, haystack, request, switches, memory, work) {
+        memory.served = Engine::Runner;
+        let runner = &mut memory.runner;
+        match runner::search(&self.code, haystack, request, switches, runner, work) {
             Ok(found) => Ok(found),
             Err(_) => Err(Error::Memory),
+        }
+    }
+
+    /// The search for a hard pattern, by the backtracking machine.
+    fn backtrack(
+        &self,
+        haystack: &[u8],
+        request: Request,
+        memory: &mut Scratch,
+        work: &mut Work,
+    ) -> Result<Option<usize>>
+        ghost p: { Pattern }
+        requires inside { request.range_end ≤ length haystack.now }
+        requires of { p ≡ pattern_in self.now }
+        requires hard { IsHard self.now }
+        ensures answer { IfOk result (λ m. answer_of m memory.new ≡ search (asked self.now haystack.now request)) }
+        ensures counted { IfOk result (λ _. returns_of work.new ≡ returns_in (asked self.now haystack.now request)) }
+        ensures stopped { result ≡ Err (Error.RuntimeError BacktrackLimitExceeded) → returns_of work.new ≡ limit_in self.now }
+        ensures fits { returns_of work.new ≤ limit_in self.now }
+        ensures refused { IfErr result (λ e. Refuses self.now (asked self.now haystack.now request) e) }
+    {
+        let on_boundaries = self.options.bytes_mode.keeps_characters();
+        let options = machine::Options {
+            on_boundaries,
+            overrides: self.options.allow_input_assertion_overrides,
+            not_empty: false,
+            limit: self.options.backtrack_limit,
+        };
+        memory.served = Engine::Machine;
+        let trail = &mut memory.machine;
+        match machine::search(&self.code, haystack, request, options, trail, work) {
+            Ok(found) => Ok(found),
+            Err(Refusal::Memory) => Err(Error::Memory),
+            Err(Refusal::Returns) => Err(Error::RuntimeError(RuntimeError::BacktrackLimitExceeded)),
+            Err(Refusal::Choices) => Err(Error::RuntimeError(RuntimeError::StackOverflow)),
         }
     }
 }
@@ -303,12 +383,14 @@ impl RegexOptionsBuilder {
             names,
         } = parse_with(alloc, pattern.as_str(), options.syntax())?;
         let code = compile(alloc, &tree, groups, options.meaning())?;
+        let easy = is_easy(&tree);
         Ok(Regex {
             pattern,
             options,
             tree,
             code,
             names,
+            easy,
         })
     }
 }

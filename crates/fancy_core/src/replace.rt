@@ -4,7 +4,7 @@ ghost use Rattle.std.specs.Prelude.{◌≡◌, ◌↔◌, ◌⊎◌, [], true, N
 ghost use Rattle.std.specs.Cow.{cow_str_bytes, IsBorrowedStr};
 ghost use Rattle.fancy_core.specs.Pieces.{limited};
 ghost use Rattle.fancy_core.specs.Regexes.{options_in};
-ghost use Rattle.fancy_core.specs.Replacing.{IsReplaced, IsRefusedByReplacer, all_matches, filled};
+ghost use Rattle.fancy_core.specs.Replacing.{IsReplaced, IsRefusedByReplacer, IsRefusedBySearch, all_matches, filled};
 ghost use Rattle.fancy_core.specs.Searching.{Suits};
 
 use crate::regex::Regex;
@@ -31,7 +31,7 @@ impl Regex {
         ensures borrowed { IfOk result (λ t. IsBorrowedStr t ↔ (all_matches self.now text.now ≡ [])) }
         ensures kept { IfOk result (λ t. IsBorrowedStr t → cow_str_bytes t ≡ text.now) }
         ensures text { IfOk result (λ t. IsReplaced (R.fixed replacer) R.appends replacer self.now text.now (limited 1 (all_matches self.now text.now)) (cow_str_bytes t)) }
-        ensures refused { IfErr result (λ e. (e ≡ Error.Memory) ⊎ IsRefusedByReplacer (R.fixed replacer) R.appends R.refuses replacer self.now text.now (limited 1 (all_matches self.now text.now)) e) }
+        ensures refused { IfErr result (λ e. IsRefusedBySearch self.now text.now e ⊎ IsRefusedByReplacer (R.fixed replacer) R.appends R.refuses replacer self.now text.now (limited 1 (all_matches self.now text.now)) e) }
     {
         self.try_replacen(text, 1, replacer)
     }
@@ -51,7 +51,7 @@ impl Regex {
         ensures borrowed { IfOk result (λ t. IsBorrowedStr t ↔ (all_matches self.now text.now ≡ [])) }
         ensures kept { IfOk result (λ t. IsBorrowedStr t → cow_str_bytes t ≡ text.now) }
         ensures text { IfOk result (λ t. IsReplaced (R.fixed replacer) R.appends replacer self.now text.now (all_matches self.now text.now) (cow_str_bytes t)) }
-        ensures refused { IfErr result (λ e. (e ≡ Error.Memory) ⊎ IsRefusedByReplacer (R.fixed replacer) R.appends R.refuses replacer self.now text.now (all_matches self.now text.now) e) }
+        ensures refused { IfErr result (λ e. IsRefusedBySearch self.now text.now e ⊎ IsRefusedByReplacer (R.fixed replacer) R.appends R.refuses replacer self.now text.now (all_matches self.now text.now) e) }
     {
         self.try_replacen(text, 0, replacer)
     }
@@ -72,7 +72,7 @@ impl Regex {
         ensures borrowed { IfOk result (λ t. IsBorrowedStr t ↔ (all_matches self.now text.now ≡ [])) }
         ensures kept { IfOk result (λ t. IsBorrowedStr t → cow_str_bytes t ≡ text.now) }
         ensures text { IfOk result (λ t. IsReplaced (R.fixed replacer) R.appends replacer self.now text.now (limited limit (all_matches self.now text.now)) (cow_str_bytes t)) }
-        ensures refused { IfErr result (λ e. (e ≡ Error.Memory) ⊎ IsRefusedByReplacer (R.fixed replacer) R.appends R.refuses replacer self.now text.now (limited limit (all_matches self.now text.now)) e) }
+        ensures refused { IfErr result (λ e. IsRefusedBySearch self.now text.now e ⊎ IsRefusedByReplacer (R.fixed replacer) R.appends R.refuses replacer self.now text.now (limited limit (all_matches self.now text.now)) e) }
     {
         self.try_replacen(text, limit, replacer)
     }
@@ -94,7 +94,7 @@ impl Regex {
         ensures borrowed { IfOk result (λ t. IsBorrowedStr t ↔ (all_matches self.now text.now ≡ [])) }
         ensures kept { IfOk result (λ t. IsBorrowedStr t → cow_str_bytes t ≡ text.now) }
         ensures text { IfOk result (λ t. IsReplaced (R.fixed replacer) R.appends replacer self.now text.now (limited limit (all_matches self.now text.now)) (cow_str_bytes t)) }
-        ensures refused { IfErr result (λ e. (e ≡ Error.Memory) ⊎ IsRefusedByReplacer (R.fixed replacer) R.appends R.refuses replacer self.now text.now (limited limit (all_matches self.now text.now)) e) }
+        ensures refused { IfErr result (λ e. IsRefusedBySearch self.now text.now e ⊎ IsRefusedByReplacer (R.fixed replacer) R.appends R.refuses replacer self.now text.now (limited limit (all_matches self.now text.now)) e) }
     {
         if let Some(fixed) = replacer.fixed_text() {
             return self.filled(text, limit, fixed);
@@ -108,7 +108,7 @@ impl Regex {
         ensures borrowed { IfOk result (λ t. IsBorrowedStr t ↔ (all_matches self.now text.now ≡ [])) }
         ensures kept { IfOk result (λ t. IsBorrowedStr t → cow_str_bytes t ≡ text.now) }
         ensures text { IfOk result (λ t. cow_str_bytes t ≡ filled text.now (limited limit (all_matches self.now text.now)) fixed.now) }
-        ensures refused { IfErr result (λ e. e ≡ Error.Memory) }
+        ensures refused { IfErr result (λ e. IsRefusedBySearch self.now text.now e) }
     {
         let mut rewriting = Rewriting::new(self, text, limit);
         'matches: while let Some(_) = rewriting.next_match()? {
@@ -129,7 +129,7 @@ impl Regex {
         ensures borrowed { IfOk result (λ t. IsBorrowedStr t ↔ (all_matches self.now text.now ≡ [])) }
         ensures kept { IfOk result (λ t. IsBorrowedStr t → cow_str_bytes t ≡ text.now) }
         ensures text { IfOk result (λ t. IsReplaced None R.appends replacer.old self.now text.now (limited limit (all_matches self.now text.now)) (cow_str_bytes t)) }
-        ensures refused { IfErr result (λ e. (e ≡ Error.Memory) ⊎ IsRefusedByReplacer None R.appends R.refuses replacer.old self.now text.now (limited limit (all_matches self.now text.now)) e) }
+        ensures refused { IfErr result (λ e. IsRefusedBySearch self.now text.now e ⊎ IsRefusedByReplacer None R.appends R.refuses replacer.old self.now text.now (limited limit (all_matches self.now text.now)) e) }
         ensures again { OnOk result (R.callable replacer.new) }
     {
         let mut rewriting = Rewriting::new(self, text, limit);

@@ -6,10 +6,10 @@ ghost use Rattle.fancy_input.specs.Places.{is_boundary};
 ghost use Rattle.fancy_core.specs.GroupTexts.{bytes_of_str, seen_in};
 ghost use Rattle.fancy_core.specs.Left.{item_in, HasGroups};
 ghost use Rattle.fancy_core.specs.Limits.{is_reached};
-ghost use Rattle.fancy_core.specs.Matching.{stop_of};
+ghost use Rattle.fancy_core.specs.Matching.{start_of, stop_of};
 ghost use Rattle.fancy_core.specs.Pieces.{limited};
 ghost use Rattle.fancy_core.specs.Regexes.{options_in};
-ghost use Rattle.fancy_core.specs.Replacing.{all_matches, seen_of};
+ghost use Rattle.fancy_core.specs.Replacing.{all_matches, seen_of, IsRefusedBySearch};
 ghost use Rattle.fancy_core.specs.Searching.{Suits};
 
 use crate::captures::Captures;
@@ -17,8 +17,8 @@ use crate::capturing::groups_found;
 use crate::limits::{is_reached, limit_of, one_fewer};
 use crate::regex::Regex;
 use crate::replacer::Replacer;
+use crate::scratch::Scratch;
 use crate::walk::{Located, Walk};
-use fancy_engine::search::Memory;
 use fancy_input::input::Input;
 use fancy_input::regex_input::RegexInput;
 use fancy_syntax::error::{Error, Result};
@@ -32,7 +32,7 @@ use std::borrow::CowStr;
 pub(crate) struct Rewriting<'r, 't> {
     regex: &'r Regex,
     walk: Walk<&'t str>,
-    memory: Memory,
+    memory: Scratch,
     // how many matches may still be replaced
     left: Option<usize>,
     // the new text up to the end of the last match
@@ -63,7 +63,7 @@ impl<'r, 't> Rewriting<'r, 't> {
         Rewriting {
             regex,
             walk: Walk::new(RegexInput::new(text)),
-            memory: Memory::new(regex.allocator()),
+            memory: Scratch::new(regex.allocator()),
             left: limit_of(limit),
             out: String::new(regex.allocator()),
             last: 0,
@@ -75,13 +75,14 @@ impl<'r, 't> Rewriting<'r, 't> {
     pub fn next_match(&mut self) -> Result<Option<Located>>
         ensures steps { IfOk result (λ o. MatchOption o (todo_of self.old ≡ []) (λ i. todo_of self.old ≡ item_in self.new.memory i ∷ todo_of self.new)) }
         ensures written { IfOk result (λ o. MatchOption o (self.new.out ≡ self.old.out) (λ i. string_bytes self.new.out ≡ string_bytes self.old.out ++ slice_range (text_of self.old) self.old.last i.start)) }
+        ensures start { IfOk result (λ o. IfSome o (λ i. i.start ≡ start_of (item_in self.new.memory i))) }
         ensures last { IfOk result (λ o. MatchOption o (self.new.last ≡ self.old.last) (λ i. self.new.last ≡ stop_of (item_in self.new.memory i))) }
         ensures found { IfOk result (λ o. MatchOption o (self.new.found ≡ self.old.found) (λ _. self.new.found ≡ true)) }
         ensures regex { regex_of self.new ≡ regex_of self.old }
         ensures text { text_of self.new ≡ text_of self.old }
-        ensures groups { IfOk result (λ o. IfSome o (λ i. HasGroups true (text_of self.old) i.start self.new.memory)) }
+        ensures groups { IfOk result (λ o. IfSome o (λ i. HasGroups true (text_of self.old) i.position self.new.memory)) }
         ensures idle { is_reached self.old.left ≡ true → (self.new.walk ≡ self.old.walk) × (self.new.memory ≡ self.old.memory) }
-        ensures refused { IfErr result (λ e. e ≡ Error.Memory) }
+        ensures refused { IfErr result (λ e. IsRefusedBySearch (regex_of self.old) (text_of self.old) e) }
     {
         if is_reached(self.left) {
             return Ok(None);
@@ -112,7 +113,7 @@ impl<'r, 't> Rewriting<'r, 't> {
 
     /// Writes the answer of a replacer in the place of the last match, which is this one.
     pub fn push_answer<R: Replacer>(&mut self, item: Located, replacer: &mut R) -> Result<()>
-        requires groups { HasGroups true (text_of self.old) item.start self.old.memory }
+        requires groups { HasGroups true (text_of self.old) item.position self.old.memory }
         requires callable { R.callable replacer.old }
         ensures ok { OnOk result ((answer : List ℕ) × (string_bytes self.new.out ≡ string_bytes self.old.out ++ answer) × R.appends replacer.old (seen_of (regex_of self.old) (text_of self.old) (item_in self.old.memory item)) answer replacer.new) }
         ensures again { OnOk result (R.callable replacer.new) }
@@ -149,7 +150,7 @@ impl<'r, 't> Rewriting<'r, 't> {
 
     /// The groups of a match, which the search left in the memory.
     fn captures_at(&self, item: Located) -> Result<Captures<'r, &'t str>>
-        requires groups { HasGroups true (text_of self.now) item.start self.now.memory }
+        requires groups { HasGroups true (text_of self.now) item.position self.now.memory }
         ensures seen { IfOk result (λ c. seen_in bytes_of_str c ≡ seen_of (regex_of self.now) (text_of self.now) (item_in self.now.memory item)) }
         ensures refused { IfErr result (λ e. e ≡ Error.Memory) }
     {
@@ -157,7 +158,7 @@ impl<'r, 't> Rewriting<'r, 't> {
         let slots = groups_found(
             regex.allocator(),
             regex.captures_len(),
-            item.start,
+            item.position,
             &self.memory,
         )?;
         Ok(Captures::new(regex, self.walk.haystack(), slots))

@@ -10,8 +10,8 @@ ghost use Rattle.fancy_core.specs.Searching.{Suits};
 mod limited;
 
 use crate::regex::Regex;
+use crate::scratch::Scratch;
 use crate::walk::Walk;
-use fancy_engine::search::Memory;
 use fancy_input::input::Input;
 use fancy_input::regex_input::RegexInput;
 use fancy_syntax::error::Result;
@@ -28,7 +28,7 @@ pub use limited::SplitN;
 pub struct Split<'r, 't> {
     regex: &'r Regex,
     walk: Walk<&'t str>,
-    memory: Memory,
+    memory: Scratch,
     // where the last match ended
     last: usize,
     // whether the rest was given
@@ -58,7 +58,7 @@ impl Regex {
         Split {
             regex: self,
             walk: Walk::new(RegexInput::new(text)),
-            memory: Memory::new(self.allocator()),
+            memory: Scratch::new(self.allocator()),
             last: 0,
             ended: false,
         }

@@ -3,24 +3,26 @@
 ghost use Rattle.std.specs.Prelude.{◌≡◌, ◌≤◌, ◌<◌, ◌+◌, ◌^◌, ◌&&◌, not, nat_eq, true, false, option_map, length, IsTrue, IfOk, IfErr, IfSome, IfNone, MatchOption, MatchResult, ⊤};
 ghost use Rattle.fancy_input.specs.Inputs.{haystack_in, request_in};
 ghost use Rattle.fancy_input.specs.Places.{next_place, is_boundary};
-ghost use Rattle.fancy_engine.specs.Queries.{way_in};
 ghost use Rattle.fancy_core.specs.Regexes.{options_in};
 ghost use Rattle.fancy_core.specs.Searching.{Suits};
 ghost use Rattle.fancy_core.specs.Matching.{answer};
 ghost use Rattle.fancy_core.specs.Groups.{IsCut};
-ghost use Rattle.fancy_core.specs.Left.{scan, items_left, end_left, item_in, upcoming_if, start_if, GivesFirst, EndsUnlessOk, IfItem, HasGroups, start_behind};
+ghost use Rattle.fancy_core.specs.Scratch.{state_in};
+ghost use Rattle.fancy_core.specs.Left.{refuses_at, refused_next, scan, items_left, end_left, item_in, upcoming_if, start_if, GivesFirst, EndsUnlessOk, IfItem, HasGroups, start_behind};
 
 use crate::regex::Regex;
-use fancy_engine::search::Memory;
+use crate::scratch::Scratch;
 use fancy_engine::work::Work;
 use fancy_input::input::{Haystack, Input, Request};
 use fancy_input::regex_input::RegexInput;
 use fancy_syntax::error::{Error, Result};
 
-/// What a search of an iteration found: its two ends in bytes, the effective start that it was searched from, and
+/// What a search of an iteration found: its position and its two ends in bytes, the effective start that it was searched from, and
 /// whether `\G` was on. Its groups stand in the memory of the search.
 #[derive(Clone, Copy)]
 pub(crate) struct Located {
+    /// The position that it was found at.
+    pub position: usize,
     pub start: usize,
     pub end: usize,
     pub from: usize,
@@ -150,23 +152,25 @@ impl<S: Input> Walk<S> {
 
     /// The answer of the next search.
     #[tactic(auto, unfolding(crate::specs::Matching::answer))]
-    fn answer(&self, regex: &Regex, memory: &mut Memory) -> Result<Option<Located>>
+    fn answer(&self, regex: &Regex, memory: &mut Scratch) -> Result<Option<Located>>
         requires suits { Suits (options_in regex.now) (S.text self.now.haystack) (S.bytes self.now.haystack) }
         ensures value { IfOk result (λ o. option_map (item_in memory.new) o ≡ answer (scan regex.now (S.text self.now.haystack) (S.bytes self.now.haystack) self.now.request) self.now.request.start self.now.continues) }
-        ensures end { IfOk result (λ o. IfSome o (λ i. i.end ≡ (way_in memory.new).place)) }
+        ensures begins { IfOk result (λ o. IfSome o (λ i. i.start ≡ (state_in i.position memory.new).kept)) }
+        ensures end { IfOk result (λ o. IfSome o (λ i. i.end ≡ (state_in i.position memory.new).place)) }
         ensures placed { IfOk result (λ o. IfSome o (λ i. IsCut (S.text self.now.haystack) (S.bytes self.now.haystack) i.start i.end)) }
         ensures after { IfOk result (λ o. IfSome o (λ i. self.now.request.start ≤ i.start)) }
-        ensures groups { IfOk result (λ o. IfSome o (λ i. HasGroups (S.text self.now.haystack) (S.bytes self.now.haystack) i.start memory.new)) }
-        ensures refused { IfErr result (λ e. e ≡ Error.Memory) }
+        ensures groups { IfOk result (λ o. IfSome o (λ i. HasGroups (S.text self.now.haystack) (S.bytes self.now.haystack) i.position memory.new)) }
+        ensures refused { IfErr result (λ e. refuses_at regex.now (S.bytes self.now.haystack) self.now.request self.now.request.start self.now.continues e) }
     {
         let from = self.request.effective_start();
         let mut work = Work::new();
         let found = regex.search(self.haystack.as_bytes(), self.asked(), memory, &mut work)?;
-        let Some(start) = found else {
+        let Some(position) = found else {
             return Ok(None);
         };
         Ok(Some(Located {
-            start,
+            position,
+            start: memory.start(position),
             end: memory.end(),
             from,
             continues: self.continues,
@@ -175,19 +179,20 @@ impl<S: Input> Walk<S> {
 
     /// The next item. An empty match that is passed over moves the iteration on.
     #[tactic(auto, using(crate::proofs::LeftLemmas::skips, crate::proofs::LeftLemmas::keeps, crate::proofs::LeftLemmas::keeps_none, crate::proofs::LeftLemmas::stays, crate::proofs::LeftLemmas::stays_none))]
-    fn upcoming(&mut self, regex: &Regex, memory: &mut Memory) -> Result<Option<Located>>
+    fn upcoming(&mut self, regex: &Regex, memory: &mut Scratch) -> Result<Option<Located>>
         requires open { self.old.ended ≡ false }
         requires suits { Suits (options_in regex.now) (S.text self.old.haystack) (S.bytes self.old.haystack) }
         ensures value { IfOk result (λ o. option_map (item_in memory.new) o ≡ upcoming_if self.old.skips_empty (scan regex.now (S.text self.old.haystack) (S.bytes self.old.haystack) self.old.request) self.old.request.start self.old.continues) }
         ensures start { IfOk result (λ _. self.new.request.start ≡ start_if self.old.skips_empty (scan regex.now (S.text self.old.haystack) (S.bytes self.old.haystack) self.old.request) self.old.request.start self.old.continues) }
-        ensures end { IfOk result (λ o. IfSome o (λ i. i.end ≡ (way_in memory.new).place)) }
+        ensures begins { IfOk result (λ o. IfSome o (λ i. i.start ≡ (state_in i.position memory.new).kept)) }
+        ensures end { IfOk result (λ o. IfSome o (λ i. i.end ≡ (state_in i.position memory.new).place)) }
         ensures placed { IfOk result (λ o. IfSome o (λ i. IsCut (S.text self.old.haystack) (S.bytes self.old.haystack) i.start i.end)) }
         ensures after { IfOk result (λ o. IfSome o (λ i. self.old.request.start ≤ i.start)) }
-        ensures groups { IfOk result (λ o. IfSome o (λ i. HasGroups (S.text self.old.haystack) (S.bytes self.old.haystack) i.start memory.new)) }
+        ensures groups { IfOk result (λ o. IfSome o (λ i. HasGroups (S.text self.old.haystack) (S.bytes self.old.haystack) i.position memory.new)) }
         ensures haystack { self.new.haystack ≡ self.old.haystack }
         ensures request { self.new.request ≡ record self.old.request { start = self.new.request.start } }
         ensures ended { self.new.ended ≡ false }
-        ensures refused { IfErr result (λ e. e ≡ Error.Memory) }
+        ensures refused { IfErr result (λ e. refused_next regex.now (S.text self.old.haystack) (S.bytes self.old.haystack) self.old.request self.old.continues self.old.skips_empty e) }
     {
         let Some(item) = self.answer(regex, memory)? else {
             return Ok(None);
@@ -202,9 +207,9 @@ impl<S: Input> Walk<S> {
 
     /// Gives the next item and goes on behind it. A refusal ends the list.
     #[tactic(auto, using(crate::proofs::ScanLemmas::scan_sound, crate::proofs::LeftLemmas::next_left, crate::proofs::LeftLemmas::none_left, crate::proofs::LeftLemmas::none_end))]
-    pub fn next_item(&mut self, regex: &Regex, memory: &mut Memory) -> Option<Result<Located>>
+    pub fn next_item(&mut self, regex: &Regex, memory: &mut Scratch) -> Option<Result<Located>>
         requires suits { Suits (options_in regex.now) (S.text self.old.haystack) (S.bytes self.old.haystack) }
-        ensures steps { GivesFirst (item_in memory.new) (λ w. items_left regex.now (S.text w.haystack) (S.bytes w.haystack) w.request w.ended w.continues w.skips_empty) self.old result self.new }
+        ensures steps { GivesFirst (λ w e. refused_next regex.now (S.text w.haystack) (S.bytes w.haystack) w.request w.continues w.skips_empty e) (item_in memory.new) (λ w. items_left regex.now (S.text w.haystack) (S.bytes w.haystack) w.request w.ended w.continues w.skips_empty) self.old result self.new }
         ensures keeps_end { IfItem result (λ _. end_left regex.now (S.text self.new.haystack) (S.bytes self.new.haystack) self.new.request self.new.ended self.new.continues self.new.skips_empty ≡ end_left regex.now (S.text self.old.haystack) (S.bytes self.old.haystack) self.old.request self.old.ended self.old.continues self.old.skips_empty) }
         ensures rests { IfNone result (self.new.request.start ≡ end_left regex.now (S.text self.old.haystack) (S.bytes self.old.haystack) self.old.request self.old.ended self.old.continues self.old.skips_empty) }
         ensures haystack { self.new.haystack ≡ self.old.haystack }
@@ -212,10 +217,11 @@ impl<S: Input> Walk<S> {
         ensures ends { EndsUnlessOk result self.new.ended }
         ensures refused { MatchOption result ⊤ (λ item. MatchResult item (λ _. ⊤) (λ _. self.new.request.start ≡ self.old.request.range_end + 1)) }
         ensures open { MatchOption result ⊤ (λ _. self.old.ended ≡ false) }
-        ensures end { IfItem result (λ i. i.end ≡ (way_in memory.new).place) }
+        ensures start { IfItem result (λ i. i.start ≡ (state_in i.position memory.new).kept) }
+        ensures end { IfItem result (λ i. i.end ≡ (state_in i.position memory.new).place) }
         ensures placed { IfItem result (λ i. IsCut (S.text self.old.haystack) (S.bytes self.old.haystack) i.start i.end) }
         ensures after { IfItem result (λ i. self.old.request.start ≤ i.start) }
-        ensures groups { IfItem result (λ i. HasGroups (S.text self.old.haystack) (S.bytes self.old.haystack) i.start memory.new) }
+        ensures groups { IfItem result (λ i. HasGroups (S.text self.old.haystack) (S.bytes self.old.haystack) i.position memory.new) }
         ensures moved { IfItem result (λ i. i.end ≤ self.new.request.start) }
         ensures stands { IfItem result (λ i. self.new.request.start ≡ start_behind (S.text self.old.haystack) (S.bytes self.old.haystack) (i.start, i.end)) }
     {

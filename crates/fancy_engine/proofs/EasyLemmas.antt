@@ -1,8 +1,8 @@
 -- What one more instruction makes of easy code, and what the parts of an easy pattern are.
-use Rattle.std.proofs.Common.{◌≡◌, ℕ, zero, suc, ◌<◌, Bool, true, false, ◌&&◌, List, [], ◌∷◌, ◌++◌, length, map, get_or, All, IsTrue, Vec, Global, refl, sym, ap, ◌∙◌, subst, arith}
+use Rattle.std.proofs.Common.{◌≡◌, ℕ, zero, suc, ◌+◌, ◌<◌, ◌≤◌, Bool, true, false, ◌&&◌, List, [], ◌∷◌, ◌++◌, length, map, get_or, drop, drop-cons, All, IsTrue, Vec, Global, refl, sym, ap, ◌∙◌, subst, arith}
 use Rattle.std.specs.Prelude.{slice_set}
 use Rattle.std.proofs.lemmas.Bool.{and_parts}
-use Rattle.std.proofs.lemmas.List.{length-map, get_or-map}
+use Rattle.std.proofs.lemmas.List.{length-map, get_or-map, drop_all}
 use Rattle.std.proofs.lemmas.List.Elements.{All-cons}
 use Rattle.fancy_syntax.specs.declared.tree.Tree.{Tree}
 use Rattle.fancy_syntax.specs.declared.tree.Tree.TheVariants.{Sequence, Alternative}
@@ -10,7 +10,7 @@ use Rattle.fancy_syntax.specs.Pattern.{Pattern, in_sequence, in_choice, pattern_
 use Rattle.fancy_syntax.proofs.PatternLemmas.{pattern-Sequence, pattern-Alternative}
 use Rattle.fancy_engine.specs.declared.code.Instr.{Instr}
 use Rattle.fancy_engine.specs.declared.code.Instr.TheVariants as i
-use Rattle.fancy_engine.specs.Means.{is_easy, is_easy_instr, are_easy, StaysEasy, IsEasyInstr, AreEasy, split_of}
+use Rattle.fancy_engine.specs.Means.{is_easy, all_easy, is_easy_instr, are_easy, StaysEasy, IsEasyInstr, AreEasy, split_of}
 
 true_is_false : false ≡ true → ⊥
 true_is_false h = cc
@@ -96,3 +96,34 @@ pub easy_at : (ts : List Tree) (j : ℕ) (t : Tree) → All (λ p. IsTrue (is_ea
 easy_at ts j t all h e =
     let within : j < length (map pattern_of ts) = omega (arith, length-map ts pattern_of) in
     ap is_easy (ap pattern_of e ∙ sym (get_or-map pattern_of ts j t (pattern_of t) h)) ∙ all j (pattern_of t) within
+
+and_true : (b : Bool) → b ≡ (b && true)
+and_true true = refl
+and_true false = refl
+
+-- a sequence is easy where its parts are, and so is an alternative
+easy_sequence : (ps : List Pattern) → is_easy (in_sequence ps) ≡ all_easy ps
+easy_sequence [] = refl
+easy_sequence (p ∷ []) = and_true (is_easy p)
+easy_sequence (p ∷ q ∷ ps) = ap (λ b. is_easy p && b) (easy_sequence (q ∷ ps))
+
+easy_choice : (ps : List Pattern) → is_easy (in_choice ps) ≡ all_easy ps
+easy_choice [] = refl
+easy_choice (p ∷ []) = and_true (is_easy p)
+easy_choice (p ∷ q ∷ ps) = ap (λ b. is_easy p && b) (easy_choice (q ∷ ps))
+
+pub easy-Sequence : (parts : Vec Tree Global) → is_easy (pattern_of (Sequence parts)) ≡ all_easy (map pattern_of parts.items)
+easy-Sequence parts = ap is_easy (pattern-Sequence parts) ∙ easy_sequence (map pattern_of parts.items)
+
+pub easy-Alternative : (branches : Vec Tree Global) → is_easy (pattern_of (Alternative branches)) ≡ all_easy (map pattern_of branches.items)
+easy-Alternative branches = ap is_easy (pattern-Alternative branches) ∙ easy_choice (map pattern_of branches.items)
+
+-- from the j-th tree on
+pub easy_from : (ts : List Tree) (j : ℕ) (t : Tree) → j < length ts → t ≡ get_or ts j t →
+    all_easy (map pattern_of (drop j ts)) ≡ (is_easy (pattern_of t) && all_easy (map pattern_of (drop (suc j) ts)))
+easy_from ts j t h e =
+    ap (λ (us : List Tree). all_easy (map pattern_of us)) (drop-cons ts j t h)
+    ∙ ap (λ (u : Tree). is_easy (pattern_of u) && all_easy (map pattern_of (drop (suc j) ts))) (sym e)
+
+pub easy_past : (ts : List Tree) (j : ℕ) → length ts ≤ j → all_easy (map pattern_of (drop j ts)) ≡ true
+easy_past ts j h = ap (λ (us : List Tree). all_easy (map pattern_of us)) (drop_all j ts h)

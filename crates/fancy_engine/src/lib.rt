@@ -1,8 +1,10 @@
 //! The engines: what a pattern finds in a haystack.
 #![tactic(auto)]
 
+pub mod classify;
 pub mod code;
 pub mod compile;
+
 pub mod last_lines;
 pub mod laws;
 pub mod reading;

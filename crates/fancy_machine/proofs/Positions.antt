@@ -2,6 +2,9 @@
 use Rattle.std.proofs.Common.{◌≡◌, ℕ, suc, ◌+◌, ◌≤◌, Bool, true, false, not, ◌&&◌, ◌||◌, ◌==◌, List, [], ◌∷◌, ◌++◌, filter, length, map, replicate, Option, Some, None, refl, sym, ap, ap₂, ◌∙◌, subst, arith}
 use Rattle.std.specs.Prelude.{if◌then◌else◌, is_some}
 use Rattle.std.proofs.lemmas.List.{length-replicate, append-nil}
+use Rattle.std.proofs.Math.Logic.{∥∥₁_elim}
+use Rattle.std.proofs.Props.{props}
+use mathlib.Core.HLevel.{⊥_prop, Unit-prop}
 use Rattle.fancy_engine.specs.declared.code.Code.{Code}
 use Rattle.fancy_engine.specs.Code.{instrs_of}
 use Rattle.fancy_engine.specs.Context.{Context, State, Span}
@@ -62,12 +65,16 @@ module _ (ok good : State → Bool) (same : (s : State) → ok s ≡ good s) whe
 known_events : (o : Option (List Raw)) (es : List Event) → Given Whole o es → IsKnown o × (events_of o ≡ es)
 known_events o es g = (subst IsKnown (sym g.1) tt, ap events_of g.1 ∙ g.2)
 
+-- how deep the code of what is sought goes
+abbrev pub deep_in : Query → ℕ
+deep_in q = depth (length q.haystack) q.sought.pattern + 1
+
 module _ (q : Query) (code : Code) (is : IsCodeOf q.sought.pattern code) (groups : q.sought.groups ≡ code.groups) (meant : q.sought.meaning ≡ code.meaning)
     (shortest : q.sought.longest ≡ false) (inside : q.request.range_end ≤ length q.haystack) (f : Field)
     (seen : context_in q.haystack code.meaning f ≡ context_of q) (bounds : f.on_boundaries ≡ q.sought.on_boundaries) (filled : f.not_empty ≡ q.sought.not_empty) where
   -- how deep the code goes
   abbrev pub deep : ℕ
-  deep = depth (length q.haystack) q.sought.pattern + 1
+  deep = deep_in q
 
   begun : (p : ℕ) → (spot_of code.start q.request.range_end p p (replicate code.groups empty)).state ≡ initial q p
   begun p =
@@ -110,6 +117,36 @@ module _ (q : Query) (code : Code) (is : IsCodeOf q.sought.pattern code) (groups
 
     pub marks_at : marks_to (final false (accepts f q.haystack)) (trace_at q p) ≡ marks_in (gone_through q p)
     marks_at = marks_is (accepts f q.haystack) (accepted q p) (accepts_is p may) (trace_at q p) ∙ sym (ap marks_in through)
+
+IsKnown-prop : (o : Option (List Raw)) → IsProp (IsKnown o)
+IsKnown-prop None = ⊥_prop
+IsKnown-prop (Some w) = Unit-prop
+
+-- What an attempt at p finds and counts, which begins at x.
+pub record Begun (q : Query) (code : Code) (f : Field) (p : ℕ) (x : Spot) : Type 0 where
+  pub known : IsKnown (after (code_in q.haystack code f (deep_in q)) x)
+  pub answer : chosen false (accepts f q.haystack) None (events_of (after (code_in q.haystack code f (deep_in q)) x)) ≡ answer_at q p
+  pub returns : returns_to (final false (accepts f q.haystack)) (events_of (after (code_in q.haystack code f (deep_in q)) x)) ≡ returns_in (gone_through q p)
+  pub marks : marks_to (final false (accepts f q.haystack)) (events_of (after (code_in q.haystack code f (deep_in q)) x)) ≡ marks_in (gone_through q p)
+
+-- of code of which it is only known that it is that of the pattern
+pub begun_from : (q : Query) (code : Code) → ∥ IsCodeOf q.sought.pattern code ∥₁ → q.sought.groups ≡ code.groups → q.sought.meaning ≡ code.meaning → q.sought.longest ≡ false
+    → q.request.range_end ≤ length q.haystack → (f : Field) → context_in q.haystack code.meaning f ≡ context_of q → f.on_boundaries ≡ q.sought.on_boundaries
+    → f.not_empty ≡ q.sought.not_empty → (p : ℕ) → admits q p ≡ true → (x : Spot) → x ≡ spot_of code.start q.request.range_end p p (replicate code.groups empty)
+    → p ≤ q.request.range_end → Begun q code f p x
+begun_from q code some groups meant shortest inside f seen bounds filled p may x e le =
+    record {
+      known = ∥∥₁_elim some (IsKnown-prop _) (λ is. (attempt_begins q code is groups meant shortest inside f seen bounds filled p x e le).0);
+      answer = ∥∥₁_elim some (hlevel props)
+          (λ is. ap (chosen false (accepts f q.haystack) None) (attempt_begins q code is groups meant shortest inside f seen bounds filled p x e le).1
+          ∙ answer_is q code is groups meant shortest inside f seen bounds filled p may);
+      returns = ∥∥₁_elim some (hlevel props)
+          (λ is. ap (returns_to (final false (accepts f q.haystack))) (attempt_begins q code is groups meant shortest inside f seen bounds filled p x e le).1
+          ∙ returns_at q code is groups meant shortest inside f seen bounds filled p may);
+      marks = ∥∥₁_elim some (hlevel props)
+          (λ is. ap (marks_to (final false (accepts f q.haystack))) (attempt_begins q code is groups meant shortest inside f seen bounds filled p x e le).1
+          ∙ marks_at q code is groups meant shortest inside f seen bounds filled p may);
+    }
 
 returns-append : (a b : List Event) → returns_in (a ++ b) ≡ returns_in a + returns_in b
 returns-append [] b = omega arith

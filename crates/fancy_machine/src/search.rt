@@ -74,7 +74,7 @@ pub fn search(
     work: &mut Work,
 ) -> Result<Option<usize>, Refusal>
     ghost p: { Pattern }
-    requires code { IsCodeOf p code.now }
+    requires code { ∥ IsCodeOf p code.now ∥₁ }
     requires inside { request.range_end ≤ length haystack.now }
     ensures answer { IfOk result (λ m. answer_of m trail.new.now ≡ search (asked p code.now options haystack.now request)) }
     ensures count { IfOk result (λ _. returns_of work.new ≡ returns (asked p code.now options haystack.now request) all_tried) }

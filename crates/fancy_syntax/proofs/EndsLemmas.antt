@@ -36,10 +36,10 @@ ends_drop n t = record { front = take n t; is = sym (take-append-drop n t) }
 pub ends_then : {t u v : Text} → Ends t u → Ends u v → Ends t v
 ends_then {t} {u} {v} a b = record { front = a.front ++ b.front; is = a.is ∙ (ap (λ l. a.front ++ l) b.is ∙ sym (append_assoc a.front b.front v)) }
 
-ends_at : {t u v : Text} → Ends t u → u ≡ v → Ends t v
+pub ends_at : {t u v : Text} → Ends t u → u ≡ v → Ends t v
 ends_at {t} a e = subst (Ends t) e a
 
-behind_one : {c : ℕ} {t u : Text} → Ends t u → Ends (c ∷ t) u
+pub behind_one : {c : ℕ} {t u : Text} → Ends t u → Ends (c ∷ t) u
 behind_one {c} {t} a = ends_then (ends_drop 1 (c ∷ t)) a
 
 -- ---- numbers

@@ -3,9 +3,9 @@ use Rattle.std.proofs.Common.{◌≡◌, ℕ, suc, ◌==◌, ◌&&◌, Bool, tru
 use Rattle.std.proofs.lemmas.List.{drop_all, take_all, length-drop}
 use Rattle.std.specs.Option.{option_map, option_and_then}
 use Rattle.fancy_syntax.specs.declared.tree.Meaning.{Meaning}
-use Rattle.fancy_syntax.specs.Words.{Text, ◌∈◌, is_at}
+use Rattle.fancy_syntax.specs.Words.{Text, ◌∈◌, is_at, begins}
 use Rattle.fancy_syntax.specs.Dialect.{Flags, with_flag, Letters, no_letter, letter, Setting, setting_on, setting_off}
-use Rattle.fancy_syntax.specs.Grammar.{LettersRead, next_letter, flags_in, first_letter}
+use Rattle.fancy_syntax.specs.Grammar.{LettersRead, next_letter, flags_in, first_letter, mark_here}
 use Rattle.fancy_syntax.proofs.ReadingLemmas.{some_is_none, some_pair}
 use Rattle.fancy_syntax.proofs.BlankLemmas.{chosen, char_is}
 
@@ -73,6 +73,20 @@ no_angle_first s = first_is_not s 60 refl (λ on x. refl)
 
 pub no_p_first : {m : Meaning} {t : Text} {f g : Flags} → Setting m t f g → (c : ℕ) × (u : Text) × ((t ≡ c ∷ u) × ((80 == c) ≡ false))
 no_p_first s = first_is_not s 80 refl (λ on x. refl)
+
+-- the first letter makes no mark of a group
+pub no_mark_first : {m : Meaning} {t : Text} {f g : Flags} → Setting m t f g → (rest : Text) → mark_here (40 ∷ 63 ∷ (t ++ rest)) ≡ None
+no_mark_first {t = t} s rest =
+    let a = first_is_not s 62 refl (λ on x. refl) in
+    let b = first_is_not s 61 refl (λ on x. refl) in
+    let c = first_is_not s 33 refl (λ on x. refl) in
+    let d = first_is_not s 60 refl (λ on x. refl) in
+    let atomic : begins "(?>" (40 ∷ 63 ∷ (t ++ rest)) ≡ false = rw a.2.0 (rw a.2.1 refl) in
+    let ahead : begins "(?=" (40 ∷ 63 ∷ (t ++ rest)) ≡ false = rw b.2.0 (rw b.2.1 refl) in
+    let not_ahead : begins "(?!" (40 ∷ 63 ∷ (t ++ rest)) ≡ false = rw c.2.0 (rw c.2.1 refl) in
+    let behind : begins "(?<=" (40 ∷ 63 ∷ (t ++ rest)) ≡ false = rw d.2.0 (rw d.2.1 refl) in
+    let not_behind : begins "(?<!" (40 ∷ 63 ∷ (t ++ rest)) ≡ false = rw d.2.0 (rw d.2.1 refl) in
+    rw (atomic, ahead, not_ahead, behind, not_behind) refl
 
 pub no_hash_first : {m : Meaning} {t : Text} {f g : Flags} → Setting m t f g → (c : ℕ) × (u : Text) × ((t ≡ c ∷ u) × ((35 == c) ≡ false))
 no_hash_first s = first_is_not s 35 refl (λ on x. refl)

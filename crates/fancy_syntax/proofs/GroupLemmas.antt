@@ -1,5 +1,5 @@
 -- Groups are numbered by their openings.
-use Rattle.std.proofs.Common.{ℕ, ◌+◌, ◌≤◌, List, [], ◌∷◌, map, Option, Some, None, sym, subst, arith}
+use Rattle.std.proofs.Common.{ℕ, ◌+◌, ◌≤◌, List, [], ◌∷◌, map, Option, Some, None, ◌≡◌, refl, sym, subst, arith}
 use Rattle.fancy_syntax.proofs.EndsLemmas as simple
 use Rattle.fancy_syntax.proofs.EndsLemmas.{IsSimple, simple_atom}
 use Rattle.std.specs.Prelude.{encode_utf8}
@@ -7,7 +7,9 @@ use Rattle.fancy_syntax.specs.declared.tree.Meaning.{Meaning}
 use Rattle.fancy_syntax.specs.declared.tree.Meaning.TheVariants.{Unicode, Bytes, AsciiText}
 use Rattle.fancy_syntax.specs.Pattern.{Pattern, empty, character, member_of, raw_byte, backreference, assertion, group_test, keep_start, continue_here, group, repeat, look_ahead, look_behind, atomic, conditional, followed, or_else, last_branch, in_sequence, in_choice, in_branches}
 use Rattle.fancy_syntax.specs.Words.{Text}
-use Rattle.fancy_syntax.specs.Dialect.{Scope, literal_of, Branches, one, either, Parts, nothing, item, Item, set, bare, quantified, Atom, single, plain, flagged, capture, unnamed, named, Spells, with_part}
+use Rattle.fancy_syntax.specs.declared.groups.Grouping.{Grouping}
+use Rattle.fancy_syntax.specs.declared.groups.Grouping.TheVariants.{Atomic, LookAhead, LookBehind}
+use Rattle.fancy_syntax.specs.Dialect.{Scope, inside, grouped, literal_of, Branches, one, either, Parts, nothing, item, Item, set, bare, quantified, Atom, single, plain, flagged, capture, unnamed, named, marked, reference, reference_by_name, Spells, with_part}
 use Rattle.fancy_syntax.specs.Groups.{Numbered}
 
 -- numbers in a range are numbers in a wider one
@@ -85,6 +87,17 @@ parts_numbered : (lo hi : ℕ) (x : Option Pattern) (ps : List Pattern) → Part
 parts_numbered lo hi None ps h all = all
 parts_numbered lo hi (Some p) ps h all = (h, all)
 
+-- a mark opens no group that captures
+marked_opens_none : (how : Grouping) (s : Scope) → (inside how s).opened ≡ s.opened
+marked_opens_none Atomic s = refl
+marked_opens_none (LookAhead negated) s = refl
+marked_opens_none (LookBehind negated) s = refl
+
+marked_numbered : (how : Grouping) (lo hi : ℕ) (p : Pattern) → Numbered lo hi p → Numbered lo hi (grouped how p)
+marked_numbered Atomic lo hi p h = h
+marked_numbered (LookAhead negated) lo hi p h = h
+marked_numbered (LookBehind negated) lo hi p h = h
+
 mutual
   numbered_branches : {k : ℕ} {s r : Scope} {t after : Text} {bs : List Pattern} → Branches k s t after bs r → (s.opened ≤ r.opened) × AllNumbered (s.opened + 1) (r.opened + 1) bs
   numbered_branches (one {s = s} {r = r} {ps = ps} p) = let x = numbered_parts p in (x.0, (sequence_numbered (s.opened + 1) (r.opened + 1) ps x.1, tt))
@@ -118,6 +131,11 @@ mutual
   numbered_atom (plain {s = s} {q = q} {bs = bs} b) = let x = numbered_branches b in (x.0, branches_numbered (s.opened + 1) (q.opened + 1) bs x.1)
   numbered_atom (flagged {s = s} {q = q} {bs = bs} f b) = let x = numbered_branches b in (x.0, branches_numbered (s.opened + 1) (q.opened + 1) bs x.1)
   numbered_atom (unnamed {s = s} {q = q} {bs = bs} u e b) = let x = numbered_branches b in (x.0, branches_numbered (s.opened + 1) (q.opened + 1) bs x.1)
+  numbered_atom (marked {s = s} {q = q} {how = how} {bs = bs} m b) =
+      let x = rw (marked_opens_none how s) at (numbered_branches b) in
+      (x.0, marked_numbered how (s.opened + 1) (q.opened + 1) (in_branches bs) (branches_numbered (s.opened + 1) (q.opened + 1) bs x.1))
+  numbered_atom (reference h) = (omega arith, tt)
+  numbered_atom (reference_by_name n h) = (omega arith, tt)
   numbered_atom (capture {s = s} {q = q} {bs = bs} u e b) =
       let x = numbered_branches b in
       (omega (arith, x.0), (omega arith, omega (arith, x.0), branches_numbered (s.opened + 1 + 1) (q.opened + 1) bs x.1))

@@ -1,5 +1,5 @@
 -- What the functions that read characters and escapes give, is what the dialect means.
-use Rattle.std.proofs.Common.{◌≡◌, ℕ, ◌+◌, ◌*◌, ◌<◌, ◌≤◌, ◌==◌, ◌&&◌, nat_lt, min, Bool, true, false, List, [], ◌∷◌, take, Option, Some, None, drop, length, refl, sym, ap, ◌∙◌, subst, add_comm, arith, inl, inr, Result, Ok, Err}
+use Rattle.std.proofs.Common.{◌≡◌, ℕ, ◌+◌, ◌*◌, ◌<◌, ◌≤◌, ◌==◌, ◌&&◌, nat_lt, min, Bool, true, false, List, [], ◌∷◌, take, Option, Some, None, drop, length, refl, sym, ap, ap₂, ◌∙◌, subst, add_comm, arith, inl, inr, Result, Ok, Err}
 use Rattle.std.proofs.lemmas.Bool.Decides.{nat_tests}
 use Rattle.std.specs.Char.{digit_value}
 use Rattle.std.specs.Option.{option_map}
@@ -18,11 +18,13 @@ use Rattle.fancy_syntax.specs.Words.{Text, is_at}
 use Rattle.fancy_syntax.specs.Escapes.{hexadecimal, number, fixed_number, braced_number, before_brace, by_number, is_character}
 use Rattle.fancy_syntax.specs.ClassGrammar.{ReadsEdges}
 use Rattle.fancy_syntax.specs.ClassViews as class
-use Rattle.fancy_syntax.specs.Dialect.{Scope, Lexeme, leaf, IsMeant, by_itself, by_edges, lexeme, ReadsAtom, by_lexeme, by_class, literal_of, spelled_character, spelled_number, is_one_item, numbered, boundary, boundary_here}
-use Rattle.fancy_syntax.specs.Grammar.{Place, past, start, IsAtom}
+use Rattle.fancy_syntax.specs.Dialect.{Scope, Lexeme, leaf, IsMeant, by_itself, by_edges, lexeme, ReadsAtom, by_lexeme, by_class, wants, reference_here, literal_of, spelled_character, spelled_number, is_one_item, numbered, boundary, boundary_here}
+use Rattle.fancy_syntax.specs.References.{Target, reference, begins_reference}
+use Rattle.fancy_syntax.specs.Grammar.{Place, past, start, IsAtom, alone, refers}
 use Rattle.fancy_syntax.specs.Views.{Refuses, IsTheReading, HasNoReading, Gives, GivesMeant, error_of}
 use Rattle.fancy_syntax.proofs.CanonicalLemmas.{edges_unique}
 use Rattle.fancy_syntax.proofs.ReadingLemmas.{some_pair, some_is_none, true_is_false}
+use Rattle.fancy_syntax.proofs.ReferenceLemmas.{reference_begins, no_bracket_begun, no_atom_begun}
 use Rattle.fancy_syntax.proofs.BlankLemmas.{chosen, same_some, char_is}
 use Rattle.fancy_syntax.proofs.CountLemmas.{left_of}
 use Rattle.fancy_syntax.proofs.ClassSteps.{one_class}
@@ -143,23 +145,40 @@ one_atom (by_class {es = es} h m) (by_class {es = fs} k n) =
     let o = one_class m.1 n.1 in
     (ap member_of (edges_unique fs es n.0 m.0 o.0), o.1)
 
+-- with references
+one_reading : {p q r : Place} {a b : Pattern} → IsAtom p a q → IsAtom p b r → (b ≡ a) × (r ≡ q)
+one_reading {p} (alone h) (alone k) = let o = one_atom h k in (o.0, ap (start p.scope) o.1)
+one_reading {p} (alone h) (refers k) = absurd (no_atom_begun (reference_begins p.scope.opened p.text k) h)
+one_reading {p} (refers h) (alone k) = absurd (no_atom_begun (reference_begins p.scope.opened p.text h) k)
+one_reading {p} (refers h) (refers k) = let e = some_pair (sym k ∙ h) in (refl, ap₂ (λ (w : Target) (t : Text). start (wants w p.scope) t) e.0 e.1)
+
 pub the_atom : {p q : Place} {a : Pattern} → IsAtom p a q → IsTheReading IsAtom p a q
-the_atom {p} h = (h, λ b r k. let o = one_atom h.0 k.0 in (o.0, k.1 ∙ (ap (start p.scope) o.1 ∙ sym h.1)))
+the_atom h = (h, λ b r k. one_reading h k)
 
-no_atom_here : {p : Place} → is_at "[" p.text ≡ false → lexeme p.scope p.text ≡ None → HasNoReading IsAtom p
-no_atom_here h none a q (by_lexeme k m, there) = some_is_none (sym k ∙ none)
-no_atom_here h none a q (by_class k m, there) = true_is_false (sym k ∙ h)
+-- the reference that a parser has read
+pub the_reference : (p : Place) {q : Place} {w : Target} {t : Text} {a : Pattern} → reference p.scope.opened p.text ≡ Some (w, t) → a ≡ reference_here p.scope → q ≡ start (wants w p.scope) t → IsTheReading IsAtom p a q
+the_reference p {q} h e there = subst (λ x. IsTheReading IsAtom p x q) (sym e) (subst (λ z. IsTheReading IsAtom p (reference_here p.scope) z) (sym there) (the_atom (refers h)))
 
-pub atom_given : (r : Result Tree Error) (p q : Place) → is_at "[" p.text ≡ false → GivesMeant (lexeme p.scope p.text) r p q → Gives pattern_of IsAtom r p q
-atom_given (Ok t) p q h (x, found, meant, there) = the_atom (by_lexeme found meant, there)
-atom_given (Err Memory) p q h none = tt
-atom_given (Err (ParseError at kind)) p q h none = no_atom_here h none
-atom_given (Err (CompileError why)) p q h none = none
-atom_given (Err (RuntimeError why)) p q h none = none
+pub no_reference_here : (p : Place) → begins_reference p.text ≡ true → reference p.scope.opened p.text ≡ None → HasNoReading IsAtom p
+no_reference_here p h none a q (alone k) = no_atom_begun h k
+no_reference_here p h none a q (refers k) = some_is_none (sym k ∙ none)
+
+no_atom_here : {p : Place} → is_at "[" p.text ≡ false → begins_reference p.text ≡ false → lexeme p.scope p.text ≡ None → HasNoReading IsAtom p
+no_atom_here h r none a q (alone (by_lexeme k m)) = some_is_none (sym k ∙ none)
+no_atom_here h r none a q (alone (by_class k m)) = true_is_false (sym k ∙ h)
+no_atom_here {p} h r none a q (refers k) = true_is_false (sym (reference_begins p.scope.opened p.text k) ∙ r)
+
+pub atom_given : (r : Result Tree Error) (p q : Place) → is_at "[" p.text ≡ false → begins_reference p.text ≡ false → GivesMeant (lexeme p.scope p.text) r p q → Gives pattern_of IsAtom r p q
+atom_given (Ok t) p q h r (x, found, meant, there) = subst (λ z. IsTheReading IsAtom p (pattern_of t) z) (sym there) (the_atom (alone (by_lexeme found meant)))
+atom_given (Err Memory) p q h r none = tt
+atom_given (Err (ParseError at kind)) p q h r none = no_atom_here h r none
+atom_given (Err (CompileError why)) p q h r none = none
+atom_given (Err (RuntimeError why)) p q h r none = none
 
 no_class_here : {p : Place} → is_at "[" p.text ≡ true → ((es : List ℕ) (u : Text) → ReadsEdges p.scope.meaning p.scope.flags.ignore_case p.text es u → ⊥) → HasNoReading IsAtom p
-no_class_here {p} h none a q (by_lexeme k m, there) = some_is_none (sym k ∙ no_lexeme p.scope p.text h)
-no_class_here h none a q (by_class k m, there) = none _ _ m
+no_class_here {p} h none a q (alone (by_lexeme k m)) = some_is_none (sym k ∙ no_lexeme p.scope p.text h)
+no_class_here h none a q (alone (by_class k m)) = none _ _ m
+no_class_here {p} h none a q (refers k) = true_is_false (sym h ∙ no_bracket_begun p.text (reference_begins p.scope.opened p.text k))
 
 pub class_refused : (parser : Parser) (e : Refusal) (p : Place) → is_at "[" p.text ≡ true → class.Refuses e (class.HasNoReading (ReadsEdges p.scope.meaning p.scope.flags.ignore_case) p.text) → Refuses (error_of parser e) (HasNoReading IsAtom p)
 class_refused parser e p h none = refuses_too parser e (no_class_here h) none

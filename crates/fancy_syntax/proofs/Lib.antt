@@ -5,7 +5,12 @@ pub mod SizeLemmas
 pub mod PartLemmas
 pub mod FittingLemmas
 pub mod EmptyLemmas
+pub mod BehindLemmas
 pub mod ReadingLemmas
+pub mod ReferenceLemmas
+pub mod RefersLemmas
+pub mod RefersFacts
+pub mod ResolveLemmas
 pub mod CountLemmas
 pub mod BlankLemmas
 pub mod FlagLemmas

@@ -7,7 +7,7 @@ use Rattle.fancy_syntax.specs.Pattern.{Pattern, character, in_sequence}
 use Rattle.fancy_syntax.specs.Sizes.{nodes}
 use Rattle.fancy_syntax.specs.Words.{Text, is_among, is_at, is_at_any, past_blank, is_blank}
 use Rattle.fancy_syntax.specs.Dialect.{Scope, Spells, leaf, by_itself, by_lexeme, lexeme, escape, is_escapable, spelled_character, begins_quantifier}
-use Rattle.fancy_syntax.specs.Grammar.{Place, here, start, ends_branch, last, Parts, none, next, Item, single}
+use Rattle.fancy_syntax.specs.Grammar.{Place, here, start, ends_branch, last, Parts, none, next, Item, single, alone}
 use Rattle.fancy_syntax.proofs.ReadingLemmas.{true_is_false}
 use Rattle.fancy_syntax.proofs.CountLemmas.{both_true}
 use Rattle.fancy_syntax.proofs.BlankLemmas.{blanks_stop, char_is}
@@ -108,7 +108,7 @@ goes_on x rest = ap ends_branch (word_begins x rest) ∙ rw (other_than 124 x.fi
 word_read : {k : ℕ} (s : Scope) (w rest : Text) (c : ℕ) → IsPlain s → StandsFor s w c → BeginsPlainly rest → Item k (start s (w ++ rest)) (Some (character c)) (start s rest)
 word_read s w rest c plain x h =
     let unquantified : begins_quantifier (here (start s rest)).text ≡ false = ap (λ (p : Place). begins_quantifier p.text) (here_is s rest plain h) ∙ no_quantifier rest h in
-    single (opens_nothing (w ++ rest) (word_plain x rest)) (by_lexeme (x.reads rest) by_itself, refl) (rw unquantified refl)
+    single (opens_nothing (w ++ rest) (word_plain x rest)) (alone (by_lexeme (x.reads rest) by_itself)) (rw unquantified refl)
 
 words_read : {k : ℕ} {s : Scope} {v t : Text} → IsPlain s → StandFor s v t → Parts k (start s v) (map character t) (start s [])
 words_read {k} {s} plain no_word =

@@ -1,5 +1,5 @@
 -- Names, as they are spelled and as they are read.
-use Rattle.std.proofs.Common.{◌≡◌, ℕ, suc, ◌+◌, ◌<◌, ◌≤◌, ◌==◌, Bool, true, false, [], ◌∷◌, ◌++◌, length, take, drop, get_or, refl, sym, ap, ◌∙◌, append_assoc, append-nil, arith, cond, drop-cons, add-one, take-suc}
+use Rattle.std.proofs.Common.{◌≡◌, ℕ, suc, ◌+◌, ◌<◌, ◌≤◌, ◌==◌, Bool, true, false, List, [], ◌∷◌, ◌++◌, Option, Some, option_map, find, reverse, chars, bytes_eq, encode_utf8_all, IsUtf8, length, take, drop, get_or, refl, sym, ap, ◌∙◌, append_assoc, append-nil, arith, cond, drop-cons, add-one, take-suc}
 use Rattle.std.specs.List.{list_all}
 use Rattle.std.proofs.lemmas.List.{drop_all, take_all, length-take-le}
 use Rattle.std.proofs.lemmas.Bool.Decides.{nat_tests}
@@ -8,14 +8,47 @@ use Rattle.unicode.proofs.DerivedComputing.{ucd_derived}
 use Rattle.unicode.proofs.CategoryComputing.{ucd_category}
 use Rattle.unicode.specs.Binary.{is_alphabetic}
 use Rattle.unicode.specs.GeneralCategory.{general_category}
-use Rattle.fancy_syntax.specs.Words.{Text}
-use Rattle.fancy_syntax.specs.Names.{is_name_character, is_name, name_here, past_name}
+use Rattle.fancy_syntax.specs.Words.{Text, is_at}
+use Rattle.fancy_syntax.specs.declared.name.GroupName.{GroupName}
+use Rattle.fancy_syntax.specs.Names.{is_name_character, is_name, name_here, past_name, named_group, named_groups, last_named}
+use Rattle.std.proofs.lemmas.List.{map_more, reverse-append}
+use Rattle.std.proofs.lemmas.Str.{encodes-chars}
+use Rattle.std.proofs.lemmas.Slice.Eq.{bytes_eq-Decides}
+use Rattle.std.proofs.lemmas.Bool.Decides.{same_from_decides}
 use Rattle.fancy_syntax.proofs.CountLemmas.{both_true}
+use Rattle.fancy_syntax.proofs.ReadingLemmas.{true_is_false}
+use Rattle.fancy_syntax.proofs.BlankLemmas.{char_is}
 
 -- `>` is no character of names
 pub no_closing : is_name_character 62 ≡ false
 unfolding is_name_character ucd_derived ucd_category is_alphabetic general_category
 no_closing = refl
+
+pub no_parenthesis : is_name_character 41 ≡ false
+unfolding is_name_character ucd_derived ucd_category is_alphabetic general_category
+no_parenthesis = refl
+
+no_equals_sign : is_name_character 61 ≡ false
+unfolding is_name_character ucd_derived ucd_category is_alphabetic general_category
+no_equals_sign = refl
+
+no_exclamation_mark : is_name_character 33 ≡ false
+unfolding is_name_character ucd_derived ucd_category is_alphabetic general_category
+no_exclamation_mark = refl
+
+other_character : (d c : ℕ) → is_name_character d ≡ false → is_name_character c ≡ true → (d == c) ≡ false
+other_character d c h e = go (d == c) refl
+  where
+    go : (b : Bool) → (d == c) ≡ b → b ≡ false
+    go false f = refl
+    go true f = absurd (true_is_false (sym e ∙ (ap is_name_character (char_is d c f) ∙ h)))
+
+-- a name begins with neither of the characters that make look-behind of a `<`
+pub name_is_no_look : (n rest : Text) → is_name n ≡ true → (is_at "=" (n ++ rest) ≡ false) × (is_at "!" (n ++ rest) ≡ false)
+name_is_no_look [] rest h = cc
+name_is_no_look (c ∷ n) rest h =
+    let b = (both_true (is_name_character c) (list_all is_name_character n) h).0 in
+    (rw (other_character 61 c no_equals_sign b) refl, rw (other_character 33 c no_exclamation_mark b) refl)
 
 -- the row of characters of names, as far as a loop has come
 pub row_step : (c : ℕ) (t : Text) → is_name_character c ≡ true → name_here (c ∷ t) ≡ c ∷ name_here t
@@ -49,17 +82,17 @@ past_row t i h e = ap (λ n. drop n t) (ap (length {A = ℕ}) e ∙ length-take-
 pub past_all : (t : Text) → name_here t ≡ t → past_name t ≡ []
 past_all t e = ap (λ n. drop n t) (ap (length {A = ℕ}) e) ∙ drop_all (length t) t (omega arith)
 
--- a name that is closed is read
-pub name_is_read : (n rest : Text) → is_name n ≡ true → name_here (n ++ 62 ∷ rest) ≡ n
-name_is_read [] rest h = cc
-name_is_read (c ∷ n) rest h = all_read (c ∷ n) h
+-- a name that is closed, by a character that is none of names, is read
+pub name_is_read : (d : ℕ) (n rest : Text) → is_name_character d ≡ false → is_name n ≡ true → name_here (n ++ d ∷ rest) ≡ n
+name_is_read d [] rest e h = cc
+name_is_read d (c ∷ n) rest e h = all_read (c ∷ n) h
   where
-    all_read : (n : Text) → list_all is_name_character n ≡ true → name_here (n ++ 62 ∷ rest) ≡ n
-    all_read [] h = row_stop 62 rest no_closing
-    all_read (c ∷ n) h = let b = both_true (is_name_character c) (list_all is_name_character n) h in row_step c (n ++ 62 ∷ rest) b.0 ∙ ap (λ l. c ∷ l) (all_read n b.1)
+    all_read : (n : Text) → list_all is_name_character n ≡ true → name_here (n ++ d ∷ rest) ≡ n
+    all_read [] h = row_stop d rest e
+    all_read (c ∷ n) h = let b = both_true (is_name_character c) (list_all is_name_character n) h in row_step c (n ++ d ∷ rest) b.0 ∙ ap (λ l. c ∷ l) (all_read n b.1)
 
-pub past_read : (n rest : Text) → is_name n ≡ true → past_name (n ++ 62 ∷ rest) ≡ 62 ∷ rest
-past_read n rest h = ap (λ l. drop (length l) (n ++ 62 ∷ rest)) (name_is_read n rest h) ∙ drop-append_seam n (62 ∷ rest)
+pub past_read : (d : ℕ) (n rest : Text) → is_name_character d ≡ false → is_name n ≡ true → past_name (n ++ d ∷ rest) ≡ d ∷ rest
+past_read d n rest e h = ap (λ l. drop (length l) (n ++ d ∷ rest)) (name_is_read d n rest e h) ∙ drop-append_seam n (d ∷ rest)
 
 pub name_is_some : (n : Text) → is_name n ≡ true → (length n == 0) ≡ false
 name_is_some [] h = cc
@@ -88,3 +121,29 @@ row_then_rest (c ∷ t) = go (is_name_character c) (row_then_rest t)
     go : (b : Bool) → t ≡ name_here t ++ past_name t → c ∷ t ≡ cond b (c ∷ name_here t) [] ++ drop (length (cond b (c ∷ name_here t) [])) (c ∷ t)
     go true h = ap (λ l. c ∷ l) h
     go false h = refl
+
+-- two texts are equal where their characters are
+pub same_characters : (a b : List ℕ) → IsUtf8 a → IsUtf8 b → bytes_eq a b ≡ bytes_eq (chars a) (chars b)
+same_characters a b u v =
+    let d = bytes_eq-Decides (chars a) (chars b) in
+    same_from_decides {P = a ≡ b} (bytes_eq a b) (bytes_eq (chars a) (chars b)) (bytes_eq-Decides a b)
+    (λ h. sym (encodes-chars a u) ∙ (ap encode_utf8_all (d.0 h) ∙ encodes-chars b v), λ e. d.1 (ap chars e))
+
+-- the last group of a name, with one group more
+module _ (groups : List GroupName) (i : ℕ) (g : GroupName) (below : i < length groups) (is : g ≡ get_or groups i g) where
+  one_more : reverse (named_groups (take (i + 1) groups)) ≡ named_group g ∷ reverse (named_groups (take i groups))
+  one_more =
+      ap reverse (map_more named_group groups i g below)
+      ∙ (reverse-append (named_groups (take i groups)) (named_group (get_or groups i g) ∷ []) ∙ ap (λ x. named_group x ∷ reverse (named_groups (take i groups))) (sym is))
+
+  pub last_named_more : (name : Text) (b : Bool) → b ≡ bytes_eq (named_group g).0 name → last_named name (named_groups (take (i + 1) groups)) ≡ cond b (Some g.group) (last_named name (named_groups (take i groups)))
+  last_named_more name b e = ap (λ l. option_map (λ (x : Text × ℕ). x.1) (find (λ (x : Text × ℕ). bytes_eq x.0 name) l)) one_more ∙ go (bytes_eq (named_group g).0 name) b e
+    where
+      rest : Option (Text × ℕ)
+      rest = find (λ (x : Text × ℕ). bytes_eq x.0 name) (reverse (named_groups (take i groups)))
+
+      go : (a b : Bool) → b ≡ a → option_map (λ (x : Text × ℕ). x.1) (cond a (Some (named_group g)) rest) ≡ cond b (Some g.group) (option_map (λ (x : Text × ℕ). x.1) rest)
+      go true true h = refl
+      go false false h = refl
+      go true false h = cc
+      go false true h = cc

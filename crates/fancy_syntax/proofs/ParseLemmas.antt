@@ -1,25 +1,35 @@
 -- What the reading of a whole text says of its patterns.
-use Rattle.std.proofs.Common.{◌≡◌, ◌<◌, ◌≤◌, ◌+◌, ◌-◌, ◌^◌, ℕ, ◌==◌, ◌&&◌, not, min, Bool, true, false, List, [], ◌∷◌, length, Result, Ok, Err, IfOk, IfErr, refl, sym, ap, ◌∙◌, subst, arith}
+use Rattle.std.proofs.Common.{◌≡◌, ◌<◌, ◌≤◌, ◌+◌, ◌-◌, ◌^◌, ℕ, ◌==◌, ◌&&◌, not, min, Bool, true, false, List, [], ◌∷◌, length, map, All, Any, Some, None, Result, Ok, Err, IfOk, IfErr, refl, sym, ap, ap₂, ◌∙◌, subst, arith}
+use Rattle.std.proofs.Math.ListN as math
+use Rattle.std.proofs.lemmas.List.{length-map}
+use Rattle.std.proofs.lemmas.List.Elements.{All-map}
 use Rattle.fancy_syntax.specs.declared.error.CompileError.TheVariants.{InvalidBackref, InvalidGroupNameBackref, NamedBackrefOnly, LookBehindNotConst, PatternCanNeverMatch, PatternTooComplex}
 use Rattle.fancy_syntax.specs.declared.error.Error.{Error}
 use Rattle.fancy_syntax.specs.declared.error.Error.TheVariants.{Memory, ParseError, CompileError, RuntimeError}
 use Rattle.fancy_syntax.specs.Pattern.{Pattern, pattern_of}
-use Rattle.fancy_syntax.specs.Sizes.{nodes}
+use Rattle.fancy_syntax.specs.Sizes.{nodes, are_sized}
 use Rattle.fancy_syntax.specs.Words.{Text}
 use Rattle.fancy_syntax.specs.Names.{named_groups}
 use Rattle.fancy_syntax.specs.declared.name.GroupName.{GroupName}
 use Rattle.fancy_syntax.specs.declared.parse.Parsed.{Parsed}
-use Rattle.fancy_syntax.specs.Dialect.{Scope, Options, begin, has_name, Spells, SpellsUnder, IsPattern}
+use Rattle.fancy_syntax.specs.declared.parse.Draft.{Draft}
+use Rattle.fancy_syntax.specs.declared.reference.Target.{Target as Found_target}
+use Rattle.fancy_syntax.specs.declared.error.CompileError.{CompileError as Compiling}
+use Rattle.fancy_syntax.specs.References as references
+use Rattle.fancy_syntax.specs.References.{Target, Fault, Groups, group_for, number_in, refers_to}
+use Rattle.fancy_syntax.specs.Dialect.{Scope, Options, begin, has_name, groups_at, fault_of, numbers, Spells, SpellsUnder, IsPattern}
 use Rattle.fancy_syntax.specs.Grammar.{Place, start}
-use Rattle.fancy_syntax.specs.Refusals.{IsRefused}
-use Rattle.fancy_syntax.specs.Views.{Refuses, IsTheReading, HasNoReading, Alternation, SpellsParsed, HasNoSpelling}
-use Rattle.fancy_syntax.proofs.ReadingLemmas.{Refuses-weaker, true_is_false, no_whole_reading, not_whole, whole_reading}
+use Rattle.fancy_syntax.specs.Refusals.{IsRefused, IsNotAccepted}
+use Rattle.fancy_syntax.specs.Views.{Refuses, IsTheReading, HasNoReading, Alternation, target_of, targets_of, groups_in, told_fault, RefusesReference, SpellsDraft, HasNoSpelling}
+use Rattle.fancy_syntax.proofs.ReadingLemmas.{Refuses-weaker, true_is_false, some_is_none, no_whole_reading, not_whole, whole_reading}
 use Rattle.fancy_syntax.proofs.SpellingLemmas.{spelling_read, reading_spelled}
-use Rattle.fancy_syntax.proofs.UnnamedLemmas.{settles, none_settled, one_under}
+use Rattle.fancy_syntax.proofs.UnnamedLemmas.{settles, none_settled, one_under, one_end_under}
+use Rattle.fancy_syntax.proofs.RefersLemmas.{nodes-refers_to}
 
 -- where a parser begins
-pub begun : (s : Scope) {names : List GroupName} {text : Text} → s.names ≡ [] → names ≡ [] → ◌≡◌ {A = Place} (start (record s { names = named_groups names }) text) (start s text)
-begun s {names} {text} h e = ap (λ l. start (record s { names = l }) text) (ap named_groups e ∙ sym h)
+pub begun : (s : Scope) {names : List GroupName} {wanted : List Found_target} {text : Text} → s.names ≡ [] → s.wanted ≡ [] → names ≡ [] → wanted ≡ []
+    → ◌≡◌ {A = Place} (start (record s { names = named_groups names; wanted = targets_of wanted }) text) (start s text)
+begun s {names} {wanted} {text} h f e g = ap₂ (λ (l : List (Text × ℕ)) (m : List Target). start (record s { names = l; wanted = m }) text) (ap named_groups e ∙ sym h) (ap targets_of g ∙ sym f)
 
 pub no_reading : {s : Scope} {text : Text} {p : Place} (e : Error) → p ≡ start s text → Refuses e (HasNoReading (Alternation 64) p) → Refuses e (HasNoSpelling (Spells s text))
 no_reading e is none = Refuses-weaker e (λ h t end x. no_whole_reading is h t _ (spelling_read x)) none
@@ -46,33 +56,47 @@ has_some (n ∷ names) e same h = ap has_name (sym e)
 only_names : {on : Bool} {named : Bool} → on ≡ true → named ≡ true → false ≡ not (on && named)
 only_names h e = rw (h, e) refl
 
-module _ (o : Options) (text : Text) (first : Parsed) (s : SpellsParsed (Spells (begin true o) text) first) (h : o.only_named ≡ true) (n : ℕ) (many : n ≡ length first.names.items) (some : false ≡ (n == 0)) where
+module _ (o : Options) (text : Text) (first : Draft) (s : SpellsDraft (Spells (begin true o) text) first) (h : o.only_named ≡ true) (n : ℕ) (many : n ≡ length first.names.items) (some : false ≡ (n == 0)) where
   decided : false ≡ not (o.only_named && has_name s.0.names)
   decided = only_names h (has_some first.names.items s.3 many some)
 
-  pub spelled_again : (r : Result Parsed Error) → IfOk r (λ p. SpellsParsed (Spells (begin false o) text) p) → IfOk r (λ p. SpellsParsed (SpellsUnder o text) p)
-  spelled_again (Ok p) (e, x, groups, names) = (e, settles false s.1 decided x, groups, names)
+  pub spelled_again : (r : Result Draft Error) → IfOk r (λ p. SpellsDraft (Spells (begin false o) text) p) → IfOk r (λ p. SpellsDraft (SpellsUnder o text) p)
+  spelled_again (Ok p) (e, x, groups, names, wanted) = (e, settles false s.1 decided x, groups, names, wanted)
   spelled_again (Err e) x = tt
 
-  pub refused_again : (r : Result Parsed Error) → IfErr r (λ e. Refuses e (HasNoSpelling (Spells (begin false o) text))) → IfErr r (λ e. Refuses e (HasNoSpelling (SpellsUnder o text)))
+  pub refused_again : (r : Result Draft Error) → IfErr r (λ e. Refuses e (HasNoSpelling (Spells (begin false o) text))) → IfErr r (λ e. Refuses e (HasNoSpelling (SpellsUnder o text)))
   refused_again (Ok p) x = tt
   refused_again (Err e) x = Refuses-weaker e (none_settled false s.1 decided) x
+
+-- references that each name a group have no fault
+no_fault : (o : Options) (e : Scope) {f : Fault} → All (λ w. fault_of o e w ≡ None) e.wanted → Any (λ w. fault_of o e w ≡ Some f) e.wanted → ⊥
+no_fault o e all (k, w, below, is, h) = some_is_none (sym h ∙ (ap (fault_of o e) (sym is) ∙ all k w below))
+
+no_fault_under : {o : Options} {text : Text} {p q : Pattern} {e : Scope} {f : Fault} (x : IsPattern o text p) → SpellsUnder o text q e → Any (λ w. fault_of o e w ≡ Some f) e.wanted → ⊥
+no_fault_under {o} {f = f} x y some = no_fault o x.end x.resolved (subst (λ (z : Scope). Any (λ w. fault_of o z w ≡ Some f) z.wanted) (one_end_under y x.spelled) some)
 
 -- a pattern of the dialect is refused only for want of memory
 pub refused_is_memory : {o : Options} {text : Text} {p : Pattern} (e : Error) → IsRefused e o text → IsPattern o text p → e ≡ Memory
 refused_is_memory Memory h x = refl
-refused_is_memory {p = p} (ParseError at kind) h x = absurd (h p x.end x.spelled)
+refused_is_memory (ParseError at kind) h x = absurd (h x.written x.end x.spelled)
 refused_is_memory {o} {text} {p} (CompileError PatternTooComplex) (q, end, y, large) x =
-    let same : q ≡ p = one_under y x.spelled in
+    let same : q ≡ x.written = one_under y x.spelled in
     let small : nodes p ≤ 1000000 = x.small in
-    let more : 1000000 < nodes p = subst (λ r. 1000000 < nodes r) same large in
-    absurd (omega (arith, small, more))
-refused_is_memory (CompileError (InvalidBackref n)) h x = absurd h
-refused_is_memory (CompileError (InvalidGroupNameBackref n)) h x = absurd h
-refused_is_memory (CompileError NamedBackrefOnly) h x = absurd h
-refused_is_memory (CompileError LookBehindNotConst) h x = absurd h
+    let more : 1000000 < nodes x.written = subst (λ r. 1000000 < nodes r) same large in
+    let as_many : nodes p ≡ nodes x.written = ap nodes x.is ∙ nodes-refers_to (numbers o x.end) x.written in
+    absurd (omega (arith, small, more, as_many))
+refused_is_memory (CompileError (InvalidBackref n)) (q, end, y, some) x = absurd (no_fault_under x y some)
+refused_is_memory (CompileError (InvalidGroupNameBackref n)) (q, end, y, some) x = absurd (no_fault_under x y some)
+refused_is_memory (CompileError NamedBackrefOnly) (q, end, y, some) x = absurd (no_fault_under x y some)
+refused_is_memory {o} {p = p} (CompileError LookBehindNotConst) (q, end, y, unsized) x =
+    let same : refers_to (numbers o end) q ≡ p = ap₂ (λ (e : Scope) (w : Pattern). refers_to (numbers o e) w) (one_end_under y x.spelled) (one_under y x.spelled) ∙ sym x.is in
+    absurd (true_is_false (sym x.sized ∙ (ap (are_sized o.meaning) (sym same) ∙ unsized)))
 refused_is_memory (CompileError PatternCanNeverMatch) h x = absurd h
 refused_is_memory (RuntimeError why) h x = absurd h
+
+-- a text under options has at most one pattern
+pub one_accepted : {o : Options} {text : Text} {p q : Pattern} → IsPattern o text p → IsPattern o text q → p ≡ q
+one_accepted {o} x y = x.is ∙ (ap₂ (λ (e : Scope) (p : Pattern). refers_to (numbers o e) p) (one_end_under x.spelled y.spelled) (one_under x.spelled y.spelled) ∙ sym y.is)
 
 more_nodes : (n m : ℕ) → m ≡ min n (2 ^ 64 - 1) → 1000000 < m → 1000000 < n
 more_nodes n m e h = omega (arith, e, h)
@@ -80,9 +104,78 @@ more_nodes n m e h = omega (arith, e, h)
 few_nodes : (n m : ℕ) → m ≡ min n (2 ^ 64 - 1) → m ≤ 1000000 → n ≤ 1000000
 few_nodes n m e h = omega (arith, e, h)
 
-pub too_complex : {o : Options} {text whole : Text} (r : Parsed) {m : ℕ} → SpellsParsed (SpellsUnder o text) r → text ≡ whole → m ≡ min (nodes (pattern_of r.tree)) (2 ^ 64 - 1) → 1000000 < m → IsRefused (CompileError PatternTooComplex) o whole
+pub too_complex : {o : Options} {text whole : Text} (r : Draft) {m : ℕ} → SpellsDraft (SpellsUnder o text) r → text ≡ whole → m ≡ min (nodes (pattern_of r.tree)) (2 ^ 64 - 1) → 1000000 < m → IsRefused (CompileError PatternTooComplex) o whole
 too_complex {o} r {m} s is e h = (pattern_of r.tree, s.0, subst (λ t. SpellsUnder o t (pattern_of r.tree) s.0) is s.1, more_nodes (nodes (pattern_of r.tree)) m e h)
 
-pub accepted : (o : Options) {text whole : Text} (r : Parsed) {m : ℕ} → SpellsParsed (SpellsUnder o text) r → text ≡ whole → m ≡ min (nodes (pattern_of r.tree)) (2 ^ 64 - 1) → m ≤ 1000000
-    → (h : IsPattern o whole (pattern_of r.tree)) × (h.end.opened + 1 ≡ r.groups) × (named_groups r.names.items ≡ h.end.names)
-accepted o r {m} s is e h = (record { end = s.0; spelled = subst (λ t. SpellsUnder o t (pattern_of r.tree) s.0) is s.1; small = few_nodes (nodes (pattern_of r.tree)) m e h }, s.2, s.3)
+-- what holds of some view holds of one of the views
+any_seen : {X Y : Type 0} (f : X → Y) (P : Y → Type 0) (xs : List X) → Any (λ x. P (f x)) xs → Any P (map f xs)
+any_seen f P xs (k, x, below, is, h) = (k, f x, omega (arith, below, length-map xs f), math.get_or-map f xs k x ∙ ap f is, h)
+
+module _ (o : Options) {text whole : Text} (draft : Draft) (s : SpellsDraft (SpellsUnder o text) draft) (same : text ≡ whole) where
+  -- the groups that references are resolved by are those of the pattern's end
+  groups_are : groups_in o.only_named draft ≡ groups_at o s.0
+  groups_are =
+      let opened : draft.groups - 1 ≡ s.0.opened = omega (arith, s.2) in
+      ap₂ (λ (n : ℕ) (names : List (Text × ℕ)). let g : Groups = record { by_name = o.only_named && has_name names; opened = n; names = names } in g) opened s.3
+
+  pub accepted : {m : ℕ} (first : Parsed) (r : Result Parsed Error) → m ≡ min (nodes (pattern_of draft.tree)) (2 ^ 64 - 1) → m ≤ 1000000
+      → pattern_of first.tree ≡ refers_to (number_in (map (group_for (groups_in o.only_named draft)) (targets_of draft.wanted.items))) (pattern_of draft.tree)
+      → (first.groups ≡ draft.groups) × (first.names ≡ draft.names)
+      → All (λ w. references.fault_of (groups_in o.only_named draft) (target_of w) ≡ None) draft.wanted.items
+      → IfOk r (λ p. (p ≡ first) × (are_sized o.meaning (pattern_of p.tree) ≡ true))
+      → IfOk r (λ p. (h : IsPattern o whole (pattern_of p.tree)) × (h.end.opened + 1 ≡ p.groups) × (named_groups p.names.items ≡ h.end.names))
+  accepted first (Err e) n few tree kept all sized = tt
+  accepted first (Ok p) n few tree kept all (same_one, sized) =
+      let is : pattern_of p.tree ≡ refers_to (numbers o s.0) (pattern_of draft.tree) =
+      ap (λ (x : Parsed). pattern_of x.tree) same_one ∙ tree ∙ ap₂ (λ (g : Groups) (ws : List Target). refers_to (number_in (map (group_for g) ws)) (pattern_of draft.tree)) groups_are s.4 in
+      let resolved : All (λ w. fault_of o s.0 w ≡ None) s.0.wanted =
+      subst (λ (ws : List Target). All (λ w. fault_of o s.0 w ≡ None) ws) s.4
+      (All-map (λ w. fault_of o s.0 w ≡ None) target_of draft.wanted.items (subst (λ (g : Groups). All (λ w. references.fault_of g (target_of w) ≡ None) draft.wanted.items) groups_are all)) in
+      let few_written = few_nodes (nodes (pattern_of draft.tree)) _ n few in
+      let as_many : nodes (pattern_of p.tree) ≡ nodes (pattern_of draft.tree) = ap nodes is ∙ nodes-refers_to (numbers o s.0) (pattern_of draft.tree) in (
+        record {
+          written = pattern_of draft.tree;
+          end = s.0;
+          spelled = subst (λ t. SpellsUnder o t (pattern_of draft.tree) s.0) same s.1;
+          is = is;
+          resolved = resolved;
+          sized = sized;
+          small = omega (arith, few_written, as_many);
+        },
+        s.2 ∙ sym (ap (λ (x : Parsed). x.groups) same_one ∙ kept.0),
+        ap (λ (x : Parsed). named_groups x.names.items) same_one ∙ ap (λ v. named_groups v.items) kept.1 ∙ s.3,
+      )
+
+  -- a reference that names no group is the reason of a refusal
+  has_fault : {f : Fault} → Any (λ w. references.fault_of (groups_in o.only_named draft) (target_of w) ≡ Some f) draft.wanted.items → Any (λ w. fault_of o s.0 w ≡ Some f) s.0.wanted
+  has_fault {f} some =
+      subst (λ (ws : List Target). Any (λ w. fault_of o s.0 w ≡ Some f) ws) s.4
+      (any_seen target_of (λ w. fault_of o s.0 w ≡ Some f) draft.wanted.items (subst (λ (g : Groups). Any (λ w. references.fault_of g (target_of w) ≡ Some f) draft.wanted.items) groups_are some))
+
+  not_accepted : (why : Compiling) (f : Fault) → told_fault why ≡ Some f → Any (λ w. fault_of o s.0 w ≡ Some f) s.0.wanted → IsNotAccepted why o whole
+  not_accepted (InvalidBackref n) f e some = (pattern_of draft.tree, s.0, subst (λ t. SpellsUnder o t (pattern_of draft.tree) s.0) same s.1, subst (λ g. Any (λ w. fault_of o s.0 w ≡ g) s.0.wanted) (sym e) some)
+  not_accepted (InvalidGroupNameBackref n) f e some = (pattern_of draft.tree, s.0, subst (λ t. SpellsUnder o t (pattern_of draft.tree) s.0) same s.1, subst (λ g. Any (λ w. fault_of o s.0 w ≡ g) s.0.wanted) (sym e) some)
+  not_accepted NamedBackrefOnly f e some = (pattern_of draft.tree, s.0, subst (λ t. SpellsUnder o t (pattern_of draft.tree) s.0) same s.1, subst (λ g. Any (λ w. fault_of o s.0 w ≡ g) s.0.wanted) (sym e) some)
+  not_accepted LookBehindNotConst f e some = absurd (some_is_none (sym e))
+  not_accepted PatternCanNeverMatch f e some = absurd (some_is_none (sym e))
+  not_accepted PatternTooComplex f e some = absurd (some_is_none (sym e))
+
+  pub refused_by : (e : Error) → RefusesReference e (λ f. Any (λ w. references.fault_of (groups_in o.only_named draft) (target_of w) ≡ Some f) draft.wanted.items) → IsRefused e o whole
+  refused_by Memory h = tt
+  refused_by (ParseError at kind) h = absurd h
+  refused_by (CompileError why) (f, e, some) = not_accepted why f e (has_fault some)
+  refused_by (RuntimeError why) h = absurd h
+
+  -- a look-behind without a size is the reason of a refusal
+  pub refused_sizes : (first : Parsed) (r : Result Parsed Error)
+      → pattern_of first.tree ≡ refers_to (number_in (map (group_for (groups_in o.only_named draft)) (targets_of draft.wanted.items))) (pattern_of draft.tree)
+      → IfErr r (λ e. (e ≡ CompileError LookBehindNotConst) × (are_sized o.meaning (pattern_of first.tree) ≡ false)) → IfErr r (λ e. IsRefused e o whole)
+  refused_sizes first (Ok p) tree h = tt
+  refused_sizes first (Err e) tree (is, unsized) =
+      let same_one = tree ∙ ap₂ (λ (g : Groups) (ws : List Target). refers_to (number_in (map (group_for g) ws)) (pattern_of draft.tree)) groups_are s.4 in
+      subst (λ x. IsRefused x o whole) (sym is)
+      (pattern_of draft.tree, s.0, subst (λ t. SpellsUnder o t (pattern_of draft.tree) s.0) same s.1, subst (λ (q : Pattern). are_sized o.meaning q ≡ false) same_one unsized)
+
+pub only_memory : {o : Options} {text : Text} {p : Pattern} (r : Result Parsed Error) → IfErr r (λ e. IsRefused e o text) → IsPattern o text p → IfErr r (λ e. e ≡ Memory)
+only_memory (Ok p) h x = tt
+only_memory (Err e) h x = refused_is_memory e h x

@@ -1,15 +1,15 @@
 -- What the parser's loops and branches say of the grammar.
-use Rattle.std.proofs.Common.{◌≡◌, ℕ, suc, ◌+◌, ◌<◌, ◌==◌, true, false, List, [], ◌∷◌, ◌++◌, Option, Some, None, length, refl, sym, ap, ◌∙◌, subst, append_assoc, append-nil, arith, Result, Err, ◌⊎◌, inl, inr, ap₂, add-one}
+use Rattle.std.proofs.Common.{◌≡◌, ℕ, suc, ◌+◌, ◌<◌, ◌==◌, Bool, true, false, List, [], ◌∷◌, ◌++◌, Option, Some, None, length, refl, sym, ap, ◌∙◌, subst, append_assoc, append-nil, arith, Result, Err, ◌⊎◌, inl, inr, ap₂, add-one}
 use Rattle.std.proofs.lemmas.Bool.Decides.{nat_tests}
 use Rattle.std.proofs.lemmas.List.{nil_from_length}
-use Rattle.fancy_syntax.specs.Pattern.{Pattern, in_sequence, in_branches}
+use Rattle.fancy_syntax.specs.Pattern.{Pattern, backreference, in_sequence, in_branches}
 use Rattle.fancy_syntax.specs.Words.{Text, is_at_any, is_at}
 use Rattle.fancy_syntax.specs.Dialect.{Scope, with_part}
-use Rattle.fancy_syntax.specs.Grammar.{Place, past, here, Opening, setting, opening, IsAtom, quantified, wrap, closed, ends_branch, Branches, last, more, Parts, none, next, Item, sets, single, grouped, start, Reads}
+use Rattle.fancy_syntax.specs.Grammar.{Place, past, here, Opening, setting, plain, capture, marked, reference, opens_group, opening, IsAtom, quantified, wrap, closed, ends_branch, Branches, last, more, Parts, none, next, Item, sets, refers_by_name, single, grouped, start, Reads}
 use Rattle.fancy_syntax.specs.declared.error.Error.{Error}
 use Rattle.fancy_syntax.specs.declared.error.Error.TheVariants.{Memory, ParseError, CompileError, RuntimeError}
 use Rattle.fancy_syntax.specs.declared.groups.Opening.{Opening as Found}
-use Rattle.fancy_syntax.specs.declared.groups.Opening.TheVariants.{Setting, Plain, Capture}
+use Rattle.fancy_syntax.specs.declared.groups.Opening.TheVariants.{Setting, Plain, Capture, Marked, Reference}
 use Rattle.fancy_syntax.specs.Views.{found, Refuses, Gives, IsTheReading, HasNoReading, Sequence, Alternation}
 
 pub true_is_false : true ≡ false → ⊥
@@ -142,6 +142,7 @@ alternation_is {k} {p} {q} {r} {done} {t} whole g h e is = (
 pub item_single : {k : ℕ} {p r : Place} {item : Option Pattern} → Item k p item r → is_at "(" p.text ≡ false →
     (a : Pattern) × (q : Place) × (t : Pattern) × IsAtom p a q × (quantified a q ≡ Some (t, r)) × (item ≡ Some t)
 item_single (sets h o) e = absurd (true_is_false (sym h ∙ e))
+item_single (refers_by_name h o f) e = absurd (true_is_false (sym h ∙ e))
 item_single (single {q = q} {a = a} {x = t} h f g) e = (a, q, t, f, g, refl)
 item_single (grouped h o n b c f) e = absurd (true_is_false (sym h ∙ e))
 
@@ -167,17 +168,22 @@ single_is e found given = (
 -- an item that begins with a parenthesis
 pub data Group (k : ℕ) (p r : Place) : Opening → Place → Option Pattern → Type 0 where
   of_setting : {how : Opening} {j : ℕ} → how ≡ setting → k ≡ suc j → Group k p r how r None
-  of_body : {how : Opening} {inside : Place} {j : ℕ} {bs : List Pattern} {q : Place} {t : Pattern} → (how ≡ setting → ⊥) → k ≡ suc j → Branches j inside bs q → is_at ")" q.text ≡ true
+  of_reference : {how : Opening} {inside : Place} {j n : ℕ} {folded : Bool} {t : Pattern} → how ≡ reference folded n → k ≡ suc j → quantified (backreference folded n) inside ≡ Some (t, r) → Group k p r how inside (Some t)
+  of_body : {how : Opening} {inside : Place} {j : ℕ} {bs : List Pattern} {q : Place} {t : Pattern} → opens_group how ≡ true → k ≡ suc j → Branches j inside bs q → is_at ")" q.text ≡ true
       → quantified (wrap how (in_branches bs)) (closed p q) ≡ Some (t, r) → Group k p r how inside (Some t)
 
 pub item_group : {k : ℕ} {p r : Place} {item : Option Pattern} → Item k p item r → is_at "(" p.text ≡ true →
     (how : Opening) × (inside : Place) × (opening p ≡ Some (how, inside)) × Group k p r how inside item
 item_group (sets {q = q} h o) e = (setting, q, o, of_setting refl refl)
+item_group (refers_by_name {n = n} {q = q} {folded = folded} h o f) e = (reference folded n, q, o, of_reference refl refl f)
 item_group (single h f g) e = absurd (true_is_false (sym e ∙ h))
 item_group (grouped {inside = inside} {how = how} h o n b c f) e = (how, inside, o, of_body n refl b c f)
 
 pub no_opening : {k : ℕ} {p : Place} → is_at "(" p.text ≡ true → opening p ≡ None → HasNoReading (Item k) p
 no_opening e nothing i r x = let g = item_group x e in some_is_none (sym g.2 ∙ nothing)
+
+no_reference : {folded : Bool} {n : ℕ} → setting ≡ reference folded n → ⊥
+no_reference h = cc
 
 pub setting_is : {k : ℕ} {p q : Place} (j : ℕ) → is_at "(" p.text ≡ true → opening p ≡ Some (setting, q) → k ≡ j + 1 → IsTheReading (Item k) p None q
 setting_is {k} {p} {q} j e opens deeper = (
@@ -187,14 +193,50 @@ setting_is {k} {p} {q} j e opens deeper = (
   where
     of_a_setting : {how : Opening} {inside r : Place} {i : Option Pattern} → Group k p r how inside i → how ≡ setting → inside ≡ q → (i ≡ None) × (r ≡ q)
     of_a_setting (of_setting h d) a b = (refl, b)
-    of_a_setting (of_body n h b f g) a c = absurd (n a)
+    of_a_setting (of_reference h d f) a c = absurd (no_reference (sym a ∙ h))
+    of_a_setting (of_body n h b f g) a c = absurd (true_is_false (sym n ∙ ap opens_group a))
 
 no_depth : {k : ℕ} {p r inside : Place} {how : Opening} {item : Option Pattern} → Group k p r how inside item → k ≡ 0 → ⊥
 no_depth (of_setting h d) z = absurd (omega (arith, z, d))
+no_depth (of_reference h d f) z = absurd (omega (arith, z, d))
 no_depth (of_body n d b f g) z = absurd (omega (arith, z, d))
+
+-- the reference that stands for a whole one
+abbrev pub referred : Opening → Pattern
+referred setting = in_sequence []
+referred plain = in_sequence []
+referred (capture n) = in_sequence []
+referred (marked how) = in_sequence []
+referred (reference folded n) = backreference folded n
+
+-- what reads on behind a reference by name
+behind_reference : {k : ℕ} {p r inside : Place} {how : Opening} {item : Option Pattern} {folded : Bool} {n : ℕ} → Group k p r how inside item → how ≡ reference folded n
+    → (t : Pattern) × (quantified (backreference folded n) inside ≡ Some (t, r)) × (item ≡ Some t)
+behind_reference (of_setting h d) e = absurd (no_reference (sym h ∙ e))
+behind_reference {r = r} {inside = inside} (of_reference {t = t} h d f) e = (t, ap (λ (o : Opening). quantified (referred o) inside) (sym e ∙ h) ∙ f, refl)
+behind_reference (of_body n d b f g) e = absurd (true_is_false (sym n ∙ ap opens_group e))
 
 pub no_room : {k : ℕ} {p : Place} → is_at "(" p.text ≡ true → k ≡ 0 → HasNoReading (Item k) p
 no_room e z i r x = no_depth (item_group x e).3 z
+
+module _ {k : ℕ} {p q : Place} {folded : Bool} {n : ℕ} (e : is_at "(" p.text ≡ true) (found : opening p ≡ Some (reference folded n, q)) where
+  reference_reads : {r : Place} {item : Option Pattern} → Item k p item r → (t : Pattern) × (quantified (backreference folded n) q ≡ Some (t, r)) × (item ≡ Some t)
+  reference_reads {r} {item} x =
+      let g = item_group x e in
+      let same = some_pair (sym g.2 ∙ found) in
+      behind_reference (subst (λ s. Group k p r g.0 s item) same.1 g.3) same.0
+
+  pub no_quantified_reference : quantified (backreference folded n) q ≡ None → HasNoReading (Item k) p
+  no_quantified_reference nothing i r x = let y = reference_reads x in some_is_none (sym y.1 ∙ nothing)
+
+  pub reference_is : {t : Pattern} {r : Place} (j : ℕ) → k ≡ j + 1 → quantified (backreference folded n) q ≡ Some (t, r) → IsTheReading (Item k) p (Some t) r
+  reference_is {t} {r} j deeper given = (
+    subst (λ m. Item m p (Some t) r) (sym (deeper ∙ add-one j)) (refers_by_name e found given),
+    λ i s x.
+        let y = reference_reads x in
+        let done = some_pair (sym y.1 ∙ given) in
+        (y.2 ∙ ap Some done.0, done.1),
+  )
 
 -- what is inside the parentheses, and what follows it
 pub record Body (k : ℕ) (p r : Place) (how : Opening) (inside : Place) (item : Option Pattern) : Type 0 where
@@ -208,18 +250,19 @@ pub record Body (k : ℕ) (p r : Place) (how : Opening) (inside : Place) (item :
   pub given : quantified (wrap how (in_branches branches)) (closed p end) ≡ Some (quantity, r)
   pub is : item ≡ Some quantity
 
-pub body_of : {k : ℕ} {p r : Place} {how : Opening} {inside : Place} {item : Option Pattern} → Group k p r how inside item → (how ≡ setting → ⊥) → Body k p r how inside item
-body_of (of_setting h d) n = absurd (n h)
+pub body_of : {k : ℕ} {p r : Place} {how : Opening} {inside : Place} {item : Option Pattern} → Group k p r how inside item → opens_group how ≡ true → Body k p r how inside item
+body_of (of_setting h d) n = absurd (true_is_false (sym n ∙ ap opens_group h))
+body_of (of_reference h d f) n = absurd (true_is_false (sym n ∙ ap opens_group h))
 body_of (of_body {j = j} {bs = bs} {q = q} {t = t} m h b f g) n = record { room = j; branches = bs; end = q; quantity = t; deeper = h; reads = b; closes = f; given = g; is = refl }
 
-pub item_body : {k : ℕ} {p r : Place} {how : Opening} {inside : Place} {item : Option Pattern} → is_at "(" p.text ≡ true → opening p ≡ Some (how, inside) → (how ≡ setting → ⊥)
+pub item_body : {k : ℕ} {p r : Place} {how : Opening} {inside : Place} {item : Option Pattern} → is_at "(" p.text ≡ true → opening p ≡ Some (how, inside) → opens_group how ≡ true
     → Item k p item r → Body k p r how inside item
 item_body {k} {p} {r} {how} {inside} {item} e found n x =
     let g = item_group x e in
     let same = some_pair (sym g.2 ∙ found) in
     body_of (subst (λ h. Group k p r h inside item) same.0 (subst (λ s. Group k p r g.0 s item) same.1 g.3)) n
 
-module _ {k j : ℕ} {p inside : Place} {how : Opening} (e : is_at "(" p.text ≡ true) (found : opening p ≡ Some (how, inside)) (n : how ≡ setting → ⊥) (deeper : k ≡ j + 1) where
+module _ {k j : ℕ} {p inside : Place} {how : Opening} (e : is_at "(" p.text ≡ true) (found : opening p ≡ Some (how, inside)) (n : opens_group how ≡ true) (deeper : k ≡ j + 1) where
   pub body_reads : {r : Place} {item : Option Pattern} → Item k p item r → (bs : List Pattern) × (q : Place) × (t : Pattern) × Branches j inside bs q × (is_at ")" q.text ≡ true)
       × (quantified (wrap how (in_branches bs)) (closed p q) ≡ Some (t, r)) × (item ≡ Some t)
   body_reads {r} {item} x =
@@ -252,10 +295,13 @@ module _ {k j : ℕ} {p inside : Place} {how : Opening} (e : is_at "(" p.text �
         (b.6 ∙ ap Some done.0, done.1),
   )
 
-pub found_setting : (how : Found) → found how ≡ setting → how ≡ Setting
-found_setting Setting h = refl
-found_setting Plain h = cc
-found_setting (Capture n) h = cc
+-- what is neither a setting nor a reference opens a group
+pub found_group : (how : Found) → (how ≡ Setting → ⊥) → ((folded : Bool) (index : ℕ) → how ≡ Reference folded index → ⊥) → opens_group (found how) ≡ true
+found_group Setting h f = absurd (h refl)
+found_group Plain h f = refl
+found_group (Capture n) h f = refl
+found_group (Marked how) h f = refl
+found_group (Reference folded index) h f = absurd (f folded index refl)
 
 pub no_whole_reading : {s : Scope} {text : Text} {p : Place} → p ≡ start s text → HasNoReading (Alternation 64) p → (t : Pattern) (end : Place) → Reads s text t end → ⊥
 no_whole_reading is nothing t end x = nothing t end (x.branches, x.is, subst (λ y. Branches 64 y x.branches end) (sym is) x.reads)

@@ -1,21 +1,26 @@
 -- A text that spells something is read so, and what is read is spelled so.
-use Rattle.std.proofs.Common.{◌≡◌, ℕ, suc, ◌+◌, ◌==◌, ◌||◌, ◌&&◌, not, Bool, true, false, List, [], ◌∷◌, ◌++◌, length, Option, Some, None, drop, refl, sym, ap, ◌∙◌, subst, append_assoc, append-nil, inl, inr, cond, codes}
+use Rattle.std.proofs.Common.{◌≡◌, ℕ, suc, ◌+◌, ◌==◌, ◌||◌, ◌&&◌, not, Bool, true, false, List, [], ◌∷◌, ◌++◌, length, Option, Some, None, drop, refl, sym, ap, ◌∙◌, subst, append_assoc, append-nil, inl, inr, cond, codes, nat_eq}
 use Rattle.std.specs.Option.{option_map}
+use Rattle.std.specs.List.{starts_with}
 use Rattle.fancy_syntax.specs.declared.tree.Meaning.{Meaning}
 use Rattle.fancy_syntax.specs.declared.tree.Taste.{Taste}
-use Rattle.fancy_syntax.specs.declared.tree.Taste.TheVariants.{Greedy, Lazy}
-use Rattle.fancy_syntax.specs.Pattern.{Pattern, repeat, in_branches}
+use Rattle.fancy_syntax.specs.declared.tree.Taste.TheVariants.{Greedy, Lazy, Possessive}
+use Rattle.fancy_syntax.specs.declared.groups.Grouping.{Grouping}
+use Rattle.fancy_syntax.specs.Pattern.{Pattern, backreference, repeat, in_branches}
 use Rattle.fancy_syntax.specs.Sizes.{is_empty}
 use Rattle.fancy_syntax.specs.Words.{Text, ◌∈◌, is_at_any, is_at, begins, is_count, past_blank, past_blanks, begins_count}
 use Rattle.fancy_syntax.specs.Names.{is_name, name_here, past_name}
+use Rattle.fancy_syntax.specs.References as references
+use Rattle.fancy_syntax.specs.References.{Target, called}
 use Rattle.fancy_syntax.specs.Dialect as d
-use Rattle.fancy_syntax.specs.Dialect.{Flags, Scope, in_force, Setting, one_more_group, one_more_name, NameMark, name_mark, name_mark_after_p, back_to, ReadsAtom, begins_quantifier, Turns, optional, star, plus, exactly, at_least, between, at_most, Quantifies, greedily, lazily, Blanks, IsUnquantified, with_part}
+use Rattle.fancy_syntax.specs.Dialect.{Flags, Scope, in_force, Setting, one_more_group, one_more_name, NameMark, name_mark, name_mark_after_p, GroupMark, mark_atomic, mark_ahead, mark_not_ahead, mark_behind, mark_not_behind, inside, wants, back_to, ReadsAtom, begins_quantifier, Turns, optional, star, plus, exactly, at_least, between, at_most, Quantifies, greedily, lazily, possessively, Blanks, IsUnquantified, with_part}
 use Rattle.fancy_syntax.specs.Grammar as g
-use Rattle.fancy_syntax.specs.Grammar.{Place, past, here, Bounds, bounds_in, past_count, are_bounds, opening, wrap, closed, ends_branch, start}
-use Rattle.fancy_syntax.proofs.ReadingLemmas.{some_pair, some_is_none}
+use Rattle.fancy_syntax.specs.Grammar.{Place, past, here, Bounds, bounds_in, past_count, are_bounds, opening, opens_group, wrap, closed, ends_branch, start}
+use Rattle.fancy_syntax.proofs.ReadingLemmas.{some_pair, some_is_none, referred}
+use Rattle.fancy_syntax.proofs.ReferenceLemmas.{ends_reference, reference_begins, no_paren_begun, no_end_begun, no_blank_begun}
 use Rattle.fancy_syntax.proofs.EndsLemmas.{ends_atom, no_paren, no_end}
-use Rattle.fancy_syntax.proofs.FlagLemmas.{setting_is_read, no_colon_first, no_angle_first, no_p_first, no_hash_first, setting_spelled}
-use Rattle.fancy_syntax.proofs.NameLemmas.{name_is_read, past_read, name_is_some, row_is_name, row_then_rest}
+use Rattle.fancy_syntax.proofs.FlagLemmas.{setting_is_read, no_colon_first, no_angle_first, no_p_first, no_mark_first, no_hash_first, setting_spelled}
+use Rattle.fancy_syntax.proofs.NameLemmas.{no_closing, no_parenthesis, name_is_no_look, name_is_read, past_read, name_is_some, row_is_name, row_then_rest}
 use Rattle.fancy_syntax.proofs.BlankLemmas.{chosen, same_some, char_is, begins_with, read_blanks, end_is_no_blank, quantifier_is_no_blank, unquantified_is_read, unquantified_is_spelled, skipped, no_blank_left}
 use Rattle.fancy_syntax.proofs.CountLemmas.{either_no, both_true, left_of, first_is as at_char, IsRead, exactly_is_read, at_least_is_read, between_is_read, at_most_is_read, count_spelled}
 
@@ -31,6 +36,9 @@ atom_begins (d.flagged f b) = refl
 atom_begins (d.capture n h b) = refl
 atom_begins (d.unnamed n h b) = refl
 atom_begins (d.named n m h b) = refl
+atom_begins (d.marked m b) = refl
+atom_begins {s = s} {t = t} {after = after} (d.reference h) = no_end_begun (t ++ after) (reference_begins s.opened (t ++ after) h)
+atom_begins (d.reference_by_name n h) = refl
 
 pub item_begins : {k : ℕ} {s q : Scope} {t after : Text} {x : Option Pattern} → d.Item k s t after x q → ends_branch (t ++ after) ≡ false
 item_begins (d.set f) = refl
@@ -49,6 +57,13 @@ name_is_no_blank : (x : Bool) {m : Text} → NameMark m → (t rest : Text) → 
 name_is_no_blank x name_mark t rest = refl
 name_is_no_blank x name_mark_after_p t rest = refl
 
+mark_is_no_blank : (x : Bool) {m : Text} {how : Grouping} → GroupMark m how → (rest : Text) → past_blank x (40 ∷ (m ++ rest)) ≡ None
+mark_is_no_blank x mark_atomic rest = refl
+mark_is_no_blank x mark_ahead rest = refl
+mark_is_no_blank x mark_not_ahead rest = refl
+mark_is_no_blank x mark_behind rest = refl
+mark_is_no_blank x mark_not_behind rest = refl
+
 pub atom_is_no_blank : {k : ℕ} {s q : Scope} {t after : Text} {a : Pattern} → d.Atom k s t after a q → past_blank s.flags.ignore_blanks (t ++ after) ≡ None
 atom_is_no_blank (d.single b r) = b
 atom_is_no_blank (d.plain b) = refl
@@ -56,6 +71,9 @@ atom_is_no_blank {s = s} {after = after} (d.flagged {u = u} {t = t} f b) = rw (a
 atom_is_no_blank {s = s} {after = after} (d.capture {t = t} n h b) = rw (append_assoc t (41 ∷ []) after) (capture_is_no_blank s.flags.ignore_blanks (t ++ 41 ∷ after) h)
 atom_is_no_blank {s = s} {after = after} (d.unnamed {t = t} n h b) = rw (append_assoc t (41 ∷ []) after) (capture_is_no_blank s.flags.ignore_blanks (t ++ 41 ∷ after) h)
 atom_is_no_blank {s = s} {after = after} (d.named {t = t} n m h b) = name_is_no_blank s.flags.ignore_blanks m (n ++ (62 ∷ (t ++ 41 ∷ []))) after
+atom_is_no_blank {s = s} {after = after} (d.marked {m = m} {t = t} w b) = rw (append_assoc m (t ++ 41 ∷ []) after) (mark_is_no_blank s.flags.ignore_blanks w ((t ++ 41 ∷ []) ++ after))
+atom_is_no_blank {s = s} {t = t} {after = after} (d.reference h) = no_blank_begun s.flags.ignore_blanks (t ++ after) (reference_begins s.opened (t ++ after) h)
+atom_is_no_blank (d.reference_by_name n h) = refl
 
 pub item_is_no_blank : {k : ℕ} {s q : Scope} {t after : Text} {x : Option Pattern} → d.Item k s t after x q → past_blank s.flags.ignore_blanks (t ++ after) ≡ None
 item_is_no_blank {s = s} {after = after} (d.set {t = t} f) = rw (append_assoc t (41 ∷ []) after) (flags_are_no_blank s.flags.ignore_blanks f (41 ∷ after))
@@ -107,10 +125,13 @@ mark_here : {u after : Text} {low : ℕ} {high : Option ℕ} {taste : Taste} →
 mark_here {after = after} (greedily {t = t} w h) a s p is e = quantified_is a p is (turns_begin w after) e (turns_are_read w s after) (greedy_is_read s after h)
 mark_here {after = after} (lazily {t = t} w) a s p is e =
     quantified_is a p (is ∙ ap (start s) (append_assoc t (63 ∷ []) after)) (turns_begin w (63 ∷ after)) e (turns_are_read w s (63 ∷ after)) refl
+mark_here {after = after} (possessively {t = t} w) a s p is e =
+    quantified_is a p (is ∙ ap (start s) (append_assoc t (43 ∷ []) after)) (turns_begin w (43 ∷ after)) e (turns_are_read w s (43 ∷ after)) refl
 
 quantifies_begin : {u after : Text} {low : ℕ} {high : Option ℕ} {taste : Taste} → Quantifies u after low high taste → begins_quantifier (u ++ after) ≡ true
 quantifies_begin {after = after} (greedily w h) = turns_begin w after
 quantifies_begin {after = after} (lazily {t = t} w) = rw (append_assoc t (63 ∷ []) after) (turns_begin w (63 ∷ after))
+quantifies_begin {after = after} (possessively {t = t} w) = rw (append_assoc t (43 ∷ []) after) (turns_begin w (43 ∷ after))
 
 pub mark_is_read : {w u after : Text} {low : ℕ} {high : Option ℕ} {taste : Taste} → Quantifies u after low high taste → (a : Pattern) (s : Scope) → Blanks s.flags.ignore_blanks w (u ++ after) → is_empty a ≡ false
     → g.quantified a (start s (w ++ (u ++ after))) ≡ Some (repeat low high taste a, start s after)
@@ -125,7 +146,7 @@ unnamed_opens s [] h = refl
 unnamed_opens s (x ∷ rest) h =
     let m = either_false (63 == x) ((42 == x) || false) h in
     let n = either_false (42 == x) false m.1 in
-    rw (m.0, n.0) refl
+    rw (m.0, n.0) (rw m.0 refl)
 
 pub capture_is_read : (s : Scope) (rest : Text) → s.unnamed_capture ≡ true → is_at "?*" rest ≡ false
     → ◌≡◌ {A = Option (g.Opening × Place)} (opening (start s (40 ∷ rest))) (Some (g.capture (s.opened + 1), start (one_more_group s) rest))
@@ -140,6 +161,12 @@ plain_opens e = cc
 capture_opens : (n : ℕ) → g.capture n ≡ g.setting → ⊥
 capture_opens n e = cc
 
+mark_is_no_setting : (how : Grouping) → g.marked how ≡ g.setting → ⊥
+mark_is_no_setting how e = cc
+
+reference_is_no_setting : (folded : Bool) (n : ℕ) → g.reference folded n ≡ g.setting → ⊥
+reference_is_no_setting folded n e = cc
+
 -- flags that are spelled open what they are to open
 pub flags_open : (s : Scope) {t : Text} {f : Flags} → Setting s.meaning t s.flags f → (d : ℕ) (rest : Text) → (d ∈ ":)") ≡ true
     → ◌≡◌ {A = Option (g.Opening × Place)} (opening (start s (40 ∷ 63 ∷ (t ++ d ∷ rest)))) (Some (cond (58 == d) g.plain g.setting, start (in_force f s) rest))
@@ -150,7 +177,8 @@ flags_open s {t} {f} l d rest h =
     let unnamed : begins "(?<" (40 ∷ 63 ∷ (t ++ d ∷ rest)) ≡ false = rw a.2.0 (rw a.2.1 refl) in
     let p = no_p_first l in
     let unnamed_after_p : begins "(?P<" (40 ∷ 63 ∷ (t ++ d ∷ rest)) ≡ false = rw p.2.0 (rw p.2.1 refl) in
-    rw (other, unnamed, unnamed_after_p) (ap (g.flag_group (start s (40 ∷ 63 ∷ (t ++ d ∷ rest)))) (setting_is_read l d rest h))
+    let no_reference : begins "(?P=" (40 ∷ 63 ∷ (t ++ d ∷ rest)) ≡ false = rw p.2.0 (rw p.2.1 refl) in
+    rw (other, no_mark_first l (d ∷ rest), unnamed, unnamed_after_p, no_reference) (ap (g.flag_group (start s (40 ∷ 63 ∷ (t ++ d ∷ rest)))) (setting_is_read l d rest h))
 
 choose_name : (s : Scope) (a b : Bool) (m n u v : Text) → a ≡ false → b ≡ true → m ≡ n → u ≡ v
     → ◌≡◌ {A = Option (g.Opening × Place)} (cond {A = Option (g.Opening × Place)} (a || not b) None (Some (g.capture (s.opened + 1), start (one_more_name m s) (drop 1 u)))) (Some (g.capture (s.opened + 1), start (one_more_name n s) (drop 1 v)))
@@ -159,13 +187,41 @@ choose_name s a b m n u v h e f w = rw (h, e, f, w) refl
 named_is_read : (s : Scope) (whole n rest : Text) → is_name n ≡ true → ◌≡◌ {A = Option (g.Opening × Place)} (g.named (start s whole) (n ++ 62 ∷ rest)) (Some (g.capture (s.opened + 1), start (one_more_name n s) rest))
 named_is_read s whole n rest h =
     choose_name s (length (name_here (n ++ 62 ∷ rest)) == 0) (is_at ">" (past_name (n ++ 62 ∷ rest))) (name_here (n ++ 62 ∷ rest)) n (past_name (n ++ 62 ∷ rest)) (62 ∷ rest)
-    (ap (λ l. length l == 0) (name_is_read n rest h) ∙ name_is_some n h) (ap (is_at ">") (past_read n rest h)) (name_is_read n rest h) (past_read n rest h)
+    (ap (λ l. length l == 0) (name_is_read 62 n rest no_closing h) ∙ name_is_some n h) (ap (is_at ">") (past_read 62 n rest no_closing h)) (name_is_read 62 n rest no_closing h) (past_read 62 n rest no_closing h)
 
 -- a name that is spelled opens its group
 pub name_opens : (s : Scope) {m : Text} → NameMark m → (n rest : Text) → is_name n ≡ true
     → ◌≡◌ {A = Option (g.Opening × Place)} (opening (start s (40 ∷ 63 ∷ (m ++ (n ++ 62 ∷ rest))))) (Some (g.capture (s.opened + 1), start (one_more_name n s) rest))
-name_opens s name_mark n rest h = named_is_read s (40 ∷ 63 ∷ 60 ∷ (n ++ 62 ∷ rest)) n rest h
+name_opens s name_mark n rest h =
+    let no_look = name_is_no_look n (62 ∷ rest) h in
+    let behind : begins "(?<=" (40 ∷ 63 ∷ 60 ∷ (n ++ 62 ∷ rest)) ≡ false = no_word (n ++ 62 ∷ rest) 61 no_look.0 in
+    let not_behind : begins "(?<!" (40 ∷ 63 ∷ 60 ∷ (n ++ 62 ∷ rest)) ≡ false = no_word (n ++ 62 ∷ rest) 33 no_look.1 in
+    rw (behind, not_behind) (named_is_read s (40 ∷ 63 ∷ 60 ∷ (n ++ 62 ∷ rest)) n rest h)
+  where
+    no_word : (t : Text) (c : ℕ) → is_at_any (c ∷ []) t ≡ false → starts_with nat_eq t (c ∷ []) ≡ false
+    no_word [] c e = refl
+    no_word (x ∷ t) c e = rw (either_false (c == x) false e).0 refl
 name_opens s name_mark_after_p n rest h = named_is_read s (40 ∷ 63 ∷ 80 ∷ 60 ∷ (n ++ 62 ∷ rest)) n rest h
+
+-- a mark that is spelled opens its group
+pub mark_opens : (s : Scope) {m : Text} {how : Grouping} → GroupMark m how → (rest : Text) → ◌≡◌ {A = Option (g.Opening × Place)} (opening (start s (40 ∷ (m ++ rest)))) (Some (g.marked how, start (inside how s) rest))
+mark_opens s mark_atomic rest = refl
+mark_opens s mark_ahead rest = refl
+mark_opens s mark_not_ahead rest = refl
+mark_opens s mark_behind rest = refl
+mark_opens s mark_not_behind rest = refl
+
+choose_reference : (s : Scope) (a b : Bool) (m n u v : Text) → a ≡ false → b ≡ true → m ≡ n → u ≡ v
+    → ◌≡◌ {A = Option (g.Opening × Place)} (cond {A = Option (g.Opening × Place)} (a || not b) None (Some (g.reference s.flags.ignore_case (length s.wanted), start (wants (called m) s) (drop 1 u))))
+    (Some (g.reference s.flags.ignore_case (length s.wanted), start (wants (called n) s) (drop 1 v)))
+choose_reference s a b m n u v h e f w = rw (h, e, f, w) refl
+
+-- a reference to a name that is spelled is one
+pub reference_opens : (s : Scope) (n rest : Text) → is_name n ≡ true
+    → ◌≡◌ {A = Option (g.Opening × Place)} (opening (start s (40 ∷ 63 ∷ 80 ∷ 61 ∷ (n ++ 41 ∷ rest)))) (Some (g.reference s.flags.ignore_case (length s.wanted), start (wants (called n) s) rest))
+reference_opens s n rest h =
+    choose_reference s (length (name_here (n ++ 41 ∷ rest)) == 0) (is_at ")" (past_name (n ++ 41 ∷ rest))) (name_here (n ++ 41 ∷ rest)) n (past_name (n ++ 41 ∷ rest)) (41 ∷ rest)
+    (ap (λ l. length l == 0) (name_is_read 41 n rest no_parenthesis h) ∙ name_is_some n h) (ap (is_at ")") (past_read 41 n rest no_parenthesis h)) (name_is_read 41 n rest no_parenthesis h) (past_read 41 n rest no_parenthesis h)
 
 mutual
   pub read_branches : {k : ℕ} {s r : Scope} {t after : Text} {bs : List Pattern} → d.Branches k s t after bs r → ends_branch after ≡ true → is_at "|" after ≡ false → g.Branches k (start s (t ++ after)) bs (start r after)
@@ -187,17 +243,21 @@ mutual
   read_item (d.quantified {q = q} {t = t} {u = u} {v = v} {after = after} {a = a} b e c h) = rw (append_assoc t (u ++ v) after, append_assoc u v after) (read_atom b (mark_is_read h a q c e))
 
   pub read_atom : {k : ℕ} {s q : Scope} {t after : Text} {a x : Pattern} {r : Place} → d.Atom k s t after a q → g.quantified a (start q after) ≡ Some (x, r) → g.Item k (start s (t ++ after)) (Some x) r
-  read_atom (d.single b r) f = g.single (no_paren r) (r, refl) f
-  read_atom {after = after} (d.plain {t = t} b) f = rw (append_assoc t (41 ∷ []) after) (g.grouped refl refl plain_opens (read_branches b refl refl) refl f)
+  read_atom (d.single b r) f = g.single (no_paren r) (g.alone r) f
+  read_atom {after = after} (d.plain {t = t} b) f = rw (append_assoc t (41 ∷ []) after) (g.grouped refl refl refl (read_branches b refl refl) refl f)
   read_atom {s = s} {after = after} (d.flagged {u = u} {t = t} l b) f =
-      rw (append_assoc u (58 ∷ (t ++ 41 ∷ [])) after, append_assoc t (41 ∷ []) after) (g.grouped refl (flags_open s l 58 (t ++ 41 ∷ after) refl) plain_opens (read_branches b refl refl) refl f)
+      rw (append_assoc u (58 ∷ (t ++ 41 ∷ [])) after, append_assoc t (41 ∷ []) after) (g.grouped refl (flags_open s l 58 (t ++ 41 ∷ after) refl) refl (read_branches b refl refl) refl f)
   read_atom {s = s} {after = after} (d.capture {t = t} u h b) f =
-      rw (append_assoc t (41 ∷ []) after) (g.grouped refl (capture_is_read s (t ++ (41 ∷ after)) u h) (capture_opens (s.opened + 1)) (read_branches b refl refl) refl f)
+      rw (append_assoc t (41 ∷ []) after) (g.grouped refl (capture_is_read s (t ++ (41 ∷ after)) u h) refl (read_branches b refl refl) refl f)
   read_atom {s = s} {after = after} (d.unnamed {t = t} u h b) f =
-      rw (append_assoc t (41 ∷ []) after) (g.grouped refl (unnamed_is_read s (t ++ (41 ∷ after)) u h) plain_opens (read_branches b refl refl) refl f)
+      rw (append_assoc t (41 ∷ []) after) (g.grouped refl (unnamed_is_read s (t ++ (41 ∷ after)) u h) refl (read_branches b refl refl) refl f)
   read_atom {s = s} {after = after} (d.named {m = m} {t = t} n l h b) f =
       rw (append_assoc m (n ++ 62 ∷ (t ++ 41 ∷ [])) after, append_assoc n (62 ∷ (t ++ 41 ∷ [])) after, append_assoc t (41 ∷ []) after)
-      (g.grouped refl (name_opens s l n (t ++ 41 ∷ after) h) (capture_opens (s.opened + 1)) (read_branches b refl refl) refl f)
+      (g.grouped refl (name_opens s l n (t ++ 41 ∷ after) h) refl (read_branches b refl refl) refl f)
+  read_atom {s = s} {after = after} (d.marked {m = m} {t = t} w b) f =
+      rw (append_assoc m (t ++ 41 ∷ []) after, append_assoc t (41 ∷ []) after) (g.grouped refl (mark_opens s w (t ++ 41 ∷ after)) refl (read_branches b refl refl) refl f)
+  read_atom {s = s} {t = t} {after = after} (d.reference h) f = g.single (no_paren_begun (t ++ after) (reference_begins s.opened (t ++ after) h)) (g.refers h) f
+  read_atom {s = s} {after = after} (d.reference_by_name n h) f = rw (append_assoc n (41 ∷ []) after) (g.refers_by_name refl (reference_opens s n after h) f)
 
 not_true : (b : Bool) → not b ≡ true → b ≡ false
 not_true true h = cc
@@ -224,6 +284,8 @@ pub data Opened (p : Place) : g.Opening → Place → Type 0 where
   as_name : (m n u : Text) → NameMark m → is_name n ≡ true → p.text ≡ codes "(?" ++ (m ++ (n ++ 62 ∷ u)) → Opened p (g.capture (p.scope.opened + 1)) (start (one_more_name n p.scope) u)
   as_capture : (u : Text) → p.scope.unnamed_capture ≡ true → p.text ≡ 40 ∷ u → is_at "?*" u ≡ false → Opened p (g.capture (p.scope.opened + 1)) (start (one_more_group p.scope) u)
   as_unnamed : (u : Text) → p.scope.unnamed_capture ≡ false → p.text ≡ 40 ∷ u → is_at "?*" u ≡ false → Opened p g.plain (start p.scope u)
+  as_marked : (m u : Text) (how : Grouping) → GroupMark m how → p.text ≡ 40 ∷ (m ++ u) → Opened p (g.marked how) (start (inside how p.scope) u)
+  as_reference : (n u : Text) → is_name n ≡ true → p.text ≡ codes "(?P=" ++ (n ++ 41 ∷ u) → Opened p (g.reference p.scope.flags.ignore_case (length p.scope.wanted)) (start (wants (called n) p.scope) u)
 
 is_opened : {p : Place} {how : g.Opening} {q : Place} {a : g.Opening} {b : Place} → ◌≡◌ {A = Option (g.Opening × Place)} (Some (a, b)) (Some (how, q)) → Opened p a b → Opened p how q
 is_opened {p} {how} {q} {a} {b} s o = let t = some_pair s in subst (λ x. Opened p x q) t.0 (subst (λ y. Opened p a y) t.1 o)
@@ -249,6 +311,45 @@ name_opened p how q m t l is h =
           (is ∙ ap (λ u. 40 ∷ 63 ∷ (m ++ u)) (row_then_rest t ∙ ap (λ u. name_here t ++ u) (at_char 62 (past_name t) (not_false (is_at ">" (past_name t)) n.1)))))
     ]
 
+-- a whole reference to a name
+reference_opened : (p : Place) (how : g.Opening) (q : Place) (t : Text) → p.text ≡ codes "(?P=" ++ t → g.named_reference p t ≡ Some (how, q) → Opened p how q
+reference_opened p how q t is h =
+    elim (chosen ((length (name_here t) == 0) || not (is_at ")" (past_name t))) _ _ _ h) [
+      | inl x ↦ absurd (some_is_none (sym x.1))
+      | inr x ↦
+          let n = either_false (length (name_here t) == 0) (not (is_at ")" (past_name t))) x.0 in
+          is_opened x.1 (as_reference (name_here t) (drop 1 (past_name t)) (row_is_name t n.0)
+          (is ∙ ap (λ u. 40 ∷ 63 ∷ 80 ∷ 61 ∷ u) (row_then_rest t ∙ ap (λ u. name_here t ++ u) (at_char 41 (past_name t) (not_false (is_at ")" (past_name t)) n.1)))))
+    ]
+
+-- a mark that is read is spelled
+record MarkRead (t : Text) (how : Grouping) (n : ℕ) : Type 0 where
+  mark : Text
+  spelled : GroupMark mark how
+  is : t ≡ 40 ∷ (mark ++ drop n t)
+
+marked_here : (t : Text) (how : Grouping) (n : ℕ) → g.mark_here t ≡ Some (how, n) → MarkRead t how n
+marked_here t how n h =
+    elim (chosen (begins "(?>" t) _ _ _ h) [
+      | inl x ↦ is_it x.1 (record { mark = codes "?>"; spelled = mark_atomic; is = begins_with (codes "(?>") t x.0 })
+      | inr x ↦ elim (chosen (begins "(?=" t) _ _ _ x.1) [
+        | inl x ↦ is_it x.1 (record { mark = codes "?="; spelled = mark_ahead; is = begins_with (codes "(?=") t x.0 })
+        | inr x ↦ elim (chosen (begins "(?!" t) _ _ _ x.1) [
+          | inl x ↦ is_it x.1 (record { mark = codes "?!"; spelled = mark_not_ahead; is = begins_with (codes "(?!") t x.0 })
+          | inr x ↦ elim (chosen (begins "(?<=" t) _ _ _ x.1) [
+            | inl x ↦ is_it x.1 (record { mark = codes "?<="; spelled = mark_behind; is = begins_with (codes "(?<=") t x.0 })
+            | inr x ↦ elim (chosen (begins "(?<!" t) _ _ _ x.1) [
+              | inl x ↦ is_it x.1 (record { mark = codes "?<!"; spelled = mark_not_behind; is = begins_with (codes "(?<!") t x.0 })
+              | inr x ↦ absurd (some_is_none (sym x.1))
+            ]
+          ]
+        ]
+      ]
+    ]
+  where
+    is_it : {a : Grouping} {i : ℕ} → ◌≡◌ {A = Option (Grouping × ℕ)} (Some (a, i)) (Some (how, n)) → MarkRead t a i → MarkRead t how n
+    is_it {a} {i} s o = let e = some_pair s in subst (λ x. MarkRead t x n) e.0 (subst (λ y. MarkRead t a y) e.1 o)
+
 -- the opening that nothing distinguishes
 unnamed_opened : (p : Place) (how : g.Opening) (q : Place) → p.text ≡ 40 ∷ drop 1 p.text → is_at "?*" (drop 1 p.text) ≡ false → ◌≡◌ {A = Option (g.Opening × Place)} (Some (g.unnamed p)) (Some (how, q)) → Opened p how q
 unnamed_opened p how q is n h =
@@ -257,17 +358,18 @@ unnamed_opened p how q is n h =
       | inr x ↦ is_opened (ap Some x.1) (as_unnamed (drop 1 p.text) x.0 is n)
     ]
 
-pub opened : (p : Place) (how : g.Opening) (q : Place) → is_at "(" p.text ≡ true → opening p ≡ Some (how, q) → Opened p how q
-opened p how q e h =
-    elim (chosen (begins "(?:" p.text) _ _ _ h) [
-      | inl x ↦ is_opened x.1 (as_plain (drop 3 p.text) (begins_with (codes "(?:") p.text x.0))
-      | inr x ↦ elim (chosen (begins "(?<" p.text) _ _ _ x.1) [
-        | inl y ↦ name_opened p how q (codes "<") (drop 3 p.text) name_mark (begins_with (codes "(?<") p.text y.0) y.1
-        | inr y ↦ elim (chosen (begins "(?P<" p.text) _ _ _ y.1) [
-          | inl z ↦ name_opened p how q (codes "P<") (drop 4 p.text) name_mark_after_p (begins_with (codes "(?P<") p.text z.0) z.1
-          | inr z ↦ elim (chosen (begins "(?" p.text) _ _ _ z.1) [
-            | inl y ↦ by_flags (g.flags_in p.scope.meaning (drop 2 p.text) (g.first_letter p.scope.flags)) refl (begins_with (codes "(?") p.text y.0) y.1
-            | inr y ↦ (let none = y.0 in elim (chosen (begins "(*" p.text) _ _ _ y.1) [
+-- the opening where no mark stands
+unmarked_opened : (p : Place) (how : g.Opening) (q : Place) → is_at "(" p.text ≡ true → g.unmarked p ≡ Some (how, q) → Opened p how q
+unmarked_opened p how q e h =
+    elim (chosen (begins "(?<" p.text) _ _ _ h) [
+      | inl y ↦ name_opened p how q (codes "<") (drop 3 p.text) name_mark (begins_with (codes "(?<") p.text y.0) y.1
+      | inr y ↦ elim (chosen (begins "(?P<" p.text) _ _ _ y.1) [
+        | inl z ↦ name_opened p how q (codes "P<") (drop 4 p.text) name_mark_after_p (begins_with (codes "(?P<") p.text z.0) z.1
+        | inr z ↦ elim (chosen (begins "(?P=" p.text) _ _ _ z.1) [
+          | inl y ↦ reference_opened p how q (drop 4 p.text) (begins_with (codes "(?P=") p.text y.0) y.1
+          | inr y ↦ elim (chosen (begins "(?" p.text) _ _ _ y.1) [
+            | inl z ↦ by_flags (g.flags_in p.scope.meaning (drop 2 p.text) (g.first_letter p.scope.flags)) refl (begins_with (codes "(?") p.text z.0) z.1
+            | inr z ↦ (let none = z.0 in elim (chosen (begins "(*" p.text) _ _ _ z.1) [
               | inl x ↦ absurd (some_is_none (sym x.1))
               | inr x ↦ unnamed_opened p how q (at_char 40 p.text e) (no_special (drop 1 p.text) (rw (at_char 40 p.text e) at none) (rw (at_char 40 p.text e) at x.0)) x.1
             ])
@@ -282,6 +384,17 @@ opened p how q e h =
     by_flags (Some (f, v)) x is h =
         let r = setting_spelled p.scope.meaning (drop 2 p.text) p.scope.flags f v x in
         flags_opened p how q f r.letters v (is ∙ ap (λ l. 40 ∷ 63 ∷ l) r.is) r.spelled r.ends h
+
+pub opened : (p : Place) (how : g.Opening) (q : Place) → is_at "(" p.text ≡ true → opening p ≡ Some (how, q) → Opened p how q
+opened p how q e h =
+    elim (chosen (begins "(?:" p.text) _ _ _ h) [
+      | inl x ↦ is_opened x.1 (as_plain (drop 3 p.text) (begins_with (codes "(?:") p.text x.0))
+      | inr x ↦ by_mark (g.mark_here p.text) refl x.1
+    ]
+  where
+    by_mark : (o : Option (Grouping × ℕ)) → g.mark_here p.text ≡ o → g.by_mark p o ≡ Some (how, q) → Opened p how q
+    by_mark None f x = unmarked_opened p how q e x
+    by_mark (Some (m, n)) f x = let k = marked_here p.text m n f in is_opened x (as_marked k.mark (drop n p.text) m k.spelled k.is)
 
 -- the number of turns that was read
 pub record Stated (p : Place) (b : Bounds) (q : Place) : Type 0 where
@@ -324,13 +437,14 @@ stated p b q h =
 pub data Tasted (p : Place) : Taste → Place → Type 0 where
   no_suffix : is_at "?+" p.text ≡ false → Tasted p Greedy p
   lazy_suffix : (u : Text) → p.text ≡ 63 ∷ u → Tasted p Lazy (start p.scope u)
+  possessive_suffix : (u : Text) → p.text ≡ 43 ∷ u → Tasted p Possessive (start p.scope u)
 
 pub tasted : (p : Place) (how : Taste) (q : Place) → g.taste p ≡ Some (how, q) → Tasted p how q
 tasted p how q h =
     elim (chosen (is_at "?" p.text) _ _ _ h) [
       | inl x ↦ is_it x.1 (lazy_suffix (drop 1 p.text) (at_char 63 p.text x.0))
       | inr x ↦ (let lazy = x.0 in elim (chosen (is_at "+" p.text) _ _ _ x.1) [
-        | inl x ↦ absurd (some_is_none (sym x.1))
+        | inl x ↦ is_it x.1 (possessive_suffix (drop 1 p.text) (at_char 43 p.text x.0))
         | inr x ↦ is_it x.1 (no_suffix (neither_suffix p.text lazy x.0))
       ])
     ]
@@ -381,6 +495,11 @@ quantity_of a q p {b} e s (lazy_suffix u h) =
     let is : (here q).text ≡ (s.mark ++ codes "?") ++ u = s.text ∙ (ap (λ l. s.mark ++ l) (ap (λ (y : Place). y.text) (sym s.end) ∙ h) ∙ sym (append_assoc s.mark (63 ∷ []) u)) in
     subst (λ (y : Place). Quantity a q (repeat b.0 b.1 Lazy a) (start y.scope u)) (sym s.end)
     (marked w.row (s.mark ++ codes "?") u (w.is ∙ ap (λ l. w.row ++ l) is) (subst (λ l. Blanks q.scope.flags.ignore_blanks w.row l) is w.spelled) e (lazily s.states))
+quantity_of a q p {b} e s (possessive_suffix u h) =
+    let w = skipped q.scope.flags.ignore_blanks q.text in
+    let is : (here q).text ≡ (s.mark ++ codes "+") ++ u = s.text ∙ (ap (λ l. s.mark ++ l) (ap (λ (y : Place). y.text) (sym s.end) ∙ h) ∙ sym (append_assoc s.mark (43 ∷ []) u)) in
+    subst (λ (y : Place). Quantity a q (repeat b.0 b.1 Possessive a) (start y.scope u)) (sym s.end)
+    (marked w.row (s.mark ++ codes "+") u (w.is ∙ ap (λ l. w.row ++ l) is) (subst (λ l. Blanks q.scope.flags.ignore_blanks w.row l) is w.spelled) e (possessively s.states))
 
 pub quantity : (a : Pattern) (q : Place) (t : Pattern) (r : Place) → g.quantified a q ≡ Some (t, r) → Quantity a q t r
 quantity a q t r h =
@@ -398,13 +517,14 @@ quantity a q t r h =
     is_it {u} {b} s o = let e = some_pair s in subst (λ x. Quantity a q x r) e.0 (subst (λ y. Quantity a q u y) e.1 o)
 
 pub atom_is : (p : Place) (a : Pattern) (q : Place) → g.IsAtom p a q → past_blank p.scope.flags.ignore_blanks p.text ≡ None → (w : Text) × (p.text ≡ w ++ q.text) × ((k : ℕ) → d.Atom k p.scope w q.text a q.scope)
-atom_is p a q h clean =
-    let e = ends_atom h.0 in (
+atom_is p a q (g.alone {t = t} h) clean =
+    let e = ends_atom h in (
       e.front,
       e.is,
-      λ k. subst (λ (z : Place). d.Atom k p.scope e.front q.text a z.scope) (sym h.1)
-          (d.single (subst (λ t. past_blank p.scope.flags.ignore_blanks t ≡ None) e.is clean) (subst (λ t. ReadsAtom p.scope t a q.text) e.is h.0)),
+      λ k. d.single (subst (λ u. past_blank p.scope.flags.ignore_blanks u ≡ None) e.is clean) (subst (λ u. ReadsAtom p.scope u a t) e.is h),
     )
+atom_is p a q (g.refers {w = w} {t = t} h) clean =
+    let e = ends_reference p.scope.opened p.text h in (e.front, e.is, λ k. d.reference (subst (λ u. references.reference p.scope.opened u ≡ Some (w, t)) e.is h))
 
 -- an atom with what quantifies it
 pub spell_quantity : {k : ℕ} {s : Scope} {a t : Pattern} {q r : Place} {w : Text} → d.Atom k s w q.text a q.scope → Quantity a q t r → (v : Text) × (w ++ q.text ≡ v ++ r.text) × d.Item k s v r.text (Some t) r.scope
@@ -419,9 +539,32 @@ spell_setting (as_setting t u f e l) h = (codes "(?" ++ (t ++ codes ")"), e ∙ 
 spell_setting {p = p} (as_name m n u l f e) h = absurd (capture_opens (p.scope.opened + 1) h)
 spell_setting {p = p} (as_capture u c e f) h = absurd (capture_opens (p.scope.opened + 1) h)
 spell_setting (as_unnamed u c e f) h = absurd (plain_opens h)
+spell_setting (as_marked m u how l e) h = absurd (mark_is_no_setting how h)
+spell_setting {p = p} (as_reference n u l e) h = absurd (reference_is_no_setting p.scope.flags.ignore_case (length p.scope.wanted) h)
+
+false_is_true : false ≡ true → ⊥
+false_is_true h = cc
+
+abbrev is_whole : g.Opening → Bool
+is_whole (g.reference folded n) = true
+is_whole g.setting = false
+is_whole g.plain = false
+is_whole (g.capture n) = false
+is_whole (g.marked how) = false
+
+-- a whole reference
+spell_reference : {k : ℕ} {p q : Place} {how : g.Opening} → Opened p how q → is_whole how ≡ true → (t : Text) × (p.text ≡ t ++ q.text) × d.Atom (suc k) p.scope t q.text (referred how) q.scope
+spell_reference (as_plain u e) h = absurd (false_is_true h)
+spell_reference (as_flagged t u f e l) h = absurd (false_is_true h)
+spell_reference (as_setting t u f e l) h = absurd (false_is_true h)
+spell_reference (as_name m n u l f e) h = absurd (false_is_true h)
+spell_reference (as_capture u c e f) h = absurd (false_is_true h)
+spell_reference (as_unnamed u c e f) h = absurd (false_is_true h)
+spell_reference (as_marked m u how l e) h = absurd (false_is_true h)
+spell_reference (as_reference n u l e) h = (codes "(?P=" ++ (n ++ codes ")"), e ∙ ap (λ v. codes "(?P=" ++ v) (sym (append_assoc n (41 ∷ []) u)), d.reference_by_name n l)
 
 -- the group that a parenthesis opens, from what is inside it
-spell_group : {k : ℕ} {p inside : Place} {how : g.Opening} {t after : Text} {bs : List Pattern} {s : Scope} → Opened p how inside → (how ≡ g.setting → ⊥) → inside.text ≡ t ++ 41 ∷ after
+spell_group : {k : ℕ} {p inside : Place} {how : g.Opening} {t after : Text} {bs : List Pattern} {s : Scope} → Opened p how inside → opens_group how ≡ true → inside.text ≡ t ++ 41 ∷ after
     → d.Branches k inside.scope t (41 ∷ after) bs s → (w : Text) × (p.text ≡ w ++ after) × d.Atom (suc k) p.scope w after (wrap how (in_branches bs)) (back_to p.scope s)
 spell_group {t = t} {after = after} (as_plain u e) n i b = (codes "(?:" ++ (t ++ codes ")"), e ∙ ap (λ l. codes "(?:" ++ l) (i ∙ sym (append_assoc t (41 ∷ []) after)), d.plain b)
 spell_group {t = t} {after = after} (as_flagged v u f e l) n i b = (
@@ -429,7 +572,10 @@ spell_group {t = t} {after = after} (as_flagged v u f e l) n i b = (
   e ∙ (ap (λ x. codes "(?" ++ (v ++ 58 ∷ x)) (i ∙ sym (append_assoc t (41 ∷ []) after)) ∙ ap (λ x. codes "(?" ++ x) (sym (append_assoc v (58 ∷ (t ++ 41 ∷ [])) after))),
   d.flagged l b,
 )
-spell_group (as_setting v u f e l) n i b = absurd (n refl)
+spell_group (as_setting v u f e l) n i b = absurd (false_is_true n)
+spell_group (as_reference v u l e) n i b = absurd (false_is_true n)
+spell_group {t = t} {after = after} (as_marked m u how l e) n i b =
+    (codes "(" ++ (m ++ (t ++ codes ")")), e ∙ (ap (λ x. 40 ∷ (m ++ x)) (i ∙ sym (append_assoc t (41 ∷ []) after)) ∙ ap (λ x. 40 ∷ x) (sym (append_assoc m (t ++ 41 ∷ []) after))), d.marked l b)
 spell_group {t = t} {after = after} (as_name m v u l f e) n i b = (
   codes "(?" ++ (m ++ (v ++ (codes ">" ++ (t ++ codes ")")))),
   e
@@ -463,6 +609,10 @@ mutual
 
   pub spell_item : {k : ℕ} {p r : Place} {x : Option Pattern} → g.Item k p x r → past_blank p.scope.flags.ignore_blanks p.text ≡ None → (t : Text) × (p.text ≡ t ++ r.text) × d.Item k p.scope t r.text x r.scope
   spell_item {p = p} (g.sets {q = q} e o) clean = spell_setting (opened p g.setting q e o) refl
+  spell_item {p = p} (g.refers_by_name {k = k} {n = n} {q = q} {r = r} {folded = folded} {x = x} e o f) clean =
+      let w = spell_reference {k = k} (opened p (g.reference folded n) q e o) refl in
+      let y = spell_quantity w.2 (quantity (backreference folded n) q x r f) in
+      (y.0, w.1 ∙ y.1, y.2)
   spell_item {k} {p} (g.single {q = q} {r = r} {a = a} {x = x} e f h) clean =
       let w = atom_is p a q f clean in
       let y = spell_quantity (w.2 k) (quantity a q x r h) in

@@ -2,11 +2,11 @@
 use Rattle.std.proofs.Common.{◌≡◌, ℕ, List, [], ◌∷◌, Option, Some, sym, ap, ap₂, ◌∙◌, subst, inl, inr, add-one}
 use Rattle.fancy_syntax.specs.Pattern.{Pattern, in_sequence, in_branches}
 use Rattle.fancy_syntax.specs.Words.{Text, is_at}
-use Rattle.fancy_syntax.specs.Grammar.{Place, past, quantified, wrap, closed, Branches, last, more, Parts, none, next, Item, sets, single, grouped}
+use Rattle.fancy_syntax.specs.Grammar.{Place, past, quantified, wrap, closed, Branches, last, more, Parts, none, next, Item, sets, refers_by_name, single, grouped}
 use Rattle.fancy_syntax.specs.Dialect.{Scope, Spells, with_part}
 use Rattle.fancy_syntax.proofs.SpellingLemmas.{spelling_read}
 use Rattle.fancy_syntax.proofs.LexemeLemmas.{the_atom}
-use Rattle.fancy_syntax.proofs.ReadingLemmas.{true_is_false, some_pair, branches_first, parts_end, parts_next, single_is, setting_is, body_reads}
+use Rattle.fancy_syntax.proofs.ReadingLemmas.{true_is_false, some_pair, branches_first, parts_end, parts_next, single_is, setting_is, reference_is, body_reads}
 
 mutual
   pub one_branches : {k : ℕ} {p q r : Place} {bs cs : List Pattern} → Branches k p bs q → Branches k p cs r → (cs ≡ bs) × (r ≡ q)
@@ -36,6 +36,7 @@ mutual
 
   pub one_item : {k : ℕ} {p q r : Place} {x y : Option Pattern} → Item k p x q → Item k p y r → (y ≡ x) × (r ≡ q)
   one_item (sets {k = k} e o) y = (setting_is k e o (sym (add-one k))).1 _ _ y
+  one_item (refers_by_name {k = k} e o f) y = (reference_is e o k (sym (add-one k)) f).1 _ _ y
   one_item (single e f h) y = (single_is e (the_atom f) h).1 _ _ y
   one_item {r = r} (grouped {k = k} {p = p} {inside = inside} {how = how} e o n b c f) y =
       let m = body_reads e o n (sym (add-one k)) y in

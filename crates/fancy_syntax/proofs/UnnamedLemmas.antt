@@ -1,28 +1,44 @@
 -- A text that is spelled where groups without a name capture nothing, is spelled also where they capture; and under options a text has at most one pattern.
-use Rattle.std.proofs.Common.{◌≡◌, ℕ, ◌+◌, Bool, true, false, not, ◌&&◌, List, [], ◌∷◌, ◌++◌, Option, Some, None, refl, sym, ap, ◌∙◌, subst}
-use Rattle.fancy_syntax.specs.Pattern.{Pattern, group, repeat, in_sequence, in_branches}
+use Rattle.std.proofs.Common.{◌≡◌, ℕ, ◌+◌, Bool, true, false, not, ◌&&◌, List, [], ◌∷◌, ◌++◌, length, Option, Some, None, codes, refl, sym, ap, ◌∙◌, subst}
+use Rattle.fancy_syntax.specs.declared.groups.Grouping.{Grouping}
+use Rattle.fancy_syntax.specs.declared.groups.Grouping.TheVariants.{Atomic, LookAhead, LookBehind}
+use Rattle.fancy_syntax.specs.Pattern.{Pattern, backreference, group, repeat, in_sequence, in_branches}
 use Rattle.fancy_syntax.specs.Sizes.{is_empty}
 use Rattle.fancy_syntax.specs.Words.{Text}
-use Rattle.fancy_syntax.specs.Dialect.{Scope, Options, begin, has_name, lexeme, ReadsAtom, by_lexeme, by_class, with_part, Branches, one, either, Parts, nothing, item, Item, set, bare, quantified, Atom, single, plain, flagged, capture, unnamed, named, Spells, SpellsUnder}
+use Rattle.fancy_syntax.specs.Dialect.{Scope, Options, begin, has_name, lexeme, ReadsAtom, by_lexeme, by_class, with_part, Branches, one, either, Parts, nothing, item, Item, set, bare, quantified, Atom, single, plain, flagged, capture, unnamed, named, marked, reference, reference_by_name, inside, grouped, Spells, SpellsUnder}
+use Rattle.fancy_syntax.specs.References.{Target, called}
 use Rattle.fancy_syntax.proofs.ReadingLemmas.{true_is_false}
 use Rattle.fancy_syntax.proofs.UniqueLemmas.{one_pattern, one_end}
+use Rattle.fancy_syntax.proofs.ReferenceLemmas.{reference_any}
 
 abbrev Names : Type 0
 Names = List (Text × ℕ)
 
--- the same scope, but that groups without a name capture, that n were opened, and which of them have names
-abbrev capturing : ℕ → Names → Scope → Scope
-capturing n names s = record s { unnamed_capture = true; opened = n; names = names }
+-- what was opened and written before a place: how many groups, which of them have names, and what the references name
+record Before : Type 0 where
+  opened : ℕ
+  names : Names
+  wanted : List Target
+
+-- the same scope, but that groups without a name capture, and that this stands before it
+abbrev capturing : Before → Scope → Scope
+capturing b s = record s { unnamed_capture = true; opened = b.opened; names = b.names; wanted = b.wanted }
+
+abbrev nothing_before : Before
+nothing_before = record { opened = 0; names = []; wanted = [] }
+
+abbrev one_more : Before → Before
+one_more b = record b { opened = b.opened + 1 }
 
 -- what is no group does not ask for groups
-same_lexeme : (n : ℕ) (names : Names) (s : Scope) (t : Text) → lexeme (capturing n names s) t ≡ lexeme s t
-same_lexeme n names s [] = refl
-same_lexeme n names s (c ∷ []) = refl
-same_lexeme n names s (c ∷ d ∷ t) = refl
+same_lexeme : (f : Before) (s : Scope) (t : Text) → lexeme (capturing f s) t ≡ lexeme s t
+same_lexeme f s [] = refl
+same_lexeme f s (c ∷ []) = refl
+same_lexeme f s (c ∷ d ∷ t) = refl
 
-same_atom : (n : ℕ) (names : Names) {s : Scope} {t u : Text} {a : Pattern} → ReadsAtom s t a u → ReadsAtom (capturing n names s) t a u
-same_atom n names {s} {t} (by_lexeme h m) = by_lexeme (same_lexeme n names s t ∙ h) m
-same_atom n names (by_class h m) = by_class h m
+same_atom : (f : Before) {s : Scope} {t u : Text} {a : Pattern} → ReadsAtom s t a u → ReadsAtom (capturing f s) t a u
+same_atom f {s} {t} (by_lexeme h m) = by_lexeme (same_lexeme f s t ∙ h) m
+same_atom f (by_class h m) = by_class h m
 
 -- The second pattern is empty only where the first is: a group that captures is not.
 record IsFuller (p q : Pattern) : Type 0 where
@@ -30,7 +46,7 @@ record IsFuller (p q : Pattern) : Type 0 where
 
 data AreFuller : List Pattern → List Pattern → Type 0 where
   no_more : AreFuller [] []
-  one_more : {p q : Pattern} {ps qs : List Pattern} → IsFuller p q → AreFuller ps qs → AreFuller (p ∷ ps) (q ∷ qs)
+  one_more_pattern : {p q : Pattern} {ps qs : List Pattern} → IsFuller p q → AreFuller ps qs → AreFuller (p ∷ ps) (q ∷ qs)
 
 data IsFullerPart : Option Pattern → Option Pattern → Type 0 where
   no_part : IsFullerPart None None
@@ -38,18 +54,18 @@ data IsFullerPart : Option Pattern → Option Pattern → Type 0 where
 
 fuller_sequence : {ps qs : List Pattern} → AreFuller ps qs → IsFuller (in_sequence ps) (in_sequence qs)
 fuller_sequence no_more = record { empty = λ h. refl }
-fuller_sequence (one_more f no_more) = f
-fuller_sequence (one_more f (one_more g rest)) = record { empty = λ h. h }
+fuller_sequence (one_more_pattern f no_more) = f
+fuller_sequence (one_more_pattern f (one_more_pattern g rest)) = record { empty = λ h. h }
 
 fuller_branches : {ps qs : List Pattern} → AreFuller ps qs → IsFuller (in_branches ps) (in_branches qs)
 fuller_branches no_more = record { empty = λ h. refl }
-fuller_branches (one_more f no_more) = f
-fuller_branches (one_more f (one_more g no_more)) = record { empty = λ h. h }
-fuller_branches (one_more f (one_more g (one_more h rest))) = record { empty = λ x. x }
+fuller_branches (one_more_pattern f no_more) = f
+fuller_branches (one_more_pattern f (one_more_pattern g no_more)) = record { empty = λ h. h }
+fuller_branches (one_more_pattern f (one_more_pattern g (one_more_pattern h rest))) = record { empty = λ x. x }
 
 fuller_parts : {x y : Option Pattern} {ps qs : List Pattern} → IsFullerPart x y → AreFuller ps qs → AreFuller (with_part x ps) (with_part y qs)
 fuller_parts no_part rest = rest
-fuller_parts (a_part f) rest = one_more f rest
+fuller_parts (a_part f) rest = one_more_pattern f rest
 
 never_empty : {p q : Pattern} → is_empty q ≡ false → IsFuller p q
 never_empty e = record { empty = λ h. absurd (true_is_false (sym h ∙ e)) }
@@ -65,79 +81,105 @@ has_name-append : (names : Names) (g : Text × ℕ) → has_name (names ++ (g �
 has_name-append [] g = refl
 has_name-append (f ∷ names) g = refl
 
+-- a mark says the same
+same_inside : (how : Grouping) (f : Before) (s : Scope) → capturing f (inside how s) ≡ inside how (capturing f s)
+same_inside Atomic f s = refl
+same_inside (LookAhead negated) f s = refl
+same_inside (LookBehind negated) f s = refl
+
+same_names : (how : Grouping) (s : Scope) → (inside how s).names ≡ s.names
+same_names Atomic s = refl
+same_names (LookAhead negated) s = refl
+same_names (LookBehind negated) s = refl
+
+fuller_marked : (how : Grouping) (p q : Pattern) → IsFuller (grouped how p) (grouped how q)
+fuller_marked Atomic p q = never_empty refl
+fuller_marked (LookAhead negated) p q = never_empty refl
+fuller_marked (LookBehind negated) p q = never_empty refl
+
 -- What is spelled from s to r is spelled so where groups without a name capture: something fuller, with names where there were some.
-record Captures {T : Type 0} (Fuller : T → T → Type 0) (Spelled : Scope → T → Scope → Type 0) (n : ℕ) (before : Names) (s : Scope) (x : T) (r : Scope) : Type 0 where
-  opened : ℕ
-  names : Names
+record Captures {T : Type 0} (Fuller : T → T → Type 0) (Spelled : Scope → T → Scope → Type 0) (before : Before) (s : Scope) (x : T) (r : Scope) : Type 0 where
+  behind : Before
   found : T
   fuller : Fuller x found
-  spelled : Spelled (capturing n before s) found (capturing opened names r)
-  named : has_name before ≡ has_name s.names → has_name names ≡ has_name r.names
+  spelled : Spelled (capturing before s) found (capturing behind r)
+  named : has_name before.names ≡ has_name s.names → has_name behind.names ≡ has_name r.names
 
 mutual
-  capture_branches : {k : ℕ} {s r : Scope} {t after : Text} {bs : List Pattern} → Branches k s t after bs r → (n : ℕ) (names : Names) → Captures AreFuller (λ q cs e. Branches k q t after cs e) n names s bs r
-  capture_branches (one p) n names =
-      let x = capture_parts p n names in
-      record { opened = x.opened; names = x.names; found = in_sequence x.found ∷ []; fuller = one_more (fuller_sequence x.fuller) no_more; spelled = one x.spelled; named = x.named }
-  capture_branches (either p b) n names =
-      let x = capture_parts p n names in
-      let y = capture_branches b x.opened x.names in
+  capture_branches : {k : ℕ} {s r : Scope} {t after : Text} {bs : List Pattern} → Branches k s t after bs r → (f : Before) → Captures AreFuller (λ q cs e. Branches k q t after cs e) f s bs r
+  capture_branches (one p) f =
+      let x = capture_parts p f in
+      record { behind = x.behind; found = in_sequence x.found ∷ []; fuller = one_more_pattern (fuller_sequence x.fuller) no_more; spelled = one x.spelled; named = x.named }
+  capture_branches (either p b) f =
+      let x = capture_parts p f in
+      let y = capture_branches b x.behind in
       record {
-        opened = y.opened;
-        names = y.names;
+        behind = y.behind;
         found = in_sequence x.found ∷ y.found;
-        fuller = one_more (fuller_sequence x.fuller) y.fuller;
+        fuller = one_more_pattern (fuller_sequence x.fuller) y.fuller;
         spelled = either x.spelled y.spelled;
         named = λ h. y.named (x.named h);
       }
 
-  capture_parts : {k : ℕ} {s r : Scope} {t after : Text} {ps : List Pattern} → Parts k s t after ps r → (n : ℕ) (names : Names) → Captures AreFuller (λ q us e. Parts k q t after us e) n names s ps r
-  capture_parts (nothing b) n names = record { opened = n; names = names; found = []; fuller = no_more; spelled = nothing b; named = λ h. h }
-  capture_parts (item b i p) n names =
-      let x = capture_item i n names in
-      let y = capture_parts p x.opened x.names in
-      record { opened = y.opened; names = y.names; found = with_part x.found y.found; fuller = fuller_parts x.fuller y.fuller; spelled = item b x.spelled y.spelled; named = λ h. y.named (x.named h) }
+  capture_parts : {k : ℕ} {s r : Scope} {t after : Text} {ps : List Pattern} → Parts k s t after ps r → (f : Before) → Captures AreFuller (λ q us e. Parts k q t after us e) f s ps r
+  capture_parts (nothing b) f = record { behind = f; found = []; fuller = no_more; spelled = nothing b; named = λ h. h }
+  capture_parts (item b i p) f =
+      let x = capture_item i f in
+      let y = capture_parts p x.behind in
+      record { behind = y.behind; found = with_part x.found y.found; fuller = fuller_parts x.fuller y.fuller; spelled = item b x.spelled y.spelled; named = λ h. y.named (x.named h) }
 
-  capture_item : {k : ℕ} {s r : Scope} {t after : Text} {i : Option Pattern} → Item k s t after i r → (n : ℕ) (names : Names) → Captures IsFullerPart (λ q j e. Item k q t after j e) n names s i r
-  capture_item (set f) n names = record { opened = n; names = names; found = None; fuller = no_part; spelled = set f; named = λ h. h }
-  capture_item (bare a u) n names =
-      let x = capture_atom a n names in
-      record { opened = x.opened; names = x.names; found = Some x.found; fuller = a_part x.fuller; spelled = bare x.spelled u; named = x.named }
-  capture_item (quantified {low = low} {high = high} {taste = taste} {a = a} b e c q) n names =
-      let x = capture_atom b n names in
+  capture_item : {k : ℕ} {s r : Scope} {t after : Text} {i : Option Pattern} → Item k s t after i r → (f : Before) → Captures IsFullerPart (λ q j e. Item k q t after j e) f s i r
+  capture_item (set g) f = record { behind = f; found = None; fuller = no_part; spelled = set g; named = λ h. h }
+  capture_item (bare a u) f =
+      let x = capture_atom a f in
+      record { behind = x.behind; found = Some x.found; fuller = a_part x.fuller; spelled = bare x.spelled u; named = x.named }
+  capture_item (quantified {low = low} {high = high} {taste = taste} {a = a} b e c q) f =
+      let x = capture_atom b f in
       record {
-        opened = x.opened;
-        names = x.names;
+        behind = x.behind;
         found = Some (repeat low high taste x.found);
         fuller = a_part (never_empty refl);
         spelled = quantified x.spelled (not_empty a x.found x.fuller e) c q;
         named = x.named;
       }
 
-  capture_atom : {k : ℕ} {s r : Scope} {t after : Text} {a : Pattern} → Atom k s t after a r → (n : ℕ) (names : Names) → Captures IsFuller (λ q b e. Atom k q t after b e) n names s a r
-  capture_atom (single {a = a} b h) n names = record { opened = n; names = names; found = a; fuller = record { empty = λ e. e }; spelled = single b (same_atom n names h); named = λ e. e }
-  capture_atom (plain b) n names =
-      let x = capture_branches b n names in
-      record { opened = x.opened; names = x.names; found = in_branches x.found; fuller = fuller_branches x.fuller; spelled = plain x.spelled; named = x.named }
-  capture_atom (flagged f b) n names =
-      let x = capture_branches b n names in
-      record { opened = x.opened; names = x.names; found = in_branches x.found; fuller = fuller_branches x.fuller; spelled = flagged f x.spelled; named = x.named }
-  capture_atom (capture u h b) n names =
-      let x = capture_branches b (n + 1) names in
-      record { opened = x.opened; names = x.names; found = group (n + 1) (in_branches x.found); fuller = never_empty refl; spelled = capture refl h x.spelled; named = x.named }
-  capture_atom (unnamed u h b) n names =
-      let x = capture_branches b (n + 1) names in
-      record { opened = x.opened; names = x.names; found = group (n + 1) (in_branches x.found); fuller = never_empty refl; spelled = capture refl h x.spelled; named = x.named }
-  capture_atom (named {s = s} name m h b) n names =
-      let x = capture_branches b (n + 1) (names ++ ((name, n + 1) ∷ [])) in
+  capture_atom : {k : ℕ} {s r : Scope} {t after : Text} {a : Pattern} → Atom k s t after a r → (f : Before) → Captures IsFuller (λ q b e. Atom k q t after b e) f s a r
+  capture_atom (single {a = a} b h) f = record { behind = f; found = a; fuller = record { empty = λ e. e }; spelled = single b (same_atom f h); named = λ e. e }
+  capture_atom (plain b) f =
+      let x = capture_branches b f in
+      record { behind = x.behind; found = in_branches x.found; fuller = fuller_branches x.fuller; spelled = plain x.spelled; named = x.named }
+  capture_atom (flagged g b) f =
+      let x = capture_branches b f in
+      record { behind = x.behind; found = in_branches x.found; fuller = fuller_branches x.fuller; spelled = flagged g x.spelled; named = x.named }
+  capture_atom (capture u h b) f =
+      let x = capture_branches b (one_more f) in
+      record { behind = x.behind; found = group (f.opened + 1) (in_branches x.found); fuller = never_empty refl; spelled = capture refl h x.spelled; named = x.named }
+  capture_atom (unnamed u h b) f =
+      let x = capture_branches b (one_more f) in
+      record { behind = x.behind; found = group (f.opened + 1) (in_branches x.found); fuller = never_empty refl; spelled = capture refl h x.spelled; named = x.named }
+  capture_atom (named {s = s} name m h b) f =
+      let x = capture_branches b (record f { opened = f.opened + 1; names = f.names ++ ((name, f.opened + 1) ∷ []) }) in
       record {
-        opened = x.opened;
-        names = x.names;
-        found = group (n + 1) (in_branches x.found);
+        behind = x.behind;
+        found = group (f.opened + 1) (in_branches x.found);
         fuller = never_empty refl;
         spelled = named name m h x.spelled;
-        named = λ e. x.named (has_name-append names (name, n + 1) ∙ sym (has_name-append s.names (name, s.opened + 1)));
+        named = λ e. x.named (has_name-append f.names (name, f.opened + 1) ∙ sym (has_name-append s.names (name, s.opened + 1)));
       }
+  capture_atom (marked {k = k} {s = s} {q = q} {t = t} {after = after} {how = how} {bs = bs} m b) f =
+      let x = capture_branches b f in
+      record {
+        behind = x.behind;
+        found = grouped how (in_branches x.found);
+        fuller = fuller_marked how (in_branches bs) (in_branches x.found);
+        spelled = marked m (subst (λ z. Branches k z t (codes ")" ++ after) x.found (capturing x.behind q)) (same_inside how f s) x.spelled);
+        named = λ e. x.named (e ∙ ap has_name (sym (same_names how s)));
+      }
+  capture_atom (reference {s = s} {t = t} {after = after} h) f =
+      let w = reference_any s.opened f.opened (t ++ after) h in
+      record { behind = record f { wanted = f.wanted ++ (w.0 ∷ []) }; found = backreference s.flags.ignore_case (length f.wanted); fuller = never_empty refl; spelled = reference w.1; named = λ e. e }
+  capture_atom (reference_by_name {s = s} n h) f =
+      record { behind = record f { wanted = f.wanted ++ (called n ∷ []) }; found = backreference s.flags.ignore_case (length f.wanted); fuller = never_empty refl; spelled = reference_by_name n h; named = λ e. e }
 
 -- what is spelled where groups without a name capture nothing, is spelled where they capture, with names where there were some
 pub record Capturing (o : Options) (text : Text) (end : Scope) : Type 0 where
@@ -148,8 +190,8 @@ pub record Capturing (o : Options) (text : Text) (end : Scope) : Type 0 where
 
 pub spelled_capturing : (b : Bool) (o : Options) {text : Text} {p : Pattern} {end : Scope} → Spells (begin b o) text p end → Capturing o text end
 spelled_capturing b o {end = end} x =
-    let y = capture_branches x.spelled 0 [] in
-    record { pattern = in_branches y.found; inside = capturing y.opened y.names end; spelled = record { branches = y.found; is = refl; spelled = y.spelled }; named = y.named refl }
+    let y = capture_branches x.spelled nothing_before in
+    record { pattern = in_branches y.found; inside = capturing y.behind end; spelled = record { branches = y.found; is = refl; spelled = y.spelled }; named = y.named refl }
 
 -- a text that is not spelled where groups without a name capture, is spelled under no options
 pub none_under : {o : Options} {text : Text} → ((p : Pattern) (end : Scope) → Spells (begin true o) text p end → ⊥) → (p : Pattern) (end : Scope) → SpellsUnder o text p end → ⊥
@@ -173,8 +215,15 @@ pub none_settled : {o : Options} {text : Text} {q : Pattern} {f : Scope} (b : Bo
     → ((p : Pattern) (end : Scope) → Spells (begin b o) text p end → ⊥) → (p : Pattern) (end : Scope) → SpellsUnder o text p end → ⊥
 none_settled {o} {text} b y h none p end x = none p end (subst (λ c. Spells (begin c o) text p end) (settled_by y x ∙ sym h) x.spelled)
 
-pub one_under : {o : Options} {text : Text} {p q : Pattern} {e f : Scope} → SpellsUnder o text p e → SpellsUnder o text q f → p ≡ q
-one_under {o} {text} {p} {q} {e} {f} x y =
+same_unnamed : {o : Options} {text : Text} {p q : Pattern} {e f : Scope} → SpellsUnder o text q f → (x : SpellsUnder o text p e) → Spells (begin x.unnamed o) text q f
+same_unnamed {o} {text} {q = q} {f = f} y x =
     let z = spelled_capturing y.unnamed o y.spelled in
     let same : y.unnamed ≡ x.unnamed = settled_by z.spelled y ∙ sym (settled_by z.spelled x) in
-    one_pattern (begin x.unnamed o) text p q e f x.spelled (subst (λ b. Spells (begin b o) text q f) same y.spelled)
+    subst (λ b. Spells (begin b o) text q f) same y.spelled
+
+pub one_under : {o : Options} {text : Text} {p q : Pattern} {e f : Scope} → SpellsUnder o text p e → SpellsUnder o text q f → p ≡ q
+one_under {o} {text} {p} {q} {e} {f} x y = one_pattern (begin x.unnamed o) text p q e f x.spelled (same_unnamed y x)
+
+-- and ends in one way
+pub one_end_under : {o : Options} {text : Text} {p q : Pattern} {e f : Scope} → SpellsUnder o text p e → SpellsUnder o text q f → e ≡ f
+one_end_under {o} {text} {p} {q} {e} {f} x y = one_end (begin x.unnamed o) text p q e f x.spelled (same_unnamed y x)

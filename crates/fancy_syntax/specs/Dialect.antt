@@ -1,5 +1,5 @@
 -- The dialect, over whole texts: which text spells which pattern. `after` is what follows the text in the whole pattern, so that each case can say that no longer form begins at its place; therefore the cases exclude one another, and a text spells at most one pattern.
-use Rattle.std.specs.Prelude.{◌≡◌, ℕ, suc, ◌+◌, ◌≤◌, ◌==◌, nat_lt, Bool, true, false, not, ◌&&◌, ◌||◌, List, [], ◌∷◌, ◌++◌, drop, Option, Some, None, codes, map, encode_utf8, if◌then◌else◌}
+use Rattle.std.specs.Prelude.{◌≡◌, ℕ, suc, ◌+◌, ◌≤◌, ◌==◌, nat_lt, Bool, true, false, not, ◌&&◌, ◌||◌, List, [], ◌∷◌, ◌++◌, drop, length, All, Option, Some, None, codes, map, encode_utf8, if◌then◌else◌}
 use Rattle.std.specs.Char.{is_ascii_punctuation}
 use Rattle.std.specs.Option.{option_map, option_or, option_and_then}
 use Rattle.fancy_syntax.specs.declared.tree.Meaning.{Meaning}
@@ -7,12 +7,14 @@ use Rattle.fancy_syntax.specs.declared.tree.Meaning.TheVariants.{Unicode, Bytes,
 use Rattle.fancy_syntax.specs.declared.tree.Assertion.{Assertion}
 use Rattle.fancy_syntax.specs.declared.tree.Assertion.TheVariants.{TextStart, TextEnd, LineStart, LineEnd, LineStartCrlf, LineEndCrlf, LastLine, LastLineCrlf, WordBoundary, NotWordBoundary, WordStart, WordEnd, WordStartHalf, WordEndHalf}
 use Rattle.fancy_syntax.specs.declared.tree.Taste.{Taste}
-use Rattle.fancy_syntax.specs.declared.tree.Taste.TheVariants.{Greedy, Lazy}
+use Rattle.fancy_syntax.specs.declared.tree.Taste.TheVariants.{Greedy, Lazy, Possessive}
+use Rattle.fancy_syntax.specs.declared.groups.Grouping.{Grouping}
+use Rattle.fancy_syntax.specs.declared.groups.Grouping.TheVariants.{Atomic, LookAhead, LookBehind}
 use Rattle.fancy_syntax.specs.declared.class.token.Token.{Token}
 use Rattle.fancy_syntax.specs.declared.class.token.Token.TheVariants.{Named as NamedSet}
 use Rattle.fancy_syntax.specs.declared.named.Named.{Named}
-use Rattle.fancy_syntax.specs.Pattern.{Pattern, character, member_of, raw_byte, assertion, group, repeat, in_sequence, in_branches}
-use Rattle.fancy_syntax.specs.Sizes.{nodes, is_empty}
+use Rattle.fancy_syntax.specs.Pattern.{Pattern, character, member_of, raw_byte, backreference, assertion, group, repeat, look_ahead, look_behind, atomic, in_sequence, in_branches}
+use Rattle.fancy_syntax.specs.Sizes.{nodes, are_sized, is_empty}
 use Rattle.fancy_syntax.specs.Words.{Text, ◌∈◌, is_among, is_at, begins, is_at_digit, is_blank, past_blank, decimal, are_digits, begins_count}
 use Rattle.fancy_syntax.specs.Sets.{has, AreEdges, in_range}
 use Rattle.fancy_syntax.specs.Members.{Members}
@@ -21,6 +23,8 @@ use Rattle.fancy_syntax.specs.Widening.{widened}
 use Rattle.fancy_syntax.specs.Escapes.{control_of, set_letter, number}
 use Rattle.fancy_syntax.specs.ClassGrammar.{ReadsEdges, is_ascii_meaning, may_turn, token_members, property}
 use Rattle.fancy_syntax.specs.Names.{is_name}
+use Rattle.fancy_syntax.specs.References as references
+use Rattle.fancy_syntax.specs.References.{Target, called, Fault, Groups, group_for, number_in, refers_to}
 
 -- the flags `i m s x R`
 pub record Flags : Type 0 where
@@ -42,6 +46,8 @@ pub record Scope : Type 0 where
   pub opened : ℕ
   -- the named ones among them, in the order of their openings
   pub names : List (Text × ℕ)
+  -- what the references before it name, in their order
+  pub wanted : List Target
   pub in_look_around : Bool
 
 -- these flags are in force from here on
@@ -81,7 +87,27 @@ one_more_group s = record s { opened = s.opened + 1 }
 abbrev pub one_more_name : Text → Scope → Scope
 one_more_name n s = record s { opened = s.opened + 1; names = s.names ++ ((n, s.opened + 1) ∷ []) }
 
--- behind a group the flags are those from before it, and the groups opened inside it count
+-- one more reference was written, to this
+abbrev pub wants : Target → Scope → Scope
+wants w s = record s { wanted = s.wanted ++ (w ∷ []) }
+
+-- A reference, as it is written: in the place of its group's number stands how many references were written before it.
+abbrev pub reference_here : Scope → Pattern
+reference_here s = backreference s.flags.ignore_case (length s.wanted)
+
+-- in force in such a group
+abbrev pub inside : Grouping → Scope → Scope
+inside Atomic s = s
+inside (LookAhead negated) s = record s { in_look_around = true }
+inside (LookBehind negated) s = record s { in_look_around = true }
+
+-- what such a group makes of the pattern inside it
+abbrev pub grouped : Grouping → Pattern → Pattern
+grouped Atomic p = atomic p
+grouped (LookAhead negated) p = look_ahead negated p
+grouped (LookBehind negated) p = look_behind negated p
+
+-- behind a group the flags are those from before it, and the groups and references inside it count
 abbrev pub back_to : Scope → Scope → Scope
 back_to before inside = record inside { flags = before.flags; in_look_around = before.in_look_around }
 
@@ -250,6 +276,7 @@ pub data Turns : Text → ℕ → Option ℕ → Type 0 where
 pub data Quantifies : Text → Text → ℕ → Option ℕ → Taste → Type 0 where
   greedily : {t after : Text} {low : ℕ} {high : Option ℕ} → Turns t low high → is_at "?+" after ≡ false → Quantifies t after low high Greedy
   lazily : {t after : Text} {low : ℕ} {high : Option ℕ} → Turns t low high → Quantifies (t ++ codes "?") after low high Lazy
+  possessively : {t after : Text} {low : ℕ} {high : Option ℕ} → Turns t low high → Quantifies (t ++ codes "+") after low high Possessive
 
 -- This text is a comment, or where the flag is set a blank or a line behind `#`; at the pattern's end the line needs no line feed.
 pub data Blank : Bool → Text → Text → Type 0 where
@@ -271,6 +298,14 @@ IsUnquantified ignore_blanks after = (t u : Text) → after ≡ t ++ u → Blank
 pub data NameMark : Text → Type 0 where
   name_mark : NameMark (codes "<")
   name_mark_after_p : NameMark (codes "P<")
+
+-- what stands between the parenthesis and the pattern of a group that captures nothing, and is not plain
+pub data GroupMark : Text → Grouping → Type 0 where
+  mark_atomic : GroupMark (codes "?>") Atomic
+  mark_ahead : GroupMark (codes "?=") (LookAhead false)
+  mark_not_ahead : GroupMark (codes "?!") (LookAhead true)
+  mark_behind : GroupMark (codes "?<=") (LookBehind false)
+  mark_not_behind : GroupMark (codes "?<!") (LookBehind true)
 
 -- an item gives a sequence one part, or none
 abbrev pub with_part : Option Pattern → List Pattern → List Pattern
@@ -299,7 +334,7 @@ mutual
     quantified : {k low : ℕ} {high : Option ℕ} {taste : Taste} {s q : Scope} {t u v after : Text} {a : Pattern} → Atom k s t (u ++ (v ++ after)) a q → is_empty a ≡ false
         → Blanks q.flags.ignore_blanks u (v ++ after) → Quantifies v after low high taste → Item k s (t ++ (u ++ v)) after (Some (repeat low high taste a)) q
 
-  -- a character, an escape, a class or a group
+  -- a character, an escape, a class, a group or a reference to one
   pub data Atom : ℕ → Scope → Text → Text → Pattern → Scope → Type 0 where
     single : {k : ℕ} {s : Scope} {t after : Text} {a : Pattern} → past_blank s.flags.ignore_blanks (t ++ after) ≡ None → ReadsAtom s (t ++ after) a after → Atom k s t after a s
     plain : {k : ℕ} {s q : Scope} {t after : Text} {bs : List Pattern} → Branches k s t (codes ")" ++ after) bs q
@@ -315,6 +350,12 @@ mutual
     -- a group with a name is numbered with the others
     named : {k : ℕ} {s q : Scope} {m t after : Text} {bs : List Pattern} (n : Text) → NameMark m → is_name n ≡ true → Branches k (one_more_name n s) t (codes ")" ++ after) bs q
         → Atom (suc k) s (codes "(?" ++ (m ++ (n ++ (codes ">" ++ (t ++ codes ")"))))) after (group (s.opened + 1) (in_branches bs)) (back_to s q)
+    -- atomic groups and look-around
+    marked : {k : ℕ} {s q : Scope} {m t after : Text} {how : Grouping} {bs : List Pattern} → GroupMark m how → Branches k (inside how s) t (codes ")" ++ after) bs q
+        → Atom (suc k) s (codes "(" ++ (m ++ (t ++ codes ")"))) after (grouped how (in_branches bs)) (back_to s q)
+    -- references may name groups that are opened only behind them
+    reference : {k : ℕ} {s : Scope} {t after : Text} {w : Target} → references.reference s.opened (t ++ after) ≡ Some (w, after) → Atom k s t after (reference_here s) (wants w s)
+    reference_by_name : {k : ℕ} {s : Scope} {after : Text} (n : Text) → is_name n ≡ true → Atom (suc k) s (codes "(?P=" ++ (n ++ codes ")")) after (reference_here s) (wants (called n) s)
 
 -- the whole text spells this pattern, with at most 64 parentheses open at one place
 pub record Spells (start : Scope) (text : Text) (p : Pattern) (end : Scope) : Type 0 where
@@ -338,7 +379,7 @@ standard = record { meaning = Unicode; keeps_characters = true; only_named = fal
 
 -- what is in force where a pattern begins, by whether its groups without a name capture
 abbrev pub begin : Bool → Options → Scope
-begin captures o = record { meaning = o.meaning; keeps_characters = o.keeps_characters; unnamed_capture = captures; flags = o.flags; opened = 0; names = []; in_look_around = false }
+begin captures o = record { meaning = o.meaning; keeps_characters = o.keeps_characters; unnamed_capture = captures; flags = o.flags; opened = 0; names = []; wanted = []; in_look_around = false }
 
 -- a group has a name
 abbrev pub has_name : List (Text × ℕ) → Bool
@@ -351,8 +392,24 @@ pub record SpellsUnder (o : Options) (text : Text) (p : Pattern) (end : Scope) :
   pub spelled : Spells (begin unnamed o) text p end
   pub settled : unnamed ≡ not (o.only_named && has_name end.names)
 
--- The text is a pattern of the dialect: it spells this one, which is not too complex.
+-- the groups that references are resolved by, from where the pattern ends
+abbrev pub groups_at : Options → Scope → Groups
+groups_at o end = record { by_name = o.only_named && has_name end.names; opened = end.opened; names = end.names }
+
+-- why this reference of the pattern that ends here names no group
+abbrev pub fault_of : Options → Scope → Target → Option Fault
+fault_of o end w = references.fault_of (groups_at o end) w
+
+-- the group that each reference names, by how many were written before it
+abbrev pub numbers : Options → Scope → ℕ → ℕ
+numbers o end = number_in (map (group_for (groups_at o end)) end.wanted)
+
+-- The text is a pattern of the dialect: it spells this one, whose references each name a group, whose look-behind has sizes, and which is not too complex.
 pub record IsPattern (o : Options) (text : Text) (p : Pattern) : Type 0 where
+  pub written : Pattern
   pub end : Scope
-  pub spelled : SpellsUnder o text p end
+  pub spelled : SpellsUnder o text written end
+  pub is : p ≡ refers_to (numbers o end) written
+  pub resolved : All (λ w. fault_of o end w ≡ None) end.wanted
+  pub sized : are_sized o.meaning p ≡ true
   pub small : nodes p ≤ 1000000

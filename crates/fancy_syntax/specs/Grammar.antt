@@ -3,12 +3,16 @@ use Rattle.std.specs.Prelude.{◌≡◌, ℕ, suc, ◌+◌, Bool, true, false, n
 use Rattle.std.specs.Option.{option_and_then}
 use Rattle.fancy_syntax.specs.declared.tree.Meaning.{Meaning}
 use Rattle.fancy_syntax.specs.declared.tree.Taste.{Taste}
-use Rattle.fancy_syntax.specs.declared.tree.Taste.TheVariants.{Greedy, Lazy}
-use Rattle.fancy_syntax.specs.Pattern.{Pattern, group, repeat, in_sequence, in_branches}
+use Rattle.fancy_syntax.specs.declared.tree.Taste.TheVariants.{Greedy, Lazy, Possessive}
+use Rattle.fancy_syntax.specs.declared.groups.Grouping.{Grouping}
+use Rattle.fancy_syntax.specs.declared.groups.Grouping.TheVariants.{Atomic, LookAhead, LookBehind}
+use Rattle.fancy_syntax.specs.Pattern.{Pattern, backreference, group, repeat, in_sequence, in_branches}
 use Rattle.fancy_syntax.specs.Sizes.{is_empty}
 use Rattle.fancy_syntax.specs.Words.{Text, ◌∈◌, is_at, begins, is_at_digit, past_digits, past_blanks, decimal, begins_count}
 use Rattle.fancy_syntax.specs.Names.{name_here, past_name}
-use Rattle.fancy_syntax.specs.Dialect.{Flags, Scope, in_force, with_flag, one_more_group, one_more_name, back_to, ReadsAtom, begins_quantifier, with_part}
+use Rattle.fancy_syntax.specs.References as references
+use Rattle.fancy_syntax.specs.References.{Target}
+use Rattle.fancy_syntax.specs.Dialect.{Flags, Scope, in_force, with_flag, one_more_group, one_more_name, wants, reference_here, inside, grouped as group_of, back_to, ReadsAtom, begins_quantifier, with_part}
 
 -- a place in a pattern: what follows, and what is in force there
 pub record Place : Type 0 where
@@ -31,12 +35,26 @@ pub data Opening : Type 0 where
   plain : Opening
   -- the capturing group of this number
   capture : ℕ → Opening
+  -- an atomic group, or look-around
+  marked : Grouping → Opening
+  -- no group, but a whole reference: whether it is folded, and how many stand before it
+  reference : Bool → ℕ → Opening
+
+-- a pattern follows, and the parenthesis that closes the group
+abbrev pub opens_group : Opening → Bool
+opens_group setting = false
+opens_group plain = true
+opens_group (capture n) = true
+opens_group (marked how) = true
+opens_group (reference folded n) = false
 
 -- what a group makes of the pattern inside it
 abbrev pub wrap : Opening → Pattern → Pattern
 wrap setting p = p
 wrap plain p = p
 wrap (capture n) p = group n p
+wrap (marked how) p = group_of how p
+wrap (reference folded n) p = p
 
 -- letters of flags, as far as they were read: the flags by now, whether the next ones are set, and whether one was read since the start or the dash
 pub record LettersRead : Type 0 where
@@ -82,22 +100,47 @@ unnamed p =
     if p.scope.unnamed_capture then (capture (p.scope.opened + 1), record { text = drop 1 p.text; scope = one_more_group p.scope })
     else (plain, past 1 p)
 
--- what the parenthesis here opens, and the place behind that
-abbrev pub opening : Place → Option (Opening × Place)
-opening p =
-    if begins "(?:" p.text then Some (plain, past 3 p)
-    else if begins "(?<" p.text then named p (drop 3 p.text)
+-- the reference to the name that stands first in this text, up to its parenthesis
+abbrev pub named_reference : Place → Text → Option (Opening × Place)
+named_reference p t =
+    if (length (name_here t) == 0) || not (is_at ")" (past_name t)) then None
+    else Some (reference p.scope.flags.ignore_case (length p.scope.wanted), record { text = drop 1 (past_name t); scope = wants (references.called (name_here t)) p.scope })
+
+-- the mark of an atomic group or of look-around, with its parenthesis, and its length
+abbrev pub mark_here : Text → Option (Grouping × ℕ)
+mark_here t =
+    if begins "(?>" t then Some (Atomic, 3)
+    else if begins "(?=" t then Some (LookAhead false, 3)
+    else if begins "(?!" t then Some (LookAhead true, 3)
+    else if begins "(?<=" t then Some (LookBehind false, 4)
+    else if begins "(?<!" t then Some (LookBehind true, 4)
+    else None
+
+-- what the parenthesis here opens where no such mark stands, and the place behind that
+abbrev pub unmarked : Place → Option (Opening × Place)
+unmarked p =
+    if begins "(?<" p.text then named p (drop 3 p.text)
     else if begins "(?P<" p.text then named p (drop 4 p.text)
+    else if begins "(?P=" p.text then named_reference p (drop 4 p.text)
     else if begins "(?" p.text then flagged p
     else if begins "(*" p.text then None
     else Some (unnamed p)
 
+abbrev pub by_mark : Place → Option (Grouping × ℕ) → Option (Opening × Place)
+by_mark p None = unmarked p
+by_mark p (Some m) = Some (marked m.0, record { text = drop m.1 p.text; scope = inside m.0 p.scope })
+
+-- what the parenthesis here opens, and the place behind that
+abbrev pub opening : Place → Option (Opening × Place)
+opening p = if begins "(?:" p.text then Some (plain, past 3 p) else by_mark p (mark_here p.text)
+
 abbrev pub start : Scope → Text → Place
 start s text = record { text = text; scope = s }
 
--- what stands here and is no group, and the place behind it
-abbrev pub IsAtom : Place → Pattern → Place → Type 0
-IsAtom p a q = ReadsAtom p.scope p.text a q.text × (q ≡ start p.scope q.text)
+-- what stands here and begins with no parenthesis, and the place behind it
+pub data IsAtom : Place → Pattern → Place → Type 0 where
+  alone : {p : Place} {a : Pattern} {t : Text} → ReadsAtom p.scope p.text a t → IsAtom p a (start p.scope t)
+  refers : {p : Place} {w : Target} {t : Text} → references.reference p.scope.opened p.text ≡ Some (w, t) → IsAtom p (reference_here p.scope) (start (wants w p.scope) t)
 
 -- the least and the greatest number of turns
 abbrev pub Bounds : Type 0
@@ -132,7 +175,7 @@ turns p =
 abbrev pub taste : Place → Option (Taste × Place)
 taste p =
     if is_at "?" p.text then Some (Lazy, past 1 p)
-    else if is_at "+" p.text then None
+    else if is_at "+" p.text then Some (Possessive, past 1 p)
     else Some (Greedy, p)
 
 -- this many turns of the pattern, with the taste that stands here
@@ -171,8 +214,10 @@ mutual
   -- what can be quantified, with its quantifier
   pub data Item : ℕ → Place → Option Pattern → Place → Type 0 where
     sets : {k : ℕ} {p q : Place} → is_at "(" p.text ≡ true → opening p ≡ Some (setting, q) → Item (suc k) p None q
+    refers_by_name : {k n : ℕ} {p q r : Place} {folded : Bool} {x : Pattern} → is_at "(" p.text ≡ true → opening p ≡ Some (reference folded n, q) → quantified (backreference folded n) q ≡ Some (x, r)
+        → Item (suc k) p (Some x) r
     single : {k : ℕ} {p q r : Place} {a x : Pattern} → is_at "(" p.text ≡ false → IsAtom p a q → quantified a q ≡ Some (x, r) → Item k p (Some x) r
-    grouped : {k : ℕ} {p inside q r : Place} {how : Opening} {bs : List Pattern} {x : Pattern} → is_at "(" p.text ≡ true → opening p ≡ Some (how, inside) → (how ≡ setting → ⊥)
+    grouped : {k : ℕ} {p inside q r : Place} {how : Opening} {bs : List Pattern} {x : Pattern} → is_at "(" p.text ≡ true → opening p ≡ Some (how, inside) → opens_group how ≡ true
         → Branches k inside bs q → is_at ")" q.text ≡ true → quantified (wrap how (in_branches bs)) (closed p q) ≡ Some (x, r) → Item (suc k) p (Some x) r
 
 -- the whole text has this pattern, with at most 64 parentheses open at one place

@@ -4,6 +4,7 @@ pub mod Pattern
 pub mod Sizes
 pub mod Words
 pub mod Names
+pub mod References
 pub mod Dialect
 pub mod Grammar
 pub mod Groups

@@ -1,5 +1,5 @@
 -- Names of groups.
-use Rattle.std.specs.Prelude.{ℕ, ◌==◌, ◌||◌, Bool, false, List, [], ◌∷◌, length, drop, chars, map, string_bytes, if◌then◌else◌}
+use Rattle.std.specs.Prelude.{ℕ, ◌==◌, ◌||◌, Bool, false, List, [], ◌∷◌, length, drop, reverse, find, Option, option_map, bytes_eq, chars, map, string_bytes, if◌then◌else◌}
 use Rattle.std.specs.List.{list_all}
 use Rattle.unicode.specs.GeneralCategory.{general_category, general_category_number}
 use Rattle.unicode.specs.Binary.{is_alphabetic}
@@ -34,3 +34,7 @@ named_group g = (chars (string_bytes g.name), g.group)
 
 abbrev pub named_groups : List GroupName → List (Text × ℕ)
 named_groups = map named_group
+
+-- the number of the last of these groups that has the name
+abbrev pub last_named : Text → List (Text × ℕ) → Option ℕ
+last_named name groups = option_map (λ g. g.1) (find (λ g. bytes_eq g.0 name) (reverse groups))

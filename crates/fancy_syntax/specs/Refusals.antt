@@ -1,16 +1,25 @@
 -- When a pattern may be refused, and by which error.
-use Rattle.std.specs.Prelude.{◌<◌}
+use Rattle.std.specs.Prelude.{◌≡◌, ◌<◌, false, Any, Some, chars, string_bytes}
 use Rattle.fancy_syntax.specs.declared.error.CompileError.{CompileError as Compiling}
-use Rattle.fancy_syntax.specs.declared.error.CompileError.TheVariants.{PatternTooComplex}
+use Rattle.fancy_syntax.specs.declared.error.CompileError.TheVariants.{InvalidBackref, InvalidGroupNameBackref, NamedBackrefOnly, LookBehindNotConst, PatternTooComplex}
 use Rattle.fancy_syntax.specs.declared.error.Error.{Error}
 use Rattle.fancy_syntax.specs.declared.error.Error.TheVariants.{Memory, ParseError, CompileError, RuntimeError}
 use Rattle.fancy_syntax.specs.Pattern.{Pattern}
-use Rattle.fancy_syntax.specs.Sizes.{nodes}
+use Rattle.fancy_syntax.specs.Sizes.{nodes, are_sized}
 use Rattle.fancy_syntax.specs.Words.{Text}
-use Rattle.fancy_syntax.specs.Dialect.{Scope, Options, SpellsUnder}
+use Rattle.fancy_syntax.specs.References.{Fault, by_name_alone, no_number, no_name, refers_to}
+use Rattle.fancy_syntax.specs.Dialect.{Scope, Options, SpellsUnder, fault_of, numbers}
 
--- The text spells a pattern, but this is why it is not accepted. So far only its size can be a reason.
+-- The text spells a pattern, one of whose references has this fault.
+abbrev pub HasFault : Fault → Options → Text → Type 0
+HasFault f o text = (p : Pattern) × (end : Scope) × SpellsUnder o text p end × Any (λ w. fault_of o end w ≡ Some f) end.wanted
+
+-- The text spells a pattern, but this is why it is not accepted.
 abbrev pub IsNotAccepted : Compiling → Options → Text → Type 0
+IsNotAccepted (InvalidBackref n) o text = HasFault (no_number n) o text
+IsNotAccepted (InvalidGroupNameBackref name) o text = HasFault (no_name (chars (string_bytes name))) o text
+IsNotAccepted NamedBackrefOnly o text = HasFault by_name_alone o text
+IsNotAccepted LookBehindNotConst o text = (p : Pattern) × (end : Scope) × SpellsUnder o text p end × (are_sized o.meaning (refers_to (numbers o end) p) ≡ false)
 IsNotAccepted PatternTooComplex o text = (p : Pattern) × (end : Scope) × SpellsUnder o text p end × (1000000 < nodes p)
 IsNotAccepted _ o text = ⊥
 

@@ -1,5 +1,5 @@
 -- The size of a pattern in units (bytes in byte meaning, else characters), and the number of its nodes.
-use Rattle.std.specs.Prelude.{ℕ, ◌+◌, ◌-◌, ◌*◌, Bool, true, false, ◌&&◌, Option, Some, None, if◌then◌else◌, ◌==◌, ◌^◌, nat_lt}
+use Rattle.std.specs.Prelude.{ℕ, ◌+◌, ◌-◌, ◌*◌, Bool, true, false, ◌&&◌, Option, Some, None, if◌then◌else◌, ◌==◌, ◌^◌, nat_lt, is_some}
 use Rattle.fancy_syntax.specs.declared.tree.Taste.{Taste}
 use Rattle.fancy_syntax.specs.declared.tree.Taste.TheVariants.{Greedy, Lazy, Possessive}
 use Rattle.fancy_syntax.specs.declared.tree.Meaning.{Meaning}
@@ -69,6 +69,37 @@ size m (last_branch branch) = size m branch
 abbrev pub fitting_size : Option ℕ → Option ℕ
 fitting_size None = None
 fitting_size (Some n) = if nat_lt n (2 ^ 64) then Some n else None
+
+-- the pattern has a size that a `usize` holds
+abbrev pub has_size : Meaning → Pattern → Bool
+has_size m p = is_some (fitting_size (size m p))
+
+-- a body of look-behind: it has a size, or is an alternative each of whose branches has one
+abbrev pub has_sizes : Meaning → Pattern → Bool
+has_sizes m (or_else branch others) = has_size m branch && has_sizes m others
+has_sizes m (last_branch branch) = has_size m branch
+has_sizes m p = has_size m p
+
+-- each look-behind has a body of a size, or of branches that have one
+unfoldable pub are_sized : Meaning → Pattern → Bool
+are_sized m empty = true
+are_sized m (character c) = true
+are_sized m (member_of edges) = true
+are_sized m (raw_byte byte) = true
+are_sized m (backreference folded number) = true
+are_sized m (assertion a) = true
+are_sized m (group_test number) = true
+are_sized m keep_start = true
+are_sized m continue_here = true
+are_sized m (group index body) = are_sized m body
+are_sized m (repeat low high taste body) = are_sized m body
+are_sized m (look_ahead negated body) = are_sized m body
+are_sized m (look_behind negated body) = has_sizes m body && are_sized m body
+are_sized m (atomic body) = are_sized m body
+are_sized m (conditional condition first second) = are_sized m condition && (are_sized m first && are_sized m second)
+are_sized m (followed part rest) = are_sized m part && are_sized m rest
+are_sized m (or_else branch others) = are_sized m branch && are_sized m others
+are_sized m (last_branch branch) = are_sized m branch
 
 abbrev pub taste_nodes : Taste → ℕ
 taste_nodes Greedy = 0

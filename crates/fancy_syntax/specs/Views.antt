@@ -1,25 +1,31 @@
 -- What the parser's functions promise each other.
-use Rattle.std.specs.Prelude.{◌≡◌, ℕ, ◌+◌, ◌-◌, ◌^◌, min, false, List, length, take, sum_by, Option, Some, None, option_map, Result, Ok, Err}
+use Rattle.std.specs.Prelude.{◌≡◌, ℕ, ◌+◌, ◌-◌, ◌^◌, min, Bool, ◌&&◌, List, length, take, sum_by, Option, Some, None, option_map, Result, Ok, Err, map, Any, chars, string_bytes}
 use Rattle.std.specs.Borrow.{Bor}
 use Rattle.std.specs.Char.{len_utf8}
 use Rattle.fancy_syntax.specs.declared.parser.Parser.{Parser}
 use Rattle.fancy_syntax.specs.declared.error.Error.{Error}
 use Rattle.fancy_syntax.specs.declared.error.Error.TheVariants.{Memory, ParseError, CompileError, RuntimeError}
 use Rattle.fancy_syntax.specs.declared.groups.Opening.{Opening as Found}
-use Rattle.fancy_syntax.specs.declared.groups.Opening.TheVariants.{Setting, Plain, Capture}
+use Rattle.fancy_syntax.specs.declared.groups.Opening.TheVariants.{Setting, Plain, Capture, Marked, Reference}
+use Rattle.fancy_syntax.specs.declared.reference.Target.{Target as Found_target}
+use Rattle.fancy_syntax.specs.declared.reference.Target.TheVariants.{Numbered, Missing, Called, CalledOrNumbered}
+use Rattle.fancy_syntax.specs.declared.resolve.Groups.{Groups as Found_groups}
 use Rattle.fancy_syntax.specs.declared.flags.Letters.{Letters}
 use Rattle.fancy_syntax.specs.declared.count.Turns.{Turns}
 use Rattle.fancy_syntax.specs.declared.flags.Flags.{Flags as Found_flags}
 use Rattle.fancy_syntax.specs.declared.parse.Syntax.{Syntax}
-use Rattle.fancy_syntax.specs.declared.parse.Parsed.{Parsed}
+use Rattle.fancy_syntax.specs.declared.parse.Draft.{Draft}
+use Rattle.fancy_syntax.specs.declared.error.CompileError.{CompileError as Compiling}
+use Rattle.fancy_syntax.specs.declared.error.CompileError.TheVariants.{InvalidBackref, InvalidGroupNameBackref, NamedBackrefOnly}
 use Rattle.fancy_syntax.specs.declared.class.refusal.Refusal.{Refusal}
 use Rattle.fancy_syntax.specs.declared.class.refusal.Refusal.TheVariants.{Memory as OutOfMemory, Invalid}
 use Rattle.fancy_syntax.specs.declared.tree.Tree.{Tree}
 use Rattle.fancy_syntax.specs.Pattern.{Pattern, pattern_of, in_sequence, in_branches}
 use Rattle.fancy_syntax.specs.Words.{Text}
 use Rattle.fancy_syntax.specs.Names.{named_groups}
-use Rattle.fancy_syntax.specs.Dialect.{Flags, Scope, Options, Lexeme, IsMeant}
-use Rattle.fancy_syntax.specs.Grammar.{Place, start, Opening, setting, plain, capture, LettersRead, Bounds, Branches, Parts}
+use Rattle.fancy_syntax.specs.References.{Target, numbered, missing, called, called_or_numbered, Fault, by_name_alone, no_number, no_name, Groups, fault_of, fault_in}
+use Rattle.fancy_syntax.specs.Dialect.{Flags, Scope, Options, has_name, Lexeme, IsMeant}
+use Rattle.fancy_syntax.specs.Grammar.{Place, start, Opening, setting, plain, capture, marked, reference, LettersRead, Bounds, Branches, Parts}
 
 abbrev pub flags_of : Found_flags → Flags
 flags_of f = record { ignore_case = f.ignore_case; multi_line = f.multi_line; dot_all = f.dot_all; ignore_blanks = f.ignore_blanks; crlf = f.crlf }
@@ -31,9 +37,30 @@ letters_of l = record { flags = flags_of l.flags; on = l.on; some = l.some }
 abbrev pub read_of : Found_flags × Bor Text → Flags × Text
 read_of r = (flags_of r.0, r.1.now)
 
+-- what a reference names
+abbrev pub target_of : Found_target → Target
+target_of (Numbered n) = numbered n
+target_of (Missing n) = missing n
+target_of (Called name) = called (chars (string_bytes name))
+target_of (CalledOrNumbered name) = called_or_numbered (chars (string_bytes name))
+
+abbrev pub targets_of : List Found_target → List Target
+targets_of = map target_of
+
+-- a reference, and the text behind it
+abbrev pub reading_of : Found_target × Bor Text → Target × Text
+reading_of r = (target_of r.0, r.1.now)
+
+abbrev pub groups_of : Found_groups → Groups
+groups_of g = record { by_name = g.by_name; opened = g.count - 1; names = named_groups g.names.now }
+
+-- the groups of a whole pattern; they are referred to by name alone where only those with a name capture and there is one
+abbrev pub groups_in : Bool → Draft → Groups
+groups_in only_named r = record { by_name = only_named && has_name (named_groups r.names.items); opened = r.groups - 1; names = named_groups r.names.items }
+
 -- what is in force where the parser stands
 abbrev pub scope_of : Parser → Scope
-scope_of p = record { meaning = p.meaning; keeps_characters = p.keeps_characters; unnamed_capture = p.unnamed_capture; flags = flags_of p.flags; opened = p.opened; names = named_groups p.names.items; in_look_around = false }
+scope_of p = record { meaning = p.meaning; keeps_characters = p.keeps_characters; unnamed_capture = p.unnamed_capture; flags = flags_of p.flags; opened = p.opened; names = named_groups p.names.items; wanted = targets_of p.wanted.items; in_look_around = p.in_look_around }
 
 abbrev pub place : Parser → Place
 place p = start (scope_of p) p.rest.now
@@ -46,6 +73,8 @@ abbrev pub found : Found → Opening
 found Setting = setting
 found Plain = plain
 found (Capture n) = capture n
+found (Marked how) = marked how
+found (Reference folded index) = reference folded index
 
 abbrev pub bounds_of : Turns → Bounds
 bounds_of t = (t.low, t.high)
@@ -68,9 +97,28 @@ Refuses (ParseError at kind) claim = claim
 Refuses (CompileError why) claim = ⊥
 Refuses (RuntimeError why) claim = ⊥
 
--- The pattern was spelled, in one of these ways: with so many groups, and these names.
-abbrev pub SpellsParsed : (Pattern → Scope → Type 0) → Parsed → Type 0
-SpellsParsed S r = (end : Scope) × S (pattern_of r.tree) end × (end.opened + 1 ≡ r.groups) × (named_groups r.names.items ≡ end.names)
+-- The pattern was spelled, in one of these ways: with so many groups, these names, and references to these.
+abbrev pub SpellsDraft : (Pattern → Scope → Type 0) → Draft → Type 0
+SpellsDraft S r = (end : Scope) × S (pattern_of r.tree) end × (end.opened + 1 ≡ r.groups) × (named_groups r.names.items ≡ end.names) × (targets_of r.wanted.items ≡ end.wanted)
+
+-- the fault of a reference that a refusal tells
+abbrev pub told_fault : Compiling → Option Fault
+told_fault (InvalidBackref n) = Some (no_number n)
+told_fault (InvalidGroupNameBackref name) = Some (no_name (chars (string_bytes name)))
+told_fault NamedBackrefOnly = Some by_name_alone
+told_fault _ = None
+
+-- memory ran out, or the claim holds of what is told
+abbrev pub RefusesReference : Error → (Fault → Type 0) → Type 0
+RefusesReference Memory claim = Unit {0}
+RefusesReference (ParseError at kind) claim = ⊥
+RefusesReference (CompileError why) claim = (f : Fault) × (told_fault why ≡ Some f) × claim f
+RefusesReference (RuntimeError why) claim = ⊥
+
+-- The group was found, or the error tells why there is none.
+abbrev pub Resolves : Result ℕ Fault → Result ℕ Error → Type 0
+Resolves r (Ok n) = r ≡ Ok n
+Resolves r (Err e) = RefusesReference e (λ f. r ≡ Err f)
 
 -- nothing is spelled, in none of these ways
 abbrev pub HasNoSpelling : (Pattern → Scope → Type 0) → Type 0

@@ -1,14 +1,14 @@
 //! Trees out of the parts that were read.
 
 ghost use Rattle.std.specs.Prelude.{◌≡◌, map, IfOk};
-ghost use Rattle.fancy_syntax.specs.Pattern.{pattern_of, character, repeat, in_sequence, in_branches};
+ghost use Rattle.fancy_syntax.specs.Pattern.{pattern_of, character, backreference, repeat, in_sequence, in_branches};
 ghost use Rattle.fancy_syntax.specs.Sizes.{is_empty};
-ghost use Rattle.fancy_syntax.specs.Dialect.{literal_of};
+ghost use Rattle.fancy_syntax.specs.Dialect.{literal_of, grouped};
 ghost use Rattle.fancy_syntax.specs.Grammar.{wrap};
 ghost use Rattle.fancy_syntax.specs.Views.{found};
 
 use crate::count::Turns;
-use crate::groups::Opening;
+use crate::groups::{Grouping, Opening};
 use crate::tree::{Meaning, Taste, Tree};
 use std::alloc::{AllocError, Global};
 
@@ -101,13 +101,37 @@ pub(crate) fn repeat(
     })
 }
 
+/// A reference, by how many stand before it.
+#[tactic(auto, using(crate::proofs::PatternLemmas::pattern_equations))]
+pub(crate) fn reference(folded: bool, index: usize) -> Tree
+    ensures { pattern_of result ≡ backreference folded index }
+{
+    Tree::Backreference {
+        folded,
+        group: index,
+    }
+}
+
+/// What an atomic group or look-around makes of its body.
+#[tactic(auto, using(crate::proofs::PatternLemmas::pattern_equations))]
+fn grouped(how: Grouping, body: Box<Tree>) -> Tree
+    ensures { pattern_of result ≡ grouped how (pattern_of body.value) }
+{
+    match how {
+        Grouping::Atomic => Tree::Atomic(body),
+        Grouping::LookAhead { negated } => Tree::LookAhead { negated, body },
+        Grouping::LookBehind { negated } => Tree::LookBehind { negated, body },
+    }
+}
+
 /// What a group makes of its body.
 #[tactic(auto, using(crate::proofs::PatternLemmas::pattern_equations))]
 pub(crate) fn wrap(alloc: Global, how: Opening, body: Tree) -> Result<Tree, AllocError>
     ensures { IfOk result (λ t. pattern_of t ≡ wrap (found how) (pattern_of body)) }
 {
     match how {
-        Opening::Setting | Opening::Plain => Ok(body),
+        Opening::Setting | Opening::Plain | Opening::Reference { .. } => Ok(body),
+        Opening::Marked(how) => Ok(grouped(how, Box::new(alloc, body)?)),
         Opening::Capture(index) => Ok(Tree::Group {
             index,
             body: Box::new(alloc, body)?,

@@ -38,7 +38,7 @@ fn is_count(text: &[char]) -> bool
 }
 
 /// The number that the row of digits which stands first is; `u64::MAX` stands for any number past it.
-fn decimal(text: &[char]) -> u64
+pub(crate) fn decimal(text: &[char]) -> u64
     ensures { result ≡ min (decimal text.now) (2 ^ 64 - 1) }
 {
     let mut number: u64 = 0;
@@ -95,7 +95,8 @@ pub(crate) fn past_count(text: &[char]) -> &[char]
     }
 }
 
-fn is_at_digit(text: &[char]) -> bool
+/// Whether the text begins with a digit.
+pub(crate) fn is_at_digit(text: &[char]) -> bool
     ensures { result ≡ is_at_digit text.now }
 {
     match text {
@@ -105,7 +106,7 @@ fn is_at_digit(text: &[char]) -> bool
 }
 
 /// What follows the row of digits that stands first.
-fn past_digits(text: &[char]) -> &[char]
+pub(crate) fn past_digits(text: &[char]) -> &[char]
     ensures value { result.now ≡ past_digits text.now }
     ensures shorter { length result.now ≤ length text.now }
 {

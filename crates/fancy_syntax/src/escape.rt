@@ -83,9 +83,7 @@ pub(crate) fn place_test(flags: Flags, letter: char) -> Option<Assertion>
 /// What is wrong with an escape by a letter that stands for nothing, or not in this meaning; from behind its backslash.
 pub(crate) fn escape_fault(text: &[char]) -> ParseErrorKind {
     match text {
-        ['R' | 'X' | 'g' | 'G' | 'K', ..] | ['k', '<' | '\'', ..] | ['1'..='9', ..] => {
-            ParseErrorKind::NotInProfile
-        }
+        ['R' | 'X' | 'g' | 'G' | 'K', ..] => ParseErrorKind::NotInProfile,
         ['D' | 'S' | 'W' | 'H', ..] => ParseErrorKind::InvalidClass,
         _ => ParseErrorKind::InvalidEscape,
     }

@@ -1,5 +1,19 @@
 //! What parentheses open.
 
+ghost use Rattle.std.specs.Prelude.{◌≡◌, ◌≤◌, ◌<◌, IfSome, length};
+ghost use Rattle.fancy_syntax.specs.Grammar.{mark_here};
+
+/// A group that captures nothing, and does more than keep its parts together.
+#[derive(Clone, Copy)]
+pub enum Grouping {
+    /// `(?>`: an atomic group.
+    Atomic,
+    /// `(?=`, and negated `(?!`.
+    LookAhead { negated: bool },
+    /// `(?<=`, and negated `(?<!`.
+    LookBehind { negated: bool },
+}
+
 /// What a parenthesis opens.
 #[derive(Clone, Copy)]
 pub(crate) enum Opening {
@@ -9,4 +23,29 @@ pub(crate) enum Opening {
     Plain,
     /// `(`, the capturing group of this number.
     Capture(usize),
+    /// `(?>`, `(?=`, `(?!`, `(?<=` or `(?<!`.
+    Marked(Grouping),
+    /// A whole `(?P=n)`, the reference with this index.
+    Reference { folded: bool, index: usize },
+}
+
+/// The group whose mark stands here, with its parenthesis, and how many characters that has.
+pub(crate) fn mark(text: &[char]) -> Option<(Grouping, usize)>
+    ensures value { result ≡ mark_here text.now }
+    ensures room { IfSome result (λ m. m.1 ≤ length text.now) }
+    ensures some { IfSome result (λ m. 0 < m.1) }
+{
+    if text.starts_with(&['(', '?', '>']) {
+        Some((Grouping::Atomic, 3))
+    } else if text.starts_with(&['(', '?', '=']) {
+        Some((Grouping::LookAhead { negated: false }, 3))
+    } else if text.starts_with(&['(', '?', '!']) {
+        Some((Grouping::LookAhead { negated: true }, 3))
+    } else if text.starts_with(&['(', '?', '<', '=']) {
+        Some((Grouping::LookBehind { negated: false }, 4))
+    } else if text.starts_with(&['(', '?', '<', '!']) {
+        Some((Grouping::LookBehind { negated: true }, 4))
+    } else {
+        None
+    }
 }

@@ -9,9 +9,10 @@ ghost use Rattle.fancy_syntax.specs.ClassGrammar.{is_ascii_meaning};
 ghost use Rattle.fancy_syntax.specs.Dialect.{IsMeant, leaf, one_of, spelled_character, spelled_number, spelled_set, any_code, ends_line};
 ghost use Rattle.fancy_syntax.specs.Dialect as dialect;
 ghost use Rattle.fancy_syntax.specs.Grammar.{IsAtom, start};
+ghost use Rattle.fancy_syntax.specs.References.{begins_reference};
 ghost use Rattle.fancy_syntax.specs.Views.{place, Gives, GivesMeant, error_of, scope_of};
 
-use crate::build::literal;
+use crate::build::{literal, reference};
 use crate::class::{Context, Cursor, Gathered, Refusal, Token, may_turn, set_letter};
 use crate::count::begins_count;
 use crate::error::{Error, ParseErrorKind};
@@ -21,6 +22,7 @@ use crate::escape::{
 use crate::named::universe;
 use crate::operation::Operation;
 use crate::parser::Parser;
+use crate::reference::{begins_reference, read_reference, reference_fault};
 use crate::set::Set;
 use crate::sharing::sharing;
 use crate::tree::{Assertion, Meaning, Tree};
@@ -333,15 +335,35 @@ impl<'a> Parser<'a> {
         }
     }
 
-    /// Reads a character, an escape or a class.
+    /// Reads a reference to a group; which one it names is settled where the pattern ends.
+    fn reference(&mut self) -> Result<Tree, Error>
+        requires { begins_reference self.old.rest.now ≡ true }
+        ensures value { Gives pattern_of IsAtom result (place self.old) (place self.new) }
+        ensures progress { OnOk result (length self.new.rest.now < length self.old.rest.now) }
+    {
+        let found = read_reference(self.alloc, self.rest, self.opened)?;
+        match found {
+            Some((target, behind)) => {
+                let index = self.wanted.len();
+                self.wanted.push(target)?;
+                self.rest = behind;
+                Ok(reference(self.flags.ignore_case, index))
+            }
+            None => Err(self.error(reference_fault(self.rest))),
+        }
+    }
+
+    /// Reads a character, an escape, a class or a reference that begins with a backslash.
     pub(crate) fn atom(&mut self) -> Result<Tree, Error>
         ensures value { Gives pattern_of IsAtom result (place self.old) (place self.new) }
         ensures progress { OnOk result (length self.new.rest.now < length self.old.rest.now) }
     {
         if self.is_at_any(&['[']) {
-            self.class()
-        } else {
-            self.lexeme()
+            return self.class();
         }
+        if begins_reference(self.rest) {
+            return self.reference();
+        }
+        self.lexeme()
     }
 }

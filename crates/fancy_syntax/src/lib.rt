@@ -1,6 +1,7 @@
 //! Patterns of the dialect: how they are read, what they are, and why they are refused.
 #![tactic(auto)]
 
+mod behind;
 mod blank;
 mod build;
 pub mod char_set;
@@ -9,7 +10,7 @@ mod count;
 pub mod error;
 mod escape;
 pub mod flags;
-mod groups;
+pub mod groups;
 pub mod laws;
 mod lexeme;
 pub mod measure;
@@ -19,6 +20,9 @@ pub mod operation;
 pub mod parse;
 mod parser;
 pub mod property;
+mod refer;
+mod reference;
+mod resolve;
 pub mod set;
 pub mod sharing;
 pub mod tree;

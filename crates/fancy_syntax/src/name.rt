@@ -1,7 +1,7 @@
 //! Names of groups.
 
 ghost use Rattle.std.specs.Prelude.{◌≡◌, IfOk, chars, string_bytes};
-ghost use Rattle.fancy_syntax.specs.Names.{is_name_character, name_here, past_name};
+ghost use Rattle.fancy_syntax.specs.Names.{is_name_character, name_here, past_name, last_named, named_groups};
 
 use std::alloc::{AllocError, Global};
 use unicode::properties::{GeneralCategory, is_alphabetic};
@@ -46,6 +46,27 @@ pub(crate) fn split_name(text: &[char]) -> (&[char], &[char])
         }
     }
     (text, &[])
+}
+
+/// The number of the last of these groups that has the name.
+pub(crate) fn last_named(groups: &[GroupName], name: &str) -> Option<usize>
+    ensures { result ≡ last_named (chars name.now) (named_groups groups.now) }
+{
+    let mut found = None;
+    for named in groups {
+        if named.name.as_str() == name {
+            found = Some(named.group);
+        }
+    }
+    found
+}
+
+/// The characters of a text.
+pub(crate) fn characters_of(alloc: Global, text: &str) -> Result<Vec<char>, AllocError>
+    ensures { IfOk result (λ v. v.items ≡ chars text.now) }
+{
+    let characters: Vec<char> = text.chars().collect(alloc)?;
+    Ok(characters)
 }
 
 /// These characters as a text.

@@ -1,17 +1,22 @@
 //! Patterns are read here.
 
-ghost use Rattle.std.specs.Prelude.{◌≡◌, ◌+◌, ◌<◌, ◌^◌, length, IfOk, IfErr, chars};
-ghost use Rattle.fancy_syntax.specs.declared.error.Error.TheVariants.{Memory};
+ghost use Rattle.std.specs.Prelude.{◌≡◌, ◌+◌, ◌<◌, ◌^◌, length, map, All, Any, IfOk, IfErr, None, Some, true, false, chars};
+ghost use Rattle.fancy_syntax.specs.declared.error.Error.TheVariants.{Memory, CompileError as Compile};
+ghost use Rattle.fancy_syntax.specs.declared.error.CompileError.TheVariants.{LookBehindNotConst};
+ghost use Rattle.fancy_syntax.specs.Sizes.{are_sized};
 ghost use Rattle.fancy_syntax.specs.Dialect.{standard, begin, Spells, SpellsUnder, IsPattern};
 ghost use Rattle.fancy_syntax.specs.Names.{named_groups};
 ghost use Rattle.fancy_syntax.specs.Pattern.{Pattern, pattern_of};
+ghost use Rattle.fancy_syntax.specs.References.{fault_of, group_for, number_in, refers_to};
 ghost use Rattle.fancy_syntax.specs.Refusals.{IsRefused};
-ghost use Rattle.fancy_syntax.specs.Views.{options_of, Refuses, SpellsParsed, HasNoSpelling};
+ghost use Rattle.fancy_syntax.specs.Views.{options_of, target_of, targets_of, groups_in, Refuses, RefusesReference, SpellsDraft, HasNoSpelling};
 
 use crate::error::{CompileError, Error, ParseErrorKind};
 use crate::flags::Flags;
-use crate::name::GroupName;
+use crate::name::{GroupName, characters_of};
 use crate::parser::Parser;
+use crate::reference::Target;
+use crate::resolve::{Groups, names_alone};
 use crate::tree::{Meaning, Tree};
 use std::alloc::Global;
 
@@ -69,19 +74,26 @@ pub struct Parsed {
 /// - groups `(..)`, which capture and are numbered from 1 by their openings, and `(?:..)`, which do not;
 /// - capturing groups with a name, `(?<n>..)` and `(?P<n>..)`, where the name `n` is a row of alphabetic characters,
 ///   numbers (of category Nd, Nl or No) and `_`; several groups may have one name;
+/// - atomic groups `(?>..)`, look-ahead `(?=..)` and look-behind `(?<=..)`, and their negations `(?!..)` and `(?<!..)`;
+/// - backreferences by number, `\1`, of a row of digits that does not begin with 0; by name, `(?P=n)`; by name or else by
+///   number, `\k<n>` and `\k'n'`; and `\k<-n>` and `\k'-n'` to the group `n` back from those opened before it, where 1
+///   is the last one. A group may stand behind a reference to it, and of several groups with one name the last is meant;
 /// - branches joined by `|`;
-/// - the quantifiers `?`, `*`, `+`, `{n}`, `{n,}`, `{n,m}` and `{,m}`, each with a `?` behind it where it is lazy;
-///   the bounds `n` and `m` are at most 4,294,967,295;
+/// - the quantifiers `?`, `*`, `+`, `{n}`, `{n,}`, `{n,m}` and `{,m}`, each with a `?` behind it where it is lazy, or a
+///   `+` where it is possessive; the bounds `n` and `m` are at most 4,294,967,295;
 /// - comments `(?#..)` between items and before quantifiers;
 /// - the flags `i m s x u R`, as `(?ms-x)` up to the end of the enclosing group, over later branches too, or as
 ///   `(?ms-x:..)` for a group.
 ///
-/// At most 64 parentheses are open at one place, among them those of flags, but not those of comments; and at most 64
-/// brackets of classes.
+/// At most 64 parentheses are open at one place, among them those of flags and of `(?P=n)`, but not those of comments;
+/// and at most 64 brackets of classes.
 ///
 /// A text that is no pattern is refused by an [`Error::ParseError`], whose place is a byte offset into it, of 0
-/// to the length of `pattern`; one of more than 1,000,000 nodes by [`CompileError::PatternTooComplex`]. Where
-/// memory runs out the answer is [`Error::Memory`], and a pattern is refused in no other case.
+/// to the length of `pattern`; one of more than 1,000,000 nodes by [`CompileError::PatternTooComplex`]. A reference to a
+/// group that the pattern does not have is refused by [`CompileError::InvalidBackref`] with its number, or by
+/// [`CompileError::InvalidGroupNameBackref`] with its name; a number above 4,294,967,295 stands as that. A look-behind
+/// whose body has no one size, and is no alternative of branches that each have one, is refused by
+/// [`CompileError::LookBehindNotConst`], as `(?<=a+)`; `(?<=a|bc)` is not. Where memory runs out the answer is [`Error::Memory`], and a pattern is refused in no other case.
 ///
 /// As an example `(a|b)?c` is the sequence of an optional group 1 and a character, so that `groups` is 2, while
 /// `a)` is refused at place 1 with [`ParseErrorKind::GeneralParseError`].
@@ -98,25 +110,81 @@ pub fn parse(alloc: Global, pattern: &str) -> Result<Parsed, Error>
 /// In [`Meaning::Bytes`] a literal past U+007F is the sequence of the bytes of its UTF-8, as `é` is of two.
 ///
 /// Where `only_named` is set and a group has a name, `(..)` is read as `(?:..)`: `(a)(?<n>b)` has 2 groups, of which
-/// `n` is number 1, and `()*(?<n>b)` is refused at place 2 with [`ParseErrorKind::TargetNotRepeatable`]. A pattern
-/// without names is read as where it is not set.
+/// `n` is number 1, and `()*(?<n>b)` is refused at place 2 with [`ParseErrorKind::TargetNotRepeatable`]. There groups are
+/// referred to by name alone: `(?<n>a)\1` is refused by [`CompileError::NamedBackrefOnly`]. A pattern without names is
+/// read as where the option is not set.
 pub fn parse_with(alloc: Global, pattern: &str, syntax: Syntax) -> Result<Parsed, Error>
     ensures accepted { IfOk result (λ r. (h : IsPattern (options_of syntax) (chars pattern.now) (pattern_of r.tree)) × (h.end.opened + 1 ≡ r.groups) × (named_groups r.names.items ≡ h.end.names)) }
     ensures refused { IfErr result (λ e. IsRefused e (options_of syntax) (chars pattern.now)) }
     ensures succeeds { (p : Pattern) → IsPattern (options_of syntax) (chars pattern.now) p → IfErr result (λ e. e ≡ Memory) }
 {
-    let characters: Vec<char> = pattern.chars().collect(alloc)?;
-    let parsed = read(alloc, &characters, syntax)?;
-    if parsed.tree.nodes() > MAX_NODES {
+    let characters = characters_of(alloc, pattern)?;
+    let draft = read(alloc, &characters, syntax)?;
+    if draft.tree.nodes() > MAX_NODES {
         return Err(Error::CompileError(CompileError::PatternTooComplex));
     }
-    Ok(parsed)
+    let parsed = draft.resolved(alloc, syntax.only_named)?;
+    parsed.with_sizes(syntax.meaning)
+}
+
+impl Parsed {
+    /// This pattern, if each look-behind in it can step back.
+    fn with_sizes(self, meaning: Meaning) -> Result<Parsed, Error>
+        ensures value { IfOk result (λ r. (r ≡ self) × (are_sized meaning (pattern_of r.tree) ≡ true)) }
+        ensures refused { IfErr result (λ e. (e ≡ Compile LookBehindNotConst) × (are_sized meaning (pattern_of self.tree) ≡ false)) }
+    {
+        if !self.tree.is_sized(meaning) {
+            return Err(Error::CompileError(CompileError::LookBehindNotConst));
+        }
+        Ok(self)
+    }
+}
+
+/// What the text of a pattern says, before its references are resolved: in the place of its group's number each has
+/// its index among them.
+#[derive(Drop)]
+struct Draft {
+    tree: Tree,
+    groups: usize,
+    names: Vec<GroupName>,
+    wanted: Vec<Target>,
+}
+
+impl Draft {
+    /// Puts the number of its group in each reference.
+    fn resolved(self, alloc: Global, only_named: bool) -> Result<Parsed, Error>
+        ensures tree { IfOk result (λ r. pattern_of r.tree ≡ refers_to (number_in (map (group_for (groups_in only_named self)) (targets_of self.wanted.items))) (pattern_of self.tree)) }
+        ensures same { IfOk result (λ r. (r.groups ≡ self.groups) × (r.names ≡ self.names)) }
+        ensures resolved { IfOk result (λ r. All (λ w. fault_of (groups_in only_named self) (target_of w) ≡ None) self.wanted.items) }
+        ensures refused { IfErr result (λ e. RefusesReference e (λ f. Any (λ w. fault_of (groups_in only_named self) (target_of w) ≡ Some f) self.wanted.items)) }
+    {
+        let Draft {
+            mut tree,
+            groups,
+            names,
+            wanted,
+        } = self;
+        let listed = names.as_slice();
+        let by_name = names_alone(only_named, listed);
+        let all = Groups {
+            by_name,
+            count: groups,
+            names: listed,
+        };
+        let numbers = all.resolve_all(alloc, &wanted)?;
+        tree.refer(&numbers);
+        Ok(Parsed {
+            tree,
+            groups,
+            names,
+        })
+    }
 }
 
 /// Reads a whole pattern: once more where a group has a name and those without are to capture nothing then.
-fn read(alloc: Global, characters: &[char], syntax: Syntax) -> Result<Parsed, Error>
+fn read(alloc: Global, characters: &[char], syntax: Syntax) -> Result<Draft, Error>
     requires { length characters.now < 2 ^ 63 }
-    ensures value { IfOk result (λ r. SpellsParsed (SpellsUnder (options_of syntax) characters.now) r) }
+    ensures value { IfOk result (λ r. SpellsDraft (SpellsUnder (options_of syntax) characters.now) r) }
     ensures refused { IfErr result (λ e. Refuses e (HasNoSpelling (SpellsUnder (options_of syntax) characters.now))) }
 {
     let capturing = read_whole(alloc, characters, syntax, true)?;
@@ -132,9 +200,9 @@ fn read_whole(
     characters: &[char],
     syntax: Syntax,
     unnamed_capture: bool,
-) -> Result<Parsed, Error>
+) -> Result<Draft, Error>
     requires { length characters.now < 2 ^ 63 }
-    ensures value { IfOk result (λ r. SpellsParsed (Spells (begin unnamed_capture (options_of syntax)) characters.now) r) }
+    ensures value { IfOk result (λ r. SpellsDraft (Spells (begin unnamed_capture (options_of syntax)) characters.now) r) }
     ensures refused { IfErr result (λ e. Refuses e (HasNoSpelling (Spells (begin unnamed_capture (options_of syntax)) characters.now))) }
 {
     let mut parser = Parser {
@@ -146,15 +214,18 @@ fn read_whole(
         flags: syntax.flags,
         opened: 0,
         names: Vec::new(alloc),
+        wanted: Vec::new(alloc),
+        in_look_around: false,
         alloc,
     };
     let tree = parser.alternation(MAX_DEPTH)?;
     if !parser.rest.is_empty() {
         return Err(parser.error(ParseErrorKind::GeneralParseError));
     }
-    Ok(Parsed {
+    Ok(Draft {
         tree,
         groups: parser.opened.saturating_add(1),
         names: parser.names,
+        wanted: parser.wanted,
     })
 }

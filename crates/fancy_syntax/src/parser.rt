@@ -7,12 +7,13 @@ ghost use Rattle.fancy_syntax.specs.Dialect.{begins_quantifier};
 ghost use Rattle.fancy_syntax.specs.Words.{is_at_any, is_at, begins_count};
 
 use crate::blank::past_blanks;
-use crate::build::{branches, is_empty, repeat, sequence, wrap};
+use crate::build::{branches, is_empty, reference, repeat, sequence, wrap};
 use crate::count::{Turns, begins_count, bounds, past_count};
 use crate::error::{Error, ParseErrorKind};
 use crate::flags::{Flags, read_flags};
-use crate::groups::Opening;
+use crate::groups::{Grouping, Opening, mark};
 use crate::name::{GroupName, split_name, text_of};
+use crate::reference::Target;
 use crate::tree::{Meaning, Taste, Tree};
 use std::alloc::Global;
 
@@ -34,6 +35,10 @@ pub(crate) struct Parser<'a> {
     pub(crate) opened: usize,
     /// The named ones among them.
     pub(crate) names: Vec<GroupName>,
+    /// What the references so far name.
+    pub(crate) wanted: Vec<Target>,
+    /// A look-around is open here.
+    pub(crate) in_look_around: bool,
     pub(crate) alloc: Global,
     ghost counted: { opened + length rest.now ≤ length whole.now },
     ghost short: { length whole.now < 2 ^ 63 },
@@ -60,22 +65,12 @@ fn begins_quantifier(text: &[char]) -> bool
     }
 }
 
-/// What is wrong with a parenthesis where a group with a name begins.
-fn name_fault(text: &[char]) -> ParseErrorKind {
-    match text {
-        ['(', '?', '<', '=' | '!', ..] => ParseErrorKind::NotInProfile,
-        _ => ParseErrorKind::InvalidGroupName,
-    }
-}
-
 /// What is wrong behind a parenthesis and its question mark, where no group and no flags stand.
 fn flags_fault(inside: &[char], meaning: Meaning) -> ParseErrorKind {
     match inside {
         ['#', ..] => return ParseErrorKind::UnclosedOpenParen,
-        ['P', '=' | '>', ..] | ['-', '0'..='9', ..] => return ParseErrorKind::NotInProfile,
-        ['=' | '!' | '>' | '(' | '~' | '&' | '+' | '0'..='9', ..] => {
-            return ParseErrorKind::NotInProfile;
-        }
+        ['P', '>', ..] | ['-', '0'..='9', ..] => return ParseErrorKind::NotInProfile,
+        ['(' | '~' | '&' | '+' | '0'..='9', ..] => return ParseErrorKind::NotInProfile,
         _ => {}
     }
     let mut on = true;
@@ -163,7 +158,8 @@ impl<'a> Parser<'a> {
 impl<'a> Parser<'a> {
     ghost use Rattle.fancy_syntax.specs.Views.{place, found, bounds_of, itself, GivesValue};
     ghost use Rattle.fancy_syntax.specs.Pattern.{pattern_of};
-    ghost use Rattle.fancy_syntax.specs.Grammar.{opening, named, flagged, quantified, turns, taste};
+    ghost use Rattle.std.specs.Prelude.{Some, Ok};
+    ghost use Rattle.fancy_syntax.specs.Grammar.{opening, by_mark, unmarked, named, named_reference, flagged, quantified, turns, taste};
 
     /// Reads what a parenthesis opens.
     fn opening(&mut self) -> Result<Opening, Error>
@@ -175,6 +171,32 @@ impl<'a> Parser<'a> {
             self.skip(3);
             return Ok(Opening::Plain);
         }
+        match mark(self.rest) {
+            Some((how, width)) => Ok(self.marked(how, width)),
+            None => self.unmarked(),
+        }
+    }
+
+    /// Reads the mark of an atomic group or of look-around, which has so many characters.
+    fn marked(&mut self, how: Grouping, width: usize) -> Opening
+        requires { width ≤ length self.old.rest.now }
+        ensures value { GivesValue found (by_mark (place self.old) (Some (how, width))) (Ok result) (place self.new) }
+        ensures progress { length self.new.rest.now + width ≡ length self.old.rest.now }
+    {
+        self.skip(width);
+        match how {
+            Grouping::Atomic => {}
+            Grouping::LookAhead { .. } | Grouping::LookBehind { .. } => self.in_look_around = true,
+        }
+        Opening::Marked(how)
+    }
+
+    /// Reads what a parenthesis opens where no such mark stands.
+    fn unmarked(&mut self) -> Result<Opening, Error>
+        requires { is_at "(" self.old.rest.now ≡ true }
+        ensures value { GivesValue found (unmarked (place self.old)) result (place self.new) }
+        ensures progress { OnOk result (length self.new.rest.now < length self.old.rest.now) }
+    {
         if self.begins(&['(', '?', '<']) {
             let inside = &self.rest[3..];
             return self.named(inside);
@@ -182,6 +204,10 @@ impl<'a> Parser<'a> {
         if self.begins(&['(', '?', 'P', '<']) {
             let inside = &self.rest[4..];
             return self.named(inside);
+        }
+        if self.begins(&['(', '?', 'P', '=']) {
+            let inside = &self.rest[4..];
+            return self.named_reference(inside);
         }
         if self.begins(&['(', '?']) {
             return self.flagged();
@@ -213,7 +239,27 @@ impl<'a> Parser<'a> {
                 self.names.push(GroupName { name, group })?;
                 Ok(Opening::Capture(group))
             }
-            _ => Err(self.error(name_fault(self.rest))),
+            _ => Err(self.error(ParseErrorKind::InvalidGroupName)),
+        }
+    }
+
+    /// Reads the reference to the name that stands first in `inside`, the last characters, up to its parenthesis.
+    fn named_reference(&mut self, inside: &'a [char]) -> Result<Opening, Error>
+        requires { length inside.now < length self.old.rest.now }
+        ensures value { GivesValue found (named_reference (place self.old) inside.now) result (place self.new) }
+        ensures progress { OnOk result (length self.new.rest.now < length self.old.rest.now) }
+    {
+        let (name, behind) = split_name(inside);
+        match behind {
+            [')', behind @ ..] if !name.is_empty() => {
+                let name = text_of(self.alloc, name)?;
+                self.rest = behind;
+                let index = self.wanted.len();
+                self.wanted.push(Target::Called(name))?;
+                let folded = self.flags.ignore_case;
+                Ok(Opening::Reference { folded, index })
+            }
+            _ => Err(self.error(ParseErrorKind::InvalidGroupName)),
         }
     }
 
@@ -312,7 +358,8 @@ impl<'a> Parser<'a> {
             return Ok(Taste::Lazy);
         }
         if self.is_at_any(&['+']) {
-            return Err(self.error(ParseErrorKind::NotInProfile));
+            self.skip(1);
+            return Ok(Taste::Possessive);
         }
         Ok(Taste::Greedy)
     }
@@ -370,7 +417,7 @@ impl<'a> Parser<'a> {
             let part = self.atom()?;
             return Ok(Some(self.quantified(part)?));
         }
-        let flags = self.flags;
+        let (flags, looking) = (self.flags, self.in_look_around);
         let how = self.opening()?;
         if room == 0 {
             return Err(self.error(ParseErrorKind::RecursionExceeded));
@@ -378,12 +425,16 @@ impl<'a> Parser<'a> {
         if let Opening::Setting = how {
             return Ok(None);
         }
+        if let Opening::Reference { folded, index } = how {
+            return Ok(Some(self.quantified(reference(folded, index))?));
+        }
         let body = self.alternation(room - 1)?;
         if !self.is_at_any(&[')']) {
             return Err(self.error(ParseErrorKind::UnclosedOpenParen));
         }
         self.skip(1);
         self.flags = flags;
+        self.in_look_around = looking;
         let group = wrap(self.alloc, how, body)?;
         Ok(Some(self.quantified(group)?))
     }

@@ -120,7 +120,7 @@ pub enum Tree {
     Member(Vec<u32>),
     /// One byte, in any meaning.
     RawByte(u8),
-    /// The text of the group with this number; under flag `i` where it is folded.
+    /// The text of the group with this number; where it is folded, as flag `i` compares it.
     Backreference {
         folded: bool,
         group: usize,

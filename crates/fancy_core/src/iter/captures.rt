@@ -110,7 +110,7 @@ impl<'r, S: Input> Iterator for CaptureMatches<'r, S> {
             None => None,
             Some(Ok(item)) => {
                 let count = regex.captures_len();
-                match groups_found(regex.allocator(), count, item.start, &matches.memory) {
+                match groups_found(regex.allocator(), count, item.position, &matches.memory) {
                     Ok(slots) => Some(Ok(Captures::new(regex, haystack, slots))),
                     Err(_) => {
                         matches.walk.refuse();

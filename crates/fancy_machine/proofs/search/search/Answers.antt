@@ -8,7 +8,7 @@ use Rattle.fancy_machine.specs.declared.machine.Field.{Field}
 use Rattle.fancy_machine.specs.Asked.{asked}
 use Rattle.fancy_machine.specs.Field.{context_in, accepts}
 use Rattle.fancy_machine.specs.Machine.{chosen, final, returns_to, marks_to}
-use Rattle.fancy_machine.proofs.Positions.{attempt_begins, answer_is, returns_at, marks_at, gone_skip, gone_hit, gone_more, gone_counts, gone_over}
+use Rattle.fancy_machine.proofs.Positions.{begun_from, gone_skip, gone_hit, gone_more, gone_counts, gone_over}
 use Rattle.fancy_machine.proofs.search.search.Goals as goal
 
 -- the same refusal of another call
@@ -49,12 +49,12 @@ attempt-requires g c =
     let seen : context_in c.args.haystack.now c.args.code.now.meaning f ≡ context_of q =
     ap₂ (λ (n : ℕ) (s : Suppressed). record { haystack = c.args.haystack.now; meaning = c.args.code.now.meaning; continues_at = Some n; start_text_off = s.start; end_text_off = s.end }) c.max-first.ensures c.suppressed_in.ensures in
     let may : admits q c.loop-place.place ≡ true = sym c.if-not-is_good.ensures in
-    let k = attempt_begins q c.args.code.now c.requires.0 refl refl refl c.requires.1 f seen refl refl c.loop-place.place c.begin.new.self.now c.in-Ok.ensures.begun (omega (arith, c.last_position-last.ensures.inside)) in
+    let k = begun_from q c.args.code.now c.requires.0 refl refl refl c.requires.1 f seen refl refl c.loop-place.place may c.begin.new.self.now c.in-Ok.ensures.begun (omega (arith, c.last_position-last.ensures.inside)) in
     let ok = accepts f c.args.haystack.now in
-    let er = ap (returns_to (final false ok)) k.1 ∙ returns_at q c.args.code.now c.requires.0 refl refl refl c.requires.1 f seen refl refl c.loop-place.place may in
-    let em = ap (marks_to (final false ok)) k.1 ∙ marks_at q c.args.code.now c.requires.0 refl refl refl c.requires.1 f seen refl refl c.loop-place.place may in
+    let er = k.returns in
+    let em = k.marks in
     let en : (c.last_position-last.result + 1 - c.loop-place.place) ≡ suc (c.last_position-last.result + 1 - (c.loop-place.place + 1)) = omega arith in
-    (k.0, (c.begin.ensures.frames, (c.loop-place.invariant.fits, c.loop-place.invariant.last_lines)))
+    (k.known, (c.begin.ensures.frames, (c.loop-place.invariant.fits, c.loop-place.invariant.last_lines)))
 
 pub returns-in-Err-attempt-clause-refused : goal.returns-in-Err-attempt-clause-refused
 returns-in-Err-attempt-clause-refused g c e =
@@ -63,10 +63,10 @@ returns-in-Err-attempt-clause-refused g c e =
     let seen : context_in c.args.haystack.now c.args.code.now.meaning f ≡ context_of q =
     ap₂ (λ (n : ℕ) (s : Suppressed). record { haystack = c.args.haystack.now; meaning = c.args.code.now.meaning; continues_at = Some n; start_text_off = s.start; end_text_off = s.end }) c.max-first.ensures c.suppressed_in.ensures in
     let may : admits q c.loop-place.place ≡ true = sym c.if-not-is_good.ensures in
-    let k = attempt_begins q c.args.code.now c.requires.0 refl refl refl c.requires.1 f seen refl refl c.loop-place.place c.begin.new.self.now c.in-Ok.ensures.begun (omega (arith, c.last_position-last.ensures.inside)) in
+    let k = begun_from q c.args.code.now c.requires.0 refl refl refl c.requires.1 f seen refl refl c.loop-place.place may c.begin.new.self.now c.in-Ok.ensures.begun (omega (arith, c.last_position-last.ensures.inside)) in
     let ok = accepts f c.args.haystack.now in
-    let er = ap (returns_to (final false ok)) k.1 ∙ returns_at q c.args.code.now c.requires.0 refl refl refl c.requires.1 f seen refl refl c.loop-place.place may in
-    let em = ap (marks_to (final false ok)) k.1 ∙ marks_at q c.args.code.now c.requires.0 refl refl refl c.requires.1 f seen refl refl c.loop-place.place may in
+    let er = k.returns in
+    let em = k.marks in
     let en : (c.last_position-last.result + 1 - c.loop-place.place) ≡ suc (c.last_position-last.result + 1 - (c.loop-place.place + 1)) = omega arith in
     let lt = c.in-Err-attempt.ensures.refused (ap again e) in
     let more = gone_more q (c.last_position-last.result + 1 - c.loop-place.place) (c.last_position-last.result + 1 - (c.loop-place.place + 1)) c.loop-place.place en may in
@@ -79,10 +79,10 @@ returns-in-Err-attempt-clause-crowded g c e =
     let seen : context_in c.args.haystack.now c.args.code.now.meaning f ≡ context_of q =
     ap₂ (λ (n : ℕ) (s : Suppressed). record { haystack = c.args.haystack.now; meaning = c.args.code.now.meaning; continues_at = Some n; start_text_off = s.start; end_text_off = s.end }) c.max-first.ensures c.suppressed_in.ensures in
     let may : admits q c.loop-place.place ≡ true = sym c.if-not-is_good.ensures in
-    let k = attempt_begins q c.args.code.now c.requires.0 refl refl refl c.requires.1 f seen refl refl c.loop-place.place c.begin.new.self.now c.in-Ok.ensures.begun (omega (arith, c.last_position-last.ensures.inside)) in
+    let k = begun_from q c.args.code.now c.requires.0 refl refl refl c.requires.1 f seen refl refl c.loop-place.place may c.begin.new.self.now c.in-Ok.ensures.begun (omega (arith, c.last_position-last.ensures.inside)) in
     let ok = accepts f c.args.haystack.now in
-    let er = ap (returns_to (final false ok)) k.1 ∙ returns_at q c.args.code.now c.requires.0 refl refl refl c.requires.1 f seen refl refl c.loop-place.place may in
-    let em = ap (marks_to (final false ok)) k.1 ∙ marks_at q c.args.code.now c.requires.0 refl refl refl c.requires.1 f seen refl refl c.loop-place.place may in
+    let er = k.returns in
+    let em = k.marks in
     let en : (c.last_position-last.result + 1 - c.loop-place.place) ≡ suc (c.last_position-last.result + 1 - (c.loop-place.place + 1)) = omega arith in
     let lt = c.in-Err-attempt.ensures.crowded (ap again e) in
     let more = gone_more q (c.last_position-last.result + 1 - c.loop-place.place) (c.last_position-last.result + 1 - (c.loop-place.place + 1)) c.loop-place.place en may in
@@ -95,13 +95,13 @@ returns-then-found-clause-answer g c =
     let seen : context_in c.args.haystack.now c.args.code.now.meaning f ≡ context_of q =
     ap₂ (λ (n : ℕ) (s : Suppressed). record { haystack = c.args.haystack.now; meaning = c.args.code.now.meaning; continues_at = Some n; start_text_off = s.start; end_text_off = s.end }) c.max-first.ensures c.suppressed_in.ensures in
     let may : admits q c.loop-place.place ≡ true = sym c.if-not-is_good.ensures in
-    let k = attempt_begins q c.args.code.now c.requires.0 refl refl refl c.requires.1 f seen refl refl c.loop-place.place c.begin.new.self.now c.in-Ok.ensures.begun (omega (arith, c.last_position-last.ensures.inside)) in
+    let k = begun_from q c.args.code.now c.requires.0 refl refl refl c.requires.1 f seen refl refl c.loop-place.place may c.begin.new.self.now c.in-Ok.ensures.begun (omega (arith, c.last_position-last.ensures.inside)) in
     let ok = accepts f c.args.haystack.now in
-    let er = ap (returns_to (final false ok)) k.1 ∙ returns_at q c.args.code.now c.requires.0 refl refl refl c.requires.1 f seen refl refl c.loop-place.place may in
-    let em = ap (marks_to (final false ok)) k.1 ∙ marks_at q c.args.code.now c.requires.0 refl refl refl c.requires.1 f seen refl refl c.loop-place.place may in
+    let er = k.returns in
+    let em = k.marks in
     let en : (c.last_position-last.result + 1 - c.loop-place.place) ≡ suc (c.last_position-last.result + 1 - (c.loop-place.place + 1)) = omega arith in
     let a = rw c.if-found.true at c.in-Ok-attempt.ensures.answer in
-    let hit = sym (a ∙ ap (chosen false ok None) k.1 ∙ answer_is q c.args.code.now c.requires.0 refl refl refl c.requires.1 f seen refl refl c.loop-place.place may) in
+    let hit = sym (a ∙ k.answer) in
     sym (c.loop-place.invariant.left ∙ search_hit q (c.last_position-last.result + 1 - c.loop-place.place) (c.last_position-last.result + 1 - (c.loop-place.place + 1)) c.loop-place.place en _ hit)
 
 pub returns-then-found-clause-count : goal.returns-then-found-clause-count
@@ -111,13 +111,13 @@ returns-then-found-clause-count g c =
     let seen : context_in c.args.haystack.now c.args.code.now.meaning f ≡ context_of q =
     ap₂ (λ (n : ℕ) (s : Suppressed). record { haystack = c.args.haystack.now; meaning = c.args.code.now.meaning; continues_at = Some n; start_text_off = s.start; end_text_off = s.end }) c.max-first.ensures c.suppressed_in.ensures in
     let may : admits q c.loop-place.place ≡ true = sym c.if-not-is_good.ensures in
-    let k = attempt_begins q c.args.code.now c.requires.0 refl refl refl c.requires.1 f seen refl refl c.loop-place.place c.begin.new.self.now c.in-Ok.ensures.begun (omega (arith, c.last_position-last.ensures.inside)) in
+    let k = begun_from q c.args.code.now c.requires.0 refl refl refl c.requires.1 f seen refl refl c.loop-place.place may c.begin.new.self.now c.in-Ok.ensures.begun (omega (arith, c.last_position-last.ensures.inside)) in
     let ok = accepts f c.args.haystack.now in
-    let er = ap (returns_to (final false ok)) k.1 ∙ returns_at q c.args.code.now c.requires.0 refl refl refl c.requires.1 f seen refl refl c.loop-place.place may in
-    let em = ap (marks_to (final false ok)) k.1 ∙ marks_at q c.args.code.now c.requires.0 refl refl refl c.requires.1 f seen refl refl c.loop-place.place may in
+    let er = k.returns in
+    let em = k.marks in
     let en : (c.last_position-last.result + 1 - c.loop-place.place) ≡ suc (c.last_position-last.result + 1 - (c.loop-place.place + 1)) = omega arith in
     let a = rw c.if-found.true at c.in-Ok-attempt.ensures.answer in
-    let hit = sym (a ∙ ap (chosen false ok None) k.1 ∙ answer_is q c.args.code.now c.requires.0 refl refl refl c.requires.1 f seen refl refl c.loop-place.place may) in
+    let hit = sym (a ∙ k.answer) in
     let through = gone_hit q (c.last_position-last.result + 1 - c.loop-place.place) (c.last_position-last.result + 1 - (c.loop-place.place + 1)) c.loop-place.place en _ may hit in
     omega (arith, c.in-Ok-attempt.ensures.count, er, ap returns_in through, c.loop-place.invariant.count)
 
@@ -128,13 +128,13 @@ loop-place-preserved g c =
     let seen : context_in c.args.haystack.now c.args.code.now.meaning f ≡ context_of q =
     ap₂ (λ (n : ℕ) (s : Suppressed). record { haystack = c.args.haystack.now; meaning = c.args.code.now.meaning; continues_at = Some n; start_text_off = s.start; end_text_off = s.end }) c.max-first.ensures c.suppressed_in.ensures in
     let may : admits q c.loop-place.place ≡ true = sym c.if-not-is_good.ensures in
-    let k = attempt_begins q c.args.code.now c.requires.0 refl refl refl c.requires.1 f seen refl refl c.loop-place.place c.begin.new.self.now c.in-Ok.ensures.begun (omega (arith, c.last_position-last.ensures.inside)) in
+    let k = begun_from q c.args.code.now c.requires.0 refl refl refl c.requires.1 f seen refl refl c.loop-place.place may c.begin.new.self.now c.in-Ok.ensures.begun (omega (arith, c.last_position-last.ensures.inside)) in
     let ok = accepts f c.args.haystack.now in
-    let er = ap (returns_to (final false ok)) k.1 ∙ returns_at q c.args.code.now c.requires.0 refl refl refl c.requires.1 f seen refl refl c.loop-place.place may in
-    let em = ap (marks_to (final false ok)) k.1 ∙ marks_at q c.args.code.now c.requires.0 refl refl refl c.requires.1 f seen refl refl c.loop-place.place may in
+    let er = k.returns in
+    let em = k.marks in
     let en : (c.last_position-last.result + 1 - c.loop-place.place) ≡ suc (c.last_position-last.result + 1 - (c.loop-place.place + 1)) = omega arith in
     let a = rw c.if-found.false at c.in-Ok-attempt.ensures.answer in
-    let none = sym (a ∙ ap (chosen false ok None) k.1 ∙ answer_is q c.args.code.now c.requires.0 refl refl refl c.requires.1 f seen refl refl c.loop-place.place may) in
+    let none = sym (a ∙ k.answer) in
     let counts = gone_counts q (c.last_position-last.result + 1 - c.loop-place.place) (c.last_position-last.result + 1 - (c.loop-place.place + 1)) c.loop-place.place en may none in
     record {
       left = c.loop-place.invariant.left ∙ search_miss q (c.last_position-last.result + 1 - c.loop-place.place) (c.last_position-last.result + 1 - (c.loop-place.place + 1)) c.loop-place.place en none;

@@ -1,10 +1,12 @@
-use Rattle.std.proofs.Common.{sym, ◌∙◌, ◌+◌, ap, arith}
+use Rattle.std.proofs.Common.{sym, ◌∙◌, ◌+◌, ap, subst, arith}
 use Rattle.fancy_syntax.specs.Dialect as dialect
 use Rattle.std.proofs.lemmas.Result.{err_from_is_err_and}
 use Rattle.fancy_syntax.specs.Pattern.{pattern_of}
 use Rattle.fancy_syntax.specs.Views.{options_of}
 use Rattle.fancy_syntax.proofs.GroupLemmas.{numbered, wider}
-use Rattle.fancy_engine.proofs.SpelledLemmas.{easy_spelled, sets_spelled, no_raw_bytes}
+use Rattle.fancy_syntax.proofs.RefersFacts.{numbered-refers_to}
+use Rattle.fancy_syntax.specs.Groups.{Numbered}
+use Rattle.fancy_engine.proofs.SpelledLemmas.{bytes_accepted, start_accepted, sets_accepted}
 use Rattle.fancy_core.proofs.RisingLemmas.{rising_names}
 use Rattle.fancy_core.proofs.options.RegexOptionsBuilder.build.Goals as goal
 
@@ -17,12 +19,12 @@ pub compile-requires-clause-small : goal.compile-requires-clause-small
 compile-requires-clause-small c = omega (arith, (c.in_ok-tree.ensures.accepted.0).small)
 
 pub compile-requires-clause-sets : goal.compile-requires-clause-sets
-compile-requires-clause-sets c = sets_spelled (c.in_ok-tree.ensures.accepted.0).spelled.spelled
+compile-requires-clause-sets c = sets_accepted (c.in_ok-tree.ensures.accepted.0)
 
 pub compile-requires-clause-numbered : goal.compile-requires-clause-numbered
 compile-requires-clause-numbered c =
     let h = c.in_ok-tree.ensures.accepted in
-    wider (pattern_of c.in_ok-tree.field-0.tree) (0 + 1) ((h.0).end.opened + 1) 0 c.in_ok-tree.field-0.groups (omega arith) (omega (arith, h.1)) (numbered _ _ _ _ (h.0).spelled.spelled)
+    wider (pattern_of c.in_ok-tree.field-0.tree) (0 + 1) ((h.0).end.opened + 1) 0 c.in_ok-tree.field-0.groups (omega arith) (omega (arith, h.1)) (subst (Numbered (0 + 1) ((h.0).end.opened + 1)) (sym (h.0).is) (numbered-refers_to _ (0 + 1) ((h.0).end.opened + 1) (h.0).written (numbered _ _ _ _ (h.0).spelled.spelled)))
 
 pub invariant_of-result : goal.invariant_of-result
 invariant_of-result c = record {
@@ -33,9 +35,10 @@ invariant_of-result c = record {
   } ∣₁;
   meant = c.in_ok-code.ensures.meaning ∙ c.meaning.ensures;
   short = c.in_ok-code.ensures.short;
-  easy = easy_spelled (c.in_ok-tree.ensures.accepted.0).spelled.spelled;
-  light = c.in_ok-code.ensures.easy (easy_spelled (c.in_ok-tree.ensures.accepted.0).spelled.spelled);
-  whole = λ e. no_raw_bytes (ap (λ (o : dialect.Options). o.keeps_characters) c.syntax.ensures ∙ e) (c.in_ok-tree.ensures.accepted.0).spelled.spelled;
+  decided = c.is_easy-easy.ensures;
+  light = c.in_ok-code.ensures.easy;
+  starts = start_accepted (c.in_ok-tree.ensures.accepted.0);
+  whole = λ e. bytes_accepted (ap (λ (o : dialect.Options). o.keeps_characters) c.syntax.ensures ∙ e) (c.in_ok-tree.ensures.accepted.0);
 }
 
 pub returns-clause-groups : goal.returns-clause-groups

@@ -1,6 +1,6 @@
 use Rattle.std.proofs.Common.{rules, List, ℕ, ◌≡◌, [], ◌∷◌, ◌++◌, string_bytes, slice_range, refl, sym, ◌∙◌, ap}
 use Rattle.fancy_core.specs.Left.{item_in}
-use Rattle.fancy_core.specs.Matching.{Item}
+use Rattle.fancy_core.specs.Matching.{Item, start_of}
 use Rattle.fancy_core.specs.Pieces.{limited}
 use Rattle.fancy_core.specs.Replacing.{all_matches}
 use Rattle.fancy_core.specs.Rewriting.{text_of, todo_of}
@@ -26,8 +26,9 @@ matches-preserved c =
     let last = rw c.in-Some.is at c.in_ok-next_match.ensures.last in
     let found = rw c.in-Some.is at c.in_ok-next_match.ensures.found in
     let todo : todo_of before ≡ item_in match.memory item ∷ todo_of behind = steps ∙ ap (λ (z : List Item). item_in match.memory item ∷ z) (sym stays.todo) in
-    let part : string_bytes match.out ≡ string_bytes before.out ++ slice_range c.args.text.now before.last item.start = written ∙ ap (λ (z : List ℕ). string_bytes before.out ++ slice_range z before.last item.start) c.matches.invariant.text in
-    let more : string_bytes behind.out ≡ (string_bytes before.out ++ slice_range c.args.text.now before.last item.start) ++ c.args.fixed.now = c.in_ok-push.ensures.ok ∙ ap (λ (z : List ℕ). z ++ c.args.fixed.now) part in
+    let begins = rw c.in-Some.is at c.in_ok-next_match.ensures.start in
+    let part : string_bytes match.out ≡ string_bytes before.out ++ slice_range c.args.text.now before.last (start_of (item_in match.memory item)) = rw begins at (written ∙ ap (λ (z : List ℕ). string_bytes before.out ++ slice_range z before.last item.start) c.matches.invariant.text) in
+    let more : string_bytes behind.out ≡ (string_bytes before.out ++ slice_range c.args.text.now before.last (start_of (item_in match.memory item))) ++ c.args.fixed.now = c.in_ok-push.ensures.ok ∙ ap (λ (z : List ℕ). z ++ c.args.fixed.now) part in
     record {
       regex = stays.regex ∙ (c.in_ok-next_match.ensures.regex ∙ c.matches.invariant.regex);
       text = stays.text ∙ (c.in_ok-next_match.ensures.text ∙ c.matches.invariant.text);

@@ -2,11 +2,11 @@ use Rattle.std.proofs.Common.{rules, List, ℕ, ◌≡◌, [], ◌∷◌, ◌++�
 use Rattle.std.proofs.lemmas.Result.{err_from_is_err_and}
 use Rattle.fancy_syntax.specs.declared.error.Error.TheVariants.{Memory}
 use Rattle.fancy_core.specs.Left.{item_in}
-use Rattle.fancy_core.specs.Matching.{Item}
+use Rattle.fancy_core.specs.Matching.{Item, start_of}
 use Rattle.fancy_core.specs.Pieces.{limited}
 use Rattle.fancy_core.specs.Replacing.{all_matches, seen_of}
 use Rattle.fancy_core.specs.Rewriting.{regex_of, text_of, todo_of}
-use Rattle.fancy_core.proofs.ReplaceLemmas.{Goes, goes_first, goes_on, goes_over, goes_last, goes_found, goes_refused, or_else, one_done, none_is, if_ok, borrowed_is, seen_same}
+use Rattle.fancy_core.proofs.ReplaceLemmas.{Goes, goes_first, goes_on, goes_over, goes_last, goes_found, goes_refused, or_both, text_out_of_memory, one_done, none_is, if_ok, borrowed_is, seen_same}
 use Rattle.fancy_core.proofs.regex.Regex.rewritten.Goals as goal
 
 pub matches-init : goal.matches-init
@@ -32,8 +32,9 @@ matches-preserved g c =
     let regex : regex_of match ≡ c.args.self.now = c.in_ok-item.ensures.regex ∙ c.matches.invariant.regex in
     let text : text_of match ≡ c.args.text.now = c.in_ok-item.ensures.text ∙ c.matches.invariant.text in
     let todo : todo_of before ≡ item_in match.memory item ∷ todo_of behind = steps ∙ ap (λ (z : List Item). item_in match.memory item ∷ z) (sym stays.todo) in
-    let part : string_bytes match.out ≡ string_bytes before.out ++ slice_range c.args.text.now before.last item.start = written ∙ ap (λ (z : List ℕ). string_bytes before.out ++ slice_range z before.last item.start) c.matches.invariant.text in
-    let more : string_bytes behind.out ≡ (string_bytes before.out ++ slice_range c.args.text.now before.last item.start) ++ ok.0 = ok.1 ∙ ap (λ (z : List ℕ). z ++ ok.0) part in
+    let begins = rw c.in-Some.is at c.in_ok-item.ensures.start in
+    let part : string_bytes match.out ≡ string_bytes before.out ++ slice_range c.args.text.now before.last (start_of (item_in match.memory item)) = rw begins at (written ∙ ap (λ (z : List ℕ). string_bytes before.out ++ slice_range z before.last item.start) c.matches.invariant.text) in
+    let more : string_bytes behind.out ≡ (string_bytes before.out ++ slice_range c.args.text.now before.last (start_of (item_in match.memory item))) ++ ok.0 = ok.1 ∙ ap (λ (z : List ℕ). z ++ ok.0) part in
     record {
       callable = c.in_ok-push_answer.ensures.again;
       regex = stays.regex ∙ regex;
@@ -64,4 +65,4 @@ returns-in_err-push_answer-clause-refused g c =
     let regex : regex_of c.next_match.new.self ≡ c.args.self.now = c.in_ok-item.ensures.regex ∙ c.matches.invariant.regex in
     let text : text_of c.next_match.new.self ≡ c.args.text.now = c.in_ok-item.ensures.text ∙ c.matches.invariant.text in
     let seen = seen_same (regex_of c.next_match.new.self) c.args.self.now (text_of c.next_match.new.self) c.args.text.now (item_in c.next_match.new.self.memory c.in-Some.item) regex text in
-    rw q.1 (or_else (q.0 ≡ Memory) _ _ (λ r. goes_refused g.R.Replacer.appends c.args.self.now c.args.text.now g.R.Replacer.refuses (limited c.args.limit (all_matches c.args.self.now c.args.text.now)) c.args.replacer.now c.matches.replacer (string_bytes c.matches.rewriting.out) c.matches.rewriting.last c.matches.rewriting.found (item_in c.next_match.new.self.memory c.in-Some.item) (todo_of c.matches.rewriting) (todo_of c.next_match.new.self) (seen_of (regex_of c.next_match.new.self) (text_of c.next_match.new.self) (item_in c.next_match.new.self.memory c.in-Some.item)) q.0 (rw c.in-Some.is at c.in_ok-item.ensures.steps) seen r c.matches.invariant.goes) (rw q.2 c.in_err-push_answer.ensures.refused))
+    rw q.1 (or_both (q.0 ≡ Memory) _ _ _ (text_out_of_memory c.args.self.now c.args.text.now q.0) (λ r. goes_refused g.R.Replacer.appends c.args.self.now c.args.text.now g.R.Replacer.refuses (limited c.args.limit (all_matches c.args.self.now c.args.text.now)) c.args.replacer.now c.matches.replacer (string_bytes c.matches.rewriting.out) c.matches.rewriting.last c.matches.rewriting.found (item_in c.next_match.new.self.memory c.in-Some.item) (todo_of c.matches.rewriting) (todo_of c.next_match.new.self) (seen_of (regex_of c.next_match.new.self) (text_of c.next_match.new.self) (item_in c.next_match.new.self.memory c.in-Some.item)) q.0 (rw c.in-Some.is at c.in_ok-item.ensures.steps) seen r c.matches.invariant.goes) (rw q.2 c.in_err-push_answer.ensures.refused))

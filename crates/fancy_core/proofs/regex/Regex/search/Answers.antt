@@ -1,24 +1,29 @@
 use Rattle.std.proofs.Common.{refl}
-use Rattle.fancy_engine.proofs.EasyLemmas.{easy_code}
 use Rattle.fancy_core.specs.Regexes.{asked}
-use Rattle.fancy_core.proofs.SearchedLemmas.{known, ordered_found, inside_found, clean_found}
+use Rattle.fancy_core.proofs.ReplaceLemmas.{if_ok}
+use Rattle.fancy_core.proofs.SearchedLemmas.{ordered_found, inside_found, clean_found}
 use Rattle.fancy_core.proofs.regex.Regex.search.Goals as goal
 
-pub search-requires-clause-easy : goal.search-requires-clause-easy
-search-requires-clause-easy c = easy_code _ c.args.self.now.light
+pub returns-then-self-clause-ordered : goal.returns-then-self-clause-ordered
+returns-then-self-clause-ordered c =
+    if_ok _ _ (ordered_found (asked c.args.self.now c.args.haystack.now c.args.request) c.run.new.memory refl c.requires.inside c.args.self.now.starts) c.run.result c.run.ensures.answer
 
-pub returns-in-Ok-clause-answer : goal.returns-in-Ok-clause-answer
-returns-in-Ok-clause-answer c = known _ _ c.args.self.now.compiled
-    (λ compiled. rw (c.args.self.now.meant, c.keeps_characters-on_boundaries.ensures) at (c.in-Ok.ensures.answer _ compiled.coded))
+pub returns-then-self-clause-inside : goal.returns-then-self-clause-inside
+returns-then-self-clause-inside c =
+    if_ok _ _ (inside_found (asked c.args.self.now c.args.haystack.now c.args.request) c.run.new.memory refl c.requires.inside c.args.self.now.starts) c.run.result c.run.ensures.answer
 
-pub returns-in-Ok-clause-ordered : goal.returns-in-Ok-clause-ordered
-returns-in-Ok-clause-ordered c =
-    ordered_found (asked c.args.self.now c.args.haystack.now c.args.request) c.search.new.memory refl c.requires.inside c.in-Ok.found (returns-in-Ok-clause-answer c)
+pub returns-then-self-clause-cleanly : goal.returns-then-self-clause-cleanly
+returns-then-self-clause-cleanly c = λ on.
+    if_ok _ _ (λ m e. clean_found (asked c.args.self.now c.args.haystack.now c.args.request) c.run.new.memory refl c.requires.inside c.args.self.now.starts m on e) c.run.result c.run.ensures.answer
 
-pub returns-in-Ok-clause-inside : goal.returns-in-Ok-clause-inside
-returns-in-Ok-clause-inside c =
-    inside_found (asked c.args.self.now c.args.haystack.now c.args.request) c.search.new.memory refl c.requires.inside c.in-Ok.found (returns-in-Ok-clause-answer c)
+pub returns-clause-ordered : goal.returns-clause-ordered
+returns-clause-ordered c =
+    if_ok _ _ (ordered_found (asked c.args.self.now c.args.haystack.now c.args.request) c.backtrack.new.memory refl c.requires.inside c.args.self.now.starts) c.backtrack.result c.backtrack.ensures.answer
 
-pub returns-in-Ok-clause-cleanly : goal.returns-in-Ok-clause-cleanly
-returns-in-Ok-clause-cleanly c = λ on.
-    clean_found (asked c.args.self.now c.args.haystack.now c.args.request) c.search.new.memory refl c.requires.inside c.in-Ok.found on (returns-in-Ok-clause-answer c)
+pub returns-clause-inside : goal.returns-clause-inside
+returns-clause-inside c =
+    if_ok _ _ (inside_found (asked c.args.self.now c.args.haystack.now c.args.request) c.backtrack.new.memory refl c.requires.inside c.args.self.now.starts) c.backtrack.result c.backtrack.ensures.answer
+
+pub returns-clause-cleanly : goal.returns-clause-cleanly
+returns-clause-cleanly c = λ on.
+    if_ok _ _ (λ m e. clean_found (asked c.args.self.now c.args.haystack.now c.args.request) c.backtrack.new.memory refl c.requires.inside c.args.self.now.starts m on e) c.backtrack.result c.backtrack.ensures.answer

@@ -5,7 +5,7 @@ use Rattle.fancy_syntax.specs.Pattern.{pattern_of, in_branches}
 use Rattle.fancy_syntax.specs.Dialect.{back_to}
 use Rattle.fancy_syntax.specs.Grammar.{Place, Item, quantified}
 use Rattle.fancy_syntax.specs.Views.{place, part_of, Alternation, Sequence}
-use Rattle.fancy_syntax.proofs.ReadingLemmas.{refused, Refuses-weaker, goes_on_then, no_branch, branch_step, alternation_is, item_step_at, no_item_at, sequence_is_at, no_atom, no_opening, no_quantified, single_is, setting_is, no_room, no_body, unclosed, no_quantified_group, group_is, found_setting}
+use Rattle.fancy_syntax.proofs.ReadingLemmas.{refused, Refuses-weaker, goes_on_then, no_branch, branch_step, alternation_is, item_step_at, no_item_at, sequence_is_at, no_atom, no_opening, no_quantified, single_is, setting_is, no_room, no_body, unclosed, no_quantified_group, group_is, no_quantified_reference, reference_is, found_group}
 use Rattle.fancy_syntax.proofs.parser.Parser.+parser.Goals as goal
 
 pub alternation-returns-in_err-branch-clause-value :
@@ -60,13 +60,13 @@ item-returns-in_err-body t c =
     let p = err_from_is_err_and c.from_residual-in_err-body.result c.from_residual-in_err-body.ensures.1 in
     record {
       value = refused part_of (Item c.args.room) c.from_residual-in_err-body.result _ _ p.0 c.in_err-body.field-0.0 p.1 p.2
-          (Refuses-weaker c.in_err-body.field-0.0 (no_body (sym c.if-not-is_at_any.ensures.value) c.in_ok-how.ensures.value (λ h. c.in_default.not-Setting (found_setting _ h)) (omega arith)) c.in_err-body.ensures.value);
+          (Refuses-weaker c.in_err-body.field-0.0 (no_body (sym c.if-not-is_at_any.ensures.value) c.in_ok-how.ensures.value (found_group _ c.in_default.not-Setting c.in_default-how.not-Reference) (omega arith)) c.in_err-body.ensures.value);
       progress = rw p.1 tt;
     }
 
 pub item-returns-then-not-is_at_any-2 : goal.item-returns-then-not-is_at_any-2
 item-returns-then-not-is_at_any-2 t c = record {
-  value = rw c.error-then-not-is_at_any-2.ensures (unclosed (sym c.if-not-is_at_any.ensures.value) c.in_ok-how.ensures.value (λ h. c.in_default.not-Setting (found_setting _ h)) (omega arith)
+  value = rw c.error-then-not-is_at_any-2.ensures (unclosed (sym c.if-not-is_at_any.ensures.value) c.in_ok-how.ensures.value (found_group _ c.in_default.not-Setting c.in_default-how.not-Reference) (omega arith)
       c.in_ok-body.ensures.value (sym c.if-not-is_at_any-2.ensures.value));
   progress = tt;
 }
@@ -77,18 +77,34 @@ item-returns-in_err-quantified-2 t c =
     record {
       value = refused part_of (Item c.args.room) c.from_residual-in_err-quantified-2.result _ _ p.0 c.in_err-quantified-2.field-0.0 p.1 p.2
           (Refuses-weaker c.in_err-quantified-2.field-0.0
-          (λ none. no_quantified_group (sym c.if-not-is_at_any.ensures.value) c.in_ok-how.ensures.value (λ h. c.in_default.not-Setting (found_setting _ h)) (omega arith)
+          (λ none. no_quantified_reference (sym c.if-not-is_at_any.ensures.value) (rw c.in-Reference.is at c.in_ok-how.ensures.value) (rw c.reference.ensures at none)) c.in_err-quantified-2.ensures.value);
+      progress = rw p.1 tt;
+    }
+
+pub item-returns-in-Reference : goal.item-returns-in-Reference
+item-returns-in-Reference t c = record {
+  value = reference_is (sym c.if-not-is_at_any.ensures.value) (rw c.in-Reference.is at c.in_ok-how.ensures.value) (c.args.room - 1) (omega arith) (rw c.reference.ensures at c.in_ok-quantified-2.ensures.value);
+  progress = omega (arith, c.in_ok-quantified-2.ensures.progress, c.in_ok-how.ensures.progress);
+}
+
+pub item-returns-in_err-quantified-3 : goal.item-returns-in_err-quantified-3
+item-returns-in_err-quantified-3 t c =
+    let p = err_from_is_err_and c.from_residual-in_err-quantified-3.result c.from_residual-in_err-quantified-3.ensures.1 in
+    record {
+      value = refused part_of (Item c.args.room) c.from_residual-in_err-quantified-3.result _ _ p.0 c.in_err-quantified-3.field-0.0 p.1 p.2
+          (Refuses-weaker c.in_err-quantified-3.field-0.0
+          (λ none. no_quantified_group (sym c.if-not-is_at_any.ensures.value) c.in_ok-how.ensures.value (found_group _ c.in_default.not-Setting c.in_default-how.not-Reference) (omega arith)
           c.in_ok-body.ensures.value c.in_ok-group.ensures
-          (ap (λ (s : Place). quantified (pattern_of c.in_ok-group.group) (record { text = s.text; scope = back_to (place c.args.self.now).scope s.scope })) (sym c.skip.ensures.place) ∙ none)) c.in_err-quantified-2.ensures.value);
+          (ap (λ (s : Place). quantified (pattern_of c.in_ok-group.group) (record { text = s.text; scope = back_to (place c.args.self.now).scope s.scope })) (sym c.skip.ensures.place) ∙ none)) c.in_err-quantified-3.ensures.value);
       progress = rw p.1 tt;
     }
 
 pub item-returns : goal.item-returns
 item-returns t c = record {
-  value = group_is (sym c.if-not-is_at_any.ensures.value) c.in_ok-how.ensures.value (λ h. c.in_default.not-Setting (found_setting _ h)) (omega arith)
+  value = group_is (sym c.if-not-is_at_any.ensures.value) c.in_ok-how.ensures.value (found_group _ c.in_default.not-Setting c.in_default-how.not-Reference) (omega arith)
       c.in_ok-body.ensures.value (sym c.if-not-is_at_any-2.ensures.value) c.in_ok-group.ensures
-      (ap (λ (s : Place). quantified (pattern_of c.in_ok-group.group) (record { text = s.text; scope = back_to (place c.args.self.now).scope s.scope })) (sym c.skip.ensures.place) ∙ c.in_ok-quantified-2.ensures.value);
-  progress = omega (arith, c.in_ok-quantified-2.ensures.progress, c.skip.ensures.shorter, c.in_ok-body.ensures.forward, c.in_ok-how.ensures.progress);
+      (ap (λ (s : Place). quantified (pattern_of c.in_ok-group.group) (record { text = s.text; scope = back_to (place c.args.self.now).scope s.scope })) (sym c.skip.ensures.place) ∙ c.in_ok-quantified-3.ensures.value);
+  progress = omega (arith, c.in_ok-quantified-3.ensures.progress, c.skip.ensures.shorter, c.in_ok-body.ensures.forward, c.in_ok-how.ensures.progress);
 }
 
 pub sequence-loop-self-preserved : goal.sequence-loop-self-preserved

@@ -1,0 +1,133 @@
+-- References to groups: how they are written, what they name, and which group that is once the whole pattern is read.
+use Rattle.std.specs.Prelude.{ℕ, ◌+◌, ◌-◌, ◌==◌, ◌||◌, ◌&&◌, Bool, not, nat_le, min, List, [], ◌∷◌, length, drop, slice_index_or, Option, Some, None, Result, Ok, Err, if◌then◌else◌}
+use Rattle.fancy_syntax.specs.Pattern.{Pattern, empty, character, member_of, raw_byte, backreference, assertion, group_test, keep_start, continue_here, group, repeat, look_ahead, look_behind, atomic, conditional, followed, or_else, last_branch}
+use Rattle.fancy_syntax.specs.Words.{Text, is_at_any, is_at, begins, is_at_digit, past_digits, decimal, are_digits}
+use Rattle.fancy_syntax.specs.Names.{name_here, past_name, last_named}
+
+-- what a reference names
+pub data Target : Type 0 where
+  -- the group of this number
+  numbered : ℕ → Target
+  -- a group so many back from a place before which fewer were opened: there is none
+  missing : ℕ → Target
+  -- the last group of this name
+  called : Text → Target
+  -- the last group of this name, or where no group has it the one whose number these digits are
+  called_or_numbered : Text → Target
+
+-- why a reference names no group
+pub data Fault : Type 0 where
+  -- groups are referred to by name alone
+  by_name_alone : Fault
+  -- no group has this number; one above 2^32 - 1 stands as that
+  no_number : ℕ → Fault
+  -- no group has this name
+  no_name : Text → Fault
+
+abbrev pub largest_told : ℕ
+largest_told = 4294967295
+
+-- the group that is so many back from those opened so far: 1 is the last one
+abbrev pub back : ℕ → ℕ → Target
+back opened k = if nat_le 1 k && nat_le k opened then numbered (opened + 1 - k) else missing (min k largest_told)
+
+-- the row of digits that stands behind a backslash, if its first is not 0
+abbrev pub number_reference : Text → Option (Target × Text)
+number_reference t = if is_at "123456789" t && nat_le (decimal t) largest_told then Some (numbered (decimal t), past_digits t) else None
+
+-- a row of digits up to this delimiter
+abbrev pub distance_reference : ℕ → ℕ → Text → Option (Target × Text)
+distance_reference opened delimiter t =
+    if is_at_digit t && is_at_any (delimiter ∷ []) (past_digits t) then Some (back opened (decimal t), drop 1 (past_digits t)) else None
+
+-- a name up to this delimiter
+abbrev pub name_reference : ℕ → Text → Option (Target × Text)
+name_reference delimiter t =
+    if (length (name_here t) == 0) || not (is_at_any (delimiter ∷ []) (past_name t)) then None
+    else Some (called_or_numbered (name_here t), drop 1 (past_name t))
+
+-- a name, or a dash and a distance, up to this delimiter
+abbrev pub delimited : ℕ → ℕ → Text → Option (Target × Text)
+delimited opened delimiter t = if is_at "-" t then distance_reference opened delimiter (drop 1 t) else name_reference delimiter t
+
+-- the reference that a text begins with, where so many groups were opened before it, and what follows it
+abbrev pub reference : ℕ → Text → Option (Target × Text)
+reference opened t =
+    if begins "\\k<" t then delimited opened 62 (drop 3 t)
+    else if begins "\\k'" t then delimited opened 39 (drop 3 t)
+    else if is_at "\\" t then number_reference (drop 1 t)
+    else None
+
+-- what may only be a reference begins here
+abbrev pub begins_reference : Text → Bool
+begins_reference t = is_at "\\" t && is_at "123456789k" (drop 1 t)
+
+-- the groups of a whole pattern: whether they are referred to by name alone, how many there are, and their names
+pub record Groups : Type 0 where
+  pub by_name : Bool
+  pub opened : ℕ
+  pub names : List (Text × ℕ)
+
+-- the group of this number
+abbrev pub group_numbered : Groups → ℕ → Result ℕ Fault
+group_numbered g n =
+    if g.by_name then Err by_name_alone
+    else if nat_le 1 n && nat_le n g.opened then Ok n
+    else Err (no_number (min n largest_told))
+
+-- the group of the number that these digits are
+abbrev pub group_in_digits : Groups → Text → Result ℕ Fault
+group_in_digits g t = if are_digits t then group_numbered g (decimal t) else Err (no_name t)
+
+-- this group, or where there is none what else is found
+abbrev pub group_or : Option ℕ → Result ℕ Fault → Result ℕ Fault
+group_or None other = other
+group_or (Some n) other = Ok n
+
+-- the group that a reference names, or why it names none
+abbrev pub resolve : Groups → Target → Result ℕ Fault
+resolve g (numbered n) = group_numbered g n
+resolve g (missing n) = Err (if g.by_name then by_name_alone else no_number n)
+resolve g (called t) = group_or (last_named t g.names) (Err (no_name t))
+resolve g (called_or_numbered t) = group_or (last_named t g.names) (group_in_digits g t)
+
+abbrev pub fault_in : Result ℕ Fault → Option Fault
+fault_in (Ok n) = None
+fault_in (Err f) = Some f
+
+abbrev pub group_in : Result ℕ Fault → ℕ
+group_in (Ok n) = n
+group_in (Err f) = 0
+
+-- why a reference names no group
+abbrev pub fault_of : Groups → Target → Option Fault
+fault_of g w = fault_in (resolve g w)
+
+-- the group that a reference names
+abbrev pub group_for : Groups → Target → ℕ
+group_for g w = group_in (resolve g w)
+
+-- the number with this index
+abbrev pub number_in : List ℕ → ℕ → ℕ
+number_in numbers index = slice_index_or numbers index 0
+
+-- the pattern with this number in the place of each reference's own
+unfoldable pub refers_to : (ℕ → ℕ) → Pattern → Pattern
+refers_to f empty = empty
+refers_to f (character c) = character c
+refers_to f (member_of edges) = member_of edges
+refers_to f (raw_byte byte) = raw_byte byte
+refers_to f (backreference folded number) = backreference folded (f number)
+refers_to f (assertion a) = assertion a
+refers_to f (group_test number) = group_test number
+refers_to f keep_start = keep_start
+refers_to f continue_here = continue_here
+refers_to f (group index body) = group index (refers_to f body)
+refers_to f (repeat low high taste body) = repeat low high taste (refers_to f body)
+refers_to f (look_ahead negated body) = look_ahead negated (refers_to f body)
+refers_to f (look_behind negated body) = look_behind negated (refers_to f body)
+refers_to f (atomic body) = atomic (refers_to f body)
+refers_to f (conditional condition first second) = conditional (refers_to f condition) (refers_to f first) (refers_to f second)
+refers_to f (followed part rest) = followed (refers_to f part) (refers_to f rest)
+refers_to f (or_else branch others) = or_else (refers_to f branch) (refers_to f others)
+refers_to f (last_branch branch) = last_branch (refers_to f branch)

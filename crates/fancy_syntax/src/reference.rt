@@ -1,0 +1,171 @@
+//! References to groups, as they are written: `\1`, `\k<n>`, `\k'n'`, `\k<-1>` and `(?P=n)`.
+
+ghost use Rattle.std.specs.Prelude.{◌≡◌, ℕ, ◌-◌, ◌^◌, ◌<◌, ◌≤◌, min, IfOk, IfSome, length, option_map};
+ghost use Rattle.fancy_syntax.specs.Words.{is_at_any};
+ghost use Rattle.fancy_syntax.specs.References.{back, number_reference, distance_reference, name_reference, delimited, reference, begins_reference};
+ghost use Rattle.fancy_syntax.specs.Views.{target_of, reading_of};
+
+use crate::count::{decimal, is_at_digit, past_digits};
+use crate::error::ParseErrorKind;
+use crate::name::{split_name, text_of};
+use std::alloc::{AllocError, Global};
+
+/// The largest number that a reference or the refusal of one tells.
+pub(crate) const LARGEST_TOLD: u64 = 4_294_967_295;
+
+/// What a reference names.
+#[derive(Drop)]
+pub(crate) enum Target {
+    /// The group of this number.
+    Numbered(usize),
+    /// No group: there is none so many back.
+    Missing(usize),
+    /// The last group of this name.
+    Called(String),
+    /// The last group of this name, or where no group has it the one whose number these digits are.
+    CalledOrNumbered(String),
+}
+
+/// A reference that was read, and the text behind it.
+pub(crate) type Reading<'a> = (Target, &'a [char]);
+
+/// Whether the first character is one of these.
+fn is_at_any(text: &[char], chars: &[char]) -> bool
+    ensures { result ≡ is_at_any chars.now text.now }
+{
+    match text {
+        [c, ..] => chars.contains(c),
+        [] => false,
+    }
+}
+
+/// Whether what may only be a reference begins here.
+pub(crate) fn begins_reference(text: &[char]) -> bool
+    ensures { result ≡ begins_reference text.now }
+{
+    match text {
+        ['\\', behind @ ..] => {
+            is_at_any(behind, &['1', '2', '3', '4', '5', '6', '7', '8', '9', 'k'])
+        }
+        _ => false,
+    }
+}
+
+/// The group that is so many back from the `opened` ones before a place; 1 is the last one.
+fn back(opened: usize, distance: u64) -> Target
+    requires { opened < 2 ^ 63 }
+    ensures { (k : ℕ) → distance ≡ min k (2 ^ 64 - 1) → target_of result ≡ back opened k }
+{
+    if distance >= 1 && distance <= opened as u64 {
+        Target::Numbered(opened - (distance as usize - 1))
+    } else {
+        Target::Missing(distance.min(LARGEST_TOLD) as usize)
+    }
+}
+
+/// The row of digits that stands behind a backslash, if its first is not 0.
+fn number_reference(text: &[char]) -> Option<Reading<'_>>
+    ensures value { option_map reading_of result ≡ number_reference text.now }
+    ensures shorter { IfSome result (λ r. length r.1.now ≤ length text.now) }
+{
+    let number = decimal(text);
+    let begins = is_at_any(text, &['1', '2', '3', '4', '5', '6', '7', '8', '9']);
+    if !begins || number > LARGEST_TOLD {
+        return None;
+    }
+    Some((Target::Numbered(number as usize), past_digits(text)))
+}
+
+/// A row of digits up to this delimiter: a distance back from the `opened` groups before it.
+fn distance_reference(text: &[char], opened: usize, delimiter: char) -> Option<Reading<'_>>
+    requires { opened < 2 ^ 63 }
+    ensures value { option_map reading_of result ≡ distance_reference opened delimiter text.now }
+    ensures shorter { IfSome result (λ r. length r.1.now ≤ length text.now) }
+{
+    match past_digits(text) {
+        [c, behind @ ..] if *c == delimiter && is_at_digit(text) => {
+            Some((back(opened, decimal(text)), behind))
+        }
+        _ => None,
+    }
+}
+
+/// A name up to this delimiter.
+fn name_reference(
+    alloc: Global,
+    text: &[char],
+    delimiter: char,
+) -> Result<Option<Reading<'_>>, AllocError>
+    ensures value { IfOk result (λ r. option_map reading_of r ≡ name_reference delimiter text.now) }
+    ensures shorter { IfOk result (λ r. IfSome r (λ x. length x.1.now ≤ length text.now)) }
+{
+    let (name, behind) = split_name(text);
+    match behind {
+        [c, behind @ ..] if *c == delimiter && !name.is_empty() => {
+            let name = text_of(alloc, name)?;
+            Ok(Some((Target::CalledOrNumbered(name), behind)))
+        }
+        _ => Ok(None),
+    }
+}
+
+/// A name, or a dash and a distance, up to this delimiter.
+fn delimited(
+    alloc: Global,
+    text: &[char],
+    opened: usize,
+    delimiter: char,
+) -> Result<Option<Reading<'_>>, AllocError>
+    requires { opened < 2 ^ 63 }
+    ensures value { IfOk result (λ r. option_map reading_of r ≡ delimited opened delimiter text.now) }
+    ensures shorter { IfOk result (λ r. IfSome r (λ x. length x.1.now ≤ length text.now)) }
+{
+    match text {
+        ['-', digits @ ..] => Ok(distance_reference(digits, opened, delimiter)),
+        _ => name_reference(alloc, text, delimiter),
+    }
+}
+
+/// The reference that a text begins with, where so many groups were opened before it; none where it begins with none.
+pub(crate) fn read_reference(
+    alloc: Global,
+    text: &[char],
+    opened: usize,
+) -> Result<Option<Reading<'_>>, AllocError>
+    requires { opened < 2 ^ 63 }
+    ensures value { IfOk result (λ r. option_map reading_of r ≡ reference opened text.now) }
+    ensures shorter { IfOk result (λ r. IfSome r (λ x. length x.1.now < length text.now)) }
+{
+    if text.starts_with(&['\\', 'k', '<']) {
+        return delimited(alloc, &text[3..], opened, '>');
+    }
+    if text.starts_with(&['\\', 'k', '\'']) {
+        return delimited(alloc, &text[3..], opened, '\'');
+    }
+    match text {
+        ['\\', digits @ ..] => Ok(number_reference(digits)),
+        _ => Ok(None),
+    }
+}
+
+/// What is wrong where a reference is to stand and none does.
+pub(crate) fn reference_fault(text: &[char]) -> ParseErrorKind {
+    match text {
+        ['\\', 'k', '<', inside @ ..] => delimited_fault(inside, '>'),
+        ['\\', 'k', '\'', inside @ ..] => delimited_fault(inside, '\''),
+        _ => ParseErrorKind::InvalidEscape,
+    }
+}
+
+/// What is wrong between delimiters: other dialects count levels and groups further on by digits behind a sign.
+fn delimited_fault(inside: &[char], delimiter: char) -> ParseErrorKind {
+    let (name, behind) = split_name(inside);
+    match behind {
+        ['-', ..] if name.is_empty() => ParseErrorKind::InvalidGroupName,
+        ['+' | '-', digits @ ..]
+            if is_at_digit(digits) && is_at_any(past_digits(digits), &[delimiter]) => {
+            ParseErrorKind::NotInProfile
+        }
+        _ => ParseErrorKind::InvalidGroupName,
+    }
+}
