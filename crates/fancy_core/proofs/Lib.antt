@@ -1,6 +1,7 @@
 pub mod NoneLemmas
 pub mod SearchedLemmas
 pub mod ServedLemmas
+pub mod ProgramSizeLemmas
 pub mod CutLemmas
 pub mod NamesLemmas
 pub mod RisingLemmas

@@ -1,21 +1,22 @@
 -- What reading a pattern answers.
-use Rattle.std.specs.Prelude.{◌≡◌, ◌+◌, ℕ, List, Result, IfOk, IfErr, chars}
+use Rattle.std.specs.Prelude.{◌≡◌, ◌+◌, ℕ, List, Result, IfOk, IfErr, false, chars}
 use Rattle.fancy_syntax.specs.declared.error.Error.{Error}
-use Rattle.fancy_syntax.specs.declared.error.Error.TheVariants.{Memory}
 use Rattle.fancy_syntax.specs.Pattern.{Pattern}
 use Rattle.fancy_syntax.specs.Dialect.{IsPattern}
-use Rattle.fancy_syntax.specs.Refusals.{IsRefused}
 use Rattle.fancy_core.specs.declared.options.Options.{Options}
 use Rattle.fancy_core.specs.declared.regex.Regex.{Regex}
 use Rattle.fancy_core.specs.Options.{dialect_of}
-use Rattle.fancy_core.specs.Regexes.{text_of, pattern_in, options_in, groups_in}
+use Rattle.fancy_core.specs.Regexes.{text_of, pattern_in, options_in, groups_in, length_in}
+use Rattle.fancy_core.specs.Limited.{IsHard}
+use Rattle.fancy_core.specs.ProgramSize.{passes, RefusesPattern, IsRefusedUnder}
 use Rattle.fancy_core.specs.Names.{names_in}
 
--- This answers the bytes of a pattern's text, read under these options: the regex of the one pattern that the text spells, or why there is none. A pattern of the dialect is refused only where memory runs out.
+-- This answers the bytes of a pattern's text, read under these options: the regex of the one pattern that the text spells, or why there is none. A pattern of the dialect is refused only where memory runs out, and a hard one where a size was set that its code may pass.
 pub record IsReading (o : Options) (pattern : List ℕ) (answer : Result Regex Error) : Type 0 where
   pub text : IfOk answer (λ r. text_of r ≡ pattern)
   pub options : IfOk answer (λ r. options_in r ≡ o)
   pub accepted : IfOk answer (λ r. IsPattern (dialect_of o) (chars pattern) (pattern_in r))
   pub groups : IfOk answer (λ r. (h : IsPattern (dialect_of o) (chars pattern) (pattern_in r)) × (h.end.opened + 1 ≡ groups_in r) × (h.end.names ≡ names_in r))
-  pub refused : IfErr answer (λ e. IsRefused e (dialect_of o) (chars pattern))
-  pub succeeds : (p : Pattern) → IsPattern (dialect_of o) (chars pattern) p → IfErr answer (λ e. e ≡ Memory)
+  pub sized : IfOk answer (λ r. IsHard r → passes (length_in r) o.max_prog_size ≡ false)
+  pub refused : IfErr answer (λ e. IsRefusedUnder o (chars pattern) e)
+  pub succeeds : (p : Pattern) → IsPattern (dialect_of o) (chars pattern) p → IfErr answer (λ e. RefusesPattern o p e)

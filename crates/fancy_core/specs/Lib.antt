@@ -5,6 +5,7 @@ pub mod Regexes
 pub mod Searching
 pub mod Scratch
 pub mod Limited
+pub mod ProgramSize
 pub mod Groups
 pub mod Captured
 pub mod Names

@@ -1,5 +1,5 @@
 -- What the options of a regex choose.
-use Rattle.std.specs.Prelude.{true, false}
+use Rattle.std.specs.Prelude.{true, false, None}
 use Rattle.fancy_syntax.specs.declared.tree.Meaning.{Meaning}
 use Rattle.fancy_syntax.specs.declared.tree.BytesMode.TheVariants.{Unicode}
 use Rattle.fancy_syntax.specs.Modes as modes
@@ -16,6 +16,7 @@ by_default = record {
   ignore_numbered_groups_when_named_groups_exist = false;
   allow_input_assertion_overrides = false;
   backtrack_limit = 1000000;
+  max_prog_size = None;
 }
 
 -- what an item consumes under these options

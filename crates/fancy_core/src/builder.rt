@@ -1,13 +1,14 @@
 //! A pattern and its options, set one after another.
 
-ghost use Rattle.std.specs.Prelude.{◌≡◌, ◌+◌, IfOk, IfErr, string_bytes, chars};
+ghost use Rattle.std.specs.Prelude.{◌≡◌, ◌+◌, IfOk, IfErr, Some, false, string_bytes, chars};
 ghost use Rattle.fancy_syntax.specs.Pattern.{Pattern};
 ghost use Rattle.fancy_syntax.specs.Dialect.{IsPattern};
-ghost use Rattle.fancy_syntax.specs.Refusals.{IsRefused};
 ghost use Rattle.fancy_core.specs.Builders.{options_set, pattern_set};
 ghost use Rattle.fancy_core.specs.Options.{by_default, dialect_of};
 ghost use Rattle.fancy_core.specs.Names.{names_in};
-ghost use Rattle.fancy_core.specs.Regexes.{text_of, pattern_in, options_in, groups_in};
+ghost use Rattle.fancy_core.specs.Regexes.{text_of, pattern_in, options_in, groups_in, length_in};
+ghost use Rattle.fancy_core.specs.Limited.{IsHard};
+ghost use Rattle.fancy_core.specs.ProgramSize.{passes, RefusesPattern, IsRefusedUnder};
 
 use crate::options::RegexOptionsBuilder;
 use crate::regex::Regex;
@@ -162,6 +163,16 @@ impl RegexBuilder {
         self
     }
 
+    /// Sets the option of [`RegexOptionsBuilder::max_prog_size`].
+    pub fn max_prog_size(&mut self, size: usize) -> &mut Self
+        ensures same { result.ghost_name ≡ self.entry.ghost_name }
+        ensures pattern { pattern_set result.now ≡ pattern_set self.old }
+        ensures value { options_set result.now ≡ record (options_set self.old) { max_prog_size = Some size } }
+    {
+        self.options.max_prog_size(size);
+        self
+    }
+
     /// Reads the pattern with these options, as [`RegexOptionsBuilder::build`] does, and stays as it is. The regex has
     /// a copy of the text, and the allocator of the pattern.
     pub fn build(&self) -> Result<Regex>
@@ -169,8 +180,9 @@ impl RegexBuilder {
         ensures options { IfOk result (λ r. options_in r ≡ options_set self.now) }
         ensures accepted { IfOk result (λ r. IsPattern (dialect_of (options_set self.now)) (chars (pattern_set self.now)) (pattern_in r)) }
         ensures groups { IfOk result (λ r. (h : IsPattern (dialect_of (options_set self.now)) (chars (pattern_set self.now)) (pattern_in r)) × (h.end.opened + 1 ≡ groups_in r) × (h.end.names ≡ names_in r)) }
-        ensures refused { IfErr result (λ e. IsRefused e (dialect_of (options_set self.now)) (chars (pattern_set self.now))) }
-        ensures succeeds { (p : Pattern) → IsPattern (dialect_of (options_set self.now)) (chars (pattern_set self.now)) p → IfErr result (λ e. e ≡ Error.Memory) }
+        ensures sized { IfOk result (λ r. IsHard r → passes (length_in r) (options_set self.now).max_prog_size ≡ false) }
+        ensures refused { IfErr result (λ e. IsRefusedUnder (options_set self.now) (chars (pattern_set self.now)) e) }
+        ensures succeeds { (p : Pattern) → IsPattern (dialect_of (options_set self.now)) (chars (pattern_set self.now)) p → IfErr result (λ e. RefusesPattern (options_set self.now) p e) }
     {
         let pattern = self.pattern.clone()?;
         self.options.build(pattern)

@@ -1,9 +1,10 @@
 //! How a pattern is read and searched.
 
-ghost use Rattle.std.specs.Prelude.{◌≡◌, true, false};
+ghost use Rattle.std.specs.Prelude.{◌≡◌, ◌&&◌, not, true, false, Some};
 ghost use Rattle.fancy_syntax.specs.declared.tree.BytesMode.TheVariants.{Unicode as ByCharacters};
 ghost use Rattle.fancy_syntax.specs.Views.{options_of as syntax_options};
 ghost use Rattle.fancy_core.specs.Options.{by_default, meaning_in, dialect_of};
+ghost use Rattle.fancy_core.specs.ProgramSize.{passes};
 
 use fancy_syntax::flags::Flags;
 use fancy_syntax::parse::Syntax;
@@ -27,6 +28,8 @@ pub struct Options {
     pub allow_input_assertion_overrides: bool,
     /// How many returns to an earlier choice a search for a hard pattern may take.
     pub backtrack_limit: usize,
+    /// How many instructions a hard pattern's code may have, if that is limited.
+    pub max_prog_size: Option<usize>,
 }
 
 impl Options {
@@ -46,6 +49,16 @@ impl Options {
             keeps_characters: self.bytes_mode.keeps_characters(),
             only_named: self.ignore_numbered_groups_when_named_groups_exist,
             flags: self.flags,
+        }
+    }
+
+    /// Whether a pattern, easy or hard, is refused for so many instructions.
+    pub(crate) fn forbids(&self, easy: bool, count: usize) -> bool
+        ensures { result ≡ (not easy && passes count self.now.max_prog_size) }
+    {
+        match self.max_prog_size {
+            Some(size) => !easy && count > size,
+            None => false,
         }
     }
 }
@@ -76,6 +89,7 @@ impl RegexOptionsBuilder {
                 ignore_numbered_groups_when_named_groups_exist: false,
                 allow_input_assertion_overrides: false,
                 backtrack_limit: BACKTRACK_LIMIT,
+                max_prog_size: None,
             },
         }
     }
@@ -209,6 +223,25 @@ impl RegexOptionsBuilder {
         ensures value { options_of result.now ≡ record (options_of self.old) { backtrack_limit = limit } }
     {
         self.options.backtrack_limit = limit;
+        self
+    }
+
+    /// How many instructions a hard pattern's code may have: where it has more, the pattern is refused as
+    /// `CompileError(PatternTooComplex)`. No limit by default.
+    ///
+    /// [`Regex::code_len`](crate::regex::Regex::code_len) says how many it has: at most 4 for each node of the pattern
+    /// with its counted repeats written out, and 2 more. Easy patterns
+    /// ([`Regex::is_easy`](crate::regex::Regex::is_easy)) do not heed it.
+    ///
+    /// ```text
+    /// RegexOptionsBuilder::new().max_prog_size(0).build(pattern)    // of `a(?=b)`: Err(CompileError(PatternTooComplex))
+    /// RegexOptionsBuilder::new().max_prog_size(0).build(pattern)    // of `a`: Ok
+    /// ```
+    pub fn max_prog_size(&mut self, size: usize) -> &mut Self
+        ensures same { result.ghost_name ≡ self.entry.ghost_name }
+        ensures value { options_of result.now ≡ record (options_of self.old) { max_prog_size = Some size } }
+    {
+        self.options.max_prog_size = Some(size);
         self
     }
 

@@ -34,7 +34,7 @@ use fancy_engine::work::Work;
 use fancy_input::input::{Haystack, Input, Request};
 use fancy_input::regex_input::RegexInput;
 use fancy_machine::search as machine;
-use fancy_syntax::error::{Error, Result, RuntimeError};
+use fancy_syntax::error::{CompileError, Error, Result, RuntimeError};
 use fancy_syntax::name::GroupName;
 use fancy_syntax::parse::{Parsed, parse_with};
 use fancy_syntax::tree::Tree;
@@ -363,7 +363,9 @@ impl Regex {
 
 impl RegexOptionsBuilder {
     ghost use Rattle.fancy_core.specs.Names.{names_in};
-    ghost use Rattle.fancy_core.specs.Regexes.{text_of, pattern_in, options_in, groups_in};
+    ghost use Rattle.fancy_core.specs.Regexes.{text_of, pattern_in, options_in, groups_in, length_in};
+    ghost use Rattle.fancy_core.specs.Limited.{IsHard};
+    ghost use Rattle.fancy_core.specs.ProgramSize.{passes, RefusesPattern, IsRefusedUnder};
 
     /// Reads a pattern with these options. The allocator is the text's, which is given up also where the
     /// call refuses.
@@ -372,8 +374,9 @@ impl RegexOptionsBuilder {
         ensures options { IfOk result (λ r. options_in r ≡ options_of self.now) }
         ensures accepted { IfOk result (λ r. IsPattern (dialect_of (options_of self.now)) (chars (string_bytes pattern)) (pattern_in r)) }
         ensures groups { IfOk result (λ r. (h : IsPattern (dialect_of (options_of self.now)) (chars (string_bytes pattern)) (pattern_in r)) × (h.end.opened + 1 ≡ groups_in r) × (h.end.names ≡ names_in r)) }
-        ensures refused { IfErr result (λ e. IsRefused e (dialect_of (options_of self.now)) (chars (string_bytes pattern))) }
-        ensures succeeds { (p : Pattern) → IsPattern (dialect_of (options_of self.now)) (chars (string_bytes pattern)) p → IfErr result (λ e. e ≡ Error.Memory) }
+        ensures sized { IfOk result (λ r. IsHard r → passes (length_in r) (options_of self.now).max_prog_size ≡ false) }
+        ensures refused { IfErr result (λ e. IsRefusedUnder (options_of self.now) (chars (string_bytes pattern)) e) }
+        ensures succeeds { (p : Pattern) → IsPattern (dialect_of (options_of self.now)) (chars (string_bytes pattern)) p → IfErr result (λ e. RefusesPattern (options_of self.now) p e) }
     {
         let options = self.options();
         let alloc = *pattern.allocator();
@@ -384,6 +387,9 @@ impl RegexOptionsBuilder {
         } = parse_with(alloc, pattern.as_str(), options.syntax())?;
         let code = compile(alloc, &tree, groups, options.meaning())?;
         let easy = is_easy(&tree);
+        if options.forbids(easy, code.len()) {
+            return Err(Error::CompileError(CompileError::PatternTooComplex));
+        }
         Ok(Regex {
             pattern,
             options,

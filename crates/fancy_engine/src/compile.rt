@@ -145,7 +145,7 @@ fn emit(
             alloc,
             code,
             meaning,
-            *index as usize,
+            *index,
             body,
             next,
         ),

@@ -21,6 +21,7 @@ use crate::slot::{Extent, Slot};
 use crate::table::Table;
 use crate::ways::Ways;
 use crate::work::Work;
+use fancy_input::places::is_boundary;
 use fancy_syntax::char_set::CharSet;
 use fancy_syntax::tree::Meaning;
 use std::alloc::AllocError;
@@ -53,10 +54,7 @@ pub struct Bounds {
 pub fn is_good_end(bounds: Bounds, haystack: &[u8], place: usize) -> bool
     ensures { result ≡ good_end bounds haystack.now place }
 {
-    !bounds.on_boundaries
-        || place == 0
-        || place >= haystack.len()
-        || !(haystack[place] >= 0x80 && haystack[place] < 0xC0)
+    !bounds.on_boundaries || is_boundary(haystack, place)
 }
 
 /// The place behind the character at `place`, if it is this one.

@@ -83,7 +83,7 @@ fn begin_table(table: &mut Table, count: usize, bounds: Bounds) -> Result<(), Re
 }
 
 /// The ends of the text that the request suppresses, where it may.
-fn suppressed_in(overrides: bool, request: Request) -> Suppressed
+pub fn suppressed_in(overrides: bool, request: Request) -> Suppressed
     ensures { result ≡ suppressed_in overrides request }
 {
     Suppressed {
@@ -92,8 +92,8 @@ fn suppressed_in(overrides: bool, request: Request) -> Suppressed
     }
 }
 
-/// The last position that is tried, where the first one is within the range.
-fn last_position(request: Request, first: usize) -> usize
+/// The last position that is tried, a byte offset, where the first one is within the range.
+pub fn last_position(request: Request, first: usize) -> usize
     requires first { first ≡ effective_start request }
     requires ordered { first ≤ request.range_end }
     ensures count { result + 1 - first ≡ positions request }

@@ -6,5 +6,5 @@ pub mod bytes;
 pub mod forms;
 pub mod input;
 pub mod matches;
-mod places;
+pub mod places;
 pub mod regex_input;

@@ -1,6 +1,6 @@
 //! The steps between the places of a haystack, over its bytes.
 
-ghost use Rattle.std.specs.Prelude.{◌≡◌, ◌≤◌, ◌<◌, ◌+◌, true, length};
+ghost use Rattle.std.specs.Prelude.{◌≡◌, ◌≤◌, ◌<◌, ◌+◌, true, length, slice_index};
 ghost use Rattle.fancy_input.specs.Places.{is_boundary, is_continuation, prev_place, next_place};
 
 /// Whether the byte continues a character of UTF-8.
@@ -8,6 +8,16 @@ fn is_continuation(byte: u8) -> bool
     ensures { result ≡ is_continuation byte }
 {
     byte >= 0x80 && byte < 0xC0
+}
+
+/// Whether a byte that continues a character stands at a place; past the end none does.
+fn continues_at(bytes: &[u8], at: usize) -> bool
+    ensures { result ≡ is_continuation (slice_index bytes.now at) }
+{
+    match bytes.get(at) {
+        Some(byte) => is_continuation(*byte),
+        None => false,
+    }
 }
 
 /// Whether a match of these bytes may begin or end at `i`.
@@ -32,13 +42,12 @@ pub fn next_byte(bytes: &[u8], i: usize) -> usize
 /// The last place before `i` where no continuation byte stands, or 0.
 #[tactic(auto, using(crate::proofs::PlaceLemmas::prev_place_over, crate::proofs::PlaceLemmas::prev_place_stop, crate::proofs::PlaceLemmas::prev_place_first))]
 pub fn prev_boundary(bytes: &[u8], i: usize) -> usize
-    requires above { 0 < i }
-    requires inside { i ≤ length bytes.now }
+    requires { 0 < i }
     ensures value { result ≡ prev_place bytes.now i }
     ensures below { result < i }
 {
     let mut at = i - 1;
-    while at > 0 && is_continuation(bytes[at]) {
+    while at > 0 && continues_at(bytes, at) {
         at -= 1;
     }
     at

@@ -19,6 +19,7 @@ use fancy_engine::reading::{Suppressed, holds_at};
 use fancy_engine::refusal::Refusal;
 use fancy_engine::runner::{Next, past_character, past_member, past_raw_byte};
 use fancy_engine::work::Work;
+use fancy_input::places::is_boundary;
 
 /// Where a haystack is searched, in byte offsets, and what is accepted there.
 #[derive(Clone, Copy, PartialEq, Eq, Debug)]
@@ -221,10 +222,7 @@ fn step(
 pub fn is_good(field: Field, haystack: &[u8], place: usize) -> bool
     ensures { result ≡ good_end field haystack.now place }
 {
-    !field.on_boundaries
-        || place == 0
-        || place >= haystack.len()
-        || !(haystack[place] >= 0x80 && haystack[place] < 0xC0)
+    !field.on_boundaries || is_boundary(haystack, place)
 }
 
 /// Whether an outcome is accepted.

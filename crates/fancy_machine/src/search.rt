@@ -2,9 +2,7 @@
 
 ghost use Rattle.std.specs.Prelude.{◌≡◌, ◌+◌, ◌-◌, ◌<◌, ◌≤◌, ◌&&◌, not, Option, Some, None, Err, IfOk, length};
 ghost use Rattle.fancy_syntax.specs.Pattern.{Pattern};
-ghost use Rattle.fancy_input.specs.Requests.{effective_start, positions};
 ghost use Rattle.fancy_engine.specs.Means.{IsCodeOf};
-ghost use Rattle.fancy_engine.specs.Readings.{suppressed_in};
 ghost use Rattle.fancy_engine.specs.Search.{search, returns, choices};
 ghost use Rattle.fancy_engine.specs.Work.{returns_of};
 ghost use Rattle.fancy_machine.specs.Asked.{asked, answer_of, all_tried};
@@ -13,8 +11,8 @@ use crate::machine::{Field, attempt, is_good};
 use crate::trail::Trail;
 use fancy_engine::code::Code;
 use fancy_engine::last_lines::LastLines;
-use fancy_engine::reading::Suppressed;
 use fancy_engine::refusal::Refusal;
+use fancy_engine::search::{last_position, suppressed_in};
 use fancy_engine::work::Work;
 use fancy_input::input::Request;
 
@@ -32,30 +30,6 @@ pub struct Options {
     pub not_empty: bool,
     /// The most returns of a search.
     pub limit: usize,
-}
-
-/// The ends of the text that the request suppresses, where it may.
-fn suppressed_in(overrides: bool, request: Request) -> Suppressed
-    ensures { result ≡ suppressed_in overrides request }
-{
-    Suppressed {
-        start: overrides && !request.start_text,
-        end: overrides && !request.end_text,
-    }
-}
-
-/// The last position that is tried, where the first one is within the range.
-fn last_position(request: Request, first: usize) -> usize
-    requires first { first ≡ effective_start request }
-    requires ordered { first ≤ request.range_end }
-    ensures count { result + 1 - first ≡ positions request }
-    ensures inside { result ≤ request.range_end }
-{
-    if request.anchored {
-        first
-    } else {
-        request.range_end
-    }
 }
 
 /// Searches a haystack for the pattern of the code. Found is the position, a byte offset: that of the first attempt,

@@ -75,8 +75,8 @@ pub enum CompileError {
     /// A pattern that matches only empty texts, where empty matches are refused.
     #[error("pattern that can never match")]
     PatternCanNeverMatch,
-    /// A pattern of more than 1,000,000 nodes.
-    #[error("pattern with more than 1000000 nodes")]
+    /// A pattern of more than 1,000,000 nodes, or with more code than its options allow.
+    #[error("pattern with more than 1000000 nodes, or too much code")]
     PatternTooComplex,
 }
 

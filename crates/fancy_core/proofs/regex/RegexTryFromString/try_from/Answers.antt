@@ -6,6 +6,7 @@ returns c = record {
   options = rw c.new.ensures at c.build.ensures.options;
   accepted = rw c.new.ensures at c.build.ensures.accepted;
   groups = rw c.new.ensures at c.build.ensures.groups;
+  sized = rw c.new.ensures at c.build.ensures.sized;
   refused = rw c.new.ensures at c.build.ensures.refused;
   succeeds = rw c.new.ensures at c.build.ensures.succeeds;
 }

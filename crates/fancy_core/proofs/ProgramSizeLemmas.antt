@@ -1,0 +1,53 @@
+-- What refusals for the length of code say.
+use Rattle.std.proofs.Common.{◌≡◌, ◌+◌, ◌*◌, ◌≤◌, ◌<◌, ℕ, Bool, true, false, not, ◌&&◌, Option, Some, None, inl, inr, refl, sym, ap, ◌∙◌, subst, arith, nat_lt}
+use Rattle.std.proofs.lemmas.Bool.Decides.{nat_tests}
+use Rattle.fancy_syntax.specs.declared.error.CompileError.TheVariants as c
+use Rattle.fancy_syntax.specs.declared.error.Error.{Error}
+use Rattle.fancy_syntax.specs.declared.error.Error.TheVariants.{Memory, ParseError, CompileError, RuntimeError}
+use Rattle.fancy_syntax.specs.Dialect.{IsPattern}
+use Rattle.fancy_syntax.specs.Pattern.{Pattern}
+use Rattle.fancy_syntax.specs.Refusals.{IsRefused}
+use Rattle.fancy_syntax.specs.Sizes.{nodes}
+use Rattle.fancy_syntax.specs.Words.{Text}
+use Rattle.fancy_syntax.proofs.ParseLemmas.{one_accepted}
+use Rattle.fancy_engine.specs.Means.{is_easy}
+use Rattle.fancy_core.specs.declared.options.Options.{Options}
+use Rattle.fancy_core.specs.Options.{by_default, dialect_of}
+use Rattle.fancy_core.specs.ProgramSize.{passes, IsTooLong, RefusesPattern, IsRefusedUnder}
+
+-- where no size is set, memory alone refuses a pattern of the dialect
+pub refused_for_memory : (p : Pattern) (e : Error) → RefusesPattern by_default p e → e ≡ Memory
+refused_for_memory p Memory h = refl
+refused_for_memory p (ParseError at kind) h = absurd h
+refused_for_memory p (RuntimeError why) h = absurd h
+refused_for_memory p (CompileError (c.InvalidBackref n)) h = absurd h
+refused_for_memory p (CompileError (c.InvalidGroupNameBackref name)) h = absurd h
+refused_for_memory p (CompileError c.NamedBackrefOnly) h = absurd h
+refused_for_memory p (CompileError c.LookBehindNotConst) h = absurd h
+refused_for_memory p (CompileError c.PatternCanNeverMatch) h = absurd h
+refused_for_memory p (CompileError c.PatternTooComplex) (hard, passed) = absurd (cc)
+
+-- and what is refused then is no pattern of the dialect, or memory runs out
+pub refused_by_text : (text : Text) (e : Error) → IsRefusedUnder by_default text e → IsRefused e (dialect_of by_default) text
+refused_by_text text e (inl h) = h
+refused_by_text text e (inr h) = subst (λ (x : Error). IsRefused x (dialect_of by_default) text) (sym (refused_for_memory h.0 e h.2)) tt
+
+-- the parts of a test for hard patterns
+pub both_of : (easy longer : Bool) → (not easy && longer) ≡ true → (easy ≡ false) × (longer ≡ true)
+both_of true longer e = absurd (cc)
+both_of false longer e = (refl, e)
+
+pub second_fails : (easy longer : Bool) → easy ≡ false → (not easy && longer) ≡ false → longer ≡ false
+second_fails true longer e f = absurd (cc)
+second_fails false longer e f = f
+
+-- what is passed by some is passed by more
+passed_by_more : (m n : ℕ) (size : Option ℕ) → m ≤ n → passes m size ≡ true → passes n size ≡ true
+passed_by_more m n None le e = e
+passed_by_more m n (Some size) le e = grind (arith, nat_tests)
+
+-- The code of a hard pattern that is longer than the size that was set: the one pattern of the text may be refused.
+pub too_long : (o : Options) (text : Text) (p q : Pattern) (n : ℕ) → IsPattern (dialect_of o) text p → IsPattern (dialect_of o) text q →
+    is_easy q ≡ false → n ≤ 4 * nodes q + 2 → passes n o.max_prog_size ≡ true → IsTooLong o p
+too_long o text p q n x y hard short passed =
+    subst (IsTooLong o) (one_accepted y x) (hard, passed_by_more n (4 * nodes q + 2) o.max_prog_size short passed)
