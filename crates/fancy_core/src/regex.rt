@@ -25,9 +25,9 @@ ghost use Rattle.fancy_syntax.specs.Modes.{keeps_characters};
 
 use crate::options::{Options, RegexOptionsBuilder};
 use crate::scratch::{Engine, Scratch};
+use fancy_engine::classify::is_easy;
 use fancy_engine::code::Code;
 use fancy_engine::compile::compile;
-use fancy_engine::classify::is_easy;
 use fancy_engine::refusal::Refusal;
 use fancy_engine::search::{self as runner, Switches};
 use fancy_engine::work::Work;

@@ -141,14 +141,7 @@ fn emit(
             Instr::Assert(*a, next.moved),
             Instr::Assert(*a, next.still),
         ),
-        Tree::Group { index, body } => emit_group(
-            alloc,
-            code,
-            meaning,
-            *index,
-            body,
-            next,
-        ),
+        Tree::Group { index, body } => emit_group(alloc, code, meaning, *index, body, next),
         Tree::Repeat {
             low,
             high,

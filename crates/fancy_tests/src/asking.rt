@@ -1,5 +1,6 @@
 //! What the tests ask of a pattern: the rows of their tables, and for each kind of call one function that checks a row.
 
+mod counts;
 mod groups;
 mod lists;
 mod nested;
@@ -10,6 +11,7 @@ mod settings;
 mod spans;
 mod templates;
 
+pub(crate) use counts::{CountedRow, check_counted};
 pub(crate) use groups::{
     AllGroupsRow, GroupsRow, LaterGroupsRow, NameRow, NamesRow, TextsRow, check_all_groups,
     check_groups, check_later_groups, check_name, check_names, check_owned_texts,
@@ -19,11 +21,12 @@ pub(crate) use lists::{ListRow, TextListRow, check_list, check_text_list};
 pub(crate) use nested::{read_many, read_nested, repeated};
 pub(crate) use pieces::{FirstPiecesRow, PiecesRow, check_first_pieces, check_pieces};
 pub(crate) use refusals::{
-    FaultRow, KindRow, check_fault, check_kind, fault_of, is_too_complex, kind_of,
+    FaultRow, Flaw, FlawRow, KindRow, check_fault, check_flaw, check_kind, fault_of,
+    is_too_complex, kind_of,
 };
 pub(crate) use replaced::{ReplacedRow, check_answer, check_fixed, check_replaced};
 pub(crate) use settings::{
-    ASCII_TEXT, BYTES, BYTES_WITHOUT_UNICODE, CHARACTERS, CHARACTERS_ANYWHERE, ONLY_NAMED,
+    ASCII_TEXT, BYTES, BYTES_WITHOUT_UNICODE, CHARACTERS, CHARACTERS_ANYWHERE, FOLDED, ONLY_NAMED,
     OVERRIDING, Settings, read, regex_with,
 };
 pub(crate) use spans::{

@@ -85,7 +85,12 @@ fn texts_of_compile_errors(rt: HostRuntime) {
     let why = CompileError::PatternCanNeverMatch;
     check_compile_error(&rt, alloc, why, "pattern that can never match");
     let why = CompileError::PatternTooComplex;
-    check_compile_error(&rt, alloc, why, "pattern with more than 1000000 nodes, or too much code");
+    check_compile_error(
+        &rt,
+        alloc,
+        why,
+        "pattern with more than 1000000 nodes, or too much code",
+    );
 }
 
 #[test]

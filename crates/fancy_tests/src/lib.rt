@@ -20,6 +20,8 @@ mod escapes;
 #[cfg(test)]
 mod finding;
 #[cfg(test)]
+mod hard;
+#[cfg(test)]
 mod haystacks;
 #[cfg(test)]
 mod inputs;

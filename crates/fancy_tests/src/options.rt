@@ -210,7 +210,7 @@ const TOGETHER: &[BytesRow] = &[(
         dot_matches_new_line: true,
         crlf: true,
         overrides: true,
-        only_named: false,
+        ..CHARACTERS
     },
     "^ a . $",
     b"b\rA\xFF\r\n",

@@ -46,7 +46,7 @@ const FAULTS: &[FaultRow] = &[
         Some((1, ParseErrorKind::TrailingBackslash)),
     ),
     (CHARACTERS, "(a)(b*?)+()*", None),
-    (CHARACTERS, "(?=a)", Some((0, ParseErrorKind::NotInProfile))),
+    (CHARACTERS, "(?=a)(?!a)(?>a)", None),
     (CHARACTERS, "(*a)", Some((0, ParseErrorKind::NotInProfile))),
     (
         CHARACTERS,
@@ -58,9 +58,12 @@ const FAULTS: &[FaultRow] = &[
         "(+a)",
         Some((1, ParseErrorKind::TargetNotRepeatable)),
     ),
-    (CHARACTERS, "a?+", Some((2, ParseErrorKind::NotInProfile))),
-    (CHARACTERS, "a*+", Some((2, ParseErrorKind::NotInProfile))),
-    (CHARACTERS, "a++", Some((2, ParseErrorKind::NotInProfile))),
+    (CHARACTERS, "a?+b*+c++d{2}+", None),
+    (
+        CHARACTERS,
+        "a+++",
+        Some((3, ParseErrorKind::TargetNotRepeatable)),
+    ),
     (
         CHARACTERS,
         "a**",
@@ -72,7 +75,6 @@ const FAULTS: &[FaultRow] = &[
         Some((3, ParseErrorKind::TargetNotRepeatable)),
     ),
     (CHARACTERS, "a{2}(?:b){2,}?c{,3}d{1,1000}", None),
-    (CHARACTERS, "a{2}+", Some((4, ParseErrorKind::NotInProfile))),
     (
         CHARACTERS,
         "a{2}{3}",
@@ -128,15 +130,16 @@ const FAULTS: &[FaultRow] = &[
         "a(?P<=b)",
         Some((1, ParseErrorKind::InvalidGroupName)),
     ),
+    (CHARACTERS, "(?<=a)(?<!a|bc)(?<=)", None),
     (
         CHARACTERS,
-        "(?<=a)",
-        Some((0, ParseErrorKind::NotInProfile)),
+        "(?=a",
+        Some((4, ParseErrorKind::UnclosedOpenParen)),
     ),
     (
         CHARACTERS,
-        "(?<!a)",
-        Some((0, ParseErrorKind::NotInProfile)),
+        "(?=a\\K)",
+        Some((4, ParseErrorKind::NotInProfile)),
     ),
     (CHARACTERS, "(?-1)", Some((0, ParseErrorKind::NotInProfile))),
     (
@@ -172,8 +175,18 @@ const FAULTS: &[FaultRow] = &[
     (CHARACTERS, "\\k", Some((0, ParseErrorKind::InvalidEscape))),
     (
         CHARACTERS,
-        "\\k<a>",
+        "\\k<+1>",
         Some((0, ParseErrorKind::NotInProfile)),
+    ),
+    (
+        CHARACTERS,
+        "(?<n>a)\\k<n+1>",
+        Some((7, ParseErrorKind::NotInProfile)),
+    ),
+    (
+        CHARACTERS,
+        "(a)\\4294967296",
+        Some((3, ParseErrorKind::InvalidEscape)),
     ),
     (
         CHARACTERS,

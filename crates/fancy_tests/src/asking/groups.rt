@@ -107,9 +107,13 @@ pub(crate) fn check_names(rt: &impl Abort, alloc: Global, row: &NamesRow) {
     assert_eq!(rt; regex.as_str(), pattern);
     let text = regex.to_string(alloc).expect(rt, pattern);
     assert_eq!(rt; text.as_str(), pattern);
-    let names = regex.capture_names().expect(rt, pattern);
-    let names: Vec<Option<&str>> = names.collect(alloc).expect(rt, pattern);
-    assert!(rt; names.as_slice() == wanted, "{pattern}");
+    let mut number: usize = 0;
+    for name in regex.capture_names().expect(rt, pattern) {
+        assert!(rt; number < wanted.len(), "{pattern}");
+        assert_eq!(rt; name, wanted[number], "group {number} of {pattern}");
+        number = number.wrapping_add(1);
+    }
+    assert_eq!(rt; number, wanted.len(), "{pattern}");
 }
 
 /// A pattern, a text, the texts of groups by their numbers, from group 0 on, and by names.

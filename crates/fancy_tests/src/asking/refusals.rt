@@ -29,6 +29,46 @@ pub(crate) fn is_too_complex<T>(read: &fancy_regex::Result<T>) -> bool {
     )
 }
 
+/// Why a pattern that can be read is not accepted.
+#[derive(Clone, Copy, PartialEq, Eq)]
+pub(crate) enum Flaw {
+    /// No group has the number.
+    Number(usize),
+    /// No group has the name.
+    Name(&'static str),
+    /// A reference by number where only named groups capture.
+    ByNameAlone,
+    /// A look-behind of no constant size.
+    LookBehind,
+    /// Too many nodes, or too much code.
+    TooComplex,
+}
+
+/// Whether a pattern is refused for this flaw.
+fn has_flaw<T>(read: &fancy_regex::Result<T>, flaw: Flaw) -> bool {
+    let Err(Error::CompileError(why)) = read else {
+        return false;
+    };
+    match (why, flaw) {
+        (CompileError::InvalidBackref(number), Flaw::Number(wanted)) => *number == wanted,
+        (CompileError::InvalidGroupNameBackref(name), Flaw::Name(wanted)) => name.as_str()
+            == wanted,
+        (CompileError::NamedBackrefOnly, Flaw::ByNameAlone) => true,
+        (CompileError::LookBehindNotConst, Flaw::LookBehind) => true,
+        (CompileError::PatternTooComplex, Flaw::TooComplex) => true,
+        _ => false,
+    }
+}
+
+/// Options, a pattern, and its flaw.
+pub(crate) type FlawRow = (Settings, &'static str, Flaw);
+
+pub(crate) fn check_flaw(rt: &impl Abort, alloc: Global, row: &FlawRow) {
+    let (settings, pattern, wanted) = *row;
+    let read = read(alloc, settings, pattern);
+    assert!(rt; has_flaw(&read, wanted), "{pattern}");
+}
+
 /// A pattern, and the kind of its fault.
 pub(crate) type KindRow = (&'static str, ParseErrorKind);
 

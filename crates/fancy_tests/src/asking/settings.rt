@@ -18,6 +18,8 @@ pub(crate) struct Settings {
     pub(crate) overrides: bool,
     /// Whether groups without a name capture nothing where a group has one.
     pub(crate) only_named: bool,
+    /// How many returns a search for a hard pattern may take.
+    pub(crate) backtrack_limit: usize,
 }
 
 /// Items are characters, and matches stand between characters: what holds by default.
@@ -31,6 +33,7 @@ pub(crate) const CHARACTERS: Settings = Settings {
     crlf: false,
     overrides: false,
     only_named: false,
+    backtrack_limit: 1_000_000,
 };
 
 /// Items are characters, and matches may stand anywhere.
@@ -70,6 +73,12 @@ pub(crate) const ONLY_NAMED: Settings = Settings {
     ..CHARACTERS
 };
 
+/// Literals stand in either case.
+pub(crate) const FOLDED: Settings = Settings {
+    case_insensitive: true,
+    ..CHARACTERS
+};
+
 /// What the pattern is read as.
 pub(crate) fn read(alloc: Global, settings: Settings, pattern: &str) -> fancy_regex::Result<Regex> {
     let pattern = String::from_str(alloc, pattern)?;
@@ -84,6 +93,7 @@ pub(crate) fn read(alloc: Global, settings: Settings, pattern: &str) -> fancy_re
         .crlf(settings.crlf)
         .allow_input_assertion_overrides(settings.overrides)
         .ignore_numbered_groups_when_named_groups_exist(settings.only_named)
+        .backtrack_limit(settings.backtrack_limit)
         .build(pattern)
 }
 
