@@ -9,6 +9,7 @@ use Rattle.fancy_input.specs.Requests.{whole}
 use Rattle.fancy_input.specs.Places.{next_place}
 use Rattle.fancy_core.specs.Left.{refused_next, at_first, at_next}
 use Rattle.fancy_core.specs.Limited.{Refuses}
+use Rattle.fancy_core.specs.Regexes.{asked}
 use Rattle.fancy_engine.specs.Search.{Query}
 use Rattle.fancy_engine.specs.Context.{Span}
 use Rattle.fancy_core.specs.declared.regex.Regex.{Regex}
@@ -24,12 +25,16 @@ pub out_of_memory : (regex : Regex) (q : Query) (e : Error) → e ≡ Memory →
 out_of_memory regex q e h = subst (Refuses regex q) (sym h) tt
 
 pub text_out_of_memory : (regex : Regex) (t : List ℕ) (e : Error) → e ≡ Memory → IsRefusedBySearch regex t e
-text_out_of_memory regex t e h = (whole t, out_of_memory regex _ e h)
+text_out_of_memory regex t e h = (0, true, out_of_memory regex _ e h)
 
 -- the next search of an iteration over a text is a search of it
-pub text_refused : (regex : Regex) (text : Bool) (t : List ℕ) (r : Request) (c b : Bool) (e : Error) → refused_next regex text t r c b e → IsRefusedBySearch regex t e
-text_refused regex text t r c b e (at_first x) = (record r { continues = r.continues && c }, x)
-text_refused regex text t r c b e (at_next i on found empty stops x) = (record r { start = next_place text t r.start; continues = r.continues && false }, x)
+pub text_refused : (regex : Regex) (text : Bool) (t : List ℕ) (r : Request) (c b : Bool) (e : Error) → r ≡ record (whole t) { start = r.start } →
+    refused_next regex text t r c b e → IsRefusedBySearch regex t e
+text_refused regex text t r c b e of_text (at_first x) =
+    (r.start, r.continues && c, subst (λ (q : Request). Refuses regex (asked regex t (record q { start = r.start; continues = r.continues && c })) e) of_text x)
+text_refused regex text t r c b e of_text (at_next i on found empty stops x) =
+    let s = next_place text t r.start in
+    (s, r.continues && false, subst (λ (q : Request). Refuses regex (asked regex t (record q { start = s; continues = r.continues && false })) e) of_text x)
 
 no_end : {A : Type 0} (xs : List A) (x : A) → xs ++ (x ∷ []) ≡ [] → ⊥
 no_end [] x e = absurd (cc)

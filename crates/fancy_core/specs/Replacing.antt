@@ -1,5 +1,5 @@
 -- What matches are replaced by, and what that makes of a text.
-use Rattle.std.specs.Prelude.{◌≡◌, ℕ, List, [], ◌∷◌, ◌++◌, Option, None, Some, chars, encode_utf8_all, map, true, if◌then◌else◌}
+use Rattle.std.specs.Prelude.{◌≡◌, ℕ, Bool, List, [], ◌∷◌, ◌++◌, Option, None, Some, chars, encode_utf8_all, map, true, if◌then◌else◌}
 use Rattle.fancy_syntax.specs.declared.error.Error.{Error}
 use Rattle.fancy_input.specs.Requests.{whole}
 use Rattle.fancy_core.specs.declared.regex.Regex.{Regex}
@@ -7,7 +7,6 @@ use Rattle.fancy_core.specs.Escapes.{has_mark}
 use Rattle.fancy_core.specs.Expansions.{expansion}
 use Rattle.fancy_core.specs.GroupTexts.{Seen, captured}
 use Rattle.fancy_core.specs.Groups.{spans_of}
-use Rattle.fancy_input.specs.declared.input.Request.{Request}
 use Rattle.fancy_core.specs.Left.{matches_of}
 use Rattle.fancy_core.specs.Limited.{Refuses}
 use Rattle.fancy_core.specs.Matching.{Item, span_of_item}
@@ -56,9 +55,9 @@ filled t items x = replaced t items (map (λ _. x) items)
 abbrev pub all_matches : Regex → List ℕ → List Item
 all_matches regex t = matches_of regex true t (whole t)
 
--- Some search of the text may be refused by this error.
+-- A search of the whole text from some start, with `\G` on or off, may be refused by this error.
 abbrev pub IsRefusedBySearch : Regex → List ℕ → Error → Type 0
-IsRefusedBySearch regex t e = (r : Request) × Refuses regex (asked regex t r) e
+IsRefusedBySearch regex t e = (start : ℕ) × (on : Bool) × Refuses regex (asked regex t (record (whole t) { start = start; continues = on })) e
 
 -- These items of the text were replaced, and this is what came of it.
 pub record IsReplaced {R : Type 0} (fixed : Option (List ℕ)) (gave : R → Seen → List ℕ → R → Type 0) (first : R) (regex : Regex) (t : List ℕ) (items : List Item) (result : List ℕ) : Type 0 where

@@ -3,6 +3,7 @@
 ghost use Rattle.std.specs.Prelude.{◌≡◌, ◌≤◌, ◌↔◌, ◌⊎◌, ◌++◌, ◌∷◌, [], true, false, length, slice_range, string_bytes, IsTrue, IfOk, IfErr, IfSome, OnOk, MatchBool, MatchOption, List, ℕ};
 ghost use Rattle.std.specs.Cow.{cow_str_bytes, IsBorrowedStr};
 ghost use Rattle.fancy_input.specs.Places.{is_boundary};
+ghost use Rattle.fancy_input.specs.Requests.{whole};
 ghost use Rattle.fancy_core.specs.GroupTexts.{bytes_of_str, seen_in};
 ghost use Rattle.fancy_core.specs.Left.{item_in, HasGroups};
 ghost use Rattle.fancy_core.specs.Limits.{is_reached};
@@ -45,6 +46,7 @@ pub(crate) struct Rewriting<'r, 't> {
     ghost inside: { last ≤ length walk.haystack.now },
     ghost cleanly: { IsTrue (is_boundary walk.haystack.now last) },
     ghost before: { walk.ended ≡ false → last ≤ walk.request.start },
+    ghost of_text: { walk.request ≡ record (whole walk.haystack.now) { start = walk.request.start } },
 }
 
 impl<'r, 't> Rewriting<'r, 't> {

@@ -1,13 +1,13 @@
 //! The examples of the README. The tests, and the rows of each table, are in its order.
 
 use crate::asking::{
-    ASCII_TEXT, AllGroupsRow, BYTES, BytesRow, CHARACTERS, CheckedRow, FaultRow, FirstPiecesRow,
-    GroupsRow, LaterGroupsRow, NameRow, NamesRow, ONLY_NAMED, OVERRIDING, PiecesRow, ReplacedRow,
-    SearchRow, Settings, SpanRow, TemplateRow, TextListRow, TextsRow, Told, check_all_groups,
-    check_answer, check_escaped, check_expanded, check_fault, check_first_pieces, check_fixed,
-    check_groups, check_later_groups, check_name, check_names, check_pieces, check_replaced,
-    check_search, check_span, check_templates, check_text_list, check_texts_of_groups, check_told,
-    first_span, regex_with, span,
+    ASCII_TEXT, AllGroupsRow, BYTES, BytesRow, CHARACTERS, CheckedRow, CountedRow, FaultRow,
+    FirstPiecesRow, GroupsRow, LaterGroupsRow, NameRow, NamesRow, ONLY_NAMED, OVERRIDING,
+    PiecesRow, ReplacedRow, SearchRow, Settings, SpanRow, TemplateRow, TextListRow, TextsRow, Told,
+    check_all_groups, check_answer, check_counted, check_escaped, check_expanded, check_fault,
+    check_first_pieces, check_fixed, check_groups, check_later_groups, check_name, check_names,
+    check_pieces, check_replaced, check_search, check_span, check_templates, check_text_list,
+    check_texts_of_groups, check_told, first_span, is_too_complex, regex_with, span,
 };
 use fancy_regex::{
     Captures, Expander, NoExpand, ParseErrorKind, Regex, RegexBuilder, RegexInput,
@@ -53,6 +53,14 @@ const PATTERNS: &[SpanRow<&str>] = &[
     (CHARACTERS, "[a-z&&[^aeiou]]+", "aebcd", Some((2, 5))),
     (CHARACTERS, "\\p{Greek}+", "aαβ", Some((1, 5))),
     (CHARACTERS, "(?i)\\bcat\\b", "a Cat", Some((2, 5))),
+    (
+        CHARACTERS,
+        "(\\w+) \\1",
+        "mirror mirror on the wall",
+        Some((0, 13)),
+    ),
+    (CHARACTERS, "(?<=2)1(?=2)", "12112122", Some((5, 6))),
+    (CHARACTERS, "(?>a|ab)c", "abc", None),
     (
         Settings {
             multi_line: true,
@@ -130,6 +138,24 @@ fn named_groups_alone_are_captured(rt: HostRuntime) {
     assert_eq!(rt; captures.len(), 2);
     assert_eq!(rt; captures.get(1).map(span), Some((1, 2)));
     assert_eq!(rt; captures.name("n").map(span), Some((1, 2)));
+}
+
+const LIMITED: &[CountedRow] = &[
+    ("(?:a|b)(?=c)", "bc", 0, None, 0),
+    ("(?:a|b)(?=c)", "bc", 1_000_000, Some(Some((0, 1))), 1),
+];
+
+#[test]
+fn limits_of_hard_patterns(rt: HostRuntime) {
+    for row in LIMITED {
+        check_counted(&rt, rt.alloc(), row);
+    }
+    let pattern = String::from_str(rt.alloc(), "a(?=b)").expect(&rt, "a text");
+    let mut options = RegexOptionsBuilder::new();
+    let refused = options.max_prog_size(0).build(pattern);
+    assert!(rt; is_too_complex(&refused));
+    let hard = Regex::new(rt.alloc(), "(?:a|b)(?=c)").expect(&rt, "a regex");
+    assert!(rt; !hard.is_easy());
 }
 
 #[test]

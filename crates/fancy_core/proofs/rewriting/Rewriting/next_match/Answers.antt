@@ -9,4 +9,4 @@ returns-in_ok-push_str-in-Some-Ok-clause-steps c = rw c.one_fewer-self.ensures (
 pub returns-in-Some-Err-clause-refused : goal.returns-in-Some-Err-clause-refused
 returns-in-Some-Err-clause-refused c =
     let steps = rw c.in-Some-Err.field-0-is at c.in-Some-Err.ensures.steps in
-    text_refused (regex_of c.args.self.now) true (text_of c.args.self.now) c.args.self.now.walk.request c.args.self.now.walk.continues c.args.self.now.walk.skips_empty c.in-Some-Err.error steps.0
+    text_refused (regex_of c.args.self.now) true (text_of c.args.self.now) c.args.self.now.walk.request c.args.self.now.walk.continues c.args.self.now.walk.skips_empty c.in-Some-Err.error c.args.self.now.of_text steps.0
