@@ -2,6 +2,7 @@
 use Rattle.std.proofs.Common.{◌≡◌, ℕ, ◌≤◌, ◌==◌, ◌&&◌, Bool, true, false, List, [], ◌∷◌, ◌++◌, codes, length, map, flat_map, chars, IsUtf8, IsTrue, if◌then◌else◌, inl, inr, refl, sym, ap, subst, ◌∙◌, arith, eqb-true}
 use Rattle.std.proofs.lemmas.Bool.Decides.{leb_tells}
 use Rattle.std.proofs.lemmas.Str.{encodes-chars, scalars-chars, chars_from_encodes, IsUtf8-string_bytes}
+use Rattle.fancy_syntax.specs.Limits.{most_nodes}
 use Rattle.fancy_syntax.specs.declared.tree.Meaning.{Meaning}
 use Rattle.fancy_syntax.specs.declared.tree.Meaning.TheVariants.{Unicode}
 use Rattle.fancy_syntax.specs.References.{refers_to}
@@ -100,7 +101,7 @@ sized-characters m (c ∷ []) = refl
 sized-characters m (c ∷ d ∷ t) = sized-characters m (d ∷ t)
 
 -- the escape of a text is a pattern exactly where the text has at most a million characters, and then the one of these characters
-pub escape_spells : (t : Text) (p : Pattern) → IsPattern standard (escaped_pattern t) p → (p ≡ in_sequence (map character t)) × (length t ≤ 1000000)
+pub escape_spells : (t : Text) (p : Pattern) → IsPattern standard (escaped_pattern t) p → (p ≡ in_sequence (map character t)) × (length t ≤ most_nodes)
 escape_spells t p h =
     let s = h.spelled in
     let written = words_spell_one (begins_plain s.unnamed) (text_stands (begin s.unnamed standard) t (begins_plain s.unnamed)) s.spelled in
@@ -108,7 +109,7 @@ escape_spells t p h =
     let small = h.small in
     (is, omega (arith, small, ap nodes is, nodes-characters t))
 
-pub spells_escape : (t : Text) (p : Pattern) → (p ≡ in_sequence (map character t)) × (length t ≤ 1000000) → IsPattern standard (escaped_pattern t) p
+pub spells_escape : (t : Text) (p : Pattern) → (p ≡ in_sequence (map character t)) × (length t ≤ most_nodes) → IsPattern standard (escaped_pattern t) p
 spells_escape t p h =
     let is = h.0 in
     let few = h.1 in

@@ -1,5 +1,6 @@
 -- Lemmas on the steps of a split.
-use Rattle.std.proofs.Common.{arith, ℕ, zero, suc, ◌+◌, ◌-◌, ◌<◌, ◌≤◌, ◌^◌, ◌≡◌, Bool, true, false, max, List, [], ◌∷◌, length, take, slice_range, Option, None, Some, Result, refl, ap}
+use Rattle.std.proofs.Common.{arith, ℕ, zero, suc, ◌+◌, ◌-◌, ◌<◌, ◌≤◌, ◌^◌, ◌≡◌, ◌==◌, Bool, true, false, max, List, [], ◌∷◌, length, take, slice_range, Option, None, Some, Result, refl, ap}
+use Rattle.std.proofs.lemmas.Bool.Decides.{nat_tests}
 use Rattle.std.specs.Prelude.{Ok, Err}
 use Rattle.fancy_syntax.specs.declared.error.Error.{Error}
 use Rattle.fancy_input.specs.declared.input.Request.{Request}
@@ -9,7 +10,7 @@ use Rattle.fancy_core.specs.declared.split.Split.{Split}
 use Rattle.fancy_core.specs.declared.split.limited.SplitN.{SplitN}
 use Rattle.fancy_core.specs.Left.{matches_of, items_left, turns_left}
 use Rattle.fancy_core.specs.Pieces.{Progress, pieces, pieces_left, first_pieces_left, past_piece}
-use Rattle.fancy_core.specs.Splits.{progress, IsNextPiece, IsNextOfFirst}
+use Rattle.fancy_core.specs.Splits.{progress, has_ended, IsNextPiece, IsNextOfFirst}
 use Rattle.fancy_core.proofs.MatchingLemmas.{matches_count}
 use Rattle.fancy_core.proofs.ScanLemmas.{scan_sound}
 
@@ -42,6 +43,12 @@ first_gives (suc (suc n)) t last (x ∷ xs) ended q b more e m g =
     let first : slice_range t last x.0 ≡ b = cc in
     rw (m, e, sub-one_more n) (ap (λ (z : List ℕ). z ∷ pieces t x.1 (take n xs)) first)
 
+-- more may come where the limit allows it and the pieces go on
+unended : (s : SplitN) → 1 < s.limit → s.split.ended ≡ false → has_ended s ≡ false
+unended s more e =
+    let some : (s.limit == 0) ≡ false = grind (arith, nat_tests) in
+    rw (some, e) refl
+
 -- a step of the pieces is a step of the first pieces, where the limit allows more than one
 pub next_of_first : {A : Type 0} (bytes : A → List ℕ) (s : SplitN) (r : Option (Result A Error)) (t : Split) → 1 < s.limit → s.split.ended ≡ false → IsNextPiece bytes s.split r t →
     IsNextOfFirst bytes s r (record { split = t; limit = s.limit - 1 })
@@ -52,6 +59,7 @@ next_of_first bytes s (Some (Ok x)) t more e h = record {
   moves = λ _. h.moves;
   refuses = tt;
   same_regex = h.same_regex;
+  ends = unended s more e;
 }
 next_of_first bytes s (Some (Err z)) t more e h = record {
   gives = (h.gives.0, ap (first_pieces_left (s.limit - 1)) h.moves);
@@ -59,4 +67,5 @@ next_of_first bytes s (Some (Err z)) t more e h = record {
   moves = λ _. h.moves;
   refuses = (more, h.refuses.0, h.refuses.1);
   same_regex = h.same_regex;
+  ends = unended s more e;
 }

@@ -1,5 +1,6 @@
 -- What a search may be refused for, and what it counts.
 use Rattle.std.specs.Prelude.{◌≡◌, ℕ, ◌<◌, ◌≤◌, true, false}
+use Rattle.fancy_syntax.specs.Limits.{most_branches}
 use Rattle.fancy_syntax.specs.declared.error.Error.{Error}
 use Rattle.fancy_syntax.specs.declared.error.Error.TheVariants.{Memory, ParseError, CompileError, RuntimeError}
 use Rattle.fancy_syntax.specs.declared.error.RuntimeError.{RuntimeError as Running}
@@ -24,7 +25,7 @@ choices_in q = choices q all_tried
 
 abbrev pub IsPastLimit : Running → Regex → Query → Type 0
 IsPastLimit BacktrackLimitExceeded r q = limit_in r < returns_in q
-IsPastLimit StackOverflow r q = 1000000 < choices_in q
+IsPastLimit StackOverflow r q = most_branches < choices_in q
 
 -- The search may be refused by this error: for want of memory at any time, and of a hard pattern past a limit.
 abbrev pub Refuses : Regex → Query → Error → Type 0

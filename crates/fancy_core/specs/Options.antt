@@ -1,5 +1,6 @@
 -- What the options of a regex choose.
 use Rattle.std.specs.Prelude.{true, false, None}
+use Rattle.fancy_syntax.specs.Limits.{most_returns}
 use Rattle.fancy_syntax.specs.declared.tree.Meaning.{Meaning}
 use Rattle.fancy_syntax.specs.declared.tree.BytesMode.TheVariants.{Unicode}
 use Rattle.fancy_syntax.specs.Modes as modes
@@ -15,7 +16,7 @@ by_default = record {
   flags = record { ignore_case = false; multi_line = false; dot_all = false; ignore_blanks = false; crlf = false };
   ignore_numbered_groups_when_named_groups_exist = false;
   allow_input_assertion_overrides = false;
-  backtrack_limit = 1000000;
+  backtrack_limit = most_returns;
   max_prog_size = None;
 }
 

@@ -1,5 +1,5 @@
 -- What stands for an iterator over the pieces of a text.
-use Rattle.std.specs.Prelude.{◌≡◌, ◌<◌, ◌-◌, ℕ, zero, suc, Bool, true, false, not, List, [], ◌∷◌, map, Option, Result, MatchOption, MatchResult, ⊤}
+use Rattle.std.specs.Prelude.{◌≡◌, ◌<◌, ◌-◌, ◌==◌, ◌||◌, ℕ, zero, suc, Bool, true, false, not, List, [], ◌∷◌, map, Option, Result, MatchOption, MatchResult, ⊤}
 use Rattle.fancy_syntax.specs.declared.error.Error.{Error}
 use Rattle.fancy_core.specs.declared.regex.Regex.{Regex}
 use Rattle.fancy_core.specs.declared.split.Split.{Split}
@@ -67,6 +67,10 @@ split_in s = s.split
 abbrev pub limit_in : SplitN → ℕ
 limit_in s = s.limit
 
+-- whether nothing more comes
+abbrev pub has_ended : SplitN → Bool
+has_ended s = (limit_in s == 0) || (progress (split_in s)).ended
+
 -- One call of `next`, from s to t. A piece has the bytes `bytes`.
 pub record IsNextOfFirst {A : Type 0} (bytes : A → List ℕ) (s : SplitN) (r : Option (Result A Error)) (t : SplitN) : Type 0 where
   -- the first of the pieces that are left, or a refusal, behind which the rest from the last end is left
@@ -75,4 +79,6 @@ pub record IsNextOfFirst {A : Type 0} (bytes : A → List ℕ) (s : SplitN) (r :
   -- the last piece that may come is the rest, and is not searched for
   pub moves : 1 < limit_in s → MovesOn (split_in s) r (split_in t)
   pub refuses : MatchOption r ⊤ (λ item. MatchResult item (λ _. ⊤) (λ _. (1 < limit_in s) × (searches (split_in s) ≡ true) × (searches (split_in t) ≡ false)))
+  -- behind the end nothing comes
+  pub ends : MatchOption r (has_ended t ≡ true) (λ _. has_ended s ≡ false)
   pub same_regex : regex_of (split_in t) ≡ regex_of (split_in s)

@@ -1,6 +1,7 @@
 //! Laws of regexes: of the names of groups, of the lists over matches, and of escaped texts.
 
 ghost use Rattle.std.specs.Prelude.{◌≡◌, ◌<◌, ◌≤◌, ◌↔◌, ◌+◌, ◌&&◌, ℕ, true, List, suc, max, min, length, take, chars, IsUtf8};
+ghost use Rattle.fancy_syntax.specs.Limits.{most_nodes};
 ghost use Rattle.fancy_syntax.specs.Dialect.{IsPattern, standard};
 ghost use Rattle.fancy_syntax.specs.Pattern.{Pattern};
 ghost use Rattle.fancy_input.specs.Inputs.{haystack_in, request_in};
@@ -59,7 +60,7 @@ pub fn limits_cut_pieces_off()
 /// What `escape` makes of a text is a pattern where the text has at most 1,000,000 characters: these characters, one behind
 /// the other, and no other pattern.
 pub fn escapes_spell_their_text(_text: &str)
-    ensures { (p : Pattern) → IsPattern standard (escaped_pattern (chars _text.now)) p ↔ ((p ≡ literally _text.now) × (length (chars _text.now) ≤ 1000000)) }
+    ensures { (p : Pattern) → IsPattern standard (escaped_pattern (chars _text.now)) p ↔ ((p ≡ literally _text.now) × (length (chars _text.now) ≤ most_nodes)) }
 {}
 
 /// The regex of what `escape` makes of a text finds the text, and nothing else: at the least place where it stands within

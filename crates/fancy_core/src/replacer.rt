@@ -49,7 +49,8 @@ pub trait Replacer {
     fn fixed_text(&self) -> Option<&str>
         ensures { option_map (λ t. t.now) result ≡ fixed self.now };
 
-    /// The text for all matches, if there is one, as [`Replacer::fixed_text`] gives it.
+    /// The text for all matches, if there is one, as [`Replacer::fixed_text`] gives it. Behind this call nothing is known of the
+    /// replacer, since it lends text out of it: a caller who goes on with the replacer asks `fixed_text`.
     final fn no_expansion(&mut self) -> Option<CowStr<'_, Global>>
         ensures { option_map cow_str_bytes result ≡ fixed self.old }
     {

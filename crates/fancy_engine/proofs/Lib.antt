@@ -26,6 +26,7 @@ pub mod Emits
 pub mod ForwardLemmas
 pub mod OutcomeLemmas
 pub mod SearchLemmas
+pub mod LongestLemmas
 pub mod ExampleLemmas
 pub mod WalkLemmas
 pub mod KeptLemmas

@@ -1,6 +1,7 @@
 //! Searches by the machine.
 
 ghost use Rattle.std.specs.Prelude.{◌≡◌, ◌+◌, ◌-◌, ◌<◌, ◌≤◌, ◌&&◌, not, Option, Some, None, Err, IfOk, length};
+ghost use Rattle.fancy_syntax.specs.Limits.{most_branches};
 ghost use Rattle.fancy_syntax.specs.Pattern.{Pattern};
 ghost use Rattle.fancy_engine.specs.Means.{IsCodeOf};
 ghost use Rattle.fancy_engine.specs.Search.{search, returns, choices};
@@ -55,7 +56,7 @@ pub fn search(
     ensures refused { result ≡ Err Refusal.Returns → options.limit < returns (asked p code.now options haystack.now request) all_tried }
     ensures stopped { result ≡ Err Refusal.Returns → returns_of work.new ≡ options.limit }
     ensures fits { returns_of work.new ≤ options.limit }
-    ensures crowded { result ≡ Err Refusal.Choices → 1000000 < choices (asked p code.now options haystack.now request) all_tried }
+    ensures crowded { result ≡ Err Refusal.Choices → most_branches < choices (asked p code.now options haystack.now request) all_tried }
 {
     *work = Work::new();
     let first = request.start.max(request.range_start);

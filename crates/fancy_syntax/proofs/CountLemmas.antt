@@ -3,6 +3,7 @@ use Rattle.std.proofs.Common.{◌≡◌, ℕ, ◌+◌, ◌*◌, ◌-◌, ◌<◌
 use Rattle.std.specs.Char.{is_ascii_digit}
 use Rattle.std.proofs.lemmas.Bool.Decides.{nat_tests}
 use Rattle.std.proofs.lemmas.List.{drop_all}
+use Rattle.fancy_syntax.specs.Limits.{most_turns}
 use Rattle.fancy_syntax.specs.Words.{Text, is_at, is_at_any, is_at_digit, past_digits, decimal_from, decimal, are_digits, is_count, begins_count}
 use Rattle.fancy_syntax.specs.Dialect.{IsBound, Turns, exactly, at_least, between, at_most}
 use Rattle.fancy_syntax.specs.Grammar.{Bounds, bounds_in, past_count, are_bounds}
@@ -115,7 +116,7 @@ exactly_is_read n after h =
     record {
       begins = rw (some, past) refl;
       bounds = rw (past, value) refl;
-      fits = rw (le_true (decimal n) (decimal n) (omega arith), le_true (decimal n) 4294967295 h.small) refl;
+      fits = rw (le_true (decimal n) (decimal n) (omega arith), le_true (decimal n) most_turns h.small) refl;
       behind = rw past refl;
     }
 
@@ -127,7 +128,7 @@ at_least_is_read n after h =
     record {
       begins = rw (some, past) refl;
       bounds = rw (past, value) refl;
-      fits = le_true (decimal n) 4294967295 h.small;
+      fits = le_true (decimal n) most_turns h.small;
       behind = rw past refl;
     }
 
@@ -142,7 +143,7 @@ between_is_read n m after h f le =
     record {
       begins = rw (some, past, past_upper) refl;
       bounds = rw (past, some_upper, value, upper) refl;
-      fits = rw (le_true (decimal n) (decimal m) le, le_true (decimal m) 4294967295 f.small) refl;
+      fits = rw (le_true (decimal n) (decimal m) le, le_true (decimal m) most_turns f.small) refl;
       behind = rw (past, past_upper) refl;
     }
 
@@ -154,7 +155,7 @@ at_most_is_read m after f =
     record {
       begins = rw (past_upper, some_upper) refl;
       bounds = rw (some_upper, upper, decimal_stop (m ++ 125 ∷ after) 0 44 refl) refl;
-      fits = rw (le_true 0 (decimal m) (omega arith), le_true (decimal m) 4294967295 f.small) refl;
+      fits = rw (le_true 0 (decimal m) (omega arith), le_true (decimal m) most_turns f.small) refl;
       behind = rw past_upper refl;
     }
 
@@ -172,8 +173,8 @@ first_is c (x ∷ t) h = ap (λ y. y ∷ t) (sym (same_char (c == x) h refl))
     same_char true h e = grind (arith, nat_tests)
     same_char false h e = cc
 
-bound_of : (t : Text) (r : Row t) → is_at_digit t ≡ true → decimal t ≤ 4294967295 → IsBound r.row
-bound_of t r h small = record { some = sym r.begins ∙ h; digits = r.digits; small = subst (λ n. n ≤ 4294967295) (r.number 0) small }
+bound_of : (t : Text) (r : Row t) → is_at_digit t ≡ true → decimal t ≤ most_turns → IsBound r.row
+bound_of t r h small = record { some = sym r.begins ∙ h; digits = r.digits; small = subst (λ n. n ≤ most_turns) (r.number 0) small }
 
 -- a row that does not begin with a digit is empty
 no_row : (n : Text) → are_digits n ≡ true → is_at_digit n ≡ false → n ≡ []
@@ -205,7 +206,7 @@ closed_count t h e f =
     let u = past_digits t in
     let is : u ≡ 125 ∷ drop 1 u = first_is 125 u e in
     let some : is_at_digit t ≡ true = closed_facts (is_at_digit t) (is_at "}" u) (is_at "," u) (is_at "}" (past_digits (drop 1 u))) (is_at_digit (drop 1 u)) h (ap (is_at ",") is) in
-    let small : decimal t ≤ 4294967295 = true_le (decimal t) 4294967295 (both_true (nat_le (decimal t) (decimal t)) (nat_le (decimal t) 4294967295) f).1 in
+    let small : decimal t ≤ most_turns = true_le (decimal t) most_turns (both_true (nat_le (decimal t) (decimal t)) (nat_le (decimal t) most_turns) f).1 in
     record {
       mark = r.row ++ codes "}";
       text = r.is ∙ (ap (λ l. r.row ++ l) is ∙ sym (append_assoc r.row (125 ∷ []) (drop 1 u)));
@@ -226,7 +227,7 @@ open_count t h e ended f =
     let some : is_at_digit t ≡ true = left_of (is_at_digit t) (is_at_digit v) facts.1.1 ended in
     let none : q.row ≡ [] = no_row q.row q.digits (sym q.begins ∙ ended) in
     let behind : v ≡ w = q.is ∙ ap (λ l. l ++ w) none in
-    let small : decimal t ≤ 4294967295 = true_le (decimal t) 4294967295 f in
+    let small : decimal t ≤ most_turns = true_le (decimal t) most_turns f in
     record {
       mark = r.row ++ codes ",}";
       text = r.is ∙ (ap (λ l. r.row ++ l) (is ∙ ap (λ l. 44 ∷ l) (behind ∙ ends)) ∙ sym (append_assoc r.row (44 ∷ 125 ∷ []) (drop 1 w)));
@@ -247,10 +248,10 @@ two_counts t h e some_upper f = go (is_at_digit t) refl
         let facts = open_facts (is_at_digit t) (is_at "}" u) (is_at "," u) (is_at "}" w) (is_at_digit v) h e in
         let is : u ≡ 44 ∷ v = first_is 44 u facts.0 in
         let ends : w ≡ 125 ∷ drop 1 w = first_is 125 w facts.1.0 in
-        let fits = both_true (nat_le (decimal t) (decimal v)) (nat_le (decimal v) 4294967295) f in
-        let small : decimal v ≤ 4294967295 = true_le (decimal v) 4294967295 fits.1 in
+        let fits = both_true (nat_le (decimal t) (decimal v)) (nat_le (decimal v) most_turns) f in
+        let small : decimal v ≤ most_turns = true_le (decimal v) most_turns fits.1 in
         let ordered : decimal t ≤ decimal v = true_le (decimal t) (decimal v) fits.0 in
-        let less : decimal t ≤ 4294967295 = omega (arith, small, ordered) in
+        let less : decimal t ≤ most_turns = omega (arith, small, ordered) in
         record {
           mark = r.row ++ (codes "," ++ (q.row ++ codes "}"));
           text = r.is ∙ (ap (λ l. r.row ++ l) (is ∙ ap (λ l. 44 ∷ l) (q.is ∙ (ap (λ l. q.row ++ l) ends ∙ sym (append_assoc q.row (125 ∷ []) (drop 1 w))))) ∙ sym (append_assoc r.row (44 ∷ (q.row ++ 125 ∷ [])) (drop 1 w)));
@@ -268,8 +269,8 @@ two_counts t h e some_upper f = go (is_at_digit t) refl
         let ends : w ≡ 125 ∷ drop 1 w = first_is 125 w facts.1.0 in
         let none : r.row ≡ [] = no_row r.row r.digits (sym r.begins ∙ x) in
         let zero_low : decimal t ≡ 0 = r.number 0 ∙ (ap decimal none ∙ decimal_end 0) in
-        let fits = both_true (nat_le (decimal t) (decimal v)) (nat_le (decimal v) 4294967295) f in
-        let small : decimal v ≤ 4294967295 = true_le (decimal v) 4294967295 fits.1 in
+        let fits = both_true (nat_le (decimal t) (decimal v)) (nat_le (decimal v) most_turns) f in
+        let small : decimal v ≤ most_turns = true_le (decimal v) most_turns fits.1 in
         record {
           mark = codes "," ++ (q.row ++ codes "}");
           text = r.is ∙ (ap (λ l. l ++ u) none ∙ (is ∙ ap (λ l. 44 ∷ l) (q.is ∙ (ap (λ l. q.row ++ l) ends ∙ sym (append_assoc q.row (125 ∷ []) (drop 1 w))))));

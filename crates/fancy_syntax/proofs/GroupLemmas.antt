@@ -88,7 +88,7 @@ parts_numbered lo hi None ps h all = all
 parts_numbered lo hi (Some p) ps h all = (h, all)
 
 -- a mark opens no group that captures
-marked_opens_none : (how : Grouping) (s : Scope) → (inside how s).opened ≡ s.opened
+pub marked_opens_none : (how : Grouping) (s : Scope) → (inside how s).opened ≡ s.opened
 marked_opens_none Atomic s = refl
 marked_opens_none (LookAhead negated) s = refl
 marked_opens_none (LookBehind negated) s = refl

@@ -21,6 +21,7 @@ pub mod UnnamedLemmas
 pub mod LiteralLemmas
 pub mod ParseLemmas
 pub mod GroupLemmas
+pub mod OrderLemmas
 pub mod NameNumbers
 pub mod EdgesLemmas
 pub mod SetLemmas

@@ -3,6 +3,7 @@ use Rattle.std.proofs.Common.{◌≡◌, ◌<◌, ◌≤◌, ◌+◌, ◌-◌, �
 use Rattle.std.proofs.Math.ListN as math
 use Rattle.std.proofs.lemmas.List.{length-map}
 use Rattle.std.proofs.lemmas.List.Elements.{All-map}
+use Rattle.fancy_syntax.specs.Limits.{most_nodes}
 use Rattle.fancy_syntax.specs.declared.error.CompileError.TheVariants.{InvalidBackref, InvalidGroupNameBackref, NamedBackrefOnly, LookBehindNotConst, PatternCanNeverMatch, PatternTooComplex}
 use Rattle.fancy_syntax.specs.declared.error.Error.{Error}
 use Rattle.fancy_syntax.specs.declared.error.Error.TheVariants.{Memory, ParseError, CompileError, RuntimeError}
@@ -81,8 +82,8 @@ refused_is_memory Memory h x = refl
 refused_is_memory (ParseError at kind) h x = absurd (h x.written x.end x.spelled)
 refused_is_memory {o} {text} {p} (CompileError PatternTooComplex) (q, end, y, large) x =
     let same : q ≡ x.written = one_under y x.spelled in
-    let small : nodes p ≤ 1000000 = x.small in
-    let more : 1000000 < nodes x.written = subst (λ r. 1000000 < nodes r) same large in
+    let small : nodes p ≤ most_nodes = x.small in
+    let more : most_nodes < nodes x.written = subst (λ r. most_nodes < nodes r) same large in
     let as_many : nodes p ≡ nodes x.written = ap nodes x.is ∙ nodes-refers_to (numbers o x.end) x.written in
     absurd (omega (arith, small, more, as_many))
 refused_is_memory (CompileError (InvalidBackref n)) (q, end, y, some) x = absurd (no_fault_under x y some)
@@ -98,13 +99,13 @@ refused_is_memory (RuntimeError why) h x = absurd h
 pub one_accepted : {o : Options} {text : Text} {p q : Pattern} → IsPattern o text p → IsPattern o text q → p ≡ q
 one_accepted {o} x y = x.is ∙ (ap₂ (λ (e : Scope) (p : Pattern). refers_to (numbers o e) p) (one_end_under x.spelled y.spelled) (one_under x.spelled y.spelled) ∙ sym y.is)
 
-more_nodes : (n m : ℕ) → m ≡ min n (2 ^ 64 - 1) → 1000000 < m → 1000000 < n
+more_nodes : (n m : ℕ) → m ≡ min n (2 ^ 64 - 1) → most_nodes < m → most_nodes < n
 more_nodes n m e h = omega (arith, e, h)
 
-few_nodes : (n m : ℕ) → m ≡ min n (2 ^ 64 - 1) → m ≤ 1000000 → n ≤ 1000000
+few_nodes : (n m : ℕ) → m ≡ min n (2 ^ 64 - 1) → m ≤ most_nodes → n ≤ most_nodes
 few_nodes n m e h = omega (arith, e, h)
 
-pub too_complex : {o : Options} {text whole : Text} (r : Draft) {m : ℕ} → SpellsDraft (SpellsUnder o text) r → text ≡ whole → m ≡ min (nodes (pattern_of r.tree)) (2 ^ 64 - 1) → 1000000 < m → IsRefused (CompileError PatternTooComplex) o whole
+pub too_complex : {o : Options} {text whole : Text} (r : Draft) {m : ℕ} → SpellsDraft (SpellsUnder o text) r → text ≡ whole → m ≡ min (nodes (pattern_of r.tree)) (2 ^ 64 - 1) → most_nodes < m → IsRefused (CompileError PatternTooComplex) o whole
 too_complex {o} r {m} s is e h = (pattern_of r.tree, s.0, subst (λ t. SpellsUnder o t (pattern_of r.tree) s.0) is s.1, more_nodes (nodes (pattern_of r.tree)) m e h)
 
 -- what holds of some view holds of one of the views
@@ -118,7 +119,7 @@ module _ (o : Options) {text whole : Text} (draft : Draft) (s : SpellsDraft (Spe
       let opened : draft.groups - 1 ≡ s.0.opened = omega (arith, s.2) in
       ap₂ (λ (n : ℕ) (names : List (Text × ℕ)). let g : Groups = record { by_name = o.only_named && has_name names; opened = n; names = names } in g) opened s.3
 
-  pub accepted : {m : ℕ} (first : Parsed) (r : Result Parsed Error) → m ≡ min (nodes (pattern_of draft.tree)) (2 ^ 64 - 1) → m ≤ 1000000
+  pub accepted : {m : ℕ} (first : Parsed) (r : Result Parsed Error) → m ≡ min (nodes (pattern_of draft.tree)) (2 ^ 64 - 1) → m ≤ most_nodes
       → pattern_of first.tree ≡ refers_to (number_in (map (group_for (groups_in o.only_named draft)) (targets_of draft.wanted.items))) (pattern_of draft.tree)
       → (first.groups ≡ draft.groups) × (first.names ≡ draft.names)
       → All (λ w. references.fault_of (groups_in o.only_named draft) (target_of w) ≡ None) draft.wanted.items

@@ -2,6 +2,7 @@
 use Rattle.std.specs.Prelude.{◌≡◌, ℕ, suc, nat_lt, Bool, true, false, not, ◌||◌, ◌&&◌, List, [], ◌∷◌, drop, Option, Some, None, if◌then◌else◌}
 use Rattle.ucd_sets.specs.Sets.{in_set}
 use Rattle.ucd_sets.specs.declared.set.Set.{Set as PropertySet}
+use Rattle.fancy_syntax.specs.Limits.{most_brackets}
 use Rattle.fancy_syntax.specs.Words.{Text, is_at, begins}
 use Rattle.fancy_syntax.specs.Escapes.{single, set_here, letters, is_property, property_name, property_named}
 use Rattle.fancy_syntax.specs.Sets.{has, AreEdges, in_range}
@@ -177,9 +178,9 @@ mutual
     simple : {m : Meaning} {i : Bool} {k : ℕ} {p q : Text} {t : Token} → starts_class p ≡ false → token m p ≡ Some (t, q) → Item m i k p (token_members m i t) q
     nested : {m : Meaning} {i : Bool} {k : ℕ} {p q : Text} {f : Members} → starts_class p ≡ true → Class m i k p f q → Item m i k p f q
 
--- a class at the start of the text, with at most 64 brackets open at one place
+-- a class at the start of the text, with at most so many brackets open at one place
 abbrev pub ReadsClass : Meaning → Bool → Text → Members → Text → Type 0
-ReadsClass m i = Class m i 64
+ReadsClass m i = Class m i most_brackets
 
 -- the same, by the edges of its members, of which each set has one list
 abbrev pub ReadsEdges : Meaning → Bool → Text → List ℕ → Text → Type 0

@@ -2,6 +2,7 @@
 use Rattle.std.specs.Prelude.{◌≡◌, ℕ, suc, ◌+◌, ◌≤◌, ◌==◌, nat_lt, Bool, true, false, not, ◌&&◌, ◌||◌, List, [], ◌∷◌, ◌++◌, drop, length, All, Option, Some, None, codes, map, encode_utf8, if◌then◌else◌}
 use Rattle.std.specs.Char.{is_ascii_punctuation}
 use Rattle.std.specs.Option.{option_map, option_or, option_and_then}
+use Rattle.fancy_syntax.specs.Limits.{most_parentheses, most_turns, most_nodes}
 use Rattle.fancy_syntax.specs.declared.tree.Meaning.{Meaning}
 use Rattle.fancy_syntax.specs.declared.tree.Meaning.TheVariants.{Unicode, Bytes, AsciiText}
 use Rattle.fancy_syntax.specs.declared.tree.Assertion.{Assertion}
@@ -260,7 +261,7 @@ begins_quantifier t = is_at "?*+" t || begins_count t
 pub record IsBound (t : Text) : Type 0 where
   pub some : is_at_digit t ≡ true
   pub digits : are_digits t ≡ true
-  pub small : decimal t ≤ 4294967295
+  pub small : decimal t ≤ most_turns
 
 -- this text states the least and the greatest number of turns
 pub data Turns : Text → ℕ → Option ℕ → Type 0 where
@@ -357,11 +358,11 @@ mutual
     reference : {k : ℕ} {s : Scope} {t after : Text} {w : Target} → references.reference s.opened (t ++ after) ≡ Some (w, after) → Atom k s t after (reference_here s) (wants w s)
     reference_by_name : {k : ℕ} {s : Scope} {after : Text} (n : Text) → is_name n ≡ true → Atom (suc k) s (codes "(?P=" ++ (n ++ codes ")")) after (reference_here s) (wants (called n) s)
 
--- the whole text spells this pattern, with at most 64 parentheses open at one place
+-- the whole text spells this pattern, with at most so many parentheses open at one place
 pub record Spells (start : Scope) (text : Text) (p : Pattern) (end : Scope) : Type 0 where
   pub branches : List Pattern
   pub is : p ≡ in_branches branches
-  pub spelled : Branches 64 start text [] branches end
+  pub spelled : Branches most_parentheses start text [] branches end
 
 -- the options that a pattern is read under
 pub record Options : Type 0 where
@@ -412,4 +413,4 @@ pub record IsPattern (o : Options) (text : Text) (p : Pattern) : Type 0 where
   pub is : p ≡ refers_to (numbers o end) written
   pub resolved : All (λ w. fault_of o end w ≡ None) end.wanted
   pub sized : are_sized o.meaning p ≡ true
-  pub small : nodes p ≤ 1000000
+  pub small : nodes p ≤ most_nodes

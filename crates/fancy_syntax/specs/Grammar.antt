@@ -1,6 +1,7 @@
 -- The dialect as it is read: a text is read from one place to another, and nothing here says in which order. Lemmas show that this reading and `Dialect` give the same patterns.
 use Rattle.std.specs.Prelude.{◌≡◌, ℕ, suc, ◌+◌, Bool, true, false, not, ◌||◌, ◌&&◌, nat_le, List, [], ◌∷◌, drop, length, Option, Some, None, option_map, ◌==◌, if◌then◌else◌}
 use Rattle.std.specs.Option.{option_and_then}
+use Rattle.fancy_syntax.specs.Limits.{most_parentheses, most_turns}
 use Rattle.fancy_syntax.specs.declared.tree.Meaning.{Meaning}
 use Rattle.fancy_syntax.specs.declared.tree.Taste.{Taste}
 use Rattle.fancy_syntax.specs.declared.tree.Taste.TheVariants.{Greedy, Lazy, Possessive}
@@ -157,10 +158,10 @@ bounds_in t =
 abbrev pub past_count : Text → Text
 past_count t = if is_at "}" (past_digits t) then drop 1 (past_digits t) else drop 1 (past_digits (drop 1 (past_digits t)))
 
--- bounds of a repeat: not reversed, and below 2^32
+-- bounds of a repeat: not reversed, and within their limit
 abbrev pub are_bounds : Bounds → Bool
-are_bounds (low, None) = nat_le low 4294967295
-are_bounds (low, Some high) = nat_le low high && nat_le high 4294967295
+are_bounds (low, None) = nat_le low most_turns
+are_bounds (low, Some high) = nat_le low high && nat_le high most_turns
 
 -- the number of turns that a quantifier states here
 abbrev pub turns : Place → Option (Bounds × Place)
@@ -220,9 +221,9 @@ mutual
     grouped : {k : ℕ} {p inside q r : Place} {how : Opening} {bs : List Pattern} {x : Pattern} → is_at "(" p.text ≡ true → opening p ≡ Some (how, inside) → opens_group how ≡ true
         → Branches k inside bs q → is_at ")" q.text ≡ true → quantified (wrap how (in_branches bs)) (closed p q) ≡ Some (x, r) → Item (suc k) p (Some x) r
 
--- the whole text has this pattern, with at most 64 parentheses open at one place
+-- the whole text has this pattern, with at most so many parentheses open at one place
 pub record Reads (s : Scope) (text : Text) (p : Pattern) (end : Place) : Type 0 where
   pub branches : List Pattern
   pub is : p ≡ in_branches branches
-  pub reads : Branches 64 (start s text) branches end
+  pub reads : Branches most_parentheses (start s text) branches end
   pub all : end.text ≡ []

@@ -1,3 +1,4 @@
+pub mod Limits
 pub mod Modes
 pub mod Sets
 pub mod Pattern

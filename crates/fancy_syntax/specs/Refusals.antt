@@ -1,5 +1,6 @@
 -- When a pattern may be refused, and by which error.
 use Rattle.std.specs.Prelude.{◌≡◌, ◌<◌, false, Any, Some, chars, string_bytes}
+use Rattle.fancy_syntax.specs.Limits.{most_nodes}
 use Rattle.fancy_syntax.specs.declared.error.CompileError.{CompileError as Compiling}
 use Rattle.fancy_syntax.specs.declared.error.CompileError.TheVariants.{InvalidBackref, InvalidGroupNameBackref, NamedBackrefOnly, LookBehindNotConst, PatternTooComplex}
 use Rattle.fancy_syntax.specs.declared.error.Error.{Error}
@@ -20,7 +21,7 @@ IsNotAccepted (InvalidBackref n) o text = HasFault (no_number n) o text
 IsNotAccepted (InvalidGroupNameBackref name) o text = HasFault (no_name (chars (string_bytes name))) o text
 IsNotAccepted NamedBackrefOnly o text = HasFault by_name_alone o text
 IsNotAccepted LookBehindNotConst o text = (p : Pattern) × (end : Scope) × SpellsUnder o text p end × (are_sized o.meaning (refers_to (numbers o end) p) ≡ false)
-IsNotAccepted PatternTooComplex o text = (p : Pattern) × (end : Scope) × SpellsUnder o text p end × (1000000 < nodes p)
+IsNotAccepted PatternTooComplex o text = (p : Pattern) × (end : Scope) × SpellsUnder o text p end × (most_nodes < nodes p)
 IsNotAccepted _ o text = ⊥
 
 -- The error says the truth of the text, except that memory may run out at any time: a parse error of any kind says that the text spells nothing.

@@ -85,6 +85,7 @@ const MEMBERS: &[MembersRow] = &[
     (UNICODE, "[[:a]]", ":ab", ":a."),
     (UNICODE, "[[::]]", ":a", ":."),
     (UNICODE, "[[:^:]]", ":a^", ":.^"),
+    (UNICODE, "[[:é:]]", ":aé", ":.é"),
     (UNICODE, "[:a]", ":ab", ":a."),
     (UNICODE, "[\\x41-\\x{43}]", "ABCD", "ABC."),
     (UNICODE, "[\\u0041\\U00000042\\u{1F600}]", "ABC😀", "AB.😀"),

@@ -105,44 +105,25 @@ fn prints_the_replaced_text(rt: HostRuntime) -> Result<(), Fail> {
     expect_run(&rt, alloc, refused, "", "error: GeneralParseError\n", 2)
 }
 
+/// Words, and what is said of them.
+const REFUSED: &[(&[&str], &str)] = &[
+    (&[], "error: usage\n"),
+    (&["find", "a"], "error: usage\n"),
+    (&["seek", "a", "b"], "error: usage\n"),
+    (&["find", "(?:a", "x"], "error: UnclosedOpenParen\n"),
+    (&["find", "a)", "x"], "error: GeneralParseError\n"),
+    (&["find", "?a", "x"], "error: TargetNotRepeatable\n"),
+    (&["find", "\\R", "x"], "error: NotInProfile\n"),
+    (&["find", "(a)\\2", "x"], "error: InvalidBackref\n"),
+    (&["find", "\\k<n>", "x"], "error: InvalidGroupNameBackref\n"),
+    (&["find", "(?<=a+)b", "x"], "error: LookBehindNotConst\n"),
+];
+
 #[test]
 fn names_what_is_wrong(rt: HostRuntime) -> Result<(), Fail> {
-    let alloc = rt.alloc();
-    expect_run(&rt, alloc, &[], "", "error: usage\n", 2)?;
-    expect_run(&rt, alloc, &["find", "a"], "", "error: usage\n", 2)?;
-    expect_run(&rt, alloc, &["seek", "a", "b"], "", "error: usage\n", 2)?;
-    expect_run(
-        &rt,
-        alloc,
-        &["find", "(?:a", "x"],
-        "",
-        "error: UnclosedOpenParen\n",
-        2,
-    )?;
-    expect_run(
-        &rt,
-        alloc,
-        &["find", "a)", "x"],
-        "",
-        "error: GeneralParseError\n",
-        2,
-    )?;
-    expect_run(
-        &rt,
-        alloc,
-        &["find", "?a", "x"],
-        "",
-        "error: TargetNotRepeatable\n",
-        2,
-    )?;
-    expect_run(
-        &rt,
-        alloc,
-        &["find", "(?=a)", "x"],
-        "",
-        "error: NotInProfile\n",
-        2,
-    )?;
+    for &(words, complaint) in REFUSED {
+        expect_run(&rt, rt.alloc(), words, "", complaint, 2)?;
+    }
     Ok(())
 }
 

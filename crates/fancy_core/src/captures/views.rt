@@ -1,9 +1,9 @@
 //! What captures say.
 
-ghost use Rattle.std.specs.Prelude.{◌≡◌, ◌-◌, IfSome, length, option_map, drop};
+ghost use Rattle.std.specs.Prelude.{◌≡◌, ◌-◌, IfSome, length, option_map};
 ghost use Rattle.std.specs.Iterator.{YieldsFirstBy, at_most};
 ghost use Rattle.fancy_core.specs.Groups.{AreCut, span_at};
-ghost use Rattle.fancy_core.specs.Captured.{spans_in, searched_in, found_by};
+ghost use Rattle.fancy_core.specs.Captured.{spans_in, searched_in, found_by, groups_left};
 
 use crate::captures::Captures;
 use crate::regex::Regex;
@@ -61,8 +61,7 @@ impl<'r, S: Input> Captures<'r, S> {
 
     /// What each group matched, in the order of their numbers.
     pub fn iter<'c>(&'c self) -> SubCaptureMatches<'c, 'r, S>
-        ensures captures { result.captures.now ≡ self.now }
-        ensures start { result.next ≡ 0 }
+        ensures { groups_left result ≡ spans_in self.now }
     {
         SubCaptureMatches {
             captures: self,
@@ -92,7 +91,7 @@ pub struct SubCaptureMatches<'c, 'r, S: Haystack> {
 impl<'c, 'r, S: Input> Iterator for SubCaptureMatches<'c, 'r, S> {
     type Item = Option<S::Match>;
 
-    ghost next_gives = { YieldsFirstBy (option_map S.span) (λ s. drop s.next (spans_in s.captures.now)) };
+    ghost next_gives = { YieldsFirstBy (option_map S.span) groups_left };
 
     ghost remaining = { λ s. at_most (length (spans_in s.captures.now) - s.next) };
 
