@@ -54,7 +54,6 @@ pub struct Regex {
     names: Vec<GroupName>,
     // which engine serves is decided once
     easy: bool,
-    ghost spelled: { ∥ IsPattern (dialect_of options) (chars (string_bytes pattern)) (pattern_of tree) ∥₁ },
     ghost compiled: { ∥ IsCompiled (pattern_of tree) code (named_groups names.items) ∥₁ },
     ghost meant: { code.meaning ≡ meaning_in options },
     ghost short: { code_len code ≤ 4 * nodes (pattern_of tree) + 2 },
@@ -91,10 +90,9 @@ impl Regex {
         Ok(regex)
     }
 
-    /// The text of the pattern, which spells the pattern that the regex stands for.
+    /// The text of the pattern.
     pub fn as_str(&self) -> &str
-        ensures value { result.now ≡ text_of self.now }
-        ensures spelled { ∥ IsPattern (dialect_of (options_in self.now)) (chars result.now) (pattern_in self.now) ∥₁ }
+        ensures { result.now ≡ text_of self.now }
     {
         self.pattern.as_str()
     }

@@ -30,7 +30,6 @@ compile-requires-clause-numbered c =
 
 pub invariant_of-result : goal.invariant_of-result
 invariant_of-result c = record {
-  spelled = ∣ rw (c.syntax.ensures, c.as_str.ensures.value) at (c.in_ok-tree.ensures.accepted.0) ∣₁;
   compiled = ∣ record {
     coded = c.in_ok-code.ensures.code;
     counted = omega (arith, c.in_ok-tree.ensures.accepted.1, c.in_ok-code.ensures.groups);
