@@ -4,9 +4,9 @@ use crate::asking::{
     BYTES, BytesRow, CHARACTERS, CHARACTERS_ANYWHERE, CountedRow, FOLDED, Flaw, FlawRow, GroupsRow,
     ONLY_NAMED, PiecesRow, SearchRow, Settings, TextListRow, TextRow, check_counted, check_flaw,
     check_groups, check_pieces, check_search, check_span, check_text_list, check_texts, first_span,
-    is_too_complex, regex_with,
+    is_too_complex, regex_with, repeated,
 };
-use fancy_regex::{Regex, RegexBuilder, RegexInput, RegexOptionsBuilder};
+use fancy_regex::{Error, Regex, RegexBuilder, RegexInput, RegexOptionsBuilder, RuntimeError};
 use std::alloc::Global;
 use std::process::Abort;
 
@@ -214,6 +214,15 @@ fn returns_are_counted(rt: HostRuntime) {
     for row in COUNTED {
         check_counted(&rt, rt.alloc(), row);
     }
+}
+
+// each turn of the star saves a branch
+#[test]
+fn too_many_branches_are_saved(rt: HostRuntime) {
+    let regex = Regex::new(rt.alloc(), "a*(?=c)").expect(&rt, "a regex");
+    let haystack = repeated(&rt, rt.alloc(), "a", 1_000_002);
+    let found = regex.find(haystack.as_str());
+    assert!(rt; matches!(found, Err(Error::RuntimeError(RuntimeError::StackOverflow))));
 }
 
 #[test]
