@@ -1,24 +1,15 @@
 -- The names of groups, as loops over them go.
-use Rattle.std.proofs.Common.{◌≡◌, ℕ, ◌+◌, ◌<◌, ◌≤◌, ◌≢◌, ◌==◌, Bool, true, false, List, [], ◌∷◌, Option, Some, None, option_map, find, reverse, length, take, get_or, map, set, replicate, cond, chars, bytes_eq, encode_utf8_all, IsUtf8, refl, sym, ap, ◌∙◌, arith}
+use Rattle.std.proofs.Common.{◌≡◌, ℕ, ◌+◌, ◌<◌, ◌≤◌, ◌≢◌, ◌==◌, Bool, true, false, List, [], ◌∷◌, Option, Some, None, option_map, find, reverse, length, take, get_or, map, set, replicate, cond, refl, sym, ap, ◌∙◌, arith}
 use Rattle.std.specs.List.{range_with_len}
 use Rattle.std.specs.Borrow.{Bor}
 use Rattle.std.proofs.lemmas.List.{map_more, reverse-append, ext_get_or, get_or-map, get_or-set_other, get_or-replicate, length-replicate, length-map, length-set}
 use Rattle.std.proofs.lemmas.Grind.{get_or-set_at}
 use Rattle.std.proofs.lemmas.List.FromFn.{get_or-map-range_with_len, length-map-range_with_len}
-use Rattle.std.proofs.lemmas.Str.{encodes-chars}
-use Rattle.std.proofs.lemmas.Slice.Eq.{bytes_eq-Decides}
-use Rattle.std.proofs.lemmas.Bool.Decides.{same_from_decides, nat_tests}
+use Rattle.std.proofs.lemmas.Bool.Decides.{nat_tests}
 use Rattle.fancy_syntax.specs.declared.name.GroupName.{GroupName}
 use Rattle.fancy_syntax.specs.Words.{Text}
 use Rattle.fancy_syntax.specs.Names.{named_group, named_groups}
-use Rattle.fancy_core.specs.Names.{last_named, name_among, read_name}
-
--- two texts are equal where their characters are
-pub same_characters : (a b : List ℕ) → IsUtf8 a → IsUtf8 b → bytes_eq a b ≡ bytes_eq (chars a) (chars b)
-same_characters a b u v =
-    let d = bytes_eq-Decides (chars a) (chars b) in
-    same_from_decides {P = a ≡ b} (bytes_eq a b) (bytes_eq (chars a) (chars b)) (bytes_eq-Decides a b)
-    (λ h. sym (encodes-chars a u) ∙ (ap encode_utf8_all (d.0 h) ∙ encodes-chars b v), λ e. d.1 (ap chars e))
+use Rattle.fancy_core.specs.Names.{name_among, read_name}
 
 -- one group more
 module _ (groups : List GroupName) (i : ℕ) (g : GroupName) (below : i < length groups) (is : g ≡ get_or groups i g) where
@@ -26,18 +17,6 @@ module _ (groups : List GroupName) (i : ℕ) (g : GroupName) (below : i < length
   one_more =
       ap reverse (map_more named_group groups i g below)
       ∙ (reverse-append (named_groups (take i groups)) (named_group (get_or groups i g) ∷ []) ∙ ap (λ x. named_group x ∷ reverse (named_groups (take i groups))) (sym is))
-
-  pub last_named_more : (name : Text) (b : Bool) → b ≡ bytes_eq (named_group g).0 name → last_named name (named_groups (take (i + 1) groups)) ≡ cond b (Some g.group) (last_named name (named_groups (take i groups)))
-  last_named_more name b e = ap (λ l. option_map (λ (x : Text × ℕ). x.1) (find (λ (x : Text × ℕ). bytes_eq x.0 name) l)) one_more ∙ go (bytes_eq (named_group g).0 name) b e
-    where
-      rest : Option (Text × ℕ)
-      rest = find (λ (x : Text × ℕ). bytes_eq x.0 name) (reverse (named_groups (take i groups)))
-
-      go : (a b : Bool) → b ≡ a → option_map (λ (x : Text × ℕ). x.1) (cond a (Some (named_group g)) rest) ≡ cond b (Some g.group) (option_map (λ (x : Text × ℕ). x.1) rest)
-      go true true h = refl
-      go false false h = refl
-      go true false h = cc
-      go false true h = cc
 
   pub name_among_more : (number : ℕ) → name_among (named_groups (take (i + 1) groups)) number ≡ cond (g.group == number) (Some (named_group g).0) (name_among (named_groups (take i groups)) number)
   name_among_more number = ap (λ l. option_map (λ (x : Text × ℕ). x.0) (find (λ (x : Text × ℕ). x.1 == number) l)) one_more ∙ go (g.group == number)

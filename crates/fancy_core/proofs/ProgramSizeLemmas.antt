@@ -12,25 +12,25 @@ use Rattle.fancy_syntax.specs.Words.{Text}
 use Rattle.fancy_syntax.proofs.ParseLemmas.{one_accepted}
 use Rattle.fancy_engine.specs.Means.{is_easy}
 use Rattle.fancy_core.specs.declared.options.Options.{Options}
-use Rattle.fancy_core.specs.Options.{by_default, dialect_of}
-use Rattle.fancy_core.specs.ProgramSize.{passes, IsTooLong, RefusesPattern, IsRefusedUnder}
+use Rattle.fancy_core.specs.Options.{dialect_of}
+use Rattle.fancy_core.specs.ProgramSize.{passes, IsTooLong, SetsNoSize, RefusesPattern, IsRefusedUnder}
 
 -- where no size is set, memory alone refuses a pattern of the dialect
-pub refused_for_memory : (p : Pattern) (e : Error) → RefusesPattern by_default p e → e ≡ Memory
-refused_for_memory p Memory h = refl
-refused_for_memory p (ParseError at kind) h = absurd h
-refused_for_memory p (RuntimeError why) h = absurd h
-refused_for_memory p (CompileError (c.InvalidBackref n)) h = absurd h
-refused_for_memory p (CompileError (c.InvalidGroupNameBackref name)) h = absurd h
-refused_for_memory p (CompileError c.NamedBackrefOnly) h = absurd h
-refused_for_memory p (CompileError c.LookBehindNotConst) h = absurd h
-refused_for_memory p (CompileError c.PatternCanNeverMatch) h = absurd h
-refused_for_memory p (CompileError c.PatternTooComplex) (hard, passed) = absurd (cc)
+pub refused_for_memory : (o : Options) (p : Pattern) (e : Error) → SetsNoSize o → RefusesPattern o p e → e ≡ Memory
+refused_for_memory o p Memory unset h = refl
+refused_for_memory o p (ParseError at kind) unset h = absurd h
+refused_for_memory o p (RuntimeError why) unset h = absurd h
+refused_for_memory o p (CompileError (c.InvalidBackref n)) unset h = absurd h
+refused_for_memory o p (CompileError (c.InvalidGroupNameBackref name)) unset h = absurd h
+refused_for_memory o p (CompileError c.NamedBackrefOnly) unset h = absurd h
+refused_for_memory o p (CompileError c.LookBehindNotConst) unset h = absurd h
+refused_for_memory o p (CompileError c.PatternCanNeverMatch) unset h = absurd h
+refused_for_memory o p (CompileError c.PatternTooComplex) unset (hard, passed) = absurd (cc)
 
 -- and what is refused then is no pattern of the dialect, or memory runs out
-pub refused_by_text : (text : Text) (e : Error) → IsRefusedUnder by_default text e → IsRefused e (dialect_of by_default) text
-refused_by_text text e (inl h) = h
-refused_by_text text e (inr h) = subst (λ (x : Error). IsRefused x (dialect_of by_default) text) (sym (refused_for_memory h.0 e h.2)) tt
+pub refused_by_text : (o : Options) (text : Text) (e : Error) → SetsNoSize o → IsRefusedUnder o text e → IsRefused e (dialect_of o) text
+refused_by_text o text e unset (inl h) = h
+refused_by_text o text e unset (inr h) = subst (λ (x : Error). IsRefused x (dialect_of o) text) (sym (refused_for_memory o h.0 e unset h.2)) tt
 
 -- the parts of a test for hard patterns
 pub both_of : (easy longer : Bool) → (not easy && longer) ≡ true → (easy ≡ false) × (longer ≡ true)

@@ -10,8 +10,8 @@ abbrev pub spans_in : {S : Type 0} {g : _} → Captures S g → List (Option Spa
 spans_in captures = captures.slots.items
 
 -- the spans of the groups that an iterator over them has left
-abbrev pub groups_left : {S : Type 0} {g : _} → SubCaptureMatches S g → List (Option Span)
-groups_left s = drop s.next (spans_in s.captures.now)
+abbrev pub sub_captures_left : {S : Type 0} {g : _} → SubCaptureMatches S g → List (Option Span)
+sub_captures_left s = drop s.next (spans_in s.captures.now)
 
 -- the haystack that they were found in
 abbrev pub searched_in : {S : Type 0} {g : _} → Captures S g → S

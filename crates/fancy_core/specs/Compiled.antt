@@ -1,13 +1,23 @@
 -- What a regex keeps of its pattern beside the tree.
-use Rattle.std.specs.Prelude.{ℕ, ◌≤◌, List}
+use Rattle.std.specs.Prelude.{◌≡◌, ◌+◌, ◌≤◌, ℕ, List, chars}
 use Rattle.fancy_syntax.specs.Words.{Text}
+use Rattle.fancy_syntax.specs.Dialect.{IsPattern}
 use Rattle.fancy_syntax.specs.Pattern.{Pattern}
 use Rattle.fancy_syntax.specs.Groups.{Rising}
 use Rattle.fancy_engine.specs.declared.code.Code.{Code}
 use Rattle.fancy_engine.specs.Means.{IsCodeOf}
+use Rattle.fancy_core.specs.declared.options.Options.{Options}
+use Rattle.fancy_core.specs.Options.{dialect_of}
 
--- The code is that of the pattern, there is group 0 at least, and each name stands on a group behind it.
-pub record IsCompiled (p : Pattern) (code : Code) (names : List (Text × ℕ)) : Type 0 where
+-- A text, by its bytes, spells the pattern under the options; it has so many groups, with group 0, the whole match, and these names.
+pub record IsSpelled (o : Options) (text : List ℕ) (p : Pattern) (groups : ℕ) (names : List (Text × ℕ)) : Type 0 where
+  pub spelled : IsPattern (dialect_of o) (chars text) p
+  pub counted : spelled.end.opened + 1 ≡ groups
+  pub named : spelled.end.names ≡ names
+
+-- The text spells the pattern, the code is that of the pattern, there is group 0 at least, and each name stands on a group behind it.
+pub record IsCompiled (o : Options) (text : List ℕ) (p : Pattern) (code : Code) (names : List (Text × ℕ)) : Type 0 where
+  pub spelled : IsSpelled o text p code.groups names
   pub coded : IsCodeOf p code
   pub counted : 1 ≤ code.groups
   pub named : Rising 1 code.groups names

@@ -1,9 +1,9 @@
 -- The names of a regex's groups. A name may stand on several groups, and then the last in the pattern is meant.
-use Rattle.std.specs.Prelude.{ℕ, ◌<◌, ◌==◌, Bool, not, length, List, drop, map, reverse, find, Option, IfSome, option_map, option_and_then, chars, bytes_eq}
+use Rattle.std.specs.Prelude.{ℕ, ◌<◌, ◌==◌, Bool, not, length, List, drop, map, reverse, find, Option, IfSome, option_map, option_and_then, chars}
 use Rattle.std.specs.List.{range_with_len}
 use Rattle.std.specs.Borrow.{Bor}
 use Rattle.fancy_syntax.specs.Words.{Text}
-use Rattle.fancy_syntax.specs.Names.{named_groups}
+use Rattle.fancy_syntax.specs.Names.{named_groups, last_named}
 use Rattle.fancy_engine.specs.Context.{Span}
 use Rattle.fancy_core.specs.declared.regex.Regex.{Regex}
 use Rattle.fancy_core.specs.declared.names.CaptureNames.{CaptureNames}
@@ -13,10 +13,6 @@ use Rattle.fancy_core.specs.Groups.{span_at}
 -- the names, each with the number of its group, in the order of the groups' openings
 abbrev pub names_in : Regex → List (Text × ℕ)
 names_in r = named_groups r.names.items
-
--- the number of the last of these groups that has the name
-abbrev pub last_named : Text → List (Text × ℕ) → Option ℕ
-last_named name groups = option_map (λ g. g.1) (find (λ g. bytes_eq g.0 name) (reverse groups))
 
 -- the number of the last group of the pattern that has the name
 abbrev pub group_named : Regex → Text → Option ℕ

@@ -17,6 +17,10 @@ abbrev pub passes : ℕ → Option ℕ → Bool
 passes n None = false
 passes n (Some size) = nat_lt size n
 
+-- no size was set for the code of hard patterns
+abbrev pub SetsNoSize : Options → Type 0
+SetsNoSize o = o.max_prog_size ≡ None
+
 -- A size was set that the pattern's code may pass, which has 4 instructions a node and 2 more at the most.
 abbrev pub IsTooLong : Options → Pattern → Type 0
 IsTooLong o p = (is_easy p ≡ false) × (passes (4 * nodes p + 2) o.max_prog_size ≡ true)

@@ -1,14 +1,9 @@
 //! A pattern and its options, set one after another.
 
-ghost use Rattle.std.specs.Prelude.{◌≡◌, ◌+◌, IfOk, IfErr, Some, false, string_bytes, chars};
-ghost use Rattle.fancy_syntax.specs.Pattern.{Pattern};
-ghost use Rattle.fancy_syntax.specs.Dialect.{IsPattern};
+ghost use Rattle.std.specs.Prelude.{◌≡◌, IfOk, IfErr, Some, string_bytes};
 ghost use Rattle.fancy_core.specs.Builders.{options_set, pattern_set};
-ghost use Rattle.fancy_core.specs.Options.{by_default, dialect_of};
-ghost use Rattle.fancy_core.specs.Names.{names_in};
-ghost use Rattle.fancy_core.specs.Regexes.{text_of, pattern_in, options_in, groups_in, length_in};
-ghost use Rattle.fancy_core.specs.Limited.{IsHard};
-ghost use Rattle.fancy_core.specs.ProgramSize.{passes, RefusesPattern, IsRefusedUnder};
+ghost use Rattle.fancy_core.specs.Built.{IsReading};
+ghost use Rattle.fancy_core.specs.Options.{by_default};
 
 use crate::options::RegexOptionsBuilder;
 use crate::regex::Regex;
@@ -176,13 +171,7 @@ impl RegexBuilder {
     /// Reads the pattern with these options, as [`RegexOptionsBuilder::build`] does, and stays as it is. The regex has
     /// a copy of the text, and the allocator of the pattern.
     pub fn build(&self) -> Result<Regex>
-        ensures text { IfOk result (λ r. text_of r ≡ pattern_set self.now) }
-        ensures options { IfOk result (λ r. options_in r ≡ options_set self.now) }
-        ensures accepted { IfOk result (λ r. IsPattern (dialect_of (options_set self.now)) (chars (pattern_set self.now)) (pattern_in r)) }
-        ensures groups { IfOk result (λ r. (h : IsPattern (dialect_of (options_set self.now)) (chars (pattern_set self.now)) (pattern_in r)) × (h.end.opened + 1 ≡ groups_in r) × (h.end.names ≡ names_in r)) }
-        ensures sized { IfOk result (λ r. IsHard r → passes (length_in r) (options_set self.now).max_prog_size ≡ false) }
-        ensures refused { IfErr result (λ e. IsRefusedUnder (options_set self.now) (chars (pattern_set self.now)) e) }
-        ensures succeeds { (p : Pattern) → IsPattern (dialect_of (options_set self.now)) (chars (pattern_set self.now)) p → IfErr result (λ e. RefusesPattern (options_set self.now) p e) }
+        ensures { IsReading (options_set self.now) (pattern_set self.now) result }
     {
         let pattern = self.pattern.clone()?;
         self.options.build(pattern)

@@ -28,6 +28,8 @@ impl Regex {
     /// ```text
     /// Regex::new(alloc, "(a)?(b|)")?.captures("ab")  // 0..2, group 1 0..1, group 2 1..2
     /// ```
+    ///
+    /// It is refused as [`Regex::find_input`] is.
     pub fn captures<'r, S: Input>(&'r self, haystack: S) -> Result<Option<Captures<'r, S>>>
         requires suits { Suits (options_in self.now) (S.text haystack) (S.bytes haystack) }
         ensures found { IfOk result (λ m. option_map (λ c. spans_in c) m ≡ option_map (spans_of (groups_in self.now)) (search (asked self.now (S.bytes haystack) (whole (S.bytes haystack))))) }
@@ -43,6 +45,8 @@ impl Regex {
 
     /// The groups of the first match from the byte offset `start` on, which may be any number: past the end there
     /// is none.
+    ///
+    /// It is refused as [`Regex::find_input`] is.
     pub fn captures_from_pos<'r, S: Input>(
         &'r self,
         haystack: S,
@@ -61,7 +65,7 @@ impl Regex {
         Ok(found)
     }
 
-    /// The groups of the first match that the input asks for, or none.
+    /// The groups of the first match that the input asks for, or none. It is refused as [`Regex::find_input`] is.
     pub fn captures_input<'r, S: Input>(
         &'r self,
         input: RegexInput<S>,

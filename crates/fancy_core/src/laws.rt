@@ -4,13 +4,19 @@ ghost use Rattle.std.specs.Prelude.{◌≡◌, ◌<◌, ◌≤◌, ◌↔◌, �
 ghost use Rattle.fancy_syntax.specs.Limits.{most_nodes};
 ghost use Rattle.fancy_syntax.specs.Dialect.{IsPattern, standard};
 ghost use Rattle.fancy_syntax.specs.Pattern.{Pattern};
+ghost use Rattle.fancy_syntax.specs.Refusals.{IsRefused};
+ghost use Rattle.fancy_syntax.specs.Words.{Text};
+ghost use Rattle.fancy_syntax.specs.declared.error.Error.{Error};
 ghost use Rattle.fancy_input.specs.Inputs.{haystack_in, request_in};
 ghost use Rattle.fancy_input.specs.Requests.{effective_start, positions};
 ghost use Rattle.fancy_input.specs.declared.input.Request.{Request};
 ghost use Rattle.fancy_engine.specs.Literals.{stands_within, cuts_none, span_if, first_span};
 ghost use Rattle.fancy_core.specs.Escapes.{escaped_pattern};
 ghost use Rattle.fancy_core.specs.Literals.{literally, IsOfEscape, span_found};
+ghost use Rattle.fancy_core.specs.Options.{dialect_of};
+ghost use Rattle.fancy_core.specs.ProgramSize.{SetsNoSize, RefusesPattern, IsRefusedUnder};
 ghost use Rattle.fancy_core.specs.Regexes.{options_in};
+ghost use Rattle.fancy_core.specs.declared.options.Options.{Options};
 ghost use Rattle.fancy_core.specs.Searching.{CanSearch};
 ghost use Rattle.fancy_core.specs.Names.{StandsOnGroup};
 ghost use Rattle.fancy_core.specs.Matching.{InOrder, FindsNone};
@@ -21,6 +27,13 @@ ghost use Rattle.fancy_core.specs.Splits.{match_spans};
 use crate::regex::Regex;
 use fancy_input::input::Input;
 use fancy_input::regex_input::RegexInput;
+
+/// Where no size was set for the code of hard patterns, want of memory alone refuses a pattern of the dialect, and what is refused for
+/// anything else is none.
+pub fn without_a_size_memory_alone_refuses()
+    ensures pattern { (o : Options) (p : Pattern) (e : Error) → SetsNoSize o → RefusesPattern o p e → e ≡ Error.Memory }
+    ensures text { (o : Options) (text : Text) (e : Error) → SetsNoSize o → IsRefusedUnder o text e → IsRefused e (dialect_of o) text }
+{}
 
 /// A name stands on a group of the pattern, which is never group 0, the whole match; or on none.
 #[tactic(auto, using(crate::proofs::NumberedLemmas::stands_on_group))]

@@ -7,6 +7,7 @@ ghost use Rattle.fancy_core.specs.Regexes.{groups_in};
 
 use crate::regex::Regex;
 use fancy_syntax::error::{Error, Result};
+use fancy_syntax::name::last_named;
 use std::alloc::{AllocError, Global};
 
 /// The name of each group of a regex, in the order of their numbers; made by [`Regex::capture_names`].
@@ -43,14 +44,7 @@ impl Regex {
     pub(crate) fn group_named(&self, name: &str) -> Option<usize>
         ensures { result ≡ group_named self.now (chars name.now) }
     {
-        let mut found = None;
-        let groups = self.names();
-        for named in groups {
-            if named.name.as_str() == name {
-                found = Some(named.group);
-            }
-        }
-        found
+        last_named(self.names(), name)
     }
 
     /// Whether any group has a name.

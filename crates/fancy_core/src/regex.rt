@@ -1,10 +1,8 @@
 //! A compiled pattern, and what it finds.
 
-ghost use Rattle.std.specs.Prelude.{◌≡◌, ◌≤◌, ◌↔◌, ◌+◌, ◌-◌, ◌*◌, None, Some, Ok, Err, IfOk, IfErr, IfSome, IsTrue, string_bytes, chars, option_map, is_some, true, false, length};
+ghost use Rattle.std.specs.Prelude.{◌≡◌, ◌≤◌, ◌↔◌, ◌+◌, ◌-◌, ◌*◌, None, Some, Ok, Err, IfOk, IfErr, IfSome, IsTrue, string_bytes, option_map, is_some, true, false, length};
 ghost use Rattle.fancy_syntax.specs.Pattern.{Pattern, pattern_of};
-ghost use Rattle.fancy_syntax.specs.Dialect.{IsPattern, standard};
 ghost use Rattle.fancy_syntax.specs.Names.{named_groups};
-ghost use Rattle.fancy_syntax.specs.Refusals.{IsRefused};
 ghost use Rattle.fancy_input.specs.Inputs.{haystack_in, request_in};
 ghost use Rattle.fancy_input.specs.Places.{is_boundary};
 ghost use Rattle.fancy_input.specs.Requests.{whole, effective_start};
@@ -19,7 +17,7 @@ ghost use Rattle.fancy_core.specs.Builders.{options_of};
 ghost use Rattle.fancy_core.specs.Compiled.{IsCompiled};
 ghost use Rattle.fancy_core.specs.Scratch.{state_in, answer_of};
 ghost use Rattle.fancy_syntax.specs.declared.error.RuntimeError.TheVariants.{BacktrackLimitExceeded};
-ghost use Rattle.fancy_core.specs.Options.{by_default, dialect_of, meaning_in};
+ghost use Rattle.fancy_core.specs.Options.{by_default, meaning_in};
 ghost use Rattle.fancy_core.specs.Searching.{Suits, StartsCleanly, CanSearch};
 ghost use Rattle.fancy_syntax.specs.Modes.{keeps_characters};
 
@@ -54,7 +52,7 @@ pub struct Regex {
     names: Vec<GroupName>,
     // which engine serves is decided once
     easy: bool,
-    ghost compiled: { ∥ IsCompiled (pattern_of tree) code (named_groups names.items) ∥₁ },
+    ghost compiled: { ∥ IsCompiled options (string_bytes pattern) (pattern_of tree) code (named_groups names.items) ∥₁ },
     ghost meant: { code.meaning ≡ meaning_in options },
     ghost short: { code_len code ≤ 4 * nodes (pattern_of tree) + 2 },
     ghost decided: { easy ≡ is_easy (pattern_of tree) },
@@ -64,30 +62,33 @@ pub struct Regex {
 }
 
 impl Regex {
+    ghost use Rattle.fancy_core.specs.Built.{IsReading};
     ghost use Rattle.fancy_core.specs.Names.{names_in};
     ghost use Rattle.fancy_core.specs.Regexes.{text_of, pattern_in, options_in, groups_in, length_in, limit_in, asked};
     ghost use Rattle.fancy_core.specs.Limited.{IsHard, Refuses, Allows, returns_in};
 
     /// Reads a pattern, with the default options.
     ///
-    /// It is refused where the text is no pattern of the dialect, with the place of the fault as a byte
-    /// offset into it, where its tree has more than 1,000,000 nodes, and where memory runs out.
+    /// It is refused where the text is no pattern of the dialect, and where memory runs out (`Memory`):
+    ///
+    /// - `ParseError` where the text does not spell a pattern, with the place of the fault as a byte offset into it;
+    /// - `CompileError(PatternTooComplex)` where the pattern has more than 1,000,000 nodes, with counted repeats written
+    ///   out;
+    /// - `CompileError(InvalidBackref)` for a reference to a number that no group has, and
+    ///   `CompileError(InvalidGroupNameBackref)` for one to a name that no group has;
+    /// - `CompileError(LookBehindNotConst)` for a look-behind whose body has no one size, unless it is an alternative of
+    ///   branches that each have one.
     ///
     /// ```text
     /// Regex::new(alloc, "a|ab")  // Ok
     /// Regex::new(alloc, "(?:a")  // Err(ParseError(4, UnclosedOpenParen))
+    /// Regex::new(alloc, r"(a)\2")  // Err(CompileError(InvalidBackref(2)))
     /// ```
     pub fn new(alloc: Global, pattern: &str) -> Result<Regex>
-        ensures text { IfOk result (λ r. text_of r ≡ pattern.now) }
-        ensures options { IfOk result (λ r. options_in r ≡ by_default) }
-        ensures accepted { IfOk result (λ r. IsPattern standard (chars pattern.now) (pattern_in r)) }
-        ensures groups { IfOk result (λ r. (h : IsPattern standard (chars pattern.now) (pattern_in r)) × (h.end.opened + 1 ≡ groups_in r) × (h.end.names ≡ names_in r)) }
-        ensures refused { IfErr result (λ e. IsRefused e standard (chars pattern.now)) }
-        ensures succeeds { (p : Pattern) → IsPattern standard (chars pattern.now) p → IfErr result (λ e. e ≡ Error.Memory) }
+        ensures { IsReading by_default pattern.now result }
     {
         let pattern = String::from_str(alloc, pattern)?;
-        let regex = RegexOptionsBuilder::new().build(pattern)?;
-        Ok(regex)
+        RegexOptionsBuilder::new().build(pattern)
     }
 
     /// The text of the pattern.
@@ -152,6 +153,8 @@ impl Regex {
     /// ```text
     /// Regex::new(alloc, "a|ab")?.find("xab")  // 1..2
     /// ```
+    ///
+    /// It is refused as [`Regex::find_input`] is.
     pub fn find<S: Input>(&self, haystack: S) -> Result<Option<S::Match>>
         requires suits { Suits (options_in self.now) (S.text haystack) (S.bytes haystack) }
         ensures found { IfOk result (λ m. option_map S.span m ≡ option_map span_of (search (asked self.now (S.bytes haystack) (whole (S.bytes haystack))))) }
@@ -166,6 +169,8 @@ impl Regex {
     }
 
     /// The first match from the byte offset `start` on, which may be any number: past the end there is none.
+    ///
+    /// It is refused as [`Regex::find_input`] is.
     pub fn find_from_pos<S: Input>(&self, haystack: S, start: usize) -> Result<Option<S::Match>>
         requires suits { Suits (options_in self.now) (S.text haystack) (S.bytes haystack) }
         requires starts { StartsCleanly (S.text haystack) (S.bytes haystack) start }
@@ -181,6 +186,11 @@ impl Regex {
     }
 
     /// The first match that the input asks for, or none.
+    ///
+    /// It is refused where memory runs out (`Memory`), and for a hard pattern (one that is not [`Regex::is_easy`]) past a
+    /// limit: `RuntimeError(BacktrackLimitExceeded)` where the search takes more returns than
+    /// [`RegexOptionsBuilder::backtrack_limit`] allows, and `RuntimeError(StackOverflow)` where it opens more than
+    /// 1,000,000 choices.
     pub fn find_input<S: Input>(&self, input: RegexInput<S>) -> Result<Option<S::Match>>
         requires searched { CanSearch (options_in self.now) (S.text (haystack_in input)) (S.bytes (haystack_in input)) (request_in input) }
         ensures found { IfOk result (λ m. option_map S.span m ≡ option_map span_of (search (asked self.now (S.bytes (haystack_in input)) (request_in input)))) }
@@ -198,7 +208,8 @@ impl Regex {
     /// this call did, after a refusal how much up to it.
     ///
     /// An easy search takes at most [`Regex::code_len`] steps for each position of the searched text, its end
-    /// among them; from a start past the range's end it takes none.
+    /// among them; from a start past the range's end it takes none. It is refused as [`Regex::find_input`] is; a hard
+    /// search never takes more returns than its limit allows.
     pub fn find_input_counted<S: Input>(
         &self,
         input: RegexInput<S>,
@@ -244,7 +255,7 @@ impl Regex {
         Ok(Some(haystack.make_match(memory.start(position), memory.end())))
     }
 
-    /// Whether the pattern matches anywhere in the haystack.
+    /// Whether the pattern matches anywhere in the haystack. It is refused as [`Regex::find_input`] is.
     pub fn is_match<S: Input>(&self, haystack: S) -> Result<bool>
         requires suits { Suits (options_in self.now) (S.text haystack) (S.bytes haystack) }
         ensures found { IfOk result (λ b. b ≡ is_some (search (asked self.now (S.bytes haystack) (whole (S.bytes haystack))))) }
@@ -256,7 +267,7 @@ impl Regex {
         Ok(found)
     }
 
-    /// Whether `find_input` finds anything, anchored or not.
+    /// Whether [`Regex::find_input`] finds anything, anchored or not. It is refused as that is.
     pub fn is_match_input<S: Input>(&self, input: RegexInput<S>) -> Result<bool>
         requires searched { CanSearch (options_in self.now) (S.text (haystack_in input)) (S.bytes (haystack_in input)) (request_in input) }
         ensures found { IfOk result (λ b. b ≡ is_some (search (asked self.now (S.bytes (haystack_in input)) (request_in input)))) }
@@ -362,21 +373,18 @@ impl Regex {
 }
 
 impl RegexOptionsBuilder {
-    ghost use Rattle.fancy_core.specs.Names.{names_in};
-    ghost use Rattle.fancy_core.specs.Regexes.{text_of, pattern_in, options_in, groups_in, length_in};
-    ghost use Rattle.fancy_core.specs.Limited.{IsHard};
-    ghost use Rattle.fancy_core.specs.ProgramSize.{passes, RefusesPattern, IsRefusedUnder};
+    ghost use Rattle.fancy_core.specs.Built.{IsReading};
 
     /// Reads a pattern with these options. The allocator is the text's, which is given up also where the
     /// call refuses.
+    ///
+    /// It is refused as [`Regex::new`] is; under
+    /// [`RegexOptionsBuilder::ignore_numbered_groups_when_named_groups_exist`] besides as
+    /// `CompileError(NamedBackrefOnly)`, for a reference by number where a group has a name; and where
+    /// [`RegexOptionsBuilder::max_prog_size`] is set as `CompileError(PatternTooComplex)`, for a hard pattern with longer
+    /// code.
     pub fn build(&self, pattern: String) -> Result<Regex>
-        ensures text { IfOk result (λ r. text_of r ≡ string_bytes pattern) }
-        ensures options { IfOk result (λ r. options_in r ≡ options_of self.now) }
-        ensures accepted { IfOk result (λ r. IsPattern (dialect_of (options_of self.now)) (chars (string_bytes pattern)) (pattern_in r)) }
-        ensures groups { IfOk result (λ r. (h : IsPattern (dialect_of (options_of self.now)) (chars (string_bytes pattern)) (pattern_in r)) × (h.end.opened + 1 ≡ groups_in r) × (h.end.names ≡ names_in r)) }
-        ensures sized { IfOk result (λ r. IsHard r → passes (length_in r) (options_of self.now).max_prog_size ≡ false) }
-        ensures refused { IfErr result (λ e. IsRefusedUnder (options_of self.now) (chars (string_bytes pattern)) e) }
-        ensures succeeds { (p : Pattern) → IsPattern (dialect_of (options_of self.now)) (chars (string_bytes pattern)) p → IfErr result (λ e. RefusesPattern (options_of self.now) p e) }
+        ensures { IsReading (options_of self.now) (string_bytes pattern) result }
     {
         let options = self.options();
         let alloc = *pattern.allocator();

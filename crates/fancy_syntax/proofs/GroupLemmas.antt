@@ -1,16 +1,10 @@
 -- Groups are numbered by their openings.
-use Rattle.std.proofs.Common.{ℕ, ◌+◌, ◌≤◌, List, [], ◌∷◌, map, Option, Some, None, ◌≡◌, refl, sym, subst, arith}
-use Rattle.fancy_syntax.proofs.EndsLemmas as simple
-use Rattle.fancy_syntax.proofs.EndsLemmas.{IsSimple, simple_atom}
-use Rattle.std.specs.Prelude.{encode_utf8}
-use Rattle.fancy_syntax.specs.declared.tree.Meaning.{Meaning}
-use Rattle.fancy_syntax.specs.declared.tree.Meaning.TheVariants.{Unicode, Bytes, AsciiText}
-use Rattle.fancy_syntax.specs.Pattern.{Pattern, empty, character, member_of, raw_byte, backreference, assertion, group_test, keep_start, continue_here, group, repeat, look_ahead, look_behind, atomic, conditional, followed, or_else, last_branch, in_sequence, in_choice, in_branches}
+use Rattle.std.proofs.Common.{ℕ, ◌+◌, ◌≤◌, ◌≡◌, arith}
+use Rattle.fancy_syntax.specs.Dialect.{Scope, Spells}
+use Rattle.fancy_syntax.specs.Groups.{Numbered, InOrder}
+use Rattle.fancy_syntax.specs.Pattern.{Pattern, empty, character, member_of, raw_byte, backreference, assertion, group_test, keep_start, continue_here, group, repeat, look_ahead, look_behind, atomic, conditional, followed, or_else, last_branch}
 use Rattle.fancy_syntax.specs.Words.{Text}
-use Rattle.fancy_syntax.specs.declared.groups.Grouping.{Grouping}
-use Rattle.fancy_syntax.specs.declared.groups.Grouping.TheVariants.{Atomic, LookAhead, LookBehind}
-use Rattle.fancy_syntax.specs.Dialect.{Scope, inside, grouped, literal_of, Branches, one, either, Parts, nothing, item, Item, set, bare, quantified, Atom, single, plain, flagged, capture, unnamed, named, marked, reference, reference_by_name, Spells, with_part}
-use Rattle.fancy_syntax.specs.Groups.{Numbered}
+use Rattle.fancy_syntax.proofs.OrderLemmas.{in_order}
 
 -- numbers in a range are numbers in a wider one
 pub wider : (p : Pattern) (lo hi low high : ℕ) → low ≤ lo → hi ≤ high → Numbered lo hi p → Numbered low high p
@@ -35,113 +29,44 @@ wider (followed part rest) lo hi low high a b (x, y) = (wider part lo hi low hig
 wider (or_else branch others) lo hi low high a b (x, y) = (wider branch lo hi low high a b x, wider others lo hi low high a b y)
 wider (last_branch branch) lo hi low high a b h = wider branch lo hi low high a b h
 
-abbrev AllNumbered : ℕ → ℕ → List Pattern → Type 0
-AllNumbered lo hi [] = Unit {0}
-AllNumbered lo hi (p ∷ ps) = Numbered lo hi p × AllNumbered lo hi ps
-
-all_wider : (ps : List Pattern) (lo hi low high : ℕ) → low ≤ lo → hi ≤ high → AllNumbered lo hi ps → AllNumbered low high ps
-all_wider [] lo hi low high a b h = tt
-all_wider (p ∷ ps) lo hi low high a b (x, y) = (wider p lo hi low high a b x, all_wider ps lo hi low high a b y)
-
-module _ (lo hi : ℕ) where
-  sequence_numbered : (ps : List Pattern) → AllNumbered lo hi ps → Numbered lo hi (in_sequence ps)
-  sequence_numbered [] h = tt
-  sequence_numbered (p ∷ []) h = h.0
-  sequence_numbered (p ∷ q ∷ ps) h = (h.0, sequence_numbered (q ∷ ps) h.1)
-
-  choice_numbered : (ps : List Pattern) → AllNumbered lo hi ps → Numbered lo hi (in_choice ps)
-  choice_numbered [] h = tt
-  choice_numbered (p ∷ []) h = h.0
-  choice_numbered (p ∷ q ∷ ps) h = (h.0, choice_numbered (q ∷ ps) h.1)
-
-  branches_numbered : (ps : List Pattern) → AllNumbered lo hi ps → Numbered lo hi (in_branches ps)
-  branches_numbered [] h = tt
-  branches_numbered (p ∷ []) h = h.0
-  branches_numbered (p ∷ q ∷ ps) h = choice_numbered (p ∷ q ∷ ps) h
-
-  characters_numbered : (cs : List ℕ) → AllNumbered lo hi (map character cs)
-  characters_numbered [] = tt
-  characters_numbered (c ∷ cs) = (tt, characters_numbered cs)
-
-  literal_numbered : (m : Meaning) (c : ℕ) → Numbered lo hi (literal_of m c)
-  literal_numbered Unicode c = tt
-  literal_numbered Bytes c = sequence_numbered (map character (encode_utf8 c)) (characters_numbered (encode_utf8 c))
-  literal_numbered AsciiText c = tt
-
-simple_numbered : (lo hi : ℕ) (s : Scope) {p : Pattern} → IsSimple s p → Numbered lo hi p
-simple_numbered lo hi s (simple.literal c) = literal_numbered lo hi s.meaning c
-simple_numbered lo hi s (simple.test a) = tt
-simple_numbered lo hi s (simple.item es e) = tt
-simple_numbered lo hi s (simple.byte c k) = tt
-
--- an item, which may give no part
-abbrev PartNumbered : ℕ → ℕ → Option Pattern → Type 0
-PartNumbered lo hi None = Unit {0}
-PartNumbered lo hi (Some p) = Numbered lo hi p
-
-part_wider : (x : Option Pattern) (lo hi low high : ℕ) → low ≤ lo → hi ≤ high → PartNumbered lo hi x → PartNumbered low high x
-part_wider None lo hi low high a b h = tt
-part_wider (Some p) lo hi low high a b h = wider p lo hi low high a b h
-
-parts_numbered : (lo hi : ℕ) (x : Option Pattern) (ps : List Pattern) → PartNumbered lo hi x → AllNumbered lo hi ps → AllNumbered lo hi (with_part x ps)
-parts_numbered lo hi None ps h all = all
-parts_numbered lo hi (Some p) ps h all = (h, all)
-
--- a mark opens no group that captures
-pub marked_opens_none : (how : Grouping) (s : Scope) → (inside how s).opened ≡ s.opened
-marked_opens_none Atomic s = refl
-marked_opens_none (LookAhead negated) s = refl
-marked_opens_none (LookBehind negated) s = refl
-
-marked_numbered : (how : Grouping) (lo hi : ℕ) (p : Pattern) → Numbered lo hi p → Numbered lo hi (grouped how p)
-marked_numbered Atomic lo hi p h = h
-marked_numbered (LookAhead negated) lo hi p h = h
-marked_numbered (LookBehind negated) lo hi p h = h
-
-mutual
-  numbered_branches : {k : ℕ} {s r : Scope} {t after : Text} {bs : List Pattern} → Branches k s t after bs r → (s.opened ≤ r.opened) × AllNumbered (s.opened + 1) (r.opened + 1) bs
-  numbered_branches (one {s = s} {r = r} {ps = ps} p) = let x = numbered_parts p in (x.0, (sequence_numbered (s.opened + 1) (r.opened + 1) ps x.1, tt))
-  numbered_branches (either {s = s} {q = q} {r = r} {ps = ps} {bs = bs} p b) =
-      let x = numbered_parts p in
-      let y = numbered_branches b in (
-        omega (arith, x.0, y.0),
-        (
-          wider (in_sequence ps) (s.opened + 1) (q.opened + 1) (s.opened + 1) (r.opened + 1) (omega arith) (omega (arith, y.0)) (sequence_numbered (s.opened + 1) (q.opened + 1) ps x.1),
-          all_wider bs (q.opened + 1) (r.opened + 1) (s.opened + 1) (r.opened + 1) (omega (arith, x.0)) (omega arith) y.1,
-        ),
-      )
-
-  numbered_parts : {k : ℕ} {s r : Scope} {t after : Text} {ps : List Pattern} → Parts k s t after ps r → (s.opened ≤ r.opened) × AllNumbered (s.opened + 1) (r.opened + 1) ps
-  numbered_parts (nothing b) = (omega arith, tt)
-  numbered_parts (item {s = s} {q = q} {r = r} {x = i} {ps = ps} b f g) =
-      let x = numbered_item f in
-      let y = numbered_parts g in (
-        omega (arith, x.0, y.0),
-        parts_numbered (s.opened + 1) (r.opened + 1) i ps (part_wider i (s.opened + 1) (q.opened + 1) (s.opened + 1) (r.opened + 1) (omega arith) (omega (arith, y.0)) x.1)
-            (all_wider ps (q.opened + 1) (r.opened + 1) (s.opened + 1) (r.opened + 1) (omega (arith, x.0)) (omega arith) y.1),
-      )
-
-  numbered_item : {k : ℕ} {s r : Scope} {t after : Text} {x : Option Pattern} → Item k s t after x r → (s.opened ≤ r.opened) × PartNumbered (s.opened + 1) (r.opened + 1) x
-  numbered_item (set f) = (omega arith, tt)
-  numbered_item (bare a e) = numbered_atom a
-  numbered_item (quantified a e b q) = numbered_atom a
-
-  numbered_atom : {k : ℕ} {s r : Scope} {t after : Text} {p : Pattern} → Atom k s t after p r → (s.opened ≤ r.opened) × Numbered (s.opened + 1) (r.opened + 1) p
-  numbered_atom (single {s = s} b r) = (omega arith, simple_numbered (s.opened + 1) (s.opened + 1) s (simple_atom r))
-  numbered_atom (plain {s = s} {q = q} {bs = bs} b) = let x = numbered_branches b in (x.0, branches_numbered (s.opened + 1) (q.opened + 1) bs x.1)
-  numbered_atom (flagged {s = s} {q = q} {bs = bs} f b) = let x = numbered_branches b in (x.0, branches_numbered (s.opened + 1) (q.opened + 1) bs x.1)
-  numbered_atom (unnamed {s = s} {q = q} {bs = bs} u e b) = let x = numbered_branches b in (x.0, branches_numbered (s.opened + 1) (q.opened + 1) bs x.1)
-  numbered_atom (marked {s = s} {q = q} {how = how} {bs = bs} m b) =
-      let x = rw (marked_opens_none how s) at (numbered_branches b) in
-      (x.0, marked_numbered how (s.opened + 1) (q.opened + 1) (in_branches bs) (branches_numbered (s.opened + 1) (q.opened + 1) bs x.1))
-  numbered_atom (reference h) = (omega arith, tt)
-  numbered_atom (reference_by_name n h) = (omega arith, tt)
-  numbered_atom (capture {s = s} {q = q} {bs = bs} u e b) =
-      let x = numbered_branches b in
-      (omega (arith, x.0), (omega arith, omega (arith, x.0), branches_numbered (s.opened + 1 + 1) (q.opened + 1) bs x.1))
-  numbered_atom (named {s = s} {q = q} {bs = bs} n m e b) =
-      let x = numbered_branches b in
-      (omega (arith, x.0), (omega arith, omega (arith, x.0), branches_numbered (s.opened + 1 + 1) (q.opened + 1) bs x.1))
+-- numbers that follow one another lie in the range from the first of them to the next
+within : (p : Pattern) (n m : ℕ) → InOrder n m p → (n ≤ m) × Numbered n m p
+within empty n m e = (omega (arith, e), tt)
+within (character c) n m e = (omega (arith, e), tt)
+within (member_of edges) n m e = (omega (arith, e), tt)
+within (raw_byte byte) n m e = (omega (arith, e), tt)
+within (backreference folded number) n m e = (omega (arith, e), tt)
+within (assertion x) n m e = (omega (arith, e), tt)
+within (group_test number) n m e = (omega (arith, e), tt)
+within keep_start n m e = (omega (arith, e), tt)
+within continue_here n m e = (omega (arith, e), tt)
+within (group index body) n m (e, h) =
+    let x = within body (n + 1) m h in
+    (omega (arith, x.0), (omega (arith, e), omega (arith, e, x.0), rw e x.1))
+within (repeat low high taste body) n m h = within body n m h
+within (look_ahead negated body) n m h = within body n m h
+within (look_behind negated body) n m h = within body n m h
+within (atomic body) n m h = within body n m h
+within (conditional condition first second) n m (k, l, a, b, c) =
+    let x = within condition n k a in
+    let y = within first k l b in
+    let z = within second l m c in (
+      omega (arith, x.0, y.0, z.0),
+      (
+        wider condition n k n m (omega arith) (omega (arith, y.0, z.0)) x.1,
+        wider first k l n m (omega (arith, x.0)) (omega (arith, z.0)) y.1,
+        wider second l m n m (omega (arith, x.0, y.0)) (omega arith) z.1,
+      ),
+    )
+within (followed part rest) n m (k, a, b) =
+    let x = within part n k a in
+    let y = within rest k m b in
+    (omega (arith, x.0, y.0), (wider part n k n m (omega arith) (omega (arith, y.0)) x.1, wider rest k m n m (omega (arith, x.0)) (omega arith) y.1))
+within (or_else branch others) n m (k, a, b) =
+    let x = within branch n k a in
+    let y = within others k m b in
+    (omega (arith, x.0, y.0), (wider branch n k n m (omega arith) (omega (arith, y.0)) x.1, wider others k m n m (omega (arith, x.0)) (omega arith) y.1))
+within (last_branch branch) n m h = within branch n m h
 
 pub numbered : (s : Scope) (text : Text) (p : Pattern) (e : Scope) → Spells s text p e → Numbered (s.opened + 1) (e.opened + 1) p
-numbered s text p e x = subst (λ y. Numbered (s.opened + 1) (e.opened + 1) y) (sym x.is) (branches_numbered (s.opened + 1) (e.opened + 1) x.branches (numbered_branches x.spelled).1)
+numbered s text p e x = (within p (s.opened + 1) (e.opened + 1) (in_order s text p e x)).1

@@ -5,13 +5,12 @@ use Rattle.fancy_syntax.specs.declared.groups.Grouping.{Grouping}
 use Rattle.fancy_syntax.specs.declared.groups.Grouping.TheVariants.{Atomic, LookAhead, LookBehind}
 use Rattle.fancy_syntax.specs.declared.tree.Meaning.{Meaning}
 use Rattle.fancy_syntax.specs.declared.tree.Meaning.TheVariants.{Unicode, Bytes, AsciiText}
-use Rattle.fancy_syntax.specs.Dialect.{Scope, grouped, literal_of, Branches, one, either, Parts, nothing, item, Item, set, bare, quantified, Atom, single, plain, flagged, capture, unnamed, named, marked, reference, reference_by_name, Spells, with_part}
+use Rattle.fancy_syntax.specs.Dialect.{Scope, inside, grouped, literal_of, Branches, one, either, Parts, nothing, item, Item, set, bare, quantified, Atom, single, plain, flagged, capture, unnamed, named, marked, reference, reference_by_name, Spells, with_part}
 use Rattle.fancy_syntax.specs.Groups.{InOrder}
 use Rattle.fancy_syntax.specs.Pattern.{Pattern, character, in_sequence, in_choice, in_branches}
 use Rattle.fancy_syntax.specs.Words.{Text}
 use Rattle.fancy_syntax.proofs.EndsLemmas as simple
 use Rattle.fancy_syntax.proofs.EndsLemmas.{IsSimple, simple_atom}
-use Rattle.fancy_syntax.proofs.GroupLemmas.{marked_opens_none}
 
 -- these, one behind the other
 abbrev AllInOrder : ℕ → ℕ → List Pattern → Type 0
@@ -64,6 +63,12 @@ marked_in_order : (how : Grouping) (n m : ℕ) (p : Pattern) → InOrder n m p �
 marked_in_order Atomic n m p h = h
 marked_in_order (LookAhead negated) n m p h = h
 marked_in_order (LookBehind negated) n m p h = h
+
+-- a mark opens no group that captures
+marked_opens_none : (how : Grouping) (s : Scope) → (inside how s).opened ≡ s.opened
+marked_opens_none Atomic s = refl
+marked_opens_none (LookAhead negated) s = refl
+marked_opens_none (LookBehind negated) s = refl
 
 mutual
   ordered_branches : {k : ℕ} {s r : Scope} {t after : Text} {bs : List Pattern} → Branches k s t after bs r → AllInOrder (s.opened + 1) (r.opened + 1) bs

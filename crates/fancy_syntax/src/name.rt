@@ -49,7 +49,7 @@ pub(crate) fn split_name(text: &[char]) -> (&[char], &[char])
 }
 
 /// The number of the last of these groups that has the name.
-pub(crate) fn last_named(groups: &[GroupName], name: &str) -> Option<usize>
+pub fn last_named(groups: &[GroupName], name: &str) -> Option<usize>
     ensures { result ≡ last_named (chars name.now) (named_groups groups.now) }
 {
     let mut found = None;

@@ -93,7 +93,8 @@ pub struct Parsed {
 /// group that the pattern does not have is refused by [`CompileError::InvalidBackref`] with its number, or by
 /// [`CompileError::InvalidGroupNameBackref`] with its name; a number above 4,294,967,295 stands as that. A look-behind
 /// whose body has no one size, and is no alternative of branches that each have one, is refused by
-/// [`CompileError::LookBehindNotConst`], as `(?<=a+)`; `(?<=a|bc)` is not. Where memory runs out the answer is [`Error::Memory`], and a pattern is refused in no other case.
+/// [`CompileError::LookBehindNotConst`], as `(?<=a+)`; `(?<=a|bc)` is not. Where memory runs out the answer is
+/// [`Error::Memory`], and a pattern is refused in no other case.
 ///
 /// As an example `(a|b)?c` is the sequence of an optional group 1 and a character, so that `groups` is 2, while
 /// `a)` is refused at place 1 with [`ParseErrorKind::GeneralParseError`].

@@ -54,6 +54,7 @@ impl Tree {
     }
 }
 
+/// Does the same in each of these trees.
 #[cycle(refer)]
 fn refer_all(trees: &mut Vec<Tree>, numbers: &[usize])
     ensures { map pattern_of trees.new.items ≡ map (refers_to (number_in numbers.now)) (map pattern_of trees.old.items) }

@@ -68,9 +68,11 @@ fn number_reference(text: &[char]) -> Option<Reading<'_>>
     ensures value { option_map reading_of result ≡ number_reference text.now }
     ensures shorter { IfSome result (λ r. length r.1.now ≤ length text.now) }
 {
+    if !is_at_any(text, &['1', '2', '3', '4', '5', '6', '7', '8', '9']) {
+        return None;
+    }
     let number = decimal(text);
-    let begins = is_at_any(text, &['1', '2', '3', '4', '5', '6', '7', '8', '9']);
-    if !begins || number > LARGEST_TOLD {
+    if number > LARGEST_TOLD {
         return None;
     }
     Some((Target::Numbered(number as usize), past_digits(text)))

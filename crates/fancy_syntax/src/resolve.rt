@@ -28,10 +28,7 @@ pub(crate) struct Groups<'a> {
 pub(crate) fn names_alone(only_named: bool, names: &[GroupName]) -> bool
     ensures { result ≡ (only_named && has_name (named_groups names.now)) }
 {
-    if !only_named {
-        return false;
-    }
-    !names.is_empty()
+    only_named && !names.is_empty()
 }
 
 /// The refusal of a reference to a name that no group has.

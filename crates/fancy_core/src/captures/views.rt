@@ -3,7 +3,7 @@
 ghost use Rattle.std.specs.Prelude.{◌≡◌, ◌-◌, IfSome, length, option_map};
 ghost use Rattle.std.specs.Iterator.{YieldsFirstBy, at_most};
 ghost use Rattle.fancy_core.specs.Groups.{AreCut, span_at};
-ghost use Rattle.fancy_core.specs.Captured.{spans_in, searched_in, found_by, groups_left};
+ghost use Rattle.fancy_core.specs.Captured.{spans_in, searched_in, found_by, sub_captures_left};
 
 use crate::captures::Captures;
 use crate::regex::Regex;
@@ -61,7 +61,7 @@ impl<'r, S: Input> Captures<'r, S> {
 
     /// What each group matched, in the order of their numbers.
     pub fn iter<'c>(&'c self) -> SubCaptureMatches<'c, 'r, S>
-        ensures { groups_left result ≡ spans_in self.now }
+        ensures { sub_captures_left result ≡ spans_in self.now }
     {
         SubCaptureMatches {
             captures: self,
@@ -91,7 +91,7 @@ pub struct SubCaptureMatches<'c, 'r, S: Haystack> {
 impl<'c, 'r, S: Input> Iterator for SubCaptureMatches<'c, 'r, S> {
     type Item = Option<S::Match>;
 
-    ghost next_gives = { YieldsFirstBy (option_map S.span) groups_left };
+    ghost next_gives = { YieldsFirstBy (option_map S.span) sub_captures_left };
 
     ghost remaining = { λ s. at_most (length (spans_in s.captures.now) - s.next) };
 
