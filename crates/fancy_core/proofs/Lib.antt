@@ -2,6 +2,7 @@ pub mod NoneLemmas
 pub mod SearchedLemmas
 pub mod ServedLemmas
 pub mod ProgramSizeLemmas
+pub mod BuiltLemmas
 pub mod CutLemmas
 pub mod NamesLemmas
 pub mod RisingLemmas

@@ -15,10 +15,11 @@ ghost use Rattle.fancy_core.specs.Escapes.{escaped_pattern};
 ghost use Rattle.fancy_core.specs.Literals.{literally, IsOfEscape, span_found};
 ghost use Rattle.fancy_core.specs.Options.{dialect_of};
 ghost use Rattle.fancy_core.specs.ProgramSize.{SetsNoSize, RefusesPattern, IsRefusedUnder};
-ghost use Rattle.fancy_core.specs.Regexes.{options_in};
+ghost use Rattle.fancy_core.specs.Compiled.{IsSpelled};
+ghost use Rattle.fancy_core.specs.Regexes.{text_of, options_in, pattern_in, groups_in};
 ghost use Rattle.fancy_core.specs.declared.options.Options.{Options};
 ghost use Rattle.fancy_core.specs.Searching.{CanSearch};
-ghost use Rattle.fancy_core.specs.Names.{StandsOnGroup};
+ghost use Rattle.fancy_core.specs.Names.{names_in, StandsOnGroup};
 ghost use Rattle.fancy_core.specs.Matching.{InOrder, FindsNone};
 ghost use Rattle.fancy_core.specs.Left.{scan, matches_of, last_start_of};
 ghost use Rattle.fancy_core.specs.Pieces.{pieces, first_pieces, interleaved, texts};
@@ -27,6 +28,12 @@ ghost use Rattle.fancy_core.specs.Splits.{match_spans};
 use crate::regex::Regex;
 use fancy_input::input::Input;
 use fancy_input::regex_input::RegexInput;
+
+/// A regex stands for the pattern that its text spells under its options; the number of its groups and their names are those that the
+/// text has. So whoever is lent a regex can reason about what it finds.
+pub fn regex_is_of_its_text(_regex: &Regex)
+    ensures { ∥ IsSpelled (options_in _regex.now) (text_of _regex.now) (pattern_in _regex.now) (groups_in _regex.now) (names_in _regex.now) ∥₁ }
+{}
 
 /// Where no size was set for the code of hard patterns, want of memory alone refuses a pattern of the dialect, and what is refused for
 /// anything else is none.

@@ -1,4 +1,4 @@
-use Rattle.std.proofs.Common.{sym, ◌∙◌, ◌+◌, ap, subst, inr, arith}
+use Rattle.std.proofs.Common.{refl, sym, ◌∙◌, ◌+◌, ap, subst, inl, inr, arith}
 use Rattle.fancy_syntax.specs.Dialect as dialect
 use Rattle.std.proofs.lemmas.Result.{err_from_is_err_and}
 use Rattle.fancy_syntax.specs.Pattern.{pattern_of}
@@ -8,14 +8,22 @@ use Rattle.fancy_syntax.proofs.GroupLemmas.{numbered, wider}
 use Rattle.fancy_syntax.proofs.RefersFacts.{numbered-refers_to}
 use Rattle.fancy_syntax.specs.Groups.{Numbered}
 use Rattle.fancy_engine.proofs.SpelledLemmas.{bytes_accepted, start_accepted, sets_accepted}
+use Rattle.fancy_core.proofs.BuiltLemmas.{is_refused, out_of_memory}
 use Rattle.fancy_core.proofs.RisingLemmas.{rising_names}
 use Rattle.fancy_core.proofs.ProgramSizeLemmas.{too_long, both_of, second_fails}
 use Rattle.fancy_core.proofs.options.RegexOptionsBuilder.build.Goals as goal
 
-pub returns-in_err-tree-clause-succeeds : goal.returns-in_err-tree-clause-succeeds
-returns-in_err-tree-clause-succeeds c = λ p h.
-    let e = c.in_err-tree.ensures.succeeds p (rw (c.syntax.ensures, c.options-options.ensures, c.as_str.ensures.value) h) in
-    let q = err_from_is_err_and c.from_residual.result c.from_residual.ensures.1 in rw (q.1, q.2 ∙ e) tt
+pub returns-in_err-tree : goal.returns-in_err-tree
+returns-in_err-tree c =
+    let q = err_from_is_err_and c.from_residual.result c.from_residual.ensures.1 in
+    let refused = rw (c.syntax.ensures, c.options-options.ensures, c.as_str.ensures.value) at c.in_err-tree.ensures.refused in
+    rw (q.1, q.2) (is_refused _ _ _ (inl refused) (λ p h.
+    let e = c.in_err-tree.ensures.succeeds p (rw (c.syntax.ensures, c.options-options.ensures, c.as_str.ensures.value) h) in rw e tt))
+
+pub returns-in_err-code : goal.returns-in_err-code
+returns-in_err-code c =
+    let q = err_from_is_err_and c.from_residual-in_err-code.result c.from_residual-in_err-code.ensures.1 in
+    rw (q.1, q.2) (out_of_memory _ _)
 
 pub compile-requires-clause-small : goal.compile-requires-clause-small
 compile-requires-clause-small c = omega (arith, (c.in_ok-tree.ensures.accepted.0).small)
@@ -31,6 +39,7 @@ compile-requires-clause-numbered c =
 pub invariant_of-result : goal.invariant_of-result
 invariant_of-result c = record {
   compiled = ∣ record {
+    spelled = let h = rw (c.syntax.ensures, c.as_str.ensures.value) at c.in_ok-tree.ensures.accepted in record { spelled = h.0; counted = h.1 ∙ sym c.in_ok-code.ensures.groups; named = sym h.2 };
     coded = c.in_ok-code.ensures.code;
     counted = omega (arith, c.in_ok-tree.ensures.accepted.1, c.in_ok-code.ensures.groups);
     named = rising_names _ (views.options_of c.syntax.result) _ _ _ _ _ (c.in_ok-tree.ensures.accepted.0).spelled.spelled (c.in_ok-tree.ensures.accepted.1 ∙ sym c.in_ok-code.ensures.groups) c.in_ok-tree.ensures.accepted.2;
@@ -43,26 +52,22 @@ invariant_of-result c = record {
   whole = λ e. bytes_accepted (ap (λ (o : dialect.Options). o.keeps_characters) c.syntax.ensures ∙ e) (c.in_ok-tree.ensures.accepted.0);
 }
 
-pub returns-then-forbids-clause-refused : goal.returns-then-forbids-clause-refused
-returns-then-forbids-clause-refused c =
+pub returns-then-forbids : goal.returns-then-forbids
+returns-then-forbids c =
     let h = rw (c.syntax.ensures, c.options-options.ensures, c.as_str.ensures.value) at c.in_ok-tree.ensures.accepted.0 in
     let found = rw (c.options-options.ensures, c.len.ensures) at (sym c.if-forbids.ensures) in
     let why = both_of _ _ found in
-    inr (_, h, too_long (options_of c.args.self.now) _ _ _ _ h h (sym c.is_easy-easy.ensures ∙ why.0) (c.in_ok-code.ensures.short) why.1)
+    is_refused _ _ _ (inr (_, h, too_long (options_of c.args.self.now) _ _ _ _ h h (sym c.is_easy-easy.ensures ∙ why.0) (c.in_ok-code.ensures.short) why.1))
+    (λ p x. too_long (options_of c.args.self.now) _ _ _ _ x h (sym c.is_easy-easy.ensures ∙ why.0) (c.in_ok-code.ensures.short) why.1)
 
-pub returns-then-forbids-clause-succeeds : goal.returns-then-forbids-clause-succeeds
-returns-then-forbids-clause-succeeds c = λ p x.
-    let h = rw (c.syntax.ensures, c.options-options.ensures, c.as_str.ensures.value) at c.in_ok-tree.ensures.accepted.0 in
-    let found = rw (c.options-options.ensures, c.len.ensures) at (sym c.if-forbids.ensures) in
-    let why = both_of _ _ found in
-    too_long (options_of c.args.self.now) _ _ _ _ x h (sym c.is_easy-easy.ensures ∙ why.0) (c.in_ok-code.ensures.short) why.1
-
-pub returns-clause-sized : goal.returns-clause-sized
-returns-clause-sized c = λ hard.
-    let found = rw (c.options-options.ensures, c.len.ensures) at (sym c.if-forbids.ensures) in
-    second_fails _ _ (c.is_easy-easy.ensures ∙ hard) found
-
-pub returns-clause-groups : goal.returns-clause-groups
-returns-clause-groups c =
-    let h = rw (c.syntax.ensures, c.options-options.ensures, c.as_str.ensures.value) at c.in_ok-tree.ensures.accepted in
-    (h.0, h.1 ∙ sym c.in_ok-code.ensures.groups, sym h.2)
+pub returns : goal.returns
+returns c = record {
+  text = refl;
+  options = c.options-options.ensures;
+  spelled =
+      let h = rw (c.syntax.ensures, c.options-options.ensures, c.as_str.ensures.value) at c.in_ok-tree.ensures.accepted in
+      record { spelled = h.0; counted = h.1 ∙ sym c.in_ok-code.ensures.groups; named = sym h.2 };
+  sized = λ hard. second_fails _ _ (c.is_easy-easy.ensures ∙ hard) (rw (c.options-options.ensures, c.len.ensures) at (sym c.if-forbids.ensures));
+  refused = tt;
+  succeeds = λ p h. tt;
+}
