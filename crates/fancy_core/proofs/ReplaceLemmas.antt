@@ -1,5 +1,5 @@
 -- Lemmas on replacing matches one after the other.
-use Rattle.std.proofs.Common.{arith, ℕ, zero, suc, ◌-◌, ◌<◌, ◌≡◌, Bool, true, false, ◌&&◌, List, [], ◌∷◌, ◌++◌, Option, None, Some, Result, Ok, Err, IfOk, IfErr, length, map, slice_range, refl, sym, ◌∙◌, ap, subst, append-nil, append_assoc, inl, inr}
+use Rattle.std.proofs.Common.{arith, ℕ, zero, suc, ◌-◌, ◌<◌, ◌≡◌, Bool, true, false, List, [], ◌∷◌, ◌++◌, Option, None, Some, Result, Ok, Err, IfOk, IfErr, length, map, slice_range, refl, sym, ◌∙◌, ap, subst, append-nil, append_assoc, inl, inr}
 use Rattle.std.specs.Prelude.{MatchBool, ◌↔◌, ◌⊎◌}
 use Rattle.std.proofs.lemmas.List.{map-append}
 use Rattle.fancy_syntax.specs.declared.error.Error.{Error}
