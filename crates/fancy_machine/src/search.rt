@@ -3,8 +3,8 @@
 ghost use Rattle.std.specs.Prelude.{◌≡◌, ◌+◌, ◌-◌, ◌<◌, ◌≤◌, ◌&&◌, not, Option, Some, None, Err, IfOk, length};
 ghost use Rattle.fancy_syntax.specs.Limits.{most_branches};
 ghost use Rattle.fancy_syntax.specs.Pattern.{Pattern};
-ghost use Rattle.fancy_engine.specs.Means.{IsCodeOf};
 ghost use Rattle.fancy_input.specs.Requests.{effective_start};
+ghost use Rattle.fancy_engine.specs.Means.{IsCodeOf};
 ghost use Rattle.fancy_engine.specs.Search.{continues_from, search, returns, choices};
 ghost use Rattle.fancy_engine.specs.Work.{returns_of};
 ghost use Rattle.fancy_machine.specs.Asked.{asked, answer_of, all_tried};
