@@ -15,7 +15,7 @@ use Rattle.fancy_core.specs.Scratch.{found_at}
 use Rattle.fancy_engine.specs.Placed.{has_keep_start, any_place, LiesWithin, KeepsBoundaries, by_characters, of_ascii, reads_characters}
 use Rattle.fancy_engine.proofs.FoundLemmas.{answer_within, answer_on_boundaries}
 use Rattle.fancy_core.specs.declared.regex.Regex.{Regex}
-use Rattle.fancy_core.specs.Regexes.{options_in, asked}
+use Rattle.fancy_core.specs.Regexes.{options_in, asked_in_turn}
 use Rattle.fancy_core.specs.Searching.{Suits}
 use Rattle.fancy_core.specs.Groups.{span_of_group, spans_of, span_at, IsCut, AreCut}
 
@@ -78,17 +78,17 @@ module _ (q : Query) (text : Bool) (position : ℕ) (memory : Scratch) (within :
   all_cut n number s e h =
       either_cut (number == 0) number s e (span_listed (span_of_group (found_at position memory)) n number (s, e) h)
 
-keeps_by : (r : Regex) (text : Bool) (haystack : List ℕ) (request : Request) (b : Bool) → keeps_characters (options_in r).bytes_mode ≡ b →
-    Suits (options_in r) text haystack → (text ≡ true → IsUtf8 haystack) → text ≡ true → KeepsBoundaries (asked r haystack request)
-keeps_by r text haystack request true e suits utf8 t = by_characters (utf8 t) (whole_characters _ _ e) (r.whole e) e
-keeps_by r text haystack request false e suits utf8 t = of_ascii (suits t e)
+keeps_by : (r : Regex) (text : Bool) (haystack : List ℕ) (request : Request) (c b : Bool) → keeps_characters (options_in r).bytes_mode ≡ b →
+    Suits (options_in r) text haystack → (text ≡ true → IsUtf8 haystack) → text ≡ true → KeepsBoundaries (asked_in_turn r haystack request c)
+keeps_by r text haystack request c true e suits utf8 t = by_characters (utf8 t) (whole_characters _ _ e) (r.whole e) e
+keeps_by r text haystack request c false e suits utf8 t = of_ascii (suits t e)
 
 -- what a search with a regex finds can be cut out of the haystack, with all its groups
-pub groups_cut : (r : Regex) (text : Bool) (haystack : List ℕ) (request : Request) (position : ℕ) (memory : Scratch) (n : ℕ) →
+pub groups_cut : (r : Regex) (text : Bool) (haystack : List ℕ) (request : Request) (c : Bool) (position : ℕ) (memory : Scratch) (n : ℕ) →
     request.range_end ≤ length haystack → Suits (options_in r) text haystack → (text ≡ true → IsUtf8 haystack) →
-    Some (found_at position memory) ≡ search (asked r haystack request) → AreCut text haystack (spans_of n (found_at position memory))
-groups_cut r text haystack request position memory n range suits utf8 e =
-    all_cut (asked r haystack request) text position memory
-    (answer_within (asked r haystack request) _ refl range (sym e))
-    (λ t. answer_on_boundaries (asked r haystack request) _ refl range (keeps_by r text haystack request _ refl suits utf8 t) (sym e))
+    Some (found_at position memory) ≡ search (asked_in_turn r haystack request c) → AreCut text haystack (spans_of n (found_at position memory))
+groups_cut r text haystack request c position memory n range suits utf8 e =
+    all_cut (asked_in_turn r haystack request c) text position memory
+    (answer_within (asked_in_turn r haystack request c) _ refl range (sym e))
+    (λ t. answer_on_boundaries (asked_in_turn r haystack request c) _ refl range (keeps_by r text haystack request c _ refl suits utf8 t) (sym e))
     range r.starts n

@@ -9,6 +9,7 @@ pub mod RisingLemmas
 pub mod NumberedLemmas
 pub mod MatchingLemmas
 pub mod EndLemmas
+pub mod ExampleLemmas
 pub mod ScanLemmas
 pub mod LeftLemmas
 pub mod StepLemmas

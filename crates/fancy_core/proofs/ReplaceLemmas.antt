@@ -1,5 +1,5 @@
 -- Lemmas on replacing matches one after the other.
-use Rattle.std.proofs.Common.{arith, ℕ, zero, suc, ◌-◌, ◌<◌, ◌≡◌, Bool, true, false, ◌&&◌, List, [], ◌∷◌, ◌++◌, Option, None, Some, Result, Ok, Err, IfOk, IfErr, length, map, slice_range, refl, sym, ◌∙◌, ap, subst, append-nil, append_assoc, inl, inr}
+use Rattle.std.proofs.Common.{arith, ℕ, zero, suc, ◌-◌, ◌<◌, ◌≡◌, Bool, true, false, List, [], ◌∷◌, ◌++◌, Option, None, Some, Result, Ok, Err, IfOk, IfErr, length, map, slice_range, refl, sym, ◌∙◌, ap, subst, append-nil, append_assoc, inl, inr}
 use Rattle.std.specs.Prelude.{MatchBool, ◌↔◌, ◌⊎◌}
 use Rattle.std.proofs.lemmas.List.{map-append}
 use Rattle.fancy_syntax.specs.declared.error.Error.{Error}
@@ -9,7 +9,7 @@ use Rattle.fancy_input.specs.Requests.{whole}
 use Rattle.fancy_input.specs.Places.{next_place}
 use Rattle.fancy_core.specs.Left.{refused_next, at_first, at_next}
 use Rattle.fancy_core.specs.Limited.{Refuses}
-use Rattle.fancy_core.specs.Regexes.{asked}
+use Rattle.fancy_core.specs.Regexes.{asked_in_turn}
 use Rattle.fancy_engine.specs.Search.{Query}
 use Rattle.fancy_engine.specs.Context.{Span}
 use Rattle.fancy_core.specs.declared.regex.Regex.{Regex}
@@ -31,10 +31,10 @@ text_out_of_memory regex t e h = (0, true, out_of_memory regex _ e h)
 pub text_refused : (regex : Regex) (text : Bool) (t : List ℕ) (r : Request) (c b : Bool) (e : Error) → r ≡ record (whole t) { start = r.start } →
     refused_next regex text t r c b e → IsRefusedBySearch regex t e
 text_refused regex text t r c b e of_text (at_first x) =
-    (r.start, r.continues && c, subst (λ (q : Request). Refuses regex (asked regex t (record q { start = r.start; continues = r.continues && c })) e) of_text x)
+    (r.start, c, subst (λ (q : Request). Refuses regex (asked_in_turn regex t (record q { start = r.start }) c) e) of_text x)
 text_refused regex text t r c b e of_text (at_next i on found empty stops x) =
     let s = next_place text t r.start in
-    (s, r.continues && false, subst (λ (q : Request). Refuses regex (asked regex t (record q { start = s; continues = r.continues && false })) e) of_text x)
+    (s, false, subst (λ (q : Request). Refuses regex (asked_in_turn regex t (record q { start = s }) false) e) of_text x)
 
 no_end : {A : Type 0} (xs : List A) (x : A) → xs ++ (x ∷ []) ≡ [] → ⊥
 no_end [] x e = absurd (cc)

@@ -1,5 +1,5 @@
 -- What the searches of an iteration owe its list.
-use Rattle.std.proofs.Common.{arith, ℕ, suc, ◌≤◌, ◌<◌, ◌^◌, ◌≡◌, Bool, true, false, ◌&&◌, List, length, Option, Some, IsTrue, IsUtf8, refl, sym}
+use Rattle.std.proofs.Common.{arith, ℕ, suc, ◌≤◌, ◌<◌, ◌^◌, ◌≡◌, Bool, true, false, List, length, Option, Some, IsTrue, IsUtf8, refl, sym}
 use Rattle.std.proofs.lemmas.Grind.{common_steps}
 use Rattle.fancy_input.specs.declared.input.Request.{Request}
 use Rattle.fancy_input.specs.Requests.{effective_start}
@@ -11,7 +11,7 @@ use Rattle.fancy_core.specs.Scratch.{found_at, answer_of}
 use Rattle.fancy_engine.proofs.FoundLemmas.{answer_within}
 use Rattle.fancy_engine.proofs.SearchLemmas.{answer-is}
 use Rattle.fancy_core.specs.declared.regex.Regex.{Regex}
-use Rattle.fancy_core.specs.Regexes.{asked, options_in}
+use Rattle.fancy_core.specs.Regexes.{asked_in_turn, options_in}
 use Rattle.fancy_core.specs.Searching.{Suits}
 use Rattle.fancy_core.specs.Matching.{Sound}
 use Rattle.fancy_core.specs.Left.{scan, HasGroups, matches_of, items_left, turns_left}
@@ -19,11 +19,11 @@ use Rattle.fancy_core.proofs.CutLemmas.{groups_cut}
 use Rattle.fancy_core.proofs.MatchingLemmas.{few_matches}
 
 -- what a search with the regex finds lies between its effective start and its range's end
-pub search_lies : (regex : Regex) (haystack : List ℕ) (r : Request) (f : Found) → r.range_end ≤ length haystack → search (asked regex haystack r) ≡ Some f →
+pub search_lies : (regex : Regex) (haystack : List ℕ) (r : Request) (c : Bool) (f : Found) → r.range_end ≤ length haystack → search (asked_in_turn regex haystack r c) ≡ Some f →
     (effective_start r ≤ f.state.kept) × (f.state.kept ≤ f.state.place) × (f.state.place ≤ r.range_end)
-search_lies regex haystack r f range e =
-    let within = answer_within (asked regex haystack r) f refl range e in
-    let first = answer-is (asked regex haystack r) f refl e in
+search_lies regex haystack r c f range e =
+    let within = answer_within (asked_in_turn regex haystack r c) f refl range e in
+    let first = answer-is (asked_in_turn regex haystack r c) f refl e in
     let kept : f.state.kept ≡ f.position = within.kept regex.starts in
     let a : effective_start r ≤ f.position = first.tried.from in
     let b : f.position ≤ f.state.place = within.begins in
@@ -31,7 +31,7 @@ search_lies regex haystack r f range e =
 
 pub scan_sound : (regex : Regex) (text : Bool) (haystack : List ℕ) (r : Request) → r.range_end ≤ length haystack → Sound (scan regex text haystack r)
 scan_sound regex text haystack r range = record {
-  found = λ s c f e. let l = search_lies regex haystack (record r { start = s; continues = r.continues && c }) f range e in record { after = l.0; ordered = l.1; inside = l.2 };
+  found = λ s c f e. let l = search_lies regex haystack (record r { start = s }) c f range e in record { after = l.0; ordered = l.1; inside = l.2 };
   advances = λ i. next_place_above text haystack i;
 }
 
@@ -45,18 +45,18 @@ pub next_place_clean : (text : Bool) (haystack : List ℕ) (i : ℕ) → text �
 next_place_clean true haystack i e = next_place_boundary haystack i
 next_place_clean false haystack i e = cc
 
-pub search_after : (regex : Regex) (haystack : List ℕ) (r : Request) (f : Found) → r.range_end ≤ length haystack → search (asked regex haystack r) ≡ Some f → r.start ≤ f.state.kept
-search_after regex haystack r f range e = let l : effective_start r ≤ f.state.kept = (search_lies regex haystack r f range e).0 in grind (arith, common_steps)
+pub search_after : (regex : Regex) (haystack : List ℕ) (r : Request) (c : Bool) (f : Found) → r.range_end ≤ length haystack → search (asked_in_turn regex haystack r c) ≡ Some f → r.start ≤ f.state.kept
+search_after regex haystack r c f range e = let l : effective_start r ≤ f.state.kept = (search_lies regex haystack r c f range e).0 in grind (arith, common_steps)
 
--- the same of what a search answered: q is r but for `\G`
-pub answered_after : (regex : Regex) (bytes haystack : List ℕ) (r q : Request) (b : Bool) (m : Option ℕ) (p : ℕ) (memory : Scratch) → r.range_end ≤ length haystack → bytes ≡ haystack → q ≡ record r { continues = b } → m ≡ Some p →
-    answer_of m memory ≡ search (asked regex bytes q) → r.start ≤ (found_at p memory).state.kept
-answered_after regex bytes haystack r q b m p memory range same moved found e =
-    let f : search (asked regex haystack (record r { continues = b })) ≡ Some (found_at p memory) = sym (rw (found, same, moved) at e) in
-    search_after regex haystack (record r { continues = b }) _ range f
+-- the same of what a search answered
+pub answered_after : (regex : Regex) (bytes haystack : List ℕ) (r : Request) (c : Bool) (m : Option ℕ) (p : ℕ) (memory : Scratch) → r.range_end ≤ length haystack → bytes ≡ haystack → m ≡ Some p →
+    answer_of m memory ≡ search (asked_in_turn regex bytes r c) → r.start ≤ (found_at p memory).state.kept
+answered_after regex bytes haystack r c m p memory range same found e =
+    let f : search (asked_in_turn regex haystack r c) ≡ Some (found_at p memory) = sym (rw (found, same) at e) in
+    search_after regex haystack r c _ range f
 
-pub answered_groups : (regex : Regex) (text : Bool) (bytes haystack : List ℕ) (r q : Request) (b : Bool) (m : Option ℕ) (p : ℕ) (memory : Scratch) → r.range_end ≤ length haystack → bytes ≡ haystack → q ≡ record r { continues = b } → m ≡ Some p →
-    Suits (options_in regex) text haystack → (text ≡ true → IsUtf8 bytes) → answer_of m memory ≡ search (asked regex bytes q) → HasGroups text haystack p memory
-answered_groups regex text bytes haystack r q b m p memory range same moved found suits utf8 e = record {
-  cut = λ n. groups_cut regex text haystack (record r { continues = b }) p memory n range suits (λ t. rw same at (utf8 t)) (rw (found, same, moved) at e);
+pub answered_groups : (regex : Regex) (text : Bool) (bytes haystack : List ℕ) (r : Request) (c : Bool) (m : Option ℕ) (p : ℕ) (memory : Scratch) → r.range_end ≤ length haystack → bytes ≡ haystack → m ≡ Some p →
+    Suits (options_in regex) text haystack → (text ≡ true → IsUtf8 bytes) → answer_of m memory ≡ search (asked_in_turn regex bytes r c) → HasGroups text haystack p memory
+answered_groups regex text bytes haystack r c m p memory range same found suits utf8 e = record {
+  cut = λ n. groups_cut regex text haystack r c p memory n range suits (λ t. rw same at (utf8 t)) (rw (found, same) at e);
 }

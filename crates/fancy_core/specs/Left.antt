@@ -1,26 +1,30 @@
 -- What an iteration over the matches of a regex has left.
-use Rattle.std.specs.Prelude.{ℕ, zero, suc, ◌&&◌, length, ⊤, ◌≡◌, Bool, true, false, nat_eq, if◌then◌else◌, List, [], ◌∷◌, Option, Some, Result, MatchOption, MatchResult}
+use Rattle.std.specs.Prelude.{ℕ, zero, suc, length, ⊤, ◌≡◌, Bool, true, false, nat_eq, if◌then◌else◌, List, [], ◌∷◌, Option, Some, Result, MatchOption, MatchResult}
 use Rattle.fancy_syntax.specs.declared.error.Error.{Error}
 use Rattle.fancy_input.specs.declared.input.Request.{Request}
 use Rattle.fancy_input.specs.Places.{next_place}
-use Rattle.fancy_engine.specs.Search.{search}
+use Rattle.fancy_engine.specs.Search.{Query, search}
 use Rattle.fancy_core.specs.declared.regex.Regex.{Regex}
 use Rattle.fancy_core.specs.declared.walk.Located.{Located}
-use Rattle.fancy_core.specs.Regexes.{asked}
+use Rattle.fancy_core.specs.Regexes.{asked, asked_in_turn}
 use Rattle.fancy_core.specs.declared.scratch.Scratch.{Scratch}
 use Rattle.fancy_core.specs.Groups.{AreCut, spans_of}
 use Rattle.fancy_core.specs.Limited.{Refuses}
 use Rattle.fancy_core.specs.Scratch.{found_at}
 use Rattle.fancy_core.specs.Matching.{Scan, Item, stop_of, is_empty, answer, unless_empty_at, start_unless_empty_at, items_from, end_from, matches, last_start}
 
--- the iteration of a request; `text` says that the haystack is text
-abbrev pub scan : Regex → Bool → List ℕ → Request → Scan
-scan regex text haystack r = record {
-  find = λ s c. search (asked regex haystack (record r { start = s; continues = r.continues && c }));
-  advance = next_place text haystack;
-  floor = r.range_start;
-  last = r.range_end;
+-- The iteration of a query: it is asked again from each start, with `\G` on or off. `text` says that the haystack is text.
+abbrev pub iteration : Bool → Query → Scan
+iteration text q = record {
+  find = λ s c. search (record q { request = record q.request { start = s }; continues = c });
+  advance = next_place text q.haystack;
+  floor = q.request.range_start;
+  last = q.request.range_end;
 }
+
+-- the iteration of a request
+abbrev pub scan : Regex → Bool → List ℕ → Request → Scan
+scan regex text haystack r = iteration text (asked regex haystack r)
 
 -- the matches that a request has one behind the other
 abbrev pub matches_of : Regex → Bool → List ℕ → Request → List Item
@@ -70,7 +74,7 @@ end_left regex text haystack r ended continues skips_empty = end_if ended (scan 
 
 -- the search from s, with `\G` on or off, may be refused by this error
 abbrev pub refuses_at : Regex → List ℕ → Request → ℕ → Bool → Error → Type 0
-refuses_at regex haystack r s c e = Refuses regex (asked regex haystack (record r { start = s; continues = r.continues && c })) e
+refuses_at regex haystack r s c e = Refuses regex (asked_in_turn regex haystack (record r { start = s }) c) e
 
 -- The next search may be refused by this error, where an iteration stands at s: that from s, or that from the next place, where the empty match at s is passed over.
 pub data RefusesNext (refuses : ℕ → Bool → Error → Type 0) (k : Scan) (skips_empty : Bool) (s : ℕ) (c : Bool) (e : Error) : Type 0 where

@@ -12,6 +12,7 @@ pub mod Names
 pub mod Built
 pub mod Matching
 pub mod Left
+pub mod Examples
 pub mod Iterations
 pub mod CaptureIterations
 pub mod Templates

@@ -1,5 +1,5 @@
 -- What a regex stands for, and what a search with it asks.
-use Rattle.std.specs.Prelude.{ℕ, false, List, string_bytes}
+use Rattle.std.specs.Prelude.{ℕ, Bool, true, false, List, string_bytes}
 use Rattle.fancy_syntax.specs.Modes.{keeps_characters}
 use Rattle.fancy_syntax.specs.Pattern.{Pattern, pattern_of}
 use Rattle.fancy_input.specs.declared.input.Request.{Request}
@@ -45,6 +45,11 @@ sought_by o groups p = record {
   longest = false;
 }
 
--- what a search with the regex asks
+-- what a search with the regex asks, with `\G` on or off
+abbrev pub asked_in_turn : Regex → List ℕ → Request → Bool → Query
+asked_in_turn r haystack request on =
+    record { sought = sought_by (options_in r) (groups_in r) (pattern_in r); haystack = haystack; request = request; continues = on }
+
+-- what a search by itself asks: `\G` is on
 abbrev pub asked : Regex → List ℕ → Request → Query
-asked r haystack request = record { sought = sought_by (options_in r) (groups_in r) (pattern_in r); haystack = haystack; request = request }
+asked r haystack request = asked_in_turn r haystack request true

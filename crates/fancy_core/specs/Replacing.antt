@@ -11,7 +11,7 @@ use Rattle.fancy_core.specs.Left.{matches_of}
 use Rattle.fancy_core.specs.Limited.{Refuses}
 use Rattle.fancy_core.specs.Matching.{Item, span_of_item}
 use Rattle.fancy_core.specs.Pieces.{pieces, interleaved}
-use Rattle.fancy_core.specs.Regexes.{groups_in, asked}
+use Rattle.fancy_core.specs.Regexes.{groups_in, asked_in_turn}
 use Rattle.fancy_core.specs.Templates.{dollar_syntax}
 
 -- a template without `$` is one text for all matches: its own characters
@@ -57,7 +57,7 @@ all_matches regex t = matches_of regex true t (whole t)
 
 -- A search of the whole text from some start, with `\G` on or off, may be refused by this error.
 abbrev pub IsRefusedBySearch : Regex → List ℕ → Error → Type 0
-IsRefusedBySearch regex t e = (start : ℕ) × (on : Bool) × Refuses regex (asked regex t (record (whole t) { start = start; continues = on })) e
+IsRefusedBySearch regex t e = (start : ℕ) × (on : Bool) × Refuses regex (asked_in_turn regex t (record (whole t) { start = start }) on) e
 
 -- These items of the text were replaced, and this is what came of it.
 pub record IsReplaced {R : Type 0} (fixed : Option (List ℕ)) (gave : R → Seen → List ℕ → R → Type 0) (first : R) (regex : Regex) (t : List ℕ) (items : List Item) (result : List ℕ) : Type 0 where

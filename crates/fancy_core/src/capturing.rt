@@ -98,7 +98,7 @@ impl Regex {
         ensures allowed { IfOk result (λ _. Allows self.now (asked self.now (S.bytes haystack) request)) }
     {
         let mut work = Work::new();
-        let found = self.search(haystack.as_bytes(), request, memory, &mut work)?;
+        let found = self.search(haystack.as_bytes(), request, true, memory, &mut work)?;
         let Some(position) = found else {
             return Ok(None);
         };

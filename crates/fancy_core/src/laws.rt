@@ -24,6 +24,7 @@ ghost use Rattle.fancy_core.specs.Matching.{InOrder, FindsNone};
 ghost use Rattle.fancy_core.specs.Left.{scan, matches_of, last_start_of};
 ghost use Rattle.fancy_core.specs.Pieces.{pieces, first_pieces, interleaved, texts};
 ghost use Rattle.fancy_core.specs.Splits.{match_spans};
+ghost use Rattle.fancy_core.specs.Examples.{WorkedLists};
 
 use crate::regex::Regex;
 use fancy_input::input::Input;
@@ -60,6 +61,11 @@ pub fn ends_increase<S: Input>(_regex: &Regex, _input: &RegexInput<S>)
 #[tactic(auto, using(crate::proofs::EndLemmas::last_start_finds_none, crate::proofs::ScanLemmas::scan_sound))]
 pub fn last_search_finds_none<S: Input>(_regex: &Regex, _input: &RegexInput<S>)
     ensures { FindsNone (scan _regex.now (S.text (haystack_in _input.now)) (S.bytes (haystack_in _input.now)) (request_in _input.now)) (last_start_of _regex.now (S.text (haystack_in _input.now)) (S.bytes (haystack_in _input.now)) (request_in _input.now)) }
+{}
+
+/// The definition gives some small lists of matches that are known from elsewhere.
+pub fn worked_lists()
+    ensures { WorkedLists }
 {}
 
 /// The pieces of a text between its matches, with the texts of the matches between them, are the text; and so are the first

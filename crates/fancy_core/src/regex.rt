@@ -1,6 +1,6 @@
 //! A compiled pattern, and what it finds.
 
-ghost use Rattle.std.specs.Prelude.{◌≡◌, ◌≤◌, ◌↔◌, ◌+◌, ◌-◌, ◌*◌, None, Some, Ok, Err, IfOk, IfErr, IfSome, IsTrue, string_bytes, option_map, is_some, true, false, length};
+ghost use Rattle.std.specs.Prelude.{◌≡◌, ◌≤◌, ◌↔◌, ◌+◌, ◌-◌, ◌*◌, Bool, None, Some, Ok, Err, IfOk, IfErr, IfSome, IsTrue, string_bytes, option_map, is_some, true, false, length};
 ghost use Rattle.fancy_syntax.specs.Pattern.{Pattern, pattern_of};
 ghost use Rattle.fancy_syntax.specs.Names.{named_groups};
 ghost use Rattle.fancy_input.specs.Inputs.{haystack_in, request_in};
@@ -64,7 +64,7 @@ pub struct Regex {
 impl Regex {
     ghost use Rattle.fancy_core.specs.Built.{IsReading};
     ghost use Rattle.fancy_core.specs.Names.{names_in};
-    ghost use Rattle.fancy_core.specs.Regexes.{text_of, pattern_in, options_in, groups_in, length_in, limit_in, asked};
+    ghost use Rattle.fancy_core.specs.Regexes.{text_of, pattern_in, options_in, groups_in, length_in, limit_in, asked, asked_in_turn};
     ghost use Rattle.fancy_core.specs.Limited.{IsHard, Refuses, Allows, returns_in};
 
     /// Reads a pattern, with the default options.
@@ -248,7 +248,7 @@ impl Regex {
         ensures fits { IsHard self.now → returns_of work.new ≤ limit_in self.now }
     {
         let mut memory = Scratch::new(self.allocator());
-        let found = self.search(haystack.as_bytes(), request, &mut memory, work)?;
+        let found = self.search(haystack.as_bytes(), request, true, &mut memory, work)?;
         let Some(position) = found else {
             return Ok(None);
         };
@@ -275,40 +275,42 @@ impl Regex {
         ensures allowed { IfOk result (λ _. Allows self.now (asked self.now (S.bytes (haystack_in input)) (request_in input))) }
     {
         let haystack = input.haystack();
+        let bytes = haystack.as_bytes();
         let mut memory = Scratch::new(self.allocator());
         let mut work = Work::new();
-        let found = self.search(haystack.as_bytes(), input.request(), &mut memory, &mut work)?;
+        let found = self.search(bytes, input.request(), true, &mut memory, &mut work)?;
         Ok(found.is_some())
     }
 
-    /// The search below the public surface, over bytes: the position of the first match. Where it ends, and its
-    /// groups, stand in `memory` then.
+    /// The search below the public surface, over bytes, with `\G` on or off: the position of the first match. Where it
+    /// ends, and its groups, stand in `memory` then.
     pub(crate) fn search(
         &self,
         haystack: &[u8],
         request: Request,
+        continues: bool,
         memory: &mut Scratch,
         work: &mut Work,
     ) -> Result<Option<usize>>
         requires inside { request.range_end ≤ length haystack.now }
-        ensures answer { IfOk result (λ m. answer_of m memory.new ≡ search (asked self.now haystack.now request)) }
+        ensures answer { IfOk result (λ m. answer_of m memory.new ≡ search (asked_in_turn self.now haystack.now request continues)) }
         ensures ordered { IfOk result (λ m. IfSome m (λ p. (state_in p memory.new).kept ≤ (state_in p memory.new).place)) }
         ensures inside { IfOk result (λ m. IfSome m (λ p. (state_in p memory.new).place ≤ request.range_end)) }
         ensures cleanly { IsTrue (keeps_characters (options_in self.now).bytes_mode) → IfOk result (λ m. IfSome m (λ p. IsTrue (is_boundary haystack.now (state_in p memory.new).kept) × IsTrue (is_boundary haystack.now (state_in p memory.new).place))) }
         ensures steps { is_easy (pattern_in self.now) ≡ true → IfOk result (λ _. steps_of work.new ≤ length_in self.now * (request.range_end + 1 - effective_start request)) }
         ensures returns { is_easy (pattern_in self.now) ≡ true → IfOk result (λ _. returns_of work.new ≤ steps_of work.new) }
-        ensures counted { IsHard self.now → IfOk result (λ _. returns_of work.new ≡ returns_in (asked self.now haystack.now request)) }
+        ensures counted { IsHard self.now → IfOk result (λ _. returns_of work.new ≡ returns_in (asked_in_turn self.now haystack.now request continues)) }
         ensures stopped { IsHard self.now → result ≡ Err (Error.RuntimeError BacktrackLimitExceeded) → returns_of work.new ≡ limit_in self.now }
         ensures fits { IsHard self.now → returns_of work.new ≤ limit_in self.now }
-        ensures refused { IfErr result (λ e. Refuses self.now (asked self.now haystack.now request) e) }
+        ensures refused { IfErr result (λ e. Refuses self.now (asked_in_turn self.now haystack.now request continues) e) }
     {
         if self.easy {
             return self.run(haystack, request, memory, work);
         }
-        self.backtrack(haystack, request, memory, work)
+        self.backtrack(haystack, request, continues, memory, work)
     }
 
-    /// The search for an easy pattern, by the memoised runner.
+    /// The search for an easy pattern, by the memoised runner. It has no `\G`.
     fn run(
         &self,
         haystack: &[u8],
@@ -318,7 +320,7 @@ impl Regex {
     ) -> Result<Option<usize>>
         requires inside { request.range_end ≤ length haystack.now }
         requires easy { is_easy (pattern_in self.now) ≡ true }
-        ensures answer { IfOk result (λ m. answer_of m memory.new ≡ search (asked self.now haystack.now request)) }
+        ensures answer { IfOk result (λ m. (on : Bool) → answer_of m memory.new ≡ search (asked_in_turn self.now haystack.now request on)) }
         ensures steps { IfOk result (λ _. steps_of work.new ≤ length_in self.now * (request.range_end + 1 - effective_start request)) }
         ensures returns { IfOk result (λ _. returns_of work.new ≤ steps_of work.new) }
         ensures refused { IfErr result (λ e. e ≡ Error.Memory) }
@@ -341,6 +343,7 @@ impl Regex {
         &self,
         haystack: &[u8],
         request: Request,
+        continues: bool,
         memory: &mut Scratch,
         work: &mut Work,
     ) -> Result<Option<usize>>
@@ -348,16 +351,17 @@ impl Regex {
         requires inside { request.range_end ≤ length haystack.now }
         requires of { p ≡ pattern_in self.now }
         requires hard { IsHard self.now }
-        ensures answer { IfOk result (λ m. answer_of m memory.new ≡ search (asked self.now haystack.now request)) }
-        ensures counted { IfOk result (λ _. returns_of work.new ≡ returns_in (asked self.now haystack.now request)) }
+        ensures answer { IfOk result (λ m. answer_of m memory.new ≡ search (asked_in_turn self.now haystack.now request continues)) }
+        ensures counted { IfOk result (λ _. returns_of work.new ≡ returns_in (asked_in_turn self.now haystack.now request continues)) }
         ensures stopped { result ≡ Err (Error.RuntimeError BacktrackLimitExceeded) → returns_of work.new ≡ limit_in self.now }
         ensures fits { returns_of work.new ≤ limit_in self.now }
-        ensures refused { IfErr result (λ e. Refuses self.now (asked self.now haystack.now request) e) }
+        ensures refused { IfErr result (λ e. Refuses self.now (asked_in_turn self.now haystack.now request continues) e) }
     {
         let on_boundaries = self.options.bytes_mode.keeps_characters();
         let options = machine::Options {
             on_boundaries,
             overrides: self.options.allow_input_assertion_overrides,
+            continues,
             not_empty: false,
             limit: self.options.backtrack_limit,
         };

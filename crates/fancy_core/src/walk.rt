@@ -141,15 +141,6 @@ impl<S: Input> Walk<S> {
         }
     }
 
-    /// What the next search is asked.
-    fn asked(&self) -> Request
-        ensures { result ≡ record self.now.request { continues = self.now.request.continues && self.now.continues } }
-    {
-        let mut request = self.request;
-        request.continues = request.continues && self.continues;
-        request
-    }
-
     /// The answer of the next search.
     #[tactic(auto, unfolding(crate::specs::Matching::answer))]
     fn answer(&self, regex: &Regex, memory: &mut Scratch) -> Result<Option<Located>>
@@ -164,7 +155,8 @@ impl<S: Input> Walk<S> {
     {
         let from = self.request.effective_start();
         let mut work = Work::new();
-        let found = regex.search(self.haystack.as_bytes(), self.asked(), memory, &mut work)?;
+        let bytes = self.haystack.as_bytes();
+        let found = regex.search(bytes, self.request, self.continues, memory, &mut work)?;
         let Some(position) = found else {
             return Ok(None);
         };

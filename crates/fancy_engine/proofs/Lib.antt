@@ -20,6 +20,7 @@ pub mod Hits
 pub mod Steps
 pub mod Visits
 pub mod Keeps
+pub mod Elsewhere
 pub mod Attempts
 pub mod Placed
 pub mod Emits

@@ -1,6 +1,6 @@
 //! Searches by the runner: their time is bounded by the product of the code's length and the text's.
 
-ghost use Rattle.std.specs.Prelude.{◌≡◌, ◌+◌, ◌-◌, ◌*◌, ◌^◌, ◌<◌, ◌≤◌, false, length, replicate, option_map, slice_index_or, map, IfOk, IfErr, OnOk};
+ghost use Rattle.std.specs.Prelude.{◌≡◌, ◌+◌, ◌-◌, ◌*◌, ◌^◌, ◌<◌, ◌≤◌, Bool, false, length, replicate, option_map, slice_index_or, map, IfOk, IfErr, OnOk};
 ghost use Rattle.fancy_syntax.specs.Pattern.{Pattern};
 ghost use Rattle.fancy_input.specs.Requests.{effective_start, positions};
 ghost use Rattle.fancy_engine.specs.Code.{code_len, instrs_of};
@@ -108,7 +108,8 @@ pub fn last_position(request: Request, first: usize) -> usize
 
 /// Searches a haystack for the pattern of the code. Found is the position, a byte offset: that of the first
 /// attempt, from the effective start on, which has an outcome. The match then goes from there to
-/// `memory.end()`, and its groups stand in `memory`.
+/// `memory.end()`, and its groups stand in `memory`. Easy code has no `\G`, so the answer is the same with
+/// it on and off.
 ///
 /// # Errors
 ///
@@ -123,8 +124,8 @@ pub fn search(
 ) -> Result<Option<usize>, Refusal>
     requires inside { request.range_end ≤ length haystack.now }
     requires easy { AreEasy (instrs_of code.now) }
-    ensures answer { IfOk result (λ m. (p : Pattern) → IsCodeOf p code.now
-        → answer_of m memory.new ≡ search (query_of p code.now switches haystack.now request)) }
+    ensures answer { IfOk result (λ m. (p : Pattern) (on : Bool) → IsCodeOf p code.now
+        → answer_of m memory.new ≡ search (query_of p code.now switches haystack.now request on)) }
     ensures steps { IfOk result (λ _. steps_of work.new ≤ code_len code.now * (request.range_end + 1 - effective_start request)) }
     ensures returns { IfOk result (λ _. returns_of work.new ≤ steps_of work.new) }
     ensures refused { IfErr result (λ e. e ≡ Refusal.Memory) }

@@ -24,7 +24,7 @@ pub struct Request {
     pub start_text: bool,
     /// Whether the end of the text may be found; `false` suppresses `$` and `\z` where the regex allows it.
     pub end_text: bool,
-    /// Whether the end of the match before may be found; `false` suppresses `\G`.
+    /// Whether `\G` may hold, at the first position that is tried; `false` suppresses it where the regex allows it.
     pub continues: bool,
 }
 

@@ -20,6 +20,7 @@ asked p code o haystack request = record {
   };
   haystack = haystack;
   request = request;
+  continues = o.continues;
 }
 
 -- what was found at a position, if anything was

@@ -3,8 +3,9 @@
 ghost use Rattle.std.specs.Prelude.{◌≡◌, ◌+◌, ◌-◌, ◌<◌, ◌≤◌, ◌&&◌, not, Option, Some, None, Err, IfOk, length};
 ghost use Rattle.fancy_syntax.specs.Limits.{most_branches};
 ghost use Rattle.fancy_syntax.specs.Pattern.{Pattern};
+ghost use Rattle.fancy_input.specs.Requests.{effective_start};
 ghost use Rattle.fancy_engine.specs.Means.{IsCodeOf};
-ghost use Rattle.fancy_engine.specs.Search.{search, returns, choices};
+ghost use Rattle.fancy_engine.specs.Search.{continues_from, search, returns, choices};
 ghost use Rattle.fancy_engine.specs.Work.{returns_of};
 ghost use Rattle.fancy_machine.specs.Asked.{asked, answer_of, all_tried};
 
@@ -25,12 +26,27 @@ pub const MOST: usize = 1_000_000;
 pub struct Options {
     /// Matches begin and end on character boundaries alone.
     pub on_boundaries: bool,
-    /// A request may say that the text's start, or its end, does not count as one.
+    /// A request may say that the text's start, or its end, does not count as one, or that `\G` holds nowhere.
     pub overrides: bool,
+    /// Whether `\G` is on at all in this search.
+    pub continues: bool,
     /// An empty match is refused.
     pub not_empty: bool,
     /// The most returns of a search.
     pub limit: usize,
+}
+
+/// Where `\G` holds, where the search begins at `first`: there, or nowhere.
+fn continues_from(options: Options, request: Request, first: usize) -> Option<usize>
+    requires { first ≡ effective_start request }
+    ensures { result ≡ continues_from options.continues options.overrides request }
+{
+    let suppressed = options.overrides && !request.continues;
+    if options.continues && !suppressed {
+        Some(first)
+    } else {
+        None
+    }
 }
 
 /// Searches a haystack for the pattern of the code. Found is the position, a byte offset: that of the first attempt,
@@ -64,7 +80,7 @@ pub fn search(
         return Ok(None);
     }
     let field = Field {
-        continues: Some(first),
+        continues: continues_from(options, request, first),
         suppressed: suppressed_in(options.overrides, request),
         on_boundaries: options.on_boundaries,
         not_empty: options.not_empty,

@@ -110,7 +110,8 @@ impl<S: Input> RegexInput<S> {
         self
     }
 
-    /// With `false` no match came before: `\G` holds nowhere. `true`, which holds at first, takes that back.
+    /// With `false` no match came before: `\G` holds nowhere, in a search by a regex that was built with
+    /// `allow_input_assertion_overrides`. `true`, which holds at first, takes that back.
     pub fn continue_from_previous_match_end(mut self, yes: bool) -> RegexInput<S>
         ensures haystack { haystack_in result ≡ haystack_in self }
         ensures request { request_in result ≡ record (request_in self) { continues = yes } }

@@ -1,4 +1,4 @@
-use Rattle.std.proofs.Common.{◌≡◌, ◌+◌, ◌-◌, ◌*◌, ◌<◌, ◌≤◌, ◌^◌, length}
+use Rattle.std.proofs.Common.{◌≡◌, ◌+◌, ◌-◌, ◌*◌, ◌<◌, ◌≤◌, ◌^◌, Bool, length}
 use Rattle.fancy_syntax.specs.Pattern.{Pattern}
 use Rattle.fancy_engine.specs.Code.{instrs_of, code_len}
 use Rattle.fancy_engine.specs.Marked.{marked}
@@ -13,8 +13,8 @@ use Rattle.fancy_engine.proofs.search.search.Given as goal
 
 abbrev pub invariant-loop-place : goal.invariant-loop-place
 invariant-loop-place l = record {
-  left : (p : Pattern) → IsCodeOf p l.code → search (query_of p l.code l.fn.switches l.haystack l.fn.request)
-      ≡ answer_from (query_of p l.code l.fn.switches l.haystack l.fn.request) (l.last + 1 - l.place) l.place;
+  left : (p : Pattern) (on : Bool) → IsCodeOf p l.code → search (query_of p l.code l.fn.switches l.haystack l.fn.request on)
+      ≡ answer_from (query_of p l.code l.fn.switches l.haystack l.fn.request on) (l.last + 1 - l.place) l.place;
   failed : (p : Pattern) → IsCodeOf p l.code
       → AllFailed (good_end l.bounds l.haystack) (plain l.haystack l.code.meaning l.bounds.suppressed l.bounds.first) l.bounds.first l.bounds.last (instrs_of l.code) (depth (length l.haystack) p + 1) l.table;
   room : length l.table ≡ (l.bounds.last - l.bounds.first + 1) * code_len l.code;

@@ -1,4 +1,4 @@
-use Rattle.std.proofs.Common.{◌≡◌, ℕ, suc, ◌+◌, ◌-◌, ◌∙◌, Bool, true, false, Option, Some, None, Result, Ok, Err, refl, sym, ap, ap₂, arith}
+use Rattle.std.proofs.Common.{◌≡◌, ℕ, suc, ◌+◌, ◌-◌, ◌∙◌, Bool, true, false, Option, None, Result, Ok, Err, refl, sym, ap, ap₂, arith}
 use Rattle.fancy_engine.specs.declared.refusal.Refusal.{Refusal}
 use Rattle.fancy_engine.specs.declared.reading.Suppressed.{Suppressed}
 use Rattle.fancy_engine.specs.Events.{marks_in, returns_in}
@@ -26,10 +26,10 @@ returns-then-first-request-clause-count g c =
 
 pub loop-place-preserved-then-not-is_good : goal.loop-place-preserved-then-not-is_good
 loop-place-preserved-then-not-is_good g c =
-    let f : Field = record { continues = Some c.max-first.result; suppressed = c.suppressed_in.result; on_boundaries = c.args.options.on_boundaries; not_empty = c.args.options.not_empty } in
+    let f : Field = record { continues = c.continues_from.result; suppressed = c.suppressed_in.result; on_boundaries = c.args.options.on_boundaries; not_empty = c.args.options.not_empty } in
     let q = (asked g.p c.args.code.now c.args.options c.args.haystack.now c.args.request) in
     let seen : context_in c.args.haystack.now c.args.code.now.meaning f ≡ context_of q =
-    ap₂ (λ (n : ℕ) (s : Suppressed). record { haystack = c.args.haystack.now; meaning = c.args.code.now.meaning; continues_at = Some n; start_text_off = s.start; end_text_off = s.end }) c.max-first.ensures c.suppressed_in.ensures in
+    ap₂ (λ (here : Option ℕ) (s : Suppressed). record { haystack = c.args.haystack.now; meaning = c.args.code.now.meaning; continues_at = here; start_text_off = s.start; end_text_off = s.end }) c.continues_from.ensures c.suppressed_in.ensures in
     let may : admits q c.loop-place.place ≡ false = sym c.if-not-is_good.ensures in
     let en : (c.last_position-last.result + 1 - c.loop-place.place) ≡ suc (c.last_position-last.result + 1 - (c.loop-place.place + 1)) = omega arith in
     let none = search_skip q c.loop-place.place refl may in
@@ -44,10 +44,10 @@ loop-place-preserved-then-not-is_good g c =
 
 pub attempt-requires : goal.attempt-requires
 attempt-requires g c =
-    let f : Field = record { continues = Some c.max-first.result; suppressed = c.suppressed_in.result; on_boundaries = c.args.options.on_boundaries; not_empty = c.args.options.not_empty } in
+    let f : Field = record { continues = c.continues_from.result; suppressed = c.suppressed_in.result; on_boundaries = c.args.options.on_boundaries; not_empty = c.args.options.not_empty } in
     let q = (asked g.p c.args.code.now c.args.options c.args.haystack.now c.args.request) in
     let seen : context_in c.args.haystack.now c.args.code.now.meaning f ≡ context_of q =
-    ap₂ (λ (n : ℕ) (s : Suppressed). record { haystack = c.args.haystack.now; meaning = c.args.code.now.meaning; continues_at = Some n; start_text_off = s.start; end_text_off = s.end }) c.max-first.ensures c.suppressed_in.ensures in
+    ap₂ (λ (here : Option ℕ) (s : Suppressed). record { haystack = c.args.haystack.now; meaning = c.args.code.now.meaning; continues_at = here; start_text_off = s.start; end_text_off = s.end }) c.continues_from.ensures c.suppressed_in.ensures in
     let may : admits q c.loop-place.place ≡ true = sym c.if-not-is_good.ensures in
     let k = begun_from q c.args.code.now c.requires.0 refl refl refl c.requires.1 f seen refl refl c.loop-place.place may c.begin.new.self.now c.in-Ok.ensures.begun (omega (arith, c.last_position-last.ensures.inside)) in
     let ok = accepts f c.args.haystack.now in
@@ -58,10 +58,10 @@ attempt-requires g c =
 
 pub returns-in-Err-attempt-clause-refused : goal.returns-in-Err-attempt-clause-refused
 returns-in-Err-attempt-clause-refused g c e =
-    let f : Field = record { continues = Some c.max-first.result; suppressed = c.suppressed_in.result; on_boundaries = c.args.options.on_boundaries; not_empty = c.args.options.not_empty } in
+    let f : Field = record { continues = c.continues_from.result; suppressed = c.suppressed_in.result; on_boundaries = c.args.options.on_boundaries; not_empty = c.args.options.not_empty } in
     let q = (asked g.p c.args.code.now c.args.options c.args.haystack.now c.args.request) in
     let seen : context_in c.args.haystack.now c.args.code.now.meaning f ≡ context_of q =
-    ap₂ (λ (n : ℕ) (s : Suppressed). record { haystack = c.args.haystack.now; meaning = c.args.code.now.meaning; continues_at = Some n; start_text_off = s.start; end_text_off = s.end }) c.max-first.ensures c.suppressed_in.ensures in
+    ap₂ (λ (here : Option ℕ) (s : Suppressed). record { haystack = c.args.haystack.now; meaning = c.args.code.now.meaning; continues_at = here; start_text_off = s.start; end_text_off = s.end }) c.continues_from.ensures c.suppressed_in.ensures in
     let may : admits q c.loop-place.place ≡ true = sym c.if-not-is_good.ensures in
     let k = begun_from q c.args.code.now c.requires.0 refl refl refl c.requires.1 f seen refl refl c.loop-place.place may c.begin.new.self.now c.in-Ok.ensures.begun (omega (arith, c.last_position-last.ensures.inside)) in
     let ok = accepts f c.args.haystack.now in
@@ -74,10 +74,10 @@ returns-in-Err-attempt-clause-refused g c e =
 
 pub returns-in-Err-attempt-clause-crowded : goal.returns-in-Err-attempt-clause-crowded
 returns-in-Err-attempt-clause-crowded g c e =
-    let f : Field = record { continues = Some c.max-first.result; suppressed = c.suppressed_in.result; on_boundaries = c.args.options.on_boundaries; not_empty = c.args.options.not_empty } in
+    let f : Field = record { continues = c.continues_from.result; suppressed = c.suppressed_in.result; on_boundaries = c.args.options.on_boundaries; not_empty = c.args.options.not_empty } in
     let q = (asked g.p c.args.code.now c.args.options c.args.haystack.now c.args.request) in
     let seen : context_in c.args.haystack.now c.args.code.now.meaning f ≡ context_of q =
-    ap₂ (λ (n : ℕ) (s : Suppressed). record { haystack = c.args.haystack.now; meaning = c.args.code.now.meaning; continues_at = Some n; start_text_off = s.start; end_text_off = s.end }) c.max-first.ensures c.suppressed_in.ensures in
+    ap₂ (λ (here : Option ℕ) (s : Suppressed). record { haystack = c.args.haystack.now; meaning = c.args.code.now.meaning; continues_at = here; start_text_off = s.start; end_text_off = s.end }) c.continues_from.ensures c.suppressed_in.ensures in
     let may : admits q c.loop-place.place ≡ true = sym c.if-not-is_good.ensures in
     let k = begun_from q c.args.code.now c.requires.0 refl refl refl c.requires.1 f seen refl refl c.loop-place.place may c.begin.new.self.now c.in-Ok.ensures.begun (omega (arith, c.last_position-last.ensures.inside)) in
     let ok = accepts f c.args.haystack.now in
@@ -90,10 +90,10 @@ returns-in-Err-attempt-clause-crowded g c e =
 
 pub returns-then-found-clause-answer : goal.returns-then-found-clause-answer
 returns-then-found-clause-answer g c =
-    let f : Field = record { continues = Some c.max-first.result; suppressed = c.suppressed_in.result; on_boundaries = c.args.options.on_boundaries; not_empty = c.args.options.not_empty } in
+    let f : Field = record { continues = c.continues_from.result; suppressed = c.suppressed_in.result; on_boundaries = c.args.options.on_boundaries; not_empty = c.args.options.not_empty } in
     let q = (asked g.p c.args.code.now c.args.options c.args.haystack.now c.args.request) in
     let seen : context_in c.args.haystack.now c.args.code.now.meaning f ≡ context_of q =
-    ap₂ (λ (n : ℕ) (s : Suppressed). record { haystack = c.args.haystack.now; meaning = c.args.code.now.meaning; continues_at = Some n; start_text_off = s.start; end_text_off = s.end }) c.max-first.ensures c.suppressed_in.ensures in
+    ap₂ (λ (here : Option ℕ) (s : Suppressed). record { haystack = c.args.haystack.now; meaning = c.args.code.now.meaning; continues_at = here; start_text_off = s.start; end_text_off = s.end }) c.continues_from.ensures c.suppressed_in.ensures in
     let may : admits q c.loop-place.place ≡ true = sym c.if-not-is_good.ensures in
     let k = begun_from q c.args.code.now c.requires.0 refl refl refl c.requires.1 f seen refl refl c.loop-place.place may c.begin.new.self.now c.in-Ok.ensures.begun (omega (arith, c.last_position-last.ensures.inside)) in
     let ok = accepts f c.args.haystack.now in
@@ -106,10 +106,10 @@ returns-then-found-clause-answer g c =
 
 pub returns-then-found-clause-count : goal.returns-then-found-clause-count
 returns-then-found-clause-count g c =
-    let f : Field = record { continues = Some c.max-first.result; suppressed = c.suppressed_in.result; on_boundaries = c.args.options.on_boundaries; not_empty = c.args.options.not_empty } in
+    let f : Field = record { continues = c.continues_from.result; suppressed = c.suppressed_in.result; on_boundaries = c.args.options.on_boundaries; not_empty = c.args.options.not_empty } in
     let q = (asked g.p c.args.code.now c.args.options c.args.haystack.now c.args.request) in
     let seen : context_in c.args.haystack.now c.args.code.now.meaning f ≡ context_of q =
-    ap₂ (λ (n : ℕ) (s : Suppressed). record { haystack = c.args.haystack.now; meaning = c.args.code.now.meaning; continues_at = Some n; start_text_off = s.start; end_text_off = s.end }) c.max-first.ensures c.suppressed_in.ensures in
+    ap₂ (λ (here : Option ℕ) (s : Suppressed). record { haystack = c.args.haystack.now; meaning = c.args.code.now.meaning; continues_at = here; start_text_off = s.start; end_text_off = s.end }) c.continues_from.ensures c.suppressed_in.ensures in
     let may : admits q c.loop-place.place ≡ true = sym c.if-not-is_good.ensures in
     let k = begun_from q c.args.code.now c.requires.0 refl refl refl c.requires.1 f seen refl refl c.loop-place.place may c.begin.new.self.now c.in-Ok.ensures.begun (omega (arith, c.last_position-last.ensures.inside)) in
     let ok = accepts f c.args.haystack.now in
@@ -123,10 +123,10 @@ returns-then-found-clause-count g c =
 
 pub loop-place-preserved : goal.loop-place-preserved
 loop-place-preserved g c =
-    let f : Field = record { continues = Some c.max-first.result; suppressed = c.suppressed_in.result; on_boundaries = c.args.options.on_boundaries; not_empty = c.args.options.not_empty } in
+    let f : Field = record { continues = c.continues_from.result; suppressed = c.suppressed_in.result; on_boundaries = c.args.options.on_boundaries; not_empty = c.args.options.not_empty } in
     let q = (asked g.p c.args.code.now c.args.options c.args.haystack.now c.args.request) in
     let seen : context_in c.args.haystack.now c.args.code.now.meaning f ≡ context_of q =
-    ap₂ (λ (n : ℕ) (s : Suppressed). record { haystack = c.args.haystack.now; meaning = c.args.code.now.meaning; continues_at = Some n; start_text_off = s.start; end_text_off = s.end }) c.max-first.ensures c.suppressed_in.ensures in
+    ap₂ (λ (here : Option ℕ) (s : Suppressed). record { haystack = c.args.haystack.now; meaning = c.args.code.now.meaning; continues_at = here; start_text_off = s.start; end_text_off = s.end }) c.continues_from.ensures c.suppressed_in.ensures in
     let may : admits q c.loop-place.place ≡ true = sym c.if-not-is_good.ensures in
     let k = begun_from q c.args.code.now c.requires.0 refl refl refl c.requires.1 f seen refl refl c.loop-place.place may c.begin.new.self.now c.in-Ok.ensures.begun (omega (arith, c.last_position-last.ensures.inside)) in
     let ok = accepts f c.args.haystack.now in

@@ -4,7 +4,7 @@ use Rattle.fancy_core.proofs.regex.Regex.captured.Goals as goal
 pub new-requires : goal.new-requires
 new-requires g c = record {
   placed = rw (c.in_ok-slots.ensures)
-      (groups_cut c.args.self.now (g.S.Haystack.text c.args.haystack) (g.S.Haystack.bytes c.args.haystack) c.args.request c.in-Some.position c.search.new.memory
+      (groups_cut c.args.self.now (g.S.Haystack.text c.args.haystack) (g.S.Haystack.bytes c.args.haystack) c.args.request _ c.in-Some.position c.search.new.memory
       c.captures_len.result c.requires.inside c.requires.suits (λ t. rw c.as_bytes.ensures.bytes at (c.as_bytes.ensures.utf8 t))
       (rw (c.in-Some.is, c.as_bytes.ensures.bytes) at c.in_ok-found.ensures.answer));
 }

@@ -8,5 +8,5 @@ pub search-requires-clause-easy : goal.search-requires-clause-easy
 search-requires-clause-easy c = easy_code _ (c.args.self.now.light c.requires.easy)
 
 pub returns-in-Ok-clause-answer : goal.returns-in-Ok-clause-answer
-returns-in-Ok-clause-answer c = sym (by_runner _ _ _) ∙ known _ _ c.args.self.now.compiled
-    (λ compiled. rw (c.args.self.now.meant, c.keeps_characters-on_boundaries.ensures) at (c.in-Ok.ensures.answer _ compiled.coded))
+returns-in-Ok-clause-answer c on = sym (by_runner _ _ _) ∙ known _ _ c.args.self.now.compiled
+    (λ compiled. rw (c.args.self.now.meant, c.keeps_characters-on_boundaries.ensures) at (c.in-Ok.ensures.answer _ on compiled.coded))
