@@ -209,11 +209,11 @@ mutual
   pub ends_class : {m : Meaning} {i : Bool} {k : ℕ} {p q : Text} {f : Members} → Class m i k p f q → Ends p q
   ends_class (class {p = p} {r = r} starts may items operands closes) = ends_then (ends_opening p) (ends_then (ends_items items) (ends_then (ends_operands operands) (ends_drop 1 r)))
 
-  ends_items : {m : Meaning} {i : Bool} {k : ℕ} {first : Bool} {p q : Text} {e f : Members} → Items m i k first e p f q → Ends p q
+  ends_items : {m : Meaning} {i : Bool} {k : ℕ} {first : Bool} {p q : Text} {fs : List Members} → Items m i k first p fs q → Ends p q
   ends_items (none {p = p} h) = ends_here p
   ends_items (next h piece rest) = ends_then (ends_piece piece) (ends_items rest)
 
-  ends_operands : {m : Meaning} {i : Bool} {k : ℕ} {p q : Text} {e f : Members} → Operands m i k e p f q → Ends p q
+  ends_operands : {m : Meaning} {i : Bool} {k : ℕ} {p q : Text} {os : List (Operation × Members)} → Operands m i k p os q → Ends p q
   ends_operands (last {p = p} h) = ends_here p
   ends_operands (more {p = p} h items rest) = ends_then (ends_operator p h) (ends_then (ends_items items) (ends_operands rest))
 

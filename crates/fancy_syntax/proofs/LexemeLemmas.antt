@@ -27,7 +27,7 @@ use Rattle.fancy_syntax.proofs.ReadingLemmas.{some_pair, some_is_none, true_is_f
 use Rattle.fancy_syntax.proofs.ReferenceLemmas.{reference_begins, no_bracket_begun, no_atom_begun}
 use Rattle.fancy_syntax.proofs.BlankLemmas.{chosen, same_some, char_is}
 use Rattle.fancy_syntax.proofs.CountLemmas.{left_of}
-use Rattle.fancy_syntax.proofs.ClassSteps.{one_class}
+use Rattle.fancy_syntax.proofs.ClassSpelling.{one_class}
 use mathlib.Core.Path.{fun_ext}
 
 -- a place that moved on, and one that the text alone makes

@@ -29,5 +29,6 @@ pub mod BitLemmas
 pub mod PropertyLetters
 pub mod GatheredLemmas
 pub mod ClassSteps
+pub mod ClassSpelling
 pub mod CanonicalLemmas
 pub mod SharingLemmas

@@ -153,26 +153,36 @@ token_members m i (Property s negated) = turned m negated (folded m i (has_prope
 abbrev pub none_of : Members
 none_of = λ c. false
 
+-- the members of all of these
+abbrev pub united : List Members → Members
+united [] = none_of
+united (f ∷ fs) = both f (united fs)
+
+-- a set, and behind it operators with a set each: they are applied from the left to the right
+abbrev pub combined : Members → List (Operation × Members) → Members
+combined f [] = f
+combined f ((how, x) ∷ others) = combined (λ c. applied how (f c) (x c)) others
+
 -- behind the bracket, whether `^` stands there, and the place of the first item
 abbrev pub opening : Text → Bool × Text
 opening t = if is_at "^" (drop 1 t) then (true, drop 2 t) else (false, drop 1 t)
 
 -- The number says how many brackets more may be open at one place.
 mutual
-  -- a class, from its bracket to behind the other one
+  -- A class, from its bracket to behind the other one: the items of an operand are united, operands combined by their operators, and behind `^` the complement is taken last.
   pub data Class : Meaning → Bool → ℕ → Text → Members → Text → Type 0 where
-    class : {m : Meaning} {i : Bool} {k : ℕ} {p q r : Text} {f g : Members} → is_bracket p ≡ true → may_turn m (opening p).0 ≡ true → Items m i k true none_of (opening p).1 f q → Operands m i k f q g r → is_at "]" r ≡ true
-        → Class m i (suc k) p (turned m (opening p).0 g) (drop 1 r)
+    class : {m : Meaning} {i : Bool} {k : ℕ} {p q r : Text} {fs : List Members} {os : List (Operation × Members)} → is_bracket p ≡ true → may_turn m (opening p).0 ≡ true → Items m i k true (opening p).1 fs q → Operands m i k q os r → is_at "]" r ≡ true
+        → Class m i (suc k) p (turned m (opening p).0 (combined (united fs) os)) (drop 1 r)
 
-  -- the items up to an operator or the end, behind others with these members
-  pub data Items : Meaning → Bool → ℕ → Bool → Members → Text → Members → Text → Type 0 where
-    none : {m : Meaning} {i : Bool} {k : ℕ} {first : Bool} {f : Members} {p : Text} → ends_operand first p ≡ true → Items m i k first f p f p
-    next : {m : Meaning} {i : Bool} {k : ℕ} {first : Bool} {f g x : Members} {p q r : Text} → ends_operand first p ≡ false → Item m i k p x q → Items m i k false (both f x) q g r → Items m i k first f p g r
+  -- the items up to an operator or the end, each by its members
+  pub data Items : Meaning → Bool → ℕ → Bool → Text → List Members → Text → Type 0 where
+    none : {m : Meaning} {i : Bool} {k : ℕ} {first : Bool} {p : Text} → ends_operand first p ≡ true → Items m i k first p [] p
+    next : {m : Meaning} {i : Bool} {k : ℕ} {first : Bool} {f : Members} {fs : List Members} {p q r : Text} → ends_operand first p ≡ false → Item m i k p f q → Items m i k false q fs r → Items m i k first p (f ∷ fs) r
 
-  -- the operators and what follows each, behind a set
-  pub data Operands : Meaning → Bool → ℕ → Members → Text → Members → Text → Type 0 where
-    last : {m : Meaning} {i : Bool} {k : ℕ} {f : Members} {p : Text} → operator p ≡ None → Operands m i k f p f p
-    more : {m : Meaning} {i : Bool} {k : ℕ} {f g x : Members} {how : Operation} {p q r s : Text} → operator p ≡ Some (how, q) → Items m i k false none_of q x r → Operands m i k (λ c. applied how (f c) (x c)) r g s → Operands m i k f p g s
+  -- the operators, each with the members of what follows it
+  pub data Operands : Meaning → Bool → ℕ → Text → List (Operation × Members) → Text → Type 0 where
+    last : {m : Meaning} {i : Bool} {k : ℕ} {p : Text} → operator p ≡ None → Operands m i k p [] p
+    more : {m : Meaning} {i : Bool} {k : ℕ} {how : Operation} {fs : List Members} {os : List (Operation × Members)} {p q r s : Text} → operator p ≡ Some (how, q) → Items m i k false q fs r → Operands m i k r os s → Operands m i k p ((how, united fs) ∷ os) s
 
   pub data Item : Meaning → Bool → ℕ → Text → Members → Text → Type 0 where
     simple : {m : Meaning} {i : Bool} {k : ℕ} {p q : Text} {t : Token} → starts_class p ≡ false → token m p ≡ Some (t, q) → Item m i k p (token_members m i t) q

@@ -17,4 +17,5 @@ pub mod Named
 pub mod Low
 pub mod Escapes
 pub mod ClassGrammar
+pub mod ClassReading
 pub mod ClassViews
