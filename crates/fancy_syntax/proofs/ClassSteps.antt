@@ -1,8 +1,8 @@
 -- What the reader's loops and branches say of the grammar.
 use Rattle.std.proofs.Common.{◌≡◌, ℕ, suc, ◌+◌, Bool, true, false, Some, None, drop, refl, sym, ap, ◌∙◌, subst, arith, add-one, Result, Ok, Err}
 use Rattle.fancy_syntax.specs.Words.{Text, is_at}
-use Rattle.fancy_syntax.specs.ClassGrammar.{token, operator, ends_operand, starts_class, is_bracket, opening, may_turn, turned, token_members, none_of}
-use Rattle.fancy_syntax.specs.ClassReading.{Class, class, Items, none, next, Operands, last, more, Item, simple, nested}
+use Rattle.fancy_syntax.specs.ClassGrammar.{token, ends_operand, starts_class, may_turn, turned, token_members, none_of}
+use Rattle.fancy_syntax.specs.ClassReading.{operator, is_bracket, opening, Class, class, Items, none, next, Operands, last, more, Item, simple, nested}
 use Rattle.fancy_syntax.specs.declared.class.token.Token.{Token}
 use Rattle.fancy_syntax.specs.declared.class.refusal.Refusal.{Refusal}
 use Rattle.fancy_syntax.specs.declared.class.refusal.Refusal.TheVariants.{Memory, Invalid}

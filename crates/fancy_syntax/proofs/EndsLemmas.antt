@@ -11,13 +11,12 @@ use Rattle.fancy_syntax.specs.Named.{is_unicode}
 use Rattle.fancy_syntax.specs.Grammar.{ends_branch}
 use Rattle.fancy_syntax.specs.declared.named.Named.{Named}
 use Rattle.fancy_syntax.specs.declared.class.token.Token.{Token}
-use Rattle.fancy_syntax.specs.declared.operation.Operation.{Operation}
 use Rattle.fancy_syntax.specs.Pattern.{Pattern, member_of, raw_byte, assertion}
 use Rattle.fancy_syntax.specs.Words.{Text, ◌∈◌, is_at, begins, begins_count}
 use Rattle.fancy_syntax.specs.Members.{Members}
 use Rattle.fancy_syntax.specs.Sets.{AreEdges}
 use Rattle.fancy_syntax.specs.Escapes.{control_of, escaped, escape_at, hexadecimal, number, braced_number, before_brace, by_number, is_character, single, set_here, set_letter, is_property, property_name, property_named}
-use Rattle.fancy_syntax.specs.ClassGrammar.{is_ascii_meaning, fits, may_turn, range, range_from, range_to, is_ranged, named_of, posix, posix_of, posix_word, is_posix, property, property_of, found_property, token, token_of, operator, opening, Class, class, Items, none, next, Operands, last, more, Item, simple, nested}
+use Rattle.fancy_syntax.specs.ClassGrammar.{is_ascii_meaning, fits, may_turn, range, range_from, range_to, is_ranged, named_of, posix, posix_of, posix_word, is_posix, property, property_of, found_property, token, token_of}
 use Rattle.fancy_syntax.specs.Dialect.{Scope, Lexeme, leaf, one_of, IsMeant, by_itself, by_edges, lexeme, ReadsAtom, by_lexeme, by_class, literal_of, spelled_character, spelled_number, spelled_set, lettered_set, is_one_item, numbered, boundary, property_here, followed_by, any_item, any_code, lettered, place_test, anchor_of, lone, escape, escape_in, is_escapable, is_special}
 use Rattle.fancy_syntax.proofs.ReadingLemmas.{some_pair, some_is_none, true_is_false}
 use Rattle.fancy_syntax.proofs.BlankLemmas.{chosen, same_some, char_is}
@@ -175,7 +174,7 @@ ends_token_of : (m : Meaning) (t : Text) (o : Option (Named × Bool)) {x : Token
 ends_token_of m t None h = ends_range m t h
 ends_token_of m t (Some n) h = ends_at (ends_drop 2 t) (ends_named m (drop 2 t) n h)
 
-ends_token : (m : Meaning) (t : Text) {x : Token} {u : Text} → token m t ≡ Some (x, u) → Ends t u
+pub ends_token : (m : Meaning) (t : Text) {x : Token} {u : Text} → token m t ≡ Some (x, u) → Ends t u
 ends_token m t h =
     elim (chosen (is_posix t) _ _ _ h) [
       | inl y ↦ ends_posix m t y.1
@@ -184,42 +183,6 @@ ends_token m t h =
         | inr z ↦ ends_token_of m t (set_here t) z.1
       ]
     ]
-
-ends_operator : (t : Text) {how : Operation} {u : Text} → operator t ≡ Some (how, u) → Ends t u
-ends_operator t h =
-    elim (chosen (begins "&&" t) _ _ _ h) [
-      | inl y ↦ ends_at (ends_drop 2 t) (some_pair y.1).1
-      | inr y ↦ elim (chosen (begins "--" t) _ _ _ y.1) [
-        | inl z ↦ ends_at (ends_drop 2 t) (some_pair z.1).1
-        | inr z ↦ elim (chosen (begins "~~" t) _ _ _ z.1) [
-          | inl w ↦ ends_at (ends_drop 2 t) (some_pair w.1).1
-          | inr w ↦ absurd (some_is_none (sym w.1))
-        ]
-      ]
-    ]
-
-ends_opening : (t : Text) → Ends t (opening t).1
-ends_opening t = go (is_at "^" (drop 1 t))
-  where
-    go : (b : Bool) → Ends t (cond {A = Bool × Text} b (true, drop 2 t) (false, drop 1 t)).1
-    go true = ends_drop 2 t
-    go false = ends_drop 1 t
-
-mutual
-  pub ends_class : {m : Meaning} {i : Bool} {k : ℕ} {p q : Text} {f : Members} → Class m i k p f q → Ends p q
-  ends_class (class {p = p} {r = r} starts may items operands closes) = ends_then (ends_opening p) (ends_then (ends_items items) (ends_then (ends_operands operands) (ends_drop 1 r)))
-
-  ends_items : {m : Meaning} {i : Bool} {k : ℕ} {first : Bool} {p q : Text} {fs : List Members} → Items m i k first p fs q → Ends p q
-  ends_items (none {p = p} h) = ends_here p
-  ends_items (next h piece rest) = ends_then (ends_piece piece) (ends_items rest)
-
-  ends_operands : {m : Meaning} {i : Bool} {k : ℕ} {p q : Text} {os : List (Operation × Members)} → Operands m i k p os q → Ends p q
-  ends_operands (last {p = p} h) = ends_here p
-  ends_operands (more {p = p} h items rest) = ends_then (ends_operator p h) (ends_then (ends_items items) (ends_operands rest))
-
-  ends_piece : {m : Meaning} {i : Bool} {k : ℕ} {p q : Text} {f : Members} → Item m i k p f q → Ends p q
-  ends_piece {m} (simple {p = p} h found) = ends_token m p found
-  ends_piece (nested h inner) = ends_class inner
 
 -- ---- lexemes, and what they can be
 pub data Kind (s : Scope) : Lexeme → Type 0 where
@@ -367,7 +330,7 @@ lexed s (c ∷ t) {x} {u} h =
 
 pub ends_atom : {s : Scope} {t u : Text} {a : Pattern} → ReadsAtom s t a u → Ends t u
 ends_atom {s} {t} (by_lexeme h m) = (lexed s t h).ends
-ends_atom (by_class h m) = ends_class m.1
+ends_atom (by_class h m) = record { front = m.1.class; is = m.1.is }
 
 -- what an atom can be that is no group
 pub data IsSimple (s : Scope) : Pattern → Type 0 where

@@ -1,11 +1,27 @@
--- Classes as they are read: item by item and operand by operand, with the members so far. Lemmas show that this reading and `ClassGrammar` give the same members.
-use Rattle.std.specs.Prelude.{◌≡◌, ℕ, suc, Bool, true, false, drop, Some, None}
-use Rattle.fancy_syntax.specs.Words.{Text, is_at}
+-- Classes as they are read: from one place to another, item by item and operand by operand, with the members so far. Lemmas show that this reading and `ClassGrammar` give the same members.
+use Rattle.std.specs.Prelude.{◌≡◌, ℕ, suc, Bool, true, false, drop, Option, Some, None, if◌then◌else◌}
+use Rattle.fancy_syntax.specs.Words.{Text, is_at, begins}
 use Rattle.fancy_syntax.specs.Members.{Members, both, applied}
-use Rattle.fancy_syntax.specs.ClassGrammar.{may_turn, token, token_members, operator, ends_operand, is_bracket, starts_class, opening, turned, none_of}
+use Rattle.fancy_syntax.specs.ClassGrammar.{may_turn, token, token_members, ends_operand, starts_class, turned, none_of}
 use Rattle.fancy_syntax.specs.declared.class.token.Token.{Token}
 use Rattle.fancy_syntax.specs.declared.tree.Meaning.{Meaning}
 use Rattle.fancy_syntax.specs.declared.operation.Operation.{Operation}
+use Rattle.fancy_syntax.specs.declared.operation.Operation.TheVariants.{Intersection, Difference, SymmetricDifference}
+
+abbrev pub is_bracket : Text → Bool
+is_bracket t = is_at "[" t
+
+-- the operator that stands here, and what follows it
+abbrev pub operator : Text → Option (Operation × Text)
+operator p =
+    if begins "&&" p then Some (Intersection, drop 2 p)
+    else if begins "--" p then Some (Difference, drop 2 p)
+    else if begins "~~" p then Some (SymmetricDifference, drop 2 p)
+    else None
+
+-- behind the bracket, whether `^` stands there, and the place of the first item
+abbrev pub opening : Text → Bool × Text
+opening t = if is_at "^" (drop 1 t) then (true, drop 2 t) else (false, drop 1 t)
 
 -- The number says how many brackets more may be open at one place.
 mutual
