@@ -9,12 +9,10 @@ use Rattle.fancy_syntax.specs.ClassGrammar as d
 use Rattle.fancy_syntax.specs.ClassGrammar.{is_ascii_meaning, may_turn, is_posix, starts_class, ends_operand, token, none_of, united, combined, turned, Operator, intersection, difference, symmetric_difference, ReadsClass, ReadsEdges}
 use Rattle.fancy_syntax.specs.ClassReading as g
 use Rattle.fancy_syntax.specs.ClassReading.{operator, opening}
-use Rattle.fancy_syntax.specs.ClassViews.{Gives, IsTheReading, HasNoReading}
+use Rattle.fancy_syntax.specs.ClassViews.{Gives}
 use Rattle.fancy_syntax.specs.declared.class.refusal.Refusal.{Refusal}
 use Rattle.fancy_syntax.specs.declared.class.refusal.Refusal.TheVariants.{Memory, Invalid}
-use Rattle.fancy_syntax.specs.declared.class.token.Token.{Token}
 use Rattle.fancy_syntax.specs.declared.operation.Operation.{Operation}
-use Rattle.fancy_syntax.specs.declared.operation.Operation.TheVariants.{Intersection, Difference, SymmetricDifference}
 use Rattle.fancy_syntax.specs.declared.set.Set.{Set}
 use Rattle.fancy_syntax.specs.declared.tree.Meaning.{Meaning}
 use Rattle.fancy_syntax.proofs.BlankLemmas.{chosen, begins_with}
