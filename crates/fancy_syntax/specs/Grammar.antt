@@ -1,5 +1,6 @@
 -- The dialect as it is read: a text is read from one place to another, and nothing here says in which order. Lemmas show that this reading and `Dialect` give the same patterns.
 use Rattle.std.specs.Prelude.{◌≡◌, ℕ, suc, ◌+◌, Bool, true, false, not, ◌||◌, ◌&&◌, nat_le, List, [], ◌∷◌, drop, length, Option, Some, None, option_map, ◌==◌, if◌then◌else◌}
+use Prim.Native.Char.{code}
 use Rattle.std.specs.Option.{option_and_then}
 use Rattle.fancy_syntax.specs.Limits.{most_parentheses, most_turns}
 use Rattle.fancy_syntax.specs.declared.tree.Meaning.{Meaning}
@@ -66,7 +67,7 @@ pub record LettersRead : Type 0 where
 -- with one more character read
 abbrev pub next_letter : Meaning → ℕ → LettersRead → Option LettersRead
 next_letter m c l =
-    if (45 == c) && l.on then Some (record { flags = l.flags; on = false; some = false })
+    if (code "-" == c) && l.on then Some (record { flags = l.flags; on = false; some = false })
     else option_map (λ f. record { flags = f; on = l.on; some = true }) (with_flag m l.on c l.flags)
 
 -- the flags that are read up to a colon or a parenthesis, and the text from there on
@@ -80,7 +81,7 @@ flags_in m (c ∷ t) l =
 abbrev pub flag_group : Place → Option (Flags × Text) → Option (Opening × Place)
 flag_group p None = None
 flag_group p (Some (f, [])) = None
-flag_group p (Some (f, c ∷ t)) = Some (if 58 == c then plain else setting, record { text = t; scope = in_force f p.scope })
+flag_group p (Some (f, c ∷ t)) = Some (if code ":" == c then plain else setting, record { text = t; scope = in_force f p.scope })
 
 abbrev pub first_letter : Flags → LettersRead
 first_letter f = record { flags = f; on = true; some = false }

@@ -1,5 +1,6 @@
 -- The words in which the grammar speaks of the characters of a pattern.
 use Rattle.std.specs.Prelude.{ℕ, zero, suc, ◌+◌, ◌-◌, ◌*◌, ◌==◌, ◌||◌, ◌&&◌, Bool, true, false, nat_eq, List, [], ◌∷◌, codes, drop, length, Option, Some, None, if◌then◌else◌}
+use Prim.Native.Char.{code}
 use Rattle.std.specs.List.{starts_with, list_any}
 use Rattle.std.specs.Char.{is_ascii_digit}
 use Prim.Native.String.{String}
@@ -39,7 +40,7 @@ past_digits (c ∷ t) = if is_ascii_digit c then past_digits t else c ∷ t
 -- Decimal digits behind a number: the number that the row of digits which stands first is, where n was read before it.
 unfoldable pub decimal_from : ℕ → Text → ℕ
 decimal_from n [] = n
-decimal_from n (c ∷ t) = if is_ascii_digit c then decimal_from (n * 10 + (c - 48)) t else n
+decimal_from n (c ∷ t) = if is_ascii_digit c then decimal_from (n * 10 + (c - code "0")) t else n
 
 -- the number that the row of digits which stands first is, and 0 where there is none
 abbrev pub decimal : Text → ℕ
@@ -63,24 +64,24 @@ begins_count t = is_at "{" t && is_count (drop 1 t)
 
 -- space, TAB, LF and CR
 abbrev pub is_blank : ℕ → Bool
-is_blank c = is_among c (32 ∷ 9 ∷ 10 ∷ 13 ∷ [])
+is_blank c = c ∈ " \t\n\r"
 
 -- what follows the line that stands first, with its end
 abbrev pub past_line : Text → Text
 past_line [] = []
-past_line (c ∷ t) = if c == 10 then t else past_line t
+past_line (c ∷ t) = if c == code "\n" then t else past_line t
 
 -- what follows the next `)`, if there is one
 abbrev pub past_comment : Text → Option Text
 past_comment [] = None
-past_comment (c ∷ t) = if c == 41 then Some t else past_comment t
+past_comment (c ∷ t) = if c == code ")" then Some t else past_comment t
 
 -- what follows the blank or comment that stands first, if one does; blanks, and lines behind `#`, only where the flag is set
 abbrev pub past_blank : Bool → Text → Option Text
 past_blank ignore_blanks [] = None
 past_blank ignore_blanks (c ∷ t) =
     if is_blank c && ignore_blanks then Some t
-    else if (35 == c) && ignore_blanks then Some (past_line t)
+    else if (code "#" == c) && ignore_blanks then Some (past_line t)
     else if begins "(?#" (c ∷ t) then past_comment (drop 2 t)
     else None
 
