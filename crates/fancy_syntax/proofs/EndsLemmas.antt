@@ -1,23 +1,24 @@
 -- What is read leaves an end of the text that it was read from, and what an atom that is no group can be.
-use Rattle.std.proofs.Common.{◌≡◌, ℕ, ◌+◌, ◌==◌, ◌||◌, ◌&&◌, not, nat_lt, Bool, true, false, List, [], ◌∷◌, ◌++◌, take, Option, Some, None, drop, length, refl, sym, ap, ◌∙◌, subst, append_assoc, inl, inr, cond}
+use Rattle.std.proofs.Common.{◌≡◌, ℕ, ◌+◌, ◌==◌, ◌||◌, ◌&&◌, not, nat_lt, nat_eq, Bool, true, false, List, [], ◌∷◌, ◌++◌, take, Option, Some, None, drop, length, refl, sym, ap, ◌∙◌, subst, append_assoc, inl, inr, cond}
 use Rattle.std.proofs.lemmas.List.{take-append-drop}
-use Rattle.std.specs.Option.{option_map, option_or, option_and_then}
+use Rattle.std.specs.List.{starts_with}
+use Rattle.std.specs.Option.{unwrap_or, option_map, option_or, option_and_then}
 use Rattle.std.specs.Prelude.{if◌then◌else◌}
 use Rattle.ucd_sets.specs.declared.set.Set.{Set as PropertySet}
 use Rattle.fancy_syntax.specs.declared.tree.Assertion.{Assertion}
-use Rattle.fancy_syntax.specs.declared.tree.Assertion.TheVariants.{WordBoundary, WordStart, WordEnd, WordStartHalf, WordEndHalf}
+use Rattle.fancy_syntax.specs.declared.tree.Assertion.TheVariants.{WordBoundary}
 use Rattle.fancy_syntax.specs.declared.tree.Meaning.{Meaning}
 use Rattle.fancy_syntax.specs.Named.{is_unicode}
 use Rattle.fancy_syntax.specs.Grammar.{ends_branch}
 use Rattle.fancy_syntax.specs.declared.named.Named.{Named}
 use Rattle.fancy_syntax.specs.declared.class.token.Token.{Token}
 use Rattle.fancy_syntax.specs.Pattern.{Pattern, member_of, raw_byte, assertion}
-use Rattle.fancy_syntax.specs.Words.{Text, ◌∈◌, is_at, begins, begins_count}
+use Rattle.fancy_syntax.specs.Words.{Text, ◌∈◌, is_at, begins, by_word, begins_count}
 use Rattle.fancy_syntax.specs.Members.{Members}
 use Rattle.fancy_syntax.specs.Sets.{AreEdges}
 use Rattle.fancy_syntax.specs.Escapes.{control_of, escaped, escape_at, hexadecimal, number, braced_number, before_brace, by_number, is_character, single, set_here, set_letter, is_property, property_name, property_named}
-use Rattle.fancy_syntax.specs.ClassGrammar.{is_ascii_meaning, fits, may_turn, range, range_from, range_to, is_ranged, named_of, posix, posix_of, posix_word, is_posix, property, property_of, found_property, token, token_of}
-use Rattle.fancy_syntax.specs.Dialect.{Scope, Lexeme, leaf, one_of, IsMeant, by_itself, by_edges, lexeme, ReadsAtom, by_lexeme, by_class, literal_of, spelled_character, spelled_number, spelled_set, lettered_set, is_one_item, numbered, boundary, property_here, followed_by, any_item, any_code, lettered, place_test, anchor_of, lone, escape, escape_in, is_escapable, is_special}
+use Rattle.fancy_syntax.specs.ClassGrammar.{is_ascii_meaning, fits, may_turn, range, range_from, range_to, is_ranged, named_of, posix, posix_of, posix_words, is_posix, property, property_of, found_property, token, token_of}
+use Rattle.fancy_syntax.specs.Dialect.{Scope, Lexeme, leaf, one_of, IsMeant, by_itself, by_edges, lexeme, ReadsAtom, by_lexeme, by_class, literal_of, spelled_character, spelled_number, spelled_set, lettered_set, is_one_item, numbered, boundary_words, boundary, property_here, followed_by, any_item, any_code, lettered, place_test, anchor_of, lone, escape, escape_in, is_escapable, is_special}
 use Rattle.fancy_syntax.proofs.ReadingLemmas.{some_pair, some_is_none, true_is_false}
 use Rattle.fancy_syntax.proofs.BlankLemmas.{chosen, same_some, char_is}
 
@@ -133,15 +134,23 @@ ends_named m t n h =
       | inr y ↦ absurd (some_is_none (sym y.1))
     ]
 
-ends_posix_of : (m : Meaning) (negated : Bool) (t : Text) (o : Option (Named × ℕ)) {x : Token} {u : Text} → posix_of m negated t o ≡ Some (x, u) → Ends t u
-ends_posix_of m negated t None h = absurd (some_is_none (sym h))
-ends_posix_of m negated t (Some (n, len)) h = ends_at (ends_drop len t) (ends_named m (drop len t) (n, negated) h)
+ends_by_word : {X : Type 0} (words : List (Text × X)) (t : Text) {x : X} {u : Text} → by_word words t ≡ Some (x, u) → Ends t u
+ends_by_word [] t h = absurd (some_is_none (sym h))
+ends_by_word ((word, x) ∷ others) t h =
+    elim (chosen (starts_with nat_eq t word) _ _ _ h) [
+      | inl y ↦ ends_at (ends_drop (length word) t) (some_pair y.1).1
+      | inr y ↦ ends_by_word others t y.1
+    ]
+
+ends_posix_of : (m : Meaning) (negated : Bool) (t : Text) (o : Option (Named × Text)) {x : Token} {u : Text} → by_word posix_words t ≡ o → posix_of m negated o ≡ Some (x, u) → Ends t u
+ends_posix_of m negated t None e h = absurd (some_is_none (sym h))
+ends_posix_of m negated t (Some (n, v)) e h = ends_at (ends_by_word posix_words t e) (ends_named m v (n, negated) h)
 
 ends_posix : (m : Meaning) (t : Text) {x : Token} {u : Text} → posix m t ≡ Some (x, u) → Ends t u
 ends_posix m t h =
     elim (chosen (begins "[:^" t) _ _ _ h) [
-      | inl y ↦ ends_then (ends_drop 3 t) (ends_posix_of m true (drop 3 t) (posix_word (drop 3 t)) y.1)
-      | inr y ↦ ends_then (ends_drop 2 t) (ends_posix_of m false (drop 2 t) (posix_word (drop 2 t)) y.1)
+      | inl y ↦ ends_then (ends_drop 3 t) (ends_posix_of m true (drop 3 t) (by_word posix_words (drop 3 t)) refl y.1)
+      | inr y ↦ ends_then (ends_drop 2 t) (ends_posix_of m false (drop 2 t) (by_word posix_words (drop 2 t)) refl y.1)
     ]
 
 ends_property_name : (t : Text) {name u : Text} → property_name t ≡ Some (name, u) → Ends t u
@@ -266,18 +275,12 @@ lexed_property s t {x} {u} h = go (property s.meaning t) refl h
     go None e k = absurd (some_is_none (sym k))
     go (Some (y, v)) e k = lexed_as k (ends_property s.meaning t e) (a_set _)
 
-abbrev chosen_one : Bool → Assertion × Text → Assertion × Text → Assertion × Text
-chosen_one b x y = cond {A = Assertion × Text} b x y
-
 ends_boundary : (t : Text) → Ends t (boundary t).1
-ends_boundary t = go (begins "{start}" t) (begins "{end}" t) (begins "{start-half}" t) (begins "{end-half}" t)
+ends_boundary t = go (by_word boundary_words t) refl
   where
-    go : (a b c d : Bool) → Ends t (chosen_one a (WordStart, drop 7 t) (chosen_one b (WordEnd, drop 5 t) (chosen_one c (WordStartHalf, drop 12 t) (chosen_one d (WordEndHalf, drop 10 t) (WordBoundary, t))))).1
-    go true b c d = ends_drop 7 t
-    go false true c d = ends_drop 5 t
-    go false false true d = ends_drop 12 t
-    go false false false true = ends_drop 10 t
-    go false false false false = ends_here t
+    go : (o : Option (Assertion × Text)) → by_word boundary_words t ≡ o → Ends t (unwrap_or o (WordBoundary, t)).1
+    go None e = ends_here t
+    go (Some (a, u)) e = ends_by_word boundary_words t e
 
 lexed_escape : (s : Scope) (d : ℕ) (t : Text) {x : Lexeme} {u : Text} → escape s d t ≡ Some (x, u) → Lexed s (92 ∷ d ∷ t) x u
 lexed_escape s d t {x} {u} h =

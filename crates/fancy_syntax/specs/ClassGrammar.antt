@@ -3,7 +3,7 @@ use Rattle.std.specs.Prelude.{◌≡◌, ℕ, suc, nat_lt, Bool, true, false, no
 use Rattle.ucd_sets.specs.Sets.{in_set}
 use Rattle.ucd_sets.specs.declared.set.Set.{Set as PropertySet}
 use Rattle.fancy_syntax.specs.Limits.{most_brackets}
-use Rattle.fancy_syntax.specs.Words.{Text, is_at, begins}
+use Rattle.fancy_syntax.specs.Words.{Text, is_at, begins, by_word}
 use Rattle.fancy_syntax.specs.Escapes.{single, set_here, letters, is_property, property_name, property_named}
 use Rattle.fancy_syntax.specs.Sets.{has, AreEdges, in_range}
 use Rattle.fancy_syntax.specs.Members.{Members, both, applied}
@@ -54,24 +54,24 @@ range m p = range_from m (single p)
 abbrev pub named_of : Meaning → Text → Named × Bool → Option (Token × Text)
 named_of m t (n, negated) = if may_turn m negated then Some (NamedSet n negated, t) else None
 
--- the name of a POSIX set with what closes it, and their length
-abbrev pub posix_word : Text → Option (Named × ℕ)
-posix_word t =
-    if begins "alnum:]" t then Some (Alphanumeric, 7)
-    else if begins "alpha:]" t then Some (Alphabetic, 7)
-    else if begins "ascii:]" t then Some (Ascii, 7)
-    else if begins "blank:]" t then Some (Blank, 7)
-    else if begins "cntrl:]" t then Some (Control, 7)
-    else if begins "digit:]" t then Some (AsciiDigit, 7)
-    else if begins "graph:]" t then Some (Graphic, 7)
-    else if begins "lower:]" t then Some (Lowercase, 7)
-    else if begins "print:]" t then Some (Printable, 7)
-    else if begins "punct:]" t then Some (Punctuation, 7)
-    else if begins "space:]" t then Some (AsciiSpace, 7)
-    else if begins "upper:]" t then Some (Uppercase, 7)
-    else if begins "word:]" t then Some (AsciiWord, 6)
-    else if begins "xdigit:]" t then Some (Hexadecimal, 8)
-    else None
+-- the names of POSIX sets, each with what closes it
+abbrev pub posix_words : List (Text × Named)
+posix_words =
+    (codes "alnum:]", Alphanumeric) ∷
+    (codes "alpha:]", Alphabetic) ∷
+    (codes "ascii:]", Ascii) ∷
+    (codes "blank:]", Blank) ∷
+    (codes "cntrl:]", Control) ∷
+    (codes "digit:]", AsciiDigit) ∷
+    (codes "graph:]", Graphic) ∷
+    (codes "lower:]", Lowercase) ∷
+    (codes "print:]", Printable) ∷
+    (codes "punct:]", Punctuation) ∷
+    (codes "space:]", AsciiSpace) ∷
+    (codes "upper:]", Uppercase) ∷
+    (codes "word:]", AsciiWord) ∷
+    (codes "xdigit:]", Hexadecimal) ∷
+    []
 
 abbrev pub is_posix_name : Text → Bool
 is_posix_name t = nat_lt 0 (letters t) && begins ":]" (drop (letters t) t)
@@ -80,12 +80,12 @@ is_posix_name t = nat_lt 0 (letters t) && begins ":]" (drop (letters t) t)
 abbrev pub is_posix : Text → Bool
 is_posix p = if begins "[:^" p then is_posix_name (drop 3 p) else begins "[:" p && is_posix_name (drop 2 p)
 
-abbrev pub posix_of : Meaning → Bool → Text → Option (Named × ℕ) → Option (Token × Text)
-posix_of m negated t (Some (n, len)) = named_of m (drop len t) (n, negated)
-posix_of m negated t None = None
+abbrev pub posix_of : Meaning → Bool → Option (Named × Text) → Option (Token × Text)
+posix_of m negated (Some (n, t)) = named_of m t (n, negated)
+posix_of m negated None = None
 
 abbrev pub posix : Meaning → Text → Option (Token × Text)
-posix m p = if begins "[:^" p then posix_of m true (drop 3 p) (posix_word (drop 3 p)) else posix_of m false (drop 2 p) (posix_word (drop 2 p))
+posix m p = if begins "[:^" p then posix_of m true (by_word posix_words (drop 3 p)) else posix_of m false (by_word posix_words (drop 2 p))
 
 abbrev pub found_property : Bool → Text → Option PropertySet → Option (Token × Text)
 found_property negated t (Some s) = Some (Property s negated, t)

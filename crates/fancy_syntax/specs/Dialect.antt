@@ -2,7 +2,7 @@
 use Rattle.std.specs.Prelude.{◌≡◌, ℕ, suc, ◌+◌, ◌≤◌, ◌==◌, nat_lt, Bool, true, false, not, ◌&&◌, ◌||◌, List, [], ◌∷◌, ◌++◌, drop, length, All, Option, Some, None, codes, map, encode_utf8, if◌then◌else◌}
 use Prim.Native.Char.{code}
 use Rattle.std.specs.Char.{is_ascii_punctuation}
-use Rattle.std.specs.Option.{option_map, option_or, option_and_then}
+use Rattle.std.specs.Option.{unwrap_or, option_map, option_or, option_and_then}
 use Rattle.fancy_syntax.specs.Limits.{most_parentheses, most_turns, most_nodes}
 use Rattle.fancy_syntax.specs.declared.tree.Meaning.{Meaning}
 use Rattle.fancy_syntax.specs.declared.tree.Meaning.TheVariants.{Unicode, Bytes, AsciiText}
@@ -17,7 +17,7 @@ use Rattle.fancy_syntax.specs.declared.class.token.Token.TheVariants.{Named as N
 use Rattle.fancy_syntax.specs.declared.named.Named.{Named}
 use Rattle.fancy_syntax.specs.Pattern.{Pattern, character, member_of, raw_byte, backreference, assertion, group, repeat, look_ahead, look_behind, atomic, in_sequence, in_branches}
 use Rattle.fancy_syntax.specs.Sizes.{nodes, are_sized, is_empty}
-use Rattle.fancy_syntax.specs.Words.{Text, ◌∈◌, is_among, is_at, begins, is_at_digit, is_blank, past_blank, decimal, are_digits, begins_count}
+use Rattle.fancy_syntax.specs.Words.{Text, ◌∈◌, is_among, is_at, by_word, is_at_digit, is_blank, past_blank, decimal, are_digits, begins_count}
 use Rattle.fancy_syntax.specs.Sets.{has, AreEdges, in_range}
 use Rattle.fancy_syntax.specs.Members.{Members}
 use Rattle.fancy_syntax.specs.Named.{in_universe, is_unicode}
@@ -139,14 +139,13 @@ place_test f d =
     else if code ">" == d then Some WordEnd
     else None
 
--- what `\b` tests, by the word in braces behind it, and what follows
+-- what `\b` tests where one of these words stands behind it
+abbrev pub boundary_words : List (Text × Assertion)
+boundary_words = (codes "{start}", WordStart) ∷ (codes "{end}", WordEnd) ∷ (codes "{start-half}", WordStartHalf) ∷ (codes "{end-half}", WordEndHalf) ∷ []
+
+-- what `\b` tests, by the word behind it, and what follows
 abbrev pub boundary : Text → Assertion × Text
-boundary t =
-    if begins "{start}" t then (WordStart, drop 7 t)
-    else if begins "{end}" t then (WordEnd, drop 5 t)
-    else if begins "{start-half}" t then (WordStartHalf, drop 12 t)
-    else if begins "{end-half}" t then (WordEndHalf, drop 10 t)
-    else (WordBoundary, t)
+boundary t = unwrap_or (by_word boundary_words t) (WordBoundary, t)
 
 -- a literal character: one item, but in byte meaning the sequence of its bytes
 abbrev pub literal_of : Meaning → ℕ → Pattern

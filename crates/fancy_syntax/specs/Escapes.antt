@@ -1,5 +1,5 @@
 -- What stands behind a backslash: characters by a letter or a number, and sets by a letter or a name.
-use Rattle.std.specs.Prelude.{ℕ, ◌+◌, ◌*◌, min, ◌==◌, ◌||◌, ◌&&◌, not, nat_lt, Bool, true, false, [], ◌∷◌, length, take, drop, Option, Some, None, if◌then◌else◌}
+use Rattle.std.specs.Prelude.{ℕ, ◌+◌, ◌*◌, ◌==◌, ◌||◌, ◌&&◌, not, nat_lt, Bool, true, false, [], ◌∷◌, length, take, drop, Option, Some, None, if◌then◌else◌}
 use Prim.Native.Char.{code}
 use Rattle.std.specs.List.{list_all}
 use Rattle.std.specs.Option.{option_or}
@@ -62,10 +62,10 @@ before_brace (c ∷ t) = if c == code "}" then 0 else 1 + before_brace t
 abbrev pub is_character : ℕ → Bool
 is_character n = nat_lt n 0xD800 || (nat_lt 0xDFFF n && nat_lt n 0x11_0000)
 
--- The number that hexadecimal digits write behind others that write n, if each is a digit. The first number that is too large stands for all of them.
+-- the number that hexadecimal digits write behind others that write n, if each is a digit
 abbrev pub hexadecimal : ℕ → Text → Option ℕ
 hexadecimal n [] = Some n
-hexadecimal n (c ∷ t) = if nat_lt (digit_value c) 16 then hexadecimal (min (n * 16 + digit_value c) 0x11_0000) t else None
+hexadecimal n (c ∷ t) = if nat_lt (digit_value c) 16 then hexadecimal (n * 16 + digit_value c) t else None
 
 -- a character by its number, and whether it was written as a byte
 abbrev pub by_number : Option ℕ → Bool → Text → Option ((ℕ × Bool) × Text)

@@ -1,6 +1,7 @@
 pub mod Limits
 pub mod Modes
 pub mod Sets
+pub mod SetViews
 pub mod Pattern
 pub mod Sizes
 pub mod Words

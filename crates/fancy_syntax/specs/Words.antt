@@ -1,5 +1,5 @@
 -- The words in which the grammar speaks of the characters of a pattern.
-use Rattle.std.specs.Prelude.{ℕ, zero, suc, ◌+◌, ◌-◌, ◌*◌, ◌==◌, ◌||◌, ◌&&◌, Bool, true, false, nat_eq, List, [], ◌∷◌, codes, drop, length, Option, Some, None, if◌then◌else◌}
+use Rattle.std.specs.Prelude.{ℕ, ◌+◌, ◌-◌, ◌*◌, ◌==◌, ◌||◌, ◌&&◌, Bool, true, false, nat_eq, List, [], ◌∷◌, codes, drop, length, Option, Some, None, if◌then◌else◌}
 use Prim.Native.Char.{code}
 use Rattle.std.specs.List.{starts_with, list_any}
 use Rattle.std.specs.Char.{is_ascii_digit}
@@ -27,6 +27,11 @@ is_at s t = is_at_any (codes s) t
 -- the text begins with this word
 abbrev pub begins : String → Text → Bool
 begins s t = starts_with nat_eq t (codes s)
+
+-- what the first of these words that the text begins with stands for, and what follows the word
+abbrev pub by_word : {X : Type 0} → List (Text × X) → Text → Option (X × Text)
+by_word [] t = None
+by_word ((word, x) ∷ others) t = if starts_with nat_eq t word then Some (x, drop (length word) t) else by_word others t
 
 abbrev pub is_at_digit : Text → Bool
 is_at_digit [] = false
@@ -84,17 +89,3 @@ past_blank ignore_blanks (c ∷ t) =
     else if (code "#" == c) && ignore_blanks then Some (past_line t)
     else if begins "(?#" (c ∷ t) then past_comment (drop 2 t)
     else None
-
--- this text, or where it is none the other
-abbrev pub text_or : (Text → Text) → Text → Option Text → Text
-text_or on t None = t
-text_or on t (Some u) = on u
-
--- what follows n of them at most
-unfoldable pub past_blanks_in : ℕ → Bool → Text → Text
-past_blanks_in zero ignore_blanks t = t
-past_blanks_in (suc n) ignore_blanks t = text_or (past_blanks_in n ignore_blanks) t (past_blank ignore_blanks t)
-
--- what follows all of them; a comment that is not closed is left
-abbrev pub past_blanks : Bool → Text → Text
-past_blanks ignore_blanks t = past_blanks_in (length t) ignore_blanks t
