@@ -4,7 +4,8 @@ use Rattle.std.specs.List.{starts_with}
 use Rattle.std.specs.Cmp.Lexicographic.{same_text}
 use Rattle.std.proofs.lemmas.Bool.Decides.{nat_tests}
 use Rattle.std.proofs.lemmas.List.{take-append-drop}
-use Rattle.fancy_syntax.specs.Words.{Text, is_among, is_at, begins, is_blank, past_line, past_comment, past_blank, past_blanks, past_blanks_in, text_or, begins_count}
+use Rattle.fancy_syntax.specs.Words.{Text, is_among, is_at, begins, is_blank, past_line, past_comment, past_blank, begins_count}
+use Rattle.fancy_syntax.specs.Grammar.{text_or, past_blanks_in, past_blanks}
 use Rattle.fancy_syntax.specs.Dialect.{Blank, comment, blank, line, last_line, Blanks, no_blank, blanks, begins_quantifier, IsUnquantified}
 use Rattle.fancy_syntax.specs.Grammar.{ends_branch}
 use Rattle.fancy_syntax.proofs.ReadingLemmas.{some_is_none, true_is_false}

@@ -1,18 +1,17 @@
 -- What the reader's loops and branches say of the grammar.
 use Rattle.std.proofs.Common.{◌≡◌, ℕ, suc, ◌+◌, Bool, true, false, Some, None, drop, refl, sym, ap, ◌∙◌, subst, arith, add-one, Result, Ok, Err}
 use Rattle.fancy_syntax.specs.Words.{Text, is_at}
-use Rattle.fancy_syntax.specs.ClassGrammar.{token, operator, ends_operand, starts_class, is_bracket, opening, may_turn, turned, token_members, none_of, ReadsClass, ReadsEdges, Class, class, Items, none, next, Operands, last, more, Item, simple, nested}
+use Rattle.fancy_syntax.specs.ClassGrammar.{token, ends_operand, starts_class, may_turn, turned, token_members, none_of}
+use Rattle.fancy_syntax.specs.ClassReading.{operator, is_bracket, opening, Class, class, Items, none, next, Operands, last, more, Item, simple, nested}
 use Rattle.fancy_syntax.specs.declared.class.token.Token.{Token}
 use Rattle.fancy_syntax.specs.declared.class.refusal.Refusal.{Refusal}
 use Rattle.fancy_syntax.specs.declared.class.refusal.Refusal.TheVariants.{Memory, Invalid}
 use Rattle.fancy_syntax.specs.ClassViews.{Refuses, Gives, IsTheReading, HasNoReading}
-use Rattle.fancy_syntax.specs.Members.{Members, members, edges_of, both, applied}
+use Rattle.fancy_syntax.specs.Members.{Members, members, both, applied}
 use Rattle.fancy_syntax.specs.declared.operation.Operation.{Operation}
 use Rattle.fancy_syntax.specs.declared.set.Set.{Set}
 use Rattle.fancy_syntax.specs.declared.tree.Meaning.{Meaning}
-use Rattle.fancy_syntax.specs.Sets.{has}
 use Rattle.fancy_syntax.proofs.ReadingLemmas.{true_is_false, some_is_none, some_pair}
-use Rattle.fancy_syntax.proofs.CanonicalLemmas.{edges_unique}
 
 pub Refuses-weaker : (e : Refusal) {A B : Type 0} → (A → B) → Refuses e A → Refuses e B
 Refuses-weaker Memory f h = tt
@@ -199,11 +198,6 @@ module _ {m : Meaning} {i : Bool} {k j : ℕ} {p q : Text} {negated : Bool} (sta
         let n = operands_last (on.back b.0 b.1 b.2) op in
         (b.4 ∙ (ap (turned m negated) n.0 ∙ sym is), b.5 ∙ ap (drop 1) n.1),
   )
-
-pub gives_edges : (m : Meaning) (i : Bool) (r : Result Set Refusal) (p q : Text) → Gives members (ReadsClass m i) r p q → Gives edges_of (ReadsEdges m i) r p q
-gives_edges m i (Ok s) p q h = ((s.are_edges, h.0), λ u v y. let o = h.1 (has u) v y.1 in (edges_unique u (edges_of s) y.0 s.are_edges o.0, o.1))
-gives_edges m i (Err Memory) p q h = tt
-gives_edges m i (Err (Invalid kind)) p q h = λ u v y. h (has u) v y.1
 
 -- a text has at most one reading
 mutual

@@ -9,7 +9,8 @@ use Rattle.std.proofs.lemmas.Bool.Decides.{nat_tests}
 use Rattle.fancy_syntax.specs.Members.{applied}
 use Rattle.fancy_syntax.specs.declared.operation.Operation.{Operation}
 use Rattle.fancy_syntax.specs.declared.operation.Operation.TheVariants.{Union, Intersection, Difference, SymmetricDifference}
-use Rattle.fancy_syntax.specs.Sets.{differ, has, is_odd, Rising, Cut, AreEdges, IsNearest, in_range}
+use Rattle.fancy_syntax.specs.Sets.{differ, has, is_odd, Rising, AreEdges, in_range}
+use Rattle.fancy_syntax.specs.SetViews.{Cut, IsNearest}
 use Rattle.unicode.specs.Rows.{in_ranges}
 
 not_not : (b : Bool) → not (not b) ≡ b

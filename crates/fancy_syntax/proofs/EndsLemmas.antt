@@ -1,24 +1,24 @@
 -- What is read leaves an end of the text that it was read from, and what an atom that is no group can be.
-use Rattle.std.proofs.Common.{◌≡◌, ℕ, ◌+◌, ◌==◌, ◌||◌, ◌&&◌, not, nat_lt, Bool, true, false, List, [], ◌∷◌, ◌++◌, take, Option, Some, None, drop, length, refl, sym, ap, ◌∙◌, subst, append_assoc, inl, inr, cond}
+use Rattle.std.proofs.Common.{◌≡◌, ℕ, ◌+◌, ◌==◌, ◌||◌, ◌&&◌, not, nat_lt, nat_eq, Bool, true, false, List, [], ◌∷◌, ◌++◌, take, Option, Some, None, drop, length, refl, sym, ap, ◌∙◌, subst, append_assoc, inl, inr, cond}
 use Rattle.std.proofs.lemmas.List.{take-append-drop}
-use Rattle.std.specs.Option.{option_map, option_or, option_and_then}
+use Rattle.std.specs.List.{starts_with}
+use Rattle.std.specs.Option.{unwrap_or, option_map, option_or, option_and_then}
 use Rattle.std.specs.Prelude.{if◌then◌else◌}
 use Rattle.ucd_sets.specs.declared.set.Set.{Set as PropertySet}
 use Rattle.fancy_syntax.specs.declared.tree.Assertion.{Assertion}
-use Rattle.fancy_syntax.specs.declared.tree.Assertion.TheVariants.{WordBoundary, WordStart, WordEnd, WordStartHalf, WordEndHalf}
+use Rattle.fancy_syntax.specs.declared.tree.Assertion.TheVariants.{WordBoundary}
 use Rattle.fancy_syntax.specs.declared.tree.Meaning.{Meaning}
 use Rattle.fancy_syntax.specs.Named.{is_unicode}
 use Rattle.fancy_syntax.specs.Grammar.{ends_branch}
 use Rattle.fancy_syntax.specs.declared.named.Named.{Named}
 use Rattle.fancy_syntax.specs.declared.class.token.Token.{Token}
-use Rattle.fancy_syntax.specs.declared.operation.Operation.{Operation}
 use Rattle.fancy_syntax.specs.Pattern.{Pattern, member_of, raw_byte, assertion}
-use Rattle.fancy_syntax.specs.Words.{Text, ◌∈◌, is_at, begins, begins_count}
+use Rattle.fancy_syntax.specs.Words.{Text, ◌∈◌, is_at, begins, by_word, begins_count}
 use Rattle.fancy_syntax.specs.Members.{Members}
 use Rattle.fancy_syntax.specs.Sets.{AreEdges}
 use Rattle.fancy_syntax.specs.Escapes.{control_of, escaped, escape_at, hexadecimal, number, braced_number, before_brace, by_number, is_character, single, set_here, set_letter, is_property, property_name, property_named}
-use Rattle.fancy_syntax.specs.ClassGrammar.{is_ascii_meaning, fits, may_turn, range, range_from, range_to, is_ranged, named_of, posix, posix_of, posix_word, is_posix, property, property_of, found_property, token, token_of, operator, opening, Class, class, Items, none, next, Operands, last, more, Item, simple, nested}
-use Rattle.fancy_syntax.specs.Dialect.{Scope, Lexeme, leaf, one_of, IsMeant, by_itself, by_edges, lexeme, ReadsAtom, by_lexeme, by_class, literal_of, spelled_character, spelled_number, spelled_set, lettered_set, is_one_item, numbered, boundary, property_here, followed_by, any_item, any_code, lettered, place_test, anchor_of, lone, escape, escape_in, is_escapable, is_special}
+use Rattle.fancy_syntax.specs.ClassGrammar.{is_ascii_meaning, fits, may_turn, range, range_from, range_to, is_ranged, named_of, posix, posix_of, posix_words, is_posix, property, property_of, found_property, token, token_of}
+use Rattle.fancy_syntax.specs.Dialect.{Scope, Lexeme, leaf, one_of, IsMeant, by_itself, by_edges, lexeme, ReadsAtom, by_lexeme, by_class, literal_of, spelled_character, spelled_number, spelled_set, lettered_set, is_one_item, numbered, boundary_words, boundary, property_here, followed_by, any_item, any_code, lettered, place_test, anchor_of, lone, escape, escape_in, is_escapable, is_special}
 use Rattle.fancy_syntax.proofs.ReadingLemmas.{some_pair, some_is_none, true_is_false}
 use Rattle.fancy_syntax.proofs.BlankLemmas.{chosen, same_some, char_is}
 
@@ -134,15 +134,23 @@ ends_named m t n h =
       | inr y ↦ absurd (some_is_none (sym y.1))
     ]
 
-ends_posix_of : (m : Meaning) (negated : Bool) (t : Text) (o : Option (Named × ℕ)) {x : Token} {u : Text} → posix_of m negated t o ≡ Some (x, u) → Ends t u
-ends_posix_of m negated t None h = absurd (some_is_none (sym h))
-ends_posix_of m negated t (Some (n, len)) h = ends_at (ends_drop len t) (ends_named m (drop len t) (n, negated) h)
+ends_by_word : {X : Type 0} (words : List (Text × X)) (t : Text) {x : X} {u : Text} → by_word words t ≡ Some (x, u) → Ends t u
+ends_by_word [] t h = absurd (some_is_none (sym h))
+ends_by_word ((word, x) ∷ others) t h =
+    elim (chosen (starts_with nat_eq t word) _ _ _ h) [
+      | inl y ↦ ends_at (ends_drop (length word) t) (some_pair y.1).1
+      | inr y ↦ ends_by_word others t y.1
+    ]
+
+ends_posix_of : (m : Meaning) (negated : Bool) (t : Text) (o : Option (Named × Text)) {x : Token} {u : Text} → by_word posix_words t ≡ o → posix_of m negated o ≡ Some (x, u) → Ends t u
+ends_posix_of m negated t None e h = absurd (some_is_none (sym h))
+ends_posix_of m negated t (Some (n, v)) e h = ends_at (ends_by_word posix_words t e) (ends_named m v (n, negated) h)
 
 ends_posix : (m : Meaning) (t : Text) {x : Token} {u : Text} → posix m t ≡ Some (x, u) → Ends t u
 ends_posix m t h =
     elim (chosen (begins "[:^" t) _ _ _ h) [
-      | inl y ↦ ends_then (ends_drop 3 t) (ends_posix_of m true (drop 3 t) (posix_word (drop 3 t)) y.1)
-      | inr y ↦ ends_then (ends_drop 2 t) (ends_posix_of m false (drop 2 t) (posix_word (drop 2 t)) y.1)
+      | inl y ↦ ends_then (ends_drop 3 t) (ends_posix_of m true (drop 3 t) (by_word posix_words (drop 3 t)) refl y.1)
+      | inr y ↦ ends_then (ends_drop 2 t) (ends_posix_of m false (drop 2 t) (by_word posix_words (drop 2 t)) refl y.1)
     ]
 
 ends_property_name : (t : Text) {name u : Text} → property_name t ≡ Some (name, u) → Ends t u
@@ -175,7 +183,7 @@ ends_token_of : (m : Meaning) (t : Text) (o : Option (Named × Bool)) {x : Token
 ends_token_of m t None h = ends_range m t h
 ends_token_of m t (Some n) h = ends_at (ends_drop 2 t) (ends_named m (drop 2 t) n h)
 
-ends_token : (m : Meaning) (t : Text) {x : Token} {u : Text} → token m t ≡ Some (x, u) → Ends t u
+pub ends_token : (m : Meaning) (t : Text) {x : Token} {u : Text} → token m t ≡ Some (x, u) → Ends t u
 ends_token m t h =
     elim (chosen (is_posix t) _ _ _ h) [
       | inl y ↦ ends_posix m t y.1
@@ -184,42 +192,6 @@ ends_token m t h =
         | inr z ↦ ends_token_of m t (set_here t) z.1
       ]
     ]
-
-ends_operator : (t : Text) {how : Operation} {u : Text} → operator t ≡ Some (how, u) → Ends t u
-ends_operator t h =
-    elim (chosen (begins "&&" t) _ _ _ h) [
-      | inl y ↦ ends_at (ends_drop 2 t) (some_pair y.1).1
-      | inr y ↦ elim (chosen (begins "--" t) _ _ _ y.1) [
-        | inl z ↦ ends_at (ends_drop 2 t) (some_pair z.1).1
-        | inr z ↦ elim (chosen (begins "~~" t) _ _ _ z.1) [
-          | inl w ↦ ends_at (ends_drop 2 t) (some_pair w.1).1
-          | inr w ↦ absurd (some_is_none (sym w.1))
-        ]
-      ]
-    ]
-
-ends_opening : (t : Text) → Ends t (opening t).1
-ends_opening t = go (is_at "^" (drop 1 t))
-  where
-    go : (b : Bool) → Ends t (cond {A = Bool × Text} b (true, drop 2 t) (false, drop 1 t)).1
-    go true = ends_drop 2 t
-    go false = ends_drop 1 t
-
-mutual
-  pub ends_class : {m : Meaning} {i : Bool} {k : ℕ} {p q : Text} {f : Members} → Class m i k p f q → Ends p q
-  ends_class (class {p = p} {r = r} starts may items operands closes) = ends_then (ends_opening p) (ends_then (ends_items items) (ends_then (ends_operands operands) (ends_drop 1 r)))
-
-  ends_items : {m : Meaning} {i : Bool} {k : ℕ} {first : Bool} {p q : Text} {e f : Members} → Items m i k first e p f q → Ends p q
-  ends_items (none {p = p} h) = ends_here p
-  ends_items (next h piece rest) = ends_then (ends_piece piece) (ends_items rest)
-
-  ends_operands : {m : Meaning} {i : Bool} {k : ℕ} {p q : Text} {e f : Members} → Operands m i k e p f q → Ends p q
-  ends_operands (last {p = p} h) = ends_here p
-  ends_operands (more {p = p} h items rest) = ends_then (ends_operator p h) (ends_then (ends_items items) (ends_operands rest))
-
-  ends_piece : {m : Meaning} {i : Bool} {k : ℕ} {p q : Text} {f : Members} → Item m i k p f q → Ends p q
-  ends_piece {m} (simple {p = p} h found) = ends_token m p found
-  ends_piece (nested h inner) = ends_class inner
 
 -- ---- lexemes, and what they can be
 pub data Kind (s : Scope) : Lexeme → Type 0 where
@@ -303,18 +275,12 @@ lexed_property s t {x} {u} h = go (property s.meaning t) refl h
     go None e k = absurd (some_is_none (sym k))
     go (Some (y, v)) e k = lexed_as k (ends_property s.meaning t e) (a_set _)
 
-abbrev chosen_one : Bool → Assertion × Text → Assertion × Text → Assertion × Text
-chosen_one b x y = cond {A = Assertion × Text} b x y
-
 ends_boundary : (t : Text) → Ends t (boundary t).1
-ends_boundary t = go (begins "{start}" t) (begins "{end}" t) (begins "{start-half}" t) (begins "{end-half}" t)
+ends_boundary t = go (by_word boundary_words t) refl
   where
-    go : (a b c d : Bool) → Ends t (chosen_one a (WordStart, drop 7 t) (chosen_one b (WordEnd, drop 5 t) (chosen_one c (WordStartHalf, drop 12 t) (chosen_one d (WordEndHalf, drop 10 t) (WordBoundary, t))))).1
-    go true b c d = ends_drop 7 t
-    go false true c d = ends_drop 5 t
-    go false false true d = ends_drop 12 t
-    go false false false true = ends_drop 10 t
-    go false false false false = ends_here t
+    go : (o : Option (Assertion × Text)) → by_word boundary_words t ≡ o → Ends t (unwrap_or o (WordBoundary, t)).1
+    go None e = ends_here t
+    go (Some (a, u)) e = ends_by_word boundary_words t e
 
 lexed_escape : (s : Scope) (d : ℕ) (t : Text) {x : Lexeme} {u : Text} → escape s d t ≡ Some (x, u) → Lexed s (92 ∷ d ∷ t) x u
 lexed_escape s d t {x} {u} h =
@@ -367,7 +333,7 @@ lexed s (c ∷ t) {x} {u} h =
 
 pub ends_atom : {s : Scope} {t u : Text} {a : Pattern} → ReadsAtom s t a u → Ends t u
 ends_atom {s} {t} (by_lexeme h m) = (lexed s t h).ends
-ends_atom (by_class h m) = ends_class m.1
+ends_atom (by_class h m) = record { front = m.1.class; is = m.1.is }
 
 -- what an atom can be that is no group
 pub data IsSimple (s : Scope) : Pattern → Type 0 where

@@ -16,7 +16,7 @@ and-false : (b : Bool) → (b && false) ≡ false
 and-false true = refl
 and-false false = refl
 
-or_assoc : (x y z : Bool) → (x || (y || z)) ≡ ((x || y) || z)
+pub or_assoc : (x y z : Bool) → (x || (y || z)) ≡ ((x || y) || z)
 or_assoc true y z = refl
 or_assoc false y z = refl
 

@@ -1,5 +1,5 @@
 -- What the functions that read characters and escapes give, is what the dialect means.
-use Rattle.std.proofs.Common.{◌≡◌, ℕ, ◌+◌, ◌*◌, ◌<◌, ◌≤◌, ◌==◌, ◌&&◌, nat_lt, min, Bool, true, false, List, [], ◌∷◌, take, Option, Some, None, drop, length, refl, sym, ap, ap₂, ◌∙◌, subst, add_comm, arith, inl, inr, Result, Ok, Err}
+use Rattle.std.proofs.Common.{◌≡◌, ℕ, ◌+◌, ◌*◌, ◌<◌, ◌≤◌, ◌==◌, ◌&&◌, nat_lt, Bool, true, false, List, [], ◌∷◌, take, Option, Some, None, drop, length, refl, sym, ap, ap₂, ◌∙◌, subst, add_comm, arith, inl, inr, Result, Ok, Err}
 use Rattle.std.proofs.lemmas.Bool.Decides.{nat_tests}
 use Rattle.std.specs.Char.{digit_value}
 use Rattle.std.specs.Option.{option_map}
@@ -27,7 +27,7 @@ use Rattle.fancy_syntax.proofs.ReadingLemmas.{some_pair, some_is_none, true_is_f
 use Rattle.fancy_syntax.proofs.ReferenceLemmas.{reference_begins, no_bracket_begun, no_atom_begun}
 use Rattle.fancy_syntax.proofs.BlankLemmas.{chosen, same_some, char_is}
 use Rattle.fancy_syntax.proofs.CountLemmas.{left_of}
-use Rattle.fancy_syntax.proofs.ClassSteps.{one_class}
+use Rattle.fancy_syntax.proofs.ClassSpelling.{one_class}
 use mathlib.Core.Path.{fun_ext}
 
 -- a place that moved on, and one that the text alone makes
@@ -53,14 +53,14 @@ two_digits : (t : Text) (n : ℕ) → hexadecimal 0 (take 2 t) ≡ Some n → n 
 two_digits [] n h = let e : 0 ≡ n = same_some h in omega (arith, e)
 two_digits (c ∷ []) n h =
     elim (chosen (nat_lt (digit_value c) 16) _ _ _ h) [
-      | inl x ↦ (let e : min (0 * 16 + digit_value c) 0x11_0000 ≡ n = same_some x.1 in let d : digit_value c < 16 = grind (arith, nat_tests) in omega (arith, e, d))
+      | inl x ↦ (let e : 0 * 16 + digit_value c ≡ n = same_some x.1 in let d : digit_value c < 16 = grind (arith, nat_tests) in omega (arith, e, d))
       | inr x ↦ absurd (some_is_none (sym x.1))
     ]
 two_digits (c ∷ d ∷ t) n h =
     elim (chosen (nat_lt (digit_value c) 16) _ _ _ h) [
       | inl x ↦ elim (chosen (nat_lt (digit_value d) 16) _ _ _ x.1) [
         | inl y ↦
-            (let e : min (min (0 * 16 + digit_value c) 0x11_0000 * 16 + digit_value d) 0x11_0000 ≡ n = same_some y.1 in
+            (let e : (0 * 16 + digit_value c) * 16 + digit_value d ≡ n = same_some y.1 in
             let f : digit_value c < 16 = grind (arith, nat_tests) in
             let g : digit_value d < 16 = grind (arith, nat_tests) in
             omega (arith, e, f, g))

@@ -28,6 +28,8 @@ pub mod SetLemmas
 pub mod BitLemmas
 pub mod PropertyLetters
 pub mod GatheredLemmas
+pub mod NumberLemmas
 pub mod ClassSteps
+pub mod ClassSpelling
 pub mod CanonicalLemmas
 pub mod SharingLemmas

@@ -10,7 +10,8 @@ use Rattle.ucd_case.specs.CaseFolding.{fold_pairs, IsFoldPairs}
 use Rattle.ucd_case.proofs.BoundLemmas.{pairs_rise, pairs_rise-fold_pairs}
 use Rattle.ucd_case.proofs.FoldPairsLemmas.{IsFoldPairs-fold_pairs}
 use Rattle.fancy_syntax.specs.Sets.{in_range}
-use Rattle.fancy_syntax.specs.Widening.{in_pairs, PairsCut, first_of, second_alone}
+use Rattle.fancy_syntax.specs.Widening.{in_pairs}
+use Rattle.fancy_syntax.specs.SetViews.{PairsCut, first_of, second_alone}
 use Rattle.fancy_syntax.proofs.SetLemmas.{in_pairs-some, some-in_pairs, pairs_within, fold_pairs_within}
 
 first_le : (a b c d : ℕ) → (nat_lt a b || ((a == b) && nat_lt c d)) ≡ true → a ≤ b

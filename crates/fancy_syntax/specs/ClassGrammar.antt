@@ -1,9 +1,9 @@
--- The grammar of classes. A text is read from one place to another; nothing here says in which order.
-use Rattle.std.specs.Prelude.{◌≡◌, ℕ, suc, nat_lt, Bool, true, false, not, ◌||◌, ◌&&◌, List, [], ◌∷◌, drop, Option, Some, None, if◌then◌else◌}
+-- The grammar of classes, over whole texts: which text is a class with which members. One item that is no class is read from its place on, since its own characters say where it ends.
+use Rattle.std.specs.Prelude.{◌≡◌, ℕ, suc, nat_lt, Bool, true, false, not, ◌||◌, ◌&&◌, List, [], ◌∷◌, ◌++◌, codes, drop, Option, Some, None, if◌then◌else◌}
 use Rattle.ucd_sets.specs.Sets.{in_set}
 use Rattle.ucd_sets.specs.declared.set.Set.{Set as PropertySet}
 use Rattle.fancy_syntax.specs.Limits.{most_brackets}
-use Rattle.fancy_syntax.specs.Words.{Text, is_at, begins}
+use Rattle.fancy_syntax.specs.Words.{Text, is_at, begins, by_word}
 use Rattle.fancy_syntax.specs.Escapes.{single, set_here, letters, is_property, property_name, property_named}
 use Rattle.fancy_syntax.specs.Sets.{has, AreEdges, in_range}
 use Rattle.fancy_syntax.specs.Members.{Members, both, applied}
@@ -54,24 +54,24 @@ range m p = range_from m (single p)
 abbrev pub named_of : Meaning → Text → Named × Bool → Option (Token × Text)
 named_of m t (n, negated) = if may_turn m negated then Some (NamedSet n negated, t) else None
 
--- the name of a POSIX set with what closes it, and their length
-abbrev pub posix_word : Text → Option (Named × ℕ)
-posix_word t =
-    if begins "alnum:]" t then Some (Alphanumeric, 7)
-    else if begins "alpha:]" t then Some (Alphabetic, 7)
-    else if begins "ascii:]" t then Some (Ascii, 7)
-    else if begins "blank:]" t then Some (Blank, 7)
-    else if begins "cntrl:]" t then Some (Control, 7)
-    else if begins "digit:]" t then Some (AsciiDigit, 7)
-    else if begins "graph:]" t then Some (Graphic, 7)
-    else if begins "lower:]" t then Some (Lowercase, 7)
-    else if begins "print:]" t then Some (Printable, 7)
-    else if begins "punct:]" t then Some (Punctuation, 7)
-    else if begins "space:]" t then Some (AsciiSpace, 7)
-    else if begins "upper:]" t then Some (Uppercase, 7)
-    else if begins "word:]" t then Some (AsciiWord, 6)
-    else if begins "xdigit:]" t then Some (Hexadecimal, 8)
-    else None
+-- the names of POSIX sets, each with what closes it
+abbrev pub posix_words : List (Text × Named)
+posix_words =
+    (codes "alnum:]", Alphanumeric) ∷
+    (codes "alpha:]", Alphabetic) ∷
+    (codes "ascii:]", Ascii) ∷
+    (codes "blank:]", Blank) ∷
+    (codes "cntrl:]", Control) ∷
+    (codes "digit:]", AsciiDigit) ∷
+    (codes "graph:]", Graphic) ∷
+    (codes "lower:]", Lowercase) ∷
+    (codes "print:]", Printable) ∷
+    (codes "punct:]", Punctuation) ∷
+    (codes "space:]", AsciiSpace) ∷
+    (codes "upper:]", Uppercase) ∷
+    (codes "word:]", AsciiWord) ∷
+    (codes "xdigit:]", Hexadecimal) ∷
+    []
 
 abbrev pub is_posix_name : Text → Bool
 is_posix_name t = nat_lt 0 (letters t) && begins ":]" (drop (letters t) t)
@@ -80,12 +80,12 @@ is_posix_name t = nat_lt 0 (letters t) && begins ":]" (drop (letters t) t)
 abbrev pub is_posix : Text → Bool
 is_posix p = if begins "[:^" p then is_posix_name (drop 3 p) else begins "[:" p && is_posix_name (drop 2 p)
 
-abbrev pub posix_of : Meaning → Bool → Text → Option (Named × ℕ) → Option (Token × Text)
-posix_of m negated t (Some (n, len)) = named_of m (drop len t) (n, negated)
-posix_of m negated t None = None
+abbrev pub posix_of : Meaning → Bool → Option (Named × Text) → Option (Token × Text)
+posix_of m negated (Some (n, t)) = named_of m t (n, negated)
+posix_of m negated None = None
 
 abbrev pub posix : Meaning → Text → Option (Token × Text)
-posix m p = if begins "[:^" p then posix_of m true (drop 3 p) (posix_word (drop 3 p)) else posix_of m false (drop 2 p) (posix_word (drop 2 p))
+posix m p = if begins "[:^" p then posix_of m true (by_word posix_words (drop 3 p)) else posix_of m false (by_word posix_words (drop 2 p))
 
 abbrev pub found_property : Bool → Text → Option PropertySet → Option (Token × Text)
 found_property negated t (Some s) = Some (Property s negated, t)
@@ -107,24 +107,14 @@ token_of m p None = range m p
 abbrev pub token : Meaning → Text → Option (Token × Text)
 token m p = if is_posix p then posix m p else if is_property p then property m p else token_of m p (set_here p)
 
-abbrev pub operator : Text → Option (Operation × Text)
-operator p =
-    if begins "&&" p then Some (Intersection, drop 2 p)
-    else if begins "--" p then Some (Difference, drop 2 p)
-    else if begins "~~" p then Some (SymmetricDifference, drop 2 p)
-    else None
-
 -- no item follows; at its start a class may have a bracket or two hyphens as members
 abbrev pub ends_operand : Bool → Text → Bool
 ends_operand first [] = true
 ends_operand first (c ∷ t) =
     (not first && (is_at "]" (c ∷ t) || begins "--" (c ∷ t))) || begins "&&" (c ∷ t) || begins "~~" (c ∷ t)
 
-abbrev pub is_bracket : Text → Bool
-is_bracket t = is_at "[" t
-
 abbrev pub starts_class : Text → Bool
-starts_class t = is_bracket t && not (is_posix t)
+starts_class t = is_at "[" t && not (is_posix t)
 
 -- the members of a set, in a class under flag `i` or not
 abbrev pub folded : Meaning → Bool → Members → Members
@@ -153,34 +143,55 @@ token_members m i (Property s negated) = turned m negated (folded m i (has_prope
 abbrev pub none_of : Members
 none_of = λ c. false
 
--- behind the bracket, whether `^` stands there, and the place of the first item
-abbrev pub opening : Text → Bool × Text
-opening t = if is_at "^" (drop 1 t) then (true, drop 2 t) else (false, drop 1 t)
+-- the members of all of these
+abbrev pub united : List Members → Members
+united [] = none_of
+united (f ∷ fs) = both f (united fs)
 
--- The number says how many brackets more may be open at one place.
+-- a set, and behind it operators with a set each: they are applied from the left to the right
+abbrev pub combined : Members → List (Operation × Members) → Members
+combined f [] = f
+combined f ((how, x) ∷ others) = combined (λ c. applied how (f c) (x c)) others
+
+-- These two characters are an operator.
+pub data Operator : Text → Operation → Type 0 where
+  intersection : Operator (codes "&&") Intersection
+  difference : Operator (codes "--") Difference
+  symmetric_difference : Operator (codes "~~") SymmetricDifference
+
+-- `after` is what follows the text in the whole pattern, so that each case can say that no other form begins at its place. The number says how many brackets more may be open at one place.
 mutual
-  -- a class, from its bracket to behind the other one
-  pub data Class : Meaning → Bool → ℕ → Text → Members → Text → Type 0 where
-    class : {m : Meaning} {i : Bool} {k : ℕ} {p q r : Text} {f g : Members} → is_bracket p ≡ true → may_turn m (opening p).0 ≡ true → Items m i k true none_of (opening p).1 f q → Operands m i k f q g r → is_at "]" r ≡ true
-        → Class m i (suc k) p (turned m (opening p).0 g) (drop 1 r)
+  -- A class, from its bracket to the other one. Behind `^` the complement is taken, last of all.
+  pub data Class : Meaning → Bool → ℕ → Text → Text → Members → Type 0 where
+    plain : {m : Meaning} {i : Bool} {k : ℕ} {t after : Text} {f : Members} → is_at "^" (t ++ (codes "]" ++ after)) ≡ false → Operands m i k t (codes "]" ++ after) f → Class m i (suc k) (codes "[" ++ (t ++ codes "]")) after f
+    negated : {m : Meaning} {i : Bool} {k : ℕ} {t after : Text} {f : Members} → is_ascii_meaning m ≡ false → Operands m i k t (codes "]" ++ after) f → Class m i (suc k) (codes "[^" ++ (t ++ codes "]")) after (complement m f)
 
-  -- the items up to an operator or the end, behind others with these members
-  pub data Items : Meaning → Bool → ℕ → Bool → Members → Text → Members → Text → Type 0 where
-    none : {m : Meaning} {i : Bool} {k : ℕ} {first : Bool} {f : Members} {p : Text} → ends_operand first p ≡ true → Items m i k first f p f p
-    next : {m : Meaning} {i : Bool} {k : ℕ} {first : Bool} {f g x : Members} {p q r : Text} → ends_operand first p ≡ false → Item m i k p x q → Items m i k false (both f x) q g r → Items m i k first f p g r
+  -- operands with operators between them
+  pub data Operands : Meaning → Bool → ℕ → Text → Text → Members → Type 0 where
+    operands : {m : Meaning} {i : Bool} {k : ℕ} {t u after : Text} {fs : List Members} {others : List (Operation × Members)} → Items m i k true t (u ++ after) fs → Others m i k u after others → Operands m i k (t ++ u) after (combined (united fs) others)
 
-  -- the operators and what follows each, behind a set
-  pub data Operands : Meaning → Bool → ℕ → Members → Text → Members → Text → Type 0 where
-    last : {m : Meaning} {i : Bool} {k : ℕ} {f : Members} {p : Text} → operator p ≡ None → Operands m i k f p f p
-    more : {m : Meaning} {i : Bool} {k : ℕ} {f g x : Members} {how : Operation} {p q r s : Text} → operator p ≡ Some (how, q) → Items m i k false none_of q x r → Operands m i k (λ c. applied how (f c) (x c)) r g s → Operands m i k f p g s
+  -- operators, each with the members of the operand that follows it
+  pub data Others : Meaning → Bool → ℕ → Text → Text → List (Operation × Members) → Type 0 where
+    no_other : {m : Meaning} {i : Bool} {k : ℕ} {after : Text} → Others m i k [] after []
+    other : {m : Meaning} {i : Bool} {k : ℕ} {o t u after : Text} {how : Operation} {fs : List Members} {others : List (Operation × Members)} → Operator o how → Items m i k false t (u ++ after) fs → Others m i k u after others
+        → Others m i k (o ++ (t ++ u)) after ((how, united fs) ∷ others)
 
-  pub data Item : Meaning → Bool → ℕ → Text → Members → Text → Type 0 where
-    simple : {m : Meaning} {i : Bool} {k : ℕ} {p q : Text} {t : Token} → starts_class p ≡ false → token m p ≡ Some (t, q) → Item m i k p (token_members m i t) q
-    nested : {m : Meaning} {i : Bool} {k : ℕ} {p q : Text} {f : Members} → starts_class p ≡ true → Class m i k p f q → Item m i k p f q
+  -- the items of an operand, one behind the other, by the members of each; whether the class begins with them
+  pub data Items : Meaning → Bool → ℕ → Bool → Text → Text → List Members → Type 0 where
+    no_item : {m : Meaning} {i : Bool} {k : ℕ} {first : Bool} {after : Text} → ends_operand first after ≡ true → Items m i k first [] after []
+    item : {m : Meaning} {i : Bool} {k : ℕ} {first : Bool} {t u after : Text} {f : Members} {fs : List Members} → ends_operand first (t ++ (u ++ after)) ≡ false → Item m i k t (u ++ after) f → Items m i k false u after fs
+        → Items m i k first (t ++ u) after (f ∷ fs)
 
--- a class at the start of the text, with at most so many brackets open at one place
-abbrev pub ReadsClass : Meaning → Bool → Text → Members → Text → Type 0
-ReadsClass m i = Class m i most_brackets
+  -- a character, a range, the name of a set, or a class in the class
+  pub data Item : Meaning → Bool → ℕ → Text → Text → Members → Type 0 where
+    simple : {m : Meaning} {i : Bool} {k : ℕ} {t after : Text} {x : Token} → starts_class (t ++ after) ≡ false → token m (t ++ after) ≡ Some (x, after) → Item m i k t after (token_members m i x)
+    nested : {m : Meaning} {i : Bool} {k : ℕ} {t after : Text} {f : Members} → is_posix (t ++ after) ≡ false → Class m i k t after f → Item m i k t after f
+
+-- the text begins with a class that has these members, and this is what follows it
+pub record ReadsClass (m : Meaning) (i : Bool) (text : Text) (f : Members) (rest : Text) : Type 0 where
+  pub class : Text
+  pub is : text ≡ class ++ rest
+  pub spelled : Class m i most_brackets class rest f
 
 -- the same, by the edges of its members, of which each set has one list
 abbrev pub ReadsEdges : Meaning → Bool → Text → List ℕ → Text → Type 0

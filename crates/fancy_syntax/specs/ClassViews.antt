@@ -1,5 +1,6 @@
 -- What the functions that read a class promise each other.
-use Rattle.std.specs.Prelude.{◌≡◌, Bool, ◌&&◌, nat_le, Option, Some, None, Result, Ok, Err}
+use Rattle.std.specs.Prelude.{◌≡◌, ℕ, ◌+◌, ◌*◌, min, Bool, ◌&&◌, nat_le, nat_lt, [], ◌∷◌, Option, Some, None, Result, Ok, Err, if◌then◌else◌}
+use Rattle.std.specs.Char.{digit_value}
 use Rattle.fancy_syntax.specs.declared.class.refusal.Refusal.{Refusal}
 use Rattle.fancy_syntax.specs.declared.class.refusal.Refusal.TheVariants.{Memory, Invalid}
 use Rattle.fancy_syntax.specs.declared.class.gathered.Gathered.{Gathered}
@@ -42,3 +43,8 @@ GivesValue view o (Err e) q = Refuses e (o ≡ None)
 -- the members of an operand so far: those of the set, and the ranges that are still to be widened
 abbrev pub gathered : Meaning → Bool → Gathered → Members
 gathered m i g = both (members g.set) (folded m i (λ c. nat_le c 0x10_FFFF && in_ranges g.ranges.items c))
+
+-- The number that hexadecimal digits write, as they are read: the first that is too large for a character stands for all of them.
+abbrev pub capped_number : ℕ → Text → Option ℕ
+capped_number n [] = Some n
+capped_number n (c ∷ t) = if nat_lt (digit_value c) 16 then capped_number (min (n * 16 + digit_value c) 0x11_0000) t else None

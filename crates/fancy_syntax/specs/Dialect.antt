@@ -1,7 +1,8 @@
 -- The dialect, over whole texts: which text spells which pattern. `after` is what follows the text in the whole pattern, so that each case can say that no longer form begins at its place; therefore the cases exclude one another, and a text spells at most one pattern.
 use Rattle.std.specs.Prelude.{◌≡◌, ℕ, suc, ◌+◌, ◌≤◌, ◌==◌, nat_lt, Bool, true, false, not, ◌&&◌, ◌||◌, List, [], ◌∷◌, ◌++◌, drop, length, All, Option, Some, None, codes, map, encode_utf8, if◌then◌else◌}
+use Prim.Native.Char.{code}
 use Rattle.std.specs.Char.{is_ascii_punctuation}
-use Rattle.std.specs.Option.{option_map, option_or, option_and_then}
+use Rattle.std.specs.Option.{unwrap_or, option_map, option_or, option_and_then}
 use Rattle.fancy_syntax.specs.Limits.{most_parentheses, most_turns, most_nodes}
 use Rattle.fancy_syntax.specs.declared.tree.Meaning.{Meaning}
 use Rattle.fancy_syntax.specs.declared.tree.Meaning.TheVariants.{Unicode, Bytes, AsciiText}
@@ -16,7 +17,7 @@ use Rattle.fancy_syntax.specs.declared.class.token.Token.TheVariants.{Named as N
 use Rattle.fancy_syntax.specs.declared.named.Named.{Named}
 use Rattle.fancy_syntax.specs.Pattern.{Pattern, character, member_of, raw_byte, backreference, assertion, group, repeat, look_ahead, look_behind, atomic, in_sequence, in_branches}
 use Rattle.fancy_syntax.specs.Sizes.{nodes, are_sized, is_empty}
-use Rattle.fancy_syntax.specs.Words.{Text, ◌∈◌, is_among, is_at, begins, is_at_digit, is_blank, past_blank, decimal, are_digits, begins_count}
+use Rattle.fancy_syntax.specs.Words.{Text, ◌∈◌, is_among, is_at, by_word, is_at_digit, is_blank, past_blank, decimal, are_digits, begins_count}
 use Rattle.fancy_syntax.specs.Sets.{has, AreEdges, in_range}
 use Rattle.fancy_syntax.specs.Members.{Members}
 use Rattle.fancy_syntax.specs.Named.{in_universe, is_unicode}
@@ -62,12 +63,12 @@ agrees false y = not y
 -- The flags with this letter's set, or cleared; none where it is no letter of a flag. `u` changes nothing: it states whether items are characters of all of Unicode, and must state what holds.
 abbrev pub with_flag : Meaning → Bool → ℕ → Flags → Option Flags
 with_flag m on c f =
-    if 105 == c then Some (record f { ignore_case = on })
-    else if 109 == c then Some (record f { multi_line = on })
-    else if 115 == c then Some (record f { dot_all = on })
-    else if 120 == c then Some (record f { ignore_blanks = on })
-    else if 82 == c then Some (record f { crlf = on })
-    else if (117 == c) && agrees on (is_unicode m) then Some f
+    if code "i" == c then Some (record f { ignore_case = on })
+    else if code "m" == c then Some (record f { multi_line = on })
+    else if code "s" == c then Some (record f { dot_all = on })
+    else if code "x" == c then Some (record f { ignore_blanks = on })
+    else if code "R" == c then Some (record f { crlf = on })
+    else if (code "u" == c) && agrees on (is_unicode m) then Some f
     else None
 
 -- letters of flags, each of which is set, or cleared, in turn
@@ -118,34 +119,33 @@ is_special c = c ∈ "|()*+?\\.^$["
 
 -- the characters that a backslash makes literals
 abbrev pub is_escapable : ℕ → Bool
-is_escapable c = (c == 32) || (is_ascii_punctuation c && not (c ∈ "<>"))
+is_escapable c = (c == code " ") || (is_ascii_punctuation c && not (c ∈ "<>"))
 
 -- what `^` and `$` test: the text's ends, or those of lines
 abbrev pub anchor_of : Flags → ℕ → Option Assertion
 anchor_of f c =
-    if 94 == c then Some (if f.multi_line then (if f.crlf then LineStartCrlf else LineStart) else TextStart)
-    else if 36 == c then Some (if f.multi_line then (if f.crlf then LineEndCrlf else LineEnd) else TextEnd)
+    if code "^" == c then Some (if f.multi_line then (if f.crlf then LineStartCrlf else LineStart) else TextStart)
+    else if code "$" == c then Some (if f.multi_line then (if f.crlf then LineEndCrlf else LineEnd) else TextEnd)
     else None
 
 -- what `\A`, `\z`, `\Z`, `\B`, `\<` and `\>` test
 abbrev pub place_test : Flags → ℕ → Option Assertion
 place_test f d =
-    if 65 == d then Some TextStart
-    else if 122 == d then Some TextEnd
-    else if 90 == d then Some (if f.crlf then LastLineCrlf else LastLine)
-    else if 66 == d then Some NotWordBoundary
-    else if 60 == d then Some WordStart
-    else if 62 == d then Some WordEnd
+    if code "A" == d then Some TextStart
+    else if code "z" == d then Some TextEnd
+    else if code "Z" == d then Some (if f.crlf then LastLineCrlf else LastLine)
+    else if code "B" == d then Some NotWordBoundary
+    else if code "<" == d then Some WordStart
+    else if code ">" == d then Some WordEnd
     else None
 
--- what `\b` tests, by the word in braces behind it, and what follows
+-- what `\b` tests where one of these words stands behind it
+abbrev pub boundary_words : List (Text × Assertion)
+boundary_words = (codes "{start}", WordStart) ∷ (codes "{end}", WordEnd) ∷ (codes "{start-half}", WordStartHalf) ∷ (codes "{end-half}", WordEndHalf) ∷ []
+
+-- what `\b` tests, by the word behind it, and what follows
 abbrev pub boundary : Text → Assertion × Text
-boundary t =
-    if begins "{start}" t then (WordStart, drop 7 t)
-    else if begins "{end}" t then (WordEnd, drop 5 t)
-    else if begins "{start-half}" t then (WordStartHalf, drop 12 t)
-    else if begins "{end-half}" t then (WordEndHalf, drop 10 t)
-    else (WordBoundary, t)
+boundary t = unwrap_or (by_word boundary_words t) (WordBoundary, t)
 
 -- a literal character: one item, but in byte meaning the sequence of its bytes
 abbrev pub literal_of : Meaning → ℕ → Pattern
@@ -181,7 +181,7 @@ abbrev pub spelled_number : Scope → ℕ × Bool → Lexeme
 spelled_number s n = if n.1 && (nat_lt 127 n.0 && not s.keeps_characters) then leaf (raw_byte n.0) else spelled_character s n.0
 
 abbrev pub ends_line : Bool → ℕ → Bool
-ends_line crlf c = (c == 10) || (crlf && (c == 13))
+ends_line crlf c = (c == code "\n") || (crlf && (c == code "\r"))
 
 -- any code, or any but one that ends a line
 abbrev pub any_code : Scope → Bool → Members
@@ -221,13 +221,13 @@ property_here s t = option_map (λ r. (spelled_set s r.0, r.1)) (property s.mean
 abbrev pub escape : Scope → ℕ → Text → Option (Lexeme × Text)
 escape s d t =
     if is_escapable d then Some (spelled_character s d, t)
-    else if 98 == d then Some (boundary_here t)
-    else if 120 == d then numbered s 2 t
-    else if 117 == d then numbered s 4 t
-    else if 85 == d then numbered s 8 t
-    else if 79 == d then followed_by t (any_item s true)
-    else if 78 == d then followed_by t (any_item s false)
-    else if (112 == d) || (80 == d) then property_here s (92 ∷ d ∷ t)
+    else if code "b" == d then Some (boundary_here t)
+    else if code "x" == d then numbered s 2 t
+    else if code "u" == d then numbered s 4 t
+    else if code "U" == d then numbered s 8 t
+    else if code "O" == d then followed_by t (any_item s true)
+    else if code "N" == d then followed_by t (any_item s false)
+    else if (code "p" == d) || (code "P" == d) then property_here s (codes "\\" ++ (d ∷ t))
     else followed_by t (lettered s d)
 
 abbrev pub escape_in : Scope → Text → Option (Lexeme × Text)
@@ -244,8 +244,8 @@ lone s c t =
 abbrev pub lexeme : Scope → Text → Option (Lexeme × Text)
 lexeme s [] = None
 lexeme s (c ∷ t) =
-    if 92 == c then escape_in s t
-    else if 46 == c then followed_by t (any_item s s.flags.dot_all)
+    if code "\\" == c then escape_in s t
+    else if code "." == c then followed_by t (any_item s s.flags.dot_all)
     else followed_by t (lone s c t)
 
 -- A text begins with this atom, which is no group: a character, an escape or a class. The last index is what follows it.
@@ -281,10 +281,10 @@ pub data Quantifies : Text → Text → ℕ → Option ℕ → Taste → Type 0 
 
 -- This text is a comment, or where the flag is set a blank or a line behind `#`; at the pattern's end the line needs no line feed.
 pub data Blank : Bool → Text → Text → Type 0 where
-  comment : {ignore_blanks : Bool} {after : Text} (inside : Text) → is_among 41 inside ≡ false → Blank ignore_blanks (codes "(?#" ++ (inside ++ codes ")")) after
+  comment : {ignore_blanks : Bool} {after : Text} (inside : Text) → is_among (code ")") inside ≡ false → Blank ignore_blanks (codes "(?#" ++ (inside ++ codes ")")) after
   blank : {after : Text} (c : ℕ) → is_blank c ≡ true → Blank true (c ∷ []) after
-  line : {after : Text} (inside : Text) → is_among 10 inside ≡ false → Blank true (codes "#" ++ (inside ++ 10 ∷ [])) after
-  last_line : (inside : Text) → is_among 10 inside ≡ false → Blank true (codes "#" ++ inside) []
+  line : {after : Text} (inside : Text) → is_among (code "\n") inside ≡ false → Blank true (codes "#" ++ (inside ++ codes "\n")) after
+  last_line : (inside : Text) → is_among (code "\n") inside ≡ false → Blank true (codes "#" ++ inside) []
 
 -- a row of them, perhaps empty, which is skipped
 pub data Blanks : Bool → Text → Text → Type 0 where

@@ -1,5 +1,6 @@
 -- What stands behind a backslash: characters by a letter or a number, and sets by a letter or a name.
-use Rattle.std.specs.Prelude.{ℕ, ◌+◌, ◌*◌, min, ◌==◌, ◌||◌, ◌&&◌, not, nat_lt, Bool, true, false, [], ◌∷◌, length, take, drop, Option, Some, None, if◌then◌else◌}
+use Rattle.std.specs.Prelude.{ℕ, ◌+◌, ◌*◌, ◌==◌, ◌||◌, ◌&&◌, not, nat_lt, Bool, true, false, [], ◌∷◌, length, take, drop, Option, Some, None, if◌then◌else◌}
+use Prim.Native.Char.{code}
 use Rattle.std.specs.List.{list_all}
 use Rattle.std.specs.Option.{option_or}
 use Rattle.std.specs.Char.{is_ascii, is_ascii_punctuation, is_ascii_alphabetic, digit_value}
@@ -13,39 +14,39 @@ use Rattle.fancy_syntax.specs.declared.named.Named.TheVariants.{Digit, Word, Spa
 -- the control characters that a backslash and a letter stand for
 abbrev pub control_of : ℕ → Option ℕ
 control_of d =
-    if 97 == d then Some 7
-    else if 101 == d then Some 27
-    else if 102 == d then Some 12
-    else if 110 == d then Some 10
-    else if 114 == d then Some 13
-    else if 116 == d then Some 9
-    else if 118 == d then Some 11
+    if code "a" == d then Some 7  -- BEL
+    else if code "e" == d then Some 27  -- ESC
+    else if code "f" == d then Some 12  -- FF
+    else if code "n" == d then Some (code "\n")
+    else if code "r" == d then Some (code "\r")
+    else if code "t" == d then Some (code "\t")
+    else if code "v" == d then Some 11  -- VT
     else None
 
 -- the character that is meant by a letter or mark in a class
 abbrev pub escaped : ℕ → Option ℕ
 escaped c =
-    if c == 98 then Some 8
-    else option_or (control_of c) (if (c == 32) || is_ascii_punctuation c then Some c else None)
+    if c == code "b" then Some 8  -- BS
+    else option_or (control_of c) (if (c == code " ") || is_ascii_punctuation c then Some c else None)
 
 -- the set that a letter names, and whether its complement is meant
 abbrev pub set_letter : ℕ → Option (Named × Bool)
 set_letter c =
-    if c == 100 then Some (Digit, false)
-    else if c == 68 then Some (Digit, true)
-    else if c == 119 then Some (Word, false)
-    else if c == 87 then Some (Word, true)
-    else if c == 115 then Some (Space, false)
-    else if c == 83 then Some (Space, true)
-    else if c == 104 then Some (Hexadecimal, false)
-    else if c == 72 then Some (Hexadecimal, true)
+    if c == code "d" then Some (Digit, false)
+    else if c == code "D" then Some (Digit, true)
+    else if c == code "w" then Some (Word, false)
+    else if c == code "W" then Some (Word, true)
+    else if c == code "s" then Some (Space, false)
+    else if c == code "S" then Some (Space, true)
+    else if c == code "h" then Some (Hexadecimal, false)
+    else if c == code "H" then Some (Hexadecimal, true)
     else None
 
 -- the set that an escape names here
 abbrev pub set_here : Text → Option (Named × Bool)
 set_here [] = None
 set_here (c ∷ []) = None
-set_here (c ∷ d ∷ t) = if c == 92 then set_letter d else None
+set_here (c ∷ d ∷ t) = if c == code "\\" then set_letter d else None
 
 -- how many letters the text begins with
 abbrev pub letters : Text → ℕ
@@ -55,16 +56,16 @@ letters (c ∷ t) = if is_ascii_alphabetic c then 1 + letters t else 0
 -- how many characters stand before the first closing brace, or in the text where it has none
 abbrev pub before_brace : Text → ℕ
 before_brace [] = 0
-before_brace (c ∷ t) = if c == 125 then 0 else 1 + before_brace t
+before_brace (c ∷ t) = if c == code "}" then 0 else 1 + before_brace t
 
 -- a number that is a character's
 abbrev pub is_character : ℕ → Bool
 is_character n = nat_lt n 0xD800 || (nat_lt 0xDFFF n && nat_lt n 0x11_0000)
 
--- The number that hexadecimal digits write behind others that write n, if each is a digit. The first number that is too large stands for all of them.
+-- the number that hexadecimal digits write behind others that write n, if each is a digit
 abbrev pub hexadecimal : ℕ → Text → Option ℕ
 hexadecimal n [] = Some n
-hexadecimal n (c ∷ t) = if nat_lt (digit_value c) 16 then hexadecimal (min (n * 16 + digit_value c) 0x11_0000) t else None
+hexadecimal n (c ∷ t) = if nat_lt (digit_value c) 16 then hexadecimal (n * 16 + digit_value c) t else None
 
 -- a character by its number, and whether it was written as a byte
 abbrev pub by_number : Option ℕ → Bool → Text → Option ((ℕ × Bool) × Text)
@@ -95,8 +96,8 @@ abbrev pub single : Text → Option ((ℕ × Bool) × Text)
 single [] = None
 single (c ∷ []) = if c ∈ "\\[" then None else Some ((c, false), [])
 single (c ∷ d ∷ t) =
-    if c == 92 then (if d == 120 then number 2 t else if d == 117 then number 4 t else if d == 85 then number 8 t else escape_at (escaped d) t)
-    else if c == 91 then None
+    if c == code "\\" then (if d == code "x" then number 2 t else if d == code "u" then number 4 t else if d == code "U" then number 8 t else escape_at (escaped d) t)
+    else if c == code "[" then None
     else Some ((c, false), d ∷ t)
 
 -- an escape that names a property begins here
@@ -107,7 +108,7 @@ is_property p = begins "\\p" p || begins "\\P" p
 abbrev pub property_name : Text → Option (Text × Text)
 property_name [] = None
 property_name (c ∷ t) =
-    if c == 123 then (if nat_lt (before_brace t) (length t) then Some (take (before_brace t) t, drop (before_brace t + 1) t) else None)
+    if c == code "{" then (if nat_lt (before_brace t) (length t) then Some (take (before_brace t) t, drop (before_brace t + 1) t) else None)
     else Some (c ∷ [], t)
 
 abbrev pub is_name_character : ℕ → Bool

@@ -1,5 +1,6 @@
 -- The dialect as it is read: a text is read from one place to another, and nothing here says in which order. Lemmas show that this reading and `Dialect` give the same patterns.
-use Rattle.std.specs.Prelude.{◌≡◌, ℕ, suc, ◌+◌, Bool, true, false, not, ◌||◌, ◌&&◌, nat_le, List, [], ◌∷◌, drop, length, Option, Some, None, option_map, ◌==◌, if◌then◌else◌}
+use Rattle.std.specs.Prelude.{◌≡◌, ℕ, zero, suc, ◌+◌, Bool, true, false, not, ◌||◌, ◌&&◌, nat_le, List, [], ◌∷◌, drop, length, Option, Some, None, option_map, ◌==◌, if◌then◌else◌}
+use Prim.Native.Char.{code}
 use Rattle.std.specs.Option.{option_and_then}
 use Rattle.fancy_syntax.specs.Limits.{most_parentheses, most_turns}
 use Rattle.fancy_syntax.specs.declared.tree.Meaning.{Meaning}
@@ -9,7 +10,7 @@ use Rattle.fancy_syntax.specs.declared.groups.Grouping.{Grouping}
 use Rattle.fancy_syntax.specs.declared.groups.Grouping.TheVariants.{Atomic, LookAhead, LookBehind}
 use Rattle.fancy_syntax.specs.Pattern.{Pattern, backreference, group, repeat, in_sequence, in_branches}
 use Rattle.fancy_syntax.specs.Sizes.{is_empty}
-use Rattle.fancy_syntax.specs.Words.{Text, ◌∈◌, is_at, begins, is_at_digit, past_digits, past_blanks, decimal, begins_count}
+use Rattle.fancy_syntax.specs.Words.{Text, ◌∈◌, is_at, begins, is_at_digit, past_digits, past_blank, decimal, begins_count}
 use Rattle.fancy_syntax.specs.Names.{name_here, past_name}
 use Rattle.fancy_syntax.specs.References as references
 use Rattle.fancy_syntax.specs.References.{Target}
@@ -23,6 +24,20 @@ pub record Place : Type 0 where
 -- the place after the next n characters
 abbrev pub past : ℕ → Place → Place
 past n p = record p { text = drop n p.text }
+
+-- this text, or where it is none the other
+abbrev pub text_or : (Text → Text) → Text → Option Text → Text
+text_or on t None = t
+text_or on t (Some u) = on u
+
+-- what follows n of them at most
+unfoldable pub past_blanks_in : ℕ → Bool → Text → Text
+past_blanks_in zero ignore_blanks t = t
+past_blanks_in (suc n) ignore_blanks t = text_or (past_blanks_in n ignore_blanks) t (past_blank ignore_blanks t)
+
+-- what follows all of them; a comment that is not closed is left
+abbrev pub past_blanks : Bool → Text → Text
+past_blanks ignore_blanks t = past_blanks_in (length t) ignore_blanks t
 
 -- the place behind the blanks and comments that stand here
 abbrev pub here : Place → Place
@@ -66,7 +81,7 @@ pub record LettersRead : Type 0 where
 -- with one more character read
 abbrev pub next_letter : Meaning → ℕ → LettersRead → Option LettersRead
 next_letter m c l =
-    if (45 == c) && l.on then Some (record { flags = l.flags; on = false; some = false })
+    if (code "-" == c) && l.on then Some (record { flags = l.flags; on = false; some = false })
     else option_map (λ f. record { flags = f; on = l.on; some = true }) (with_flag m l.on c l.flags)
 
 -- the flags that are read up to a colon or a parenthesis, and the text from there on
@@ -80,7 +95,7 @@ flags_in m (c ∷ t) l =
 abbrev pub flag_group : Place → Option (Flags × Text) → Option (Opening × Place)
 flag_group p None = None
 flag_group p (Some (f, [])) = None
-flag_group p (Some (f, c ∷ t)) = Some (if 58 == c then plain else setting, record { text = t; scope = in_force f p.scope })
+flag_group p (Some (f, c ∷ t)) = Some (if code ":" == c then plain else setting, record { text = t; scope = in_force f p.scope })
 
 abbrev pub first_letter : Flags → LettersRead
 first_letter f = record { flags = f; on = true; some = false }

@@ -1,6 +1,7 @@
 pub mod Limits
 pub mod Modes
 pub mod Sets
+pub mod SetViews
 pub mod Pattern
 pub mod Sizes
 pub mod Words
@@ -17,4 +18,5 @@ pub mod Named
 pub mod Low
 pub mod Escapes
 pub mod ClassGrammar
+pub mod ClassReading
 pub mod ClassViews

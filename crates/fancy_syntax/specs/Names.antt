@@ -1,5 +1,6 @@
 -- Names of groups.
 use Rattle.std.specs.Prelude.{ℕ, ◌==◌, ◌||◌, Bool, false, List, [], ◌∷◌, length, drop, reverse, find, Option, option_map, bytes_eq, chars, map, string_bytes, if◌then◌else◌}
+use Prim.Native.Char.{code}
 use Rattle.std.specs.List.{list_all}
 use Rattle.unicode.specs.GeneralCategory.{general_category, general_category_number}
 use Rattle.unicode.specs.Binary.{is_alphabetic}
@@ -12,7 +13,7 @@ is_number_category g = g == 8 || (g == 9 || g == 10)
 
 -- the characters of names: alphabetic ones, numbers, and `_`
 unfoldable pub is_name_character : ℕ → Bool
-is_name_character c = is_alphabetic c || (c == 95 || is_number_category (general_category_number (general_category c)))
+is_name_character c = is_alphabetic c || (c == code "_" || is_number_category (general_category_number (general_category c)))
 
 -- at least one of them, and nothing else
 abbrev pub is_name : Text → Bool

@@ -1,5 +1,6 @@
 -- References to groups: how they are written, what they name, and which group that is once the whole pattern is read.
 use Rattle.std.specs.Prelude.{ℕ, ◌+◌, ◌-◌, ◌==◌, ◌||◌, ◌&&◌, Bool, not, nat_le, min, List, [], ◌∷◌, length, drop, slice_index_or, Option, Some, None, Result, Ok, Err, if◌then◌else◌}
+use Prim.Native.Char.{code}
 use Rattle.fancy_syntax.specs.Pattern.{Pattern, empty, character, member_of, raw_byte, backreference, assertion, group_test, keep_start, continue_here, group, repeat, look_ahead, look_behind, atomic, conditional, followed, or_else, last_branch}
 use Rattle.fancy_syntax.specs.Words.{Text, is_at_any, is_at, begins, is_at_digit, past_digits, decimal, are_digits}
 use Rattle.fancy_syntax.specs.Names.{name_here, past_name, last_named}
@@ -53,8 +54,8 @@ delimited opened delimiter t = if is_at "-" t then distance_reference opened del
 -- the reference that a text begins with, where so many groups were opened before it, and what follows it
 abbrev pub reference : ℕ → Text → Option (Target × Text)
 reference opened t =
-    if begins "\\k<" t then delimited opened 62 (drop 3 t)
-    else if begins "\\k'" t then delimited opened 39 (drop 3 t)
+    if begins "\\k<" t then delimited opened (code ">") (drop 3 t)
+    else if begins "\\k'" t then delimited opened (code "'") (drop 3 t)
     else if is_at "\\" t then number_reference (drop 1 t)
     else None
 

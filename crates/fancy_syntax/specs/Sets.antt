@@ -1,5 +1,5 @@
 -- Sets of numbers by their edges: the rising numbers at which the set begins and ends in turn.
-use Rattle.std.specs.Prelude.{◌≡◌, ℕ, ◌%◌, ◌<◌, ◌≤◌, ◌==◌, ◌⊎◌, Bool, true, false, not, ◌&&◌, nat_le, List, [], ◌∷◌, length, slice_index}
+use Rattle.std.specs.Prelude.{◌≡◌, ℕ, ◌%◌, ◌<◌, ◌≤◌, ◌==◌, Bool, true, false, not, ◌&&◌, nat_le, List, [], ◌∷◌, length, slice_index}
 
 -- one of the two, and not both
 abbrev pub differ : Bool → Bool → Bool
@@ -17,12 +17,6 @@ is_odd n = n % 2 == 1
 abbrev pub Rising : List ℕ → Type 0
 Rising es = (i j : ℕ) → i < j → j < length es → slice_index es i < slice_index es j
 
--- the first i edges are below the number, and the others are not
-pub record Cut (es : List ℕ) (i n : ℕ) : Type 0 where
-  pub count : i ≤ length es
-  pub before : (k : ℕ) → k < i → slice_index es k < n
-  pub after : (k : ℕ) → i ≤ k → k < length es → n ≤ slice_index es k
-
 -- the edges rise, the last ends a part, and none is past the end of Unicode
 pub record AreEdges (es : List ℕ) : Type 0 where
   pub rising : Rising es
@@ -32,9 +26,3 @@ pub record AreEdges (es : List ℕ) : Type 0 where
 -- the number lies in one of the ranges, which hold both their ends
 abbrev pub in_range : ℕ × ℕ → ℕ → Bool
 in_range r c = nat_le r.0 c && nat_le c r.1
-
--- the number is the least edge from these places on
-pub record IsNearest (a : List ℕ) (i : ℕ) (b : List ℕ) (j n : ℕ) : Type 0 where
-  pub left : (k : ℕ) → i ≤ k → k < length a → n ≤ slice_index a k
-  pub right : (k : ℕ) → j ≤ k → k < length b → n ≤ slice_index b k
-  pub one : ((i < length a) × (slice_index a i ≡ n)) ⊎ ((j < length b) × (slice_index b j ≡ n))

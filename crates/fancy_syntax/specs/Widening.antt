@@ -1,5 +1,5 @@
 -- What flag `i` adds to a set.
-use Rattle.std.specs.Prelude.{◌≡◌, ℕ, ◌<◌, ◌≤◌, length, slice_index_or, Bool, true, ◌&&◌, ◌||◌, ◌==◌, List, [], ◌∷◌}
+use Rattle.std.specs.Prelude.{◌≡◌, ℕ, Bool, true, ◌&&◌, ◌||◌, ◌==◌, List, [], ◌∷◌}
 use Rattle.std.specs.List.{list_any}
 use Rattle.unicode.specs.CaseFolding.{simple_fold, fold_pairs}
 use Rattle.fancy_syntax.specs.declared.tree.Meaning.{Meaning}
@@ -25,16 +25,3 @@ abbrev pub widened : Meaning → (ℕ → Bool) → ℕ → Bool
 widened Unicode p c = p c || in_pairs fold_pairs p c
 widened Bytes p c = p c || in_pairs ascii_pairs p c
 widened AsciiText p c = p c || in_pairs ascii_pairs p c
-
--- the first parts before the place are below the number, and the others are not
-pub record PairsCut (ps : List (ℕ × ℕ)) (i n : ℕ) : Type 0 where
-  pub count : i ≤ length ps
-  pub before : (k : ℕ) → k < i → (slice_index_or ps k (0, 0)).0 < n
-  pub after : (k : ℕ) → i ≤ k → k < length ps → n ≤ (slice_index_or ps k (0, 0)).0
-
-abbrev pub first_of : ℕ × ℕ → ℕ
-first_of q = q.0
-
--- the second part as a range of one number
-abbrev pub second_alone : ℕ × ℕ → ℕ × ℕ
-second_alone q = (q.1, q.1)

@@ -2,7 +2,8 @@
 
 ghost use Rattle.std.specs.Prelude.{◌≡◌, ◌||◌, ℕ, ◌+◌, ◌<◌, ◌≤◌, ◌⊎◌, [], ◌&&◌, false, length, slice_index, nat_le, IfOk, MatchOption};
 ghost use Rattle.unicode.specs.Rows.{in_ranges};
-ghost use Rattle.fancy_syntax.specs.Sets.{has, is_odd, in_range, Rising, Cut, AreEdges, IsNearest};
+ghost use Rattle.fancy_syntax.specs.Sets.{has, is_odd, in_range, Rising, AreEdges};
+ghost use Rattle.fancy_syntax.specs.SetViews.{Cut, IsNearest};
 
 use crate::operation::Operation;
 use std::alloc::{AllocError, Global};

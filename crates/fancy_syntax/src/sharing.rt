@@ -5,7 +5,8 @@ ghost use Rattle.std.specs.List.Sorted.{IsNonDecreasingBy};
 ghost use Rattle.unicode.specs.CaseFolding.{fold_pairs};
 ghost use Rattle.fancy_syntax.specs.Sets.{in_range};
 ghost use Rattle.fancy_syntax.specs.Members.{members};
-ghost use Rattle.fancy_syntax.specs.Widening.{widened, in_pairs, PairsCut, first_of, second_alone};
+ghost use Rattle.fancy_syntax.specs.Widening.{widened, in_pairs};
+ghost use Rattle.fancy_syntax.specs.SetViews.{PairsCut, first_of, second_alone};
 
 use crate::operation::Operation;
 use crate::set::Set;

@@ -3,7 +3,7 @@
 ghost use Rattle.std.specs.Prelude.{◌≡◌, ◌+◌, ◌<◌, ◌≤◌, length, take, drop, OnOk, Some, None, if◌then◌else◌};
 ghost use Rattle.fancy_syntax.specs.Words.{is_at};
 ghost use Rattle.fancy_syntax.specs.Escapes.{escaped, set_letter, set_here, before_brace, is_character, hexadecimal, by_number, braced_number, fixed_number, number, single};
-ghost use Rattle.fancy_syntax.specs.ClassViews.{GivesValue, same};
+ghost use Rattle.fancy_syntax.specs.ClassViews.{GivesValue, same, capped_number};
 
 use crate::class::cursor::Cursor;
 use crate::class::refusal::Refusal;
@@ -64,7 +64,7 @@ pub(crate) fn before_brace(text: &[char]) -> usize
 
 /// The number that hexadecimal digits write, if each is one. `0x11_0000` stands for every number from there.
 fn hexadecimal(digits: &[char]) -> Option<u32>
-    ensures { result ≡ hexadecimal 0 digits.now }
+    ensures { result ≡ capped_number 0 digits.now }
 {
     let mut value: u32 = 0;
     let mut rest = digits;
@@ -91,6 +91,7 @@ fn character(number: u32) -> Option<char>
 
 impl<'a> Cursor<'a> {
     /// The character that these digits number, with what follows them left to be read.
+    #[tactic(auto, using(crate::proofs::NumberLemmas::by_number_read))]
     fn by_number(
         &mut self,
         digits: usize,

@@ -2,7 +2,8 @@
 
 ghost use Rattle.std.specs.Prelude.{◌≡◌, ◌<◌, ◌≤◌, true, length, drop, option_map, IsTrue, IsSome, OnOk};
 ghost use Rattle.fancy_syntax.specs.Escapes.{single};
-ghost use Rattle.fancy_syntax.specs.ClassGrammar.{range, token, operator, ends_operand, is_ranged, starts_class, opening, is_bracket};
+ghost use Rattle.fancy_syntax.specs.ClassGrammar.{range, token, ends_operand, is_ranged, starts_class};
+ghost use Rattle.fancy_syntax.specs.ClassReading.{operator, opening, is_bracket};
 ghost use Rattle.fancy_syntax.specs.ClassViews.{GivesValue, same};
 
 use crate::class::context::{Context, fits, may_turn};

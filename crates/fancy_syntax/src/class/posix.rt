@@ -1,8 +1,9 @@
 //! POSIX sets, as `[:alpha:]`.
 
-ghost use Rattle.std.specs.Prelude.{◌≡◌, ◌<◌, ◌≤◌, length, drop, IsTrue, OnOk, IfSome};
+ghost use Rattle.std.specs.Prelude.{◌≡◌, ◌<◌, ◌≤◌, length, drop, option_map, IsTrue, OnOk, IfSome};
 ghost use Rattle.fancy_syntax.specs.Escapes.{letters};
-ghost use Rattle.fancy_syntax.specs.ClassGrammar.{posix_word, is_posix_name, is_posix, posix, posix_of};
+ghost use Rattle.fancy_syntax.specs.Words.{by_word};
+ghost use Rattle.fancy_syntax.specs.ClassGrammar.{posix_words, is_posix_name, is_posix, posix, posix_of};
 ghost use Rattle.fancy_syntax.specs.ClassViews.{GivesValue, same};
 
 use crate::class::context::may_turn;
@@ -33,7 +34,7 @@ fn letters(text: &[char]) -> usize
 impl<'a> Cursor<'a> {
     /// The POSIX set whose name and closing mark stand here, and their length.
     fn posix_word(&self) -> Option<(Named, usize)>
-        ensures value { result ≡ posix_word self.now.rest.now }
+        ensures value { by_word posix_words self.now.rest.now ≡ option_map (λ found. (found.0, drop found.1 self.now.rest.now)) result }
         ensures room { IfSome result (λ found. found.1 ≤ length self.now.rest.now) }
     {
         if self.begins(&['a', 'l', 'n', 'u', 'm', ':', ']']) {
@@ -93,7 +94,7 @@ impl<'a> Cursor<'a> {
 
     /// Reads the name of a POSIX set with what closes it.
     fn posix_end(&mut self, meaning: Meaning, negated: bool) -> Result<Token, Refusal>
-        ensures value { GivesValue same (posix_of meaning negated self.old.rest.now (posix_word self.old.rest.now)) result self.new.rest.now }
+        ensures value { GivesValue same (posix_of meaning negated (by_word posix_words self.old.rest.now)) result self.new.rest.now }
         ensures forward { OnOk result (length self.new.rest.now ≤ length self.old.rest.now) }
     {
         let Some((which, len)) = self.posix_word() else {

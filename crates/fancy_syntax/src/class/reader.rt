@@ -2,7 +2,8 @@
 
 ghost use Rattle.std.specs.Prelude.{◌≡◌, ◌<◌, ◌≤◌, true, length, OnOk};
 ghost use Rattle.fancy_syntax.specs.Members.{members, edges_of};
-ghost use Rattle.fancy_syntax.specs.ClassGrammar.{is_bracket, Class, Items, none_of, ReadsClass, ReadsEdges};
+ghost use Rattle.fancy_syntax.specs.ClassGrammar.{none_of, ReadsClass, ReadsEdges};
+ghost use Rattle.fancy_syntax.specs.ClassReading.{is_bracket, Class, Items};
 ghost use Rattle.fancy_syntax.specs.ClassViews.{Gives};
 
 use crate::class::context::{Context, may_turn};

@@ -1,6 +1,6 @@
 use Rattle.std.proofs.Common.{◌≡◌, ℕ, length, List, Bor, sym, ap, ◌∙◌, arith}
 use Rattle.std.specs.Option.{option_map}
-use Rattle.fancy_syntax.specs.Words.{past_blanks}
+use Rattle.fancy_syntax.specs.Grammar.{past_blanks}
 use Rattle.fancy_syntax.proofs.BlankLemmas.{blanks_step, blanks_stop, blank_shorter, blanks_shorter}
 use Rattle.fancy_syntax.proofs.blank.past_blanks.Goals as goal
 

@@ -1,5 +1,5 @@
 use Rattle.std.proofs.Common.{◌≡◌, length}
-use Rattle.fancy_syntax.specs.Words.{past_blanks}
+use Rattle.fancy_syntax.specs.Grammar.{past_blanks}
 use Rattle.fancy_syntax.proofs.blank.past_blanks.Given as goal
 
 abbrev pub invariant-loop-behind : goal.invariant-loop-behind

@@ -1,10 +1,10 @@
 use Rattle.std.proofs.Common.{◌≡◌, ◌≤◌, length}
-use Rattle.fancy_syntax.specs.Escapes.{hexadecimal}
+use Rattle.fancy_syntax.specs.ClassViews.{capped_number}
 use Rattle.fancy_syntax.proofs.class.escape.hexadecimal.Given as goal
 
 abbrev pub invariant-loop-rest : goal.invariant-loop-rest
 invariant-loop-rest l = record {
-  read : hexadecimal l.value l.rest ≡ hexadecimal 0 l.digits;
+  read : capped_number l.value l.rest ≡ capped_number 0 l.digits;
   bound : l.value ≤ 0x11_0000;
 }
 

@@ -3,7 +3,8 @@ use mathlib.Core.Path.{fun_ext}
 use Rattle.std.proofs.lemmas.Result.{err_from_is_err_and}
 use Rattle.fancy_syntax.specs.Members.{members}
 use Rattle.fancy_syntax.specs.Words.{Text}
-use Rattle.fancy_syntax.specs.ClassGrammar.{Class, Items, none_of}
+use Rattle.fancy_syntax.specs.ClassGrammar.{none_of}
+use Rattle.fancy_syntax.specs.ClassReading.{Class, Items}
 use Rattle.fancy_syntax.proofs.ClassSteps.{refused, Refuses-weaker, goes_on_then, items_step, items_done, no_item, operands_step, simple_is, no_token, nested_is, no_nested, no_operand, unclosed, class_is}
 use Rattle.fancy_syntax.proofs.class.cursor.Cursor.+reader.Goals as goal
 

@@ -1,6 +1,7 @@
 use Rattle.std.proofs.Common.{◌+◌, ◌*◌, ◌-◌, ◌≤◌, length}
 use Rattle.fancy_syntax.specs.Members.{members}
-use Rattle.fancy_syntax.specs.ClassGrammar.{Items, Operands, none_of}
+use Rattle.fancy_syntax.specs.ClassGrammar.{none_of}
+use Rattle.fancy_syntax.specs.ClassReading.{Items, Operands}
 use Rattle.fancy_syntax.specs.ClassViews.{gathered}
 use Rattle.fancy_syntax.proofs.ClassSteps.{GoesOn}
 use Rattle.fancy_syntax.proofs.class.cursor.Cursor.+reader.Given as goal

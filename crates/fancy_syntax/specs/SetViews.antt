@@ -1,0 +1,27 @@
+-- Where the functions stand that walk over the edges of sets, and over pairs.
+use Rattle.std.specs.Prelude.{◌≡◌, ℕ, ◌<◌, ◌≤◌, ◌⊎◌, List, length, slice_index, slice_index_or}
+
+-- the first i edges are below the number, and the others are not
+pub record Cut (es : List ℕ) (i n : ℕ) : Type 0 where
+  pub count : i ≤ length es
+  pub before : (k : ℕ) → k < i → slice_index es k < n
+  pub after : (k : ℕ) → i ≤ k → k < length es → n ≤ slice_index es k
+
+-- the number is the least edge from these places on
+pub record IsNearest (a : List ℕ) (i : ℕ) (b : List ℕ) (j n : ℕ) : Type 0 where
+  pub left : (k : ℕ) → i ≤ k → k < length a → n ≤ slice_index a k
+  pub right : (k : ℕ) → j ≤ k → k < length b → n ≤ slice_index b k
+  pub one : ((i < length a) × (slice_index a i ≡ n)) ⊎ ((j < length b) × (slice_index b j ≡ n))
+
+-- the first parts before the place are below the number, and the others are not
+pub record PairsCut (ps : List (ℕ × ℕ)) (i n : ℕ) : Type 0 where
+  pub count : i ≤ length ps
+  pub before : (k : ℕ) → k < i → (slice_index_or ps k (0, 0)).0 < n
+  pub after : (k : ℕ) → i ≤ k → k < length ps → n ≤ (slice_index_or ps k (0, 0)).0
+
+abbrev pub first_of : ℕ × ℕ → ℕ
+first_of q = q.0
+
+-- the second part as a range of one number
+abbrev pub second_alone : ℕ × ℕ → ℕ × ℕ
+second_alone q = (q.1, q.1)
