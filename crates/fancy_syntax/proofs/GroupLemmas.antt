@@ -5,7 +5,7 @@ use Rattle.fancy_syntax.proofs.EndsLemmas.{IsSimple, simple_atom}
 use Rattle.std.specs.Prelude.{encode_utf8}
 use Rattle.fancy_syntax.specs.declared.tree.Meaning.{Meaning}
 use Rattle.fancy_syntax.specs.declared.tree.Meaning.TheVariants.{Unicode, Bytes, AsciiText}
-use Rattle.fancy_syntax.specs.Pattern.{Pattern, empty, character, member_of, raw_byte, backreference, assertion, group_test, keep_start, continue_here, group, repeat, look_ahead, look_behind, atomic, conditional, followed, or_else, last_branch, in_sequence, in_choice, in_branches}
+use Rattle.fancy_syntax.specs.Pattern.{Pattern, empty, character, member_of, in_any_case, raw_byte, backreference, assertion, group_test, keep_start, continue_here, group, repeat, look_ahead, look_behind, atomic, conditional, followed, or_else, last_branch, in_sequence, in_choice, in_branches}
 use Rattle.fancy_syntax.specs.Words.{Text}
 use Rattle.fancy_syntax.specs.declared.groups.Grouping.{Grouping}
 use Rattle.fancy_syntax.specs.declared.groups.Grouping.TheVariants.{Atomic, LookAhead, LookBehind}
@@ -17,6 +17,7 @@ pub wider : (p : Pattern) (lo hi low high : ℕ) → low ≤ lo → hi ≤ high 
 wider empty lo hi low high a b h = tt
 wider (character c) lo hi low high a b h = tt
 wider (member_of edges) lo hi low high a b h = tt
+wider (in_any_case edges) lo hi low high a b h = tt
 wider (raw_byte byte) lo hi low high a b h = tt
 wider (backreference folded number) lo hi low high a b h = tt
 wider (assertion x) lo hi low high a b h = tt
@@ -72,6 +73,7 @@ simple_numbered : (lo hi : ℕ) (s : Scope) {p : Pattern} → IsSimple s p → N
 simple_numbered lo hi s (simple.literal c) = literal_numbered lo hi s.meaning c
 simple_numbered lo hi s (simple.test a) = tt
 simple_numbered lo hi s (simple.item es e) = tt
+simple_numbered lo hi s (simple.any_case es e) = tt
 simple_numbered lo hi s (simple.byte c k) = tt
 
 -- an item, which may give no part
