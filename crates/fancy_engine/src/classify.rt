@@ -27,6 +27,7 @@ pub fn is_easy(tree: &Tree) -> bool
         Tree::Empty
         | Tree::Character(_)
         | Tree::Member(_)
+        | Tree::InAnyCase(_)
         | Tree::RawByte(_)
         | Tree::Assertion(_) => true,
         Tree::Backreference { .. }

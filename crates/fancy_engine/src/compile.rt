@@ -130,7 +130,7 @@ fn emit(
     match tree {
         Tree::Empty => Ok(next),
         Tree::Character(c) => put_shared(code, Instr::Character(*c, next.moved)),
-        Tree::Member(edges) => {
+        Tree::Member(edges) | Tree::InAnyCase(edges) => {
             let own = edges.to_vec(alloc)?;
             let entry = put_member(alloc, code, meaning, own, next)?;
             Ok(entry)

@@ -12,13 +12,13 @@ use Rattle.fancy_syntax.specs.Named.{is_unicode}
 use Rattle.fancy_syntax.specs.Grammar.{ends_branch}
 use Rattle.fancy_syntax.specs.declared.named.Named.{Named}
 use Rattle.fancy_syntax.specs.declared.class.token.Token.{Token}
-use Rattle.fancy_syntax.specs.Pattern.{Pattern, member_of, raw_byte, assertion}
+use Rattle.fancy_syntax.specs.Pattern.{Pattern, member_of, in_any_case, raw_byte, assertion}
 use Rattle.fancy_syntax.specs.Words.{Text, ◌∈◌, is_at, begins, by_word, begins_count}
 use Rattle.fancy_syntax.specs.Members.{Members}
 use Rattle.fancy_syntax.specs.Sets.{AreEdges}
 use Rattle.fancy_syntax.specs.Escapes.{control_of, escaped, escape_at, hexadecimal, number, braced_number, before_brace, by_number, is_character, single, set_here, set_letter, is_property, property_name, property_named}
 use Rattle.fancy_syntax.specs.ClassGrammar.{is_ascii_meaning, fits, may_turn, range, range_from, range_to, is_ranged, named_of, posix, posix_of, posix_words, is_posix, property, property_of, found_property, token, token_of}
-use Rattle.fancy_syntax.specs.Dialect.{Scope, Lexeme, leaf, one_of, IsMeant, by_itself, by_edges, lexeme, ReadsAtom, by_lexeme, by_class, literal_of, spelled_character, spelled_number, spelled_set, lettered_set, is_one_item, numbered, boundary_words, boundary, property_here, followed_by, any_item, any_code, lettered, place_test, anchor_of, lone, escape, escape_in, is_escapable, is_special}
+use Rattle.fancy_syntax.specs.Dialect.{Scope, Lexeme, leaf, one_of, any_case_of, IsMeant, by_itself, by_edges, by_folding, lexeme, ReadsAtom, by_lexeme, by_class, literal_of, spelled_character, spelled_number, spelled_set, lettered_set, is_one_item, numbered, boundary_words, boundary, property_here, followed_by, any_item, any_code, lettered, place_test, anchor_of, lone, escape, escape_in, is_escapable, is_special}
 use Rattle.fancy_syntax.proofs.ReadingLemmas.{some_pair, some_is_none, true_is_false}
 use Rattle.fancy_syntax.proofs.BlankLemmas.{chosen, same_some, char_is}
 
@@ -340,11 +340,13 @@ pub data IsSimple (s : Scope) : Pattern → Type 0 where
   literal : (c : ℕ) → IsSimple s (literal_of s.meaning c)
   test : (a : Assertion) → IsSimple s (assertion a)
   item : (es : List ℕ) → AreEdges es → IsSimple s (member_of es)
+  any_case : (es : List ℕ) → AreEdges es → IsSimple s (in_any_case es)
   byte : (c : ℕ) → s.keeps_characters ≡ false → IsSimple s (raw_byte c)
 
 simple_leaf : (s : Scope) {a : Pattern} {x : Lexeme} → IsMeant x a → ((b : Pattern) → x ≡ leaf b → IsSimple s b) → IsSimple s a
 simple_leaf s {a} by_itself f = f a refl
 simple_leaf s (by_edges {es = es} e h) f = item es e
+simple_leaf s (by_folding {es = es} e h) f = any_case es e
 
 leaf_same : {a b : Pattern} → leaf a ≡ leaf b → a ≡ b
 leaf_same h = cc
@@ -352,11 +354,14 @@ leaf_same h = cc
 leaf_is_no_set : {a : Pattern} {f : Members} → one_of f ≡ leaf a → ⊥
 leaf_is_no_set h = cc
 
+leaf_is_no_literal : {a : Pattern} {f : Members} → any_case_of f ≡ leaf a → ⊥
+leaf_is_no_literal h = cc
+
 simple_of : (s : Scope) {a : Pattern} {x : Lexeme} → Kind s x → IsMeant x a → IsSimple s a
 simple_of s (a_character c) m = simple_leaf s m (λ b e. of_character b _ (s.flags.ignore_case && is_one_item s.meaning c) e)
   where
-    of_character : (b : Pattern) (f : Members) (w : Bool) → (if w then one_of f else leaf (literal_of s.meaning c)) ≡ leaf b → IsSimple s b
-    of_character b f true e = absurd (leaf_is_no_set e)
+    of_character : (b : Pattern) (f : Members) (w : Bool) → (if w then any_case_of f else leaf (literal_of s.meaning c)) ≡ leaf b → IsSimple s b
+    of_character b f true e = absurd (leaf_is_no_literal e)
     of_character b f false e = subst (IsSimple s) (leaf_same e) (literal c)
 simple_of s (a_test a) m = simple_leaf s m (λ b e. subst (IsSimple s) (leaf_same e) (test a))
 simple_of s (a_set f) m = simple_leaf s m (λ b e. absurd (leaf_is_no_set e))

@@ -8,7 +8,7 @@ use Rattle.fancy_syntax.specs.declared.tree.Meaning.{Meaning}
 use Rattle.fancy_syntax.specs.declared.tree.Meaning.TheVariants.{Unicode, Bytes, AsciiText}
 use Rattle.fancy_syntax.specs.declared.tree.Taste.{Taste}
 use Rattle.fancy_syntax.specs.declared.tree.Tree.{Tree}
-use Rattle.fancy_syntax.specs.Pattern.{Pattern, empty, character, member_of, raw_byte, backreference, assertion, group_test, keep_start, continue_here, group, repeat, look_ahead, look_behind, atomic, conditional, followed, or_else, last_branch, in_sequence, in_choice, pattern_of}
+use Rattle.fancy_syntax.specs.Pattern.{Pattern, empty, character, member_of, in_any_case, raw_byte, backreference, assertion, group_test, keep_start, continue_here, group, repeat, look_ahead, look_behind, atomic, conditional, followed, or_else, last_branch, in_sequence, in_choice, pattern_of}
 use Rattle.fancy_syntax.specs.Sizes.{nodes, repeat_nodes, taste_nodes, size, plus_size, common_size, times_size, only_zero, repeat_size, raw_byte_size, is_empty, fitting_size}
 use Rattle.fancy_syntax.proofs.PartLemmas.{parts_from, branches_from, last_part}
 
@@ -213,6 +213,7 @@ unfolding size nodes
 size-nodes m empty = omega arith
 size-nodes m (character c) = omega arith
 size-nodes m (member_of edges) = omega arith
+size-nodes m (in_any_case edges) = omega arith
 size-nodes m (raw_byte byte) = at_most_one m
 size-nodes m (backreference folded number) = tt
 size-nodes m (assertion a) = omega arith

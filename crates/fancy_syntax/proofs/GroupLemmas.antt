@@ -2,7 +2,7 @@
 use Rattle.std.proofs.Common.{ℕ, ◌+◌, ◌≤◌, ◌≡◌, arith}
 use Rattle.fancy_syntax.specs.Dialect.{Scope, Spells}
 use Rattle.fancy_syntax.specs.Groups.{Numbered, InOrder}
-use Rattle.fancy_syntax.specs.Pattern.{Pattern, empty, character, member_of, raw_byte, backreference, assertion, group_test, keep_start, continue_here, group, repeat, look_ahead, look_behind, atomic, conditional, followed, or_else, last_branch}
+use Rattle.fancy_syntax.specs.Pattern.{Pattern, empty, character, member_of, in_any_case, raw_byte, backreference, assertion, group_test, keep_start, continue_here, group, repeat, look_ahead, look_behind, atomic, conditional, followed, or_else, last_branch}
 use Rattle.fancy_syntax.specs.Words.{Text}
 use Rattle.fancy_syntax.proofs.OrderLemmas.{in_order}
 
@@ -11,6 +11,7 @@ pub wider : (p : Pattern) (lo hi low high : ℕ) → low ≤ lo → hi ≤ high 
 wider empty lo hi low high a b h = tt
 wider (character c) lo hi low high a b h = tt
 wider (member_of edges) lo hi low high a b h = tt
+wider (in_any_case edges) lo hi low high a b h = tt
 wider (raw_byte byte) lo hi low high a b h = tt
 wider (backreference folded number) lo hi low high a b h = tt
 wider (assertion x) lo hi low high a b h = tt
@@ -34,6 +35,7 @@ within : (p : Pattern) (n m : ℕ) → InOrder n m p → (n ≤ m) × Numbered n
 within empty n m e = (omega (arith, e), tt)
 within (character c) n m e = (omega (arith, e), tt)
 within (member_of edges) n m e = (omega (arith, e), tt)
+within (in_any_case edges) n m e = (omega (arith, e), tt)
 within (raw_byte byte) n m e = (omega (arith, e), tt)
 within (backreference folded number) n m e = (omega (arith, e), tt)
 within (assertion x) n m e = (omega (arith, e), tt)

@@ -13,12 +13,12 @@ use Rattle.fancy_syntax.specs.declared.tree.Assertion.{Assertion}
 use Rattle.std.proofs.lemmas.List.{drop-drop}
 use Rattle.fancy_syntax.specs.declared.parser.Parser.{Parser}
 use Rattle.fancy_syntax.specs.declared.tree.Tree.{Tree}
-use Rattle.fancy_syntax.specs.Pattern.{Pattern, pattern_of, member_of, assertion}
+use Rattle.fancy_syntax.specs.Pattern.{Pattern, pattern_of, member_of, in_any_case, assertion}
 use Rattle.fancy_syntax.specs.Words.{Text, is_at}
 use Rattle.fancy_syntax.specs.Escapes.{hexadecimal, number, fixed_number, braced_number, before_brace, by_number, is_character}
 use Rattle.fancy_syntax.specs.ClassGrammar.{ReadsEdges}
 use Rattle.fancy_syntax.specs.ClassViews as class
-use Rattle.fancy_syntax.specs.Dialect.{Scope, Lexeme, leaf, IsMeant, by_itself, by_edges, lexeme, ReadsAtom, by_lexeme, by_class, wants, reference_here, literal_of, spelled_character, spelled_number, is_one_item, numbered, boundary, boundary_here}
+use Rattle.fancy_syntax.specs.Dialect.{Scope, Lexeme, leaf, IsMeant, by_itself, by_edges, by_folding, lexeme, ReadsAtom, by_lexeme, by_class, wants, reference_here, literal_of, spelled_character, spelled_number, is_one_item, numbered, boundary, boundary_here}
 use Rattle.fancy_syntax.specs.References.{Target, reference, begins_reference}
 use Rattle.fancy_syntax.specs.Grammar.{Place, past, start, IsAtom, alone, refers}
 use Rattle.fancy_syntax.specs.Views.{Refuses, IsTheReading, HasNoReading, Gives, GivesMeant, error_of}
@@ -128,6 +128,7 @@ boundary_is t {a} w e = ap (λ (r : Assertion × Text). (leaf (assertion r.0), r
 pub one_meant : {x : Lexeme} {a b : Pattern} → IsMeant x a → IsMeant x b → b ≡ a
 one_meant by_itself by_itself = refl
 one_meant (by_edges {es = es} e h) (by_edges {es = fs} f k) = ap member_of (edges_unique fs es f e (fun_ext (λ c. k c ∙ sym (h c))))
+one_meant (by_folding {es = es} e h) (by_folding {es = fs} f k) = ap in_any_case (edges_unique fs es f e (fun_ext (λ c. k c ∙ sym (h c))))
 
 -- a class begins with a bracket, and no lexeme does
 no_lexeme : (s : Scope) (t : Text) → is_at "[" t ≡ true → lexeme s t ≡ None

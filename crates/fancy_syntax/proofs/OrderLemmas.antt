@@ -48,6 +48,7 @@ simple_in_order : (n : ℕ) (s : Scope) {p : Pattern} → IsSimple s p → InOrd
 simple_in_order n s (simple.literal c) = literal_in_order n s.meaning c
 simple_in_order n s (simple.test a) = refl
 simple_in_order n s (simple.item es e) = refl
+simple_in_order n s (simple.any_case es e) = refl
 simple_in_order n s (simple.byte c k) = refl
 
 -- an item, which may give no part

@@ -4,7 +4,7 @@ use Rattle.fancy_syntax.specs.declared.tree.Assertion.{Assertion}
 use Rattle.fancy_syntax.specs.declared.tree.Taste.{Taste}
 use Rattle.fancy_syntax.specs.declared.tree.Tree.{Tree, Tree-F, fold-roll-Tree}
 use Rattle.fancy_syntax.specs.declared.tree.Tree.TheVariants as made
-use Rattle.fancy_syntax.specs.Pattern.{Pattern, empty, raw_byte, backreference, assertion, group_test, keep_start, continue_here, group, repeat, look_ahead, look_behind, atomic, conditional, in_sequence, in_choice, node_pattern, character, member_of, pattern_of}
+use Rattle.fancy_syntax.specs.Pattern.{Pattern, empty, raw_byte, backreference, assertion, group_test, keep_start, continue_here, group, repeat, look_ahead, look_behind, atomic, conditional, in_sequence, in_choice, node_pattern, character, member_of, in_any_case, pattern_of}
 
 pub pattern-Empty : pattern_of made.Empty ≡ empty
 pattern-Empty = ap pattern_of (sym made.rolls-Empty) ∙ fold-roll-Tree Pattern node_pattern Tree-F.Empty
@@ -24,6 +24,11 @@ pub pattern-Member : (edges : Vec ℕ Global) →
     pattern_of (made.Member edges) ≡ member_of edges.items
 pattern-Member edges =
     ap pattern_of (sym (made.rolls-Member edges)) ∙ fold-roll-Tree Pattern node_pattern (Tree-F.Member edges)
+
+pub pattern-InAnyCase : (edges : Vec ℕ Global) →
+    pattern_of (made.InAnyCase edges) ≡ in_any_case edges.items
+pattern-InAnyCase edges =
+    ap pattern_of (sym (made.rolls-InAnyCase edges)) ∙ fold-roll-Tree Pattern node_pattern (Tree-F.InAnyCase edges)
 
 pub pattern-RawByte : (byte : ℕ) →
     pattern_of (made.RawByte byte) ≡ raw_byte byte
@@ -85,4 +90,4 @@ pub pattern-Alternative : (branches : Vec Tree Global) →
 pattern-Alternative branches =
     ap pattern_of (sym (made.rolls-Alternative branches)) ∙ fold-roll-Tree Pattern node_pattern (Tree-F.Alternative branches)
 
-pub ruleset pattern_equations = (pattern-Empty, pattern-KeepStart, pattern-ContinueHere, pattern-Character, pattern-Member, pattern-RawByte, pattern-Backreference, pattern-Assertion, pattern-GroupTest, pattern-Group, pattern-Repeat, pattern-LookAhead, pattern-LookBehind, pattern-Atomic, pattern-Conditional, pattern-Sequence, pattern-Alternative)
+pub ruleset pattern_equations = (pattern-Empty, pattern-KeepStart, pattern-ContinueHere, pattern-Character, pattern-Member, pattern-InAnyCase, pattern-RawByte, pattern-Backreference, pattern-Assertion, pattern-GroupTest, pattern-Group, pattern-Repeat, pattern-LookAhead, pattern-LookBehind, pattern-Atomic, pattern-Conditional, pattern-Sequence, pattern-Alternative)

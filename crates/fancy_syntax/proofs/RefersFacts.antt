@@ -1,7 +1,7 @@
 -- What stays the same of a pattern when the numbers of groups are put in: its groups, what is empty, and its sizes.
 use Rattle.std.proofs.Common.{◌≡◌, ℕ, ◌+◌, refl, ap, ap₂}
 use Rattle.fancy_syntax.specs.declared.tree.Meaning.{Meaning}
-use Rattle.fancy_syntax.specs.Pattern.{Pattern, empty, character, member_of, raw_byte, backreference, assertion, group_test, keep_start, continue_here, group, repeat, look_ahead, look_behind, atomic, conditional, followed, or_else, last_branch}
+use Rattle.fancy_syntax.specs.Pattern.{Pattern, empty, character, member_of, in_any_case, raw_byte, backreference, assertion, group_test, keep_start, continue_here, group, repeat, look_ahead, look_behind, atomic, conditional, followed, or_else, last_branch}
 use Rattle.fancy_syntax.specs.Sizes.{size, is_empty, plus_size, common_size, repeat_size}
 use Rattle.fancy_syntax.specs.Groups.{Numbered}
 use Rattle.fancy_syntax.specs.References.{refers_to}
@@ -11,6 +11,7 @@ unfolding refers_to
 numbered-refers_to f lo hi empty h = tt
 numbered-refers_to f lo hi (character c) h = tt
 numbered-refers_to f lo hi (member_of edges) h = tt
+numbered-refers_to f lo hi (in_any_case edges) h = tt
 numbered-refers_to f lo hi (raw_byte byte) h = tt
 numbered-refers_to f lo hi (backreference folded number) h = tt
 numbered-refers_to f lo hi (assertion a) h = tt
@@ -38,6 +39,7 @@ unfolding size refers_to
 size-refers_to f m empty = refl
 size-refers_to f m (character c) = refl
 size-refers_to f m (member_of edges) = refl
+size-refers_to f m (in_any_case edges) = refl
 size-refers_to f m (raw_byte byte) = refl
 size-refers_to f m (backreference folded number) = refl
 size-refers_to f m (assertion a) = refl

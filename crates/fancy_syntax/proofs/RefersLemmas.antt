@@ -2,7 +2,7 @@
 use Rattle.std.proofs.Common.{◌≡◌, ℕ, ◌+◌, ◌<◌, List, [], ◌∷◌, ◌++◌, map, length, take, drop, get_or, set, refl, sym, ap, ap₂, ◌∙◌, arith}
 use Rattle.std.proofs.lemmas.List.{map-set, get_or-map}
 use Rattle.std.proofs.lemmas.List.Edits.{map_over_more}
-use Rattle.fancy_syntax.specs.Pattern.{Pattern, empty, character, member_of, raw_byte, backreference, assertion, group_test, keep_start, continue_here, group, repeat, look_ahead, look_behind, atomic, conditional, followed, or_else, last_branch, in_sequence, in_choice}
+use Rattle.fancy_syntax.specs.Pattern.{Pattern, empty, character, member_of, in_any_case, raw_byte, backreference, assertion, group_test, keep_start, continue_here, group, repeat, look_ahead, look_behind, atomic, conditional, followed, or_else, last_branch, in_sequence, in_choice}
 use Rattle.fancy_syntax.specs.Sizes.{nodes, repeat_nodes, taste_nodes}
 use Rattle.fancy_syntax.specs.References.{refers_to}
 
@@ -27,6 +27,7 @@ unfolding nodes refers_to
 nodes-refers_to f empty = refl
 nodes-refers_to f (character c) = refl
 nodes-refers_to f (member_of edges) = refl
+nodes-refers_to f (in_any_case edges) = refl
 nodes-refers_to f (raw_byte byte) = refl
 nodes-refers_to f (backreference folded number) = refl
 nodes-refers_to f (assertion a) = refl

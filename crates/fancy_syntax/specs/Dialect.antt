@@ -15,7 +15,7 @@ use Rattle.fancy_syntax.specs.declared.groups.Grouping.TheVariants.{Atomic, Look
 use Rattle.fancy_syntax.specs.declared.class.token.Token.{Token}
 use Rattle.fancy_syntax.specs.declared.class.token.Token.TheVariants.{Named as NamedSet}
 use Rattle.fancy_syntax.specs.declared.named.Named.{Named}
-use Rattle.fancy_syntax.specs.Pattern.{Pattern, character, member_of, raw_byte, backreference, assertion, group, repeat, look_ahead, look_behind, atomic, in_sequence, in_branches}
+use Rattle.fancy_syntax.specs.Pattern.{Pattern, character, member_of, in_any_case, raw_byte, backreference, assertion, group, repeat, look_ahead, look_behind, atomic, in_sequence, in_branches}
 use Rattle.fancy_syntax.specs.Sizes.{nodes, are_sized, is_empty}
 use Rattle.fancy_syntax.specs.Words.{Text, ◌∈◌, is_among, is_at, by_word, is_at_digit, is_blank, past_blank, decimal, are_digits, begins_count}
 use Rattle.fancy_syntax.specs.Sets.{has, AreEdges, in_range}
@@ -153,15 +153,17 @@ literal_of Unicode c = character c
 literal_of Bytes c = in_sequence (map character (encode_utf8 c))
 literal_of AsciiText c = character c
 
--- What stands for itself: a pattern, or one item of a set with these members.
+-- What stands for itself: a pattern, one item of a set with these members, or a literal under flag `i` with these characters that share its folding.
 pub data Lexeme : Type 0 where
   leaf : Pattern → Lexeme
   one_of : Members → Lexeme
+  any_case_of : Members → Lexeme
 
 -- This is the pattern. A set has one list of edges.
 pub data IsMeant : Lexeme → Pattern → Type 0 where
   by_itself : {a : Pattern} → IsMeant (leaf a) a
   by_edges : {f : Members} {es : List ℕ} → AreEdges es → ((c : ℕ) → has es c ≡ f c) → IsMeant (one_of f) (member_of es)
+  by_folding : {f : Members} {es : List ℕ} → AreEdges es → ((c : ℕ) → has es c ≡ f c) → IsMeant (any_case_of f) (in_any_case es)
 
 -- the character is one item, so that flag `i` can give it others
 abbrev pub is_one_item : Meaning → ℕ → Bool
@@ -173,7 +175,7 @@ is_one_item AsciiText c = true
 abbrev pub spelled_character : Scope → ℕ → Lexeme
 spelled_character s c =
     if s.flags.ignore_case && is_one_item s.meaning c
-    then one_of (widened s.meaning (in_range (c, c)))
+    then any_case_of (widened s.meaning (in_range (c, c)))
     else leaf (literal_of s.meaning c)
 
 -- A character by its number. Where matches may stand anywhere two digits behind `x` are a byte, if it is no ASCII.

@@ -1,13 +1,14 @@
 -- The numbers of a pattern's groups.
 use Rattle.std.specs.Prelude.{◌≡◌, ℕ, ◌+◌, ◌<◌, ◌≤◌, List, [], ◌∷◌}
 use Rattle.fancy_syntax.specs.Words.{Text}
-use Rattle.fancy_syntax.specs.Pattern.{Pattern, empty, character, member_of, raw_byte, backreference, assertion, group_test, keep_start, continue_here, group, repeat, look_ahead, look_behind, atomic, conditional, followed, or_else, last_branch}
+use Rattle.fancy_syntax.specs.Pattern.{Pattern, empty, character, member_of, in_any_case, raw_byte, backreference, assertion, group_test, keep_start, continue_here, group, repeat, look_ahead, look_behind, atomic, conditional, followed, or_else, last_branch}
 
 -- each group of the pattern has a number from lo on and below hi, and those inside it have greater ones
 abbrev pub Numbered : ℕ → ℕ → Pattern → Type 0
 Numbered lo hi empty = Unit {0}
 Numbered lo hi (character c) = Unit {0}
 Numbered lo hi (member_of edges) = Unit {0}
+Numbered lo hi (in_any_case edges) = Unit {0}
 Numbered lo hi (raw_byte byte) = Unit {0}
 Numbered lo hi (backreference folded number) = Unit {0}
 Numbered lo hi (assertion a) = Unit {0}
@@ -29,6 +30,7 @@ abbrev pub InOrder : ℕ → ℕ → Pattern → Type 0
 InOrder n m empty = m ≡ n
 InOrder n m (character c) = m ≡ n
 InOrder n m (member_of edges) = m ≡ n
+InOrder n m (in_any_case edges) = m ≡ n
 InOrder n m (raw_byte byte) = m ≡ n
 InOrder n m (backreference folded number) = m ≡ n
 InOrder n m (assertion a) = m ≡ n

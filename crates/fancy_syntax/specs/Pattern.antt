@@ -13,6 +13,8 @@ pub data Pattern : Type 0 where
   character : ℕ → Pattern
   -- one item of a set, by the rising numbers at which the set begins and ends in turn
   member_of : List ℕ → Pattern
+  -- a literal under flag `i`: one item that shares its folding with the literal's character, by the edges of the set of these
+  in_any_case : List ℕ → Pattern
   -- one byte, in any meaning
   raw_byte : ℕ → Pattern
   -- the text of this group; under flag `i` where it is true
@@ -63,6 +65,7 @@ abbrev pub node_pattern : Tree-F Pattern → Pattern
 node_pattern Tree-F.Empty = empty
 node_pattern (Tree-F.Character c) = character c
 node_pattern (Tree-F.Member edges) = member_of edges.items
+node_pattern (Tree-F.InAnyCase edges) = in_any_case edges.items
 node_pattern (Tree-F.RawByte byte) = raw_byte byte
 node_pattern (Tree-F.Backreference folded number) = backreference folded number
 node_pattern (Tree-F.Assertion a) = assertion a

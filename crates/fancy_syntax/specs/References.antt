@@ -1,7 +1,7 @@
 -- References to groups: how they are written, what they name, and which group that is once the whole pattern is read.
 use Rattle.std.specs.Prelude.{ℕ, ◌+◌, ◌-◌, ◌==◌, ◌||◌, ◌&&◌, Bool, not, nat_le, min, List, [], ◌∷◌, length, drop, slice_index_or, Option, Some, None, Result, Ok, Err, if◌then◌else◌}
 use Prim.Native.Char.{code}
-use Rattle.fancy_syntax.specs.Pattern.{Pattern, empty, character, member_of, raw_byte, backreference, assertion, group_test, keep_start, continue_here, group, repeat, look_ahead, look_behind, atomic, conditional, followed, or_else, last_branch}
+use Rattle.fancy_syntax.specs.Pattern.{Pattern, empty, character, member_of, in_any_case, raw_byte, backreference, assertion, group_test, keep_start, continue_here, group, repeat, look_ahead, look_behind, atomic, conditional, followed, or_else, last_branch}
 use Rattle.fancy_syntax.specs.Words.{Text, is_at_any, is_at, begins, is_at_digit, past_digits, decimal, are_digits}
 use Rattle.fancy_syntax.specs.Names.{name_here, past_name, last_named}
 
@@ -117,6 +117,7 @@ unfoldable pub refers_to : (ℕ → ℕ) → Pattern → Pattern
 refers_to f empty = empty
 refers_to f (character c) = character c
 refers_to f (member_of edges) = member_of edges
+refers_to f (in_any_case edges) = in_any_case edges
 refers_to f (raw_byte byte) = raw_byte byte
 refers_to f (backreference folded number) = backreference folded (f number)
 refers_to f (assertion a) = assertion a

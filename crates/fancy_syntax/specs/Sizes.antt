@@ -4,7 +4,7 @@ use Rattle.fancy_syntax.specs.declared.tree.Taste.{Taste}
 use Rattle.fancy_syntax.specs.declared.tree.Taste.TheVariants.{Greedy, Lazy, Possessive}
 use Rattle.fancy_syntax.specs.declared.tree.Meaning.{Meaning}
 use Rattle.fancy_syntax.specs.declared.tree.Meaning.TheVariants.{Unicode, Bytes, AsciiText}
-use Rattle.fancy_syntax.specs.Pattern.{Pattern, empty, character, member_of, raw_byte, backreference, assertion, group_test, keep_start, continue_here, group, repeat, look_ahead, look_behind, atomic, conditional, followed, or_else, last_branch}
+use Rattle.fancy_syntax.specs.Pattern.{Pattern, empty, character, member_of, in_any_case, raw_byte, backreference, assertion, group_test, keep_start, continue_here, group, repeat, look_ahead, look_behind, atomic, conditional, followed, or_else, last_branch}
 
 abbrev pub plus_size : Option ℕ → Option ℕ → Option ℕ
 plus_size None n = None
@@ -46,6 +46,7 @@ unfoldable pub size : Meaning → Pattern → Option ℕ
 size m empty = Some 0
 size m (character c) = Some 1
 size m (member_of edges) = Some 1
+size m (in_any_case edges) = Some 1
 size m (raw_byte byte) = raw_byte_size m
 size m (backreference folded number) = None
 size m (assertion a) = Some 0
@@ -85,6 +86,7 @@ unfoldable pub are_sized : Meaning → Pattern → Bool
 are_sized m empty = true
 are_sized m (character c) = true
 are_sized m (member_of edges) = true
+are_sized m (in_any_case edges) = true
 are_sized m (raw_byte byte) = true
 are_sized m (backreference folded number) = true
 are_sized m (assertion a) = true
@@ -116,6 +118,7 @@ unfoldable pub nodes : Pattern → ℕ
 nodes empty = 1
 nodes (character c) = 1
 nodes (member_of edges) = 1
+nodes (in_any_case edges) = 1
 nodes (raw_byte byte) = 1
 nodes (backreference folded number) = 1
 nodes (assertion a) = 1

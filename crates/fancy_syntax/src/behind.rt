@@ -40,6 +40,7 @@ impl Tree {
             Tree::Empty
             | Tree::Character(_)
             | Tree::Member(_)
+            | Tree::InAnyCase(_)
             | Tree::RawByte(_)
             | Tree::Backreference { .. }
             | Tree::Assertion(_)

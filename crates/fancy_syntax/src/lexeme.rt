@@ -6,7 +6,7 @@ ghost use Rattle.fancy_syntax.specs.Words.{is_at};
 ghost use Rattle.fancy_syntax.specs.Members.{Members, members};
 ghost use Rattle.fancy_syntax.specs.Escapes.{is_property, set_letter};
 ghost use Rattle.fancy_syntax.specs.ClassGrammar.{is_ascii_meaning};
-ghost use Rattle.fancy_syntax.specs.Dialect.{IsMeant, leaf, one_of, spelled_character, spelled_number, spelled_set, any_code, ends_line};
+ghost use Rattle.fancy_syntax.specs.Dialect.{IsMeant, leaf, one_of, any_case_of, spelled_character, spelled_number, spelled_set, any_code, ends_line};
 ghost use Rattle.fancy_syntax.specs.Dialect as dialect;
 ghost use Rattle.fancy_syntax.specs.Grammar.{IsAtom, start};
 ghost use Rattle.fancy_syntax.specs.References.{begins_reference};
@@ -52,6 +52,14 @@ fn item(set: Set) -> Tree
     ensures { (f : Members) → ((c : ℕ) → members set c ≡ f c) → IsMeant (one_of f) (pattern_of result) }
 {
     Tree::Member(set.into_edges())
+}
+
+/// A literal under flag `i`, with the characters that share its folding.
+#[tactic(auto, using(crate::proofs::PatternLemmas::pattern_equations))]
+fn in_any_case(set: Set) -> Tree
+    ensures { (f : Members) → ((c : ℕ) → members set c ≡ f c) → IsMeant (any_case_of f) (pattern_of result) }
+{
+    Tree::InAnyCase(set.into_edges())
 }
 
 fn is_ascii_text(meaning: Meaning) -> bool
@@ -127,7 +135,7 @@ impl<'a> Parser<'a> {
         ensures { IfOk result (λ t. IsMeant (spelled_character (scope_of self.now) c) (pattern_of t)) }
     {
         if self.is_folded(c) {
-            return Ok(item(sharing(self.alloc, self.meaning, c)?));
+            return Ok(in_any_case(sharing(self.alloc, self.meaning, c)?));
         }
         literal(self.alloc, self.meaning, c)
     }

@@ -18,6 +18,7 @@ impl Tree {
             Tree::Empty
             | Tree::Character(_)
             | Tree::Member(_)
+            | Tree::InAnyCase(_)
             | Tree::RawByte(_)
             | Tree::Backreference { .. }
             | Tree::Assertion(_)
@@ -110,7 +111,7 @@ impl Tree {
             | Tree::ContinueHere
             | Tree::LookAhead { .. }
             | Tree::LookBehind { .. } => Some(0),
-            Tree::Character(_) | Tree::Member(_) => Some(1),
+            Tree::Character(_) | Tree::Member(_) | Tree::InAnyCase(_) => Some(1),
             Tree::RawByte(_) => size_of_raw_byte(meaning),
             Tree::Backreference { .. } => None,
             Tree::Group { body, .. } => body.size(meaning),

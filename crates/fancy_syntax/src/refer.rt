@@ -45,6 +45,7 @@ impl Tree {
             Tree::Empty
             | Tree::Character(_)
             | Tree::Member(_)
+            | Tree::InAnyCase(_)
             | Tree::RawByte(_)
             | Tree::Assertion(_)
             | Tree::GroupTest(_)

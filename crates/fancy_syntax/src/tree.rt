@@ -118,6 +118,9 @@ pub enum Tree {
     Character(char),
     /// One item of a set, which these rising numbers begin and end in turn.
     Member(Vec<u32>),
+    /// A literal under flag `i`: one item that shares its folding with the literal's character, by the edges of
+    /// the set of these.
+    InAnyCase(Vec<u32>),
     /// One byte, in any meaning.
     RawByte(u8),
     /// The text of the group with this number; where it is folded, as flag `i` compares it.
