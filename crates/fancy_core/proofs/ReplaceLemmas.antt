@@ -16,7 +16,7 @@ use Rattle.fancy_core.specs.declared.regex.Regex.{Regex}
 use Rattle.fancy_core.specs.GroupTexts.{Seen}
 use Rattle.fancy_core.specs.Matching.{Item, span_of_item, start_of, stop_of}
 use Rattle.fancy_core.specs.Pieces.{pieces, interleaved, limited}
-use Rattle.fancy_core.specs.Replacing.{Answers, IsReplaced, IsRefusedByReplacer, IsRefusedBySearch, replaced, filled, seen_of}
+use Rattle.fancy_core.specs.Replacing.{Answers, HasAnswered, IsReplaced, IsRefusedByReplacer, IsRefusedBySearch, replaced, filled, seen_of}
 use Rattle.fancy_core.specs.Limits.{up_to, is_reached, one_fewer}
 use Rattle.fancy_core.proofs.PieceLemmas.{whole_of}
 
@@ -70,6 +70,11 @@ module _ {R : Type 0} (gave : R → Seen → List ℕ → R → Type 0) where
   answers_more first now next x a (y ∷ xs) [] h g = absurd h
   answers_more first now next x a (y ∷ xs) (b ∷ answers) (middle, here, behind) g = (middle, here, answers_more middle now next x a xs answers behind g)
 
+  -- with no match nothing is called
+  answers_to_none : (first now : R) (answers : List (List ℕ)) → Answers gave first [] answers now → first ≡ now
+  answers_to_none first now [] h = h
+  answers_to_none first now (a ∷ answers) h = absurd h
+
   module _ (regex : Regex) (t : List ℕ) where
     pub goes_first : (all todo : List Item) (r : R) (out : List ℕ) (at : ℕ) (found : Bool) → todo ≡ all → out ≡ [] → at ≡ 0 → found ≡ false → Goes gave regex t all r r out at found todo
     goes_first all todo r out at found e f g h = rw (e, f, g, h) (record {
@@ -107,17 +112,22 @@ module _ {R : Type 0} (gave : R → Seen → List ℕ → R → Type 0) where
     done_is_all : (all : List Item) (first now : R) (out : List ℕ) (at : ℕ) (found : Bool) (h : Goes gave regex t all first now out at found []) → all ≡ h.done
     done_is_all all first now out at found h = h.order ∙ append-nil h.done
 
-    pub goes_last : (all : List Item) (first now : R) (out result : List ℕ) (at : ℕ) (found : Bool) → MatchBool found (result ≡ out ++ slice_range t at (length t)) (result ≡ t) → Goes gave regex t all first now out at found [] → IsReplaced None gave first regex t all result
+    pub goes_last : (all : List Item) (first now : R) (out result : List ℕ) (at : ℕ) (found : Bool) → MatchBool found (result ≡ out ++ slice_range t at (length t)) (result ≡ t) → Goes gave regex t all first now out at found [] → IsReplaced None gave first now regex t all result
     goes_last all first now out result at true w h =
         let over : all ≡ h.done = done_is_all all first now out at true h in
         record {
           answers = h.answers;
-          given = (now, subst (λ (z : List Item). Answers gave first (map (seen_of regex t) z) h.answers now) (sym over) h.given);
+          given = subst (λ (z : List Item). Answers gave first (map (seen_of regex t) z) h.answers now) (sym over) h.given;
           joined = w ∙ (ap (λ (z : List ℕ). out ++ z) (sym (append-nil (slice_range t at (length t)))) ∙ (sym (h.joined []) ∙ ap (replaced t all) (append-nil h.answers)));
         }
     goes_last all first now out result at false w h =
         let over : all ≡ [] = done_is_all all first now out at false h ∙ h.none refl in
-        rw (over, w) (record { answers = []; given = (first, refl); joined = sym (append-nil _ ∙ whole_of t) })
+        let kept : first ≡ now = answers_to_none first now h.answers (subst (λ (z : List Item). Answers gave first (map (seen_of regex t) z) h.answers now) (h.none refl) h.given) in
+        rw (over, w) (record { answers = []; given = kept; joined = sym (append-nil _ ∙ whole_of t) })
+
+    -- the calls so far, wherever the replacement stops
+    pub goes_so_far : (all : List Item) (first now : R) (out : List ℕ) (at : ℕ) (found : Bool) (todo : List Item) → Goes gave regex t all first now out at found todo → HasAnswered None gave first now regex t all
+    goes_so_far all first now out at found todo h = record { done = h.done; later = todo; order = h.order; answers = h.answers; given = h.given }
 
     -- where no match is left, one was found exactly where there are any
     pub goes_found : (n : ℕ) (matches : List Item) (first now : R) (out : List ℕ) (at : ℕ) (found : Bool) → Goes gave regex t (limited n matches) first now out at found [] → (found ≡ false) ↔ (matches ≡ [])
@@ -127,9 +137,9 @@ module _ {R : Type 0} (gave : R → Seen → List ℕ → R → Type 0) where
         (λ _. limited_none n matches (done_is_all (limited n matches) first now out at false h ∙ h.none refl), λ _. refl)
 
     -- a call that refuses, of a replacer with no one text for all matches
-    pub goes_refused : (refuses : R → Seen → Error → Type 0) (all : List Item) (first now : R) (out : List ℕ) (at : ℕ) (found : Bool) (x : Item) (todo rest : List Item) (seen : Seen) (error : Error) → todo ≡ x ∷ rest → seen ≡ seen_of regex t x → refuses now seen error
-        → Goes gave regex t all first now out at found todo → IsRefusedByReplacer None gave refuses first regex t all error
-    goes_refused refuses all first now out at found x todo rest seen error e s r h = record {
+    pub goes_refused : (refuses : R → Seen → Error → R → Type 0) (all : List Item) (first now last : R) (out : List ℕ) (at : ℕ) (found : Bool) (x : Item) (todo rest : List Item) (seen : Seen) (error : Error) → todo ≡ x ∷ rest → seen ≡ seen_of regex t x → refuses now seen error last
+        → Goes gave regex t all first now out at found todo → IsRefusedByReplacer None gave refuses first last regex t all error
+    goes_refused refuses all first now last out at found x todo rest seen error e s r h = record {
       unfixed = refl;
       done = h.done;
       next = x;
@@ -138,7 +148,7 @@ module _ {R : Type 0} (gave : R → Seen → List ℕ → R → Type 0) where
       answers = h.answers;
       state = now;
       given = h.given;
-      refused = subst (λ (z : Seen). refuses now z error) s r;
+      refused = subst (λ (z : Seen). refuses now z error last) s r;
     }
 
 pub one_taken : {A : Type 0} (left : Option ℕ) (xs ys : List A) (x : A) → is_reached left ≡ false → xs ≡ x ∷ ys → up_to left xs ≡ x ∷ up_to (one_fewer left) ys
@@ -164,12 +174,16 @@ each_same f x [] = refl
 each_same f x (y ∷ xs) = ap (λ (z : List _). x ∷ z) (each_same f x xs)
 
 -- one text for all matches makes the text that is filled with it
-pub same_fills : (x : List ℕ) (regex : Regex) (t : List ℕ) (all : List Item) (result : List ℕ) → IsReplaced None SaysItself x regex t all result → result ≡ filled t all x
-same_fills x regex t all result w =
-    w.joined ∙ ap (replaced t all) (same_answers x x refl (map (seen_of regex t) all) w.answers w.given.0 w.given.1 ∙ each_same (seen_of regex t) x all)
+pub same_fills : (x last : List ℕ) (regex : Regex) (t : List ℕ) (all : List Item) (result : List ℕ) → IsReplaced None SaysItself x last regex t all result → result ≡ filled t all x
+same_fills x last regex t all result w =
+    w.joined ∙ ap (replaced t all) (same_answers x x refl (map (seen_of regex t) all) w.answers last w.given ∙ each_same (seen_of regex t) x all)
 
-pub filled_replaces : {R : Type 0} (gave : R → Seen → List ℕ → R → Type 0) (first : R) (fixed : Option (List ℕ)) (x : List ℕ) (regex : Regex) (t : List ℕ) (all : List Item) (result : List ℕ) → fixed ≡ Some x → result ≡ filled t all x → IsReplaced fixed gave first regex t all result
-filled_replaces gave first fixed x regex t all result e f = rw e (record { answers = map (λ _. x) all; given = sym (each_same (seen_of regex t) x all); joined = f })
+-- a replacer with one text for all matches is not called
+pub filled_replaces : {R : Type 0} (gave : R → Seen → List ℕ → R → Type 0) (first : R) (fixed : Option (List ℕ)) (x : List ℕ) (regex : Regex) (t : List ℕ) (all : List Item) (result : List ℕ) → fixed ≡ Some x → result ≡ filled t all x → IsReplaced fixed gave first first regex t all result
+filled_replaces gave first fixed x regex t all result e f = rw e (record { answers = map (λ _. x) all; given = (sym (each_same (seen_of regex t) x all), refl); joined = f })
+
+pub fixed_stays : {R : Type 0} (gave : R → Seen → List ℕ → R → Type 0) (first : R) (fixed : Option (List ℕ)) (x : List ℕ) (regex : Regex) (t : List ℕ) (all : List Item) → fixed ≡ Some x → HasAnswered fixed gave first first regex t all
+fixed_stays gave first fixed x regex t all e = rw e (record { done = []; later = all; order = refl; answers = []; given = (refl, refl) })
 
 pub one_done : {A : Type 0} (xs rest : List A) (x : A) → xs ≡ x ∷ rest → length rest < length xs
 one_done xs rest x e = rw e (omega arith)

@@ -38,10 +38,10 @@ Answers gave r [] (a ∷ answers) last = ⊥
 Answers gave r (x ∷ xs) [] last = ⊥
 Answers gave r (x ∷ xs) (a ∷ answers) last = (next : _) × gave r x a next × Answers gave next xs answers last
 
--- the answers of a replacer: its one text for all matches where it has one, else those of its calls
-abbrev pub AnswersOf : {R : Type 0} → Option (List ℕ) → (R → Seen → List ℕ → R → Type 0) → R → List Seen → List (List ℕ) → Type 0
-AnswersOf (Some x) gave r xs answers = answers ≡ map (λ _. x) xs
-AnswersOf None gave r xs answers = (last : _) × Answers gave r xs answers last
+-- The answers of a replacer to these matches, and the state that they leave it in: its one text for each where it has one for all, which leaves it as it was; else those of its calls.
+abbrev pub AnswersOf : {R : Type 0} → Option (List ℕ) → (R → Seen → List ℕ → R → Type 0) → R → List Seen → List (List ℕ) → R → Type 0
+AnswersOf (Some x) gave first xs answers last = (answers ≡ map (λ _. x) xs) × (last ≡ first)
+AnswersOf None gave first xs answers last = Answers gave first xs answers last
 
 -- the text with answers in the place of the items
 abbrev pub replaced : List ℕ → List Item → List (List ℕ) → List ℕ
@@ -59,14 +59,22 @@ all_matches regex t = matches_of regex true t (whole t)
 abbrev pub IsRefusedBySearch : Regex → List ℕ → Error → Type 0
 IsRefusedBySearch regex t e = (start : ℕ) × (on : Bool) × Refuses regex (asked regex t (record (whole t) { start = start; continues = on })) e
 
--- These items of the text were replaced, and this is what came of it.
-pub record IsReplaced {R : Type 0} (fixed : Option (List ℕ)) (gave : R → Seen → List ℕ → R → Type 0) (first : R) (regex : Regex) (t : List ℕ) (items : List Item) (result : List ℕ) : Type 0 where
+-- These items of the text were replaced, and this is what came of it. The answers took the replacer from its first state to its last.
+pub record IsReplaced {R : Type 0} (fixed : Option (List ℕ)) (gave : R → Seen → List ℕ → R → Type 0) (first last : R) (regex : Regex) (t : List ℕ) (items : List Item) (result : List ℕ) : Type 0 where
   pub answers : List (List ℕ)
-  pub given : AnswersOf fixed gave first (map (seen_of regex t) items) answers
+  pub given : AnswersOf fixed gave first (map (seen_of regex t) items) answers last
   pub joined : result ≡ replaced t items answers
 
--- A call for one of these items refused with this error. There is no one text for all matches; the calls for the items before answered, in order from the first state on, and in the state that they left the call for the next item refuses.
-pub record IsRefusedByReplacer {R : Type 0} (fixed : Option (List ℕ)) (gave : R → Seen → List ℕ → R → Type 0) (refuses : R → Seen → Error → Type 0) (first : R) (regex : Regex) (t : List ℕ) (items : List Item) (error : Error) : Type 0 where
+-- The replacer answered to the items that come first among these, maybe to none and maybe to all, and was called no more: its state is the one that these answers left.
+pub record HasAnswered {R : Type 0} (fixed : Option (List ℕ)) (gave : R → Seen → List ℕ → R → Type 0) (first last : R) (regex : Regex) (t : List ℕ) (items : List Item) : Type 0 where
+  pub done : List Item
+  pub later : List Item
+  pub order : items ≡ done ++ later
+  pub answers : List (List ℕ)
+  pub given : AnswersOf fixed gave first (map (seen_of regex t) done) answers last
+
+-- A call for one of these items refused with this error. There is no one text for all matches; the calls for the items before answered, in order from the first state on, and in the state that they left the call for the next item refuses, which leaves the last state.
+pub record IsRefusedByReplacer {R : Type 0} (fixed : Option (List ℕ)) (gave : R → Seen → List ℕ → R → Type 0) (refuses : R → Seen → Error → R → Type 0) (first last : R) (regex : Regex) (t : List ℕ) (items : List Item) (error : Error) : Type 0 where
   pub unfixed : fixed ≡ None
   pub done : List Item
   pub next : Item
@@ -75,4 +83,4 @@ pub record IsRefusedByReplacer {R : Type 0} (fixed : Option (List ℕ)) (gave : 
   pub answers : List (List ℕ)
   pub state : R
   pub given : Answers gave first (map (seen_of regex t) done) answers state
-  pub refused : refuses state (seen_of regex t next) error
+  pub refused : refuses state (seen_of regex t next) error last

@@ -118,9 +118,9 @@ impl<'r, 't> Rewriting<'r, 't> {
         requires groups { HasGroups true (text_of self.old) item.position self.old.memory }
         requires callable { R.callable replacer.old }
         ensures ok { OnOk result ((answer : List ℕ) × (string_bytes self.new.out ≡ string_bytes self.old.out ++ answer) × R.appends replacer.old (seen_of (regex_of self.old) (text_of self.old) (item_in self.old.memory item)) answer replacer.new) }
-        ensures again { OnOk result (R.callable replacer.new) }
+        ensures again { R.callable replacer.new }
         ensures stays { Stays self.old self.new }
-        ensures refused { IfErr result (λ e. (e ≡ Error.Memory) ⊎ R.refuses replacer.old (seen_of (regex_of self.old) (text_of self.old) (item_in self.old.memory item)) e) }
+        ensures refused { IfErr result (λ e. ((e ≡ Error.Memory) × (replacer.new ≡ replacer.old)) ⊎ R.refuses replacer.old (seen_of (regex_of self.old) (text_of self.old) (item_in self.old.memory item)) e replacer.new) }
     {
         let captures = self.captures_at(item)?;
         replacer.replace_append(&captures, &mut self.out)

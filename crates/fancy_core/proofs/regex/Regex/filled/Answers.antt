@@ -47,6 +47,6 @@ returns c =
     record {
       borrowed = borrowed_is c.finish.result _ _ _ c.finish.ensures.borrowed (goes_found _ _ _ c.args.limit _ _ _ _ _ _ goes);
       kept = search rules;
-      text = if_ok _ _ (λ _ w. same_fills _ _ _ _ _ (goes_last _ _ _ _ _ _ _ _ _ _ (rw text at w) goes)) c.finish.result c.finish.ensures.value;
+      text = if_ok _ _ (λ _ w. same_fills _ _ _ _ _ _ (goes_last _ _ _ _ _ _ _ _ _ _ (rw text at w) goes)) c.finish.result c.finish.ensures.value;
       refused = search rules;
     }
