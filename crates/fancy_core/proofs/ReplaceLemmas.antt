@@ -1,40 +1,23 @@
 -- Lemmas on replacing matches one after the other.
-use Rattle.std.proofs.Common.{arith, ℕ, zero, suc, ◌-◌, ◌<◌, ◌≡◌, Bool, true, false, ◌&&◌, List, [], ◌∷◌, ◌++◌, Option, None, Some, Result, Ok, Err, IfOk, IfErr, length, map, slice_range, refl, sym, ◌∙◌, ap, subst, append-nil, append_assoc, inl, inr}
+use Rattle.std.proofs.Common.{arith, ℕ, zero, suc, ◌-◌, ◌<◌, ◌≡◌, Bool, true, false, List, [], ◌∷◌, ◌++◌, Option, None, Some, Result, Ok, Err, IfOk, IfErr, length, map, slice_range, refl, sym, ◌∙◌, ap, subst, append-nil, append_assoc, inl, inr}
 use Rattle.std.specs.Prelude.{MatchBool, ◌↔◌, ◌⊎◌}
 use Rattle.std.proofs.lemmas.List.{map-append}
 use Rattle.fancy_syntax.specs.declared.error.Error.{Error}
 use Rattle.fancy_syntax.specs.declared.error.Error.TheVariants.{Memory}
-use Rattle.fancy_input.specs.declared.input.Request.{Request}
-use Rattle.fancy_input.specs.Requests.{whole}
-use Rattle.fancy_input.specs.Places.{next_place}
-use Rattle.fancy_core.specs.Left.{refused_next, at_first, at_next}
-use Rattle.fancy_core.specs.Limited.{Refuses}
-use Rattle.fancy_core.specs.Regexes.{asked}
-use Rattle.fancy_engine.specs.Search.{Query}
 use Rattle.fancy_engine.specs.Context.{Span}
 use Rattle.fancy_core.specs.declared.regex.Regex.{Regex}
 use Rattle.fancy_core.specs.GroupTexts.{Seen}
 use Rattle.fancy_core.specs.Matching.{Item, span_of_item, start_of, stop_of}
 use Rattle.fancy_core.specs.Pieces.{pieces, interleaved, limited}
-use Rattle.fancy_core.specs.Replacing.{Answers, HasAnswered, IsReplaced, IsRefusedByReplacer, IsRefusedBySearch, replaced, filled, seen_of}
+use Rattle.fancy_core.specs.Replacing.{Answers, IsReplaced, IsRefusedFrom, IsRefusedBehind, IsRefusedBetweenCalls, IsRefusedByReplacer, end_of, replaced, filled, seen_of}
 use Rattle.fancy_core.specs.Limits.{up_to, is_reached, one_fewer}
 use Rattle.fancy_core.proofs.PieceLemmas.{whole_of}
 
--- memory may run out in any search
-pub out_of_memory : (regex : Regex) (q : Query) (e : Error) → e ≡ Memory → Refuses regex q e
-out_of_memory regex q e h = subst (Refuses regex q) (sym h) tt
-
-pub text_out_of_memory : (regex : Regex) (t : List ℕ) (e : Error) → e ≡ Memory → IsRefusedBySearch regex t e
-text_out_of_memory regex t e h = (0, true, out_of_memory regex _ e h)
-
--- the next search of an iteration over a text is a search of it
-pub text_refused : (regex : Regex) (text : Bool) (t : List ℕ) (r : Request) (c b : Bool) (e : Error) → r ≡ record (whole t) { start = r.start } →
-    refused_next regex text t r c b e → IsRefusedBySearch regex t e
-text_refused regex text t r c b e of_text (at_first x) =
-    (r.start, r.continues && c, subst (λ (q : Request). Refuses regex (asked regex t (record q { start = r.start; continues = r.continues && c })) e) of_text x)
-text_refused regex text t r c b e of_text (at_next i on found empty stops x) =
-    let s = next_place text t r.start in
-    (s, r.continues && false, subst (λ (q : Request). Refuses regex (asked regex t (record q { start = s; continues = r.continues && false })) e) of_text x)
+-- behind one item more the last of them ends
+end_of_more : (x : Item) (xs : List Item) → end_of (xs ++ (x ∷ [])) ≡ stop_of x
+end_of_more x [] = refl
+end_of_more x (y ∷ []) = refl
+end_of_more x (y ∷ (z ∷ zs)) = end_of_more x (z ∷ zs)
 
 no_end : {A : Type 0} (xs : List A) (x : A) → xs ++ (x ∷ []) ≡ [] → ⊥
 no_end [] x e = absurd (cc)
@@ -56,6 +39,7 @@ pub record Goes {R : Type 0} (gave : R → Seen → List ℕ → R → Type 0) (
   pub answers : List (List ℕ)
   pub given : Answers gave first (map (seen_of regex t) done) answers now
   pub joined : (more : List (List ℕ)) → replaced t all (answers ++ more) ≡ out ++ interleaved (pieces t at (map span_of_item todo)) more
+  pub ended : at ≡ end_of done
   pub none : found ≡ false → done ≡ []
   pub some : found ≡ true → done ≡ [] → ⊥
 
@@ -83,6 +67,7 @@ module _ {R : Type 0} (gave : R → Seen → List ℕ → R → Type 0) where
       answers = [];
       given = refl;
       joined = λ more. refl;
+      ended = refl;
       none = λ _. refl;
       some = λ (w : false ≡ true) _. absurd (cc);
     })
@@ -101,6 +86,7 @@ module _ {R : Type 0} (gave : R → Seen → List ℕ → R → Type 0) where
           let before : replaced t all (h.answers ++ (a ∷ others)) ≡ out ++ interleaved (pieces t at (map span_of_item (x ∷ rest))) (a ∷ others) = subst (λ (z : List Item). replaced t all (h.answers ++ (a ∷ others)) ≡ out ++ interleaved (pieces t at (map span_of_item z)) (a ∷ others)) e (h.joined (a ∷ others)) in
           let joined : replaced t all (h.answers ++ (a ∷ others)) ≡ more ++ tail = before ∙ (regroup out (slice_range t at (start_of x)) a tail ∙ ap (λ (z : List ℕ). z ++ tail) (sym m)) in
           ap (replaced t all) (append_assoc h.answers (a ∷ []) others) ∙ (joined ∙ ap (λ (z : ℕ). more ++ interleaved (pieces t z (map span_of_item rest)) others) (sym f));
+      ended = f ∙ sym (end_of_more x h.done);
       none = λ (w : found_one ≡ false). absurd (cc);
       some = λ _ (w : h.done ++ (x ∷ []) ≡ []). no_end h.done x w;
     }
@@ -125,9 +111,14 @@ module _ {R : Type 0} (gave : R → Seen → List ℕ → R → Type 0) where
         let kept : first ≡ now = answers_to_none first now h.answers (subst (λ (z : List Item). Answers gave first (map (seen_of regex t) z) h.answers now) (h.none refl) h.given) in
         rw (over, w) (record { answers = []; given = kept; joined = sym (append-nil _ ∙ whole_of t) })
 
-    -- the calls so far, wherever the replacement stops
-    pub goes_so_far : (all : List Item) (first now : R) (out : List ℕ) (at : ℕ) (found : Bool) (todo : List Item) → Goes gave regex t all first now out at found todo → HasAnswered None gave first now regex t all
-    goes_so_far all first now out at found todo h = record { done = h.done; later = todo; order = h.order; answers = h.answers; given = h.given }
+    -- a refusal between the calls
+    pub goes_stopped : (all : List Item) (first now : R) (out : List ℕ) (at : ℕ) (found : Bool) (todo : List Item) (error : Error) → (error ≡ Memory) ⊎ IsRefusedFrom regex t at todo error → Goes gave regex t all first now out at found todo → IsRefusedBetweenCalls None gave first now regex t all error
+    goes_stopped all first now out at found todo error w h = record {
+      done = h.done;
+      behind = record { later = todo; order = h.order; refused = subst (λ (z : ℕ). (error ≡ Memory) ⊎ IsRefusedFrom regex t z todo error) h.ended w };
+      answers = h.answers;
+      given = h.given;
+    }
 
     -- where no match is left, one was found exactly where there are any
     pub goes_found : (n : ℕ) (matches : List Item) (first now : R) (out : List ℕ) (at : ℕ) (found : Bool) → Goes gave regex t (limited n matches) first now out at found [] → (found ≡ false) ↔ (matches ≡ [])
@@ -182,11 +173,19 @@ same_fills x last regex t all result w =
 pub filled_replaces : {R : Type 0} (gave : R → Seen → List ℕ → R → Type 0) (first : R) (fixed : Option (List ℕ)) (x : List ℕ) (regex : Regex) (t : List ℕ) (all : List Item) (result : List ℕ) → fixed ≡ Some x → result ≡ filled t all x → IsReplaced fixed gave first first regex t all result
 filled_replaces gave first fixed x regex t all result e f = rw e (record { answers = map (λ _. x) all; given = (sym (each_same (seen_of regex t) x all), refl); joined = f })
 
-pub fixed_stays : {R : Type 0} (gave : R → Seen → List ℕ → R → Type 0) (first : R) (fixed : Option (List ℕ)) (x : List ℕ) (regex : Regex) (t : List ℕ) (all : List Item) → fixed ≡ Some x → HasAnswered fixed gave first first regex t all
-fixed_stays gave first fixed x regex t all e = rw e (record { done = []; later = all; order = refl; answers = []; given = (refl, refl) })
+pub fixed_stays : {R : Type 0} (gave : R → Seen → List ℕ → R → Type 0) (first : R) (fixed : Option (List ℕ)) (x : List ℕ) (regex : Regex) (t : List ℕ) (all : List Item) (error : Error) → fixed ≡ Some x → (done : List Item) × IsRefusedBehind regex t all done error → IsRefusedBetweenCalls fixed gave first first regex t all error
+fixed_stays gave first fixed x regex t all error e w = rw e (record { done = w.0; behind = w.1; answers = map (λ _. x) (map (seen_of regex t) w.0); given = (refl, refl) })
+
+-- what was refused behind the items that a text filled
+pub fills_stopped : (x last : List ℕ) (regex : Regex) (t : List ℕ) (all : List Item) (error : Error) → IsRefusedBetweenCalls None SaysItself x last regex t all error → (done : List Item) × IsRefusedBehind regex t all done error
+fills_stopped x last regex t all error w = (w.done, w.behind)
 
 pub one_done : {A : Type 0} (xs rest : List A) (x : A) → xs ≡ x ∷ rest → length rest < length xs
 one_done xs rest x e = rw e (omega arith)
+
+-- how a search is refused depends on the regex and the text
+pub refused_same : (a b : Regex) (t u : List ℕ) (at : ℕ) (items : List Item) (e : Error) → a ≡ b → t ≡ u → (e ≡ Memory) ⊎ IsRefusedFrom a t at items e → (e ≡ Memory) ⊎ IsRefusedFrom b u at items e
+refused_same a b t u at items e p q h = rw (← p, ← q) h
 
 -- what a replacer sees depends on the regex, the text and the match
 pub seen_same : (a b : Regex) (t u : List ℕ) (x : Item) → a ≡ b → t ≡ u → seen_of a t x ≡ seen_of b u x

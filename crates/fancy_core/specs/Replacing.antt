@@ -1,6 +1,7 @@
 -- What matches are replaced by, and what that makes of a text.
-use Rattle.std.specs.Prelude.{◌≡◌, ℕ, Bool, List, [], ◌∷◌, ◌++◌, Option, None, Some, chars, encode_utf8_all, map, true, if◌then◌else◌}
+use Rattle.std.specs.Prelude.{◌≡◌, ◌≤◌, ◌⊎◌, ℕ, Bool, List, [], ◌∷◌, ◌++◌, Option, None, Some, chars, encode_utf8_all, map, true, if◌then◌else◌}
 use Rattle.fancy_syntax.specs.declared.error.Error.{Error}
+use Rattle.fancy_syntax.specs.declared.error.Error.TheVariants.{Memory}
 use Rattle.fancy_input.specs.Requests.{whole}
 use Rattle.fancy_core.specs.declared.regex.Regex.{Regex}
 use Rattle.fancy_core.specs.Escapes.{has_mark}
@@ -9,7 +10,7 @@ use Rattle.fancy_core.specs.GroupTexts.{Seen, captured}
 use Rattle.fancy_core.specs.Groups.{spans_of}
 use Rattle.fancy_core.specs.Left.{matches_of}
 use Rattle.fancy_core.specs.Limited.{Refuses}
-use Rattle.fancy_core.specs.Matching.{Item, span_of_item}
+use Rattle.fancy_core.specs.Matching.{Item, span_of_item, start_of, stop_of}
 use Rattle.fancy_core.specs.Pieces.{pieces, interleaved}
 use Rattle.fancy_core.specs.Regexes.{groups_in, asked}
 use Rattle.fancy_core.specs.Templates.{dollar_syntax}
@@ -55,9 +56,30 @@ filled t items x = replaced t items (map (λ _. x) items)
 abbrev pub all_matches : Regex → List ℕ → List Item
 all_matches regex t = matches_of regex true t (whole t)
 
--- A search of the whole text from some start, with `\G` on or off, may be refused by this error.
-abbrev pub IsRefusedBySearch : Regex → List ℕ → Error → Type 0
-IsRefusedBySearch regex t e = (start : ℕ) × (on : Bool) × Refuses regex (asked regex t (record (whole t) { start = start; continues = on })) e
+-- where the last of these items ends; the start of the text, where there is none
+abbrev pub end_of : List Item → ℕ
+end_of [] = 0
+end_of (x ∷ []) = stop_of x
+end_of (x ∷ (y ∷ ys)) = end_of (y ∷ ys)
+
+-- the first of these items, if there is one, starts at s or later
+abbrev pub StartFrom : ℕ → List Item → Type 0
+StartFrom s [] = Unit {0}
+StartFrom s (x ∷ xs) = s ≤ start_of x
+
+-- The search for these items may be refused by this error: one of the whole text, with `\G` on or off, that starts at `from` or later, and not behind the start of the first of them.
+pub record IsRefusedFrom (regex : Regex) (t : List ℕ) (from : ℕ) (items : List Item) (error : Error) : Type 0 where
+  pub start : ℕ
+  pub on : Bool
+  pub behind : from ≤ start
+  pub before : StartFrom start items
+  pub refused : Refuses regex (asked regex t (record (whole t) { start = start; continues = on })) error
+
+-- A replacement of these items was refused behind those that come first, `done`, and by no call of the replacer: for want of memory, or by the search for the others.
+pub record IsRefusedBehind (regex : Regex) (t : List ℕ) (items done : List Item) (error : Error) : Type 0 where
+  pub later : List Item
+  pub order : items ≡ done ++ later
+  pub refused : (error ≡ Memory) ⊎ IsRefusedFrom regex t (end_of done) later error
 
 -- These items of the text were replaced, and this is what came of it. The answers took the replacer from its first state to its last.
 pub record IsReplaced {R : Type 0} (fixed : Option (List ℕ)) (gave : R → Seen → List ℕ → R → Type 0) (first last : R) (regex : Regex) (t : List ℕ) (items : List Item) (result : List ℕ) : Type 0 where
@@ -65,11 +87,10 @@ pub record IsReplaced {R : Type 0} (fixed : Option (List ℕ)) (gave : R → See
   pub given : AnswersOf fixed gave first (map (seen_of regex t) items) answers last
   pub joined : result ≡ replaced t items answers
 
--- The replacer answered to the items that come first among these, maybe to none and maybe to all, and was called no more: its state is the one that these answers left.
-pub record HasAnswered {R : Type 0} (fixed : Option (List ℕ)) (gave : R → Seen → List ℕ → R → Type 0) (first last : R) (regex : Regex) (t : List ℕ) (items : List Item) : Type 0 where
+-- A replacement of these items was refused between the replacer's calls. The answers to the items that come before took it from its first state to its last.
+pub record IsRefusedBetweenCalls {R : Type 0} (fixed : Option (List ℕ)) (gave : R → Seen → List ℕ → R → Type 0) (first last : R) (regex : Regex) (t : List ℕ) (items : List Item) (error : Error) : Type 0 where
   pub done : List Item
-  pub later : List Item
-  pub order : items ≡ done ++ later
+  pub behind : IsRefusedBehind regex t items done error
   pub answers : List (List ℕ)
   pub given : AnswersOf fixed gave first (map (seen_of regex t) done) answers last
 

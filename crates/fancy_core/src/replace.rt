@@ -1,10 +1,11 @@
 //! Replacing matches.
 
-ghost use Rattle.std.specs.Prelude.{◌≡◌, ◌↔◌, ◌⊎◌, [], true, None, IfOk, IfErr};
+ghost use Rattle.std.specs.Prelude.{◌≡◌, ◌↔◌, ◌⊎◌, [], true, None, List, IfOk, IfErr};
 ghost use Rattle.std.specs.Cow.{cow_str_bytes, IsBorrowedStr};
+ghost use Rattle.fancy_core.specs.Matching.{Item};
 ghost use Rattle.fancy_core.specs.Pieces.{limited};
 ghost use Rattle.fancy_core.specs.Regexes.{options_in};
-ghost use Rattle.fancy_core.specs.Replacing.{HasAnswered, IsReplaced, IsRefusedByReplacer, IsRefusedBySearch, all_matches, filled};
+ghost use Rattle.fancy_core.specs.Replacing.{IsReplaced, IsRefusedBehind, IsRefusedBetweenCalls, IsRefusedByReplacer, all_matches, filled};
 ghost use Rattle.fancy_core.specs.Searching.{Suits};
 
 use crate::regex::Regex;
@@ -31,7 +32,7 @@ impl Regex {
         ensures borrowed { IfOk result (λ t. IsBorrowedStr t ↔ (all_matches self.now text.now ≡ [])) }
         ensures kept { IfOk result (λ t. IsBorrowedStr t → cow_str_bytes t ≡ text.now) }
         ensures text { IfOk result (λ t. (last : R) × IsReplaced (R.fixed replacer) R.appends replacer last self.now text.now (limited 1 (all_matches self.now text.now)) (cow_str_bytes t)) }
-        ensures refused { IfErr result (λ e. IsRefusedBySearch self.now text.now e ⊎ ((last : R) × IsRefusedByReplacer (R.fixed replacer) R.appends R.refuses replacer last self.now text.now (limited 1 (all_matches self.now text.now)) e)) }
+        ensures refused { IfErr result (λ e. (last : R) × (IsRefusedBetweenCalls (R.fixed replacer) R.appends replacer last self.now text.now (limited 1 (all_matches self.now text.now)) e ⊎ IsRefusedByReplacer (R.fixed replacer) R.appends R.refuses replacer last self.now text.now (limited 1 (all_matches self.now text.now)) e)) }
     {
         self.try_replacen(text, 1, replacer)
     }
@@ -51,7 +52,7 @@ impl Regex {
         ensures borrowed { IfOk result (λ t. IsBorrowedStr t ↔ (all_matches self.now text.now ≡ [])) }
         ensures kept { IfOk result (λ t. IsBorrowedStr t → cow_str_bytes t ≡ text.now) }
         ensures text { IfOk result (λ t. (last : R) × IsReplaced (R.fixed replacer) R.appends replacer last self.now text.now (all_matches self.now text.now) (cow_str_bytes t)) }
-        ensures refused { IfErr result (λ e. IsRefusedBySearch self.now text.now e ⊎ ((last : R) × IsRefusedByReplacer (R.fixed replacer) R.appends R.refuses replacer last self.now text.now (all_matches self.now text.now) e)) }
+        ensures refused { IfErr result (λ e. (last : R) × (IsRefusedBetweenCalls (R.fixed replacer) R.appends replacer last self.now text.now (all_matches self.now text.now) e ⊎ IsRefusedByReplacer (R.fixed replacer) R.appends R.refuses replacer last self.now text.now (all_matches self.now text.now) e)) }
     {
         self.try_replacen(text, 0, replacer)
     }
@@ -72,7 +73,7 @@ impl Regex {
         ensures borrowed { IfOk result (λ t. IsBorrowedStr t ↔ (all_matches self.now text.now ≡ [])) }
         ensures kept { IfOk result (λ t. IsBorrowedStr t → cow_str_bytes t ≡ text.now) }
         ensures text { IfOk result (λ t. (last : R) × IsReplaced (R.fixed replacer) R.appends replacer last self.now text.now (limited limit (all_matches self.now text.now)) (cow_str_bytes t)) }
-        ensures refused { IfErr result (λ e. IsRefusedBySearch self.now text.now e ⊎ ((last : R) × IsRefusedByReplacer (R.fixed replacer) R.appends R.refuses replacer last self.now text.now (limited limit (all_matches self.now text.now)) e)) }
+        ensures refused { IfErr result (λ e. (last : R) × (IsRefusedBetweenCalls (R.fixed replacer) R.appends replacer last self.now text.now (limited limit (all_matches self.now text.now)) e ⊎ IsRefusedByReplacer (R.fixed replacer) R.appends R.refuses replacer last self.now text.now (limited limit (all_matches self.now text.now)) e)) }
     {
         self.try_replacen(text, limit, replacer)
     }
@@ -94,7 +95,7 @@ impl Regex {
         ensures borrowed { IfOk result (λ t. IsBorrowedStr t ↔ (all_matches self.now text.now ≡ [])) }
         ensures kept { IfOk result (λ t. IsBorrowedStr t → cow_str_bytes t ≡ text.now) }
         ensures text { IfOk result (λ t. (last : R) × IsReplaced (R.fixed replacer) R.appends replacer last self.now text.now (limited limit (all_matches self.now text.now)) (cow_str_bytes t)) }
-        ensures refused { IfErr result (λ e. IsRefusedBySearch self.now text.now e ⊎ ((last : R) × IsRefusedByReplacer (R.fixed replacer) R.appends R.refuses replacer last self.now text.now (limited limit (all_matches self.now text.now)) e)) }
+        ensures refused { IfErr result (λ e. (last : R) × (IsRefusedBetweenCalls (R.fixed replacer) R.appends replacer last self.now text.now (limited limit (all_matches self.now text.now)) e ⊎ IsRefusedByReplacer (R.fixed replacer) R.appends R.refuses replacer last self.now text.now (limited limit (all_matches self.now text.now)) e)) }
     {
         self.try_replacen_by(text, limit, &mut replacer)
     }
@@ -123,7 +124,7 @@ impl Regex {
         ensures borrowed { IfOk result (λ t. IsBorrowedStr t ↔ (all_matches self.now text.now ≡ [])) }
         ensures kept { IfOk result (λ t. IsBorrowedStr t → cow_str_bytes t ≡ text.now) }
         ensures text { IfOk result (λ t. IsReplaced (R.fixed replacer.old) R.appends replacer.old replacer.new self.now text.now (limited limit (all_matches self.now text.now)) (cow_str_bytes t)) }
-        ensures refused { IfErr result (λ e. (IsRefusedBySearch self.now text.now e × HasAnswered (R.fixed replacer.old) R.appends replacer.old replacer.new self.now text.now (limited limit (all_matches self.now text.now))) ⊎ IsRefusedByReplacer (R.fixed replacer.old) R.appends R.refuses replacer.old replacer.new self.now text.now (limited limit (all_matches self.now text.now)) e) }
+        ensures refused { IfErr result (λ e. IsRefusedBetweenCalls (R.fixed replacer.old) R.appends replacer.old replacer.new self.now text.now (limited limit (all_matches self.now text.now)) e ⊎ IsRefusedByReplacer (R.fixed replacer.old) R.appends R.refuses replacer.old replacer.new self.now text.now (limited limit (all_matches self.now text.now)) e) }
         ensures again { R.callable replacer.new }
     {
         if let Some(fixed) = replacer.fixed_text() {
@@ -138,7 +139,7 @@ impl Regex {
         ensures borrowed { IfOk result (λ t. IsBorrowedStr t ↔ (all_matches self.now text.now ≡ [])) }
         ensures kept { IfOk result (λ t. IsBorrowedStr t → cow_str_bytes t ≡ text.now) }
         ensures text { IfOk result (λ t. cow_str_bytes t ≡ filled text.now (limited limit (all_matches self.now text.now)) fixed.now) }
-        ensures refused { IfErr result (λ e. IsRefusedBySearch self.now text.now e) }
+        ensures refused { IfErr result (λ e. (done : List Item) × IsRefusedBehind self.now text.now (limited limit (all_matches self.now text.now)) done e) }
     {
         let mut rewriting = Rewriting::new(self, text, limit);
         'matches: while let Some(_) = rewriting.next_match()? {
@@ -159,7 +160,7 @@ impl Regex {
         ensures borrowed { IfOk result (λ t. IsBorrowedStr t ↔ (all_matches self.now text.now ≡ [])) }
         ensures kept { IfOk result (λ t. IsBorrowedStr t → cow_str_bytes t ≡ text.now) }
         ensures text { IfOk result (λ t. IsReplaced None R.appends replacer.old replacer.new self.now text.now (limited limit (all_matches self.now text.now)) (cow_str_bytes t)) }
-        ensures refused { IfErr result (λ e. (IsRefusedBySearch self.now text.now e × HasAnswered None R.appends replacer.old replacer.new self.now text.now (limited limit (all_matches self.now text.now))) ⊎ IsRefusedByReplacer None R.appends R.refuses replacer.old replacer.new self.now text.now (limited limit (all_matches self.now text.now)) e) }
+        ensures refused { IfErr result (λ e. IsRefusedBetweenCalls None R.appends replacer.old replacer.new self.now text.now (limited limit (all_matches self.now text.now)) e ⊎ IsRefusedByReplacer None R.appends R.refuses replacer.old replacer.new self.now text.now (limited limit (all_matches self.now text.now)) e) }
         ensures again { R.callable replacer.new }
     {
         let mut rewriting = Rewriting::new(self, text, limit);

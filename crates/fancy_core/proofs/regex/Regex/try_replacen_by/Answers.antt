@@ -8,4 +8,4 @@ returns-in-Some-clause-text g c =
 
 pub returns-in-Some-clause-refused : goal.returns-in-Some-clause-refused
 returns-in-Some-clause-refused g c =
-    if_err _ _ (λ e w. inl (w, fixed_stays _ _ _ c.in-Some.fixed.now _ _ _ (sym c.in-Some.ensures))) c.filled.result c.filled.ensures.refused
+    if_err _ _ (λ e w. inl (fixed_stays _ _ _ c.in-Some.fixed.now _ _ _ e (sym c.in-Some.ensures) w)) c.filled.result c.filled.ensures.refused
