@@ -25,5 +25,6 @@ pub mod SplitLemmas
 pub mod NumberLemmas
 pub mod ExpansionLemmas
 pub mod FixedLemmas
+pub mod RefusedFromLemmas
 pub mod ReplaceLemmas
 pub mod CheckLemmas

@@ -4,37 +4,20 @@ use Rattle.std.specs.Prelude.{MatchBool, ◌↔◌, ◌⊎◌}
 use Rattle.std.proofs.lemmas.List.{map-append}
 use Rattle.fancy_syntax.specs.declared.error.Error.{Error}
 use Rattle.fancy_syntax.specs.declared.error.Error.TheVariants.{Memory}
-use Rattle.fancy_input.specs.declared.input.Request.{Request}
-use Rattle.fancy_input.specs.Requests.{whole}
-use Rattle.fancy_input.specs.Places.{next_place}
-use Rattle.fancy_core.specs.Left.{refused_next, at_first, at_next}
-use Rattle.fancy_core.specs.Limited.{Refuses}
-use Rattle.fancy_core.specs.Regexes.{asked_in_turn}
-use Rattle.fancy_engine.specs.Search.{Query}
 use Rattle.fancy_engine.specs.Context.{Span}
 use Rattle.fancy_core.specs.declared.regex.Regex.{Regex}
 use Rattle.fancy_core.specs.GroupTexts.{Seen}
 use Rattle.fancy_core.specs.Matching.{Item, span_of_item, start_of, stop_of}
 use Rattle.fancy_core.specs.Pieces.{pieces, interleaved, limited}
-use Rattle.fancy_core.specs.Replacing.{Answers, IsReplaced, IsRefusedByReplacer, IsRefusedBySearch, replaced, filled, seen_of}
+use Rattle.fancy_core.specs.Replacing.{Answers, IsReplaced, IsRefusedFrom, IsRefusedBehind, IsRefusedBetweenCalls, IsRefusedByReplacer, end_of, replaced, filled, seen_of}
 use Rattle.fancy_core.specs.Limits.{up_to, is_reached, one_fewer}
 use Rattle.fancy_core.proofs.PieceLemmas.{whole_of}
 
--- memory may run out in any search
-pub out_of_memory : (regex : Regex) (q : Query) (e : Error) → e ≡ Memory → Refuses regex q e
-out_of_memory regex q e h = subst (Refuses regex q) (sym h) tt
-
-pub text_out_of_memory : (regex : Regex) (t : List ℕ) (e : Error) → e ≡ Memory → IsRefusedBySearch regex t e
-text_out_of_memory regex t e h = (0, true, out_of_memory regex _ e h)
-
--- the next search of an iteration over a text is a search of it
-pub text_refused : (regex : Regex) (text : Bool) (t : List ℕ) (r : Request) (c b : Bool) (e : Error) → r ≡ record (whole t) { start = r.start } →
-    refused_next regex text t r c b e → IsRefusedBySearch regex t e
-text_refused regex text t r c b e of_text (at_first x) =
-    (r.start, c, subst (λ (q : Request). Refuses regex (asked_in_turn regex t (record q { start = r.start }) c) e) of_text x)
-text_refused regex text t r c b e of_text (at_next i on found empty stops x) =
-    let s = next_place text t r.start in
-    (s, false, subst (λ (q : Request). Refuses regex (asked_in_turn regex t (record q { start = s }) false) e) of_text x)
+-- behind one item more the last of them ends
+end_of_more : (x : Item) (xs : List Item) → end_of (xs ++ (x ∷ [])) ≡ stop_of x
+end_of_more x [] = refl
+end_of_more x (y ∷ []) = refl
+end_of_more x (y ∷ (z ∷ zs)) = end_of_more x (z ∷ zs)
 
 no_end : {A : Type 0} (xs : List A) (x : A) → xs ++ (x ∷ []) ≡ [] → ⊥
 no_end [] x e = absurd (cc)
@@ -56,6 +39,7 @@ pub record Goes {R : Type 0} (gave : R → Seen → List ℕ → R → Type 0) (
   pub answers : List (List ℕ)
   pub given : Answers gave first (map (seen_of regex t) done) answers now
   pub joined : (more : List (List ℕ)) → replaced t all (answers ++ more) ≡ out ++ interleaved (pieces t at (map span_of_item todo)) more
+  pub ended : at ≡ end_of done
   pub none : found ≡ false → done ≡ []
   pub some : found ≡ true → done ≡ [] → ⊥
 
@@ -70,6 +54,11 @@ module _ {R : Type 0} (gave : R → Seen → List ℕ → R → Type 0) where
   answers_more first now next x a (y ∷ xs) [] h g = absurd h
   answers_more first now next x a (y ∷ xs) (b ∷ answers) (middle, here, behind) g = (middle, here, answers_more middle now next x a xs answers behind g)
 
+  -- with no match nothing is called
+  answers_to_none : (first now : R) (answers : List (List ℕ)) → Answers gave first [] answers now → first ≡ now
+  answers_to_none first now [] h = h
+  answers_to_none first now (a ∷ answers) h = absurd h
+
   module _ (regex : Regex) (t : List ℕ) where
     pub goes_first : (all todo : List Item) (r : R) (out : List ℕ) (at : ℕ) (found : Bool) → todo ≡ all → out ≡ [] → at ≡ 0 → found ≡ false → Goes gave regex t all r r out at found todo
     goes_first all todo r out at found e f g h = rw (e, f, g, h) (record {
@@ -78,6 +67,7 @@ module _ {R : Type 0} (gave : R → Seen → List ℕ → R → Type 0) where
       answers = [];
       given = refl;
       joined = λ more. refl;
+      ended = refl;
       none = λ _. refl;
       some = λ (w : false ≡ true) _. absurd (cc);
     })
@@ -96,6 +86,7 @@ module _ {R : Type 0} (gave : R → Seen → List ℕ → R → Type 0) where
           let before : replaced t all (h.answers ++ (a ∷ others)) ≡ out ++ interleaved (pieces t at (map span_of_item (x ∷ rest))) (a ∷ others) = subst (λ (z : List Item). replaced t all (h.answers ++ (a ∷ others)) ≡ out ++ interleaved (pieces t at (map span_of_item z)) (a ∷ others)) e (h.joined (a ∷ others)) in
           let joined : replaced t all (h.answers ++ (a ∷ others)) ≡ more ++ tail = before ∙ (regroup out (slice_range t at (start_of x)) a tail ∙ ap (λ (z : List ℕ). z ++ tail) (sym m)) in
           ap (replaced t all) (append_assoc h.answers (a ∷ []) others) ∙ (joined ∙ ap (λ (z : ℕ). more ++ interleaved (pieces t z (map span_of_item rest)) others) (sym f));
+      ended = f ∙ sym (end_of_more x h.done);
       none = λ (w : found_one ≡ false). absurd (cc);
       some = λ _ (w : h.done ++ (x ∷ []) ≡ []). no_end h.done x w;
     }
@@ -107,17 +98,27 @@ module _ {R : Type 0} (gave : R → Seen → List ℕ → R → Type 0) where
     done_is_all : (all : List Item) (first now : R) (out : List ℕ) (at : ℕ) (found : Bool) (h : Goes gave regex t all first now out at found []) → all ≡ h.done
     done_is_all all first now out at found h = h.order ∙ append-nil h.done
 
-    pub goes_last : (all : List Item) (first now : R) (out result : List ℕ) (at : ℕ) (found : Bool) → MatchBool found (result ≡ out ++ slice_range t at (length t)) (result ≡ t) → Goes gave regex t all first now out at found [] → IsReplaced None gave first regex t all result
+    pub goes_last : (all : List Item) (first now : R) (out result : List ℕ) (at : ℕ) (found : Bool) → MatchBool found (result ≡ out ++ slice_range t at (length t)) (result ≡ t) → Goes gave regex t all first now out at found [] → IsReplaced None gave first now regex t all result
     goes_last all first now out result at true w h =
         let over : all ≡ h.done = done_is_all all first now out at true h in
         record {
           answers = h.answers;
-          given = (now, subst (λ (z : List Item). Answers gave first (map (seen_of regex t) z) h.answers now) (sym over) h.given);
+          given = subst (λ (z : List Item). Answers gave first (map (seen_of regex t) z) h.answers now) (sym over) h.given;
           joined = w ∙ (ap (λ (z : List ℕ). out ++ z) (sym (append-nil (slice_range t at (length t)))) ∙ (sym (h.joined []) ∙ ap (replaced t all) (append-nil h.answers)));
         }
     goes_last all first now out result at false w h =
         let over : all ≡ [] = done_is_all all first now out at false h ∙ h.none refl in
-        rw (over, w) (record { answers = []; given = (first, refl); joined = sym (append-nil _ ∙ whole_of t) })
+        let kept : first ≡ now = answers_to_none first now h.answers (subst (λ (z : List Item). Answers gave first (map (seen_of regex t) z) h.answers now) (h.none refl) h.given) in
+        rw (over, w) (record { answers = []; given = kept; joined = sym (append-nil _ ∙ whole_of t) })
+
+    -- a refusal between the calls
+    pub goes_stopped : (all : List Item) (first now : R) (out : List ℕ) (at : ℕ) (found : Bool) (todo : List Item) (error : Error) → (error ≡ Memory) ⊎ IsRefusedFrom regex t at todo error → Goes gave regex t all first now out at found todo → IsRefusedBetweenCalls None gave first now regex t all error
+    goes_stopped all first now out at found todo error w h = record {
+      done = h.done;
+      behind = record { later = todo; order = h.order; refused = subst (λ (z : ℕ). (error ≡ Memory) ⊎ IsRefusedFrom regex t z todo error) h.ended w };
+      answers = h.answers;
+      given = h.given;
+    }
 
     -- where no match is left, one was found exactly where there are any
     pub goes_found : (n : ℕ) (matches : List Item) (first now : R) (out : List ℕ) (at : ℕ) (found : Bool) → Goes gave regex t (limited n matches) first now out at found [] → (found ≡ false) ↔ (matches ≡ [])
@@ -127,9 +128,9 @@ module _ {R : Type 0} (gave : R → Seen → List ℕ → R → Type 0) where
         (λ _. limited_none n matches (done_is_all (limited n matches) first now out at false h ∙ h.none refl), λ _. refl)
 
     -- a call that refuses, of a replacer with no one text for all matches
-    pub goes_refused : (refuses : R → Seen → Error → Type 0) (all : List Item) (first now : R) (out : List ℕ) (at : ℕ) (found : Bool) (x : Item) (todo rest : List Item) (seen : Seen) (error : Error) → todo ≡ x ∷ rest → seen ≡ seen_of regex t x → refuses now seen error
-        → Goes gave regex t all first now out at found todo → IsRefusedByReplacer None gave refuses first regex t all error
-    goes_refused refuses all first now out at found x todo rest seen error e s r h = record {
+    pub goes_refused : (refuses : R → Seen → Error → R → Type 0) (all : List Item) (first now last : R) (out : List ℕ) (at : ℕ) (found : Bool) (x : Item) (todo rest : List Item) (seen : Seen) (error : Error) → todo ≡ x ∷ rest → seen ≡ seen_of regex t x → refuses now seen error last
+        → Goes gave regex t all first now out at found todo → IsRefusedByReplacer None gave refuses first last regex t all error
+    goes_refused refuses all first now last out at found x todo rest seen error e s r h = record {
       unfixed = refl;
       done = h.done;
       next = x;
@@ -138,7 +139,7 @@ module _ {R : Type 0} (gave : R → Seen → List ℕ → R → Type 0) where
       answers = h.answers;
       state = now;
       given = h.given;
-      refused = subst (λ (z : Seen). refuses now z error) s r;
+      refused = subst (λ (z : Seen). refuses now z error last) s r;
     }
 
 pub one_taken : {A : Type 0} (left : Option ℕ) (xs ys : List A) (x : A) → is_reached left ≡ false → xs ≡ x ∷ ys → up_to left xs ≡ x ∷ up_to (one_fewer left) ys
@@ -164,15 +165,27 @@ each_same f x [] = refl
 each_same f x (y ∷ xs) = ap (λ (z : List _). x ∷ z) (each_same f x xs)
 
 -- one text for all matches makes the text that is filled with it
-pub same_fills : (x : List ℕ) (regex : Regex) (t : List ℕ) (all : List Item) (result : List ℕ) → IsReplaced None SaysItself x regex t all result → result ≡ filled t all x
-same_fills x regex t all result w =
-    w.joined ∙ ap (replaced t all) (same_answers x x refl (map (seen_of regex t) all) w.answers w.given.0 w.given.1 ∙ each_same (seen_of regex t) x all)
+pub same_fills : (x last : List ℕ) (regex : Regex) (t : List ℕ) (all : List Item) (result : List ℕ) → IsReplaced None SaysItself x last regex t all result → result ≡ filled t all x
+same_fills x last regex t all result w =
+    w.joined ∙ ap (replaced t all) (same_answers x x refl (map (seen_of regex t) all) w.answers last w.given ∙ each_same (seen_of regex t) x all)
 
-pub filled_replaces : {R : Type 0} (gave : R → Seen → List ℕ → R → Type 0) (first : R) (fixed : Option (List ℕ)) (x : List ℕ) (regex : Regex) (t : List ℕ) (all : List Item) (result : List ℕ) → fixed ≡ Some x → result ≡ filled t all x → IsReplaced fixed gave first regex t all result
-filled_replaces gave first fixed x regex t all result e f = rw e (record { answers = map (λ _. x) all; given = sym (each_same (seen_of regex t) x all); joined = f })
+-- a replacer with one text for all matches is not called
+pub filled_replaces : {R : Type 0} (gave : R → Seen → List ℕ → R → Type 0) (first : R) (fixed : Option (List ℕ)) (x : List ℕ) (regex : Regex) (t : List ℕ) (all : List Item) (result : List ℕ) → fixed ≡ Some x → result ≡ filled t all x → IsReplaced fixed gave first first regex t all result
+filled_replaces gave first fixed x regex t all result e f = rw e (record { answers = map (λ _. x) all; given = (sym (each_same (seen_of regex t) x all), refl); joined = f })
+
+pub fixed_stays : {R : Type 0} (gave : R → Seen → List ℕ → R → Type 0) (first : R) (fixed : Option (List ℕ)) (x : List ℕ) (regex : Regex) (t : List ℕ) (all : List Item) (error : Error) → fixed ≡ Some x → (done : List Item) × IsRefusedBehind regex t all done error → IsRefusedBetweenCalls fixed gave first first regex t all error
+fixed_stays gave first fixed x regex t all error e w = rw e (record { done = w.0; behind = w.1; answers = map (λ _. x) (map (seen_of regex t) w.0); given = (refl, refl) })
+
+-- what was refused behind the items that a text filled
+pub fills_stopped : (x last : List ℕ) (regex : Regex) (t : List ℕ) (all : List Item) (error : Error) → IsRefusedBetweenCalls None SaysItself x last regex t all error → (done : List Item) × IsRefusedBehind regex t all done error
+fills_stopped x last regex t all error w = (w.done, w.behind)
 
 pub one_done : {A : Type 0} (xs rest : List A) (x : A) → xs ≡ x ∷ rest → length rest < length xs
 one_done xs rest x e = rw e (omega arith)
+
+-- how a search is refused depends on the regex and the text
+pub refused_same : (a b : Regex) (t u : List ℕ) (at : ℕ) (items : List Item) (e : Error) → a ≡ b → t ≡ u → (e ≡ Memory) ⊎ IsRefusedFrom a t at items e → (e ≡ Memory) ⊎ IsRefusedFrom b u at items e
+refused_same a b t u at items e p q h = rw (← p, ← q) h
 
 -- what a replacer sees depends on the regex, the text and the match
 pub seen_same : (a b : Regex) (t u : List ℕ) (x : Item) → a ≡ b → t ≡ u → seen_of a t x ≡ seen_of b u x

@@ -1,6 +1,7 @@
 -- What matches are replaced by, and what that makes of a text.
-use Rattle.std.specs.Prelude.{◌≡◌, ℕ, Bool, List, [], ◌∷◌, ◌++◌, Option, None, Some, chars, encode_utf8_all, map, true, if◌then◌else◌}
+use Rattle.std.specs.Prelude.{◌≡◌, ◌≤◌, ◌⊎◌, ℕ, Bool, List, [], ◌∷◌, ◌++◌, Option, None, Some, chars, encode_utf8_all, map, true, if◌then◌else◌}
 use Rattle.fancy_syntax.specs.declared.error.Error.{Error}
+use Rattle.fancy_syntax.specs.declared.error.Error.TheVariants.{Memory}
 use Rattle.fancy_input.specs.Requests.{whole}
 use Rattle.fancy_core.specs.declared.regex.Regex.{Regex}
 use Rattle.fancy_core.specs.Escapes.{has_mark}
@@ -9,7 +10,7 @@ use Rattle.fancy_core.specs.GroupTexts.{Seen, captured}
 use Rattle.fancy_core.specs.Groups.{spans_of}
 use Rattle.fancy_core.specs.Left.{matches_of}
 use Rattle.fancy_core.specs.Limited.{Refuses}
-use Rattle.fancy_core.specs.Matching.{Item, span_of_item}
+use Rattle.fancy_core.specs.Matching.{Item, span_of_item, start_of, stop_of}
 use Rattle.fancy_core.specs.Pieces.{pieces, interleaved}
 use Rattle.fancy_core.specs.Regexes.{groups_in, asked_in_turn}
 use Rattle.fancy_core.specs.Templates.{dollar_syntax}
@@ -38,10 +39,10 @@ Answers gave r [] (a ∷ answers) last = ⊥
 Answers gave r (x ∷ xs) [] last = ⊥
 Answers gave r (x ∷ xs) (a ∷ answers) last = (next : _) × gave r x a next × Answers gave next xs answers last
 
--- the answers of a replacer: its one text for all matches where it has one, else those of its calls
-abbrev pub AnswersOf : {R : Type 0} → Option (List ℕ) → (R → Seen → List ℕ → R → Type 0) → R → List Seen → List (List ℕ) → Type 0
-AnswersOf (Some x) gave r xs answers = answers ≡ map (λ _. x) xs
-AnswersOf None gave r xs answers = (last : _) × Answers gave r xs answers last
+-- The answers of a replacer to these matches, and the state that they leave it in: its one text for each where it has one for all, which leaves it as it was; else those of its calls.
+abbrev pub AnswersOf : {R : Type 0} → Option (List ℕ) → (R → Seen → List ℕ → R → Type 0) → R → List Seen → List (List ℕ) → R → Type 0
+AnswersOf (Some x) gave first xs answers last = (answers ≡ map (λ _. x) xs) × (last ≡ first)
+AnswersOf None gave first xs answers last = Answers gave first xs answers last
 
 -- the text with answers in the place of the items
 abbrev pub replaced : List ℕ → List Item → List (List ℕ) → List ℕ
@@ -55,18 +56,46 @@ filled t items x = replaced t items (map (λ _. x) items)
 abbrev pub all_matches : Regex → List ℕ → List Item
 all_matches regex t = matches_of regex true t (whole t)
 
--- A search of the whole text from some start, with `\G` on or off, may be refused by this error.
-abbrev pub IsRefusedBySearch : Regex → List ℕ → Error → Type 0
-IsRefusedBySearch regex t e = (start : ℕ) × (on : Bool) × Refuses regex (asked_in_turn regex t (record (whole t) { start = start }) on) e
+-- where the last of these items ends; the start of the text, where there is none
+abbrev pub end_of : List Item → ℕ
+end_of [] = 0
+end_of (x ∷ []) = stop_of x
+end_of (x ∷ (y ∷ ys)) = end_of (y ∷ ys)
 
--- These items of the text were replaced, and this is what came of it.
-pub record IsReplaced {R : Type 0} (fixed : Option (List ℕ)) (gave : R → Seen → List ℕ → R → Type 0) (first : R) (regex : Regex) (t : List ℕ) (items : List Item) (result : List ℕ) : Type 0 where
+-- the first of these items, if there is one, starts at s or later
+abbrev pub StartFrom : ℕ → List Item → Type 0
+StartFrom s [] = Unit {0}
+StartFrom s (x ∷ xs) = s ≤ start_of x
+
+-- The search for these items may be refused by this error: one of the whole text, with `\G` on or off, that starts at `from` or later, and not behind the start of the first of them.
+pub record IsRefusedFrom (regex : Regex) (t : List ℕ) (from : ℕ) (items : List Item) (error : Error) : Type 0 where
+  pub start : ℕ
+  pub on : Bool
+  pub behind : from ≤ start
+  pub before : StartFrom start items
+  pub refused : Refuses regex (asked_in_turn regex t (record (whole t) { start = start }) on) error
+
+-- A replacement of these items was refused behind those that come first, `done`, and by no call of the replacer: for want of memory, or by the search for the others.
+pub record IsRefusedBehind (regex : Regex) (t : List ℕ) (items done : List Item) (error : Error) : Type 0 where
+  pub later : List Item
+  pub order : items ≡ done ++ later
+  pub refused : (error ≡ Memory) ⊎ IsRefusedFrom regex t (end_of done) later error
+
+-- These items of the text were replaced, and this is what came of it. The answers took the replacer from its first state to its last.
+pub record IsReplaced {R : Type 0} (fixed : Option (List ℕ)) (gave : R → Seen → List ℕ → R → Type 0) (first last : R) (regex : Regex) (t : List ℕ) (items : List Item) (result : List ℕ) : Type 0 where
   pub answers : List (List ℕ)
-  pub given : AnswersOf fixed gave first (map (seen_of regex t) items) answers
+  pub given : AnswersOf fixed gave first (map (seen_of regex t) items) answers last
   pub joined : result ≡ replaced t items answers
 
--- A call for one of these items refused with this error. There is no one text for all matches; the calls for the items before answered, in order from the first state on, and in the state that they left the call for the next item refuses.
-pub record IsRefusedByReplacer {R : Type 0} (fixed : Option (List ℕ)) (gave : R → Seen → List ℕ → R → Type 0) (refuses : R → Seen → Error → Type 0) (first : R) (regex : Regex) (t : List ℕ) (items : List Item) (error : Error) : Type 0 where
+-- A replacement of these items was refused between the replacer's calls. The answers to the items that come before took it from its first state to its last.
+pub record IsRefusedBetweenCalls {R : Type 0} (fixed : Option (List ℕ)) (gave : R → Seen → List ℕ → R → Type 0) (first last : R) (regex : Regex) (t : List ℕ) (items : List Item) (error : Error) : Type 0 where
+  pub done : List Item
+  pub behind : IsRefusedBehind regex t items done error
+  pub answers : List (List ℕ)
+  pub given : AnswersOf fixed gave first (map (seen_of regex t) done) answers last
+
+-- A call for one of these items refused with this error. There is no one text for all matches; the calls for the items before answered, in order from the first state on, and in the state that they left the call for the next item refuses, which leaves the last state.
+pub record IsRefusedByReplacer {R : Type 0} (fixed : Option (List ℕ)) (gave : R → Seen → List ℕ → R → Type 0) (refuses : R → Seen → Error → R → Type 0) (first last : R) (regex : Regex) (t : List ℕ) (items : List Item) (error : Error) : Type 0 where
   pub unfixed : fixed ≡ None
   pub done : List Item
   pub next : Item
@@ -75,4 +104,4 @@ pub record IsRefusedByReplacer {R : Type 0} (fixed : Option (List ℕ)) (gave : 
   pub answers : List (List ℕ)
   pub state : R
   pub given : Answers gave first (map (seen_of regex t) done) answers state
-  pub refused : refuses state (seen_of regex t next) error
+  pub refused : refuses state (seen_of regex t next) error last

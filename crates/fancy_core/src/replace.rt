@@ -1,10 +1,11 @@
 //! Replacing matches.
 
-ghost use Rattle.std.specs.Prelude.{◌≡◌, ◌↔◌, ◌⊎◌, [], true, None, IfOk, IfErr, OnOk};
+ghost use Rattle.std.specs.Prelude.{◌≡◌, ◌↔◌, ◌⊎◌, [], true, None, List, IfOk, IfErr};
 ghost use Rattle.std.specs.Cow.{cow_str_bytes, IsBorrowedStr};
+ghost use Rattle.fancy_core.specs.Matching.{Item};
 ghost use Rattle.fancy_core.specs.Pieces.{limited};
 ghost use Rattle.fancy_core.specs.Regexes.{options_in};
-ghost use Rattle.fancy_core.specs.Replacing.{IsReplaced, IsRefusedByReplacer, IsRefusedBySearch, all_matches, filled};
+ghost use Rattle.fancy_core.specs.Replacing.{IsReplaced, IsRefusedBehind, IsRefusedBetweenCalls, IsRefusedByReplacer, all_matches, filled};
 ghost use Rattle.fancy_core.specs.Searching.{Suits};
 
 use crate::regex::Regex;
@@ -30,8 +31,8 @@ impl Regex {
         requires callable { R.callable replacer }
         ensures borrowed { IfOk result (λ t. IsBorrowedStr t ↔ (all_matches self.now text.now ≡ [])) }
         ensures kept { IfOk result (λ t. IsBorrowedStr t → cow_str_bytes t ≡ text.now) }
-        ensures text { IfOk result (λ t. IsReplaced (R.fixed replacer) R.appends replacer self.now text.now (limited 1 (all_matches self.now text.now)) (cow_str_bytes t)) }
-        ensures refused { IfErr result (λ e. IsRefusedBySearch self.now text.now e ⊎ IsRefusedByReplacer (R.fixed replacer) R.appends R.refuses replacer self.now text.now (limited 1 (all_matches self.now text.now)) e) }
+        ensures text { IfOk result (λ t. (last : R) × IsReplaced (R.fixed replacer) R.appends replacer last self.now text.now (limited 1 (all_matches self.now text.now)) (cow_str_bytes t)) }
+        ensures refused { IfErr result (λ e. (last : R) × (IsRefusedBetweenCalls (R.fixed replacer) R.appends replacer last self.now text.now (limited 1 (all_matches self.now text.now)) e ⊎ IsRefusedByReplacer (R.fixed replacer) R.appends R.refuses replacer last self.now text.now (limited 1 (all_matches self.now text.now)) e)) }
     {
         self.try_replacen(text, 1, replacer)
     }
@@ -50,8 +51,8 @@ impl Regex {
         requires callable { R.callable replacer }
         ensures borrowed { IfOk result (λ t. IsBorrowedStr t ↔ (all_matches self.now text.now ≡ [])) }
         ensures kept { IfOk result (λ t. IsBorrowedStr t → cow_str_bytes t ≡ text.now) }
-        ensures text { IfOk result (λ t. IsReplaced (R.fixed replacer) R.appends replacer self.now text.now (all_matches self.now text.now) (cow_str_bytes t)) }
-        ensures refused { IfErr result (λ e. IsRefusedBySearch self.now text.now e ⊎ IsRefusedByReplacer (R.fixed replacer) R.appends R.refuses replacer self.now text.now (all_matches self.now text.now) e) }
+        ensures text { IfOk result (λ t. (last : R) × IsReplaced (R.fixed replacer) R.appends replacer last self.now text.now (all_matches self.now text.now) (cow_str_bytes t)) }
+        ensures refused { IfErr result (λ e. (last : R) × (IsRefusedBetweenCalls (R.fixed replacer) R.appends replacer last self.now text.now (all_matches self.now text.now) e ⊎ IsRefusedByReplacer (R.fixed replacer) R.appends R.refuses replacer last self.now text.now (all_matches self.now text.now) e)) }
     {
         self.try_replacen(text, 0, replacer)
     }
@@ -71,8 +72,8 @@ impl Regex {
         requires callable { R.callable replacer }
         ensures borrowed { IfOk result (λ t. IsBorrowedStr t ↔ (all_matches self.now text.now ≡ [])) }
         ensures kept { IfOk result (λ t. IsBorrowedStr t → cow_str_bytes t ≡ text.now) }
-        ensures text { IfOk result (λ t. IsReplaced (R.fixed replacer) R.appends replacer self.now text.now (limited limit (all_matches self.now text.now)) (cow_str_bytes t)) }
-        ensures refused { IfErr result (λ e. IsRefusedBySearch self.now text.now e ⊎ IsRefusedByReplacer (R.fixed replacer) R.appends R.refuses replacer self.now text.now (limited limit (all_matches self.now text.now)) e) }
+        ensures text { IfOk result (λ t. (last : R) × IsReplaced (R.fixed replacer) R.appends replacer last self.now text.now (limited limit (all_matches self.now text.now)) (cow_str_bytes t)) }
+        ensures refused { IfErr result (λ e. (last : R) × (IsRefusedBetweenCalls (R.fixed replacer) R.appends replacer last self.now text.now (limited limit (all_matches self.now text.now)) e ⊎ IsRefusedByReplacer (R.fixed replacer) R.appends R.refuses replacer last self.now text.now (limited limit (all_matches self.now text.now)) e)) }
     {
         self.try_replacen(text, limit, replacer)
     }
@@ -93,13 +94,43 @@ impl Regex {
         requires callable { R.callable replacer }
         ensures borrowed { IfOk result (λ t. IsBorrowedStr t ↔ (all_matches self.now text.now ≡ [])) }
         ensures kept { IfOk result (λ t. IsBorrowedStr t → cow_str_bytes t ≡ text.now) }
-        ensures text { IfOk result (λ t. IsReplaced (R.fixed replacer) R.appends replacer self.now text.now (limited limit (all_matches self.now text.now)) (cow_str_bytes t)) }
-        ensures refused { IfErr result (λ e. IsRefusedBySearch self.now text.now e ⊎ IsRefusedByReplacer (R.fixed replacer) R.appends R.refuses replacer self.now text.now (limited limit (all_matches self.now text.now)) e) }
+        ensures text { IfOk result (λ t. (last : R) × IsReplaced (R.fixed replacer) R.appends replacer last self.now text.now (limited limit (all_matches self.now text.now)) (cow_str_bytes t)) }
+        ensures refused { IfErr result (λ e. (last : R) × (IsRefusedBetweenCalls (R.fixed replacer) R.appends replacer last self.now text.now (limited limit (all_matches self.now text.now)) e ⊎ IsRefusedByReplacer (R.fixed replacer) R.appends R.refuses replacer last self.now text.now (limited limit (all_matches self.now text.now)) e)) }
+    {
+        self.try_replacen_by(text, limit, &mut replacer)
+    }
+
+    /// The text with the first `limit` matches replaced, and with all of them where `limit` is 0, by a replacer that is
+    /// lent.
+    ///
+    /// It is [`Regex::try_replacen`] by a `&mut`: the replacer is left in the state that its last call left, so that it can go on
+    /// from there. One with one text for all matches is not called, and stays as it was. After an error of a search, or where memory
+    /// ran out, the calls for the matches before were made and no other; after an error of the replacer it is in the state
+    /// that this call left. It may be called again in each case.
+    ///
+    /// ```text
+    /// // a replacer that counts its calls, on a|b
+    /// regex.try_replacen_by("xab", 0, &mut count)  // "x12"
+    /// regex.try_replacen_by("bxa", 1, &mut count)  // "3xa"
+    /// ```
+    pub fn try_replacen_by<'t, R: Replacer>(
+        &self,
+        text: &'t str,
+        limit: usize,
+        replacer: &mut R,
+    ) -> Result<CowStr<'t, Global>>
+        requires suits { Suits (options_in self.now) true text.now }
+        requires callable { R.callable replacer.old }
+        ensures borrowed { IfOk result (λ t. IsBorrowedStr t ↔ (all_matches self.now text.now ≡ [])) }
+        ensures kept { IfOk result (λ t. IsBorrowedStr t → cow_str_bytes t ≡ text.now) }
+        ensures text { IfOk result (λ t. IsReplaced (R.fixed replacer.old) R.appends replacer.old replacer.new self.now text.now (limited limit (all_matches self.now text.now)) (cow_str_bytes t)) }
+        ensures refused { IfErr result (λ e. IsRefusedBetweenCalls (R.fixed replacer.old) R.appends replacer.old replacer.new self.now text.now (limited limit (all_matches self.now text.now)) e ⊎ IsRefusedByReplacer (R.fixed replacer.old) R.appends R.refuses replacer.old replacer.new self.now text.now (limited limit (all_matches self.now text.now)) e) }
+        ensures again { R.callable replacer.new }
     {
         if let Some(fixed) = replacer.fixed_text() {
             return self.filled(text, limit, fixed);
         }
-        self.rewritten(text, limit, &mut replacer)
+        self.rewritten(text, limit, replacer)
     }
 
     /// The text with this one in the place of the first matches. No groups are collected.
@@ -108,7 +139,7 @@ impl Regex {
         ensures borrowed { IfOk result (λ t. IsBorrowedStr t ↔ (all_matches self.now text.now ≡ [])) }
         ensures kept { IfOk result (λ t. IsBorrowedStr t → cow_str_bytes t ≡ text.now) }
         ensures text { IfOk result (λ t. cow_str_bytes t ≡ filled text.now (limited limit (all_matches self.now text.now)) fixed.now) }
-        ensures refused { IfErr result (λ e. IsRefusedBySearch self.now text.now e) }
+        ensures refused { IfErr result (λ e. (done : List Item) × IsRefusedBehind self.now text.now (limited limit (all_matches self.now text.now)) done e) }
     {
         let mut rewriting = Rewriting::new(self, text, limit);
         'matches: while let Some(_) = rewriting.next_match()? {
@@ -128,9 +159,9 @@ impl Regex {
         requires callable { R.callable replacer.old }
         ensures borrowed { IfOk result (λ t. IsBorrowedStr t ↔ (all_matches self.now text.now ≡ [])) }
         ensures kept { IfOk result (λ t. IsBorrowedStr t → cow_str_bytes t ≡ text.now) }
-        ensures text { IfOk result (λ t. IsReplaced None R.appends replacer.old self.now text.now (limited limit (all_matches self.now text.now)) (cow_str_bytes t)) }
-        ensures refused { IfErr result (λ e. IsRefusedBySearch self.now text.now e ⊎ IsRefusedByReplacer None R.appends R.refuses replacer.old self.now text.now (limited limit (all_matches self.now text.now)) e) }
-        ensures again { OnOk result (R.callable replacer.new) }
+        ensures text { IfOk result (λ t. IsReplaced None R.appends replacer.old replacer.new self.now text.now (limited limit (all_matches self.now text.now)) (cow_str_bytes t)) }
+        ensures refused { IfErr result (λ e. IsRefusedBetweenCalls None R.appends replacer.old replacer.new self.now text.now (limited limit (all_matches self.now text.now)) e ⊎ IsRefusedByReplacer None R.appends R.refuses replacer.old replacer.new self.now text.now (limited limit (all_matches self.now text.now)) e) }
+        ensures again { R.callable replacer.new }
     {
         let mut rewriting = Rewriting::new(self, text, limit);
         'matches: while let Some(item) = rewriting.next_match()? {

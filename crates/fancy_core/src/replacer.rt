@@ -34,15 +34,16 @@ pub trait Replacer {
     // What a call may append: the state before, the match, the text, and the state after.
     ghost appends: { Self → Seen → List ℕ → Self → Type 0 };
 
-    // What a call may refuse with.
-    ghost refuses: { Self → Seen → Refusal → Type 0 };
+    // What a call may refuse with: the state before, the match, the error, and the state after.
+    ghost refuses: { Self → Seen → Refusal → Self → Type 0 };
 
-    /// Appends the text that the match is replaced by. A refusal leaves `dst` as it was.
+    /// Appends the text that the match is replaced by. A refusal leaves `dst` as it was, and the replacer in a state in
+    /// which it may be called again.
     fn replace_append(&mut self, captures: &Captures<'_, &str>, dst: &mut String) -> Result<()>
         requires { callable self.old }
         ensures ok { OnOk result ((text : List ℕ) × (string_bytes dst.new ≡ string_bytes dst.old ++ text) × appends self.old (seen_in bytes_of_str captures.now) text self.new) }
         ensures kept { OnErr result (string_bytes dst.new ≡ string_bytes dst.old) }
-        ensures refused { IfErr result (λ e. refuses self.old (seen_in bytes_of_str captures.now) e) }
+        ensures refused { IfErr result (λ e. refuses self.old (seen_in bytes_of_str captures.now) e self.new) }
         ensures again { callable self.new };
 
     /// The text for all matches, if there is one. It is asked for once, before the first search.

@@ -10,7 +10,7 @@ ghost use Rattle.fancy_core.specs.Limits.{is_reached};
 ghost use Rattle.fancy_core.specs.Matching.{start_of, stop_of};
 ghost use Rattle.fancy_core.specs.Pieces.{limited};
 ghost use Rattle.fancy_core.specs.Regexes.{options_in};
-ghost use Rattle.fancy_core.specs.Replacing.{all_matches, seen_of, IsRefusedBySearch};
+ghost use Rattle.fancy_core.specs.Replacing.{all_matches, seen_of, IsRefusedFrom};
 ghost use Rattle.fancy_core.specs.Searching.{Suits};
 
 use crate::captures::Captures;
@@ -84,7 +84,7 @@ impl<'r, 't> Rewriting<'r, 't> {
         ensures text { text_of self.new ≡ text_of self.old }
         ensures groups { IfOk result (λ o. IfSome o (λ i. HasGroups true (text_of self.old) i.position self.new.memory)) }
         ensures idle { is_reached self.old.left ≡ true → (self.new.walk ≡ self.old.walk) × (self.new.memory ≡ self.old.memory) }
-        ensures refused { IfErr result (λ e. IsRefusedBySearch (regex_of self.old) (text_of self.old) e) }
+        ensures refused { IfErr result (λ e. (e ≡ Error.Memory) ⊎ IsRefusedFrom (regex_of self.old) (text_of self.old) self.old.last (todo_of self.old) e) }
     {
         if is_reached(self.left) {
             return Ok(None);
@@ -118,9 +118,9 @@ impl<'r, 't> Rewriting<'r, 't> {
         requires groups { HasGroups true (text_of self.old) item.position self.old.memory }
         requires callable { R.callable replacer.old }
         ensures ok { OnOk result ((answer : List ℕ) × (string_bytes self.new.out ≡ string_bytes self.old.out ++ answer) × R.appends replacer.old (seen_of (regex_of self.old) (text_of self.old) (item_in self.old.memory item)) answer replacer.new) }
-        ensures again { OnOk result (R.callable replacer.new) }
+        ensures again { R.callable replacer.new }
         ensures stays { Stays self.old self.new }
-        ensures refused { IfErr result (λ e. (e ≡ Error.Memory) ⊎ R.refuses replacer.old (seen_of (regex_of self.old) (text_of self.old) (item_in self.old.memory item)) e) }
+        ensures refused { IfErr result (λ e. ((e ≡ Error.Memory) × (replacer.new ≡ replacer.old)) ⊎ R.refuses replacer.old (seen_of (regex_of self.old) (text_of self.old) (item_in self.old.memory item)) e replacer.new) }
     {
         let captures = self.captures_at(item)?;
         replacer.replace_append(&captures, &mut self.out)

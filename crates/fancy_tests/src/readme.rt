@@ -323,6 +323,7 @@ fn a_lent_function_keeps_its_state(rt: HostRuntime) {
     });
     check_answer(&rt, regex.replace_all("aba", counting.by_ref()), "1b2");
     check_answer(&rt, regex.replace_all("aba", counting.by_ref()), "3b4");
+    check_answer(&rt, regex.try_replacen_by("aaa", 2, &mut counting), "56a");
 }
 
 const PYTHON_TEMPLATES: &[TemplateRow] = &[("\\1\\g<0>\\\\x", "bb\\x")];

@@ -91,12 +91,20 @@ fn functions_replace(rt: HostRuntime) {
     check_answer(&rt, replaced, "Bruce Springsteen");
 }
 
-/// An `x`, but an error at the second call.
+/// The number of the call, but an error at the second one.
 fn second_fails(alloc: Global, calls: u32) -> fancy_regex::Result<String> {
     if calls == 2 {
         return Err(Error::RuntimeError(RuntimeError::BacktrackLimitExceeded));
     }
-    Ok(String::from_str(alloc, "x")?)
+    Ok(format!(in alloc; "{calls}")?)
+}
+
+/// Whether the answer is the error of the second call.
+fn is_second_error(answer: &fancy_regex::Result<CowStr<'_, Global>>) -> bool {
+    matches!(
+        answer,
+        Err(Error::RuntimeError(RuntimeError::BacktrackLimitExceeded))
+    )
 }
 
 #[test]
@@ -108,16 +116,31 @@ fn an_error_of_a_replacer_is_the_answer(rt: HostRuntime) {
         calls = calls.wrapping_add(1);
         second_fails(alloc, calls)
     });
-    let answer = regex.replace_all("aaa", failing.by_ref());
-    let refused = matches!(
-        answer,
-        Err(Error::RuntimeError(RuntimeError::BacktrackLimitExceeded))
-    );
-    assert!(rt; refused);
+    assert!(rt; is_second_error(&regex.replace_all("aaa", failing.by_ref())));
+    // the second call was the last one, and the third goes on from there
+    check_answer(&rt, regex.replace_all("aba", failing.by_ref()), "3b4");
     let mut calls = 0u32;
     let once = ReplaceFn::new(|_captures: &Captures<'_, &str>| {
         calls = calls.wrapping_add(1);
         second_fails(alloc, calls)
     });
-    check_answer(&rt, regex.replacen("aaa", 1, once), "xaa");
+    check_answer(&rt, regex.replacen("aaa", 1, once), "1aa");
+}
+
+#[test]
+fn a_replacer_behind_a_reference_goes_on(rt: HostRuntime) {
+    let alloc = rt.alloc();
+    let regex = Regex::new(alloc, "a").expect(&rt, "a regex");
+    let mut calls = 0u32;
+    let mut failing = ReplaceFn::new(|_captures: &Captures<'_, &str>| {
+        calls = calls.wrapping_add(1);
+        second_fails(alloc, calls)
+    });
+    check_answer(&rt, regex.try_replacen_by("aaa", 1, &mut failing), "1aa");
+    assert!(rt; is_second_error(&regex.try_replacen_by("aa", 0, &mut failing)));
+    check_answer(&rt, regex.try_replacen_by("aaa", 2, &mut failing), "34a");
+    let mut template = "<$0>";
+    check_answer(&rt, regex.try_replacen_by("ab", 0, &mut template), "<a>b");
+    let mut fixed = NoExpand("$0");
+    check_answer(&rt, regex.try_replacen_by("ab", 0, &mut fixed), "$0b");
 }

@@ -21,7 +21,7 @@ impl<'t> Replacer for NoExpand<'t> {
 
     ghost appends = { λ s c text t. (t ≡ s) × (text ≡ s.0.now) };
 
-    ghost refuses = { λ s c e. e ≡ Memory };
+    ghost refuses = { λ s c e t. (t ≡ s) × (e ≡ Memory) };
 
     ghost same = { λ s t c x y f a. Prim.search rules };
 

@@ -18,7 +18,7 @@ impl<'t> Replacer for &'t str {
 
     ghost appends = { λ s c text t. (t ≡ s) × Expands s.now c text };
 
-    ghost refuses = { λ s c e. e ≡ Memory };
+    ghost refuses = { λ s c e t. (t ≡ s) × (e ≡ Memory) };
 
     ghost same = { λ s t c x y f a. a.1.fixed x f };
 
@@ -36,7 +36,7 @@ impl<'t> Replacer for &'t String {
 
     ghost appends = { λ s c text t. (t ≡ s) × Expands (string_bytes s.now) c text };
 
-    ghost refuses = { λ s c e. e ≡ Memory };
+    ghost refuses = { λ s c e t. (t ≡ s) × (e ≡ Memory) };
 
     ghost same = { λ s t c x y f a. a.1.fixed x f };
 
@@ -54,7 +54,7 @@ impl Replacer for String {
 
     ghost appends = { λ s c text t. (t ≡ s) × Expands (string_bytes s) c text };
 
-    ghost refuses = { λ s c e. e ≡ Memory };
+    ghost refuses = { λ s c e t. (t ≡ s) × (e ≡ Memory) };
 
     ghost same = { λ s t c x y f a. a.1.fixed x f };
 
@@ -72,7 +72,7 @@ impl<'a> Replacer for CowStr<'a, Global> {
 
     ghost appends = { λ s c text t. (t ≡ s) × Expands (cow_str_bytes s) c text };
 
-    ghost refuses = { λ s c e. e ≡ Memory };
+    ghost refuses = { λ s c e t. (t ≡ s) × (e ≡ Memory) };
 
     ghost same = { λ s t c x y f a. a.1.fixed x f };
 
@@ -90,7 +90,7 @@ impl<'a, 'b> Replacer for &'b CowStr<'a, Global> {
 
     ghost appends = { λ s c text t. (t ≡ s) × Expands (cow_str_bytes s.now) c text };
 
-    ghost refuses = { λ s c e. e ≡ Memory };
+    ghost refuses = { λ s c e t. (t ≡ s) × (e ≡ Memory) };
 
     ghost same = { λ s t c x y f a. a.1.fixed x f };
 

@@ -1,10 +1,13 @@
-use Rattle.std.proofs.Common.{rules, List, ℕ, ◌≡◌, [], ◌∷◌, ◌++◌, string_bytes, slice_range, refl, sym, ◌∙◌, ap}
+use Rattle.std.proofs.Common.{rules, List, ℕ, ◌≡◌, [], ◌∷◌, ◌++◌, string_bytes, slice_range, refl, inl, sym, ◌∙◌, ap}
+use Rattle.std.specs.Prelude.{◌⊎◌}
+use Rattle.std.proofs.lemmas.Result.{err_from_is_err_and}
+use Rattle.fancy_syntax.specs.declared.error.Error.TheVariants.{Memory}
 use Rattle.fancy_core.specs.Left.{item_in}
 use Rattle.fancy_core.specs.Matching.{Item, start_of}
 use Rattle.fancy_core.specs.Pieces.{limited}
-use Rattle.fancy_core.specs.Replacing.{all_matches}
-use Rattle.fancy_core.specs.Rewriting.{text_of, todo_of}
-use Rattle.fancy_core.proofs.ReplaceLemmas.{SaysItself, Goes, goes_first, goes_on, goes_over, goes_last, goes_found, one_done, none_is, if_ok, borrowed_is, same_fills}
+use Rattle.fancy_core.specs.Replacing.{IsRefusedFrom, all_matches}
+use Rattle.fancy_core.specs.Rewriting.{regex_of, text_of, todo_of}
+use Rattle.fancy_core.proofs.ReplaceLemmas.{SaysItself, Goes, goes_first, goes_on, goes_over, goes_last, goes_found, goes_stopped, fills_stopped, refused_same, one_done, none_is, if_ok, if_err, borrowed_is, same_fills}
 use Rattle.fancy_core.proofs.regex.Regex.filled.Goals as goal
 
 pub matches-init : goal.matches-init
@@ -47,6 +50,21 @@ returns c =
     record {
       borrowed = borrowed_is c.finish.result _ _ _ c.finish.ensures.borrowed (goes_found _ _ _ c.args.limit _ _ _ _ _ _ goes);
       kept = search rules;
-      text = if_ok _ _ (λ _ w. same_fills _ _ _ _ _ (goes_last _ _ _ _ _ _ _ _ _ _ (rw text at w) goes)) c.finish.result c.finish.ensures.value;
-      refused = search rules;
+      text = if_ok _ _ (λ _ w. same_fills _ _ _ _ _ _ (goes_last _ _ _ _ _ _ _ _ _ _ (rw text at w) goes)) c.finish.result c.finish.ensures.value;
+      refused = if_err _ _ (λ e w. fills_stopped _ _ _ _ _ e (goes_stopped _ _ _ _ _ _ _ _ _ _ e (inl w) goes)) c.finish.result c.finish.ensures.refused;
     }
+
+pub returns-in_err-next_match-clause-refused : goal.returns-in_err-next_match-clause-refused
+returns-in_err-next_match-clause-refused c =
+    let q = err_from_is_err_and c.from_residual.result c.from_residual.ensures.1 in
+    let all = limited c.args.limit (all_matches c.args.self.now c.args.text.now) in
+    let before = c.matches.rewriting in
+    let refused : (q.0 ≡ Memory) ⊎ IsRefusedFrom c.args.self.now c.args.text.now before.last (todo_of before) q.0 = refused_same (regex_of before) c.args.self.now (text_of before) c.args.text.now before.last (todo_of before) q.0 c.matches.invariant.regex c.matches.invariant.text (rw q.2 c.in_err-next_match.ensures.refused) in
+    rw q.1 (fills_stopped c.args.fixed.now c.args.fixed.now c.args.self.now c.args.text.now all q.0 (goes_stopped SaysItself c.args.self.now c.args.text.now all c.args.fixed.now c.args.fixed.now (string_bytes before.out) before.last before.found (todo_of before) q.0 refused c.matches.invariant.goes))
+
+pub returns-in_err-push-clause-refused : goal.returns-in_err-push-clause-refused
+returns-in_err-push-clause-refused c =
+    let q = err_from_is_err_and c.from_residual-in_err-push.result c.from_residual-in_err-push.ensures.1 in
+    let all = limited c.args.limit (all_matches c.args.self.now c.args.text.now) in
+    let before = c.matches.rewriting in
+    rw q.1 (fills_stopped c.args.fixed.now c.args.fixed.now c.args.self.now c.args.text.now all q.0 (goes_stopped SaysItself c.args.self.now c.args.text.now all c.args.fixed.now c.args.fixed.now (string_bytes before.out) before.last before.found (todo_of before) q.0 (inl (rw q.2 c.in_err-push.ensures.refused)) c.matches.invariant.goes))

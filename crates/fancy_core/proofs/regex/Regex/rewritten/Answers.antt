@@ -1,12 +1,13 @@
-use Rattle.std.proofs.Common.{rules, List, ℕ, ◌≡◌, [], ◌∷◌, ◌++◌, string_bytes, slice_range, sym, ◌∙◌, ap}
+use Rattle.std.proofs.Common.{rules, List, ℕ, ◌≡◌, [], ◌∷◌, ◌++◌, string_bytes, slice_range, None, inl, sym, subst, ◌∙◌, ap}
+use Rattle.std.specs.Prelude.{◌⊎◌}
 use Rattle.std.proofs.lemmas.Result.{err_from_is_err_and}
 use Rattle.fancy_syntax.specs.declared.error.Error.TheVariants.{Memory}
 use Rattle.fancy_core.specs.Left.{item_in}
 use Rattle.fancy_core.specs.Matching.{Item, start_of}
 use Rattle.fancy_core.specs.Pieces.{limited}
-use Rattle.fancy_core.specs.Replacing.{all_matches, seen_of}
+use Rattle.fancy_core.specs.Replacing.{IsRefusedFrom, IsRefusedBetweenCalls, all_matches, seen_of}
 use Rattle.fancy_core.specs.Rewriting.{regex_of, text_of, todo_of}
-use Rattle.fancy_core.proofs.ReplaceLemmas.{Goes, goes_first, goes_on, goes_over, goes_last, goes_found, goes_refused, or_both, text_out_of_memory, one_done, none_is, if_ok, borrowed_is, seen_same}
+use Rattle.fancy_core.proofs.ReplaceLemmas.{Goes, goes_first, goes_on, goes_over, goes_last, goes_found, goes_refused, goes_stopped, refused_same, or_both, one_done, none_is, if_ok, if_err, borrowed_is, seen_same}
 use Rattle.fancy_core.proofs.regex.Regex.rewritten.Goals as goal
 
 pub matches-init : goal.matches-init
@@ -55,14 +56,31 @@ returns g c =
       borrowed = borrowed_is c.finish.result _ _ _ c.finish.ensures.borrowed (goes_found _ _ _ c.args.limit _ _ _ _ _ _ goes);
       kept = search rules;
       text = if_ok _ _ (λ _ w. goes_last _ _ _ _ _ _ _ _ _ _ (rw text at w) goes) c.finish.result c.finish.ensures.value;
-      refused = search rules;
+      refused = if_err _ _ (λ e w. inl (goes_stopped _ _ _ _ _ _ _ _ _ _ e (inl w) goes)) c.finish.result c.finish.ensures.refused;
       again = search rules;
     }
+
+pub returns-in_err-item-clause-refused : goal.returns-in_err-item-clause-refused
+returns-in_err-item-clause-refused g c =
+    let q = err_from_is_err_and c.from_residual.result c.from_residual.ensures.1 in
+    let all = limited c.args.limit (all_matches c.args.self.now c.args.text.now) in
+    let before = c.matches.rewriting in
+    let refused : (q.0 ≡ Memory) ⊎ IsRefusedFrom c.args.self.now c.args.text.now before.last (todo_of before) q.0 = refused_same (regex_of before) c.args.self.now (text_of before) c.args.text.now before.last (todo_of before) q.0 c.matches.invariant.regex c.matches.invariant.text (rw q.2 c.in_err-item.ensures.refused) in
+    rw q.1 (inl (goes_stopped g.R.Replacer.appends c.args.self.now c.args.text.now all c.args.replacer.now c.matches.replacer (string_bytes before.out) before.last before.found (todo_of before) q.0 refused c.matches.invariant.goes))
 
 pub returns-in_err-push_answer-clause-refused : goal.returns-in_err-push_answer-clause-refused
 returns-in_err-push_answer-clause-refused g c =
     let q = err_from_is_err_and c.from_residual-in_err-push_answer.result c.from_residual-in_err-push_answer.ensures.1 in
-    let regex : regex_of c.next_match.new.self ≡ c.args.self.now = c.in_ok-item.ensures.regex ∙ c.matches.invariant.regex in
-    let text : text_of c.next_match.new.self ≡ c.args.text.now = c.in_ok-item.ensures.text ∙ c.matches.invariant.text in
-    let seen = seen_same (regex_of c.next_match.new.self) c.args.self.now (text_of c.next_match.new.self) c.args.text.now (item_in c.next_match.new.self.memory c.in-Some.item) regex text in
-    rw q.1 (or_both (q.0 ≡ Memory) _ _ _ (text_out_of_memory c.args.self.now c.args.text.now q.0) (λ r. goes_refused g.R.Replacer.appends c.args.self.now c.args.text.now g.R.Replacer.refuses (limited c.args.limit (all_matches c.args.self.now c.args.text.now)) c.args.replacer.now c.matches.replacer (string_bytes c.matches.rewriting.out) c.matches.rewriting.last c.matches.rewriting.found (item_in c.next_match.new.self.memory c.in-Some.item) (todo_of c.matches.rewriting) (todo_of c.next_match.new.self) (seen_of (regex_of c.next_match.new.self) (text_of c.next_match.new.self) (item_in c.next_match.new.self.memory c.in-Some.item)) q.0 (rw c.in-Some.is at c.in_ok-item.ensures.steps) seen r c.matches.invariant.goes) (rw q.2 c.in_err-push_answer.ensures.refused))
+    let all = limited c.args.limit (all_matches c.args.self.now c.args.text.now) in
+    let before = c.matches.rewriting in
+    let match = c.next_match.new.self in
+    let item = item_in match.memory c.in-Some.item in
+    let regex : regex_of match ≡ c.args.self.now = c.in_ok-item.ensures.regex ∙ c.matches.invariant.regex in
+    let text : text_of match ≡ c.args.text.now = c.in_ok-item.ensures.text ∙ c.matches.invariant.text in
+    let seen = seen_same (regex_of match) c.args.self.now (text_of match) c.args.text.now item regex text in
+    let gave = g.R.Replacer.appends in
+    let last = c.push_answer.new.replacer in
+    rw q.1 (or_both ((q.0 ≡ Memory) × (last ≡ c.matches.replacer)) _ _ _
+    (λ w. subst (λ (z : _). IsRefusedBetweenCalls None gave c.args.replacer.now z c.args.self.now c.args.text.now all q.0) (sym w.1) (goes_stopped gave c.args.self.now c.args.text.now all c.args.replacer.now c.matches.replacer (string_bytes before.out) before.last before.found (todo_of before) q.0 (inl w.0) c.matches.invariant.goes))
+    (λ r. goes_refused gave c.args.self.now c.args.text.now g.R.Replacer.refuses all c.args.replacer.now c.matches.replacer last (string_bytes before.out) before.last before.found item (todo_of before) (todo_of match) (seen_of (regex_of match) (text_of match) item) q.0 (rw c.in-Some.is at c.in_ok-item.ensures.steps) seen r c.matches.invariant.goes)
+    (rw q.2 c.in_err-push_answer.ensures.refused))

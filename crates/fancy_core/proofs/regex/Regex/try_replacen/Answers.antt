@@ -1,7 +1,8 @@
-use Rattle.std.proofs.Common.{sym}
-use Rattle.fancy_core.proofs.ReplaceLemmas.{if_ok, filled_replaces}
+use Rattle.fancy_core.proofs.ReplaceLemmas.{if_ok, if_err}
 use Rattle.fancy_core.proofs.regex.Regex.try_replacen.Goals as goal
 
-pub returns-in-Some-clause-text : goal.returns-in-Some-clause-text
-returns-in-Some-clause-text g c =
-    if_ok _ _ (λ a w. filled_replaces _ _ _ c.in-Some.fixed.now _ _ _ _ (sym c.in-Some.ensures) w) c.filled.result c.filled.ensures.text
+pub returns-clause-text : goal.returns-clause-text
+returns-clause-text g c = if_ok _ _ (λ _ w. (c.try_replacen_by.new.replacer, w)) c.try_replacen_by.result c.try_replacen_by.ensures.text
+
+pub returns-clause-refused : goal.returns-clause-refused
+returns-clause-refused g c = if_err _ _ (λ _ w. (c.try_replacen_by.new.replacer, w)) c.try_replacen_by.result c.try_replacen_by.ensures.refused

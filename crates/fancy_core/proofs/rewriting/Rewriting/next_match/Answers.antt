@@ -1,5 +1,6 @@
-use Rattle.std.proofs.Common.{true, sym, ◌∙◌}
-use Rattle.fancy_core.proofs.ReplaceLemmas.{one_taken, text_refused}
+use Rattle.std.proofs.Common.{inr, sym, ◌∙◌}
+use Rattle.fancy_core.proofs.RefusedFromLemmas.{search_refused}
+use Rattle.fancy_core.proofs.ReplaceLemmas.{one_taken}
 use Rattle.fancy_core.specs.Rewriting.{regex_of, text_of}
 use Rattle.fancy_core.proofs.rewriting.Rewriting.next_match.Goals as goal
 
@@ -9,4 +10,6 @@ returns-in_ok-push_str-in-Some-Ok-clause-steps c = rw c.one_fewer-self.ensures (
 pub returns-in-Some-Err-clause-refused : goal.returns-in-Some-Err-clause-refused
 returns-in-Some-Err-clause-refused c =
     let steps = rw c.in-Some-Err.field-0-is at c.in-Some-Err.ensures.steps in
-    text_refused (regex_of c.args.self.now) true (text_of c.args.self.now) c.args.self.now.walk.request c.args.self.now.walk.continues c.args.self.now.walk.skips_empty c.in-Some-Err.error c.args.self.now.of_text steps.0
+    let going = c.in-Some-Err.ensures.open in
+    let before = c.args.self.now in
+    inr (search_refused (regex_of before) (text_of before) before.walk.request before.walk.continues before.walk.skips_empty before.walk.ended before.last before.left c.in-Some-Err.error before.of_text going (before.before going) steps.0)

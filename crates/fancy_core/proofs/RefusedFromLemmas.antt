@@ -1,0 +1,86 @@
+-- Lemmas on where the search starts that refuses a replacement.
+use Rattle.std.proofs.Common.{arith, ℕ, ◌≤◌, ◌≡◌, Bool, true, false, nat_eq, List, [], ◌∷◌, length, Option, None, Some, zero, suc, if◌then◌else◌, ap, subst}
+use Rattle.std.specs.Cmp.Derive.{both_true}
+use Rattle.std.proofs.lemmas.Grind.{common_steps}
+use Rattle.fancy_syntax.specs.declared.error.Error.{Error}
+use Rattle.fancy_input.specs.declared.input.Request.{Request}
+use Rattle.fancy_input.specs.Requests.{whole}
+use Rattle.fancy_input.specs.Places.{next_place}
+use Rattle.fancy_input.proofs.PlaceLemmas.{next_place_above}
+use Rattle.fancy_core.specs.declared.regex.Regex.{Regex}
+use Rattle.fancy_core.specs.Limited.{Refuses}
+use Rattle.fancy_core.specs.Limits.{up_to}
+use Rattle.fancy_core.specs.Left.{refused_next, at_first, at_next, scan, upcoming_if, left_if, items_left}
+use Rattle.fancy_core.specs.Matching.{Scan, Item, stop_of, is_empty, answer, unless_empty_at, items_from, Sound}
+use Rattle.fancy_core.specs.Regexes.{asked_in_turn}
+use Rattle.fancy_core.specs.Replacing.{StartFrom, IsRefusedFrom}
+use Rattle.fancy_core.proofs.LeftLemmas.{skips}
+use Rattle.fancy_core.proofs.MatchingLemmas.{LiesFrom, answer_lies}
+use Rattle.fancy_core.proofs.ScanLemmas.{scan_sound}
+
+start_up_to : (left : Option ℕ) (s : ℕ) (xs : List Item) → StartFrom s xs → StartFrom s (up_to left xs)
+start_up_to None s xs h = h
+start_up_to (Some zero) s [] h = tt
+start_up_to (Some zero) s (x ∷ xs) h = tt
+start_up_to (Some (suc n)) s [] h = tt
+start_up_to (Some (suc n)) s (x ∷ xs) h = h
+
+items_start : (k : Scan) (s : ℕ) (o : Option Item) → LiesFrom k s o → StartFrom s (items_from k o)
+unfolding items_from
+items_start k s None l = tt
+items_start k s (Some i) l = let a = l.0.after in let b = l.1 in omega (arith, a, b)
+
+lies_earlier : (k : Scan) (s t : ℕ) (o : Option Item) → s ≤ t → LiesFrom k t o → LiesFrom k s o
+lies_earlier k s t None h l = tt
+lies_earlier k s t (Some i) h l = let b = l.1 in (l.0, omega (arith, h, b))
+
+lies_unless_at : (k : Scan) (s : ℕ) (i : Item) (b : Bool) → Sound k → LiesFrom k s (Some i) → LiesFrom k s (if b then answer k (k.advance s) false else Some i)
+lies_unless_at k s i true h l = let a = h.advances s in lies_earlier k s (k.advance s) _ (omega (arith, a)) (answer_lies k (k.advance s) false h)
+lies_unless_at k s i false h l = l
+
+lies_unless : (k : Scan) (s : ℕ) (o : Option Item) → Sound k → LiesFrom k s o → LiesFrom k s (unless_empty_at k s o)
+lies_unless k s None h l = tt
+lies_unless k s (Some i) h l = lies_unless_at k s i _ h l
+
+upcoming_lies : (k : Scan) (s : ℕ) (c b : Bool) → Sound k → LiesFrom k s (upcoming_if b k s c)
+upcoming_lies k s c true h = lies_unless k s _ h (answer_lies k s c h)
+upcoming_lies k s c false h = answer_lies k s c h
+
+-- what is left of an iteration starts where that stands, or later
+left_start : (k : Scan) (s : ℕ) (c b : Bool) → Sound k → StartFrom s (left_if false k s c b)
+left_start k s c b h = items_start k s (upcoming_if b k s c) (upcoming_lies k s c b h)
+
+nat_same : (n : ℕ) → nat_eq n n ≡ true
+nat_same n = grind (arith, common_steps)
+
+-- and at the next place or later, where an empty match is passed over
+passed_start : (k : Scan) (s : ℕ) (c : Bool) (i : Item) → Sound k → answer k s c ≡ Some i → is_empty i ≡ true → stop_of i ≡ s → StartFrom (k.advance s) (left_if false k s c true)
+passed_start k s c i h e m p =
+    let u : upcoming_if true k s c ≡ answer k (k.advance s) false = skips k s c i e (both_true {s = is_empty i} {t = nat_eq (stop_of i) s} m (rw p (nat_same s))) in
+    rw u (items_start k (k.advance s) _ (answer_lies k (k.advance s) false h))
+
+-- the next search of an iteration over a text is the search for what it has left
+pub search_refused : (regex : Regex) (t : List ℕ) (r : Request) (c b ended : Bool) (from : ℕ) (left : Option ℕ) (e : Error) → r ≡ record (whole t) { start = r.start } → ended ≡ false → from ≤ r.start →
+    refused_next regex true t r c b e → IsRefusedFrom regex t from (up_to left (items_left regex true t r ended c b)) e
+search_refused regex t r c b ended from left e of_text going later (at_first x) =
+    let range : r.range_end ≡ length t = ap (λ (q : Request). q.range_end) of_text in
+    let k = scan regex true t r in
+    record {
+      start = r.start;
+      on = c;
+      behind = later;
+      before = rw going (start_up_to left r.start _ (left_start k r.start c b (scan_sound regex true t r (omega (arith, range)))));
+      refused = subst (λ (q : Request). Refuses regex (asked_in_turn regex t (record q { start = r.start }) c) e) of_text x;
+    }
+search_refused regex t r c b ended from left e of_text going later (at_next i on found empty stops x) =
+    let range : r.range_end ≡ length t = ap (λ (q : Request). q.range_end) of_text in
+    let k = scan regex true t r in
+    let s = next_place true t r.start in
+    let above = next_place_above true t r.start in
+    record {
+      start = s;
+      on = false;
+      behind = omega (arith, later, above);
+      before = rw (going, on) (start_up_to left s _ (passed_start k r.start c i (scan_sound regex true t r (omega (arith, range))) found empty stops));
+      refused = subst (λ (q : Request). Refuses regex (asked_in_turn regex t (record q { start = s }) false) e) of_text x;
+    }
