@@ -1,25 +1,25 @@
 -- A set has one list of edges.
 use Rattle.std.proofs.Common.{◌≡◌, ℕ, zero, suc, ◌<◌, ◌≤◌, inl, inr, Bool, true, false, nat_le, List, [], ◌∷◌, length, slice_index, refl, sym, ap, ap₂, ◌∙◌, arith, suc-le-suc, zero-lt-suc, not-suc-le-zero}
 use Rattle.std.proofs.lemmas.Bool.{cases_lt}
-use Rattle.fancy_syntax.specs.Sets.{differ, has, is_odd, Rising, AreEdges}
+use Rattle.fancy_syntax.specs.Sets.{differ, has, is_odd, AreRising, AreEdges}
 use Rattle.fancy_syntax.proofs.EdgesLemmas.{has_count}
 
-rising_tail : (e : ℕ) (es : List ℕ) → Rising (e ∷ es) → Rising es
+rising_tail : (e : ℕ) (es : List ℕ) → AreRising (e ∷ es) → AreRising es
 rising_tail e es r = λ i j h lt. r (suc i) (suc j) (suc-le-suc h) (suc-le-suc lt)
 
 first_only : (e : ℕ) (es : List ℕ) (k : ℕ) → k < 1 → slice_index (e ∷ es) k ≤ e
 first_only e es zero h = omega arith
 first_only e es (suc k) h = absurd (omega arith)
 
-first_least : (e : ℕ) (es : List ℕ) (c k : ℕ) → Rising (e ∷ es) → c < e → k < length (e ∷ es) → c < slice_index (e ∷ es) k
+first_least : (e : ℕ) (es : List ℕ) (c k : ℕ) → AreRising (e ∷ es) → c < e → k < length (e ∷ es) → c < slice_index (e ∷ es) k
 first_least e es c zero r h lt = h
 first_least e es c (suc k) r h lt = let up = r 0 (suc k) (zero-lt-suc k) lt in omega arith
 
-has-first : (e : ℕ) (es : List ℕ) → Rising (e ∷ es) → has (e ∷ es) e ≡ true
+has-first : (e : ℕ) (es : List ℕ) → AreRising (e ∷ es) → has (e ∷ es) e ≡ true
 unfolding is_odd
 has-first e es r = has_count (e ∷ es) 1 e (omega arith) (first_only e es) (λ k le lt. r 0 k le lt)
 
-has-before : (e : ℕ) (es : List ℕ) (c : ℕ) → Rising (e ∷ es) → c < e → has (e ∷ es) c ≡ false
+has-before : (e : ℕ) (es : List ℕ) (c : ℕ) → AreRising (e ∷ es) → c < e → has (e ∷ es) c ≡ false
 unfolding is_odd
 has-before e es c r h = has_count (e ∷ es) 0 c (omega arith) (λ k lt. absurd (not-suc-le-zero lt)) (λ k le lt. first_least e es c k r h lt)
 
@@ -34,7 +34,7 @@ differ_cancels true false false h = refl
 differ_cancels false y z h = h
 
 -- lists that rise and have the same members are equal
-pub rising_unique : (es fs : List ℕ) → Rising es → Rising fs → ((c : ℕ) → has es c ≡ has fs c) → es ≡ fs
+pub rising_unique : (es fs : List ℕ) → AreRising es → AreRising fs → ((c : ℕ) → has es c ≡ has fs c) → es ≡ fs
 unfolding has
 rising_unique [] [] r s h = refl
 rising_unique [] (f ∷ fs) r s h = absurd (true_is_false (sym (has-first f fs s) ∙ sym (h f)))

@@ -9,7 +9,7 @@ use Rattle.std.proofs.lemmas.Bool.Decides.{nat_tests}
 use Rattle.fancy_syntax.specs.Members.{applied}
 use Rattle.fancy_syntax.specs.declared.operation.Operation.{Operation}
 use Rattle.fancy_syntax.specs.declared.operation.Operation.TheVariants.{Union, Intersection, Difference, SymmetricDifference}
-use Rattle.fancy_syntax.specs.Sets.{differ, has, is_odd, Rising, AreEdges, in_range}
+use Rattle.fancy_syntax.specs.Sets.{differ, has, is_odd, AreRising, AreEdges, in_range}
 use Rattle.fancy_syntax.specs.SetViews.{Cut, IsNearest}
 use Rattle.unicode.specs.Rows.{in_ranges}
 
@@ -103,7 +103,7 @@ cut_push es new low e a p is = record {
   after = λ k le lt. absurd (omega arith);
 }
 
-pub rising_push : (es new : List ℕ) (low e : ℕ) → Cut es (length es) low → low ≤ e → new ≡ es ++ e ∷ [] → Rising es → Rising new
+pub rising_push : (es new : List ℕ) (low e : ℕ) → Cut es (length es) low → low ≤ e → new ≡ es ++ e ∷ [] → AreRising es → AreRising new
 rising_push es new low e a p is h i j lt hj =
     let len : length new ≡ length es + 1 = ap length is ∙ length-append es (e ∷ []) in
     let hi : i < length es = omega arith in
@@ -120,7 +120,7 @@ rising_push es new low e a p is h i j lt hj =
 pub record Merged (op : Bool → Bool → Bool) (a b out : List ℕ) (i j low : ℕ) : Type 0 where
   pub left : Cut a i low
   pub right : Cut b j low
-  pub rising : Rising out
+  pub rising : AreRising out
   pub below : Cut out (length out) low
   pub turns : is_odd (length out) ≡ op (is_odd i) (is_odd j)
   pub agree : (c : ℕ) → c < low → has out c ≡ op (has a c) (has b c)
@@ -228,7 +228,7 @@ range_edges es m n is le top = rw is (record {
   within = two_within m (n + 1) (omega arith) (omega arith);
 })
   where
-    two_rise : (x y : ℕ) → x < y → Rising (x ∷ y ∷ [])
+    two_rise : (x y : ℕ) → x < y → AreRising (x ∷ y ∷ [])
     two_rise x y h i zero lt hj = absurd (not-suc-le-zero lt)
     two_rise x y h zero (suc zero) lt hj = h
     two_rise x y h (suc i) (suc zero) lt hj = absurd (omega arith)
@@ -376,7 +376,7 @@ le_trans_true : (x y c : ℕ) → x < y → nat_le y c ≡ true → nat_le x c �
 le_trans_true x y c h t = le_true x c (let z = leb-true y c t in omega arith)
 
 -- past the first edges of an even number no member is left
-none_left : (es : List ℕ) (i c : ℕ) → Rising es → i < length es → is_odd i ≡ false → nat_le (slice_index es i) c ≡ true → has (take i es) c ≡ false
+none_left : (es : List ℕ) (i c : ℕ) → AreRising es → i < length es → is_odd i ≡ false → nat_le (slice_index es i) c ≡ true → has (take i es) c ≡ false
 none_left es i c rise lt even le =
     let at = leb-true (slice_index es i) c le in
     has_count (take i es) i c (omega (arith, length-take-le i es (omega arith)))
@@ -394,7 +394,7 @@ take_two es i h =
     let e : i + 2 ≡ i + 1 + 1 = omega arith in
     ap (λ n. take n es) e ∙ (take_more es (i + 1) 0 h ∙ ap (λ l. l ++ slice_index es (i + 1) ∷ []) (take_more es i 0 (omega arith)))
 
-pub listed_more : (es : List ℕ) (out new : List (ℕ × ℕ)) (i : ℕ) → Rising es → Listed es out i → i + 1 < length es → new ≡ out ++ (slice_index es i, slice_index es (i + 1) - 1) ∷ [] → Listed es new (i + 2)
+pub listed_more : (es : List ℕ) (out new : List (ℕ × ℕ)) (i : ℕ) → AreRising es → Listed es out i → i + 1 < length es → new ≡ out ++ (slice_index es i, slice_index es (i + 1) - 1) ∷ [] → Listed es new (i + 2)
 listed_more es out new i rise l lt is = record {
   count = omega arith;
   even = even_two i l.even;

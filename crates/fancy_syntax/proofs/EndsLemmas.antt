@@ -16,7 +16,7 @@ use Rattle.fancy_syntax.specs.Pattern.{Pattern, member_of, in_any_case, raw_byte
 use Rattle.fancy_syntax.specs.Words.{Text, ◌∈◌, is_at, begins, by_word, begins_count}
 use Rattle.fancy_syntax.specs.Members.{Members}
 use Rattle.fancy_syntax.specs.Sets.{AreEdges}
-use Rattle.fancy_syntax.specs.Escapes.{control_of, escaped, escape_at, hexadecimal, number, braced_number, before_brace, by_number, is_character, single, set_here, set_letter, is_property, property_name, property_named}
+use Rattle.fancy_syntax.specs.Escapes.{control_of, escaped, escape_at, hexadecimal, number, braced_number, before_brace, by_number, is_character, takes_number, digits_behind, single, set_here, set_letter, is_property, property_name, property_named}
 use Rattle.fancy_syntax.specs.ClassGrammar.{is_ascii_meaning, fits, may_turn, range, range_from, range_to, is_ranged, named_of, posix, posix_of, posix_words, is_posix, property, property_of, found_property, token, token_of}
 use Rattle.fancy_syntax.specs.Dialect.{Scope, Lexeme, leaf, one_of, any_case_of, IsMeant, by_itself, by_edges, by_folding, lexeme, ReadsAtom, by_lexeme, by_class, literal_of, spelled_character, spelled_number, spelled_set, lettered_set, is_one_item, numbered, boundary_words, boundary, property_here, followed_by, any_item, any_code, lettered, place_test, anchor_of, lone, escape, escape_in, is_escapable, is_special}
 use Rattle.fancy_syntax.proofs.ReadingLemmas.{some_pair, some_is_none, true_is_false}
@@ -92,17 +92,11 @@ ends_single (c ∷ d ∷ t) {x} {u} h =
     two : {v : Text} → Ends t v → Ends (c ∷ d ∷ t) v
     two e = behind_one (behind_one e)
 
-    by_letter : (if d == 120 then number 2 t else if d == 117 then number 4 t else if d == 85 then number 8 t else escape_at (escaped d) t) ≡ Some (x, u) → Ends (c ∷ d ∷ t) u
+    by_letter : (if takes_number d then number (digits_behind d) t else escape_at (escaped d) t) ≡ Some (x, u) → Ends (c ∷ d ∷ t) u
     by_letter e =
-        elim (chosen (d == 120) _ _ _ e) [
-          | inl y ↦ two (ends_number 2 t y.1)
-          | inr y ↦ elim (chosen (d == 117) _ _ _ y.1) [
-            | inl y ↦ two (ends_number 4 t y.1)
-            | inr y ↦ elim (chosen (d == 85) _ _ _ y.1) [
-              | inl y ↦ two (ends_number 8 t y.1)
-              | inr y ↦ two (ends_at (ends_here t) (ends_escape_at (escaped d) t y.1))
-            ]
-          ]
+        elim (chosen (takes_number d) _ _ _ e) [
+          | inl y ↦ two (ends_number (digits_behind d) t y.1)
+          | inr y ↦ two (ends_at (ends_here t) (ends_escape_at (escaped d) t y.1))
         ]
 
 ends_range : (m : Meaning) (t : Text) {x : Token} {u : Text} → range m t ≡ Some (x, u) → Ends t u
@@ -288,21 +282,15 @@ lexed_escape s d t {x} {u} h =
       | inl y ↦ lexed_as y.1 (two (ends_here t)) (a_character d)
       | inr y ↦ elim (chosen (98 == d) _ _ _ y.1) [
         | inl y ↦ lexed_as y.1 (two (ends_boundary t)) (a_test (boundary t).0)
-        | inr y ↦ elim (chosen (120 == d) _ _ _ y.1) [
-          | inl y ↦ behind_two (lexed_number s 2 t y.1)
-          | inr y ↦ elim (chosen (117 == d) _ _ _ y.1) [
-            | inl y ↦ behind_two (lexed_number s 4 t y.1)
-            | inr y ↦ elim (chosen (85 == d) _ _ _ y.1) [
-              | inl y ↦ behind_two (lexed_number s 8 t y.1)
-              | inr y ↦ elim (chosen (79 == d) _ _ _ y.1) [
-                | inl y ↦ lexed_followed (any_item s true) y.1 (two (ends_here t)) (any_kind s true)
-                | inr y ↦ elim (chosen (78 == d) _ _ _ y.1) [
-                  | inl y ↦ lexed_followed (any_item s false) y.1 (two (ends_here t)) (any_kind s false)
-                  | inr y ↦ elim (chosen ((112 == d) || (80 == d)) _ _ _ y.1) [
-                    | inl y ↦ lexed_property s (92 ∷ d ∷ t) y.1
-                    | inr y ↦ lexed_followed (lettered s d) y.1 (two (ends_here t)) (lettered_kind s d)
-                  ]
-                ]
+        | inr y ↦ elim (chosen (takes_number d) _ _ _ y.1) [
+          | inl y ↦ behind_two (lexed_number s (digits_behind d) t y.1)
+          | inr y ↦ elim (chosen (79 == d) _ _ _ y.1) [
+            | inl y ↦ lexed_followed (any_item s true) y.1 (two (ends_here t)) (any_kind s true)
+            | inr y ↦ elim (chosen (78 == d) _ _ _ y.1) [
+              | inl y ↦ lexed_followed (any_item s false) y.1 (two (ends_here t)) (any_kind s false)
+              | inr y ↦ elim (chosen ((112 == d) || (80 == d)) _ _ _ y.1) [
+                | inl y ↦ lexed_property s (92 ∷ d ∷ t) y.1
+                | inr y ↦ lexed_followed (lettered s d) y.1 (two (ends_here t)) (lettered_kind s d)
               ]
             ]
           ]

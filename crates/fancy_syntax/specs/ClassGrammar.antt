@@ -107,12 +107,13 @@ token_of m p None = range m p
 abbrev pub token : Meaning → Text → Option (Token × Text)
 token m p = if is_posix p then posix m p else if is_property p then property m p else token_of m p (set_here p)
 
--- no item follows; at its start a class may have a bracket or two hyphens as members
+-- No item follows: the text is at an operator or at the closing bracket. Where a class begins, `]` and `--` are none of these, but members.
 abbrev pub ends_operand : Bool → Text → Bool
 ends_operand first [] = true
 ends_operand first (c ∷ t) =
     (not first && (is_at "]" (c ∷ t) || begins "--" (c ∷ t))) || begins "&&" (c ∷ t) || begins "~~" (c ∷ t)
 
+-- a bracket that opens a class, and no POSIX set
 abbrev pub starts_class : Text → Bool
 starts_class t = is_at "[" t && not (is_posix t)
 
@@ -121,6 +122,7 @@ abbrev pub folded : Meaning → Bool → Members → Members
 folded m false f = f
 folded m true f = widened m f
 
+-- what the set lacks, of the numbers that an item can consume
 abbrev pub complement : Meaning → Members → Members
 complement m f = λ c. in_universe m c && not (f c)
 
@@ -135,6 +137,7 @@ characters a b = λ c. in_universe Unicode c && in_range (a, b) c
 abbrev pub has_property : PropertySet → Members
 has_property s = λ c. in_universe Unicode c && in_set s c
 
+-- the members of one item: under flag `i` a set is widened before its complement is taken
 abbrev pub token_members : Meaning → Bool → Token → Members
 token_members m i (Range a b) = folded m i (characters a b)
 token_members m i (NamedSet n negated) = turned m negated (folded m i (named m n))
@@ -176,7 +179,7 @@ mutual
     other : {m : Meaning} {i : Bool} {k : ℕ} {o t u after : Text} {how : Operation} {fs : List Members} {others : List (Operation × Members)} → Operator o how → Items m i k false t (u ++ after) fs → Others m i k u after others
         → Others m i k (o ++ (t ++ u)) after ((how, united fs) ∷ others)
 
-  -- the items of an operand, one behind the other, by the members of each; whether the class begins with them
+  -- the items of an operand, one behind the other, by the members of each; `first` says that the class begins with them
   pub data Items : Meaning → Bool → ℕ → Bool → Text → Text → List Members → Type 0 where
     no_item : {m : Meaning} {i : Bool} {k : ℕ} {first : Bool} {after : Text} → ends_operand first after ≡ true → Items m i k first [] after []
     item : {m : Meaning} {i : Bool} {k : ℕ} {first : Bool} {t u after : Text} {f : Members} {fs : List Members} → ends_operand first (t ++ (u ++ after)) ≡ false → Item m i k t (u ++ after) f → Items m i k false u after fs

@@ -1,7 +1,6 @@
 -- The dialect, over whole texts: which text spells which pattern. `after` is what follows the text in the whole pattern, so that each case can say that no longer form begins at its place; therefore the cases exclude one another, and a text spells at most one pattern.
 use Rattle.std.specs.Prelude.{◌≡◌, ℕ, suc, ◌+◌, ◌≤◌, ◌==◌, nat_lt, Bool, true, false, not, ◌&&◌, ◌||◌, List, [], ◌∷◌, ◌++◌, drop, length, All, Option, Some, None, codes, map, encode_utf8, if◌then◌else◌}
 use Prim.Native.Char.{code}
-use Rattle.std.specs.Char.{is_ascii_punctuation}
 use Rattle.std.specs.Option.{unwrap_or, option_map, option_or, option_and_then}
 use Rattle.fancy_syntax.specs.Limits.{most_parentheses, most_turns, most_nodes}
 use Rattle.fancy_syntax.specs.declared.tree.Meaning.{Meaning}
@@ -22,7 +21,7 @@ use Rattle.fancy_syntax.specs.Sets.{has, AreEdges, in_range}
 use Rattle.fancy_syntax.specs.Members.{Members}
 use Rattle.fancy_syntax.specs.Named.{in_universe, is_unicode}
 use Rattle.fancy_syntax.specs.Widening.{widened}
-use Rattle.fancy_syntax.specs.Escapes.{control_of, set_letter, number}
+use Rattle.fancy_syntax.specs.Escapes.{is_mark, control_of, set_letter, number, takes_number, digits_behind}
 use Rattle.fancy_syntax.specs.ClassGrammar.{ReadsEdges, is_ascii_meaning, may_turn, token_members, property}
 use Rattle.fancy_syntax.specs.Names.{is_name}
 use Rattle.fancy_syntax.specs.References as references
@@ -119,7 +118,7 @@ is_special c = c ∈ "|()*+?\\.^$["
 
 -- the characters that a backslash makes literals
 abbrev pub is_escapable : ℕ → Bool
-is_escapable c = (c == code " ") || (is_ascii_punctuation c && not (c ∈ "<>"))
+is_escapable c = is_mark c && not (c ∈ "<>")
 
 -- what `^` and `$` test: the text's ends, or those of lines
 abbrev pub anchor_of : Flags → ℕ → Option Assertion
@@ -224,9 +223,7 @@ abbrev pub escape : Scope → ℕ → Text → Option (Lexeme × Text)
 escape s d t =
     if is_escapable d then Some (spelled_character s d, t)
     else if code "b" == d then Some (boundary_here t)
-    else if code "x" == d then numbered s 2 t
-    else if code "u" == d then numbered s 4 t
-    else if code "U" == d then numbered s 8 t
+    else if takes_number d then numbered s (digits_behind d) t
     else if code "O" == d then followed_by t (any_item s true)
     else if code "N" == d then followed_by t (any_item s false)
     else if (code "p" == d) || (code "P" == d) then property_here s (codes "\\" ++ (d ∷ t))

@@ -23,11 +23,15 @@ control_of d =
     else if code "v" == d then Some 11  -- VT
     else None
 
+-- space and ASCII punctuation
+abbrev pub is_mark : ℕ → Bool
+is_mark c = (c == code " ") || is_ascii_punctuation c
+
 -- the character that is meant by a letter or mark in a class
 abbrev pub escaped : ℕ → Option ℕ
 escaped c =
     if c == code "b" then Some 8  -- BS
-    else option_or (control_of c) (if (c == code " ") || is_ascii_punctuation c then Some c else None)
+    else option_or (control_of c) (if is_mark c then Some c else None)
 
 -- the set that a letter names, and whether its complement is meant
 abbrev pub set_letter : ℕ → Option (Named × Bool)
@@ -87,6 +91,14 @@ braced_number t =
 abbrev pub number : ℕ → Text → Option ((ℕ × Bool) × Text)
 number count t = if is_at "{" t then braced_number (drop 1 t) else fixed_number count t
 
+-- a number follows this letter
+abbrev pub takes_number : ℕ → Bool
+takes_number d = d ∈ "xuU"
+
+-- how many digits that number has, where it stands in no braces
+abbrev pub digits_behind : ℕ → ℕ
+digits_behind d = if code "x" == d then 2 else if code "u" == d then 4 else 8
+
 abbrev pub escape_at : Option ℕ → Text → Option ((ℕ × Bool) × Text)
 escape_at (Some e) t = Some ((e, false), t)
 escape_at None t = None
@@ -96,7 +108,7 @@ abbrev pub single : Text → Option ((ℕ × Bool) × Text)
 single [] = None
 single (c ∷ []) = if c ∈ "\\[" then None else Some ((c, false), [])
 single (c ∷ d ∷ t) =
-    if c == code "\\" then (if d == code "x" then number 2 t else if d == code "u" then number 4 t else if d == code "U" then number 8 t else escape_at (escaped d) t)
+    if c == code "\\" then (if takes_number d then number (digits_behind d) t else escape_at (escaped d) t)
     else if c == code "[" then None
     else Some ((c, false), d ∷ t)
 
@@ -111,12 +123,12 @@ property_name (c ∷ t) =
     if c == code "{" then (if nat_lt (before_brace t) (length t) then Some (take (before_brace t) t, drop (before_brace t + 1) t) else None)
     else Some (c ∷ [], t)
 
-abbrev pub is_name_character : ℕ → Bool
-is_name_character c = is_ascii c && not (c ∈ "=:")
+abbrev pub is_property_character : ℕ → Bool
+is_property_character c = is_ascii c && not (c ∈ "=:")
 
 -- a name that can be one of a property
 abbrev pub is_property_name : Text → Bool
-is_property_name name = list_all is_name_character name && nat_lt 0 (length name)
+is_property_name name = list_all is_property_character name && nat_lt 0 (length name)
 
 -- the property with the name, if there is one
 abbrev pub property_named : Text → Option PropertySet

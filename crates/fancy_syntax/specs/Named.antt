@@ -1,5 +1,6 @@
 -- The sets that have a name, in each meaning.
 use Rattle.std.specs.Prelude.{ℕ, Bool, true, false, ◌&&◌, List, [], ◌∷◌, if◌then◌else◌}
+use Prim.Native.Char.{code}
 use Rattle.unicode.specs.Rows.{in_ranges}
 use Rattle.unicode.specs.Perl.{is_word_char, is_digit_char, is_space_char}
 use Rattle.fancy_syntax.specs.declared.tree.Meaning.{Meaning}
@@ -18,23 +19,23 @@ in_universe m c = in_ranges (universe_ranges m) c
 
 -- the ASCII members of a set with a name
 abbrev pub ascii_ranges : Named → List (ℕ × ℕ)
-ascii_ranges Digit = (48, 57) ∷ []
-ascii_ranges AsciiDigit = (48, 57) ∷ []
-ascii_ranges Word = (48, 57) ∷ (65, 90) ∷ (95, 95) ∷ (97, 122) ∷ []
-ascii_ranges Space = (9, 13) ∷ (32, 32) ∷ []
-ascii_ranges Hexadecimal = (48, 57) ∷ (65, 70) ∷ (97, 102) ∷ []
-ascii_ranges Alphanumeric = (48, 57) ∷ (65, 90) ∷ (97, 122) ∷ []
-ascii_ranges Alphabetic = (65, 90) ∷ (97, 122) ∷ []
+ascii_ranges Digit = (code "0", code "9") ∷ []
+ascii_ranges AsciiDigit = (code "0", code "9") ∷ []
+ascii_ranges Word = (code "0", code "9") ∷ (code "A", code "Z") ∷ (code "_", code "_") ∷ (code "a", code "z") ∷ []
+ascii_ranges Space = (code "\t", code "\r") ∷ (code " ", code " ") ∷ []
+ascii_ranges Hexadecimal = (code "0", code "9") ∷ (code "A", code "F") ∷ (code "a", code "f") ∷ []
+ascii_ranges Alphanumeric = (code "0", code "9") ∷ (code "A", code "Z") ∷ (code "a", code "z") ∷ []
+ascii_ranges Alphabetic = (code "A", code "Z") ∷ (code "a", code "z") ∷ []
 ascii_ranges Ascii = (0, 127) ∷ []
-ascii_ranges Blank = (9, 9) ∷ (32, 32) ∷ []
+ascii_ranges Blank = (code "\t", code "\t") ∷ (code " ", code " ") ∷ []
 ascii_ranges Control = (0, 31) ∷ (127, 127) ∷ []
-ascii_ranges Graphic = (33, 126) ∷ []
-ascii_ranges Lowercase = (97, 122) ∷ []
-ascii_ranges Printable = (32, 126) ∷ []
-ascii_ranges Punctuation = (33, 47) ∷ (58, 64) ∷ (91, 96) ∷ (123, 126) ∷ []
-ascii_ranges AsciiSpace = (9, 13) ∷ (32, 32) ∷ []
-ascii_ranges Uppercase = (65, 90) ∷ []
-ascii_ranges AsciiWord = (48, 57) ∷ (65, 90) ∷ (95, 95) ∷ (97, 122) ∷ []
+ascii_ranges Graphic = (code "!", code "~") ∷ []
+ascii_ranges Lowercase = (code "a", code "z") ∷ []
+ascii_ranges Printable = (code " ", code "~") ∷ []
+ascii_ranges Punctuation = (code "!", code "/") ∷ (code ":", code "@") ∷ (code "[", code "`") ∷ (code "{", code "~") ∷ []
+ascii_ranges AsciiSpace = (code "\t", code "\r") ∷ (code " ", code " ") ∷ []
+ascii_ranges Uppercase = (code "A", code "Z") ∷ []
+ascii_ranges AsciiWord = (code "0", code "9") ∷ (code "A", code "Z") ∷ (code "_", code "_") ∷ (code "a", code "z") ∷ []
 
 -- the set has other members in Unicode meaning than in the others
 abbrev pub is_wide : Named → Bool

@@ -14,12 +14,12 @@ has (e ∷ es) c = differ (nat_le e c) (has es c)
 unfoldable pub is_odd : ℕ → Bool
 is_odd n = n % 2 == 1
 
-abbrev pub Rising : List ℕ → Type 0
-Rising es = (i j : ℕ) → i < j → j < length es → slice_index es i < slice_index es j
+abbrev pub AreRising : List ℕ → Type 0
+AreRising es = (i j : ℕ) → i < j → j < length es → slice_index es i < slice_index es j
 
 -- the edges rise, the last ends a part, and none is past the end of Unicode
 pub record AreEdges (es : List ℕ) : Type 0 where
-  pub rising : Rising es
+  pub rising : AreRising es
   pub closed : is_odd (length es) ≡ false
   pub within : (k : ℕ) → k < length es → slice_index es k ≤ 0x11_0000
 

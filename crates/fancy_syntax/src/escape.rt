@@ -13,7 +13,7 @@ use crate::tree::{Assertion, Meaning};
 pub(crate) fn is_escapable(c: char) -> bool
     ensures { result ≡ is_escapable c }
 {
-    c == ' ' || (c.is_ascii_punctuation() && !['<', '>'].contains(&c))
+    (c == ' ' || c.is_ascii_punctuation()) && !['<', '>'].contains(&c)
 }
 
 /// Whether this character stands for itself only where it is escaped.

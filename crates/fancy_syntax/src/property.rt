@@ -1,7 +1,7 @@
 //! Sets of characters that a property of Unicode names.
 
 ghost use Rattle.std.specs.Prelude.{◌≡◌, ℕ, Some, [], ◌∷◌, IfOk};
-ghost use Rattle.fancy_syntax.specs.Escapes.{is_name_character, is_property_name, property_named};
+ghost use Rattle.fancy_syntax.specs.Escapes.{is_property_character, is_property_name, property_named};
 ghost use Rattle.fancy_syntax.specs.Members.{members};
 ghost use Rattle.fancy_syntax.specs.ClassGrammar.{has_property};
 ghost use Rattle.ucd_sets.specs.declared.set.Set.TheVariants.{CategoryGroup};
@@ -12,8 +12,8 @@ use crate::set::Set;
 use std::alloc::{AllocError, Global};
 use unicode::sets::{Set as PropertySet, by_name, normalize};
 
-fn is_name_character(c: char) -> bool
-    ensures { result ≡ is_name_character c }
+fn is_property_character(c: char) -> bool
+    ensures { result ≡ is_property_character c }
 {
     c.is_ascii() && !['=', ':'].contains(&c)
 }
@@ -24,7 +24,7 @@ fn is_property_name(name: &[char]) -> bool
 {
     let mut rest = name;
     while let [c, others @ ..] = rest {
-        if !is_name_character(*c) {
+        if !is_property_character(*c) {
             return false;
         }
         rest = others;

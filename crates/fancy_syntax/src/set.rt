@@ -2,7 +2,7 @@
 
 ghost use Rattle.std.specs.Prelude.{◌≡◌, ◌||◌, ℕ, ◌+◌, ◌<◌, ◌≤◌, ◌⊎◌, [], ◌&&◌, false, length, slice_index, nat_le, IfOk, MatchOption};
 ghost use Rattle.unicode.specs.Rows.{in_ranges};
-ghost use Rattle.fancy_syntax.specs.Sets.{has, is_odd, in_range, Rising, AreEdges};
+ghost use Rattle.fancy_syntax.specs.Sets.{has, is_odd, in_range, AreRising, AreEdges};
 ghost use Rattle.fancy_syntax.specs.SetViews.{Cut, IsNearest};
 
 use crate::operation::Operation;
@@ -20,7 +20,7 @@ pub struct Set {
 
 /// How many edges are at most `c`.
 fn edges_to(edges: &[u32], c: u32) -> usize
-    requires { Rising edges.now }
+    requires { AreRising edges.now }
     ensures { Cut edges.now result (c + 1) }
 {
     let mut low = 0;
@@ -38,8 +38,8 @@ fn edges_to(edges: &[u32], c: u32) -> usize
 
 /// The next edge of either list.
 fn nearest(a: &[u32], i: usize, b: &[u32], j: usize) -> Option<u32>
-    requires a_rises { Rising a.now }
-    requires b_rises { Rising b.now }
+    requires a_rises { AreRising a.now }
+    requires b_rises { AreRising b.now }
     ensures { MatchOption result ((length a.now ≤ i) × (length b.now ≤ j)) (λ at. IsNearest a.now i b.now j at) }
 {
     match (a.get(i), b.get(j)) {
@@ -52,7 +52,7 @@ fn nearest(a: &[u32], i: usize, b: &[u32], j: usize) -> Option<u32>
 
 /// The place after the edge `at`, where it stands next.
 fn past(edges: &[u32], i: usize, at: u32) -> usize
-    requires rising { Rising edges.now }
+    requires rising { AreRising edges.now }
     requires cut { Cut edges.now i at }
     ensures cut { Cut edges.now result (at + 1) }
     ensures forward { i ≤ result }
