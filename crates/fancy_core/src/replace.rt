@@ -103,10 +103,12 @@ impl Regex {
     /// The text with the first `limit` matches replaced, and with all of them where `limit` is 0, by a replacer that is
     /// lent.
     ///
-    /// It is [`Regex::try_replacen`] by a `&mut`: the replacer is left in the state that its last call left, so that it can go on
-    /// from there. One with one text for all matches is not called, and stays as it was. After an error of a search, or where memory
-    /// ran out, the calls for the matches before were made and no other; after an error of the replacer it is in the state
-    /// that this call left. It may be called again in each case.
+    /// It gives what [`Regex::try_replacen`] gives, and leaves the replacer in the state that its last call left, so that it can
+    /// go on from there. One with one text for all matches is not called, and stays as it was.
+    ///
+    /// It is refused where a search is, where memory runs out, and where a call of the replacer refuses. Such a call
+    /// leaves the replacer in the state that it says; else it is in the state that the calls for the matches before left.
+    /// It may be called again in each case.
     ///
     /// ```text
     /// // a replacer that counts its calls, on a|b
