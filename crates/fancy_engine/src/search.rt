@@ -7,7 +7,7 @@ ghost use Rattle.fancy_engine.specs.Code.{code_len, instrs_of};
 ghost use Rattle.fancy_engine.specs.Means.{IsCodeOf, AreEasy};
 ghost use Rattle.fancy_engine.specs.Search.{search};
 ghost use Rattle.fancy_engine.specs.Threads.{span_of, ends_of};
-ghost use Rattle.fancy_engine.specs.Queries.{query_of, way_in, answer_of};
+ghost use Rattle.fancy_engine.specs.Queries.{query_of, way_in, pairs_met, answer_of};
 ghost use Rattle.fancy_engine.specs.Readings.{suppressed_in};
 ghost use Rattle.fancy_engine.specs.Work.{steps_of, returns_of, HasRoom};
 
@@ -110,7 +110,8 @@ pub fn last_position(request: Request, first: usize) -> usize
 /// attempt, from the effective start on, which has an outcome. The match then goes from there to
 /// `memory.end()`, and its groups stand in `memory`.
 ///
-/// What is done is added to the counts of `work`, after a refusal what was done up to it. They never begin anew here.
+/// What is done is added to the counts of `work`, after a refusal what was done up to it. They never begin anew here. The steps
+/// of a search that answers are the pairs of an instruction and a place that it met, none of them twice.
 ///
 /// # Errors
 ///
@@ -130,6 +131,7 @@ pub fn search(
     ensures answer { IfOk result (λ m. (p : Pattern) → IsCodeOf p code.now
         → answer_of m memory.new ≡ search (query_of p code.now switches haystack.now request)) }
     ensures steps { steps_of work.old ≤ steps_of work.new }
+    ensures ticks { IfOk result (λ _. effective_start request ≤ request.range_end → steps_of work.new ≡ steps_of work.old + pairs_met memory.new) }
     ensures bounded { steps_of work.new ≤ steps_of work.old + code_len code.now * (request.range_end + 1 - effective_start request) }
     ensures returns { returns_of work.old ≤ returns_of work.new }
     ensures paired { returns_of work.new - returns_of work.old ≤ steps_of work.new - steps_of work.old }

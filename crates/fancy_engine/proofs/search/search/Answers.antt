@@ -75,6 +75,12 @@ loop-place-preserved c = record {
 pub returns-clause-answer : goal.returns-clause-answer
 returns-clause-answer c p is = sym (c.loop-place.invariant.left p is ∙ search_over (query_of p c.args.code.now c.args.switches c.args.haystack.now c.args.request) _ _ (omega arith))
 
+pub returns-then-branch-clause-ticks : goal.returns-then-branch-clause-ticks
+returns-then-branch-clause-ticks c = λ _. omega (arith, c.follow.ensures.ticks, c.loop-place.invariant.ticks)
+
+pub returns-clause-ticks : goal.returns-clause-ticks
+returns-clause-ticks c = λ _. c.loop-place.invariant.ticks
+
 pub returns-in-Err-clause-bounded : goal.returns-in-Err-clause-bounded
 returns-in-Err-clause-bounded c =
     steps_added _ _ (marked c.loop-place.table) c.args.request c.max-first.result _ c.loop-place.invariant.ticks
