@@ -65,7 +65,7 @@ impl Regex {
     ghost use Rattle.fancy_core.specs.Built.{IsReading};
     ghost use Rattle.fancy_core.specs.Names.{names_in};
     ghost use Rattle.fancy_core.specs.Regexes.{text_of, pattern_in, options_in, groups_in, length_in, limit_in, asked, asked_in_turn};
-    ghost use Rattle.fancy_core.specs.Limited.{IsHard, Refuses, Allows, returns_in};
+    ghost use Rattle.fancy_core.specs.Limited.{IsHard, Refuses, Allows, HasRoomFor, returns_in};
 
     /// Reads a pattern, with the default options.
     ///
@@ -219,12 +219,14 @@ impl Regex {
         ensures found { IfOk result (λ m. option_map S.span m ≡ option_map span_of (search (asked self.now (S.bytes (haystack_in input)) (request_in input)))) }
         ensures within { IfOk result (λ m. IfSome m (λ x. S.within x ≡ S.bytes (haystack_in input))) }
         ensures refused { IfErr result (λ e. Refuses self.now (asked self.now (S.bytes (haystack_in input)) (request_in input)) e) }
-        ensures steps { is_easy (pattern_in self.now) ≡ true → IfOk result (λ _. steps_of work.new ≤ length_in self.now * ((request_in input).range_end + 1 - effective_start (request_in input))) }
-        ensures returns { is_easy (pattern_in self.now) ≡ true → IfOk result (λ _. returns_of work.new ≤ steps_of work.new) }
+        ensures steps { is_easy (pattern_in self.now) ≡ true → steps_of work.new ≤ length_in self.now * ((request_in input).range_end + 1 - effective_start (request_in input)) }
+        ensures returns { returns_of work.new ≤ steps_of work.new }
         ensures counted { IsHard self.now → IfOk result (λ _. returns_of work.new ≡ returns_in (asked self.now (S.bytes (haystack_in input)) (request_in input))) }
         ensures stopped { IsHard self.now → result ≡ Err (Error.RuntimeError BacktrackLimitExceeded) → returns_of work.new ≡ limit_in self.now }
         ensures fits { IsHard self.now → returns_of work.new ≤ limit_in self.now }
+        ensures most { IsHard self.now → returns_of work.new ≤ returns_in (asked self.now (S.bytes (haystack_in input)) (request_in input)) }
     {
+        work.reset();
         let found = self.located(input.haystack(), input.request(), work)?;
         Ok(found)
     }
@@ -238,14 +240,19 @@ impl Regex {
     ) -> Result<Option<S::Match>>
         requires inside { request.range_end ≤ length (S.bytes haystack) }
         requires suits { Suits (options_in self.now) (S.text haystack) (S.bytes haystack) }
+        requires room { HasRoomFor self.now request work.old }
         ensures found { IfOk result (λ m. option_map S.span m ≡ option_map span_of (search (asked self.now (S.bytes haystack) request))) }
         ensures within { IfOk result (λ m. IfSome m (λ x. S.within x ≡ S.bytes haystack)) }
         ensures refused { IfErr result (λ e. Refuses self.now (asked self.now (S.bytes haystack) request) e) }
-        ensures steps { is_easy (pattern_in self.now) ≡ true → IfOk result (λ _. steps_of work.new ≤ length_in self.now * (request.range_end + 1 - effective_start request)) }
-        ensures returns { is_easy (pattern_in self.now) ≡ true → IfOk result (λ _. returns_of work.new ≤ steps_of work.new) }
-        ensures counted { IsHard self.now → IfOk result (λ _. returns_of work.new ≡ returns_in (asked self.now (S.bytes haystack) request)) }
-        ensures stopped { IsHard self.now → result ≡ Err (Error.RuntimeError BacktrackLimitExceeded) → returns_of work.new ≡ limit_in self.now }
-        ensures fits { IsHard self.now → returns_of work.new ≤ limit_in self.now }
+        ensures allowed { IfOk result (λ _. Allows self.now (asked self.now (S.bytes haystack) request)) }
+        ensures steps { steps_of work.old ≤ steps_of work.new }
+        ensures bounded { is_easy (pattern_in self.now) ≡ true → steps_of work.new ≤ steps_of work.old + length_in self.now * (request.range_end + 1 - effective_start request) }
+        ensures returns { returns_of work.old ≤ returns_of work.new }
+        ensures paired { returns_of work.new ≤ steps_of work.new }
+        ensures counted { IsHard self.now → IfOk result (λ _. returns_of work.new ≡ returns_of work.old + returns_in (asked self.now (S.bytes haystack) request)) }
+        ensures stopped { IsHard self.now → result ≡ Err (Error.RuntimeError BacktrackLimitExceeded) → returns_of work.new ≡ returns_of work.old + limit_in self.now }
+        ensures fits { IsHard self.now → returns_of work.new ≤ returns_of work.old + limit_in self.now }
+        ensures most { IsHard self.now → returns_of work.new ≤ returns_of work.old + returns_in (asked self.now (S.bytes haystack) request) }
     {
         let mut memory = Scratch::new(self.allocator());
         let found = self.search(haystack.as_bytes(), request, true, &mut memory, work)?;
@@ -293,16 +300,21 @@ impl Regex {
         work: &mut Work,
     ) -> Result<Option<usize>>
         requires inside { request.range_end ≤ length haystack.now }
+        requires room { HasRoomFor self.now request work.old }
         ensures answer { IfOk result (λ m. answer_of m memory.new ≡ search (asked_in_turn self.now haystack.now request continues)) }
         ensures ordered { IfOk result (λ m. IfSome m (λ p. (state_in p memory.new).kept ≤ (state_in p memory.new).place)) }
         ensures inside { IfOk result (λ m. IfSome m (λ p. (state_in p memory.new).place ≤ request.range_end)) }
         ensures cleanly { IsTrue (keeps_characters (options_in self.now).bytes_mode) → IfOk result (λ m. IfSome m (λ p. IsTrue (is_boundary haystack.now (state_in p memory.new).kept) × IsTrue (is_boundary haystack.now (state_in p memory.new).place))) }
-        ensures steps { is_easy (pattern_in self.now) ≡ true → IfOk result (λ _. steps_of work.new ≤ length_in self.now * (request.range_end + 1 - effective_start request)) }
-        ensures returns { is_easy (pattern_in self.now) ≡ true → IfOk result (λ _. returns_of work.new ≤ steps_of work.new) }
-        ensures counted { IsHard self.now → IfOk result (λ _. returns_of work.new ≡ returns_in (asked_in_turn self.now haystack.now request continues)) }
-        ensures stopped { IsHard self.now → result ≡ Err (Error.RuntimeError BacktrackLimitExceeded) → returns_of work.new ≡ limit_in self.now }
-        ensures fits { IsHard self.now → returns_of work.new ≤ limit_in self.now }
+        ensures steps { steps_of work.old ≤ steps_of work.new }
+        ensures bounded { is_easy (pattern_in self.now) ≡ true → steps_of work.new ≤ steps_of work.old + length_in self.now * (request.range_end + 1 - effective_start request) }
+        ensures returns { returns_of work.old ≤ returns_of work.new }
+        ensures paired { returns_of work.new ≤ steps_of work.new }
+        ensures counted { IsHard self.now → IfOk result (λ _. returns_of work.new ≡ returns_of work.old + returns_in (asked_in_turn self.now haystack.now request continues)) }
+        ensures stopped { IsHard self.now → result ≡ Err (Error.RuntimeError BacktrackLimitExceeded) → returns_of work.new ≡ returns_of work.old + limit_in self.now }
+        ensures fits { IsHard self.now → returns_of work.new ≤ returns_of work.old + limit_in self.now }
+        ensures most { IsHard self.now → returns_of work.new ≤ returns_of work.old + returns_in (asked_in_turn self.now haystack.now request continues) }
         ensures refused { IfErr result (λ e. Refuses self.now (asked_in_turn self.now haystack.now request continues) e) }
+        ensures allowed { IfOk result (λ _. Allows self.now (asked_in_turn self.now haystack.now request continues)) }
     {
         if self.easy {
             return self.run(haystack, request, memory, work);
@@ -320,9 +332,12 @@ impl Regex {
     ) -> Result<Option<usize>>
         requires inside { request.range_end ≤ length haystack.now }
         requires easy { is_easy (pattern_in self.now) ≡ true }
+        requires room { HasRoomFor self.now request work.old }
         ensures answer { IfOk result (λ m. (on : Bool) → answer_of m memory.new ≡ search (asked_in_turn self.now haystack.now request on)) }
-        ensures steps { IfOk result (λ _. steps_of work.new ≤ length_in self.now * (request.range_end + 1 - effective_start request)) }
-        ensures returns { IfOk result (λ _. returns_of work.new ≤ steps_of work.new) }
+        ensures steps { steps_of work.old ≤ steps_of work.new }
+        ensures bounded { steps_of work.new ≤ steps_of work.old + length_in self.now * (request.range_end + 1 - effective_start request) }
+        ensures returns { returns_of work.old ≤ returns_of work.new }
+        ensures paired { returns_of work.new ≤ steps_of work.new }
         ensures refused { IfErr result (λ e. e ≡ Error.Memory) }
     {
         let on_boundaries = self.options.bytes_mode.keeps_characters();
@@ -351,10 +366,15 @@ impl Regex {
         requires inside { request.range_end ≤ length haystack.now }
         requires of { p ≡ pattern_in self.now }
         requires hard { IsHard self.now }
+        requires room { HasRoomFor self.now request work.old }
         ensures answer { IfOk result (λ m. answer_of m memory.new ≡ search (asked_in_turn self.now haystack.now request continues)) }
-        ensures counted { IfOk result (λ _. returns_of work.new ≡ returns_in (asked_in_turn self.now haystack.now request continues)) }
-        ensures stopped { result ≡ Err (Error.RuntimeError BacktrackLimitExceeded) → returns_of work.new ≡ limit_in self.now }
-        ensures fits { returns_of work.new ≤ limit_in self.now }
+        ensures steps { steps_of work.old ≤ steps_of work.new }
+        ensures returns { returns_of work.old ≤ returns_of work.new }
+        ensures paired { returns_of work.new ≤ steps_of work.new }
+        ensures counted { IfOk result (λ _. returns_of work.new ≡ returns_of work.old + returns_in (asked_in_turn self.now haystack.now request continues)) }
+        ensures stopped { result ≡ Err (Error.RuntimeError BacktrackLimitExceeded) → returns_of work.new ≡ returns_of work.old + limit_in self.now }
+        ensures fits { returns_of work.new ≤ returns_of work.old + limit_in self.now }
+        ensures most { returns_of work.new ≤ returns_of work.old + returns_in (asked_in_turn self.now haystack.now request continues) }
         ensures refused { IfErr result (λ e. Refuses self.now (asked_in_turn self.now haystack.now request continues) e) }
     {
         let on_boundaries = self.options.bytes_mode.keeps_characters();

@@ -272,7 +272,7 @@ fn visit(
     requires within { AllWithin bounds (ways.old.current ∷ ways.old.saved) }
     requires room { (bounds.last - bounds.first + 1) * code_len code.now ≤ length table.old }
     requires small { length table.old < 2 ^ 64 }
-    requires ticks { steps_of work.old ≤ marked table.old }
+    requires ticks { steps_of work.old + (length table.old - marked table.old) < 2 ^ 64 }
     requires few { length ways.old.saved ≤ steps_of work.old }
     requires free { ways.old.most ≡ usize.MAX }
     requires last_lines { KnowsLastLines haystack.now last_lines.old }
@@ -285,7 +285,8 @@ fn visit(
         (length ways.old.saved) (length ways.new.saved)) }
     ensures within { IfOk result (λ _. AllWithin bounds (ways.new.current ∷ ways.new.saved)) }
     ensures room { length table.new ≡ length table.old }
-    ensures ticks { steps_of work.new ≤ marked table.new }
+    ensures ticks { steps_of work.new + marked table.old ≡ steps_of work.old + marked table.new }
+    ensures steps { steps_of work.old ≤ steps_of work.new }
     ensures returns { returns_of work.new ≡ returns_of work.old }
     ensures tally { IfOk result
         (λ _. length ways.new.saved + steps_of work.old ≤ length ways.old.saved + steps_of work.new) }
@@ -326,7 +327,7 @@ fn visit(
 }
 
 /// The first accepted outcome of one attempt: it is where the way that is followed then stands. The table is
-/// kept from the attempts before, of which none found anything.
+/// kept from the attempts before, of which none found anything. Each pair that is new is one step, also up to a refusal.
 pub fn follow(
     code: &Code,
     haystack: &[u8],
@@ -343,7 +344,7 @@ pub fn follow(
     requires fresh { ways.old.saved ≡ [] }
     requires room { (bounds.last - bounds.first + 1) * code_len code.now ≤ length table.old }
     requires small { length table.old < 2 ^ 64 }
-    requires ticks { steps_of work.old ≤ marked table.old }
+    requires ticks { steps_of work.old + (length table.old - marked table.old) < 2 ^ 64 }
     requires returns { returns_of work.old ≤ steps_of work.old }
     requires free { ways.old.most ≡ usize.MAX }
     requires last_lines { KnowsLastLines haystack.now last_lines.old }
@@ -362,8 +363,10 @@ pub fn follow(
         → AllFailed (good_end bounds haystack.now) (plain haystack.now code.now.meaning bounds.suppressed bounds.first) bounds.first bounds.last
         (instrs_of code.now) deep table.new) }
     ensures room { length table.new ≡ length table.old }
-    ensures ticks { IfOk result (λ _. steps_of work.new ≤ marked table.new) }
-    ensures returns { IfOk result (λ _. returns_of work.new ≤ steps_of work.new) }
+    ensures ticks { steps_of work.new + marked table.old ≡ steps_of work.old + marked table.new }
+    ensures steps { steps_of work.old ≤ steps_of work.new }
+    ensures returns { returns_of work.old ≤ returns_of work.new }
+    ensures paired { returns_of work.new - returns_of work.old ≤ steps_of work.new - steps_of work.old }
     ensures free { IfOk result (λ _. ways.new.most ≡ ways.old.most) }
     ensures refused { result ≢ Err Refusal.Returns }
     ensures full { result ≢ Err Refusal.Choices }

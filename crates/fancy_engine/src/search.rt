@@ -9,7 +9,7 @@ ghost use Rattle.fancy_engine.specs.Search.{search};
 ghost use Rattle.fancy_engine.specs.Threads.{span_of, ends_of};
 ghost use Rattle.fancy_engine.specs.Queries.{query_of, way_in, answer_of};
 ghost use Rattle.fancy_engine.specs.Readings.{suppressed_in};
-ghost use Rattle.fancy_engine.specs.Work.{steps_of, returns_of};
+ghost use Rattle.fancy_engine.specs.Work.{steps_of, returns_of, HasRoom};
 
 use crate::code::Code;
 use crate::last_lines::LastLines;
@@ -111,6 +111,8 @@ pub fn last_position(request: Request, first: usize) -> usize
 /// `memory.end()`, and its groups stand in `memory`. Easy code has no `\G`, so the answer is the same with
 /// it on and off.
 ///
+/// What is done is added to the counts of `work`, after a refusal what was done up to it. They never begin anew here.
+///
 /// # Errors
 ///
 /// `Refusal::Memory` where memory runs out, and no other.
@@ -124,13 +126,16 @@ pub fn search(
 ) -> Result<Option<usize>, Refusal>
     requires inside { request.range_end ≤ length haystack.now }
     requires easy { AreEasy (instrs_of code.now) }
+    requires room { HasRoom (steps_of work.old) (code_len code.now * (request.range_end + 1 - effective_start request)) }
+    requires paired { returns_of work.old ≤ steps_of work.old }
     ensures answer { IfOk result (λ m. (p : Pattern) (on : Bool) → IsCodeOf p code.now
         → answer_of m memory.new ≡ search (query_of p code.now switches haystack.now request on)) }
-    ensures steps { IfOk result (λ _. steps_of work.new ≤ code_len code.now * (request.range_end + 1 - effective_start request)) }
-    ensures returns { IfOk result (λ _. returns_of work.new ≤ steps_of work.new) }
+    ensures steps { steps_of work.old ≤ steps_of work.new }
+    ensures bounded { steps_of work.new ≤ steps_of work.old + code_len code.now * (request.range_end + 1 - effective_start request) }
+    ensures returns { returns_of work.old ≤ returns_of work.new }
+    ensures paired { returns_of work.new - returns_of work.old ≤ steps_of work.new - steps_of work.old }
     ensures refused { IfErr result (λ e. e ≡ Refusal.Memory) }
 {
-    *work = Work::new();
     let first = request.start.max(request.range_start);
     if first > request.range_end {
         return Ok(None);

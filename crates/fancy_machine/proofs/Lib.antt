@@ -1,4 +1,5 @@
 pub mod Closing
+pub mod Counts
 pub mod Steps
 pub mod Searches
 pub mod Layers

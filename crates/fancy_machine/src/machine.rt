@@ -5,7 +5,7 @@ ghost use Rattle.fancy_syntax.specs.declared.tree.Meaning.{Meaning as MeaningIs}
 ghost use Rattle.fancy_engine.specs.Context.{continues, Span};
 ghost use Rattle.fancy_engine.specs.Run.{Raw};
 ghost use Rattle.fancy_engine.specs.LastLines.{KnowsLastLines};
-ghost use Rattle.fancy_engine.specs.Work.{returns_of};
+ghost use Rattle.fancy_engine.specs.Work.{steps_of, returns_of, stepped_within};
 ghost use Rattle.fancy_machine.specs.Field.{context_in, good_end, accepts, code_in, found_state};
 ghost use Rattle.fancy_machine.specs.Machine.{Stepped, Turned, Crowded, MovedTo, RecalledTo, left, after, chosen, final, returns_to, marks_to, events_of, IsKnown};
 
@@ -92,6 +92,7 @@ fn step(
     ensures crowded { result ≡ Err Refusal.Choices → (deep : ℕ) (w : List Raw) → left (code_in haystack.now code.now field deep) trail.old.now trail.old.frames ≡ Some w
         → Crowded trail.old.most w trail.old.frames }
     ensures most { trail.new.most ≡ trail.old.most }
+    ensures work { work.new ≡ stepped_within work.old }
     ensures returns { returns_of work.new ≡ returns_of work.old }
     ensures last_lines { KnowsLastLines haystack.now last_lines.new }
 {
@@ -250,6 +251,7 @@ fn turn(
     ensures crowded { result ≡ Err Refusal.Choices → (deep : ℕ) (w : List Raw) → left (code_in haystack.now code.now field deep) trail.old.now trail.old.frames ≡ Some w
         → Crowded trail.old.most w trail.old.frames }
     ensures most { trail.new.most ≡ trail.old.most }
+    ensures work { work.new ≡ stepped_within work.old }
     ensures returns { returns_of work.new ≡ returns_of work.old }
     ensures last_lines { KnowsLastLines haystack.now last_lines.new }
 {
@@ -270,7 +272,7 @@ fn turn(
 }
 
 /// One attempt: whether it has an accepted outcome. The first one is where the trail then stands. The returns of the
-/// attempt are counted, and none is done past the limit.
+/// attempt are added to those of `work`, also up to a refusal, and none is done past the limit.
 pub fn attempt(
     code: &Code,
     haystack: &[u8],
@@ -293,6 +295,11 @@ pub fn attempt(
         < returns_of work.old + returns_to (final false (accepts field haystack.now)) (events_of (after (code_in haystack.now code.now field deep) trail.old.now)) }
     ensures stopped { result ≡ Err Refusal.Returns → returns_of work.new ≡ limit }
     ensures fits { returns_of work.new ≤ limit }
+    ensures steps { steps_of work.old ≤ steps_of work.new }
+    ensures returns { returns_of work.old ≤ returns_of work.new }
+    ensures bounded { returns_of work.new
+        ≤ returns_of work.old + returns_to (final false (accepts field haystack.now)) (events_of (after (code_in haystack.now code.now field deep) trail.old.now)) }
+    ensures paired { returns_of work.old ≤ steps_of work.old → returns_of work.new ≤ steps_of work.new }
     ensures last_lines { KnowsLastLines haystack.now last_lines.new }
     ensures crowded { result ≡ Err Refusal.Choices → trail.old.most
         < marks_to (final false (accepts field haystack.now)) (events_of (after (code_in haystack.now code.now field deep) trail.old.now)) }

@@ -6,7 +6,7 @@ ghost use Rattle.fancy_syntax.specs.Pattern.{Pattern};
 ghost use Rattle.fancy_input.specs.Requests.{effective_start};
 ghost use Rattle.fancy_engine.specs.Means.{IsCodeOf};
 ghost use Rattle.fancy_engine.specs.Search.{continues_from, search, returns, choices};
-ghost use Rattle.fancy_engine.specs.Work.{returns_of};
+ghost use Rattle.fancy_engine.specs.Work.{steps_of, returns_of, HasRoom};
 ghost use Rattle.fancy_machine.specs.Asked.{asked, answer_of, all_tried};
 
 use crate::machine::{Field, attempt, is_good};
@@ -52,6 +52,9 @@ fn continues_from(options: Options, request: Request, first: usize) -> Option<us
 /// Searches a haystack for the pattern of the code. Found is the position, a byte offset: that of the first attempt,
 /// from the effective start on, which has an accepted outcome; the trail then stands there.
 ///
+/// What is done is added to the counts of `work`, after a refusal what was done up to it. They never begin anew here.
+/// Steps are counted as far as a `usize` goes.
+///
 /// # Errors
 ///
 /// `Refusal::Memory` where memory runs out, `Refusal::Returns` where the search takes more returns than the options
@@ -67,14 +70,18 @@ pub fn search(
     ghost p: { Pattern }
     requires code { ∥ IsCodeOf p code.now ∥₁ }
     requires inside { request.range_end ≤ length haystack.now }
+    requires room { HasRoom (returns_of work.old) options.limit }
     ensures answer { IfOk result (λ m. answer_of m trail.new.now ≡ search (asked p code.now options haystack.now request)) }
-    ensures count { IfOk result (λ _. returns_of work.new ≡ returns (asked p code.now options haystack.now request) all_tried) }
+    ensures count { IfOk result (λ _. returns_of work.new ≡ returns_of work.old + returns (asked p code.now options haystack.now request) all_tried) }
     ensures refused { result ≡ Err Refusal.Returns → options.limit < returns (asked p code.now options haystack.now request) all_tried }
-    ensures stopped { result ≡ Err Refusal.Returns → returns_of work.new ≡ options.limit }
-    ensures fits { returns_of work.new ≤ options.limit }
+    ensures stopped { result ≡ Err Refusal.Returns → returns_of work.new ≡ returns_of work.old + options.limit }
+    ensures fits { returns_of work.new ≤ returns_of work.old + options.limit }
+    ensures steps { steps_of work.old ≤ steps_of work.new }
+    ensures returns { returns_of work.old ≤ returns_of work.new }
+    ensures bounded { returns_of work.new ≤ returns_of work.old + returns (asked p code.now options haystack.now request) all_tried }
+    ensures paired { returns_of work.old ≤ steps_of work.old → returns_of work.new ≤ steps_of work.new }
     ensures crowded { result ≡ Err Refusal.Choices → most_branches < choices (asked p code.now options haystack.now request) all_tried }
 {
-    *work = Work::new();
     let first = request.start.max(request.range_start);
     if first > request.range_end {
         return Ok(None);
@@ -85,6 +92,7 @@ pub fn search(
         on_boundaries: options.on_boundaries,
         not_empty: options.not_empty,
     };
+    let limit = work.returns() + options.limit;
     let last = last_position(request, first);
     let mut last_lines = LastLines::new(haystack);
     for place in first..last + 1 {
@@ -95,15 +103,7 @@ pub fn search(
             Ok(()) => {}
             Err(_) => return Err(Refusal::Memory),
         }
-        let found = match attempt(
-            code,
-            haystack,
-            field,
-            trail,
-            options.limit,
-            &mut last_lines,
-            work,
-        ) {
+        let found = match attempt(code, haystack, field, trail, limit, &mut last_lines, work) {
             Ok(found) => found,
             Err(refusal) => return Err(refusal),
         };

@@ -11,7 +11,7 @@ mod settings;
 mod spans;
 mod templates;
 
-pub(crate) use counts::{CountedRow, check_counted};
+pub(crate) use counts::{CountedRow, WorkRow, check_counted, check_work};
 pub(crate) use groups::{
     AllGroupsRow, GroupsRow, LaterGroupsRow, NameRow, NamesRow, TextsRow, check_all_groups,
     check_groups, check_later_groups, check_name, check_names, check_owned_texts,

@@ -47,3 +47,5 @@ mod sets;
 mod splitting;
 #[cfg(test)]
 mod templates;
+#[cfg(test)]
+mod work;

@@ -1,7 +1,7 @@
 //! What a search counts, and where it is given up.
 
 use crate::asking::{CHARACTERS, Settings, Span, regex_with, span};
-use fancy_regex::{Error, Match, RegexInput, RuntimeError, Work};
+use fancy_regex::{Error, Match, Regex, RegexInput, RuntimeError, Work};
 use std::alloc::Global;
 use std::process::Abort;
 
@@ -44,4 +44,20 @@ pub(crate) fn check_counted(rt: &impl Abort, alloc: Global, row: &CountedRow) {
         is_past_limit == wanted.is_none(),
         "{pattern} on {haystack}"
     );
+}
+
+/// A pattern, a text, where the first match starts and ends, how many instructions its search fetches, and how many saved
+/// branches it takes.
+pub(crate) type WorkRow = (&'static str, &'static str, Option<Span>, usize, usize);
+
+/// Checks what a search finds and counts, whatever was counted before.
+pub(crate) fn check_work(rt: &impl Abort, alloc: Global, row: &WorkRow, work: &mut Work) {
+    let (pattern, haystack, wanted, steps, returns) = *row;
+    let regex = Regex::new(alloc, pattern).expect(rt, pattern);
+    let input = RegexInput::new(haystack);
+    assert!(rt; regex.can_search(&input), "{pattern}");
+    let found = regex.find_input_counted(input, work).expect(rt, pattern);
+    assert!(rt; found.map(span) == wanted, "{pattern} on {haystack}");
+    assert_eq!(rt; work.steps(), steps, "{pattern} on {haystack}");
+    assert_eq!(rt; work.returns(), returns, "{pattern} on {haystack}");
 }

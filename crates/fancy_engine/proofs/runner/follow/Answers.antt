@@ -19,19 +19,27 @@ pairs-preserved-in-On c =
       running = λ kept deep known failed. rw c.in-On.is at (c.in_ok-visit.ensures.visited kept deep (first_accepted (ends_well (good_end c.args.bounds c.args.haystack.now)) (events_of (way (plain c.args.haystack.now c.args.code.now.meaning c.args.bounds.suppressed c.args.bounds.first) c.args.bounds.last (instrs_of c.args.code.now) deep kept c.args.ways.now.current))) (c.pairs.invariant.running kept deep known failed));
       within = c.in_ok-visit.ensures.within;
       room = c.visit.ensures.room ∙ c.pairs.invariant.room;
-      ticks = c.visit.ensures.ticks;
-      returns = omega (arith, c.visit.ensures.returns, c.in_ok-visit.ensures.tally, c.pairs.invariant.returns);
+      ticks = omega (arith, c.visit.ensures.ticks, c.pairs.invariant.ticks);
+      steps = omega (arith, c.visit.ensures.steps, c.pairs.invariant.steps);
+      returns = omega (arith, c.visit.ensures.returns, c.pairs.invariant.returns);
+      paired = omega (arith, c.visit.ensures.returns, c.in_ok-visit.ensures.tally, c.pairs.invariant.paired);
       free = c.visit.ensures.free ∙ c.pairs.invariant.free;
       last_lines = c.visit.ensures.last_lines;
     }
 
+pub visit-requires-clause-ticks : goal.visit-requires-clause-ticks
+visit-requires-clause-ticks c = omega (arith, c.pairs.invariant.ticks, c.pairs.invariant.room, c.requires.ticks, marked_le c.pairs.table, marked_le c.args.table.now)
+
+pub visit-requires-clause-few : goal.visit-requires-clause-few
+visit-requires-clause-few c = omega (arith, c.pairs.invariant.paired, c.requires.returns)
+
 pub back-requires : goal.back-requires
-back-requires c = omega (arith, c.visit.ensures.returns, c.in_ok-visit.ensures.tally, c.visit.ensures.ticks, c.pairs.invariant.returns, c.pairs.invariant.room, c.visit.ensures.room, marked_le c.visit.new.table, c.requires.small)
+back-requires c = omega (arith, c.visit.ensures.returns, c.in_ok-visit.ensures.tally, c.visit.ensures.ticks, c.pairs.invariant.ticks, c.pairs.invariant.paired, c.pairs.invariant.room, c.visit.ensures.room, marked_le c.visit.new.table, marked_le c.args.table.now, c.requires.ticks, c.requires.returns)
 
 pub returns-in_err-back-in-Dead-clause-refused : goal.returns-in_err-back-in-Dead-clause-refused
 returns-in_err-back-in-Dead-clause-refused c e =
     let b = backed_err _ _ _ _ _ _ c.in_err-back-in-Dead.ensures in
-    omega (arith, some_long c.visit.new.ways.saved b.0, b.1, c.visit.ensures.returns, c.in_ok-visit.ensures.tally, c.visit.ensures.ticks, c.pairs.invariant.returns, c.pairs.invariant.room, c.visit.ensures.room, marked_le c.visit.new.table, c.requires.small)
+    omega (arith, some_long c.visit.new.ways.saved b.0, b.1, c.visit.ensures.returns, c.in_ok-visit.ensures.tally, c.visit.ensures.ticks, c.pairs.invariant.ticks, c.pairs.invariant.paired, c.pairs.invariant.room, c.visit.ensures.room, marked_le c.visit.new.table, marked_le c.args.table.now, c.requires.ticks, c.requires.returns)
 
 pub returns-then-not-branch-clause-answer : goal.returns-then-not-branch-clause-answer
 returns-then-not-branch-clause-answer c kept deep known failed =
@@ -60,8 +68,10 @@ pairs-preserved c =
           (subst (λ (x : List Thread). Resting (good_end c.args.bounds c.args.haystack.now) (plain c.args.haystack.now c.args.code.now.meaning c.args.bounds.suppressed c.args.bounds.first) c.args.bounds.first c.args.bounds.last (instrs_of c.args.code.now) deep kept (first_accepted (ends_well (good_end c.args.bounds c.args.haystack.now)) (events_of (way (plain c.args.haystack.now c.args.code.now.meaning c.args.bounds.suppressed c.args.bounds.first) c.args.bounds.last (instrs_of c.args.code.now) deep kept c.args.ways.now.current))) c.visit.new.table x) b.0 rest));
       within = within;
       room = c.visit.ensures.room ∙ c.pairs.invariant.room;
-      ticks = rw b.2 c.visit.ensures.ticks;
-      returns = rw b.2 (omega (arith, few, c.visit.ensures.returns, c.in_ok-visit.ensures.tally, c.pairs.invariant.returns));
+      ticks = rw b.2 (omega (arith, c.visit.ensures.ticks, c.pairs.invariant.ticks));
+      steps = rw b.2 (omega (arith, c.visit.ensures.steps, c.pairs.invariant.steps));
+      returns = rw b.2 (omega (arith, c.visit.ensures.returns, c.pairs.invariant.returns));
+      paired = rw b.2 (omega (arith, few, c.visit.ensures.returns, c.in_ok-visit.ensures.tally, c.pairs.invariant.paired));
       free = b.1 ∙ c.visit.ensures.free ∙ c.pairs.invariant.free;
       last_lines = c.visit.ensures.last_lines;
     }

@@ -16,8 +16,10 @@ invariant-pairs l = record {
       l.table l.ways.current l.ways.saved;
   within : AllWithin l.bounds (l.ways.current ∷ l.ways.saved);
   room : length l.table ≡ length l.fn.table;
-  ticks : steps_of l.work ≤ marked l.table;
-  returns : returns_of l.work + length l.ways.saved ≤ steps_of l.work;
+  ticks : steps_of l.work + marked l.fn.table ≡ steps_of l.fn.work + marked l.table;
+  steps : steps_of l.fn.work ≤ steps_of l.work;
+  returns : returns_of l.fn.work ≤ returns_of l.work;
+  paired : returns_of l.work + length l.ways.saved + steps_of l.fn.work ≤ returns_of l.fn.work + steps_of l.work;
   free : l.ways.most ≡ l.fn.ways.most;
   last_lines : KnowsLastLines l.haystack l.last_lines;
 }

@@ -22,7 +22,7 @@ returns-then-not-mark-clause-visited c kept deep goal r =
 
 pub step-requires-clause-room : goal.step-requires-clause-room
 step-requires-clause-room c =
-    omega (arith, c.requires.ticks, c.requires.small, marked_le c.mark.new.self, c.if-not-mark.ensures.counted, ap length c.mark.ensures.after, length-set {A = Bool})
+    omega (arith, c.requires.ticks, marked_le c.mark.new.self, c.if-not-mark.ensures.counted, ap length c.mark.ensures.after, length-set {A = Bool})
 
 pub returns-in-Ok-On-clause-visited : goal.returns-in-Ok-On-clause-visited
 returns-in-Ok-On-clause-visited c kept deep goal r =
@@ -43,4 +43,4 @@ returns-else-is_good_end-clause-visited c kept deep goal r =
 pub returns-in-Err-clause-full : goal.returns-in-Err-clause-full
 returns-in-Err-clause-full c e =
     let f = c.in-Err.ensures.full e in
-    omega (arith, f, c.requires.free, c.requires.few, c.requires.ticks, c.requires.small, marked_le c.mark.new.self, c.if-not-mark.ensures.counted, ap length c.mark.ensures.after, length-set {A = Bool})
+    omega (arith, f, c.requires.free, c.requires.few, c.requires.ticks, marked_le c.mark.new.self, c.if-not-mark.ensures.counted, ap length c.mark.ensures.after, length-set {A = Bool})

@@ -19,7 +19,9 @@ invariant-loop-place l = record {
       → AllFailed (good_end l.bounds l.haystack) (plain l.haystack l.code.meaning l.bounds.suppressed l.bounds.first) l.bounds.first l.bounds.last (instrs_of l.code) (depth (length l.haystack) p + 1) l.table;
   room : length l.table ≡ (l.bounds.last - l.bounds.first + 1) * code_len l.code;
   small : length l.table < 2 ^ 64;
-  ticks : steps_of l.work ≤ marked l.table;
-  returns : returns_of l.work ≤ steps_of l.work;
+  fits : steps_of l.fn.work + length l.table < 2 ^ 64;
+  ticks : steps_of l.work ≡ steps_of l.fn.work + marked l.table;
+  returns : returns_of l.fn.work ≤ returns_of l.work;
+  paired : returns_of l.work + steps_of l.fn.work ≤ returns_of l.fn.work + steps_of l.work;
   last_lines : KnowsLastLines l.haystack l.last_lines;
 }

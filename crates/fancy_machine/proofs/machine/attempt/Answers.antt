@@ -3,6 +3,7 @@ use Rattle.fancy_engine.specs.Work.{returns_of}
 use Rattle.fancy_machine.specs.Field.{accepts, code_in}
 use Rattle.fancy_machine.specs.Machine.{chosen, final, returns_to, marks_to, events_of, after}
 use Rattle.fancy_machine.proofs.Searches.{search_on, smaller_on, search_found, search_back, smaller_back, search_end, search_refused, backed_err}
+use Rattle.fancy_machine.proofs.Counts.{steps_more, step_beyond}
 use Rattle.fancy_machine.proofs.machine.attempt.Goals as goal
 
 pub steps-smaller-in-On : goal.steps-smaller-in-On
@@ -12,6 +13,9 @@ pub steps-preserved-in-On : goal.steps-preserved-in-On
 steps-preserved-in-On g c = record {
   searching = rw c.turn.ensures.returns (search_on (code_in c.args.haystack.now c.args.code.now c.args.field g.deep) false (accepts c.args.field c.args.haystack.now) (chosen false (accepts c.args.field c.args.haystack.now) None (events_of (after (code_in c.args.haystack.now c.args.code.now c.args.field g.deep) c.args.trail.now.now))) (returns_of c.args.work.now + returns_to (final false (accepts c.args.field c.args.haystack.now)) (events_of (after (code_in c.args.haystack.now c.args.code.now c.args.field g.deep) c.args.trail.now.now))) (marks_to (final false (accepts c.args.field c.args.haystack.now)) (events_of (after (code_in c.args.haystack.now c.args.code.now c.args.field g.deep) c.args.trail.now.now))) c.steps.trail.now c.steps.trail.frames None (returns_of c.steps.work) c.steps.invariant.searching c.turn.new.trail.now c.turn.new.trail.frames None (rw c.in-On.is at (c.in-Ok.ensures.turned g.deep c.steps.invariant.searching.rest c.steps.invariant.searching.known)));
   room = omega (arith, c.turn.ensures.returns, c.steps.invariant.room);
+  steps = omega (arith, steps_more c.steps.work c.turn.new.work c.turn.ensures.work, c.steps.invariant.steps);
+  returns = omega (arith, c.turn.ensures.returns, c.steps.invariant.returns);
+  paired = λ pairs. omega (arith, steps_more c.steps.work c.turn.new.work c.turn.ensures.work, c.turn.ensures.returns, c.steps.invariant.paired pairs);
   most = c.turn.ensures.most ∙ c.steps.invariant.most;
   last_lines = c.turn.ensures.last_lines;
 }
@@ -49,6 +53,9 @@ steps-preserved g c =
     record {
       searching = rw (b.2, c.turn.ensures.returns) (search_back (code_in c.args.haystack.now c.args.code.now c.args.field g.deep) false (accepts c.args.field c.args.haystack.now) (chosen false (accepts c.args.field c.args.haystack.now) None (events_of (after (code_in c.args.haystack.now c.args.code.now c.args.field g.deep) c.args.trail.now.now))) (returns_of c.args.work.now + returns_to (final false (accepts c.args.field c.args.haystack.now)) (events_of (after (code_in c.args.haystack.now c.args.code.now c.args.field g.deep) c.args.trail.now.now))) (marks_to (final false (accepts c.args.field c.args.haystack.now)) (events_of (after (code_in c.args.haystack.now c.args.code.now c.args.field g.deep) c.args.trail.now.now))) c.steps.trail.now c.steps.trail.frames None (returns_of c.steps.work) c.steps.invariant.searching c.turn.new.trail.now c.turn.new.trail.frames None c.back.new.self.now c.back.new.self.frames (rw c.in-Dead.is at (c.in-Ok.ensures.turned g.deep c.steps.invariant.searching.rest c.steps.invariant.searching.known)) b.0);
       room = rw b.2 (omega (arith, b.3));
+      steps = rw b.2 (omega (arith, steps_more c.steps.work c.turn.new.work c.turn.ensures.work, c.steps.invariant.steps));
+      returns = rw b.2 (omega (arith, c.turn.ensures.returns, c.steps.invariant.returns));
+      paired = λ pairs. rw b.2 (omega (arith, c.turn.ensures.returns, step_beyond c.steps.work c.turn.new.work (returns_of c.steps.work) c.turn.ensures.work (omega (arith, c.turn.ensures.returns, b.3, c.ranges.limit)) (c.steps.invariant.paired pairs)));
       most = b.1 ∙ c.turn.ensures.most ∙ c.steps.invariant.most;
       last_lines = c.turn.ensures.last_lines;
     }

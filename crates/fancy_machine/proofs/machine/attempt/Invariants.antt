@@ -1,6 +1,6 @@
 use Rattle.std.proofs.Common.{◌≡◌, ◌+◌, ◌≤◌, None, false}
 use Rattle.fancy_engine.specs.LastLines.{KnowsLastLines}
-use Rattle.fancy_engine.specs.Work.{returns_of}
+use Rattle.fancy_engine.specs.Work.{steps_of, returns_of}
 use Rattle.fancy_machine.specs.Field.{accepts, code_in}
 use Rattle.fancy_machine.specs.Machine.{Searching, chosen, final, returns_to, marks_to, events_of, after, left, size_of}
 use Rattle.fancy_machine.proofs.machine.attempt.Given as goal
@@ -13,6 +13,9 @@ invariant-steps g l = record {
       (marks_to (final false (accepts l.field l.haystack)) (events_of (after (code_in l.haystack l.code l.field g.deep) l.fn.trail.now)))
       (left (code_in l.haystack l.code l.field g.deep) l.trail.now l.trail.frames) l.trail.frames None (returns_of l.work);
   room : returns_of l.work ≤ l.limit;
+  steps : steps_of l.fn.work ≤ steps_of l.work;
+  returns : returns_of l.fn.work ≤ returns_of l.work;
+  paired : returns_of l.fn.work ≤ steps_of l.fn.work → returns_of l.work ≤ steps_of l.work;
   most : l.trail.most ≡ l.fn.trail.most;
   last_lines : KnowsLastLines l.haystack l.last_lines;
 }

@@ -9,7 +9,7 @@ pub search-requires : goal.search-requires
 search-requires g c =
     let of : g.p ≡ pattern_of c.args.self.now.tree = c.requires.1.0 in
     let coded : ∥ IsCodeOf (pattern_of c.args.self.now.tree) c.args.self.now.code ∥₁ = ∥∥₁_elim c.args.self.now.compiled ∥∥₁_prop (λ compiled. ∣ compiled.coded ∣₁) in
-    (rw of coded, c.requires.0)
+    (rw of coded, (c.requires.0, c.requires.1.1.1.1))
 
 pub returns-in-Ok-clause-answer : goal.returns-in-Ok-clause-answer
 returns-in-Ok-clause-answer g c =
