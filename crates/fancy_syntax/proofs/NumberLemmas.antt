@@ -1,10 +1,10 @@
 -- Numbers in hexadecimal digits, as they are read.
-use Rattle.std.proofs.Common.{◌≡◌, ℕ, ◌+◌, ◌*◌, min, nat_lt, Bool, true, false, ◌&&◌, ◌||◌, [], ◌∷◌, Option, Some, None, cond, refl, sym, ap, ◌∙◌, arith}
+use Rattle.std.proofs.Common.{◌≡◌, ℕ, ◌+◌, ◌*◌, min, nat_lt, Bool, true, false, [], ◌∷◌, Option, Some, None, cond, refl, ap, ◌∙◌, arith}
 use Rattle.std.proofs.lemmas.Bool.Decides.{nat_tests}
 use Rattle.std.specs.Char.{digit_value}
 use Rattle.std.specs.Option.{option_map}
 use Rattle.fancy_syntax.specs.Words.{Text}
-use Rattle.fancy_syntax.specs.Escapes.{hexadecimal, is_character, by_number}
+use Rattle.fancy_syntax.specs.Escapes.{hexadecimal, by_number}
 use Rattle.fancy_syntax.specs.ClassViews.{capped_number}
 
 abbrev capped : ℕ → ℕ

@@ -1,5 +1,5 @@
 -- The dialect, over whole texts: which text spells which pattern. `after` is what follows the text in the whole pattern, so that each case can say that no longer form begins at its place; therefore the cases exclude one another, and a text spells at most one pattern.
-use Rattle.std.specs.Prelude.{◌≡◌, ℕ, suc, ◌+◌, ◌≤◌, ◌==◌, nat_lt, Bool, true, false, not, ◌&&◌, ◌||◌, List, [], ◌∷◌, ◌++◌, drop, length, All, Option, Some, None, codes, map, encode_utf8, if◌then◌else◌}
+use Rattle.std.specs.Prelude.{◌≡◌, ℕ, suc, ◌+◌, ◌≤◌, ◌==◌, nat_lt, Bool, true, false, not, ◌&&◌, ◌||◌, List, [], ◌∷◌, ◌++◌, length, All, Option, Some, None, codes, map, encode_utf8, if◌then◌else◌}
 use Prim.Native.Char.{code}
 use Rattle.std.specs.Option.{unwrap_or, option_map, option_or, option_and_then}
 use Rattle.fancy_syntax.specs.Limits.{most_parentheses, most_turns, most_nodes}

@@ -1,5 +1,5 @@
 -- What flag `i` adds to a set.
-use Rattle.std.specs.Prelude.{◌≡◌, ℕ, Bool, true, ◌&&◌, ◌||◌, ◌==◌, List, [], ◌∷◌}
+use Rattle.std.specs.Prelude.{◌≡◌, ℕ, Bool, true, ◌&&◌, ◌||◌, ◌==◌, List, ◌++◌, zip, codes}
 use Rattle.std.specs.List.{list_any}
 use Rattle.unicode.specs.CaseFolding.{simple_fold, fold_pairs}
 use Rattle.fancy_syntax.specs.declared.tree.Meaning.{Meaning}
@@ -16,9 +16,15 @@ in_pairs pairs p c = list_any (pairs_to p c) pairs
 abbrev pub SharesFolding : (ℕ → Bool) → ℕ → Type 0
 SharesFolding p c = (d : ℕ) × (p d ≡ true) × (simple_fold c ≡ simple_fold d)
 
+abbrev pub capitals : List ℕ
+capitals = codes "ABCDEFGHIJKLMNOPQRSTUVWXYZ"
+
+abbrev pub small_letters : List ℕ
+small_letters = codes "abcdefghijklmnopqrstuvwxyz"
+
 -- an ASCII letter and the other case of it
 abbrev pub ascii_pairs : List (ℕ × ℕ)
-ascii_pairs = (65, 97) ∷ (66, 98) ∷ (67, 99) ∷ (68, 100) ∷ (69, 101) ∷ (70, 102) ∷ (71, 103) ∷ (72, 104) ∷ (73, 105) ∷ (74, 106) ∷ (75, 107) ∷ (76, 108) ∷ (77, 109) ∷ (78, 110) ∷ (79, 111) ∷ (80, 112) ∷ (81, 113) ∷ (82, 114) ∷ (83, 115) ∷ (84, 116) ∷ (85, 117) ∷ (86, 118) ∷ (87, 119) ∷ (88, 120) ∷ (89, 121) ∷ (90, 122) ∷ (97, 65) ∷ (98, 66) ∷ (99, 67) ∷ (100, 68) ∷ (101, 69) ∷ (102, 70) ∷ (103, 71) ∷ (104, 72) ∷ (105, 73) ∷ (106, 74) ∷ (107, 75) ∷ (108, 76) ∷ (109, 77) ∷ (110, 78) ∷ (111, 79) ∷ (112, 80) ∷ (113, 81) ∷ (114, 82) ∷ (115, 83) ∷ (116, 84) ∷ (117, 85) ∷ (118, 86) ∷ (119, 87) ∷ (120, 88) ∷ (121, 89) ∷ (122, 90) ∷ []
+ascii_pairs = zip capitals small_letters ++ zip small_letters capitals
 
 -- what flag `i` makes of a set
 abbrev pub widened : Meaning → (ℕ → Bool) → ℕ → Bool
