@@ -30,11 +30,11 @@ nothing_found {X} p (x ∷ xs) all = let here : p x ≡ false = all 0 x (omega a
 -- every name of a regex stands on a group behind group 0
 module _ (r : Regex) where
   some_group : 1 ≤ groups_in r
-  some_group = ∥∥₁_elim r.compiled (hlevel props) (λ h. h.counted)
+  some_group = ∥∥₁_elim r.compiled (hlevel props) (λ h. h.has_group_zero)
 
   numbered : All (λ (g : Text × ℕ). (1 ≤ g.1) × (g.1 < groups_in r)) (reverse (names_in r))
   numbered =
-      let all : All (λ (g : Text × ℕ). (1 ≤ g.1) × (g.1 < groups_in r)) (names_in r) = ∥∥₁_elim r.compiled (hlevel props) (λ h. rising_within 1 (groups_in r) (names_in r) h.named) in
+      let all : All (λ (g : Text × ℕ). (1 ≤ g.1) × (g.1 < groups_in r)) (names_in r) = ∥∥₁_elim r.compiled (hlevel props) (λ h. rising_within 1 (groups_in r) (names_in r) h.rising) in
       All-permutation (λ (g : Text × ℕ). (1 ≤ g.1) × (g.1 < groups_in r)) (names_in r) (reverse (names_in r)) (IsPermutation-reverse (names_in r)) all
 
   pub stands_on_group : (name : Text) → StandsOnGroup r name

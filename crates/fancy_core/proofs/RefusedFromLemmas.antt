@@ -1,7 +1,6 @@
 -- Lemmas on where the search starts that refuses a replacement.
 use Rattle.std.proofs.Common.{arith, ℕ, ◌≤◌, ◌≡◌, Bool, true, false, nat_eq, List, [], ◌∷◌, length, Option, None, Some, zero, suc, if◌then◌else◌, ap, subst}
 use Rattle.std.specs.Cmp.Derive.{both_true}
-use Rattle.std.proofs.lemmas.Grind.{common_steps}
 use Rattle.fancy_syntax.specs.declared.error.Error.{Error}
 use Rattle.fancy_input.specs.declared.input.Request.{Request}
 use Rattle.fancy_input.specs.Requests.{whole}
@@ -17,6 +16,7 @@ use Rattle.fancy_core.specs.Replacing.{StartFrom, IsRefusedFrom}
 use Rattle.fancy_core.proofs.LeftLemmas.{skips}
 use Rattle.fancy_core.proofs.MatchingLemmas.{LiesFrom, answer_lies}
 use Rattle.fancy_core.proofs.ScanLemmas.{scan_sound}
+use Rattle.fancy_core.proofs.StepLemmas.{nat_same}
 
 start_up_to : (left : Option ℕ) (s : ℕ) (xs : List Item) → StartFrom s xs → StartFrom s (up_to left xs)
 start_up_to None s xs h = h
@@ -49,9 +49,6 @@ upcoming_lies k s c false h = answer_lies k s c h
 -- what is left of an iteration starts where that stands, or later
 left_start : (k : Scan) (s : ℕ) (c b : Bool) → Sound k → StartFrom s (left_if false k s c b)
 left_start k s c b h = items_start k s (upcoming_if b k s c) (upcoming_lies k s c b h)
-
-nat_same : (n : ℕ) → nat_eq n n ≡ true
-nat_same n = grind (arith, common_steps)
 
 -- and at the next place or later, where an empty match is passed over
 passed_start : (k : Scan) (s : ℕ) (c : Bool) (i : Item) → Sound k → answer k s c ≡ Some i → is_empty i ≡ true → stop_of i ≡ s → StartFrom (k.advance s) (left_if false k s c true)

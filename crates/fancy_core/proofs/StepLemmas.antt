@@ -17,7 +17,7 @@ use Rattle.fancy_core.proofs.ScanLemmas.{scan_sound}
 scan_moved : (p : Regex) (t : Bool) (bs : List ℕ) (r q : Request) (s : ℕ) → q ≡ record r { start = s } → scan p t bs q ≡ scan p t bs r
 scan_moved p t bs r q s e = ap (scan p t bs) e
 
-nat_same : (n : ℕ) → nat_eq n n ≡ true
+pub nat_same : (n : ℕ) → nat_eq n n ≡ true
 nat_same n = grind (arith, common_steps)
 
 -- an empty match that is passed over

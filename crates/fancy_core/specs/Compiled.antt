@@ -19,5 +19,5 @@ pub record IsSpelled (o : Options) (text : List ℕ) (p : Pattern) (groups : ℕ
 pub record IsCompiled (o : Options) (text : List ℕ) (p : Pattern) (code : Code) (names : List (Text × ℕ)) : Type 0 where
   pub spelled : IsSpelled o text p code.groups names
   pub coded : IsCodeOf p code
-  pub counted : 1 ≤ code.groups
-  pub named : Rising 1 code.groups names
+  pub has_group_zero : 1 ≤ code.groups
+  pub rising : Rising 1 code.groups names

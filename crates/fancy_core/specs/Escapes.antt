@@ -1,4 +1,5 @@
 -- Texts that are to stand for themselves, in a template or in a pattern.
+use Prim.Native.Char.{code}
 use Rattle.std.specs.Prelude.{ℕ, ◌==◌, Bool, List, [], ◌∷◌, ◌++◌, chars, codes, encode_utf8_all, flat_map, if◌then◌else◌}
 use Rattle.std.specs.List.{list_any}
 use Rattle.fancy_syntax.specs.Words.{Text, is_among}
@@ -26,9 +27,9 @@ has_special t = list_any is_special t
 -- one character of such a text: LF, TAB and CR are written by letters
 unfoldable pub escaped_character : ℕ → Text
 escaped_character c =
-    if c == 10 then codes "\\n"
-    else if c == 9 then codes "\\t"
-    else if c == 13 then codes "\\r"
+    if c == code "\n" then codes "\\n"
+    else if c == code "\t" then codes "\\t"
+    else if c == code "\r" then codes "\\r"
     else if is_special c then codes "\\" ++ (c ∷ [])
     else c ∷ []
 

@@ -1,4 +1,5 @@
 -- Small lists of matches that are known from elsewhere.
+use Prim.Native.Char.{code}
 use Rattle.std.specs.Prelude.{◌≡◌, List, [], ◌∷◌, None, map, true, codes}
 use Rattle.fancy_syntax.specs.declared.tree.Taste.TheVariants.{Greedy}
 use Rattle.fancy_syntax.specs.Pattern.{Pattern, character, continue_here, repeat, followed, or_else, last_branch}
@@ -14,7 +15,7 @@ spans_listed q = map span_of_item (matches (iteration true q) q.request.start)
 
 -- `\Gx*`
 abbrev pub turns_here : Pattern
-turns_here = followed continue_here (repeat 0 None Greedy (character 120))
+turns_here = followed continue_here (repeat 0 None Greedy (character (code "x")))
 
 -- `\G(?:a|b)`
 abbrev pub branch_here : Pattern

@@ -1,5 +1,5 @@
 -- What an iteration over the matches of a regex has left.
-use Rattle.std.specs.Prelude.{ℕ, zero, suc, length, ⊤, ◌≡◌, Bool, true, false, nat_eq, if◌then◌else◌, List, [], ◌∷◌, Option, Some, Result, MatchOption, MatchResult}
+use Rattle.std.specs.Prelude.{ℕ, zero, suc, ◌&&◌, length, ⊤, ◌≡◌, Bool, true, false, nat_eq, if◌then◌else◌, List, [], ◌∷◌, Option, Some, Result, MatchOption, MatchResult}
 use Rattle.fancy_syntax.specs.declared.error.Error.{Error}
 use Rattle.fancy_input.specs.declared.input.Request.{Request}
 use Rattle.fancy_input.specs.Places.{next_place}
@@ -13,10 +13,10 @@ use Rattle.fancy_core.specs.Limited.{Refuses}
 use Rattle.fancy_core.specs.Scratch.{found_at}
 use Rattle.fancy_core.specs.Matching.{Scan, Item, stop_of, is_empty, answer, unless_empty_at, start_unless_empty_at, items_from, end_from, matches, last_start}
 
--- The iteration of a query: it is asked again from each start, with `\G` on or off. `text` says that the haystack is text.
+-- The iteration of a query: it is asked again from each start, with `\G` on or off, and off everywhere where the query has it off. `text` says that the haystack is text.
 abbrev pub iteration : Bool → Query → Scan
 iteration text q = record {
-  find = λ s c. search (record q { request = record q.request { start = s }; continues = c });
+  find = λ s c. search (record q { request = record q.request { start = s }; continues = q.continues && c });
   advance = next_place text q.haystack;
   floor = q.request.range_start;
   last = q.request.range_end;

@@ -189,8 +189,8 @@ impl Regex {
     ///
     /// It is refused where memory runs out (`Memory`), and for a hard pattern (one that is not [`Regex::is_easy`]) past a
     /// limit: `RuntimeError(BacktrackLimitExceeded)` where the search takes more returns than
-    /// [`RegexOptionsBuilder::backtrack_limit`] allows, and `RuntimeError(StackOverflow)` where it opens more than
-    /// 1,000,000 choices.
+    /// [`RegexOptionsBuilder::backtrack_limit`] allows, and `RuntimeError(StackOverflow)` where more than 1,000,000 branches
+    /// are saved at one time, which only a search that opens more choices than that can come to.
     pub fn find_input<S: Input>(&self, input: RegexInput<S>) -> Result<Option<S::Match>>
         requires searched { CanSearch (options_in self.now) (S.text (haystack_in input)) (S.bytes (haystack_in input)) (request_in input) }
         ensures found { IfOk result (λ m. option_map S.span m ≡ option_map span_of (search (asked self.now (S.bytes (haystack_in input)) (request_in input)))) }
@@ -205,7 +205,15 @@ impl Regex {
     }
 
     /// The first match that the input asks for, or none, as [`Regex::find_input`] answers; and in `work` how much
-    /// this call did, after a refusal how much up to it.
+    /// this call did, after a refusal how much up to it. What was counted in `work` before is lost. Steps are counted as far
+    /// as a `usize` goes.
+    ///
+    /// ```text
+    /// let mut work = Work::new();
+    /// Regex::new(alloc, "a|ab")?.find_input_counted(RegexInput::new("xab"), &mut work)?    // Some: 1..2
+    /// work.steps()      // 6
+    /// work.returns()    // 1
+    /// ```
     ///
     /// An easy search takes at most [`Regex::code_len`] steps for each position of the searched text, its end
     /// among them; from a start past the range's end it takes none. It is refused as [`Regex::find_input`] is; a hard

@@ -18,18 +18,15 @@ use Rattle.fancy_syntax.specs.declared.tree.Meaning.{Meaning}
 use Rattle.fancy_syntax.proofs.BlankLemmas.{chosen, begins_with}
 use Rattle.fancy_syntax.proofs.CanonicalLemmas.{edges_unique}
 use Rattle.fancy_syntax.proofs.CountLemmas.{first_is as at_char}
-use Rattle.fancy_syntax.proofs.EndsLemmas.{ends_token}
+use Rattle.fancy_syntax.proofs.EdgesLemmas.{or-false}
+use Rattle.fancy_syntax.proofs.EndsLemmas.{ends_token, not_false}
 use Rattle.fancy_syntax.proofs.GatheredLemmas.{or_assoc}
 use Rattle.fancy_syntax.proofs.ReadingLemmas.{some_pair, some_is_none}
 use Rattle.fancy_syntax.proofs.ClassSteps as steps
 
-or_false : (b : Bool) → (b || false) ≡ b
-or_false true = refl
-or_false false = refl
-
 -- what was gathered, with no more items
 with_none : (e : Members) → both e (united []) ≡ e
-with_none e = fun_ext (λ c. or_false (e c))
+with_none e = fun_ext (λ c. or-false (e c))
 
 -- with one more item, and then with others
 with_next : (e f : Members) (fs : List Members) → both e (united (f ∷ fs)) ≡ both (both e f) (united fs)
@@ -116,15 +113,11 @@ starts_parts p h = go (is_at "[" p) (is_posix p) h
     go true false h = refl
     go false b h = cc
 
-ascii_parts : (b : Bool) → not b ≡ true → b ≡ false
-ascii_parts true h = cc
-ascii_parts false h = refl
-
 -- the brackets, and perhaps `^`, round what is spelled
 enclosed : {m : Meaning} {i : Bool} {k : ℕ} {f : Members} (t v rest : Text) (b : Bool) → is_at "^" t ≡ b → may_turn m (opening_by b t).0 ≡ true → (opening_by b t).1 ≡ v ++ 93 ∷ rest → d.Operands m i k v (93 ∷ rest) f
     → Spelled (λ w. d.Class m i (suc k) w rest (turned m (opening_by b t).0 f)) (91 ∷ t) rest
 enclosed {m} t v rest true e may is o =
-    (91 ∷ 94 ∷ (v ++ 93 ∷ []), ap (λ l. 91 ∷ l) (at_char 94 t e ∙ ap (λ l. 94 ∷ l) (is ∙ sym (append_assoc v (93 ∷ []) rest))), d.negated (ascii_parts (is_ascii_meaning m) may) o)
+    (91 ∷ 94 ∷ (v ++ 93 ∷ []), ap (λ l. 91 ∷ l) (at_char 94 t e ∙ ap (λ l. 94 ∷ l) (is ∙ sym (append_assoc v (93 ∷ []) rest))), d.negated (not_false (is_ascii_meaning m) may) o)
 enclosed t v rest false e may is o = (91 ∷ (v ++ 93 ∷ []), ap (λ l. 91 ∷ l) (is ∙ sym (append_assoc v (93 ∷ []) rest)), d.plain (ap (is_at "^") (sym is) ∙ e) o)
 
 mutual

@@ -205,7 +205,8 @@ lexed_followed : {s : Scope} {t u v : Text} {x : Lexeme} (o : Option Lexeme) →
 lexed_followed None h e k = absurd (some_is_none (sym h))
 lexed_followed (Some y) h e k = lexed_as h e (k y refl)
 
-not_false : (b : Bool) → not b ≡ true → b ≡ false
+-- what is false by its negation
+pub not_false : (b : Bool) → not b ≡ true → b ≡ false
 not_false true h = cc
 not_false false h = refl
 

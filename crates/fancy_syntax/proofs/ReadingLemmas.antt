@@ -2,6 +2,7 @@
 use Rattle.std.proofs.Common.{◌≡◌, ℕ, suc, ◌+◌, ◌<◌, ◌==◌, Bool, true, false, List, [], ◌∷◌, ◌++◌, Option, Some, None, length, refl, sym, ap, ◌∙◌, subst, append_assoc, append-nil, arith, Result, Err, ◌⊎◌, inl, inr, ap₂, add-one}
 use Rattle.std.proofs.lemmas.Bool.Decides.{nat_tests}
 use Rattle.std.proofs.lemmas.List.{nil_from_length}
+use Rattle.fancy_syntax.specs.Limits.{most_parentheses}
 use Rattle.fancy_syntax.specs.Pattern.{Pattern, backreference, in_sequence, in_branches}
 use Rattle.fancy_syntax.specs.Words.{Text, is_at_any, is_at}
 use Rattle.fancy_syntax.specs.Dialect.{Scope, with_part}
@@ -303,16 +304,16 @@ found_group (Capture n) h f = refl
 found_group (Marked how) h f = refl
 found_group (Reference folded index) h f = absurd (f folded index refl)
 
-pub no_whole_reading : {s : Scope} {text : Text} {p : Place} → p ≡ start s text → HasNoReading (Alternation 64) p → (t : Pattern) (end : Place) → Reads s text t end → ⊥
-no_whole_reading is nothing t end x = nothing t end (x.branches, x.is, subst (λ y. Branches 64 y x.branches end) (sym is) x.reads)
+pub no_whole_reading : {s : Scope} {text : Text} {p : Place} → p ≡ start s text → HasNoReading (Alternation most_parentheses) p → (t : Pattern) (end : Place) → Reads s text t end → ⊥
+no_whole_reading is nothing t end x = nothing t end (x.branches, x.is, subst (λ y. Branches most_parentheses y x.branches end) (sym is) x.reads)
 
-pub not_whole : {s : Scope} {text : Text} {p q : Place} {found : Pattern} → p ≡ start s text → IsTheReading (Alternation 64) p found q → (q.text ≡ [] → ⊥) → (t : Pattern) (end : Place) → Reads s text t end → ⊥
+pub not_whole : {s : Scope} {text : Text} {p q : Place} {found : Pattern} → p ≡ start s text → IsTheReading (Alternation most_parentheses) p found q → (q.text ≡ [] → ⊥) → (t : Pattern) (end : Place) → Reads s text t end → ⊥
 not_whole is h left t end x =
-    let o = h.1 t end (x.branches, x.is, subst (λ y. Branches 64 y x.branches end) (sym is) x.reads) in
+    let o = h.1 t end (x.branches, x.is, subst (λ y. Branches most_parentheses y x.branches end) (sym is) x.reads) in
     left (ap (λ (s : Place). s.text) (sym o.1) ∙ x.all)
 
-pub whole_reading : {s : Scope} {text : Text} {p q : Place} {found : Pattern} → p ≡ start s text → IsTheReading (Alternation 64) p found q → q.text ≡ [] → Reads s text found q
-whole_reading {q = q} is h all = record { branches = h.0.0; is = h.0.1; reads = subst (λ y. Branches 64 y h.0.0 q) is h.0.2; all = all }
+pub whole_reading : {s : Scope} {text : Text} {p q : Place} {found : Pattern} → p ≡ start s text → IsTheReading (Alternation most_parentheses) p found q → q.text ≡ [] → Reads s text found q
+whole_reading {q = q} is h all = record { branches = h.0.0; is = h.0.1; reads = subst (λ y. Branches most_parentheses y h.0.0 q) is h.0.2; all = all }
 
 is_zero : (n : ℕ) → true ≡ (n == 0) → n ≡ 0
 is_zero n h = grind (arith, nat_tests)

@@ -5,7 +5,8 @@ use Rattle.std.specs.Char.{is_ascii_digit}
 use Rattle.fancy_syntax.specs.Pattern.{Pattern}
 use Rattle.fancy_syntax.specs.Words.{Text, ◌∈◌, is_among, is_at_any, is_at, begins, is_at_digit, past_digits, decimal, past_blank}
 use Rattle.fancy_syntax.specs.Names.{name_here, past_name}
-use Rattle.fancy_syntax.specs.References.{Target, largest_told, back, number_reference, distance_reference, name_reference, delimited, reference, begins_reference}
+use Rattle.fancy_syntax.specs.Limits.{largest_told}
+use Rattle.fancy_syntax.specs.References.{Target, back, number_reference, distance_reference, name_reference, delimited, reference, begins_reference}
 use Rattle.fancy_syntax.specs.Dialect.{Scope, lexeme, ReadsAtom, by_lexeme, by_class}
 use Rattle.fancy_syntax.specs.Grammar.{ends_branch}
 use Rattle.fancy_syntax.proofs.ReadingLemmas.{some_pair, some_is_none, true_is_false}

@@ -17,6 +17,10 @@ most_nodes = 1000000
 abbrev pub most_turns : ℕ
 most_turns = 4294967295
 
+-- the largest number of a group that a reference, or the refusal of one, tells
+abbrev pub largest_told : ℕ
+largest_told = 4294967295
+
 -- branches that a search for a hard pattern has saved at one time
 abbrev pub most_branches : ℕ
 most_branches = 1000000

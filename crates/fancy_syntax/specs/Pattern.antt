@@ -13,7 +13,7 @@ pub data Pattern : Type 0 where
   character : ℕ → Pattern
   -- one item of a set, by the rising numbers at which the set begins and ends in turn
   member_of : List ℕ → Pattern
-  -- a literal under flag `i`: one item that shares its folding with the literal's character, by the edges of the set of these
+  -- a literal under flag `i`: one item of the set of what that flag takes for the literal's character, by the edges of this set
   in_any_case : List ℕ → Pattern
   -- one byte, in any meaning
   raw_byte : ℕ → Pattern

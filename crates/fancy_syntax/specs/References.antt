@@ -2,6 +2,7 @@
 use Rattle.std.specs.Prelude.{ℕ, ◌+◌, ◌-◌, ◌==◌, ◌||◌, ◌&&◌, Bool, not, nat_le, min, List, [], ◌∷◌, length, drop, slice_index_or, Option, Some, None, Result, Ok, Err, if◌then◌else◌}
 use Prim.Native.Char.{code}
 use Rattle.fancy_syntax.specs.Pattern.{Pattern, empty, character, member_of, in_any_case, raw_byte, backreference, assertion, group_test, keep_start, continue_here, group, repeat, look_ahead, look_behind, atomic, conditional, followed, or_else, last_branch}
+use Rattle.fancy_syntax.specs.Limits.{largest_told}
 use Rattle.fancy_syntax.specs.Words.{Text, is_at_any, is_at, begins, is_at_digit, past_digits, decimal, are_digits}
 use Rattle.fancy_syntax.specs.Names.{name_here, past_name, last_named}
 
@@ -24,9 +25,6 @@ pub data Fault : Type 0 where
   no_number : ℕ → Fault
   -- no group has this name
   no_name : Text → Fault
-
-abbrev pub largest_told : ℕ
-largest_told = 4294967295
 
 -- the group that is so many back from those opened so far: 1 is the last one
 abbrev pub back : ℕ → ℕ → Target

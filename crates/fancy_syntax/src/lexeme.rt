@@ -54,7 +54,7 @@ fn item(set: Set) -> Tree
     Tree::Member(set.into_edges())
 }
 
-/// A literal under flag `i`, with the characters that share its folding.
+/// A literal under flag `i`, with the characters that this flag takes for it.
 #[tactic(auto, using(crate::proofs::PatternLemmas::pattern_equations))]
 fn in_any_case(set: Set) -> Tree
     ensures { (f : Members) → ((c : ℕ) → members set c ≡ f c) → IsMeant (any_case_of f) (pattern_of result) }

@@ -118,8 +118,8 @@ pub enum Tree {
     Character(char),
     /// One item of a set, which these rising numbers begin and end in turn.
     Member(Vec<u32>),
-    /// A literal under flag `i`: one item that shares its folding with the literal's character, by the edges of
-    /// the set of these.
+    /// A literal under flag `i`: one item of the set of what that flag takes for the literal's character, by the edges of
+    /// this set.
     InAnyCase(Vec<u32>),
     /// One byte, in any meaning.
     RawByte(u8),

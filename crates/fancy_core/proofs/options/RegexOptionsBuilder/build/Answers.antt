@@ -41,8 +41,8 @@ invariant_of-result c = record {
   compiled = ∣ record {
     spelled = let h = rw (c.syntax.ensures, c.as_str.ensures.value) at c.in_ok-tree.ensures.accepted in record { spelled = h.0; counted = h.1 ∙ sym c.in_ok-code.ensures.groups; named = sym h.2 };
     coded = c.in_ok-code.ensures.code;
-    counted = omega (arith, c.in_ok-tree.ensures.accepted.1, c.in_ok-code.ensures.groups);
-    named = rising_names _ (views.options_of c.syntax.result) _ _ _ _ _ (c.in_ok-tree.ensures.accepted.0).spelled.spelled (c.in_ok-tree.ensures.accepted.1 ∙ sym c.in_ok-code.ensures.groups) c.in_ok-tree.ensures.accepted.2;
+    has_group_zero = omega (arith, c.in_ok-tree.ensures.accepted.1, c.in_ok-code.ensures.groups);
+    rising = rising_names _ (views.options_of c.syntax.result) _ _ _ _ _ (c.in_ok-tree.ensures.accepted.0).spelled.spelled (c.in_ok-tree.ensures.accepted.1 ∙ sym c.in_ok-code.ensures.groups) c.in_ok-tree.ensures.accepted.2;
   } ∣₁;
   meant = c.in_ok-code.ensures.meaning ∙ c.meaning.ensures;
   short = c.in_ok-code.ensures.short;
