@@ -1,5 +1,5 @@
 -- What the runner answers is the answer of the search that a regex asks for.
-use Rattle.std.proofs.Common.{◌≡◌, ◌≤◌, ℕ, false, Option, Some, None, IfSome, IsTrue, length, sym, arith}
+use Rattle.std.proofs.Common.{◌≡◌, ◌≤◌, ℕ, false, Option, Some, None, IfSome, IsTrue, length, sym}
 use Rattle.std.proofs.Math.Logic.{∥∥₁_elim}
 use Rattle.std.proofs.Props.{props}
 use Rattle.fancy_input.specs.Places.{is_boundary}
