@@ -1,5 +1,5 @@
 -- What the searches of an iteration owe its list.
-use Rattle.std.proofs.Common.{arith, ℕ, suc, ◌≤◌, ◌<◌, ◌^◌, ◌≡◌, Bool, true, false, List, length, Option, Some, IsTrue, IsUtf8, refl, sym}
+use Rattle.std.proofs.Common.{arith, le_trans, ℕ, suc, ◌≤◌, ◌<◌, ◌^◌, ◌≡◌, Bool, true, false, List, length, Option, Some, IsTrue, IsUtf8, refl, sym}
 use Rattle.std.proofs.lemmas.Grind.{common_steps}
 use Rattle.fancy_input.specs.declared.input.Request.{Request}
 use Rattle.fancy_input.specs.Requests.{effective_start}
@@ -24,10 +24,8 @@ pub search_lies : (regex : Regex) (haystack : List ℕ) (r : Request) (c : Bool)
 search_lies regex haystack r c f range e =
     let within = answer_within (asked_in_turn regex haystack r c) f refl range e in
     let first = answer-is (asked_in_turn regex haystack r c) f refl e in
-    let kept : f.state.kept ≡ f.position = within.kept regex.starts in
-    let a : effective_start r ≤ f.position = first.tried.from in
-    let b : f.position ≤ f.state.place = within.begins in
-    (omega (arith, a, kept), omega (arith, b, kept), within.ends)
+    let forward = within.forward regex.starts in
+    (le_trans first.tried.from forward.from, forward.to, within.ends)
 
 pub scan_sound : (regex : Regex) (text : Bool) (haystack : List ℕ) (r : Request) → r.range_end ≤ length haystack → Sound (scan regex text haystack r)
 scan_sound regex text haystack r range = record {

@@ -9,7 +9,7 @@ ghost use Rattle.fancy_input.specs.Requests.{whole, effective_start};
 ghost use Rattle.fancy_syntax.specs.Sizes.{nodes};
 ghost use Rattle.fancy_engine.specs.Code.{code_len, instrs_of};
 ghost use Rattle.fancy_engine.specs.Means.{is_easy, are_easy};
-ghost use Rattle.fancy_engine.specs.Placed.{has_raw_byte, has_keep_start};
+ghost use Rattle.fancy_engine.specs.Placed.{has_raw_byte, has_keep_start_in_look_around};
 ghost use Rattle.fancy_engine.specs.Work.{steps_of, returns_of};
 ghost use Rattle.fancy_engine.specs.Search.{search, span_of};
 ghost use Rattle.fancy_engine.specs.Answers.{HasNone};
@@ -57,7 +57,7 @@ pub struct Regex {
     ghost short: { code_len code ≤ 4 * nodes (pattern_of tree) + 2 },
     ghost decided: { easy ≡ is_easy (pattern_of tree) },
     ghost light: { is_easy (pattern_of tree) ≡ true → are_easy (instrs_of code) ≡ true },
-    ghost starts: { has_keep_start (pattern_of tree) ≡ false },
+    ghost starts: { has_keep_start_in_look_around (pattern_of tree) ≡ false },
     ghost whole: { keeps_characters options.bytes_mode ≡ true → has_raw_byte (pattern_of tree) ≡ false },
 }
 
