@@ -89,6 +89,6 @@ pub groups_cut : (r : Regex) (text : Bool) (haystack : List ℕ) (request : Requ
     Some (found_at position memory) ≡ search (asked_in_turn r haystack request c) → AreCut text haystack (spans_of n (found_at position memory))
 groups_cut r text haystack request c position memory n range suits utf8 e =
     all_cut (asked_in_turn r haystack request c) text position memory
-    (answer_within (asked_in_turn r haystack request c) _ refl range (sym e))
-    (λ t. answer_on_boundaries (asked_in_turn r haystack request c) _ refl range (keeps_by r text haystack request c _ refl suits utf8 t) (sym e))
+    (answer_within (asked_in_turn r haystack request c) _ range (sym e))
+    (λ t. answer_on_boundaries (asked_in_turn r haystack request c) _ range (keeps_by r text haystack request c _ refl suits utf8 t) (sym e))
     range r.starts n

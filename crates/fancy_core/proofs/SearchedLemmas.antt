@@ -13,16 +13,16 @@ use Rattle.fancy_engine.proofs.FoundLemmas.{answer_within}
 pub known : {P : Type 0} (a b : Option Found) → ∥ P ∥₁ → (P → a ≡ b) → a ≡ b
 known a b t f = ∥∥₁_elim t (hlevel props) f
 
-module _ (q : Query) (memory : Scratch) (short : q.sought.longest ≡ false) (range : q.request.range_end ≤ length q.haystack) (outside : has_keep_start_in_look_around q.sought.pattern ≡ false) where
+module _ (q : Query) (memory : Scratch) (range : q.request.range_end ≤ length q.haystack) (outside : has_keep_start_in_look_around q.sought.pattern ≡ false) where
   pub ordered_found : (m : Option ℕ) → answer_of m memory ≡ search q → IfSome m (λ p. (state_in p memory).kept ≤ (state_in p memory).place)
   ordered_found None e = tt
-  ordered_found (Some p) e = ((answer_within q _ short range (sym e)).forward outside).to
+  ordered_found (Some p) e = ((answer_within q _ range (sym e)).forward outside).to
 
   pub inside_found : (m : Option ℕ) → answer_of m memory ≡ search q → IfSome m (λ p. (state_in p memory).place ≤ q.request.range_end)
   inside_found None e = tt
-  inside_found (Some p) e = (answer_within q _ short range (sym e)).ends
+  inside_found (Some p) e = (answer_within q _ range (sym e)).ends
 
   pub clean_found : (m : Option ℕ) → IsTrue q.sought.on_boundaries → answer_of m memory ≡ search q →
       IfSome m (λ p. IsTrue (is_boundary q.haystack (state_in p memory).kept) × IsTrue (is_boundary q.haystack (state_in p memory).place))
   clean_found None on e = tt
-  clean_found (Some p) on e = let a = (answer_within q _ short range (sym e)).accepted in (a.keeps on, a.ends on)
+  clean_found (Some p) on e = let a = (answer_within q _ range (sym e)).accepted in (a.keeps on, a.ends on)

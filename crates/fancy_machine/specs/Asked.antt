@@ -16,7 +16,7 @@ asked p code o haystack request = record {
     on_boundaries = o.on_boundaries;
     overrides = o.overrides;
     not_empty = o.not_empty;
-    longest = false;
+    longest = o.longest;
   };
   haystack = haystack;
   request = request;

@@ -15,7 +15,7 @@ use Rattle.fancy_syntax.specs.declared.class.token.Token.{Token}
 use Rattle.fancy_syntax.specs.declared.class.token.Token.TheVariants.{Named as NamedSet}
 use Rattle.fancy_syntax.specs.declared.named.Named.{Named}
 use Rattle.fancy_syntax.specs.Pattern.{Pattern, character, member_of, in_any_case, raw_byte, backreference, assertion, group, repeat, look_ahead, look_behind, atomic, in_sequence, in_branches}
-use Rattle.fancy_syntax.specs.Sizes.{nodes, are_sized, is_empty}
+use Rattle.fancy_syntax.specs.Sizes.{size, nodes, are_sized, is_empty}
 use Rattle.fancy_syntax.specs.Words.{Text, ◌∈◌, is_among, is_at, by_word, is_at_digit, is_blank, past_blank, decimal, are_digits, begins_count}
 use Rattle.fancy_syntax.specs.Sets.{has, AreEdges, in_range}
 use Rattle.fancy_syntax.specs.Members.{Members}
@@ -369,13 +369,15 @@ pub record Options : Type 0 where
   pub keeps_characters : Bool
   -- where a group has a name, those without capture nothing
   pub only_named : Bool
+  -- empty matches are refused
+  pub not_empty : Bool
   pub flags : Flags
 
 abbrev pub no_flags : Flags
 no_flags = record { ignore_case = false; multi_line = false; dot_all = false; ignore_blanks = false; crlf = false }
 
 abbrev pub standard : Options
-standard = record { meaning = Unicode; keeps_characters = true; only_named = false; flags = no_flags }
+standard = record { meaning = Unicode; keeps_characters = true; only_named = false; not_empty = false; flags = no_flags }
 
 -- what is in force where a pattern begins, by whether its groups without a name capture
 abbrev pub begin : Bool → Options → Scope
@@ -404,7 +406,7 @@ fault_of o end w = references.fault_of (groups_at o end) w
 abbrev pub numbers : Options → Scope → ℕ → ℕ
 numbers o end = number_in (map (group_for (groups_at o end)) end.wanted)
 
--- The text is a pattern of the dialect: it spells this one, whose references each name a group, whose look-behind has sizes, and which is not too complex.
+-- The text is a pattern of the dialect: it spells this one, whose references each name a group, whose look-behind has sizes, which can match where empty matches are refused, and which is not too complex.
 pub record IsPattern (o : Options) (text : Text) (p : Pattern) : Type 0 where
   pub written : Pattern
   pub end : Scope
@@ -412,4 +414,5 @@ pub record IsPattern (o : Options) (text : Text) (p : Pattern) : Type 0 where
   pub is : p ≡ refers_to (numbers o end) written
   pub resolved : All (λ w. fault_of o end w ≡ None) end.wanted
   pub sized : are_sized o.meaning p ≡ true
+  pub fills : o.not_empty ≡ true → (size o.meaning p ≡ Some 0) → ⊥
   pub small : nodes p ≤ most_nodes

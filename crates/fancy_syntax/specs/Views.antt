@@ -1,5 +1,5 @@
 -- What the parser's functions promise each other.
-use Rattle.std.specs.Prelude.{◌≡◌, ℕ, ◌+◌, ◌-◌, ◌^◌, min, Bool, ◌&&◌, List, length, take, sum_by, Option, Some, None, option_map, Result, Ok, Err, map, Any, chars, string_bytes}
+use Rattle.std.specs.Prelude.{◌≡◌, ℕ, ◌+◌, ◌-◌, ◌^◌, min, Bool, true, false, ◌&&◌, List, length, take, sum_by, Option, Some, None, option_map, Result, Ok, Err, map, Any, chars, string_bytes}
 use Rattle.std.specs.Borrow.{Bor}
 use Rattle.std.specs.Char.{len_utf8}
 use Rattle.fancy_syntax.specs.declared.parser.Parser.{Parser}
@@ -16,11 +16,12 @@ use Rattle.fancy_syntax.specs.declared.flags.Flags.{Flags as Found_flags}
 use Rattle.fancy_syntax.specs.declared.parse.Syntax.{Syntax}
 use Rattle.fancy_syntax.specs.declared.parse.Draft.{Draft}
 use Rattle.fancy_syntax.specs.declared.error.CompileError.{CompileError as Compiling}
-use Rattle.fancy_syntax.specs.declared.error.CompileError.TheVariants.{InvalidBackref, InvalidGroupNameBackref, NamedBackrefOnly}
+use Rattle.fancy_syntax.specs.declared.error.CompileError.TheVariants.{InvalidBackref, InvalidGroupNameBackref, NamedBackrefOnly, LookBehindNotConst, PatternCanNeverMatch}
 use Rattle.fancy_syntax.specs.declared.class.refusal.Refusal.{Refusal}
 use Rattle.fancy_syntax.specs.declared.class.refusal.Refusal.TheVariants.{Memory as OutOfMemory, Invalid}
 use Rattle.fancy_syntax.specs.declared.tree.Tree.{Tree}
 use Rattle.fancy_syntax.specs.Pattern.{Pattern, pattern_of, in_sequence, in_branches}
+use Rattle.fancy_syntax.specs.Sizes.{size, are_sized}
 use Rattle.fancy_syntax.specs.Words.{Text}
 use Rattle.fancy_syntax.specs.Names.{named_groups}
 use Rattle.fancy_syntax.specs.References.{Target, numbered, missing, called, called_or_numbered, Fault, by_name_alone, no_number, no_name, Groups, fault_of, fault_in}
@@ -88,7 +89,7 @@ error_of p OutOfMemory = Memory
 error_of p (Invalid kind) = ParseError (bytes_before p.whole.now p.rest.now) kind
 
 abbrev pub options_of : Syntax → Options
-options_of s = record { meaning = s.meaning; keeps_characters = s.keeps_characters; only_named = s.only_named; flags = flags_of s.flags }
+options_of s = record { meaning = s.meaning; keeps_characters = s.keeps_characters; only_named = s.only_named; not_empty = s.not_empty; flags = flags_of s.flags }
 
 -- memory ran out, or the claim holds
 abbrev pub Refuses : Error → Type 0 → Type 0
@@ -114,6 +115,19 @@ RefusesReference Memory claim = Unit {0}
 RefusesReference (ParseError at kind) claim = ⊥
 RefusesReference (CompileError why) claim = (f : Fault) × (told_fault why ≡ Some f) × claim f
 RefusesReference (RuntimeError why) claim = ⊥
+
+-- The sizes of this pattern refuse it for this.
+abbrev pub HasBadSize : Compiling → Options → Pattern → Type 0
+HasBadSize LookBehindNotConst o p = are_sized o.meaning p ≡ false
+HasBadSize PatternCanNeverMatch o p = (o.not_empty ≡ true) × (size o.meaning p ≡ Some 0)
+HasBadSize _ o p = ⊥
+
+-- a refusal for the sizes of this pattern
+abbrev pub RefusesSizes : Error → Options → Pattern → Type 0
+RefusesSizes Memory o p = ⊥
+RefusesSizes (ParseError at kind) o p = ⊥
+RefusesSizes (CompileError why) o p = HasBadSize why o p
+RefusesSizes (RuntimeError why) o p = ⊥
 
 -- The group was found, or the error tells why there is none.
 abbrev pub Resolves : Result ℕ Fault → Result ℕ Error → Type 0

@@ -1,15 +1,14 @@
 //! Patterns are read here.
 
 ghost use Rattle.std.specs.Prelude.{◌≡◌, ◌+◌, ◌<◌, ◌^◌, length, map, All, Any, IfOk, IfErr, None, Some, true, false, chars};
-ghost use Rattle.fancy_syntax.specs.declared.error.Error.TheVariants.{Memory, CompileError as Compile};
-ghost use Rattle.fancy_syntax.specs.declared.error.CompileError.TheVariants.{LookBehindNotConst};
-ghost use Rattle.fancy_syntax.specs.Sizes.{are_sized};
+ghost use Rattle.fancy_syntax.specs.declared.error.Error.TheVariants.{Memory};
+ghost use Rattle.fancy_syntax.specs.Sizes.{size, are_sized};
 ghost use Rattle.fancy_syntax.specs.Dialect.{standard, begin, Spells, SpellsUnder, IsPattern};
 ghost use Rattle.fancy_syntax.specs.Names.{named_groups};
 ghost use Rattle.fancy_syntax.specs.Pattern.{Pattern, pattern_of};
 ghost use Rattle.fancy_syntax.specs.References.{fault_of, group_for, number_in, refers_to};
 ghost use Rattle.fancy_syntax.specs.Refusals.{IsRefused};
-ghost use Rattle.fancy_syntax.specs.Views.{options_of, target_of, targets_of, groups_in, Refuses, RefusesReference, SpellsDraft, HasNoSpelling};
+ghost use Rattle.fancy_syntax.specs.Views.{options_of, target_of, targets_of, groups_in, Refuses, RefusesReference, RefusesSizes, SpellsDraft, HasNoSpelling};
 
 use crate::error::{CompileError, Error, ParseErrorKind};
 use crate::flags::Flags;
@@ -35,6 +34,8 @@ pub struct Syntax {
     pub keeps_characters: bool,
     /// Whether groups without a name capture nothing, and have no number, where a group has one.
     pub only_named: bool,
+    /// Whether empty matches are refused, so that a pattern of size 0 can never match.
+    pub not_empty: bool,
     /// The flags that are set.
     pub flags: Flags,
 }
@@ -45,6 +46,7 @@ impl Syntax {
         meaning: Meaning::Unicode,
         keeps_characters: true,
         only_named: false,
+        not_empty: false,
         flags: Flags::NONE,
     };
 }
@@ -114,6 +116,9 @@ pub fn parse(alloc: Global, pattern: &str) -> Result<Parsed, Error>
 /// `n` is number 1, and `()*(?<n>b)` is refused at place 2 with [`ParseErrorKind::TargetNotRepeatable`]. There groups are
 /// referred to by name alone: `(?<n>a)\1` is refused by [`CompileError::NamedBackrefOnly`]. A pattern without names is
 /// read as where the option is not set.
+///
+/// Where `not_empty` is set a pattern that always consumes 0 units is refused by [`CompileError::PatternCanNeverMatch`],
+/// as the empty pattern, `^` or `(?=a)`; `a?` is not, and `()|a` is not.
 pub fn parse_with(alloc: Global, pattern: &str, syntax: Syntax) -> Result<Parsed, Error>
     ensures accepted { IfOk result (λ r. (h : IsPattern (options_of syntax) (chars pattern.now) (pattern_of r.tree)) × (h.end.opened + 1 ≡ r.groups) × (named_groups r.names.items ≡ h.end.names)) }
     ensures refused { IfErr result (λ e. IsRefused e (options_of syntax) (chars pattern.now)) }
@@ -125,17 +130,22 @@ pub fn parse_with(alloc: Global, pattern: &str, syntax: Syntax) -> Result<Parsed
         return Err(Error::CompileError(CompileError::PatternTooComplex));
     }
     let parsed = draft.resolved(alloc, syntax.only_named)?;
-    parsed.with_sizes(syntax.meaning)
+    parsed.with_sizes(syntax)
 }
 
 impl Parsed {
-    /// This pattern, if each look-behind in it can step back.
-    fn with_sizes(self, meaning: Meaning) -> Result<Parsed, Error>
-        ensures value { IfOk result (λ r. (r ≡ self) × (are_sized meaning (pattern_of r.tree) ≡ true)) }
-        ensures refused { IfErr result (λ e. (e ≡ Compile LookBehindNotConst) × (are_sized meaning (pattern_of self.tree) ≡ false)) }
+    /// This pattern, if each look-behind in it can step back, and if it can match where empty matches are refused.
+    fn with_sizes(self, syntax: Syntax) -> Result<Parsed, Error>
+        ensures value { IfOk result (λ r. r ≡ self) }
+        ensures sized { IfOk result (λ r. are_sized syntax.meaning (pattern_of r.tree) ≡ true) }
+        ensures fills { IfOk result (λ r. syntax.not_empty ≡ true → (size syntax.meaning (pattern_of r.tree) ≡ Some 0) → ⊥) }
+        ensures refused { IfErr result (λ e. RefusesSizes e (options_of syntax) (pattern_of self.tree)) }
     {
-        if !self.tree.is_sized(meaning) {
+        if !self.tree.is_sized(syntax.meaning) {
             return Err(Error::CompileError(CompileError::LookBehindNotConst));
+        }
+        if syntax.not_empty && self.tree.consumes_nothing(syntax.meaning) {
+            return Err(Error::CompileError(CompileError::PatternCanNeverMatch));
         }
         Ok(self)
     }

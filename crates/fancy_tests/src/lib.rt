@@ -18,6 +18,8 @@ mod errors;
 #[cfg(test)]
 mod escapes;
 #[cfg(test)]
+mod filters;
+#[cfg(test)]
 mod finding;
 #[cfg(test)]
 mod hard;

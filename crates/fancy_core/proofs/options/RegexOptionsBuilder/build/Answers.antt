@@ -57,8 +57,9 @@ returns-then-forbids c =
     let h = rw (c.syntax.ensures, c.options-options.ensures, c.as_str.ensures.value) at c.in_ok-tree.ensures.accepted.0 in
     let found = rw (c.options-options.ensures, c.len.ensures) at (sym c.if-forbids.ensures) in
     let why = both_of _ _ found in
-    is_refused _ _ _ (inr (_, h, too_long (options_of c.args.self.now) _ _ _ _ h h (sym c.is_easy-easy.ensures ∙ why.0) (c.in_ok-code.ensures.short) why.1))
-    (λ p x. too_long (options_of c.args.self.now) _ _ _ _ x h (sym c.is_easy-easy.ensures ∙ why.0) (c.in_ok-code.ensures.short) why.1)
+    let hard = rw c.options-options.ensures at (sym c.is_easy-easy.ensures ∙ why.0) in
+    is_refused _ _ _ (inr (_, h, too_long (options_of c.args.self.now) _ _ _ _ h h hard (c.in_ok-code.ensures.short) why.1))
+    (λ p x. too_long (options_of c.args.self.now) _ _ _ _ x h hard (c.in_ok-code.ensures.short) why.1)
 
 pub returns : goal.returns
 returns c = record {
