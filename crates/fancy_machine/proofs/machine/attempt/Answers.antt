@@ -1,4 +1,4 @@
-use Rattle.std.proofs.Common.{◌+◌, ◌∙◌, None, false, arith, ap}
+use Rattle.std.proofs.Common.{◌+◌, ◌∙◌, None, arith, ap}
 use Rattle.fancy_engine.specs.Work.{returns_of}
 use Rattle.fancy_machine.specs.Field.{accepts, code_in}
 use Rattle.fancy_machine.specs.Machine.{chosen, final, returns_to, marks_to, events_of, after}

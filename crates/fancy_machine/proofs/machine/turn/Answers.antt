@@ -1,4 +1,4 @@
-use Rattle.std.proofs.Common.{sym, ◌∙◌}
+use Rattle.std.proofs.Common.{sym}
 use Rattle.fancy_machine.specs.Field.{accepts, code_in}
 use Rattle.fancy_machine.proofs.Searches.{turn_on, turn_dead, turn_bad, turn_found, turn_more}
 use Rattle.fancy_machine.proofs.machine.turn.Goals as goal

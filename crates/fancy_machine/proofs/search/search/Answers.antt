@@ -1,4 +1,4 @@
-use Rattle.std.proofs.Common.{◌≡◌, ℕ, suc, ◌+◌, ◌-◌, ◌∙◌, Bool, true, false, Option, None, Result, Ok, Err, refl, sym, ap, ap₂, arith}
+use Rattle.std.proofs.Common.{◌≡◌, ℕ, suc, ◌+◌, ◌-◌, ◌∙◌, Bool, true, false, Option, Result, Ok, Err, refl, sym, ap, ap₂, arith}
 use Rattle.fancy_input.specs.Requests.{positions, effective_start}
 use Rattle.fancy_engine.specs.declared.refusal.Refusal.{Refusal}
 use Rattle.fancy_engine.specs.declared.reading.Suppressed.{Suppressed}
@@ -8,7 +8,6 @@ use Rattle.fancy_engine.proofs.Attempts.{search_hit, search_miss, search_over, p
 use Rattle.fancy_machine.specs.declared.machine.Field.{Field}
 use Rattle.fancy_machine.specs.Asked.{asked}
 use Rattle.fancy_machine.specs.Field.{context_in, accepts}
-use Rattle.fancy_machine.specs.Machine.{chosen, final, returns_to, marks_to}
 use Rattle.fancy_machine.proofs.Positions.{begun_from, nothing_admitted, gone_skip, gone_hit, gone_more, gone_counts, gone_over}
 use Rattle.fancy_machine.proofs.search.search.Goals as goal
 
