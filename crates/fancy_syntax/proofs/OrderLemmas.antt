@@ -50,6 +50,8 @@ simple_in_order n s (simple.test a) = refl
 simple_in_order n s (simple.item es e) = refl
 simple_in_order n s (simple.any_case es e) = refl
 simple_in_order n s (simple.byte c k) = refl
+simple_in_order n s simple.search_start = refl
+simple_in_order n s (simple.kept_start k) = refl
 
 -- an item, which may give no part
 abbrev PartInOrder : ℕ → ℕ → Option Pattern → Type 0

@@ -14,7 +14,7 @@ use Rattle.fancy_syntax.specs.declared.groups.Grouping.TheVariants.{Atomic, Look
 use Rattle.fancy_syntax.specs.declared.class.token.Token.{Token}
 use Rattle.fancy_syntax.specs.declared.class.token.Token.TheVariants.{Named as NamedSet}
 use Rattle.fancy_syntax.specs.declared.named.Named.{Named}
-use Rattle.fancy_syntax.specs.Pattern.{Pattern, character, member_of, in_any_case, raw_byte, backreference, assertion, group, repeat, look_ahead, look_behind, atomic, in_sequence, in_branches}
+use Rattle.fancy_syntax.specs.Pattern.{Pattern, character, member_of, in_any_case, raw_byte, backreference, assertion, keep_start, continue_here, group, repeat, look_ahead, look_behind, atomic, in_sequence, in_branches}
 use Rattle.fancy_syntax.specs.Sizes.{nodes, are_sized, is_empty}
 use Rattle.fancy_syntax.specs.Words.{Text, ◌∈◌, is_among, is_at, by_word, is_at_digit, is_blank, past_blank, decimal, are_digits, begins_count}
 use Rattle.fancy_syntax.specs.Sets.{has, AreEdges, in_range}
@@ -146,6 +146,13 @@ boundary_words = (codes "{start}", WordStart) ∷ (codes "{end}", WordEnd) ∷ (
 abbrev pub boundary : Text → Assertion × Text
 boundary t = unwrap_or (by_word boundary_words t) (WordBoundary, t)
 
+-- what `\G` and `\K` stand for; inside of look-around `\K` stands for nothing
+abbrev pub start_mark : Bool → ℕ → Option Pattern
+start_mark in_look_around d =
+    if code "G" == d then Some continue_here
+    else if (code "K" == d) && not in_look_around then Some keep_start
+    else None
+
 -- a literal character: one item, but in byte meaning the sequence of its bytes
 abbrev pub literal_of : Meaning → ℕ → Pattern
 literal_of Unicode c = character c
@@ -204,7 +211,8 @@ abbrev pub lettered : Scope → ℕ → Option Lexeme
 lettered s d =
     option_or (option_map (spelled_character s) (control_of d))
     (option_or (option_map (λ a. leaf (assertion a)) (place_test s.flags d))
-    (option_and_then (lettered_set s) (set_letter d)))
+    (option_or (option_map leaf (start_mark s.in_look_around d))
+    (option_and_then (lettered_set s) (set_letter d))))
 
 abbrev pub followed_by : Text → Option Lexeme → Option (Lexeme × Text)
 followed_by t o = option_map (λ x. (x, t)) o
