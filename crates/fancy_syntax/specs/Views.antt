@@ -1,12 +1,13 @@
 -- What the parser's functions promise each other.
-use Rattle.std.specs.Prelude.{◌≡◌, ℕ, ◌+◌, ◌-◌, ◌^◌, min, Bool, true, false, ◌&&◌, List, length, take, sum_by, Option, Some, None, option_map, Result, Ok, Err, map, Any, chars, string_bytes}
+use Rattle.std.specs.Prelude.{Vec, ◌≡◌, ℕ, ◌+◌, ◌-◌, ◌^◌, min, Bool, true, false, ◌&&◌, List, length, take, sum_by, Option, Some, None, option_map, Result, Ok, Err, map, Any, chars, string_bytes}
 use Rattle.std.specs.Borrow.{Bor}
+use Rattle.std.specs.Global.{Global}
 use Rattle.std.specs.Char.{len_utf8}
 use Rattle.fancy_syntax.specs.declared.parser.Parser.{Parser}
 use Rattle.fancy_syntax.specs.declared.error.Error.{Error}
 use Rattle.fancy_syntax.specs.declared.error.Error.TheVariants.{Memory, ParseError, CompileError, RuntimeError}
 use Rattle.fancy_syntax.specs.declared.groups.Opening.{Opening as Found}
-use Rattle.fancy_syntax.specs.declared.groups.Opening.TheVariants.{Setting, Plain, Capture, Marked, Reference}
+use Rattle.fancy_syntax.specs.declared.groups.Opening.TheVariants.{Setting, Plain, Capture, Marked, Reference, Chooses}
 use Rattle.fancy_syntax.specs.declared.reference.Target.{Target as Found_target}
 use Rattle.fancy_syntax.specs.declared.reference.Target.TheVariants.{Numbered, Missing, Called, CalledOrNumbered}
 use Rattle.fancy_syntax.specs.declared.resolve.Groups.{Groups as Found_groups}
@@ -26,7 +27,7 @@ use Rattle.fancy_syntax.specs.Words.{Text}
 use Rattle.fancy_syntax.specs.Names.{named_groups}
 use Rattle.fancy_syntax.specs.References.{Target, numbered, missing, called, called_or_numbered, Fault, by_name_alone, no_number, no_name, Groups, fault_of, fault_in}
 use Rattle.fancy_syntax.specs.Dialect.{Flags, Scope, Options, has_name, Lexeme, IsMeant}
-use Rattle.fancy_syntax.specs.Grammar.{Place, start, Opening, setting, plain, capture, marked, reference, LettersRead, Bounds, Branches, Parts}
+use Rattle.fancy_syntax.specs.Grammar.{Place, start, Opening, setting, plain, capture, marked, reference, chooses, LettersRead, Bounds, Branches, Parts}
 
 abbrev pub flags_of : Found_flags → Flags
 flags_of f = record { ignore_case = f.ignore_case; multi_line = f.multi_line; dot_all = f.dot_all; ignore_blanks = f.ignore_blanks; crlf = f.crlf }
@@ -76,6 +77,7 @@ found Plain = plain
 found (Capture n) = capture n
 found (Marked how) = marked how
 found (Reference folded index) = reference folded index
+found (Chooses condition) = chooses (pattern_of condition.value)
 
 abbrev pub bounds_of : Turns → Bounds
 bounds_of t = (t.low, t.high)
@@ -165,6 +167,10 @@ Alternation k p x q = (bs : List Pattern) × (x ≡ in_branches bs) × Branches 
 
 abbrev pub Sequence : ℕ → Place → Pattern → Place → Type 0
 Sequence k p x q = (ps : List Pattern) × (x ≡ in_sequence ps) × Parts k p ps q
+
+-- the patterns of trees
+abbrev pub patterns_of : Vec Tree Global → List Pattern
+patterns_of v = map pattern_of v.items
 
 -- the part that an item gives
 abbrev pub part_of : Option Tree → Option Pattern
