@@ -14,7 +14,7 @@ use Rattle.fancy_machine.specs.Asked.{all_tried}
 use Rattle.fancy_core.specs.declared.regex.Regex.{Regex}
 use Rattle.fancy_core.specs.Regexes.{easy_in, length_in, limit_in}
 
--- Whether a search for it is refused past limits: its pattern reads what it captured, or ends a way early, or its options have outcomes compared.
+-- Whether a search for it is refused past limits: its pattern reads what it captured, or ends a way early, or one of the two filters is set.
 abbrev pub IsHard : Regex → Type 0
 IsHard r = easy_in r ≡ false
 
