@@ -7,7 +7,7 @@ use Rattle.fancy_syntax.specs.declared.tree.Meaning.{Meaning}
 use Rattle.fancy_syntax.specs.declared.tree.Meaning.TheVariants.{Unicode}
 use Rattle.fancy_syntax.specs.References.{refers_to}
 use Rattle.fancy_syntax.specs.Pattern.{Pattern, character, followed, in_sequence}
-use Rattle.fancy_syntax.specs.Dialect.{Scope, Spells, IsPattern, standard, begin, numbers, is_escapable}
+use Rattle.fancy_syntax.specs.Dialect.{Scope, IsPattern, standard, begin, numbers, is_escapable}
 use Rattle.fancy_syntax.specs.Modes.{keeps_characters}
 use Rattle.fancy_syntax.specs.Sizes.{nodes, are_sized}
 use Rattle.fancy_syntax.specs.Words.{Text}

@@ -1,5 +1,5 @@
 -- What the searches of an iteration owe its list.
-use Rattle.std.proofs.Common.{arith, le_trans, ℕ, suc, ◌≤◌, ◌<◌, ◌^◌, ◌≡◌, Bool, true, false, List, length, Option, Some, IsTrue, IsUtf8, refl, sym}
+use Rattle.std.proofs.Common.{arith, le_trans, ℕ, suc, ◌≤◌, ◌<◌, ◌^◌, ◌≡◌, Bool, true, false, List, length, Option, Some, IsTrue, IsUtf8, sym}
 use Rattle.std.proofs.lemmas.Grind.{common_steps}
 use Rattle.fancy_input.specs.declared.input.Request.{Request}
 use Rattle.fancy_input.specs.Requests.{effective_start}

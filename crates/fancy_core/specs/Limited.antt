@@ -1,5 +1,5 @@
 -- What a search may be refused for, and what it counts.
-use Rattle.std.specs.Prelude.{◌≡◌, ℕ, ◌+◌, ◌-◌, ◌*◌, ◌<◌, ◌≤◌, true, false}
+use Rattle.std.specs.Prelude.{◌≡◌, ℕ, ◌+◌, ◌-◌, ◌*◌, ◌<◌, ◌≤◌, false}
 use Rattle.fancy_syntax.specs.Limits.{most_branches}
 use Rattle.fancy_syntax.specs.declared.error.Error.{Error}
 use Rattle.fancy_syntax.specs.declared.error.Error.TheVariants.{Memory, ParseError, CompileError, RuntimeError}
@@ -14,7 +14,7 @@ use Rattle.fancy_machine.specs.Asked.{all_tried}
 use Rattle.fancy_core.specs.declared.regex.Regex.{Regex}
 use Rattle.fancy_core.specs.Regexes.{easy_in, length_in, limit_in}
 
--- Whether a search for it is refused past limits: its pattern reads what it captured, or ends a way early, or its options have outcomes compared.
+-- Whether a search for it is refused past limits: its pattern reads what it captured, or ends a way early, or one of the two filters is set.
 abbrev pub IsHard : Regex → Type 0
 IsHard r = easy_in r ≡ false
 

@@ -32,6 +32,6 @@ meaning_in o = modes.meaning_of o.bytes_mode o.unicode_mode
 abbrev pub dialect_of : Options → dialect.Options
 dialect_of o = record { meaning = meaning_in o; keeps_characters = keeps_characters o.bytes_mode; only_named = o.ignore_numbered_groups_when_named_groups_exist; not_empty = o.find_not_empty; flags = flags_of o.flags }
 
--- The pattern is easy under these options: it is by itself, and neither filter has its searches compare outcomes.
+-- The pattern is easy under these options: it is easy by itself, and neither of the two filters is set.
 abbrev pub is_easy_under : Options → Pattern → Bool
 is_easy_under o p = is_easy p && (not o.find_not_empty && not o.leftmost_longest)

@@ -396,7 +396,8 @@ impl Regex {
         };
         memory.served = Engine::Machine;
         let trail = &mut memory.machine;
-        match machine::search(&self.code, haystack, request, options, trail, work) {
+        let best = &mut memory.best;
+        match machine::search(&self.code, haystack, request, options, trail, best, work) {
             Ok(found) => Ok(found),
             Err(Refusal::Memory) => Err(Error::Memory),
             Err(Refusal::Returns) => Err(Error::RuntimeError(RuntimeError::BacktrackLimitExceeded)),

@@ -54,7 +54,7 @@ fn continues_from(options: Options, request: Request, first: usize) -> Option<us
 
 /// Searches a haystack for the pattern of the code. Found is the position, a byte offset: that of the first attempt,
 /// from the effective start on, which has an accepted outcome; the trail then stands there. Where the longest match is
-/// asked for all returns of that attempt count.
+/// asked for `best` is the memory that it takes, and all returns of that attempt count.
 ///
 /// What is done is added to the counts of `work`, after a refusal what was done up to it. They never begin anew here.
 /// Steps are counted as far as a `usize` goes.
@@ -69,6 +69,7 @@ pub fn search(
     request: Request,
     options: Options,
     trail: &mut Trail,
+    best: &mut Best,
     work: &mut Work,
 ) -> Result<Option<usize>, Refusal>
     ghost p: { Pattern }
@@ -100,7 +101,6 @@ pub fn search(
     let limit = work.returns() + options.limit;
     let last = last_position(request, first);
     let mut last_lines = LastLines::new(haystack);
-    let mut best = Best::new(trail.alloc());
     for place in first..last + 1 {
         if !is_good(field, haystack, place) {
             continue;
@@ -114,7 +114,7 @@ pub fn search(
             haystack,
             field,
             trail,
-            &mut best,
+            best,
             limit,
             &mut last_lines,
             work,

@@ -220,11 +220,6 @@ impl Trail {
         &self.slots
     }
 
-    /// The allocator of its memory.
-    pub(crate) fn alloc(&self) -> Global {
-        *self.slots.allocator()
-    }
-
     /// Stands where a way stood that had these slots, and gives up its own for them.
     pub(crate) fn stand(&mut self, place: usize, kept: usize, slots: &mut Vec<Slot>)
         ensures { Some self.new.now.state ≡ outcome_of true place kept slots.old.items }

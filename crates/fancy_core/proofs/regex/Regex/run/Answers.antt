@@ -11,5 +11,5 @@ search-requires-clause-easy c = easy_code _ (c.args.self.now.light (parts_of_eas
 pub returns-in-Ok-clause-answer : goal.returns-in-Ok-clause-answer
 returns-in-Ok-clause-answer c on =
     let easy = parts_of_easy _ _ _ c.requires.easy in
-    rw (easy.1, easy.2) (sym (by_runner _ _ _) ∙ known _ _ c.args.self.now.compiled
+    rw (easy.1, easy.2) (sym (by_runner _ _ _ _) ∙ known _ _ c.args.self.now.compiled
     (λ compiled. rw (c.args.self.now.meant, c.keeps_characters-on_boundaries.ensures) at (c.in-Ok.ensures.answer _ on compiled.coded)))
