@@ -80,6 +80,10 @@ group_condition t =
     else if is_at "'" t then name_condition (code "'") (drop 1 t)
     else number_condition t
 
+-- a condition in a form that is left out of the dialect begins here: a definition, or look-around without parentheses of its own
+abbrev pub is_left_out : Text → Bool
+is_left_out t = begins "DEFINE)" t || is_at "?" t
+
 -- what may only be a reference begins here
 abbrev pub begins_reference : Text → Bool
 begins_reference t = is_at "\\" t && is_at "123456789k" (drop 1 t)
