@@ -1,5 +1,5 @@
 -- Groups are numbered in the order of their openings.
-use Rattle.std.proofs.Common.{ℕ, ◌+◌, List, [], ◌∷◌, map, Option, Some, None, ◌≡◌, refl, sym, ap, subst, ◌∙◌}
+use Rattle.std.proofs.Common.{ℕ, ◌+◌, List, [], ◌∷◌, map, Option, Some, None, ◌≡◌, refl, sym, subst}
 use Rattle.std.specs.Prelude.{encode_utf8}
 use Rattle.fancy_syntax.specs.declared.groups.Grouping.{Grouping}
 use Rattle.fancy_syntax.specs.declared.groups.Grouping.TheVariants.{Atomic, LookAhead, LookBehind}
