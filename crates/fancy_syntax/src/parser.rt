@@ -410,6 +410,7 @@ impl<'a> Parser<'a> {
     /// Reads a pattern up to the end of the group or of the whole; `room` more parentheses may be opened inside.
     pub(crate) fn alternation(&mut self, room: u32) -> Result<Tree, Error>
         ensures value { Gives pattern_of (Alternation room) result (place self.old) (place self.new) }
+        ensures forward { OnOk result (length self.new.rest.now ≤ length self.old.rest.now) }
     {
         let found = self.alternatives(room)?;
         Ok(branches(found))
