@@ -1,11 +1,11 @@
 -- Groups are numbered in the order of their openings.
-use Rattle.std.proofs.Common.{ℕ, ◌+◌, List, [], ◌∷◌, map, Option, Some, None, ◌≡◌, refl, sym, ap, subst, ◌∙◌}
+use Rattle.std.proofs.Common.{ℕ, ◌+◌, List, [], ◌∷◌, map, Option, Some, None, ◌≡◌, refl, sym, subst}
 use Rattle.std.specs.Prelude.{encode_utf8}
 use Rattle.fancy_syntax.specs.declared.groups.Grouping.{Grouping}
 use Rattle.fancy_syntax.specs.declared.groups.Grouping.TheVariants.{Atomic, LookAhead, LookBehind}
 use Rattle.fancy_syntax.specs.declared.tree.Meaning.{Meaning}
 use Rattle.fancy_syntax.specs.declared.tree.Meaning.TheVariants.{Unicode, Bytes, AsciiText}
-use Rattle.fancy_syntax.specs.Dialect.{Scope, inside, grouped, literal_of, Branches, one, either, Parts, nothing, item, Item, set, bare, quantified, Atom, single, plain, flagged, capture, unnamed, named, marked, reference, reference_by_name, tested, test_here, chosen, Spells, with_part}
+use Rattle.fancy_syntax.specs.Dialect.{Scope, inside, grouped, literal_of, Branches, one, either, Parts, nothing, item, Item, set, bare, quantified, Atom, single, plain, flagged, capture, unnamed, named, marked, reference, reference_by_name, tested, decided, test_here, chosen, Spells, with_part}
 use Rattle.fancy_syntax.specs.Groups.{InOrder}
 use Rattle.fancy_syntax.specs.Pattern.{Pattern, character, in_sequence, in_choice, in_branches}
 use Rattle.fancy_syntax.specs.Words.{Text}
@@ -105,6 +105,8 @@ mutual
   ordered_atom (reference h) = refl
   ordered_atom (reference_by_name n h) = refl
   ordered_atom (tested {s = s} {q = q} {bs = bs} c h b) = chosen_in_order (s.opened + 1) (s.opened + 1) (q.opened + 1) (test_here s) bs refl (ordered_branches b)
+  ordered_atom (decided {s = s} {r = r} {q = q} {cs = cs} {bs = bs} c h f a b) =
+      chosen_in_order (s.opened + 1) (r.opened + 1) (q.opened + 1) (in_branches cs) bs (branches_in_order (s.opened + 1) (r.opened + 1) cs (ordered_branches a)) (ordered_branches b)
   ordered_atom (capture {s = s} {q = q} {bs = bs} u e b) = (refl, branches_in_order (s.opened + 1 + 1) (q.opened + 1) bs (ordered_branches b))
   ordered_atom (named {s = s} {q = q} {bs = bs} n m e b) = (refl, branches_in_order (s.opened + 1 + 1) (q.opened + 1) bs (ordered_branches b))
 

@@ -1,17 +1,17 @@
 -- What the parser's loops and branches say of the grammar.
-use Rattle.std.proofs.Common.{◌≡◌, ℕ, suc, ◌+◌, ◌<◌, ◌≤◌, ◌==◌, Bool, true, false, List, [], ◌∷◌, ◌++◌, Option, Some, None, length, refl, sym, ap, ◌∙◌, subst, append_assoc, append-nil, arith, Result, Err, ◌⊎◌, inl, inr, ap₂, add-one}
+use Rattle.std.proofs.Common.{◌≡◌, ℕ, suc, ◌+◌, ◌-◌, ◌<◌, ◌≤◌, ◌==◌, Bool, true, false, List, [], ◌∷◌, ◌++◌, Option, Some, None, length, refl, sym, ap, ◌∙◌, subst, append_assoc, append-nil, arith, Result, Err, ◌⊎◌, inl, inr, ap₂, add-one}
 use Rattle.std.proofs.lemmas.Bool.Decides.{nat_tests}
 use Rattle.std.proofs.lemmas.List.{nil_from_length}
 use Rattle.fancy_syntax.specs.Limits.{most_parentheses}
 use Rattle.fancy_syntax.specs.Pattern.{Pattern, backreference, in_sequence, in_branches}
 use Rattle.fancy_syntax.specs.Words.{Text, is_at_any, is_at}
 use Rattle.fancy_syntax.specs.Dialect.{Scope, with_part}
-use Rattle.fancy_syntax.specs.Grammar.{Place, past, here, Opening, setting, plain, capture, marked, reference, chooses, opens_group, parentheses, opening, IsAtom, quantified, wrap, closed, ends_branch, Branches, last, more, Parts, none, next, Opens, at_once, Item, sets, refers_by_name, single, grouped, start, Reads}
+use Rattle.fancy_syntax.specs.Grammar.{Place, past, here, Opening, setting, plain, capture, marked, reference, chooses, condition, opens_group, asks, parentheses, opening, IsAtom, quantified, wrap, closed, ends_branch, Branches, last, more, Parts, none, next, Opens, at_once, behind_condition, Item, sets, refers_by_name, single, grouped, start, Reads}
 use Rattle.fancy_syntax.specs.declared.error.Error.{Error}
 use Rattle.fancy_syntax.specs.declared.error.Error.TheVariants.{Memory, ParseError, CompileError, RuntimeError}
 use Rattle.fancy_syntax.specs.declared.groups.Opening.{Opening as Found}
-use Rattle.fancy_syntax.specs.declared.groups.Opening.TheVariants.{Setting, Plain, Capture, Marked, Reference, Chooses}
-use Rattle.fancy_syntax.specs.Views.{found, Refuses, Gives, IsTheReading, HasNoReading, Sequence, Alternation}
+use Rattle.fancy_syntax.specs.declared.groups.Opening.TheVariants.{Setting, Plain, Capture, Marked, Reference, Chooses, Condition}
+use Rattle.fancy_syntax.specs.Views.{found, Refuses, Gives, GivesOpening, IsTheReading, HasNoReading, Sequence, Alternation}
 
 pub true_is_false : true ≡ false → ⊥
 true_is_false h = cc
@@ -181,20 +181,87 @@ item_group (single h f g) e = absurd (true_is_false (sym e ∙ h))
 item_group (grouped {inside = inside} {how = how} h o n b c f) e = (how, inside, o, of_body n refl b c f)
 
 -- what a parenthesis opens
-same_opened : {k : ℕ} {p q r : Place} {how u : Opening} → opening p ≡ Some (how, q) → Opens k p u r → (u ≡ how) × (r ≡ q)
-same_opened found (at_once h f) = some_pair (sym h ∙ found)
+same_opened : {k : ℕ} {p q r : Place} {how u : Opening} → opening p ≡ Some (how, q) → asks how ≡ false → Opens k p u r → (u ≡ how) × (r ≡ q)
+same_opened found n (at_once h a f) = some_pair (sym h ∙ found)
+same_opened found n (behind_condition h b c) = absurd (true_is_false (ap asks (some_pair (sym h ∙ found)).0 ∙ n))
 
-pub opens_is : {p q : Place} {how : Opening} (j : ℕ) → opening p ≡ Some (how, q) → parentheses how ≤ suc j → IsTheReading (Opens (suc j)) p how q
-opens_is j found fits = (at_once found fits, λ u r x. same_opened found x)
+pub opens_is : {p q : Place} {how : Opening} (j : ℕ) → opening p ≡ Some (how, q) → asks how ≡ false → parentheses how ≤ suc j → IsTheReading (Opens (suc j)) p how q
+opens_is j found n fits = (at_once found n fits, λ u r x. same_opened found n x)
 
-pub opened_in : {k : ℕ} {p q : Place} {how : Opening} (j : ℕ) → k ≡ j + 1 → opening p ≡ Some (how, q) → parentheses how ≤ k → IsTheReading (Opens k) p how q
-opened_in {k} {p} {q} {how} j deeper found fits = subst (λ m. IsTheReading (Opens m) p how q) (sym (deeper ∙ add-one j)) (opens_is j found (omega (arith, deeper, fits)))
+pub opened_in : {k : ℕ} {p q : Place} {how : Opening} (j : ℕ) → k ≡ j + 1 → opening p ≡ Some (how, q) → asks how ≡ false → parentheses how ≤ k → IsTheReading (Opens k) p how q
+opened_in {k} {p} {q} {how} j deeper found n fits = subst (λ m. IsTheReading (Opens m) p how q) (sym (deeper ∙ add-one j)) (opens_is j found n (omega (arith, deeper, fits)))
 
 pub none_opened : {k : ℕ} {p : Place} → opening p ≡ None → HasNoReading (Opens k) p
-none_opened nothing how q (at_once h f) = some_is_none (sym h ∙ nothing)
+none_opened nothing how q (at_once h a f) = some_is_none (sym h ∙ nothing)
+none_opened nothing how q (behind_condition h b c) = some_is_none (sym h ∙ nothing)
 
 pub no_room : {k : ℕ} {p q : Place} {how : Opening} → opening p ≡ Some (how, q) → k < parentheses how → HasNoReading (Opens k) p
-no_room {k} {how = how} found few u r (at_once h f) = let same = ap parentheses (some_pair (sym h ∙ found)).0 in omega (arith, few, f, same)
+no_room {k} {how = how} found few u r (at_once h a f) = let same = ap parentheses (some_pair (sym h ∙ found)).0 in omega (arith, few, f, same)
+no_room {k} {how = how} found few u r (behind_condition h b c) = let same = ap parentheses (some_pair (sym h ∙ found)).0 in omega (arith, few, same)
+
+-- the exit of a `?` where no opening was found
+pub opening_refused : (k : ℕ) (r : Result Found Error) (p q : Place) (y e : Error) → r ≡ Err y → y ≡ e → Refuses e (opening p ≡ None) → GivesOpening k r p q
+opening_refused k r p q y e a b h = rw (a, b) (Refuses-weaker e none_opened h)
+
+-- what reads on behind a condition
+record Conditioned (k : ℕ) (p inside : Place) (how : Opening) (r : Place) : Type 0 where
+  room : ℕ
+  branches : List Pattern
+  end : Place
+  deeper : k ≡ suc (suc room)
+  reads : Branches room inside branches end
+  closes : is_at ")" end.text ≡ true
+  is : how ≡ chooses (in_branches branches)
+  behind : r ≡ closed p end
+
+conditioned : {k : ℕ} {p inside r : Place} {how : Opening} → opening p ≡ Some (condition, inside) → Opens k p how r → Conditioned k p inside how r
+conditioned found (at_once h a f) = absurd (true_is_false (sym (ap asks (some_pair (sym h ∙ found)).0) ∙ a))
+conditioned found (behind_condition {k = j} {q = q} {cs = cs} h b c) =
+    record { room = j; branches = cs; end = q; deeper = refl; reads = subst (λ s. Branches j s cs q) (some_pair (sym h ∙ found)).1 b; closes = c; is = refl; behind = refl }
+
+module _ {k j : ℕ} {p inside : Place} (found : opening p ≡ Some (condition, inside)) (deeper : k ≡ suc (suc j)) where
+  condition_reads : {how : Opening} {r : Place} → Opens k p how r → (cs : List Pattern) × (q : Place) × Branches j inside cs q × (is_at ")" q.text ≡ true) × (how ≡ chooses (in_branches cs)) × (r ≡ closed p q)
+  condition_reads x =
+      let c = conditioned found x in
+      let same : c.room ≡ j = omega (arith, c.deeper, deeper) in
+      (c.branches, c.end, subst (λ m. Branches m inside c.branches c.end) same c.reads, c.closes, c.is, c.behind)
+
+  pub no_condition : HasNoReading (Branches j) inside → HasNoReading (Opens k) p
+  no_condition nothing how r x = let c = condition_reads x in nothing c.0 c.1 c.2
+
+  pub unclosed_condition : {cs : List Pattern} {q : Place} → IsTheReading (Branches j) inside cs q → is_at ")" q.text ≡ false → HasNoReading (Opens k) p
+  unclosed_condition h f how r x =
+      let c = condition_reads x in
+      let o = h.1 c.0 c.1 c.2 in
+      true_is_false (sym c.3 ∙ (ap (λ (s : Place). is_at ")" s.text) o.1 ∙ f))
+
+  pub condition_is : {cs : List Pattern} {q : Place} {how : Opening} → IsTheReading (Branches j) inside cs q → is_at ")" q.text ≡ true → how ≡ chooses (in_branches cs) → IsTheReading (Opens k) p how (closed p q)
+  condition_is {cs} {q} {how} h closes is = (
+    subst (λ m. Opens m p how (closed p q)) (sym deeper) (subst (λ o. Opens (suc (suc j)) p o (closed p q)) (sym is) (behind_condition found h.0 closes)),
+    λ u r x.
+        let c = condition_reads x in
+        let o = h.1 c.0 c.1 c.2 in
+        (c.4 ∙ (ap (λ v. chooses (in_branches v)) o.0 ∙ sym is), c.5 ∙ ap (closed p) o.1),
+  )
+
+asked_is : (how : Opening) → asks how ≡ true → how ≡ condition
+asked_is setting h = absurd (true_is_false (sym h))
+asked_is plain h = absurd (true_is_false (sym h))
+asked_is (capture n) h = absurd (true_is_false (sym h))
+asked_is (marked how) h = absurd (true_is_false (sym h))
+asked_is (reference folded n) h = absurd (true_is_false (sym h))
+asked_is (chooses c) h = absurd (true_is_false (sym h))
+asked_is condition h = refl
+
+pub asked : (p : Place) {q : Place} {how : Opening} → opening p ≡ Some (how, q) → asks how ≡ true → opening p ≡ Some (condition, q)
+asked p {q} {how} opens h = opens ∙ ap (λ (o : Opening). Some (o, q)) (asked_is how h)
+
+pub room_inside : {k : ℕ} (how : Opening) → asks how ≡ true → parentheses how ≤ k → k ≡ suc (suc (k - 2))
+room_inside how h fits = let two = ap parentheses (asked_is how h) in omega (arith, fits, two)
+
+pub not_asked : {k : ℕ} {p r : Place} {how : Opening} → Opens k p how r → asks how ≡ false
+not_asked (at_once h a f) = a
+not_asked (behind_condition h b c) = refl
 
 some_parentheses : (how : Opening) → 1 ≤ parentheses how
 some_parentheses setting = omega arith
@@ -203,6 +270,7 @@ some_parentheses (capture n) = omega arith
 some_parentheses (marked how) = omega arith
 some_parentheses (reference folded n) = omega arith
 some_parentheses (chooses c) = omega arith
+some_parentheses condition = omega arith
 
 pub some_room : {k : ℕ} (how : Opening) → parentheses how ≤ k → 1 ≤ k
 some_room how fits = omega (arith, some_parentheses how, fits)
@@ -232,6 +300,7 @@ referred (capture n) = in_sequence []
 referred (marked how) = in_sequence []
 referred (reference folded n) = backreference folded n
 referred (chooses c) = in_sequence []
+referred condition = in_sequence []
 
 -- what reads on behind a reference by name
 behind_reference : {k : ℕ} {p r inside : Place} {how : Opening} {item : Option Pattern} {folded : Bool} {n : ℕ} → Group k p r how inside item → how ≡ reference folded n
@@ -318,13 +387,14 @@ module _ {k j : ℕ} {p inside : Place} {how : Opening} (e : is_at "(" p.text �
   )
 
 -- what is neither a setting nor a reference opens a group
-pub found_group : (how : Found) → (how ≡ Setting → ⊥) → ((folded : Bool) (index : ℕ) → how ≡ Reference folded index → ⊥) → opens_group (found how) ≡ true
-found_group Setting h f = absurd (h refl)
-found_group Plain h f = refl
-found_group (Capture n) h f = refl
-found_group (Marked how) h f = refl
-found_group (Reference folded index) h f = absurd (f folded index refl)
-found_group (Chooses condition) h f = refl
+pub found_group : (how : Found) → (how ≡ Setting → ⊥) → ((folded : Bool) (index : ℕ) → how ≡ Reference folded index → ⊥) → asks (found how) ≡ false → opens_group (found how) ≡ true
+found_group Setting h f n = absurd (h refl)
+found_group Plain h f n = refl
+found_group (Capture m) h f n = refl
+found_group (Marked how) h f n = refl
+found_group (Reference folded index) h f n = absurd (f folded index refl)
+found_group (Chooses c) h f n = refl
+found_group Condition h f n = absurd (true_is_false n)
 
 -- a pattern is its branches
 pub none_joined : {k : ℕ} {p : Place} → HasNoReading (Branches k) p → HasNoReading (Alternation k) p

@@ -5,7 +5,7 @@ use Rattle.fancy_syntax.specs.declared.groups.Grouping.TheVariants.{Atomic, Look
 use Rattle.fancy_syntax.specs.Pattern.{Pattern, backreference, group_test, group, repeat, in_sequence, in_branches}
 use Rattle.fancy_syntax.specs.Sizes.{is_empty}
 use Rattle.fancy_syntax.specs.Words.{Text}
-use Rattle.fancy_syntax.specs.Dialect.{Scope, Options, begin, has_name, lexeme, ReadsAtom, by_lexeme, by_class, with_part, Branches, one, either, Parts, nothing, item, Item, set, bare, quantified, Atom, single, plain, flagged, capture, unnamed, named, marked, reference, reference_by_name, tested, chosen, inside, grouped, Spells, SpellsUnder}
+use Rattle.fancy_syntax.specs.Dialect.{Scope, Options, begin, has_name, lexeme, ReadsAtom, by_lexeme, by_class, with_part, Branches, one, either, Parts, nothing, item, Item, set, bare, quantified, Atom, single, plain, flagged, capture, unnamed, named, marked, reference, reference_by_name, tested, decided, chosen, inside, grouped, Spells, SpellsUnder}
 use Rattle.fancy_syntax.specs.References.{Target, called}
 use Rattle.fancy_syntax.proofs.ReadingLemmas.{true_is_false}
 use Rattle.fancy_syntax.proofs.UniqueLemmas.{one_pattern, one_end}
@@ -185,6 +185,16 @@ mutual
   capture_atom (tested {s = s} {w = w} {bs = bs} c h b) f =
       let x = capture_branches b (record f { wanted = f.wanted ++ (w ∷ []) }) in
       record { behind = x.behind; found = chosen (group_test (length f.wanted)) x.found; fuller = fuller_chosen (group_test (length s.wanted)) (group_test (length f.wanted)) bs x.found; spelled = tested c h x.spelled; named = x.named }
+  capture_atom (decided {cs = cs} {bs = bs} c h g a b) f =
+      let x = capture_branches a f in
+      let y = capture_branches b x.behind in
+      record {
+        behind = y.behind;
+        found = chosen (in_branches x.found) y.found;
+        fuller = fuller_chosen (in_branches cs) (in_branches x.found) bs y.found;
+        spelled = decided c h g x.spelled y.spelled;
+        named = λ e. y.named (x.named e);
+      }
   capture_atom (reference_by_name {s = s} n h) f =
       record { behind = record f { wanted = f.wanted ++ (called n ∷ []) }; found = backreference s.flags.ignore_case (length f.wanted); fuller = never_empty refl; spelled = reference_by_name n h; named = λ e. e }
 

@@ -25,7 +25,7 @@ use Rattle.fancy_syntax.specs.Escapes.{is_mark, control_of, set_letter, number, 
 use Rattle.fancy_syntax.specs.ClassGrammar.{ReadsEdges, is_ascii_meaning, may_turn, token_members, property}
 use Rattle.fancy_syntax.specs.Names.{is_name}
 use Rattle.fancy_syntax.specs.References as references
-use Rattle.fancy_syntax.specs.References.{Target, called, Fault, Groups, group_condition, group_for, number_in, refers_to}
+use Rattle.fancy_syntax.specs.References.{Target, called, Fault, Groups, group_condition, is_left_out, group_for, number_in, refers_to}
 
 -- the flags `i m s x R`
 pub record Flags : Type 0 where
@@ -373,6 +373,10 @@ mutual
     -- a conditional that tests a group; two parentheses are open in its condition, and one in its body
     tested : {k : ℕ} {s q : Scope} {t after : Text} {w : Target} {bs : List Pattern} (c : Text) → group_condition (c ++ (t ++ (codes ")" ++ after))) ≡ Some (w, t ++ (codes ")" ++ after))
         → Branches (suc k) (wants w s) t (codes ")" ++ after) bs q → Atom (suc (suc k)) s (codes "(?(" ++ (c ++ (t ++ codes ")"))) after (chosen (test_here s) bs) (back_to s q)
+    -- a conditional whose condition is a pattern; flags that are set in the condition end with it
+    decided : {k : ℕ} {s r q : Scope} {t after : Text} {cs bs : List Pattern} (c : Text) → group_condition (c ++ (codes ")" ++ (t ++ (codes ")" ++ after)))) ≡ None
+        → is_left_out (c ++ (codes ")" ++ (t ++ (codes ")" ++ after)))) ≡ false → Branches k s c (codes ")" ++ (t ++ (codes ")" ++ after))) cs r → Branches (suc k) (back_to s r) t (codes ")" ++ after) bs q
+        → Atom (suc (suc k)) s (codes "(?(" ++ (c ++ (codes ")" ++ (t ++ codes ")")))) after (chosen (in_branches cs) bs) (back_to s q)
     -- references may name groups that are opened only behind them
     reference : {k : ℕ} {s : Scope} {t after : Text} {w : Target} → references.reference s.opened (t ++ after) ≡ Some (w, after) → Atom k s t after (reference_here s) (wants w s)
     reference_by_name : {k : ℕ} {s : Scope} {after : Text} (n : Text) → is_name n ≡ true → Atom (suc k) s (codes "(?P=" ++ (n ++ codes ")")) after (reference_here s) (wants (called n) s)

@@ -57,6 +57,8 @@ pub data Opening : Type 0 where
   reference : Bool → ℕ → Opening
   -- the body of a conditional with this condition
   chooses : Pattern → Opening
+  -- a pattern that is the condition of a conditional
+  condition : Opening
 
 -- a pattern follows, and the parenthesis that closes the group
 abbrev pub opens_group : Opening → Bool
@@ -66,6 +68,17 @@ opens_group (capture n) = true
 opens_group (marked how) = true
 opens_group (reference folded n) = false
 opens_group (chooses c) = true
+opens_group condition = false
+
+-- a condition follows
+abbrev pub asks : Opening → Bool
+asks setting = false
+asks plain = false
+asks (capture n) = false
+asks (marked how) = false
+asks (reference folded n) = false
+asks (chooses c) = false
+asks condition = true
 
 -- how many parentheses are open behind it
 abbrev pub parentheses : Opening → ℕ
@@ -75,6 +88,7 @@ parentheses (capture n) = 1
 parentheses (marked how) = 1
 parentheses (reference folded n) = 1
 parentheses (chooses c) = 2
+parentheses condition = 2
 
 -- what a group makes of the branches inside it
 abbrev pub wrap : Opening → List Pattern → Pattern
@@ -84,6 +98,7 @@ wrap (capture n) bs = group n (in_branches bs)
 wrap (marked how) bs = group_of how (in_branches bs)
 wrap (reference folded n) bs = in_branches bs
 wrap (chooses c) bs = chosen c bs
+wrap condition bs = in_branches bs
 
 -- letters of flags, as far as they were read: the flags by now, whether the next ones are set, and whether one was read since the start or the dash
 pub record LettersRead : Type 0 where
@@ -135,14 +150,14 @@ named_reference p t =
     if (length (name_here t) == 0) || not (is_at ")" (past_name t)) then None
     else Some (reference p.scope.flags.ignore_case (length p.scope.wanted), record { text = drop 1 (past_name t); scope = wants (references.called (name_here t)) p.scope })
 
--- the conditional that tests a group, where it is found
-abbrev pub by_test : Place → Option (Target × Text) → Option (Opening × Place)
-by_test p None = None
-by_test p (Some (w, t)) = Some (chooses (test_here p.scope), record { text = t; scope = wants w p.scope })
+-- the conditional that tests the group which was found at the start of this text, or else a pattern for a condition
+abbrev pub by_test : Place → Text → Option (Target × Text) → Option (Opening × Place)
+by_test p u None = if references.is_left_out u then None else Some (condition, record { text = u; scope = p.scope })
+by_test p u (Some (w, t)) = Some (chooses (test_here p.scope), record { text = t; scope = wants w p.scope })
 
 -- the conditional whose condition stands first in this text
 abbrev pub conditional_at : Place → Text → Option (Opening × Place)
-conditional_at p t = by_test p (references.group_condition t)
+conditional_at p t = by_test p t (references.group_condition t)
 
 -- the mark of an atomic group or of look-around, with its parenthesis, and its length
 abbrev pub mark_here : Text → Option (Grouping × ℕ)
@@ -238,10 +253,6 @@ abbrev pub ends_branch : Text → Bool
 ends_branch [] = true
 ends_branch (c ∷ t) = c ∈ "|)"
 
--- what a parenthesis opens, where so many may still be open
-pub data Opens : ℕ → Place → Opening → Place → Type 0 where
-  at_once : {k : ℕ} {p inside : Place} {how : Opening} → opening p ≡ Some (how, inside) → parentheses how ≤ suc k → Opens (suc k) p how inside
-
 -- The number says how many parentheses more may be open at one place.
 mutual
   -- branches, joined by `|`, up to the end of the group or the pattern
@@ -262,6 +273,11 @@ mutual
     single : {k : ℕ} {p q r : Place} {a x : Pattern} → is_at "(" p.text ≡ false → IsAtom p a q → quantified a q ≡ Some (x, r) → Item k p (Some x) r
     grouped : {k : ℕ} {p inside q r : Place} {how : Opening} {bs : List Pattern} {x : Pattern} → is_at "(" p.text ≡ true → Opens (suc k) p how inside → opens_group how ≡ true
         → Branches k inside bs q → is_at ")" q.text ≡ true → quantified (wrap how bs) (closed p q) ≡ Some (x, r) → Item (suc k) p (Some x) r
+
+  -- what a parenthesis opens, behind its condition if it has one, where so many may still be open
+  pub data Opens : ℕ → Place → Opening → Place → Type 0 where
+    at_once : {k : ℕ} {p inside : Place} {how : Opening} → opening p ≡ Some (how, inside) → asks how ≡ false → parentheses how ≤ suc k → Opens (suc k) p how inside
+    behind_condition : {k : ℕ} {p inside q : Place} {cs : List Pattern} → opening p ≡ Some (condition, inside) → Branches k inside cs q → is_at ")" q.text ≡ true → Opens (suc (suc k)) p (chooses (in_branches cs)) (closed p q)
 
 -- the whole text has this pattern, with at most so many parentheses open at one place
 pub record Reads (s : Scope) (text : Text) (p : Pattern) (end : Place) : Type 0 where

@@ -1,4 +1,4 @@
--- References to groups: how they are written, what they name, and which group that is once the whole pattern is read.
+-- References to groups, to which tests of groups belong: how they are written, what they name, and which group that is once the whole pattern is read.
 use Rattle.std.specs.Prelude.{ℕ, ◌+◌, ◌-◌, ◌==◌, ◌||◌, ◌&&◌, Bool, not, nat_le, min, List, [], ◌∷◌, length, drop, slice_index_or, Option, Some, None, Result, Ok, Err, if◌then◌else◌}
 use Prim.Native.Char.{code}
 use Rattle.fancy_syntax.specs.Pattern.{Pattern, empty, character, member_of, in_any_case, raw_byte, backreference, assertion, group_test, keep_start, continue_here, group, repeat, look_ahead, look_behind, atomic, conditional, followed, or_else, last_branch}
@@ -77,6 +77,10 @@ group_condition t =
     if is_at "<" t then name_condition (code ">") (drop 1 t)
     else if is_at "'" t then name_condition (code "'") (drop 1 t)
     else number_condition t
+
+-- a condition in a form that is left out of the dialect begins here: a definition, or look-around without parentheses of its own
+abbrev pub is_left_out : Text → Bool
+is_left_out t = begins "DEFINE)" t || is_at "?" t
 
 -- what may only be a reference begins here
 abbrev pub begins_reference : Text → Bool

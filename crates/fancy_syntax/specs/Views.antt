@@ -1,5 +1,5 @@
 -- What the parser's functions promise each other.
-use Rattle.std.specs.Prelude.{Vec, ◌≡◌, ℕ, ◌+◌, ◌-◌, ◌^◌, min, Bool, true, false, ◌&&◌, List, length, take, sum_by, Option, Some, None, option_map, Result, Ok, Err, map, Any, chars, string_bytes}
+use Rattle.std.specs.Prelude.{Vec, ◌≡◌, ℕ, ◌+◌, ◌-◌, ◌≤◌, ◌^◌, min, Bool, true, false, ◌&&◌, List, length, take, sum_by, Option, Some, None, option_map, Result, Ok, Err, map, Any, chars, string_bytes}
 use Rattle.std.specs.Borrow.{Bor}
 use Rattle.std.specs.Global.{Global}
 use Rattle.std.specs.Char.{len_utf8}
@@ -7,7 +7,7 @@ use Rattle.fancy_syntax.specs.declared.parser.Parser.{Parser}
 use Rattle.fancy_syntax.specs.declared.error.Error.{Error}
 use Rattle.fancy_syntax.specs.declared.error.Error.TheVariants.{Memory, ParseError, CompileError, RuntimeError}
 use Rattle.fancy_syntax.specs.declared.groups.Opening.{Opening as Found}
-use Rattle.fancy_syntax.specs.declared.groups.Opening.TheVariants.{Setting, Plain, Capture, Marked, Reference, Chooses}
+use Rattle.fancy_syntax.specs.declared.groups.Opening.TheVariants.{Setting, Plain, Capture, Marked, Reference, Chooses, Condition}
 use Rattle.fancy_syntax.specs.declared.reference.Target.{Target as Found_target}
 use Rattle.fancy_syntax.specs.declared.reference.Target.TheVariants.{Numbered, Missing, Called, CalledOrNumbered}
 use Rattle.fancy_syntax.specs.declared.resolve.Groups.{Groups as Found_groups}
@@ -25,9 +25,9 @@ use Rattle.fancy_syntax.specs.Pattern.{Pattern, pattern_of, in_sequence, in_bran
 use Rattle.fancy_syntax.specs.Sizes.{size, are_sized}
 use Rattle.fancy_syntax.specs.Words.{Text}
 use Rattle.fancy_syntax.specs.Names.{named_groups}
-use Rattle.fancy_syntax.specs.References.{Target, numbered, missing, called, called_or_numbered, Fault, by_name_alone, no_number, no_name, Groups, fault_of, fault_in}
+use Rattle.fancy_syntax.specs.References.{Target, numbered, missing, called, called_or_numbered, Fault, by_name_alone, no_number, no_name, Groups}
 use Rattle.fancy_syntax.specs.Dialect.{Flags, Scope, Options, has_name, Lexeme, IsMeant}
-use Rattle.fancy_syntax.specs.Grammar.{Place, start, Opening, setting, plain, capture, marked, reference, chooses, LettersRead, Bounds, Branches, Parts}
+use Rattle.fancy_syntax.specs.Grammar.{Place, start, Opening, setting, plain, capture, marked, reference, chooses, condition, parentheses, opening, Opens, LettersRead, Bounds, Branches, Parts}
 
 abbrev pub flags_of : Found_flags → Flags
 flags_of f = record { ignore_case = f.ignore_case; multi_line = f.multi_line; dot_all = f.dot_all; ignore_blanks = f.ignore_blanks; crlf = f.crlf }
@@ -77,7 +77,8 @@ found Plain = plain
 found (Capture n) = capture n
 found (Marked how) = marked how
 found (Reference folded index) = reference folded index
-found (Chooses condition) = chooses (pattern_of condition.value)
+found (Chooses c) = chooses (pattern_of c.value)
+found Condition = condition
 
 abbrev pub bounds_of : Turns → Bounds
 bounds_of t = (t.low, t.high)
@@ -167,6 +168,11 @@ Alternation k p x q = (bs : List Pattern) × (x ≡ in_branches bs) × Branches 
 
 abbrev pub Sequence : ℕ → Place → Pattern → Place → Type 0
 Sequence k p x q = (ps : List Pattern) × (x ≡ in_sequence ps) × Parts k p ps q
+
+-- The parenthesis at p opens what was found, at q; or it opens nothing where so many may still be open, unless memory ran out.
+abbrev pub GivesOpening : ℕ → Result Found Error → Place → Place → Type 0
+GivesOpening k (Ok how) p q = (opening p ≡ Some (found how, q)) × (parentheses (found how) ≤ k)
+GivesOpening k (Err e) p q = Refuses e (HasNoReading (Opens k) p)
 
 -- the patterns of trees
 abbrev pub patterns_of : Vec Tree Global → List Pattern

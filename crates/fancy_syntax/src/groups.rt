@@ -1,7 +1,7 @@
 //! What parentheses open.
 
 ghost use Rattle.std.specs.Prelude.{◌≡◌, ◌≤◌, ◌<◌, IfSome, length};
-ghost use Rattle.fancy_syntax.specs.Grammar.{mark_here, parentheses};
+ghost use Rattle.fancy_syntax.specs.Grammar.{mark_here, parentheses, asks};
 ghost use Rattle.fancy_syntax.specs.Views.{found};
 
 use crate::tree::Tree;
@@ -32,6 +32,8 @@ pub(crate) enum Opening {
     Reference { folded: bool, index: usize },
     /// `(?(`, a condition and `)`: the body of a conditional with this condition.
     Chooses(Box<Tree>),
+    /// `(?(`: the condition of a conditional, where it is a pattern.
+    Condition,
 }
 
 impl Opening {
@@ -40,9 +42,16 @@ impl Opening {
         ensures { result ≡ parentheses (found self.now) }
     {
         match self {
-            Opening::Chooses(_) => 2,
+            Opening::Chooses(_) | Opening::Condition => 2,
             _ => 1,
         }
+    }
+
+    /// Whether a condition follows.
+    pub(crate) fn asks(&self) -> bool
+        ensures { result ≡ asks (found self.now) }
+    {
+        matches!(self, Opening::Condition)
     }
 }
 

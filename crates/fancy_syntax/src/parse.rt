@@ -65,14 +65,15 @@ pub struct Parsed {
 
 /// Reads a pattern, whose items are characters.
 ///
-/// The forms so far:
+/// The forms:
 ///
 /// - literal characters, and a backslash before ASCII punctuation (other than `<` and `>`) or a space;
 /// - the control characters `\a \e \f \n \r \t \v`, and characters by their numbers, as `\xE9`, `\u00E9`,
 ///   `\U000000E9` and `\x{E9}`;
 /// - `.`, `\O`, `\N`, the sets `\d \s \w \h` and their complements `\D \S \W \H`, properties of Unicode as
 ///   `\p{Greek}`, `\pL` and `\P{Greek}`, and classes as `[a-z&&[^aeiou]]`;
-/// - the assertions `^ $ \A \z \Z \b \B \< \> \b{start} \b{end} \b{start-half} \b{end-half}`;
+/// - the assertions `^ $ \A \z \Z \b \B \< \> \b{start} \b{end} \b{start-half} \b{end-half}`, and `\G`, the search's start;
+/// - `\K`, where the match starts, but not inside of look-around;
 /// - groups `(..)`, which capture and are numbered from 1 by their openings, and `(?:..)`, which do not;
 /// - capturing groups with a name, `(?<n>..)` and `(?P<n>..)`, where the name `n` is a row of alphabetic characters,
 ///   numbers (of category Nd, Nl or No) and `_`; several groups may have one name;
@@ -80,6 +81,8 @@ pub struct Parsed {
 /// - backreferences by number, `\1`, of a row of digits that does not begin with 0; by name, `(?P=n)`; by name or else by
 ///   number, `\k<n>` and `\k'n'`; and `\k<-n>` and `\k'-n'` to the group `n` back from those opened before it, where 1
 ///   is the last one. A group may stand behind a reference to it, and of several groups with one name the last is meant;
+/// - conditionals `(?(1)yes|no)`, `(?(<n>)yes|no)` and `(?('n')yes|no)`, which test whether a group has taken part, and
+///   `(?(condition)yes|no)`, whose condition is a pattern; the first branch is that for yes, and all others are that for no;
 /// - branches joined by `|`;
 /// - the quantifiers `?`, `*`, `+`, `{n}`, `{n,}`, `{n,m}` and `{,m}`, each with a `?` behind it where it is lazy, or a
 ///   `+` where it is possessive; the bounds `n` and `m` are at most 4,294,967,295;
@@ -87,12 +90,12 @@ pub struct Parsed {
 /// - the flags `i m s x u R`, as `(?ms-x)` up to the end of the enclosing group, over later branches too, or as
 ///   `(?ms-x:..)` for a group.
 ///
-/// At most 64 parentheses are open at one place, among them those of flags and of `(?P=n)`, but not those of comments;
-/// and at most 64 brackets of classes.
+/// At most 64 parentheses are open at one place, among them those of flags, of `(?P=n)` and both of `(?(`, but not those of
+/// comments; and at most 64 brackets of classes.
 ///
 /// A text that is no pattern is refused by an [`Error::ParseError`], whose place is a byte offset into it, of 0
-/// to the length of `pattern`; one of more than 1,000,000 nodes by [`CompileError::PatternTooComplex`]. A reference to a
-/// group that the pattern does not have is refused by [`CompileError::InvalidBackref`] with its number, or by
+/// to the length of `pattern`; one of more than 1,000,000 nodes by [`CompileError::PatternTooComplex`]. A reference to, or a test
+/// of, a group that the pattern does not have is refused by [`CompileError::InvalidBackref`] with its number, or by
 /// [`CompileError::InvalidGroupNameBackref`] with its name; a number above 4,294,967,295 stands as that. A look-behind
 /// whose body has no one size, and is no alternative of branches that each have one, is refused by
 /// [`CompileError::LookBehindNotConst`], as `(?<=a+)`; `(?<=a|bc)` is not. Where memory runs out the answer is

@@ -7,13 +7,13 @@ ghost use Rattle.fancy_syntax.specs.Dialect.{begins_quantifier};
 ghost use Rattle.fancy_syntax.specs.Words.{is_at_any, is_at, begins_count};
 
 use crate::blank::past_blanks;
-use crate::build::{branches, is_empty, reference, repeat, sequence, wrap};
+use crate::build::{branches, chooses, is_empty, reference, repeat, sequence, wrap};
 use crate::count::{Turns, begins_count, bounds, past_count};
 use crate::error::{Error, ParseErrorKind};
 use crate::flags::{Flags, read_flags};
 use crate::groups::{Grouping, Opening, mark};
 use crate::name::{GroupName, split_name, text_of};
-use crate::reference::{Target, read_condition};
+use crate::reference::{Target, is_left_out, read_condition};
 use crate::tree::{Meaning, Taste, Tree};
 use std::alloc::Global;
 
@@ -159,7 +159,7 @@ impl<'a> Parser<'a> {
     ghost use Rattle.fancy_syntax.specs.Views.{place, found, bounds_of, itself, GivesValue};
     ghost use Rattle.fancy_syntax.specs.Pattern.{pattern_of};
     ghost use Rattle.std.specs.Prelude.{Some, Ok};
-    ghost use Rattle.fancy_syntax.specs.Grammar.{opening, by_mark, unmarked, named, named_reference, conditional_at, flagged, quantified, turns, taste};
+    ghost use Rattle.fancy_syntax.specs.Grammar.{opening, by_mark, unmarked, named, named_reference, by_test, conditional_at, flagged, quantified, turns, taste};
 
     /// Reads what a parenthesis opens.
     fn opening(&mut self) -> Result<Opening, Error>
@@ -267,7 +267,7 @@ impl<'a> Parser<'a> {
         }
     }
 
-    /// Reads the condition of a conditional, which stands first in `inside`, the last characters.
+    /// Reads a condition that tests a group, or goes to one that is a pattern; it stands first in `inside`, the last characters.
     #[tactic(auto, using(crate::proofs::PatternLemmas::pattern_equations))]
     fn conditional(&mut self, inside: &'a [char]) -> Result<Opening, Error>
         requires { length inside.now < length self.old.rest.now }
@@ -283,8 +283,21 @@ impl<'a> Parser<'a> {
                 let condition = Box::new(self.alloc, Tree::GroupTest(index))?;
                 Ok(Opening::Chooses(condition))
             }
-            None => Err(self.error(ParseErrorKind::NotInProfile)),
+            None => self.condition(inside),
         }
+    }
+
+    /// Goes to a condition that is a pattern, where it is not one that is left out.
+    fn condition(&mut self, inside: &'a [char]) -> Result<Opening, Error>
+        requires { length inside.now < length self.old.rest.now }
+        ensures value { GivesValue found (by_test (place self.old) inside.now None) result (place self.new) }
+        ensures progress { OnOk result (length self.new.rest.now < length self.old.rest.now) }
+    {
+        if is_left_out(inside) {
+            return Err(self.error(ParseErrorKind::NotInProfile));
+        }
+        self.rest = inside;
+        Ok(Opening::Condition)
     }
 
     /// Reads flags, and what they open.
@@ -390,13 +403,14 @@ impl<'a> Parser<'a> {
 }
 
 impl<'a> Parser<'a> {
-    ghost use Rattle.fancy_syntax.specs.Views.{place, found, Gives, Alternation, Sequence, patterns_of, part_of};
+    ghost use Rattle.fancy_syntax.specs.Views.{place, found, Gives, GivesOpening, Alternation, Sequence, patterns_of, part_of};
     ghost use Rattle.fancy_syntax.specs.Pattern.{pattern_of};
     ghost use Rattle.fancy_syntax.specs.Grammar.{Branches, Opens, Item};
 
     /// Reads a pattern up to the end of the group or of the whole; `room` more parentheses may be opened inside.
     pub(crate) fn alternation(&mut self, room: u32) -> Result<Tree, Error>
         ensures value { Gives pattern_of (Alternation room) result (place self.old) (place self.new) }
+        ensures forward { OnOk result (length self.new.rest.now ≤ length self.old.rest.now) }
     {
         let found = self.alternatives(room)?;
         Ok(branches(found))
@@ -440,17 +454,40 @@ impl<'a> Parser<'a> {
     }
 
     /// Reads what a parenthesis opens, where `room` may be opened.
-    fn head(&mut self, room: u32) -> Result<Opening, Error>
+    fn opening_within(&mut self, room: u32) -> Result<Opening, Error>
         requires { is_at "(" self.old.rest.now ≡ true }
-        ensures value { Gives found (Opens room) result (place self.old) (place self.new) }
+        ensures value { GivesOpening room result (place self.old) (place self.new) }
         ensures progress { OnOk result (length self.new.rest.now < length self.old.rest.now) }
-        ensures room { OnOk result (1 ≤ room) }
     {
         let how = self.opening()?;
         if room < how.parentheses() {
             return Err(self.error(ParseErrorKind::RecursionExceeded));
         }
         Ok(how)
+    }
+
+    /// Reads what a parenthesis opens, with its condition if it has one; flags that are set in the condition end with it.
+    #[cycle(parser)]
+    fn head(&mut self, room: u32) -> Result<Opening, Error>
+        requires { is_at "(" self.old.rest.now ≡ true }
+        ensures value { Gives found (Opens room) result (place self.old) (place self.new) }
+        ensures progress { OnOk result (length self.new.rest.now < length self.old.rest.now) }
+        ensures room { OnOk result (1 ≤ room) }
+    {
+        let (flags_before, looking_before) = (self.flags, self.in_look_around);
+        let how = self.opening_within(room)?;
+        if !how.asks() {
+            return Ok(how);
+        }
+        let condition = self.alternatives(room - 2)?;
+        if !self.is_at_any(&[')']) {
+            return Err(self.error(ParseErrorKind::UnclosedOpenParen));
+        }
+        self.skip(1);
+        self.flags = flags_before;
+        self.in_look_around = looking_before;
+        let chosen = chooses(self.alloc, condition)?;
+        Ok(chosen)
     }
 
     /// Reads a setting of flags, which gives no part, or what can be quantified with its quantifier.

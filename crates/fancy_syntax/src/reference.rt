@@ -2,7 +2,7 @@
 
 ghost use Rattle.std.specs.Prelude.{◌≡◌, ℕ, ◌-◌, ◌^◌, ◌<◌, ◌≤◌, min, IfOk, IfSome, length, option_map};
 ghost use Rattle.fancy_syntax.specs.Words.{is_at_any};
-ghost use Rattle.fancy_syntax.specs.References.{back, number_reference, distance_reference, name_reference, delimited, reference, begins_reference, within_largest, number_condition, name_condition, group_condition};
+ghost use Rattle.fancy_syntax.specs.References.{back, number_reference, distance_reference, name_reference, delimited, reference, begins_reference, within_largest, number_condition, name_condition, group_condition, is_left_out};
 ghost use Rattle.fancy_syntax.specs.Views.{target_of, reading_of};
 
 use crate::count::{decimal, is_at_digit, past_digits};
@@ -204,6 +204,13 @@ pub(crate) fn read_condition(
         ['\'', name @ ..] => name_condition(alloc, name, '\''),
         _ => Ok(number_condition(text)),
     }
+}
+
+/// Whether a condition in a form that is left out begins here: a definition, or look-around without parentheses of its own.
+pub(crate) fn is_left_out(text: &[char]) -> bool
+    ensures { result ≡ is_left_out text.now }
+{
+    text.starts_with(&['D', 'E', 'F', 'I', 'N', 'E', ')']) || is_at_any(text, &['?'])
 }
 
 /// What is wrong where a reference is to stand and none does.

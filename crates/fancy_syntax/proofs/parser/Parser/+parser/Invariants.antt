@@ -6,13 +6,16 @@ use Rattle.fancy_syntax.proofs.ReadingLemmas.{GoesOn}
 use Rattle.fancy_syntax.proofs.parser.Parser.+parser.Given as goal
 
 abbrev pub decreases-alternatives : goal.decreases-alternatives
-decreases-alternatives l = 3 * l.room + 2
+decreases-alternatives l = 4 * l.room + 3
 
 abbrev pub decreases-sequence : goal.decreases-sequence
-decreases-sequence l = 3 * l.room + 1
+decreases-sequence l = 4 * l.room + 2
 
 abbrev pub decreases-item : goal.decreases-item
-decreases-item l = 3 * l.room
+decreases-item l = 4 * l.room + 1
+
+abbrev pub decreases-head : goal.decreases-head
+decreases-head l = 4 * l.room
 
 abbrev pub invariant-alternatives-loop-found : goal.invariant-alternatives-loop-found
 invariant-alternatives-loop-found l = record {
