@@ -1,4 +1,5 @@
 -- What matches are replaced by, and what that makes of a text.
+use Prim.Native.Char.{code}
 use Rattle.std.specs.Prelude.{◌≡◌, ◌≤◌, ◌⊎◌, ℕ, Bool, List, [], ◌∷◌, ◌++◌, Option, None, Some, chars, encode_utf8_all, map, true, if◌then◌else◌}
 use Rattle.fancy_syntax.specs.declared.error.Error.{Error}
 use Rattle.fancy_syntax.specs.declared.error.Error.TheVariants.{Memory}
@@ -17,7 +18,7 @@ use Rattle.fancy_core.specs.Templates.{dollar_syntax}
 
 -- a template without `$` is one text for all matches: its own characters
 abbrev pub fixed_of : List ℕ → Option (List ℕ)
-fixed_of template = if has_mark 36 (chars template) then None else Some (encode_utf8_all (chars template))
+fixed_of template = if has_mark (code "$") (chars template) then None else Some (encode_utf8_all (chars template))
 
 -- what a template gives for a match
 abbrev pub expansion_of : List ℕ → Seen → List ℕ

@@ -1,4 +1,5 @@
 -- Templates. A template is a text of characters, and is cut into steps.
+use Prim.Native.Char.{code}
 use Rattle.std.specs.Prelude.{ℕ, zero, suc, ◌+◌, ◌^◌, ◌==◌, ◌≡◌, Bool, true, false, not, ◌&&◌, nat_eq, nat_lt, List, [], ◌∷◌, length, drop, codes, Option, None, Some, if◌then◌else◌}
 use Rattle.std.specs.List.{starts_with, list_all}
 use Rattle.std.specs.Char.{is_ascii_digit}
@@ -19,11 +20,11 @@ pub record Syntax : Type 0 where
 
 -- `$1`, `$name`, `${name}`
 abbrev pub dollar_syntax : Syntax
-dollar_syntax = record { mark = 36; opening = codes "{"; closing = codes "}"; undelimited = true }
+dollar_syntax = record { mark = code "$"; opening = codes "{"; closing = codes "}"; undelimited = true }
 
 -- `\1`, `\g<name>`
 abbrev pub python_syntax : Syntax
-python_syntax = record { mark = 92; opening = codes "g<"; closing = codes ">"; undelimited = false }
+python_syntax = record { mark = code "\\"; opening = codes "g<"; closing = codes ">"; undelimited = false }
 
 -- A character, a group by its name or by its number, or the fault that no form stands behind a mark.
 pub data Step : Type 0 where
