@@ -12,7 +12,7 @@ use Rattle.fancy_engine.specs.Context.{Span, group_span}
 use Rattle.fancy_engine.specs.Search.{Query, search, span_of}
 use Rattle.fancy_core.specs.declared.scratch.Scratch.{Scratch}
 use Rattle.fancy_core.specs.Scratch.{found_at}
-use Rattle.fancy_engine.specs.Placed.{has_keep_start, any_place, LiesWithin, KeepsBoundaries, by_characters, of_ascii, reads_characters}
+use Rattle.fancy_engine.specs.Placed.{has_keep_start_in_look_around, any_place, LiesWithin, KeepsBoundaries, by_characters, of_ascii, reads_characters}
 use Rattle.fancy_engine.proofs.FoundLemmas.{answer_within, answer_on_boundaries}
 use Rattle.fancy_core.specs.declared.regex.Regex.{Regex}
 use Rattle.fancy_core.specs.Regexes.{options_in, asked_in_turn}
@@ -46,16 +46,16 @@ span_listed g n number x e =
 
 module _ (q : Query) (text : Bool) (position : ℕ) (memory : Scratch) (within : LiesWithin q any_place (found_at position memory))
     (cleanly : text ≡ true → LiesWithin q (is_boundary q.haystack) (found_at position memory)) (range : q.request.range_end ≤ length q.haystack)
-    (without : has_keep_start q.sought.pattern ≡ false) where
+    (outside : has_keep_start_in_look_around q.sought.pattern ≡ false) where
   whole_cut : (s e : ℕ) → Some (span_of (found_at position memory)) ≡ Some (s, e) → IsCut text q.haystack s e
   whole_cut s e h =
       let begins : (found_at position memory).state.kept ≡ s = ap start_or h in
-      let kept : (found_at position memory).state.kept ≡ position = within.kept without in
+      let forward : (found_at position memory).state.kept ≤ (found_at position memory).state.place = (within.forward outside).to in
       let ends : (found_at position memory).state.place ≡ e = ap end_or h in
       record {
-        ordered = omega (arith, within.begins, kept, begins, ends);
+        ordered = omega (arith, forward, begins, ends);
         inside = omega (arith, within.ends, ends, range);
-        starts_cleanly = λ t. rw (sym kept ∙ begins) at (cleanly t).starts;
+        starts_cleanly = λ t. rw begins at (cleanly t).keeps;
         ends_cleanly = λ t. rw ends at (cleanly t).placed.stands;
       }
 
@@ -89,6 +89,6 @@ pub groups_cut : (r : Regex) (text : Bool) (haystack : List ℕ) (request : Requ
     Some (found_at position memory) ≡ search (asked_in_turn r haystack request c) → AreCut text haystack (spans_of n (found_at position memory))
 groups_cut r text haystack request c position memory n range suits utf8 e =
     all_cut (asked_in_turn r haystack request c) text position memory
-    (answer_within (asked_in_turn r haystack request c) _ refl range (sym e))
-    (λ t. answer_on_boundaries (asked_in_turn r haystack request c) _ refl range (keeps_by r text haystack request c _ refl suits utf8 t) (sym e))
+    (answer_within (asked_in_turn r haystack request c) _ range (sym e))
+    (λ t. answer_on_boundaries (asked_in_turn r haystack request c) _ range (keeps_by r text haystack request c _ refl suits utf8 t) (sym e))
     range r.starts n

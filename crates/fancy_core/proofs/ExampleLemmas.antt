@@ -16,4 +16,7 @@ lists = record {
   here_passed_over = refl;
   here_again = refl;
   turns = refl;
+  kept_at_the_end = refl;
+  kept_behind_a_match = refl;
+  kept_inside = refl;
 }

@@ -1,5 +1,5 @@
 -- The escape of a text spells its characters, and is found where the text stands.
-use Rattle.std.proofs.Common.{◌≡◌, ℕ, ◌≤◌, ◌==◌, ◌&&◌, Bool, true, false, List, [], ◌∷◌, ◌++◌, codes, length, map, flat_map, chars, IsUtf8, IsTrue, if◌then◌else◌, inl, inr, refl, sym, ap, subst, ◌∙◌, arith, eqb-true}
+use Rattle.std.proofs.Common.{◌≡◌, ℕ, ◌≤◌, ◌==◌, ◌&&◌, Bool, true, false, List, [], ◌∷◌, ◌++◌, codes, length, map, flat_map, chars, IsUtf8, IsTrue, if◌then◌else◌, inl, inr, refl, sym, ap, subst, ◌∙◌, arith, eqb-true, true≢false}
 use Rattle.std.proofs.lemmas.Bool.Decides.{leb_tells}
 use Rattle.std.proofs.lemmas.Str.{encodes-chars, scalars-chars, chars_from_encodes, IsUtf8-string_bytes}
 use Rattle.fancy_syntax.specs.Limits.{most_nodes}
@@ -7,7 +7,7 @@ use Rattle.fancy_syntax.specs.declared.tree.Meaning.{Meaning}
 use Rattle.fancy_syntax.specs.declared.tree.Meaning.TheVariants.{Unicode}
 use Rattle.fancy_syntax.specs.References.{refers_to}
 use Rattle.fancy_syntax.specs.Pattern.{Pattern, character, followed, in_sequence}
-use Rattle.fancy_syntax.specs.Dialect.{Scope, Spells, IsPattern, standard, begin, numbers, is_escapable}
+use Rattle.fancy_syntax.specs.Dialect.{Scope, IsPattern, standard, begin, numbers, is_escapable}
 use Rattle.fancy_syntax.specs.Modes.{keeps_characters}
 use Rattle.fancy_syntax.specs.Sizes.{nodes, are_sized}
 use Rattle.fancy_syntax.specs.Words.{Text}
@@ -124,6 +124,7 @@ spells_escape t p h =
       is = is ∙ sym (refers-characters (numbers standard (begin true standard)) t);
       resolved = λ k d below. absurd (omega (arith, below));
       sized = ap (are_sized Unicode) is ∙ sized-characters Unicode t;
+      fills = λ on. absurd (true≢false (sym on));
       small = omega (arith, few, ap nodes is, nodes-characters t);
     }
 
@@ -138,8 +139,8 @@ module _ (regex : Regex) (text : List ℕ) (utf8 : IsUtf8 text) (built : IsOfEsc
     pattern = (escape_spells (chars text) (pattern_in regex) accepts).0;
     meaning = ap meaning_in built.options;
     on_boundaries = ap (λ (o : Options). keeps_characters o.bytes_mode) built.options;
-    not_empty = refl;
-    longest = refl;
+    not_empty = ap (λ (o : Options). o.find_not_empty) built.options;
+    longest = ap (λ (o : Options). o.leftmost_longest) built.options;
   }
 
   -- it is found at the first place where the text stands

@@ -1,5 +1,5 @@
 -- What refusals for the length of code say.
-use Rattle.std.proofs.Common.{◌≡◌, ◌+◌, ◌*◌, ◌≤◌, ◌<◌, ℕ, Bool, true, false, not, ◌&&◌, Option, Some, None, inl, inr, refl, sym, ap, ◌∙◌, subst, arith, nat_lt}
+use Rattle.std.proofs.Common.{◌≡◌, ◌+◌, ◌*◌, ◌≤◌, ℕ, Bool, true, false, not, ◌&&◌, Option, Some, None, inl, inr, refl, sym, subst, arith}
 use Rattle.std.proofs.lemmas.Bool.Decides.{nat_tests}
 use Rattle.fancy_syntax.specs.declared.error.CompileError.TheVariants as c
 use Rattle.fancy_syntax.specs.declared.error.Error.{Error}
@@ -10,9 +10,8 @@ use Rattle.fancy_syntax.specs.Refusals.{IsRefused}
 use Rattle.fancy_syntax.specs.Sizes.{nodes}
 use Rattle.fancy_syntax.specs.Words.{Text}
 use Rattle.fancy_syntax.proofs.ParseLemmas.{one_accepted}
-use Rattle.fancy_engine.specs.Means.{is_easy}
 use Rattle.fancy_core.specs.declared.options.Options.{Options}
-use Rattle.fancy_core.specs.Options.{dialect_of}
+use Rattle.fancy_core.specs.Options.{dialect_of, is_easy_under}
 use Rattle.fancy_core.specs.ProgramSize.{passes, IsTooLong, SetsNoSize, RefusesPattern, IsRefusedUnder}
 
 -- where no size is set, memory alone refuses a pattern of the dialect
@@ -41,6 +40,13 @@ pub second_fails : (easy longer : Bool) → easy ≡ false → (not easy && long
 second_fails true longer e f = absurd (cc)
 second_fails false longer e f = f
 
+-- the parts of the test for easy patterns
+pub parts_of_easy : (easy not_empty longest : Bool) → (easy && (not not_empty && not longest)) ≡ true → (easy ≡ true) × (not_empty ≡ false) × (longest ≡ false)
+parts_of_easy true false false e = (refl, refl, refl)
+parts_of_easy true false true e = absurd (cc)
+parts_of_easy true true longest e = absurd (cc)
+parts_of_easy false not_empty longest e = absurd (cc)
+
 -- what is passed by some is passed by more
 passed_by_more : (m n : ℕ) (size : Option ℕ) → m ≤ n → passes m size ≡ true → passes n size ≡ true
 passed_by_more m n None le e = e
@@ -48,6 +54,6 @@ passed_by_more m n (Some size) le e = grind (arith, nat_tests)
 
 -- The code of a hard pattern that is longer than the size that was set: the one pattern of the text may be refused.
 pub too_long : (o : Options) (text : Text) (p q : Pattern) (n : ℕ) → IsPattern (dialect_of o) text p → IsPattern (dialect_of o) text q →
-    is_easy q ≡ false → n ≤ 4 * nodes q + 2 → passes n o.max_prog_size ≡ true → IsTooLong o p
+    is_easy_under o q ≡ false → n ≤ 4 * nodes q + 2 → passes n o.max_prog_size ≡ true → IsTooLong o p
 too_long o text p q n x y hard short passed =
     subst (IsTooLong o) (one_accepted y x) (hard, passed_by_more n (4 * nodes q + 2) o.max_prog_size short passed)

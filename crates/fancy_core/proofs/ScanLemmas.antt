@@ -1,5 +1,5 @@
 -- What the searches of an iteration owe its list.
-use Rattle.std.proofs.Common.{arith, ℕ, suc, ◌≤◌, ◌<◌, ◌^◌, ◌≡◌, Bool, true, false, List, length, Option, Some, IsTrue, IsUtf8, refl, sym}
+use Rattle.std.proofs.Common.{arith, le_trans, ℕ, suc, ◌≤◌, ◌<◌, ◌^◌, ◌≡◌, Bool, true, false, List, length, Option, Some, IsTrue, IsUtf8, sym}
 use Rattle.std.proofs.lemmas.Grind.{common_steps}
 use Rattle.fancy_input.specs.declared.input.Request.{Request}
 use Rattle.fancy_input.specs.Requests.{effective_start}
@@ -8,8 +8,7 @@ use Rattle.fancy_input.proofs.PlaceLemmas.{next_place_above, next_place_boundary
 use Rattle.fancy_engine.specs.Search.{Found, search}
 use Rattle.fancy_core.specs.declared.scratch.Scratch.{Scratch}
 use Rattle.fancy_core.specs.Scratch.{found_at, answer_of}
-use Rattle.fancy_engine.proofs.FoundLemmas.{answer_within}
-use Rattle.fancy_engine.proofs.SearchLemmas.{answer-is}
+use Rattle.fancy_engine.proofs.FoundLemmas.{answer_within, found-is_reached}
 use Rattle.fancy_core.specs.declared.regex.Regex.{Regex}
 use Rattle.fancy_core.specs.Regexes.{asked_in_turn, options_in}
 use Rattle.fancy_core.specs.Searching.{Suits}
@@ -22,12 +21,10 @@ use Rattle.fancy_core.proofs.MatchingLemmas.{few_matches}
 pub search_lies : (regex : Regex) (haystack : List ℕ) (r : Request) (c : Bool) (f : Found) → r.range_end ≤ length haystack → search (asked_in_turn regex haystack r c) ≡ Some f →
     (effective_start r ≤ f.state.kept) × (f.state.kept ≤ f.state.place) × (f.state.place ≤ r.range_end)
 search_lies regex haystack r c f range e =
-    let within = answer_within (asked_in_turn regex haystack r c) f refl range e in
-    let first = answer-is (asked_in_turn regex haystack r c) f refl e in
-    let kept : f.state.kept ≡ f.position = within.kept regex.starts in
-    let a : effective_start r ≤ f.position = first.tried.from in
-    let b : f.position ≤ f.state.place = within.begins in
-    (omega (arith, a, kept), omega (arith, b, kept), within.ends)
+    let within = answer_within (asked_in_turn regex haystack r c) f range e in
+    let reached = found-is_reached (asked_in_turn regex haystack r c) f e in
+    let forward = within.forward regex.starts in
+    (le_trans reached.tried.from forward.from, forward.to, within.ends)
 
 pub scan_sound : (regex : Regex) (text : Bool) (haystack : List ℕ) (r : Request) → r.range_end ≤ length haystack → Sound (scan regex text haystack r)
 scan_sound regex text haystack r range = record {

@@ -1,5 +1,5 @@
 -- What a search may be refused for, and what it counts.
-use Rattle.std.specs.Prelude.{◌≡◌, ℕ, ◌+◌, ◌-◌, ◌*◌, ◌<◌, ◌≤◌, true, false}
+use Rattle.std.specs.Prelude.{◌≡◌, ℕ, ◌+◌, ◌-◌, ◌*◌, ◌<◌, ◌≤◌, false}
 use Rattle.fancy_syntax.specs.Limits.{most_branches}
 use Rattle.fancy_syntax.specs.declared.error.Error.{Error}
 use Rattle.fancy_syntax.specs.declared.error.Error.TheVariants.{Memory, ParseError, CompileError, RuntimeError}
@@ -8,16 +8,15 @@ use Rattle.fancy_syntax.specs.declared.error.RuntimeError.TheVariants.{Backtrack
 use Rattle.fancy_input.specs.declared.input.Request.{Request}
 use Rattle.fancy_input.specs.Requests.{effective_start}
 use Rattle.fancy_engine.specs.declared.work.Work.{Work}
-use Rattle.fancy_engine.specs.Means.{is_easy}
 use Rattle.fancy_engine.specs.Work.{steps_of, returns_of, HasRoom}
 use Rattle.fancy_engine.specs.Search.{Query, returns, choices}
 use Rattle.fancy_machine.specs.Asked.{all_tried}
 use Rattle.fancy_core.specs.declared.regex.Regex.{Regex}
-use Rattle.fancy_core.specs.Regexes.{pattern_in, length_in, limit_in}
+use Rattle.fancy_core.specs.Regexes.{easy_in, length_in, limit_in}
 
--- Whether a search for it is refused past limits: its pattern reads what it captured, or ends a way early.
+-- Whether a search for it is refused past limits: its pattern reads what it captured, or ends a way early, or one of the two filters is set.
 abbrev pub IsHard : Regex → Type 0
-IsHard r = is_easy (pattern_in r) ≡ false
+IsHard r = easy_in r ≡ false
 
 -- how many returns the search takes
 abbrev pub returns_in : Query → ℕ

@@ -1,5 +1,5 @@
 -- What the options of a regex choose.
-use Rattle.std.specs.Prelude.{true, false, None}
+use Rattle.std.specs.Prelude.{Bool, true, false, None, not, ◌&&◌}
 use Rattle.fancy_syntax.specs.Limits.{most_returns}
 use Rattle.fancy_syntax.specs.declared.tree.Meaning.{Meaning}
 use Rattle.fancy_syntax.specs.declared.tree.BytesMode.TheVariants.{Unicode}
@@ -7,6 +7,8 @@ use Rattle.fancy_syntax.specs.Modes as modes
 use Rattle.fancy_syntax.specs.Modes.{keeps_characters}
 use Rattle.fancy_syntax.specs.Dialect as dialect
 use Rattle.fancy_syntax.specs.Views.{flags_of}
+use Rattle.fancy_syntax.specs.Pattern.{Pattern}
+use Rattle.fancy_engine.specs.Means.{is_easy}
 use Rattle.fancy_core.specs.declared.options.Options.{Options}
 
 abbrev pub by_default : Options
@@ -18,6 +20,8 @@ by_default = record {
   allow_input_assertion_overrides = false;
   backtrack_limit = most_returns;
   max_prog_size = None;
+  find_not_empty = false;
+  leftmost_longest = false;
 }
 
 -- what an item consumes under these options
@@ -26,4 +30,8 @@ meaning_in o = modes.meaning_of o.bytes_mode o.unicode_mode
 
 -- how patterns are read under these options
 abbrev pub dialect_of : Options → dialect.Options
-dialect_of o = record { meaning = meaning_in o; keeps_characters = keeps_characters o.bytes_mode; only_named = o.ignore_numbered_groups_when_named_groups_exist; flags = flags_of o.flags }
+dialect_of o = record { meaning = meaning_in o; keeps_characters = keeps_characters o.bytes_mode; only_named = o.ignore_numbered_groups_when_named_groups_exist; not_empty = o.find_not_empty; flags = flags_of o.flags }
+
+-- The pattern is easy under these options: it is easy by itself, and neither of the two filters is set.
+abbrev pub is_easy_under : Options → Pattern → Bool
+is_easy_under o p = is_easy p && (not o.find_not_empty && not o.leftmost_longest)

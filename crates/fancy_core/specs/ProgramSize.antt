@@ -1,5 +1,5 @@
 -- When a pattern of the dialect may be refused: a hard one, for the length of its code.
-use Rattle.std.specs.Prelude.{◌≡◌, ◌+◌, ◌*◌, ◌<◌, ◌≤◌, ◌⊎◌, ℕ, Bool, true, false, Option, Some, None, nat_lt}
+use Rattle.std.specs.Prelude.{◌≡◌, ◌+◌, ◌*◌, ◌⊎◌, ℕ, Bool, true, false, Option, Some, None, nat_lt}
 use Rattle.fancy_syntax.specs.declared.error.CompileError.TheVariants.{PatternTooComplex}
 use Rattle.fancy_syntax.specs.declared.error.Error.{Error}
 use Rattle.fancy_syntax.specs.declared.error.Error.TheVariants.{Memory, CompileError}
@@ -8,9 +8,8 @@ use Rattle.fancy_syntax.specs.Pattern.{Pattern}
 use Rattle.fancy_syntax.specs.Refusals.{IsRefused}
 use Rattle.fancy_syntax.specs.Sizes.{nodes}
 use Rattle.fancy_syntax.specs.Words.{Text}
-use Rattle.fancy_engine.specs.Means.{is_easy}
 use Rattle.fancy_core.specs.declared.options.Options.{Options}
-use Rattle.fancy_core.specs.Options.{dialect_of}
+use Rattle.fancy_core.specs.Options.{dialect_of, is_easy_under}
 
 -- code of this length is longer than the size that was set, if one was
 abbrev pub passes : ℕ → Option ℕ → Bool
@@ -23,7 +22,7 @@ SetsNoSize o = o.max_prog_size ≡ None
 
 -- A size was set that the pattern's code may pass, which has 4 instructions a node and 2 more at the most.
 abbrev pub IsTooLong : Options → Pattern → Type 0
-IsTooLong o p = (is_easy p ≡ false) × (passes (4 * nodes p + 2) o.max_prog_size ≡ true)
+IsTooLong o p = (is_easy_under o p ≡ false) × (passes (4 * nodes p + 2) o.max_prog_size ≡ true)
 
 -- what a pattern of the dialect may be refused for: want of memory at any time, and its code's length
 abbrev pub RefusesPattern : Options → Pattern → Error → Type 0

@@ -1,12 +1,12 @@
 -- What a regex stands for, and what a search with it asks.
-use Rattle.std.specs.Prelude.{ℕ, Bool, true, false, List, string_bytes}
+use Rattle.std.specs.Prelude.{ℕ, Bool, true, List, string_bytes}
 use Rattle.fancy_syntax.specs.Modes.{keeps_characters}
 use Rattle.fancy_syntax.specs.Pattern.{Pattern, pattern_of}
 use Rattle.fancy_input.specs.declared.input.Request.{Request}
 use Rattle.fancy_engine.specs.Code.{code_len}
 use Rattle.fancy_engine.specs.Search.{Sought, Query}
 use Rattle.fancy_core.specs.declared.options.Options.{Options}
-use Rattle.fancy_core.specs.Options.{meaning_in}
+use Rattle.fancy_core.specs.Options.{meaning_in, is_easy_under}
 use Rattle.fancy_core.specs.declared.regex.Regex.{Regex}
 
 -- the bytes of its pattern's text
@@ -29,6 +29,10 @@ groups_in r = r.code.groups
 abbrev pub length_in : Regex → ℕ
 length_in r = code_len r.code
 
+-- its pattern is easy under its options
+abbrev pub easy_in : Regex → Bool
+easy_in r = is_easy_under (options_in r) (pattern_in r)
+
 -- how many returns a search may take
 abbrev pub limit_in : Regex → ℕ
 limit_in r = r.options.backtrack_limit
@@ -41,8 +45,8 @@ sought_by o groups p = record {
   groups = groups;
   on_boundaries = keeps_characters o.bytes_mode;
   overrides = o.allow_input_assertion_overrides;
-  not_empty = false;
-  longest = false;
+  not_empty = o.find_not_empty;
+  longest = o.leftmost_longest;
 }
 
 -- what a search with the regex asks, with `\G` on or off

@@ -168,6 +168,26 @@ impl RegexBuilder {
         self
     }
 
+    /// Sets the option of [`RegexOptionsBuilder::find_not_empty`].
+    pub fn find_not_empty(&mut self, yes: bool) -> &mut Self
+        ensures same { result.ghost_name ≡ self.entry.ghost_name }
+        ensures pattern { pattern_set result.now ≡ pattern_set self.old }
+        ensures value { options_set result.now ≡ record (options_set self.old) { find_not_empty = yes } }
+    {
+        self.options.find_not_empty(yes);
+        self
+    }
+
+    /// Sets the option of [`RegexOptionsBuilder::leftmost_longest`].
+    pub fn leftmost_longest(&mut self, yes: bool) -> &mut Self
+        ensures same { result.ghost_name ≡ self.entry.ghost_name }
+        ensures pattern { pattern_set result.now ≡ pattern_set self.old }
+        ensures value { options_set result.now ≡ record (options_set self.old) { leftmost_longest = yes } }
+    {
+        self.options.leftmost_longest(yes);
+        self
+    }
+
     /// Reads the pattern with these options, as [`RegexOptionsBuilder::build`] does, and stays as it is. The regex has
     /// a copy of the text, and the allocator of the pattern.
     pub fn build(&self) -> Result<Regex>

@@ -3,12 +3,14 @@
 ghost use Rattle.std.specs.Prelude.{◌≡◌, ◌&&◌, not, true, false, Some};
 ghost use Rattle.fancy_syntax.specs.declared.tree.BytesMode.TheVariants.{Unicode as ByCharacters};
 ghost use Rattle.fancy_syntax.specs.Views.{options_of as syntax_options};
-ghost use Rattle.fancy_core.specs.Options.{by_default, meaning_in, dialect_of};
+ghost use Rattle.fancy_syntax.specs.Pattern.{pattern_of};
+ghost use Rattle.fancy_core.specs.Options.{by_default, meaning_in, dialect_of, is_easy_under};
 ghost use Rattle.fancy_core.specs.ProgramSize.{passes};
 
+use fancy_engine::classify::is_easy;
 use fancy_syntax::flags::Flags;
 use fancy_syntax::parse::Syntax;
-use fancy_syntax::tree::{BytesMode, Meaning};
+use fancy_syntax::tree::{BytesMode, Meaning, Tree};
 
 /// How many returns a search may take where nothing else is set.
 const BACKTRACK_LIMIT: usize = 1_000_000;
@@ -30,6 +32,10 @@ pub struct Options {
     pub backtrack_limit: usize,
     /// How many instructions a hard pattern's code may have, if that is limited.
     pub max_prog_size: Option<usize>,
+    /// Whether empty matches are refused.
+    pub find_not_empty: bool,
+    /// Whether a search asks for the longest match at its position, and not for the one that the pattern prefers.
+    pub leftmost_longest: bool,
 }
 
 impl Options {
@@ -48,8 +54,16 @@ impl Options {
             meaning: self.meaning(),
             keeps_characters: self.bytes_mode.keeps_characters(),
             only_named: self.ignore_numbered_groups_when_named_groups_exist,
+            not_empty: self.find_not_empty,
             flags: self.flags,
         }
+    }
+
+    /// Whether a pattern is easy under these options.
+    pub(crate) fn is_easy(&self, tree: &Tree) -> bool
+        ensures { result ≡ is_easy_under self.now (pattern_of tree.now) }
+    {
+        is_easy(tree) && !self.find_not_empty && !self.leftmost_longest
     }
 
     /// Whether a pattern, easy or hard, is refused for so many instructions.
@@ -90,6 +104,8 @@ impl RegexOptionsBuilder {
                 allow_input_assertion_overrides: false,
                 backtrack_limit: BACKTRACK_LIMIT,
                 max_prog_size: None,
+                find_not_empty: false,
+                leftmost_longest: false,
             },
         }
     }
@@ -188,11 +204,13 @@ impl RegexOptionsBuilder {
         self
     }
 
-    /// Whether an input may say that the text's start, or its end, does not count as one. Off by default.
+    /// Whether an input may say that the text's start, or its end, does not count as one, and that no match came before.
+    /// Off by default.
     ///
-    /// Where it is on, `^` and `\A` find no start in an input with `start_text(false)`, and `$` and `\z` no end
-    /// in one with `end_text(false)`. Under the flag `m`, `^` and `$` heed neither, and `\Z` never does. Where it
-    /// is off, the input's two settings have no effect.
+    /// Where it is on, `^` and `\A` find no start in an input with `start_text(false)`, `$` and `\z` no end in one
+    /// with `end_text(false)`, and `\G` holds nowhere in one with `continue_from_previous_match_end(false)`. Under the
+    /// flag `m`, `^` and `$` heed none of them, and `\Z` never does. Where it is off, these settings of an input have no
+    /// effect.
     ///
     /// ```text
     /// let regex = RegexOptionsBuilder::new().allow_input_assertion_overrides(true).build(pattern)?;    // of `^a`
@@ -242,6 +260,43 @@ impl RegexOptionsBuilder {
         ensures value { options_of result.now ≡ record (options_of self.old) { max_prog_size = Some size } }
     {
         self.options.max_prog_size = Some(size);
+        self
+    }
+
+    /// Whether empty matches are refused: those whose start is their end. Off by default.
+    ///
+    /// A search goes on past them, at the same position and behind it. A pattern that always consumes 0 units can then never
+    /// match, and is refused as `CompileError(PatternCanNeverMatch)`, as the empty pattern or `(?=a)`. Under this option no
+    /// pattern is easy ([`Regex::is_easy`](crate::regex::Regex::is_easy)).
+    ///
+    /// ```text
+    /// let regex = RegexOptionsBuilder::new().find_not_empty(true).build(pattern)?;    // of `a*`
+    /// regex.find("baa")?    // Some: 1..3, where 0..0 is the first otherwise
+    /// ```
+    pub fn find_not_empty(&mut self, yes: bool) -> &mut Self
+        ensures same { result.ghost_name ≡ self.entry.ghost_name }
+        ensures value { options_of result.now ≡ record (options_of self.old) { find_not_empty = yes } }
+    {
+        self.options.find_not_empty = yes;
+        self
+    }
+
+    /// Whether a search asks for the longest match at the position where it finds one: of the matches there the one that ends
+    /// last, and of several that end there the one that the pattern prefers. Off by default.
+    ///
+    /// The search still stops at the least position with a match. It goes through all the matches there, so that all of its
+    /// returns count for [`RegexOptionsBuilder::backtrack_limit`]. Under this option no pattern is easy
+    /// ([`Regex::is_easy`](crate::regex::Regex::is_easy)).
+    ///
+    /// ```text
+    /// let regex = RegexOptionsBuilder::new().leftmost_longest(true).build(pattern)?;    // of `a|ab`
+    /// regex.find("xab")?    // Some: 1..3, where 1..2 is the first otherwise
+    /// ```
+    pub fn leftmost_longest(&mut self, yes: bool) -> &mut Self
+        ensures same { result.ghost_name ≡ self.entry.ghost_name }
+        ensures value { options_of result.now ≡ record (options_of self.old) { leftmost_longest = yes } }
+    {
+        self.options.leftmost_longest = yes;
         self
     }
 

@@ -9,7 +9,7 @@ ghost use Rattle.fancy_input.specs.Requests.{whole, effective_start};
 ghost use Rattle.fancy_syntax.specs.Sizes.{nodes};
 ghost use Rattle.fancy_engine.specs.Code.{code_len, instrs_of};
 ghost use Rattle.fancy_engine.specs.Means.{is_easy, are_easy};
-ghost use Rattle.fancy_engine.specs.Placed.{has_raw_byte, has_keep_start};
+ghost use Rattle.fancy_engine.specs.Placed.{has_raw_byte, has_keep_start_in_look_around};
 ghost use Rattle.fancy_engine.specs.Work.{steps_of, returns_of};
 ghost use Rattle.fancy_engine.specs.Search.{search, span_of};
 ghost use Rattle.fancy_engine.specs.Answers.{HasNone};
@@ -17,13 +17,12 @@ ghost use Rattle.fancy_core.specs.Builders.{options_of};
 ghost use Rattle.fancy_core.specs.Compiled.{IsCompiled};
 ghost use Rattle.fancy_core.specs.Scratch.{state_in, answer_of};
 ghost use Rattle.fancy_syntax.specs.declared.error.RuntimeError.TheVariants.{BacktrackLimitExceeded};
-ghost use Rattle.fancy_core.specs.Options.{by_default, meaning_in};
+ghost use Rattle.fancy_core.specs.Options.{by_default, meaning_in, is_easy_under};
 ghost use Rattle.fancy_core.specs.Searching.{Suits, StartsCleanly, CanSearch};
 ghost use Rattle.fancy_syntax.specs.Modes.{keeps_characters};
 
 use crate::options::{Options, RegexOptionsBuilder};
 use crate::scratch::{Engine, Scratch};
-use fancy_engine::classify::is_easy;
 use fancy_engine::code::Code;
 use fancy_engine::compile::compile;
 use fancy_engine::refusal::Refusal;
@@ -41,8 +40,9 @@ use std::fmt;
 
 /// A compiled pattern.
 ///
-/// A search answers with the match at the least byte offset where the pattern matches, and there with the
-/// one that the pattern prefers.
+/// A search answers with a match from the least byte offset from which the pattern matches: of those from there the one
+/// that the pattern prefers, or under [`RegexOptionsBuilder::leftmost_longest`] the longest. Where the pattern has a `\K`,
+/// the match that is answered starts at the place of the last one that was met.
 #[derive(Drop)]
 pub struct Regex {
     pattern: String,
@@ -55,16 +55,16 @@ pub struct Regex {
     ghost compiled: { ∥ IsCompiled options (string_bytes pattern) (pattern_of tree) code (named_groups names.items) ∥₁ },
     ghost meant: { code.meaning ≡ meaning_in options },
     ghost short: { code_len code ≤ 4 * nodes (pattern_of tree) + 2 },
-    ghost decided: { easy ≡ is_easy (pattern_of tree) },
+    ghost decided: { easy ≡ is_easy_under options (pattern_of tree) },
     ghost light: { is_easy (pattern_of tree) ≡ true → are_easy (instrs_of code) ≡ true },
-    ghost starts: { has_keep_start (pattern_of tree) ≡ false },
+    ghost starts: { has_keep_start_in_look_around (pattern_of tree) ≡ false },
     ghost whole: { keeps_characters options.bytes_mode ≡ true → has_raw_byte (pattern_of tree) ≡ false },
 }
 
 impl Regex {
     ghost use Rattle.fancy_core.specs.Built.{IsReading};
     ghost use Rattle.fancy_core.specs.Names.{names_in};
-    ghost use Rattle.fancy_core.specs.Regexes.{text_of, pattern_in, options_in, groups_in, length_in, limit_in, asked, asked_in_turn};
+    ghost use Rattle.fancy_core.specs.Regexes.{text_of, pattern_in, options_in, groups_in, length_in, easy_in, limit_in, asked, asked_in_turn};
     ghost use Rattle.fancy_core.specs.Limited.{IsHard, Refuses, Allows, HasRoomFor, returns_in};
 
     /// Reads a pattern, with the default options.
@@ -117,9 +117,10 @@ impl Regex {
     }
 
     /// Whether a search takes at most [`Regex::code_len`] times the searched length plus one steps, whatever the
-    /// haystack.
+    /// haystack. No pattern is easy under [`RegexOptionsBuilder::find_not_empty`] or
+    /// [`RegexOptionsBuilder::leftmost_longest`].
     pub fn is_easy(&self) -> bool
-        ensures { result ≡ is_easy (pattern_in self.now) }
+        ensures { result ≡ easy_in self.now }
     {
         self.easy
     }
@@ -227,7 +228,7 @@ impl Regex {
         ensures found { IfOk result (λ m. option_map S.span m ≡ option_map span_of (search (asked self.now (S.bytes (haystack_in input)) (request_in input)))) }
         ensures within { IfOk result (λ m. IfSome m (λ x. S.within x ≡ S.bytes (haystack_in input))) }
         ensures refused { IfErr result (λ e. Refuses self.now (asked self.now (S.bytes (haystack_in input)) (request_in input)) e) }
-        ensures steps { is_easy (pattern_in self.now) ≡ true → steps_of work.new ≤ length_in self.now * ((request_in input).range_end + 1 - effective_start (request_in input)) }
+        ensures steps { easy_in self.now ≡ true → steps_of work.new ≤ length_in self.now * ((request_in input).range_end + 1 - effective_start (request_in input)) }
         ensures returns { returns_of work.new ≤ steps_of work.new }
         ensures counted { IsHard self.now → IfOk result (λ _. returns_of work.new ≡ returns_in (asked self.now (S.bytes (haystack_in input)) (request_in input))) }
         ensures stopped { IsHard self.now → result ≡ Err (Error.RuntimeError BacktrackLimitExceeded) → returns_of work.new ≡ limit_in self.now }
@@ -254,7 +255,7 @@ impl Regex {
         ensures refused { IfErr result (λ e. Refuses self.now (asked self.now (S.bytes haystack) request) e) }
         ensures allowed { IfOk result (λ _. Allows self.now (asked self.now (S.bytes haystack) request)) }
         ensures steps { steps_of work.old ≤ steps_of work.new }
-        ensures bounded { is_easy (pattern_in self.now) ≡ true → steps_of work.new ≤ steps_of work.old + length_in self.now * (request.range_end + 1 - effective_start request) }
+        ensures bounded { easy_in self.now ≡ true → steps_of work.new ≤ steps_of work.old + length_in self.now * (request.range_end + 1 - effective_start request) }
         ensures returns { returns_of work.old ≤ returns_of work.new }
         ensures paired { returns_of work.new ≤ steps_of work.new }
         ensures counted { IsHard self.now → IfOk result (λ _. returns_of work.new ≡ returns_of work.old + returns_in (asked self.now (S.bytes haystack) request)) }
@@ -314,7 +315,7 @@ impl Regex {
         ensures inside { IfOk result (λ m. IfSome m (λ p. (state_in p memory.new).place ≤ request.range_end)) }
         ensures cleanly { IsTrue (keeps_characters (options_in self.now).bytes_mode) → IfOk result (λ m. IfSome m (λ p. IsTrue (is_boundary haystack.now (state_in p memory.new).kept) × IsTrue (is_boundary haystack.now (state_in p memory.new).place))) }
         ensures steps { steps_of work.old ≤ steps_of work.new }
-        ensures bounded { is_easy (pattern_in self.now) ≡ true → steps_of work.new ≤ steps_of work.old + length_in self.now * (request.range_end + 1 - effective_start request) }
+        ensures bounded { easy_in self.now ≡ true → steps_of work.new ≤ steps_of work.old + length_in self.now * (request.range_end + 1 - effective_start request) }
         ensures returns { returns_of work.old ≤ returns_of work.new }
         ensures paired { returns_of work.new ≤ steps_of work.new }
         ensures counted { IsHard self.now → IfOk result (λ _. returns_of work.new ≡ returns_of work.old + returns_in (asked_in_turn self.now haystack.now request continues)) }
@@ -339,7 +340,7 @@ impl Regex {
         work: &mut Work,
     ) -> Result<Option<usize>>
         requires inside { request.range_end ≤ length haystack.now }
-        requires easy { is_easy (pattern_in self.now) ≡ true }
+        requires easy { easy_in self.now ≡ true }
         requires room { HasRoomFor self.now request work.old }
         ensures answer { IfOk result (λ m. (on : Bool) → answer_of m memory.new ≡ search (asked_in_turn self.now haystack.now request on)) }
         ensures steps { steps_of work.old ≤ steps_of work.new }
@@ -390,12 +391,14 @@ impl Regex {
             on_boundaries,
             overrides: self.options.allow_input_assertion_overrides,
             continues,
-            not_empty: false,
+            not_empty: self.options.find_not_empty,
+            longest: self.options.leftmost_longest,
             limit: self.options.backtrack_limit,
         };
         memory.served = Engine::Machine;
         let trail = &mut memory.machine;
-        match machine::search(&self.code, haystack, request, options, trail, work) {
+        let best = &mut memory.best;
+        match machine::search(&self.code, haystack, request, options, trail, best, work) {
             Ok(found) => Ok(found),
             Err(Refusal::Memory) => Err(Error::Memory),
             Err(Refusal::Returns) => Err(Error::RuntimeError(RuntimeError::BacktrackLimitExceeded)),
@@ -412,9 +415,10 @@ impl RegexOptionsBuilder {
     ///
     /// It is refused as [`Regex::new`] is; under
     /// [`RegexOptionsBuilder::ignore_numbered_groups_when_named_groups_exist`] besides as
-    /// `CompileError(NamedBackrefOnly)`, for a reference by number where a group has a name; and where
-    /// [`RegexOptionsBuilder::max_prog_size`] is set as `CompileError(PatternTooComplex)`, for a hard pattern with longer
-    /// code.
+    /// `CompileError(NamedBackrefOnly)`, for a reference by number where a group has a name; under
+    /// [`RegexOptionsBuilder::find_not_empty`] as `CompileError(PatternCanNeverMatch)`, for a pattern that always consumes 0
+    /// units; and where [`RegexOptionsBuilder::max_prog_size`] is set as `CompileError(PatternTooComplex)`, for a hard
+    /// pattern with longer code.
     pub fn build(&self, pattern: String) -> Result<Regex>
         ensures { IsReading (options_of self.now) (string_bytes pattern) result }
     {
@@ -426,7 +430,7 @@ impl RegexOptionsBuilder {
             names,
         } = parse_with(alloc, pattern.as_str(), options.syntax())?;
         let code = compile(alloc, &tree, groups, options.meaning())?;
-        let easy = is_easy(&tree);
+        let easy = options.is_easy(&tree);
         if options.forbids(easy, code.len()) {
             return Err(Error::CompileError(CompileError::PatternTooComplex));
         }

@@ -6,6 +6,7 @@ ghost use Rattle.fancy_engine.specs.Threads.{ends_of};
 
 use fancy_engine::search::Memory;
 use fancy_engine::slot::Extent;
+use fancy_machine::best::Best;
 use fancy_machine::trail::Trail;
 use std::alloc::Global;
 
@@ -23,6 +24,8 @@ pub(crate) enum Engine {
 pub(crate) struct Scratch {
     pub(crate) runner: Memory,
     pub(crate) machine: Trail,
+    /// What the machine keeps while it looks for the longest match.
+    pub(crate) best: Best,
     /// Which engine served the last search.
     pub(crate) served: Engine,
 }
@@ -35,6 +38,7 @@ impl Scratch {
         Scratch {
             runner: Memory::new(alloc),
             machine: Trail::new(alloc),
+            best: Best::new(alloc),
             served: Engine::Runner,
         }
     }

@@ -31,6 +31,7 @@ pub mod LongestLemmas
 pub mod ExampleLemmas
 pub mod WalkLemmas
 pub mod KeptLemmas
+pub mod KeptForward
 pub mod BackreferenceLemmas
 pub mod LeadsLemmas
 pub mod SpelledLemmas

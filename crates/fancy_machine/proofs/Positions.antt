@@ -1,5 +1,5 @@
 -- An attempt at a position, and the positions of a search by the machine.
-use Rattle.std.proofs.Common.{◌≡◌, ℕ, suc, ◌+◌, ◌≤◌, Bool, true, false, not, ◌&&◌, ◌||◌, ◌==◌, List, [], ◌∷◌, ◌++◌, filter, length, map, replicate, Option, Some, None, refl, sym, ap, ap₂, ◌∙◌, subst, arith}
+use Rattle.std.proofs.Common.{◌≡◌, ℕ, suc, ◌+◌, ◌≤◌, nat_lt, ltb-true, ltb-false, lt-ltb, le-ltb, true≢false, Bool, true, false, not, ◌&&◌, ◌||◌, ◌==◌, List, [], ◌∷◌, ◌++◌, filter, length, map, replicate, Option, Some, None, refl, sym, ap, ap₂, ◌∙◌, subst, arith}
 use Rattle.std.specs.Prelude.{if◌then◌else◌, is_some}
 use Rattle.std.proofs.lemmas.List.{length-replicate, append-nil}
 use Rattle.std.proofs.Math.Logic.{∥∥₁_elim}
@@ -12,8 +12,9 @@ use Rattle.fancy_engine.specs.Events.{Event, mark, return, outcome, outcomes_in,
 use Rattle.fancy_engine.specs.Trace.{trace, outcomes}
 use Rattle.fancy_engine.specs.Run.{Raw, Given, run}
 use Rattle.fancy_engine.specs.Means.{IsCodeOf, depth}
-use Rattle.fancy_engine.specs.Search.{Query, context_of, initial, trace_at, outcomes_at, admits, accepted, first_one, longest_one, answer_at, before_accepted, gone_through, gone_from}
+use Rattle.fancy_engine.specs.Search.{Query, context_of, initial, trace_at, outcomes_at, admits, accepted, first_one, further, longest_one, answer_at, before_accepted, gone_through, gone_from}
 use Rattle.fancy_engine.specs.Threads.{empty, span_of, from_of}
+use Rattle.fancy_engine.proofs.SearchLemmas.{is-accepted, is-no_answer}
 use Rattle.fancy_engine.proofs.Logs.{map-replicate}
 use Rattle.fancy_engine.proofs.Programs.{Whole, program_gives}
 use Rattle.fancy_machine.specs.declared.machine.Field.{Field}
@@ -22,21 +23,71 @@ use Rattle.fancy_machine.specs.Asked.{all_tried}
 use Rattle.fancy_machine.specs.Frames.{Spot}
 use Rattle.fancy_input.specs.Places.{is_boundary}
 use Rattle.fancy_machine.specs.Held.{spot_of}
-use Rattle.fancy_machine.specs.Machine.{IsKnown, events_of, after, chosen, final, returns_to, marks_to}
+use Rattle.fancy_machine.specs.Machine.{IsKnown, events_of, after, better, chosen, final, returns_to, marks_to}
 
--- the first outcome that is accepted, and what comes before it
+-- the best of what came before and of what comes next, as one row
+abbrev joined : Option State → Option State → Option State
+joined None o = o
+joined (Some b) o = further b o
+
+-- of three the first that ends last: whether the earlier two are compared first or the later two
+three : (b s u : State) (c d : Bool) → nat_lt b.place s.place ≡ c → nat_lt s.place u.place ≡ d
+    → joined (if nat_lt b.place s.place then Some s else Some b) (Some u) ≡ further b (further s (Some u))
+three b s u true true e f =
+    let g : nat_lt b.place u.place ≡ true = lt-ltb b.place u.place (omega (arith, ltb-true b.place s.place e, ltb-true s.place u.place f)) in
+    ap (λ (x : Bool). joined (if x then Some s else Some b) (Some u)) e ∙ ap (λ (x : Bool). if x then Some u else Some s) f
+    ∙ sym (ap (λ (x : Bool). further b (if x then Some u else Some s)) f ∙ ap (λ (x : Bool). if x then Some u else Some b) g)
+three b s u true false e f =
+    ap (λ (x : Bool). joined (if x then Some s else Some b) (Some u)) e ∙ ap (λ (x : Bool). if x then Some u else Some s) f
+    ∙ sym (ap (λ (x : Bool). further b (if x then Some u else Some s)) f ∙ ap (λ (x : Bool). if x then Some s else Some b) e)
+three b s u false true e f =
+    ap (λ (x : Bool). joined (if x then Some s else Some b) (Some u)) e
+    ∙ sym (ap (λ (x : Bool). further b (if x then Some u else Some s)) f)
+three b s u false false e f =
+    let g : nat_lt b.place u.place ≡ false = le-ltb b.place u.place (omega (arith, ltb-false b.place s.place e, ltb-false s.place u.place f)) in
+    ap (λ (x : Bool). joined (if x then Some s else Some b) (Some u)) e ∙ ap (λ (x : Bool). if x then Some u else Some b) g
+    ∙ sym (ap (λ (x : Bool). further b (if x then Some u else Some s)) f ∙ ap (λ (x : Bool). if x then Some s else Some b) e)
+
+joined-better : (best : Option State) (s : State) (o : Option State) → joined (better best s) o ≡ joined best (further s o)
+joined-better None s o = refl
+joined-better (Some b) s (Some u) = three b s u (nat_lt b.place s.place) (nat_lt s.place u.place) refl refl
+joined-better (Some b) s None = two (nat_lt b.place s.place) where
+  two : (c : Bool) → joined (if c then Some s else Some b) None ≡ (if c then Some s else Some b)
+  two true = refl
+  two false = refl
+
+-- the answer of an attempt, which is the first outcome that is accepted or the longest, and what counts up to it
 module _ (ok good : State → Bool) (same : (s : State) → ok s ≡ good s) where
-  chosen_if : (c d : Bool) (s : State) (ss : List State) (o : Option State) → c ≡ d → o ≡ first_one ss → (if c then Some s else o) ≡ first_one (if d then (s ∷ ss) else ss)
-  chosen_if true true s ss o e f = refl
-  chosen_if false false s ss o e f = f
-  chosen_if true false s ss o e f = cc
-  chosen_if false true s ss o e f = cc
+  first_if : (c d : Bool) (s : State) (ss : List State) (o : Option State) → c ≡ d → o ≡ first_one ss → (if c then Some s else o) ≡ first_one (if d then (s ∷ ss) else ss)
+  first_if true true s ss o e f = refl
+  first_if false false s ss o e f = f
+  first_if true false s ss o e f = cc
+  first_if false true s ss o e f = cc
 
-  pub chosen_is : (es : List Event) → chosen false ok None es ≡ first_one (filter good (outcomes_in es))
-  chosen_is [] = refl
-  chosen_is (mark ∷ es) = chosen_is es
-  chosen_is (return ∷ es) = chosen_is es
-  chosen_is (outcome s ∷ es) = chosen_if (ok s) (good s) s (filter good (outcomes_in es)) (chosen false ok None es) (same s) (chosen_is es)
+  first_is : (es : List Event) → chosen false ok None es ≡ first_one (filter good (outcomes_in es))
+  first_is [] = refl
+  first_is (mark ∷ es) = first_is es
+  first_is (return ∷ es) = first_is es
+  first_is (outcome s ∷ es) = first_if (ok s) (good s) s (filter good (outcomes_in es)) (chosen false ok None es) (same s) (first_is es)
+
+  longest_if : (c d : Bool) (best : Option State) (s : State) (ss : List State) (a b : Option State) → c ≡ d → a ≡ joined (better best s) (longest_one ss) → b ≡ joined best (longest_one ss)
+      → (if c then a else b) ≡ joined best (longest_one (if d then (s ∷ ss) else ss))
+  longest_if true true best s ss a b e f g = f ∙ joined-better best s (longest_one ss)
+  longest_if false false best s ss a b e f g = g
+  longest_if true false best s ss a b e f g = cc
+  longest_if false true best s ss a b e f g = cc
+
+  longest_is : (best : Option State) (es : List Event) → chosen true ok best es ≡ joined best (longest_one (filter good (outcomes_in es)))
+  longest_is None [] = refl
+  longest_is (Some b) [] = refl
+  longest_is best (mark ∷ es) = longest_is best es
+  longest_is best (return ∷ es) = longest_is best es
+  longest_is best (outcome s ∷ es) =
+      longest_if (ok s) (good s) best s (filter good (outcomes_in es)) (chosen true ok (better best s) es) (chosen true ok best es) (same s) (longest_is (better best s) es) (longest_is best es)
+
+  pub chosen_is : (longest : Bool) (es : List Event) → chosen longest ok None es ≡ (if longest then (longest_one (filter good (outcomes_in es))) else (first_one (filter good (outcomes_in es))))
+  chosen_is false es = first_is es
+  chosen_is true es = longest_is None es
 
   count_if : (c d : Bool) (s : State) (es : List Event) (n : ℕ) → c ≡ d → n ≡ returns_in es → (if (c && true) then 0 else n) ≡ returns_in (if d then [] else (outcome s ∷ es))
   count_if true true s es n e f = refl
@@ -44,11 +95,20 @@ module _ (ok good : State → Bool) (same : (s : State) → ok s ≡ good s) whe
   count_if true false s es n e f = cc
   count_if false true s es n e f = cc
 
-  pub returns_is : (es : List Event) → returns_to (final false ok) es ≡ returns_in (before_accepted good es)
-  returns_is [] = refl
-  returns_is (mark ∷ es) = returns_is es
-  returns_is (return ∷ es) = ap suc (returns_is es)
-  returns_is (outcome s ∷ es) = count_if (ok s) (good s) s (before_accepted good es) (returns_to (final false ok) es) (same s) (returns_is es)
+  -- where the longest is asked for no outcome ends the attempt
+  never : (c : Bool) (n m : ℕ) → n ≡ m → (if (c && false) then 0 else n) ≡ m
+  never true n m e = e
+  never false n m e = e
+
+  pub returns_is : (longest : Bool) (es : List Event) → returns_to (final longest ok) es ≡ returns_in (if longest then es else before_accepted good es)
+  returns_is false [] = refl
+  returns_is true [] = refl
+  returns_is false (mark ∷ es) = returns_is false es
+  returns_is true (mark ∷ es) = returns_is true es
+  returns_is false (return ∷ es) = ap suc (returns_is false es)
+  returns_is true (return ∷ es) = ap suc (returns_is true es)
+  returns_is false (outcome s ∷ es) = count_if (ok s) (good s) s (before_accepted good es) (returns_to (final false ok) es) (same s) (returns_is false es)
+  returns_is true (outcome s ∷ es) = never (ok s) (returns_to (final true ok) es) (returns_in es) (returns_is true es)
 
   mark_if : (c d : Bool) (s : State) (es : List Event) (n : ℕ) → c ≡ d → n ≡ marks_in es → (if (c && true) then 0 else n) ≡ marks_in (if d then [] else (outcome s ∷ es))
   mark_if true true s es n e f = refl
@@ -56,11 +116,15 @@ module _ (ok good : State → Bool) (same : (s : State) → ok s ≡ good s) whe
   mark_if true false s es n e f = cc
   mark_if false true s es n e f = cc
 
-  pub marks_is : (es : List Event) → marks_to (final false ok) es ≡ marks_in (before_accepted good es)
-  marks_is [] = refl
-  marks_is (mark ∷ es) = ap suc (marks_is es)
-  marks_is (return ∷ es) = marks_is es
-  marks_is (outcome s ∷ es) = mark_if (ok s) (good s) s (before_accepted good es) (marks_to (final false ok) es) (same s) (marks_is es)
+  pub marks_is : (longest : Bool) (es : List Event) → marks_to (final longest ok) es ≡ marks_in (if longest then es else before_accepted good es)
+  marks_is false [] = refl
+  marks_is true [] = refl
+  marks_is false (mark ∷ es) = ap suc (marks_is false es)
+  marks_is true (mark ∷ es) = ap suc (marks_is true es)
+  marks_is false (return ∷ es) = marks_is false es
+  marks_is true (return ∷ es) = marks_is true es
+  marks_is false (outcome s ∷ es) = mark_if (ok s) (good s) s (before_accepted good es) (marks_to (final false ok) es) (same s) (marks_is false es)
+  marks_is true (outcome s ∷ es) = never (ok s) (marks_to (final true ok) es) (marks_in es) (marks_is true es)
 
 known_events : (o : Option (List Raw)) (es : List Event) → Given Whole o es → IsKnown o × (events_of o ≡ es)
 known_events o es g = (subst IsKnown (sym g.1) tt, ap events_of g.1 ∙ g.2)
@@ -70,8 +134,9 @@ abbrev pub deep_in : Query → ℕ
 deep_in q = depth (length q.haystack) q.sought.pattern + 1
 
 module _ (q : Query) (code : Code) (is : IsCodeOf q.sought.pattern code) (groups : q.sought.groups ≡ code.groups) (meant : q.sought.meaning ≡ code.meaning)
-    (shortest : q.sought.longest ≡ false) (inside : q.request.range_end ≤ length q.haystack) (f : Field)
-    (seen : context_in q.haystack code.meaning f ≡ context_of q) (bounds : f.on_boundaries ≡ q.sought.on_boundaries) (filled : f.not_empty ≡ q.sought.not_empty) where
+    (inside : q.request.range_end ≤ length q.haystack) (f : Field)
+    (seen : context_in q.haystack code.meaning f ≡ context_of q) (bounds : f.on_boundaries ≡ q.sought.on_boundaries) (filled : f.not_empty ≡ q.sought.not_empty)
+    (lasting : f.longest ≡ q.sought.longest) where
   -- how deep the code goes
   abbrev pub deep : ℕ
   deep = deep_in q
@@ -102,21 +167,21 @@ module _ (q : Query) (code : Code) (is : IsCodeOf q.sought.pattern code) (groups
         good b i = not b || is_boundary q.haystack i
 
   module _ (p : ℕ) (may : admits q p ≡ true) where
-    pub answer_is : chosen false (accepts f q.haystack) None (trace_at q p) ≡ answer_at q p
+    pub answer_is : chosen f.longest (accepts f q.haystack) None (trace_at q p) ≡ answer_at q p
     unfolding answer_at outcomes
     answer_is =
-        chosen_is (accepts f q.haystack) (accepted q p) (accepts_is p may) (trace_at q p)
-        ∙ sym (ap (λ (b : Bool). if b then (longest_one (filter (accepted q p) (outcomes_at q p))) else (first_one (filter (accepted q p) (outcomes_at q p)))) shortest)
+        chosen_is (accepts f q.haystack) (accepted q p) (accepts_is p may) f.longest (trace_at q p)
+        ∙ ap (λ (b : Bool). if b then (longest_one (filter (accepted q p) (outcomes_at q p))) else (first_one (filter (accepted q p) (outcomes_at q p)))) lasting
 
-    through : gone_through q p ≡ before_accepted (accepted q p) (trace_at q p)
+    through : (if f.longest then trace_at q p else before_accepted (accepted q p) (trace_at q p)) ≡ gone_through q p
     unfolding gone_through
-    through = ap (λ (b : Bool). if b then trace_at q p else before_accepted (accepted q p) (trace_at q p)) shortest
+    through = ap (λ (b : Bool). if b then trace_at q p else before_accepted (accepted q p) (trace_at q p)) lasting
 
-    pub returns_at : returns_to (final false (accepts f q.haystack)) (trace_at q p) ≡ returns_in (gone_through q p)
-    returns_at = returns_is (accepts f q.haystack) (accepted q p) (accepts_is p may) (trace_at q p) ∙ sym (ap returns_in through)
+    pub returns_at : returns_to (final f.longest (accepts f q.haystack)) (trace_at q p) ≡ returns_in (gone_through q p)
+    returns_at = returns_is (accepts f q.haystack) (accepted q p) (accepts_is p may) f.longest (trace_at q p) ∙ ap returns_in through
 
-    pub marks_at : marks_to (final false (accepts f q.haystack)) (trace_at q p) ≡ marks_in (gone_through q p)
-    marks_at = marks_is (accepts f q.haystack) (accepted q p) (accepts_is p may) (trace_at q p) ∙ sym (ap marks_in through)
+    pub marks_at : marks_to (final f.longest (accepts f q.haystack)) (trace_at q p) ≡ marks_in (gone_through q p)
+    marks_at = marks_is (accepts f q.haystack) (accepted q p) (accepts_is p may) f.longest (trace_at q p) ∙ ap marks_in through
 
 IsKnown-prop : (o : Option (List Raw)) → IsProp (IsKnown o)
 IsKnown-prop None = ⊥_prop
@@ -125,27 +190,33 @@ IsKnown-prop (Some w) = Unit-prop
 -- What an attempt at p finds and counts, which begins at x.
 pub record Begun (q : Query) (code : Code) (f : Field) (p : ℕ) (x : Spot) : Type 0 where
   pub known : IsKnown (after (code_in q.haystack code f (deep_in q)) x)
-  pub answer : chosen false (accepts f q.haystack) None (events_of (after (code_in q.haystack code f (deep_in q)) x)) ≡ answer_at q p
-  pub returns : returns_to (final false (accepts f q.haystack)) (events_of (after (code_in q.haystack code f (deep_in q)) x)) ≡ returns_in (gone_through q p)
-  pub marks : marks_to (final false (accepts f q.haystack)) (events_of (after (code_in q.haystack code f (deep_in q)) x)) ≡ marks_in (gone_through q p)
+  pub answer : chosen f.longest (accepts f q.haystack) None (events_of (after (code_in q.haystack code f (deep_in q)) x)) ≡ answer_at q p
+  pub returns : returns_to (final f.longest (accepts f q.haystack)) (events_of (after (code_in q.haystack code f (deep_in q)) x)) ≡ returns_in (gone_through q p)
+  pub marks : marks_to (final f.longest (accepts f q.haystack)) (events_of (after (code_in q.haystack code f (deep_in q)) x)) ≡ marks_in (gone_through q p)
+
+-- nothing is found at a position where no match may begin
+pub nothing_admitted : (q : Query) (p : ℕ) → admits q p ≡ false → answer_at q p ≡ None
+nothing_admitted q p may =
+    is-no_answer q p (λ h. true≢false (sym (is-accepted q p h.state h.stands)
+    ∙ ap (λ (b : Bool). b && (admits q h.state.kept && (admits q h.state.place && (not q.sought.not_empty || not (h.state.kept == h.state.place))))) may))
 
 -- of code of which it is only known that it is that of the pattern
-pub begun_from : (q : Query) (code : Code) → ∥ IsCodeOf q.sought.pattern code ∥₁ → q.sought.groups ≡ code.groups → q.sought.meaning ≡ code.meaning → q.sought.longest ≡ false
+pub begun_from : (q : Query) (code : Code) → ∥ IsCodeOf q.sought.pattern code ∥₁ → q.sought.groups ≡ code.groups → q.sought.meaning ≡ code.meaning
     → q.request.range_end ≤ length q.haystack → (f : Field) → context_in q.haystack code.meaning f ≡ context_of q → f.on_boundaries ≡ q.sought.on_boundaries
-    → f.not_empty ≡ q.sought.not_empty → (p : ℕ) → admits q p ≡ true → (x : Spot) → x ≡ spot_of code.start q.request.range_end p p (replicate code.groups empty)
+    → f.not_empty ≡ q.sought.not_empty → f.longest ≡ q.sought.longest → (p : ℕ) → admits q p ≡ true → (x : Spot) → x ≡ spot_of code.start q.request.range_end p p (replicate code.groups empty)
     → p ≤ q.request.range_end → Begun q code f p x
-begun_from q code some groups meant shortest inside f seen bounds filled p may x e le =
+begun_from q code some groups meant inside f seen bounds filled lasting p may x e le =
     record {
-      known = ∥∥₁_elim some (IsKnown-prop _) (λ is. (attempt_begins q code is groups meant shortest inside f seen bounds filled p x e le).0);
+      known = ∥∥₁_elim some (IsKnown-prop _) (λ is. (attempt_begins q code is groups meant inside f seen bounds filled lasting p x e le).0);
       answer = ∥∥₁_elim some (hlevel props)
-          (λ is. ap (chosen false (accepts f q.haystack) None) (attempt_begins q code is groups meant shortest inside f seen bounds filled p x e le).1
-          ∙ answer_is q code is groups meant shortest inside f seen bounds filled p may);
+          (λ is. ap (chosen f.longest (accepts f q.haystack) None) (attempt_begins q code is groups meant inside f seen bounds filled lasting p x e le).1
+          ∙ answer_is q code is groups meant inside f seen bounds filled lasting p may);
       returns = ∥∥₁_elim some (hlevel props)
-          (λ is. ap (returns_to (final false (accepts f q.haystack))) (attempt_begins q code is groups meant shortest inside f seen bounds filled p x e le).1
-          ∙ returns_at q code is groups meant shortest inside f seen bounds filled p may);
+          (λ is. ap (returns_to (final f.longest (accepts f q.haystack))) (attempt_begins q code is groups meant inside f seen bounds filled lasting p x e le).1
+          ∙ returns_at q code is groups meant inside f seen bounds filled lasting p may);
       marks = ∥∥₁_elim some (hlevel props)
-          (λ is. ap (marks_to (final false (accepts f q.haystack))) (attempt_begins q code is groups meant shortest inside f seen bounds filled p x e le).1
-          ∙ marks_at q code is groups meant shortest inside f seen bounds filled p may);
+          (λ is. ap (marks_to (final f.longest (accepts f q.haystack))) (attempt_begins q code is groups meant inside f seen bounds filled lasting p x e le).1
+          ∙ marks_at q code is groups meant inside f seen bounds filled lasting p may);
     }
 
 returns-append : (a b : List Event) → returns_in (a ++ b) ≡ returns_in a + returns_in b

@@ -1,5 +1,5 @@
 -- What a search by the machine is asked, and what it answers.
-use Rattle.std.specs.Prelude.{ℕ, Bool, true, false, List, Option, Some, None}
+use Rattle.std.specs.Prelude.{ℕ, Bool, true, List, Option, Some, None}
 use Rattle.fancy_syntax.specs.Pattern.{Pattern}
 use Rattle.fancy_input.specs.declared.input.Request.{Request}
 use Rattle.fancy_engine.specs.declared.code.Code.{Code}
@@ -16,7 +16,7 @@ asked p code o haystack request = record {
     on_boundaries = o.on_boundaries;
     overrides = o.overrides;
     not_empty = o.not_empty;
-    longest = false;
+    longest = o.longest;
   };
   haystack = haystack;
   request = request;

@@ -1,7 +1,8 @@
 -- The layers of a search as frames.
-use Rattle.std.specs.Prelude.{ℕ, ◌+◌, ◌≤◌, Bool, ◌==◌, List, [], ◌∷◌, map, drop, reverse}
+use Rattle.std.specs.Prelude.{ℕ, ◌+◌, ◌≤◌, Bool, true, false, ◌==◌, Option, Some, None, List, [], ◌∷◌, map, drop, reverse}
 use Rattle.fancy_engine.specs.declared.slot.Slot.{Slot}
 use Rattle.fancy_engine.specs.declared.slot.Write.{Write}
+use Rattle.fancy_engine.specs.Context.{State}
 use Rattle.fancy_engine.specs.Threads.{undone, span_of, from_of}
 use Rattle.fancy_machine.specs.declared.layer.Layer.{Layer}
 use Rattle.fancy_machine.specs.declared.layer.Kind.{Kind}
@@ -15,6 +16,11 @@ spot_of at limit place kept slots = record {
   state = record { place = place; captures = map span_of slots; kept = kept };
   starts = map from_of slots;
 }
+
+-- the outcome that was kept, with these slots, if one was
+abbrev pub outcome_of : Bool → ℕ → ℕ → List Slot → Option State
+outcome_of false place kept slots = None
+outcome_of true place kept slots = Some (record { place = place; captures = map span_of slots; kept = kept })
 
 -- the frame of this kind for a way
 abbrev pub frame_by : Kind → Spot → Frame

@@ -9,6 +9,7 @@ ghost use Rattle.fancy_engine.specs.Work.{steps_of, returns_of, stepped_within};
 ghost use Rattle.fancy_machine.specs.Field.{context_in, good_end, accepts, code_in, found_state};
 ghost use Rattle.fancy_machine.specs.Machine.{Stepped, Turned, Crowded, MovedTo, RecalledTo, left, after, chosen, final, returns_to, marks_to, events_of, IsKnown};
 
+use crate::best::Best;
 use crate::layer::Kind;
 use crate::texts::past_span;
 use crate::trail::Trail;
@@ -32,6 +33,8 @@ pub struct Field {
     pub on_boundaries: bool,
     /// An empty match is refused.
     pub not_empty: bool,
+    /// Of the outcomes of an attempt the one that ends last is asked for, and not the first.
+    pub longest: bool,
 }
 
 /// Goes on at a place, if there is one by the limit.
@@ -235,18 +238,20 @@ fn is_accepted(field: Field, haystack: &[u8], kept: usize, place: usize) -> bool
         && (!field.not_empty || kept != place)
 }
 
-/// Follows one instruction, where an outcome that is not accepted is a dead end.
+/// Follows one instruction, where an outcome that is not accepted is a dead end, and so is each where the longest is asked
+/// for: it is offered as the best one, and the attempt goes on.
 fn turn(
     code: &Code,
     haystack: &[u8],
     field: Field,
     trail: &mut Trail,
+    best: &mut Best,
     last_lines: &mut LastLines,
     work: &mut Work,
 ) -> Result<Next, Refusal>
     requires { KnowsLastLines haystack.now last_lines.old }
     ensures turned { IfOk result (λ next. (deep : ℕ) (w : List Raw) → left (code_in haystack.now code.now field deep) trail.old.now trail.old.frames ≡ Some w
-        → Turned (code_in haystack.now code.now field deep) false (accepts field haystack.now) next w None trail.old.frames trail.new.now None trail.new.frames) }
+        → Turned (code_in haystack.now code.now field deep) field.longest (accepts field haystack.now) next w best.old trail.old.frames trail.new.now best.new trail.new.frames) }
     ensures refused { result ≢ Err Refusal.Returns }
     ensures crowded { result ≡ Err Refusal.Choices → (deep : ℕ) (w : List Raw) → left (code_in haystack.now code.now field deep) trail.old.now trail.old.frames ≡ Some w
         → Crowded trail.old.most w trail.old.frames }
@@ -266,18 +271,26 @@ fn turn(
             if !is_accepted(field, haystack, trail.kept(), trail.place()) {
                 return Ok(Next::Dead);
             }
+            if field.longest {
+                return match best.offer(trail) {
+                    Ok(()) => Ok(Next::Dead),
+                    Err(_) => Err(Refusal::Memory),
+                };
+            }
             Ok(Next::Found)
         }
     }
 }
 
-/// One attempt: whether it has an accepted outcome. The first one is where the trail then stands. The returns of the
-/// attempt are added to those of `work`, also up to a refusal, and none is done past the limit.
+/// One attempt: whether it has an accepted outcome. The first one is where the trail then stands, or where the longest is
+/// asked for the first of those that end last, which `best` kept meanwhile. The returns of the attempt are added to those
+/// of `work`, also up to a refusal, and none is done past the limit.
 pub fn attempt(
     code: &Code,
     haystack: &[u8],
     field: Field,
     trail: &mut Trail,
+    best: &mut Best,
     limit: usize,
     last_lines: &mut LastLines,
     work: &mut Work,
@@ -288,24 +301,25 @@ pub fn attempt(
     requires room { returns_of work.old ≤ limit }
     requires last_lines { KnowsLastLines haystack.now last_lines.old }
     ensures answer { IfOk result (λ found. found_state found trail.new.now
-        ≡ chosen false (accepts field haystack.now) None (events_of (after (code_in haystack.now code.now field deep) trail.old.now))) }
+        ≡ chosen field.longest (accepts field haystack.now) None (events_of (after (code_in haystack.now code.now field deep) trail.old.now))) }
     ensures count { IfOk result (λ _. returns_of work.new
-        ≡ returns_of work.old + returns_to (final false (accepts field haystack.now)) (events_of (after (code_in haystack.now code.now field deep) trail.old.now))) }
+        ≡ returns_of work.old + returns_to (final field.longest (accepts field haystack.now)) (events_of (after (code_in haystack.now code.now field deep) trail.old.now))) }
     ensures refused { result ≡ Err Refusal.Returns → limit
-        < returns_of work.old + returns_to (final false (accepts field haystack.now)) (events_of (after (code_in haystack.now code.now field deep) trail.old.now)) }
+        < returns_of work.old + returns_to (final field.longest (accepts field haystack.now)) (events_of (after (code_in haystack.now code.now field deep) trail.old.now)) }
     ensures stopped { result ≡ Err Refusal.Returns → returns_of work.new ≡ limit }
     ensures fits { returns_of work.new ≤ limit }
     ensures steps { steps_of work.old ≤ steps_of work.new }
     ensures returns { returns_of work.old ≤ returns_of work.new }
     ensures bounded { returns_of work.new
-        ≤ returns_of work.old + returns_to (final false (accepts field haystack.now)) (events_of (after (code_in haystack.now code.now field deep) trail.old.now)) }
+        ≤ returns_of work.old + returns_to (final field.longest (accepts field haystack.now)) (events_of (after (code_in haystack.now code.now field deep) trail.old.now)) }
     ensures paired { returns_of work.old ≤ steps_of work.old → returns_of work.new ≤ steps_of work.new }
     ensures last_lines { KnowsLastLines haystack.now last_lines.new }
     ensures crowded { result ≡ Err Refusal.Choices → trail.old.most
-        < marks_to (final false (accepts field haystack.now)) (events_of (after (code_in haystack.now code.now field deep) trail.old.now)) }
+        < marks_to (final field.longest (accepts field haystack.now)) (events_of (after (code_in haystack.now code.now field deep) trail.old.now)) }
 {
+    best.clear();
     'steps: loop {
-        let next = match turn(code, haystack, field, trail, last_lines, work) {
+        let next = match turn(code, haystack, field, trail, best, last_lines, work) {
             Ok(next) => next,
             Err(refusal) => return Err(refusal),
         };
@@ -318,7 +332,7 @@ pub fn attempt(
                     Err(refusal) => return Err(refusal),
                 };
                 if !taken {
-                    return Ok(false);
+                    return Ok(best.give(trail));
                 }
             }
         }

@@ -9,6 +9,7 @@ ghost use Rattle.fancy_engine.specs.Search.{continues_from, search, returns, cho
 ghost use Rattle.fancy_engine.specs.Work.{steps_of, returns_of, HasRoom};
 ghost use Rattle.fancy_machine.specs.Asked.{asked, answer_of, all_tried};
 
+use crate::best::Best;
 use crate::machine::{Field, attempt, is_good};
 use crate::trail::Trail;
 use fancy_engine::code::Code;
@@ -32,6 +33,8 @@ pub struct Options {
     pub continues: bool,
     /// An empty match is refused.
     pub not_empty: bool,
+    /// At a position the longest match is asked for, and not the first.
+    pub longest: bool,
     /// The most returns of a search.
     pub limit: usize,
 }
@@ -50,7 +53,8 @@ fn continues_from(options: Options, request: Request, first: usize) -> Option<us
 }
 
 /// Searches a haystack for the pattern of the code. Found is the position, a byte offset: that of the first attempt,
-/// from the effective start on, which has an accepted outcome; the trail then stands there.
+/// from the effective start on, which has an accepted outcome; the trail then stands there. Where the longest match is
+/// asked for `best` is the memory that it takes, and all returns of that attempt count.
 ///
 /// What is done is added to the counts of `work`, after a refusal what was done up to it. They never begin anew here.
 /// Steps are counted as far as a `usize` goes.
@@ -65,6 +69,7 @@ pub fn search(
     request: Request,
     options: Options,
     trail: &mut Trail,
+    best: &mut Best,
     work: &mut Work,
 ) -> Result<Option<usize>, Refusal>
     ghost p: { Pattern }
@@ -91,6 +96,7 @@ pub fn search(
         suppressed: suppressed_in(options.overrides, request),
         on_boundaries: options.on_boundaries,
         not_empty: options.not_empty,
+        longest: options.longest,
     };
     let limit = work.returns() + options.limit;
     let last = last_position(request, first);
@@ -103,7 +109,16 @@ pub fn search(
             Ok(()) => {}
             Err(_) => return Err(Refusal::Memory),
         }
-        let found = match attempt(code, haystack, field, trail, limit, &mut last_lines, work) {
+        let found = match attempt(
+            code,
+            haystack,
+            field,
+            trail,
+            best,
+            limit,
+            &mut last_lines,
+            work,
+        ) {
             Ok(found) => found,
             Err(refusal) => return Err(refusal),
         };

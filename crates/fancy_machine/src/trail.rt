@@ -1,6 +1,6 @@
 //! The way that the machine follows, with the branches that it saved and the regions that are open.
 
-ghost use Rattle.std.specs.Prelude.{◌≡◌, ◌≢◌, ◌+◌, ◌-◌, ◌<◌, ◌≤◌, [], ◌∷◌, ◌++◌, ℕ, List, Err, Some, length, take, drop, replicate, OnOk, IfOk, vec_len, slice_index, slice_index_or, slice_set, if◌then◌else◌, ◌==◌, true, is_some, option_map};
+ghost use Rattle.std.specs.Prelude.{◌≡◌, ◌≢◌, ◌+◌, ◌-◌, ◌<◌, ◌≤◌, [], ◌∷◌, ◌++◌, ℕ, List, Err, Some, map, length, take, drop, replicate, OnOk, IfOk, vec_len, slice_index, slice_index_or, slice_set, if◌then◌else◌, ◌==◌, true, is_some, option_map};
 ghost use Rattle.fancy_engine.specs.Context.{group_span};
 ghost use Rattle.fancy_engine.specs.Run.{Raw, Stop, Note, fetched, Go};
 ghost use Rattle.fancy_engine.specs.Threads.{undone, empty, span_of, ends_of};
@@ -9,7 +9,7 @@ ghost use Rattle.fancy_engine.specs.declared.slot.Write.{Write};
 ghost use Rattle.fancy_engine.specs.declared.slot.Slot.{Slot as SlotIs};
 ghost use Rattle.fancy_machine.specs.declared.layer.Layer.{Layer as LayerIs};
 ghost use Rattle.fancy_machine.specs.Frames.{saved};
-ghost use Rattle.fancy_machine.specs.Held.{spot_of, frame_by, saves, is_one, branches_in, frames_of};
+ghost use Rattle.fancy_machine.specs.Held.{spot_of, outcome_of, frame_by, saves, is_one, branches_in, frames_of};
 ghost use Rattle.fancy_machine.specs.Machine.{at_instr, at_place, opened_at, closed_at, kept_at, within_at, finish, Stepped, Backed, Reaches, IsBranch, ends_kind};
 
 use crate::layer::{Kind, Layer};
@@ -20,6 +20,7 @@ use fancy_engine::ways::undo;
 use fancy_engine::work::Work;
 use std::alloc::{AllocError, Global};
 use std::marker::Model;
+use std::mem::swap;
 
 /// How many layers stand up to the innermost that is no saved branch, if there is one.
 fn innermost(layers: &[Layer]) -> usize
@@ -210,6 +211,22 @@ impl Trail {
         ensures { result ≡ self.now.now.state.kept }
     {
         self.kept
+    }
+
+    /// What is known of each group.
+    pub(crate) fn slots(&self) -> &[Slot]
+        ensures { map span_of result.now ≡ self.now.now.state.captures }
+    {
+        &self.slots
+    }
+
+    /// Stands where a way stood that had these slots, and gives up its own for them.
+    pub(crate) fn stand(&mut self, place: usize, kept: usize, slots: &mut Vec<Slot>)
+        ensures { Some self.new.now.state ≡ outcome_of true place kept slots.old.items }
+    {
+        self.place = place;
+        self.kept = kept;
+        swap(&mut self.slots, slots);
     }
 
     /// Whether a group has taken part.

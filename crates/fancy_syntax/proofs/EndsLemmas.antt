@@ -12,13 +12,13 @@ use Rattle.fancy_syntax.specs.Named.{is_unicode}
 use Rattle.fancy_syntax.specs.Grammar.{ends_branch}
 use Rattle.fancy_syntax.specs.declared.named.Named.{Named}
 use Rattle.fancy_syntax.specs.declared.class.token.Token.{Token}
-use Rattle.fancy_syntax.specs.Pattern.{Pattern, member_of, in_any_case, raw_byte, assertion}
+use Rattle.fancy_syntax.specs.Pattern.{Pattern, member_of, in_any_case, raw_byte, assertion, keep_start, continue_here}
 use Rattle.fancy_syntax.specs.Words.{Text, ◌∈◌, is_at, begins, by_word, begins_count}
 use Rattle.fancy_syntax.specs.Members.{Members}
 use Rattle.fancy_syntax.specs.Sets.{AreEdges}
 use Rattle.fancy_syntax.specs.Escapes.{control_of, escaped, escape_at, hexadecimal, number, braced_number, before_brace, by_number, is_character, takes_number, digits_behind, single, set_here, set_letter, is_property, property_name, property_named}
 use Rattle.fancy_syntax.specs.ClassGrammar.{is_ascii_meaning, fits, may_turn, range, range_from, range_to, is_ranged, named_of, posix, posix_of, posix_words, is_posix, property, property_of, found_property, token, token_of}
-use Rattle.fancy_syntax.specs.Dialect.{Scope, Lexeme, leaf, one_of, any_case_of, IsMeant, by_itself, by_edges, by_folding, lexeme, ReadsAtom, by_lexeme, by_class, literal_of, spelled_character, spelled_number, spelled_set, lettered_set, is_one_item, numbered, boundary_words, boundary, property_here, followed_by, any_item, any_code, lettered, place_test, anchor_of, lone, escape, escape_in, is_escapable, is_special}
+use Rattle.fancy_syntax.specs.Dialect.{Scope, Lexeme, leaf, one_of, any_case_of, IsMeant, by_itself, by_edges, by_folding, lexeme, ReadsAtom, by_lexeme, by_class, literal_of, spelled_character, spelled_number, spelled_set, lettered_set, is_one_item, numbered, boundary_words, boundary, property_here, followed_by, any_item, any_code, lettered, place_test, start_mark, anchor_of, lone, escape, escape_in, is_escapable, is_special}
 use Rattle.fancy_syntax.proofs.ReadingLemmas.{some_pair, some_is_none, true_is_false}
 use Rattle.fancy_syntax.proofs.BlankLemmas.{chosen, same_some, char_is}
 
@@ -193,6 +193,8 @@ pub data Kind (s : Scope) : Lexeme → Type 0 where
   a_test : (a : Assertion) → Kind s (leaf (assertion a))
   a_set : (f : Members) → Kind s (one_of f)
   a_byte : (c : ℕ) → s.keeps_characters ≡ false → Kind s (leaf (raw_byte c))
+  a_search_start : Kind s (leaf continue_here)
+  a_kept_start : s.in_look_around ≡ false → Kind s (leaf keep_start)
 
 pub record Lexed (s : Scope) (t : Text) (x : Lexeme) (u : Text) : Type 0 where
   pub ends : Ends t u
@@ -226,6 +228,10 @@ any_kind s all y h =
       | inr z ↦ subst (Kind s) (same_some z.1) (a_set (any_code s all))
     ]
 
+both_hold : (a b : Bool) → (a && b) ≡ true → b ≡ true
+both_hold true b h = h
+both_hold false b h = cc
+
 lettered_kind : (s : Scope) (d : ℕ) (y : Lexeme) → lettered s d ≡ Some y → Kind s y
 lettered_kind s d y h = by_control (control_of d) h
   where
@@ -237,11 +243,23 @@ lettered_kind s d y h = by_control (control_of d) h
           | inr z ↦ absurd (some_is_none (sym z.1))
         ]
 
-    by_test : (o : Option Assertion) → option_or (option_map (λ (a : Assertion). leaf (assertion a)) o) (option_and_then (lettered_set s) (set_letter d)) ≡ Some y → Kind s y
-    by_test None e = by_set (set_letter d) e
+    by_mark : (o : Option Pattern) → start_mark s.in_look_around d ≡ o → option_or (option_map leaf o) (option_and_then (lettered_set s) (set_letter d)) ≡ Some y → Kind s y
+    by_mark None is e = by_set (set_letter d) e
+    by_mark (Some p) is e =
+        subst (Kind s) (same_some e)
+        (elim (chosen (71 == d) _ _ _ is) [
+          | inl z ↦ subst (λ q. Kind s (leaf q)) (same_some z.1) a_search_start
+          | inr z ↦ elim (chosen ((75 == d) && not s.in_look_around) _ _ _ z.1) [
+            | inl w ↦ subst (λ q. Kind s (leaf q)) (same_some w.1) (a_kept_start (not_false s.in_look_around (both_hold (75 == d) (not s.in_look_around) w.0)))
+            | inr w ↦ absurd (some_is_none (sym w.1))
+          ]
+        ])
+
+    by_test : (o : Option Assertion) → option_or (option_map (λ (a : Assertion). leaf (assertion a)) o) (option_or (option_map leaf (start_mark s.in_look_around d)) (option_and_then (lettered_set s) (set_letter d))) ≡ Some y → Kind s y
+    by_test None e = by_mark (start_mark s.in_look_around d) refl e
     by_test (Some a) e = subst (Kind s) (same_some e) (a_test a)
 
-    by_control : (o : Option ℕ) → option_or (option_map (spelled_character s) o) (option_or (option_map (λ (a : Assertion). leaf (assertion a)) (place_test s.flags d)) (option_and_then (lettered_set s) (set_letter d))) ≡ Some y → Kind s y
+    by_control : (o : Option ℕ) → option_or (option_map (spelled_character s) o) (option_or (option_map (λ (a : Assertion). leaf (assertion a)) (place_test s.flags d)) (option_or (option_map leaf (start_mark s.in_look_around d)) (option_and_then (lettered_set s) (set_letter d)))) ≡ Some y → Kind s y
     by_control None e = by_test (place_test s.flags d) e
     by_control (Some c) e = subst (Kind s) (same_some e) (a_character c)
 
@@ -331,6 +349,8 @@ pub data IsSimple (s : Scope) : Pattern → Type 0 where
   item : (es : List ℕ) → AreEdges es → IsSimple s (member_of es)
   any_case : (es : List ℕ) → AreEdges es → IsSimple s (in_any_case es)
   byte : (c : ℕ) → s.keeps_characters ≡ false → IsSimple s (raw_byte c)
+  search_start : IsSimple s continue_here
+  kept_start : s.in_look_around ≡ false → IsSimple s keep_start
 
 simple_leaf : (s : Scope) {a : Pattern} {x : Lexeme} → IsMeant x a → ((b : Pattern) → x ≡ leaf b → IsSimple s b) → IsSimple s a
 simple_leaf s {a} by_itself f = f a refl
@@ -355,6 +375,8 @@ simple_of s (a_character c) m = simple_leaf s m (λ b e. of_character b _ (s.fla
 simple_of s (a_test a) m = simple_leaf s m (λ b e. subst (IsSimple s) (leaf_same e) (test a))
 simple_of s (a_set f) m = simple_leaf s m (λ b e. absurd (leaf_is_no_set e))
 simple_of s (a_byte c k) m = simple_leaf s m (λ b e. subst (IsSimple s) (leaf_same e) (byte c k))
+simple_of s a_search_start m = simple_leaf s m (λ b e. subst (IsSimple s) (leaf_same e) search_start)
+simple_of s (a_kept_start k) m = simple_leaf s m (λ b e. subst (IsSimple s) (leaf_same e) (kept_start k))
 
 pub simple_atom : {s : Scope} {t u : Text} {a : Pattern} → ReadsAtom s t a u → IsSimple s a
 simple_atom {s} {t} (by_lexeme h m) = simple_of s (lexed s t h).kind m

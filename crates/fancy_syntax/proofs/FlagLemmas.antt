@@ -88,6 +88,9 @@ no_mark_first {t = t} s rest =
     let not_behind : begins "(?<!" (40 ∷ 63 ∷ (t ++ rest)) ≡ false = rw d.2.0 (rw d.2.1 refl) in
     rw (atomic, ahead, not_ahead, behind, not_behind) refl
 
+pub no_parenthesis_first : {m : Meaning} {t : Text} {f g : Flags} → Setting m t f g → (c : ℕ) × (u : Text) × ((t ≡ c ∷ u) × ((40 == c) ≡ false))
+no_parenthesis_first s = first_is_not s 40 refl (λ on x. refl)
+
 pub no_hash_first : {m : Meaning} {t : Text} {f g : Flags} → Setting m t f g → (c : ℕ) × (u : Text) × ((t ≡ c ∷ u) × ((35 == c) ≡ false))
 no_hash_first s = first_is_not s 35 refl (λ on x. refl)
 

@@ -2,7 +2,7 @@
 use Rattle.std.proofs.Common.{◌≡◌, ℕ, ◌+◌, ◌≤◌, Bool, List, [], ◌∷◌, ◌++◌, Option, sym, subst, ap, ◌∙◌, append_assoc, append-nil, arith}
 use Rattle.fancy_syntax.specs.Pattern.{Pattern}
 use Rattle.fancy_syntax.specs.Words.{Text}
-use Rattle.fancy_syntax.specs.Dialect.{Scope, Options, begin, Branches, one, either, Parts, nothing, item, Item, set, bare, quantified, Atom, single, plain, flagged, capture, unnamed, named, marked, reference, reference_by_name, inside, Spells}
+use Rattle.fancy_syntax.specs.Dialect.{Scope, Options, begin, Branches, one, either, Parts, nothing, item, Item, set, bare, quantified, Atom, single, plain, flagged, capture, unnamed, named, marked, reference, reference_by_name, tested, decided, back_to, inside, Spells}
 use Rattle.fancy_syntax.specs.declared.groups.Grouping.{Grouping}
 use Rattle.fancy_syntax.specs.declared.groups.Grouping.TheVariants.{Atomic, LookAhead, LookBehind}
 use Rattle.fancy_syntax.specs.Groups.{Rising}
@@ -39,6 +39,9 @@ of_marked Atomic s q x = x
 of_marked (LookAhead negated) s q x = record { more = x.more; new = x.new; names = x.names; rising = x.rising }
 of_marked (LookBehind negated) s q x = record { more = x.more; new = x.new; names = x.names; rising = x.rising }
 
+behind_condition : (s r q : Scope) → Named (back_to s r) q → Named r q
+behind_condition s r q x = record { more = x.more; new = x.new; names = x.names; rising = x.rising }
+
 mutual
   named_branches : {k : ℕ} {s r : Scope} {t after : Text} {bs : List Pattern} → Branches k s t after bs r → Named s r
   named_branches (one p) = named_parts p
@@ -61,6 +64,11 @@ mutual
   named_atom (marked {s = s} {q = q} {how = how} m b) = let x = of_marked how s q (named_branches b) in record { more = x.more; new = x.new; names = x.names; rising = x.rising }
   named_atom (reference {s = s} h) = let x = none s in record { more = x.more; new = x.new; names = x.names; rising = x.rising }
   named_atom (reference_by_name {s = s} n h) = let x = none s in record { more = x.more; new = x.new; names = x.names; rising = x.rising }
+  named_atom (tested c h b) = let x = named_branches b in record { more = x.more; new = x.new; names = x.names; rising = x.rising }
+  named_atom (decided {s = s} {r = r} {q = q} c h f a b) =
+      let y = named_branches b in
+      let z = then (named_branches a) (behind_condition s r q y) in
+      record { more = z.more; new = z.new; names = z.names; rising = z.rising }
   named_atom (capture {s = s} {q = q} u e b) =
       let x = named_branches b in
       record { more = omega (arith, x.more); new = x.new; names = x.names; rising = from_less (s.opened + 1) (s.opened + 1 + 1) (q.opened + 1) x.new (omega arith) x.rising }

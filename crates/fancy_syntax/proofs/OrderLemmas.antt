@@ -1,11 +1,11 @@
 -- Groups are numbered in the order of their openings.
-use Rattle.std.proofs.Common.{ℕ, ◌+◌, List, [], ◌∷◌, map, Option, Some, None, ◌≡◌, refl, sym, ap, subst, ◌∙◌}
+use Rattle.std.proofs.Common.{ℕ, ◌+◌, List, [], ◌∷◌, map, Option, Some, None, ◌≡◌, refl, sym, subst}
 use Rattle.std.specs.Prelude.{encode_utf8}
 use Rattle.fancy_syntax.specs.declared.groups.Grouping.{Grouping}
 use Rattle.fancy_syntax.specs.declared.groups.Grouping.TheVariants.{Atomic, LookAhead, LookBehind}
 use Rattle.fancy_syntax.specs.declared.tree.Meaning.{Meaning}
 use Rattle.fancy_syntax.specs.declared.tree.Meaning.TheVariants.{Unicode, Bytes, AsciiText}
-use Rattle.fancy_syntax.specs.Dialect.{Scope, inside, grouped, literal_of, Branches, one, either, Parts, nothing, item, Item, set, bare, quantified, Atom, single, plain, flagged, capture, unnamed, named, marked, reference, reference_by_name, Spells, with_part}
+use Rattle.fancy_syntax.specs.Dialect.{Scope, inside, grouped, literal_of, Branches, one, either, Parts, nothing, item, Item, set, bare, quantified, Atom, single, plain, flagged, capture, unnamed, named, marked, reference, reference_by_name, tested, decided, test_here, chosen, Spells, with_part}
 use Rattle.fancy_syntax.specs.Groups.{InOrder}
 use Rattle.fancy_syntax.specs.Pattern.{Pattern, character, in_sequence, in_choice, in_branches}
 use Rattle.fancy_syntax.specs.Words.{Text}
@@ -50,6 +50,8 @@ simple_in_order n s (simple.test a) = refl
 simple_in_order n s (simple.item es e) = refl
 simple_in_order n s (simple.any_case es e) = refl
 simple_in_order n s (simple.byte c k) = refl
+simple_in_order n s simple.search_start = refl
+simple_in_order n s (simple.kept_start k) = refl
 
 -- an item, which may give no part
 abbrev PartInOrder : ℕ → ℕ → Option Pattern → Type 0
@@ -64,6 +66,11 @@ marked_in_order : (how : Grouping) (n m : ℕ) (p : Pattern) → InOrder n m p �
 marked_in_order Atomic n m p h = h
 marked_in_order (LookAhead negated) n m p h = h
 marked_in_order (LookBehind negated) n m p h = h
+
+-- a conditional: the groups of its condition, and then those of its branches
+chosen_in_order : (n k m : ℕ) (c : Pattern) (bs : List Pattern) → InOrder n k c → AllInOrder k m bs → InOrder n m (chosen c bs)
+chosen_in_order n k m c [] h e = (k, k, h, refl, e)
+chosen_in_order n k m c (b ∷ bs) h all = (k, all.0, h, all.1, branches_in_order all.0 m bs all.2)
 
 -- a mark opens no group that captures
 marked_opens_none : (how : Grouping) (s : Scope) → (inside how s).opened ≡ s.opened
@@ -97,6 +104,9 @@ mutual
       marked_in_order how (s.opened + 1) (q.opened + 1) (in_branches bs) (branches_in_order (s.opened + 1) (q.opened + 1) bs x)
   ordered_atom (reference h) = refl
   ordered_atom (reference_by_name n h) = refl
+  ordered_atom (tested {s = s} {q = q} {bs = bs} c h b) = chosen_in_order (s.opened + 1) (s.opened + 1) (q.opened + 1) (test_here s) bs refl (ordered_branches b)
+  ordered_atom (decided {s = s} {r = r} {q = q} {cs = cs} {bs = bs} c h f a b) =
+      chosen_in_order (s.opened + 1) (r.opened + 1) (q.opened + 1) (in_branches cs) bs (branches_in_order (s.opened + 1) (r.opened + 1) cs (ordered_branches a)) (ordered_branches b)
   ordered_atom (capture {s = s} {q = q} {bs = bs} u e b) = (refl, branches_in_order (s.opened + 1 + 1) (q.opened + 1) bs (ordered_branches b))
   ordered_atom (named {s = s} {q = q} {bs = bs} n m e b) = (refl, branches_in_order (s.opened + 1 + 1) (q.opened + 1) bs (ordered_branches b))
 

@@ -8,7 +8,7 @@ use Rattle.fancy_syntax.specs.declared.error.CompileError.TheVariants.{InvalidBa
 use Rattle.fancy_syntax.specs.declared.error.Error.{Error}
 use Rattle.fancy_syntax.specs.declared.error.Error.TheVariants.{Memory, ParseError, CompileError, RuntimeError}
 use Rattle.fancy_syntax.specs.Pattern.{Pattern, pattern_of}
-use Rattle.fancy_syntax.specs.Sizes.{nodes, are_sized}
+use Rattle.fancy_syntax.specs.Sizes.{size, nodes, are_sized}
 use Rattle.fancy_syntax.specs.Words.{Text}
 use Rattle.fancy_syntax.specs.Names.{named_groups}
 use Rattle.fancy_syntax.specs.declared.name.GroupName.{GroupName}
@@ -21,7 +21,7 @@ use Rattle.fancy_syntax.specs.References.{Target, Fault, Groups, group_for, numb
 use Rattle.fancy_syntax.specs.Dialect.{Scope, Options, begin, has_name, groups_at, fault_of, numbers, Spells, SpellsUnder, IsPattern}
 use Rattle.fancy_syntax.specs.Grammar.{Place, start}
 use Rattle.fancy_syntax.specs.Refusals.{IsRefused, IsNotAccepted}
-use Rattle.fancy_syntax.specs.Views.{Refuses, IsTheReading, HasNoReading, Alternation, target_of, targets_of, groups_in, told_fault, RefusesReference, SpellsDraft, HasNoSpelling}
+use Rattle.fancy_syntax.specs.Views.{Refuses, IsTheReading, HasNoReading, Alternation, target_of, targets_of, groups_in, told_fault, RefusesReference, HasBadSize, RefusesSizes, SpellsDraft, HasNoSpelling}
 use Rattle.fancy_syntax.proofs.ReadingLemmas.{Refuses-weaker, true_is_false, some_is_none, no_whole_reading, not_whole, whole_reading}
 use Rattle.fancy_syntax.proofs.SpellingLemmas.{spelling_read, reading_spelled}
 use Rattle.fancy_syntax.proofs.UnnamedLemmas.{settles, none_settled, one_under, one_end_under}
@@ -76,6 +76,10 @@ no_fault o e all (k, w, below, is, h) = some_is_none (sym h ∙ (ap (fault_of o 
 no_fault_under : {o : Options} {text : Text} {p q : Pattern} {e : Scope} {f : Fault} (x : IsPattern o text p) → SpellsUnder o text q e → Any (λ w. fault_of o e w ≡ Some f) e.wanted → ⊥
 no_fault_under {o} {f = f} x y some = no_fault o x.end x.resolved (subst (λ (z : Scope). Any (λ w. fault_of o z w ≡ Some f) z.wanted) (one_end_under y x.spelled) some)
 
+-- the accepted pattern is what the text spells, its references resolved
+same_resolved : {o : Options} {text : Text} {p q : Pattern} {e : Scope} → SpellsUnder o text q e → IsPattern o text p → refers_to (numbers o e) q ≡ p
+same_resolved {o} y x = ap₂ (λ (e : Scope) (w : Pattern). refers_to (numbers o e) w) (one_end_under y x.spelled) (one_under y x.spelled) ∙ sym x.is
+
 -- a pattern of the dialect is refused only for want of memory
 pub refused_is_memory : {o : Options} {text : Text} {p : Pattern} (e : Error) → IsRefused e o text → IsPattern o text p → e ≡ Memory
 refused_is_memory Memory h x = refl
@@ -89,10 +93,10 @@ refused_is_memory {o} {text} {p} (CompileError PatternTooComplex) (q, end, y, la
 refused_is_memory (CompileError (InvalidBackref n)) (q, end, y, some) x = absurd (no_fault_under x y some)
 refused_is_memory (CompileError (InvalidGroupNameBackref n)) (q, end, y, some) x = absurd (no_fault_under x y some)
 refused_is_memory (CompileError NamedBackrefOnly) (q, end, y, some) x = absurd (no_fault_under x y some)
-refused_is_memory {o} {p = p} (CompileError LookBehindNotConst) (q, end, y, unsized) x =
-    let same : refers_to (numbers o end) q ≡ p = ap₂ (λ (e : Scope) (w : Pattern). refers_to (numbers o e) w) (one_end_under y x.spelled) (one_under y x.spelled) ∙ sym x.is in
-    absurd (true_is_false (sym x.sized ∙ (ap (are_sized o.meaning) (sym same) ∙ unsized)))
-refused_is_memory (CompileError PatternCanNeverMatch) h x = absurd h
+refused_is_memory {o} (CompileError LookBehindNotConst) (q, end, y, unsized) x =
+    absurd (true_is_false (sym x.sized ∙ (ap (are_sized o.meaning) (sym (same_resolved y x)) ∙ unsized)))
+refused_is_memory {o} (CompileError PatternCanNeverMatch) (q, end, y, on, none) x =
+    absurd (x.fills on (ap (size o.meaning) (sym (same_resolved y x)) ∙ none))
 refused_is_memory (RuntimeError why) h x = absurd h
 
 -- a text under options has at most one pattern
@@ -123,10 +127,11 @@ module _ (o : Options) {text whole : Text} (draft : Draft) (s : SpellsDraft (Spe
       → pattern_of first.tree ≡ refers_to (number_in (map (group_for (groups_in o.only_named draft)) (targets_of draft.wanted.items))) (pattern_of draft.tree)
       → (first.groups ≡ draft.groups) × (first.names ≡ draft.names)
       → All (λ w. references.fault_of (groups_in o.only_named draft) (target_of w) ≡ None) draft.wanted.items
-      → IfOk r (λ p. (p ≡ first) × (are_sized o.meaning (pattern_of p.tree) ≡ true))
+      → IfOk r (λ p. p ≡ first) → IfOk r (λ p. are_sized o.meaning (pattern_of p.tree) ≡ true)
+      → IfOk r (λ p. o.not_empty ≡ true → (size o.meaning (pattern_of p.tree) ≡ Some 0) → ⊥)
       → IfOk r (λ p. (h : IsPattern o whole (pattern_of p.tree)) × (h.end.opened + 1 ≡ p.groups) × (named_groups p.names.items ≡ h.end.names))
-  accepted first (Err e) n few tree kept all sized = tt
-  accepted first (Ok p) n few tree kept all (same_one, sized) =
+  accepted first (Err e) n few tree kept all same_one sized fills = tt
+  accepted first (Ok p) n few tree kept all same_one sized fills =
       let is : pattern_of p.tree ≡ refers_to (numbers o s.0) (pattern_of draft.tree) =
       ap (λ (x : Parsed). pattern_of x.tree) same_one ∙ tree ∙ ap₂ (λ (g : Groups) (ws : List Target). refers_to (number_in (map (group_for g) ws)) (pattern_of draft.tree)) groups_are s.4 in
       let resolved : All (λ w. fault_of o s.0 w ≡ None) s.0.wanted =
@@ -141,6 +146,7 @@ module _ (o : Options) {text whole : Text} (draft : Draft) (s : SpellsDraft (Spe
           is = is;
           resolved = resolved;
           sized = sized;
+          fills = fills;
           small = omega (arith, few_written, as_many);
         },
         s.2 ∙ sym (ap (λ (x : Parsed). x.groups) same_one ∙ kept.0),
@@ -167,15 +173,29 @@ module _ (o : Options) {text whole : Text} (draft : Draft) (s : SpellsDraft (Spe
   refused_by (CompileError why) (f, e, some) = not_accepted why f e (has_fault some)
   refused_by (RuntimeError why) h = absurd h
 
-  -- a look-behind without a size is the reason of a refusal
+  -- what is refused for the sizes of the pattern with its references resolved
+  has_bad_size : (why : Compiling) → HasBadSize why o (refers_to (numbers o s.0) (pattern_of draft.tree)) → IsNotAccepted why o whole
+  has_bad_size (InvalidBackref n) h = absurd h
+  has_bad_size (InvalidGroupNameBackref n) h = absurd h
+  has_bad_size NamedBackrefOnly h = absurd h
+  has_bad_size LookBehindNotConst h = (pattern_of draft.tree, s.0, subst (λ t. SpellsUnder o t (pattern_of draft.tree) s.0) same s.1, h)
+  has_bad_size PatternCanNeverMatch h = (pattern_of draft.tree, s.0, subst (λ t. SpellsUnder o t (pattern_of draft.tree) s.0) same s.1, h.0, h.1)
+  has_bad_size PatternTooComplex h = absurd h
+
+  by_size : (e : Error) → RefusesSizes e o (refers_to (numbers o s.0) (pattern_of draft.tree)) → IsRefused e o whole
+  by_size Memory h = absurd h
+  by_size (ParseError at kind) h = absurd h
+  by_size (CompileError why) h = has_bad_size why h
+  by_size (RuntimeError why) h = absurd h
+
+  -- a size is the reason of a refusal
   pub refused_sizes : (first : Parsed) (r : Result Parsed Error)
       → pattern_of first.tree ≡ refers_to (number_in (map (group_for (groups_in o.only_named draft)) (targets_of draft.wanted.items))) (pattern_of draft.tree)
-      → IfErr r (λ e. (e ≡ CompileError LookBehindNotConst) × (are_sized o.meaning (pattern_of first.tree) ≡ false)) → IfErr r (λ e. IsRefused e o whole)
+      → IfErr r (λ e. RefusesSizes e o (pattern_of first.tree)) → IfErr r (λ e. IsRefused e o whole)
   refused_sizes first (Ok p) tree h = tt
-  refused_sizes first (Err e) tree (is, unsized) =
+  refused_sizes first (Err e) tree h =
       let same_one = tree ∙ ap₂ (λ (g : Groups) (ws : List Target). refers_to (number_in (map (group_for g) ws)) (pattern_of draft.tree)) groups_are s.4 in
-      subst (λ x. IsRefused x o whole) (sym is)
-      (pattern_of draft.tree, s.0, subst (λ t. SpellsUnder o t (pattern_of draft.tree) s.0) same s.1, subst (λ (q : Pattern). are_sized o.meaning q ≡ false) same_one unsized)
+      by_size e (subst (λ (q : Pattern). RefusesSizes e o q) same_one h)
 
 pub only_memory : {o : Options} {text : Text} {p : Pattern} (r : Result Parsed Error) → IfErr r (λ e. IsRefused e o text) → IsPattern o text p → IfErr r (λ e. e ≡ Memory)
 only_memory (Ok p) h x = tt

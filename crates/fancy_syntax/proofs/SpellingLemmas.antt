@@ -1,5 +1,5 @@
 -- A text that spells something is read so, and what is read is spelled so.
-use Rattle.std.proofs.Common.{◌≡◌, ℕ, suc, ◌+◌, ◌==◌, ◌||◌, ◌&&◌, not, Bool, true, false, List, [], ◌∷◌, ◌++◌, length, Option, Some, None, drop, refl, sym, ap, ◌∙◌, subst, append_assoc, append-nil, inl, inr, cond, codes, nat_eq}
+use Rattle.std.proofs.Common.{◌≡◌, ℕ, zero, suc, ◌+◌, ◌≤◌, ◌==◌, ◌||◌, ◌&&◌, not, Bool, true, false, List, [], ◌∷◌, ◌++◌, length, Option, Some, None, drop, refl, sym, ap, ◌∙◌, subst, append_assoc, append-nil, inl, inr, cond, codes, nat_eq, arith}
 use Rattle.std.specs.Option.{option_map}
 use Rattle.std.specs.List.{starts_with}
 use Rattle.fancy_syntax.specs.declared.tree.Meaning.{Meaning}
@@ -11,15 +11,15 @@ use Rattle.fancy_syntax.specs.Sizes.{is_empty}
 use Rattle.fancy_syntax.specs.Words.{Text, ◌∈◌, is_at_any, is_at, begins, is_count, past_blank, begins_count}
 use Rattle.fancy_syntax.specs.Names.{is_name, name_here, past_name}
 use Rattle.fancy_syntax.specs.References as references
-use Rattle.fancy_syntax.specs.References.{Target, called}
+use Rattle.fancy_syntax.specs.References.{Target, called, group_condition, is_left_out}
 use Rattle.fancy_syntax.specs.Dialect as d
-use Rattle.fancy_syntax.specs.Dialect.{Flags, Scope, in_force, Setting, one_more_group, one_more_name, NameMark, name_mark, name_mark_after_p, GroupMark, mark_atomic, mark_ahead, mark_not_ahead, mark_behind, mark_not_behind, inside, wants, back_to, ReadsAtom, begins_quantifier, Turns, optional, star, plus, exactly, at_least, between, at_most, Quantifies, greedily, lazily, possessively, Blanks, IsUnquantified, with_part}
+use Rattle.fancy_syntax.specs.Dialect.{Flags, Scope, in_force, Setting, one_more_group, one_more_name, NameMark, name_mark, name_mark_after_p, GroupMark, mark_atomic, mark_ahead, mark_not_ahead, mark_behind, mark_not_behind, inside, wants, test_here, back_to, ReadsAtom, begins_quantifier, Turns, optional, star, plus, exactly, at_least, between, at_most, Quantifies, greedily, lazily, possessively, Blanks, IsUnquantified, with_part}
 use Rattle.fancy_syntax.specs.Grammar as g
-use Rattle.fancy_syntax.specs.Grammar.{Place, past, past_blanks, here, Bounds, bounds_in, past_count, are_bounds, opening, opens_group, wrap, closed, ends_branch, start}
+use Rattle.fancy_syntax.specs.Grammar.{Place, past, past_blanks, here, Bounds, bounds_in, past_count, are_bounds, opening, opens_group, parentheses, wrap, closed, ends_branch, start}
 use Rattle.fancy_syntax.proofs.ReadingLemmas.{some_pair, some_is_none, referred}
-use Rattle.fancy_syntax.proofs.ReferenceLemmas.{ends_reference, reference_begins, no_paren_begun, no_end_begun, no_blank_begun}
+use Rattle.fancy_syntax.proofs.ReferenceLemmas.{ends_reference, ends_condition, reference_begins, no_paren_begun, no_end_begun, no_blank_begun}
 use Rattle.fancy_syntax.proofs.EndsLemmas.{ends_atom, no_paren, no_end}
-use Rattle.fancy_syntax.proofs.FlagLemmas.{setting_is_read, no_colon_first, no_angle_first, no_p_first, no_mark_first, no_hash_first, setting_spelled}
+use Rattle.fancy_syntax.proofs.FlagLemmas.{setting_is_read, no_colon_first, no_angle_first, no_p_first, no_mark_first, no_parenthesis_first, no_hash_first, setting_spelled}
 use Rattle.fancy_syntax.proofs.NameLemmas.{no_closing, no_parenthesis, name_is_no_look, name_is_read, past_read, name_is_some, row_is_name, row_then_rest}
 use Rattle.fancy_syntax.proofs.BlankLemmas.{chosen, same_some, char_is, begins_with, read_blanks, end_is_no_blank, quantifier_is_no_blank, unquantified_is_read, unquantified_is_spelled, skipped, no_blank_left}
 use Rattle.fancy_syntax.proofs.CountLemmas.{either_no, both_true, left_of, first_is as at_char, IsRead, exactly_is_read, at_least_is_read, between_is_read, at_most_is_read, count_spelled}
@@ -39,6 +39,8 @@ atom_begins (d.named n m h b) = refl
 atom_begins (d.marked m b) = refl
 atom_begins {s = s} {t = t} {after = after} (d.reference h) = no_end_begun (t ++ after) (reference_begins s.opened (t ++ after) h)
 atom_begins (d.reference_by_name n h) = refl
+atom_begins (d.tested c h b) = refl
+atom_begins (d.decided c h f a b) = refl
 
 pub item_begins : {k : ℕ} {s q : Scope} {t after : Text} {x : Option Pattern} → d.Item k s t after x q → ends_branch (t ++ after) ≡ false
 item_begins (d.set f) = refl
@@ -74,6 +76,8 @@ atom_is_no_blank {s = s} {after = after} (d.named {t = t} n m h b) = name_is_no_
 atom_is_no_blank {s = s} {after = after} (d.marked {m = m} {t = t} w b) = rw (append_assoc m (t ++ 41 ∷ []) after) (mark_is_no_blank s.flags.ignore_blanks w ((t ++ 41 ∷ []) ++ after))
 atom_is_no_blank {s = s} {t = t} {after = after} (d.reference h) = no_blank_begun s.flags.ignore_blanks (t ++ after) (reference_begins s.opened (t ++ after) h)
 atom_is_no_blank (d.reference_by_name n h) = refl
+atom_is_no_blank (d.tested c h b) = refl
+atom_is_no_blank (d.decided c h f a b) = refl
 
 pub item_is_no_blank : {k : ℕ} {s q : Scope} {t after : Text} {x : Option Pattern} → d.Item k s t after x q → past_blank s.flags.ignore_blanks (t ++ after) ≡ None
 item_is_no_blank {s = s} {after = after} (d.set {t = t} f) = rw (append_assoc t (41 ∷ []) after) (flags_are_no_blank s.flags.ignore_blanks f (41 ∷ after))
@@ -167,6 +171,12 @@ mark_is_no_setting how e = cc
 reference_is_no_setting : (folded : Bool) (n : ℕ) → g.reference folded n ≡ g.setting → ⊥
 reference_is_no_setting folded n e = cc
 
+conditional_is_no_setting : (c : Pattern) → g.chooses c ≡ g.setting → ⊥
+conditional_is_no_setting c e = cc
+
+condition_is_no_setting : g.condition ≡ g.setting → ⊥
+condition_is_no_setting e = cc
+
 -- flags that are spelled open what they are to open
 pub flags_open : (s : Scope) {t : Text} {f : Flags} → Setting s.meaning t s.flags f → (d : ℕ) (rest : Text) → (d ∈ ":)") ≡ true
     → ◌≡◌ {A = Option (g.Opening × Place)} (opening (start s (40 ∷ 63 ∷ (t ++ d ∷ rest)))) (Some (cond (58 == d) g.plain g.setting, start (in_force f s) rest))
@@ -178,7 +188,9 @@ flags_open s {t} {f} l d rest h =
     let p = no_p_first l in
     let unnamed_after_p : begins "(?P<" (40 ∷ 63 ∷ (t ++ d ∷ rest)) ≡ false = rw p.2.0 (rw p.2.1 refl) in
     let no_reference : begins "(?P=" (40 ∷ 63 ∷ (t ++ d ∷ rest)) ≡ false = rw p.2.0 (rw p.2.1 refl) in
-    rw (other, no_mark_first l (d ∷ rest), unnamed, unnamed_after_p, no_reference) (ap (g.flag_group (start s (40 ∷ 63 ∷ (t ++ d ∷ rest)))) (setting_is_read l d rest h))
+    let q = no_parenthesis_first l in
+    let no_conditional : begins "(?(" (40 ∷ 63 ∷ (t ++ d ∷ rest)) ≡ false = rw q.2.0 (rw q.2.1 refl) in
+    rw (other, no_mark_first l (d ∷ rest), unnamed, unnamed_after_p, no_reference, no_conditional) (ap (g.flag_group (start s (40 ∷ 63 ∷ (t ++ d ∷ rest)))) (setting_is_read l d rest h))
 
 choose_name : (s : Scope) (a b : Bool) (m n u v : Text) → a ≡ false → b ≡ true → m ≡ n → u ≡ v
     → ◌≡◌ {A = Option (g.Opening × Place)} (cond {A = Option (g.Opening × Place)} (a || not b) None (Some (g.capture (s.opened + 1), start (one_more_name m s) (drop 1 u)))) (Some (g.capture (s.opened + 1), start (one_more_name n s) (drop 1 v)))
@@ -223,6 +235,20 @@ reference_opens s n rest h =
     choose_reference s (length (name_here (n ++ 41 ∷ rest)) == 0) (is_at ")" (past_name (n ++ 41 ∷ rest))) (name_here (n ++ 41 ∷ rest)) n (past_name (n ++ 41 ∷ rest)) (41 ∷ rest)
     (ap (λ l. length l == 0) (name_is_read 41 n rest no_parenthesis h) ∙ name_is_some n h) (ap (is_at ")") (past_read 41 n rest no_parenthesis h)) (name_is_read 41 n rest no_parenthesis h) (past_read 41 n rest no_parenthesis h)
 
+-- a conditional that is spelled is one
+pub test_opens : (s : Scope) (t : Text) {w : Target} {u : Text} → group_condition t ≡ Some (w, u) → ◌≡◌ {A = Option (g.Opening × Place)} (opening (start s (40 ∷ 63 ∷ 40 ∷ t))) (Some (g.chooses (test_here s), start (wants w s) u))
+test_opens s t h = ap (g.by_test (start s (40 ∷ 63 ∷ 40 ∷ t)) t) h
+
+-- and so is one whose condition is a pattern
+pub condition_opens : (s : Scope) (t : Text) → group_condition t ≡ None → is_left_out t ≡ false → ◌≡◌ {A = Option (g.Opening × Place)} (opening (start s (40 ∷ 63 ∷ 40 ∷ t))) (Some (g.condition, start s t))
+condition_opens s t h f = ap (g.by_test (start s (40 ∷ 63 ∷ 40 ∷ t)) t) h ∙ ap (λ b. cond {A = Option (g.Opening × Place)} b None (Some (g.condition, start s t))) f
+
+one_parenthesis : (k : ℕ) → 1 ≤ suc k
+one_parenthesis k = omega arith
+
+two_parentheses : (k : ℕ) → 2 ≤ suc (suc k)
+two_parentheses k = omega arith
+
 mutual
   pub read_branches : {k : ℕ} {s r : Scope} {t after : Text} {bs : List Pattern} → d.Branches k s t after bs r → ends_branch after ≡ true → is_at "|" after ≡ false → g.Branches k (start s (t ++ after)) bs (start r after)
   read_branches (d.one p) e f = g.last (read_parts p e) f
@@ -238,26 +264,32 @@ mutual
       (g.next (ap ends_branch left ∙ item_begins i) (subst (λ l. g.Item k (start s l) x (start q (v ++ after))) (sym left) (read_item i)) (read_parts p e))
 
   pub read_item : {k : ℕ} {s r : Scope} {t after : Text} {x : Option Pattern} → d.Item k s t after x r → g.Item k (start s (t ++ after)) x (start r after)
-  read_item {s = s} {after = after} (d.set {t = t} f) = rw (append_assoc t (41 ∷ []) after) (g.sets refl (flags_open s f 41 after refl))
+  read_item {s = s} {after = after} (d.set {t = t} f) = rw (append_assoc t (41 ∷ []) after) (g.sets refl (g.at_once (flags_open s f 41 after refl) refl (one_parenthesis _)))
   read_item (d.bare {q = q} {after = after} {a = a} b h) = read_atom b (bare_is_read a q after h)
   read_item (d.quantified {q = q} {t = t} {u = u} {v = v} {after = after} {a = a} b e c h) = rw (append_assoc t (u ++ v) after, append_assoc u v after) (read_atom b (mark_is_read h a q c e))
 
   pub read_atom : {k : ℕ} {s q : Scope} {t after : Text} {a x : Pattern} {r : Place} → d.Atom k s t after a q → g.quantified a (start q after) ≡ Some (x, r) → g.Item k (start s (t ++ after)) (Some x) r
   read_atom (d.single b r) f = g.single (no_paren r) (g.alone r) f
-  read_atom {after = after} (d.plain {t = t} b) f = rw (append_assoc t (41 ∷ []) after) (g.grouped refl refl refl (read_branches b refl refl) refl f)
+  read_atom {after = after} (d.plain {t = t} b) f = rw (append_assoc t (41 ∷ []) after) (g.grouped refl (g.at_once refl refl (one_parenthesis _)) refl (read_branches b refl refl) refl f)
   read_atom {s = s} {after = after} (d.flagged {u = u} {t = t} l b) f =
-      rw (append_assoc u (58 ∷ (t ++ 41 ∷ [])) after, append_assoc t (41 ∷ []) after) (g.grouped refl (flags_open s l 58 (t ++ 41 ∷ after) refl) refl (read_branches b refl refl) refl f)
+      rw (append_assoc u (58 ∷ (t ++ 41 ∷ [])) after, append_assoc t (41 ∷ []) after) (g.grouped refl (g.at_once (flags_open s l 58 (t ++ 41 ∷ after) refl) refl (one_parenthesis _)) refl (read_branches b refl refl) refl f)
   read_atom {s = s} {after = after} (d.capture {t = t} u h b) f =
-      rw (append_assoc t (41 ∷ []) after) (g.grouped refl (capture_is_read s (t ++ (41 ∷ after)) u h) refl (read_branches b refl refl) refl f)
+      rw (append_assoc t (41 ∷ []) after) (g.grouped refl (g.at_once (capture_is_read s (t ++ (41 ∷ after)) u h) refl (one_parenthesis _)) refl (read_branches b refl refl) refl f)
   read_atom {s = s} {after = after} (d.unnamed {t = t} u h b) f =
-      rw (append_assoc t (41 ∷ []) after) (g.grouped refl (unnamed_is_read s (t ++ (41 ∷ after)) u h) refl (read_branches b refl refl) refl f)
+      rw (append_assoc t (41 ∷ []) after) (g.grouped refl (g.at_once (unnamed_is_read s (t ++ (41 ∷ after)) u h) refl (one_parenthesis _)) refl (read_branches b refl refl) refl f)
   read_atom {s = s} {after = after} (d.named {m = m} {t = t} n l h b) f =
       rw (append_assoc m (n ++ 62 ∷ (t ++ 41 ∷ [])) after, append_assoc n (62 ∷ (t ++ 41 ∷ [])) after, append_assoc t (41 ∷ []) after)
-      (g.grouped refl (name_opens s l n (t ++ 41 ∷ after) h) refl (read_branches b refl refl) refl f)
+      (g.grouped refl (g.at_once (name_opens s l n (t ++ 41 ∷ after) h) refl (one_parenthesis _)) refl (read_branches b refl refl) refl f)
   read_atom {s = s} {after = after} (d.marked {m = m} {t = t} w b) f =
-      rw (append_assoc m (t ++ 41 ∷ []) after, append_assoc t (41 ∷ []) after) (g.grouped refl (mark_opens s w (t ++ 41 ∷ after)) refl (read_branches b refl refl) refl f)
+      rw (append_assoc m (t ++ 41 ∷ []) after, append_assoc t (41 ∷ []) after) (g.grouped refl (g.at_once (mark_opens s w (t ++ 41 ∷ after)) refl (one_parenthesis _)) refl (read_branches b refl refl) refl f)
   read_atom {s = s} {t = t} {after = after} (d.reference h) f = g.single (no_paren_begun (t ++ after) (reference_begins s.opened (t ++ after) h)) (g.refers h) f
-  read_atom {s = s} {after = after} (d.reference_by_name n h) f = rw (append_assoc n (41 ∷ []) after) (g.refers_by_name refl (reference_opens s n after h) f)
+  read_atom {s = s} {after = after} (d.reference_by_name n h) f = rw (append_assoc n (41 ∷ []) after) (g.refers_by_name refl (g.at_once (reference_opens s n after h) refl (one_parenthesis _)) f)
+  read_atom {s = s} {after = after} (d.tested {k = k} {t = t} c h b) f =
+      rw (append_assoc c (t ++ 41 ∷ []) after, append_assoc t (41 ∷ []) after)
+      (g.grouped refl (g.at_once (test_opens s (c ++ (t ++ 41 ∷ after)) h) refl (two_parentheses k)) refl (read_branches b refl refl) refl f)
+  read_atom {s = s} {after = after} (d.decided {t = t} c h f a b) x =
+      rw (append_assoc c (41 ∷ (t ++ 41 ∷ [])) after, append_assoc t (41 ∷ []) after)
+      (g.grouped refl (g.behind_condition (condition_opens s (c ++ 41 ∷ (t ++ 41 ∷ after)) h f) (read_branches a refl refl) refl) refl (read_branches b refl refl) refl x)
 
 not_true : (b : Bool) → not b ≡ true → b ≡ false
 not_true true h = cc
@@ -286,6 +318,8 @@ pub data Opened (p : Place) : g.Opening → Place → Type 0 where
   as_unnamed : (u : Text) → p.scope.unnamed_capture ≡ false → p.text ≡ 40 ∷ u → is_at "?*" u ≡ false → Opened p g.plain (start p.scope u)
   as_marked : (m u : Text) (how : Grouping) → GroupMark m how → p.text ≡ 40 ∷ (m ++ u) → Opened p (g.marked how) (start (inside how p.scope) u)
   as_reference : (n u : Text) → is_name n ≡ true → p.text ≡ codes "(?P=" ++ (n ++ 41 ∷ u) → Opened p (g.reference p.scope.flags.ignore_case (length p.scope.wanted)) (start (wants (called n) p.scope) u)
+  as_test : (c u : Text) (w : Target) → group_condition (c ++ u) ≡ Some (w, u) → p.text ≡ codes "(?(" ++ (c ++ u) → Opened p (g.chooses (test_here p.scope)) (start (wants w p.scope) u)
+  as_condition : (u : Text) → group_condition u ≡ None → is_left_out u ≡ false → p.text ≡ codes "(?(" ++ u → Opened p g.condition (start p.scope u)
 
 is_opened : {p : Place} {how : g.Opening} {q : Place} {a : g.Opening} {b : Place} → ◌≡◌ {A = Option (g.Opening × Place)} (Some (a, b)) (Some (how, q)) → Opened p a b → Opened p how q
 is_opened {p} {how} {q} {a} {b} s o = let t = some_pair s in subst (λ x. Opened p x q) t.0 (subst (λ y. Opened p a y) t.1 o)
@@ -321,6 +355,20 @@ reference_opened p how q t is h =
           is_opened x.1 (as_reference (name_here t) (drop 1 (past_name t)) (row_is_name t n.0)
           (is ∙ ap (λ u. 40 ∷ 63 ∷ 80 ∷ 61 ∷ u) (row_then_rest t ∙ ap (λ u. name_here t ++ u) (at_char 41 (past_name t) (not_false (is_at ")" (past_name t)) n.1)))))
     ]
+
+-- a conditional
+conditional_opened : (p : Place) (how : g.Opening) (q : Place) (t : Text) → p.text ≡ codes "(?(" ++ t → g.conditional_at p t ≡ Some (how, q) → Opened p how q
+conditional_opened p how q t is h = by_condition (group_condition t) refl h
+  where
+    by_condition : (o : Option (Target × Text)) → group_condition t ≡ o → ◌≡◌ {A = Option (g.Opening × Place)} (g.by_test p t o) (Some (how, q)) → Opened p how q
+    by_condition None e f =
+        elim (chosen (is_left_out t) _ _ _ f) [
+          | inl x ↦ absurd (some_is_none (sym x.1))
+          | inr x ↦ is_opened x.1 (as_condition t e x.0 is)
+        ]
+    by_condition (Some (w, u)) e f =
+        let r = ends_condition t e in
+        is_opened f (as_test r.front u w (ap group_condition (sym r.is) ∙ e) (is ∙ ap (λ v. 40 ∷ 63 ∷ 40 ∷ v) r.is))
 
 -- a mark that is read is spelled
 record MarkRead (t : Text) (how : Grouping) (n : ℕ) : Type 0 where
@@ -367,12 +415,15 @@ unmarked_opened p how q e h =
         | inl z ↦ name_opened p how q (codes "P<") (drop 4 p.text) name_mark_after_p (begins_with (codes "(?P<") p.text z.0) z.1
         | inr z ↦ elim (chosen (begins "(?P=" p.text) _ _ _ z.1) [
           | inl y ↦ reference_opened p how q (drop 4 p.text) (begins_with (codes "(?P=") p.text y.0) y.1
-          | inr y ↦ elim (chosen (begins "(?" p.text) _ _ _ y.1) [
-            | inl z ↦ by_flags (g.flags_in p.scope.meaning (drop 2 p.text) (g.first_letter p.scope.flags)) refl (begins_with (codes "(?") p.text z.0) z.1
-            | inr z ↦ (let none = z.0 in elim (chosen (begins "(*" p.text) _ _ _ z.1) [
-              | inl x ↦ absurd (some_is_none (sym x.1))
-              | inr x ↦ unnamed_opened p how q (at_char 40 p.text e) (no_special (drop 1 p.text) (rw (at_char 40 p.text e) at none) (rw (at_char 40 p.text e) at x.0)) x.1
-            ])
+          | inr y ↦ elim (chosen (begins "(?(" p.text) _ _ _ y.1) [
+            | inl z ↦ conditional_opened p how q (drop 3 p.text) (begins_with (codes "(?(") p.text z.0) z.1
+            | inr z ↦ elim (chosen (begins "(?" p.text) _ _ _ z.1) [
+              | inl y ↦ by_flags (g.flags_in p.scope.meaning (drop 2 p.text) (g.first_letter p.scope.flags)) refl (begins_with (codes "(?") p.text y.0) y.1
+              | inr y ↦ (let none = y.0 in elim (chosen (begins "(*" p.text) _ _ _ y.1) [
+                | inl x ↦ absurd (some_is_none (sym x.1))
+                | inr x ↦ unnamed_opened p how q (at_char 40 p.text e) (no_special (drop 1 p.text) (rw (at_char 40 p.text e) at none) (rw (at_char 40 p.text e) at x.0)) x.1
+              ])
+            ]
           ]
         ]
       ]
@@ -541,6 +592,8 @@ spell_setting {p = p} (as_capture u c e f) h = absurd (capture_opens (p.scope.op
 spell_setting (as_unnamed u c e f) h = absurd (plain_opens h)
 spell_setting (as_marked m u how l e) h = absurd (mark_is_no_setting how h)
 spell_setting {p = p} (as_reference n u l e) h = absurd (reference_is_no_setting p.scope.flags.ignore_case (length p.scope.wanted) h)
+spell_setting {p = p} (as_test c u w l e) h = absurd (conditional_is_no_setting (test_here p.scope) h)
+spell_setting (as_condition u n l e) h = absurd (condition_is_no_setting h)
 
 false_is_true : false ≡ true → ⊥
 false_is_true h = cc
@@ -551,6 +604,8 @@ is_whole g.setting = false
 is_whole g.plain = false
 is_whole (g.capture n) = false
 is_whole (g.marked how) = false
+is_whole (g.chooses c) = false
+is_whole g.condition = false
 
 -- a whole reference
 spell_reference : {k : ℕ} {p q : Place} {how : g.Opening} → Opened p how q → is_whole how ≡ true → (t : Text) × (p.text ≡ t ++ q.text) × d.Atom (suc k) p.scope t q.text (referred how) q.scope
@@ -561,30 +616,82 @@ spell_reference (as_name m n u l f e) h = absurd (false_is_true h)
 spell_reference (as_capture u c e f) h = absurd (false_is_true h)
 spell_reference (as_unnamed u c e f) h = absurd (false_is_true h)
 spell_reference (as_marked m u how l e) h = absurd (false_is_true h)
+spell_reference (as_test c u w l e) h = absurd (false_is_true h)
+spell_reference (as_condition u n l e) h = absurd (false_is_true h)
 spell_reference (as_reference n u l e) h = (codes "(?P=" ++ (n ++ codes ")"), e ∙ ap (λ v. codes "(?P=" ++ v) (sym (append_assoc n (41 ∷ []) u)), d.reference_by_name n l)
 
+-- what a parenthesis opens at once
+at_most_opened : {k : ℕ} {p q : Place} {how : g.Opening} → is_at "(" p.text ≡ true → g.Opens k p how q → opens_group how ≡ false → (j : ℕ) × (k ≡ suc j) × Opened p how q
+at_most_opened {p = p} {q = q} {how = how} e (g.at_once {k = j} o a f) n = (j, refl, opened p how q e o)
+at_most_opened e (g.behind_condition o b c) n = absurd (false_is_true (sym n))
+
+-- the place of a condition
+record IsCondition (p inside : Place) : Type 0 where
+  is : p.text ≡ codes "(?(" ++ inside.text
+  untested : group_condition inside.text ≡ None
+  kept : is_left_out inside.text ≡ false
+  there : inside.scope ≡ p.scope
+
+condition_of : {p q : Place} {how : g.Opening} → Opened p how q → how ≡ g.condition → IsCondition p q
+condition_of (as_plain u e) h = absurd (false_is_true (ap g.asks h))
+condition_of (as_flagged t u f e l) h = absurd (false_is_true (ap g.asks h))
+condition_of (as_setting t u f e l) h = absurd (false_is_true (ap g.asks h))
+condition_of (as_name m n u l f e) h = absurd (false_is_true (ap g.asks h))
+condition_of (as_capture u c e f) h = absurd (false_is_true (ap g.asks h))
+condition_of (as_unnamed u c e f) h = absurd (false_is_true (ap g.asks h))
+condition_of (as_marked m u how l e) h = absurd (false_is_true (ap g.asks h))
+condition_of (as_reference n u l e) h = absurd (false_is_true (ap g.asks h))
+condition_of (as_test c u w l e) h = absurd (false_is_true (ap g.asks h))
+condition_of (as_condition u n l e) h = record { is = e; untested = n; kept = l; there = refl }
+
+-- a conditional has room for two parentheses
+spell_test : {t after : Text} {bs : List Pattern} {q : Scope} (k : ℕ) (s : Scope) (c : Text) (w : Target) → group_condition (c ++ (t ++ 41 ∷ after)) ≡ Some (w, t ++ 41 ∷ after) → 2 ≤ suc k
+    → d.Branches k (wants w s) t (41 ∷ after) bs q → d.Atom (suc k) s (codes "(?(" ++ (c ++ (t ++ codes ")"))) after (d.chosen (test_here s) bs) (back_to s q)
+spell_test zero s c w h fits b = absurd (omega (arith, fits))
+spell_test (suc k) s c w h fits b = d.tested c h b
+
 -- the group that a parenthesis opens, from what is inside it
-spell_group : {k : ℕ} {p inside : Place} {how : g.Opening} {t after : Text} {bs : List Pattern} {s : Scope} → Opened p how inside → opens_group how ≡ true → inside.text ≡ t ++ 41 ∷ after
-    → d.Branches k inside.scope t (41 ∷ after) bs s → (w : Text) × (p.text ≡ w ++ after) × d.Atom (suc k) p.scope w after (wrap how (in_branches bs)) (back_to p.scope s)
-spell_group {t = t} {after = after} (as_plain u e) n i b = (codes "(?:" ++ (t ++ codes ")"), e ∙ ap (λ l. codes "(?:" ++ l) (i ∙ sym (append_assoc t (41 ∷ []) after)), d.plain b)
-spell_group {t = t} {after = after} (as_flagged v u f e l) n i b = (
+spell_group : {k : ℕ} {p inside : Place} {how : g.Opening} {t after : Text} {bs : List Pattern} {s : Scope} → parentheses how ≤ suc k → Opened p how inside → opens_group how ≡ true → inside.text ≡ t ++ 41 ∷ after
+    → d.Branches k inside.scope t (41 ∷ after) bs s → (w : Text) × (p.text ≡ w ++ after) × d.Atom (suc k) p.scope w after (wrap how bs) (back_to p.scope s)
+spell_group {k} {p} {t = t} {after = after} fits (as_test c u w l e) n i b = (
+  codes "(?(" ++ (c ++ (t ++ codes ")")),
+  e ∙ (ap (λ x. codes "(?(" ++ (c ++ x)) (i ∙ sym (append_assoc t (41 ∷ []) after)) ∙ ap (λ x. codes "(?(" ++ x) (sym (append_assoc c (t ++ 41 ∷ []) after))),
+  spell_test k p.scope c w (subst (λ x. group_condition (c ++ x) ≡ Some (w, x)) i l) fits b,
+)
+spell_group {t = t} {after = after} fits (as_plain u e) n i b = (codes "(?:" ++ (t ++ codes ")"), e ∙ ap (λ l. codes "(?:" ++ l) (i ∙ sym (append_assoc t (41 ∷ []) after)), d.plain b)
+spell_group {t = t} {after = after} fits (as_flagged v u f e l) n i b = (
   codes "(?" ++ (v ++ (codes ":" ++ (t ++ codes ")"))),
   e ∙ (ap (λ x. codes "(?" ++ (v ++ 58 ∷ x)) (i ∙ sym (append_assoc t (41 ∷ []) after)) ∙ ap (λ x. codes "(?" ++ x) (sym (append_assoc v (58 ∷ (t ++ 41 ∷ [])) after))),
   d.flagged l b,
 )
-spell_group (as_setting v u f e l) n i b = absurd (false_is_true n)
-spell_group (as_reference v u l e) n i b = absurd (false_is_true n)
-spell_group {t = t} {after = after} (as_marked m u how l e) n i b =
+spell_group fits (as_setting v u f e l) n i b = absurd (false_is_true n)
+spell_group fits (as_condition u l f e) n i b = absurd (false_is_true n)
+spell_group fits (as_reference v u l e) n i b = absurd (false_is_true n)
+spell_group {t = t} {after = after} fits (as_marked m u how l e) n i b =
     (codes "(" ++ (m ++ (t ++ codes ")")), e ∙ (ap (λ x. 40 ∷ (m ++ x)) (i ∙ sym (append_assoc t (41 ∷ []) after)) ∙ ap (λ x. 40 ∷ x) (sym (append_assoc m (t ++ 41 ∷ []) after))), d.marked l b)
-spell_group {t = t} {after = after} (as_name m v u l f e) n i b = (
+spell_group {t = t} {after = after} fits (as_name m v u l f e) n i b = (
   codes "(?" ++ (m ++ (v ++ (codes ">" ++ (t ++ codes ")")))),
   e
       ∙ (ap (λ x. codes "(?" ++ (m ++ (v ++ 62 ∷ x))) (i ∙ sym (append_assoc t (41 ∷ []) after))
       ∙ (ap (λ x. codes "(?" ++ (m ++ x)) (sym (append_assoc v (62 ∷ (t ++ 41 ∷ [])) after)) ∙ ap (λ x. codes "(?" ++ x) (sym (append_assoc m (v ++ 62 ∷ (t ++ 41 ∷ [])) after)))),
   d.named v l f b,
 )
-spell_group {t = t} {after = after} (as_capture u c e f) n i b = (codes "(" ++ (t ++ codes ")"), e ∙ ap (λ l. 40 ∷ l) (i ∙ sym (append_assoc t (41 ∷ []) after)), d.capture c (rw i at f) b)
-spell_group {t = t} {after = after} (as_unnamed u c e f) n i b = (codes "(" ++ (t ++ codes ")"), e ∙ ap (λ l. 40 ∷ l) (i ∙ sym (append_assoc t (41 ∷ []) after)), d.unnamed c (rw i at f) b)
+spell_group {t = t} {after = after} fits (as_capture u c e f) n i b = (codes "(" ++ (t ++ codes ")"), e ∙ ap (λ l. 40 ∷ l) (i ∙ sym (append_assoc t (41 ∷ []) after)), d.capture c (rw i at f) b)
+spell_group {t = t} {after = after} fits (as_unnamed u c e f) n i b = (codes "(" ++ (t ++ codes ")"), e ∙ ap (λ l. 40 ∷ l) (i ∙ sym (append_assoc t (41 ∷ []) after)), d.unnamed c (rw i at f) b)
+
+-- what is spelled inside a group, and the parenthesis behind it, spell an atom with what opens it
+abbrev Wraps : ℕ → Place → g.Opening → Place → Type 0
+Wraps j p how inside = (k : ℕ) → j ≡ suc k → (t after : Text) (bs : List Pattern) (s : Scope) → inside.text ≡ t ++ 41 ∷ after → d.Branches k inside.scope t (41 ∷ after) bs s
+    → (w : Text) × (p.text ≡ w ++ after) × d.Atom j p.scope w after (wrap how bs) (back_to p.scope s)
+
+-- a condition that is a pattern, with the branches behind it
+spell_condition : {p inside : Place} {c t after : Text} {cs bs : List Pattern} {r s : Scope} (i : ℕ) → IsCondition p inside → inside.text ≡ c ++ 41 ∷ (t ++ 41 ∷ after) → d.Branches i inside.scope c (41 ∷ (t ++ 41 ∷ after)) cs r
+    → d.Branches (suc i) (back_to p.scope r) t (41 ∷ after) bs s → (w : Text) × (p.text ≡ w ++ after) × d.Atom (suc (suc i)) p.scope w after (d.chosen (in_branches cs) bs) (back_to p.scope s)
+spell_condition {p} {inside} {c} {t} {after} {cs} {bs} {r} {s} i x is a b = (
+  codes "(?(" ++ (c ++ (codes ")" ++ (t ++ codes ")"))),
+  x.is ∙ ap (λ v. codes "(?(" ++ v) (is ∙ (ap (λ v. c ++ 41 ∷ v) (sym (append_assoc t (41 ∷ []) after)) ∙ sym (append_assoc c (41 ∷ (t ++ 41 ∷ [])) after))),
+  d.decided c (ap group_condition (sym is) ∙ x.untested) (ap is_left_out (sym is) ∙ x.kept) (subst (λ z. d.Branches i z c (41 ∷ (t ++ 41 ∷ after)) cs r) x.there a) b,
+)
 
 mutual
   pub spell_branches : {k : ℕ} {p r : Place} {bs : List Pattern} → g.Branches k p bs r → (t : Text) × (p.text ≡ t ++ r.text) × d.Branches k p.scope t r.text bs r.scope
@@ -608,11 +715,14 @@ mutual
       )
 
   pub spell_item : {k : ℕ} {p r : Place} {x : Option Pattern} → g.Item k p x r → past_blank p.scope.flags.ignore_blanks p.text ≡ None → (t : Text) × (p.text ≡ t ++ r.text) × d.Item k p.scope t r.text x r.scope
-  spell_item {p = p} (g.sets {q = q} e o) clean = spell_setting (opened p g.setting q e o) refl
+  spell_item {p = p} {r = r} (g.sets e o) clean =
+      let w = at_most_opened e o refl in
+      subst (λ m. (t : Text) × (p.text ≡ t ++ r.text) × d.Item m p.scope t r.text None r.scope) (sym w.1) (spell_setting {k = w.0} w.2 refl)
   spell_item {p = p} (g.refers_by_name {k = k} {n = n} {q = q} {r = r} {folded = folded} {x = x} e o f) clean =
-      let w = spell_reference {k = k} (opened p (g.reference folded n) q e o) refl in
+      let v = at_most_opened e o refl in
+      let w = spell_reference {k = v.0} v.2 refl in
       let y = spell_quantity w.2 (quantity (backreference folded n) q x r f) in
-      (y.0, w.1 ∙ y.1, y.2)
+      subst (λ m. (t : Text) × (p.text ≡ t ++ r.text) × d.Item m p.scope t r.text (Some x) r.scope) (sym v.1) (y.0, w.1 ∙ y.1, y.2)
   spell_item {k} {p} (g.single {q = q} {r = r} {a = a} {x = x} e f h) clean =
       let w = atom_is p a q f clean in
       let y = spell_quantity (w.2 k) (quantity a q x r h) in
@@ -620,9 +730,20 @@ mutual
   spell_item {p = p} (g.grouped {k = k} {inside = inside} {q = q} {r = r} {how = how} {bs = bs} {x = x} e o n b c f) clean =
       let y = spell_branches b in
       let is : q.text ≡ 41 ∷ drop 1 q.text = at_char 41 q.text c in
-      let w = spell_group (opened p how inside e o) n (y.1 ∙ ap (λ l. y.0 ++ l) is) (subst (λ l. d.Branches k inside.scope y.0 l bs q.scope) is y.2) in
+      let w = spell_opening e o n k refl y.0 (drop 1 q.text) bs q.scope (y.1 ∙ ap (λ l. y.0 ++ l) is) (subst (λ l. d.Branches k inside.scope y.0 l bs q.scope) is y.2) in
       let z = spell_quantity w.2 (quantity _ _ x r f) in
       (z.0, w.1 ∙ z.1, z.2)
+
+  spell_opening : {j : ℕ} {p inside : Place} {how : g.Opening} → is_at "(" p.text ≡ true → g.Opens j p how inside → opens_group how ≡ true → Wraps j p how inside
+  spell_opening {p = p} {inside = inside} {how = how} e (g.at_once {k = i} o a f) n k deep t after bs s is b =
+      let same : k ≡ i = omega (arith, deep) in
+      spell_group {k = i} f (opened p how inside e o) n is (subst (λ m. d.Branches m inside.scope t (41 ∷ after) bs s) same b)
+  spell_opening {p = p} e (g.behind_condition {k = i} {inside = inside} {q = q} {cs = cs} o x y) n k deep t after bs s is b =
+      let same : k ≡ suc i = omega (arith, deep) in
+      let z = spell_branches x in
+      let closes : q.text ≡ 41 ∷ (t ++ 41 ∷ after) = at_char 41 q.text y ∙ ap (λ l. 41 ∷ l) is in
+      spell_condition i (condition_of (opened p g.condition inside e o) refl) (z.1 ∙ ap (λ l. z.0 ++ l) closes) (subst (λ l. d.Branches i inside.scope z.0 l cs q.scope) closes z.2)
+      (subst (λ m. d.Branches m (back_to p.scope q.scope) t (41 ∷ after) bs s) same b)
 
 pub spelling_read : {s : Scope} {text : Text} {p : Pattern} {end : Scope} → d.Spells s text p end → g.Reads s text p (start end [])
 spelling_read {s} {text} {p} {end} x = record {

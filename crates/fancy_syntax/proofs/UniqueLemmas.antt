@@ -1,12 +1,13 @@
 -- A text has at most one pattern.
-use Rattle.std.proofs.Common.{◌≡◌, ℕ, List, [], ◌∷◌, Option, Some, sym, ap, ap₂, ◌∙◌, subst, inl, inr, add-one}
+use Rattle.std.proofs.Common.{◌≡◌, ℕ, List, [], ◌∷◌, Option, Some, refl, sym, ap, ap₂, ◌∙◌, subst, inl, inr, add-one}
 use Rattle.fancy_syntax.specs.Pattern.{Pattern, in_sequence, in_branches}
 use Rattle.fancy_syntax.specs.Words.{Text, is_at}
-use Rattle.fancy_syntax.specs.Grammar.{Place, past, quantified, wrap, closed, Branches, last, more, Parts, none, next, Item, sets, refers_by_name, single, grouped}
+use Rattle.fancy_syntax.specs.Grammar.{Place, past, quantified, Opening, Opens, at_once, behind_condition, wrap, closed, Branches, last, more, Parts, none, next, Item, sets, refers_by_name, single, grouped}
 use Rattle.fancy_syntax.specs.Dialect.{Scope, Spells, with_part}
+use Rattle.fancy_syntax.specs.Views.{IsTheReading}
 use Rattle.fancy_syntax.proofs.SpellingLemmas.{spelling_read}
 use Rattle.fancy_syntax.proofs.LexemeLemmas.{the_atom}
-use Rattle.fancy_syntax.proofs.ReadingLemmas.{true_is_false, some_pair, branches_first, parts_end, parts_next, single_is, setting_is, reference_is, body_reads}
+use Rattle.fancy_syntax.proofs.ReadingLemmas.{true_is_false, some_pair, branches_first, parts_end, parts_next, single_is, opens_is, condition_is, setting_is, reference_is, body_reads}
 
 mutual
   pub one_branches : {k : ℕ} {p q r : Place} {bs cs : List Pattern} → Branches k p bs q → Branches k p cs r → (cs ≡ bs) × (r ≡ q)
@@ -35,14 +36,18 @@ mutual
       (n.3 ∙ ap₂ with_part o.0 w.0, w.1)
 
   pub one_item : {k : ℕ} {p q r : Place} {x y : Option Pattern} → Item k p x q → Item k p y r → (y ≡ x) × (r ≡ q)
-  one_item (sets {k = k} e o) y = (setting_is k e o (sym (add-one k))).1 _ _ y
-  one_item (refers_by_name {k = k} e o f) y = (reference_is e o k (sym (add-one k)) f).1 _ _ y
+  one_item (sets e o) y = (setting_is e (one_opening o)).1 _ _ y
+  one_item (refers_by_name e o f) y = (reference_is e (one_opening o) f).1 _ _ y
   one_item (single e f h) y = (single_is e (the_atom f) h).1 _ _ y
   one_item {r = r} (grouped {k = k} {p = p} {inside = inside} {how = how} e o n b c f) y =
-      let m = body_reads e o n (sym (add-one k)) y in
+      let m = body_reads e (one_opening o) n (sym (add-one k)) y in
       let w = one_branches b m.3 in
-      let z = some_pair (sym m.5 ∙ (ap₂ (λ (bs : List Pattern) (s : Place). quantified (wrap how (in_branches bs)) (closed p s)) w.0 w.1 ∙ f)) in
+      let z = some_pair (sym m.5 ∙ (ap₂ (λ (bs : List Pattern) (s : Place). quantified (wrap how bs) (closed p s)) w.0 w.1 ∙ f)) in
       (m.6 ∙ ap Some z.0, z.1)
+
+  pub one_opening : {k : ℕ} {p q : Place} {how : Opening} → Opens k p how q → IsTheReading (Opens k) p how q
+  one_opening (at_once {k = k} h n f) = opens_is k h n f
+  one_opening (behind_condition h b c) = condition_is h refl (b, λ cs r y. one_branches b y) c refl
 
 pub one_pattern : (s : Scope) (text : Text) (p q : Pattern) (e f : Scope) → Spells s text p e → Spells s text q f → p ≡ q
 one_pattern s text p q e f x y =

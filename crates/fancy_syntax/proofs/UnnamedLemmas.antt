@@ -2,10 +2,10 @@
 use Rattle.std.proofs.Common.{◌≡◌, ℕ, ◌+◌, Bool, true, false, not, ◌&&◌, List, [], ◌∷◌, ◌++◌, length, Option, Some, None, codes, refl, sym, ap, ◌∙◌, subst}
 use Rattle.fancy_syntax.specs.declared.groups.Grouping.{Grouping}
 use Rattle.fancy_syntax.specs.declared.groups.Grouping.TheVariants.{Atomic, LookAhead, LookBehind}
-use Rattle.fancy_syntax.specs.Pattern.{Pattern, backreference, group, repeat, in_sequence, in_branches}
+use Rattle.fancy_syntax.specs.Pattern.{Pattern, backreference, group_test, group, repeat, in_sequence, in_branches}
 use Rattle.fancy_syntax.specs.Sizes.{is_empty}
 use Rattle.fancy_syntax.specs.Words.{Text}
-use Rattle.fancy_syntax.specs.Dialect.{Scope, Options, begin, has_name, lexeme, ReadsAtom, by_lexeme, by_class, with_part, Branches, one, either, Parts, nothing, item, Item, set, bare, quantified, Atom, single, plain, flagged, capture, unnamed, named, marked, reference, reference_by_name, inside, grouped, Spells, SpellsUnder}
+use Rattle.fancy_syntax.specs.Dialect.{Scope, Options, begin, has_name, lexeme, ReadsAtom, by_lexeme, by_class, with_part, Branches, one, either, Parts, nothing, item, Item, set, bare, quantified, Atom, single, plain, flagged, capture, unnamed, named, marked, reference, reference_by_name, tested, decided, chosen, inside, grouped, Spells, SpellsUnder}
 use Rattle.fancy_syntax.specs.References.{Target, called}
 use Rattle.fancy_syntax.proofs.ReadingLemmas.{true_is_false}
 use Rattle.fancy_syntax.proofs.UniqueLemmas.{one_pattern, one_end}
@@ -97,6 +97,10 @@ fuller_marked Atomic p q = never_empty refl
 fuller_marked (LookAhead negated) p q = never_empty refl
 fuller_marked (LookBehind negated) p q = never_empty refl
 
+fuller_chosen : (c d : Pattern) (ps qs : List Pattern) → IsFuller (chosen c ps) (chosen d qs)
+fuller_chosen c d ps [] = never_empty refl
+fuller_chosen c d ps (q ∷ qs) = never_empty refl
+
 -- What is spelled from s to r is spelled so where groups without a name capture: something fuller, with names where there were some.
 record Captures {T : Type 0} (Fuller : T → T → Type 0) (Spelled : Scope → T → Scope → Type 0) (before : Before) (s : Scope) (x : T) (r : Scope) : Type 0 where
   behind : Before
@@ -178,6 +182,19 @@ mutual
   capture_atom (reference {s = s} {t = t} {after = after} h) f =
       let w = reference_any s.opened f.opened (t ++ after) h in
       record { behind = record f { wanted = f.wanted ++ (w.0 ∷ []) }; found = backreference s.flags.ignore_case (length f.wanted); fuller = never_empty refl; spelled = reference w.1; named = λ e. e }
+  capture_atom (tested {s = s} {w = w} {bs = bs} c h b) f =
+      let x = capture_branches b (record f { wanted = f.wanted ++ (w ∷ []) }) in
+      record { behind = x.behind; found = chosen (group_test (length f.wanted)) x.found; fuller = fuller_chosen (group_test (length s.wanted)) (group_test (length f.wanted)) bs x.found; spelled = tested c h x.spelled; named = x.named }
+  capture_atom (decided {cs = cs} {bs = bs} c h g a b) f =
+      let x = capture_branches a f in
+      let y = capture_branches b x.behind in
+      record {
+        behind = y.behind;
+        found = chosen (in_branches x.found) y.found;
+        fuller = fuller_chosen (in_branches cs) (in_branches x.found) bs y.found;
+        spelled = decided c h g x.spelled y.spelled;
+        named = λ e. y.named (x.named e);
+      }
   capture_atom (reference_by_name {s = s} n h) f =
       record { behind = record f { wanted = f.wanted ++ (called n ∷ []) }; found = backreference s.flags.ignore_case (length f.wanted); fuller = never_empty refl; spelled = reference_by_name n h; named = λ e. e }
 

@@ -14,8 +14,8 @@ use Rattle.fancy_syntax.specs.declared.groups.Grouping.TheVariants.{Atomic, Look
 use Rattle.fancy_syntax.specs.declared.class.token.Token.{Token}
 use Rattle.fancy_syntax.specs.declared.class.token.Token.TheVariants.{Named as NamedSet}
 use Rattle.fancy_syntax.specs.declared.named.Named.{Named}
-use Rattle.fancy_syntax.specs.Pattern.{Pattern, character, member_of, in_any_case, raw_byte, backreference, assertion, group, repeat, look_ahead, look_behind, atomic, in_sequence, in_branches}
-use Rattle.fancy_syntax.specs.Sizes.{nodes, are_sized, is_empty}
+use Rattle.fancy_syntax.specs.Pattern.{Pattern, empty, character, member_of, in_any_case, raw_byte, backreference, assertion, group_test, keep_start, continue_here, group, repeat, look_ahead, look_behind, atomic, conditional, in_sequence, in_branches}
+use Rattle.fancy_syntax.specs.Sizes.{size, nodes, are_sized, is_empty}
 use Rattle.fancy_syntax.specs.Words.{Text, ◌∈◌, is_among, is_at, by_word, is_at_digit, is_blank, past_blank, decimal, are_digits, begins_count}
 use Rattle.fancy_syntax.specs.Sets.{has, AreEdges, in_range}
 use Rattle.fancy_syntax.specs.Members.{Members}
@@ -25,7 +25,7 @@ use Rattle.fancy_syntax.specs.Escapes.{is_mark, control_of, set_letter, number, 
 use Rattle.fancy_syntax.specs.ClassGrammar.{ReadsEdges, is_ascii_meaning, may_turn, token_members, property}
 use Rattle.fancy_syntax.specs.Names.{is_name}
 use Rattle.fancy_syntax.specs.References as references
-use Rattle.fancy_syntax.specs.References.{Target, called, Fault, Groups, group_for, number_in, refers_to}
+use Rattle.fancy_syntax.specs.References.{Target, called, Fault, Groups, group_condition, is_left_out, group_for, number_in, refers_to}
 
 -- the flags `i m s x R`
 pub record Flags : Type 0 where
@@ -96,6 +96,15 @@ wants w s = record s { wanted = s.wanted ++ (w ∷ []) }
 abbrev pub reference_here : Scope → Pattern
 reference_here s = backreference s.flags.ignore_case (length s.wanted)
 
+-- A test of a group, as it is written: in the place of the group's number stands how many references were written before it.
+abbrev pub test_here : Scope → Pattern
+test_here s = group_test (length s.wanted)
+
+-- The conditional of this condition: its first branch where the condition holds, and the others, joined by `|`, where it does not.
+abbrev pub chosen : Pattern → List Pattern → Pattern
+chosen c [] = conditional c empty empty
+chosen c (b ∷ bs) = conditional c b (in_branches bs)
+
 -- in force in such a group
 abbrev pub inside : Grouping → Scope → Scope
 inside Atomic s = s
@@ -145,6 +154,13 @@ boundary_words = (codes "{start}", WordStart) ∷ (codes "{end}", WordEnd) ∷ (
 -- what `\b` tests, by the word behind it, and what follows
 abbrev pub boundary : Text → Assertion × Text
 boundary t = unwrap_or (by_word boundary_words t) (WordBoundary, t)
+
+-- what `\G` and `\K` stand for; inside of look-around `\K` stands for nothing
+abbrev pub start_mark : Bool → ℕ → Option Pattern
+start_mark in_look_around d =
+    if code "G" == d then Some continue_here
+    else if (code "K" == d) && not in_look_around then Some keep_start
+    else None
 
 -- a literal character: one item, but in byte meaning the sequence of its bytes
 abbrev pub literal_of : Meaning → ℕ → Pattern
@@ -204,7 +220,8 @@ abbrev pub lettered : Scope → ℕ → Option Lexeme
 lettered s d =
     option_or (option_map (spelled_character s) (control_of d))
     (option_or (option_map (λ a. leaf (assertion a)) (place_test s.flags d))
-    (option_and_then (lettered_set s) (set_letter d)))
+    (option_or (option_map leaf (start_mark s.in_look_around d))
+    (option_and_then (lettered_set s) (set_letter d))))
 
 abbrev pub followed_by : Text → Option Lexeme → Option (Lexeme × Text)
 followed_by t o = option_map (λ x. (x, t)) o
@@ -334,7 +351,7 @@ mutual
     quantified : {k low : ℕ} {high : Option ℕ} {taste : Taste} {s q : Scope} {t u v after : Text} {a : Pattern} → Atom k s t (u ++ (v ++ after)) a q → is_empty a ≡ false
         → Blanks q.flags.ignore_blanks u (v ++ after) → Quantifies v after low high taste → Item k s (t ++ (u ++ v)) after (Some (repeat low high taste a)) q
 
-  -- a character, an escape, a class, a group or a reference to one
+  -- a character, an escape, a class, a group, a conditional or a reference to a group
   pub data Atom : ℕ → Scope → Text → Text → Pattern → Scope → Type 0 where
     single : {k : ℕ} {s : Scope} {t after : Text} {a : Pattern} → past_blank s.flags.ignore_blanks (t ++ after) ≡ None → ReadsAtom s (t ++ after) a after → Atom k s t after a s
     plain : {k : ℕ} {s q : Scope} {t after : Text} {bs : List Pattern} → Branches k s t (codes ")" ++ after) bs q
@@ -353,6 +370,13 @@ mutual
     -- atomic groups and look-around
     marked : {k : ℕ} {s q : Scope} {m t after : Text} {how : Grouping} {bs : List Pattern} → GroupMark m how → Branches k (inside how s) t (codes ")" ++ after) bs q
         → Atom (suc k) s (codes "(" ++ (m ++ (t ++ codes ")"))) after (grouped how (in_branches bs)) (back_to s q)
+    -- a conditional that tests a group; two parentheses are open in its condition, and one in its body
+    tested : {k : ℕ} {s q : Scope} {t after : Text} {w : Target} {bs : List Pattern} (c : Text) → group_condition (c ++ (t ++ (codes ")" ++ after))) ≡ Some (w, t ++ (codes ")" ++ after))
+        → Branches (suc k) (wants w s) t (codes ")" ++ after) bs q → Atom (suc (suc k)) s (codes "(?(" ++ (c ++ (t ++ codes ")"))) after (chosen (test_here s) bs) (back_to s q)
+    -- a conditional whose condition is a pattern; flags that are set in the condition end with it
+    decided : {k : ℕ} {s r q : Scope} {t after : Text} {cs bs : List Pattern} (c : Text) → group_condition (c ++ (codes ")" ++ (t ++ (codes ")" ++ after)))) ≡ None
+        → is_left_out (c ++ (codes ")" ++ (t ++ (codes ")" ++ after)))) ≡ false → Branches k s c (codes ")" ++ (t ++ (codes ")" ++ after))) cs r → Branches (suc k) (back_to s r) t (codes ")" ++ after) bs q
+        → Atom (suc (suc k)) s (codes "(?(" ++ (c ++ (codes ")" ++ (t ++ codes ")")))) after (chosen (in_branches cs) bs) (back_to s q)
     -- references may name groups that are opened only behind them
     reference : {k : ℕ} {s : Scope} {t after : Text} {w : Target} → references.reference s.opened (t ++ after) ≡ Some (w, after) → Atom k s t after (reference_here s) (wants w s)
     reference_by_name : {k : ℕ} {s : Scope} {after : Text} (n : Text) → is_name n ≡ true → Atom (suc k) s (codes "(?P=" ++ (n ++ codes ")")) after (reference_here s) (wants (called n) s)
@@ -369,13 +393,15 @@ pub record Options : Type 0 where
   pub keeps_characters : Bool
   -- where a group has a name, those without capture nothing
   pub only_named : Bool
+  -- empty matches are refused
+  pub not_empty : Bool
   pub flags : Flags
 
 abbrev pub no_flags : Flags
 no_flags = record { ignore_case = false; multi_line = false; dot_all = false; ignore_blanks = false; crlf = false }
 
 abbrev pub standard : Options
-standard = record { meaning = Unicode; keeps_characters = true; only_named = false; flags = no_flags }
+standard = record { meaning = Unicode; keeps_characters = true; only_named = false; not_empty = false; flags = no_flags }
 
 -- what is in force where a pattern begins, by whether its groups without a name capture
 abbrev pub begin : Bool → Options → Scope
@@ -404,7 +430,7 @@ fault_of o end w = references.fault_of (groups_at o end) w
 abbrev pub numbers : Options → Scope → ℕ → ℕ
 numbers o end = number_in (map (group_for (groups_at o end)) end.wanted)
 
--- The text is a pattern of the dialect: it spells this one, whose references each name a group, whose look-behind has sizes, and which is not too complex.
+-- The text is a pattern of the dialect: it spells this one, whose references each name a group, whose look-behind has sizes, which can match where empty matches are refused, and which is not too complex.
 pub record IsPattern (o : Options) (text : Text) (p : Pattern) : Type 0 where
   pub written : Pattern
   pub end : Scope
@@ -412,4 +438,5 @@ pub record IsPattern (o : Options) (text : Text) (p : Pattern) : Type 0 where
   pub is : p ≡ refers_to (numbers o end) written
   pub resolved : All (λ w. fault_of o end w ≡ None) end.wanted
   pub sized : are_sized o.meaning p ≡ true
+  pub fills : o.not_empty ≡ true → (size o.meaning p ≡ Some 0) → ⊥
   pub small : nodes p ≤ most_nodes

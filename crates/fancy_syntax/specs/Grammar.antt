@@ -1,5 +1,5 @@
 -- The dialect as it is read: a text is read from one place to another, and nothing here says in which order. Lemmas show that this reading and `Dialect` give the same patterns.
-use Rattle.std.specs.Prelude.{◌≡◌, ℕ, zero, suc, ◌+◌, Bool, true, false, not, ◌||◌, ◌&&◌, nat_le, List, [], ◌∷◌, drop, length, Option, Some, None, option_map, ◌==◌, if◌then◌else◌}
+use Rattle.std.specs.Prelude.{◌≡◌, ℕ, zero, suc, ◌+◌, ◌≤◌, Bool, true, false, not, ◌||◌, ◌&&◌, nat_le, List, [], ◌∷◌, drop, length, Option, Some, None, option_map, ◌==◌, if◌then◌else◌}
 use Prim.Native.Char.{code}
 use Rattle.std.specs.Option.{option_and_then}
 use Rattle.fancy_syntax.specs.Limits.{most_parentheses, most_turns}
@@ -14,7 +14,7 @@ use Rattle.fancy_syntax.specs.Words.{Text, ◌∈◌, is_at, begins, is_at_digit
 use Rattle.fancy_syntax.specs.Names.{name_here, past_name}
 use Rattle.fancy_syntax.specs.References as references
 use Rattle.fancy_syntax.specs.References.{Target}
-use Rattle.fancy_syntax.specs.Dialect.{Flags, Scope, in_force, with_flag, one_more_group, one_more_name, wants, reference_here, inside, grouped as group_of, back_to, ReadsAtom, begins_quantifier, with_part}
+use Rattle.fancy_syntax.specs.Dialect.{Flags, Scope, in_force, with_flag, one_more_group, one_more_name, wants, reference_here, test_here, chosen, inside, grouped as group_of, back_to, ReadsAtom, begins_quantifier, with_part}
 
 -- a place in a pattern: what follows, and what is in force there
 pub record Place : Type 0 where
@@ -55,6 +55,10 @@ pub data Opening : Type 0 where
   marked : Grouping → Opening
   -- no group, but a whole reference: whether it is folded, and how many stand before it
   reference : Bool → ℕ → Opening
+  -- the body of a conditional with this condition
+  chooses : Pattern → Opening
+  -- a pattern that is the condition of a conditional
+  condition : Opening
 
 -- a pattern follows, and the parenthesis that closes the group
 abbrev pub opens_group : Opening → Bool
@@ -63,14 +67,38 @@ opens_group plain = true
 opens_group (capture n) = true
 opens_group (marked how) = true
 opens_group (reference folded n) = false
+opens_group (chooses c) = true
+opens_group condition = false
 
--- what a group makes of the pattern inside it
-abbrev pub wrap : Opening → Pattern → Pattern
-wrap setting p = p
-wrap plain p = p
-wrap (capture n) p = group n p
-wrap (marked how) p = group_of how p
-wrap (reference folded n) p = p
+-- a condition follows
+abbrev pub asks : Opening → Bool
+asks setting = false
+asks plain = false
+asks (capture n) = false
+asks (marked how) = false
+asks (reference folded n) = false
+asks (chooses c) = false
+asks condition = true
+
+-- how many parentheses are open behind it
+abbrev pub parentheses : Opening → ℕ
+parentheses setting = 1
+parentheses plain = 1
+parentheses (capture n) = 1
+parentheses (marked how) = 1
+parentheses (reference folded n) = 1
+parentheses (chooses c) = 2
+parentheses condition = 2
+
+-- what a group makes of the branches inside it
+abbrev pub wrap : Opening → List Pattern → Pattern
+wrap setting bs = in_branches bs
+wrap plain bs = in_branches bs
+wrap (capture n) bs = group n (in_branches bs)
+wrap (marked how) bs = group_of how (in_branches bs)
+wrap (reference folded n) bs = in_branches bs
+wrap (chooses c) bs = chosen c bs
+wrap condition bs = in_branches bs
 
 -- letters of flags, as far as they were read: the flags by now, whether the next ones are set, and whether one was read since the start or the dash
 pub record LettersRead : Type 0 where
@@ -122,6 +150,15 @@ named_reference p t =
     if (length (name_here t) == 0) || not (is_at ")" (past_name t)) then None
     else Some (reference p.scope.flags.ignore_case (length p.scope.wanted), record { text = drop 1 (past_name t); scope = wants (references.called (name_here t)) p.scope })
 
+-- the conditional that tests the group which was found at the start of this text, or else a pattern for a condition
+abbrev pub by_test : Place → Text → Option (Target × Text) → Option (Opening × Place)
+by_test p u None = if references.is_left_out u then None else Some (condition, record { text = u; scope = p.scope })
+by_test p u (Some (w, t)) = Some (chooses (test_here p.scope), record { text = t; scope = wants w p.scope })
+
+-- the conditional whose condition stands first in this text
+abbrev pub conditional_at : Place → Text → Option (Opening × Place)
+conditional_at p t = by_test p t (references.group_condition t)
+
 -- the mark of an atomic group or of look-around, with its parenthesis, and its length
 abbrev pub mark_here : Text → Option (Grouping × ℕ)
 mark_here t =
@@ -138,6 +175,7 @@ unmarked p =
     if begins "(?<" p.text then named p (drop 3 p.text)
     else if begins "(?P<" p.text then named p (drop 4 p.text)
     else if begins "(?P=" p.text then named_reference p (drop 4 p.text)
+    else if begins "(?(" p.text then conditional_at p (drop 3 p.text)
     else if begins "(?" p.text then flagged p
     else if begins "(*" p.text then None
     else Some (unnamed p)
@@ -229,12 +267,17 @@ mutual
 
   -- what can be quantified, with its quantifier
   pub data Item : ℕ → Place → Option Pattern → Place → Type 0 where
-    sets : {k : ℕ} {p q : Place} → is_at "(" p.text ≡ true → opening p ≡ Some (setting, q) → Item (suc k) p None q
-    refers_by_name : {k n : ℕ} {p q r : Place} {folded : Bool} {x : Pattern} → is_at "(" p.text ≡ true → opening p ≡ Some (reference folded n, q) → quantified (backreference folded n) q ≡ Some (x, r)
-        → Item (suc k) p (Some x) r
+    sets : {k : ℕ} {p q : Place} → is_at "(" p.text ≡ true → Opens k p setting q → Item k p None q
+    refers_by_name : {k n : ℕ} {p q r : Place} {folded : Bool} {x : Pattern} → is_at "(" p.text ≡ true → Opens k p (reference folded n) q → quantified (backreference folded n) q ≡ Some (x, r)
+        → Item k p (Some x) r
     single : {k : ℕ} {p q r : Place} {a x : Pattern} → is_at "(" p.text ≡ false → IsAtom p a q → quantified a q ≡ Some (x, r) → Item k p (Some x) r
-    grouped : {k : ℕ} {p inside q r : Place} {how : Opening} {bs : List Pattern} {x : Pattern} → is_at "(" p.text ≡ true → opening p ≡ Some (how, inside) → opens_group how ≡ true
-        → Branches k inside bs q → is_at ")" q.text ≡ true → quantified (wrap how (in_branches bs)) (closed p q) ≡ Some (x, r) → Item (suc k) p (Some x) r
+    grouped : {k : ℕ} {p inside q r : Place} {how : Opening} {bs : List Pattern} {x : Pattern} → is_at "(" p.text ≡ true → Opens (suc k) p how inside → opens_group how ≡ true
+        → Branches k inside bs q → is_at ")" q.text ≡ true → quantified (wrap how bs) (closed p q) ≡ Some (x, r) → Item (suc k) p (Some x) r
+
+  -- what a parenthesis opens, behind its condition if it has one, where so many may still be open
+  pub data Opens : ℕ → Place → Opening → Place → Type 0 where
+    at_once : {k : ℕ} {p inside : Place} {how : Opening} → opening p ≡ Some (how, inside) → asks how ≡ false → parentheses how ≤ suc k → Opens (suc k) p how inside
+    behind_condition : {k : ℕ} {p inside q : Place} {cs : List Pattern} → opening p ≡ Some (condition, inside) → Branches k inside cs q → is_at ")" q.text ≡ true → Opens (suc (suc k)) p (chooses (in_branches cs)) (closed p q)
 
 -- the whole text has this pattern, with at most so many parentheses open at one place
 pub record Reads (s : Scope) (text : Text) (p : Pattern) (end : Place) : Type 0 where

@@ -1,4 +1,4 @@
--- References to groups: how they are written, what they name, and which group that is once the whole pattern is read.
+-- References to groups, to which tests of groups belong: how they are written, what they name, and which group that is once the whole pattern is read.
 use Rattle.std.specs.Prelude.{ℕ, ◌+◌, ◌-◌, ◌==◌, ◌||◌, ◌&&◌, Bool, not, nat_le, min, List, [], ◌∷◌, length, drop, slice_index_or, Option, Some, None, Result, Ok, Err, if◌then◌else◌}
 use Prim.Native.Char.{code}
 use Rattle.fancy_syntax.specs.Pattern.{Pattern, empty, character, member_of, in_any_case, raw_byte, backreference, assertion, group_test, keep_start, continue_here, group, repeat, look_ahead, look_behind, atomic, conditional, followed, or_else, last_branch}
@@ -10,7 +10,7 @@ use Rattle.fancy_syntax.specs.Names.{name_here, past_name, last_named}
 pub data Target : Type 0 where
   -- the group of this number
   numbered : ℕ → Target
-  -- a group so many back from a place before which fewer were opened: there is none
+  -- no group: one so many back from a place before which fewer were opened, or one of so large a number
   missing : ℕ → Target
   -- the last group of this name
   called : Text → Target
@@ -56,6 +56,31 @@ reference opened t =
     else if begins "\\k'" t then delimited opened (code "'") (drop 3 t)
     else if is_at "\\" t then number_reference (drop 1 t)
     else None
+
+-- the group of this number; none has one above 2^32 - 1
+abbrev pub within_largest : ℕ → Target
+within_largest n = if nat_le n largest_told then numbered n else missing largest_told
+
+-- a row of digits up to a parenthesis
+abbrev pub number_condition : Text → Option (Target × Text)
+number_condition t = if is_at_digit t && is_at ")" (past_digits t) then Some (within_largest (decimal t), drop 1 (past_digits t)) else None
+
+-- a name up to this delimiter and a parenthesis
+abbrev pub name_condition : ℕ → Text → Option (Target × Text)
+name_condition delimiter t =
+    if (length (name_here t) == 0) || not (is_at_any (delimiter ∷ []) (past_name t) && is_at ")" (drop 1 (past_name t))) then None
+    else Some (called (name_here t), drop 2 (past_name t))
+
+-- The group that a condition tests, and what follows the condition's parenthesis: none where the condition is no number and no name in `<>` or quotes as a whole.
+abbrev pub group_condition : Text → Option (Target × Text)
+group_condition t =
+    if is_at "<" t then name_condition (code ">") (drop 1 t)
+    else if is_at "'" t then name_condition (code "'") (drop 1 t)
+    else number_condition t
+
+-- a condition in a form that is left out of the dialect begins here: a definition, or look-around without parentheses of its own
+abbrev pub is_left_out : Text → Bool
+is_left_out t = begins "DEFINE)" t || is_at "?" t
 
 -- what may only be a reference begins here
 abbrev pub begins_reference : Text → Bool
@@ -110,7 +135,7 @@ group_for g w = group_in (resolve g w)
 abbrev pub number_in : List ℕ → ℕ → ℕ
 number_in numbers index = slice_index_or numbers index 0
 
--- the pattern with this number in the place of each reference's own
+-- the pattern with this number in the place of each reference's own, and of each test's of a group
 unfoldable pub refers_to : (ℕ → ℕ) → Pattern → Pattern
 refers_to f empty = empty
 refers_to f (character c) = character c
@@ -119,7 +144,7 @@ refers_to f (in_any_case edges) = in_any_case edges
 refers_to f (raw_byte byte) = raw_byte byte
 refers_to f (backreference folded number) = backreference folded (f number)
 refers_to f (assertion a) = assertion a
-refers_to f (group_test number) = group_test number
+refers_to f (group_test number) = group_test (f number)
 refers_to f keep_start = keep_start
 refers_to f continue_here = continue_here
 refers_to f (group index body) = group index (refers_to f body)

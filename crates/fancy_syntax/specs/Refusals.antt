@@ -1,12 +1,12 @@
 -- When a pattern may be refused, and by which error.
-use Rattle.std.specs.Prelude.{◌≡◌, ◌<◌, false, Any, Some, chars, string_bytes}
+use Rattle.std.specs.Prelude.{◌≡◌, ◌<◌, true, false, Any, Some, chars, string_bytes}
 use Rattle.fancy_syntax.specs.Limits.{most_nodes}
 use Rattle.fancy_syntax.specs.declared.error.CompileError.{CompileError as Compiling}
-use Rattle.fancy_syntax.specs.declared.error.CompileError.TheVariants.{InvalidBackref, InvalidGroupNameBackref, NamedBackrefOnly, LookBehindNotConst, PatternTooComplex}
+use Rattle.fancy_syntax.specs.declared.error.CompileError.TheVariants.{InvalidBackref, InvalidGroupNameBackref, NamedBackrefOnly, LookBehindNotConst, PatternCanNeverMatch, PatternTooComplex}
 use Rattle.fancy_syntax.specs.declared.error.Error.{Error}
 use Rattle.fancy_syntax.specs.declared.error.Error.TheVariants.{Memory, ParseError, CompileError, RuntimeError}
 use Rattle.fancy_syntax.specs.Pattern.{Pattern}
-use Rattle.fancy_syntax.specs.Sizes.{nodes, are_sized}
+use Rattle.fancy_syntax.specs.Sizes.{size, nodes, are_sized}
 use Rattle.fancy_syntax.specs.Words.{Text}
 use Rattle.fancy_syntax.specs.References.{Fault, by_name_alone, no_number, no_name, refers_to}
 use Rattle.fancy_syntax.specs.Dialect.{Scope, Options, SpellsUnder, fault_of, numbers}
@@ -21,8 +21,9 @@ IsNotAccepted (InvalidBackref n) o text = HasFault (no_number n) o text
 IsNotAccepted (InvalidGroupNameBackref name) o text = HasFault (no_name (chars (string_bytes name))) o text
 IsNotAccepted NamedBackrefOnly o text = HasFault by_name_alone o text
 IsNotAccepted LookBehindNotConst o text = (p : Pattern) × (end : Scope) × SpellsUnder o text p end × (are_sized o.meaning (refers_to (numbers o end) p) ≡ false)
+IsNotAccepted PatternCanNeverMatch o text =
+    (p : Pattern) × (end : Scope) × SpellsUnder o text p end × (o.not_empty ≡ true) × (size o.meaning (refers_to (numbers o end) p) ≡ Some 0)
 IsNotAccepted PatternTooComplex o text = (p : Pattern) × (end : Scope) × SpellsUnder o text p end × (most_nodes < nodes p)
-IsNotAccepted _ o text = ⊥
 
 -- The error says the truth of the text, except that memory may run out at any time: a parse error of any kind says that the text spells nothing.
 abbrev pub IsRefused : Error → Options → Text → Type 0

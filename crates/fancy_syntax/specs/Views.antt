@@ -1,12 +1,13 @@
 -- What the parser's functions promise each other.
-use Rattle.std.specs.Prelude.{◌≡◌, ℕ, ◌+◌, ◌-◌, ◌^◌, min, Bool, ◌&&◌, List, length, take, sum_by, Option, Some, None, option_map, Result, Ok, Err, map, Any, chars, string_bytes}
+use Rattle.std.specs.Prelude.{Vec, ◌≡◌, ℕ, ◌+◌, ◌-◌, ◌≤◌, ◌^◌, min, Bool, true, false, ◌&&◌, List, length, take, sum_by, Option, Some, None, option_map, Result, Ok, Err, map, Any, chars, string_bytes}
 use Rattle.std.specs.Borrow.{Bor}
+use Rattle.std.specs.Global.{Global}
 use Rattle.std.specs.Char.{len_utf8}
 use Rattle.fancy_syntax.specs.declared.parser.Parser.{Parser}
 use Rattle.fancy_syntax.specs.declared.error.Error.{Error}
 use Rattle.fancy_syntax.specs.declared.error.Error.TheVariants.{Memory, ParseError, CompileError, RuntimeError}
 use Rattle.fancy_syntax.specs.declared.groups.Opening.{Opening as Found}
-use Rattle.fancy_syntax.specs.declared.groups.Opening.TheVariants.{Setting, Plain, Capture, Marked, Reference}
+use Rattle.fancy_syntax.specs.declared.groups.Opening.TheVariants.{Setting, Plain, Capture, Marked, Reference, Chooses, Condition}
 use Rattle.fancy_syntax.specs.declared.reference.Target.{Target as Found_target}
 use Rattle.fancy_syntax.specs.declared.reference.Target.TheVariants.{Numbered, Missing, Called, CalledOrNumbered}
 use Rattle.fancy_syntax.specs.declared.resolve.Groups.{Groups as Found_groups}
@@ -16,16 +17,17 @@ use Rattle.fancy_syntax.specs.declared.flags.Flags.{Flags as Found_flags}
 use Rattle.fancy_syntax.specs.declared.parse.Syntax.{Syntax}
 use Rattle.fancy_syntax.specs.declared.parse.Draft.{Draft}
 use Rattle.fancy_syntax.specs.declared.error.CompileError.{CompileError as Compiling}
-use Rattle.fancy_syntax.specs.declared.error.CompileError.TheVariants.{InvalidBackref, InvalidGroupNameBackref, NamedBackrefOnly}
+use Rattle.fancy_syntax.specs.declared.error.CompileError.TheVariants.{InvalidBackref, InvalidGroupNameBackref, NamedBackrefOnly, LookBehindNotConst, PatternCanNeverMatch}
 use Rattle.fancy_syntax.specs.declared.class.refusal.Refusal.{Refusal}
 use Rattle.fancy_syntax.specs.declared.class.refusal.Refusal.TheVariants.{Memory as OutOfMemory, Invalid}
 use Rattle.fancy_syntax.specs.declared.tree.Tree.{Tree}
 use Rattle.fancy_syntax.specs.Pattern.{Pattern, pattern_of, in_sequence, in_branches}
+use Rattle.fancy_syntax.specs.Sizes.{size, are_sized}
 use Rattle.fancy_syntax.specs.Words.{Text}
 use Rattle.fancy_syntax.specs.Names.{named_groups}
-use Rattle.fancy_syntax.specs.References.{Target, numbered, missing, called, called_or_numbered, Fault, by_name_alone, no_number, no_name, Groups, fault_of, fault_in}
+use Rattle.fancy_syntax.specs.References.{Target, numbered, missing, called, called_or_numbered, Fault, by_name_alone, no_number, no_name, Groups}
 use Rattle.fancy_syntax.specs.Dialect.{Flags, Scope, Options, has_name, Lexeme, IsMeant}
-use Rattle.fancy_syntax.specs.Grammar.{Place, start, Opening, setting, plain, capture, marked, reference, LettersRead, Bounds, Branches, Parts}
+use Rattle.fancy_syntax.specs.Grammar.{Place, start, Opening, setting, plain, capture, marked, reference, chooses, condition, parentheses, opening, Opens, LettersRead, Bounds, Branches, Parts}
 
 abbrev pub flags_of : Found_flags → Flags
 flags_of f = record { ignore_case = f.ignore_case; multi_line = f.multi_line; dot_all = f.dot_all; ignore_blanks = f.ignore_blanks; crlf = f.crlf }
@@ -75,6 +77,8 @@ found Plain = plain
 found (Capture n) = capture n
 found (Marked how) = marked how
 found (Reference folded index) = reference folded index
+found (Chooses c) = chooses (pattern_of c.value)
+found Condition = condition
 
 abbrev pub bounds_of : Turns → Bounds
 bounds_of t = (t.low, t.high)
@@ -88,7 +92,7 @@ error_of p OutOfMemory = Memory
 error_of p (Invalid kind) = ParseError (bytes_before p.whole.now p.rest.now) kind
 
 abbrev pub options_of : Syntax → Options
-options_of s = record { meaning = s.meaning; keeps_characters = s.keeps_characters; only_named = s.only_named; flags = flags_of s.flags }
+options_of s = record { meaning = s.meaning; keeps_characters = s.keeps_characters; only_named = s.only_named; not_empty = s.not_empty; flags = flags_of s.flags }
 
 -- memory ran out, or the claim holds
 abbrev pub Refuses : Error → Type 0 → Type 0
@@ -114,6 +118,19 @@ RefusesReference Memory claim = Unit {0}
 RefusesReference (ParseError at kind) claim = ⊥
 RefusesReference (CompileError why) claim = (f : Fault) × (told_fault why ≡ Some f) × claim f
 RefusesReference (RuntimeError why) claim = ⊥
+
+-- The sizes of this pattern refuse it for this.
+abbrev pub HasBadSize : Compiling → Options → Pattern → Type 0
+HasBadSize LookBehindNotConst o p = are_sized o.meaning p ≡ false
+HasBadSize PatternCanNeverMatch o p = (o.not_empty ≡ true) × (size o.meaning p ≡ Some 0)
+HasBadSize _ o p = ⊥
+
+-- a refusal for the sizes of this pattern
+abbrev pub RefusesSizes : Error → Options → Pattern → Type 0
+RefusesSizes Memory o p = ⊥
+RefusesSizes (ParseError at kind) o p = ⊥
+RefusesSizes (CompileError why) o p = HasBadSize why o p
+RefusesSizes (RuntimeError why) o p = ⊥
 
 -- The group was found, or the error tells why there is none.
 abbrev pub Resolves : Result ℕ Fault → Result ℕ Error → Type 0
@@ -151,6 +168,15 @@ Alternation k p x q = (bs : List Pattern) × (x ≡ in_branches bs) × Branches 
 
 abbrev pub Sequence : ℕ → Place → Pattern → Place → Type 0
 Sequence k p x q = (ps : List Pattern) × (x ≡ in_sequence ps) × Parts k p ps q
+
+-- The parenthesis at p opens what was found, at q; or it opens nothing where so many may still be open, unless memory ran out.
+abbrev pub GivesOpening : ℕ → Result Found Error → Place → Place → Type 0
+GivesOpening k (Ok how) p q = (opening p ≡ Some (found how, q)) × (parentheses (found how) ≤ k)
+GivesOpening k (Err e) p q = Refuses e (HasNoReading (Opens k) p)
+
+-- the patterns of trees
+abbrev pub patterns_of : Vec Tree Global → List Pattern
+patterns_of v = map pattern_of v.items
 
 -- the part that an item gives
 abbrev pub part_of : Option Tree → Option Pattern

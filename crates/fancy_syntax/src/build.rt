@@ -3,8 +3,8 @@
 ghost use Rattle.std.specs.Prelude.{◌≡◌, map, IfOk};
 ghost use Rattle.fancy_syntax.specs.Pattern.{pattern_of, character, backreference, repeat, in_sequence, in_branches};
 ghost use Rattle.fancy_syntax.specs.Sizes.{is_empty};
-ghost use Rattle.fancy_syntax.specs.Dialect.{literal_of, grouped};
-ghost use Rattle.fancy_syntax.specs.Grammar.{wrap};
+ghost use Rattle.fancy_syntax.specs.Dialect.{literal_of, chosen, grouped};
+ghost use Rattle.fancy_syntax.specs.Grammar.{chooses, wrap};
 ghost use Rattle.fancy_syntax.specs.Views.{found};
 
 use crate::count::Turns;
@@ -124,17 +124,44 @@ fn grouped(how: Grouping, body: Box<Tree>) -> Tree
     }
 }
 
-/// What a group makes of its body.
+/// A conditional: the first branch of its body where the condition holds, and the others where it does not.
 #[tactic(auto, using(crate::proofs::PatternLemmas::pattern_equations))]
-pub(crate) fn wrap(alloc: Global, how: Opening, body: Tree) -> Result<Tree, AllocError>
-    ensures { IfOk result (λ t. pattern_of t ≡ wrap (found how) (pattern_of body)) }
+fn conditional(alloc: Global, condition: Box<Tree>, mut body: Vec<Tree>) -> Result<Tree, AllocError>
+    ensures { IfOk result (λ t. pattern_of t ≡ chosen (pattern_of condition.value) (map pattern_of body.items)) }
+{
+    let on_match = if body.is_empty() {
+        Tree::Empty
+    } else {
+        body.remove(0)
+    };
+    Ok(Tree::Conditional {
+        condition,
+        on_match: Box::new(alloc, on_match)?,
+        otherwise: Box::new(alloc, branches(body))?,
+    })
+}
+
+/// The body of a conditional whose condition has these branches.
+pub(crate) fn chooses(alloc: Global, condition: Vec<Tree>) -> Result<Opening, AllocError>
+    ensures { IfOk result (λ how. found how ≡ chooses (in_branches (map pattern_of condition.items))) }
+{
+    Ok(Opening::Chooses(Box::new(alloc, branches(condition))?))
+}
+
+/// What a group makes of the branches inside it.
+#[tactic(auto, using(crate::proofs::PatternLemmas::pattern_equations))]
+pub(crate) fn wrap(alloc: Global, how: Opening, body: Vec<Tree>) -> Result<Tree, AllocError>
+    ensures { IfOk result (λ t. pattern_of t ≡ wrap (found how) (map pattern_of body.items)) }
 {
     match how {
-        Opening::Setting | Opening::Plain | Opening::Reference { .. } => Ok(body),
-        Opening::Marked(how) => Ok(grouped(how, Box::new(alloc, body)?)),
+        Opening::Setting | Opening::Plain | Opening::Reference { .. } | Opening::Condition => {
+            Ok(branches(body))
+        }
+        Opening::Marked(how) => Ok(grouped(how, Box::new(alloc, branches(body))?)),
         Opening::Capture(index) => Ok(Tree::Group {
             index,
-            body: Box::new(alloc, body)?,
+            body: Box::new(alloc, branches(body))?,
         }),
+        Opening::Chooses(condition) => conditional(alloc, condition, body),
     }
 }

@@ -60,10 +60,10 @@ pub enum ParseErrorKind {
 /// Why a pattern that can be read is not accepted.
 #[derive(Debug, Drop, Error)]
 pub enum CompileError {
-    /// A reference to a group that the pattern does not have, as in `(a)\2`.
+    /// A reference to a group that the pattern does not have, or a test of it, as in `(a)\2` and `(?(1)a)`.
     #[error("no group has the number {0}")]
     InvalidBackref(usize),
-    /// A reference to a name that no group has, as in `\k<n>`.
+    /// A reference to a name that no group has, or a test of it, as in `\k<n>` and `(?(<n>)a)`.
     #[error("no group has the name {0}")]
     InvalidGroupNameBackref(String),
     /// A reference by number where only named groups capture.

@@ -1,13 +1,14 @@
 //! Escapes and anchors: what one character means behind a backslash, or by itself.
 
-ghost use Rattle.std.specs.Prelude.{◌≡◌};
+ghost use Rattle.std.specs.Prelude.{◌≡◌, option_map};
 ghost use Rattle.fancy_syntax.specs.Escapes.{control_of};
-ghost use Rattle.fancy_syntax.specs.Dialect.{anchor_of, place_test, is_escapable, is_special, is_one_item, ends_line};
+ghost use Rattle.fancy_syntax.specs.Dialect.{anchor_of, place_test, start_mark, is_escapable, is_special, is_one_item, ends_line};
+ghost use Rattle.fancy_syntax.specs.Pattern.{pattern_of};
 ghost use Rattle.fancy_syntax.specs.Views.{flags_of};
 
 use crate::error::ParseErrorKind;
 use crate::flags::Flags;
-use crate::tree::{Assertion, Meaning};
+use crate::tree::{Assertion, Meaning, Tree};
 
 /// Whether a backslash makes this character a literal.
 pub(crate) fn is_escapable(c: char) -> bool
@@ -80,10 +81,22 @@ pub(crate) fn place_test(flags: Flags, letter: char) -> Option<Assertion>
     }
 }
 
+/// What `\G` and `\K` stand for; inside of look-around `\K` stands for nothing.
+#[tactic(auto, using(crate::proofs::PatternLemmas::pattern_equations))]
+pub(crate) fn start_mark(in_look_around: bool, letter: char) -> Option<Tree>
+    ensures { option_map pattern_of result ≡ start_mark in_look_around letter }
+{
+    match letter {
+        'G' => Some(Tree::ContinueHere),
+        'K' if !in_look_around => Some(Tree::KeepStart),
+        _ => None,
+    }
+}
+
 /// What is wrong with an escape by a letter that stands for nothing, or not in this meaning; from behind its backslash.
 pub(crate) fn escape_fault(text: &[char]) -> ParseErrorKind {
     match text {
-        ['R' | 'X' | 'g' | 'G' | 'K', ..] => ParseErrorKind::NotInProfile,
+        ['R' | 'X' | 'g' | 'K', ..] => ParseErrorKind::NotInProfile,
         ['D' | 'S' | 'W' | 'H', ..] => ParseErrorKind::InvalidClass,
         _ => ParseErrorKind::InvalidEscape,
     }

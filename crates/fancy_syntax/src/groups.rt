@@ -1,7 +1,10 @@
 //! What parentheses open.
 
 ghost use Rattle.std.specs.Prelude.{◌≡◌, ◌≤◌, ◌<◌, IfSome, length};
-ghost use Rattle.fancy_syntax.specs.Grammar.{mark_here};
+ghost use Rattle.fancy_syntax.specs.Grammar.{mark_here, parentheses, asks};
+ghost use Rattle.fancy_syntax.specs.Views.{found};
+
+use crate::tree::Tree;
 
 /// A group that captures nothing, and does more than keep its parts together.
 #[derive(Clone, Copy)]
@@ -15,7 +18,7 @@ pub enum Grouping {
 }
 
 /// What a parenthesis opens.
-#[derive(Clone, Copy)]
+#[derive(Drop)]
 pub(crate) enum Opening {
     /// Flags up to the end of the enclosing group, as `(?m)`.
     Setting,
@@ -27,6 +30,29 @@ pub(crate) enum Opening {
     Marked(Grouping),
     /// A whole `(?P=n)`, the reference with this index.
     Reference { folded: bool, index: usize },
+    /// `(?(`, a condition and `)`: the body of a conditional with this condition.
+    Chooses(Box<Tree>),
+    /// `(?(`: the condition of a conditional, where it is a pattern.
+    Condition,
+}
+
+impl Opening {
+    /// How many parentheses are open behind it.
+    pub(crate) fn parentheses(&self) -> u32
+        ensures { result ≡ parentheses (found self.now) }
+    {
+        match self {
+            Opening::Chooses(_) | Opening::Condition => 2,
+            _ => 1,
+        }
+    }
+
+    /// Whether a condition follows.
+    pub(crate) fn asks(&self) -> bool
+        ensures { result ≡ asks (found self.now) }
+    {
+        matches!(self, Opening::Condition)
+    }
 }
 
 /// The group whose mark stands here, with its parenthesis, and how many characters that has.

@@ -17,7 +17,7 @@ use crate::class::{Context, Cursor, Gathered, Refusal, Token, may_turn, set_lett
 use crate::count::begins_count;
 use crate::error::{Error, ParseErrorKind};
 use crate::escape::{
-    anchor, control, escape_fault, is_escapable, is_one_item, is_special, place_test,
+    anchor, control, escape_fault, is_escapable, is_one_item, is_special, place_test, start_mark,
 };
 use crate::named::universe;
 use crate::operation::Operation;
@@ -173,6 +173,16 @@ impl<'a> Parser<'a> {
         Ok(tree)
     }
 
+    /// Reads so many characters that stand for this leaf.
+    fn leaf(&mut self, tree: Tree, count: usize) -> Tree
+        requires { count ≤ length self.old.rest.now }
+        ensures value { GivesMeant (Some (leaf (pattern_of tree), drop count self.old.rest.now)) (Ok result) (place self.old) (place self.new) }
+        ensures progress { length self.new.rest.now + count ≡ length self.old.rest.now }
+    {
+        self.skip(count);
+        tree
+    }
+
     /// Reads so many characters that stand for this test.
     #[tactic(auto, using(crate::proofs::PatternLemmas::pattern_equations))]
     fn test(&mut self, test: Assertion, count: usize) -> Tree
@@ -225,6 +235,9 @@ impl<'a> Parser<'a> {
         }
         if let Some(test) = place_test(self.flags, c) {
             return Ok(self.test(test, 2));
+        }
+        if let Some(mark) = start_mark(self.in_look_around, c) {
+            return Ok(self.leaf(mark, 2));
         }
         self.lettered_set(c)
     }

@@ -1,6 +1,6 @@
 //! How large a pattern is.
 
-ghost use Rattle.std.specs.Prelude.{◌≡◌, ℕ, ◌+◌, ◌-◌, ◌^◌, min, map, sum_by, ◌&&◌};
+ghost use Rattle.std.specs.Prelude.{◌≡◌, ◌↔◌, ℕ, ◌+◌, ◌-◌, ◌^◌, min, map, sum_by, ◌&&◌, IsTrue, Some};
 ghost use Rattle.fancy_syntax.specs.Pattern.{pattern_of, in_sequence, in_choice};
 ghost use Rattle.fancy_syntax.specs.Sizes.{nodes, repeat_nodes, taste_nodes, is_empty, size, raw_byte_size, plus_size, common_size, times_size, only_zero, repeat_size, fitting_size};
 
@@ -137,6 +137,15 @@ impl Tree {
             Tree::Sequence(parts) => size_of_sequence(parts, meaning),
             Tree::Alternative(branches) => size_of_choice(branches, meaning),
         }
+    }
+}
+
+impl Tree {
+    /// Whether it always consumes 0 units.
+    pub(crate) fn consumes_nothing(&self, meaning: Meaning) -> bool
+        ensures { IsTrue result ↔ (size meaning (pattern_of self.now) ≡ Some 0) }
+    {
+        matches!(self.size(meaning), Some(0))
     }
 }
 

@@ -1,15 +1,14 @@
 //! Patterns are read here.
 
 ghost use Rattle.std.specs.Prelude.{◌≡◌, ◌+◌, ◌<◌, ◌^◌, length, map, All, Any, IfOk, IfErr, None, Some, true, false, chars};
-ghost use Rattle.fancy_syntax.specs.declared.error.Error.TheVariants.{Memory, CompileError as Compile};
-ghost use Rattle.fancy_syntax.specs.declared.error.CompileError.TheVariants.{LookBehindNotConst};
-ghost use Rattle.fancy_syntax.specs.Sizes.{are_sized};
+ghost use Rattle.fancy_syntax.specs.declared.error.Error.TheVariants.{Memory};
+ghost use Rattle.fancy_syntax.specs.Sizes.{size, are_sized};
 ghost use Rattle.fancy_syntax.specs.Dialect.{standard, begin, Spells, SpellsUnder, IsPattern};
 ghost use Rattle.fancy_syntax.specs.Names.{named_groups};
 ghost use Rattle.fancy_syntax.specs.Pattern.{Pattern, pattern_of};
 ghost use Rattle.fancy_syntax.specs.References.{fault_of, group_for, number_in, refers_to};
 ghost use Rattle.fancy_syntax.specs.Refusals.{IsRefused};
-ghost use Rattle.fancy_syntax.specs.Views.{options_of, target_of, targets_of, groups_in, Refuses, RefusesReference, SpellsDraft, HasNoSpelling};
+ghost use Rattle.fancy_syntax.specs.Views.{options_of, target_of, targets_of, groups_in, Refuses, RefusesReference, RefusesSizes, SpellsDraft, HasNoSpelling};
 
 use crate::error::{CompileError, Error, ParseErrorKind};
 use crate::flags::Flags;
@@ -35,6 +34,8 @@ pub struct Syntax {
     pub keeps_characters: bool,
     /// Whether groups without a name capture nothing, and have no number, where a group has one.
     pub only_named: bool,
+    /// Whether empty matches are refused, so that a pattern of size 0 can never match.
+    pub not_empty: bool,
     /// The flags that are set.
     pub flags: Flags,
 }
@@ -45,6 +46,7 @@ impl Syntax {
         meaning: Meaning::Unicode,
         keeps_characters: true,
         only_named: false,
+        not_empty: false,
         flags: Flags::NONE,
     };
 }
@@ -63,14 +65,15 @@ pub struct Parsed {
 
 /// Reads a pattern, whose items are characters.
 ///
-/// The forms so far:
+/// The forms:
 ///
 /// - literal characters, and a backslash before ASCII punctuation (other than `<` and `>`) or a space;
 /// - the control characters `\a \e \f \n \r \t \v`, and characters by their numbers, as `\xE9`, `\u00E9`,
 ///   `\U000000E9` and `\x{E9}`;
 /// - `.`, `\O`, `\N`, the sets `\d \s \w \h` and their complements `\D \S \W \H`, properties of Unicode as
 ///   `\p{Greek}`, `\pL` and `\P{Greek}`, and classes as `[a-z&&[^aeiou]]`;
-/// - the assertions `^ $ \A \z \Z \b \B \< \> \b{start} \b{end} \b{start-half} \b{end-half}`;
+/// - the assertions `^ $ \A \z \Z \b \B \< \> \b{start} \b{end} \b{start-half} \b{end-half}`, and `\G`, the search's start;
+/// - `\K`, where the match starts, but not inside of look-around;
 /// - groups `(..)`, which capture and are numbered from 1 by their openings, and `(?:..)`, which do not;
 /// - capturing groups with a name, `(?<n>..)` and `(?P<n>..)`, where the name `n` is a row of alphabetic characters,
 ///   numbers (of category Nd, Nl or No) and `_`; several groups may have one name;
@@ -78,6 +81,8 @@ pub struct Parsed {
 /// - backreferences by number, `\1`, of a row of digits that does not begin with 0; by name, `(?P=n)`; by name or else by
 ///   number, `\k<n>` and `\k'n'`; and `\k<-n>` and `\k'-n'` to the group `n` back from those opened before it, where 1
 ///   is the last one. A group may stand behind a reference to it, and of several groups with one name the last is meant;
+/// - conditionals `(?(1)yes|no)`, `(?(<n>)yes|no)` and `(?('n')yes|no)`, which test whether a group has taken part, and
+///   `(?(condition)yes|no)`, whose condition is a pattern; the first branch is that for yes, and all others are that for no;
 /// - branches joined by `|`;
 /// - the quantifiers `?`, `*`, `+`, `{n}`, `{n,}`, `{n,m}` and `{,m}`, each with a `?` behind it where it is lazy, or a
 ///   `+` where it is possessive; the bounds `n` and `m` are at most 4,294,967,295;
@@ -85,12 +90,12 @@ pub struct Parsed {
 /// - the flags `i m s x u R`, as `(?ms-x)` up to the end of the enclosing group, over later branches too, or as
 ///   `(?ms-x:..)` for a group.
 ///
-/// At most 64 parentheses are open at one place, among them those of flags and of `(?P=n)`, but not those of comments;
-/// and at most 64 brackets of classes.
+/// At most 64 parentheses are open at one place, among them those of flags, of `(?P=n)` and both of `(?(`, but not those of
+/// comments; and at most 64 brackets of classes.
 ///
 /// A text that is no pattern is refused by an [`Error::ParseError`], whose place is a byte offset into it, of 0
-/// to the length of `pattern`; one of more than 1,000,000 nodes by [`CompileError::PatternTooComplex`]. A reference to a
-/// group that the pattern does not have is refused by [`CompileError::InvalidBackref`] with its number, or by
+/// to the length of `pattern`; one of more than 1,000,000 nodes by [`CompileError::PatternTooComplex`]. A reference to, or a test
+/// of, a group that the pattern does not have is refused by [`CompileError::InvalidBackref`] with its number, or by
 /// [`CompileError::InvalidGroupNameBackref`] with its name; a number above 4,294,967,295 stands as that. A look-behind
 /// whose body has no one size, and is no alternative of branches that each have one, is refused by
 /// [`CompileError::LookBehindNotConst`], as `(?<=a+)`; `(?<=a|bc)` is not. Where memory runs out the answer is
@@ -114,6 +119,9 @@ pub fn parse(alloc: Global, pattern: &str) -> Result<Parsed, Error>
 /// `n` is number 1, and `()*(?<n>b)` is refused at place 2 with [`ParseErrorKind::TargetNotRepeatable`]. There groups are
 /// referred to by name alone: `(?<n>a)\1` is refused by [`CompileError::NamedBackrefOnly`]. A pattern without names is
 /// read as where the option is not set.
+///
+/// Where `not_empty` is set a pattern that always consumes 0 units is refused by [`CompileError::PatternCanNeverMatch`],
+/// as the empty pattern, `^` or `(?=a)`; `a?` is not, and `()|a` is not.
 pub fn parse_with(alloc: Global, pattern: &str, syntax: Syntax) -> Result<Parsed, Error>
     ensures accepted { IfOk result (λ r. (h : IsPattern (options_of syntax) (chars pattern.now) (pattern_of r.tree)) × (h.end.opened + 1 ≡ r.groups) × (named_groups r.names.items ≡ h.end.names)) }
     ensures refused { IfErr result (λ e. IsRefused e (options_of syntax) (chars pattern.now)) }
@@ -125,17 +133,22 @@ pub fn parse_with(alloc: Global, pattern: &str, syntax: Syntax) -> Result<Parsed
         return Err(Error::CompileError(CompileError::PatternTooComplex));
     }
     let parsed = draft.resolved(alloc, syntax.only_named)?;
-    parsed.with_sizes(syntax.meaning)
+    parsed.with_sizes(syntax)
 }
 
 impl Parsed {
-    /// This pattern, if each look-behind in it can step back.
-    fn with_sizes(self, meaning: Meaning) -> Result<Parsed, Error>
-        ensures value { IfOk result (λ r. (r ≡ self) × (are_sized meaning (pattern_of r.tree) ≡ true)) }
-        ensures refused { IfErr result (λ e. (e ≡ Compile LookBehindNotConst) × (are_sized meaning (pattern_of self.tree) ≡ false)) }
+    /// This pattern, if each look-behind in it can step back, and if it can match where empty matches are refused.
+    fn with_sizes(self, syntax: Syntax) -> Result<Parsed, Error>
+        ensures value { IfOk result (λ r. r ≡ self) }
+        ensures sized { IfOk result (λ r. are_sized syntax.meaning (pattern_of r.tree) ≡ true) }
+        ensures fills { IfOk result (λ r. syntax.not_empty ≡ true → (size syntax.meaning (pattern_of r.tree) ≡ Some 0) → ⊥) }
+        ensures refused { IfErr result (λ e. RefusesSizes e (options_of syntax) (pattern_of self.tree)) }
     {
-        if !self.tree.is_sized(meaning) {
+        if !self.tree.is_sized(syntax.meaning) {
             return Err(Error::CompileError(CompileError::LookBehindNotConst));
+        }
+        if syntax.not_empty && self.tree.consumes_nothing(syntax.meaning) {
+            return Err(Error::CompileError(CompileError::PatternCanNeverMatch));
         }
         Ok(self)
     }

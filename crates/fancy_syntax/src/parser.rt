@@ -7,13 +7,13 @@ ghost use Rattle.fancy_syntax.specs.Dialect.{begins_quantifier};
 ghost use Rattle.fancy_syntax.specs.Words.{is_at_any, is_at, begins_count};
 
 use crate::blank::past_blanks;
-use crate::build::{branches, is_empty, reference, repeat, sequence, wrap};
+use crate::build::{branches, chooses, is_empty, reference, repeat, sequence, wrap};
 use crate::count::{Turns, begins_count, bounds, past_count};
 use crate::error::{Error, ParseErrorKind};
 use crate::flags::{Flags, read_flags};
 use crate::groups::{Grouping, Opening, mark};
 use crate::name::{GroupName, split_name, text_of};
-use crate::reference::Target;
+use crate::reference::{Target, is_left_out, read_condition};
 use crate::tree::{Meaning, Taste, Tree};
 use std::alloc::Global;
 
@@ -70,7 +70,7 @@ fn flags_fault(inside: &[char], meaning: Meaning) -> ParseErrorKind {
     match inside {
         ['#', ..] => return ParseErrorKind::UnclosedOpenParen,
         ['P', '>', ..] | ['-', '0'..='9', ..] => return ParseErrorKind::NotInProfile,
-        ['(' | '~' | '&' | '+' | '0'..='9', ..] => return ParseErrorKind::NotInProfile,
+        ['~' | '&' | '+' | '0'..='9', ..] => return ParseErrorKind::NotInProfile,
         _ => {}
     }
     let mut on = true;
@@ -159,7 +159,7 @@ impl<'a> Parser<'a> {
     ghost use Rattle.fancy_syntax.specs.Views.{place, found, bounds_of, itself, GivesValue};
     ghost use Rattle.fancy_syntax.specs.Pattern.{pattern_of};
     ghost use Rattle.std.specs.Prelude.{Some, Ok};
-    ghost use Rattle.fancy_syntax.specs.Grammar.{opening, by_mark, unmarked, named, named_reference, flagged, quantified, turns, taste};
+    ghost use Rattle.fancy_syntax.specs.Grammar.{opening, by_mark, unmarked, named, named_reference, by_test, conditional_at, flagged, quantified, turns, taste};
 
     /// Reads what a parenthesis opens.
     fn opening(&mut self) -> Result<Opening, Error>
@@ -208,6 +208,10 @@ impl<'a> Parser<'a> {
         if self.begins(&['(', '?', 'P', '=']) {
             let inside = &self.rest[4..];
             return self.named_reference(inside);
+        }
+        if self.begins(&['(', '?', '(']) {
+            let inside = &self.rest[3..];
+            return self.conditional(inside);
         }
         if self.begins(&['(', '?']) {
             return self.flagged();
@@ -261,6 +265,39 @@ impl<'a> Parser<'a> {
             }
             _ => Err(self.error(ParseErrorKind::InvalidGroupName)),
         }
+    }
+
+    /// Reads a condition that tests a group, or goes to one that is a pattern; it stands first in `inside`, the last characters.
+    #[tactic(auto, using(crate::proofs::PatternLemmas::pattern_equations))]
+    fn conditional(&mut self, inside: &'a [char]) -> Result<Opening, Error>
+        requires { length inside.now < length self.old.rest.now }
+        ensures value { GivesValue found (conditional_at (place self.old) inside.now) result (place self.new) }
+        ensures progress { OnOk result (length self.new.rest.now < length self.old.rest.now) }
+    {
+        let tested = read_condition(self.alloc, inside)?;
+        match tested {
+            Some((target, behind)) => {
+                let index = self.wanted.len();
+                self.wanted.push(target)?;
+                self.rest = behind;
+                let condition = Box::new(self.alloc, Tree::GroupTest(index))?;
+                Ok(Opening::Chooses(condition))
+            }
+            None => self.condition(inside),
+        }
+    }
+
+    /// Goes to a condition that is a pattern, where it is not one that is left out.
+    fn condition(&mut self, inside: &'a [char]) -> Result<Opening, Error>
+        requires { length inside.now < length self.old.rest.now }
+        ensures value { GivesValue found (by_test (place self.old) inside.now None) result (place self.new) }
+        ensures progress { OnOk result (length self.new.rest.now < length self.old.rest.now) }
+    {
+        if is_left_out(inside) {
+            return Err(self.error(ParseErrorKind::NotInProfile));
+        }
+        self.rest = inside;
+        Ok(Opening::Condition)
     }
 
     /// Reads flags, and what they open.
@@ -366,14 +403,23 @@ impl<'a> Parser<'a> {
 }
 
 impl<'a> Parser<'a> {
-    ghost use Rattle.fancy_syntax.specs.Views.{place, Gives, Alternation, Sequence, part_of};
+    ghost use Rattle.fancy_syntax.specs.Views.{place, found, Gives, GivesOpening, Alternation, Sequence, patterns_of, part_of};
     ghost use Rattle.fancy_syntax.specs.Pattern.{pattern_of};
-    ghost use Rattle.fancy_syntax.specs.Grammar.{Item};
+    ghost use Rattle.fancy_syntax.specs.Grammar.{Branches, Opens, Item};
 
-    /// Reads branches up to the end of the group or of the pattern; `room` more groups may be opened inside.
-    #[cycle(parser)]
+    /// Reads a pattern up to the end of the group or of the whole; `room` more parentheses may be opened inside.
     pub(crate) fn alternation(&mut self, room: u32) -> Result<Tree, Error>
         ensures value { Gives pattern_of (Alternation room) result (place self.old) (place self.new) }
+        ensures forward { OnOk result (length self.new.rest.now ≤ length self.old.rest.now) }
+    {
+        let found = self.alternatives(room)?;
+        Ok(branches(found))
+    }
+
+    /// Reads the branches of a pattern.
+    #[cycle(parser)]
+    fn alternatives(&mut self, room: u32) -> Result<Vec<Tree>, Error>
+        ensures value { Gives patterns_of (Branches room) result (place self.old) (place self.new) }
         ensures forward { OnOk result (length self.new.rest.now ≤ length self.old.rest.now) }
     {
         let mut found = Vec::new(self.alloc);
@@ -385,7 +431,7 @@ impl<'a> Parser<'a> {
             }
             self.skip(1);
         }
-        Ok(branches(found))
+        Ok(found)
     }
 
     /// Reads one branch.
@@ -407,6 +453,43 @@ impl<'a> Parser<'a> {
         Ok(sequence(parts))
     }
 
+    /// Reads what a parenthesis opens, where `room` may be opened.
+    fn opening_within(&mut self, room: u32) -> Result<Opening, Error>
+        requires { is_at "(" self.old.rest.now ≡ true }
+        ensures value { GivesOpening room result (place self.old) (place self.new) }
+        ensures progress { OnOk result (length self.new.rest.now < length self.old.rest.now) }
+    {
+        let how = self.opening()?;
+        if room < how.parentheses() {
+            return Err(self.error(ParseErrorKind::RecursionExceeded));
+        }
+        Ok(how)
+    }
+
+    /// Reads what a parenthesis opens, with its condition if it has one; flags that are set in the condition end with it.
+    #[cycle(parser)]
+    fn head(&mut self, room: u32) -> Result<Opening, Error>
+        requires { is_at "(" self.old.rest.now ≡ true }
+        ensures value { Gives found (Opens room) result (place self.old) (place self.new) }
+        ensures progress { OnOk result (length self.new.rest.now < length self.old.rest.now) }
+        ensures room { OnOk result (1 ≤ room) }
+    {
+        let (flags_before, looking_before) = (self.flags, self.in_look_around);
+        let how = self.opening_within(room)?;
+        if !how.asks() {
+            return Ok(how);
+        }
+        let condition = self.alternatives(room - 2)?;
+        if !self.is_at_any(&[')']) {
+            return Err(self.error(ParseErrorKind::UnclosedOpenParen));
+        }
+        self.skip(1);
+        self.flags = flags_before;
+        self.in_look_around = looking_before;
+        let chosen = chooses(self.alloc, condition)?;
+        Ok(chosen)
+    }
+
     /// Reads a setting of flags, which gives no part, or what can be quantified with its quantifier.
     #[cycle(parser)]
     fn item(&mut self, room: u32) -> Result<Option<Tree>, Error>
@@ -418,17 +501,14 @@ impl<'a> Parser<'a> {
             return Ok(Some(self.quantified(part)?));
         }
         let (flags, looking) = (self.flags, self.in_look_around);
-        let how = self.opening()?;
-        if room == 0 {
-            return Err(self.error(ParseErrorKind::RecursionExceeded));
-        }
+        let how = self.head(room)?;
         if let Opening::Setting = how {
             return Ok(None);
         }
         if let Opening::Reference { folded, index } = how {
             return Ok(Some(self.quantified(reference(folded, index))?));
         }
-        let body = self.alternation(room - 1)?;
+        let body = self.alternatives(room - 1)?;
         if !self.is_at_any(&[')']) {
             return Err(self.error(ParseErrorKind::UnclosedOpenParen));
         }

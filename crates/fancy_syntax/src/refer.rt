@@ -1,4 +1,4 @@
-//! The numbers of groups are put in the places of references.
+//! The numbers of groups are put in the places of references and of tests of groups.
 
 ghost use Rattle.std.specs.Prelude.{◌≡◌, map, slice_index_or};
 ghost use Rattle.fancy_syntax.specs.Pattern.{pattern_of};
@@ -18,7 +18,7 @@ fn number_at(numbers: &[usize], index: usize) -> usize
 }
 
 impl Tree {
-    /// Puts the number of its group in the place of each reference's index.
+    /// Puts the number of its group in the place of the index of each reference and of each test of a group.
     #[cycle(refer)]
     #[tactic(auto, using(crate::proofs::PatternLemmas::pattern_equations), unfolding(crate::specs::References::refers_to))]
     pub(crate) fn refer(&mut self, numbers: &[usize])
@@ -26,6 +26,7 @@ impl Tree {
     {
         match self {
             Tree::Backreference { group, .. } => *group = number_at(numbers, *group),
+            Tree::GroupTest(group) => *group = number_at(numbers, *group),
             Tree::Group { body, .. } => body.refer(numbers),
             Tree::Repeat { body, .. } => body.refer(numbers),
             Tree::LookAhead { body, .. } => body.refer(numbers),
@@ -48,7 +49,6 @@ impl Tree {
             | Tree::InAnyCase(_)
             | Tree::RawByte(_)
             | Tree::Assertion(_)
-            | Tree::GroupTest(_)
             | Tree::KeepStart
             | Tree::ContinueHere => {}
         }

@@ -1,8 +1,8 @@
-//! References to groups, as they are written: `\1`, `\k<n>`, `\k'n'`, `\k<-1>` and `(?P=n)`.
+//! References to groups, as they are written: `\1`, `\k<n>`, `\k'n'`, `\k<-1>`, `(?P=n)`, and in conditions `1`, `<n>` and `'n'`.
 
 ghost use Rattle.std.specs.Prelude.{◌≡◌, ℕ, ◌-◌, ◌^◌, ◌<◌, ◌≤◌, min, IfOk, IfSome, length, option_map};
 ghost use Rattle.fancy_syntax.specs.Words.{is_at_any};
-ghost use Rattle.fancy_syntax.specs.References.{back, number_reference, distance_reference, name_reference, delimited, reference, begins_reference};
+ghost use Rattle.fancy_syntax.specs.References.{back, number_reference, distance_reference, name_reference, delimited, reference, begins_reference, within_largest, number_condition, name_condition, group_condition, is_left_out};
 ghost use Rattle.fancy_syntax.specs.Views.{target_of, reading_of};
 
 use crate::count::{decimal, is_at_digit, past_digits};
@@ -18,7 +18,7 @@ pub(crate) const LARGEST_TOLD: u64 = 4_294_967_295;
 pub(crate) enum Target {
     /// The group of this number.
     Numbered(usize),
-    /// No group: there is none so many back.
+    /// No group: there is none so many back, or none of so large a number.
     Missing(usize),
     /// The last group of this name.
     Called(String),
@@ -148,6 +148,69 @@ pub(crate) fn read_reference(
         ['\\', digits @ ..] => Ok(number_reference(digits)),
         _ => Ok(None),
     }
+}
+
+/// The group of this number; none has one above 2^32 - 1.
+fn within_largest(number: u64) -> Target
+    ensures { (n : ℕ) → number ≡ min n (2 ^ 64 - 1) → target_of result ≡ within_largest n }
+{
+    if number <= LARGEST_TOLD {
+        Target::Numbered(number as usize)
+    } else {
+        Target::Missing(LARGEST_TOLD as usize)
+    }
+}
+
+/// A row of digits up to a parenthesis.
+fn number_condition(text: &[char]) -> Option<Reading<'_>>
+    ensures value { option_map reading_of result ≡ number_condition text.now }
+    ensures shorter { IfSome result (λ r. length r.1.now ≤ length text.now) }
+{
+    match past_digits(text) {
+        [')', behind @ ..] if is_at_digit(text) => { Some((within_largest(decimal(text)), behind)) }
+        _ => None,
+    }
+}
+
+/// A name up to this delimiter and a parenthesis.
+fn name_condition(
+    alloc: Global,
+    text: &[char],
+    delimiter: char,
+) -> Result<Option<Reading<'_>>, AllocError>
+    ensures value { IfOk result (λ r. option_map reading_of r ≡ name_condition delimiter text.now) }
+    ensures shorter { IfOk result (λ r. IfSome r (λ x. length x.1.now ≤ length text.now)) }
+{
+    let (name, behind) = split_name(text);
+    match behind {
+        [c, ')', behind @ ..] if *c == delimiter && !name.is_empty() => {
+            let name = text_of(alloc, name)?;
+            Ok(Some((Target::Called(name), behind)))
+        }
+        _ => Ok(None),
+    }
+}
+
+/// The group that a condition tests, and the text behind the condition's parenthesis; none where the condition is no test of a group.
+pub(crate) fn read_condition(
+    alloc: Global,
+    text: &[char],
+) -> Result<Option<Reading<'_>>, AllocError>
+    ensures value { IfOk result (λ r. option_map reading_of r ≡ group_condition text.now) }
+    ensures shorter { IfOk result (λ r. IfSome r (λ x. length x.1.now ≤ length text.now)) }
+{
+    match text {
+        ['<', name @ ..] => name_condition(alloc, name, '>'),
+        ['\'', name @ ..] => name_condition(alloc, name, '\''),
+        _ => Ok(number_condition(text)),
+    }
+}
+
+/// Whether a condition in a form that is left out begins here: a definition, or look-around without parentheses of its own.
+pub(crate) fn is_left_out(text: &[char]) -> bool
+    ensures { result ≡ is_left_out text.now }
+{
+    text.starts_with(&['D', 'E', 'F', 'I', 'N', 'E', ')']) || is_at_any(text, &['?'])
 }
 
 /// What is wrong where a reference is to stand and none does.

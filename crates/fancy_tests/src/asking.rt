@@ -26,8 +26,8 @@ pub(crate) use refusals::{
 };
 pub(crate) use replaced::{ReplacedRow, check_answer, check_fixed, check_replaced};
 pub(crate) use settings::{
-    ASCII_TEXT, BYTES, BYTES_WITHOUT_UNICODE, CHARACTERS, CHARACTERS_ANYWHERE, FOLDED, ONLY_NAMED,
-    OVERRIDING, Settings, read, regex_with,
+    ASCII_TEXT, BYTES, BYTES_WITHOUT_UNICODE, CHARACTERS, CHARACTERS_ANYWHERE, FOLDED, LONGEST,
+    NOT_EMPTY, ONLY_NAMED, OVERRIDING, Settings, read, regex_with,
 };
 pub(crate) use spans::{
     BytesRow, SearchRow, Span, SpanRow, Spanned, TextRow, check_search, check_span, check_texts,

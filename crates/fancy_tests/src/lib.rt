@@ -10,6 +10,8 @@ mod captures;
 #[cfg(test)]
 mod classes;
 #[cfg(test)]
+mod conditionals;
+#[cfg(test)]
 mod dialect;
 #[cfg(test)]
 mod engines;
@@ -17,6 +19,8 @@ mod engines;
 mod errors;
 #[cfg(test)]
 mod escapes;
+#[cfg(test)]
+mod filters;
 #[cfg(test)]
 mod finding;
 #[cfg(test)]
@@ -27,6 +31,8 @@ mod haystacks;
 mod inputs;
 #[cfg(test)]
 mod iteration;
+#[cfg(test)]
+mod kept;
 #[cfg(test)]
 mod names;
 #[cfg(test)]

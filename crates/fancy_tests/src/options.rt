@@ -20,6 +20,8 @@ enum Switch {
     DotMatchesNewLine,
     Crlf,
     UnicodeMode,
+    FindNotEmpty,
+    LeftmostLongest,
 }
 
 /// The switch, a pattern, a text, and where the first match starts and ends where the switch is off, and on.
@@ -40,6 +42,8 @@ fn set(builder: &mut RegexOptionsBuilder, switch: Switch, yes: bool) {
         Switch::DotMatchesNewLine => builder.dot_matches_new_line(yes),
         Switch::Crlf => builder.crlf(yes),
         Switch::UnicodeMode => builder.unicode_mode(yes),
+        Switch::FindNotEmpty => builder.find_not_empty(yes),
+        Switch::LeftmostLongest => builder.leftmost_longest(yes),
     };
 }
 
@@ -52,6 +56,8 @@ fn set_beside_the_pattern(builder: &mut RegexBuilder, switch: Switch, yes: bool)
         Switch::DotMatchesNewLine => builder.dot_matches_new_line(yes),
         Switch::Crlf => builder.crlf(yes),
         Switch::UnicodeMode => builder.unicode_mode(yes),
+        Switch::FindNotEmpty => builder.find_not_empty(yes),
+        Switch::LeftmostLongest => builder.leftmost_longest(yes),
     };
 }
 
@@ -109,6 +115,20 @@ const ROWS: &[Row] = &[
     (Switch::Crlf, "a\\Z", "a\r\n", None, Some((0, 1))),
     (Switch::UnicodeMode, "\\d", "\u{660}", None, Some((0, 2))),
     (Switch::UnicodeMode, "(?i)k", "\u{212A}", None, Some((0, 3))),
+    (
+        Switch::FindNotEmpty,
+        "a*",
+        "baa",
+        Some((0, 0)),
+        Some((1, 3)),
+    ),
+    (
+        Switch::LeftmostLongest,
+        "a|ab",
+        "xab",
+        Some((1, 2)),
+        Some((1, 3)),
+    ),
 ];
 
 #[test]

@@ -2,12 +2,13 @@
 
 use crate::asking::{
     ASCII_TEXT, AllGroupsRow, BYTES, BytesRow, CHARACTERS, CheckedRow, CountedRow, FaultRow,
-    FirstPiecesRow, GroupsRow, LaterGroupsRow, NameRow, NamesRow, ONLY_NAMED, OVERRIDING,
-    PiecesRow, ReplacedRow, SearchRow, Settings, SpanRow, TemplateRow, TextListRow, TextsRow, Told,
-    check_all_groups, check_answer, check_counted, check_escaped, check_expanded, check_fault,
-    check_first_pieces, check_fixed, check_groups, check_later_groups, check_name, check_names,
-    check_pieces, check_replaced, check_search, check_span, check_templates, check_text_list,
-    check_texts_of_groups, check_told, first_span, is_too_complex, regex_with, span,
+    FirstPiecesRow, GroupsRow, LONGEST, LaterGroupsRow, NOT_EMPTY, NameRow, NamesRow, ONLY_NAMED,
+    OVERRIDING, PiecesRow, ReplacedRow, SearchRow, Settings, SpanRow, TemplateRow, TextListRow,
+    TextsRow, Told, check_all_groups, check_answer, check_counted, check_escaped, check_expanded,
+    check_fault, check_first_pieces, check_fixed, check_groups, check_later_groups, check_name,
+    check_names, check_pieces, check_replaced, check_search, check_span, check_templates,
+    check_text_list, check_texts_of_groups, check_told, first_span, is_too_complex, regex_with,
+    span,
 };
 use fancy_regex::{
     Captures, Expander, NoExpand, ParseErrorKind, Regex, RegexBuilder, RegexInput,
@@ -91,6 +92,8 @@ const PATTERNS: &[SpanRow<&str>] = &[
         Some((0, 3)),
     ),
     (ASCII_TEXT, "\\d", "\u{664}4", Some((2, 3))),
+    (NOT_EMPTY, "a*", "baa", Some((1, 3))),
+    (LONGEST, "a|ab", "xab", Some((1, 3))),
 ];
 
 const PATTERNS_OF_BYTES: &[BytesRow] = &[(BYTES, "\\xE9.", b"a\xE9\xFF", Some((1, 3)))];

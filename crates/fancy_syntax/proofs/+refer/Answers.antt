@@ -11,6 +11,10 @@ pub tree::Tree::refer-returns-in-Backreference : goal.tree::Tree::refer-returns-
 unfolding Rattle.fancy_syntax.specs.declared.tree.Tree.TheViews.out-Tree refers_to denote.Hole.Carrier.out
 tree::Tree::refer-returns-in-Backreference t c = rw c.in-Backreference.is (search (rules, pattern_equations))
 
+pub tree::Tree::refer-returns-in-GroupTest : goal.tree::Tree::refer-returns-in-GroupTest
+unfolding Rattle.fancy_syntax.specs.declared.tree.Tree.TheViews.out-Tree refers_to denote.Hole.Carrier.out
+tree::Tree::refer-returns-in-GroupTest t c = rw c.in-GroupTest.is (search (rules, pattern_equations))
+
 pub tree::Tree::refer-returns-in-Group : goal.tree::Tree::refer-returns-in-Group
 unfolding Rattle.fancy_syntax.specs.declared.tree.Tree.TheViews.out-Tree refers_to denote.Hole.Carrier.out
 tree::Tree::refer-returns-in-Group t c =

@@ -40,6 +40,8 @@ pub(crate) enum Flaw {
     ByNameAlone,
     /// A look-behind of no constant size.
     LookBehind,
+    /// A pattern of size 0, where empty matches are refused.
+    NeverMatches,
     /// Too many nodes, or too much code.
     TooComplex,
 }
@@ -55,6 +57,7 @@ fn has_flaw<T>(read: &fancy_regex::Result<T>, flaw: Flaw) -> bool {
             == wanted,
         (CompileError::NamedBackrefOnly, Flaw::ByNameAlone) => true,
         (CompileError::LookBehindNotConst, Flaw::LookBehind) => true,
+        (CompileError::PatternCanNeverMatch, Flaw::NeverMatches) => true,
         (CompileError::PatternTooComplex, Flaw::TooComplex) => true,
         _ => false,
     }

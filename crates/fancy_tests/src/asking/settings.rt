@@ -20,6 +20,10 @@ pub(crate) struct Settings {
     pub(crate) only_named: bool,
     /// How many returns a search for a hard pattern may take.
     pub(crate) backtrack_limit: usize,
+    /// Whether empty matches are refused.
+    pub(crate) find_not_empty: bool,
+    /// Whether the longest match at a position is asked for.
+    pub(crate) leftmost_longest: bool,
 }
 
 /// Items are characters, and matches stand between characters: what holds by default.
@@ -34,6 +38,8 @@ pub(crate) const CHARACTERS: Settings = Settings {
     overrides: false,
     only_named: false,
     backtrack_limit: 1_000_000,
+    find_not_empty: false,
+    leftmost_longest: false,
 };
 
 /// Items are characters, and matches may stand anywhere.
@@ -79,6 +85,18 @@ pub(crate) const FOLDED: Settings = Settings {
     ..CHARACTERS
 };
 
+/// Empty matches are refused.
+pub(crate) const NOT_EMPTY: Settings = Settings {
+    find_not_empty: true,
+    ..CHARACTERS
+};
+
+/// The longest match at a position is asked for.
+pub(crate) const LONGEST: Settings = Settings {
+    leftmost_longest: true,
+    ..CHARACTERS
+};
+
 /// What the pattern is read as.
 pub(crate) fn read(alloc: Global, settings: Settings, pattern: &str) -> fancy_regex::Result<Regex> {
     let pattern = String::from_str(alloc, pattern)?;
@@ -94,6 +112,8 @@ pub(crate) fn read(alloc: Global, settings: Settings, pattern: &str) -> fancy_re
         .allow_input_assertion_overrides(settings.overrides)
         .ignore_numbered_groups_when_named_groups_exist(settings.only_named)
         .backtrack_limit(settings.backtrack_limit)
+        .find_not_empty(settings.find_not_empty)
+        .leftmost_longest(settings.leftmost_longest)
         .build(pattern)
 }
 

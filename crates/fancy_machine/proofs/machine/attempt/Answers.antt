@@ -1,4 +1,4 @@
-use Rattle.std.proofs.Common.{◌+◌, ◌∙◌, None, false, arith, ap}
+use Rattle.std.proofs.Common.{◌+◌, ◌∙◌, None, arith, ap}
 use Rattle.fancy_engine.specs.Work.{returns_of}
 use Rattle.fancy_machine.specs.Field.{accepts, code_in}
 use Rattle.fancy_machine.specs.Machine.{chosen, final, returns_to, marks_to, events_of, after}
@@ -7,11 +7,11 @@ use Rattle.fancy_machine.proofs.Counts.{steps_more, step_beyond}
 use Rattle.fancy_machine.proofs.machine.attempt.Goals as goal
 
 pub steps-smaller-in-On : goal.steps-smaller-in-On
-steps-smaller-in-On g c = smaller_on (code_in c.args.haystack.now c.args.code.now c.args.field g.deep) false (accepts c.args.field c.args.haystack.now) (chosen false (accepts c.args.field c.args.haystack.now) None (events_of (after (code_in c.args.haystack.now c.args.code.now c.args.field g.deep) c.args.trail.now.now))) (returns_of c.args.work.now + returns_to (final false (accepts c.args.field c.args.haystack.now)) (events_of (after (code_in c.args.haystack.now c.args.code.now c.args.field g.deep) c.args.trail.now.now))) (marks_to (final false (accepts c.args.field c.args.haystack.now)) (events_of (after (code_in c.args.haystack.now c.args.code.now c.args.field g.deep) c.args.trail.now.now))) c.steps.trail.now c.steps.trail.frames None (returns_of c.steps.work) c.steps.invariant.searching c.turn.new.trail.now c.turn.new.trail.frames None (rw c.in-On.is at (c.in-Ok.ensures.turned g.deep c.steps.invariant.searching.rest c.steps.invariant.searching.known))
+steps-smaller-in-On g c = smaller_on (code_in c.args.haystack.now c.args.code.now c.args.field g.deep) c.args.field.longest (accepts c.args.field c.args.haystack.now) (chosen c.args.field.longest (accepts c.args.field c.args.haystack.now) None (events_of (after (code_in c.args.haystack.now c.args.code.now c.args.field g.deep) c.args.trail.now.now))) (returns_of c.args.work.now + returns_to (final c.args.field.longest (accepts c.args.field c.args.haystack.now)) (events_of (after (code_in c.args.haystack.now c.args.code.now c.args.field g.deep) c.args.trail.now.now))) (marks_to (final c.args.field.longest (accepts c.args.field c.args.haystack.now)) (events_of (after (code_in c.args.haystack.now c.args.code.now c.args.field g.deep) c.args.trail.now.now))) c.steps.trail.now c.steps.trail.frames c.steps.best (returns_of c.steps.work) c.steps.invariant.searching c.turn.new.trail.now c.turn.new.trail.frames c.turn.new.best (rw c.in-On.is at (c.in-Ok.ensures.turned g.deep c.steps.invariant.searching.rest c.steps.invariant.searching.known))
 
 pub steps-preserved-in-On : goal.steps-preserved-in-On
 steps-preserved-in-On g c = record {
-  searching = rw c.turn.ensures.returns (search_on (code_in c.args.haystack.now c.args.code.now c.args.field g.deep) false (accepts c.args.field c.args.haystack.now) (chosen false (accepts c.args.field c.args.haystack.now) None (events_of (after (code_in c.args.haystack.now c.args.code.now c.args.field g.deep) c.args.trail.now.now))) (returns_of c.args.work.now + returns_to (final false (accepts c.args.field c.args.haystack.now)) (events_of (after (code_in c.args.haystack.now c.args.code.now c.args.field g.deep) c.args.trail.now.now))) (marks_to (final false (accepts c.args.field c.args.haystack.now)) (events_of (after (code_in c.args.haystack.now c.args.code.now c.args.field g.deep) c.args.trail.now.now))) c.steps.trail.now c.steps.trail.frames None (returns_of c.steps.work) c.steps.invariant.searching c.turn.new.trail.now c.turn.new.trail.frames None (rw c.in-On.is at (c.in-Ok.ensures.turned g.deep c.steps.invariant.searching.rest c.steps.invariant.searching.known)));
+  searching = rw c.turn.ensures.returns (search_on (code_in c.args.haystack.now c.args.code.now c.args.field g.deep) c.args.field.longest (accepts c.args.field c.args.haystack.now) (chosen c.args.field.longest (accepts c.args.field c.args.haystack.now) None (events_of (after (code_in c.args.haystack.now c.args.code.now c.args.field g.deep) c.args.trail.now.now))) (returns_of c.args.work.now + returns_to (final c.args.field.longest (accepts c.args.field c.args.haystack.now)) (events_of (after (code_in c.args.haystack.now c.args.code.now c.args.field g.deep) c.args.trail.now.now))) (marks_to (final c.args.field.longest (accepts c.args.field c.args.haystack.now)) (events_of (after (code_in c.args.haystack.now c.args.code.now c.args.field g.deep) c.args.trail.now.now))) c.steps.trail.now c.steps.trail.frames c.steps.best (returns_of c.steps.work) c.steps.invariant.searching c.turn.new.trail.now c.turn.new.trail.frames c.turn.new.best (rw c.in-On.is at (c.in-Ok.ensures.turned g.deep c.steps.invariant.searching.rest c.steps.invariant.searching.known)));
   room = omega (arith, c.turn.ensures.returns, c.steps.invariant.room);
   steps = omega (arith, steps_more c.steps.work c.turn.new.work c.turn.ensures.work, c.steps.invariant.steps);
   returns = omega (arith, c.turn.ensures.returns, c.steps.invariant.returns);
@@ -21,37 +21,37 @@ steps-preserved-in-On g c = record {
 }
 
 pub returns-in-Found-clause-answer : goal.returns-in-Found-clause-answer
-returns-in-Found-clause-answer g c = (search_found (code_in c.args.haystack.now c.args.code.now c.args.field g.deep) false (accepts c.args.field c.args.haystack.now) (chosen false (accepts c.args.field c.args.haystack.now) None (events_of (after (code_in c.args.haystack.now c.args.code.now c.args.field g.deep) c.args.trail.now.now))) (returns_of c.args.work.now + returns_to (final false (accepts c.args.field c.args.haystack.now)) (events_of (after (code_in c.args.haystack.now c.args.code.now c.args.field g.deep) c.args.trail.now.now))) (marks_to (final false (accepts c.args.field c.args.haystack.now)) (events_of (after (code_in c.args.haystack.now c.args.code.now c.args.field g.deep) c.args.trail.now.now))) c.steps.trail.now c.steps.trail.frames None (returns_of c.steps.work) c.steps.invariant.searching c.turn.new.trail.now c.turn.new.trail.frames None (rw c.in-Found.is at (c.in-Ok.ensures.turned g.deep c.steps.invariant.searching.rest c.steps.invariant.searching.known))).0
+returns-in-Found-clause-answer g c = (search_found (code_in c.args.haystack.now c.args.code.now c.args.field g.deep) c.args.field.longest (accepts c.args.field c.args.haystack.now) (chosen c.args.field.longest (accepts c.args.field c.args.haystack.now) None (events_of (after (code_in c.args.haystack.now c.args.code.now c.args.field g.deep) c.args.trail.now.now))) (returns_of c.args.work.now + returns_to (final c.args.field.longest (accepts c.args.field c.args.haystack.now)) (events_of (after (code_in c.args.haystack.now c.args.code.now c.args.field g.deep) c.args.trail.now.now))) (marks_to (final c.args.field.longest (accepts c.args.field c.args.haystack.now)) (events_of (after (code_in c.args.haystack.now c.args.code.now c.args.field g.deep) c.args.trail.now.now))) c.steps.trail.now c.steps.trail.frames c.steps.best (returns_of c.steps.work) c.steps.invariant.searching c.turn.new.trail.now c.turn.new.trail.frames c.turn.new.best (rw c.in-Found.is at (c.in-Ok.ensures.turned g.deep c.steps.invariant.searching.rest c.steps.invariant.searching.known))).0
 
 pub returns-in-Found-clause-count : goal.returns-in-Found-clause-count
-returns-in-Found-clause-count g c = c.turn.ensures.returns ∙ (search_found (code_in c.args.haystack.now c.args.code.now c.args.field g.deep) false (accepts c.args.field c.args.haystack.now) (chosen false (accepts c.args.field c.args.haystack.now) None (events_of (after (code_in c.args.haystack.now c.args.code.now c.args.field g.deep) c.args.trail.now.now))) (returns_of c.args.work.now + returns_to (final false (accepts c.args.field c.args.haystack.now)) (events_of (after (code_in c.args.haystack.now c.args.code.now c.args.field g.deep) c.args.trail.now.now))) (marks_to (final false (accepts c.args.field c.args.haystack.now)) (events_of (after (code_in c.args.haystack.now c.args.code.now c.args.field g.deep) c.args.trail.now.now))) c.steps.trail.now c.steps.trail.frames None (returns_of c.steps.work) c.steps.invariant.searching c.turn.new.trail.now c.turn.new.trail.frames None (rw c.in-Found.is at (c.in-Ok.ensures.turned g.deep c.steps.invariant.searching.rest c.steps.invariant.searching.known))).1
+returns-in-Found-clause-count g c = c.turn.ensures.returns ∙ (search_found (code_in c.args.haystack.now c.args.code.now c.args.field g.deep) c.args.field.longest (accepts c.args.field c.args.haystack.now) (chosen c.args.field.longest (accepts c.args.field c.args.haystack.now) None (events_of (after (code_in c.args.haystack.now c.args.code.now c.args.field g.deep) c.args.trail.now.now))) (returns_of c.args.work.now + returns_to (final c.args.field.longest (accepts c.args.field c.args.haystack.now)) (events_of (after (code_in c.args.haystack.now c.args.code.now c.args.field g.deep) c.args.trail.now.now))) (marks_to (final c.args.field.longest (accepts c.args.field c.args.haystack.now)) (events_of (after (code_in c.args.haystack.now c.args.code.now c.args.field g.deep) c.args.trail.now.now))) c.steps.trail.now c.steps.trail.frames c.steps.best (returns_of c.steps.work) c.steps.invariant.searching c.turn.new.trail.now c.turn.new.trail.frames c.turn.new.best (rw c.in-Found.is at (c.in-Ok.ensures.turned g.deep c.steps.invariant.searching.rest c.steps.invariant.searching.known))).1
 
 pub returns-in-Err-back-clause-refused : goal.returns-in-Err-back-clause-refused
 returns-in-Err-back-clause-refused g c e =
     let k = backed_err _ _ _ _ _ _ c.in-Err-back.ensures in
-    let lt = search_refused (code_in c.args.haystack.now c.args.code.now c.args.field g.deep) false (accepts c.args.field c.args.haystack.now) (chosen false (accepts c.args.field c.args.haystack.now) None (events_of (after (code_in c.args.haystack.now c.args.code.now c.args.field g.deep) c.args.trail.now.now))) (returns_of c.args.work.now + returns_to (final false (accepts c.args.field c.args.haystack.now)) (events_of (after (code_in c.args.haystack.now c.args.code.now c.args.field g.deep) c.args.trail.now.now))) (marks_to (final false (accepts c.args.field c.args.haystack.now)) (events_of (after (code_in c.args.haystack.now c.args.code.now c.args.field g.deep) c.args.trail.now.now))) c.steps.trail.now c.steps.trail.frames None (returns_of c.steps.work) c.steps.invariant.searching c.turn.new.trail.now c.turn.new.trail.frames None (rw c.in-Dead.is at (c.in-Ok.ensures.turned g.deep c.steps.invariant.searching.rest c.steps.invariant.searching.known)) k.0 in
+    let lt = search_refused (code_in c.args.haystack.now c.args.code.now c.args.field g.deep) c.args.field.longest (accepts c.args.field c.args.haystack.now) (chosen c.args.field.longest (accepts c.args.field c.args.haystack.now) None (events_of (after (code_in c.args.haystack.now c.args.code.now c.args.field g.deep) c.args.trail.now.now))) (returns_of c.args.work.now + returns_to (final c.args.field.longest (accepts c.args.field c.args.haystack.now)) (events_of (after (code_in c.args.haystack.now c.args.code.now c.args.field g.deep) c.args.trail.now.now))) (marks_to (final c.args.field.longest (accepts c.args.field c.args.haystack.now)) (events_of (after (code_in c.args.haystack.now c.args.code.now c.args.field g.deep) c.args.trail.now.now))) c.steps.trail.now c.steps.trail.frames c.steps.best (returns_of c.steps.work) c.steps.invariant.searching c.turn.new.trail.now c.turn.new.trail.frames c.turn.new.best (rw c.in-Dead.is at (c.in-Ok.ensures.turned g.deep c.steps.invariant.searching.rest c.steps.invariant.searching.known)) k.0 in
     omega (arith, lt, k.1, c.turn.ensures.returns)
 
 pub returns-then-not-taken-clause-answer : goal.returns-then-not-taken-clause-answer
 returns-then-not-taken-clause-answer g c =
     let b = rw c.if-not-taken.true at c.in-Ok-back.ensures in
-    (search_end (code_in c.args.haystack.now c.args.code.now c.args.field g.deep) false (accepts c.args.field c.args.haystack.now) (chosen false (accepts c.args.field c.args.haystack.now) None (events_of (after (code_in c.args.haystack.now c.args.code.now c.args.field g.deep) c.args.trail.now.now))) (returns_of c.args.work.now + returns_to (final false (accepts c.args.field c.args.haystack.now)) (events_of (after (code_in c.args.haystack.now c.args.code.now c.args.field g.deep) c.args.trail.now.now))) (marks_to (final false (accepts c.args.field c.args.haystack.now)) (events_of (after (code_in c.args.haystack.now c.args.code.now c.args.field g.deep) c.args.trail.now.now))) c.steps.trail.now c.steps.trail.frames None (returns_of c.steps.work) c.steps.invariant.searching c.turn.new.trail.now c.turn.new.trail.frames None (rw c.in-Dead.is at (c.in-Ok.ensures.turned g.deep c.steps.invariant.searching.rest c.steps.invariant.searching.known)) b.0).0
+    c.give.ensures ∙ (search_end (code_in c.args.haystack.now c.args.code.now c.args.field g.deep) c.args.field.longest (accepts c.args.field c.args.haystack.now) (chosen c.args.field.longest (accepts c.args.field c.args.haystack.now) None (events_of (after (code_in c.args.haystack.now c.args.code.now c.args.field g.deep) c.args.trail.now.now))) (returns_of c.args.work.now + returns_to (final c.args.field.longest (accepts c.args.field c.args.haystack.now)) (events_of (after (code_in c.args.haystack.now c.args.code.now c.args.field g.deep) c.args.trail.now.now))) (marks_to (final c.args.field.longest (accepts c.args.field c.args.haystack.now)) (events_of (after (code_in c.args.haystack.now c.args.code.now c.args.field g.deep) c.args.trail.now.now))) c.steps.trail.now c.steps.trail.frames c.steps.best (returns_of c.steps.work) c.steps.invariant.searching c.turn.new.trail.now c.turn.new.trail.frames c.turn.new.best (rw c.in-Dead.is at (c.in-Ok.ensures.turned g.deep c.steps.invariant.searching.rest c.steps.invariant.searching.known)) b.0).0
 
 pub returns-then-not-taken-clause-count : goal.returns-then-not-taken-clause-count
 returns-then-not-taken-clause-count g c =
     let b = rw c.if-not-taken.true at c.in-Ok-back.ensures in
-    ap returns_of b.1 ∙ c.turn.ensures.returns ∙ (search_end (code_in c.args.haystack.now c.args.code.now c.args.field g.deep) false (accepts c.args.field c.args.haystack.now) (chosen false (accepts c.args.field c.args.haystack.now) None (events_of (after (code_in c.args.haystack.now c.args.code.now c.args.field g.deep) c.args.trail.now.now))) (returns_of c.args.work.now + returns_to (final false (accepts c.args.field c.args.haystack.now)) (events_of (after (code_in c.args.haystack.now c.args.code.now c.args.field g.deep) c.args.trail.now.now))) (marks_to (final false (accepts c.args.field c.args.haystack.now)) (events_of (after (code_in c.args.haystack.now c.args.code.now c.args.field g.deep) c.args.trail.now.now))) c.steps.trail.now c.steps.trail.frames None (returns_of c.steps.work) c.steps.invariant.searching c.turn.new.trail.now c.turn.new.trail.frames None (rw c.in-Dead.is at (c.in-Ok.ensures.turned g.deep c.steps.invariant.searching.rest c.steps.invariant.searching.known)) b.0).1
+    ap returns_of b.1 ∙ c.turn.ensures.returns ∙ (search_end (code_in c.args.haystack.now c.args.code.now c.args.field g.deep) c.args.field.longest (accepts c.args.field c.args.haystack.now) (chosen c.args.field.longest (accepts c.args.field c.args.haystack.now) None (events_of (after (code_in c.args.haystack.now c.args.code.now c.args.field g.deep) c.args.trail.now.now))) (returns_of c.args.work.now + returns_to (final c.args.field.longest (accepts c.args.field c.args.haystack.now)) (events_of (after (code_in c.args.haystack.now c.args.code.now c.args.field g.deep) c.args.trail.now.now))) (marks_to (final c.args.field.longest (accepts c.args.field c.args.haystack.now)) (events_of (after (code_in c.args.haystack.now c.args.code.now c.args.field g.deep) c.args.trail.now.now))) c.steps.trail.now c.steps.trail.frames c.steps.best (returns_of c.steps.work) c.steps.invariant.searching c.turn.new.trail.now c.turn.new.trail.frames c.turn.new.best (rw c.in-Dead.is at (c.in-Ok.ensures.turned g.deep c.steps.invariant.searching.rest c.steps.invariant.searching.known)) b.0).1
 
 pub steps-smaller : goal.steps-smaller
 steps-smaller g c =
     let b = rw c.if-not-taken.false at c.in-Ok-back.ensures in
-    smaller_back (code_in c.args.haystack.now c.args.code.now c.args.field g.deep) false (accepts c.args.field c.args.haystack.now) (chosen false (accepts c.args.field c.args.haystack.now) None (events_of (after (code_in c.args.haystack.now c.args.code.now c.args.field g.deep) c.args.trail.now.now))) (returns_of c.args.work.now + returns_to (final false (accepts c.args.field c.args.haystack.now)) (events_of (after (code_in c.args.haystack.now c.args.code.now c.args.field g.deep) c.args.trail.now.now))) (marks_to (final false (accepts c.args.field c.args.haystack.now)) (events_of (after (code_in c.args.haystack.now c.args.code.now c.args.field g.deep) c.args.trail.now.now))) c.steps.trail.now c.steps.trail.frames None (returns_of c.steps.work) c.steps.invariant.searching c.turn.new.trail.now c.turn.new.trail.frames None c.back.new.self.now c.back.new.self.frames (rw c.in-Dead.is at (c.in-Ok.ensures.turned g.deep c.steps.invariant.searching.rest c.steps.invariant.searching.known)) b.0
+    smaller_back (code_in c.args.haystack.now c.args.code.now c.args.field g.deep) c.args.field.longest (accepts c.args.field c.args.haystack.now) (chosen c.args.field.longest (accepts c.args.field c.args.haystack.now) None (events_of (after (code_in c.args.haystack.now c.args.code.now c.args.field g.deep) c.args.trail.now.now))) (returns_of c.args.work.now + returns_to (final c.args.field.longest (accepts c.args.field c.args.haystack.now)) (events_of (after (code_in c.args.haystack.now c.args.code.now c.args.field g.deep) c.args.trail.now.now))) (marks_to (final c.args.field.longest (accepts c.args.field c.args.haystack.now)) (events_of (after (code_in c.args.haystack.now c.args.code.now c.args.field g.deep) c.args.trail.now.now))) c.steps.trail.now c.steps.trail.frames c.steps.best (returns_of c.steps.work) c.steps.invariant.searching c.turn.new.trail.now c.turn.new.trail.frames c.turn.new.best c.back.new.self.now c.back.new.self.frames (rw c.in-Dead.is at (c.in-Ok.ensures.turned g.deep c.steps.invariant.searching.rest c.steps.invariant.searching.known)) b.0
 
 pub steps-preserved : goal.steps-preserved
 steps-preserved g c =
     let b = rw c.if-not-taken.false at c.in-Ok-back.ensures in
     record {
-      searching = rw (b.2, c.turn.ensures.returns) (search_back (code_in c.args.haystack.now c.args.code.now c.args.field g.deep) false (accepts c.args.field c.args.haystack.now) (chosen false (accepts c.args.field c.args.haystack.now) None (events_of (after (code_in c.args.haystack.now c.args.code.now c.args.field g.deep) c.args.trail.now.now))) (returns_of c.args.work.now + returns_to (final false (accepts c.args.field c.args.haystack.now)) (events_of (after (code_in c.args.haystack.now c.args.code.now c.args.field g.deep) c.args.trail.now.now))) (marks_to (final false (accepts c.args.field c.args.haystack.now)) (events_of (after (code_in c.args.haystack.now c.args.code.now c.args.field g.deep) c.args.trail.now.now))) c.steps.trail.now c.steps.trail.frames None (returns_of c.steps.work) c.steps.invariant.searching c.turn.new.trail.now c.turn.new.trail.frames None c.back.new.self.now c.back.new.self.frames (rw c.in-Dead.is at (c.in-Ok.ensures.turned g.deep c.steps.invariant.searching.rest c.steps.invariant.searching.known)) b.0);
+      searching = rw (b.2, c.turn.ensures.returns) (search_back (code_in c.args.haystack.now c.args.code.now c.args.field g.deep) c.args.field.longest (accepts c.args.field c.args.haystack.now) (chosen c.args.field.longest (accepts c.args.field c.args.haystack.now) None (events_of (after (code_in c.args.haystack.now c.args.code.now c.args.field g.deep) c.args.trail.now.now))) (returns_of c.args.work.now + returns_to (final c.args.field.longest (accepts c.args.field c.args.haystack.now)) (events_of (after (code_in c.args.haystack.now c.args.code.now c.args.field g.deep) c.args.trail.now.now))) (marks_to (final c.args.field.longest (accepts c.args.field c.args.haystack.now)) (events_of (after (code_in c.args.haystack.now c.args.code.now c.args.field g.deep) c.args.trail.now.now))) c.steps.trail.now c.steps.trail.frames c.steps.best (returns_of c.steps.work) c.steps.invariant.searching c.turn.new.trail.now c.turn.new.trail.frames c.turn.new.best c.back.new.self.now c.back.new.self.frames (rw c.in-Dead.is at (c.in-Ok.ensures.turned g.deep c.steps.invariant.searching.rest c.steps.invariant.searching.known)) b.0);
       room = rw b.2 (omega (arith, b.3));
       steps = rw b.2 (omega (arith, steps_more c.steps.work c.turn.new.work c.turn.ensures.work, c.steps.invariant.steps));
       returns = rw b.2 (omega (arith, c.turn.ensures.returns, c.steps.invariant.returns));

@@ -1,4 +1,4 @@
-use Rattle.std.proofs.Common.{◌≡◌, ◌+◌, ◌≤◌, None, false}
+use Rattle.std.proofs.Common.{◌≡◌, ◌+◌, ◌≤◌, None}
 use Rattle.fancy_engine.specs.LastLines.{KnowsLastLines}
 use Rattle.fancy_engine.specs.Work.{steps_of, returns_of}
 use Rattle.fancy_machine.specs.Field.{accepts, code_in}
@@ -7,11 +7,11 @@ use Rattle.fancy_machine.proofs.machine.attempt.Given as goal
 
 abbrev pub invariant-steps : goal.invariant-steps
 invariant-steps g l = record {
-  searching : Searching false (accepts l.field l.haystack)
-      (chosen false (accepts l.field l.haystack) None (events_of (after (code_in l.haystack l.code l.field g.deep) l.fn.trail.now)))
-      (returns_of l.fn.work + returns_to (final false (accepts l.field l.haystack)) (events_of (after (code_in l.haystack l.code l.field g.deep) l.fn.trail.now)))
-      (marks_to (final false (accepts l.field l.haystack)) (events_of (after (code_in l.haystack l.code l.field g.deep) l.fn.trail.now)))
-      (left (code_in l.haystack l.code l.field g.deep) l.trail.now l.trail.frames) l.trail.frames None (returns_of l.work);
+  searching : Searching l.field.longest (accepts l.field l.haystack)
+      (chosen l.field.longest (accepts l.field l.haystack) None (events_of (after (code_in l.haystack l.code l.field g.deep) l.fn.trail.now)))
+      (returns_of l.fn.work + returns_to (final l.field.longest (accepts l.field l.haystack)) (events_of (after (code_in l.haystack l.code l.field g.deep) l.fn.trail.now)))
+      (marks_to (final l.field.longest (accepts l.field l.haystack)) (events_of (after (code_in l.haystack l.code l.field g.deep) l.fn.trail.now)))
+      (left (code_in l.haystack l.code l.field g.deep) l.trail.now l.trail.frames) l.trail.frames l.best (returns_of l.work);
   room : returns_of l.work ≤ l.limit;
   steps : steps_of l.fn.work ≤ steps_of l.work;
   returns : returns_of l.fn.work ≤ returns_of l.work;

@@ -1,15 +1,14 @@
-use Rattle.std.proofs.Common.{◌≡◌, ℕ, suc, ◌+◌, ◌-◌, ◌∙◌, Bool, true, false, Option, None, Result, Ok, Err, refl, sym, ap, ap₂, arith}
+use Rattle.std.proofs.Common.{◌≡◌, ℕ, suc, ◌+◌, ◌-◌, ◌∙◌, Bool, true, false, Option, Result, Ok, Err, refl, sym, ap, ap₂, arith}
 use Rattle.fancy_input.specs.Requests.{positions, effective_start}
 use Rattle.fancy_engine.specs.declared.refusal.Refusal.{Refusal}
 use Rattle.fancy_engine.specs.declared.reading.Suppressed.{Suppressed}
 use Rattle.fancy_engine.specs.Events.{marks_in, returns_in}
 use Rattle.fancy_engine.specs.Search.{context_of, admits}
-use Rattle.fancy_engine.proofs.Attempts.{search_hit, search_miss, search_skip, search_over, positions_none}
+use Rattle.fancy_engine.proofs.Attempts.{search_hit, search_miss, search_over, positions_none}
 use Rattle.fancy_machine.specs.declared.machine.Field.{Field}
 use Rattle.fancy_machine.specs.Asked.{asked}
 use Rattle.fancy_machine.specs.Field.{context_in, accepts}
-use Rattle.fancy_machine.specs.Machine.{chosen, final, returns_to, marks_to}
-use Rattle.fancy_machine.proofs.Positions.{begun_from, gone_skip, gone_hit, gone_more, gone_counts, gone_over}
+use Rattle.fancy_machine.proofs.Positions.{begun_from, nothing_admitted, gone_skip, gone_hit, gone_more, gone_counts, gone_over}
 use Rattle.fancy_machine.proofs.search.search.Goals as goal
 
 -- the same refusal of another call
@@ -28,13 +27,13 @@ returns-then-first-request-clause-count g c =
 
 pub loop-place-preserved-then-not-is_good : goal.loop-place-preserved-then-not-is_good
 loop-place-preserved-then-not-is_good g c =
-    let f : Field = record { continues = c.continues_from.result; suppressed = c.suppressed_in.result; on_boundaries = c.args.options.on_boundaries; not_empty = c.args.options.not_empty } in
+    let f : Field = record { continues = c.continues_from.result; suppressed = c.suppressed_in.result; on_boundaries = c.args.options.on_boundaries; not_empty = c.args.options.not_empty; longest = c.args.options.longest } in
     let q = (asked g.p c.args.code.now c.args.options c.args.haystack.now c.args.request) in
     let seen : context_in c.args.haystack.now c.args.code.now.meaning f ≡ context_of q =
     ap₂ (λ (here : Option ℕ) (s : Suppressed). record { haystack = c.args.haystack.now; meaning = c.args.code.now.meaning; continues_at = here; start_text_off = s.start; end_text_off = s.end }) c.continues_from.ensures c.suppressed_in.ensures in
     let may : admits q c.loop-place.place ≡ false = sym c.if-not-is_good.ensures in
     let en : (c.last_position-last.result + 1 - c.loop-place.place) ≡ suc (c.last_position-last.result + 1 - (c.loop-place.place + 1)) = omega arith in
-    let none = search_skip q c.loop-place.place refl may in
+    let none = nothing_admitted q c.loop-place.place may in
     let skip = gone_skip q (c.last_position-last.result + 1 - c.loop-place.place) (c.last_position-last.result + 1 - (c.loop-place.place + 1)) c.loop-place.place en may none in
     record {
       left = c.loop-place.invariant.left ∙ search_miss q (c.last_position-last.result + 1 - c.loop-place.place) (c.last_position-last.result + 1 - (c.loop-place.place + 1)) c.loop-place.place en none;
@@ -49,12 +48,12 @@ loop-place-preserved-then-not-is_good g c =
 
 pub attempt-requires : goal.attempt-requires
 attempt-requires g c =
-    let f : Field = record { continues = c.continues_from.result; suppressed = c.suppressed_in.result; on_boundaries = c.args.options.on_boundaries; not_empty = c.args.options.not_empty } in
+    let f : Field = record { continues = c.continues_from.result; suppressed = c.suppressed_in.result; on_boundaries = c.args.options.on_boundaries; not_empty = c.args.options.not_empty; longest = c.args.options.longest } in
     let q = (asked g.p c.args.code.now c.args.options c.args.haystack.now c.args.request) in
     let seen : context_in c.args.haystack.now c.args.code.now.meaning f ≡ context_of q =
     ap₂ (λ (here : Option ℕ) (s : Suppressed). record { haystack = c.args.haystack.now; meaning = c.args.code.now.meaning; continues_at = here; start_text_off = s.start; end_text_off = s.end }) c.continues_from.ensures c.suppressed_in.ensures in
     let may : admits q c.loop-place.place ≡ true = sym c.if-not-is_good.ensures in
-    let k = begun_from q c.args.code.now c.requires.0 refl refl refl c.requires.1.0 f seen refl refl c.loop-place.place may c.begin.new.self.now c.in-Ok.ensures.begun (omega (arith, c.last_position-last.ensures.inside)) in
+    let k = begun_from q c.args.code.now c.requires.0 refl refl c.requires.1.0 f seen refl refl refl c.loop-place.place may c.begin.new.self.now c.in-Ok.ensures.begun (omega (arith, c.last_position-last.ensures.inside)) in
     let ok = accepts f c.args.haystack.now in
     let er = k.returns in
     let em = k.marks in
@@ -63,12 +62,12 @@ attempt-requires g c =
 
 pub returns-in-Err-attempt-clause-refused : goal.returns-in-Err-attempt-clause-refused
 returns-in-Err-attempt-clause-refused g c e =
-    let f : Field = record { continues = c.continues_from.result; suppressed = c.suppressed_in.result; on_boundaries = c.args.options.on_boundaries; not_empty = c.args.options.not_empty } in
+    let f : Field = record { continues = c.continues_from.result; suppressed = c.suppressed_in.result; on_boundaries = c.args.options.on_boundaries; not_empty = c.args.options.not_empty; longest = c.args.options.longest } in
     let q = (asked g.p c.args.code.now c.args.options c.args.haystack.now c.args.request) in
     let seen : context_in c.args.haystack.now c.args.code.now.meaning f ≡ context_of q =
     ap₂ (λ (here : Option ℕ) (s : Suppressed). record { haystack = c.args.haystack.now; meaning = c.args.code.now.meaning; continues_at = here; start_text_off = s.start; end_text_off = s.end }) c.continues_from.ensures c.suppressed_in.ensures in
     let may : admits q c.loop-place.place ≡ true = sym c.if-not-is_good.ensures in
-    let k = begun_from q c.args.code.now c.requires.0 refl refl refl c.requires.1.0 f seen refl refl c.loop-place.place may c.begin.new.self.now c.in-Ok.ensures.begun (omega (arith, c.last_position-last.ensures.inside)) in
+    let k = begun_from q c.args.code.now c.requires.0 refl refl c.requires.1.0 f seen refl refl refl c.loop-place.place may c.begin.new.self.now c.in-Ok.ensures.begun (omega (arith, c.last_position-last.ensures.inside)) in
     let ok = accepts f c.args.haystack.now in
     let er = k.returns in
     let em = k.marks in
@@ -79,12 +78,12 @@ returns-in-Err-attempt-clause-refused g c e =
 
 pub returns-in-Err-attempt-clause-bounded : goal.returns-in-Err-attempt-clause-bounded
 returns-in-Err-attempt-clause-bounded g c =
-    let f : Field = record { continues = c.continues_from.result; suppressed = c.suppressed_in.result; on_boundaries = c.args.options.on_boundaries; not_empty = c.args.options.not_empty } in
+    let f : Field = record { continues = c.continues_from.result; suppressed = c.suppressed_in.result; on_boundaries = c.args.options.on_boundaries; not_empty = c.args.options.not_empty; longest = c.args.options.longest } in
     let q = (asked g.p c.args.code.now c.args.options c.args.haystack.now c.args.request) in
     let seen : context_in c.args.haystack.now c.args.code.now.meaning f ≡ context_of q =
     ap₂ (λ (here : Option ℕ) (s : Suppressed). record { haystack = c.args.haystack.now; meaning = c.args.code.now.meaning; continues_at = here; start_text_off = s.start; end_text_off = s.end }) c.continues_from.ensures c.suppressed_in.ensures in
     let may : admits q c.loop-place.place ≡ true = sym c.if-not-is_good.ensures in
-    let k = begun_from q c.args.code.now c.requires.0 refl refl refl c.requires.1.0 f seen refl refl c.loop-place.place may c.begin.new.self.now c.in-Ok.ensures.begun (omega (arith, c.last_position-last.ensures.inside)) in
+    let k = begun_from q c.args.code.now c.requires.0 refl refl c.requires.1.0 f seen refl refl refl c.loop-place.place may c.begin.new.self.now c.in-Ok.ensures.begun (omega (arith, c.last_position-last.ensures.inside)) in
     let ok = accepts f c.args.haystack.now in
     let er = k.returns in
     let em = k.marks in
@@ -94,12 +93,12 @@ returns-in-Err-attempt-clause-bounded g c =
 
 pub returns-in-Err-attempt-clause-crowded : goal.returns-in-Err-attempt-clause-crowded
 returns-in-Err-attempt-clause-crowded g c e =
-    let f : Field = record { continues = c.continues_from.result; suppressed = c.suppressed_in.result; on_boundaries = c.args.options.on_boundaries; not_empty = c.args.options.not_empty } in
+    let f : Field = record { continues = c.continues_from.result; suppressed = c.suppressed_in.result; on_boundaries = c.args.options.on_boundaries; not_empty = c.args.options.not_empty; longest = c.args.options.longest } in
     let q = (asked g.p c.args.code.now c.args.options c.args.haystack.now c.args.request) in
     let seen : context_in c.args.haystack.now c.args.code.now.meaning f ≡ context_of q =
     ap₂ (λ (here : Option ℕ) (s : Suppressed). record { haystack = c.args.haystack.now; meaning = c.args.code.now.meaning; continues_at = here; start_text_off = s.start; end_text_off = s.end }) c.continues_from.ensures c.suppressed_in.ensures in
     let may : admits q c.loop-place.place ≡ true = sym c.if-not-is_good.ensures in
-    let k = begun_from q c.args.code.now c.requires.0 refl refl refl c.requires.1.0 f seen refl refl c.loop-place.place may c.begin.new.self.now c.in-Ok.ensures.begun (omega (arith, c.last_position-last.ensures.inside)) in
+    let k = begun_from q c.args.code.now c.requires.0 refl refl c.requires.1.0 f seen refl refl refl c.loop-place.place may c.begin.new.self.now c.in-Ok.ensures.begun (omega (arith, c.last_position-last.ensures.inside)) in
     let ok = accepts f c.args.haystack.now in
     let er = k.returns in
     let em = k.marks in
@@ -110,12 +109,12 @@ returns-in-Err-attempt-clause-crowded g c e =
 
 pub returns-then-found-clause-answer : goal.returns-then-found-clause-answer
 returns-then-found-clause-answer g c =
-    let f : Field = record { continues = c.continues_from.result; suppressed = c.suppressed_in.result; on_boundaries = c.args.options.on_boundaries; not_empty = c.args.options.not_empty } in
+    let f : Field = record { continues = c.continues_from.result; suppressed = c.suppressed_in.result; on_boundaries = c.args.options.on_boundaries; not_empty = c.args.options.not_empty; longest = c.args.options.longest } in
     let q = (asked g.p c.args.code.now c.args.options c.args.haystack.now c.args.request) in
     let seen : context_in c.args.haystack.now c.args.code.now.meaning f ≡ context_of q =
     ap₂ (λ (here : Option ℕ) (s : Suppressed). record { haystack = c.args.haystack.now; meaning = c.args.code.now.meaning; continues_at = here; start_text_off = s.start; end_text_off = s.end }) c.continues_from.ensures c.suppressed_in.ensures in
     let may : admits q c.loop-place.place ≡ true = sym c.if-not-is_good.ensures in
-    let k = begun_from q c.args.code.now c.requires.0 refl refl refl c.requires.1.0 f seen refl refl c.loop-place.place may c.begin.new.self.now c.in-Ok.ensures.begun (omega (arith, c.last_position-last.ensures.inside)) in
+    let k = begun_from q c.args.code.now c.requires.0 refl refl c.requires.1.0 f seen refl refl refl c.loop-place.place may c.begin.new.self.now c.in-Ok.ensures.begun (omega (arith, c.last_position-last.ensures.inside)) in
     let ok = accepts f c.args.haystack.now in
     let er = k.returns in
     let em = k.marks in
@@ -126,12 +125,12 @@ returns-then-found-clause-answer g c =
 
 pub returns-then-found-clause-count : goal.returns-then-found-clause-count
 returns-then-found-clause-count g c =
-    let f : Field = record { continues = c.continues_from.result; suppressed = c.suppressed_in.result; on_boundaries = c.args.options.on_boundaries; not_empty = c.args.options.not_empty } in
+    let f : Field = record { continues = c.continues_from.result; suppressed = c.suppressed_in.result; on_boundaries = c.args.options.on_boundaries; not_empty = c.args.options.not_empty; longest = c.args.options.longest } in
     let q = (asked g.p c.args.code.now c.args.options c.args.haystack.now c.args.request) in
     let seen : context_in c.args.haystack.now c.args.code.now.meaning f ≡ context_of q =
     ap₂ (λ (here : Option ℕ) (s : Suppressed). record { haystack = c.args.haystack.now; meaning = c.args.code.now.meaning; continues_at = here; start_text_off = s.start; end_text_off = s.end }) c.continues_from.ensures c.suppressed_in.ensures in
     let may : admits q c.loop-place.place ≡ true = sym c.if-not-is_good.ensures in
-    let k = begun_from q c.args.code.now c.requires.0 refl refl refl c.requires.1.0 f seen refl refl c.loop-place.place may c.begin.new.self.now c.in-Ok.ensures.begun (omega (arith, c.last_position-last.ensures.inside)) in
+    let k = begun_from q c.args.code.now c.requires.0 refl refl c.requires.1.0 f seen refl refl refl c.loop-place.place may c.begin.new.self.now c.in-Ok.ensures.begun (omega (arith, c.last_position-last.ensures.inside)) in
     let ok = accepts f c.args.haystack.now in
     let er = k.returns in
     let em = k.marks in
@@ -146,12 +145,12 @@ returns-then-found-clause-bounded g c = let count = returns-then-found-clause-co
 
 pub loop-place-preserved : goal.loop-place-preserved
 loop-place-preserved g c =
-    let f : Field = record { continues = c.continues_from.result; suppressed = c.suppressed_in.result; on_boundaries = c.args.options.on_boundaries; not_empty = c.args.options.not_empty } in
+    let f : Field = record { continues = c.continues_from.result; suppressed = c.suppressed_in.result; on_boundaries = c.args.options.on_boundaries; not_empty = c.args.options.not_empty; longest = c.args.options.longest } in
     let q = (asked g.p c.args.code.now c.args.options c.args.haystack.now c.args.request) in
     let seen : context_in c.args.haystack.now c.args.code.now.meaning f ≡ context_of q =
     ap₂ (λ (here : Option ℕ) (s : Suppressed). record { haystack = c.args.haystack.now; meaning = c.args.code.now.meaning; continues_at = here; start_text_off = s.start; end_text_off = s.end }) c.continues_from.ensures c.suppressed_in.ensures in
     let may : admits q c.loop-place.place ≡ true = sym c.if-not-is_good.ensures in
-    let k = begun_from q c.args.code.now c.requires.0 refl refl refl c.requires.1.0 f seen refl refl c.loop-place.place may c.begin.new.self.now c.in-Ok.ensures.begun (omega (arith, c.last_position-last.ensures.inside)) in
+    let k = begun_from q c.args.code.now c.requires.0 refl refl c.requires.1.0 f seen refl refl refl c.loop-place.place may c.begin.new.self.now c.in-Ok.ensures.begun (omega (arith, c.last_position-last.ensures.inside)) in
     let ok = accepts f c.args.haystack.now in
     let er = k.returns in
     let em = k.marks in

@@ -42,7 +42,7 @@ returns-in_err-parsed-clause-succeeds c q x =
 pub returns-clause-accepted : goal.returns-clause-accepted
 returns-clause-accepted c =
     accepted (options_of c.args.syntax) c.in_ok-draft.draft c.in_ok-draft.ensures.value (c.deref.ensures.value ∙ c.in_ok-characters.ensures) c.in_ok-parsed.parsed c.with_sizes.result c.nodes.ensures (omega arith)
-    c.in_ok-parsed.ensures.tree c.in_ok-parsed.ensures.same c.in_ok-parsed.ensures.resolved c.with_sizes.ensures.value
+    c.in_ok-parsed.ensures.tree c.in_ok-parsed.ensures.same c.in_ok-parsed.ensures.resolved c.with_sizes.ensures.value c.with_sizes.ensures.sized c.with_sizes.ensures.fills
 
 pub returns-clause-refused : goal.returns-clause-refused
 returns-clause-refused c =

@@ -7,7 +7,7 @@ use Rattle.fancy_core.specs.Builders.{options_of}
 use Rattle.fancy_syntax.proofs.GroupLemmas.{numbered, wider}
 use Rattle.fancy_syntax.proofs.RefersFacts.{numbered-refers_to}
 use Rattle.fancy_syntax.specs.Groups.{Numbered}
-use Rattle.fancy_engine.proofs.SpelledLemmas.{bytes_accepted, start_accepted, sets_accepted}
+use Rattle.fancy_engine.proofs.SpelledLemmas.{bytes_accepted, kept_accepted, sets_accepted}
 use Rattle.fancy_core.proofs.BuiltLemmas.{is_refused, out_of_memory}
 use Rattle.fancy_core.proofs.RisingLemmas.{rising_names}
 use Rattle.fancy_core.proofs.ProgramSizeLemmas.{too_long, both_of, second_fails}
@@ -48,7 +48,7 @@ invariant_of-result c = record {
   short = c.in_ok-code.ensures.short;
   decided = c.is_easy-easy.ensures;
   light = c.in_ok-code.ensures.easy;
-  starts = start_accepted (c.in_ok-tree.ensures.accepted.0);
+  starts = kept_accepted (c.in_ok-tree.ensures.accepted.0);
   whole = λ e. bytes_accepted (ap (λ (o : dialect.Options). o.keeps_characters) c.syntax.ensures ∙ e) (c.in_ok-tree.ensures.accepted.0);
 }
 
@@ -57,8 +57,9 @@ returns-then-forbids c =
     let h = rw (c.syntax.ensures, c.options-options.ensures, c.as_str.ensures.value) at c.in_ok-tree.ensures.accepted.0 in
     let found = rw (c.options-options.ensures, c.len.ensures) at (sym c.if-forbids.ensures) in
     let why = both_of _ _ found in
-    is_refused _ _ _ (inr (_, h, too_long (options_of c.args.self.now) _ _ _ _ h h (sym c.is_easy-easy.ensures ∙ why.0) (c.in_ok-code.ensures.short) why.1))
-    (λ p x. too_long (options_of c.args.self.now) _ _ _ _ x h (sym c.is_easy-easy.ensures ∙ why.0) (c.in_ok-code.ensures.short) why.1)
+    let hard = rw c.options-options.ensures at (sym c.is_easy-easy.ensures ∙ why.0) in
+    is_refused _ _ _ (inr (_, h, too_long (options_of c.args.self.now) _ _ _ _ h h hard (c.in_ok-code.ensures.short) why.1))
+    (λ p x. too_long (options_of c.args.self.now) _ _ _ _ x h hard (c.in_ok-code.ensures.short) why.1)
 
 pub returns : goal.returns
 returns c = record {

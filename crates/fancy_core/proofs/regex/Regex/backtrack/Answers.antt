@@ -14,7 +14,7 @@ search-requires g c =
 pub returns-in-Ok-clause-answer : goal.returns-in-Ok-clause-answer
 returns-in-Ok-clause-answer g c =
     let of : g.p ≡ pattern_of c.args.self.now.tree = c.requires.1.0 in
-    sym (by_machine _ _ _) ∙ (rw (of, c.args.self.now.meant, c.keeps_characters-on_boundaries.ensures) at c.in-Ok.ensures.answer)
+    sym (by_machine _ _ _ _) ∙ (rw (of, c.args.self.now.meant, c.keeps_characters-on_boundaries.ensures) at c.in-Ok.ensures.answer)
 
 pub returns-in-Ok-clause-counted : goal.returns-in-Ok-clause-counted
 returns-in-Ok-clause-counted g c =

@@ -2,11 +2,14 @@ use Rattle.std.proofs.Common.{sym, ◌∙◌}
 use Rattle.fancy_engine.proofs.EasyLemmas.{easy_code}
 use Rattle.fancy_core.proofs.SearchedLemmas.{known}
 use Rattle.fancy_core.proofs.ServedLemmas.{by_runner}
+use Rattle.fancy_core.proofs.ProgramSizeLemmas.{parts_of_easy}
 use Rattle.fancy_core.proofs.regex.Regex.run.Goals as goal
 
 pub search-requires-clause-easy : goal.search-requires-clause-easy
-search-requires-clause-easy c = easy_code _ (c.args.self.now.light c.requires.easy)
+search-requires-clause-easy c = easy_code _ (c.args.self.now.light (parts_of_easy _ _ _ c.requires.easy).0)
 
 pub returns-in-Ok-clause-answer : goal.returns-in-Ok-clause-answer
-returns-in-Ok-clause-answer c on = sym (by_runner _ _ _) ∙ known _ _ c.args.self.now.compiled
-    (λ compiled. rw (c.args.self.now.meant, c.keeps_characters-on_boundaries.ensures) at (c.in-Ok.ensures.answer _ on compiled.coded))
+returns-in-Ok-clause-answer c on =
+    let easy = parts_of_easy _ _ _ c.requires.easy in
+    rw (easy.1, easy.2) (sym (by_runner _ _ _ _) ∙ known _ _ c.args.self.now.compiled
+    (λ compiled. rw (c.args.self.now.meant, c.keeps_characters-on_boundaries.ensures) at (c.in-Ok.ensures.answer _ on compiled.coded)))

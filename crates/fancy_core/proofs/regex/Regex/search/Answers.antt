@@ -1,4 +1,3 @@
-use Rattle.std.proofs.Common.{refl}
 use Rattle.fancy_core.specs.Regexes.{asked_in_turn}
 use Rattle.fancy_core.proofs.ReplaceLemmas.{if_ok}
 use Rattle.fancy_core.proofs.SearchedLemmas.{ordered_found, inside_found, clean_found}
@@ -9,24 +8,24 @@ returns-then-self-clause-answer c = if_ok _ _ (λ m e. e c.args.continues) c.run
 
 pub returns-then-self-clause-ordered : goal.returns-then-self-clause-ordered
 returns-then-self-clause-ordered c =
-    if_ok _ _ (λ m e. ordered_found (asked_in_turn c.args.self.now c.args.haystack.now c.args.request c.args.continues) c.run.new.memory refl c.requires.inside c.args.self.now.starts m (e c.args.continues)) c.run.result c.run.ensures.answer
+    if_ok _ _ (λ m e. ordered_found (asked_in_turn c.args.self.now c.args.haystack.now c.args.request c.args.continues) c.run.new.memory c.requires.inside c.args.self.now.starts m (e c.args.continues)) c.run.result c.run.ensures.answer
 
 pub returns-then-self-clause-inside : goal.returns-then-self-clause-inside
 returns-then-self-clause-inside c =
-    if_ok _ _ (λ m e. inside_found (asked_in_turn c.args.self.now c.args.haystack.now c.args.request c.args.continues) c.run.new.memory refl c.requires.inside c.args.self.now.starts m (e c.args.continues)) c.run.result c.run.ensures.answer
+    if_ok _ _ (λ m e. inside_found (asked_in_turn c.args.self.now c.args.haystack.now c.args.request c.args.continues) c.run.new.memory c.requires.inside c.args.self.now.starts m (e c.args.continues)) c.run.result c.run.ensures.answer
 
 pub returns-then-self-clause-cleanly : goal.returns-then-self-clause-cleanly
 returns-then-self-clause-cleanly c = λ on.
-    if_ok _ _ (λ m e. clean_found (asked_in_turn c.args.self.now c.args.haystack.now c.args.request c.args.continues) c.run.new.memory refl c.requires.inside c.args.self.now.starts m on (e c.args.continues)) c.run.result c.run.ensures.answer
+    if_ok _ _ (λ m e. clean_found (asked_in_turn c.args.self.now c.args.haystack.now c.args.request c.args.continues) c.run.new.memory c.requires.inside c.args.self.now.starts m on (e c.args.continues)) c.run.result c.run.ensures.answer
 
 pub returns-clause-ordered : goal.returns-clause-ordered
 returns-clause-ordered c =
-    if_ok _ _ (ordered_found (asked_in_turn c.args.self.now c.args.haystack.now c.args.request c.args.continues) c.backtrack.new.memory refl c.requires.inside c.args.self.now.starts) c.backtrack.result c.backtrack.ensures.answer
+    if_ok _ _ (ordered_found (asked_in_turn c.args.self.now c.args.haystack.now c.args.request c.args.continues) c.backtrack.new.memory c.requires.inside c.args.self.now.starts) c.backtrack.result c.backtrack.ensures.answer
 
 pub returns-clause-inside : goal.returns-clause-inside
 returns-clause-inside c =
-    if_ok _ _ (inside_found (asked_in_turn c.args.self.now c.args.haystack.now c.args.request c.args.continues) c.backtrack.new.memory refl c.requires.inside c.args.self.now.starts) c.backtrack.result c.backtrack.ensures.answer
+    if_ok _ _ (inside_found (asked_in_turn c.args.self.now c.args.haystack.now c.args.request c.args.continues) c.backtrack.new.memory c.requires.inside c.args.self.now.starts) c.backtrack.result c.backtrack.ensures.answer
 
 pub returns-clause-cleanly : goal.returns-clause-cleanly
 returns-clause-cleanly c = λ on.
-    if_ok _ _ (λ m e. clean_found (asked_in_turn c.args.self.now c.args.haystack.now c.args.request c.args.continues) c.backtrack.new.memory refl c.requires.inside c.args.self.now.starts m on e) c.backtrack.result c.backtrack.ensures.answer
+    if_ok _ _ (λ m e. clean_found (asked_in_turn c.args.self.now c.args.haystack.now c.args.request c.args.continues) c.backtrack.new.memory c.requires.inside c.args.self.now.starts m on e) c.backtrack.result c.backtrack.ensures.answer

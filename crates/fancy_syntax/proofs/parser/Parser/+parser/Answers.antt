@@ -1,30 +1,30 @@
-use Rattle.std.proofs.Common.{◌-◌, ◌∙◌, [], ◌∷◌, sym, ap, map, append-nil, arith}
+use Rattle.std.proofs.Common.{◌-◌, ◌∙◌, subst, [], ◌∷◌, sym, ap, map, append-nil, arith}
 use Rattle.std.proofs.lemmas.List.{map-append}
 use Rattle.std.proofs.lemmas.Result.{err_from_is_err_and}
-use Rattle.fancy_syntax.specs.Pattern.{pattern_of, in_branches}
+use Rattle.fancy_syntax.specs.Pattern.{pattern_of}
 use Rattle.fancy_syntax.specs.Dialect.{back_to}
-use Rattle.fancy_syntax.specs.Grammar.{Place, Item, quantified}
-use Rattle.fancy_syntax.specs.Views.{place, part_of, Alternation, Sequence}
-use Rattle.fancy_syntax.proofs.ReadingLemmas.{refused, Refuses-weaker, goes_on_then, no_branch, branch_step, alternation_is, item_step_at, no_item_at, sequence_is_at, no_atom, no_opening, no_quantified, single_is, setting_is, no_room, no_body, unclosed, no_quantified_group, group_is, no_quantified_reference, reference_is, found_group}
+use Rattle.fancy_syntax.specs.Grammar.{Place, Branches, Opens, Item, quantified, start}
+use Rattle.fancy_syntax.specs.Views.{place, found, patterns_of, part_of, Sequence, IsTheReading}
+use Rattle.fancy_syntax.proofs.ReadingLemmas.{refused, Refuses-weaker, goes_on_then, no_branch, branch_step, alternation_is, item_step_at, no_item_at, sequence_is_at, no_atom, no_opening, no_quantified, single_is, setting_is, no_body, unclosed, no_quantified_group, group_is, no_quantified_reference, reference_is, found_group, not_asked, opened_in, some_room, asked, room_inside, no_condition, unclosed_condition, condition_is}
 use Rattle.fancy_syntax.proofs.parser.Parser.+parser.Goals as goal
 
-pub alternation-returns-in_err-branch-clause-value :
-    goal.alternation-returns-in_err-branch-clause-value
-alternation-returns-in_err-branch-clause-value t c =
+pub alternatives-returns-in_err-branch-clause-value :
+    goal.alternatives-returns-in_err-branch-clause-value
+alternatives-returns-in_err-branch-clause-value t c =
     let p = err_from_is_err_and c.from_residual.result c.from_residual.ensures.1 in
-    refused pattern_of (Alternation c.args.room) c.from_residual.result _ _ p.0 c.in_err-branch.field-0.0 p.1 p.2
+    refused patterns_of (Branches c.args.room) c.from_residual.result _ _ p.0 c.in_err-branch.field-0.0 p.1 p.2
     (Refuses-weaker c.in_err-branch.field-0.0 (no_branch c.loop-found.invariant.goes_on) c.in_err-branch.ensures.value)
 
-pub alternation-loop-found-preserved : goal.alternation-loop-found-preserved
-alternation-loop-found-preserved t c = record {
+pub alternatives-loop-found-preserved : goal.alternatives-loop-found-preserved
+alternatives-loop-found-preserved t c = record {
   goes_on = rw (c.skip.ensures.place, c.in_ok-push.ensures.items, map-append) (goes_on_then c.loop-found.invariant.goes_on (branch_step c.in_ok-branch.ensures.value (sym c.if-not-is_at_any.ensures.value)));
   forward = omega (arith, c.loop-found.invariant.forward, c.in_ok-branch.ensures.forward, c.skip.ensures.shorter);
 }
 
-pub alternation-returns-clause-value : goal.alternation-returns-clause-value
-alternation-returns-clause-value t c =
-    alternation_is {done = map pattern_of c.loop-found.found.items} (pattern_of c.branches.result) c.loop-found.invariant.goes_on c.in_ok-branch.ensures.value (sym c.if-not-is_at_any.ensures.value)
-    (c.branches.ensures ∙ ap in_branches (ap (map pattern_of) c.in_ok-push.ensures.items ∙ map-append pattern_of c.loop-found.found.items (c.in_ok-branch.branch ∷ [])))
+pub alternatives-returns-clause-value : goal.alternatives-returns-clause-value
+alternatives-returns-clause-value t c =
+    alternation_is {done = map pattern_of c.loop-found.found.items} _ c.loop-found.invariant.goes_on c.in_ok-branch.ensures.value (sym c.if-not-is_at_any.ensures.value)
+    (ap (map pattern_of) c.in_ok-push.ensures.items ∙ map-append pattern_of c.loop-found.found.items (c.in_ok-branch.branch ∷ []))
 
 pub item-returns-in_err-part-clause-value : goal.item-returns-in_err-part-clause-value
 item-returns-in_err-part-clause-value t c =
@@ -53,20 +53,20 @@ item-returns-then-not-is_at_any-clause-value t c =
 
 pub item-returns-in-Setting-clause-value : goal.item-returns-in-Setting-clause-value
 item-returns-in-Setting-clause-value t c =
-    setting_is (c.args.room - 1) (sym c.if-not-is_at_any.ensures.value) (rw c.in-Setting.is at c.in_ok-how.ensures.value) (omega arith)
+    setting_is (sym c.if-not-is_at_any.ensures.value) (rw c.in-Setting.is at c.in_ok-how.ensures.value)
 
 pub item-returns-in_err-body : goal.item-returns-in_err-body
 item-returns-in_err-body t c =
     let p = err_from_is_err_and c.from_residual-in_err-body.result c.from_residual-in_err-body.ensures.1 in
     record {
       value = refused part_of (Item c.args.room) c.from_residual-in_err-body.result _ _ p.0 c.in_err-body.field-0.0 p.1 p.2
-          (Refuses-weaker c.in_err-body.field-0.0 (no_body (sym c.if-not-is_at_any.ensures.value) c.in_ok-how.ensures.value (found_group _ c.in_default.not-Setting c.in_default-how.not-Reference) (omega arith)) c.in_err-body.ensures.value);
+          (Refuses-weaker c.in_err-body.field-0.0 (no_body (sym c.if-not-is_at_any.ensures.value) c.in_ok-how.ensures.value (found_group _ c.in_default.not-Setting c.in_default-how.not-Reference (not_asked c.in_ok-how.ensures.value.0)) (omega (arith, c.in_ok-how.ensures.room))) c.in_err-body.ensures.value);
       progress = rw p.1 tt;
     }
 
 pub item-returns-then-not-is_at_any-2 : goal.item-returns-then-not-is_at_any-2
 item-returns-then-not-is_at_any-2 t c = record {
-  value = rw c.error-then-not-is_at_any-2.ensures (unclosed (sym c.if-not-is_at_any.ensures.value) c.in_ok-how.ensures.value (found_group _ c.in_default.not-Setting c.in_default-how.not-Reference) (omega arith)
+  value = rw c.error.ensures (unclosed (sym c.if-not-is_at_any.ensures.value) c.in_ok-how.ensures.value (found_group _ c.in_default.not-Setting c.in_default-how.not-Reference (not_asked c.in_ok-how.ensures.value.0)) (omega (arith, c.in_ok-how.ensures.room))
       c.in_ok-body.ensures.value (sym c.if-not-is_at_any-2.ensures.value));
   progress = tt;
 }
@@ -83,7 +83,7 @@ item-returns-in_err-quantified-2 t c =
 
 pub item-returns-in-Reference : goal.item-returns-in-Reference
 item-returns-in-Reference t c = record {
-  value = reference_is (sym c.if-not-is_at_any.ensures.value) (rw c.in-Reference.is at c.in_ok-how.ensures.value) (c.args.room - 1) (omega arith) (rw c.reference.ensures at c.in_ok-quantified-2.ensures.value);
+  value = reference_is (sym c.if-not-is_at_any.ensures.value) (rw c.in-Reference.is at c.in_ok-how.ensures.value) (rw c.reference.ensures at c.in_ok-quantified-2.ensures.value);
   progress = omega (arith, c.in_ok-quantified-2.ensures.progress, c.in_ok-how.ensures.progress);
 }
 
@@ -93,7 +93,7 @@ item-returns-in_err-quantified-3 t c =
     record {
       value = refused part_of (Item c.args.room) c.from_residual-in_err-quantified-3.result _ _ p.0 c.in_err-quantified-3.field-0.0 p.1 p.2
           (Refuses-weaker c.in_err-quantified-3.field-0.0
-          (λ none. no_quantified_group (sym c.if-not-is_at_any.ensures.value) c.in_ok-how.ensures.value (found_group _ c.in_default.not-Setting c.in_default-how.not-Reference) (omega arith)
+          (λ none. no_quantified_group (sym c.if-not-is_at_any.ensures.value) c.in_ok-how.ensures.value (found_group _ c.in_default.not-Setting c.in_default-how.not-Reference (not_asked c.in_ok-how.ensures.value.0)) (omega (arith, c.in_ok-how.ensures.room))
           c.in_ok-body.ensures.value c.in_ok-group.ensures
           (ap (λ (s : Place). quantified (pattern_of c.in_ok-group.group) (record { text = s.text; scope = back_to (place c.args.self.now).scope s.scope })) (sym c.skip.ensures.place) ∙ none)) c.in_err-quantified-3.ensures.value);
       progress = rw p.1 tt;
@@ -101,7 +101,7 @@ item-returns-in_err-quantified-3 t c =
 
 pub item-returns : goal.item-returns
 item-returns t c = record {
-  value = group_is (sym c.if-not-is_at_any.ensures.value) c.in_ok-how.ensures.value (found_group _ c.in_default.not-Setting c.in_default-how.not-Reference) (omega arith)
+  value = group_is (sym c.if-not-is_at_any.ensures.value) c.in_ok-how.ensures.value (found_group _ c.in_default.not-Setting c.in_default-how.not-Reference (not_asked c.in_ok-how.ensures.value.0)) (omega (arith, c.in_ok-how.ensures.room))
       c.in_ok-body.ensures.value (sym c.if-not-is_at_any-2.ensures.value) c.in_ok-group.ensures
       (ap (λ (s : Place). quantified (pattern_of c.in_ok-group.group) (record { text = s.text; scope = back_to (place c.args.self.now).scope s.scope })) (sym c.skip.ensures.place) ∙ c.in_ok-quantified-3.ensures.value);
   progress = omega (arith, c.in_ok-quantified-3.ensures.progress, c.skip.ensures.shorter, c.in_ok-body.ensures.forward, c.in_ok-how.ensures.progress);
@@ -130,6 +130,27 @@ sequence-returns-in_err-part-clause-value t c =
     refused pattern_of (Sequence c.args.room) c.from_residual.result _ _ p.0 c.in_err-part.field-0.0 p.1 p.2
     (Refuses-weaker c.in_err-part.field-0.0 (no_item_at c.loop-self.invariant.goes_on c.skip_blanks.ensures.place (sym c.if-ends_branch.ensures)) c.in_err-part.ensures.value)
 
-pub item-returns-then-room-eq0-clause-value :
-    goal.item-returns-then-room-eq0-clause-value
-item-returns-then-room-eq0-clause-value t c = rw c.error.ensures (no_room (sym c.if-not-is_at_any.ensures.value) c.if-room-eq0.true)
+pub head-returns-then-not-asks-clause-value : goal.head-returns-then-not-asks-clause-value
+head-returns-then-not-asks-clause-value t c =
+    let v = c.in_ok-how.ensures.value in
+    opened_in (c.args.room - 1) (omega (arith, some_room (found c.in_ok-how.how) v.1)) v.0 (sym c.if-not-asks.ensures) v.1
+
+pub head-returns-in_err-condition-clause-value : goal.head-returns-in_err-condition-clause-value
+head-returns-in_err-condition-clause-value t c =
+    let v = c.in_ok-how.ensures.value in
+    let p = err_from_is_err_and c.from_residual-in_err-condition.result c.from_residual-in_err-condition.ensures.1 in
+    refused found (Opens c.args.room) c.from_residual-in_err-condition.result _ _ p.0 c.in_err-condition.field-0.0 p.1 p.2
+    (Refuses-weaker c.in_err-condition.field-0.0 (no_condition (asked (place c.args.self.now) v.0 (sym c.if-not-asks.ensures)) (room_inside (found c.in_ok-how.how) (sym c.if-not-asks.ensures) v.1)) c.in_err-condition.ensures.value)
+
+pub head-returns-then-not-is_at_any-clause-value : goal.head-returns-then-not-is_at_any-clause-value
+head-returns-then-not-is_at_any-clause-value t c =
+    let v = c.in_ok-how.ensures.value in
+    rw c.error.ensures
+    (unclosed_condition (asked (place c.args.self.now) v.0 (sym c.if-not-asks.ensures)) (room_inside (found c.in_ok-how.how) (sym c.if-not-asks.ensures) v.1) c.in_ok-condition.ensures.value (sym c.if-not-is_at_any.ensures.value))
+
+pub head-returns-clause-value : goal.head-returns-clause-value
+head-returns-clause-value t c =
+    let v = c.in_ok-how.ensures.value in
+    subst (λ z. IsTheReading (Opens c.args.room) (place c.args.self.now) (found c.in_ok-chosen.chosen) z)
+    (ap (λ (s : Place). start (back_to (place c.args.self.now).scope s.scope) s.text) (sym c.skip.ensures.place))
+    (condition_is (asked (place c.args.self.now) v.0 (sym c.if-not-asks.ensures)) (room_inside (found c.in_ok-how.how) (sym c.if-not-asks.ensures) v.1) c.in_ok-condition.ensures.value (sym c.if-not-is_at_any.ensures.value) c.in_ok-chosen.ensures)

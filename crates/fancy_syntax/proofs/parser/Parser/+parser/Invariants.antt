@@ -5,23 +5,26 @@ use Rattle.fancy_syntax.specs.Grammar.{Parts, Branches}
 use Rattle.fancy_syntax.proofs.ReadingLemmas.{GoesOn}
 use Rattle.fancy_syntax.proofs.parser.Parser.+parser.Given as goal
 
-abbrev pub decreases-alternation : goal.decreases-alternation
-decreases-alternation l = 3 * l.room + 2
+abbrev pub decreases-alternatives : goal.decreases-alternatives
+decreases-alternatives l = 4 * l.room + 3
 
 abbrev pub decreases-sequence : goal.decreases-sequence
-decreases-sequence l = 3 * l.room + 1
+decreases-sequence l = 4 * l.room + 2
 
 abbrev pub decreases-item : goal.decreases-item
-decreases-item l = 3 * l.room
+decreases-item l = 4 * l.room + 1
 
-abbrev pub invariant-alternation-loop-found : goal.invariant-alternation-loop-found
-invariant-alternation-loop-found l = record {
+abbrev pub decreases-head : goal.decreases-head
+decreases-head l = 4 * l.room
+
+abbrev pub invariant-alternatives-loop-found : goal.invariant-alternatives-loop-found
+invariant-alternatives-loop-found l = record {
   goes_on : GoesOn (Branches l.room) (place l.fn.self) (map pattern_of l.found.items) (place l.self);
   forward : length l.self.rest.now ≤ length l.fn.self.rest.now;
 }
 
-abbrev pub decreases-alternation-loop-found : goal.decreases-alternation-loop-found
-decreases-alternation-loop-found l = length l.self.rest.now
+abbrev pub decreases-alternatives-loop-found : goal.decreases-alternatives-loop-found
+decreases-alternatives-loop-found l = length l.self.rest.now
 
 abbrev pub invariant-sequence-loop-self : goal.invariant-sequence-loop-self
 invariant-sequence-loop-self l = record {

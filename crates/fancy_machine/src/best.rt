@@ -1,0 +1,83 @@
+//! The best outcome of an attempt so far, where the longest is asked for.
+
+ghost use Rattle.std.specs.Prelude.{◌≡◌, map, None, if◌then◌else◌, OnOk};
+
+use crate::trail::Trail;
+use fancy_engine::slot::Slot;
+use std::alloc::{AllocError, Global};
+use std::marker::Model;
+
+/// The best outcome so far, if there is one. It has slots of its own, since the trail goes on from it.
+#[derive(Drop)]
+pub struct Best {
+    found: bool,
+    place: usize,
+    kept: usize,
+    slots: Vec<Slot>,
+}
+
+impl Model for Best {
+    ghost use Rattle.std.specs.Prelude.{Option};
+    ghost use Rattle.fancy_engine.specs.Context.{State};
+    ghost use Rattle.fancy_machine.specs.Held.{outcome_of};
+
+    ghost Value = { Option State };
+
+    ghost view = { λ b. outcome_of b.found b.place b.kept b.slots.items };
+}
+
+impl Best {
+    ghost use Rattle.fancy_machine.specs.Field.{found_state};
+    ghost use Rattle.fancy_machine.specs.Machine.{betters, better};
+
+    /// No outcome so far.
+    pub fn new(alloc: Global) -> Best
+        ensures { result ≡ None }
+    {
+        Best {
+            found: false,
+            place: 0,
+            kept: 0,
+            slots: Vec::new(alloc),
+        }
+    }
+
+    /// Forgets the outcome, and keeps its memory.
+    pub fn clear(&mut self)
+        ensures { self.new ≡ None }
+    {
+        self.found = false;
+    }
+
+    /// Whether an outcome that ends at a place is better: of those that end at one place the first is kept.
+    fn is_bettered_by(&self, place: usize) -> bool
+        ensures { result ≡ betters self.now place }
+    {
+        !self.found || self.place < place
+    }
+
+    /// Keeps the outcome at which the trail stands, if it is better.
+    pub fn offer(&mut self, trail: &Trail) -> Result<(), AllocError>
+        ensures { OnOk result (self.new ≡ better self.old trail.now.now.state) }
+    {
+        if !self.is_bettered_by(trail.place()) {
+            return Ok(());
+        }
+        self.slots.clear();
+        self.slots.extend_from_slice(trail.slots())?;
+        self.place = trail.place();
+        self.kept = trail.kept();
+        self.found = true;
+        Ok(())
+    }
+
+    /// Whether there is an outcome, where the trail then stands.
+    pub fn give(&mut self, trail: &mut Trail) -> bool
+        ensures { found_state result trail.new.now ≡ self.old }
+    {
+        if self.found {
+            trail.stand(self.place, self.kept, &mut self.slots);
+        }
+        self.found
+    }
+}

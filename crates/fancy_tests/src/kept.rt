@@ -1,0 +1,215 @@
+//! `\K`, which moves the start of what is found, and `\G`, which holds where the search starts.
+
+use crate::asking::{
+    AllGroupsRow, BYTES, BytesRow, CHARACTERS, CHARACTERS_ANYWHERE, FirstPiecesRow, GroupsRow,
+    KindRow, OVERRIDING, PiecesRow, ReplacedRow, SearchRow, Settings, Span, TextListRow, TextRow,
+    check_all_groups, check_first_pieces, check_groups, check_kind, check_pieces, check_replaced,
+    check_search, check_span, check_text_list, check_texts, first_span, regex_with,
+};
+use fancy_regex::{ParseErrorKind, RegexInput};
+
+const KEPT_STARTS: &[TextRow] = &[
+    ("a\\Kb", "ab", Some((1, 2))),
+    ("foo\\Kbar", "foobar", Some((3, 6))),
+    ("\\Ka", "ba", Some((1, 2))),
+    ("a\\K", "ba", Some((2, 2))),
+    ("\\K", "a", Some((0, 0))),
+    // the last one that was met counts
+    ("a\\Kb\\Kc", "abc", Some((2, 3))),
+    ("(?:\\Ka)+", "aaa", Some((2, 3))),
+    ("(?:a\\K)*b", "aab", Some((2, 3))),
+    ("a\\K{2}b", "ab", Some((1, 2))),
+    ("a\\K?b", "ab", Some((1, 2))),
+    // what a branch that failed had kept is forgotten
+    ("(?:a\\Kx|a)b", "ab", Some((0, 2))),
+    ("a(?:b\\K)?c", "ac", Some((0, 2))),
+    ("a(?:b\\K)?c", "abc", Some((2, 3))),
+    ("(?:a\\K|ab)c", "abc", Some((0, 3))),
+    // what an atomic part kept stays
+    ("(?>a\\K)b", "ab", Some((1, 2))),
+    ("(?>a\\Kb|a)c", "ac", Some((0, 2))),
+    ("(?:a\\K)++b", "aab", Some((2, 3))),
+    ("(?(a\\K)b|c)", "ab", Some((1, 2))),
+    ("(a\\K)?(?(1)b|c)", "ab", Some((1, 2))),
+];
+
+#[test]
+fn a_match_starts_where_it_was_kept(rt: HostRuntime) {
+    check_texts(&rt, rt.alloc(), KEPT_STARTS);
+}
+
+const SEARCHES: &[SearchRow<&str>] = &[
+    // the position is where the pattern began, the start where it was kept
+    (CHARACTERS, "a\\Kb", "ab", 0, (0, 2), true, Some((1, 2))),
+    (CHARACTERS, "a\\Kb", "ab", 1, (0, 2), false, None),
+    (CHARACTERS, "a\\Kb", "cab", 0, (0, 3), true, None),
+    (CHARACTERS, "a\\K", "aa", 1, (0, 2), false, Some((2, 2))),
+    // `\G` holds at the start of the search, or of its range
+    (CHARACTERS, "\\Gx", "yx", 0, (0, 2), false, None),
+    (CHARACTERS, "\\Gx", "yx", 1, (0, 2), false, Some((1, 2))),
+    (CHARACTERS, "\\Gx", "yx", 0, (1, 2), false, Some((1, 2))),
+    (CHARACTERS, "\\Gx", "yxx", 2, (1, 3), false, Some((2, 3))),
+    (CHARACTERS, "\\Gx", "yx", 3, (0, 2), false, None),
+    (CHARACTERS, "y\\Gx", "yx", 0, (0, 2), false, None),
+    (
+        CHARACTERS,
+        "(?<=\\Gy)x",
+        "yx",
+        0,
+        (0, 2),
+        false,
+        Some((1, 2)),
+    ),
+    (
+        CHARACTERS,
+        "(?<=\\G)x",
+        "yx",
+        1,
+        (0, 2),
+        false,
+        Some((1, 2)),
+    ),
+    (CHARACTERS, "(?!\\G)x", "xx", 0, (0, 2), false, Some((1, 2))),
+    (CHARACTERS, "y|\\Gx", "zx", 0, (0, 2), false, None),
+];
+
+#[test]
+fn searches_from_a_place(rt: HostRuntime) {
+    for row in SEARCHES {
+        check_search(&rt, rt.alloc(), row);
+    }
+}
+
+const IN_BYTES: &[BytesRow] = &[
+    (BYTES, "\\xFF\\K.", b"\xFF\xC3", Some((1, 2))),
+    (BYTES, "\\G.", b"\xFFa", Some((0, 1))),
+    (CHARACTERS, "é\\Ka", b"\xFF\xC3\xA9a", Some((3, 4))),
+    (CHARACTERS_ANYWHERE, "\\xFF\\K", b"a\xFF", Some((2, 2))),
+];
+
+#[test]
+fn bytes_are_kept_too(rt: HostRuntime) {
+    for row in IN_BYTES {
+        check_span(&rt, rt.alloc(), row);
+    }
+}
+
+const GROUPS: &[GroupsRow] = &[
+    ("(a\\Kb)", "ab", &[Some((1, 2)), Some((0, 2))]),
+    (
+        "(a)\\K(b)",
+        "ab",
+        &[Some((1, 2)), Some((0, 1)), Some((1, 2))],
+    ),
+    ("(a)\\K\\1", "aa", &[Some((1, 2)), Some((0, 1))]),
+];
+
+#[test]
+fn groups_are_not_moved(rt: HostRuntime) {
+    for row in GROUPS {
+        check_groups(&rt, rt.alloc(), row);
+    }
+}
+
+const LISTS: &[TextListRow] = &[
+    ("a\\K", "aa", &[(1, 1)]),
+    ("a\\K", "aba", &[(1, 1), (3, 3)]),
+    ("a\\Kb", "abab", &[(1, 2), (3, 4)]),
+    ("\\w\\K", "ab c", &[(1, 1), (4, 4)]),
+    ("\\Gx*", "ab", &[(0, 0)]),
+    ("\\Ga", "aaba", &[(0, 1), (1, 2)]),
+    ("\\G[ab]?", "abc", &[(0, 1), (1, 2)]),
+    // an empty match that ended behind the search's start leaves `\G` on
+    ("\\Ga\\K", "aaa", &[(1, 1), (3, 3)]),
+    ("\\Ga|b", "abab", &[(0, 1), (1, 2), (2, 3), (3, 4)]),
+];
+
+#[test]
+fn lists_go_on_at_ends(rt: HostRuntime) {
+    for row in LISTS {
+        check_text_list(&rt, rt.alloc(), row);
+    }
+}
+
+const GROUPS_OF_LISTS: &[AllGroupsRow] = &[(
+    "(a)\\K(b)",
+    "abab",
+    &[
+        &[Some((1, 2)), Some((0, 1)), Some((1, 2))],
+        &[Some((3, 4)), Some((2, 3)), Some((3, 4))],
+    ],
+)];
+
+#[test]
+fn groups_of_lists(rt: HostRuntime) {
+    for row in GROUPS_OF_LISTS {
+        check_all_groups(&rt, rt.alloc(), row);
+    }
+}
+
+const PIECES: &[PiecesRow] = &[
+    ("a\\Kb", "xabyab", &["xa", "ya", ""]),
+    ("a\\K", "aba", &["a", "ba", ""]),
+    ("\\G,", ",,a,b", &["", "", "a,b"]),
+];
+
+const FIRST_PIECES: &[FirstPiecesRow] = &[("a\\Kb", "xabyab", 2, &["xa", "yab"])];
+
+const REPLACED: &[ReplacedRow] = &[
+    ("foo\\Kbar", "foobar", 0, "x", "foox"),
+    ("(a)\\Kb", "abab", 0, "<$1>", "a<a>a<a>"),
+    ("(a)\\Kb", "abab", 1, "<$0>", "a<b>ab"),
+    ("a\\K", "aba", 0, "-", "a-ba-"),
+    ("\\Ga", "aaba", 0, "x", "xxba"),
+];
+
+#[test]
+fn texts_are_cut_at_kept_starts(rt: HostRuntime) {
+    for row in PIECES {
+        check_pieces(&rt, rt.alloc(), row);
+    }
+    for row in FIRST_PIECES {
+        check_first_pieces(&rt, rt.alloc(), row);
+    }
+    for row in REPLACED {
+        check_replaced(&rt, rt.alloc(), row);
+    }
+}
+
+/// Options, a pattern, a text, and where the first match starts and ends of an input that says that it does not go on
+/// from a match.
+const SUPPRESSED: &[(Settings, &str, &str, Option<Span>)] = &[
+    (CHARACTERS, "\\Gx", "x", Some((0, 1))),
+    (OVERRIDING, "\\Gx", "x", None),
+    (OVERRIDING, "\\Gx|y", "xy", Some((1, 2))),
+    (OVERRIDING, "^x", "x", Some((0, 1))),
+];
+
+#[test]
+fn an_input_may_not_go_on_from_a_match(rt: HostRuntime) {
+    for &(settings, pattern, haystack, wanted) in SUPPRESSED {
+        let regex = regex_with(&rt, rt.alloc(), settings, pattern);
+        let input = RegexInput::new(haystack).continue_from_previous_match_end(false);
+        assert_eq!(rt; first_span(&rt, &regex, input), wanted, "{pattern}");
+        let input = RegexInput::new(haystack);
+        assert!(rt; first_span(&rt, &regex, input).is_some(), "{pattern}");
+    }
+}
+
+const IN_LOOK_AROUND: &[KindRow] = &[
+    ("(?=a\\K)", ParseErrorKind::NotInProfile),
+    ("(?!\\K)a", ParseErrorKind::NotInProfile),
+    ("(?<=\\Ka)b", ParseErrorKind::NotInProfile),
+    ("(?<!(?:a\\K))b", ParseErrorKind::NotInProfile),
+    ("(?=(?>a(\\K)))b", ParseErrorKind::NotInProfile),
+    ("(?((?=\\K))a)", ParseErrorKind::NotInProfile),
+    ("[\\K]", ParseErrorKind::InvalidEscape),
+    ("[\\G]", ParseErrorKind::InvalidEscape),
+];
+
+#[test]
+fn no_start_is_kept_in_look_around(rt: HostRuntime) {
+    for row in IN_LOOK_AROUND {
+        check_kind(&rt, rt.alloc(), row);
+    }
+}
