@@ -4,23 +4,11 @@ use Rattle.std.specs.List.{starts_with}
 use Rattle.std.specs.Cmp.Lexicographic.{same_text}
 use Rattle.std.proofs.lemmas.Bool.Decides.{nat_tests}
 use Rattle.std.proofs.lemmas.List.{take-append-drop}
-use Rattle.fancy_syntax.specs.Words.{Text, is_among, is_at, begins, is_blank, past_line, past_comment, past_blank, begins_count}
-use Rattle.fancy_syntax.specs.Grammar.{text_or, past_blanks_in, past_blanks}
+use Rattle.fancy_tree.specs.Text.{Text, is_among}
+use Rattle.fancy_syntax.specs.Words.{is_at, begins, is_blank, past_line, past_comment, past_blank, begins_count}
+use Rattle.fancy_syntax.specs.Grammar.{text_or, past_blanks_in, past_blanks, ends_branch}
 use Rattle.fancy_syntax.specs.Dialect.{Blank, comment, blank, line, last_line, Blanks, no_blank, blanks, begins_quantifier, IsUnquantified}
-use Rattle.fancy_syntax.specs.Grammar.{ends_branch}
-use Rattle.fancy_syntax.proofs.ReadingLemmas.{some_is_none, true_is_false}
-use Rattle.fancy_syntax.proofs.CountLemmas.{both_true, either_no}
-
--- which way a test went
-pub chosen : {A : Type 0} (b : Bool) (x y z : A) → cond b x y ≡ z → ((b ≡ true) × (x ≡ z)) ⊎ ((b ≡ false) × (y ≡ z))
-chosen true x y z h = inl (refl, h)
-chosen false x y z h = inr (refl, h)
-
-pub same_some : {A : Type 0} {x y : A} → Some x ≡ Some y → x ≡ y
-same_some h = cc
-
-pub char_is : (d c : ℕ) → (d == c) ≡ true → c ≡ d
-char_is d c h = grind (arith, nat_tests)
+use Rattle.fancy_tree.proofs.Facts.{true_is_false, some_is_none, either_no, both_true, chosen, same_some, char_is}
 
 line_shorter : (t : Text) → length (past_line t) ≤ length t
 line_shorter [] = omega arith

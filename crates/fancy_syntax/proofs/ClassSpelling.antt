@@ -1,10 +1,11 @@
 -- A class that is spelled is read with the members that the grammar gives it, and what is read is spelled so.
 use Rattle.std.proofs.Common.{◌≡◌, ℕ, suc, ◌||◌, ◌&&◌, not, Bool, true, false, List, [], ◌∷◌, ◌++◌, drop, codes, Option, Some, None, cond, inl, inr, refl, sym, ap, ◌∙◌, subst, append_assoc, Result, Ok, Err}
 use mathlib.Core.Path.{fun_ext}
-use Rattle.fancy_syntax.specs.Limits.{most_brackets}
-use Rattle.fancy_syntax.specs.Words.{Text, is_at, begins}
-use Rattle.fancy_syntax.specs.Sets.{has}
-use Rattle.fancy_syntax.specs.Members.{Members, members, edges_of, both, applied}
+use Rattle.fancy_tree.specs.Limits.{most_brackets}
+use Rattle.fancy_tree.specs.Text.{Text}
+use Rattle.fancy_syntax.specs.Words.{is_at, begins}
+use Rattle.fancy_tree.specs.Sets.{has}
+use Rattle.fancy_tree.specs.Members.{Members, members, edges_of, both, applied}
 use Rattle.fancy_syntax.specs.ClassGrammar as d
 use Rattle.fancy_syntax.specs.ClassGrammar.{is_ascii_meaning, may_turn, is_posix, starts_class, ends_operand, token, none_of, united, combined, turned, Operator, intersection, difference, symmetric_difference, ReadsClass, ReadsEdges}
 use Rattle.fancy_syntax.specs.ClassReading as g
@@ -12,16 +13,16 @@ use Rattle.fancy_syntax.specs.ClassReading.{operator, opening}
 use Rattle.fancy_syntax.specs.ClassViews.{Gives}
 use Rattle.fancy_syntax.specs.declared.class.refusal.Refusal.{Refusal}
 use Rattle.fancy_syntax.specs.declared.class.refusal.Refusal.TheVariants.{Memory, Invalid}
-use Rattle.fancy_syntax.specs.declared.operation.Operation.{Operation}
-use Rattle.fancy_syntax.specs.declared.set.Set.{Set}
-use Rattle.fancy_syntax.specs.declared.tree.Meaning.{Meaning}
-use Rattle.fancy_syntax.proofs.BlankLemmas.{chosen, begins_with}
-use Rattle.fancy_syntax.proofs.CanonicalLemmas.{edges_unique}
+use Rattle.fancy_tree.specs.declared.operation.Operation.{Operation}
+use Rattle.fancy_tree.specs.declared.set.Set.{Set}
+use Rattle.fancy_tree.specs.declared.tree.Meaning.{Meaning}
+use Rattle.fancy_tree.proofs.Facts.{chosen, not_false, some_pair, some_is_none}
+use Rattle.fancy_syntax.proofs.BlankLemmas.{begins_with}
+use Rattle.fancy_tree.proofs.CanonicalLemmas.{edges_unique}
 use Rattle.fancy_syntax.proofs.CountLemmas.{first_is as at_char}
-use Rattle.fancy_syntax.proofs.EdgesLemmas.{or-false}
-use Rattle.fancy_syntax.proofs.EndsLemmas.{ends_token, not_false}
+use Rattle.fancy_tree.proofs.EdgesLemmas.{or-false}
+use Rattle.fancy_syntax.proofs.EndsLemmas.{ends_token}
 use Rattle.fancy_syntax.proofs.GatheredLemmas.{or_assoc}
-use Rattle.fancy_syntax.proofs.ReadingLemmas.{some_pair, some_is_none}
 use Rattle.fancy_syntax.proofs.ClassSteps as steps
 
 -- what was gathered, with no more items

@@ -1,17 +1,18 @@
 -- What the reader's loops and branches say of the grammar.
 use Rattle.std.proofs.Common.{◌≡◌, ℕ, suc, ◌+◌, Bool, true, false, Some, None, drop, refl, sym, ap, ◌∙◌, subst, arith, add-one, Result, Ok, Err}
-use Rattle.fancy_syntax.specs.Words.{Text, is_at}
+use Rattle.fancy_tree.specs.Text.{Text}
+use Rattle.fancy_syntax.specs.Words.{is_at}
 use Rattle.fancy_syntax.specs.ClassGrammar.{token, ends_operand, starts_class, may_turn, turned, token_members, none_of}
 use Rattle.fancy_syntax.specs.ClassReading.{operator, is_bracket, opening, Class, class, Items, none, next, Operands, last, more, Item, simple, nested}
 use Rattle.fancy_syntax.specs.declared.class.token.Token.{Token}
 use Rattle.fancy_syntax.specs.declared.class.refusal.Refusal.{Refusal}
 use Rattle.fancy_syntax.specs.declared.class.refusal.Refusal.TheVariants.{Memory, Invalid}
 use Rattle.fancy_syntax.specs.ClassViews.{Refuses, Gives, IsTheReading, HasNoReading}
-use Rattle.fancy_syntax.specs.Members.{Members, members, both, applied}
-use Rattle.fancy_syntax.specs.declared.operation.Operation.{Operation}
-use Rattle.fancy_syntax.specs.declared.set.Set.{Set}
-use Rattle.fancy_syntax.specs.declared.tree.Meaning.{Meaning}
-use Rattle.fancy_syntax.proofs.ReadingLemmas.{true_is_false, some_is_none, some_pair}
+use Rattle.fancy_tree.specs.Members.{Members, members, both, applied}
+use Rattle.fancy_tree.specs.declared.operation.Operation.{Operation}
+use Rattle.fancy_tree.specs.declared.set.Set.{Set}
+use Rattle.fancy_tree.specs.declared.tree.Meaning.{Meaning}
+use Rattle.fancy_tree.proofs.Facts.{true_is_false, some_is_none, some_pair}
 
 pub Refuses-weaker : (e : Refusal) {A B : Type 0} → (A → B) → Refuses e A → Refuses e B
 Refuses-weaker Memory f h = tt

@@ -5,22 +5,23 @@ use Rattle.std.specs.List.{starts_with}
 use Rattle.std.specs.Option.{unwrap_or, option_map, option_or, option_and_then}
 use Rattle.std.specs.Prelude.{if◌then◌else◌}
 use Rattle.ucd_sets.specs.declared.set.Set.{Set as PropertySet}
-use Rattle.fancy_syntax.specs.declared.tree.Assertion.{Assertion}
-use Rattle.fancy_syntax.specs.declared.tree.Assertion.TheVariants.{WordBoundary}
-use Rattle.fancy_syntax.specs.declared.tree.Meaning.{Meaning}
-use Rattle.fancy_syntax.specs.Named.{is_unicode}
+use Rattle.fancy_tree.specs.declared.tree.Assertion.{Assertion}
+use Rattle.fancy_tree.specs.declared.tree.Assertion.TheVariants.{WordBoundary}
+use Rattle.fancy_tree.specs.declared.tree.Meaning.{Meaning}
+use Rattle.fancy_tree.specs.Named.{is_unicode}
 use Rattle.fancy_syntax.specs.Grammar.{ends_branch}
-use Rattle.fancy_syntax.specs.declared.named.Named.{Named}
+use Rattle.fancy_tree.specs.declared.named.Named.{Named}
 use Rattle.fancy_syntax.specs.declared.class.token.Token.{Token}
-use Rattle.fancy_syntax.specs.Pattern.{Pattern, member_of, in_any_case, raw_byte, assertion, keep_start, continue_here}
-use Rattle.fancy_syntax.specs.Words.{Text, ◌∈◌, is_at, begins, by_word, begins_count}
-use Rattle.fancy_syntax.specs.Members.{Members}
-use Rattle.fancy_syntax.specs.Sets.{AreEdges}
-use Rattle.fancy_syntax.specs.Escapes.{control_of, escaped, escape_at, hexadecimal, number, braced_number, before_brace, by_number, is_character, takes_number, digits_behind, single, set_here, set_letter, is_property, property_name, property_named}
+use Rattle.fancy_tree.specs.Pattern.{Pattern, member_of, in_any_case, raw_byte, assertion, keep_start, continue_here}
+use Rattle.fancy_tree.specs.Text.{Text, ◌∈◌}
+use Rattle.fancy_syntax.specs.Words.{is_at, begins, by_word, begins_count}
+use Rattle.fancy_tree.specs.Members.{Members}
+use Rattle.fancy_tree.specs.Sets.{AreEdges}
+use Rattle.fancy_syntax.specs.Escapes.{control_of, escaped, escape_at, hexadecimal, number, braced_number, before_brace, by_number, is_character, takes_number, digits_behind, single, set_here, set_letter, is_property, property_name}
+use Rattle.fancy_tree.specs.Properties.{property_named}
 use Rattle.fancy_syntax.specs.ClassGrammar.{is_ascii_meaning, fits, may_turn, range, range_from, range_to, is_ranged, named_of, posix, posix_of, posix_words, is_posix, property, property_of, found_property, token, token_of}
 use Rattle.fancy_syntax.specs.Dialect.{Scope, Lexeme, leaf, one_of, any_case_of, IsMeant, by_itself, by_edges, by_folding, lexeme, ReadsAtom, by_lexeme, by_class, literal_of, spelled_character, spelled_number, spelled_set, lettered_set, is_one_item, numbered, boundary_words, boundary, property_here, followed_by, any_item, any_code, lettered, place_test, start_mark, anchor_of, lone, escape, escape_in, is_escapable, is_special}
-use Rattle.fancy_syntax.proofs.ReadingLemmas.{some_pair, some_is_none, true_is_false}
-use Rattle.fancy_syntax.proofs.BlankLemmas.{chosen, same_some, char_is}
+use Rattle.fancy_tree.proofs.Facts.{true_is_false, some_is_none, some_pair, not_false, chosen, same_some, char_is}
 
 -- the second text is an end of the first
 pub record Ends (t u : Text) : Type 0 where
@@ -208,10 +209,6 @@ lexed_followed None h e k = absurd (some_is_none (sym h))
 lexed_followed (Some y) h e k = lexed_as h e (k y refl)
 
 -- what is false by its negation
-pub not_false : (b : Bool) → not b ≡ true → b ≡ false
-not_false true h = cc
-not_false false h = refl
-
 number_kind : (s : Scope) (n : ℕ × Bool) → Kind s (spelled_number s n)
 number_kind s n = go n.1 (nat_lt 127 n.0) s.keeps_characters refl
   where

@@ -4,13 +4,13 @@ use mathlib.Core.Path.{fun_ext}
 use Rattle.std.proofs.lemmas.Bool.Decides.{nat_tests}
 use Rattle.ucd_case.specs.CaseFolding.{fold_pairs}
 use Rattle.unicode.specs.Rows.{in_ranges}
-use Rattle.fancy_syntax.specs.declared.tree.Meaning.{Meaning}
-use Rattle.fancy_syntax.specs.declared.tree.Meaning.TheVariants.{Unicode, Bytes, AsciiText}
-use Rattle.fancy_syntax.specs.Sets.{in_range}
-use Rattle.fancy_syntax.specs.Members.{Members, both}
-use Rattle.fancy_syntax.specs.Widening.{in_pairs, pairs_to, ascii_pairs}
+use Rattle.fancy_tree.specs.declared.tree.Meaning.{Meaning}
+use Rattle.fancy_tree.specs.declared.tree.Meaning.TheVariants.{Unicode, Bytes, AsciiText}
+use Rattle.fancy_tree.specs.Sets.{in_range}
+use Rattle.fancy_tree.specs.Members.{Members, both}
+use Rattle.fancy_tree.specs.Widening.{in_pairs, pairs_to, ascii_pairs}
 use Rattle.fancy_syntax.specs.ClassGrammar.{folded, characters, none_of}
-use Rattle.fancy_syntax.proofs.EdgesLemmas.{in_ranges-push, in_ranges-nil}
+use Rattle.fancy_tree.proofs.EdgesLemmas.{in_ranges-push, in_ranges-nil}
 
 and-false : (b : Bool) → (b && false) ≡ false
 and-false true = refl

@@ -1,22 +1,23 @@
 -- The grammar of classes, over whole texts: which text is a class with which members. One item that is no class is read from its place on, since its own characters say where it ends.
 use Rattle.std.specs.Prelude.{◌≡◌, ℕ, suc, nat_lt, Bool, true, false, not, ◌||◌, ◌&&◌, List, [], ◌∷◌, ◌++◌, codes, drop, Option, Some, None, if◌then◌else◌}
-use Rattle.ucd_sets.specs.Sets.{in_set}
 use Rattle.ucd_sets.specs.declared.set.Set.{Set as PropertySet}
-use Rattle.fancy_syntax.specs.Limits.{most_brackets}
-use Rattle.fancy_syntax.specs.Words.{Text, is_at, begins, by_word}
-use Rattle.fancy_syntax.specs.Escapes.{single, set_here, letters, is_property, property_name, property_named}
-use Rattle.fancy_syntax.specs.Sets.{has, AreEdges, in_range}
-use Rattle.fancy_syntax.specs.Members.{Members, both, applied}
-use Rattle.fancy_syntax.specs.Named.{named, in_universe, is_unicode}
-use Rattle.fancy_syntax.specs.Widening.{widened}
+use Rattle.fancy_tree.specs.Limits.{most_brackets}
+use Rattle.fancy_tree.specs.Text.{Text}
+use Rattle.fancy_syntax.specs.Words.{is_at, begins, by_word}
+use Rattle.fancy_syntax.specs.Escapes.{single, set_here, letters, is_property, property_name}
+use Rattle.fancy_tree.specs.Properties.{property_named, has_property}
+use Rattle.fancy_tree.specs.Sets.{has, AreEdges, in_range}
+use Rattle.fancy_tree.specs.Members.{Members, both, applied}
+use Rattle.fancy_tree.specs.Named.{named, in_universe, is_unicode}
+use Rattle.fancy_tree.specs.Widening.{widened}
 use Rattle.fancy_syntax.specs.declared.class.token.Token.{Token}
 use Rattle.fancy_syntax.specs.declared.class.token.Token.TheVariants.{Range, Named as NamedSet, Property}
-use Rattle.fancy_syntax.specs.declared.named.Named.{Named}
-use Rattle.fancy_syntax.specs.declared.named.Named.TheVariants.{Hexadecimal, Alphanumeric, Alphabetic, Ascii, Blank, Control, Graphic, Lowercase, Printable, Punctuation, AsciiSpace, Uppercase, AsciiWord, AsciiDigit}
-use Rattle.fancy_syntax.specs.declared.tree.Meaning.{Meaning}
-use Rattle.fancy_syntax.specs.declared.tree.Meaning.TheVariants.{Unicode, Bytes, AsciiText}
-use Rattle.fancy_syntax.specs.declared.operation.Operation.{Operation}
-use Rattle.fancy_syntax.specs.declared.operation.Operation.TheVariants.{Intersection, Difference, SymmetricDifference}
+use Rattle.fancy_tree.specs.declared.named.Named.{Named}
+use Rattle.fancy_tree.specs.declared.named.Named.TheVariants.{Hexadecimal, Alphanumeric, Alphabetic, Ascii, Blank, Control, Graphic, Lowercase, Printable, Punctuation, AsciiSpace, Uppercase, AsciiWord, AsciiDigit}
+use Rattle.fancy_tree.specs.declared.tree.Meaning.{Meaning}
+use Rattle.fancy_tree.specs.declared.tree.Meaning.TheVariants.{Unicode, Bytes, AsciiText}
+use Rattle.fancy_tree.specs.declared.operation.Operation.{Operation}
+use Rattle.fancy_tree.specs.declared.operation.Operation.TheVariants.{Intersection, Difference, SymmetricDifference}
 
 -- the character, written as a byte or not, can be a member
 abbrev pub fits : Meaning → ℕ → Bool → Bool
@@ -133,9 +134,6 @@ turned m true f = complement m f
 -- the characters from the first to the last
 abbrev pub characters : ℕ → ℕ → Members
 characters a b = λ c. in_universe Unicode c && in_range (a, b) c
-
-abbrev pub has_property : PropertySet → Members
-has_property s = λ c. in_universe Unicode c && in_set s c
 
 -- the members of one item: under flag `i` a set is widened before its complement is taken
 abbrev pub token_members : Meaning → Bool → Token → Members

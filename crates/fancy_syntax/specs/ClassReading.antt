@@ -1,12 +1,13 @@
 -- Classes as they are read: from one place to another, item by item and operand by operand, with the members so far. Lemmas show that this reading and `ClassGrammar` give the same members.
 use Rattle.std.specs.Prelude.{◌≡◌, ℕ, suc, Bool, true, false, drop, Option, Some, None, if◌then◌else◌}
-use Rattle.fancy_syntax.specs.Words.{Text, is_at, begins}
-use Rattle.fancy_syntax.specs.Members.{Members, both, applied}
+use Rattle.fancy_tree.specs.Text.{Text}
+use Rattle.fancy_syntax.specs.Words.{is_at, begins}
+use Rattle.fancy_tree.specs.Members.{Members, both, applied}
 use Rattle.fancy_syntax.specs.ClassGrammar.{may_turn, token, token_members, ends_operand, starts_class, turned, none_of}
 use Rattle.fancy_syntax.specs.declared.class.token.Token.{Token}
-use Rattle.fancy_syntax.specs.declared.tree.Meaning.{Meaning}
-use Rattle.fancy_syntax.specs.declared.operation.Operation.{Operation}
-use Rattle.fancy_syntax.specs.declared.operation.Operation.TheVariants.{Intersection, Difference, SymmetricDifference}
+use Rattle.fancy_tree.specs.declared.tree.Meaning.{Meaning}
+use Rattle.fancy_tree.specs.declared.operation.Operation.{Operation}
+use Rattle.fancy_tree.specs.declared.operation.Operation.TheVariants.{Intersection, Difference, SymmetricDifference}
 
 abbrev pub is_bracket : Text → Bool
 is_bracket t = is_at "[" t

@@ -4,10 +4,10 @@ use Rattle.std.specs.Char.{digit_value}
 use Rattle.fancy_syntax.specs.declared.class.refusal.Refusal.{Refusal}
 use Rattle.fancy_syntax.specs.declared.class.refusal.Refusal.TheVariants.{Memory, Invalid}
 use Rattle.fancy_syntax.specs.declared.class.gathered.Gathered.{Gathered}
-use Rattle.fancy_syntax.specs.declared.tree.Meaning.{Meaning}
+use Rattle.fancy_tree.specs.declared.tree.Meaning.{Meaning}
 use Rattle.unicode.specs.Rows.{in_ranges}
-use Rattle.fancy_syntax.specs.Words.{Text}
-use Rattle.fancy_syntax.specs.Members.{Members, members, both}
+use Rattle.fancy_tree.specs.Text.{Text}
+use Rattle.fancy_tree.specs.Members.{Members, members, both}
 use Rattle.fancy_syntax.specs.ClassGrammar.{folded}
 
 abbrev pub same : {X : Type 0} → X → X

@@ -1,15 +1,12 @@
 -- What stands behind a backslash: characters by a letter or a number, and sets by a letter or a name.
 use Rattle.std.specs.Prelude.{ℕ, ◌+◌, ◌*◌, ◌==◌, ◌||◌, ◌&&◌, not, nat_lt, Bool, true, false, [], ◌∷◌, length, take, drop, Option, Some, None, if◌then◌else◌}
 use Prim.Native.Char.{code}
-use Rattle.std.specs.List.{list_all}
 use Rattle.std.specs.Option.{option_or}
-use Rattle.std.specs.Char.{is_ascii, is_ascii_punctuation, is_ascii_alphabetic, digit_value}
-use Rattle.ucd_sets.specs.Lookup.{by_name}
-use Rattle.ucd_sets.specs.Loose.{normalize}
-use Rattle.ucd_sets.specs.declared.set.Set.{Set as PropertySet}
-use Rattle.fancy_syntax.specs.Words.{Text, ◌∈◌, is_at, begins}
-use Rattle.fancy_syntax.specs.declared.named.Named.{Named}
-use Rattle.fancy_syntax.specs.declared.named.Named.TheVariants.{Digit, Word, Space, Hexadecimal}
+use Rattle.std.specs.Char.{is_ascii_punctuation, is_ascii_alphabetic, digit_value}
+use Rattle.fancy_tree.specs.Text.{Text, ◌∈◌}
+use Rattle.fancy_syntax.specs.Words.{is_at, begins}
+use Rattle.fancy_tree.specs.declared.named.Named.{Named}
+use Rattle.fancy_tree.specs.declared.named.Named.TheVariants.{Digit, Word, Space, Hexadecimal}
 
 -- the control characters that a backslash and a letter stand for
 abbrev pub control_of : ℕ → Option ℕ
@@ -122,14 +119,3 @@ property_name [] = None
 property_name (c ∷ t) =
     if c == code "{" then (if nat_lt (before_brace t) (length t) then Some (take (before_brace t) t, drop (before_brace t + 1) t) else None)
     else Some (c ∷ [], t)
-
-abbrev pub is_property_character : ℕ → Bool
-is_property_character c = is_ascii c && not (c ∈ "=:")
-
--- a name that can be one of a property
-abbrev pub is_property_name : Text → Bool
-is_property_name name = list_all is_property_character name && nat_lt 0 (length name)
-
--- the property with the name, if there is one
-abbrev pub property_named : Text → Option PropertySet
-property_named name = if is_property_name name then by_name (normalize name) else None

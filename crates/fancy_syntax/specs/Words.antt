@@ -1,20 +1,10 @@
 -- The words in which the grammar speaks of the characters of a pattern.
 use Rattle.std.specs.Prelude.{ℕ, ◌+◌, ◌-◌, ◌*◌, ◌==◌, ◌||◌, ◌&&◌, Bool, true, false, nat_eq, List, [], ◌∷◌, codes, drop, length, Option, Some, None, if◌then◌else◌}
 use Prim.Native.Char.{code}
-use Rattle.std.specs.List.{starts_with, list_any}
+use Rattle.std.specs.List.{starts_with}
 use Rattle.std.specs.Char.{is_ascii_digit}
 use Prim.Native.String.{String}
-
--- characters, by their numbers
-abbrev pub Text : Type 0
-Text = List ℕ
-
-abbrev pub is_among : ℕ → List ℕ → Bool
-is_among c cs = list_any (λ d. d == c) cs
-
-infix 60 ◌∈◌
-abbrev pub ◌∈◌ : ℕ → String → Bool
-c ∈ s = is_among c (codes s)
+use Rattle.fancy_tree.specs.Text.{Text, is_among, ◌∈◌}
 
 -- the first character is one of these
 abbrev pub is_at_any : List ℕ → Text → Bool

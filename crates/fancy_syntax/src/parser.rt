@@ -7,14 +7,15 @@ ghost use Rattle.fancy_syntax.specs.Dialect.{begins_quantifier};
 ghost use Rattle.fancy_syntax.specs.Words.{is_at_any, is_at, begins_count};
 
 use crate::blank::past_blanks;
-use crate::build::{branches, chooses, is_empty, reference, repeat, sequence, wrap};
+use crate::build::{branches, chooses, reference, repeat, sequence, wrap};
 use crate::count::{Turns, begins_count, bounds, past_count};
-use crate::error::{Error, ParseErrorKind};
 use crate::flags::{Flags, read_flags};
 use crate::groups::{Grouping, Opening, mark};
-use crate::name::{GroupName, split_name, text_of};
 use crate::reference::{Target, is_left_out, read_condition};
-use crate::tree::{Meaning, Taste, Tree};
+use fancy_tree::error::{Error, ParseErrorKind};
+use fancy_tree::measure::is_empty;
+use fancy_tree::name::{GroupName, split_name, text_of};
+use fancy_tree::tree::{Meaning, Taste, Tree};
 use std::alloc::Global;
 
 /// A pattern, and what is left of it to read.
@@ -89,8 +90,8 @@ fn flags_fault(inside: &[char], meaning: Meaning) -> ParseErrorKind {
 }
 
 impl<'a> Parser<'a> {
-    ghost use Rattle.fancy_syntax.specs.declared.error.Error.TheVariants.{ParseError};
-    ghost use Rattle.fancy_syntax.specs.declared.error.ParseErrorKind.TheVariants.{NotInProfile, TargetNotRepeatable};
+    ghost use Rattle.fancy_tree.specs.declared.error.Error.TheVariants.{ParseError};
+    ghost use Rattle.fancy_tree.specs.declared.error.ParseErrorKind.TheVariants.{NotInProfile, TargetNotRepeatable};
     ghost use Rattle.fancy_syntax.specs.Views.{place, bytes_before};
     ghost use Rattle.fancy_syntax.specs.Grammar.{past, here, ends_branch};
 
@@ -157,7 +158,7 @@ impl<'a> Parser<'a> {
 
 impl<'a> Parser<'a> {
     ghost use Rattle.fancy_syntax.specs.Views.{place, found, bounds_of, itself, GivesValue};
-    ghost use Rattle.fancy_syntax.specs.Pattern.{pattern_of};
+    ghost use Rattle.fancy_tree.specs.Pattern.{pattern_of};
     ghost use Rattle.std.specs.Prelude.{Some, Ok};
     ghost use Rattle.fancy_syntax.specs.Grammar.{opening, by_mark, unmarked, named, named_reference, by_test, conditional_at, flagged, quantified, turns, taste};
 
@@ -268,7 +269,7 @@ impl<'a> Parser<'a> {
     }
 
     /// Reads a condition that tests a group, or goes to one that is a pattern; it stands first in `inside`, the last characters.
-    #[tactic(auto, using(crate::proofs::PatternLemmas::pattern_equations))]
+    #[tactic(auto, using(fancy_tree::proofs::PatternLemmas::pattern_equations))]
     fn conditional(&mut self, inside: &'a [char]) -> Result<Opening, Error>
         requires { length inside.now < length self.old.rest.now }
         ensures value { GivesValue found (conditional_at (place self.old) inside.now) result (place self.new) }
@@ -323,7 +324,7 @@ impl<'a> Parser<'a> {
     }
 
     /// Puts the quantifier that stands here, if one does, on what was read.
-    #[tactic(auto, using(crate::proofs::PatternLemmas::pattern_equations))]
+    #[tactic(auto, using(fancy_tree::proofs::PatternLemmas::pattern_equations))]
     fn quantified(&mut self, part: Tree) -> Result<Tree, Error>
         ensures value { GivesValue pattern_of (quantified (pattern_of part) (place self.old)) result (place self.new) }
         ensures progress { OnOk result (length self.new.rest.now ≤ length self.old.rest.now) }
@@ -404,7 +405,7 @@ impl<'a> Parser<'a> {
 
 impl<'a> Parser<'a> {
     ghost use Rattle.fancy_syntax.specs.Views.{place, found, Gives, GivesOpening, Alternation, Sequence, patterns_of, part_of};
-    ghost use Rattle.fancy_syntax.specs.Pattern.{pattern_of};
+    ghost use Rattle.fancy_tree.specs.Pattern.{pattern_of};
     ghost use Rattle.fancy_syntax.specs.Grammar.{Branches, Opens, Item};
 
     /// Reads a pattern up to the end of the group or of the whole; `room` more parentheses may be opened inside.

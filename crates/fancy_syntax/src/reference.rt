@@ -6,8 +6,8 @@ ghost use Rattle.fancy_syntax.specs.References.{back, number_reference, distance
 ghost use Rattle.fancy_syntax.specs.Views.{target_of, reading_of};
 
 use crate::count::{decimal, is_at_digit, past_digits};
-use crate::error::ParseErrorKind;
-use crate::name::{split_name, text_of};
+use fancy_tree::error::ParseErrorKind;
+use fancy_tree::name::{split_name, text_of};
 use std::alloc::{AllocError, Global};
 
 /// The largest number that a reference or the refusal of one tells.

@@ -1,14 +1,14 @@
 //! What is in force where a class stands.
 
 ghost use Rattle.std.specs.Prelude.{◌≡◌, ℕ, IfOk};
-ghost use Rattle.fancy_syntax.specs.Members.{members};
+ghost use Rattle.fancy_tree.specs.Members.{members};
 ghost use Rattle.fancy_syntax.specs.ClassGrammar.{fits, folded, turned, may_turn};
 
-use crate::named::universe;
-use crate::operation::Operation;
-use crate::set::Set;
-use crate::tree::Meaning;
-use crate::widening::widened;
+use fancy_tree::named::universe;
+use fancy_tree::operation::Operation;
+use fancy_tree::set::Set;
+use fancy_tree::tree::Meaning;
+use fancy_tree::widening::widened;
 use std::alloc::{AllocError, Global};
 
 /// What is in force where a class stands.

@@ -7,9 +7,9 @@ ghost use Rattle.fancy_syntax.specs.ClassViews.{GivesValue, same, capped_number}
 
 use crate::class::cursor::Cursor;
 use crate::class::refusal::Refusal;
-use crate::error::ParseErrorKind;
 use crate::escape::control;
-use crate::named::Named;
+use fancy_tree::error::ParseErrorKind;
+use fancy_tree::named::Named;
 
 /// The character that a letter or mark behind a backslash stands for in a class.
 fn escaped(c: char) -> Option<char>

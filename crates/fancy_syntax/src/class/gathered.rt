@@ -1,17 +1,17 @@
 //! The members of an operand, item by item.
 
 ghost use Rattle.std.specs.Prelude.{◌≡◌, ◌||◌, ℕ, Bool, false, OnOk, IfOk};
-ghost use Rattle.fancy_syntax.specs.declared.tree.Meaning.{Meaning as Meant};
-ghost use Rattle.fancy_syntax.specs.Members.{members};
+ghost use Rattle.fancy_tree.specs.declared.tree.Meaning.{Meaning as Meant};
+ghost use Rattle.fancy_tree.specs.Members.{members};
 ghost use Rattle.fancy_syntax.specs.ClassGrammar.{folded, turned, characters, token_members};
 ghost use Rattle.fancy_syntax.specs.ClassViews.{gathered};
 
 use crate::class::context::Context;
 use crate::class::token::Token;
-use crate::named::members_of;
-use crate::operation::Operation;
-use crate::property::property_members;
-use crate::set::Set;
+use fancy_tree::named::members_of;
+use fancy_tree::operation::Operation;
+use fancy_tree::property::property_members;
+use fancy_tree::set::Set;
 use std::alloc::{AllocError, Global};
 
 /// The members of an operand so far. Its characters and ranges are united and widened at once, at the end.

@@ -10,9 +10,9 @@ use crate::class::context::{Context, fits, may_turn};
 use crate::class::cursor::Cursor;
 use crate::class::refusal::Refusal;
 use crate::class::token::Token;
-use crate::error::ParseErrorKind;
-use crate::operation::Operation;
-use crate::tree::Meaning;
+use fancy_tree::error::ParseErrorKind;
+use fancy_tree::operation::Operation;
+use fancy_tree::tree::Meaning;
 
 impl<'a> Cursor<'a> {
     /// Whether a range goes on here.

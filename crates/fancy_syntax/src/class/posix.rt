@@ -10,9 +10,9 @@ use crate::class::context::may_turn;
 use crate::class::cursor::Cursor;
 use crate::class::refusal::Refusal;
 use crate::class::token::Token;
-use crate::error::ParseErrorKind;
-use crate::named::Named;
-use crate::tree::Meaning;
+use fancy_tree::error::ParseErrorKind;
+use fancy_tree::named::Named;
+use fancy_tree::tree::Meaning;
 
 /// How many letters the text begins with.
 fn letters(text: &[char]) -> usize

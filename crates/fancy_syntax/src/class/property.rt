@@ -10,9 +10,9 @@ use crate::class::cursor::Cursor;
 use crate::class::escape::before_brace;
 use crate::class::refusal::Refusal;
 use crate::class::token::Token;
-use crate::error::ParseErrorKind;
-use crate::property::property_named;
-use crate::tree::Meaning;
+use fancy_tree::error::ParseErrorKind;
+use fancy_tree::property::property_named;
+use fancy_tree::tree::Meaning;
 
 /// Why a property of this name is refused: a value of a property is a form of its own.
 fn refusal(name: &[char]) -> Refusal

@@ -1,7 +1,7 @@
 //! Classes, from bracket to bracket.
 
 ghost use Rattle.std.specs.Prelude.{◌≡◌, ◌<◌, ◌≤◌, true, length, OnOk};
-ghost use Rattle.fancy_syntax.specs.Members.{members, edges_of};
+ghost use Rattle.fancy_tree.specs.Members.{members, edges_of};
 ghost use Rattle.fancy_syntax.specs.ClassGrammar.{none_of, ReadsClass, ReadsEdges};
 ghost use Rattle.fancy_syntax.specs.ClassReading.{is_bracket, Class, Items};
 ghost use Rattle.fancy_syntax.specs.ClassViews.{Gives};
@@ -10,8 +10,8 @@ use crate::class::context::{Context, may_turn};
 use crate::class::cursor::Cursor;
 use crate::class::gathered::Gathered;
 use crate::class::refusal::Refusal;
-use crate::error::ParseErrorKind;
-use crate::set::Set;
+use fancy_tree::error::ParseErrorKind;
+use fancy_tree::set::Set;
 
 /// How many brackets may be open at one place.
 const DEEPEST: u32 = 64;

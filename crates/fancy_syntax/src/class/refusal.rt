@@ -3,7 +3,7 @@
 ghost use Rattle.std.specs.Prelude.{◌≡◌};
 ghost use Rattle.fancy_syntax.specs.declared.class.refusal.Refusal.TheVariants.{Memory};
 
-use crate::error::ParseErrorKind;
+use fancy_tree::error::ParseErrorKind;
 use std::alloc::{AllocError, AllocFailed};
 
 /// Why a class, or an item of one, could not be read.

@@ -1,6 +1,6 @@
 //! Items of a class.
 
-use crate::named::Named;
+use fancy_tree::named::Named;
 use unicode::sets::Set as PropertySet;
 
 /// What an item says that is no nested class; `true` stands for the complement.

@@ -1,8 +1,8 @@
 use Rattle.std.proofs.Common.{arith, refl, sym, ap, ◌∙◌, Some}
 use mathlib.Core.Path.{fun_ext}
 use Rattle.std.proofs.lemmas.Result.{err_from_is_err_and}
-use Rattle.fancy_syntax.specs.Members.{members}
-use Rattle.fancy_syntax.specs.Words.{Text}
+use Rattle.fancy_tree.specs.Members.{members}
+use Rattle.fancy_tree.specs.Text.{Text}
 use Rattle.fancy_syntax.specs.ClassGrammar.{none_of}
 use Rattle.fancy_syntax.specs.ClassReading.{Class, Items}
 use Rattle.fancy_syntax.proofs.ClassSteps.{refused, Refuses-weaker, goes_on_then, items_step, items_done, no_item, operands_step, simple_is, no_token, nested_is, no_nested, no_operand, unclosed, class_is}

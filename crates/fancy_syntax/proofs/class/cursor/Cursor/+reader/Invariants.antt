@@ -1,5 +1,5 @@
 use Rattle.std.proofs.Common.{◌+◌, ◌*◌, ◌-◌, ◌≤◌, length}
-use Rattle.fancy_syntax.specs.Members.{members}
+use Rattle.fancy_tree.specs.Members.{members}
 use Rattle.fancy_syntax.specs.ClassGrammar.{none_of}
 use Rattle.fancy_syntax.specs.ClassReading.{Items, Operands}
 use Rattle.fancy_syntax.specs.ClassViews.{gathered}

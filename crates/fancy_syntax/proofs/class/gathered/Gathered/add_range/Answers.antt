@@ -1,5 +1,5 @@
 use Rattle.std.proofs.Common.{arith, ap, ◌∙◌, [], ◌∷◌, ◌++◌}
-use Rattle.fancy_syntax.specs.Members.{members}
+use Rattle.fancy_tree.specs.Members.{members}
 use Rattle.fancy_syntax.proofs.GatheredLemmas.{gathered_range}
 use Rattle.fancy_syntax.proofs.class.gathered.Gathered.add_range.Goals as goal
 

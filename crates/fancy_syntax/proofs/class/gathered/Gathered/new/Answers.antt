@@ -1,4 +1,4 @@
-use Rattle.fancy_syntax.specs.Members.{members}
+use Rattle.fancy_tree.specs.Members.{members}
 use Rattle.fancy_syntax.proofs.GatheredLemmas.{gathered_none}
 use Rattle.fancy_syntax.proofs.class.gathered.Gathered.new.Goals as goal
 
