@@ -7,8 +7,8 @@ use Rattle.fancy_tree.specs.declared.tree.Taste.{Taste}
 use Rattle.fancy_tree.specs.Text.{Text}
 use Rattle.fancy_tree.specs.declared.tree.Assertion.{Assertion}
 use Rattle.fancy_tree.specs.Sets.{AreEdges}
-use Rattle.fancy_syntax.proofs.EndsLemmas as simple
-use Rattle.fancy_syntax.proofs.EndsLemmas.{IsSimple, simple_atom}
+use Rattle.fancy_syntax.proofs.AtomLemmas as simple
+use Rattle.fancy_syntax.proofs.AtomLemmas.{IsSimple, simple_atom}
 use Rattle.fancy_syntax.specs.declared.groups.Grouping.{Grouping}
 use Rattle.fancy_syntax.specs.declared.groups.Grouping.TheVariants.{Atomic, LookAhead, LookBehind}
 use Rattle.fancy_tree.specs.Refers.{refers_to}

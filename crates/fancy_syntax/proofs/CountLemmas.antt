@@ -5,10 +5,12 @@ use Rattle.std.proofs.lemmas.Bool.Decides.{nat_tests}
 use Rattle.std.proofs.lemmas.List.{drop_all}
 use Rattle.fancy_tree.specs.Limits.{most_turns}
 use Rattle.fancy_tree.specs.Text.{Text}
-use Rattle.fancy_syntax.specs.Words.{is_at, is_at_any, is_at_digit, past_digits, decimal_from, decimal, are_digits, is_count, begins_count}
+use Rattle.fancy_class.specs.Words.{is_at}
+use Rattle.fancy_syntax.specs.Counts.{is_at_digit, past_digits, decimal_from, decimal, are_digits, is_count, begins_count}
 use Rattle.fancy_syntax.specs.Dialect.{IsBound, Turns, exactly, at_least, between, at_most}
 use Rattle.fancy_syntax.specs.Grammar.{Bounds, bounds_in, past_count, are_bounds}
 use Rattle.fancy_tree.proofs.Facts.{both_true, left_of}
+use Rattle.fancy_class.proofs.WordLemmas.{first_is}
 
 -- numbers that are one, or both past the limit, stay so
 pub same_decimal : (t : Text) (n m : ℕ) → min n (2 ^ 64 - 1) ≡ min m (2 ^ 64 - 1) → min (decimal_from n t) (2 ^ 64 - 1) ≡ min (decimal_from m t) (2 ^ 64 - 1)
@@ -158,14 +160,6 @@ pub record IsSpelled (t : Text) (b : Bounds) (after : Text) : Type 0 where
   pub mark : Text
   pub text : t ≡ mark ++ after
   pub states : Turns (123 ∷ mark) b.0 b.1
-
-pub first_is : (c : ℕ) (t : Text) → is_at_any (c ∷ []) t ≡ true → t ≡ c ∷ drop 1 t
-first_is c [] h = cc
-first_is c (x ∷ t) h = ap (λ y. y ∷ t) (sym (same_char (c == x) h refl))
-  where
-    same_char : (b : Bool) → (b || false) ≡ true → (c == x) ≡ b → c ≡ x
-    same_char true h e = grind (arith, nat_tests)
-    same_char false h e = cc
 
 bound_of : (t : Text) (r : Row t) → is_at_digit t ≡ true → decimal t ≤ most_turns → IsBound r.row
 bound_of t r h small = record { some = sym r.begins ∙ h; digits = r.digits; small = subst (λ n. n ≤ most_turns) (r.number 0) small }

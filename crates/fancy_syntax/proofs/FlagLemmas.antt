@@ -4,7 +4,7 @@ use Rattle.std.proofs.lemmas.List.{drop_all, take_all, length-drop}
 use Rattle.std.specs.Option.{option_map, option_and_then}
 use Rattle.fancy_tree.specs.declared.tree.Meaning.{Meaning}
 use Rattle.fancy_tree.specs.Text.{Text, ◌∈◌}
-use Rattle.fancy_syntax.specs.Words.{is_at, begins}
+use Rattle.fancy_class.specs.Words.{is_at, begins}
 use Rattle.fancy_syntax.specs.Dialect.{Flags, with_flag, Letters, no_letter, letter, Setting, setting_on, setting_off}
 use Rattle.fancy_syntax.specs.Grammar.{LettersRead, next_letter, flags_in, first_letter, mark_here}
 use Rattle.fancy_tree.proofs.Facts.{some_is_none, some_pair, chosen, char_is}

@@ -1,5 +1,5 @@
 pub mod LexemeLemmas
-pub mod EndsLemmas
+pub mod AtomLemmas
 pub mod ReadingLemmas
 pub mod ReferenceLemmas
 pub mod ResolveLemmas
@@ -14,7 +14,3 @@ pub mod ParseLemmas
 pub mod GroupLemmas
 pub mod OrderLemmas
 pub mod NameNumbers
-pub mod GatheredLemmas
-pub mod NumberLemmas
-pub mod ClassSteps
-pub mod ClassSpelling

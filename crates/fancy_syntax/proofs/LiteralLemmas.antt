@@ -6,7 +6,8 @@ use Rattle.fancy_tree.specs.declared.tree.Meaning.TheVariants.{Unicode}
 use Rattle.fancy_tree.specs.Pattern.{Pattern, character, in_sequence}
 use Rattle.fancy_tree.specs.Sizes.{nodes}
 use Rattle.fancy_tree.specs.Text.{Text, is_among}
-use Rattle.fancy_syntax.specs.Words.{is_at, is_at_any, past_blank, is_blank}
+use Rattle.fancy_class.specs.Words.{is_at, is_at_any}
+use Rattle.fancy_syntax.specs.Blanks.{past_blank, is_blank}
 use Rattle.fancy_syntax.specs.Dialect.{Scope, Spells, leaf, by_itself, by_lexeme, lexeme, escape, is_escapable, spelled_character, begins_quantifier}
 use Rattle.fancy_syntax.specs.Grammar.{Place, here, start, ends_branch, last, Parts, none, next, Item, single, alone}
 use Rattle.fancy_tree.proofs.Facts.{true_is_false, both_true, char_is}

@@ -9,8 +9,8 @@ use Rattle.fancy_syntax.specs.Dialect.{Scope, inside, grouped, literal_of, Branc
 use Rattle.fancy_tree.specs.Groups.{InOrder}
 use Rattle.fancy_tree.specs.Pattern.{Pattern, character, in_sequence, in_choice, in_branches}
 use Rattle.fancy_tree.specs.Text.{Text}
-use Rattle.fancy_syntax.proofs.EndsLemmas as simple
-use Rattle.fancy_syntax.proofs.EndsLemmas.{IsSimple, simple_atom}
+use Rattle.fancy_syntax.proofs.AtomLemmas as simple
+use Rattle.fancy_syntax.proofs.AtomLemmas.{IsSimple, simple_atom}
 
 -- these, one behind the other
 abbrev AllInOrder : ℕ → ℕ → List Pattern → Type 0

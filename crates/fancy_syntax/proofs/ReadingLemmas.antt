@@ -5,7 +5,7 @@ use Rattle.std.proofs.lemmas.List.{nil_from_length}
 use Rattle.fancy_tree.specs.Limits.{most_parentheses}
 use Rattle.fancy_tree.specs.Pattern.{Pattern, backreference, in_sequence, in_branches}
 use Rattle.fancy_tree.specs.Text.{Text}
-use Rattle.fancy_syntax.specs.Words.{is_at_any, is_at}
+use Rattle.fancy_class.specs.Words.{is_at_any, is_at}
 use Rattle.fancy_syntax.specs.Dialect.{Scope, with_part}
 use Rattle.fancy_syntax.specs.Grammar.{Place, past, here, Opening, setting, plain, capture, marked, reference, chooses, condition, opens_group, asks, parentheses, opening, IsAtom, quantified, wrap, closed, ends_branch, Branches, last, more, Parts, none, next, Opens, at_once, behind_condition, Item, sets, refers_by_name, single, grouped, start, Reads}
 use Rattle.fancy_tree.specs.declared.error.Error.{Error}

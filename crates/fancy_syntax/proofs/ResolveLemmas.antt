@@ -8,7 +8,7 @@ use Rattle.fancy_tree.specs.declared.error.Error.{Error}
 use Rattle.fancy_tree.specs.declared.error.Error.TheVariants.{Memory, ParseError, CompileError, RuntimeError}
 use Rattle.fancy_syntax.specs.declared.reference.Target.{Target as Found_target}
 use Rattle.fancy_tree.specs.Text.{Text}
-use Rattle.fancy_syntax.specs.Words.{past_digits, are_digits, decimal}
+use Rattle.fancy_syntax.specs.Counts.{past_digits, are_digits, decimal}
 use Rattle.fancy_tree.specs.Limits.{largest_told}
 use Rattle.fancy_syntax.specs.References.{Groups, Fault, no_number, no_name, resolve, fault_in, group_in, fault_of, group_for, group_numbered, group_in_digits}
 use Rattle.fancy_tree.specs.declared.name.GroupName.{GroupName}

@@ -9,7 +9,9 @@ use Rattle.fancy_syntax.specs.declared.groups.Grouping.{Grouping}
 use Rattle.fancy_tree.specs.Pattern.{Pattern, backreference, repeat, in_branches}
 use Rattle.fancy_tree.specs.Sizes.{is_empty}
 use Rattle.fancy_tree.specs.Text.{Text, ◌∈◌}
-use Rattle.fancy_syntax.specs.Words.{is_at_any, is_at, begins, is_count, past_blank, begins_count}
+use Rattle.fancy_class.specs.Words.{is_at_any, is_at, begins}
+use Rattle.fancy_syntax.specs.Counts.{is_count, begins_count}
+use Rattle.fancy_syntax.specs.Blanks.{past_blank}
 use Rattle.fancy_tree.specs.Names.{is_name_character, is_name, name_here, past_name}
 use Rattle.fancy_syntax.specs.References as references
 use Rattle.fancy_syntax.specs.References.{Target, called, group_condition, is_left_out}
@@ -20,11 +22,13 @@ use Rattle.fancy_syntax.specs.Grammar.{Place, past, past_blanks, here, Bounds, b
 use Rattle.fancy_tree.proofs.Facts.{some_pair, some_is_none, chosen, same_some, char_is, either_no, both_true, left_of}
 use Rattle.fancy_syntax.proofs.ReadingLemmas.{referred}
 use Rattle.fancy_syntax.proofs.ReferenceLemmas.{ends_reference, ends_condition, reference_begins, no_paren_begun, no_end_begun, no_blank_begun}
-use Rattle.fancy_syntax.proofs.EndsLemmas.{ends_atom, no_paren, no_end}
+use Rattle.fancy_syntax.proofs.AtomLemmas.{ends_atom, no_paren, no_end}
 use Rattle.fancy_syntax.proofs.FlagLemmas.{setting_is_read, no_colon_first, no_angle_first, no_p_first, no_mark_first, no_parenthesis_first, no_hash_first, setting_spelled}
 use Rattle.fancy_tree.proofs.NameLemmas.{no_closing, no_parenthesis, no_equals_sign, no_exclamation_mark, other_character, name_is_read, past_read, name_is_some, row_is_name, row_then_rest}
-use Rattle.fancy_syntax.proofs.BlankLemmas.{begins_with, read_blanks, end_is_no_blank, quantifier_is_no_blank, unquantified_is_read, unquantified_is_spelled, skipped, no_blank_left}
-use Rattle.fancy_syntax.proofs.CountLemmas.{first_is as at_char, IsRead, exactly_is_read, at_least_is_read, between_is_read, at_most_is_read, count_spelled}
+use Rattle.fancy_class.proofs.WordLemmas.{begins_with}
+use Rattle.fancy_syntax.proofs.BlankLemmas.{read_blanks, end_is_no_blank, quantifier_is_no_blank, unquantified_is_read, unquantified_is_spelled, skipped, no_blank_left}
+use Rattle.fancy_class.proofs.WordLemmas.{first_is as at_char}
+use Rattle.fancy_syntax.proofs.CountLemmas.{IsRead, exactly_is_read, at_least_is_read, between_is_read, at_most_is_read, count_spelled}
 
 -- a name begins with neither of the characters that make look-behind of a `<`
 name_is_no_look : (n rest : Text) → is_name n ≡ true → (is_at "=" (n ++ rest) ≡ false) × (is_at "!" (n ++ rest) ≡ false)

@@ -2,7 +2,7 @@
 use Rattle.std.proofs.Common.{◌≡◌, ℕ, List, [], ◌∷◌, Option, Some, refl, sym, ap, ap₂, ◌∙◌, subst, inl, inr, add-one}
 use Rattle.fancy_tree.specs.Pattern.{Pattern, in_sequence, in_branches}
 use Rattle.fancy_tree.specs.Text.{Text}
-use Rattle.fancy_syntax.specs.Words.{is_at}
+use Rattle.fancy_class.specs.Words.{is_at}
 use Rattle.fancy_syntax.specs.Grammar.{Place, past, quantified, Opening, Opens, at_once, behind_condition, wrap, closed, Branches, last, more, Parts, none, next, Item, sets, refers_by_name, single, grouped}
 use Rattle.fancy_syntax.specs.Dialect.{Scope, Spells, with_part}
 use Rattle.fancy_syntax.specs.Views.{IsTheReading}

@@ -11,7 +11,9 @@ use Rattle.fancy_syntax.specs.declared.groups.Grouping.TheVariants.{Atomic, Look
 use Rattle.fancy_tree.specs.Pattern.{Pattern, backreference, group, repeat, in_sequence, in_branches}
 use Rattle.fancy_tree.specs.Sizes.{is_empty}
 use Rattle.fancy_tree.specs.Text.{Text, ◌∈◌}
-use Rattle.fancy_syntax.specs.Words.{is_at, begins, is_at_digit, past_digits, past_blank, decimal, begins_count}
+use Rattle.fancy_class.specs.Words.{is_at, begins}
+use Rattle.fancy_syntax.specs.Counts.{is_at_digit, past_digits, decimal, begins_count}
+use Rattle.fancy_syntax.specs.Blanks.{past_blank}
 use Rattle.fancy_tree.specs.Names.{name_here, past_name}
 use Rattle.fancy_syntax.specs.References as references
 use Rattle.fancy_syntax.specs.References.{Target}

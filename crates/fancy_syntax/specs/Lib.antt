@@ -1,10 +1,7 @@
-pub mod Words
+pub mod Counts
+pub mod Blanks
 pub mod References
 pub mod Dialect
 pub mod Grammar
 pub mod Refusals
 pub mod Views
-pub mod Escapes
-pub mod ClassGrammar
-pub mod ClassReading
-pub mod ClassViews

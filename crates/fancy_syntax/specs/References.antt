@@ -3,7 +3,8 @@ use Rattle.std.specs.Prelude.{ℕ, ◌+◌, ◌-◌, ◌==◌, ◌||◌, ◌&&�
 use Prim.Native.Char.{code}
 use Rattle.fancy_tree.specs.Limits.{largest_told}
 use Rattle.fancy_tree.specs.Text.{Text}
-use Rattle.fancy_syntax.specs.Words.{is_at_any, is_at, begins, is_at_digit, past_digits, decimal, are_digits}
+use Rattle.fancy_class.specs.Words.{is_at_any, is_at, begins}
+use Rattle.fancy_syntax.specs.Counts.{is_at_digit, past_digits, decimal, are_digits}
 use Rattle.fancy_tree.specs.Names.{name_here, past_name, last_named}
 
 -- what a reference names

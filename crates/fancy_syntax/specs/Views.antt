@@ -18,8 +18,8 @@ use Rattle.fancy_syntax.specs.declared.parse.Syntax.{Syntax}
 use Rattle.fancy_syntax.specs.declared.parse.Draft.{Draft}
 use Rattle.fancy_tree.specs.declared.error.CompileError.{CompileError as Compiling}
 use Rattle.fancy_tree.specs.declared.error.CompileError.TheVariants.{InvalidBackref, InvalidGroupNameBackref, NamedBackrefOnly, LookBehindNotConst, PatternCanNeverMatch}
-use Rattle.fancy_syntax.specs.declared.class.refusal.Refusal.{Refusal}
-use Rattle.fancy_syntax.specs.declared.class.refusal.Refusal.TheVariants.{Memory as OutOfMemory, Invalid}
+use Rattle.fancy_class.specs.declared.refusal.Refusal.{Refusal}
+use Rattle.fancy_class.specs.declared.refusal.Refusal.TheVariants.{Memory as OutOfMemory, Invalid}
 use Rattle.fancy_tree.specs.declared.tree.Tree.{Tree}
 use Rattle.fancy_tree.specs.Pattern.{Pattern, pattern_of, in_sequence, in_branches}
 use Rattle.fancy_tree.specs.Sizes.{size, are_sized}

@@ -1,7 +1,6 @@
 //! Escapes and anchors: what one character means behind a backslash, or by itself.
 
 ghost use Rattle.std.specs.Prelude.{◌≡◌, option_map};
-ghost use Rattle.fancy_syntax.specs.Escapes.{control_of};
 ghost use Rattle.fancy_syntax.specs.Dialect.{anchor_of, place_test, start_mark, is_escapable, is_special, is_one_item, ends_line};
 ghost use Rattle.fancy_tree.specs.Pattern.{pattern_of};
 ghost use Rattle.fancy_syntax.specs.Views.{flags_of};
@@ -31,22 +30,6 @@ pub(crate) fn is_one_item(meaning: Meaning, c: char) -> bool
     match meaning {
         Meaning::Unicode | Meaning::AsciiText => true,
         Meaning::Bytes => (c as u32) < 128,
-    }
-}
-
-/// The control character that a backslash and this letter stand for.
-pub(crate) fn control(letter: char) -> Option<char>
-    ensures { result ≡ control_of letter }
-{
-    match letter {
-        'a' => Some('\u{7}'),
-        'e' => Some('\u{1B}'),
-        'f' => Some('\u{C}'),
-        'n' => Some('\n'),
-        'r' => Some('\r'),
-        't' => Some('\t'),
-        'v' => Some('\u{B}'),
-        _ => None,
     }
 }
 

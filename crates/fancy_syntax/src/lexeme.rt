@@ -2,10 +2,10 @@
 
 ghost use Rattle.std.specs.Prelude.{◌≡◌, ◌+◌, ◌<◌, ◌≤◌, ◌∷◌, ◌&&◌, not, nat_lt, ℕ, Some, Ok, true, drop, length, option_and_then, OnOk, IfOk};
 ghost use Rattle.fancy_tree.specs.Pattern.{pattern_of, assertion};
-ghost use Rattle.fancy_syntax.specs.Words.{is_at};
+ghost use Rattle.fancy_class.specs.Words.{is_at};
 ghost use Rattle.fancy_tree.specs.Members.{Members, members};
-ghost use Rattle.fancy_syntax.specs.Escapes.{is_property, set_letter};
-ghost use Rattle.fancy_syntax.specs.ClassGrammar.{is_ascii_meaning};
+ghost use Rattle.fancy_class.specs.Escapes.{is_property, set_letter};
+ghost use Rattle.fancy_class.specs.ClassGrammar.{is_ascii_meaning};
 ghost use Rattle.fancy_syntax.specs.Dialect.{IsMeant, leaf, one_of, any_case_of, spelled_character, spelled_number, spelled_set, any_code, ends_line};
 ghost use Rattle.fancy_syntax.specs.Dialect as dialect;
 ghost use Rattle.fancy_syntax.specs.Grammar.{IsAtom, start};
@@ -13,13 +13,18 @@ ghost use Rattle.fancy_syntax.specs.References.{begins_reference};
 ghost use Rattle.fancy_syntax.specs.Views.{place, Gives, GivesMeant, error_of, scope_of};
 
 use crate::build::{literal, reference};
-use crate::class::{Context, Cursor, Gathered, Refusal, Token, may_turn, set_letter};
 use crate::count::begins_count;
 use crate::escape::{
-    anchor, control, escape_fault, is_escapable, is_one_item, is_special, place_test, start_mark,
+    anchor, escape_fault, is_escapable, is_one_item, is_special, place_test, start_mark,
 };
 use crate::parser::Parser;
 use crate::reference::{begins_reference, read_reference, reference_fault};
+use fancy_class::context::{Context, may_turn};
+use fancy_class::cursor::Cursor;
+use fancy_class::escape::{control, set_letter};
+use fancy_class::gathered::Gathered;
+use fancy_class::refusal::Refusal;
+use fancy_class::token::Token;
 use fancy_tree::error::{Error, ParseErrorKind};
 use fancy_tree::named::universe;
 use fancy_tree::operation::Operation;

@@ -3,7 +3,6 @@
 
 mod blank;
 mod build;
-mod class;
 mod count;
 mod escape;
 pub mod flags;

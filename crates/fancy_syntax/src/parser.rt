@@ -4,7 +4,8 @@ ghost use Rattle.std.specs.Prelude.{◌≡◌, ◌+◌, ◌<◌, ◌≤◌, ◌^
 ghost use Rattle.std.specs.Char.{len_utf8};
 ghost use Rattle.std.specs.List.{starts_with};
 ghost use Rattle.fancy_syntax.specs.Dialect.{begins_quantifier};
-ghost use Rattle.fancy_syntax.specs.Words.{is_at_any, is_at, begins_count};
+ghost use Rattle.fancy_class.specs.Words.{is_at_any, is_at};
+ghost use Rattle.fancy_syntax.specs.Counts.{begins_count};
 
 use crate::blank::past_blanks;
 use crate::build::{branches, chooses, reference, repeat, sequence, wrap};

@@ -1,7 +1,7 @@
 //! References to groups, as they are written: `\1`, `\k<n>`, `\k'n'`, `\k<-1>`, `(?P=n)`, and in conditions `1`, `<n>` and `'n'`.
 
 ghost use Rattle.std.specs.Prelude.{◌≡◌, ℕ, ◌-◌, ◌^◌, ◌<◌, ◌≤◌, min, IfOk, IfSome, length, option_map};
-ghost use Rattle.fancy_syntax.specs.Words.{is_at_any};
+ghost use Rattle.fancy_class.specs.Words.{is_at_any};
 ghost use Rattle.fancy_syntax.specs.References.{back, number_reference, distance_reference, name_reference, delimited, reference, begins_reference, within_largest, number_condition, name_condition, group_condition, is_left_out};
 ghost use Rattle.fancy_syntax.specs.Views.{target_of, reading_of};
 
