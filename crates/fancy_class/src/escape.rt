@@ -7,6 +7,7 @@ ghost use Rattle.fancy_class.specs.ClassViews.{GivesValue, same, capped_number};
 
 use crate::cursor::Cursor;
 use crate::refusal::Refusal;
+use crate::words::is_at_any;
 use fancy_tree::error::ParseErrorKind;
 use fancy_tree::named::Named;
 
@@ -157,7 +158,7 @@ impl<'a> Cursor<'a> {
         ensures value { GivesValue same (number count self.old.rest.now) result self.new.rest.now }
         ensures forward { OnOk result (length self.new.rest.now ≤ length self.old.rest.now) }
     {
-        if self.is_at_any(&['{']) {
+        if is_at_any(self.rest, &['{']) {
             self.skip(1);
             return self.braced_number();
         }

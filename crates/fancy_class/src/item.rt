@@ -10,6 +10,7 @@ use crate::context::{Context, fits, may_turn};
 use crate::cursor::Cursor;
 use crate::refusal::Refusal;
 use crate::token::Token;
+use crate::words::{begins, is_at_any};
 use fancy_tree::error::ParseErrorKind;
 use fancy_tree::operation::Operation;
 use fancy_tree::tree::Meaning;
@@ -87,7 +88,7 @@ impl<'a> Cursor<'a> {
         ensures value { result ≡ starts_class self.now.rest.now }
         ensures room { IsTrue result → 0 < length self.now.rest.now }
     {
-        self.is_at_any(&['[']) && !self.is_posix()
+        is_at_any(self.rest, &['[']) && !self.is_posix()
     }
 
     /// Whether no further item belongs to the operand.
@@ -95,9 +96,9 @@ impl<'a> Cursor<'a> {
         ensures { result ≡ ends_operand first self.now.rest.now }
     {
         self.rest.is_empty()
-            || (!first && (self.is_at_any(&[']']) || self.begins(&['-', '-'])))
-            || self.begins(&['&', '&'])
-            || self.begins(&['~', '~'])
+            || (!first && (is_at_any(self.rest, &[']']) || begins(self.rest, &['-', '-'])))
+            || begins(self.rest, &['&', '&'])
+            || begins(self.rest, &['~', '~'])
     }
 
     /// The operator that stands here, if one does.
@@ -105,11 +106,11 @@ impl<'a> Cursor<'a> {
         ensures value { operator self.now.rest.now ≡ option_map (λ o. (o, drop 2 self.now.rest.now)) result }
         ensures room { IsSome result → 2 ≤ length self.now.rest.now }
     {
-        if self.begins(&['&', '&']) {
+        if begins(self.rest, &['&', '&']) {
             Some(Operation::Intersection)
-        } else if self.begins(&['-', '-']) {
+        } else if begins(self.rest, &['-', '-']) {
             Some(Operation::Difference)
-        } else if self.begins(&['~', '~']) {
+        } else if begins(self.rest, &['~', '~']) {
             Some(Operation::SymmetricDifference)
         } else {
             None
@@ -123,7 +124,7 @@ impl<'a> Cursor<'a> {
         ensures progress { length self.new.rest.now < length self.old.rest.now }
     {
         self.skip(1);
-        if self.is_at_any(&['^']) {
+        if is_at_any(self.rest, &['^']) {
             self.skip(1);
             return true;
         }

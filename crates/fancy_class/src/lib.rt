@@ -11,3 +11,4 @@ mod property;
 mod reader;
 pub mod refusal;
 pub mod token;
+pub mod words;

@@ -10,6 +10,7 @@ use crate::context::may_turn;
 use crate::cursor::Cursor;
 use crate::refusal::Refusal;
 use crate::token::Token;
+use crate::words::begins;
 use fancy_tree::error::ParseErrorKind;
 use fancy_tree::named::Named;
 use fancy_tree::tree::Meaning;
@@ -37,33 +38,33 @@ impl<'a> Cursor<'a> {
         ensures value { by_word posix_words self.now.rest.now ≡ option_map (λ found. (found.0, drop found.1 self.now.rest.now)) result }
         ensures room { IfSome result (λ found. found.1 ≤ length self.now.rest.now) }
     {
-        if self.begins(&['a', 'l', 'n', 'u', 'm', ':', ']']) {
+        if begins(self.rest, &['a', 'l', 'n', 'u', 'm', ':', ']']) {
             Some((Named::Alphanumeric, 7))
-        } else if self.begins(&['a', 'l', 'p', 'h', 'a', ':', ']']) {
+        } else if begins(self.rest, &['a', 'l', 'p', 'h', 'a', ':', ']']) {
             Some((Named::Alphabetic, 7))
-        } else if self.begins(&['a', 's', 'c', 'i', 'i', ':', ']']) {
+        } else if begins(self.rest, &['a', 's', 'c', 'i', 'i', ':', ']']) {
             Some((Named::Ascii, 7))
-        } else if self.begins(&['b', 'l', 'a', 'n', 'k', ':', ']']) {
+        } else if begins(self.rest, &['b', 'l', 'a', 'n', 'k', ':', ']']) {
             Some((Named::Blank, 7))
-        } else if self.begins(&['c', 'n', 't', 'r', 'l', ':', ']']) {
+        } else if begins(self.rest, &['c', 'n', 't', 'r', 'l', ':', ']']) {
             Some((Named::Control, 7))
-        } else if self.begins(&['d', 'i', 'g', 'i', 't', ':', ']']) {
+        } else if begins(self.rest, &['d', 'i', 'g', 'i', 't', ':', ']']) {
             Some((Named::AsciiDigit, 7))
-        } else if self.begins(&['g', 'r', 'a', 'p', 'h', ':', ']']) {
+        } else if begins(self.rest, &['g', 'r', 'a', 'p', 'h', ':', ']']) {
             Some((Named::Graphic, 7))
-        } else if self.begins(&['l', 'o', 'w', 'e', 'r', ':', ']']) {
+        } else if begins(self.rest, &['l', 'o', 'w', 'e', 'r', ':', ']']) {
             Some((Named::Lowercase, 7))
-        } else if self.begins(&['p', 'r', 'i', 'n', 't', ':', ']']) {
+        } else if begins(self.rest, &['p', 'r', 'i', 'n', 't', ':', ']']) {
             Some((Named::Printable, 7))
-        } else if self.begins(&['p', 'u', 'n', 'c', 't', ':', ']']) {
+        } else if begins(self.rest, &['p', 'u', 'n', 'c', 't', ':', ']']) {
             Some((Named::Punctuation, 7))
-        } else if self.begins(&['s', 'p', 'a', 'c', 'e', ':', ']']) {
+        } else if begins(self.rest, &['s', 'p', 'a', 'c', 'e', ':', ']']) {
             Some((Named::AsciiSpace, 7))
-        } else if self.begins(&['u', 'p', 'p', 'e', 'r', ':', ']']) {
+        } else if begins(self.rest, &['u', 'p', 'p', 'e', 'r', ':', ']']) {
             Some((Named::Uppercase, 7))
-        } else if self.begins(&['w', 'o', 'r', 'd', ':', ']']) {
+        } else if begins(self.rest, &['w', 'o', 'r', 'd', ':', ']']) {
             Some((Named::AsciiWord, 6))
-        } else if self.begins(&['x', 'd', 'i', 'g', 'i', 't', ':', ']']) {
+        } else if begins(self.rest, &['x', 'd', 'i', 'g', 'i', 't', ':', ']']) {
             Some((Named::Hexadecimal, 8))
         } else {
             None
@@ -85,10 +86,10 @@ impl<'a> Cursor<'a> {
         ensures value { result ≡ is_posix self.now.rest.now }
         ensures room { IsTrue result → 3 ≤ length self.now.rest.now }
     {
-        if self.begins(&['[', ':', '^']) {
+        if begins(self.rest, &['[', ':', '^']) {
             self.is_posix_name(3)
         } else {
-            self.begins(&['[', ':']) && self.is_posix_name(2)
+            begins(self.rest, &['[', ':']) && self.is_posix_name(2)
         }
     }
 
@@ -113,7 +114,7 @@ impl<'a> Cursor<'a> {
         ensures value { GivesValue same (posix meaning self.old.rest.now) result self.new.rest.now }
         ensures progress { OnOk result (length self.new.rest.now < length self.old.rest.now) }
     {
-        if self.begins(&['[', ':', '^']) {
+        if begins(self.rest, &['[', ':', '^']) {
             self.skip(3);
             return self.posix_end(meaning, true);
         }

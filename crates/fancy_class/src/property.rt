@@ -10,6 +10,7 @@ use crate::cursor::Cursor;
 use crate::escape::before_brace;
 use crate::refusal::Refusal;
 use crate::token::Token;
+use crate::words::begins;
 use fancy_tree::error::ParseErrorKind;
 use fancy_tree::property::property_named;
 use fancy_tree::tree::Meaning;
@@ -31,7 +32,7 @@ impl<'a> Cursor<'a> {
         ensures value { result ≡ is_property self.now.rest.now }
         ensures room { IsTrue result → 2 ≤ length self.now.rest.now }
     {
-        self.begins(&['\\', 'p']) || self.begins(&['\\', 'P'])
+        begins(self.rest, &['\\', 'p']) || begins(self.rest, &['\\', 'P'])
     }
 
     /// Reads the name of a property: what stands in braces, or one character.
@@ -78,7 +79,7 @@ impl<'a> Cursor<'a> {
         ensures value { GivesValue same (property context.meaning self.old.rest.now) result self.new.rest.now }
         ensures progress { OnOk result (length self.new.rest.now < length self.old.rest.now) }
     {
-        let negated = self.begins(&['\\', 'P']);
+        let negated = begins(self.rest, &['\\', 'P']);
         self.skip(2);
         self.property_end(context, negated)
     }

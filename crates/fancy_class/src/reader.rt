@@ -10,6 +10,7 @@ use crate::context::{Context, may_turn};
 use crate::cursor::Cursor;
 use crate::gathered::Gathered;
 use crate::refusal::Refusal;
+use crate::words::is_at_any;
 use fancy_tree::error::ParseErrorKind;
 use fancy_tree::set::Set;
 
@@ -47,7 +48,7 @@ impl<'a> Cursor<'a> {
             let right = self.items(context, room - 1, false)?;
             set = set.combined(how, &right)?;
         }
-        if !self.is_at_any(&[']']) {
+        if !is_at_any(self.rest, &[']']) {
             return Err(Refusal::Invalid(ParseErrorKind::InvalidClass));
         }
         self.skip(1);

@@ -25,6 +25,7 @@ use fancy_class::escape::{control, set_letter};
 use fancy_class::gathered::Gathered;
 use fancy_class::refusal::Refusal;
 use fancy_class::token::Token;
+use fancy_class::words::is_at_any;
 use fancy_tree::error::{Error, ParseErrorKind};
 use fancy_tree::named::universe;
 use fancy_tree::operation::Operation;
@@ -384,7 +385,7 @@ impl<'a> Parser<'a> {
         ensures value { Gives pattern_of IsAtom result (place self.old) (place self.new) }
         ensures progress { OnOk result (length self.new.rest.now < length self.old.rest.now) }
     {
-        if self.is_at_any(&['[']) {
+        if is_at_any(self.rest, &['[']) {
             return self.class();
         }
         if begins_reference(self.rest) {

@@ -1,10 +1,9 @@
 //! The parser: one pass over the characters, which goes deeper only at a parenthesis.
 
-ghost use Rattle.std.specs.Prelude.{◌≡◌, ◌+◌, ◌<◌, ◌≤◌, ◌^◌, ◌-◌, min, sum_by, true, false, if◌then◌else◌, length, nat_eq, OnOk, IfOk, IsTrue, option_map};
+ghost use Rattle.std.specs.Prelude.{◌≡◌, ◌+◌, ◌<◌, ◌≤◌, ◌^◌, ◌-◌, min, sum_by, true, false, if◌then◌else◌, length, OnOk, IfOk, option_map};
 ghost use Rattle.std.specs.Char.{len_utf8};
-ghost use Rattle.std.specs.List.{starts_with};
 ghost use Rattle.fancy_syntax.specs.Dialect.{begins_quantifier};
-ghost use Rattle.fancy_class.specs.Words.{is_at_any, is_at};
+ghost use Rattle.fancy_class.specs.Words.{is_at};
 ghost use Rattle.fancy_syntax.specs.Counts.{begins_count};
 
 use crate::blank::past_blanks;
@@ -13,6 +12,7 @@ use crate::count::{Turns, begins_count, bounds, past_count};
 use crate::flags::{Flags, read_flags};
 use crate::groups::{Grouping, Opening, mark};
 use crate::reference::{Target, is_left_out, read_condition};
+use fancy_class::words::{begins, is_at_any};
 use fancy_tree::error::{Error, ParseErrorKind};
 use fancy_tree::measure::is_empty;
 use fancy_tree::name::{GroupName, split_name, text_of};
@@ -125,23 +125,6 @@ impl<'a> Parser<'a> {
         self.rest = &self.rest[count..];
     }
 
-    fn begins(&self, word: &[char]) -> bool
-        ensures value { result ≡ starts_with nat_eq self.now.rest.now word.now }
-        ensures room { IsTrue result → length word.now ≤ length self.now.rest.now }
-    {
-        self.rest.starts_with(word)
-    }
-
-    pub(crate) fn is_at_any(&self, chars: &[char]) -> bool
-        ensures value { result ≡ is_at_any chars.now self.now.rest.now }
-        ensures room { IsTrue result → 0 < length self.now.rest.now }
-    {
-        match self.rest {
-            [c, ..] => chars.contains(c),
-            [] => false,
-        }
-    }
-
     /// Moves past blanks and comments.
     fn skip_blanks(&mut self)
         ensures place { place self.new ≡ here (place self.old) }
@@ -153,7 +136,7 @@ impl<'a> Parser<'a> {
     fn ends_branch(&self) -> bool
         ensures { result ≡ ends_branch self.now.rest.now }
     {
-        self.rest.is_empty() || self.is_at_any(&['|', ')'])
+        self.rest.is_empty() || is_at_any(self.rest, &['|', ')'])
     }
 }
 
@@ -169,7 +152,7 @@ impl<'a> Parser<'a> {
         ensures value { GivesValue found (opening (place self.old)) result (place self.new) }
         ensures progress { OnOk result (length self.new.rest.now < length self.old.rest.now) }
     {
-        if self.begins(&['(', '?', ':']) {
+        if begins(self.rest, &['(', '?', ':']) {
             self.skip(3);
             return Ok(Opening::Plain);
         }
@@ -199,26 +182,26 @@ impl<'a> Parser<'a> {
         ensures value { GivesValue found (unmarked (place self.old)) result (place self.new) }
         ensures progress { OnOk result (length self.new.rest.now < length self.old.rest.now) }
     {
-        if self.begins(&['(', '?', '<']) {
+        if begins(self.rest, &['(', '?', '<']) {
             let inside = &self.rest[3..];
             return self.named(inside);
         }
-        if self.begins(&['(', '?', 'P', '<']) {
+        if begins(self.rest, &['(', '?', 'P', '<']) {
             let inside = &self.rest[4..];
             return self.named(inside);
         }
-        if self.begins(&['(', '?', 'P', '=']) {
+        if begins(self.rest, &['(', '?', 'P', '=']) {
             let inside = &self.rest[4..];
             return self.named_reference(inside);
         }
-        if self.begins(&['(', '?', '(']) {
+        if begins(self.rest, &['(', '?', '(']) {
             let inside = &self.rest[3..];
             return self.conditional(inside);
         }
-        if self.begins(&['(', '?']) {
+        if begins(self.rest, &['(', '?']) {
             return self.flagged();
         }
-        if self.begins(&['(', '*']) {
+        if begins(self.rest, &['(', '*']) {
             return Err(self.error(ParseErrorKind::NotInProfile));
         }
         self.skip(1);
@@ -348,18 +331,18 @@ impl<'a> Parser<'a> {
         ensures value { GivesValue bounds_of (turns (place self.old)) result (place self.new) }
         ensures progress { OnOk result (length self.new.rest.now ≤ length self.old.rest.now) }
     {
-        if self.is_at_any(&['?']) {
+        if is_at_any(self.rest, &['?']) {
             self.skip(1);
             return Ok(Turns {
                 low: 0,
                 high: Some(1),
             });
         }
-        if self.is_at_any(&['*']) {
+        if is_at_any(self.rest, &['*']) {
             self.skip(1);
             return Ok(Turns { low: 0, high: None });
         }
-        if self.is_at_any(&['+']) {
+        if is_at_any(self.rest, &['+']) {
             self.skip(1);
             return Ok(Turns { low: 1, high: None });
         }
@@ -392,11 +375,11 @@ impl<'a> Parser<'a> {
         ensures value { GivesValue itself (taste (place self.old)) result (place self.new) }
         ensures progress { OnOk result (length self.new.rest.now ≤ length self.old.rest.now) }
     {
-        if self.is_at_any(&['?']) {
+        if is_at_any(self.rest, &['?']) {
             self.skip(1);
             return Ok(Taste::Lazy);
         }
-        if self.is_at_any(&['+']) {
+        if is_at_any(self.rest, &['+']) {
             self.skip(1);
             return Ok(Taste::Possessive);
         }
@@ -428,7 +411,7 @@ impl<'a> Parser<'a> {
         loop {
             let branch = self.sequence(room)?;
             found.push(branch)?;
-            if !self.is_at_any(&['|']) {
+            if !is_at_any(self.rest, &['|']) {
                 break;
             }
             self.skip(1);
@@ -482,7 +465,7 @@ impl<'a> Parser<'a> {
             return Ok(how);
         }
         let condition = self.alternatives(room - 2)?;
-        if !self.is_at_any(&[')']) {
+        if !is_at_any(self.rest, &[')']) {
             return Err(self.error(ParseErrorKind::UnclosedOpenParen));
         }
         self.skip(1);
@@ -498,7 +481,7 @@ impl<'a> Parser<'a> {
         ensures value { Gives part_of (Item room) result (place self.old) (place self.new) }
         ensures progress { OnOk result (length self.new.rest.now < length self.old.rest.now) }
     {
-        if !self.is_at_any(&['(']) {
+        if !is_at_any(self.rest, &['(']) {
             let part = self.atom()?;
             return Ok(Some(self.quantified(part)?));
         }
@@ -511,7 +494,7 @@ impl<'a> Parser<'a> {
             return Ok(Some(self.quantified(reference(folded, index))?));
         }
         let body = self.alternatives(room - 1)?;
-        if !self.is_at_any(&[')']) {
+        if !is_at_any(self.rest, &[')']) {
             return Err(self.error(ParseErrorKind::UnclosedOpenParen));
         }
         self.skip(1);
