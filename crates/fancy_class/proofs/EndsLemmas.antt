@@ -2,7 +2,6 @@
 use Rattle.std.proofs.Common.{◌≡◌, ℕ, ◌+◌, ◌==◌, ◌||◌, ◌&&◌, not, nat_lt, nat_eq, Bool, true, false, List, [], ◌∷◌, ◌++◌, take, Option, Some, None, drop, length, refl, sym, ap, ◌∙◌, subst, append_assoc, inl, inr}
 use Rattle.std.proofs.lemmas.List.{take-append-drop}
 use Rattle.std.specs.List.{starts_with}
-use Rattle.std.specs.Option.{unwrap_or, option_map, option_or, option_and_then}
 use Rattle.std.specs.Prelude.{if◌then◌else◌}
 use Rattle.ucd_sets.specs.declared.set.Set.{Set as PropertySet}
 use Rattle.fancy_tree.specs.declared.tree.Meaning.{Meaning}

@@ -1,5 +1,5 @@
 -- What stands behind a backslash: characters by a letter or a number, and sets by a letter or a name.
-use Rattle.std.specs.Prelude.{ℕ, ◌+◌, ◌*◌, ◌==◌, ◌||◌, ◌&&◌, not, nat_lt, Bool, true, false, [], ◌∷◌, length, take, drop, Option, Some, None, if◌then◌else◌}
+use Rattle.std.specs.Prelude.{ℕ, ◌+◌, ◌*◌, ◌==◌, ◌||◌, ◌&&◌, nat_lt, Bool, true, false, [], ◌∷◌, length, take, drop, Option, Some, None, if◌then◌else◌}
 use Prim.Native.Char.{code}
 use Rattle.std.specs.Option.{option_or}
 use Rattle.std.specs.Char.{is_ascii_punctuation, is_ascii_alphabetic, digit_value}

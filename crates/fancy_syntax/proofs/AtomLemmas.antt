@@ -1,10 +1,7 @@
 -- What an atom that is no group can be, and that it leaves an end of the text that it was read from.
-use Rattle.std.proofs.Common.{◌≡◌, ℕ, ◌+◌, ◌==◌, ◌||◌, ◌&&◌, not, nat_lt, nat_eq, Bool, true, false, List, [], ◌∷◌, ◌++◌, take, Option, Some, None, drop, length, refl, sym, ap, ◌∙◌, subst, append_assoc, inl, inr}
-use Rattle.std.proofs.lemmas.List.{take-append-drop}
-use Rattle.std.specs.List.{starts_with}
+use Rattle.std.proofs.Common.{◌≡◌, ℕ, ◌==◌, ◌||◌, ◌&&◌, not, nat_lt, Bool, true, false, List, [], ◌∷◌, Option, Some, None, refl, sym, ap, ◌∙◌, subst, inl, inr}
 use Rattle.std.specs.Option.{unwrap_or, option_map, option_or, option_and_then}
 use Rattle.std.specs.Prelude.{if◌then◌else◌}
-use Rattle.ucd_sets.specs.declared.set.Set.{Set as PropertySet}
 use Rattle.fancy_tree.specs.declared.tree.Assertion.{Assertion}
 use Rattle.fancy_tree.specs.declared.tree.Assertion.TheVariants.{WordBoundary}
 use Rattle.fancy_syntax.specs.Grammar.{ends_branch}
@@ -12,7 +9,7 @@ use Rattle.fancy_tree.specs.declared.named.Named.{Named}
 use Rattle.fancy_class.specs.declared.token.Token.{Token}
 use Rattle.fancy_tree.specs.Pattern.{Pattern, member_of, in_any_case, raw_byte, assertion, keep_start, continue_here}
 use Rattle.fancy_tree.specs.Text.{Text}
-use Rattle.fancy_class.specs.Words.{is_at, begins, by_word}
+use Rattle.fancy_class.specs.Words.{is_at, by_word}
 use Rattle.fancy_syntax.specs.Counts.{begins_count}
 use Rattle.fancy_tree.specs.Members.{Members}
 use Rattle.fancy_tree.specs.Sets.{AreEdges}

@@ -1,5 +1,5 @@
 -- Rows of digits, and counts.
-use Rattle.std.proofs.Common.{◌≡◌, ℕ, ◌+◌, ◌*◌, ◌-◌, ◌<◌, ◌≤◌, ◌^◌, ◌==◌, ◌||◌, ◌&&◌, min, nat_le, Bool, true, false, [], ◌∷◌, ◌++◌, Some, None, drop, length, get_or, suc, add-one, drop-cons, refl, sym, ap, ◌∙◌, subst, append_assoc, arith, cond, codes}
+use Rattle.std.proofs.Common.{◌≡◌, ℕ, ◌+◌, ◌*◌, ◌-◌, ◌<◌, ◌≤◌, ◌^◌, ◌||◌, ◌&&◌, min, nat_le, Bool, true, false, [], ◌∷◌, ◌++◌, Some, None, drop, length, get_or, suc, add-one, drop-cons, refl, sym, ap, ◌∙◌, subst, append_assoc, arith, cond, codes}
 use Rattle.std.specs.Char.{is_ascii_digit}
 use Rattle.std.proofs.lemmas.Bool.Decides.{nat_tests}
 use Rattle.std.proofs.lemmas.List.{drop_all}
