@@ -121,7 +121,7 @@ ends_named m t n h =
       | inr y ↦ absurd (some_is_none (sym y.1))
     ]
 
-ends_by_word : {X : Type 0} (words : List (Text × X)) (t : Text) {x : X} {u : Text} → by_word words t ≡ Some (x, u) → Ends t u
+pub ends_by_word : {X : Type 0} (words : List (Text × X)) (t : Text) {x : X} {u : Text} → by_word words t ≡ Some (x, u) → Ends t u
 ends_by_word [] t h = absurd (some_is_none (sym h))
 ends_by_word ((word, x) ∷ others) t h =
     elim (chosen (starts_with nat_eq t word) _ _ _ h) [

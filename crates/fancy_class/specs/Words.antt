@@ -1,5 +1,5 @@
 -- The words in which the grammar speaks of the characters of a pattern.
-use Rattle.std.specs.Prelude.{Bool, false, nat_eq, List, [], ◌∷◌, codes, drop, length, Option, Some, None, if◌then◌else◌}
+use Rattle.std.specs.Prelude.{ℕ, Bool, false, nat_eq, List, [], ◌∷◌, codes, drop, length, Option, Some, None, if◌then◌else◌}
 use Rattle.std.specs.List.{starts_with}
 use Prim.Native.String.{String}
 use Rattle.fancy_tree.specs.Text.{Text, is_among}

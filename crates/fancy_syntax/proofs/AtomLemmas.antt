@@ -17,7 +17,7 @@ use Rattle.fancy_class.specs.Escapes.{control_of, number, takes_number, digits_b
 use Rattle.fancy_class.specs.ClassGrammar.{is_ascii_meaning, may_turn, property}
 use Rattle.fancy_syntax.specs.Dialect.{Scope, Lexeme, leaf, one_of, any_case_of, IsMeant, by_itself, by_edges, by_folding, lexeme, ReadsAtom, by_lexeme, by_class, literal_of, spelled_character, spelled_number, spelled_set, lettered_set, is_one_item, numbered, boundary_words, boundary, property_here, followed_by, any_item, any_code, lettered, place_test, start_mark, anchor_of, lone, escape, escape_in, is_escapable, is_special}
 use Rattle.fancy_tree.proofs.Facts.{true_is_false, some_is_none, some_pair, not_false, chosen, same_some, char_is}
-use Rattle.fancy_class.proofs.EndsLemmas.{Ends, ends_here, ends_drop, ends_at, behind_one, ends_number, ends_property}
+use Rattle.fancy_class.proofs.EndsLemmas.{Ends, ends_here, ends_drop, ends_at, behind_one, ends_number, ends_by_word, ends_property}
 
 -- ---- lexemes, and what they can be
 pub data Kind (s : Scope) : Lexeme → Type 0 where
