@@ -2,7 +2,7 @@
 use Rattle.std.proofs.Common.{arith, ℕ, ◌<◌, ◌≤◌, ◌≡◌, ◌==◌, nat_lt, false, List, ◌∷◌, Option, None, Some, is_some, refl, sym, ◌∙◌, ap}
 use Rattle.std.specs.Option.{option_or}
 use Rattle.std.proofs.lemmas.Bool.Decides.{nat_tests}
-use Rattle.fancy_syntax.specs.Words.{Text}
+use Rattle.fancy_tree.specs.Text.{Text}
 use Rattle.fancy_core.specs.declared.regex.Regex.{Regex}
 use Rattle.fancy_core.specs.Regexes.{groups_in}
 use Rattle.fancy_core.specs.Names.{group_named, has_names}

@@ -3,7 +3,7 @@ use Rattle.std.proofs.Common.{ℕ, ◌≡◌, ◌==◌, Bool, true, false, List,
 use Rattle.std.specs.List.{list_any}
 use Rattle.std.proofs.lemmas.Str.{encodes-chars, chars_from_encodes, encodes-append}
 use Rattle.std.proofs.lemmas.Grind.{flat_map-append}
-use Rattle.fancy_syntax.specs.Words.{Text}
+use Rattle.fancy_tree.specs.Text.{Text}
 use Rattle.fancy_core.specs.Templates.{Syntax, Step, literal, form, steps, begins_with}
 use Rattle.fancy_core.specs.Expansions.{Captured, expanded, expansion}
 use Rattle.fancy_core.specs.Escapes.{escaped_template, has_special, escaped_pattern}

@@ -6,7 +6,7 @@ use Rattle.std.specs.String.Boundary.{IsSplitPoint}
 use Rattle.std.proofs.KnownBytes.{Appends-trans}
 use Rattle.std.proofs.lemmas.List.{take-append-le}
 use Rattle.std.proofs.Math.Seq.{take-append-add}
-use Rattle.fancy_syntax.specs.Words.{Text}
+use Rattle.fancy_tree.specs.Text.{Text}
 use Rattle.fancy_core.specs.Templates.{Syntax, Step, steps}
 use Rattle.fancy_core.specs.Expansions.{Captured, expanded, expansion}
 

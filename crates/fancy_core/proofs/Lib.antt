@@ -28,3 +28,4 @@ pub mod FixedLemmas
 pub mod RefusedFromLemmas
 pub mod ReplaceLemmas
 pub mod CheckLemmas
+pub mod SpelledLemmas

@@ -2,16 +2,16 @@
 use Rattle.std.proofs.Common.{◌≡◌, ℕ, ◌≤◌, ◌==◌, ◌&&◌, Bool, true, false, List, [], ◌∷◌, ◌++◌, codes, length, map, flat_map, chars, IsUtf8, IsTrue, if◌then◌else◌, inl, inr, refl, sym, ap, subst, ◌∙◌, arith, eqb-true, true≢false}
 use Rattle.std.proofs.lemmas.Bool.Decides.{leb_tells}
 use Rattle.std.proofs.lemmas.Str.{encodes-chars, scalars-chars, chars_from_encodes, IsUtf8-string_bytes}
-use Rattle.fancy_syntax.specs.Limits.{most_nodes}
-use Rattle.fancy_syntax.specs.declared.tree.Meaning.{Meaning}
-use Rattle.fancy_syntax.specs.declared.tree.Meaning.TheVariants.{Unicode}
-use Rattle.fancy_syntax.specs.References.{refers_to}
-use Rattle.fancy_syntax.specs.Pattern.{Pattern, character, followed, in_sequence}
+use Rattle.fancy_tree.specs.Limits.{most_nodes}
+use Rattle.fancy_tree.specs.declared.tree.Meaning.{Meaning}
+use Rattle.fancy_tree.specs.declared.tree.Meaning.TheVariants.{Unicode}
+use Rattle.fancy_tree.specs.Refers.{refers_to}
+use Rattle.fancy_tree.specs.Pattern.{Pattern, character, followed, in_sequence}
 use Rattle.fancy_syntax.specs.Dialect.{Scope, IsPattern, standard, begin, numbers, is_escapable}
-use Rattle.fancy_syntax.specs.Modes.{keeps_characters}
-use Rattle.fancy_syntax.specs.Sizes.{nodes, are_sized}
-use Rattle.fancy_syntax.specs.Words.{Text}
-use Rattle.fancy_syntax.proofs.CountLemmas.{either_no}
+use Rattle.fancy_tree.specs.Modes.{keeps_characters}
+use Rattle.fancy_tree.specs.Sizes.{nodes, are_sized}
+use Rattle.fancy_tree.specs.Text.{Text}
+use Rattle.fancy_tree.proofs.Facts.{either_no}
 use Rattle.fancy_syntax.proofs.LiteralLemmas.{IsPlain, StandsFor, StandFor, no_word, word, meant, by_escape, by_backslash, by_itself_alone, not_among_fewer, holds_among, words_spell, words_spell_one, nodes-characters}
 use Rattle.fancy_input.specs.Places.{is_boundary}
 use Rattle.fancy_input.specs.Requests.{effective_start, positions}

@@ -3,7 +3,7 @@ use Rattle.std.proofs.Common.{ℕ, ◌≡◌, ◌&&◌, Bool, true, false, List,
 use Rattle.std.specs.List.{list_all}
 use Rattle.std.specs.Char.{is_ascii_digit}
 use Rattle.std.specs.Str.Parse.{ParsesUnsigned}
-use Rattle.fancy_syntax.specs.Words.{Text}
+use Rattle.fancy_tree.specs.Text.{Text}
 use Rattle.fancy_core.specs.Templates.{row, fitting}
 use Rattle.fancy_core.specs.Expansions.{as_number}
 use Rattle.fancy_core.proofs.FormLemmas.{row_parsed}

@@ -4,7 +4,7 @@ use Rattle.std.specs.List.{list_all}
 use Rattle.std.specs.Char.{is_ascii_digit}
 use Rattle.std.specs.Str.Parse.{digits_value}
 use Rattle.std.proofs.Math.Seq.{drop-append_seam}
-use Rattle.fancy_syntax.specs.Words.{Text}
+use Rattle.fancy_tree.specs.Text.{Text}
 use Rattle.fancy_core.specs.Templates.{Syntax, literal, name, number, steps, delimited, undelimited, numbered, begins_with, is_name_character, is_empty, row, past_row, fitting, IsRow}
 use Rattle.fancy_core.specs.Expanders.{form_in}
 use Rattle.fancy_core.proofs.RowLemmas.{begins_is}

@@ -1,7 +1,7 @@
 -- Lemmas on the steps of a template.
 use Rattle.std.proofs.Common.{arith, ℕ, zero, suc, ◌<◌, ◌≤◌, ◌≡◌, ◌≢◌, ◌==◌, Bool, true, false, List, [], ◌∷◌, Option, None, Some, length, drop, refl, sym, ◌∙◌, ap, subst, option_map, eqb-true, ne_eqb, length-drop}
 use Rattle.std.proofs.lemmas.Grind.{common_steps}
-use Rattle.fancy_syntax.specs.Words.{Text}
+use Rattle.fancy_tree.specs.Text.{Text}
 use Rattle.fancy_core.specs.Templates.{Syntax, Step, literal, error, Form, form, cut, steps, Cuts, done, plain, formed, faulty}
 use Rattle.fancy_core.specs.Expanders.{form_in, with_mark_if}
 

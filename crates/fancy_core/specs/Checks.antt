@@ -1,11 +1,11 @@
 -- Which steps of a template a regex allows, and why others are refused.
 use Rattle.std.specs.Prelude.{◌≡◌, ◌==◌, ℕ, nat_lt, List, [], ◌∷◌, Option, None, Some, if◌then◌else◌, chars, string_bytes, ◌⊎◌}
 use Rattle.std.specs.Option.{option_or}
-use Rattle.fancy_syntax.specs.Words.{Text}
-use Rattle.fancy_syntax.specs.declared.error.Error.{Error}
-use Rattle.fancy_syntax.specs.declared.error.Error.TheVariants.{Memory, ParseError, CompileError}
-use Rattle.fancy_syntax.specs.declared.error.ParseErrorKind.TheVariants.{GeneralParseError}
-use Rattle.fancy_syntax.specs.declared.error.CompileError.TheVariants.{InvalidBackref, InvalidGroupNameBackref, NamedBackrefOnly}
+use Rattle.fancy_tree.specs.Text.{Text}
+use Rattle.fancy_tree.specs.declared.error.Error.{Error}
+use Rattle.fancy_tree.specs.declared.error.Error.TheVariants.{Memory, ParseError, CompileError}
+use Rattle.fancy_tree.specs.declared.error.ParseErrorKind.TheVariants.{GeneralParseError}
+use Rattle.fancy_tree.specs.declared.error.CompileError.TheVariants.{InvalidBackref, InvalidGroupNameBackref, NamedBackrefOnly}
 use Rattle.fancy_core.specs.declared.regex.Regex.{Regex}
 use Rattle.fancy_core.specs.Regexes.{groups_in}
 use Rattle.fancy_core.specs.Names.{group_named, has_names}

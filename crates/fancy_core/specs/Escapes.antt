@@ -2,7 +2,7 @@
 use Prim.Native.Char.{code}
 use Rattle.std.specs.Prelude.{ℕ, ◌==◌, Bool, List, [], ◌∷◌, ◌++◌, chars, codes, encode_utf8_all, flat_map, if◌then◌else◌}
 use Rattle.std.specs.List.{list_any}
-use Rattle.fancy_syntax.specs.Words.{Text, is_among}
+use Rattle.fancy_tree.specs.Text.{Text, is_among}
 
 -- in a template each mark stands twice
 abbrev pub doubled_mark : ℕ → ℕ → Text

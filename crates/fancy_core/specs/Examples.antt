@@ -1,8 +1,8 @@
 -- Small lists of matches that are known from elsewhere.
 use Prim.Native.Char.{code}
 use Rattle.std.specs.Prelude.{◌≡◌, List, [], ◌∷◌, None, map, true, codes}
-use Rattle.fancy_syntax.specs.declared.tree.Taste.TheVariants.{Greedy}
-use Rattle.fancy_syntax.specs.Pattern.{Pattern, character, keep_start, continue_here, repeat, followed, or_else, last_branch}
+use Rattle.fancy_tree.specs.declared.tree.Taste.TheVariants.{Greedy}
+use Rattle.fancy_tree.specs.Pattern.{Pattern, character, keep_start, continue_here, repeat, followed, or_else, last_branch}
 use Rattle.fancy_engine.specs.Context.{Span}
 use Rattle.fancy_engine.specs.Search.{Query}
 use Rattle.fancy_engine.specs.Examples.{asked, a, b}

@@ -2,7 +2,7 @@
 use Rattle.std.specs.Prelude.{ℕ, Bool, true, false, List, ◌∷◌, chars, codes, drop}
 use Rattle.std.specs.Borrow.{Bor}
 use Rattle.std.specs.Char.{is_ascii_digit}
-use Rattle.fancy_syntax.specs.Words.{Text}
+use Rattle.fancy_tree.specs.Text.{Text}
 use Rattle.fancy_core.specs.Templates.{Syntax, Step, literal, name, number, error, steps, Form, is_name_character}
 use Rattle.fancy_core.specs.declared.letters.Letters.{Letters}
 use Rattle.fancy_core.specs.declared.letters.Letters.TheVariants.{OfNames, Digits}

@@ -1,6 +1,6 @@
 -- The regexes of escaped texts, and what they find. A text is given by its bytes.
 use Rattle.std.specs.Prelude.{◌≡◌, List, ℕ, Option, chars, map, option_map}
-use Rattle.fancy_syntax.specs.Pattern.{Pattern, character, in_sequence}
+use Rattle.fancy_tree.specs.Pattern.{Pattern, character, in_sequence}
 use Rattle.fancy_syntax.specs.Dialect.{IsPattern, standard}
 use Rattle.fancy_input.specs.declared.input.Request.{Request}
 use Rattle.fancy_engine.specs.Context.{Span}

@@ -2,8 +2,8 @@
 use Rattle.std.specs.Prelude.{ℕ, ◌<◌, ◌==◌, Bool, not, length, List, drop, map, reverse, find, Option, IfSome, option_map, option_and_then, chars}
 use Rattle.std.specs.List.{range_with_len}
 use Rattle.std.specs.Borrow.{Bor}
-use Rattle.fancy_syntax.specs.Words.{Text}
-use Rattle.fancy_syntax.specs.Names.{named_groups, last_named}
+use Rattle.fancy_tree.specs.Text.{Text}
+use Rattle.fancy_tree.specs.Names.{named_groups, last_named}
 use Rattle.fancy_engine.specs.Context.{Span}
 use Rattle.fancy_core.specs.declared.regex.Regex.{Regex}
 use Rattle.fancy_core.specs.declared.names.CaptureNames.{CaptureNames}

@@ -1,8 +1,8 @@
 -- What matches are replaced by, and what that makes of a text.
 use Prim.Native.Char.{code}
 use Rattle.std.specs.Prelude.{◌≡◌, ◌≤◌, ◌⊎◌, ℕ, Bool, List, [], ◌∷◌, ◌++◌, Option, None, Some, chars, encode_utf8_all, map, true, if◌then◌else◌}
-use Rattle.fancy_syntax.specs.declared.error.Error.{Error}
-use Rattle.fancy_syntax.specs.declared.error.Error.TheVariants.{Memory}
+use Rattle.fancy_tree.specs.declared.error.Error.{Error}
+use Rattle.fancy_tree.specs.declared.error.Error.TheVariants.{Memory}
 use Rattle.fancy_input.specs.Requests.{whole}
 use Rattle.fancy_core.specs.declared.regex.Regex.{Regex}
 use Rattle.fancy_core.specs.Escapes.{has_mark}

@@ -5,8 +5,8 @@ use Rattle.std.specs.List.{starts_with, list_all}
 use Rattle.std.specs.Char.{is_ascii_digit}
 use Rattle.std.specs.Option.{option_or}
 use Rattle.std.specs.Str.Parse.{digits_value}
-use Rattle.fancy_syntax.specs.Words.{Text}
-unfoldable pub use Rattle.fancy_syntax.specs.Names.{is_name_character}
+use Rattle.fancy_tree.specs.Text.{Text}
+unfoldable pub use Rattle.fancy_tree.specs.Names.{is_name_character}
 
 -- how an expander wants its templates written
 pub record Syntax : Type 0 where

@@ -7,8 +7,8 @@ ghost use Rattle.fancy_core.specs.Options.{by_default};
 
 use crate::options::RegexOptionsBuilder;
 use crate::regex::Regex;
-use fancy_syntax::error::{Error, Result};
-use fancy_syntax::tree::BytesMode;
+use fancy_tree::error::{Error, Result};
+use fancy_tree::tree::BytesMode;
 use std::alloc::Global;
 
 /// Builds regexes from a pattern that it holds, with options. Each setter changes the pattern or one option and

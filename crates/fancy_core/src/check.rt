@@ -9,7 +9,7 @@ use crate::expander::Expander;
 use crate::letters::as_number;
 use crate::regex::Regex;
 use crate::steps::Step;
-use fancy_syntax::error::{CompileError, Error, ParseErrorKind, Result};
+use fancy_tree::error::{CompileError, Error, ParseErrorKind, Result};
 
 impl Expander {
     /// Checks that a template names only groups that the regex has. The first step that does not pass says why:

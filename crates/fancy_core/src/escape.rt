@@ -4,7 +4,7 @@ ghost use Rattle.std.specs.Prelude.{◌≡◌, ◌↔◌, ◌++◌, false, chars
 ghost use Rattle.std.specs.Cow.{cow_str_bytes, IsBorrowedStr};
 ghost use Rattle.fancy_core.specs.Escapes.{is_special, has_special, escaped_character, escape_of};
 
-use fancy_syntax::error::{Error, Result};
+use fancy_tree::error::{Error, Result};
 use std::alloc::{AllocError, Global};
 use std::borrow::CowStr;
 

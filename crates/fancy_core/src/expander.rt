@@ -9,7 +9,7 @@ ghost use Rattle.fancy_core.specs.Escapes.{doubled_mark, escaped_template, has_m
 ghost use Rattle.fancy_core.specs.Expanders.{syntax_of, opening_of, closing_of, mark_of, steps_left};
 
 use crate::steps::Steps;
-use fancy_syntax::error::{Error, Result};
+use fancy_tree::error::{Error, Result};
 use std::alloc::{AllocError, Global};
 use std::borrow::CowStr;
 

@@ -16,7 +16,7 @@ use crate::steps::Step;
 use crate::write::write_whole;
 use fancy_input::input::Input;
 use fancy_input::matches::Match;
-use fancy_syntax::error::{Error, Result};
+use fancy_tree::error::{Error, Result};
 use std::alloc::AllocError;
 use std::io;
 

@@ -1,12 +1,12 @@
 //! Laws of regexes: of the names of groups, of the lists over matches, and of escaped texts.
 
 ghost use Rattle.std.specs.Prelude.{◌≡◌, ◌<◌, ◌≤◌, ◌↔◌, ◌+◌, ◌&&◌, ℕ, true, List, suc, max, min, length, take, chars, IsUtf8};
-ghost use Rattle.fancy_syntax.specs.Limits.{most_nodes};
+ghost use Rattle.fancy_tree.specs.Limits.{most_nodes};
 ghost use Rattle.fancy_syntax.specs.Dialect.{IsPattern, standard};
-ghost use Rattle.fancy_syntax.specs.Pattern.{Pattern};
+ghost use Rattle.fancy_tree.specs.Pattern.{Pattern};
 ghost use Rattle.fancy_syntax.specs.Refusals.{IsRefused};
-ghost use Rattle.fancy_syntax.specs.Words.{Text};
-ghost use Rattle.fancy_syntax.specs.declared.error.Error.{Error};
+ghost use Rattle.fancy_tree.specs.Text.{Text};
+ghost use Rattle.fancy_tree.specs.declared.error.Error.{Error};
 ghost use Rattle.fancy_input.specs.Inputs.{haystack_in, request_in};
 ghost use Rattle.fancy_input.specs.Requests.{effective_start, positions};
 ghost use Rattle.fancy_input.specs.declared.input.Request.{Request};

@@ -7,7 +7,7 @@ ghost use Rattle.fancy_core.specs.Templates.{begins_with, row, past_row};
 ghost use Rattle.fancy_core.specs.Expansions.{as_number};
 ghost use Rattle.fancy_core.specs.Expanders.{test_of};
 
-use fancy_syntax::name::is_name_character;
+use fancy_tree::name::is_name_character;
 
 /// What a row of characters is made of.
 #[derive(Clone, Copy)]

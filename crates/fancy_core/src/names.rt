@@ -6,8 +6,8 @@ ghost use Rattle.fancy_core.specs.Names.{group_named, has_names, names_of_groups
 ghost use Rattle.fancy_core.specs.Regexes.{groups_in};
 
 use crate::regex::Regex;
-use fancy_syntax::error::{Error, Result};
-use fancy_syntax::name::last_named;
+use fancy_tree::error::{Error, Result};
+use fancy_tree::name::last_named;
 use std::alloc::{AllocError, Global};
 
 /// The name of each group of a regex, in the order of their numbers; made by [`Regex::capture_names`].

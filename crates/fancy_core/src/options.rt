@@ -1,16 +1,16 @@
 //! How a pattern is read and searched.
 
 ghost use Rattle.std.specs.Prelude.{◌≡◌, ◌&&◌, not, true, false, Some};
-ghost use Rattle.fancy_syntax.specs.declared.tree.BytesMode.TheVariants.{Unicode as ByCharacters};
+ghost use Rattle.fancy_tree.specs.declared.tree.BytesMode.TheVariants.{Unicode as ByCharacters};
 ghost use Rattle.fancy_syntax.specs.Views.{options_of as syntax_options};
-ghost use Rattle.fancy_syntax.specs.Pattern.{pattern_of};
+ghost use Rattle.fancy_tree.specs.Pattern.{pattern_of};
 ghost use Rattle.fancy_core.specs.Options.{by_default, meaning_in, dialect_of, is_easy_under};
 ghost use Rattle.fancy_core.specs.ProgramSize.{passes};
 
 use fancy_engine::classify::is_easy;
 use fancy_syntax::flags::Flags;
 use fancy_syntax::parse::Syntax;
-use fancy_syntax::tree::{BytesMode, Meaning, Tree};
+use fancy_tree::tree::{BytesMode, Meaning, Tree};
 
 /// How many returns a search may take where nothing else is set.
 const BACKTRACK_LIMIT: usize = 1_000_000;

@@ -1,12 +1,12 @@
 //! A compiled pattern, and what it finds.
 
 ghost use Rattle.std.specs.Prelude.{◌≡◌, ◌≤◌, ◌↔◌, ◌+◌, ◌-◌, ◌*◌, Bool, None, Some, Ok, Err, IfOk, IfErr, IfSome, IsTrue, string_bytes, option_map, is_some, true, false, length};
-ghost use Rattle.fancy_syntax.specs.Pattern.{Pattern, pattern_of};
-ghost use Rattle.fancy_syntax.specs.Names.{named_groups};
+ghost use Rattle.fancy_tree.specs.Pattern.{Pattern, pattern_of};
+ghost use Rattle.fancy_tree.specs.Names.{named_groups};
 ghost use Rattle.fancy_input.specs.Inputs.{haystack_in, request_in};
 ghost use Rattle.fancy_input.specs.Places.{is_boundary};
 ghost use Rattle.fancy_input.specs.Requests.{whole, effective_start};
-ghost use Rattle.fancy_syntax.specs.Sizes.{nodes};
+ghost use Rattle.fancy_tree.specs.Sizes.{nodes};
 ghost use Rattle.fancy_engine.specs.Code.{code_len, instrs_of};
 ghost use Rattle.fancy_engine.specs.Means.{is_easy, are_easy};
 ghost use Rattle.fancy_engine.specs.Placed.{has_raw_byte, has_keep_start_in_look_around};
@@ -16,10 +16,10 @@ ghost use Rattle.fancy_engine.specs.Answers.{HasNone};
 ghost use Rattle.fancy_core.specs.Builders.{options_of};
 ghost use Rattle.fancy_core.specs.Compiled.{IsCompiled};
 ghost use Rattle.fancy_core.specs.Scratch.{state_in, answer_of};
-ghost use Rattle.fancy_syntax.specs.declared.error.RuntimeError.TheVariants.{BacktrackLimitExceeded};
+ghost use Rattle.fancy_tree.specs.declared.error.RuntimeError.TheVariants.{BacktrackLimitExceeded};
 ghost use Rattle.fancy_core.specs.Options.{by_default, meaning_in, is_easy_under};
 ghost use Rattle.fancy_core.specs.Searching.{Suits, StartsCleanly, CanSearch};
-ghost use Rattle.fancy_syntax.specs.Modes.{keeps_characters};
+ghost use Rattle.fancy_tree.specs.Modes.{keeps_characters};
 
 use crate::options::{Options, RegexOptionsBuilder};
 use crate::scratch::{Engine, Scratch};
@@ -31,10 +31,10 @@ use fancy_engine::work::Work;
 use fancy_input::input::{Haystack, Input, Request};
 use fancy_input::regex_input::RegexInput;
 use fancy_machine::search as machine;
-use fancy_syntax::error::{CompileError, Error, Result, RuntimeError};
-use fancy_syntax::name::GroupName;
+use fancy_tree::error::{CompileError, Error, Result, RuntimeError};
+use fancy_tree::name::GroupName;
 use fancy_syntax::parse::{Parsed, parse_with};
-use fancy_syntax::tree::Tree;
+use fancy_tree::tree::Tree;
 use std::alloc::Global;
 use std::fmt;
 

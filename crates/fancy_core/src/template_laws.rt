@@ -3,7 +3,7 @@
 ghost use Rattle.std.specs.Prelude.{◌≡◌, ◌<◌, ◌^◌, ◌∷◌, ◌++◌, ℕ, List, [], true, false, Some, length};
 ghost use Rattle.std.specs.Char.{is_ascii_digit};
 ghost use Rattle.std.specs.Str.Parse.{digits_value};
-ghost use Rattle.fancy_syntax.specs.Words.{Text};
+ghost use Rattle.fancy_tree.specs.Text.{Text};
 ghost use Rattle.fancy_core.specs.Templates.{Syntax, Step, literal, name, number, Cuts, steps, IsRow, is_name_character, begins_with};
 ghost use Rattle.fancy_core.specs.GroupTexts.{Seen};
 ghost use Rattle.fancy_core.specs.Replacing.{fixed_of, expansion_of};

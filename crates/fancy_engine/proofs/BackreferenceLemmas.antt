@@ -11,8 +11,8 @@ use Rattle.std.proofs.lemmas.Option.{same_Some}
 use Rattle.std.proofs.lemmas.List.{take-append-drop, length-map, drop-map, map-append}
 use Rattle.std.proofs.lemmas.Str.{IsUtf8-between, drop_past_char, encode_ascii, inside_one}
 use Rattle.std.proofs.lemmas.Str.Ascii.{lowercase_ascii}
-use Rattle.fancy_syntax.specs.declared.tree.Meaning.{Meaning}
-use Rattle.fancy_syntax.specs.declared.tree.Meaning.TheVariants.{Unicode, Bytes, AsciiText}
+use Rattle.fancy_tree.specs.declared.tree.Meaning.{Meaning}
+use Rattle.fancy_tree.specs.declared.tree.Meaning.TheVariants.{Unicode, Bytes, AsciiText}
 use Rattle.fancy_input.specs.Places.{char_at, has_bytes_at, is_boundary, is_continuation}
 use Rattle.fancy_input.proofs.PlaceLemmas.{boundary_of_text}
 use Rattle.fancy_input.proofs.TextLemmas.{char_at-boundary, text_at-boundary}

@@ -34,7 +34,6 @@ pub mod KeptLemmas
 pub mod KeptForward
 pub mod BackreferenceLemmas
 pub mod LeadsLemmas
-pub mod SpelledLemmas
 pub mod PlacedLemmas
 pub mod FoundLemmas
 pub mod LiteralLemmas

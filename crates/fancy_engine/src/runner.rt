@@ -1,7 +1,7 @@
 //! The runner, which follows each pair of an instruction and a place at most once.
 
 ghost use Rattle.std.specs.Prelude.{◌≡◌, ◌+◌, ◌-◌, ◌*◌, ◌^◌, ◌<◌, ◌≤◌, ◌≢◌, [], ◌∷◌, ℕ, List, Option, Bool, Err, true, false, length, IfOk, OnOk, IfSome, option_map, slice_index, slice_set, if◌then◌else◌, ◌==◌};
-ghost use Rattle.fancy_syntax.specs.Sets.{has};
+ghost use Rattle.fancy_tree.specs.Sets.{has};
 ghost use Rattle.fancy_engine.specs.Context.{State, captured, past_item, past_byte};
 ghost use Rattle.fancy_engine.specs.Code.{instrs_of, code_len, edges_in};
 ghost use Rattle.fancy_engine.specs.Run.{instr_at};
@@ -22,8 +22,8 @@ use crate::table::Table;
 use crate::ways::Ways;
 use crate::work::Work;
 use fancy_input::places::is_boundary;
-use fancy_syntax::char_set::CharSet;
-use fancy_syntax::tree::Meaning;
+use fancy_tree::char_set::CharSet;
+use fancy_tree::tree::Meaning;
 use std::alloc::AllocError;
 
 /// What follows a step.

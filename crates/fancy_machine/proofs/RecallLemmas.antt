@@ -8,8 +8,8 @@ use Rattle.std.proofs.lemmas.Bool.Decides.{nat_tests}
 use Rattle.std.proofs.lemmas.Slice.Eq.{bytes_eq-Decides}
 use Rattle.std.proofs.lemmas.Str.{len_utf8_bounds}
 use Rattle.unicode.proofs.CaseFoldingLemmas.{simple_fold-ascii}
-use Rattle.fancy_syntax.specs.declared.tree.Meaning.{Meaning}
-use Rattle.fancy_syntax.specs.declared.tree.Meaning.TheVariants.{Unicode}
+use Rattle.fancy_tree.specs.declared.tree.Meaning.{Meaning}
+use Rattle.fancy_tree.specs.declared.tree.Meaning.TheVariants.{Unicode}
 use Rattle.fancy_input.specs.Places.{char_at, has_bytes_at}
 use Rattle.fancy_engine.specs.Context.{Context, State, group_span, unit_at, past_item, past_byte, one_character, option_to}
 use Rattle.fancy_engine.specs.declared.slot.Extent.{Extent}

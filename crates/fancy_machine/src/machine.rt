@@ -1,7 +1,7 @@
 //! The backtracking machine.
 
 ghost use Rattle.std.specs.Prelude.{◌≡◌, ◌≢◌, ◌+◌, ◌-◌, ◌<◌, ◌≤◌, [], ◌∷◌, ℕ, List, Option, Some, None, Err, IfOk, OnOk, IfSome, length, option_map, true, false};
-ghost use Rattle.fancy_syntax.specs.declared.tree.Meaning.{Meaning as MeaningIs};
+ghost use Rattle.fancy_tree.specs.declared.tree.Meaning.{Meaning as MeaningIs};
 ghost use Rattle.fancy_engine.specs.Context.{continues, Span};
 ghost use Rattle.fancy_engine.specs.Run.{Raw};
 ghost use Rattle.fancy_engine.specs.LastLines.{KnowsLastLines};

@@ -1,8 +1,8 @@
 //! Searches by the machine.
 
 ghost use Rattle.std.specs.Prelude.{◌≡◌, ◌+◌, ◌-◌, ◌<◌, ◌≤◌, ◌&&◌, not, Option, Some, None, Err, IfOk, length};
-ghost use Rattle.fancy_syntax.specs.Limits.{most_branches};
-ghost use Rattle.fancy_syntax.specs.Pattern.{Pattern};
+ghost use Rattle.fancy_tree.specs.Limits.{most_branches};
+ghost use Rattle.fancy_tree.specs.Pattern.{Pattern};
 ghost use Rattle.fancy_input.specs.Requests.{effective_start};
 ghost use Rattle.fancy_engine.specs.Means.{IsCodeOf};
 ghost use Rattle.fancy_engine.specs.Search.{continues_from, search, returns, choices};

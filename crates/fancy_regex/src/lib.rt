@@ -25,5 +25,5 @@ pub use fancy_input::bytes::MatchBytes;
 pub use fancy_input::input::{Haystack, Input};
 pub use fancy_input::matches::Match;
 pub use fancy_input::regex_input::RegexInput;
-pub use fancy_syntax::error::{CompileError, Error, ParseErrorKind, Result, RuntimeError};
-pub use fancy_syntax::tree::BytesMode;
+pub use fancy_tree::error::{CompileError, Error, ParseErrorKind, Result, RuntimeError};
+pub use fancy_tree::tree::BytesMode;

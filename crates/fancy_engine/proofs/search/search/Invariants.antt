@@ -1,5 +1,5 @@
 use Rattle.std.proofs.Common.{◌≡◌, ◌+◌, ◌-◌, ◌*◌, ◌<◌, ◌≤◌, ◌^◌, Bool, length}
-use Rattle.fancy_syntax.specs.Pattern.{Pattern}
+use Rattle.fancy_tree.specs.Pattern.{Pattern}
 use Rattle.fancy_engine.specs.Code.{instrs_of, code_len}
 use Rattle.fancy_engine.specs.Marked.{marked}
 use Rattle.fancy_engine.specs.Means.{IsCodeOf, depth}

@@ -1,13 +1,13 @@
 use Rattle.std.proofs.Common.{refl, sym, ◌∙◌, ◌+◌, ap, subst, inl, inr, arith}
 use Rattle.fancy_syntax.specs.Dialect as dialect
 use Rattle.std.proofs.lemmas.Result.{err_from_is_err_and}
-use Rattle.fancy_syntax.specs.Pattern.{pattern_of}
+use Rattle.fancy_tree.specs.Pattern.{pattern_of}
 use Rattle.fancy_syntax.specs.Views as views
 use Rattle.fancy_core.specs.Builders.{options_of}
 use Rattle.fancy_syntax.proofs.GroupLemmas.{numbered, wider}
-use Rattle.fancy_syntax.proofs.RefersFacts.{numbered-refers_to}
-use Rattle.fancy_syntax.specs.Groups.{Numbered}
-use Rattle.fancy_engine.proofs.SpelledLemmas.{bytes_accepted, kept_accepted, sets_accepted}
+use Rattle.fancy_tree.proofs.RefersFacts.{numbered-refers_to}
+use Rattle.fancy_tree.specs.Groups.{Numbered}
+use Rattle.fancy_core.proofs.SpelledLemmas.{bytes_accepted, kept_accepted, sets_accepted}
 use Rattle.fancy_core.proofs.BuiltLemmas.{is_refused, out_of_memory}
 use Rattle.fancy_core.proofs.RisingLemmas.{rising_names}
 use Rattle.fancy_core.proofs.ProgramSizeLemmas.{too_long, both_of, second_fails}
