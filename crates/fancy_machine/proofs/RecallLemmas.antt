@@ -15,7 +15,7 @@ use Rattle.fancy_engine.specs.Context.{Context, State, group_span, unit_at, past
 use Rattle.fancy_engine.specs.declared.slot.Extent.{Extent}
 use Rattle.fancy_engine.specs.Threads.{ends_of}
 use Rattle.fancy_engine.specs.Backreference.{text_of, past_text, past_folded, past_characters, past_span, past_backreference, shares_folding}
-use Rattle.fancy_engine.proofs.CharacterLemmas.{char_at-fits}
+use Rattle.fancy_input.proofs.CharacterLemmas.{char_at-fits}
 use Rattle.fancy_machine.specs.declared.machine.Field.{Field}
 use Rattle.fancy_machine.specs.Field.{context_in}
 

@@ -13,7 +13,7 @@ use crate::best::Best;
 use crate::machine::{Field, attempt, is_good};
 use crate::trail::Trail;
 use fancy_engine::code::Code;
-use fancy_engine::last_lines::LastLines;
+use fancy_input::last_lines::LastLines;
 use fancy_engine::refusal::Refusal;
 use fancy_engine::search::{last_position, suppressed_in};
 use fancy_engine::work::Work;

@@ -2,9 +2,9 @@
 use Rattle.std.proofs.Common.{◌≡◌, ℕ, zero, suc, ◌+◌, ◌-◌, ◌≤◌, ◌==◌, Bool, true, false, ◌&&◌, List, [], ◌∷◌, length, drop, if◌then◌else◌, refl, sym, ap, ◌∙◌, arith}
 use Rattle.std.proofs.Math.ListN.{drop_of_length-le}
 use Rattle.std.proofs.lemmas.List.{drop-drop}
-use Rattle.fancy_engine.specs.declared.last_lines.Row.{Row}
-use Rattle.fancy_engine.specs.Context.{are_line_feeds, are_line_ends}
-use Rattle.fancy_engine.specs.LastLines.{ends_only, Told}
+use Rattle.fancy_input.specs.declared.last_lines.Row.{Row}
+use Rattle.fancy_input.specs.Lines.{are_line_feeds, are_line_ends}
+use Rattle.fancy_input.specs.LastLines.{ends_only, Told}
 
 and_first : (a b : Bool) → (a && b) ≡ true → a ≡ true
 and_first true b e = refl

@@ -1,8 +1,8 @@
 -- What a search has read of the line ends that close its haystack.
 use Rattle.std.specs.Prelude.{◌≡◌, ℕ, ◌<◌, ◌≤◌, Bool, true, false, List, length, drop}
-use Rattle.fancy_engine.specs.declared.last_lines.Row.{Row}
-use Rattle.fancy_engine.specs.declared.last_lines.LastLines.{LastLines}
-use Rattle.fancy_engine.specs.Context.{are_line_feeds, are_line_ends}
+use Rattle.fancy_input.specs.declared.last_lines.Row.{Row}
+use Rattle.fancy_input.specs.declared.last_lines.LastLines.{LastLines}
+use Rattle.fancy_input.specs.Lines.{are_line_feeds, are_line_ends}
 
 -- only line ends, where a carriage return ends lines too or a line feed alone does
 abbrev pub ends_only : Bool → List ℕ → Bool

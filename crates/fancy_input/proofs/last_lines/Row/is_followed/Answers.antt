@@ -1,6 +1,6 @@
 use Rattle.std.proofs.Common.{refl, sym, ◌∙◌, arith}
-use Rattle.fancy_engine.proofs.LastLinesLemmas.{told_none, told_all}
-use Rattle.fancy_engine.proofs.last_lines.Row.is_followed.Goals as goal
+use Rattle.fancy_input.proofs.LastLinesLemmas.{told_none, told_all}
+use Rattle.fancy_input.proofs.last_lines.Row.is_followed.Goals as goal
 
 pub past_line_end-requires : goal.past_line_end-requires
 past_line_end-requires c = omega (arith, c.loop-at.invariant.told.inside)

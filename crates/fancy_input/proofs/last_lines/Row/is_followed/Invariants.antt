@@ -1,6 +1,6 @@
 use Rattle.std.proofs.Common.{◌-◌, ◌≡◌, drop}
-use Rattle.fancy_engine.specs.LastLines.{ends_only, Told}
-use Rattle.fancy_engine.proofs.last_lines.Row.is_followed.Given as goal
+use Rattle.fancy_input.specs.LastLines.{ends_only, Told}
+use Rattle.fancy_input.proofs.last_lines.Row.is_followed.Given as goal
 
 abbrev pub invariant-loop-at : goal.invariant-loop-at
 invariant-loop-at l = record {

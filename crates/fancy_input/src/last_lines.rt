@@ -1,8 +1,8 @@
 //! Where only line ends follow, up to the haystack's end.
 
 ghost use Rattle.std.specs.Prelude.{◌≡◌, ◌<◌, ◌≤◌, drop, false, length, None, IfSome};
-ghost use Rattle.fancy_engine.specs.Context.{are_line_feeds, are_line_ends};
-ghost use Rattle.fancy_engine.specs.LastLines.{ends_only, Told, KnowsLastLines};
+ghost use Rattle.fancy_input.specs.Lines.{are_line_feeds, are_line_ends};
+ghost use Rattle.fancy_input.specs.LastLines.{ends_only, Told, KnowsLastLines};
 
 /// The place behind the line end at a place: a line feed, or where a carriage return ends lines too, perhaps one
 /// before it. `None` where something else stands there.
