@@ -1,18 +1,8 @@
--- Texts that are to stand for themselves, in a template or in a pattern.
+-- Texts that are to stand for themselves in a pattern.
 use Prim.Native.Char.{code}
 use Rattle.std.specs.Prelude.{ℕ, ◌==◌, Bool, List, [], ◌∷◌, ◌++◌, chars, codes, encode_utf8_all, flat_map, if◌then◌else◌}
 use Rattle.std.specs.List.{list_any}
 use Rattle.fancy_syntax.specs.Words.{Text, is_among}
-
--- in a template each mark stands twice
-abbrev pub doubled_mark : ℕ → ℕ → Text
-doubled_mark mark c = if c == mark then c ∷ c ∷ [] else c ∷ []
-
-abbrev pub has_mark : ℕ → Text → Bool
-has_mark mark t = list_any (λ c. c == mark) t
-
-abbrev pub escaped_template : ℕ → Text → Text
-escaped_template mark t = flat_map (doubled_mark mark) t
 
 -- the characters that make a text need escapes in a pattern
 abbrev pub special : Text

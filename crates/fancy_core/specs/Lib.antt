@@ -15,14 +15,9 @@ pub mod Left
 pub mod Examples
 pub mod Iterations
 pub mod CaptureIterations
-pub mod Templates
-pub mod Expansions
 pub mod Escapes
 pub mod Literals
-pub mod Expanders
 pub mod GroupTexts
-pub mod Expanded
-pub mod Checks
 pub mod Pieces
 pub mod Walks
 pub mod Splits

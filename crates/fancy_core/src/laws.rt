@@ -1,6 +1,6 @@
-//! Laws of regexes: of the names of groups, of the lists over matches, and of escaped texts.
+//! Laws of regexes: of the names of groups, of the lists over matches, of escaped texts, and of templates that replace.
 
-ghost use Rattle.std.specs.Prelude.{◌≡◌, ◌<◌, ◌≤◌, ◌↔◌, ◌+◌, ◌&&◌, ℕ, true, List, suc, max, min, length, take, chars, IsUtf8};
+ghost use Rattle.std.specs.Prelude.{◌≡◌, ◌<◌, ◌≤◌, ◌↔◌, ◌+◌, ◌&&◌, ℕ, true, List, Some, suc, max, min, length, take, chars, IsUtf8};
 ghost use Rattle.fancy_syntax.specs.Limits.{most_nodes};
 ghost use Rattle.fancy_syntax.specs.Dialect.{IsPattern, standard};
 ghost use Rattle.fancy_syntax.specs.Pattern.{Pattern};
@@ -22,7 +22,9 @@ ghost use Rattle.fancy_core.specs.Searching.{CanSearch};
 ghost use Rattle.fancy_core.specs.Names.{names_in, StandsOnGroup};
 ghost use Rattle.fancy_core.specs.Matching.{InOrder, FindsNone};
 ghost use Rattle.fancy_core.specs.Left.{scan, matches_of, last_start_of};
-ghost use Rattle.fancy_core.specs.Pieces.{pieces, first_pieces, interleaved, texts};
+ghost use Rattle.fancy_core.specs.Pieces.{pieces, first_pieces, interleaved, texts, AreBetween};
+ghost use Rattle.fancy_core.specs.GroupTexts.{Seen};
+ghost use Rattle.fancy_core.specs.Replacing.{fixed_of, expansion_of};
 ghost use Rattle.fancy_core.specs.Splits.{match_spans};
 ghost use Rattle.fancy_core.specs.Examples.{WorkedLists};
 
@@ -68,6 +70,11 @@ pub fn worked_lists()
     ensures { WorkedLists }
 {}
 
+/// The pieces of a text between spans, with the texts of the spans between them, are the text.
+pub fn pieces_rejoin()
+    ensures { (t : List ℕ) (spans : List (ℕ × ℕ)) → AreBetween 0 (length t) spans → interleaved (pieces t 0 spans) (texts t spans) ≡ t }
+{}
+
 /// The pieces of a text between its matches, with the texts of the matches between them, are the text; and so are the first
 /// pieces, with the texts of the matches that were cut at.
 pub fn pieces_with_matches_are_the_text(_regex: &Regex, _text: &str)
@@ -105,4 +112,10 @@ pub fn escapes_find_their_text(_text: &str, _regex: &Regex)
     ensures first { IsOfEscape _regex.now _text.now → (haystack : List ℕ) (r : Request) → span_found _regex.now haystack r ≡ first_span _text.now haystack r.range_end (positions r) (effective_start r) }
     ensures anchored { IsOfEscape _regex.now _text.now → (haystack : List ℕ) (r : Request) → r.anchored ≡ true → span_found _regex.now haystack r ≡ span_if (stands_within _text.now haystack r.range_end (effective_start r) && cuts_none _text.now haystack (effective_start r)) _text.now (effective_start r) }
     ensures anchored_in_text { IsOfEscape _regex.now _text.now → (haystack : List ℕ) (r : Request) → r.anchored ≡ true → IsUtf8 haystack → r.range_end ≤ length haystack → CanSearch (options_in _regex.now) true haystack r → span_found _regex.now haystack r ≡ span_if (stands_within _text.now haystack r.range_end (effective_start r)) _text.now (effective_start r) }
+{}
+
+/// A template without `$` expands to its own characters, whatever was matched: the one text that a replacer has for
+/// all matches is what it appends for each.
+pub fn plain_template_is_its_expansion()
+    ensures { (template : List ℕ) (seen : Seen) (x : List ℕ) → fixed_of template ≡ Some x → expansion_of template seen ≡ x }
 {}

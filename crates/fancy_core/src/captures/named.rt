@@ -6,6 +6,7 @@ ghost use Rattle.fancy_core.specs.Names.{span_named};
 
 use crate::captures::Captures;
 use fancy_input::input::Input;
+use fancy_template::groups::GroupNames;
 
 impl<'r, S: Input> Captures<'r, S> {
     /// What the last group in the pattern with this name matched. `None` where that group took no part, and where no

@@ -2,7 +2,7 @@ use Rattle.std.proofs.Common.{List, ℕ, ◌∙◌, ap, sym, map-id, flat_map, e
 use Rattle.std.proofs.lemmas.Iterator.{YieldsList-from_chars}
 use Rattle.std.proofs.lemmas.Iterator.Consumers.{YieldsList-end}
 use Rattle.fancy_core.specs.Escapes.{escaped_character}
-use Rattle.fancy_core.proofs.EscapeLemmas.{one_more}
+use Rattle.fancy_template.proofs.MarkLemmas.{one_more}
 use Rattle.fancy_core.proofs.escape.with_escapes.Goals as goal
 
 pub loop-c-preserved : goal.loop-c-preserved
