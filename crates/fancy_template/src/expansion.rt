@@ -34,11 +34,7 @@ impl Expander {
     /// Expander::python().expansion("\\1\\g<0>\\\\x", &captures)   // "bb\x"
     /// Expander::default().expansion("$10", &captures)         // "": there is no group 10
     /// ```
-    pub fn expansion<C: GroupTexts>(
-        &self,
-        template: &str,
-        captures: &C,
-    ) -> Result<String>
+    pub fn expansion<C: GroupTexts>(&self, template: &str, captures: &C) -> Result<String>
         requires of_text { C.readable captures.now }
         ensures value { IfOk result (λ s. string_bytes s ≡ expansion (syntax_of self.now) (C.captured captures.now) (chars template.now)) }
         ensures refused { IfErr result (λ e. e ≡ Error.Memory) }
@@ -132,10 +128,7 @@ impl Expander {
 }
 
 /// What a step gives for these captures.
-fn expand_step<'t, C: GroupTexts>(
-    step: Step<'_>,
-    captures: &'t C,
-) -> Expanded<'t>
+fn expand_step<'t, C: GroupTexts>(step: Step<'_>, captures: &'t C) -> Expanded<'t>
     requires of_text { C.readable captures.now }
     ensures { bytes_of result ≡ expanded (C.captured captures.now) (step_of step.entry) }
 {
@@ -148,10 +141,7 @@ fn expand_step<'t, C: GroupTexts>(
 }
 
 /// The text of the group with this name where that took part, else of the one whose decimal number it is.
-fn text_of_name<'t, C: GroupTexts>(
-    name: &str,
-    captures: &'t C,
-) -> Option<&'t str>
+fn text_of_name<'t, C: GroupTexts>(name: &str, captures: &'t C) -> Option<&'t str>
     requires of_text { C.readable captures.now }
     ensures { let k = C.captured captures.now in option_map (λ t. t.now) result ≡ option_or (k.text_of_name (chars name.now)) (option_and_then k.text_of_number (as_number (chars name.now))) }
 {
