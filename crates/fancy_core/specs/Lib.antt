@@ -1,5 +1,4 @@
 pub mod Options
-pub mod Builders
 pub mod Compiled
 pub mod Regexes
 pub mod Searching

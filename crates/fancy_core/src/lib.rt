@@ -1,7 +1,6 @@
 //! Regexes: a pattern that was read once, and the searches with it; escapes.
 #![tactic(auto)]
 
-pub mod builder;
 pub mod captures;
 mod capturing;
 pub mod escape;

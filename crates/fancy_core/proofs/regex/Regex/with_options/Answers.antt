@@ -3,7 +3,6 @@ use Rattle.fancy_syntax.specs.Dialect as dialect
 use Rattle.std.proofs.lemmas.Result.{err_from_is_err_and}
 use Rattle.fancy_syntax.specs.Pattern.{pattern_of}
 use Rattle.fancy_syntax.specs.Views as views
-use Rattle.fancy_core.specs.Builders.{options_of}
 use Rattle.fancy_syntax.proofs.GroupLemmas.{numbered, wider}
 use Rattle.fancy_syntax.proofs.RefersFacts.{numbered-refers_to}
 use Rattle.fancy_syntax.specs.Groups.{Numbered}
@@ -11,14 +10,14 @@ use Rattle.fancy_engine.proofs.SpelledLemmas.{bytes_accepted, kept_accepted, set
 use Rattle.fancy_core.proofs.BuiltLemmas.{is_refused, out_of_memory}
 use Rattle.fancy_core.proofs.RisingLemmas.{rising_names}
 use Rattle.fancy_core.proofs.ProgramSizeLemmas.{too_long, both_of, second_fails}
-use Rattle.fancy_core.proofs.options.RegexOptionsBuilder.build.Goals as goal
+use Rattle.fancy_core.proofs.regex.Regex.with_options.Goals as goal
 
 pub returns-in_err-tree : goal.returns-in_err-tree
 returns-in_err-tree c =
     let q = err_from_is_err_and c.from_residual.result c.from_residual.ensures.1 in
-    let refused = rw (c.syntax.ensures, c.options-options.ensures, c.as_str.ensures.value) at c.in_err-tree.ensures.refused in
+    let refused = rw (c.syntax.ensures, c.as_str.ensures.value) at c.in_err-tree.ensures.refused in
     rw (q.1, q.2) (is_refused _ _ _ (inl refused) (λ p h.
-    let e = c.in_err-tree.ensures.succeeds p (rw (c.syntax.ensures, c.options-options.ensures, c.as_str.ensures.value) h) in rw e tt))
+    let e = c.in_err-tree.ensures.succeeds p (rw (c.syntax.ensures, c.as_str.ensures.value) h) in rw e tt))
 
 pub returns-in_err-code : goal.returns-in_err-code
 returns-in_err-code c =
@@ -54,21 +53,21 @@ invariant_of-result c = record {
 
 pub returns-then-forbids : goal.returns-then-forbids
 returns-then-forbids c =
-    let h = rw (c.syntax.ensures, c.options-options.ensures, c.as_str.ensures.value) at c.in_ok-tree.ensures.accepted.0 in
-    let found = rw (c.options-options.ensures, c.len.ensures) at (sym c.if-forbids.ensures) in
+    let h = rw (c.syntax.ensures, c.as_str.ensures.value) at c.in_ok-tree.ensures.accepted.0 in
+    let found = rw c.len.ensures at (sym c.if-forbids.ensures) in
     let why = both_of _ _ found in
-    let hard = rw c.options-options.ensures at (sym c.is_easy-easy.ensures ∙ why.0) in
-    is_refused _ _ _ (inr (_, h, too_long (options_of c.args.self.now) _ _ _ _ h h hard (c.in_ok-code.ensures.short) why.1))
-    (λ p x. too_long (options_of c.args.self.now) _ _ _ _ x h hard (c.in_ok-code.ensures.short) why.1)
+    let hard = sym c.is_easy-easy.ensures ∙ why.0 in
+    is_refused _ _ _ (inr (_, h, too_long c.args.options _ _ _ _ h h hard (c.in_ok-code.ensures.short) why.1))
+    (λ p x. too_long c.args.options _ _ _ _ x h hard (c.in_ok-code.ensures.short) why.1)
 
 pub returns : goal.returns
 returns c = record {
   text = refl;
-  options = c.options-options.ensures;
+  options = refl;
   spelled =
-      let h = rw (c.syntax.ensures, c.options-options.ensures, c.as_str.ensures.value) at c.in_ok-tree.ensures.accepted in
+      let h = rw (c.syntax.ensures, c.as_str.ensures.value) at c.in_ok-tree.ensures.accepted in
       record { spelled = h.0; counted = h.1 ∙ sym c.in_ok-code.ensures.groups; named = sym h.2 };
-  sized = λ hard. second_fails _ _ (c.is_easy-easy.ensures ∙ hard) (rw (c.options-options.ensures, c.len.ensures) at (sym c.if-forbids.ensures));
+  sized = λ hard. second_fails _ _ (c.is_easy-easy.ensures ∙ hard) (rw c.len.ensures at (sym c.if-forbids.ensures));
   refused = tt;
   succeeds = λ p h. tt;
 }

@@ -1,8 +1,8 @@
 -- What a builder has been set to.
 use Rattle.std.specs.Prelude.{ℕ, List, string_bytes}
 use Rattle.fancy_core.specs.declared.options.Options.{Options}
-use Rattle.fancy_core.specs.declared.options.RegexOptionsBuilder.{RegexOptionsBuilder}
-use Rattle.fancy_core.specs.declared.builder.RegexBuilder.{RegexBuilder}
+use Rattle.fancy_regex.specs.declared.options.RegexOptionsBuilder.{RegexOptionsBuilder}
+use Rattle.fancy_regex.specs.declared.builder.RegexBuilder.{RegexBuilder}
 
 -- the options of a builder of options alone
 abbrev pub options_of : RegexOptionsBuilder → Options

@@ -1,12 +1,12 @@
 //! A pattern and its options, set one after another.
 
 ghost use Rattle.std.specs.Prelude.{◌≡◌, IfOk, IfErr, Some, string_bytes};
-ghost use Rattle.fancy_core.specs.Builders.{options_set, pattern_set};
+ghost use Rattle.fancy_regex.specs.Builders.{options_set, pattern_set};
 ghost use Rattle.fancy_core.specs.Built.{IsReading};
 ghost use Rattle.fancy_core.specs.Options.{by_default};
 
 use crate::options::RegexOptionsBuilder;
-use crate::regex::Regex;
+use fancy_core::regex::Regex;
 use fancy_syntax::error::{Error, Result};
 use fancy_syntax::tree::BytesMode;
 use std::alloc::Global;
