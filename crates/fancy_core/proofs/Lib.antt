@@ -8,14 +8,10 @@ pub mod NamesLemmas
 pub mod RisingLemmas
 pub mod NumberedLemmas
 pub mod MatchingLemmas
-pub mod EndLemmas
-pub mod ExampleLemmas
 pub mod ScanLemmas
 pub mod LeftLemmas
 pub mod StepLemmas
 pub mod PieceLemmas
-pub mod EscapeLemmas
-pub mod LiteralLemmas
 pub mod SplitLemmas
 pub mod FixedLemmas
 pub mod RefusedFromLemmas

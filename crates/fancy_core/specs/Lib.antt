@@ -11,11 +11,8 @@ pub mod Names
 pub mod Built
 pub mod Matching
 pub mod Left
-pub mod Examples
 pub mod Iterations
 pub mod CaptureIterations
-pub mod Escapes
-pub mod Literals
 pub mod GroupTexts
 pub mod Pieces
 pub mod Walks

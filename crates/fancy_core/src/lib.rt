@@ -1,11 +1,9 @@
-//! Regexes: a pattern that was read once, and the searches with it; escapes.
+//! Regexes: a pattern that was read once, and the searches with it.
 #![tactic(auto)]
 
 pub mod captures;
 mod capturing;
-pub mod escape;
 pub mod iter;
-pub mod laws;
 mod limits;
 pub mod names;
 pub mod options;

@@ -1,1 +1,4 @@
 pub mod Builders
+pub mod Escapes
+pub mod Literals
+pub mod Examples

@@ -11,11 +11,13 @@
 #![tactic(auto)]
 
 mod builder;
+mod escapes;
+pub mod laws;
 mod options;
 
 pub use builder::RegexBuilder;
+pub use escapes::escape;
 pub use fancy_core::captures::{Captures, SubCaptureMatches};
-pub use fancy_core::escape::escape;
 pub use fancy_core::iter::{CaptureMatches, Matches};
 pub use fancy_core::names::CaptureNames;
 pub use fancy_core::regex::Regex;
