@@ -110,7 +110,7 @@ impl Expander {
 }
 
 /// Whether the character stands in the text.
-pub(crate) fn includes(text: &str, mark: char) -> bool
+pub fn includes(text: &str, mark: char) -> bool
     ensures { result ≡ has_mark mark (chars text.now) }
 {
     text.chars().any(|c| c == mark)

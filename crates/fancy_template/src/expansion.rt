@@ -34,7 +34,7 @@ impl Expander {
     /// Expander::python().expansion("\\1\\g<0>\\\\x", &captures)   // "bb\x"
     /// Expander::default().expansion("$10", &captures)         // "": there is no group 10
     /// ```
-    pub fn expansion<C: GroupTexts>(&self, template: &str, captures: &C) -> Result<String>
+    pub fn expansion<'t, C: GroupTexts<'t>>(&self, template: &str, captures: &C) -> Result<String>
         requires of_text { C.readable captures.now }
         ensures value { IfOk result (λ s. string_bytes s ≡ expansion (syntax_of self.now) (C.captured captures.now) (chars template.now)) }
         ensures refused { IfErr result (λ e. e ≡ Error.Memory) }
@@ -45,7 +45,7 @@ impl Expander {
     }
 
     /// Appends what a template expands to. A refusal leaves `dst` as it was.
-    pub fn append_expansion<C: GroupTexts>(
+    pub fn append_expansion<'t, C: GroupTexts<'t>>(
         &self,
         dst: &mut String,
         template: &str,
@@ -67,7 +67,7 @@ impl Expander {
     }
 
     /// Appends what the steps of a template give, in order.
-    fn push_steps<C: GroupTexts>(
+    fn push_steps<'t, C: GroupTexts<'t>>(
         &self,
         dst: &mut String,
         template: &str,
@@ -88,7 +88,7 @@ impl Expander {
     /// A write that is refused ends it with the writer's error, and one that takes no byte with `ErrorKind::WriteZero`;
     /// which of them it is stands in no clause. What the writer has taken by then is a beginning of the expansion, and
     /// not all of it. No empty text is written.
-    pub fn write_expansion<W: io::Write, C: GroupTexts>(
+    pub fn write_expansion<'t, W: io::Write, C: GroupTexts<'t>>(
         &self,
         writer: &mut W,
         template: &str,
@@ -105,7 +105,7 @@ impl Expander {
     }
 
     /// Appends the bytes of what a template expands to. A refusal leaves `dst` as it was.
-    pub fn write_expansion_vec<C: GroupTexts>(
+    pub fn write_expansion_vec<'t, C: GroupTexts<'t>>(
         &self,
         dst: &mut Vec<u8>,
         template: &str,
@@ -128,7 +128,7 @@ impl Expander {
 }
 
 /// What a step gives for these captures.
-fn expand_step<'t, C: GroupTexts>(step: Step<'_>, captures: &'t C) -> Expanded<'t>
+fn expand_step<'t, C: GroupTexts<'t>>(step: Step<'_>, captures: &C) -> Expanded<'t>
     requires of_text { C.readable captures.now }
     ensures { bytes_of result ≡ expanded (C.captured captures.now) (step_of step.entry) }
 {
@@ -141,7 +141,7 @@ fn expand_step<'t, C: GroupTexts>(step: Step<'_>, captures: &'t C) -> Expanded<'
 }
 
 /// The text of the group with this name where that took part, else of the one whose decimal number it is.
-fn text_of_name<'t, C: GroupTexts>(name: &str, captures: &'t C) -> Option<&'t str>
+fn text_of_name<'t, C: GroupTexts<'t>>(name: &str, captures: &C) -> Option<&'t str>
     requires of_text { C.readable captures.now }
     ensures { let k = C.captured captures.now in option_map (λ t. t.now) result ≡ option_or (k.text_of_name (chars name.now)) (option_and_then k.text_of_number (as_number (chars name.now))) }
 {

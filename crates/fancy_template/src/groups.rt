@@ -6,8 +6,9 @@ ghost use Rattle.fancy_template.specs.Expansions.{Captured};
 
 use std::alloc::Global;
 
-/// The texts of the groups of a match, as [`Expander::expansion`](crate::expander::Expander::expansion) asks for them.
-pub trait GroupTexts {
+/// The texts of the groups of a match, as [`Expander::expansion`](crate::expander::Expander::expansion) asks for them. They are lent
+/// out of the text that was searched.
+pub trait GroupTexts<'t> {
     // What the groups matched, by their names and by their numbers.
     ghost captured: { Self → Captured };
 
@@ -15,12 +16,12 @@ pub trait GroupTexts {
     ghost readable: { Self → Type 0 } = { λ _. ⊤ };
 
     /// The text of the group with this number, if there is one and it took part.
-    fn text_numbered(&self, number: usize) -> Option<&str>
+    fn text_numbered(&self, number: usize) -> Option<&'t str>
         requires of_text { readable self.now }
         ensures { option_map (λ t. t.now) result ≡ (captured self.now).text_of_number number };
 
     /// The text of the group with this name, if there is one and it took part.
-    fn text_named(&self, name: &str) -> Option<&str>
+    fn text_named(&self, name: &str) -> Option<&'t str>
         requires of_text { readable self.now }
         ensures { option_map (λ t. t.now) result ≡ (captured self.now).text_of_name (chars name.now) };
 

@@ -13,17 +13,17 @@ use fancy_template::expander::Expander;
 use fancy_template::groups::{GroupNames, GroupTexts};
 use std::alloc::Global;
 
-impl<'r, 't, S: Input<Match = Match<'t>>> GroupTexts for Captures<'r, S> {
+impl<'r, 't, S: Input<Match = Match<'t>>> GroupTexts<'t> for Captures<'r, S> {
     ghost captured = { λ c. captured (seen_in S.bytes c) };
 
     ghost readable = { λ _. AreOfText S.span S.within };
 
-    fn text_numbered(&self, number: usize) -> Option<&str> {
+    fn text_numbered(&self, number: usize) -> Option<&'t str> {
         let group = self.get(number)?;
         Some(group.as_str())
     }
 
-    fn text_named(&self, name: &str) -> Option<&str> {
+    fn text_named(&self, name: &str) -> Option<&'t str> {
         let number = self.regex.group_named(name)?;
         self.text_numbered(number)
     }
