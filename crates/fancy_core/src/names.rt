@@ -1,6 +1,6 @@
 //! The names of groups.
 
-ghost use Rattle.std.specs.Prelude.{◌≡◌, ◌-◌, IfOk, IfErr, None, Some, length, map, replicate, slice_get, slice_index_or, chars};
+ghost use Rattle.std.specs.Prelude.{◌≡◌, ◌-◌, IfOk, IfErr, None, Some, length, map, replicate, slice_get, slice_index_or};
 ghost use Rattle.std.specs.Iterator.{YieldsFirstBy, at_most};
 ghost use Rattle.fancy_core.specs.Names.{template_groups, names_of_groups, names_left, read_name};
 ghost use Rattle.fancy_core.specs.Regexes.{groups_in};
