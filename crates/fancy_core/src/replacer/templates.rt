@@ -7,9 +7,9 @@ ghost use Rattle.fancy_core.specs.GroupTexts.{bytes_of_str, seen_in};
 ghost use Rattle.fancy_core.specs.Replacing.{fixed_of, Expands};
 
 use crate::captures::Captures;
-use crate::expander::includes;
 use crate::replacer::Replacer;
 use fancy_tree::error::{Error, Result};
+use fancy_template::expander::includes;
 use std::alloc::Global;
 use std::borrow::CowStr;
 
