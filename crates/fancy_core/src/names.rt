@@ -6,9 +6,9 @@ ghost use Rattle.fancy_core.specs.Names.{template_groups, names_of_groups, names
 ghost use Rattle.fancy_core.specs.Regexes.{groups_in};
 
 use crate::regex::Regex;
+use fancy_template::groups::GroupNames;
 use fancy_tree::error::{Error, Result};
 use fancy_tree::name::last_named;
-use fancy_template::groups::GroupNames;
 use std::alloc::{AllocError, Global};
 
 /// The name of each group of a regex, in the order of their numbers; made by [`Regex::capture_names`].

@@ -15,11 +15,11 @@ use crate::texts::past_span;
 use crate::trail::Trail;
 use crate::units::units_back;
 use fancy_engine::code::{Code, Instr};
-use fancy_input::last_lines::LastLines;
 use fancy_engine::reading::{Suppressed, holds_at};
 use fancy_engine::refusal::Refusal;
 use fancy_engine::runner::{Next, past_character, past_member, past_raw_byte};
 use fancy_engine::work::Work;
+use fancy_input::last_lines::LastLines;
 use fancy_input::places::is_boundary;
 
 /// Where a haystack is searched, in byte offsets, and what is accepted there.

@@ -13,11 +13,11 @@ use crate::best::Best;
 use crate::machine::{Field, attempt, is_good};
 use crate::trail::Trail;
 use fancy_engine::code::Code;
-use fancy_input::last_lines::LastLines;
 use fancy_engine::refusal::Refusal;
 use fancy_engine::search::{last_position, suppressed_in};
 use fancy_engine::work::Work;
 use fancy_input::input::Request;
+use fancy_input::last_lines::LastLines;
 
 /// The most branches that are saved at once.
 pub const MOST: usize = 1_000_000;

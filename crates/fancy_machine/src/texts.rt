@@ -8,9 +8,9 @@ ghost use Rattle.fancy_machine.specs.declared.machine.Field.{Field as FieldIs};
 ghost use Rattle.fancy_machine.specs.Field.{context_in};
 ghost use Rattle.fancy_tree.specs.declared.tree.Meaning.{Meaning as MeaningIs};
 
-use fancy_input::characters::character_at;
 use fancy_engine::runner::past_raw_byte;
 use fancy_engine::slot::Extent;
+use fancy_input::characters::character_at;
 use fancy_tree::tree::Meaning;
 use unicode::case::simple_fold;
 

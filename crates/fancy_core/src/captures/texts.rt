@@ -8,9 +8,9 @@ ghost use Rattle.fancy_core.specs.GroupTexts.{AreOfText, captured, seen_in};
 use crate::captures::Captures;
 use fancy_input::input::Input;
 use fancy_input::matches::Match;
-use fancy_tree::error::{Error, Result};
 use fancy_template::expander::Expander;
 use fancy_template::groups::{GroupNames, GroupTexts};
+use fancy_tree::error::{Error, Result};
 use std::alloc::Global;
 
 impl<'r, 't, S: Input<Match = Match<'t>>> GroupTexts<'t> for Captures<'r, S> {

@@ -8,8 +8,8 @@ ghost use Rattle.fancy_core.specs.Replacing.{fixed_of, Expands};
 
 use crate::captures::Captures;
 use crate::replacer::Replacer;
-use fancy_tree::error::{Error, Result};
 use fancy_template::expander::includes;
+use fancy_tree::error::{Error, Result};
 use std::alloc::Global;
 use std::borrow::CowStr;
 
