@@ -17,6 +17,7 @@ pub mod Queries
 pub mod Means
 pub mod Answers
 pub mod Forward
+pub mod Seen
 pub mod Placed
 pub mod Laws
 pub mod Examples

@@ -1,0 +1,7 @@
+//! Which bytes a match can begin with, and which every haystack with a match has.
+#![tactic(auto)]
+
+pub mod byte_set;
+pub mod required;
+pub mod seek;
+pub mod start;
