@@ -1,6 +1,7 @@
 -- Tests that hold together, or one of which holds.
-use Rattle.std.proofs.Common.{◌≡◌, ℕ, zero, suc, ◌<◌, Bool, true, false, ◌&&◌, ◌||◌, ◌⊎◌, inl, inr, refl, sym, arith, true≢false}
+use Rattle.std.proofs.Common.{◌≡◌, ℕ, zero, suc, ◌<◌, ◌≤◌, Bool, true, false, ◌&&◌, ◌||◌, ◌⊎◌, inl, inr, nat_le, nat_lt, refl, sym, arith, true≢false}
 use Rattle.std.proofs.lemmas.Bool.{cases_eq}
+use Rattle.std.proofs.lemmas.Bool.Decides.{nat_tests}
 use Rattle.fancy_bytes.specs.Items.{some_below}
 
 pub either_of : (a b : Bool) → (a || b) ≡ true → (a ≡ true) ⊎ (b ≡ true)
@@ -42,7 +43,7 @@ some_found zero test e = absurd (true≢false (sym e))
 some_found (suc n) test e =
     elim (either_of (test n) (some_below n test) e) [
       | inl here ↦ (n, omega arith, here)
-      | inr below ↦ let c = some_found n test below in (c.0, omega (arith, c.1.0), c.1.1)
+      | inr below ↦ let c = some_found n test below in (c.0, omega (arith, c.1), c.2)
     ]
 
 pub same_truths : (a b : Bool) → (a ≡ true → b ≡ true) → (b ≡ true → a ≡ true) → a ≡ b
@@ -69,3 +70,20 @@ and_nothing false = refl
 pub and_never : (b : Bool) → (b && false) ≡ false
 and_never true = refl
 and_never false = refl
+
+-- tests of order
+
+pub le_holds : (a b : ℕ) → nat_le a b ≡ true → a ≤ b
+le_holds a b e = grind (arith, nat_tests)
+
+pub le_test : (a b : ℕ) → a ≤ b → nat_le a b ≡ true
+le_test a b h = grind (arith, nat_tests)
+
+pub le_fails : (a b : ℕ) → b < a → nat_le a b ≡ false
+le_fails a b h = grind (arith, nat_tests)
+
+pub lt_holds : (a b : ℕ) → nat_lt a b ≡ true → a < b
+lt_holds a b e = grind (arith, nat_tests)
+
+pub lt_test : (a b : ℕ) → a < b → nat_lt a b ≡ true
+lt_test a b h = grind (arith, nat_tests)

@@ -1,11 +1,11 @@
 -- Members of sets, found by going over the edges and over the numbers.
 use Rattle.std.proofs.Common.{◌≡◌, ℕ, zero, suc, ◌+◌, ◌-◌, ◌<◌, ◌≤◌, ◌==◌, ◌⊎◌, Bool, true, false, not, ◌&&◌, ◌||◌, nat_le, nat_lt, List, [], ◌∷◌, length, drop, get_or, refl, sym, ap, ap₂, ◌∙◌, arith, inl, inr, Some, eq-eqb, true≢false}
 use Rattle.std.proofs.lemmas.Bool.Decides.{nat_tests}
-use Rattle.std.proofs.lemmas.Bool.{cases_eq}
+use Rattle.std.proofs.lemmas.Bool.{cases_eq, cases_lt}
 use Rattle.fancy_tree.specs.declared.tree.Meaning.{Meaning}
 use Rattle.fancy_tree.specs.Sets.{has, differ}
 use Rattle.fancy_bytes.specs.Items.{some_below, encoding, includes, is_item, is_in_each, is_in_all, one_member}
-use Rattle.fancy_bytes.proofs.BoolLemmas.{parts_of, or_assoc, or_nothing, and_assoc, and_nothing, and_never, both_hold, some_below_from}
+use Rattle.fancy_bytes.proofs.BoolLemmas.{parts_of, or_assoc, or_nothing, and_assoc, and_nothing, and_never, both_hold, some_below_from, le_holds, le_test, le_fails}
 use Rattle.fancy_bytes.proofs.ItemLemmas.{none_below}
 
 has_one : (es : List ℕ) (c i : ℕ) → i < length es → has (drop i es) c ≡ differ (nat_le (get_or es i 0) c) (has (drop (suc i) es) c)
@@ -93,6 +93,9 @@ one_pair (e ∷ f ∷ g ∷ es) len lt one = absurd (omega arith)
 
 -- members between two numbers
 
+le_next : (e c : ℕ) → (e ≡ suc c → ⊥) → nat_le e (suc c) ≡ nat_le e c
+le_next e c other = grind (arith, nat_tests)
+
 -- a set changes at an edge alone
 changed : (es : List ℕ) (c : ℕ) → (has es (suc c) ≡ has es c) ⊎ ((k : ℕ) × (k < length es) × (get_or es k 0 ≡ suc c))
 unfolding has
@@ -101,8 +104,8 @@ changed (e ∷ es) c =
     elim (cases_eq e (suc c)) [
       | inl same ↦ inr (0, omega arith, same)
       | inr other ↦ elim (changed es c) [
-        | inl h ↦ inl (ap₂ differ (grind (arith, nat_tests)) h)
-        | inr k ↦ inr (suc k.0, omega (arith, k.1.0), k.1.1)
+        | inl h ↦ inl (ap₂ differ (le_next e c other) h)
+        | inr k ↦ inr (suc k.0, omega (arith, k.1), k.2)
       ]
     ]
 
@@ -111,13 +114,13 @@ abbrev pub NoEdgeIn : List ℕ → ℕ → ℕ → ℕ → Type 0
 NoEdgeIn es first last n = (k : ℕ) → k < n → first < get_or es k 0 → get_or es k 0 < last → has es (get_or es k 0) ≡ false
 
 stays_out : (es : List ℕ) (first last d : ℕ) → has es first ≡ false → NoEdgeIn es first last (length es) → first + d < last → has es (first + d) ≡ false
-stays_out es first last zero out none lt = ap (has es) (omega arith) ∙ out
+stays_out es first last zero out none lt = let start : first + zero ≡ first = omega arith in ap (has es) start ∙ out
 stays_out es first last (suc d) out none lt =
     let next : first + suc d ≡ suc (first + d) = omega arith in
     ap (has es) next
     ∙ elim (changed es (first + d)) [
       | inl same ↦ same ∙ stays_out es first last d out none (omega arith)
-      | inr edge ↦ ap (has es) (sym edge.1.1) ∙ none edge.0 edge.1.0 (omega (arith, edge.1.1)) (omega (arith, edge.1.1))
+      | inr edge ↦ ap (has es) (sym edge.2) ∙ none edge.0 edge.1 (omega (arith, edge.2)) (omega (arith, edge.2))
     ]
 
 out_between : (es : List ℕ) (first last c : ℕ) → has es first ≡ false → NoEdgeIn es first last (length es) → c < last → (nat_le first c && has es c) ≡ false
@@ -125,7 +128,7 @@ out_between es first last c out none lt = by_order (nat_le first c) refl where
   by_order : (t : Bool) → nat_le first c ≡ t → (t && has es c) ≡ false
   by_order false e = refl
   by_order true e =
-      let from : first ≤ c = grind (arith, nat_tests) in
+      let from : first ≤ c = le_holds first c e in
       let there : c ≡ first + (c - first) = omega arith in
       ap (has es) there ∙ stays_out es first last (c - first) out none (omega arith)
 
@@ -152,12 +155,20 @@ edge_passed es first last i here before k lt =
 
 -- what all members have
 
+two_edges : (m : Meaning) (es : List ℕ) (b i : ℕ) → suc i < length es → is_in_all m (drop i es) b
+    ≡ (nat_le (get_or es i 0) (get_or es (suc i) 0) && (is_in_each m (get_or es (suc i) 0 - get_or es i 0) (get_or es i 0) b && is_in_all m (drop (suc (suc i)) es) b))
+two_edges m [] b i lt = absurd (omega arith)
+two_edges m (e ∷ []) b i lt = absurd (omega arith)
+two_edges m (e ∷ f ∷ es) b zero lt = refl
+two_edges m (e ∷ f ∷ es) b (suc i) lt = two_edges m (f ∷ es) b i (omega arith)
+
 pub all_two : (m : Meaning) (es : List ℕ) (b i : ℕ) → i + 1 < length es → is_in_all m (drop i es) b
     ≡ (nat_le (get_or es i 0) (get_or es (i + 1) 0) && (is_in_each m (get_or es (i + 1) 0 - get_or es i 0) (get_or es i 0) b && is_in_all m (drop (i + 2) es) b))
-all_two m [] b i lt = absurd (omega arith)
-all_two m (e ∷ []) b i lt = absurd (omega arith)
-all_two m (e ∷ f ∷ es) b zero lt = refl
-all_two m (e ∷ f ∷ es) b (suc i) lt = all_two m (f ∷ es) b i (omega arith)
+all_two m es b i lt =
+    let one : suc i ≡ i + 1 = omega arith in
+    let two : suc (suc i) ≡ i + 2 = omega arith in
+    two_edges m es b i (omega arith)
+    ∙ ap₂ (λ (k l : ℕ). nat_le (get_or es i 0) (get_or es k 0) && (is_in_each m (get_or es k 0 - get_or es i 0) (get_or es i 0) b && is_in_all m (drop l es) b)) one two
 
 pub all_one : (m : Meaning) (es : List ℕ) (b i : ℕ) → i + 1 ≡ length es → is_in_all m (drop i es) b ≡ false
 all_one m [] b i e = absurd (omega arith)
@@ -231,10 +242,27 @@ each_has m (suc n) c b d e from to item =
       of_item true t h k = k
       of_item false t h k = absurd (true≢false (sym h))
 
+plain : (s t more : Bool) → s ≡ false → t ≡ false → differ s (differ t more) ≡ true → more ≡ true
+plain false false more a b h = h
+plain true t more a b h = absurd (true≢false a)
+plain false true more a b h = absurd (true≢false b)
+
+twice : (s t more : Bool) → s ≡ true → t ≡ true → differ s (differ t more) ≡ true → more ≡ true
+twice true true true a b h = refl
+twice true true false a b h = h
+twice true false more a b h = absurd (true≢false (sym b))
+twice false t more a b h = absurd (true≢false (sym a))
+
 -- a member of the first part, or of the others
 first_or_later : (e f d : ℕ) (more : Bool) → e ≤ f → differ (nat_le e d) (differ (nat_le f d) more) ≡ true → ((e ≤ d) × (d < f)) ⊎ (more ≡ true)
-first_or_later e f d true le h = inr refl
-first_or_later e f d false le h = inl (grind (arith, nat_tests), grind (arith, nat_tests))
+first_or_later e f d more le h =
+    elim (cases_lt d e) [
+      | inl below ↦ inr (plain (nat_le e d) (nat_le f d) more (le_fails e d below) (le_fails f d (omega arith)) h)
+      | inr from ↦ elim (cases_lt d f) [
+        | inl inside ↦ inl (from, inside)
+        | inr past ↦ inr (twice (nat_le e d) (nat_le f d) more (le_test e d from) (le_test f d past) h)
+      ]
+    ]
 
 -- the byte stands in the encoding of each member that is an item
 pub all_have : (m : Meaning) (es : List ℕ) (b d : ℕ) → is_in_all m es b ≡ true → has es d ≡ true → is_item m d ≡ true → includes (encoding m d) b ≡ true
@@ -244,7 +272,7 @@ all_have m (x ∷ []) b d e h item = absurd (true≢false (sym e))
 all_have m (x ∷ y ∷ es) b d e h item =
     let order = parts_of (nat_le x y) _ e in
     let both = parts_of (is_in_each m (y - x) x b) (is_in_all m es b) order.1 in
-    let rises : x ≤ y = let a = order.0 in grind (arith, nat_tests) in
+    let rises : x ≤ y = le_holds x y order.0 in
     elim (first_or_later x y d (has es d) rises h) [
       | inl here ↦ each_has m (y - x) x b d both.0 here.0 (let a = here.0 in let c = here.1 in omega arith) item
       | inr later ↦ all_have m es b d both.1 later item

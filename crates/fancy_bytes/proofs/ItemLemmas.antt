@@ -1,5 +1,5 @@
 -- The bytes with which items begin.
-use Rattle.std.proofs.Common.{◌≡◌, ℕ, zero, suc, ◌+◌, ◌*◌, ◌-◌, ◌/◌, ◌<◌, ◌≤◌, ◌==◌, Bool, true, false, ◌&&◌, ◌||◌, nat_le, nat_lt, refl, sym, ap, ◌∙◌, arith, inl, inr, eq-eqb, ne_eqb, true≢false}
+use Rattle.std.proofs.Common.{◌≡◌, ℕ, zero, suc, ◌+◌, ◌*◌, ◌-◌, ◌/◌, ◌<◌, ◌≤◌, ◌==◌, Bool, true, false, ◌&&◌, ◌||◌, nat_le, nat_lt, [], refl, sym, ap, ◌∙◌, arith, inl, inr, eq-eqb, ne_eqb, true≢false}
 use Rattle.std.specs.Char.{encode_utf8}
 use Rattle.std.proofs.Math.Utf8.{scalar, scalar_cases}
 use Rattle.std.proofs.lemmas.Bool.{cases_eq, cases_lt}
@@ -10,7 +10,7 @@ use Rattle.fancy_tree.specs.Sets.{has}
 use Rattle.fancy_input.specs.Places.{is_scalar}
 use Rattle.fancy_input.proofs.CharacterLemmas.{is_scalar-scalar}
 use Rattle.fancy_bytes.specs.Items.{some_below, codes, first_of_items, first_of_characters, only, begins}
-use Rattle.fancy_bytes.proofs.BoolLemmas.{or_nothing, parts_of, both_hold, same_truths, some_below_from, some_found}
+use Rattle.fancy_bytes.proofs.BoolLemmas.{or_nothing, parts_of, both_hold, same_truths, some_below_from, some_found, le_holds, le_test, lt_holds, lt_test}
 
 pub scalar_below : (c : ℕ) → is_scalar c ≡ true → c < codes
 unfolding codes
@@ -141,7 +141,7 @@ joined false t u e h = absurd (true≢false (sym e))
 in_bounds : (first last c : ℕ) → (nat_le first c && nat_lt c last) ≡ true → (first ≤ c) × (c < last)
 in_bounds first last c e =
     let both = parts_of (nat_le first c) (nat_lt c last) e in
-    (let a = both.0 in grind (arith, nat_tests), let a = both.1 in grind (arith, nat_tests))
+    (le_holds first c both.0, lt_holds c last both.1)
 
 -- a character of the set begins with the byte exactly where one of the byte's own characters is in the set
 pub first_among : (test : ℕ → Bool) (b first last : ℕ) → ((c : ℕ) → (is_scalar c && begins (encode_utf8 c) b) ≡ (nat_le first c && nat_lt c last)) → last ≤ codes →
@@ -152,15 +152,15 @@ first_among test b first last are within =
     (λ e.
     let found = some_found last (λ c. nat_le first c && test c) e in
     let c : ℕ = found.0 in
-    let both = parts_of (nat_le first c) (test c) found.1.1 in
-    let below : c < last = found.1.0 in
-    let bound : (nat_le first c && nat_lt c last) ≡ true = both_hold (nat_le first c) (nat_lt c last) both.0 (grind (arith, nat_tests)) in
+    let both = parts_of (nat_le first c) (test c) found.2 in
+    let below : c < last = found.1 in
+    let bound : (nat_le first c && nat_lt c last) ≡ true = both_hold (nat_le first c) (nat_lt c last) both.0 (lt_test c last below) in
     some_below_from codes (λ c. is_scalar c && (test c && begins (encode_utf8 c) b)) c (omega (arith, below, within))
     (joined (is_scalar c) (test c) (begins (encode_utf8 c) b) (are c ∙ bound) both.1))
     (λ e.
     let found = some_found codes (λ c. is_scalar c && (test c && begins (encode_utf8 c) b)) e in
     let c : ℕ = found.0 in
-    let both = swapped (is_scalar c) (test c) (begins (encode_utf8 c) b) found.1.1 in
+    let both = swapped (is_scalar c) (test c) (begins (encode_utf8 c) b) found.2 in
     let bounds = in_bounds first last c (sym (are c) ∙ both.0) in
     some_below_from last (λ c. nat_le first c && test c) c bounds.1
-    (both_hold (nat_le first c) (test c) (let a = bounds.0 in grind (arith, nat_tests)) both.1))
+    (both_hold (nat_le first c) (test c) (le_test first c bounds.0) both.1))

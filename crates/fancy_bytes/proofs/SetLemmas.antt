@@ -1,11 +1,12 @@
 -- Sets of bytes, by their words.
-use Rattle.std.proofs.Common.{◌≡◌, ◌≢◌, ℕ, zero, suc, ◌+◌, ◌-◌, ◌*◌, ◌^◌, ◌<◌, ◌≤◌, ◌/◌, ◌%◌, ◌==◌, ◌||◌, ◌&&◌, Bool, true, false, if◌then◌else◌, List, [], ◌∷◌, length, replicate, refl, sym, ap, ap₂, ◌∙◌, arith, max, min, slice_index, slice_set, bit_or, bit_and, count_ones, inl, inr, get_or-set_same, get_or-set_other, eq-eqb, ne_eqb}
+use Rattle.std.proofs.Common.{◌≡◌, ◌≢◌, ℕ, zero, suc, ◌+◌, ◌-◌, ◌*◌, ◌^◌, ◌<◌, ◌≤◌, ◌/◌, ◌%◌, ◌==◌, ◌||◌, ◌&&◌, Bool, true, false, if◌then◌else◌, List, [], ◌∷◌, length, replicate, refl, sym, ap, ap₂, ◌∙◌, arith, max, min, slice_index, slice_set, bit_or, bit_and, count_ones, inl, inr, get_or-set_same, get_or-set_other, eq-eqb, ne_eqb, zero-add}
 use Rattle.std.proofs.Math.Bool.{or-true, or-false}
 use Rattle.std.specs.Int.{bit_at}
 use Rattle.std.specs.Int.Count.{ones_step}
 use Rattle.std.proofs.lemmas.Bool.{cases_eq}
 use Rattle.std.proofs.lemmas.Bool.Decides.{nat_tests}
 use Rattle.std.proofs.lemmas.List.FromFn.{get_or-map-range_with_len}
+use Rattle.std.proofs.lemmas.Nat.{ones_le_self}
 use Rattle.std.proofs.lemmas.Nat.Bits.{bit_at_or, bit_at_and, bit_at-lt, bit_at_ones, bit_at_lowest, bit_at-suc}
 use Rattle.fancy_tree.specs.Low.{bit}
 use Rattle.fancy_tree.proofs.BitLemmas.{set_same, set_other, bit_clear}
@@ -117,25 +118,39 @@ one_counted false b w rest e = grind (arith, nat_tests)
 count_word : (flags : Flags) (n b w : ℕ) → w < 2 ^ n → ((k : ℕ) → k < n → member flags (b + k) ≡ (bit_at w k == 1)) →
     length (members_from flags n b) ≡ count_ones w
 unfolding members_from
-count_word flags zero b w lt tells = let none : w ≡ 0 = omega arith in rw none refl
+count_word flags zero b w lt tells =
+    let none : w ≡ 0 = omega arith in
+    let few : count_ones w ≡ 0 = omega (arith, ones_le_self w) in sym few
 count_word flags (suc n) b w lt tells =
-    let first : member flags b ≡ (w % 2 == 1) =
-    ap (member flags) (omega arith) ∙ tells 0 (omega arith) ∙ ap (λ v. v == 1) (bit_at_lowest w) in
+    let here : b ≡ b + 0 = omega arith in
+    let first : member flags b ≡ (w % 2 == 1) = ap (member flags) here ∙ tells 0 (omega arith) ∙ ap (λ (v : ℕ). v == 1) (bit_at_lowest w) in
     one_counted (member flags b) b w (members_from flags n (suc b)) first
-    ∙ ap (λ k. w % 2 + k) (count_word flags n (suc b) (w / 2) (omega arith)
-    (λ k below. ap (member flags) (omega arith) ∙ tells (suc k) (omega arith) ∙ ap (λ v. v == 1) (bit_at-suc w k)))
+    ∙ ap (λ (k : ℕ). w % 2 + k) (count_word flags n (suc b) (w / 2) (omega arith)
+    (λ k below.
+    let there : suc b + k ≡ b + suc k = omega arith in
+    ap (member flags) there ∙ tells (suc k) (omega arith) ∙ ap (λ (v : ℕ). v == 1) (bit_at-suc w k)))
     ∙ sym (ones_step w)
 
+suc_plus : (a b k : ℕ) → a ≡ b + k → suc a ≡ suc b + k
+suc_plus a b k e = omega arith
+
 length_if : (m : Bool) (b k : ℕ) (one rest : List ℕ) → length rest ≡ length one + k → length (if m then b ∷ rest else rest) ≡ length (if m then b ∷ one else one) + k
-length_if true b k one rest e = ap suc e
+length_if true b k one rest e = suc_plus (length rest) (length one) k e
 length_if false b k one rest e = e
 
 count_split : (flags : Flags) (m n b : ℕ) → length (members_from flags (m + n) b) ≡ length (members_from flags m b) + length (members_from flags n (b + m))
 unfolding members_from
-count_split flags zero n b = ap (λ k. length (members_from flags n k)) (omega arith)
+count_split flags zero n b =
+    let here : b ≡ b + zero = omega arith in
+    let count : zero + n ≡ n = omega arith in
+    ap (λ (k : ℕ). length (members_from flags k b)) count ∙ ap (λ (k : ℕ). length (members_from flags n k)) here
+    ∙ sym (zero-add (length (members_from flags n (b + zero))))
 count_split flags (suc m) n b =
-    length_if (member flags b) b (length (members_from flags n (b + suc m))) (members_from flags m (suc b)) (members_from flags (m + n) (suc b))
-    (count_split flags m n (suc b) ∙ ap (λ k. length (members_from flags m (suc b)) + length (members_from flags n k)) (omega arith))
+    let there : suc b + m ≡ b + suc m = omega arith in
+    let count : suc m + n ≡ suc (m + n) = omega arith in
+    ap (λ (k : ℕ). length (members_from flags k b)) count
+    ∙ length_if (member flags b) b (length (members_from flags n (b + suc m))) (members_from flags m (suc b)) (members_from flags (m + n) (suc b))
+    (count_split flags m n (suc b) ∙ ap (λ (k : ℕ). length (members_from flags m (suc b)) + length (members_from flags n k)) there)
 
 four_words : (flags : Flags) → length (members_from flags 256 0)
     ≡ length (members_from flags 64 0) + (length (members_from flags 64 64) + (length (members_from flags 64 128) + length (members_from flags 64 192)))
@@ -148,8 +163,9 @@ four_words flags =
 word_tells : (words : List ℕ) (i k : ℕ) → i < 4 → k < 64 → member (flags_of words 256) (64 * i + k) ≡ (bit_at (slice_index words i) k == 1)
 unfolding bit
 word_tells words i k lt below =
-    member-words words (64 * i + k) (omega arith)
-    ∙ ap₂ (λ r q. bit_at (slice_index words r) q == 1) (omega arith) (omega arith)
+    let row : (64 * i + k) / 64 ≡ i = omega arith in
+    let column : (64 * i + k) % 64 ≡ k = omega arith in
+    member-words words (64 * i + k) (omega arith) ∙ ap₂ (λ (r q : ℕ). bit_at (slice_index words r) q == 1) row column
 
 pub count_words : (words : List ℕ) (a b c d : ℕ) → a < 2 ^ 64 → b < 2 ^ 64 → c < 2 ^ 64 → d < 2 ^ 64 →
     slice_index words 0 ≡ a → slice_index words 1 ≡ b → slice_index words 2 ≡ c → slice_index words 3 ≡ d →

@@ -1,7 +1,7 @@
 -- What an iterator over the members of a set has left.
 use Rattle.std.specs.Prelude.{ℕ, ◌-◌, List}
 use Rattle.fancy_bytes.specs.Sets.{members_from}
-use Rattle.fancy_bytes.specs.declared.byte_set.Members.{Members}
+use Rattle.fancy_bytes.specs.declared.members.Members.{Members}
 
 -- the members that have not come yet
 abbrev pub members_left : Members → List ℕ

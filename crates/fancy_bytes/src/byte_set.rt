@@ -1,10 +1,8 @@
 //! Sets of bytes.
 
 ghost use Rattle.std.specs.Prelude.{◌≡◌, ℕ, ◌-◌, ◌<◌, ◌==◌, ◌||◌, ◌&&◌, List, Bool, false, true, length, slice_index, bit_or, bit_and};
-ghost use Rattle.std.specs.Iterator.{YieldsFirst, item_count};
 ghost use Rattle.fancy_tree.specs.Low.{bit};
 ghost use Rattle.fancy_bytes.specs.Sets.{Flags, member, flags_of, members, Adds, Keeps};
-ghost use Rattle.fancy_bytes.specs.Iterations.{members_left};
 
 use std::marker::Model;
 
@@ -104,8 +102,10 @@ impl ByteSet {
     pub fn len(&self) -> usize
         ensures { result ≡ length (members self.now) }
     {
-        let [a, b, c, d] = self.words;
-        (a.count_ones() + b.count_ones() + c.count_ones() + d.count_ones()) as usize
+        let words = &self.words;
+        let low = words[0].count_ones() + words[1].count_ones();
+        let high = words[2].count_ones() + words[3].count_ones();
+        (low + high) as usize
     }
 
     /// Whether there is no member.
@@ -113,39 +113,5 @@ impl ByteSet {
         ensures { result ≡ (length (members self.now) == 0) }
     {
         self.len() == 0
-    }
-
-    /// The members in ascending order.
-    pub fn iter<'s>(&'s self) -> Members<'s>
-        ensures { members_left result ≡ members self.now }
-    {
-        Members { set: self, next: 0 }
-    }
-}
-
-/// The members of a set in ascending order; made by [`ByteSet::iter`].
-#[derive(Drop)]
-pub struct Members<'s> {
-    set: &'s ByteSet,
-    // the least byte that may still come
-    next: u16,
-}
-
-impl<'s> Iterator for Members<'s> {
-    type Item = u8;
-
-    ghost next_gives = { YieldsFirst members_left };
-
-    ghost remaining = { item_count members_left };
-
-    fn next(&mut self) -> Option<u8> {
-        while self.next < 256 {
-            let byte = self.next as u8;
-            self.next += 1;
-            if self.set.contains(byte) {
-                return Some(byte);
-            }
-        }
-        None
     }
 }

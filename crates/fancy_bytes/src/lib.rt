@@ -2,6 +2,7 @@
 #![tactic(auto)]
 
 pub mod byte_set;
+pub mod members;
 pub mod required;
 pub mod seek;
 pub mod start;

@@ -154,7 +154,7 @@ fn add_first_in_some(trees: &[Tree], meaning: Meaning, set: &mut ByteSet)
 
 /// The numbers of the characters whose UTF-8 begins with this byte: the first, and the one behind the last.
 fn characters_of(byte: u8) -> (u32, u32)
-    ensures { (c : ℕ) → (is_scalar c && begins (encode_utf8 c) byte) ≡ (nat_le result.0 c && nat_lt c result.1) }
+    ensures between { (c : ℕ) → (is_scalar c && begins (encode_utf8 c) byte) ≡ (nat_le result.0 c && nat_lt c result.1) }
     ensures within { result.1 ≤ 0x11_0000 }
 {
     let byte = byte as u32;
