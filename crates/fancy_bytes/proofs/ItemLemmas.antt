@@ -12,6 +12,10 @@ use Rattle.fancy_input.proofs.CharacterLemmas.{is_scalar-scalar}
 use Rattle.fancy_bytes.specs.Items.{some_below, codes, first_of_items, first_of_characters, only, begins}
 use Rattle.fancy_bytes.proofs.BoolLemmas.{or_nothing, parts_of, both_hold, same_truths, some_below_from, some_found, le_holds, le_test, lt_holds, lt_test}
 
+pub within_codes : (n : ℕ) → n ≤ 0x11_0000 → n ≤ codes
+unfolding codes
+within_codes n h = h
+
 pub scalar_below : (c : ℕ) → is_scalar c ≡ true → c < codes
 unfolding codes
 scalar_below c e = elim (scalar_cases c (sym (is_scalar-scalar c) ∙ e)) [ inl low ↦ omega arith | inr high ↦ omega (arith, high.1) ]

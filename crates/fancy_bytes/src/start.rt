@@ -1,6 +1,6 @@
 //! The bytes that a match can begin with.
 
-ghost use Rattle.std.specs.Prelude.{◌≡◌, ◌↔◌, IsNone, IfSome, false, ℕ, ◌<◌, ◌||◌, ◌==◌, ◌&&◌, nat_le, nat_lt, map, encode_utf8};
+ghost use Rattle.std.specs.Prelude.{◌≡◌, ◌↔◌, IsNone, IfSome, false, ℕ, ◌<◌, ◌≤◌, ◌||◌, ◌==◌, ◌&&◌, nat_le, nat_lt, map, encode_utf8};
 ghost use Rattle.fancy_tree.specs.Pattern.{pattern_of};
 ghost use Rattle.fancy_tree.specs.Sets.{has};
 ghost use Rattle.fancy_input.specs.Places.{is_scalar};

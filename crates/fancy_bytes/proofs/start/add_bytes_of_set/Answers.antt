@@ -11,7 +11,7 @@ loop-byte-preserved c b lt =
       | then-is_member w ↦
           ap (λ (s : List Bool). member s b) w.set-is
           ∙ byte_added (has c.args.edges.now) c.loop-byte.byte b _ (member c.loop-byte.set b) _ (sym c.is_member.ensures ∙ w.if-is_member.true)
-          (c.loop-byte.invariant b lt) (w.insert.ensures.added b lt)
+          (c.loop-byte.invariant b lt) (w.insert.ensures b lt)
       | else-is_member w ↦
           ap (λ (s : List Bool). member s b) w.set-is
           ∙ byte_passed (has c.args.edges.now) c.loop-byte.byte b _ (member c.loop-byte.set b) (sym c.is_member.ensures ∙ w.if-is_member.false)

@@ -12,7 +12,7 @@ loop-byte-preserved c b lt =
       | then-is_first w ↦
           ap (λ (s : List Bool). member s b) w.set-is
           ∙ byte_added (first_of_characters (has c.args.edges.now)) c.loop-byte.byte b _ (member c.loop-byte.set b) _ (sym c.is_first.ensures ∙ w.if-is_first.true)
-          (c.loop-byte.invariant b lt) (w.insert.ensures.added b lt)
+          (c.loop-byte.invariant b lt) (w.insert.ensures b lt)
       | else-is_first w ↦
           ap (λ (s : List Bool). member s b) w.set-is
           ∙ byte_passed (first_of_characters (has c.args.edges.now)) c.loop-byte.byte b _ (member c.loop-byte.set b) (sym c.is_first.ensures ∙ w.if-is_first.false)
