@@ -208,3 +208,6 @@ none_comes flags b lt e = more_left flags b lt ∙ if_is_not (member flags b) _ 
 pub none_left : (flags : Flags) (b : ℕ) → 256 ≤ b → members_from flags (256 - b) b ≡ []
 unfolding members_from
 none_left flags b le = let end : 256 - b ≡ 0 = omega arith in rw end refl
+
+pub one_fewer : (xs : List ℕ) (x : ℕ) (ys : List ℕ) → xs ≡ x ∷ ys → length ys < length xs
+one_fewer xs x ys e = let size : length xs ≡ suc (length ys) = ap length e in omega arith

@@ -18,5 +18,5 @@ loop-i-preserved c = record {
 
 pub returns-then-i-edges : goal.returns-then-i-edges
 returns-then-i-edges c b lt =
-    c.new-2.ensures b lt
+    c.new-then-i-edges.ensures b lt
     ∙ part_open c.args.meaning c.args.edges.now b c.loop-i.i (member c.loop-i.set b) _ (omega (arith, c.if-i-edges.true, c.loop-i-test.false)) (c.loop-i.invariant.left b lt)

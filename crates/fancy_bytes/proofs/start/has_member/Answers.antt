@@ -13,7 +13,7 @@ returns-then-is_member c =
 pub returns-then-is_member-2 : goal.returns-then-is_member-2
 returns-then-is_member-2 c =
     one_between c.args.edges.now c.args.first c.args.last (get_or c.args.edges.now c.loop-i.i 0) (omega arith) (omega arith)
-    (sym c.is_member-2.ensures ∙ c.if-is_member-2.true)
+    (sym c.is_member-then-edge-last.ensures ∙ c.if-is_member-2.true)
 
 pub returns : goal.returns
 returns c =

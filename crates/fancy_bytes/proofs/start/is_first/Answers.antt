@@ -6,4 +6,4 @@ use Rattle.fancy_bytes.proofs.start.is_first.Goals as goal
 pub returns : goal.returns
 returns c =
     c.has_member.ensures
-    ∙ first_among (has c.args.edges.now) c.args.byte _ _ c.characters_of.ensures.between (within_codes _ c.characters_of.ensures.within)
+    ∙ first_among (has c.args.edges.now) c.args.byte _ _ c.characters_of-first.ensures.between (within_codes _ c.characters_of-first.ensures.within)
