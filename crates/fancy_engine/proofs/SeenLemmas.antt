@@ -237,10 +237,11 @@ module _ (x : Context) (p q : ℕ) (none : slice_get x.haystack p ≡ None) wher
 
   letters-past : (text : List ℕ) → past_letters x text p ≡ Some q → q ≡ p
   unfolding past_letters
-  letters-past [] e = let is : p + 0 ≡ q = if_given _ (p + 0) q e in omega arith
+  letters-past [] e =
+      let is : p + 0 ≡ q = if_given (str_eq_ignore_ascii_case (take (length {A = ℕ} []) (drop p x.haystack)) []) (p + 0) q e in omega (arith, is)
   letters-past (b ∷ bs) e =
       let rest : drop p x.haystack ≡ [] = past_end x.haystack p none in
-      let holds = if_holds (str_eq_ignore_ascii_case (take (length (b ∷ bs)) (drop p x.haystack)) (b ∷ bs)) _ q e in
+      let holds = if_holds (str_eq_ignore_ascii_case (take (length (b ∷ bs)) (drop p x.haystack)) (b ∷ bs)) (p + length (b ∷ bs)) q e in
       let same : map to_ascii_lowercase (take (length (b ∷ bs)) (drop p x.haystack)) ≡ map to_ascii_lowercase (b ∷ bs) = same_text _ _ (sym holds) in
       let shown : [] ≡ map to_ascii_lowercase (b ∷ bs) = rw rest at same in
       cc
