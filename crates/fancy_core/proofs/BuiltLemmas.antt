@@ -1,9 +1,9 @@
 -- What reading a pattern answers, case by case.
 use Rattle.std.proofs.Common.{ℕ, List, Err, chars, inl}
-use Rattle.fancy_syntax.specs.declared.error.Error.{Error}
-use Rattle.fancy_syntax.specs.declared.error.Error.TheVariants.{Memory}
+use Rattle.fancy_tree.specs.declared.error.Error.{Error}
+use Rattle.fancy_tree.specs.declared.error.Error.TheVariants.{Memory}
 use Rattle.fancy_syntax.specs.Dialect.{IsPattern}
-use Rattle.fancy_syntax.specs.Pattern.{Pattern}
+use Rattle.fancy_tree.specs.Pattern.{Pattern}
 use Rattle.fancy_core.specs.declared.options.Options.{Options}
 use Rattle.fancy_core.specs.Built.{IsReading}
 use Rattle.fancy_core.specs.Options.{dialect_of}

@@ -3,9 +3,9 @@ use Rattle.std.proofs.Common.{◌≡◌, ◌≤◌, ◌<◌, ◌==◌, ℕ, Bool
 use Rattle.std.specs.List.{range_with_len}
 use Rattle.std.proofs.lemmas.List.{get_or_past}
 use Rattle.std.proofs.lemmas.List.FromFn.{length-map-range_with_len, get_or-map-range_with_len}
-use Rattle.fancy_syntax.specs.declared.tree.BytesMode.{BytesMode}
-use Rattle.fancy_syntax.specs.declared.tree.BytesMode.TheVariants.{Unicode, Ascii, UnicodeBytes}
-use Rattle.fancy_syntax.specs.Modes.{meaning_of, keeps_characters}
+use Rattle.fancy_tree.specs.declared.tree.BytesMode.{BytesMode}
+use Rattle.fancy_tree.specs.declared.tree.BytesMode.TheVariants.{Unicode, Ascii, UnicodeBytes}
+use Rattle.fancy_tree.specs.Modes.{meaning_of, keeps_characters}
 use Rattle.fancy_input.specs.Places.{is_boundary}
 use Rattle.fancy_input.specs.declared.input.Request.{Request}
 use Rattle.fancy_engine.specs.Context.{Span, group_span}

@@ -1,11 +1,11 @@
 -- A template without substitution characters is one text for all matches.
 use Rattle.std.proofs.Common.{ℕ, ◌≡◌, Bool, true, false, List, None, Some, refl, ◌∙◌, chars, encode_utf8_all, IsUtf8, if◌then◌else◌}
 use Rattle.std.proofs.lemmas.Str.{encodes-chars}
-use Rattle.fancy_core.specs.Escapes.{has_mark}
+use Rattle.fancy_template.specs.Marks.{has_mark}
+use Rattle.fancy_template.specs.Templates.{dollar_syntax}
+use Rattle.fancy_template.proofs.MarkLemmas.{unmarked_expands}
 use Rattle.fancy_core.specs.GroupTexts.{Seen, captured}
 use Rattle.fancy_core.specs.Replacing.{fixed_of, expansion_of}
-use Rattle.fancy_core.specs.Templates.{dollar_syntax}
-use Rattle.fancy_core.proofs.EscapeLemmas.{unmarked_expands}
 
 fixed_at : (template : List ℕ) (c : Seen) (x y : List ℕ) (b : Bool) → has_mark 36 (chars template) ≡ b → (if b then None else Some (encode_utf8_all (chars template))) ≡ Some x → y ≡ expansion_of template c → y ≡ x
 fixed_at template c x y true e f h = absurd (cc)

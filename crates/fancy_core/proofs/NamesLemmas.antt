@@ -6,9 +6,9 @@ use Rattle.std.proofs.lemmas.List.{map_more, reverse-append, ext_get_or, get_or-
 use Rattle.std.proofs.lemmas.Grind.{get_or-set_at}
 use Rattle.std.proofs.lemmas.List.FromFn.{get_or-map-range_with_len, length-map-range_with_len}
 use Rattle.std.proofs.lemmas.Bool.Decides.{nat_tests}
-use Rattle.fancy_syntax.specs.declared.name.GroupName.{GroupName}
-use Rattle.fancy_syntax.specs.Words.{Text}
-use Rattle.fancy_syntax.specs.Names.{named_group, named_groups}
+use Rattle.fancy_tree.specs.declared.name.GroupName.{GroupName}
+use Rattle.fancy_tree.specs.Text.{Text}
+use Rattle.fancy_tree.specs.Names.{named_group, named_groups}
 use Rattle.fancy_core.specs.Names.{name_among, read_name}
 
 -- one group more

@@ -1,7 +1,7 @@
 -- Lemmas on where the search starts that refuses a replacement.
 use Rattle.std.proofs.Common.{arith, ℕ, ◌≤◌, ◌≡◌, Bool, true, false, nat_eq, List, [], ◌∷◌, length, Option, None, Some, zero, suc, if◌then◌else◌, ap, subst}
 use Rattle.std.specs.Cmp.Derive.{both_true}
-use Rattle.fancy_syntax.specs.declared.error.Error.{Error}
+use Rattle.fancy_tree.specs.declared.error.Error.{Error}
 use Rattle.fancy_input.specs.declared.input.Request.{Request}
 use Rattle.fancy_input.specs.Requests.{whole}
 use Rattle.fancy_input.specs.Places.{next_place}

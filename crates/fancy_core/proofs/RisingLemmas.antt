@@ -1,10 +1,10 @@
 -- Numbers of names that rise.
 use Rattle.std.proofs.Common.{◌≡◌, ℕ, ◌+◌, ◌<◌, ◌≤◌, Bool, List, [], ◌∷◌, All, arith}
 use Rattle.std.proofs.lemmas.List.Elements.{All-cons}
-use Rattle.fancy_syntax.specs.Pattern.{Pattern}
-use Rattle.fancy_syntax.specs.Words.{Text}
+use Rattle.fancy_tree.specs.Pattern.{Pattern}
+use Rattle.fancy_tree.specs.Text.{Text}
 use Rattle.fancy_syntax.specs.Dialect.{Scope, Options, begin, Spells}
-use Rattle.fancy_syntax.specs.Groups.{Rising}
+use Rattle.fancy_tree.specs.Groups.{Rising}
 use Rattle.fancy_syntax.proofs.NameNumbers.{names_rise}
 
 -- the numbers of the names that a text spells rise, however these are written

@@ -2,7 +2,7 @@
 use Rattle.std.proofs.Common.{arith, ℕ, zero, suc, ◌+◌, ◌-◌, ◌<◌, ◌≤◌, ◌^◌, ◌≡◌, ◌==◌, Bool, true, false, max, List, [], ◌∷◌, length, take, slice_range, Option, None, Some, Result, refl, ap}
 use Rattle.std.proofs.lemmas.Bool.Decides.{nat_tests}
 use Rattle.std.specs.Prelude.{Ok, Err}
-use Rattle.fancy_syntax.specs.declared.error.Error.{Error}
+use Rattle.fancy_tree.specs.declared.error.Error.{Error}
 use Rattle.fancy_input.specs.declared.input.Request.{Request}
 use Rattle.fancy_input.specs.Requests.{whole}
 use Rattle.fancy_core.specs.declared.regex.Regex.{Regex}

@@ -9,7 +9,7 @@ use Rattle.fancy_core.specs.Scratch.{state_in}
 use Rattle.fancy_core.specs.declared.regex.Regex.{Regex}
 use Rattle.fancy_core.specs.declared.walk.Located.{Located}
 use Rattle.fancy_core.specs.Matching.{Item, start_of, stop_of, answer}
-use Rattle.fancy_syntax.specs.declared.error.Error.{Error}
+use Rattle.fancy_tree.specs.declared.error.Error.{Error}
 use Rattle.fancy_core.specs.Left.{refuses_at, refused_next, at_next, scan, item_in, upcoming_if, start_behind, items_left, end_left}
 use Rattle.fancy_core.proofs.LeftLemmas.{skips, StandsBehind, stands_behind, next_left, next_end}
 use Rattle.fancy_core.proofs.ScanLemmas.{scan_sound}

@@ -1,9 +1,9 @@
 -- What a regex keeps of its pattern beside the tree.
 use Rattle.std.specs.Prelude.{◌≡◌, ◌+◌, ◌≤◌, ℕ, List, chars}
-use Rattle.fancy_syntax.specs.Words.{Text}
+use Rattle.fancy_tree.specs.Text.{Text}
 use Rattle.fancy_syntax.specs.Dialect.{IsPattern}
-use Rattle.fancy_syntax.specs.Pattern.{Pattern}
-use Rattle.fancy_syntax.specs.Groups.{Rising}
+use Rattle.fancy_tree.specs.Pattern.{Pattern}
+use Rattle.fancy_tree.specs.Groups.{Rising}
 use Rattle.fancy_engine.specs.declared.code.Code.{Code}
 use Rattle.fancy_engine.specs.Means.{IsCodeOf}
 use Rattle.fancy_core.specs.declared.options.Options.{Options}

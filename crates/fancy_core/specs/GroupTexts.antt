@@ -4,11 +4,11 @@ use Rattle.std.specs.Option.{option_and_then}
 use Rattle.std.specs.Borrow.{Bor}
 use Rattle.fancy_input.specs.declared.matches.Match.{Match}
 use Rattle.fancy_input.specs.Spans.{span_in, text_in}
+use Rattle.fancy_template.specs.Expansions.{Captured}
 use Rattle.fancy_engine.specs.Context.{Span}
 use Rattle.fancy_core.specs.declared.regex.Regex.{Regex}
 use Rattle.fancy_core.specs.declared.captures.Captures.{Captures}
 use Rattle.fancy_core.specs.Captured.{spans_in, searched_in}
-use Rattle.fancy_core.specs.Expansions.{Captured}
 use Rattle.fancy_core.specs.Names.{group_named}
 use Rattle.fancy_core.specs.Groups.{span_at}
 

@@ -1,6 +1,6 @@
 -- What an iteration over the matches of a regex has left.
 use Rattle.std.specs.Prelude.{ℕ, zero, suc, ◌&&◌, length, ⊤, ◌≡◌, Bool, true, false, nat_eq, if◌then◌else◌, List, [], ◌∷◌, Option, Some, Result, MatchOption, MatchResult}
-use Rattle.fancy_syntax.specs.declared.error.Error.{Error}
+use Rattle.fancy_tree.specs.declared.error.Error.{Error}
 use Rattle.fancy_input.specs.declared.input.Request.{Request}
 use Rattle.fancy_input.specs.Places.{next_place}
 use Rattle.fancy_engine.specs.Search.{Query, search}

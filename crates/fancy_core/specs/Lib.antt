@@ -1,5 +1,4 @@
 pub mod Options
-pub mod Builders
 pub mod Compiled
 pub mod Regexes
 pub mod Searching
@@ -12,17 +11,9 @@ pub mod Names
 pub mod Built
 pub mod Matching
 pub mod Left
-pub mod Examples
 pub mod Iterations
 pub mod CaptureIterations
-pub mod Templates
-pub mod Expansions
-pub mod Escapes
-pub mod Literals
-pub mod Expanders
 pub mod GroupTexts
-pub mod Expanded
-pub mod Checks
 pub mod Pieces
 pub mod Walks
 pub mod Splits

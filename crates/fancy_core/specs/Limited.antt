@@ -1,10 +1,10 @@
 -- What a search may be refused for, and what it counts.
 use Rattle.std.specs.Prelude.{◌≡◌, ℕ, ◌+◌, ◌-◌, ◌*◌, ◌<◌, ◌≤◌, false}
-use Rattle.fancy_syntax.specs.Limits.{most_branches}
-use Rattle.fancy_syntax.specs.declared.error.Error.{Error}
-use Rattle.fancy_syntax.specs.declared.error.Error.TheVariants.{Memory, ParseError, CompileError, RuntimeError}
-use Rattle.fancy_syntax.specs.declared.error.RuntimeError.{RuntimeError as Running}
-use Rattle.fancy_syntax.specs.declared.error.RuntimeError.TheVariants.{BacktrackLimitExceeded, StackOverflow}
+use Rattle.fancy_tree.specs.Limits.{most_branches}
+use Rattle.fancy_tree.specs.declared.error.Error.{Error}
+use Rattle.fancy_tree.specs.declared.error.Error.TheVariants.{Memory, ParseError, CompileError, RuntimeError}
+use Rattle.fancy_tree.specs.declared.error.RuntimeError.{RuntimeError as Running}
+use Rattle.fancy_tree.specs.declared.error.RuntimeError.TheVariants.{BacktrackLimitExceeded, StackOverflow}
 use Rattle.fancy_input.specs.declared.input.Request.{Request}
 use Rattle.fancy_input.specs.Requests.{effective_start}
 use Rattle.fancy_engine.specs.declared.work.Work.{Work}

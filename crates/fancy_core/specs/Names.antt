@@ -2,8 +2,9 @@
 use Rattle.std.specs.Prelude.{ℕ, ◌<◌, ◌==◌, Bool, not, length, List, drop, map, reverse, find, Option, IfSome, option_map, option_and_then, chars}
 use Rattle.std.specs.List.{range_with_len}
 use Rattle.std.specs.Borrow.{Bor}
-use Rattle.fancy_syntax.specs.Words.{Text}
-use Rattle.fancy_syntax.specs.Names.{named_groups, last_named}
+use Rattle.fancy_tree.specs.Text.{Text}
+use Rattle.fancy_tree.specs.Names.{named_groups, last_named}
+use Rattle.fancy_template.specs.Checks.{Groups}
 use Rattle.fancy_engine.specs.Context.{Span}
 use Rattle.fancy_core.specs.declared.regex.Regex.{Regex}
 use Rattle.fancy_core.specs.declared.names.CaptureNames.{CaptureNames}
@@ -25,6 +26,10 @@ StandsOnGroup r name = IfSome (group_named r name) (λ number. (0 < number) × (
 -- whether any group has a name
 abbrev pub has_names : Regex → Bool
 has_names r = not (length (names_in r) == 0)
+
+-- what a template may name
+abbrev pub template_groups : Regex → Groups
+template_groups r = record { count = groups_in r; has_names = has_names r; group_named = group_named r }
 
 -- the name that these give to the group with this number
 abbrev pub name_among : List (Text × ℕ) → ℕ → Option Text

@@ -1,13 +1,13 @@
 -- What the options of a regex choose.
 use Rattle.std.specs.Prelude.{Bool, true, false, None, not, ◌&&◌}
-use Rattle.fancy_syntax.specs.Limits.{most_returns}
-use Rattle.fancy_syntax.specs.declared.tree.Meaning.{Meaning}
-use Rattle.fancy_syntax.specs.declared.tree.BytesMode.TheVariants.{Unicode}
-use Rattle.fancy_syntax.specs.Modes as modes
-use Rattle.fancy_syntax.specs.Modes.{keeps_characters}
+use Rattle.fancy_tree.specs.Limits.{most_returns}
+use Rattle.fancy_tree.specs.declared.tree.Meaning.{Meaning}
+use Rattle.fancy_tree.specs.declared.tree.BytesMode.TheVariants.{Unicode}
+use Rattle.fancy_tree.specs.Modes as modes
+use Rattle.fancy_tree.specs.Modes.{keeps_characters}
 use Rattle.fancy_syntax.specs.Dialect as dialect
 use Rattle.fancy_syntax.specs.Views.{flags_of}
-use Rattle.fancy_syntax.specs.Pattern.{Pattern}
+use Rattle.fancy_tree.specs.Pattern.{Pattern}
 use Rattle.fancy_engine.specs.Means.{is_easy}
 use Rattle.fancy_core.specs.declared.options.Options.{Options}
 

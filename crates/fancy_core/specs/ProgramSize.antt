@@ -1,13 +1,13 @@
 -- When a pattern of the dialect may be refused: a hard one, for the length of its code.
 use Rattle.std.specs.Prelude.{◌≡◌, ◌+◌, ◌*◌, ◌⊎◌, ℕ, Bool, true, false, Option, Some, None, nat_lt}
-use Rattle.fancy_syntax.specs.declared.error.CompileError.TheVariants.{PatternTooComplex}
-use Rattle.fancy_syntax.specs.declared.error.Error.{Error}
-use Rattle.fancy_syntax.specs.declared.error.Error.TheVariants.{Memory, CompileError}
+use Rattle.fancy_tree.specs.declared.error.CompileError.TheVariants.{PatternTooComplex}
+use Rattle.fancy_tree.specs.declared.error.Error.{Error}
+use Rattle.fancy_tree.specs.declared.error.Error.TheVariants.{Memory, CompileError}
 use Rattle.fancy_syntax.specs.Dialect.{IsPattern}
-use Rattle.fancy_syntax.specs.Pattern.{Pattern}
+use Rattle.fancy_tree.specs.Pattern.{Pattern}
 use Rattle.fancy_syntax.specs.Refusals.{IsRefused}
-use Rattle.fancy_syntax.specs.Sizes.{nodes}
-use Rattle.fancy_syntax.specs.Words.{Text}
+use Rattle.fancy_tree.specs.Sizes.{nodes}
+use Rattle.fancy_tree.specs.Text.{Text}
 use Rattle.fancy_core.specs.declared.options.Options.{Options}
 use Rattle.fancy_core.specs.Options.{dialect_of, is_easy_under}
 

@@ -1,7 +1,7 @@
 -- What a regex stands for, and what a search with it asks.
 use Rattle.std.specs.Prelude.{ℕ, Bool, true, List, string_bytes}
-use Rattle.fancy_syntax.specs.Modes.{keeps_characters}
-use Rattle.fancy_syntax.specs.Pattern.{Pattern, pattern_of}
+use Rattle.fancy_tree.specs.Modes.{keeps_characters}
+use Rattle.fancy_tree.specs.Pattern.{Pattern, pattern_of}
 use Rattle.fancy_input.specs.declared.input.Request.{Request}
 use Rattle.fancy_engine.specs.Code.{code_len}
 use Rattle.fancy_engine.specs.Search.{Sought, Query}

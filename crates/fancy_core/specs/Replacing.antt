@@ -1,12 +1,13 @@
 -- What matches are replaced by, and what that makes of a text.
 use Prim.Native.Char.{code}
 use Rattle.std.specs.Prelude.{◌≡◌, ◌≤◌, ◌⊎◌, ℕ, Bool, List, [], ◌∷◌, ◌++◌, Option, None, Some, chars, encode_utf8_all, map, true, if◌then◌else◌}
-use Rattle.fancy_syntax.specs.declared.error.Error.{Error}
-use Rattle.fancy_syntax.specs.declared.error.Error.TheVariants.{Memory}
+use Rattle.fancy_tree.specs.declared.error.Error.{Error}
+use Rattle.fancy_tree.specs.declared.error.Error.TheVariants.{Memory}
 use Rattle.fancy_input.specs.Requests.{whole}
+use Rattle.fancy_template.specs.Expansions.{expansion}
+use Rattle.fancy_template.specs.Marks.{has_mark}
+use Rattle.fancy_template.specs.Templates.{dollar_syntax}
 use Rattle.fancy_core.specs.declared.regex.Regex.{Regex}
-use Rattle.fancy_core.specs.Escapes.{has_mark}
-use Rattle.fancy_core.specs.Expansions.{expansion}
 use Rattle.fancy_core.specs.GroupTexts.{Seen, captured}
 use Rattle.fancy_core.specs.Groups.{spans_of}
 use Rattle.fancy_core.specs.Left.{matches_of}
@@ -14,7 +15,6 @@ use Rattle.fancy_core.specs.Limited.{Refuses}
 use Rattle.fancy_core.specs.Matching.{Item, span_of_item, start_of, stop_of}
 use Rattle.fancy_core.specs.Pieces.{pieces, interleaved}
 use Rattle.fancy_core.specs.Regexes.{groups_in, asked_in_turn}
-use Rattle.fancy_core.specs.Templates.{dollar_syntax}
 
 -- a template without `$` is one text for all matches: its own characters
 abbrev pub fixed_of : List ℕ → Option (List ℕ)

@@ -1,6 +1,6 @@
 -- Which haystacks may be searched, and where. `text` says that the haystack is text and not bytes.
 use Rattle.std.specs.Prelude.{◌≡◌, ◌≤◌, ℕ, Bool, true, false, List, length, IsTrue, IsAscii}
-use Rattle.fancy_syntax.specs.Modes.{keeps_characters}
+use Rattle.fancy_tree.specs.Modes.{keeps_characters}
 use Rattle.fancy_input.specs.Places.{is_boundary}
 use Rattle.fancy_input.specs.declared.input.Request.{Request}
 use Rattle.fancy_core.specs.declared.options.Options.{Options}

@@ -1,6 +1,6 @@
 -- What stands for an iterator over the pieces of a text.
 use Rattle.std.specs.Prelude.{◌≡◌, ◌<◌, ◌-◌, ◌==◌, ◌||◌, ℕ, zero, suc, Bool, true, false, not, List, [], ◌∷◌, map, Option, Result, MatchOption, MatchResult, ⊤}
-use Rattle.fancy_syntax.specs.declared.error.Error.{Error}
+use Rattle.fancy_tree.specs.declared.error.Error.{Error}
 use Rattle.fancy_core.specs.declared.regex.Regex.{Regex}
 use Rattle.fancy_core.specs.declared.split.Split.{Split}
 use Rattle.fancy_core.specs.declared.split.limited.SplitN.{SplitN}

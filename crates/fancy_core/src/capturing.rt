@@ -19,7 +19,7 @@ use crate::scratch::Scratch;
 use fancy_engine::work::Work;
 use fancy_input::input::{Input, Request};
 use fancy_input::regex_input::RegexInput;
-use fancy_syntax::error::{Error, Result};
+use fancy_tree::error::{Error, Result};
 use std::alloc::{AllocError, Global};
 
 impl Regex {

@@ -16,7 +16,7 @@ use crate::walk::Walk;
 pub use captures::CaptureMatches;
 use fancy_input::input::{Haystack, Input};
 use fancy_input::regex_input::RegexInput;
-use fancy_syntax::error::Result;
+use fancy_tree::error::Result;
 
 /// The matches of an input, one behind the other.
 ///

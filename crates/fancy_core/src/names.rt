@@ -1,13 +1,14 @@
 //! The names of groups.
 
-ghost use Rattle.std.specs.Prelude.{◌≡◌, ◌-◌, IfOk, IfErr, None, Some, length, map, replicate, slice_get, slice_index_or, chars};
+ghost use Rattle.std.specs.Prelude.{◌≡◌, ◌-◌, IfOk, IfErr, None, Some, length, map, replicate, slice_get, slice_index_or};
 ghost use Rattle.std.specs.Iterator.{YieldsFirstBy, at_most};
-ghost use Rattle.fancy_core.specs.Names.{group_named, has_names, names_of_groups, names_left, read_name};
+ghost use Rattle.fancy_core.specs.Names.{template_groups, names_of_groups, names_left, read_name};
 ghost use Rattle.fancy_core.specs.Regexes.{groups_in};
 
 use crate::regex::Regex;
-use fancy_syntax::error::{Error, Result};
-use fancy_syntax::name::last_named;
+use fancy_template::groups::GroupNames;
+use fancy_tree::error::{Error, Result};
+use fancy_tree::name::last_named;
 use std::alloc::{AllocError, Global};
 
 /// The name of each group of a regex, in the order of their numbers; made by [`Regex::capture_names`].
@@ -39,20 +40,27 @@ impl Regex {
         }
         Ok(CaptureNames { names, next: 0 })
     }
+}
+
+impl GroupNames for Regex {
+    ghost groups = { template_groups };
+
+    fn group_count(&self) -> usize {
+        self.captures_len()
+    }
+
+    fn has_names(&self) -> bool {
+        let groups = self.names();
+        !groups.is_empty()
+    }
 
     /// The number of the last group in the pattern that has this name.
-    pub(crate) fn group_named(&self, name: &str) -> Option<usize>
-        ensures { result ≡ group_named self.now (chars name.now) }
-    {
+    fn group_named(&self, name: &str) -> Option<usize> {
         last_named(self.names(), name)
     }
 
-    /// Whether any group has a name.
-    pub(crate) fn has_names(&self) -> bool
-        ensures { result ≡ has_names self.now }
-    {
-        let groups = self.names();
-        !groups.is_empty()
+    fn allocator(&self) -> Global {
+        Regex::allocator(self)
     }
 }
 

@@ -1,27 +1,26 @@
 //! A compiled pattern, and what it finds.
 
 ghost use Rattle.std.specs.Prelude.{◌≡◌, ◌≤◌, ◌↔◌, ◌+◌, ◌-◌, ◌*◌, Bool, None, Some, Ok, Err, IfOk, IfErr, IfSome, IsTrue, string_bytes, option_map, is_some, true, false, length};
-ghost use Rattle.fancy_syntax.specs.Pattern.{Pattern, pattern_of};
-ghost use Rattle.fancy_syntax.specs.Names.{named_groups};
+ghost use Rattle.fancy_tree.specs.Pattern.{Pattern, pattern_of};
+ghost use Rattle.fancy_tree.specs.Names.{named_groups};
 ghost use Rattle.fancy_input.specs.Inputs.{haystack_in, request_in};
 ghost use Rattle.fancy_input.specs.Places.{is_boundary};
 ghost use Rattle.fancy_input.specs.Requests.{whole, effective_start};
-ghost use Rattle.fancy_syntax.specs.Sizes.{nodes};
+ghost use Rattle.fancy_tree.specs.Sizes.{nodes};
 ghost use Rattle.fancy_engine.specs.Code.{code_len, instrs_of};
 ghost use Rattle.fancy_engine.specs.Means.{is_easy, are_easy};
 ghost use Rattle.fancy_engine.specs.Placed.{has_raw_byte, has_keep_start_in_look_around};
 ghost use Rattle.fancy_engine.specs.Work.{steps_of, returns_of};
 ghost use Rattle.fancy_engine.specs.Search.{search, span_of};
 ghost use Rattle.fancy_engine.specs.Answers.{HasNone};
-ghost use Rattle.fancy_core.specs.Builders.{options_of};
 ghost use Rattle.fancy_core.specs.Compiled.{IsCompiled};
 ghost use Rattle.fancy_core.specs.Scratch.{state_in, answer_of};
-ghost use Rattle.fancy_syntax.specs.declared.error.RuntimeError.TheVariants.{BacktrackLimitExceeded};
+ghost use Rattle.fancy_tree.specs.declared.error.RuntimeError.TheVariants.{BacktrackLimitExceeded};
 ghost use Rattle.fancy_core.specs.Options.{by_default, meaning_in, is_easy_under};
 ghost use Rattle.fancy_core.specs.Searching.{Suits, StartsCleanly, CanSearch};
-ghost use Rattle.fancy_syntax.specs.Modes.{keeps_characters};
+ghost use Rattle.fancy_tree.specs.Modes.{keeps_characters};
 
-use crate::options::{Options, RegexOptionsBuilder};
+use crate::options::Options;
 use crate::scratch::{Engine, Scratch};
 use fancy_engine::code::Code;
 use fancy_engine::compile::compile;
@@ -31,18 +30,18 @@ use fancy_engine::work::Work;
 use fancy_input::input::{Haystack, Input, Request};
 use fancy_input::regex_input::RegexInput;
 use fancy_machine::search as machine;
-use fancy_syntax::error::{CompileError, Error, Result, RuntimeError};
-use fancy_syntax::name::GroupName;
 use fancy_syntax::parse::{Parsed, parse_with};
-use fancy_syntax::tree::Tree;
+use fancy_tree::error::{CompileError, Error, Result, RuntimeError};
+use fancy_tree::name::GroupName;
+use fancy_tree::tree::Tree;
 use std::alloc::Global;
 use std::fmt;
 
 /// A compiled pattern.
 ///
 /// A search answers with a match from the least byte offset from which the pattern matches: of those from there the one
-/// that the pattern prefers, or under [`RegexOptionsBuilder::leftmost_longest`] the longest. Where the pattern has a `\K`,
-/// the match that is answered starts at the place of the last one that was met.
+/// that the pattern prefers, or under `RegexOptionsBuilder::leftmost_longest` the longest. Where a `\K` was met on the
+/// way, the match starts at the place of the last one.
 #[derive(Drop)]
 pub struct Regex {
     pattern: String,
@@ -88,7 +87,38 @@ impl Regex {
         ensures { IsReading by_default pattern.now result }
     {
         let pattern = String::from_str(alloc, pattern)?;
-        RegexOptionsBuilder::new().build(pattern)
+        Regex::with_options(pattern, Options::default())
+    }
+
+    /// Reads a pattern with these options. The allocator is the text's, which is given up also where the
+    /// call refuses.
+    ///
+    /// It is refused as [`Regex::new`] is; where groups without a name do not capture beside names, besides as
+    /// `CompileError(NamedBackrefOnly)`, for a reference by number where a group has a name; where empty matches are refused as
+    /// `CompileError(PatternCanNeverMatch)`, for a pattern that always consumes 0 units; and where a size is set as
+    /// `CompileError(PatternTooComplex)`, for a hard pattern with longer code.
+    pub fn with_options(pattern: String, options: Options) -> Result<Regex>
+        ensures { IsReading options (string_bytes pattern) result }
+    {
+        let alloc = *pattern.allocator();
+        let Parsed {
+            tree,
+            groups,
+            names,
+        } = parse_with(alloc, pattern.as_str(), options.syntax())?;
+        let code = compile(alloc, &tree, groups, options.meaning())?;
+        let easy = options.is_easy(&tree);
+        if options.forbids(easy, code.len()) {
+            return Err(Error::CompileError(CompileError::PatternTooComplex));
+        }
+        Ok(Regex {
+            pattern,
+            options,
+            tree,
+            code,
+            names,
+            easy,
+        })
     }
 
     /// The text of the pattern.
@@ -117,8 +147,8 @@ impl Regex {
     }
 
     /// Whether a search takes at most [`Regex::code_len`] times the searched length plus one steps, whatever the
-    /// haystack. No pattern is easy under [`RegexOptionsBuilder::find_not_empty`] or
-    /// [`RegexOptionsBuilder::leftmost_longest`].
+    /// haystack. No pattern is easy under `RegexOptionsBuilder::find_not_empty` or
+    /// `RegexOptionsBuilder::leftmost_longest`.
     pub fn is_easy(&self) -> bool
         ensures { result ≡ easy_in self.now }
     {
@@ -190,7 +220,7 @@ impl Regex {
     ///
     /// It is refused where memory runs out (`Memory`), and for a hard pattern (one that is not [`Regex::is_easy`]) past a
     /// limit: `RuntimeError(BacktrackLimitExceeded)` where the search takes more returns than
-    /// [`RegexOptionsBuilder::backtrack_limit`] allows, and `RuntimeError(StackOverflow)` where more than 1,000,000 branches
+    /// `RegexOptionsBuilder::backtrack_limit` allows, and `RuntimeError(StackOverflow)` where more than 1,000,000 branches
     /// are saved at one time, which only a search that opens more choices than that can come to.
     pub fn find_input<S: Input>(&self, input: RegexInput<S>) -> Result<Option<S::Match>>
         requires searched { CanSearch (options_in self.now) (S.text (haystack_in input)) (S.bytes (haystack_in input)) (request_in input) }
@@ -407,44 +437,6 @@ impl Regex {
     }
 }
 
-impl RegexOptionsBuilder {
-    ghost use Rattle.fancy_core.specs.Built.{IsReading};
-
-    /// Reads a pattern with these options. The allocator is the text's, which is given up also where the
-    /// call refuses.
-    ///
-    /// It is refused as [`Regex::new`] is; under
-    /// [`RegexOptionsBuilder::ignore_numbered_groups_when_named_groups_exist`] besides as
-    /// `CompileError(NamedBackrefOnly)`, for a reference by number where a group has a name; under
-    /// [`RegexOptionsBuilder::find_not_empty`] as `CompileError(PatternCanNeverMatch)`, for a pattern that always consumes 0
-    /// units; and where [`RegexOptionsBuilder::max_prog_size`] is set as `CompileError(PatternTooComplex)`, for a hard
-    /// pattern with longer code.
-    pub fn build(&self, pattern: String) -> Result<Regex>
-        ensures { IsReading (options_of self.now) (string_bytes pattern) result }
-    {
-        let options = self.options();
-        let alloc = *pattern.allocator();
-        let Parsed {
-            tree,
-            groups,
-            names,
-        } = parse_with(alloc, pattern.as_str(), options.syntax())?;
-        let code = compile(alloc, &tree, groups, options.meaning())?;
-        let easy = options.is_easy(&tree);
-        if options.forbids(easy, code.len()) {
-            return Err(Error::CompileError(CompileError::PatternTooComplex));
-        }
-        Ok(Regex {
-            pattern,
-            options,
-            tree,
-            code,
-            names,
-            easy,
-        })
-    }
-}
-
 impl TryFrom<String> for Regex {
     type Error = Error;
 
@@ -455,7 +447,7 @@ impl TryFrom<String> for Regex {
     /// Reads the text as [`Regex::new`] does, with the default options. The text becomes the regex's own, with its
     /// allocator; it is given up also where the call refuses.
     fn try_from(pattern: String) -> Result<Regex> {
-        RegexOptionsBuilder::new().build(pattern)
+        Regex::with_options(pattern, Options::default())
     }
 }
 

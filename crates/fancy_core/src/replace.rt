@@ -11,7 +11,7 @@ ghost use Rattle.fancy_core.specs.Searching.{Suits};
 use crate::regex::Regex;
 use crate::replacer::Replacer;
 use crate::rewriting::Rewriting;
-use fancy_syntax::error::{Error, Result};
+use fancy_tree::error::{Error, Result};
 use std::alloc::Global;
 use std::borrow::CowStr;
 

@@ -2,7 +2,7 @@
 
 ghost use Rattle.std.specs.Prelude.{◌≡◌, ◌++◌, ⊤, ℕ, List, Option, Some, IfErr, OnOk, OnErr, option_map, string_bytes};
 ghost use Rattle.std.specs.Cow.{cow_str_bytes};
-ghost use Rattle.fancy_syntax.specs.declared.error.Error.{Error as Refusal};
+ghost use Rattle.fancy_tree.specs.declared.error.Error.{Error as Refusal};
 ghost use Rattle.fancy_core.specs.GroupTexts.{Seen, bytes_of_str, seen_in};
 
 mod functions;
@@ -11,7 +11,7 @@ mod literal;
 mod templates;
 
 use crate::captures::Captures;
-use fancy_syntax::error::Result;
+use fancy_tree::error::Result;
 pub use functions::ReplaceFn;
 pub use lent::ReplacerRef;
 pub use literal::NoExpand;

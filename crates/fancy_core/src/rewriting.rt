@@ -22,7 +22,7 @@ use crate::scratch::Scratch;
 use crate::walk::{Located, Walk};
 use fancy_input::input::Input;
 use fancy_input::regex_input::RegexInput;
-use fancy_syntax::error::{Error, Result};
+use fancy_tree::error::{Error, Result};
 use std::alloc::Global;
 use std::borrow::CowStr;
 

@@ -14,7 +14,7 @@ use crate::scratch::Scratch;
 use crate::walk::Walk;
 use fancy_input::input::Input;
 use fancy_input::regex_input::RegexInput;
-use fancy_syntax::error::Result;
+use fancy_tree::error::Result;
 pub use limited::SplitN;
 
 /// The pieces of a text between the matches in it, in order.

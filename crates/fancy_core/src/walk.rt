@@ -15,7 +15,7 @@ use crate::scratch::Scratch;
 use fancy_engine::work::Work;
 use fancy_input::input::{Haystack, Input, Request};
 use fancy_input::regex_input::RegexInput;
-use fancy_syntax::error::{Error, Result};
+use fancy_tree::error::{Error, Result};
 
 /// What a search of an iteration found: its position and its two ends in bytes, the effective start that it was searched from, and
 /// whether `\G` was on. Its groups stand in the memory of the search.

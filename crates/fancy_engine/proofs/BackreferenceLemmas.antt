@@ -1,5 +1,5 @@
 -- In text, a group's text once more ends on a boundary, folded or not.
-use Rattle.std.proofs.Common.{◌≡◌, ℕ, zero, suc, ◌+◌, ◌-◌, ◌<◌, ◌≤◌, ◌==◌, Bool, true, false, not, ◌&&◌, ◌||◌, nat_le, List, [], ◌∷◌, ◌++◌, map, length, take, drop, Option, Some, None, if◌then◌else◌, IsTrue, refl, sym, ap, subst, ◌∙◌, arith, inl, inr, ap₂, append-nil, get_or, le_trans, true≢false, zero-add, zero-lt-suc, suc-le-suc}
+use Rattle.std.proofs.Common.{◌≡◌, ℕ, zero, suc, ◌+◌, ◌<◌, ◌≤◌, ◌==◌, Bool, true, false, not, ◌&&◌, ◌||◌, nat_le, List, [], ◌∷◌, ◌++◌, map, length, take, drop, Option, Some, None, if◌then◌else◌, IsTrue, refl, sym, ap, subst, ◌∙◌, arith, inl, inr, ap₂, append-nil, get_or, le_trans, true≢false, zero-add, zero-lt-suc, suc-le-suc}
 use Rattle.std.specs.Prelude.{IsUtf8, slice_index, encode_utf8}
 use Rattle.std.specs.Char.{len_utf8, to_ascii_lowercase}
 use Rattle.std.specs.Str.{encode_utf8_all, str_eq_ignore_ascii_case}
@@ -11,15 +11,15 @@ use Rattle.std.proofs.lemmas.Option.{same_Some}
 use Rattle.std.proofs.lemmas.List.{take-append-drop, length-map, drop-map, map-append}
 use Rattle.std.proofs.lemmas.Str.{IsUtf8-between, drop_past_char, encode_ascii, inside_one}
 use Rattle.std.proofs.lemmas.Str.Ascii.{lowercase_ascii}
-use Rattle.fancy_syntax.specs.declared.tree.Meaning.{Meaning}
-use Rattle.fancy_syntax.specs.declared.tree.Meaning.TheVariants.{Unicode, Bytes, AsciiText}
+use Rattle.fancy_tree.specs.declared.tree.Meaning.{Meaning}
+use Rattle.fancy_tree.specs.declared.tree.Meaning.TheVariants.{Unicode, Bytes, AsciiText}
 use Rattle.fancy_input.specs.Places.{char_at, has_bytes_at, is_boundary, is_continuation}
 use Rattle.fancy_input.proofs.PlaceLemmas.{boundary_of_text}
 use Rattle.fancy_input.proofs.TextLemmas.{char_at-boundary, text_at-boundary}
-use Rattle.fancy_engine.specs.Context.{Context, State, Span, Unit_at, group_span, unit_at, unit_in, one_character, past_item, past_byte, option_to}
+use Rattle.fancy_engine.specs.Context.{Context, State, Span, group_span, unit_at, unit_in, one_character, past_item, past_byte, option_to}
 use Rattle.fancy_engine.specs.Backreference.{text_of, past_text, past_letters, shares_folding, past_characters, past_folded, past_span, past_backreference}
 use Rattle.fancy_engine.specs.Placed.{IsSpan, IsPlaced, reads_characters}
-use Rattle.fancy_engine.proofs.CharacterLemmas.{char_at-from_bytes, char_at-fits, bytes_stand}
+use Rattle.fancy_input.proofs.CharacterLemmas.{char_at-from_bytes, char_at-fits, bytes_stand}
 
 -- a place, if there is one, is a boundary within the haystack
 unfoldable EndsWell : List ℕ → Option ℕ → Type 0

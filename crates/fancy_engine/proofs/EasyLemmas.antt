@@ -1,13 +1,13 @@
 -- What one more instruction makes of easy code, and what the parts of an easy pattern are.
-use Rattle.std.proofs.Common.{◌≡◌, ℕ, zero, suc, ◌+◌, ◌<◌, ◌≤◌, Bool, true, false, ◌&&◌, List, [], ◌∷◌, ◌++◌, length, map, get_or, drop, drop-cons, All, IsTrue, Vec, Global, refl, sym, ap, ◌∙◌, subst, arith}
+use Rattle.std.proofs.Common.{◌≡◌, ℕ, zero, suc, ◌<◌, ◌≤◌, Bool, true, false, ◌&&◌, List, [], ◌∷◌, ◌++◌, length, map, get_or, drop, drop-cons, All, IsTrue, Vec, Global, refl, sym, ap, ◌∙◌, subst, arith}
 use Rattle.std.specs.Prelude.{slice_set}
 use Rattle.std.proofs.lemmas.Bool.{and_parts}
 use Rattle.std.proofs.lemmas.List.{length-map, get_or-map, drop_all}
 use Rattle.std.proofs.lemmas.List.Elements.{All-cons}
-use Rattle.fancy_syntax.specs.declared.tree.Tree.{Tree}
-use Rattle.fancy_syntax.specs.declared.tree.Tree.TheVariants.{Sequence, Alternative}
-use Rattle.fancy_syntax.specs.Pattern.{Pattern, in_sequence, in_choice, pattern_of}
-use Rattle.fancy_syntax.proofs.PatternLemmas.{pattern-Sequence, pattern-Alternative}
+use Rattle.fancy_tree.specs.declared.tree.Tree.{Tree}
+use Rattle.fancy_tree.specs.declared.tree.Tree.TheVariants.{Sequence, Alternative}
+use Rattle.fancy_tree.specs.Pattern.{Pattern, in_sequence, in_choice, pattern_of}
+use Rattle.fancy_tree.proofs.PatternLemmas.{pattern-Sequence, pattern-Alternative}
 use Rattle.fancy_engine.specs.declared.code.Instr.{Instr}
 use Rattle.fancy_engine.specs.declared.code.Instr.TheVariants as i
 use Rattle.fancy_engine.specs.Means.{is_easy, all_easy, is_easy_instr, are_easy, StaysEasy, IsEasyInstr, AreEasy, split_of}

@@ -1,7 +1,7 @@
 -- A pattern without `\K` in look-around moves the start forward, at most to its place.
 use Rattle.std.proofs.Common.{◌≡◌, ℕ, Bool, true, false, ◌&&◌, List, [], ◌∷◌, length, Option, Some, None, nat_le, is_some, arith, le_refl, le_trans, refl}
-use Rattle.fancy_syntax.specs.Pattern.{Pattern, empty, character, member_of, in_any_case, raw_byte, backreference, assertion, group_test, keep_start, continue_here, group, repeat, look_ahead, look_behind, atomic, conditional, followed, or_else, last_branch}
-use Rattle.fancy_syntax.specs.Sizes.{is_empty}
+use Rattle.fancy_tree.specs.Pattern.{Pattern, empty, character, member_of, in_any_case, raw_byte, backreference, assertion, group_test, keep_start, continue_here, group, repeat, look_ahead, look_behind, atomic, conditional, followed, or_else, last_branch}
+use Rattle.fancy_tree.specs.Sizes.{is_empty}
 use Rattle.fancy_engine.specs.Context.{Context, State, group_span, holds, continues}
 use Rattle.fancy_engine.specs.Events.{Event, return, stay, any, move, put_back, ends_look, looked}
 use Rattle.fancy_engine.specs.Trace.{trace, is_greedy}

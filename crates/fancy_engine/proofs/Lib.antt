@@ -1,10 +1,8 @@
 pub mod Marks
 pub mod Bits
 pub mod Logs
-pub mod CharacterLemmas
 pub mod ReadingLemmas
 pub mod WordLemmas
-pub mod LastLinesLemmas
 pub mod ReachLemmas
 pub mod EventLemmas
 pub mod Runs
@@ -34,7 +32,6 @@ pub mod KeptLemmas
 pub mod KeptForward
 pub mod BackreferenceLemmas
 pub mod LeadsLemmas
-pub mod SpelledLemmas
 pub mod PlacedLemmas
 pub mod FoundLemmas
 pub mod LiteralLemmas

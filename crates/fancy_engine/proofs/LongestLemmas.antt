@@ -4,7 +4,7 @@ use Rattle.std.proofs.lemmas.Bool.Decides.{nat_tests}
 use Rattle.std.proofs.lemmas.List.Elements.{All-nil, All-cons}
 use Rattle.fancy_input.specs.Requests.{effective_start, positions}
 use Rattle.fancy_engine.specs.Context.{State}
-use Rattle.fancy_engine.specs.Search.{Query, Found, outcomes_at, accepted, IsAccepted, further, longest_one, answer_at, search}
+use Rattle.fancy_engine.specs.Search.{Query, Found, outcomes_at, accepted, further, longest_one, answer_at, search}
 use Rattle.fancy_engine.specs.Answers.{IsLongestAccepted, IsLongestAnswer}
 use Rattle.fancy_engine.proofs.SearchLemmas.{accepted-is, is-accepted, all_refused, longest_none, no_answer-is, found_from}
 

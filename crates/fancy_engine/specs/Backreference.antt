@@ -3,8 +3,8 @@ use Rattle.std.specs.Prelude.{ℕ, zero, suc, ◌+◌, ◌-◌, Bool, true, fals
 use Rattle.std.specs.Char.{len_utf8}
 use Rattle.std.specs.Str.{str_eq_ignore_ascii_case}
 use Rattle.unicode.specs.CaseFolding.{simple_fold}
-use Rattle.fancy_syntax.specs.declared.tree.Meaning.{Meaning}
-use Rattle.fancy_syntax.specs.declared.tree.Meaning.TheVariants.{Unicode, Bytes, AsciiText}
+use Rattle.fancy_tree.specs.declared.tree.Meaning.{Meaning}
+use Rattle.fancy_tree.specs.declared.tree.Meaning.TheVariants.{Unicode, Bytes, AsciiText}
 use Rattle.fancy_input.specs.Places.{char_at, has_bytes_at}
 use Rattle.fancy_engine.specs.Context.{Context, State, Span, group_span, past_item, past_byte, option_to}
 

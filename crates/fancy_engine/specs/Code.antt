@@ -2,8 +2,8 @@
 use Rattle.std.specs.Prelude.{ℕ, List, length}
 use Rattle.fancy_engine.specs.declared.code.Code.{Code}
 use Rattle.fancy_engine.specs.declared.code.Instr.{Instr}
-use Rattle.fancy_syntax.specs.declared.char_set.CharSet.{CharSet}
-use Rattle.fancy_syntax.specs.Members.{edges_of}
+use Rattle.fancy_tree.specs.declared.char_set.CharSet.{CharSet}
+use Rattle.fancy_tree.specs.Members.{edges_of}
 
 abbrev pub instrs_of : Code → List Instr
 instrs_of c = c.instrs.items

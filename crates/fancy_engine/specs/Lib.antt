@@ -11,7 +11,6 @@ pub mod Marked
 pub mod Bits
 pub mod Threads
 pub mod Readings
-pub mod LastLines
 pub mod Runner
 pub mod Queries
 pub mod Means

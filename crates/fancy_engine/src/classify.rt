@@ -1,10 +1,10 @@
 //! Which patterns are easy.
 
 ghost use Rattle.std.specs.Prelude.{◌≡◌, map};
-ghost use Rattle.fancy_syntax.specs.Pattern.{pattern_of};
+ghost use Rattle.fancy_tree.specs.Pattern.{pattern_of};
 ghost use Rattle.fancy_engine.specs.Means.{is_easy, goes_back, all_easy};
 
-use fancy_syntax::tree::{Taste, Tree};
+use fancy_tree::tree::{Taste, Tree};
 
 /// Whether a repeat of this taste can go back to another number of turns.
 fn goes_back(taste: Taste) -> bool
@@ -19,7 +19,7 @@ fn goes_back(taste: Taste) -> bool
 /// Whether the pattern is easy: without backreferences, look-around, atomic groups, possessive repeats,
 /// conditionals, `\K` and `\G`. The search for an easy pattern is bounded by the length of its code and of the text.
 #[cycle(is_easy)]
-#[tactic(auto, using(fancy_syntax::proofs::PatternLemmas::pattern_equations))]
+#[tactic(auto, using(fancy_tree::proofs::PatternLemmas::pattern_equations))]
 pub fn is_easy(tree: &Tree) -> bool
     ensures { result ≡ is_easy (pattern_of tree.now) }
 {

@@ -6,8 +6,8 @@ ghost use Rattle.fancy_engine.specs.Run.{instr_at};
 ghost use Rattle.fancy_engine.specs.Work.{steps_of, stepped};
 
 use crate::work::Work;
-use fancy_syntax::char_set::CharSet;
-use fancy_syntax::tree::{Assertion, Meaning};
+use fancy_tree::char_set::CharSet;
+use fancy_tree::tree::{Assertion, Meaning};
 
 /// One instruction. The last numbers of an instruction are those of the instructions that follow it.
 #[derive(Drop)]

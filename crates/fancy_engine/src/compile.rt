@@ -1,19 +1,19 @@
 //! From a pattern to its code, from the end to the start, so that each instruction is told where it goes on.
 
 ghost use Rattle.std.specs.Prelude.{◌≡◌, ◌+◌, ◌-◌, ◌*◌, ◌^◌, ◌<◌, ◌≤◌, IfOk, IsTrue, All, map, sum_by, slice_set, true, length, vec_len};
-ghost use Rattle.fancy_syntax.specs.Pattern.{pattern_of, member_of, group, repeat, look_ahead, look_behind, atomic, in_sequence, in_choice};
-ghost use Rattle.fancy_syntax.specs.declared.tree.Taste.TheVariants.{Possessive};
-ghost use Rattle.fancy_syntax.specs.Sets.{AreEdges};
-ghost use Rattle.fancy_syntax.specs.Sizes.{nodes, repeat_nodes, taste_nodes};
+ghost use Rattle.fancy_tree.specs.Pattern.{pattern_of, member_of, group, repeat, look_ahead, look_behind, atomic, in_sequence, in_choice};
+ghost use Rattle.fancy_tree.specs.declared.tree.Taste.TheVariants.{Possessive};
+ghost use Rattle.fancy_tree.specs.Sets.{AreEdges};
+ghost use Rattle.fancy_tree.specs.Sizes.{nodes, repeat_nodes, taste_nodes};
 ghost use Rattle.fancy_engine.specs.Code.{code_len, instrs_of};
-ghost use Rattle.fancy_syntax.specs.Groups.{Numbered};
+ghost use Rattle.fancy_tree.specs.Groups.{Numbered};
 ghost use Rattle.fancy_engine.specs.Means.{Keeps, Has, HasBoth, Emitted, CopiesEmitted, OptionalsEmitted, StarEmitted, RestEmitted, RepeatEmitted, TestEmitted, BackEmitted, BehindEmitted, IsCodeOf, HasSets, StaysEasy, goes_back, is_easy, is_easy_instr, are_easy, split_of, look_of};
 
 use crate::code::{Code, Entry, FAIL, Instr, MATCH};
-use fancy_syntax::char_set::CharSet;
-use fancy_syntax::measure::are_empty;
-use fancy_syntax::set::Set;
-use fancy_syntax::tree::{Meaning, Taste, Tree};
+use fancy_tree::char_set::CharSet;
+use fancy_tree::measure::are_empty;
+use fancy_tree::set::Set;
+use fancy_tree::tree::{Meaning, Taste, Tree};
 use std::alloc::{AllocError, Global};
 
 /// One more instruction, and its number.
@@ -111,7 +111,7 @@ fn look(negated: bool, behind: bool, body: usize, next: usize) -> Instr
 
 /// Appends the code of a pattern that goes on at `next`, and returns where it begins.
 #[cycle(emit)]
-#[tactic(auto, using(fancy_syntax::proofs::PatternLemmas::pattern_equations), unfolding(fancy_syntax::specs::Sizes::nodes))]
+#[tactic(auto, using(fancy_tree::proofs::PatternLemmas::pattern_equations), unfolding(fancy_tree::specs::Sizes::nodes))]
 fn emit(
     alloc: Global,
     code: &mut Vec<Instr>,
@@ -319,7 +319,7 @@ fn emit_behind(
 /// Appends the code of a look-behind's body, and returns where it begins. Each branch of an alternative goes back by
 /// its own size.
 #[cycle(emit)]
-#[tactic(auto, using(fancy_syntax::proofs::PatternLemmas::pattern_equations), unfolding(fancy_syntax::specs::Sizes::nodes))]
+#[tactic(auto, using(fancy_tree::proofs::PatternLemmas::pattern_equations), unfolding(fancy_tree::specs::Sizes::nodes))]
 fn emit_backward(
     alloc: Global,
     code: &mut Vec<Instr>,

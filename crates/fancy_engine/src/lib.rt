@@ -4,7 +4,6 @@
 pub mod classify;
 pub mod code;
 pub mod compile;
-pub mod last_lines;
 pub mod laws;
 pub mod reading;
 pub mod refusal;

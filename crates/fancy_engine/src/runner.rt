@@ -1,29 +1,29 @@
 //! The runner, which follows each pair of an instruction and a place at most once.
 
 ghost use Rattle.std.specs.Prelude.{◌≡◌, ◌+◌, ◌-◌, ◌*◌, ◌^◌, ◌<◌, ◌≤◌, ◌≢◌, [], ◌∷◌, ℕ, List, Option, Bool, Err, true, false, length, IfOk, OnOk, IfSome, option_map, slice_index, slice_set, if◌then◌else◌, ◌==◌};
-ghost use Rattle.fancy_syntax.specs.Sets.{has};
+ghost use Rattle.fancy_tree.specs.Sets.{has};
 ghost use Rattle.fancy_engine.specs.Context.{State, captured, past_item, past_byte};
 ghost use Rattle.fancy_engine.specs.Code.{instrs_of, code_len, edges_in};
 ghost use Rattle.fancy_engine.specs.Run.{instr_at};
 ghost use Rattle.fancy_engine.specs.Means.{IsEasyInstr, AreEasy};
 ghost use Rattle.fancy_engine.specs.Work.{steps_of, returns_of, stepped};
 ghost use Rattle.fancy_engine.specs.Readings.{plain};
-ghost use Rattle.fancy_engine.specs.LastLines.{KnowsLastLines};
+ghost use Rattle.fancy_input.specs.LastLines.{KnowsLastLines};
 ghost use Rattle.fancy_engine.specs.Threads.{state_of, starts_of};
 ghost use Rattle.fancy_engine.specs.Runner.{good_end, ends_well, first_accepted, events_of, found_state, way, Known, Stepped, Stacked, Moved, AllFailed, AllWithin, Running, Visited, Progresses};
 ghost use Rattle.fancy_engine.specs.Marked.{marked};
 
 use crate::code::{Code, Instr};
-use crate::last_lines::LastLines;
 use crate::reading::{Suppressed, holds_at, read_at};
 use crate::refusal::Refusal;
 use crate::slot::{Extent, Slot};
 use crate::table::Table;
 use crate::ways::Ways;
 use crate::work::Work;
+use fancy_input::last_lines::LastLines;
 use fancy_input::places::is_boundary;
-use fancy_syntax::char_set::CharSet;
-use fancy_syntax::tree::Meaning;
+use fancy_tree::char_set::CharSet;
+use fancy_tree::tree::Meaning;
 use std::alloc::AllocError;
 
 /// What follows a step.

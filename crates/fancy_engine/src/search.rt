@@ -1,7 +1,7 @@
 //! Searches by the runner: their time is bounded by the product of the code's length and the text's.
 
 ghost use Rattle.std.specs.Prelude.{◌≡◌, ◌+◌, ◌-◌, ◌*◌, ◌^◌, ◌<◌, ◌≤◌, Bool, false, length, replicate, option_map, slice_index_or, map, IfOk, IfErr, OnOk};
-ghost use Rattle.fancy_syntax.specs.Pattern.{Pattern};
+ghost use Rattle.fancy_tree.specs.Pattern.{Pattern};
 ghost use Rattle.fancy_input.specs.Requests.{effective_start, positions};
 ghost use Rattle.fancy_engine.specs.Code.{code_len, instrs_of};
 ghost use Rattle.fancy_engine.specs.Means.{IsCodeOf, AreEasy};
@@ -12,7 +12,6 @@ ghost use Rattle.fancy_engine.specs.Readings.{suppressed_in};
 ghost use Rattle.fancy_engine.specs.Work.{steps_of, returns_of, HasRoom};
 
 use crate::code::Code;
-use crate::last_lines::LastLines;
 use crate::reading::Suppressed;
 use crate::refusal::Refusal;
 use crate::runner::{Bounds, follow, is_good_end};
@@ -21,6 +20,7 @@ use crate::table::Table;
 use crate::ways::Ways;
 use crate::work::Work;
 use fancy_input::input::Request;
+use fancy_input::last_lines::LastLines;
 use std::alloc::Global;
 
 /// The options that hold while a haystack is searched.

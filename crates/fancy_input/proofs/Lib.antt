@@ -1,3 +1,5 @@
 pub mod PlaceLemmas
 pub mod CharacterLemmas
+pub mod WidthLemmas
+pub mod LastLinesLemmas
 pub mod TextLemmas

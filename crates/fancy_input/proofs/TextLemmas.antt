@@ -8,16 +8,15 @@ use Rattle.std.proofs.lemmas.Grind.{common_steps}
 use Rattle.std.proofs.lemmas.Str.{IsUtf8-drop, IsUtf8-past_char, IsCharBoundary-past_char, IsCharBoundary-from_rest, IsCharBoundary-at_seam}
 use Rattle.fancy_input.specs.Places.{char_at, has_bytes_at, is_boundary}
 use Rattle.fancy_input.proofs.PlaceLemmas.{boundary_of_text, text_of_boundary}
-use Rattle.fancy_input.proofs.CharacterLemmas.{bytes_at-begin, char_at-bytes}
+use Rattle.fancy_input.proofs.CharacterLemmas.{bytes_begin, char_at-bytes}
 
 -- what follows one character of a text, where the place is a boundary
 pub char_at-boundary : (haystack : List ℕ) (i c : ℕ) → IsUtf8 haystack → i ≤ length haystack → IsTrue (is_boundary haystack i) →
     char_at haystack i ≡ Some c → IsTrue (is_boundary haystack (i + len_utf8 c))
 char_at-boundary haystack i c text within here e =
+    let stands = char_at-bytes haystack i c e in
     text_of_boundary haystack (i + len_utf8 c)
-    (IsCharBoundary-past_char haystack (drop (length (encode_utf8 c)) (drop i haystack)) i c within
-    (IsUtf8-drop haystack i text (boundary_of_text haystack i text within here))
-    (bytes_at-begin haystack i (encode_utf8 c) (char_at-bytes haystack i c e)))
+    (IsCharBoundary-past_char haystack stands.1 i c within (IsUtf8-drop haystack i text (boundary_of_text haystack i text within here)) stands.2)
 
 -- behind a text that a text begins with, text follows
 past_characters : (cs bs rest : List ℕ) → IsUtf8 bs → bs ≡ encode_utf8_all cs ++ rest → IsUtf8 rest
@@ -33,7 +32,7 @@ IsUtf8-past_text bs text rest h t e = past_characters t.0 bs rest h (e ∙ ap (�
 pub text_at-boundary : (haystack : List ℕ) (i : ℕ) (text : List ℕ) → IsUtf8 haystack → IsUtf8 text → i ≤ length haystack →
     IsTrue (is_boundary haystack i) → has_bytes_at haystack i text ≡ true → IsTrue (is_boundary haystack (i + length text))
 text_at-boundary haystack i text whole part within here e =
-    let begins = bytes_at-begin haystack i text e in
+    let begins = bytes_begin haystack i text e in
     let rest = drop (length text) (drop i haystack) in
     let tail : IsUtf8 (drop i haystack) = IsUtf8-drop haystack i whole (boundary_of_text haystack i whole within here) in
     text_of_boundary haystack (i + length text)

@@ -3,8 +3,11 @@
 #![tactic(auto)]
 
 pub mod bytes;
+pub mod characters;
 pub mod forms;
 pub mod input;
+pub mod last_lines;
+pub mod lines;
 pub mod matches;
 pub mod places;
 pub mod regex_input;

@@ -8,14 +8,14 @@ use Rattle.std.proofs.lemmas.Bool.Decides.{nat_tests}
 use Rattle.std.proofs.lemmas.Slice.Eq.{bytes_eq-Decides}
 use Rattle.std.proofs.lemmas.Str.{len_utf8_bounds}
 use Rattle.unicode.proofs.CaseFoldingLemmas.{simple_fold-ascii}
-use Rattle.fancy_syntax.specs.declared.tree.Meaning.{Meaning}
-use Rattle.fancy_syntax.specs.declared.tree.Meaning.TheVariants.{Unicode}
+use Rattle.fancy_tree.specs.declared.tree.Meaning.{Meaning}
+use Rattle.fancy_tree.specs.declared.tree.Meaning.TheVariants.{Unicode}
 use Rattle.fancy_input.specs.Places.{char_at, has_bytes_at}
 use Rattle.fancy_engine.specs.Context.{Context, State, group_span, unit_at, past_item, past_byte, one_character, option_to}
 use Rattle.fancy_engine.specs.declared.slot.Extent.{Extent}
 use Rattle.fancy_engine.specs.Threads.{ends_of}
 use Rattle.fancy_engine.specs.Backreference.{text_of, past_text, past_folded, past_characters, past_span, past_backreference, shares_folding}
-use Rattle.fancy_engine.proofs.CharacterLemmas.{char_at-fits}
+use Rattle.fancy_input.proofs.CharacterLemmas.{char_at-fits}
 use Rattle.fancy_machine.specs.declared.machine.Field.{Field}
 use Rattle.fancy_machine.specs.Field.{context_in}
 

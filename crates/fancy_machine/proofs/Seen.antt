@@ -1,8 +1,8 @@
 -- What the engines read does not depend on where `\G` holds.
 use Rattle.std.proofs.Common.{◌≡◌, ℕ, Bool, List, refl}
-use Rattle.fancy_syntax.specs.declared.tree.Meaning.{Meaning}
-use Rattle.fancy_syntax.specs.declared.tree.Assertion.{Assertion}
-use Rattle.fancy_syntax.specs.declared.tree.Assertion.TheVariants.{TextStart, TextEnd, LineStart, LineEnd, LineStartCrlf, LineEndCrlf, LastLine, LastLineCrlf, WordBoundary, NotWordBoundary, WordStart, WordEnd, WordStartHalf, WordEndHalf}
+use Rattle.fancy_tree.specs.declared.tree.Meaning.{Meaning}
+use Rattle.fancy_tree.specs.declared.tree.Assertion.{Assertion}
+use Rattle.fancy_tree.specs.declared.tree.Assertion.TheVariants.{TextStart, TextEnd, LineStart, LineEnd, LineStartCrlf, LineEndCrlf, LastLine, LastLineCrlf, WordBoundary, NotWordBoundary, WordStart, WordEnd, WordStartHalf, WordEndHalf}
 use Rattle.fancy_engine.specs.declared.reading.Suppressed.{Suppressed}
 use Rattle.fancy_engine.specs.Context.{past_item, past_byte, unit_at, holds}
 use Rattle.fancy_engine.specs.Readings.{plain}

@@ -1,6 +1,6 @@
 -- What a search by the machine is asked, and what it answers.
 use Rattle.std.specs.Prelude.{ℕ, Bool, true, List, Option, Some, None}
-use Rattle.fancy_syntax.specs.Pattern.{Pattern}
+use Rattle.fancy_tree.specs.Pattern.{Pattern}
 use Rattle.fancy_input.specs.declared.input.Request.{Request}
 use Rattle.fancy_engine.specs.declared.code.Code.{Code}
 use Rattle.fancy_engine.specs.Search.{Query, Found}

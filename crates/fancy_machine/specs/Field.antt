@@ -1,6 +1,6 @@
 -- What the machine sees, and what it accepts.
 use Rattle.std.specs.Prelude.{ℕ, Bool, true, false, Some, None, not, ◌&&◌, ◌||◌, List, Option, ◌==◌}
-use Rattle.fancy_syntax.specs.declared.tree.Meaning.{Meaning}
+use Rattle.fancy_tree.specs.declared.tree.Meaning.{Meaning}
 use Rattle.fancy_input.specs.Places.{is_boundary}
 use Rattle.fancy_engine.specs.Context.{Context, State}
 use Rattle.fancy_engine.specs.declared.code.Code.{Code}

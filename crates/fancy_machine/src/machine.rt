@@ -1,10 +1,10 @@
 //! The backtracking machine.
 
 ghost use Rattle.std.specs.Prelude.{◌≡◌, ◌≢◌, ◌+◌, ◌-◌, ◌<◌, ◌≤◌, [], ◌∷◌, ℕ, List, Option, Some, None, Err, IfOk, OnOk, IfSome, length, option_map, true, false};
-ghost use Rattle.fancy_syntax.specs.declared.tree.Meaning.{Meaning as MeaningIs};
+ghost use Rattle.fancy_tree.specs.declared.tree.Meaning.{Meaning as MeaningIs};
 ghost use Rattle.fancy_engine.specs.Context.{continues, Span};
 ghost use Rattle.fancy_engine.specs.Run.{Raw};
-ghost use Rattle.fancy_engine.specs.LastLines.{KnowsLastLines};
+ghost use Rattle.fancy_input.specs.LastLines.{KnowsLastLines};
 ghost use Rattle.fancy_engine.specs.Work.{steps_of, returns_of, stepped_within};
 ghost use Rattle.fancy_machine.specs.Field.{context_in, good_end, accepts, code_in, found_state};
 ghost use Rattle.fancy_machine.specs.Machine.{Stepped, Turned, Crowded, MovedTo, RecalledTo, left, after, chosen, final, returns_to, marks_to, events_of, IsKnown};
@@ -15,11 +15,11 @@ use crate::texts::past_span;
 use crate::trail::Trail;
 use crate::units::units_back;
 use fancy_engine::code::{Code, Instr};
-use fancy_engine::last_lines::LastLines;
 use fancy_engine::reading::{Suppressed, holds_at};
 use fancy_engine::refusal::Refusal;
 use fancy_engine::runner::{Next, past_character, past_member, past_raw_byte};
 use fancy_engine::work::Work;
+use fancy_input::last_lines::LastLines;
 use fancy_input::places::is_boundary;
 
 /// Where a haystack is searched, in byte offsets, and what is accepted there.

@@ -1,8 +1,8 @@
 //! Searches by the machine.
 
 ghost use Rattle.std.specs.Prelude.{◌≡◌, ◌+◌, ◌-◌, ◌<◌, ◌≤◌, ◌&&◌, not, Option, Some, None, Err, IfOk, length};
-ghost use Rattle.fancy_syntax.specs.Limits.{most_branches};
-ghost use Rattle.fancy_syntax.specs.Pattern.{Pattern};
+ghost use Rattle.fancy_tree.specs.Limits.{most_branches};
+ghost use Rattle.fancy_tree.specs.Pattern.{Pattern};
 ghost use Rattle.fancy_input.specs.Requests.{effective_start};
 ghost use Rattle.fancy_engine.specs.Means.{IsCodeOf};
 ghost use Rattle.fancy_engine.specs.Search.{continues_from, search, returns, choices};
@@ -13,11 +13,11 @@ use crate::best::Best;
 use crate::machine::{Field, attempt, is_good};
 use crate::trail::Trail;
 use fancy_engine::code::Code;
-use fancy_engine::last_lines::LastLines;
 use fancy_engine::refusal::Refusal;
 use fancy_engine::search::{last_position, suppressed_in};
 use fancy_engine::work::Work;
 use fancy_input::input::Request;
+use fancy_input::last_lines::LastLines;
 
 /// The most branches that are saved at once.
 pub const MOST: usize = 1_000_000;

@@ -6,12 +6,12 @@ ghost use Rattle.fancy_engine.specs.Context.{past_item};
 ghost use Rattle.fancy_engine.specs.Threads.{ends_of};
 ghost use Rattle.fancy_machine.specs.declared.machine.Field.{Field as FieldIs};
 ghost use Rattle.fancy_machine.specs.Field.{context_in};
-ghost use Rattle.fancy_syntax.specs.declared.tree.Meaning.{Meaning as MeaningIs};
+ghost use Rattle.fancy_tree.specs.declared.tree.Meaning.{Meaning as MeaningIs};
 
-use fancy_engine::reading::character_at;
 use fancy_engine::runner::past_raw_byte;
 use fancy_engine::slot::Extent;
-use fancy_syntax::tree::Meaning;
+use fancy_input::characters::character_at;
+use fancy_tree::tree::Meaning;
 use unicode::case::simple_fold;
 
 /// The bytes from a place on; none past the end.

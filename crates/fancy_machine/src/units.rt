@@ -6,7 +6,7 @@ ghost use Rattle.fancy_machine.specs.declared.machine.Field.{Field as FieldIs};
 ghost use Rattle.fancy_machine.specs.Field.{context_in};
 
 use fancy_input::places::prev_boundary;
-use fancy_syntax::tree::Meaning;
+use fancy_tree::tree::Meaning;
 
 /// The place one unit before another.
 fn previous(haystack: &[u8], meaning: Meaning, place: usize) -> usize

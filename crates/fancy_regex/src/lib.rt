@@ -10,13 +10,16 @@
 //! All offsets are byte offsets into the haystack. Whatever is refused has a name: see [`Error`].
 #![tactic(auto)]
 
-pub use fancy_core::builder::RegexBuilder;
+mod builder;
+mod escapes;
+pub mod laws;
+mod options;
+
+pub use builder::RegexBuilder;
+pub use escapes::escape;
 pub use fancy_core::captures::{Captures, SubCaptureMatches};
-pub use fancy_core::escape::escape;
-pub use fancy_core::expander::Expander;
 pub use fancy_core::iter::{CaptureMatches, Matches};
 pub use fancy_core::names::CaptureNames;
-pub use fancy_core::options::RegexOptionsBuilder;
 pub use fancy_core::regex::Regex;
 pub use fancy_core::replacer::{NoExpand, ReplaceFn, Replacer, ReplacerRef};
 pub use fancy_core::split::{Split, SplitN};
@@ -25,5 +28,8 @@ pub use fancy_input::bytes::MatchBytes;
 pub use fancy_input::input::{Haystack, Input};
 pub use fancy_input::matches::Match;
 pub use fancy_input::regex_input::RegexInput;
-pub use fancy_syntax::error::{CompileError, Error, ParseErrorKind, Result, RuntimeError};
-pub use fancy_syntax::tree::BytesMode;
+pub use fancy_template::expander::Expander;
+pub use fancy_template::groups::{GroupNames, GroupTexts};
+pub use fancy_tree::error::{CompileError, Error, ParseErrorKind, Result, RuntimeError};
+pub use fancy_tree::tree::BytesMode;
+pub use options::RegexOptionsBuilder;

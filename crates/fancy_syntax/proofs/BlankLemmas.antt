@@ -1,26 +1,14 @@
 -- Blanks and comments: what is skipped is what the dialect calls a row of them.
-use Rattle.std.proofs.Common.{◌≡◌, ℕ, zero, suc, ◌<◌, ◌≤◌, ◌==◌, ◌||◌, ◌&&◌, Bool, true, false, [], ◌∷◌, ◌++◌, Option, Some, None, drop, length, refl, sym, ap, ◌∙◌, subst, append_assoc, append-nil, arith, ◌⊎◌, inl, inr, cond, codes, take, length-append, nat_eq}
-use Rattle.std.specs.List.{starts_with}
-use Rattle.std.specs.Cmp.Lexicographic.{same_text}
+use Rattle.std.proofs.Common.{◌≡◌, ℕ, zero, suc, ◌<◌, ◌≤◌, ◌==◌, ◌||◌, ◌&&◌, Bool, true, false, [], ◌∷◌, ◌++◌, Option, Some, None, drop, length, refl, sym, ap, ◌∙◌, subst, append_assoc, append-nil, arith, ◌⊎◌, inl, inr, cond, codes, length-append}
 use Rattle.std.proofs.lemmas.Bool.Decides.{nat_tests}
-use Rattle.std.proofs.lemmas.List.{take-append-drop}
-use Rattle.fancy_syntax.specs.Words.{Text, is_among, is_at, begins, is_blank, past_line, past_comment, past_blank, begins_count}
-use Rattle.fancy_syntax.specs.Grammar.{text_or, past_blanks_in, past_blanks}
+use Rattle.fancy_tree.specs.Text.{Text, is_among}
+use Rattle.fancy_class.specs.Words.{is_at, begins}
+use Rattle.fancy_syntax.specs.Blanks.{is_blank, past_line, past_comment, past_blank}
+use Rattle.fancy_syntax.specs.Counts.{begins_count}
+use Rattle.fancy_syntax.specs.Grammar.{text_or, past_blanks_in, past_blanks, ends_branch}
 use Rattle.fancy_syntax.specs.Dialect.{Blank, comment, blank, line, last_line, Blanks, no_blank, blanks, begins_quantifier, IsUnquantified}
-use Rattle.fancy_syntax.specs.Grammar.{ends_branch}
-use Rattle.fancy_syntax.proofs.ReadingLemmas.{some_is_none, true_is_false}
-use Rattle.fancy_syntax.proofs.CountLemmas.{both_true, either_no}
-
--- which way a test went
-pub chosen : {A : Type 0} (b : Bool) (x y z : A) → cond b x y ≡ z → ((b ≡ true) × (x ≡ z)) ⊎ ((b ≡ false) × (y ≡ z))
-chosen true x y z h = inl (refl, h)
-chosen false x y z h = inr (refl, h)
-
-pub same_some : {A : Type 0} {x y : A} → Some x ≡ Some y → x ≡ y
-same_some h = cc
-
-pub char_is : (d c : ℕ) → (d == c) ≡ true → c ≡ d
-char_is d c h = grind (arith, nat_tests)
+use Rattle.fancy_tree.proofs.Facts.{true_is_false, some_is_none, either_no, both_true, chosen, same_some, char_is}
+use Rattle.fancy_class.proofs.WordLemmas.{begins_with}
 
 line_shorter : (t : Text) → length (past_line t) ≤ length t
 line_shorter [] = omega arith
@@ -112,9 +100,6 @@ comment_of (c ∷ t) u h = go (c == 41) refl h (λ e. comment_of t u e)
         → (inside : Text) × ((is_among 41 inside ≡ false) × (c ∷ t ≡ inside ++ (41 ∷ u)))
     go true e f g = let same : c ≡ 41 = grind (arith, nat_tests) in let rest : t ≡ u = same_some f in ([], (refl, ap (λ d. d ∷ t) same ∙ ap (λ l. 41 ∷ l) rest))
     go false e f g = let r = g f in (c ∷ r.0, (no_more (c == 41) (is_among 41 r.0) e r.1.0, ap (λ l. c ∷ l) r.1.1))
-
-pub begins_with : (w t : Text) → starts_with nat_eq t w ≡ true → t ≡ w ++ drop (length w) t
-begins_with w t h = sym (take-append-drop (length w) t) ∙ ap (λ l. l ++ drop (length w) t) (sym (same_text w (take (length w) t) (sym h)))
 
 one_blank : (x : Bool) (t u : Text) → past_blank x t ≡ Some u → (w : Text) × ((t ≡ w ++ u) × Blank x w u)
 one_blank x [] u h = absurd (some_is_none (sym h))

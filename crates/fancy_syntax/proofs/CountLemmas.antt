@@ -1,12 +1,16 @@
 -- Rows of digits, and counts.
-use Rattle.std.proofs.Common.{◌≡◌, ℕ, ◌+◌, ◌*◌, ◌-◌, ◌<◌, ◌≤◌, ◌^◌, ◌==◌, ◌||◌, ◌&&◌, min, nat_le, Bool, true, false, [], ◌∷◌, ◌++◌, Some, None, drop, length, get_or, suc, add-one, drop-cons, refl, sym, ap, ◌∙◌, subst, append_assoc, arith, cond, codes}
+use Rattle.std.proofs.Common.{◌≡◌, ℕ, ◌+◌, ◌*◌, ◌-◌, ◌<◌, ◌≤◌, ◌^◌, ◌||◌, ◌&&◌, min, nat_le, Bool, true, false, [], ◌∷◌, ◌++◌, Some, None, drop, length, get_or, suc, add-one, drop-cons, refl, sym, ap, ◌∙◌, subst, append_assoc, arith, cond, codes}
 use Rattle.std.specs.Char.{is_ascii_digit}
 use Rattle.std.proofs.lemmas.Bool.Decides.{nat_tests}
 use Rattle.std.proofs.lemmas.List.{drop_all}
-use Rattle.fancy_syntax.specs.Limits.{most_turns}
-use Rattle.fancy_syntax.specs.Words.{Text, is_at, is_at_any, is_at_digit, past_digits, decimal_from, decimal, are_digits, is_count, begins_count}
+use Rattle.fancy_tree.specs.Limits.{most_turns}
+use Rattle.fancy_tree.specs.Text.{Text}
+use Rattle.fancy_class.specs.Words.{is_at}
+use Rattle.fancy_syntax.specs.Counts.{is_at_digit, past_digits, decimal_from, decimal, are_digits, is_count, begins_count}
 use Rattle.fancy_syntax.specs.Dialect.{IsBound, Turns, exactly, at_least, between, at_most}
 use Rattle.fancy_syntax.specs.Grammar.{Bounds, bounds_in, past_count, are_bounds}
+use Rattle.fancy_tree.proofs.Facts.{both_true, left_of}
+use Rattle.fancy_class.proofs.WordLemmas.{first_is}
 
 -- numbers that are one, or both past the limit, stay so
 pub same_decimal : (t : Text) (n m : ℕ) → min n (2 ^ 64 - 1) ≡ min m (2 ^ 64 - 1) → min (decimal_from n t) (2 ^ 64 - 1) ≡ min (decimal_from m t) (2 ^ 64 - 1)
@@ -42,14 +46,6 @@ no_digit_at t i d n l h = rw (drop-cons t i d, decimal_stop (drop (suc i) t) n (
 
 pub no_more_digits : (t : Text) (i n : ℕ) → length t ≤ i → decimal_from n (drop i t) ≡ n
 no_more_digits t i n h = rw (drop_all i t h) (decimal_end n)
-
-pub either_no : (a b : Bool) → (a || b) ≡ false → (a ≡ false) × (b ≡ false)
-either_no true b h = cc
-either_no false b h = (refl, h)
-
-pub both_true : (a b : Bool) → (a && b) ≡ true → (a ≡ true) × (b ≡ true)
-both_true true b h = (refl, h)
-both_true false b h = cc
 
 -- a row of digits in front of a text that begins with none
 pub past_row : (n t : Text) → are_digits n ≡ true → is_at_digit t ≡ false → past_digits (n ++ t) ≡ t
@@ -165,14 +161,6 @@ pub record IsSpelled (t : Text) (b : Bounds) (after : Text) : Type 0 where
   pub text : t ≡ mark ++ after
   pub states : Turns (123 ∷ mark) b.0 b.1
 
-pub first_is : (c : ℕ) (t : Text) → is_at_any (c ∷ []) t ≡ true → t ≡ c ∷ drop 1 t
-first_is c [] h = cc
-first_is c (x ∷ t) h = ap (λ y. y ∷ t) (sym (same_char (c == x) h refl))
-  where
-    same_char : (b : Bool) → (b || false) ≡ true → (c == x) ≡ b → c ≡ x
-    same_char true h e = grind (arith, nat_tests)
-    same_char false h e = cc
-
 bound_of : (t : Text) (r : Row t) → is_at_digit t ≡ true → decimal t ≤ most_turns → IsBound r.row
 bound_of t r h small = record { some = sym r.begins ∙ h; digits = r.digits; small = subst (λ n. n ≤ most_turns) (r.number 0) small }
 
@@ -194,11 +182,6 @@ open_facts true false false d e h f = cc
 open_facts false false true true e h f = (refl, (refl, h))
 open_facts false false true false e h f = cc
 open_facts false false false d e h f = cc
-
-pub left_of : (a b : Bool) → (a || b) ≡ true → b ≡ false → a ≡ true
-left_of true b h f = refl
-left_of false true h f = cc
-left_of false false h f = cc
 
 closed_count : (t : Text) → is_count t ≡ true → is_at "}" (past_digits t) ≡ true → are_bounds (decimal t, Some (decimal t)) ≡ true → IsSpelled t (decimal t, Some (decimal t)) (drop 1 (past_digits t))
 closed_count t h e f =

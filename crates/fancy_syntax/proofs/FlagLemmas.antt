@@ -2,12 +2,12 @@
 use Rattle.std.proofs.Common.{◌≡◌, ℕ, suc, ◌==◌, ◌&&◌, Bool, true, false, [], ◌∷◌, ◌++◌, Option, Some, None, refl, sym, ap, ◌∙◌, subst, append_assoc, length, drop, get_or, add-one, drop-cons, take, ◌+◌, ◌-◌, ◌<◌, ◌≤◌, arith, ◌⊎◌, inl, inr, cond}
 use Rattle.std.proofs.lemmas.List.{drop_all, take_all, length-drop}
 use Rattle.std.specs.Option.{option_map, option_and_then}
-use Rattle.fancy_syntax.specs.declared.tree.Meaning.{Meaning}
-use Rattle.fancy_syntax.specs.Words.{Text, ◌∈◌, is_at, begins}
+use Rattle.fancy_tree.specs.declared.tree.Meaning.{Meaning}
+use Rattle.fancy_tree.specs.Text.{Text, ◌∈◌}
+use Rattle.fancy_class.specs.Words.{is_at, begins}
 use Rattle.fancy_syntax.specs.Dialect.{Flags, with_flag, Letters, no_letter, letter, Setting, setting_on, setting_off}
 use Rattle.fancy_syntax.specs.Grammar.{LettersRead, next_letter, flags_in, first_letter, mark_here}
-use Rattle.fancy_syntax.proofs.ReadingLemmas.{some_is_none, some_pair}
-use Rattle.fancy_syntax.proofs.BlankLemmas.{chosen, char_is}
+use Rattle.fancy_tree.proofs.Facts.{some_is_none, some_pair, chosen, char_is}
 
 abbrev pub reached : Flags → Bool → Bool → LettersRead
 reached f on some = record { flags = f; on = on; some = some }

@@ -1,9 +1,9 @@
 -- Groups are numbered by their openings.
 use Rattle.std.proofs.Common.{ℕ, ◌+◌, ◌≤◌, arith}
 use Rattle.fancy_syntax.specs.Dialect.{Scope, Spells}
-use Rattle.fancy_syntax.specs.Groups.{Numbered, InOrder}
-use Rattle.fancy_syntax.specs.Pattern.{Pattern, empty, character, member_of, in_any_case, raw_byte, backreference, assertion, group_test, keep_start, continue_here, group, repeat, look_ahead, look_behind, atomic, conditional, followed, or_else, last_branch}
-use Rattle.fancy_syntax.specs.Words.{Text}
+use Rattle.fancy_tree.specs.Groups.{Numbered, InOrder}
+use Rattle.fancy_tree.specs.Pattern.{Pattern, empty, character, member_of, in_any_case, raw_byte, backreference, assertion, group_test, keep_start, continue_here, group, repeat, look_ahead, look_behind, atomic, conditional, followed, or_else, last_branch}
+use Rattle.fancy_tree.specs.Text.{Text}
 use Rattle.fancy_syntax.proofs.OrderLemmas.{in_order}
 
 -- numbers in a range are numbers in a wider one

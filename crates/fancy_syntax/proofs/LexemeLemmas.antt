@@ -5,29 +5,28 @@ use Rattle.std.specs.Char.{digit_value}
 use Rattle.std.specs.Option.{option_map}
 use Rattle.std.specs.Prelude.{IfOk}
 use Rattle.std.specs.declared.alloc.AllocError.{AllocError}
-use Rattle.fancy_syntax.specs.declared.error.Error.{Error}
-use Rattle.fancy_syntax.specs.declared.error.Error.TheVariants.{Memory, ParseError, CompileError, RuntimeError}
-use Rattle.fancy_syntax.specs.declared.class.refusal.Refusal.{Refusal}
-use Rattle.fancy_syntax.specs.declared.class.refusal.Refusal.TheVariants as refusal
-use Rattle.fancy_syntax.specs.declared.tree.Assertion.{Assertion}
+use Rattle.fancy_tree.specs.declared.error.Error.{Error}
+use Rattle.fancy_tree.specs.declared.error.Error.TheVariants.{Memory, ParseError, CompileError, RuntimeError}
+use Rattle.fancy_class.specs.declared.refusal.Refusal.{Refusal}
+use Rattle.fancy_class.specs.declared.refusal.Refusal.TheVariants as refusal
+use Rattle.fancy_tree.specs.declared.tree.Assertion.{Assertion}
 use Rattle.std.proofs.lemmas.List.{drop-drop}
 use Rattle.fancy_syntax.specs.declared.parser.Parser.{Parser}
-use Rattle.fancy_syntax.specs.declared.tree.Tree.{Tree}
-use Rattle.fancy_syntax.specs.Pattern.{Pattern, pattern_of, member_of, in_any_case, assertion}
-use Rattle.fancy_syntax.specs.Words.{Text, is_at}
-use Rattle.fancy_syntax.specs.Escapes.{hexadecimal, number, fixed_number, braced_number, before_brace, by_number, is_character}
-use Rattle.fancy_syntax.specs.ClassGrammar.{ReadsEdges}
-use Rattle.fancy_syntax.specs.ClassViews as class
+use Rattle.fancy_tree.specs.declared.tree.Tree.{Tree}
+use Rattle.fancy_tree.specs.Pattern.{Pattern, pattern_of, member_of, in_any_case, assertion}
+use Rattle.fancy_tree.specs.Text.{Text}
+use Rattle.fancy_class.specs.Words.{is_at}
+use Rattle.fancy_class.specs.Escapes.{hexadecimal, number, fixed_number, braced_number, before_brace, by_number, is_character}
+use Rattle.fancy_class.specs.ClassGrammar.{ReadsEdges}
+use Rattle.fancy_class.specs.ClassViews as class
 use Rattle.fancy_syntax.specs.Dialect.{Scope, Lexeme, leaf, IsMeant, by_itself, by_edges, by_folding, lexeme, ReadsAtom, by_lexeme, by_class, wants, reference_here, literal_of, spelled_character, spelled_number, is_one_item, numbered, boundary, boundary_here}
 use Rattle.fancy_syntax.specs.References.{Target, reference, begins_reference}
 use Rattle.fancy_syntax.specs.Grammar.{Place, past, start, IsAtom, alone, refers}
 use Rattle.fancy_syntax.specs.Views.{Refuses, IsTheReading, HasNoReading, Gives, GivesMeant, error_of}
-use Rattle.fancy_syntax.proofs.CanonicalLemmas.{edges_unique}
-use Rattle.fancy_syntax.proofs.ReadingLemmas.{some_pair, some_is_none, true_is_false}
+use Rattle.fancy_tree.proofs.CanonicalLemmas.{edges_unique}
+use Rattle.fancy_tree.proofs.Facts.{some_pair, some_is_none, true_is_false, chosen, same_some, char_is, left_of}
 use Rattle.fancy_syntax.proofs.ReferenceLemmas.{reference_begins, no_bracket_begun, no_atom_begun}
-use Rattle.fancy_syntax.proofs.BlankLemmas.{chosen, same_some, char_is}
-use Rattle.fancy_syntax.proofs.CountLemmas.{left_of}
-use Rattle.fancy_syntax.proofs.ClassSpelling.{one_class}
+use Rattle.fancy_class.proofs.ClassSpelling.{one_class}
 use mathlib.Core.Path.{fun_ext}
 
 -- a place that moved on, and one that the text alone makes

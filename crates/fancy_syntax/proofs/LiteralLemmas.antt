@@ -2,17 +2,18 @@
 use Rattle.std.proofs.Common.{◌≡◌, ℕ, ◌==◌, ◌&&◌, ◌||◌, Bool, true, false, List, [], ◌∷◌, ◌++◌, codes, map, Some, None, length, max, sum_by, arith, refl, sym, ap, ◌∙◌, subst}
 use Rattle.std.specs.List.{list_all}
 use Rattle.std.proofs.lemmas.List.Sums.{sum_by-cons}
-use Rattle.fancy_syntax.specs.declared.tree.Meaning.TheVariants.{Unicode}
-use Rattle.fancy_syntax.specs.Pattern.{Pattern, character, in_sequence}
-use Rattle.fancy_syntax.specs.Sizes.{nodes}
-use Rattle.fancy_syntax.specs.Words.{Text, is_among, is_at, is_at_any, past_blank, is_blank}
+use Rattle.fancy_tree.specs.declared.tree.Meaning.TheVariants.{Unicode}
+use Rattle.fancy_tree.specs.Pattern.{Pattern, character, in_sequence}
+use Rattle.fancy_tree.specs.Sizes.{nodes}
+use Rattle.fancy_tree.specs.Text.{Text, is_among}
+use Rattle.fancy_class.specs.Words.{is_at, is_at_any}
+use Rattle.fancy_syntax.specs.Blanks.{past_blank, is_blank}
 use Rattle.fancy_syntax.specs.Dialect.{Scope, Spells, leaf, by_itself, by_lexeme, lexeme, escape, is_escapable, spelled_character, begins_quantifier}
 use Rattle.fancy_syntax.specs.Grammar.{Place, here, start, ends_branch, last, Parts, none, next, Item, single, alone}
-use Rattle.fancy_syntax.proofs.ReadingLemmas.{true_is_false}
-use Rattle.fancy_syntax.proofs.CountLemmas.{both_true}
-use Rattle.fancy_syntax.proofs.BlankLemmas.{blanks_stop, char_is}
+use Rattle.fancy_tree.proofs.Facts.{true_is_false, both_true, char_is}
+use Rattle.fancy_syntax.proofs.BlankLemmas.{blanks_stop}
 use Rattle.fancy_syntax.proofs.SpellingLemmas.{reading_spelled}
-use Rattle.fancy_syntax.proofs.SizeLemmas.{nodes-in_sequence}
+use Rattle.fancy_tree.proofs.SizeLemmas.{nodes-in_sequence}
 use Rattle.fancy_syntax.proofs.UniqueLemmas.{one_pattern}
 
 -- a character that is not among these is none of them

@@ -1,11 +1,11 @@
 -- Names stand on groups, one behind the other.
 use Rattle.std.proofs.Common.{◌≡◌, ℕ, ◌+◌, ◌≤◌, Bool, List, [], ◌∷◌, ◌++◌, Option, sym, subst, ap, ◌∙◌, append_assoc, append-nil, arith}
-use Rattle.fancy_syntax.specs.Pattern.{Pattern}
-use Rattle.fancy_syntax.specs.Words.{Text}
+use Rattle.fancy_tree.specs.Pattern.{Pattern}
+use Rattle.fancy_tree.specs.Text.{Text}
 use Rattle.fancy_syntax.specs.Dialect.{Scope, Options, begin, Branches, one, either, Parts, nothing, item, Item, set, bare, quantified, Atom, single, plain, flagged, capture, unnamed, named, marked, reference, reference_by_name, tested, decided, back_to, inside, Spells}
 use Rattle.fancy_syntax.specs.declared.groups.Grouping.{Grouping}
 use Rattle.fancy_syntax.specs.declared.groups.Grouping.TheVariants.{Atomic, LookAhead, LookBehind}
-use Rattle.fancy_syntax.specs.Groups.{Rising}
+use Rattle.fancy_tree.specs.Groups.{Rising}
 
 -- numbers that rise from a number on do so from a lesser one
 from_less : (a b hi : ℕ) (names : List (Text × ℕ)) → a ≤ b → Rising b hi names → Rising a hi names

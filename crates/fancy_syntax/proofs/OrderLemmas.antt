@@ -3,14 +3,14 @@ use Rattle.std.proofs.Common.{ℕ, ◌+◌, List, [], ◌∷◌, map, Option, So
 use Rattle.std.specs.Prelude.{encode_utf8}
 use Rattle.fancy_syntax.specs.declared.groups.Grouping.{Grouping}
 use Rattle.fancy_syntax.specs.declared.groups.Grouping.TheVariants.{Atomic, LookAhead, LookBehind}
-use Rattle.fancy_syntax.specs.declared.tree.Meaning.{Meaning}
-use Rattle.fancy_syntax.specs.declared.tree.Meaning.TheVariants.{Unicode, Bytes, AsciiText}
+use Rattle.fancy_tree.specs.declared.tree.Meaning.{Meaning}
+use Rattle.fancy_tree.specs.declared.tree.Meaning.TheVariants.{Unicode, Bytes, AsciiText}
 use Rattle.fancy_syntax.specs.Dialect.{Scope, inside, grouped, literal_of, Branches, one, either, Parts, nothing, item, Item, set, bare, quantified, Atom, single, plain, flagged, capture, unnamed, named, marked, reference, reference_by_name, tested, decided, test_here, chosen, Spells, with_part}
-use Rattle.fancy_syntax.specs.Groups.{InOrder}
-use Rattle.fancy_syntax.specs.Pattern.{Pattern, character, in_sequence, in_choice, in_branches}
-use Rattle.fancy_syntax.specs.Words.{Text}
-use Rattle.fancy_syntax.proofs.EndsLemmas as simple
-use Rattle.fancy_syntax.proofs.EndsLemmas.{IsSimple, simple_atom}
+use Rattle.fancy_tree.specs.Groups.{InOrder}
+use Rattle.fancy_tree.specs.Pattern.{Pattern, character, in_sequence, in_choice, in_branches}
+use Rattle.fancy_tree.specs.Text.{Text}
+use Rattle.fancy_syntax.proofs.AtomLemmas as simple
+use Rattle.fancy_syntax.proofs.AtomLemmas.{IsSimple, simple_atom}
 
 -- these, one behind the other
 abbrev AllInOrder : ℕ → ℕ → List Pattern → Type 0

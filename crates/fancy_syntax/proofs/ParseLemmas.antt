@@ -3,29 +3,31 @@ use Rattle.std.proofs.Common.{◌≡◌, ◌<◌, ◌≤◌, ◌+◌, ◌-◌, �
 use Rattle.std.proofs.Math.ListN as math
 use Rattle.std.proofs.lemmas.List.{length-map}
 use Rattle.std.proofs.lemmas.List.Elements.{All-map}
-use Rattle.fancy_syntax.specs.Limits.{most_nodes}
-use Rattle.fancy_syntax.specs.declared.error.CompileError.TheVariants.{InvalidBackref, InvalidGroupNameBackref, NamedBackrefOnly, LookBehindNotConst, PatternCanNeverMatch, PatternTooComplex}
-use Rattle.fancy_syntax.specs.declared.error.Error.{Error}
-use Rattle.fancy_syntax.specs.declared.error.Error.TheVariants.{Memory, ParseError, CompileError, RuntimeError}
-use Rattle.fancy_syntax.specs.Pattern.{Pattern, pattern_of}
-use Rattle.fancy_syntax.specs.Sizes.{size, nodes, are_sized}
-use Rattle.fancy_syntax.specs.Words.{Text}
-use Rattle.fancy_syntax.specs.Names.{named_groups}
-use Rattle.fancy_syntax.specs.declared.name.GroupName.{GroupName}
+use Rattle.fancy_tree.specs.Limits.{most_nodes}
+use Rattle.fancy_tree.specs.declared.error.CompileError.TheVariants.{InvalidBackref, InvalidGroupNameBackref, NamedBackrefOnly, LookBehindNotConst, PatternCanNeverMatch, PatternTooComplex}
+use Rattle.fancy_tree.specs.declared.error.Error.{Error}
+use Rattle.fancy_tree.specs.declared.error.Error.TheVariants.{Memory, ParseError, CompileError, RuntimeError}
+use Rattle.fancy_tree.specs.Pattern.{Pattern, pattern_of}
+use Rattle.fancy_tree.specs.Sizes.{size, nodes, are_sized}
+use Rattle.fancy_tree.specs.Text.{Text}
+use Rattle.fancy_tree.specs.Names.{named_groups}
+use Rattle.fancy_tree.specs.declared.name.GroupName.{GroupName}
 use Rattle.fancy_syntax.specs.declared.parse.Parsed.{Parsed}
 use Rattle.fancy_syntax.specs.declared.parse.Draft.{Draft}
 use Rattle.fancy_syntax.specs.declared.reference.Target.{Target as Found_target}
-use Rattle.fancy_syntax.specs.declared.error.CompileError.{CompileError as Compiling}
+use Rattle.fancy_tree.specs.declared.error.CompileError.{CompileError as Compiling}
 use Rattle.fancy_syntax.specs.References as references
-use Rattle.fancy_syntax.specs.References.{Target, Fault, Groups, group_for, number_in, refers_to}
+use Rattle.fancy_syntax.specs.References.{Target, Fault, Groups, group_for}
+use Rattle.fancy_tree.specs.Refers.{number_in, refers_to}
 use Rattle.fancy_syntax.specs.Dialect.{Scope, Options, begin, has_name, groups_at, fault_of, numbers, Spells, SpellsUnder, IsPattern}
 use Rattle.fancy_syntax.specs.Grammar.{Place, start}
 use Rattle.fancy_syntax.specs.Refusals.{IsRefused, IsNotAccepted}
 use Rattle.fancy_syntax.specs.Views.{Refuses, IsTheReading, HasNoReading, Alternation, target_of, targets_of, groups_in, told_fault, RefusesReference, HasBadSize, RefusesSizes, SpellsDraft, HasNoSpelling}
-use Rattle.fancy_syntax.proofs.ReadingLemmas.{Refuses-weaker, true_is_false, some_is_none, no_whole_reading, not_whole, whole_reading}
+use Rattle.fancy_syntax.proofs.ReadingLemmas.{Refuses-weaker, no_whole_reading, not_whole, whole_reading}
+use Rattle.fancy_tree.proofs.Facts.{true_is_false, some_is_none}
 use Rattle.fancy_syntax.proofs.SpellingLemmas.{spelling_read, reading_spelled}
 use Rattle.fancy_syntax.proofs.UnnamedLemmas.{settles, none_settled, one_under, one_end_under}
-use Rattle.fancy_syntax.proofs.RefersLemmas.{nodes-refers_to}
+use Rattle.fancy_tree.proofs.RefersLemmas.{nodes-refers_to}
 
 -- where a parser begins
 pub begun : (s : Scope) {names : List GroupName} {wanted : List Found_target} {text : Text} → s.names ≡ [] → s.wanted ≡ [] → names ≡ [] → wanted ≡ []

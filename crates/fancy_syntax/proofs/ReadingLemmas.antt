@@ -2,25 +2,18 @@
 use Rattle.std.proofs.Common.{◌≡◌, ℕ, suc, ◌+◌, ◌-◌, ◌<◌, ◌≤◌, ◌==◌, Bool, true, false, List, [], ◌∷◌, ◌++◌, Option, Some, None, length, refl, sym, ap, ◌∙◌, subst, append_assoc, append-nil, arith, Result, Err, ◌⊎◌, inl, inr, ap₂, add-one}
 use Rattle.std.proofs.lemmas.Bool.Decides.{nat_tests}
 use Rattle.std.proofs.lemmas.List.{nil_from_length}
-use Rattle.fancy_syntax.specs.Limits.{most_parentheses}
-use Rattle.fancy_syntax.specs.Pattern.{Pattern, backreference, in_sequence, in_branches}
-use Rattle.fancy_syntax.specs.Words.{Text, is_at_any, is_at}
+use Rattle.fancy_tree.specs.Limits.{most_parentheses}
+use Rattle.fancy_tree.specs.Pattern.{Pattern, backreference, in_sequence, in_branches}
+use Rattle.fancy_tree.specs.Text.{Text}
+use Rattle.fancy_class.specs.Words.{is_at_any, is_at}
 use Rattle.fancy_syntax.specs.Dialect.{Scope, with_part}
 use Rattle.fancy_syntax.specs.Grammar.{Place, past, here, Opening, setting, plain, capture, marked, reference, chooses, condition, opens_group, asks, parentheses, opening, IsAtom, quantified, wrap, closed, ends_branch, Branches, last, more, Parts, none, next, Opens, at_once, behind_condition, Item, sets, refers_by_name, single, grouped, start, Reads}
-use Rattle.fancy_syntax.specs.declared.error.Error.{Error}
-use Rattle.fancy_syntax.specs.declared.error.Error.TheVariants.{Memory, ParseError, CompileError, RuntimeError}
+use Rattle.fancy_tree.specs.declared.error.Error.{Error}
+use Rattle.fancy_tree.specs.declared.error.Error.TheVariants.{Memory, ParseError, CompileError, RuntimeError}
 use Rattle.fancy_syntax.specs.declared.groups.Opening.{Opening as Found}
 use Rattle.fancy_syntax.specs.declared.groups.Opening.TheVariants.{Setting, Plain, Capture, Marked, Reference, Chooses, Condition}
 use Rattle.fancy_syntax.specs.Views.{found, Refuses, Gives, GivesOpening, IsTheReading, HasNoReading, Sequence, Alternation}
-
-pub true_is_false : true ≡ false → ⊥
-true_is_false h = cc
-
-pub some_is_none : {A : Type 0} {x : A} → Some x ≡ None → ⊥
-some_is_none h = cc
-
-pub some_pair : {A B : Type 0} {x y : A × B} → Some x ≡ Some y → (x.0 ≡ y.0) × (x.1 ≡ y.1)
-some_pair {A} {B} {x} {y} h = let e : x ≡ y = cc in (ap (λ (p : A × B). p.0) e, ap (λ (p : A × B). p.1) e)
+use Rattle.fancy_tree.proofs.Facts.{true_is_false, some_is_none, some_pair}
 
 module _ {X T : Type 0} (view : X → T) (R : Place → T → Place → Type 0) where
   -- the exit of a `?` on the parser's own error, and on one of memory

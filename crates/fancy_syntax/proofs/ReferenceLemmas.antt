@@ -2,17 +2,19 @@
 use Rattle.std.proofs.Common.{◌≡◌, ℕ, ◌==◌, ◌||◌, ◌&&◌, not, nat_le, Bool, true, false, List, [], ◌∷◌, ◌++◌, length, drop, Some, None, refl, sym, ap, ◌∙◌, subst, inl, inr, cond, codes}
 use Rattle.std.specs.List.{list_any}
 use Rattle.std.specs.Char.{is_ascii_digit}
-use Rattle.fancy_syntax.specs.Pattern.{Pattern}
-use Rattle.fancy_syntax.specs.Words.{Text, ◌∈◌, is_among, is_at_any, is_at, begins, is_at_digit, past_digits, decimal, past_blank}
-use Rattle.fancy_syntax.specs.Names.{name_here, past_name}
-use Rattle.fancy_syntax.specs.Limits.{largest_told}
+use Rattle.fancy_tree.specs.Pattern.{Pattern}
+use Rattle.fancy_tree.specs.Text.{Text, ◌∈◌, is_among}
+use Rattle.fancy_class.specs.Words.{is_at_any, is_at, begins}
+use Rattle.fancy_syntax.specs.Counts.{is_at_digit, past_digits, decimal}
+use Rattle.fancy_syntax.specs.Blanks.{past_blank}
+use Rattle.fancy_tree.specs.Names.{name_here, past_name}
+use Rattle.fancy_tree.specs.Limits.{largest_told}
 use Rattle.fancy_syntax.specs.References.{Target, back, number_reference, distance_reference, name_reference, delimited, reference, begins_reference, number_condition, name_condition, group_condition}
 use Rattle.fancy_syntax.specs.Dialect.{Scope, lexeme, ReadsAtom, by_lexeme, by_class}
 use Rattle.fancy_syntax.specs.Grammar.{ends_branch}
-use Rattle.fancy_syntax.proofs.ReadingLemmas.{some_pair, some_is_none, true_is_false}
-use Rattle.fancy_syntax.proofs.BlankLemmas.{chosen, char_is, begins_with}
-use Rattle.fancy_syntax.proofs.CountLemmas.{both_true, left_of}
-use Rattle.fancy_syntax.proofs.EndsLemmas.{Ends, ends_here, ends_drop, ends_then, ends_at, behind_one}
+use Rattle.fancy_tree.proofs.Facts.{some_pair, some_is_none, true_is_false, chosen, char_is, both_true, left_of}
+use Rattle.fancy_class.proofs.WordLemmas.{begins_with}
+use Rattle.fancy_class.proofs.EndsLemmas.{Ends, ends_here, ends_drop, ends_then, ends_at, behind_one}
 
 -- ---- what follows a reference ends the text
 ends_digits : (t : Text) → Ends t (past_digits t)

@@ -4,15 +4,16 @@ use Rattle.std.proofs.lemmas.Bool.Decides.{nat_tests}
 use Rattle.std.specs.Char.{is_ascii_digit}
 use Rattle.std.proofs.lemmas.List.{map_more, map-append}
 use Rattle.std.proofs.lemmas.List.Elements.{All-more}
-use Rattle.fancy_syntax.specs.declared.error.Error.{Error}
-use Rattle.fancy_syntax.specs.declared.error.Error.TheVariants.{Memory, ParseError, CompileError, RuntimeError}
+use Rattle.fancy_tree.specs.declared.error.Error.{Error}
+use Rattle.fancy_tree.specs.declared.error.Error.TheVariants.{Memory, ParseError, CompileError, RuntimeError}
 use Rattle.fancy_syntax.specs.declared.reference.Target.{Target as Found_target}
-use Rattle.fancy_syntax.specs.Words.{Text, past_digits, are_digits, decimal}
-use Rattle.fancy_syntax.specs.Limits.{largest_told}
+use Rattle.fancy_tree.specs.Text.{Text}
+use Rattle.fancy_syntax.specs.Counts.{past_digits, are_digits, decimal}
+use Rattle.fancy_tree.specs.Limits.{largest_told}
 use Rattle.fancy_syntax.specs.References.{Groups, Fault, no_number, no_name, resolve, fault_in, group_in, fault_of, group_for, group_numbered, group_in_digits}
-use Rattle.fancy_syntax.specs.declared.name.GroupName.{GroupName}
+use Rattle.fancy_tree.specs.declared.name.GroupName.{GroupName}
 use Rattle.fancy_syntax.specs.declared.parse.Draft.{Draft}
-use Rattle.fancy_syntax.specs.Names.{named_groups}
+use Rattle.fancy_tree.specs.Names.{named_groups}
 use Rattle.fancy_syntax.specs.Dialect.{has_name}
 use Rattle.fancy_syntax.specs.Views.{target_of, targets_of, groups_in, Resolves, RefusesReference}
 

@@ -1,28 +1,41 @@
 -- A text that spells something is read so, and what is read is spelled so.
 use Rattle.std.proofs.Common.{◌≡◌, ℕ, zero, suc, ◌+◌, ◌≤◌, ◌==◌, ◌||◌, ◌&&◌, not, Bool, true, false, List, [], ◌∷◌, ◌++◌, length, Option, Some, None, drop, refl, sym, ap, ◌∙◌, subst, append_assoc, append-nil, inl, inr, cond, codes, nat_eq, arith}
 use Rattle.std.specs.Option.{option_map}
-use Rattle.std.specs.List.{starts_with}
-use Rattle.fancy_syntax.specs.declared.tree.Meaning.{Meaning}
-use Rattle.fancy_syntax.specs.declared.tree.Taste.{Taste}
-use Rattle.fancy_syntax.specs.declared.tree.Taste.TheVariants.{Greedy, Lazy, Possessive}
+use Rattle.std.specs.List.{starts_with, list_all}
+use Rattle.fancy_tree.specs.declared.tree.Meaning.{Meaning}
+use Rattle.fancy_tree.specs.declared.tree.Taste.{Taste}
+use Rattle.fancy_tree.specs.declared.tree.Taste.TheVariants.{Greedy, Lazy, Possessive}
 use Rattle.fancy_syntax.specs.declared.groups.Grouping.{Grouping}
-use Rattle.fancy_syntax.specs.Pattern.{Pattern, backreference, repeat, in_branches}
-use Rattle.fancy_syntax.specs.Sizes.{is_empty}
-use Rattle.fancy_syntax.specs.Words.{Text, ◌∈◌, is_at_any, is_at, begins, is_count, past_blank, begins_count}
-use Rattle.fancy_syntax.specs.Names.{is_name, name_here, past_name}
+use Rattle.fancy_tree.specs.Pattern.{Pattern, backreference, repeat, in_branches}
+use Rattle.fancy_tree.specs.Sizes.{is_empty}
+use Rattle.fancy_tree.specs.Text.{Text, ◌∈◌}
+use Rattle.fancy_class.specs.Words.{is_at_any, is_at, begins}
+use Rattle.fancy_syntax.specs.Counts.{is_count, begins_count}
+use Rattle.fancy_syntax.specs.Blanks.{past_blank}
+use Rattle.fancy_tree.specs.Names.{is_name_character, is_name, name_here, past_name}
 use Rattle.fancy_syntax.specs.References as references
 use Rattle.fancy_syntax.specs.References.{Target, called, group_condition, is_left_out}
 use Rattle.fancy_syntax.specs.Dialect as d
 use Rattle.fancy_syntax.specs.Dialect.{Flags, Scope, in_force, Setting, one_more_group, one_more_name, NameMark, name_mark, name_mark_after_p, GroupMark, mark_atomic, mark_ahead, mark_not_ahead, mark_behind, mark_not_behind, inside, wants, test_here, back_to, ReadsAtom, begins_quantifier, Turns, optional, star, plus, exactly, at_least, between, at_most, Quantifies, greedily, lazily, possessively, Blanks, IsUnquantified, with_part}
 use Rattle.fancy_syntax.specs.Grammar as g
 use Rattle.fancy_syntax.specs.Grammar.{Place, past, past_blanks, here, Bounds, bounds_in, past_count, are_bounds, opening, opens_group, parentheses, wrap, closed, ends_branch, start}
-use Rattle.fancy_syntax.proofs.ReadingLemmas.{some_pair, some_is_none, referred}
+use Rattle.fancy_tree.proofs.Facts.{some_pair, some_is_none, chosen, same_some, char_is, either_no, both_true, left_of}
+use Rattle.fancy_syntax.proofs.ReadingLemmas.{referred}
 use Rattle.fancy_syntax.proofs.ReferenceLemmas.{ends_reference, ends_condition, reference_begins, no_paren_begun, no_end_begun, no_blank_begun}
-use Rattle.fancy_syntax.proofs.EndsLemmas.{ends_atom, no_paren, no_end}
+use Rattle.fancy_syntax.proofs.AtomLemmas.{ends_atom, no_paren, no_end}
 use Rattle.fancy_syntax.proofs.FlagLemmas.{setting_is_read, no_colon_first, no_angle_first, no_p_first, no_mark_first, no_parenthesis_first, no_hash_first, setting_spelled}
-use Rattle.fancy_syntax.proofs.NameLemmas.{no_closing, no_parenthesis, name_is_no_look, name_is_read, past_read, name_is_some, row_is_name, row_then_rest}
-use Rattle.fancy_syntax.proofs.BlankLemmas.{chosen, same_some, char_is, begins_with, read_blanks, end_is_no_blank, quantifier_is_no_blank, unquantified_is_read, unquantified_is_spelled, skipped, no_blank_left}
-use Rattle.fancy_syntax.proofs.CountLemmas.{either_no, both_true, left_of, first_is as at_char, IsRead, exactly_is_read, at_least_is_read, between_is_read, at_most_is_read, count_spelled}
+use Rattle.fancy_tree.proofs.NameLemmas.{no_closing, no_parenthesis, no_equals_sign, no_exclamation_mark, other_character, name_is_read, past_read, name_is_some, row_is_name, row_then_rest}
+use Rattle.fancy_class.proofs.WordLemmas.{begins_with}
+use Rattle.fancy_syntax.proofs.BlankLemmas.{read_blanks, end_is_no_blank, quantifier_is_no_blank, unquantified_is_read, unquantified_is_spelled, skipped, no_blank_left}
+use Rattle.fancy_class.proofs.WordLemmas.{first_is as at_char}
+use Rattle.fancy_syntax.proofs.CountLemmas.{IsRead, exactly_is_read, at_least_is_read, between_is_read, at_most_is_read, count_spelled}
+
+-- a name begins with neither of the characters that make look-behind of a `<`
+name_is_no_look : (n rest : Text) → is_name n ≡ true → (is_at "=" (n ++ rest) ≡ false) × (is_at "!" (n ++ rest) ≡ false)
+name_is_no_look [] rest h = cc
+name_is_no_look (c ∷ n) rest h =
+    let b = (both_true (is_name_character c) (list_all is_name_character n) h).0 in
+    (rw (other_character 61 c no_equals_sign b) refl, rw (other_character 33 c no_exclamation_mark b) refl)
 
 either_false : (a b : Bool) → (a || b) ≡ false → (a ≡ false) × (b ≡ false)
 either_false true b h = cc

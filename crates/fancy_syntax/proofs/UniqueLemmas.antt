@@ -1,13 +1,15 @@
 -- A text has at most one pattern.
 use Rattle.std.proofs.Common.{◌≡◌, ℕ, List, [], ◌∷◌, Option, Some, refl, sym, ap, ap₂, ◌∙◌, subst, inl, inr, add-one}
-use Rattle.fancy_syntax.specs.Pattern.{Pattern, in_sequence, in_branches}
-use Rattle.fancy_syntax.specs.Words.{Text, is_at}
+use Rattle.fancy_tree.specs.Pattern.{Pattern, in_sequence, in_branches}
+use Rattle.fancy_tree.specs.Text.{Text}
+use Rattle.fancy_class.specs.Words.{is_at}
 use Rattle.fancy_syntax.specs.Grammar.{Place, past, quantified, Opening, Opens, at_once, behind_condition, wrap, closed, Branches, last, more, Parts, none, next, Item, sets, refers_by_name, single, grouped}
 use Rattle.fancy_syntax.specs.Dialect.{Scope, Spells, with_part}
 use Rattle.fancy_syntax.specs.Views.{IsTheReading}
 use Rattle.fancy_syntax.proofs.SpellingLemmas.{spelling_read}
 use Rattle.fancy_syntax.proofs.LexemeLemmas.{the_atom}
-use Rattle.fancy_syntax.proofs.ReadingLemmas.{true_is_false, some_pair, branches_first, parts_end, parts_next, single_is, opens_is, condition_is, setting_is, reference_is, body_reads}
+use Rattle.fancy_tree.proofs.Facts.{true_is_false, some_pair}
+use Rattle.fancy_syntax.proofs.ReadingLemmas.{branches_first, parts_end, parts_next, single_is, opens_is, condition_is, setting_is, reference_is, body_reads}
 
 mutual
   pub one_branches : {k : ℕ} {p q r : Place} {bs cs : List Pattern} → Branches k p bs q → Branches k p cs r → (cs ≡ bs) × (r ≡ q)

@@ -2,12 +2,12 @@
 use Rattle.std.proofs.Common.{◌≡◌, ℕ, ◌+◌, Bool, true, false, not, ◌&&◌, List, [], ◌∷◌, ◌++◌, length, Option, Some, None, codes, refl, sym, ap, ◌∙◌, subst}
 use Rattle.fancy_syntax.specs.declared.groups.Grouping.{Grouping}
 use Rattle.fancy_syntax.specs.declared.groups.Grouping.TheVariants.{Atomic, LookAhead, LookBehind}
-use Rattle.fancy_syntax.specs.Pattern.{Pattern, backreference, group_test, group, repeat, in_sequence, in_branches}
-use Rattle.fancy_syntax.specs.Sizes.{is_empty}
-use Rattle.fancy_syntax.specs.Words.{Text}
+use Rattle.fancy_tree.specs.Pattern.{Pattern, backreference, group_test, group, repeat, in_sequence, in_branches}
+use Rattle.fancy_tree.specs.Sizes.{is_empty}
+use Rattle.fancy_tree.specs.Text.{Text}
 use Rattle.fancy_syntax.specs.Dialect.{Scope, Options, begin, has_name, lexeme, ReadsAtom, by_lexeme, by_class, with_part, Branches, one, either, Parts, nothing, item, Item, set, bare, quantified, Atom, single, plain, flagged, capture, unnamed, named, marked, reference, reference_by_name, tested, decided, chosen, inside, grouped, Spells, SpellsUnder}
 use Rattle.fancy_syntax.specs.References.{Target, called}
-use Rattle.fancy_syntax.proofs.ReadingLemmas.{true_is_false}
+use Rattle.fancy_tree.proofs.Facts.{true_is_false}
 use Rattle.fancy_syntax.proofs.UniqueLemmas.{one_pattern, one_end}
 use Rattle.fancy_syntax.proofs.ReferenceLemmas.{reference_any}
 

@@ -2,30 +2,34 @@
 use Rattle.std.specs.Prelude.{◌≡◌, ℕ, suc, ◌+◌, ◌≤◌, ◌==◌, nat_lt, Bool, true, false, not, ◌&&◌, ◌||◌, List, [], ◌∷◌, ◌++◌, length, All, Option, Some, None, codes, map, encode_utf8, if◌then◌else◌}
 use Prim.Native.Char.{code}
 use Rattle.std.specs.Option.{unwrap_or, option_map, option_or, option_and_then}
-use Rattle.fancy_syntax.specs.Limits.{most_parentheses, most_turns, most_nodes}
-use Rattle.fancy_syntax.specs.declared.tree.Meaning.{Meaning}
-use Rattle.fancy_syntax.specs.declared.tree.Meaning.TheVariants.{Unicode, Bytes, AsciiText}
-use Rattle.fancy_syntax.specs.declared.tree.Assertion.{Assertion}
-use Rattle.fancy_syntax.specs.declared.tree.Assertion.TheVariants.{TextStart, TextEnd, LineStart, LineEnd, LineStartCrlf, LineEndCrlf, LastLine, LastLineCrlf, WordBoundary, NotWordBoundary, WordStart, WordEnd, WordStartHalf, WordEndHalf}
-use Rattle.fancy_syntax.specs.declared.tree.Taste.{Taste}
-use Rattle.fancy_syntax.specs.declared.tree.Taste.TheVariants.{Greedy, Lazy, Possessive}
+use Rattle.fancy_tree.specs.Limits.{most_parentheses, most_turns, most_nodes}
+use Rattle.fancy_tree.specs.declared.tree.Meaning.{Meaning}
+use Rattle.fancy_tree.specs.declared.tree.Meaning.TheVariants.{Unicode, Bytes, AsciiText}
+use Rattle.fancy_tree.specs.declared.tree.Assertion.{Assertion}
+use Rattle.fancy_tree.specs.declared.tree.Assertion.TheVariants.{TextStart, TextEnd, LineStart, LineEnd, LineStartCrlf, LineEndCrlf, LastLine, LastLineCrlf, WordBoundary, NotWordBoundary, WordStart, WordEnd, WordStartHalf, WordEndHalf}
+use Rattle.fancy_tree.specs.declared.tree.Taste.{Taste}
+use Rattle.fancy_tree.specs.declared.tree.Taste.TheVariants.{Greedy, Lazy, Possessive}
 use Rattle.fancy_syntax.specs.declared.groups.Grouping.{Grouping}
 use Rattle.fancy_syntax.specs.declared.groups.Grouping.TheVariants.{Atomic, LookAhead, LookBehind}
-use Rattle.fancy_syntax.specs.declared.class.token.Token.{Token}
-use Rattle.fancy_syntax.specs.declared.class.token.Token.TheVariants.{Named as NamedSet}
-use Rattle.fancy_syntax.specs.declared.named.Named.{Named}
-use Rattle.fancy_syntax.specs.Pattern.{Pattern, empty, character, member_of, in_any_case, raw_byte, backreference, assertion, group_test, keep_start, continue_here, group, repeat, look_ahead, look_behind, atomic, conditional, in_sequence, in_branches}
-use Rattle.fancy_syntax.specs.Sizes.{size, nodes, are_sized, is_empty}
-use Rattle.fancy_syntax.specs.Words.{Text, ◌∈◌, is_among, is_at, by_word, is_at_digit, is_blank, past_blank, decimal, are_digits, begins_count}
-use Rattle.fancy_syntax.specs.Sets.{has, AreEdges, in_range}
-use Rattle.fancy_syntax.specs.Members.{Members}
-use Rattle.fancy_syntax.specs.Named.{in_universe, is_unicode}
-use Rattle.fancy_syntax.specs.Widening.{widened}
-use Rattle.fancy_syntax.specs.Escapes.{is_mark, control_of, set_letter, number, takes_number, digits_behind}
-use Rattle.fancy_syntax.specs.ClassGrammar.{ReadsEdges, is_ascii_meaning, may_turn, token_members, property}
-use Rattle.fancy_syntax.specs.Names.{is_name}
+use Rattle.fancy_class.specs.declared.token.Token.{Token}
+use Rattle.fancy_class.specs.declared.token.Token.TheVariants.{Named as NamedSet}
+use Rattle.fancy_tree.specs.declared.named.Named.{Named}
+use Rattle.fancy_tree.specs.Pattern.{Pattern, empty, character, member_of, in_any_case, raw_byte, backreference, assertion, group_test, keep_start, continue_here, group, repeat, look_ahead, look_behind, atomic, conditional, in_sequence, in_branches}
+use Rattle.fancy_tree.specs.Sizes.{size, nodes, are_sized, is_empty}
+use Rattle.fancy_tree.specs.Text.{Text, ◌∈◌, is_among}
+use Rattle.fancy_class.specs.Words.{is_at, by_word}
+use Rattle.fancy_syntax.specs.Counts.{is_at_digit, decimal, are_digits, begins_count}
+use Rattle.fancy_syntax.specs.Blanks.{is_blank, past_blank}
+use Rattle.fancy_tree.specs.Sets.{has, AreEdges, in_range}
+use Rattle.fancy_tree.specs.Members.{Members}
+use Rattle.fancy_tree.specs.Named.{in_universe, is_unicode}
+use Rattle.fancy_tree.specs.Widening.{widened}
+use Rattle.fancy_class.specs.Escapes.{is_mark, control_of, set_letter, number, takes_number, digits_behind}
+use Rattle.fancy_class.specs.ClassGrammar.{ReadsEdges, is_ascii_meaning, may_turn, token_members, property}
+use Rattle.fancy_tree.specs.Names.{is_name}
 use Rattle.fancy_syntax.specs.References as references
-use Rattle.fancy_syntax.specs.References.{Target, called, Fault, Groups, group_condition, is_left_out, group_for, number_in, refers_to}
+use Rattle.fancy_syntax.specs.References.{Target, called, Fault, Groups, group_condition, is_left_out, group_for}
+use Rattle.fancy_tree.specs.Refers.{number_in, refers_to}
 
 -- the flags `i m s x R`
 pub record Flags : Type 0 where

@@ -2,16 +2,19 @@
 use Rattle.std.specs.Prelude.{◌≡◌, ℕ, zero, suc, ◌+◌, ◌≤◌, Bool, true, false, not, ◌||◌, ◌&&◌, nat_le, List, [], ◌∷◌, drop, length, Option, Some, None, option_map, ◌==◌, if◌then◌else◌}
 use Prim.Native.Char.{code}
 use Rattle.std.specs.Option.{option_and_then}
-use Rattle.fancy_syntax.specs.Limits.{most_parentheses, most_turns}
-use Rattle.fancy_syntax.specs.declared.tree.Meaning.{Meaning}
-use Rattle.fancy_syntax.specs.declared.tree.Taste.{Taste}
-use Rattle.fancy_syntax.specs.declared.tree.Taste.TheVariants.{Greedy, Lazy, Possessive}
+use Rattle.fancy_tree.specs.Limits.{most_parentheses, most_turns}
+use Rattle.fancy_tree.specs.declared.tree.Meaning.{Meaning}
+use Rattle.fancy_tree.specs.declared.tree.Taste.{Taste}
+use Rattle.fancy_tree.specs.declared.tree.Taste.TheVariants.{Greedy, Lazy, Possessive}
 use Rattle.fancy_syntax.specs.declared.groups.Grouping.{Grouping}
 use Rattle.fancy_syntax.specs.declared.groups.Grouping.TheVariants.{Atomic, LookAhead, LookBehind}
-use Rattle.fancy_syntax.specs.Pattern.{Pattern, backreference, group, repeat, in_sequence, in_branches}
-use Rattle.fancy_syntax.specs.Sizes.{is_empty}
-use Rattle.fancy_syntax.specs.Words.{Text, ◌∈◌, is_at, begins, is_at_digit, past_digits, past_blank, decimal, begins_count}
-use Rattle.fancy_syntax.specs.Names.{name_here, past_name}
+use Rattle.fancy_tree.specs.Pattern.{Pattern, backreference, group, repeat, in_sequence, in_branches}
+use Rattle.fancy_tree.specs.Sizes.{is_empty}
+use Rattle.fancy_tree.specs.Text.{Text, ◌∈◌}
+use Rattle.fancy_class.specs.Words.{is_at, begins}
+use Rattle.fancy_syntax.specs.Counts.{is_at_digit, past_digits, decimal, begins_count}
+use Rattle.fancy_syntax.specs.Blanks.{past_blank}
+use Rattle.fancy_tree.specs.Names.{name_here, past_name}
 use Rattle.fancy_syntax.specs.References as references
 use Rattle.fancy_syntax.specs.References.{Target}
 use Rattle.fancy_syntax.specs.Dialect.{Flags, Scope, in_force, with_flag, one_more_group, one_more_name, wants, reference_here, test_here, chosen, inside, grouped as group_of, back_to, ReadsAtom, begins_quantifier, with_part}

@@ -1,10 +1,11 @@
 -- References to groups, to which tests of groups belong: how they are written, what they name, and which group that is once the whole pattern is read.
-use Rattle.std.specs.Prelude.{ℕ, ◌+◌, ◌-◌, ◌==◌, ◌||◌, ◌&&◌, Bool, not, nat_le, min, List, [], ◌∷◌, length, drop, slice_index_or, Option, Some, None, Result, Ok, Err, if◌then◌else◌}
+use Rattle.std.specs.Prelude.{ℕ, ◌+◌, ◌-◌, ◌==◌, ◌||◌, ◌&&◌, Bool, not, nat_le, min, List, [], ◌∷◌, length, drop, Option, Some, None, Result, Ok, Err, if◌then◌else◌}
 use Prim.Native.Char.{code}
-use Rattle.fancy_syntax.specs.Pattern.{Pattern, empty, character, member_of, in_any_case, raw_byte, backreference, assertion, group_test, keep_start, continue_here, group, repeat, look_ahead, look_behind, atomic, conditional, followed, or_else, last_branch}
-use Rattle.fancy_syntax.specs.Limits.{largest_told}
-use Rattle.fancy_syntax.specs.Words.{Text, is_at_any, is_at, begins, is_at_digit, past_digits, decimal, are_digits}
-use Rattle.fancy_syntax.specs.Names.{name_here, past_name, last_named}
+use Rattle.fancy_tree.specs.Limits.{largest_told}
+use Rattle.fancy_tree.specs.Text.{Text}
+use Rattle.fancy_class.specs.Words.{is_at_any, is_at, begins}
+use Rattle.fancy_syntax.specs.Counts.{is_at_digit, past_digits, decimal, are_digits}
+use Rattle.fancy_tree.specs.Names.{name_here, past_name, last_named}
 
 -- what a reference names
 pub data Target : Type 0 where
@@ -130,29 +131,3 @@ fault_of g w = fault_in (resolve g w)
 -- the group that a reference names
 abbrev pub group_for : Groups → Target → ℕ
 group_for g w = group_in (resolve g w)
-
--- the number with this index
-abbrev pub number_in : List ℕ → ℕ → ℕ
-number_in numbers index = slice_index_or numbers index 0
-
--- the pattern with this number in the place of each reference's own, and of each test's of a group
-unfoldable pub refers_to : (ℕ → ℕ) → Pattern → Pattern
-refers_to f empty = empty
-refers_to f (character c) = character c
-refers_to f (member_of edges) = member_of edges
-refers_to f (in_any_case edges) = in_any_case edges
-refers_to f (raw_byte byte) = raw_byte byte
-refers_to f (backreference folded number) = backreference folded (f number)
-refers_to f (assertion a) = assertion a
-refers_to f (group_test number) = group_test (f number)
-refers_to f keep_start = keep_start
-refers_to f continue_here = continue_here
-refers_to f (group index body) = group index (refers_to f body)
-refers_to f (repeat low high taste body) = repeat low high taste (refers_to f body)
-refers_to f (look_ahead negated body) = look_ahead negated (refers_to f body)
-refers_to f (look_behind negated body) = look_behind negated (refers_to f body)
-refers_to f (atomic body) = atomic (refers_to f body)
-refers_to f (conditional condition first second) = conditional (refers_to f condition) (refers_to f first) (refers_to f second)
-refers_to f (followed part rest) = followed (refers_to f part) (refers_to f rest)
-refers_to f (or_else branch others) = or_else (refers_to f branch) (refers_to f others)
-refers_to f (last_branch branch) = last_branch (refers_to f branch)

@@ -1,14 +1,15 @@
 -- When a pattern may be refused, and by which error.
 use Rattle.std.specs.Prelude.{◌≡◌, ◌<◌, true, false, Any, Some, chars, string_bytes}
-use Rattle.fancy_syntax.specs.Limits.{most_nodes}
-use Rattle.fancy_syntax.specs.declared.error.CompileError.{CompileError as Compiling}
-use Rattle.fancy_syntax.specs.declared.error.CompileError.TheVariants.{InvalidBackref, InvalidGroupNameBackref, NamedBackrefOnly, LookBehindNotConst, PatternCanNeverMatch, PatternTooComplex}
-use Rattle.fancy_syntax.specs.declared.error.Error.{Error}
-use Rattle.fancy_syntax.specs.declared.error.Error.TheVariants.{Memory, ParseError, CompileError, RuntimeError}
-use Rattle.fancy_syntax.specs.Pattern.{Pattern}
-use Rattle.fancy_syntax.specs.Sizes.{size, nodes, are_sized}
-use Rattle.fancy_syntax.specs.Words.{Text}
-use Rattle.fancy_syntax.specs.References.{Fault, by_name_alone, no_number, no_name, refers_to}
+use Rattle.fancy_tree.specs.Limits.{most_nodes}
+use Rattle.fancy_tree.specs.declared.error.CompileError.{CompileError as Compiling}
+use Rattle.fancy_tree.specs.declared.error.CompileError.TheVariants.{InvalidBackref, InvalidGroupNameBackref, NamedBackrefOnly, LookBehindNotConst, PatternCanNeverMatch, PatternTooComplex}
+use Rattle.fancy_tree.specs.declared.error.Error.{Error}
+use Rattle.fancy_tree.specs.declared.error.Error.TheVariants.{Memory, ParseError, CompileError, RuntimeError}
+use Rattle.fancy_tree.specs.Pattern.{Pattern}
+use Rattle.fancy_tree.specs.Sizes.{size, nodes, are_sized}
+use Rattle.fancy_tree.specs.Text.{Text}
+use Rattle.fancy_syntax.specs.References.{Fault, by_name_alone, no_number, no_name}
+use Rattle.fancy_tree.specs.Refers.{refers_to}
 use Rattle.fancy_syntax.specs.Dialect.{Scope, Options, SpellsUnder, fault_of, numbers}
 
 -- The text spells a pattern, one of whose references has this fault.

@@ -4,8 +4,8 @@ use Rattle.std.specs.Borrow.{Bor}
 use Rattle.std.specs.Global.{Global}
 use Rattle.std.specs.Char.{len_utf8}
 use Rattle.fancy_syntax.specs.declared.parser.Parser.{Parser}
-use Rattle.fancy_syntax.specs.declared.error.Error.{Error}
-use Rattle.fancy_syntax.specs.declared.error.Error.TheVariants.{Memory, ParseError, CompileError, RuntimeError}
+use Rattle.fancy_tree.specs.declared.error.Error.{Error}
+use Rattle.fancy_tree.specs.declared.error.Error.TheVariants.{Memory, ParseError, CompileError, RuntimeError}
 use Rattle.fancy_syntax.specs.declared.groups.Opening.{Opening as Found}
 use Rattle.fancy_syntax.specs.declared.groups.Opening.TheVariants.{Setting, Plain, Capture, Marked, Reference, Chooses, Condition}
 use Rattle.fancy_syntax.specs.declared.reference.Target.{Target as Found_target}
@@ -16,15 +16,15 @@ use Rattle.fancy_syntax.specs.declared.count.Turns.{Turns}
 use Rattle.fancy_syntax.specs.declared.flags.Flags.{Flags as Found_flags}
 use Rattle.fancy_syntax.specs.declared.parse.Syntax.{Syntax}
 use Rattle.fancy_syntax.specs.declared.parse.Draft.{Draft}
-use Rattle.fancy_syntax.specs.declared.error.CompileError.{CompileError as Compiling}
-use Rattle.fancy_syntax.specs.declared.error.CompileError.TheVariants.{InvalidBackref, InvalidGroupNameBackref, NamedBackrefOnly, LookBehindNotConst, PatternCanNeverMatch}
-use Rattle.fancy_syntax.specs.declared.class.refusal.Refusal.{Refusal}
-use Rattle.fancy_syntax.specs.declared.class.refusal.Refusal.TheVariants.{Memory as OutOfMemory, Invalid}
-use Rattle.fancy_syntax.specs.declared.tree.Tree.{Tree}
-use Rattle.fancy_syntax.specs.Pattern.{Pattern, pattern_of, in_sequence, in_branches}
-use Rattle.fancy_syntax.specs.Sizes.{size, are_sized}
-use Rattle.fancy_syntax.specs.Words.{Text}
-use Rattle.fancy_syntax.specs.Names.{named_groups}
+use Rattle.fancy_tree.specs.declared.error.CompileError.{CompileError as Compiling}
+use Rattle.fancy_tree.specs.declared.error.CompileError.TheVariants.{InvalidBackref, InvalidGroupNameBackref, NamedBackrefOnly, LookBehindNotConst, PatternCanNeverMatch}
+use Rattle.fancy_class.specs.declared.refusal.Refusal.{Refusal}
+use Rattle.fancy_class.specs.declared.refusal.Refusal.TheVariants.{Memory as OutOfMemory, Invalid}
+use Rattle.fancy_tree.specs.declared.tree.Tree.{Tree}
+use Rattle.fancy_tree.specs.Pattern.{Pattern, pattern_of, in_sequence, in_branches}
+use Rattle.fancy_tree.specs.Sizes.{size, are_sized}
+use Rattle.fancy_tree.specs.Text.{Text}
+use Rattle.fancy_tree.specs.Names.{named_groups}
 use Rattle.fancy_syntax.specs.References.{Target, numbered, missing, called, called_or_numbered, Fault, by_name_alone, no_number, no_name, Groups}
 use Rattle.fancy_syntax.specs.Dialect.{Flags, Scope, Options, has_name, Lexeme, IsMeant}
 use Rattle.fancy_syntax.specs.Grammar.{Place, start, Opening, setting, plain, capture, marked, reference, chooses, condition, parentheses, opening, Opens, LettersRead, Bounds, Branches, Parts}

@@ -1,7 +1,7 @@
 //! What is skipped between the items of a pattern: comments, and under flag `x` blanks and lines behind `#`.
 
 ghost use Rattle.std.specs.Prelude.{◌≡◌, ◌≤◌, ◌<◌, IfSome, option_map, length};
-ghost use Rattle.fancy_syntax.specs.Words.{past_line, past_comment, past_blank};
+ghost use Rattle.fancy_syntax.specs.Blanks.{past_line, past_comment, past_blank};
 ghost use Rattle.fancy_syntax.specs.Grammar.{past_blanks};
 
 /// What follows the line that stands first, with its end.

@@ -1,19 +1,18 @@
 //! Trees out of the parts that were read.
 
 ghost use Rattle.std.specs.Prelude.{◌≡◌, map, IfOk};
-ghost use Rattle.fancy_syntax.specs.Pattern.{pattern_of, character, backreference, repeat, in_sequence, in_branches};
-ghost use Rattle.fancy_syntax.specs.Sizes.{is_empty};
+ghost use Rattle.fancy_tree.specs.Pattern.{pattern_of, character, backreference, repeat, in_sequence, in_branches};
 ghost use Rattle.fancy_syntax.specs.Dialect.{literal_of, chosen, grouped};
 ghost use Rattle.fancy_syntax.specs.Grammar.{chooses, wrap};
 ghost use Rattle.fancy_syntax.specs.Views.{found};
 
 use crate::count::Turns;
 use crate::groups::{Grouping, Opening};
-use crate::tree::{Meaning, Taste, Tree};
+use fancy_tree::tree::{Meaning, Taste, Tree};
 use std::alloc::{AllocError, Global};
 
 /// One part behind the other.
-#[tactic(auto, using(crate::proofs::PatternLemmas::pattern_equations))]
+#[tactic(auto, using(fancy_tree::proofs::PatternLemmas::pattern_equations))]
 pub(crate) fn sequence(mut parts: Vec<Tree>) -> Tree
     ensures { pattern_of result ≡ in_sequence (map pattern_of parts.items) }
 {
@@ -27,7 +26,7 @@ pub(crate) fn sequence(mut parts: Vec<Tree>) -> Tree
 }
 
 /// One of the branches; a single one is no alternative.
-#[tactic(auto, using(crate::proofs::PatternLemmas::pattern_equations))]
+#[tactic(auto, using(fancy_tree::proofs::PatternLemmas::pattern_equations))]
 pub(crate) fn branches(mut branches: Vec<Tree>) -> Tree
     ensures { pattern_of result ≡ in_branches (map pattern_of branches.items) }
 {
@@ -40,24 +39,8 @@ pub(crate) fn branches(mut branches: Vec<Tree>) -> Tree
     }
 }
 
-/// Whether the tree is the leaf of a sequence without parts, which no quantifier may follow.
-#[tactic(auto, using(crate::proofs::PatternLemmas::pattern_equations))]
-pub(crate) fn is_empty(tree: &Tree) -> bool
-    ensures { result ≡ is_empty (pattern_of tree.now) }
-{
-    match tree {
-        Tree::Empty => true,
-        Tree::Sequence(parts) => match parts.as_slice() {
-            [] => true,
-            [only] => is_empty(only),
-            _ => false,
-        },
-        _ => false,
-    }
-}
-
 /// A literal character; in byte meaning it is the sequence of its bytes.
-#[tactic(auto, using(crate::proofs::PatternLemmas::pattern_equations))]
+#[tactic(auto, using(fancy_tree::proofs::PatternLemmas::pattern_equations))]
 pub(crate) fn literal(alloc: Global, meaning: Meaning, c: char) -> Result<Tree, AllocError>
     ensures { IfOk result (λ t. pattern_of t ≡ literal_of meaning c) }
 {
@@ -72,7 +55,7 @@ pub(crate) fn literal(alloc: Global, meaning: Meaning, c: char) -> Result<Tree, 
 }
 
 /// Each byte as an item of its own.
-#[tactic(auto, using(crate::proofs::PatternLemmas::pattern_equations))]
+#[tactic(auto, using(fancy_tree::proofs::PatternLemmas::pattern_equations))]
 fn one_by_one(alloc: Global, bytes: &[u8]) -> Result<Vec<Tree>, AllocError>
     ensures { IfOk result (λ v. map pattern_of v.items ≡ map character bytes.now) }
 {
@@ -84,7 +67,7 @@ fn one_by_one(alloc: Global, bytes: &[u8]) -> Result<Vec<Tree>, AllocError>
 }
 
 /// This many turns of the body.
-#[tactic(auto, using(crate::proofs::PatternLemmas::pattern_equations))]
+#[tactic(auto, using(fancy_tree::proofs::PatternLemmas::pattern_equations))]
 pub(crate) fn repeat(
     alloc: Global,
     turns: Turns,
@@ -102,7 +85,7 @@ pub(crate) fn repeat(
 }
 
 /// A reference, by how many stand before it.
-#[tactic(auto, using(crate::proofs::PatternLemmas::pattern_equations))]
+#[tactic(auto, using(fancy_tree::proofs::PatternLemmas::pattern_equations))]
 pub(crate) fn reference(folded: bool, index: usize) -> Tree
     ensures { pattern_of result ≡ backreference folded index }
 {
@@ -113,7 +96,7 @@ pub(crate) fn reference(folded: bool, index: usize) -> Tree
 }
 
 /// What an atomic group or look-around makes of its body.
-#[tactic(auto, using(crate::proofs::PatternLemmas::pattern_equations))]
+#[tactic(auto, using(fancy_tree::proofs::PatternLemmas::pattern_equations))]
 fn grouped(how: Grouping, body: Box<Tree>) -> Tree
     ensures { pattern_of result ≡ grouped how (pattern_of body.value) }
 {
@@ -125,7 +108,7 @@ fn grouped(how: Grouping, body: Box<Tree>) -> Tree
 }
 
 /// A conditional: the first branch of its body where the condition holds, and the others where it does not.
-#[tactic(auto, using(crate::proofs::PatternLemmas::pattern_equations))]
+#[tactic(auto, using(fancy_tree::proofs::PatternLemmas::pattern_equations))]
 fn conditional(alloc: Global, condition: Box<Tree>, mut body: Vec<Tree>) -> Result<Tree, AllocError>
     ensures { IfOk result (λ t. pattern_of t ≡ chosen (pattern_of condition.value) (map pattern_of body.items)) }
 {
@@ -149,7 +132,7 @@ pub(crate) fn chooses(alloc: Global, condition: Vec<Tree>) -> Result<Opening, Al
 }
 
 /// What a group makes of the branches inside it.
-#[tactic(auto, using(crate::proofs::PatternLemmas::pattern_equations))]
+#[tactic(auto, using(fancy_tree::proofs::PatternLemmas::pattern_equations))]
 pub(crate) fn wrap(alloc: Global, how: Opening, body: Vec<Tree>) -> Result<Tree, AllocError>
     ensures { IfOk result (λ t. pattern_of t ≡ wrap (found how) (map pattern_of body.items)) }
 {

@@ -1,7 +1,7 @@
 //! Numbers of turns, as `*`, `{2}`, `{2,}`, `{2,5}` and `{,5}`.
 
 ghost use Rattle.std.specs.Prelude.{◌≡◌, ◌≤◌, ◌-◌, ◌^◌, min, true, false, Some, None, IfSome, option_map, if◌then◌else◌, length};
-ghost use Rattle.fancy_syntax.specs.Words.{is_at_digit, is_count, begins_count, past_digits, decimal};
+ghost use Rattle.fancy_syntax.specs.Counts.{is_at_digit, is_count, begins_count, past_digits, decimal};
 ghost use Rattle.fancy_syntax.specs.Grammar.{bounds_in, past_count, are_bounds};
 ghost use Rattle.fancy_syntax.specs.Views.{bounds_of};
 

@@ -1,14 +1,13 @@
 //! Escapes and anchors: what one character means behind a backslash, or by itself.
 
 ghost use Rattle.std.specs.Prelude.{◌≡◌, option_map};
-ghost use Rattle.fancy_syntax.specs.Escapes.{control_of};
 ghost use Rattle.fancy_syntax.specs.Dialect.{anchor_of, place_test, start_mark, is_escapable, is_special, is_one_item, ends_line};
-ghost use Rattle.fancy_syntax.specs.Pattern.{pattern_of};
+ghost use Rattle.fancy_tree.specs.Pattern.{pattern_of};
 ghost use Rattle.fancy_syntax.specs.Views.{flags_of};
 
-use crate::error::ParseErrorKind;
 use crate::flags::Flags;
-use crate::tree::{Assertion, Meaning, Tree};
+use fancy_tree::error::ParseErrorKind;
+use fancy_tree::tree::{Assertion, Meaning, Tree};
 
 /// Whether a backslash makes this character a literal.
 pub(crate) fn is_escapable(c: char) -> bool
@@ -31,22 +30,6 @@ pub(crate) fn is_one_item(meaning: Meaning, c: char) -> bool
     match meaning {
         Meaning::Unicode | Meaning::AsciiText => true,
         Meaning::Bytes => (c as u32) < 128,
-    }
-}
-
-/// The control character that a backslash and this letter stand for.
-pub(crate) fn control(letter: char) -> Option<char>
-    ensures { result ≡ control_of letter }
-{
-    match letter {
-        'a' => Some('\u{7}'),
-        'e' => Some('\u{1B}'),
-        'f' => Some('\u{C}'),
-        'n' => Some('\n'),
-        'r' => Some('\r'),
-        't' => Some('\t'),
-        'v' => Some('\u{B}'),
-        _ => None,
     }
 }
 
@@ -82,7 +65,7 @@ pub(crate) fn place_test(flags: Flags, letter: char) -> Option<Assertion>
 }
 
 /// What `\G` and `\K` stand for; inside of look-around `\K` stands for nothing.
-#[tactic(auto, using(crate::proofs::PatternLemmas::pattern_equations))]
+#[tactic(auto, using(fancy_tree::proofs::PatternLemmas::pattern_equations))]
 pub(crate) fn start_mark(in_look_around: bool, letter: char) -> Option<Tree>
     ensures { option_map pattern_of result ≡ start_mark in_look_around letter }
 {

@@ -5,7 +5,7 @@ ghost use Rattle.fancy_syntax.specs.Dialect.{with_flag};
 ghost use Rattle.fancy_syntax.specs.Grammar.{next_letter, flags_in, first_letter};
 ghost use Rattle.fancy_syntax.specs.Views.{flags_of, read_of};
 
-use crate::tree::Meaning;
+use fancy_tree::tree::Meaning;
 
 /// Which flags are set.
 #[derive(Clone, Copy, PartialEq, Eq)]

@@ -4,7 +4,7 @@ ghost use Rattle.std.specs.Prelude.{◌≡◌, ◌≤◌, ◌<◌, IfSome, lengt
 ghost use Rattle.fancy_syntax.specs.Grammar.{mark_here, parentheses, asks};
 ghost use Rattle.fancy_syntax.specs.Views.{found};
 
-use crate::tree::Tree;
+use fancy_tree::tree::Tree;
 
 /// A group that captures nothing, and does more than keep its parts together.
 #[derive(Clone, Copy)]

@@ -2,9 +2,9 @@
 
 ghost use Rattle.std.specs.Prelude.{◌≡◌, ◌+◌, Bool};
 ghost use Rattle.fancy_syntax.specs.Dialect.{Scope, Options, begin, Spells, IsPattern};
-ghost use Rattle.fancy_syntax.specs.Groups.{Numbered, InOrder, Rising};
-ghost use Rattle.fancy_syntax.specs.Pattern.{Pattern};
-ghost use Rattle.fancy_syntax.specs.Words.{Text};
+ghost use Rattle.fancy_tree.specs.Groups.{Numbered, InOrder, Rising};
+ghost use Rattle.fancy_tree.specs.Pattern.{Pattern};
+ghost use Rattle.fancy_tree.specs.Text.{Text};
 
 /// A text spells at most one pattern, from one scope on and under one set of options, and its reading ends in one scope: with so many
 /// groups, and with these names.

@@ -1,11 +1,11 @@
 //! Reading what is no group: characters, escapes and classes.
 
 ghost use Rattle.std.specs.Prelude.{◌≡◌, ◌+◌, ◌<◌, ◌≤◌, ◌∷◌, ◌&&◌, not, nat_lt, ℕ, Some, Ok, true, drop, length, option_and_then, OnOk, IfOk};
-ghost use Rattle.fancy_syntax.specs.Pattern.{pattern_of, assertion};
-ghost use Rattle.fancy_syntax.specs.Words.{is_at};
-ghost use Rattle.fancy_syntax.specs.Members.{Members, members};
-ghost use Rattle.fancy_syntax.specs.Escapes.{is_property, set_letter};
-ghost use Rattle.fancy_syntax.specs.ClassGrammar.{is_ascii_meaning};
+ghost use Rattle.fancy_tree.specs.Pattern.{pattern_of, assertion};
+ghost use Rattle.fancy_class.specs.Words.{is_at};
+ghost use Rattle.fancy_tree.specs.Members.{Members, members};
+ghost use Rattle.fancy_class.specs.Escapes.{is_property, set_letter};
+ghost use Rattle.fancy_class.specs.ClassGrammar.{is_ascii_meaning};
 ghost use Rattle.fancy_syntax.specs.Dialect.{IsMeant, leaf, one_of, any_case_of, spelled_character, spelled_number, spelled_set, any_code, ends_line};
 ghost use Rattle.fancy_syntax.specs.Dialect as dialect;
 ghost use Rattle.fancy_syntax.specs.Grammar.{IsAtom, start};
@@ -13,19 +13,25 @@ ghost use Rattle.fancy_syntax.specs.References.{begins_reference};
 ghost use Rattle.fancy_syntax.specs.Views.{place, Gives, GivesMeant, error_of, scope_of};
 
 use crate::build::{literal, reference};
-use crate::class::{Context, Cursor, Gathered, Refusal, Token, may_turn, set_letter};
 use crate::count::begins_count;
-use crate::error::{Error, ParseErrorKind};
 use crate::escape::{
-    anchor, control, escape_fault, is_escapable, is_one_item, is_special, place_test, start_mark,
+    anchor, escape_fault, is_escapable, is_one_item, is_special, place_test, start_mark,
 };
-use crate::named::universe;
-use crate::operation::Operation;
 use crate::parser::Parser;
 use crate::reference::{begins_reference, read_reference, reference_fault};
-use crate::set::Set;
-use crate::sharing::sharing;
-use crate::tree::{Assertion, Meaning, Tree};
+use fancy_class::context::{Context, may_turn};
+use fancy_class::cursor::Cursor;
+use fancy_class::escape::{control, set_letter};
+use fancy_class::gathered::Gathered;
+use fancy_class::refusal::Refusal;
+use fancy_class::token::Token;
+use fancy_class::words::is_at_any;
+use fancy_tree::error::{Error, ParseErrorKind};
+use fancy_tree::named::universe;
+use fancy_tree::operation::Operation;
+use fancy_tree::set::Set;
+use fancy_tree::sharing::sharing;
+use fancy_tree::tree::{Assertion, Meaning, Tree};
 use std::alloc::{AllocError, Global};
 
 /// What `\b` tests, by the word in braces behind it, and how many characters that has.
@@ -47,7 +53,7 @@ fn boundary(text: &[char]) -> (Assertion, usize)
 }
 
 /// One item of a set.
-#[tactic(auto, using(crate::proofs::PatternLemmas::pattern_equations))]
+#[tactic(auto, using(fancy_tree::proofs::PatternLemmas::pattern_equations))]
 fn item(set: Set) -> Tree
     ensures { (f : Members) → ((c : ℕ) → members set c ≡ f c) → IsMeant (one_of f) (pattern_of result) }
 {
@@ -55,7 +61,7 @@ fn item(set: Set) -> Tree
 }
 
 /// A literal under flag `i`, with the characters that this flag takes for it.
-#[tactic(auto, using(crate::proofs::PatternLemmas::pattern_equations))]
+#[tactic(auto, using(fancy_tree::proofs::PatternLemmas::pattern_equations))]
 fn in_any_case(set: Set) -> Tree
     ensures { (f : Members) → ((c : ℕ) → members set c ≡ f c) → IsMeant (any_case_of f) (pattern_of result) }
 {
@@ -130,7 +136,7 @@ impl<'a> Parser<'a> {
     }
 
     /// A character, under flag `i` with those that share its simple folding.
-    #[tactic(auto, using(crate::proofs::PatternLemmas::pattern_equations))]
+    #[tactic(auto, using(fancy_tree::proofs::PatternLemmas::pattern_equations))]
     fn spelled(&self, c: char) -> Result<Tree, AllocError>
         ensures { IfOk result (λ t. IsMeant (spelled_character (scope_of self.now) c) (pattern_of t)) }
     {
@@ -141,7 +147,7 @@ impl<'a> Parser<'a> {
     }
 
     /// A character by its number, or a byte.
-    #[tactic(auto, using(crate::proofs::PatternLemmas::pattern_equations))]
+    #[tactic(auto, using(fancy_tree::proofs::PatternLemmas::pattern_equations))]
     fn spelled_by_number(&self, c: char, is_byte: bool) -> Result<Tree, AllocError>
         requires { is_byte ≡ true → c ≤ 255 }
         ensures { IfOk result (λ t. IsMeant (spelled_number (scope_of self.now) (c, is_byte)) (pattern_of t)) }
@@ -184,7 +190,7 @@ impl<'a> Parser<'a> {
     }
 
     /// Reads so many characters that stand for this test.
-    #[tactic(auto, using(crate::proofs::PatternLemmas::pattern_equations))]
+    #[tactic(auto, using(fancy_tree::proofs::PatternLemmas::pattern_equations))]
     fn test(&mut self, test: Assertion, count: usize) -> Tree
         requires { count ≤ length self.old.rest.now }
         ensures value { GivesMeant (Some (leaf (assertion test), drop count self.old.rest.now)) (Ok result) (place self.old) (place self.new) }
@@ -340,7 +346,7 @@ impl<'a> Parser<'a> {
     }
 
     /// Reads a class.
-    #[tactic(auto, using(crate::proofs::PatternLemmas::pattern_equations))]
+    #[tactic(auto, using(fancy_tree::proofs::PatternLemmas::pattern_equations))]
     fn class(&mut self) -> Result<Tree, Error>
         requires { is_at "[" self.old.rest.now ≡ true }
         ensures value { Gives pattern_of IsAtom result (place self.old) (place self.new) }
@@ -379,7 +385,7 @@ impl<'a> Parser<'a> {
         ensures value { Gives pattern_of IsAtom result (place self.old) (place self.new) }
         ensures progress { OnOk result (length self.new.rest.now < length self.old.rest.now) }
     {
-        if self.is_at_any(&['[']) {
+        if is_at_any(self.rest, &['[']) {
             return self.class();
         }
         if begins_reference(self.rest) {

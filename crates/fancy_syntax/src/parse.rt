@@ -1,22 +1,23 @@
 //! Patterns are read here.
 
 ghost use Rattle.std.specs.Prelude.{◌≡◌, ◌+◌, ◌<◌, ◌^◌, length, map, All, Any, IfOk, IfErr, None, Some, true, false, chars};
-ghost use Rattle.fancy_syntax.specs.declared.error.Error.TheVariants.{Memory};
-ghost use Rattle.fancy_syntax.specs.Sizes.{size, are_sized};
+ghost use Rattle.fancy_tree.specs.declared.error.Error.TheVariants.{Memory};
+ghost use Rattle.fancy_tree.specs.Sizes.{size, are_sized};
 ghost use Rattle.fancy_syntax.specs.Dialect.{standard, begin, Spells, SpellsUnder, IsPattern};
-ghost use Rattle.fancy_syntax.specs.Names.{named_groups};
-ghost use Rattle.fancy_syntax.specs.Pattern.{Pattern, pattern_of};
-ghost use Rattle.fancy_syntax.specs.References.{fault_of, group_for, number_in, refers_to};
+ghost use Rattle.fancy_tree.specs.Names.{named_groups};
+ghost use Rattle.fancy_tree.specs.Pattern.{Pattern, pattern_of};
+ghost use Rattle.fancy_syntax.specs.References.{fault_of, group_for};
+ghost use Rattle.fancy_tree.specs.Refers.{number_in, refers_to};
 ghost use Rattle.fancy_syntax.specs.Refusals.{IsRefused};
 ghost use Rattle.fancy_syntax.specs.Views.{options_of, target_of, targets_of, groups_in, Refuses, RefusesReference, RefusesSizes, SpellsDraft, HasNoSpelling};
 
-use crate::error::{CompileError, Error, ParseErrorKind};
 use crate::flags::Flags;
-use crate::name::{GroupName, characters_of};
 use crate::parser::Parser;
 use crate::reference::Target;
 use crate::resolve::{Groups, names_alone};
-use crate::tree::{Meaning, Tree};
+use fancy_tree::error::{CompileError, Error, ParseErrorKind};
+use fancy_tree::name::{GroupName, characters_of};
+use fancy_tree::tree::{Meaning, Tree};
 use std::alloc::Global;
 
 /// How many parentheses may be open at one place.

@@ -1,20 +1,22 @@
 //! The parser: one pass over the characters, which goes deeper only at a parenthesis.
 
-ghost use Rattle.std.specs.Prelude.{◌≡◌, ◌+◌, ◌<◌, ◌≤◌, ◌^◌, ◌-◌, min, sum_by, true, false, if◌then◌else◌, length, nat_eq, OnOk, IfOk, IsTrue, option_map};
+ghost use Rattle.std.specs.Prelude.{◌≡◌, ◌+◌, ◌<◌, ◌≤◌, ◌^◌, ◌-◌, min, sum_by, true, false, if◌then◌else◌, length, OnOk, IfOk, option_map};
 ghost use Rattle.std.specs.Char.{len_utf8};
-ghost use Rattle.std.specs.List.{starts_with};
 ghost use Rattle.fancy_syntax.specs.Dialect.{begins_quantifier};
-ghost use Rattle.fancy_syntax.specs.Words.{is_at_any, is_at, begins_count};
+ghost use Rattle.fancy_class.specs.Words.{is_at};
+ghost use Rattle.fancy_syntax.specs.Counts.{begins_count};
 
 use crate::blank::past_blanks;
-use crate::build::{branches, chooses, is_empty, reference, repeat, sequence, wrap};
+use crate::build::{branches, chooses, reference, repeat, sequence, wrap};
 use crate::count::{Turns, begins_count, bounds, past_count};
-use crate::error::{Error, ParseErrorKind};
 use crate::flags::{Flags, read_flags};
 use crate::groups::{Grouping, Opening, mark};
-use crate::name::{GroupName, split_name, text_of};
 use crate::reference::{Target, is_left_out, read_condition};
-use crate::tree::{Meaning, Taste, Tree};
+use fancy_class::words::{begins, is_at_any};
+use fancy_tree::error::{Error, ParseErrorKind};
+use fancy_tree::measure::is_empty;
+use fancy_tree::name::{GroupName, split_name, text_of};
+use fancy_tree::tree::{Meaning, Taste, Tree};
 use std::alloc::Global;
 
 /// A pattern, and what is left of it to read.
@@ -89,8 +91,8 @@ fn flags_fault(inside: &[char], meaning: Meaning) -> ParseErrorKind {
 }
 
 impl<'a> Parser<'a> {
-    ghost use Rattle.fancy_syntax.specs.declared.error.Error.TheVariants.{ParseError};
-    ghost use Rattle.fancy_syntax.specs.declared.error.ParseErrorKind.TheVariants.{NotInProfile, TargetNotRepeatable};
+    ghost use Rattle.fancy_tree.specs.declared.error.Error.TheVariants.{ParseError};
+    ghost use Rattle.fancy_tree.specs.declared.error.ParseErrorKind.TheVariants.{NotInProfile, TargetNotRepeatable};
     ghost use Rattle.fancy_syntax.specs.Views.{place, bytes_before};
     ghost use Rattle.fancy_syntax.specs.Grammar.{past, here, ends_branch};
 
@@ -123,23 +125,6 @@ impl<'a> Parser<'a> {
         self.rest = &self.rest[count..];
     }
 
-    fn begins(&self, word: &[char]) -> bool
-        ensures value { result ≡ starts_with nat_eq self.now.rest.now word.now }
-        ensures room { IsTrue result → length word.now ≤ length self.now.rest.now }
-    {
-        self.rest.starts_with(word)
-    }
-
-    pub(crate) fn is_at_any(&self, chars: &[char]) -> bool
-        ensures value { result ≡ is_at_any chars.now self.now.rest.now }
-        ensures room { IsTrue result → 0 < length self.now.rest.now }
-    {
-        match self.rest {
-            [c, ..] => chars.contains(c),
-            [] => false,
-        }
-    }
-
     /// Moves past blanks and comments.
     fn skip_blanks(&mut self)
         ensures place { place self.new ≡ here (place self.old) }
@@ -151,13 +136,13 @@ impl<'a> Parser<'a> {
     fn ends_branch(&self) -> bool
         ensures { result ≡ ends_branch self.now.rest.now }
     {
-        self.rest.is_empty() || self.is_at_any(&['|', ')'])
+        self.rest.is_empty() || is_at_any(self.rest, &['|', ')'])
     }
 }
 
 impl<'a> Parser<'a> {
     ghost use Rattle.fancy_syntax.specs.Views.{place, found, bounds_of, itself, GivesValue};
-    ghost use Rattle.fancy_syntax.specs.Pattern.{pattern_of};
+    ghost use Rattle.fancy_tree.specs.Pattern.{pattern_of};
     ghost use Rattle.std.specs.Prelude.{Some, Ok};
     ghost use Rattle.fancy_syntax.specs.Grammar.{opening, by_mark, unmarked, named, named_reference, by_test, conditional_at, flagged, quantified, turns, taste};
 
@@ -167,7 +152,7 @@ impl<'a> Parser<'a> {
         ensures value { GivesValue found (opening (place self.old)) result (place self.new) }
         ensures progress { OnOk result (length self.new.rest.now < length self.old.rest.now) }
     {
-        if self.begins(&['(', '?', ':']) {
+        if begins(self.rest, &['(', '?', ':']) {
             self.skip(3);
             return Ok(Opening::Plain);
         }
@@ -197,26 +182,26 @@ impl<'a> Parser<'a> {
         ensures value { GivesValue found (unmarked (place self.old)) result (place self.new) }
         ensures progress { OnOk result (length self.new.rest.now < length self.old.rest.now) }
     {
-        if self.begins(&['(', '?', '<']) {
+        if begins(self.rest, &['(', '?', '<']) {
             let inside = &self.rest[3..];
             return self.named(inside);
         }
-        if self.begins(&['(', '?', 'P', '<']) {
+        if begins(self.rest, &['(', '?', 'P', '<']) {
             let inside = &self.rest[4..];
             return self.named(inside);
         }
-        if self.begins(&['(', '?', 'P', '=']) {
+        if begins(self.rest, &['(', '?', 'P', '=']) {
             let inside = &self.rest[4..];
             return self.named_reference(inside);
         }
-        if self.begins(&['(', '?', '(']) {
+        if begins(self.rest, &['(', '?', '(']) {
             let inside = &self.rest[3..];
             return self.conditional(inside);
         }
-        if self.begins(&['(', '?']) {
+        if begins(self.rest, &['(', '?']) {
             return self.flagged();
         }
-        if self.begins(&['(', '*']) {
+        if begins(self.rest, &['(', '*']) {
             return Err(self.error(ParseErrorKind::NotInProfile));
         }
         self.skip(1);
@@ -268,7 +253,7 @@ impl<'a> Parser<'a> {
     }
 
     /// Reads a condition that tests a group, or goes to one that is a pattern; it stands first in `inside`, the last characters.
-    #[tactic(auto, using(crate::proofs::PatternLemmas::pattern_equations))]
+    #[tactic(auto, using(fancy_tree::proofs::PatternLemmas::pattern_equations))]
     fn conditional(&mut self, inside: &'a [char]) -> Result<Opening, Error>
         requires { length inside.now < length self.old.rest.now }
         ensures value { GivesValue found (conditional_at (place self.old) inside.now) result (place self.new) }
@@ -323,7 +308,7 @@ impl<'a> Parser<'a> {
     }
 
     /// Puts the quantifier that stands here, if one does, on what was read.
-    #[tactic(auto, using(crate::proofs::PatternLemmas::pattern_equations))]
+    #[tactic(auto, using(fancy_tree::proofs::PatternLemmas::pattern_equations))]
     fn quantified(&mut self, part: Tree) -> Result<Tree, Error>
         ensures value { GivesValue pattern_of (quantified (pattern_of part) (place self.old)) result (place self.new) }
         ensures progress { OnOk result (length self.new.rest.now ≤ length self.old.rest.now) }
@@ -346,18 +331,18 @@ impl<'a> Parser<'a> {
         ensures value { GivesValue bounds_of (turns (place self.old)) result (place self.new) }
         ensures progress { OnOk result (length self.new.rest.now ≤ length self.old.rest.now) }
     {
-        if self.is_at_any(&['?']) {
+        if is_at_any(self.rest, &['?']) {
             self.skip(1);
             return Ok(Turns {
                 low: 0,
                 high: Some(1),
             });
         }
-        if self.is_at_any(&['*']) {
+        if is_at_any(self.rest, &['*']) {
             self.skip(1);
             return Ok(Turns { low: 0, high: None });
         }
-        if self.is_at_any(&['+']) {
+        if is_at_any(self.rest, &['+']) {
             self.skip(1);
             return Ok(Turns { low: 1, high: None });
         }
@@ -390,11 +375,11 @@ impl<'a> Parser<'a> {
         ensures value { GivesValue itself (taste (place self.old)) result (place self.new) }
         ensures progress { OnOk result (length self.new.rest.now ≤ length self.old.rest.now) }
     {
-        if self.is_at_any(&['?']) {
+        if is_at_any(self.rest, &['?']) {
             self.skip(1);
             return Ok(Taste::Lazy);
         }
-        if self.is_at_any(&['+']) {
+        if is_at_any(self.rest, &['+']) {
             self.skip(1);
             return Ok(Taste::Possessive);
         }
@@ -404,7 +389,7 @@ impl<'a> Parser<'a> {
 
 impl<'a> Parser<'a> {
     ghost use Rattle.fancy_syntax.specs.Views.{place, found, Gives, GivesOpening, Alternation, Sequence, patterns_of, part_of};
-    ghost use Rattle.fancy_syntax.specs.Pattern.{pattern_of};
+    ghost use Rattle.fancy_tree.specs.Pattern.{pattern_of};
     ghost use Rattle.fancy_syntax.specs.Grammar.{Branches, Opens, Item};
 
     /// Reads a pattern up to the end of the group or of the whole; `room` more parentheses may be opened inside.
@@ -426,7 +411,7 @@ impl<'a> Parser<'a> {
         loop {
             let branch = self.sequence(room)?;
             found.push(branch)?;
-            if !self.is_at_any(&['|']) {
+            if !is_at_any(self.rest, &['|']) {
                 break;
             }
             self.skip(1);
@@ -480,7 +465,7 @@ impl<'a> Parser<'a> {
             return Ok(how);
         }
         let condition = self.alternatives(room - 2)?;
-        if !self.is_at_any(&[')']) {
+        if !is_at_any(self.rest, &[')']) {
             return Err(self.error(ParseErrorKind::UnclosedOpenParen));
         }
         self.skip(1);
@@ -496,7 +481,7 @@ impl<'a> Parser<'a> {
         ensures value { Gives part_of (Item room) result (place self.old) (place self.new) }
         ensures progress { OnOk result (length self.new.rest.now < length self.old.rest.now) }
     {
-        if !self.is_at_any(&['(']) {
+        if !is_at_any(self.rest, &['(']) {
             let part = self.atom()?;
             return Ok(Some(self.quantified(part)?));
         }
@@ -509,7 +494,7 @@ impl<'a> Parser<'a> {
             return Ok(Some(self.quantified(reference(folded, index))?));
         }
         let body = self.alternatives(room - 1)?;
-        if !self.is_at_any(&[')']) {
+        if !is_at_any(self.rest, &[')']) {
             return Err(self.error(ParseErrorKind::UnclosedOpenParen));
         }
         self.skip(1);

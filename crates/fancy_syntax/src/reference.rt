@@ -1,13 +1,13 @@
 //! References to groups, as they are written: `\1`, `\k<n>`, `\k'n'`, `\k<-1>`, `(?P=n)`, and in conditions `1`, `<n>` and `'n'`.
 
 ghost use Rattle.std.specs.Prelude.{◌≡◌, ℕ, ◌-◌, ◌^◌, ◌<◌, ◌≤◌, min, IfOk, IfSome, length, option_map};
-ghost use Rattle.fancy_syntax.specs.Words.{is_at_any};
 ghost use Rattle.fancy_syntax.specs.References.{back, number_reference, distance_reference, name_reference, delimited, reference, begins_reference, within_largest, number_condition, name_condition, group_condition, is_left_out};
 ghost use Rattle.fancy_syntax.specs.Views.{target_of, reading_of};
 
 use crate::count::{decimal, is_at_digit, past_digits};
-use crate::error::ParseErrorKind;
-use crate::name::{split_name, text_of};
+use fancy_class::words::is_at_any;
+use fancy_tree::error::ParseErrorKind;
+use fancy_tree::name::{split_name, text_of};
 use std::alloc::{AllocError, Global};
 
 /// The largest number that a reference or the refusal of one tells.
@@ -28,16 +28,6 @@ pub(crate) enum Target {
 
 /// A reference that was read, and the text behind it.
 pub(crate) type Reading<'a> = (Target, &'a [char]);
-
-/// Whether the first character is one of these.
-fn is_at_any(text: &[char], chars: &[char]) -> bool
-    ensures { result ≡ is_at_any chars.now text.now }
-{
-    match text {
-        [c, ..] => chars.contains(c),
-        [] => false,
-    }
-}
 
 /// Whether what may only be a reference begins here.
 pub(crate) fn begins_reference(text: &[char]) -> bool

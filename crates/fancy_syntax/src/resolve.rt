@@ -2,14 +2,14 @@
 
 ghost use Rattle.std.specs.Prelude.{◌≡◌, ℕ, ◌-◌, ◌^◌, ◌&&◌, min, None, Some, map, All, Any, IfOk, IfErr, chars, string_bytes};
 ghost use Rattle.fancy_syntax.specs.Dialect.{has_name};
-ghost use Rattle.fancy_syntax.specs.Names.{named_groups};
+ghost use Rattle.fancy_tree.specs.Names.{named_groups};
 ghost use Rattle.fancy_syntax.specs.References.{no_name as no_name_fault, group_numbered, group_in_digits, resolve, fault_of, group_for};
 ghost use Rattle.fancy_syntax.specs.Views.{target_of, targets_of, groups_of, Resolves, RefusesReference};
 
 use crate::count::{decimal, past_digits};
-use crate::error::{CompileError, Error};
-use crate::name::{GroupName, characters_of, last_named};
 use crate::reference::{LARGEST_TOLD, Target};
+use fancy_tree::error::{CompileError, Error};
+use fancy_tree::name::{GroupName, characters_of, last_named};
 use std::alloc::Global;
 
 /// The groups of a whole pattern, as references look at them.

@@ -1,10 +1,10 @@
 //! The members of classes, by the sets that they are read as, and why classes are refused.
 
 use crate::asking::{TextListRow, check_text_list, kind_of};
-use fancy_syntax::error::ParseErrorKind;
 use fancy_syntax::flags::Flags;
 use fancy_syntax::parse::{Syntax, parse_with};
-use fancy_syntax::tree::{Meaning, Tree};
+use fancy_tree::error::ParseErrorKind;
+use fancy_tree::tree::{Meaning, Tree};
 use std::alloc::Global;
 use std::process::Abort;
 

@@ -2,7 +2,7 @@
 
 use crate::asking::{
     CHARACTERS, Flaw, FlawRow, GroupsRow, KindRow, ONLY_NAMED, TextListRow, TextRow, check_flaw,
-    check_groups, check_kind, check_text_list, check_texts,
+    check_groups, check_kind, check_text_list, check_texts, kind_of, read_nested,
 };
 use fancy_regex::ParseErrorKind;
 
@@ -162,8 +162,17 @@ const FAULTS: &[KindRow] = &[
 ];
 
 #[test]
-fn conditionals_that_are_none(rt: HostRuntime) {
+fn conditionals_of_one_fault(rt: HostRuntime) {
     for row in FAULTS {
         check_kind(&rt, rt.alloc(), row);
     }
+}
+
+// in the innermost condition two parentheses are open besides those of the bodies round it
+#[test]
+fn both_parentheses_of_a_condition_are_open_in_it(rt: HostRuntime) {
+    let parts = ("(?(a)", "b", ")");
+    assert!(rt; read_nested(&rt, rt.alloc(), parts, 63).is_ok());
+    let too_deep = read_nested(&rt, rt.alloc(), parts, 64);
+    assert!(rt; kind_of(&too_deep) == Some(ParseErrorKind::RecursionExceeded));
 }

@@ -2,7 +2,7 @@
 
 use fancy_engine::compile::compile;
 use fancy_machine::units::units_back;
-use fancy_syntax::tree::{Meaning, Taste, Tree};
+use fancy_tree::tree::{Meaning, Taste, Tree};
 
 #[test]
 fn units_stand_before_a_place(rt: HostRuntime) {
@@ -13,7 +13,7 @@ fn units_stand_before_a_place(rt: HostRuntime) {
 
 // `a+`
 #[test]
-#[tactic(auto, using(fancy_syntax::proofs::PatternLemmas::pattern_equations), unfolding(fancy_syntax::specs::Sizes::nodes))]
+#[tactic(auto, using(fancy_tree::proofs::PatternLemmas::pattern_equations), unfolding(fancy_tree::specs::Sizes::nodes))]
 fn a_star_shares_its_turn(rt: HostRuntime) {
     let alloc = rt.alloc();
     let tree = Tree::Repeat {

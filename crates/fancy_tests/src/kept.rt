@@ -176,23 +176,31 @@ fn texts_are_cut_at_kept_starts(rt: HostRuntime) {
     }
 }
 
-/// Options, a pattern, a text, and where the first match starts and ends of an input that says that it does not go on
-/// from a match.
-const SUPPRESSED: &[(Settings, &str, &str, Option<Span>)] = &[
-    (CHARACTERS, "\\Gx", "x", Some((0, 1))),
-    (OVERRIDING, "\\Gx", "x", None),
-    (OVERRIDING, "\\Gx|y", "xy", Some((1, 2))),
-    (OVERRIDING, "^x", "x", Some((0, 1))),
+/// Options, a pattern, a text, and where the first match starts and ends: of an input as it is made, and of one that says
+/// that it does not go on from a match.
+type ContinuedRow = (
+    Settings,
+    &'static str,
+    &'static str,
+    Option<Span>,
+    Option<Span>,
+);
+
+const SUPPRESSED: &[ContinuedRow] = &[
+    (CHARACTERS, "\\Gx", "x", Some((0, 1)), Some((0, 1))),
+    (OVERRIDING, "\\Gx", "x", Some((0, 1)), None),
+    (OVERRIDING, "\\Gx|y", "xy", Some((0, 1)), Some((1, 2))),
+    (OVERRIDING, "^x", "x", Some((0, 1)), Some((0, 1))),
 ];
 
 #[test]
 fn an_input_may_not_go_on_from_a_match(rt: HostRuntime) {
-    for &(settings, pattern, haystack, wanted) in SUPPRESSED {
+    for &(settings, pattern, haystack, going_on, suppressed) in SUPPRESSED {
         let regex = regex_with(&rt, rt.alloc(), settings, pattern);
-        let input = RegexInput::new(haystack).continue_from_previous_match_end(false);
-        assert_eq!(rt; first_span(&rt, &regex, input), wanted, "{pattern}");
         let input = RegexInput::new(haystack);
-        assert!(rt; first_span(&rt, &regex, input).is_some(), "{pattern}");
+        assert_eq!(rt; first_span(&rt, &regex, input), going_on, "{pattern}");
+        let input = RegexInput::new(haystack).continue_from_previous_match_end(false);
+        assert_eq!(rt; first_span(&rt, &regex, input), suppressed, "{pattern}");
     }
 }
 
@@ -203,13 +211,23 @@ const IN_LOOK_AROUND: &[KindRow] = &[
     ("(?<!(?:a\\K))b", ParseErrorKind::NotInProfile),
     ("(?=(?>a(\\K)))b", ParseErrorKind::NotInProfile),
     ("(?((?=\\K))a)", ParseErrorKind::NotInProfile),
-    ("[\\K]", ParseErrorKind::InvalidEscape),
-    ("[\\G]", ParseErrorKind::InvalidEscape),
 ];
 
 #[test]
 fn no_start_is_kept_in_look_around(rt: HostRuntime) {
     for row in IN_LOOK_AROUND {
+        check_kind(&rt, rt.alloc(), row);
+    }
+}
+
+const IN_CLASSES: &[KindRow] = &[
+    ("[\\K]", ParseErrorKind::InvalidEscape),
+    ("[\\G]", ParseErrorKind::InvalidEscape),
+];
+
+#[test]
+fn classes_have_no_such_members(rt: HostRuntime) {
+    for row in IN_CLASSES {
         check_kind(&rt, rt.alloc(), row);
     }
 }

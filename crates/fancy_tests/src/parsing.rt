@@ -1,9 +1,9 @@
 //! Where patterns are refused and why, and how large they are that are read.
 
 use crate::asking::{CHARACTERS, FaultRow, ONLY_NAMED, check_fault, is_too_complex, repeated};
-use fancy_syntax::error::ParseErrorKind;
 use fancy_syntax::parse::{Syntax, parse, parse_with};
-use fancy_syntax::tree::Meaning;
+use fancy_tree::error::ParseErrorKind;
+use fancy_tree::tree::Meaning;
 use std::alloc::Global;
 use std::process::Abort;
 

@@ -3,9 +3,9 @@
 use crate::asking::{
     CheckedRow, TemplateRow, Told, check_escaped, check_expanded, check_templates, check_told,
 };
-use fancy_core::steps::Step;
-use fancy_core::write::write_whole;
 use fancy_regex::{Expander, Regex, escape};
+use fancy_template::steps::Step;
+use fancy_template::write::write_whole;
 use std::alloc::Global;
 use std::io;
 use std::process::Abort;

@@ -6,10 +6,11 @@ ghost use Rattle.fancy_core.specs.Names.{span_named};
 
 use crate::captures::Captures;
 use fancy_input::input::Input;
+use fancy_template::groups::GroupNames;
 
 impl<'r, S: Input> Captures<'r, S> {
     /// What the last group in the pattern with this name matched. `None` where that group took no part, and where no
-    /// group has the name. Group 0, the whole match, never has a name (the law [`crate::laws::names_stand_on_groups`]).
+    /// group has the name. Group 0, the whole match, never has a name (the law `fancy_regex::laws::names_stand_on_groups`).
     ///
     /// ```text
     /// let captures = Regex::new(alloc, "(?<a>x)(?<a>y)")?.captures("xy")?;  // Some

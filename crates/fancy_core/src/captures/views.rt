@@ -8,7 +8,6 @@ ghost use Rattle.fancy_core.specs.Captured.{spans_in, searched_in, found_by, sub
 use crate::captures::Captures;
 use crate::regex::Regex;
 use fancy_input::input::{Haystack, Input};
-use std::alloc::Global;
 
 impl<'r, S: Input> Captures<'r, S> {
     pub(crate) fn new(
@@ -26,11 +25,6 @@ impl<'r, S: Input> Captures<'r, S> {
             haystack,
             slots,
         }
-    }
-
-    /// The allocator of the regex.
-    pub(crate) fn allocator(&self) -> Global {
-        self.regex.allocator()
     }
 
     /// How many groups the pattern has, with group 0, also those that took no part.

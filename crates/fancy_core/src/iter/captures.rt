@@ -15,7 +15,7 @@ use crate::iter::Matches;
 use crate::regex::Regex;
 use fancy_input::input::{Haystack, Input};
 use fancy_input::regex_input::RegexInput;
-use fancy_syntax::error::{Error, Result};
+use fancy_tree::error::{Error, Result};
 
 /// The matches of an input with their groups, one behind the other.
 ///

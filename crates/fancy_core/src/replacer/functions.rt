@@ -2,12 +2,12 @@
 
 ghost use Rattle.std.specs.Prelude.{◌≡◌, ◌⊎◌, None, Ok, Err, string_bytes};
 ghost use Rattle.std.proofs.Common.{rules};
-ghost use Rattle.fancy_syntax.specs.declared.error.Error.TheVariants.{Memory};
+ghost use Rattle.fancy_tree.specs.declared.error.Error.TheVariants.{Memory};
 ghost use Rattle.fancy_core.specs.GroupTexts.{bytes_of_str, seen_in};
 
 use crate::captures::Captures;
 use crate::replacer::Replacer;
-use fancy_syntax::error::Result;
+use fancy_tree::error::Result;
 
 /// A function that gives the text for each match. It may keep a state from call to call.
 ///

@@ -4,7 +4,7 @@ ghost use Rattle.std.specs.Prelude.{◌≡◌};
 
 use crate::captures::Captures;
 use crate::replacer::Replacer;
-use fancy_syntax::error::Result;
+use fancy_tree::error::Result;
 
 /// A replacer that lends another one, made by [`Replacer::by_ref`]. Each call is one of that other, whose state it leaves behind.
 pub struct ReplacerRef<'a, R: Replacer>(pub &'a mut R);

@@ -2,11 +2,11 @@
 
 ghost use Rattle.std.specs.Prelude.{◌≡◌, Some};
 ghost use Rattle.std.proofs.Common.{rules};
-ghost use Rattle.fancy_syntax.specs.declared.error.Error.TheVariants.{Memory};
+ghost use Rattle.fancy_tree.specs.declared.error.Error.TheVariants.{Memory};
 
 use crate::captures::Captures;
 use crate::replacer::Replacer;
-use fancy_syntax::error::Result;
+use fancy_tree::error::Result;
 
 /// A text that is taken as it stands, also where it has substitution characters.
 ///

@@ -2,14 +2,14 @@
 
 ghost use Rattle.std.specs.Prelude.{◌≡◌, ◌++◌, List, ℕ, IfErr, OnOk, OnErr, option_map, string_bytes};
 ghost use Rattle.std.specs.Cow.{cow_str_bytes};
-ghost use Rattle.fancy_syntax.specs.declared.error.Error.TheVariants.{Memory};
+ghost use Rattle.fancy_tree.specs.declared.error.Error.TheVariants.{Memory};
 ghost use Rattle.fancy_core.specs.GroupTexts.{bytes_of_str, seen_in};
 ghost use Rattle.fancy_core.specs.Replacing.{fixed_of, Expands};
 
 use crate::captures::Captures;
-use crate::expander::includes;
 use crate::replacer::Replacer;
-use fancy_syntax::error::{Error, Result};
+use fancy_template::expander::includes;
+use fancy_tree::error::{Error, Result};
 use std::alloc::Global;
 use std::borrow::CowStr;
 

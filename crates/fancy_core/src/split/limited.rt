@@ -8,7 +8,7 @@ ghost use Rattle.fancy_core.specs.Searching.{Suits};
 
 use crate::regex::Regex;
 use crate::split::Split;
-use fancy_syntax::error::Result;
+use fancy_tree::error::Result;
 
 /// The pieces of a text between the matches in it, as [`Split`] has them, up to a limit.
 ///

@@ -1,6 +1,3 @@
-use Rattle.std.proofs.Common.{◌≡◌, map, sym, ◌∙◌, ap}
-use Rattle.fancy_syntax.specs.Pattern.{pattern_of}
-use Rattle.fancy_engine.specs.Means.{is_easy, all_easy}
 use Rattle.fancy_engine.proofs.EasyLemmas.{easy-Sequence, easy-Alternative}
 use Rattle.fancy_engine.proofs.classify.+is_easy.Goals as goal
 

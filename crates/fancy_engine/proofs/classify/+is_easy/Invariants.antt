@@ -1,5 +1,5 @@
 use Rattle.std.proofs.Common.{◌≡◌, map, drop}
-use Rattle.fancy_syntax.specs.Pattern.{pattern_of}
+use Rattle.fancy_tree.specs.Pattern.{pattern_of}
 use Rattle.fancy_engine.specs.Means.{all_easy}
 use Rattle.fancy_engine.proofs.classify.+is_easy.Given as goal
 

@@ -2,7 +2,7 @@ use Rattle.std.proofs.Common.{ℕ, ◌≡◌, ◌+◌, ◌-◌, ◌*◌, ◌≤�
 use Rattle.fancy_engine.specs.Code.{instrs_of}
 use Rattle.fancy_engine.specs.Work.{steps_of, returns_of}
 use Rattle.fancy_engine.specs.Readings.{plain}
-use Rattle.fancy_engine.specs.LastLines.{KnowsLastLines}
+use Rattle.fancy_input.specs.LastLines.{KnowsLastLines}
 use Rattle.fancy_engine.specs.Runner.{Known, first_accepted, events_of, way, good_end, ends_well, AllFailed, AllWithin, Running}
 use Rattle.fancy_engine.specs.Marked.{marked}
 use Rattle.fancy_engine.proofs.runner.follow.Given as goal

@@ -1,11 +1,11 @@
 use Rattle.std.proofs.Common.{◌≡◌, ◌+◌, ◌-◌, ◌*◌, ◌<◌, ◌≤◌, ◌^◌, Bool, length}
-use Rattle.fancy_syntax.specs.Pattern.{Pattern}
+use Rattle.fancy_tree.specs.Pattern.{Pattern}
 use Rattle.fancy_engine.specs.Code.{instrs_of, code_len}
 use Rattle.fancy_engine.specs.Marked.{marked}
 use Rattle.fancy_engine.specs.Means.{IsCodeOf, depth}
 use Rattle.fancy_engine.specs.Queries.{query_of}
 use Rattle.fancy_engine.specs.Readings.{plain}
-use Rattle.fancy_engine.specs.LastLines.{KnowsLastLines}
+use Rattle.fancy_input.specs.LastLines.{KnowsLastLines}
 use Rattle.fancy_engine.specs.Runner.{good_end, AllFailed}
 use Rattle.fancy_engine.specs.Search.{search, answer_from}
 use Rattle.fancy_engine.specs.Work.{steps_of, returns_of}

@@ -1,7 +1,7 @@
 use Rattle.std.proofs.Common.{ℕ, ◌==◌, List, ◌∷◌, [], Option, Some, Result, Ok, Err, sym, refl, ap, ◌∙◌, subst}
 use Rattle.std.specs.Prelude.{is_some}
-use Rattle.fancy_syntax.specs.Sets.{has}
-use Rattle.fancy_syntax.specs.declared.char_set.CharSet.{CharSet}
+use Rattle.fancy_tree.specs.Sets.{has}
+use Rattle.fancy_tree.specs.declared.char_set.CharSet.{CharSet}
 use Rattle.fancy_engine.specs.declared.code.Instr.TheVariants as i
 use Rattle.fancy_engine.specs.declared.runner.Next.{Next}
 use Rattle.fancy_engine.specs.declared.refusal.Refusal.{Refusal}

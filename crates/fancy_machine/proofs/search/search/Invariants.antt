@@ -2,7 +2,7 @@ use Rattle.std.proofs.Common.{◌≡◌, ◌+◌, ◌-◌, ◌≤◌, length}
 use Rattle.fancy_engine.specs.Events.{marks_in, returns_in}
 use Rattle.fancy_engine.specs.Means.{depth}
 use Rattle.fancy_engine.specs.Search.{search, returns, choices, answer_from, gone_from}
-use Rattle.fancy_engine.specs.LastLines.{KnowsLastLines}
+use Rattle.fancy_input.specs.LastLines.{KnowsLastLines}
 use Rattle.fancy_engine.specs.Work.{steps_of, returns_of}
 use Rattle.fancy_machine.specs.Asked.{asked, all_tried}
 use Rattle.fancy_machine.proofs.search.search.Given as goal

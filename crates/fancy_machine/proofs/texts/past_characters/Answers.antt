@@ -1,6 +1,6 @@
 use Rattle.std.proofs.Common.{ℕ, List, length, drop, sym, ap, ◌∙◌}
 use Rattle.std.specs.Prelude.{slice_index}
-use Rattle.fancy_syntax.specs.declared.tree.Meaning.TheVariants.{Unicode}
+use Rattle.fancy_tree.specs.declared.tree.Meaning.TheVariants.{Unicode}
 use Rattle.fancy_engine.specs.Backreference.{past_characters}
 use Rattle.fancy_machine.specs.Field.{context_in}
 use Rattle.fancy_machine.proofs.Seen.{byte_seen}

@@ -1,5 +1,5 @@
 use Rattle.std.proofs.Common.{◌≡◌, length}
-use Rattle.fancy_syntax.specs.declared.tree.Meaning.TheVariants.{Unicode}
+use Rattle.fancy_tree.specs.declared.tree.Meaning.TheVariants.{Unicode}
 use Rattle.fancy_engine.specs.Backreference.{past_characters}
 use Rattle.fancy_machine.specs.declared.machine.Field.{Field}
 use Rattle.fancy_machine.specs.Field.{context_in}

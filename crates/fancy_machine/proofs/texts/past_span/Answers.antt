@@ -1,5 +1,5 @@
 use Rattle.std.proofs.Common.{◌∙◌}
-use Rattle.fancy_syntax.specs.declared.tree.Meaning.TheVariants.{Unicode, Bytes, AsciiText}
+use Rattle.fancy_tree.specs.declared.tree.Meaning.TheVariants.{Unicode, Bytes, AsciiText}
 use Rattle.fancy_machine.specs.Field.{context_in}
 use Rattle.fancy_machine.proofs.RecallLemmas.{text_seen, again_exact, again_folded}
 use Rattle.fancy_machine.proofs.texts.past_span.Goals as goal

@@ -1,5 +1,5 @@
 use Rattle.std.proofs.Common.{◌≡◌, drop}
-use Rattle.fancy_syntax.specs.Words.{past_comment}
+use Rattle.fancy_syntax.specs.Blanks.{past_comment}
 use Rattle.fancy_syntax.proofs.blank.past_comment.Given as goal
 
 abbrev pub invariant-loop-i : goal.invariant-loop-i

@@ -1,5 +1,5 @@
 use Rattle.std.proofs.Common.{◌≡◌, map, take}
-use Rattle.fancy_syntax.specs.Pattern.{pattern_of, character}
+use Rattle.fancy_tree.specs.Pattern.{pattern_of, character}
 use Rattle.fancy_syntax.proofs.build.one_by_one.Given as goal
 
 abbrev pub invariant-loop-byte : goal.invariant-loop-byte

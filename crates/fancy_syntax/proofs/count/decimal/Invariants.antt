@@ -1,5 +1,5 @@
 use Rattle.std.proofs.Common.{◌≡◌, ◌<◌, ◌-◌, ◌^◌, min, drop}
-use Rattle.fancy_syntax.specs.Words.{decimal_from, decimal}
+use Rattle.fancy_syntax.specs.Counts.{decimal_from, decimal}
 use Rattle.fancy_syntax.proofs.count.decimal.Given as goal
 
 abbrev pub invariant-loop-c : goal.invariant-loop-c

@@ -1,7 +1,7 @@
 use Rattle.std.proofs.Common.{◌∙◌, sym, ap, subst}
-use Rattle.fancy_syntax.specs.Pattern.{in_any_case}
+use Rattle.fancy_tree.specs.Pattern.{in_any_case}
 use Rattle.fancy_syntax.specs.Dialect.{IsMeant, any_case_of, by_folding}
-use Rattle.fancy_syntax.proofs.PatternLemmas.{pattern-InAnyCase}
+use Rattle.fancy_tree.proofs.PatternLemmas.{pattern-InAnyCase}
 use Rattle.fancy_syntax.proofs.lexeme.in_any_case.Goals as goal
 
 pub returns : goal.returns

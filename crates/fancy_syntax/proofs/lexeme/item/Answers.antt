@@ -1,7 +1,7 @@
 use Rattle.std.proofs.Common.{◌∙◌, sym, ap, subst}
-use Rattle.fancy_syntax.specs.Pattern.{member_of}
+use Rattle.fancy_tree.specs.Pattern.{member_of}
 use Rattle.fancy_syntax.specs.Dialect.{IsMeant, one_of, by_edges}
-use Rattle.fancy_syntax.proofs.PatternLemmas.{pattern-Member}
+use Rattle.fancy_tree.proofs.PatternLemmas.{pattern-Member}
 use Rattle.fancy_syntax.proofs.lexeme.item.Goals as goal
 
 pub returns : goal.returns

@@ -1,7 +1,7 @@
 use Rattle.std.proofs.Common.{◌∙◌, arith}
 use Rattle.std.proofs.lemmas.Result.{err_from_is_err_and}
-use Rattle.fancy_syntax.specs.declared.error.Error.TheVariants.{CompileError}
-use Rattle.fancy_syntax.specs.declared.error.CompileError.TheVariants.{PatternTooComplex}
+use Rattle.fancy_tree.specs.declared.error.Error.TheVariants.{CompileError}
+use Rattle.fancy_tree.specs.declared.error.CompileError.TheVariants.{PatternTooComplex}
 use Rattle.fancy_syntax.specs.Views.{options_of}
 use Rattle.fancy_syntax.proofs.ParseLemmas.{refused_as, refused_is_memory, accepted, refused_by, refused_sizes, only_memory, too_complex}
 use Rattle.fancy_syntax.proofs.parse.parse_with.Goals as goal

@@ -1,7 +1,7 @@
 use Rattle.std.proofs.Common.{◌≡◌, sym, ◌∙◌}
 use Rattle.std.proofs.Math.Logic.{∥∥₁_elim, ∥∥₁_prop}
 use Rattle.fancy_engine.specs.Means.{IsCodeOf}
-use Rattle.fancy_syntax.specs.Pattern.{pattern_of}
+use Rattle.fancy_tree.specs.Pattern.{pattern_of}
 use Rattle.fancy_core.proofs.ServedLemmas.{by_machine}
 use Rattle.fancy_core.proofs.regex.Regex.backtrack.Goals as goal
 

@@ -1,7 +1,7 @@
 use Rattle.std.proofs.Common.{◌≡◌, ◌<◌, ◌≤◌, ◌+◌, ℕ, List, Option, Some, length, slice_get, set, take, chars, vec_items, arith, subst, sym, ap, ◌∙◌}
 use Rattle.std.specs.Borrow.{Bor}
 use Rattle.std.proofs.lemmas.List.{take_all, length-set}
-use Rattle.fancy_syntax.specs.Names.{named_groups}
+use Rattle.fancy_tree.specs.Names.{named_groups}
 use Rattle.fancy_core.specs.Names.{names_in}
 use Rattle.fancy_core.specs.Regexes.{groups_in}
 use Rattle.fancy_core.proofs.NamesLemmas.{Placed, placed_none, as_many, placed_more, placed_past, placed_all}

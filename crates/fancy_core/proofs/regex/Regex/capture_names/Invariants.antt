@@ -1,5 +1,5 @@
 use Rattle.std.proofs.Common.{◌≡◌, length, take}
-use Rattle.fancy_syntax.specs.Names.{named_groups}
+use Rattle.fancy_tree.specs.Names.{named_groups}
 use Rattle.fancy_core.specs.Regexes.{groups_in}
 use Rattle.fancy_core.proofs.NamesLemmas.{Placed}
 use Rattle.fancy_core.proofs.regex.Regex.capture_names.Given as goal

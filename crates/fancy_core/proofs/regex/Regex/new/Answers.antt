@@ -6,4 +6,4 @@ pub returns-in_err-pattern : goal.returns-in_err-pattern
 returns-in_err-pattern c = let q = err_from_is_err_and c.from_residual.result c.from_residual.ensures.1 in rw (q.1, q.2) (out_of_memory _ _)
 
 pub returns : goal.returns
-returns c = rw (c.new.ensures, c.in_ok-pattern.ensures.ok) at c.build.ensures
+returns c = rw (c.default.ensures, c.in_ok-pattern.ensures.ok) at c.with_options.ensures

@@ -1,7 +1,7 @@
 use Rattle.std.proofs.Common.{rules, List, ℕ, ◌≡◌, [], ◌∷◌, ◌++◌, string_bytes, slice_range, None, inl, sym, subst, ◌∙◌, ap}
 use Rattle.std.specs.Prelude.{◌⊎◌}
 use Rattle.std.proofs.lemmas.Result.{err_from_is_err_and}
-use Rattle.fancy_syntax.specs.declared.error.Error.TheVariants.{Memory}
+use Rattle.fancy_tree.specs.declared.error.Error.TheVariants.{Memory}
 use Rattle.fancy_core.specs.Left.{item_in}
 use Rattle.fancy_core.specs.Matching.{Item, start_of}
 use Rattle.fancy_core.specs.Pieces.{limited}

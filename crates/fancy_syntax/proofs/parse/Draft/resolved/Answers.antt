@@ -1,8 +1,9 @@
 use Rattle.std.proofs.Common.{◌≡◌, List, All, Any, Some, None, map, ap, ap₂, ◌∙◌, subst}
 use Rattle.std.proofs.lemmas.Result.{err_from_is_err_and}
 use Rattle.fancy_syntax.specs.declared.reference.Target.{Target as Found_target}
-use Rattle.fancy_syntax.specs.Pattern.{pattern_of}
-use Rattle.fancy_syntax.specs.References.{Groups, group_for, fault_of, number_in, refers_to}
+use Rattle.fancy_tree.specs.Pattern.{pattern_of}
+use Rattle.fancy_syntax.specs.References.{Groups, group_for, fault_of}
+use Rattle.fancy_tree.specs.Refers.{number_in, refers_to}
 use Rattle.fancy_syntax.specs.Views.{target_of, targets_of, groups_in, RefusesReference}
 use Rattle.fancy_syntax.proofs.ResolveLemmas.{same_groups}
 use Rattle.fancy_syntax.proofs.parse.Draft.resolved.Goals as goal

@@ -1,7 +1,7 @@
 use Rattle.std.proofs.Common.{◌-◌, ◌∙◌, subst, [], ◌∷◌, sym, ap, map, append-nil, arith}
 use Rattle.std.proofs.lemmas.List.{map-append}
 use Rattle.std.proofs.lemmas.Result.{err_from_is_err_and}
-use Rattle.fancy_syntax.specs.Pattern.{pattern_of}
+use Rattle.fancy_tree.specs.Pattern.{pattern_of}
 use Rattle.fancy_syntax.specs.Dialect.{back_to}
 use Rattle.fancy_syntax.specs.Grammar.{Place, Branches, Opens, Item, quantified, start}
 use Rattle.fancy_syntax.specs.Views.{place, found, patterns_of, part_of, Sequence, IsTheReading}

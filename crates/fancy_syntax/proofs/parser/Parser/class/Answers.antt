@@ -1,9 +1,9 @@
 use Rattle.std.proofs.Common.{◌∙◌, sym, ap, subst}
-use Rattle.fancy_syntax.specs.Pattern.{member_of}
+use Rattle.fancy_tree.specs.Pattern.{member_of}
 use Rattle.fancy_syntax.specs.Views.{place, scope_of, IsTheReading}
 use Rattle.fancy_syntax.specs.Dialect.{by_class}
 use Rattle.fancy_syntax.specs.Grammar.{IsAtom, alone, start}
-use Rattle.fancy_syntax.proofs.PatternLemmas.{pattern-Member}
+use Rattle.fancy_tree.proofs.PatternLemmas.{pattern-Member}
 use Rattle.fancy_syntax.proofs.LexemeLemmas.{the_atom, class_refused}
 use Rattle.fancy_syntax.proofs.parser.Parser.class.Goals as goal
 

@@ -1,7 +1,7 @@
 use Rattle.std.proofs.Common.{◌≡◌, List, [], ◌∷◌, length, map, sym, ap, ◌∙◌, arith}
 use Rattle.std.specs.Option.{option_map}
 use Rattle.std.proofs.lemmas.List.{length-map, map-append}
-use Rattle.fancy_syntax.specs.Pattern.{backreference}
+use Rattle.fancy_tree.specs.Pattern.{backreference}
 use Rattle.fancy_syntax.specs.References.{Target}
 use Rattle.fancy_syntax.specs.Grammar.{start}
 use Rattle.fancy_syntax.specs.Views.{scope_of, place, target_of, reading_of}

@@ -1,5 +1,5 @@
 use Rattle.std.proofs.Common.{sym}
-use Rattle.fancy_syntax.proofs.PatternLemmas.{pattern-RawByte}
+use Rattle.fancy_tree.proofs.PatternLemmas.{pattern-RawByte}
 use Rattle.fancy_syntax.proofs.LexemeLemmas.{leaf_is}
 use Rattle.fancy_syntax.proofs.parser.Parser.spelled_by_number.Goals as goal
 

@@ -1,4 +1,4 @@
-use Rattle.fancy_syntax.proofs.PatternLemmas.{pattern-Assertion}
+use Rattle.fancy_tree.proofs.PatternLemmas.{pattern-Assertion}
 use Rattle.fancy_syntax.specs.Views.{place}
 use Rattle.fancy_syntax.proofs.LexemeLemmas.{leaf_past}
 use Rattle.fancy_syntax.proofs.parser.Parser.test.Goals as goal

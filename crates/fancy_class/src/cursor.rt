@@ -1,0 +1,20 @@
+//! The text of a class, as far as it is left.
+
+ghost use Rattle.std.specs.Prelude.{◌≡◌, ◌+◌, ◌≤◌, length, drop};
+
+/// What is left to read.
+#[derive(Drop)]
+pub struct Cursor<'a> {
+    pub rest: &'a [char],
+}
+
+impl<'a> Cursor<'a> {
+    /// Passes over so many characters.
+    pub fn skip(&mut self, count: usize)
+        requires { count ≤ length self.old.rest.now }
+        ensures place { self.new.rest.now ≡ drop count self.old.rest.now }
+        ensures len { length self.new.rest.now + count ≡ length self.old.rest.now }
+    {
+        self.rest = &self.rest[count..];
+    }
+}

@@ -1,7 +1,0 @@
-use Rattle.std.proofs.Common.{chars, sym, ◌∙◌}
-use Rattle.fancy_core.specs.Checks.{no_name}
-use Rattle.fancy_core.proofs.CheckLemmas.{name_refused}
-use Rattle.fancy_core.proofs.check.check_name.Goals as goal
-
-pub returns-in-None-clause-refused : goal.returns-in-None-clause-refused
-returns-in-None-clause-refused c = (no_name (chars c.args.name.now), name_refused c.args.regex.now (chars c.args.name.now) c.group_named.result c.group_named.ensures (sym c.is_some.ensures ∙ c.if-is_some.false) c.in-None.ensures, c.no_group_named.ensures)

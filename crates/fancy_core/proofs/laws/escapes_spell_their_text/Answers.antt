@@ -1,6 +1,0 @@
-use Rattle.std.proofs.Common.{chars}
-use Rattle.fancy_core.proofs.LiteralLemmas.{escape_spells, spells_escape}
-use Rattle.fancy_core.proofs.laws.escapes_spell_their_text.Goals as goal
-
-pub returns : goal.returns
-returns c p = (escape_spells (chars c.args._text.now) p, spells_escape (chars c.args._text.now) p)

@@ -1,5 +1,0 @@
-use Rattle.fancy_core.proofs.RowLemmas.{strips}
-use Rattle.fancy_core.proofs.letters.after_word.Goals as goal
-
-pub returns : goal.returns
-returns c = strips c.args.word.now c.args.text.now c.strip_prefix.result c.utf8.word c.utf8.text c.strip_prefix.ensures.cases

@@ -1,6 +1,0 @@
-use Rattle.std.proofs.Common.{rules}
-use Rattle.std.proofs.lemmas.Str.{chars_past_char}
-use Rattle.fancy_core.proofs.letters.split_first.Goals as goal
-
-pub returns-clause-chars : goal.returns-clause-chars
-returns-clause-chars c = chars_past_char _ _ _ c.utf8.text (search rules)

@@ -1,5 +1,0 @@
-use Rattle.fancy_core.proofs.PieceLemmas.{rejoin}
-use Rattle.fancy_core.proofs.template_laws.pieces_rejoin.Goals as goal
-
-pub returns : goal.returns
-returns c = rejoin

@@ -1,0 +1,4 @@
+pub mod EscapeLemmas
+pub mod LiteralLemmas
+pub mod ExampleLemmas
+pub mod EndLemmas

@@ -1,0 +1,77 @@
+//! Patterns that stand for a text as it is.
+
+ghost use Rattle.std.specs.Prelude.{◌≡◌, ◌↔◌, ◌++◌, false, chars, IfOk, IfErr, OnOk, string_bytes, encode_utf8_all, flat_map};
+ghost use Rattle.std.specs.Cow.{cow_str_bytes, IsBorrowedStr};
+ghost use Rattle.fancy_regex.specs.Escapes.{is_special, has_special, escaped_character, escape_of};
+
+use fancy_tree::error::{Error, Result};
+use std::alloc::{AllocError, Global};
+use std::borrow::CowStr;
+
+/// The text with an escape for each character that means something in a pattern.
+///
+/// Where none of `\ . + * ? ( ) | [ ] { } ^ $ #` stands in it, the text is given back as it is. Else each of
+/// these gets a backslash, and line feeds, tabs and carriage returns become `\n`, `\t` and `\r`.
+///
+/// With the default options the regex of it finds the text itself and nothing else (the law
+/// [`crate::laws::escapes_find_their_text`]). Under flag `x` a text with blanks does not stand for itself.
+///
+/// ```text
+/// escape(alloc, "@foo")   // borrowed
+/// escape(alloc, "fø*ø")   // fø\*ø
+/// ```
+pub fn escape(alloc: Global, text: &str) -> Result<CowStr<'_, Global>>
+    ensures value { IfOk result (λ r. cow_str_bytes r ≡ escape_of text.now) }
+    ensures borrowed { IfOk result (λ r. IsBorrowedStr r ↔ (has_special (chars text.now) ≡ false)) }
+    ensures refused { IfErr result (λ e. e ≡ Error.Memory) }
+{
+    if !any_special(text) {
+        return Ok(CowStr::Borrowed(text));
+    }
+    let escaped = with_escapes(alloc, text)?;
+    Ok(CowStr::Owned(escaped))
+}
+
+fn any_special(text: &str) -> bool
+    ensures { result ≡ has_special (chars text.now) }
+{
+    text.chars().any(is_special)
+}
+
+/// Whether a character means something in a pattern.
+#[tactic(auto, unfolding(crate::specs::Escapes::is_special))]
+fn is_special(c: char) -> bool
+    ensures { result ≡ is_special c }
+{
+    matches!(
+        c,
+        '\\' | '.' | '+' | '*' | '?' | '(' | ')' | '|' | '[' | ']' | '{' | '}' | '^' | '$' | '#'
+    )
+}
+
+fn with_escapes(alloc: Global, text: &str) -> std::result::Result<String, AllocError>
+    ensures { IfOk result (λ s. string_bytes s ≡ encode_utf8_all (flat_map escaped_character (chars text.now))) }
+{
+    let mut escaped = String::new(alloc);
+    for c in text.chars() {
+        push_escaped(&mut escaped, c)?;
+    }
+    Ok(escaped)
+}
+
+#[tactic(auto, unfolding(crate::specs::Escapes::escaped_character))]
+fn push_escaped(escaped: &mut String, c: char) -> std::result::Result<(), AllocError>
+    ensures { OnOk result (string_bytes escaped.new ≡ string_bytes escaped.old ++ encode_utf8_all (escaped_character c)) }
+{
+    match c {
+        '\n' => escaped.push_str("\\n"),
+        '\t' => escaped.push_str("\\t"),
+        '\r' => escaped.push_str("\\r"),
+        _ => {
+            if is_special(c) {
+                escaped.push('\\')?;
+            }
+            escaped.push(c)
+        }
+    }
+}

@@ -1,7 +1,0 @@
-use Rattle.std.proofs.Common.{◌≡◌, ◌↔◌, ◌<◌, ℕ, true}
-use Rattle.fancy_syntax.specs.Low.{bit}
-use Rattle.fancy_syntax.specs.Members.{members}
-use Rattle.fancy_syntax.proofs.char_set.CharSet.new.Given as goal
-
-abbrev pub invariant-loop-c : goal.invariant-loop-c
-invariant-loop-c l = (k : ℕ) → k < 256 → (bit l.low k ≡ 1) ↔ ((k < l.c) × (members l.set k ≡ true))

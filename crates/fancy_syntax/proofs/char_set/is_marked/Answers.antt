@@ -1,8 +1,0 @@
-use Rattle.std.proofs.Common.{rules}
-use Rattle.std.proofs.lemmas.Nat.Bits.{shr_and_one}
-use Rattle.fancy_syntax.specs.Low.{bit}
-use Rattle.fancy_syntax.proofs.char_set.is_marked.Goals as goal
-
-pub returns : goal.returns
-unfolding bit
-returns c = rw shr_and_one (search rules)

@@ -1,5 +1,0 @@
-use Rattle.fancy_syntax.proofs.SetLemmas.{same_set, in_both}
-use Rattle.fancy_syntax.proofs.named.characters.Goals as goal
-
-pub returns : goal.returns
-returns c = same_set c.combined.result (λ x. in_both _ _ _ x (c.in_ok-all.ensures x) (c.in_ok-found.ensures x)) c.combined.ensures

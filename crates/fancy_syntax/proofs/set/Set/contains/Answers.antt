@@ -1,8 +1,0 @@
-use Rattle.std.proofs.Common.{sym, ap, ◌∙◌}
-use Rattle.fancy_syntax.specs.Sets.{is_odd, has}
-use Rattle.fancy_syntax.proofs.EdgesLemmas.{has_cut}
-use Rattle.fancy_syntax.proofs.set.Set.contains.Goals as goal
-
-pub returns : goal.returns
-unfolding is_odd
-returns c = sym (has_cut _ _ _ c.edges_to.ensures) ∙ ap (λ es. has es c.args.c) c.deref.ensures.value

@@ -1,8 +1,0 @@
-use Rattle.fancy_syntax.proofs.EdgesLemmas.{no_edges, no_edges-has}
-use Rattle.fancy_syntax.proofs.set.Set.empty.Goals as goal
-
-pub invariant_of-result : goal.invariant_of-result
-invariant_of-result c = record { are_edges = no_edges _ c.new.ensures.items }
-
-pub returns : goal.returns
-returns c = λ x. no_edges-has _ x c.new.ensures.items

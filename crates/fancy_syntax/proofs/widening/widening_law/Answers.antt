@@ -1,6 +1,0 @@
-use Rattle.ucd_case.proofs.FoldPairsLemmas.{IsFoldPairs-fold_pairs}
-use Rattle.fancy_syntax.proofs.SetLemmas.{widening_is}
-use Rattle.fancy_syntax.proofs.widening.widening_law.Goals as goal
-
-pub returns : goal.returns
-returns c = λ p x. widening_is _ p x IsFoldPairs-fold_pairs

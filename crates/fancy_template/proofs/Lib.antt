@@ -1,0 +1,9 @@
+pub mod RowLemmas
+pub mod TemplateLemmas
+pub mod FormLemmas
+pub mod MarkLemmas
+pub mod ReadLemmas
+pub mod NumberLemmas
+pub mod WriteLemmas
+pub mod ExpansionLemmas
+pub mod CheckLemmas

@@ -1,0 +1,10 @@
+use Rattle.std.proofs.Common.{List, ℕ, ◌≡◌, ◌++◌, chars, string_bytes}
+use Rattle.fancy_template.specs.Expansions.{expansion}
+use Rattle.fancy_template.specs.Expanders.{syntax_of, steps_left}
+use Rattle.fancy_template.proofs.ExpansionLemmas.{Given}
+use Rattle.fancy_template.proofs.expander.Expander.push_steps.Given as goal
+
+abbrev pub invariant-loop-step : goal.invariant-loop-step
+invariant-loop-step g l =
+    let k = g.C.GroupTexts.captured l.captures in
+    Given k (expansion (syntax_of l.self) k (chars l.template)) (λ (done : List ℕ). string_bytes l.dst ≡ string_bytes l.fn.dst ++ done) (steps_left l.step-iterator)

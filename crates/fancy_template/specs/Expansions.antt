@@ -1,0 +1,31 @@
+-- What templates see of captures, and what they expand to. Texts of groups are bytes.
+use Rattle.std.specs.Prelude.{ℕ, List, [], Option, None, Some, encode_utf8, flat_map, if◌then◌else◌}
+use Rattle.std.specs.Char.{is_ascii_digit}
+use Rattle.std.specs.List.{list_all}
+use Rattle.std.specs.Option.{option_or, option_and_then}
+use Rattle.fancy_tree.specs.Text.{Text}
+use Rattle.fancy_template.specs.Templates.{Step, literal, name, number, error, fitting, Syntax, steps}
+
+-- What the groups with a name, and with a number, matched: `None` where there is no such group or it took no part.
+pub record Captured : Type 0 where
+  pub text_of_name : Text → Option (List ℕ)
+  pub text_of_number : ℕ → Option (List ℕ)
+
+abbrev pub or_nothing : Option (List ℕ) → List ℕ
+or_nothing None = []
+or_nothing (Some bs) = bs
+
+-- a name read as a decimal number
+abbrev pub as_number : Text → Option ℕ
+as_number w = if list_all is_ascii_digit w then fitting w else None
+
+-- what a step gives
+abbrev pub expanded : Captured → Step → List ℕ
+expanded k (literal c) = encode_utf8 c
+expanded k (name w) = or_nothing (option_or (k.text_of_name w) (option_and_then k.text_of_number (as_number w)))
+expanded k (number n) = or_nothing (k.text_of_number n)
+expanded k error = []
+
+-- what a template gives
+unfoldable pub expansion : Syntax → Captured → Text → List ℕ
+expansion s k t = flat_map (expanded k) (steps s t)

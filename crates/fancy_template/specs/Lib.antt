@@ -1,0 +1,6 @@
+pub mod Templates
+pub mod Expansions
+pub mod Marks
+pub mod Expanders
+pub mod Expanded
+pub mod Checks

@@ -1,0 +1,136 @@
+//! How templates are written.
+
+ghost use Rattle.std.specs.Prelude.{◌≡◌, ◌↔◌, ◌==◌, ◌++◌, false, chars, IfOk, IfErr, OnOk, string_bytes, encode_utf8_all};
+ghost use Rattle.std.specs.List.{list_any};
+ghost use Rattle.std.specs.Cow.{cow_str_bytes, IsBorrowedStr};
+ghost use Rattle.fancy_template.specs.Templates.{steps, dollar_syntax, python_syntax};
+ghost use Rattle.fancy_template.specs.Expansions.{Captured, expansion};
+ghost use Rattle.fancy_template.specs.Marks.{doubled_mark, escaped_template, has_mark};
+ghost use Rattle.fancy_template.specs.Expanders.{syntax_of, opening_of, closing_of, mark_of, steps_left};
+
+use crate::steps::Steps;
+use fancy_tree::error::{Error, Result};
+use std::alloc::{AllocError, Global};
+use std::borrow::CowStr;
+
+/// Expands templates: texts in which a substitution character stands before the name or the number of a group.
+///
+/// The default one takes `$1`, `$name` and `${name}`, and `$$` for the character itself; the one for Python's
+/// templates takes `\1`, `\g<name>` and `\\`.
+#[derive(Clone, Copy)]
+pub struct Expander {
+    pub(crate) mark: char,
+    pub(crate) delimiters: Delimiters,
+    pub(crate) undelimited: bool,
+}
+
+/// What stands before and behind the name of a group.
+#[derive(Clone, Copy)]
+pub(crate) enum Delimiters {
+    /// `{` and `}`.
+    Braces,
+    /// `g<` and `>`.
+    Angles,
+}
+
+impl Delimiters {
+    pub(crate) fn opening(self) -> &'static str
+        ensures { chars result.now ≡ opening_of self }
+    {
+        match self {
+            Delimiters::Braces => "{",
+            Delimiters::Angles => "g<",
+        }
+    }
+
+    pub(crate) fn closing(self) -> &'static str
+        ensures { chars result.now ≡ closing_of self }
+    {
+        match self {
+            Delimiters::Braces => "}",
+            Delimiters::Angles => ">",
+        }
+    }
+}
+
+impl Default for Expander {
+    ghost is_default = { λ e. syntax_of e ≡ dollar_syntax };
+
+    fn default() -> Expander {
+        Expander {
+            mark: '$',
+            delimiters: Delimiters::Braces,
+            undelimited: true,
+        }
+    }
+}
+
+impl Expander {
+    /// The expander for templates as Python writes them.
+    pub fn python() -> Expander
+        ensures { syntax_of result ≡ python_syntax }
+    {
+        Expander {
+            mark: '\\',
+            delimiters: Delimiters::Angles,
+            undelimited: false,
+        }
+    }
+
+    /// The steps that a template is cut into, one by one.
+    pub fn steps<'a>(&self, template: &'a str) -> Steps<'a>
+        ensures { steps_left result ≡ steps (syntax_of self.now) (chars template.now) }
+    {
+        Steps {
+            expander: *self,
+            rest: template,
+            owes_mark: false,
+        }
+    }
+
+    /// The text as a template that expands to it: each substitution character is doubled. Where there is none,
+    /// the text is given back as it is.
+    ///
+    /// ```text
+    /// Expander::default().escape(alloc, "Has a literal $ sign.")  // Has a literal $$ sign.
+    /// ```
+    pub fn escape<'t>(&self, alloc: Global, text: &'t str) -> Result<CowStr<'t, Global>>
+        ensures value { IfOk result (λ r. cow_str_bytes r ≡ encode_utf8_all (escaped_template (mark_of self.now) (chars text.now))) }
+        ensures borrowed { IfOk result (λ r. IsBorrowedStr r ↔ (has_mark (mark_of self.now) (chars text.now) ≡ false)) }
+        ensures stands { IfOk result (λ r. (k : Captured) → expansion (syntax_of self.now) k (chars (cow_str_bytes r)) ≡ text.now) }
+        ensures refused { IfErr result (λ e. e ≡ Error.Memory) }
+    {
+        let mark = self.mark;
+        if !includes(text, mark) {
+            return Ok(CowStr::Borrowed(text));
+        }
+        let doubled = with_doubled(alloc, text, mark)?;
+        Ok(CowStr::Owned(doubled))
+    }
+}
+
+/// Whether the character stands in the text.
+pub fn includes(text: &str, mark: char) -> bool
+    ensures { result ≡ has_mark mark (chars text.now) }
+{
+    text.chars().any(|c| c == mark)
+}
+
+fn with_doubled(alloc: Global, text: &str, mark: char) -> std::result::Result<String, AllocError>
+    ensures { IfOk result (λ s. string_bytes s ≡ encode_utf8_all (escaped_template mark (chars text.now))) }
+{
+    let mut doubled = String::new(alloc);
+    for c in text.chars() {
+        push_doubled(&mut doubled, c, mark)?;
+    }
+    Ok(doubled)
+}
+
+fn push_doubled(doubled: &mut String, c: char, mark: char) -> std::result::Result<(), AllocError>
+    ensures { OnOk result (string_bytes doubled.new ≡ string_bytes doubled.old ++ encode_utf8_all (doubled_mark mark c)) }
+{
+    if c == mark {
+        doubled.push(mark)?;
+    }
+    doubled.push(c)
+}

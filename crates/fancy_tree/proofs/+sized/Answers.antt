@@ -1,0 +1,29 @@
+use Rattle.std.proofs.Common.{List, map, sym, ap, ◌∙◌, arith}
+use Rattle.std.specs.List.{list_all}
+use Rattle.std.proofs.lemmas.List.{length-map, get_or-map}
+use Rattle.std.proofs.lemmas.List.Folds.{list_all_at}
+use Rattle.fancy_tree.specs.declared.tree.Tree.{Tree}
+use Rattle.fancy_tree.specs.Pattern.{pattern_of}
+use Rattle.fancy_tree.specs.Sizes.{are_sized}
+use Rattle.fancy_tree.proofs.PatternLemmas.{pattern-Sequence, pattern-Alternative}
+use Rattle.fancy_tree.proofs.BehindLemmas.{sized-in_sequence, sized-in_choice}
+use Rattle.fancy_tree.proofs.+sized.Goals as goal
+
+pub behind::are_sized-returns-then-not-is_sized : goal.behind::are_sized-returns-then-not-is_sized
+behind::are_sized-returns-then-not-is_sized t c =
+    sym
+    (list_all_at (are_sized c.args.meaning) (map pattern_of c.args.trees.now) c.loop-i.i (pattern_of c.index-trees-i.result) (omega (arith, c.loop-i-test.true, length-map c.args.trees.now pattern_of))
+    (ap (are_sized c.args.meaning) (get_or-map pattern_of c.args.trees.now c.loop-i.i c.index-trees-i.result (pattern_of c.index-trees-i.result) c.loop-i-test.true ∙ ap pattern_of (sym c.index-trees-i.is))
+    ∙ (sym c.is_sized.ensures ∙ c.if-not-is_sized.true)))
+
+pub tree::Tree::is_sized-returns-in-Sequence : goal.tree::Tree::is_sized-returns-in-Sequence
+tree::Tree::is_sized-returns-in-Sequence t c =
+    c.are_sized.ensures
+    ∙ (ap (λ (ts : List Tree). list_all (are_sized c.args.meaning) (map pattern_of ts)) c.deref-in-Sequence.ensures.value
+    ∙ (sym (sized-in_sequence c.args.meaning (map pattern_of c.in-Sequence.parts.items)) ∙ ap (are_sized c.args.meaning) (sym (ap pattern_of c.in-Sequence.is ∙ pattern-Sequence c.in-Sequence.parts))))
+
+pub tree::Tree::is_sized-returns-in-Alternative : goal.tree::Tree::is_sized-returns-in-Alternative
+tree::Tree::is_sized-returns-in-Alternative t c =
+    c.are_sized-in-Alternative.ensures
+    ∙ (ap (λ (ts : List Tree). list_all (are_sized c.args.meaning) (map pattern_of ts)) c.deref-in-Alternative.ensures.value
+    ∙ (sym (sized-in_choice c.args.meaning (map pattern_of c.in-Alternative.branches.items)) ∙ ap (are_sized c.args.meaning) (sym (ap pattern_of c.in-Alternative.is ∙ pattern-Alternative c.in-Alternative.branches))))

@@ -1,0 +1,16 @@
+pub mod Facts
+pub mod PatternLemmas
+pub mod SizeLemmas
+pub mod PartLemmas
+pub mod FittingLemmas
+pub mod EmptyLemmas
+pub mod BehindLemmas
+pub mod RefersLemmas
+pub mod RefersFacts
+pub mod NameLemmas
+pub mod EdgesLemmas
+pub mod SetLemmas
+pub mod BitLemmas
+pub mod PropertyLetters
+pub mod CanonicalLemmas
+pub mod SharingLemmas

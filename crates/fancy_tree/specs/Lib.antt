@@ -1,0 +1,15 @@
+pub mod Limits
+pub mod Text
+pub mod Modes
+pub mod Sets
+pub mod SetViews
+pub mod Pattern
+pub mod Sizes
+pub mod Refers
+pub mod Groups
+pub mod Names
+pub mod Members
+pub mod Widening
+pub mod Named
+pub mod Properties
+pub mod Low

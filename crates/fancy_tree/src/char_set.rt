@@ -1,0 +1,60 @@
+//! Sets that are asked often.
+
+ghost use Rattle.std.specs.Prelude.{◌≡◌, ◌≢◌, ◌↔◌, ◌<◌, ◌*◌, ℕ, true, IsTrue, length};
+ghost use Rattle.fancy_tree.specs.Low.{bit, IsLow};
+
+use crate::set::Set;
+
+/// A set that is asked often: a table says which numbers below 256 are members.
+#[derive(Debug, Drop)]
+pub struct CharSet {
+    low: [u64; 4],
+    set: Set,
+    ghost low_is: { IsLow low set },
+}
+
+/// Whether the bit of this number is set.
+fn is_marked(words: &[u64; 4], i: usize) -> bool
+    requires { i < 256 }
+    ensures { IsTrue result ↔ (bit words.now i ≡ 1) }
+{
+    (words[i / 64] >> (i % 64)) & 1 == 1
+}
+
+/// Sets the bit of this number.
+fn mark(words: &mut [u64], i: usize)
+    requires { i < 64 * length words.old }
+    ensures len { length words.new ≡ length words.old }
+    ensures marked { bit words.new i ≡ 1 }
+    ensures others { (j : ℕ) → j ≢ i → bit words.new j ≡ bit words.old j }
+{
+    words[i / 64] |= 1 << (i % 64);
+}
+
+impl CharSet {
+    ghost use Rattle.fancy_tree.specs.Members.{members};
+
+    /// The set with its table.
+    pub fn new(set: Set) -> CharSet
+        ensures { result.set ≡ set }
+    {
+        let mut low = [0; 4];
+        for c in 0..256 {
+            if set.contains(c) {
+                mark(&mut low, c as usize);
+            }
+        }
+        CharSet { low, set }
+    }
+
+    /// Whether this number is a member: by the table below 256, else by binary search.
+    pub fn contains(&self, c: u32) -> bool
+        ensures { result ≡ members self.now.set c }
+    {
+        if c < 256 {
+            is_marked(&self.low, c as usize)
+        } else {
+            self.set.contains(c)
+        }
+    }
+}

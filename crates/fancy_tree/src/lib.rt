@@ -1,0 +1,16 @@
+//! What a pattern is: its tree, the sets of numbers in it and the names of its groups; and why it, or a search, is refused.
+#![tactic(auto)]
+
+mod behind;
+pub mod char_set;
+pub mod error;
+pub mod measure;
+pub mod name;
+pub mod named;
+pub mod operation;
+pub mod property;
+mod refer;
+pub mod set;
+pub mod sharing;
+pub mod tree;
+pub mod widening;

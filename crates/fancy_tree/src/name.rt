@@ -1,0 +1,78 @@
+//! Names of groups.
+
+ghost use Rattle.std.specs.Prelude.{◌≡◌, IfOk, chars, string_bytes};
+ghost use Rattle.fancy_tree.specs.Names.{is_name_character, name_here, past_name, last_named, named_groups};
+
+use std::alloc::{AllocError, Global};
+use unicode::properties::{GeneralCategory, is_alphabetic};
+
+/// A name, and the group that has it. A name may stand on several groups.
+#[derive(Drop)]
+pub struct GroupName {
+    /// The name, as it stands between `<` and `>`.
+    pub name: String,
+    /// The number of the group, from 1 on.
+    pub group: usize,
+}
+
+/// Whether a character may stand in the name of a group: one that is alphabetic, of category Nd, Nl or No, or
+/// `_`.
+///
+/// ```text
+/// is_name_character('é')  // true
+/// is_name_character('²')  // true
+/// is_name_character('-')  // false
+/// ```
+pub fn is_name_character(c: char) -> bool
+    ensures { result ≡ is_name_character c }
+{
+    if is_alphabetic(c) || c == '_' {
+        return true;
+    }
+    let category = GeneralCategory::for_char(c);
+    category == GeneralCategory::DecimalNumber
+        || category == GeneralCategory::LetterNumber
+        || category == GeneralCategory::OtherNumber
+}
+
+/// The row of such characters that stands first, perhaps empty, and what follows it.
+pub fn split_name(text: &[char]) -> (&[char], &[char])
+    ensures name { result.0.now ≡ name_here text.now }
+    ensures behind { result.1.now ≡ past_name text.now }
+{
+    for (i, c) in text.iter().enumerate() {
+        if !is_name_character(*c) {
+            return text.split_at(i);
+        }
+    }
+    (text, &[])
+}
+
+/// The number of the last of these groups that has the name.
+pub fn last_named(groups: &[GroupName], name: &str) -> Option<usize>
+    ensures { result ≡ last_named (chars name.now) (named_groups groups.now) }
+{
+    let mut found = None;
+    for named in groups {
+        if named.name.as_str() == name {
+            found = Some(named.group);
+        }
+    }
+    found
+}
+
+/// The characters of a text.
+pub fn characters_of(alloc: Global, text: &str) -> Result<Vec<char>, AllocError>
+    ensures { IfOk result (λ v. v.items ≡ chars text.now) }
+{
+    let characters: Vec<char> = text.chars().collect(alloc)?;
+    Ok(characters)
+}
+
+/// These characters as a text.
+pub fn text_of(alloc: Global, characters: &[char]) -> Result<String, AllocError>
+    ensures { IfOk result (λ s. chars (string_bytes s) ≡ characters.now) }
+{
+    let text: String = characters.iter().copied().collect(alloc)?;
+    Ok(text)
+}

@@ -1,0 +1,183 @@
+//! Sets of numbers.
+
+ghost use Rattle.std.specs.Prelude.{◌≡◌, ◌||◌, ℕ, ◌+◌, ◌<◌, ◌≤◌, ◌⊎◌, [], ◌&&◌, false, length, slice_index, nat_le, IfOk, MatchOption};
+ghost use Rattle.unicode.specs.Rows.{in_ranges};
+ghost use Rattle.fancy_tree.specs.Sets.{has, is_odd, in_range, AreRising, AreEdges};
+ghost use Rattle.fancy_tree.specs.SetViews.{Cut, IsNearest};
+
+use crate::operation::Operation;
+use std::alloc::{AllocError, Global};
+
+/// The last number that a set can have.
+pub const LAST: u32 = 0x10_FFFF;
+
+/// A set of numbers up to `LAST`, by the numbers at which it begins and ends.
+#[derive(Debug, Drop)]
+pub struct Set {
+    edges: Vec<u32>,
+    ghost are_edges: { AreEdges edges.items },
+}
+
+/// How many edges are at most `c`.
+fn edges_to(edges: &[u32], c: u32) -> usize
+    requires { AreRising edges.now }
+    ensures { Cut edges.now result (c + 1) }
+{
+    let mut low = 0;
+    let mut high = edges.len();
+    while low < high {
+        let middle = low + (high - low) / 2;
+        if edges[middle] <= c {
+            low = middle + 1;
+        } else {
+            high = middle;
+        }
+    }
+    low
+}
+
+/// The next edge of either list.
+fn nearest(a: &[u32], i: usize, b: &[u32], j: usize) -> Option<u32>
+    requires a_rises { AreRising a.now }
+    requires b_rises { AreRising b.now }
+    ensures { MatchOption result ((length a.now ≤ i) × (length b.now ≤ j)) (λ at. IsNearest a.now i b.now j at) }
+{
+    match (a.get(i), b.get(j)) {
+        (Some(x), Some(y)) => Some(*x.min(y)),
+        (Some(x), None) => Some(*x),
+        (None, Some(y)) => Some(*y),
+        (None, None) => None,
+    }
+}
+
+/// The place after the edge `at`, where it stands next.
+fn past(edges: &[u32], i: usize, at: u32) -> usize
+    requires rising { AreRising edges.now }
+    requires cut { Cut edges.now i at }
+    ensures cut { Cut edges.now result (at + 1) }
+    ensures forward { i ≤ result }
+    ensures progress { i < length edges.now → slice_index edges.now i ≡ at → i < result }
+{
+    if i < edges.len() && edges[i] == at {
+        i + 1
+    } else {
+        i
+    }
+}
+
+impl Set {
+    ghost use Rattle.fancy_tree.specs.Members.{edges_of, members, applied};
+    ghost use Rattle.fancy_tree.specs.Widening.{in_pairs};
+
+    /// The set without members.
+    pub fn empty(alloc: Global) -> Set
+        ensures { (c : ℕ) → members result c ≡ false }
+    {
+        Set {
+            edges: Vec::new(alloc),
+        }
+    }
+
+    /// The numbers from the first to the last, none where the first is above the last.
+    pub fn range(alloc: Global, first: u32, last: u32) -> Result<Set, AllocError>
+        requires { last ≤ LAST }
+        ensures { IfOk result (λ s. (c : ℕ) → members s c ≡ in_range (first, last) c) }
+    {
+        if last < first {
+            return Ok(Set::empty(alloc));
+        }
+        Ok(Set {
+            edges: Vec::from_slice(alloc, &[first, last + 1])?,
+        })
+    }
+
+    /// The set that begins and ends at these numbers in turn.
+    pub fn from_edges(edges: Vec<u32>) -> Set
+        requires { AreEdges edges.items }
+        ensures { edges_of result ≡ edges.items }
+    {
+        Set { edges }
+    }
+
+    /// The numbers at which the set begins and ends in turn. They rise.
+    pub fn into_edges(self) -> Vec<u32>
+        ensures edges { result.items ≡ edges_of self }
+        ensures rising { AreEdges result.items }
+    {
+        self.edges
+    }
+
+    /// Whether this number is a member.
+    pub fn contains(&self, c: u32) -> bool
+        ensures { result ≡ members self.now c }
+    {
+        edges_to(&self.edges, c) % 2 == 1
+    }
+
+    /// The numbers that the operation keeps. One walk over the edges of both sets.
+    pub fn combined(&self, how: Operation, other: &Set) -> Result<Set, AllocError>
+        ensures { IfOk result (λ s. (c : ℕ) → members s c ≡ applied how (members self.now c) (members other.now c)) }
+    {
+        let a: &[u32] = &self.edges;
+        let b: &[u32] = &other.edges;
+        let mut edges = Vec::new(*self.edges.allocator());
+        let mut i = 0;
+        let mut j = 0;
+        while let Some(at) = nearest(a, i, b, j) {
+            i = past(a, i, at);
+            j = past(b, j, at);
+            let turns = how.keeps(i % 2 == 1, j % 2 == 1) != (edges.len() % 2 == 1);
+            if turns {
+                edges.push(at)?;
+            }
+        }
+        Ok(Set { edges })
+    }
+
+    /// The numbers up to `LAST` in any of the ranges, which hold both their ends and come in any order.
+    pub fn from_ranges(alloc: Global, ranges: &[(u32, u32)]) -> Result<Set, AllocError>
+        ensures { IfOk result (λ s. (c : ℕ) → members s c ≡ (nat_le c LAST && in_ranges ranges.now c)) }
+    {
+        let len = ranges.len();
+        if len == 0 {
+            return Ok(Set::empty(alloc));
+        }
+        if len == 1 {
+            let (first, last) = ranges[0];
+            return Set::range(alloc, first, last.min(LAST));
+        }
+        let (left, right) = ranges.split_at(len / 2);
+        let left = Set::from_ranges(alloc, left)?;
+        let right = Set::from_ranges(alloc, right)?;
+        left.combined(Operation::Union, &right)
+    }
+
+    /// The members as ranges in order, which hold both their ends.
+    pub fn ranges(&self) -> Result<Vec<(u32, u32)>, AllocError>
+        ensures { IfOk result (λ out. (c : ℕ) → in_ranges out.items c ≡ members self.now c) }
+    {
+        let edges: &[u32] = &self.edges;
+        let mut out = Vec::new(*self.edges.allocator());
+        let mut i = 0;
+        while i + 1 < edges.len() {
+            out.push((edges[i], edges[i + 1] - 1))?;
+            i += 2;
+        }
+        Ok(out)
+    }
+
+    /// This set with the first of each pair whose second is a member.
+    pub(crate) fn with_pairs(&self, pairs: &[(u32, u32)]) -> Result<Set, AllocError>
+        ensures { IfOk result (λ s. (c : ℕ) → members s c ≡ (members self.now c || (nat_le c LAST && in_pairs pairs.now (members self.now) c))) }
+    {
+        let alloc = *self.edges.allocator();
+        let mut others = Vec::new(alloc);
+        for pair in pairs {
+            if self.contains(pair.1) {
+                others.push((pair.0, pair.0))?;
+            }
+        }
+        let others = Set::from_ranges(alloc, &others)?;
+        self.combined(Operation::Union, &others)
+    }
+}
