@@ -7,12 +7,12 @@ use Rattle.fancy_class.specs.Words.{is_at, begins}
 use Rattle.fancy_tree.specs.Sets.{has}
 use Rattle.fancy_tree.specs.Members.{Members, members, edges_of, both, applied}
 use Rattle.fancy_class.specs.ClassGrammar as d
-use Rattle.fancy_class.specs.ClassGrammar.{is_ascii_meaning, may_turn, is_posix, starts_class, ends_operand, token, none_of, united, combined, turned, Operator, intersection, difference, symmetric_difference, ReadsClass, ReadsEdges}
+use Rattle.fancy_class.specs.ClassGrammar.{is_ascii_meaning, may_negate, is_posix, starts_class, ends_operand, token, none_of, united, combine_all, negate_if, Operator, intersection, difference, symmetric_difference, ReadsClass, ReadsEdges}
 use Rattle.fancy_class.specs.ClassReading as g
-use Rattle.fancy_class.specs.ClassReading.{operator, opening}
+use Rattle.fancy_class.specs.ClassReading.{operator, class_opening}
 use Rattle.fancy_class.specs.ClassViews.{Gives}
-use Rattle.fancy_class.specs.declared.refusal.Refusal.{Refusal}
-use Rattle.fancy_class.specs.declared.refusal.Refusal.TheVariants.{Memory, Invalid}
+use Rattle.fancy_class.specs.declared.refusal.ClassRefusal.{ClassRefusal}
+use Rattle.fancy_class.specs.declared.refusal.ClassRefusal.TheVariants.{Memory, Invalid}
 use Rattle.fancy_tree.specs.declared.operation.Operation.{Operation}
 use Rattle.fancy_tree.specs.declared.set.Set.{Set}
 use Rattle.fancy_tree.specs.declared.tree.Meaning.{Meaning}
@@ -40,18 +40,18 @@ operator_read difference rest = refl
 operator_read symmetric_difference rest = refl
 
 -- a class by what opens it
-opened_by : {m : Meaning} {i : Bool} {k : ℕ} {p q t r : Text} {f w : Members} (negated : Bool) → is_at "[" p ≡ true → opening p ≡ (negated, q) → may_turn m negated ≡ true
-    → g.Items m i k true none_of q f t → g.Operands m i k f t w r → is_at "]" r ≡ true → g.Class m i (suc k) p (turned m negated w) (drop 1 r)
+opened_by : {m : Meaning} {i : Bool} {k : ℕ} {p q t r : Text} {f w : Members} (negated : Bool) → is_at "[" p ≡ true → class_opening p ≡ (negated, q) → may_negate m negated ≡ true
+    → g.Items m i k true none_of q f t → g.Operands m i k f t w r → is_at "]" r ≡ true → g.Class m i (suc k) p (negate_if m negated w) (drop 1 r)
 opened_by {m} {i} {k} {p} {q} {t} {r} {f} {w} negated starts at may items operands closes =
-    subst (λ n. g.Class m i (suc k) p (turned m n w) (drop 1 r)) (ap (λ (o : Bool × Text). o.0) at)
-    (g.class starts (ap (λ (o : Bool × Text). may_turn m o.0) at ∙ may) (subst (λ v. g.Items m i k true none_of v f t) (sym (ap (λ (o : Bool × Text). o.1) at)) items) operands closes)
+    subst (λ n. g.Class m i (suc k) p (negate_if m n w) (drop 1 r)) (ap (λ (o : Bool × Text). o.0) at)
+    (g.class starts (ap (λ (o : Bool × Text). may_negate m o.0) at ∙ may) (subst (λ v. g.Items m i k true none_of v f t) (sym (ap (λ (o : Bool × Text). o.1) at)) items) operands closes)
 
 abbrev opening_by : Bool → Text → Bool × Text
 opening_by b t = cond {A = Bool × Text} b (true, drop 1 t) (false, t)
 
 mutual
   read_class : {m : Meaning} {i : Bool} {k : ℕ} {t after : Text} {f : Members} → d.Class m i k t after f → g.Class m i k (t ++ after) f after
-  read_class {after = after} (d.plain upright (d.operands {t = t} {u = u} {fs = fs} items others)) =
+  read_class {after = after} (d.unnegated upright (d.operands {t = t} {u = u} {fs = fs} items others)) =
       rw (append_assoc (t ++ u) (93 ∷ []) after, append_assoc t u (93 ∷ after))
       (opened_by false refl (ap (λ b. opening_by b (t ++ (u ++ 93 ∷ after))) (rw (append_assoc t u (93 ∷ after)) at upright)) refl
       (read_items none_of items) (read_others (united fs) others refl) refl)
@@ -65,7 +65,7 @@ mutual
       rw (append_assoc t u after)
       (subst (λ x. g.Items m i k first e (t ++ (u ++ after)) x after) (sym (with_next e f fs)) (g.next h (read_item item) (read_items (both e f) items)))
 
-  read_others : {m : Meaning} {i : Bool} {k : ℕ} {t after : Text} {os : List (Operation × Members)} (e : Members) → d.Others m i k t after os → operator after ≡ None → g.Operands m i k e (t ++ after) (combined e os) after
+  read_others : {m : Meaning} {i : Bool} {k : ℕ} {t after : Text} {os : List (Operation × Members)} (e : Members) → d.Others m i k t after os → operator after ≡ None → g.Operands m i k e (t ++ after) (combine_all e os) after
   read_others e d.no_other h = g.last h
   read_others {after = after} e (d.other {o = o} {t = t} {u = u} {how = how} {fs = fs} is items others) h =
       rw (append_assoc o (t ++ u) after, append_assoc t u after)
@@ -77,7 +77,7 @@ mutual
 
   -- a class begins with a bracket
   class_starts : {m : Meaning} {i : Bool} {k : ℕ} {t after : Text} {f : Members} → d.Class m i k t after f → is_posix (t ++ after) ≡ false → starts_class (t ++ after) ≡ true
-  class_starts (d.plain upright inner) h = ap not h
+  class_starts (d.unnegated upright inner) h = ap not h
   class_starts (d.negated may inner) h = ap not h
 
 -- ---- what is read is spelled
@@ -115,11 +115,11 @@ starts_parts p h = go (is_at "[" p) (is_posix p) h
     go false b h = cc
 
 -- the brackets, and perhaps `^`, round what is spelled
-enclosed : {m : Meaning} {i : Bool} {k : ℕ} {f : Members} (t v rest : Text) (b : Bool) → is_at "^" t ≡ b → may_turn m (opening_by b t).0 ≡ true → (opening_by b t).1 ≡ v ++ 93 ∷ rest → d.Operands m i k v (93 ∷ rest) f
-    → Spelled (λ w. d.Class m i (suc k) w rest (turned m (opening_by b t).0 f)) (91 ∷ t) rest
+enclosed : {m : Meaning} {i : Bool} {k : ℕ} {f : Members} (t v rest : Text) (b : Bool) → is_at "^" t ≡ b → may_negate m (opening_by b t).0 ≡ true → (opening_by b t).1 ≡ v ++ 93 ∷ rest → d.Operands m i k v (93 ∷ rest) f
+    → Spelled (λ w. d.Class m i (suc k) w rest (negate_if m (opening_by b t).0 f)) (91 ∷ t) rest
 enclosed {m} t v rest true e may is o =
     (91 ∷ 94 ∷ (v ++ 93 ∷ []), ap (λ l. 91 ∷ l) (at_char 94 t e ∙ ap (λ l. 94 ∷ l) (is ∙ sym (append_assoc v (93 ∷ []) rest))), d.negated (not_false (is_ascii_meaning m) may) o)
-enclosed t v rest false e may is o = (91 ∷ (v ++ 93 ∷ []), ap (λ l. 91 ∷ l) (is ∙ sym (append_assoc v (93 ∷ []) rest)), d.plain (ap (is_at "^") (sym is) ∙ e) o)
+enclosed t v rest false e may is o = (91 ∷ (v ++ 93 ∷ []), ap (λ l. 91 ∷ l) (is ∙ sym (append_assoc v (93 ∷ []) rest)), d.unnegated (ap (is_at "^") (sym is) ∙ e) o)
 
 mutual
   spell_class : {m : Meaning} {i : Bool} {k : ℕ} {p q : Text} {f : Members} → g.Class m i k p f q → Spelled (λ t. d.Class m i k t q f) p q
@@ -128,13 +128,13 @@ mutual
       let y = spell_others operands in
       let begins : p ≡ 91 ∷ drop 1 p = at_char 91 p starts in
       let ends : r ≡ 93 ∷ drop 1 r = at_char 93 r closes in
-      let at : opening p ≡ opening_by (is_at "^" (drop 1 p)) (drop 1 p) = ap opening begins in
+      let at : class_opening p ≡ opening_by (is_at "^" (drop 1 p)) (drop 1 p) = ap class_opening begins in
       let inside : (opening_by (is_at "^" (drop 1 p)) (drop 1 p)).1 ≡ (x.0 ++ y.0) ++ 93 ∷ drop 1 r = ap (λ (o : Bool × Text). o.1) (sym at) ∙ x.1 ∙ (ap (λ l. x.0 ++ l) (y.1 ∙ ap (λ l. y.0 ++ l) ends) ∙ sym (append_assoc x.0 y.0 (93 ∷ drop 1 r))) in
-      let is : combined (united x.2) y.2 ≡ w = ap (λ h. combined h y.2) (sym x.4) ∙ sym y.4 in
+      let is : combine_all (united x.2) y.2 ≡ w = ap (λ h. combine_all h y.2) (sym x.4) ∙ sym y.4 in
       let o : d.Operands m i k (x.0 ++ y.0) (93 ∷ drop 1 r) w =
       subst (λ l. d.Operands m i k (x.0 ++ y.0) l w) ends (subst (λ h. d.Operands m i k (x.0 ++ y.0) r h) is (d.operands (subst (λ l. d.Items m i k true x.0 l x.2) y.1 x.3) y.3)) in
-      subst (λ l. Spelled (λ t. d.Class m i (suc k) t (drop 1 r) (turned m (opening l).0 w)) l (drop 1 r)) (sym begins)
-      (enclosed (drop 1 p) (x.0 ++ y.0) (drop 1 r) (is_at "^" (drop 1 p)) refl (ap (λ (o : Bool × Text). may_turn m o.0) (sym at) ∙ may) inside o)
+      subst (λ l. Spelled (λ t. d.Class m i (suc k) t (drop 1 r) (negate_if m (class_opening l).0 w)) l (drop 1 r)) (sym begins)
+      (enclosed (drop 1 p) (x.0 ++ y.0) (drop 1 r) (is_at "^" (drop 1 p)) refl (ap (λ (o : Bool × Text). may_negate m o.0) (sym at) ∙ may) inside o)
 
   spell_items : {m : Meaning} {i : Bool} {k : ℕ} {first : Bool} {e f : Members} {p q : Text} → g.Items m i k first e p f q
       → (t : Text) × (p ≡ t ++ q) × (fs : List Members) × d.Items m i k first t q fs × (f ≡ both e (united fs))
@@ -146,7 +146,7 @@ mutual
       (x.0 ++ y.0, is ∙ sym (append_assoc x.0 y.0 q), f ∷ y.2, d.item (ap (ends_operand first) (sym is) ∙ h) (subst (λ l. d.Item m i k x.0 l f) y.1 x.2) y.3, y.4 ∙ sym (with_next e f y.2))
 
   spell_others : {m : Meaning} {i : Bool} {k : ℕ} {e f : Members} {p q : Text} → g.Operands m i k e p f q
-      → (t : Text) × (p ≡ t ++ q) × (os : List (Operation × Members)) × d.Others m i k t q os × (f ≡ combined e os)
+      → (t : Text) × (p ≡ t ++ q) × (os : List (Operation × Members)) × d.Others m i k t q os × (f ≡ combine_all e os)
   spell_others (g.last h) = ([], refl, [], d.no_other, refl)
   spell_others {m} {i} {k} {e = e} {q = s} (g.more {how = how} {p = p} h items operands) =
       let o = operator_spelled p h in
@@ -156,7 +156,7 @@ mutual
         o.is ∙ (ap (λ l. o.word ++ l) (x.1 ∙ (ap (λ l. x.0 ++ l) y.1 ∙ sym (append_assoc x.0 y.0 s))) ∙ sym (append_assoc o.word (x.0 ++ y.0) s)),
         (how, united x.2) ∷ y.2,
         d.other o.spelled (subst (λ l. d.Items m i k false x.0 l x.2) y.1 x.3) y.3,
-        y.4 ∙ ap (λ (f : Members). combined (λ c. applied how (e c) (f c)) y.2) x.4,
+        y.4 ∙ ap (λ (f : Members). combine_all (λ c. applied how (e c) (f c)) y.2) x.4,
       )
 
   spell_item : {m : Meaning} {i : Bool} {k : ℕ} {p q : Text} {f : Members} → g.Item m i k p f q → Spelled (λ t. d.Item m i k t q f) p q
@@ -173,12 +173,12 @@ class_read {m} {i} {q = q} {f = f} x = subst (λ t. g.Class m i most_brackets t 
 class_spelled : {m : Meaning} {i : Bool} {p q : Text} {f : Members} → g.Class m i most_brackets p f q → ReadsClass m i p f q
 class_spelled h = let x = spell_class h in record { class = x.0; is = x.1; spelled = x.2 }
 
-pub gives_class : (m : Meaning) (i : Bool) (r : Result Set Refusal) (p q : Text) → Gives members (g.Class m i most_brackets) r p q → Gives members (ReadsClass m i) r p q
+pub gives_class : (m : Meaning) (i : Bool) (r : Result Set ClassRefusal) (p q : Text) → Gives members (g.Class m i most_brackets) r p q → Gives members (ReadsClass m i) r p q
 gives_class m i (Ok s) p q h = (class_spelled h.0, λ u v y. h.1 u v (class_read y))
 gives_class m i (Err Memory) p q h = tt
 gives_class m i (Err (Invalid kind)) p q h = λ u v y. h u v (class_read y)
 
-pub gives_edges : (m : Meaning) (i : Bool) (r : Result Set Refusal) (p q : Text) → Gives members (ReadsClass m i) r p q → Gives edges_of (ReadsEdges m i) r p q
+pub gives_edges : (m : Meaning) (i : Bool) (r : Result Set ClassRefusal) (p q : Text) → Gives members (ReadsClass m i) r p q → Gives edges_of (ReadsEdges m i) r p q
 gives_edges m i (Ok s) p q h = ((s.are_edges, h.0), λ u v y. let o = h.1 (has u) v y.1 in (edges_unique u (edges_of s) y.0 s.are_edges o.0, o.1))
 gives_edges m i (Err Memory) p q h = tt
 gives_edges m i (Err (Invalid kind)) p q h = λ u v y. h (has u) v y.1

@@ -2,25 +2,25 @@
 use Rattle.std.proofs.Common.{◌≡◌, ℕ, suc, ◌+◌, Bool, true, false, Some, None, drop, refl, sym, ap, ◌∙◌, subst, arith, add-one, Result, Ok, Err}
 use Rattle.fancy_tree.specs.Text.{Text}
 use Rattle.fancy_class.specs.Words.{is_at}
-use Rattle.fancy_class.specs.ClassGrammar.{token, ends_operand, starts_class, may_turn, turned, token_members, none_of}
-use Rattle.fancy_class.specs.ClassReading.{operator, is_bracket, opening, Class, class, Items, none, next, Operands, last, more, Item, simple, nested}
+use Rattle.fancy_class.specs.ClassGrammar.{token, ends_operand, starts_class, may_negate, negate_if, token_members, none_of}
+use Rattle.fancy_class.specs.ClassReading.{operator, is_bracket, class_opening, Class, class, Items, none, next, Operands, last, more, Item, simple, nested}
 use Rattle.fancy_class.specs.declared.token.Token.{Token}
-use Rattle.fancy_class.specs.declared.refusal.Refusal.{Refusal}
-use Rattle.fancy_class.specs.declared.refusal.Refusal.TheVariants.{Memory, Invalid}
-use Rattle.fancy_class.specs.ClassViews.{Refuses, Gives, IsTheReading, HasNoReading}
+use Rattle.fancy_class.specs.declared.refusal.ClassRefusal.{ClassRefusal}
+use Rattle.fancy_class.specs.declared.refusal.ClassRefusal.TheVariants.{Memory, Invalid}
+use Rattle.fancy_class.specs.ClassViews.{MemoryOr, Gives, IsTheReading, HasNoReading}
 use Rattle.fancy_tree.specs.Members.{Members, members, both, applied}
 use Rattle.fancy_tree.specs.declared.operation.Operation.{Operation}
 use Rattle.fancy_tree.specs.declared.set.Set.{Set}
 use Rattle.fancy_tree.specs.declared.tree.Meaning.{Meaning}
 use Rattle.fancy_tree.proofs.Facts.{true_is_false, some_is_none, some_pair}
 
-pub Refuses-weaker : (e : Refusal) {A B : Type 0} → (A → B) → Refuses e A → Refuses e B
-Refuses-weaker Memory f h = tt
-Refuses-weaker (Invalid kind) f h = f h
+pub MemoryOr-weaker : (e : ClassRefusal) {A B : Type 0} → (A → B) → MemoryOr e A → MemoryOr e B
+MemoryOr-weaker Memory f h = tt
+MemoryOr-weaker (Invalid kind) f h = f h
 
 module _ {X T : Type 0} (view : X → T) (R : Text → T → Text → Type 0) where
   -- the exit of a `?` on the reader's own error
-  pub refused : (r : Result X Refusal) (p q : Text) (y e : Refusal) → r ≡ Err y → y ≡ e → Refuses e (HasNoReading R p) → Gives view R r p q
+  pub refused : (r : Result X ClassRefusal) (p q : Text) (y e : ClassRefusal) → r ≡ Err y → y ≡ e → MemoryOr e (HasNoReading R p) → Gives view R r p q
   refused r p q y e a b h = rw (a, b) h
 
 -- the readings of one are those of the other
@@ -116,7 +116,7 @@ module _ {m : Meaning} {i : Bool} {k : ℕ} where
   no_nested e nothing u r (simple s f) = true_is_false (sym e ∙ s)
   no_nested e nothing u r (nested s c) = nothing u r c
 
-pub gives_nested : (m : Meaning) (i : Bool) (k : ℕ) (r : Result Set Refusal) (p q : Text) → starts_class p ≡ true → Gives members (Class m i k) r p q → Gives members (Item m i k) r p q
+pub gives_nested : (m : Meaning) (i : Bool) (k : ℕ) (r : Result Set ClassRefusal) (p q : Text) → starts_class p ≡ true → Gives members (Class m i k) r p q → Gives members (Item m i k) r p q
 gives_nested m i k (Ok s) p q e h = nested_is e h
 gives_nested m i k (Err Memory) p q e h = tt
 gives_nested m i k (Err (Invalid kind)) p q e h = no_nested e h
@@ -129,29 +129,29 @@ pub record Inside (m : Meaning) (i : Bool) (k : ℕ) (p : Text) (u : Members) (s
   pub whole : Members
   pub end : Text
   pub deeper : k ≡ suc room
-  pub may : may_turn m (opening p).0 ≡ true
-  pub items : Items m i room true none_of (opening p).1 first middle
+  pub may : may_negate m (class_opening p).0 ≡ true
+  pub items : Items m i room true none_of (class_opening p).1 first middle
   pub operands : Operands m i room first middle whole end
   pub closes : is_at "]" end ≡ true
-  pub is : u ≡ turned m (opening p).0 whole
+  pub is : u ≡ negate_if m (class_opening p).0 whole
   pub rest : s ≡ drop 1 end
 
 inside : {m : Meaning} {i : Bool} {k : ℕ} {p s : Text} {u : Members} → Class m i k p u s → Inside m i k p u s
 inside (class {k = k} {q = q} {r = r} {f = f} {g = g} a b c d e) =
     record { room = k; first = f; middle = q; whole = g; end = r; deeper = refl; may = b; items = c; operands = d; closes = e; is = refl; rest = refl }
 
-pub no_turn : {m : Meaning} {i : Bool} {k : ℕ} {p : Text} {negated : Bool} {q : Text} → opening p ≡ (negated, q) → may_turn m negated ≡ false → HasNoReading (Class m i k) p
-no_turn {m} {i} {k} {p} {negated} {q} at h u s y = true_is_false (sym (inside y).may ∙ (ap (λ (o : Bool × Text). may_turn m o.0) at ∙ h))
+pub no_turn : {m : Meaning} {i : Bool} {k : ℕ} {p : Text} {negated : Bool} {q : Text} → class_opening p ≡ (negated, q) → may_negate m negated ≡ false → HasNoReading (Class m i k) p
+no_turn {m} {i} {k} {p} {negated} {q} at h u s y = true_is_false (sym (inside y).may ∙ (ap (λ (o : Bool × Text). may_negate m o.0) at ∙ h))
 
 pub no_room : {m : Meaning} {i : Bool} {k : ℕ} {p : Text} → k ≡ 0 → HasNoReading (Class m i k) p
 no_room z u s y = let n = (inside y).deeper in absurd (omega arith)
 
-module _ {m : Meaning} {i : Bool} {k j : ℕ} {p q : Text} {negated : Bool} (starts : is_bracket p ≡ true) (at : opening p ≡ (negated, q)) (may : may_turn m negated ≡ true) (deeper : k ≡ j + 1) where
-  pub body : {u : Members} {s : Text} → Class m i k p u s → (f : Members) × (t : Text) × (g : Members) × (r : Text) × Items m i j true none_of q f t × Operands m i j f t g r × (is_at "]" r ≡ true) × (u ≡ turned m negated g) × (s ≡ drop 1 r)
+module _ {m : Meaning} {i : Bool} {k j : ℕ} {p q : Text} {negated : Bool} (starts : is_bracket p ≡ true) (at : class_opening p ≡ (negated, q)) (may : may_negate m negated ≡ true) (deeper : k ≡ j + 1) where
+  pub body : {u : Members} {s : Text} → Class m i k p u s → (f : Members) × (t : Text) × (g : Members) × (r : Text) × Items m i j true none_of q f t × Operands m i j f t g r × (is_at "]" r ≡ true) × (u ≡ negate_if m negated g) × (s ≡ drop 1 r)
   body {u} {s} y =
       let n = inside y in
       let same : n.room ≡ j = omega (arith, n.deeper, deeper) in
-      let there : (opening p).1 ≡ q = ap (λ (o : Bool × Text). o.1) at in (
+      let there : (class_opening p).1 ≡ q = ap (λ (o : Bool × Text). o.1) at in (
         n.first,
         n.middle,
         n.whole,
@@ -159,14 +159,14 @@ module _ {m : Meaning} {i : Bool} {k j : ℕ} {p q : Text} {negated : Bool} (sta
         subst (λ z. Items m i z true none_of q n.first n.middle) same (subst (λ z. Items m i n.room true none_of z n.first n.middle) there n.items),
         subst (λ z. Operands m i z n.first n.middle n.whole n.end) same n.operands,
         n.closes,
-        n.is ∙ ap (λ (o : Bool × Text). turned m o.0 n.whole) at,
+        n.is ∙ ap (λ (o : Bool × Text). negate_if m o.0 n.whole) at,
         n.rest,
       )
 
   pub no_items : HasNoReading (λ u v w. Items m i j true none_of u v w) q → HasNoReading (Class m i k) p
   no_items nothing u s y = let b = body y in nothing b.0 b.1 b.4
 
-  operands_of : {f : Members} {t : Text} → IsTheReading (λ u v w. Items m i j true none_of u v w) q f t → {u : Members} {s : Text} → Class m i k p u s → (g : Members) × (r : Text) × Operands m i j f t g r × (is_at "]" r ≡ true) × (u ≡ turned m negated g) × (s ≡ drop 1 r)
+  operands_of : {f : Members} {t : Text} → IsTheReading (λ u v w. Items m i j true none_of u v w) q f t → {u : Members} {s : Text} → Class m i k p u s → (g : Members) × (r : Text) × Operands m i j f t g r × (is_at "]" r ≡ true) × (u ≡ negate_if m negated g) × (s ≡ drop 1 r)
   operands_of {f} {t} h {u} {s} y =
       let b = body y in
       let o = h.1 b.0 b.1 b.4 in
@@ -185,19 +185,19 @@ module _ {m : Meaning} {i : Bool} {k j : ℕ} {p q : Text} {negated : Bool} (sta
       let n = operands_last (on.back b.0 b.1 b.2) op in
       true_is_false (sym b.3 ∙ (ap (is_at "]") n.1 ∙ open_at))
 
-  whole : {f g : Members} {t r : Text} (z : ℕ) → z ≡ j + 1 → Items m i j true none_of q f t → Operands m i j f t g r → is_at "]" r ≡ true → Class m i z p (turned m (opening p).0 g) (drop 1 r)
+  whole : {f g : Members} {t r : Text} (z : ℕ) → z ≡ j + 1 → Items m i j true none_of q f t → Operands m i j f t g r → is_at "]" r ≡ true → Class m i z p (negate_if m (class_opening p).0 g) (drop 1 r)
   whole {f} {g} {t} {r} z e a b closes =
-      subst (λ n. Class m i n p (turned m (opening p).0 g) (drop 1 r)) (sym (e ∙ add-one j))
-      (class starts (ap (λ (o : Bool × Text). may_turn m o.0) at ∙ may) (subst (λ w. Items m i j true none_of w f t) (sym (ap (λ (o : Bool × Text). o.1) at)) a) b closes)
+      subst (λ n. Class m i n p (negate_if m (class_opening p).0 g) (drop 1 r)) (sym (e ∙ add-one j))
+      (class starts (ap (λ (o : Bool × Text). may_negate m o.0) at ∙ may) (subst (λ w. Items m i j true none_of w f t) (sym (ap (λ (o : Bool × Text). o.1) at)) a) b closes)
 
   pub class_is : {f g new : Members} {t r : Text} → IsTheReading (λ u v w. Items m i j true none_of u v w) q f t → GoesOn (λ x y. Operands m i j f t x y) (λ x y. Operands m i j g r x y)
-      → operator r ≡ None → is_at "]" r ≡ true → new ≡ turned m negated g → IsTheReading (Class m i k) p new (drop 1 r)
+      → operator r ≡ None → is_at "]" r ≡ true → new ≡ negate_if m negated g → IsTheReading (Class m i k) p new (drop 1 r)
   class_is {f} {g} {new} {t} {r} h on op closes is = (
-    subst (λ w. Class m i k p w (drop 1 r)) (ap (λ (o : Bool × Text). turned m o.0 g) at ∙ sym is) (whole k deeper h.0 (on.forth g r (last op)) closes),
+    subst (λ w. Class m i k p w (drop 1 r)) (ap (λ (o : Bool × Text). negate_if m o.0 g) at ∙ sym is) (whole k deeper h.0 (on.forth g r (last op)) closes),
     λ u s y.
         let b = operands_of h y in
         let n = operands_last (on.back b.0 b.1 b.2) op in
-        (b.4 ∙ (ap (turned m negated) n.0 ∙ sym is), b.5 ∙ ap (drop 1) n.1),
+        (b.4 ∙ (ap (negate_if m negated) n.0 ∙ sym is), b.5 ∙ ap (drop 1) n.1),
   )
 
 -- a text has at most one reading
@@ -207,7 +207,7 @@ mutual
       let b = body starts refl may (sym (add-one j)) y in
       let o = one_items items b.4 in
       let w = one_operands operands (subst (λ z. Operands m i j f z b.2 b.3) o.1 (subst (λ z. Operands m i j z b.1 b.2 b.3) o.0 b.5)) in
-      (b.7 ∙ ap (turned m (opening p).0) w.0, b.8 ∙ ap (drop 1) w.1)
+      (b.7 ∙ ap (negate_if m (class_opening p).0) w.0, b.8 ∙ ap (drop 1) w.1)
 
   pub one_items : {m : Meaning} {i : Bool} {k : ℕ} {first : Bool} {e f g : Members} {p q r : Text} → Items m i k first e p f q → Items m i k first e p g r → (g ≡ f) × (r ≡ q)
   one_items (none h) y = items_end y h

@@ -10,9 +10,9 @@ use Rattle.fancy_tree.specs.declared.named.Named.{Named}
 use Rattle.fancy_class.specs.declared.token.Token.{Token}
 use Rattle.fancy_tree.specs.Text.{Text, ◌∈◌}
 use Rattle.fancy_class.specs.Words.{is_at, begins, by_word}
-use Rattle.fancy_class.specs.Escapes.{escaped, escape_at, hexadecimal, number, braced_number, before_brace, by_number, is_character, takes_number, digits_behind, single, set_here, is_property, property_name}
+use Rattle.fancy_class.specs.EscapeGrammar.{escape_meaning, escape_at, hexadecimal, escape_number, braced_number, before_brace, by_number, is_character, takes_number, digits_after, single_character, set_here, is_property, property_name}
 use Rattle.fancy_tree.specs.Properties.{property_named}
-use Rattle.fancy_class.specs.ClassGrammar.{fits, may_turn, range, range_from, range_to, is_ranged, named_of, posix, posix_of, posix_words, is_posix, property, property_of, found_property, token, token_of}
+use Rattle.fancy_class.specs.ClassGrammar.{fits, may_negate, range, range_from, range_to, is_ranged, named_of, posix, posix_of, posix_words, is_posix, property, property_of, found_property, token, token_of}
 use Rattle.fancy_tree.proofs.Facts.{some_is_none, some_pair, chosen}
 
 -- the second text is an end of the first
@@ -32,8 +32,8 @@ ends_then {t} {u} {v} a b = record { front = a.front ++ b.front; is = a.is ∙ (
 pub ends_at : {t u v : Text} → Ends t u → u ≡ v → Ends t v
 ends_at {t} a e = subst (Ends t) e a
 
-pub behind_one : {c : ℕ} {t u : Text} → Ends t u → Ends (c ∷ t) u
-behind_one {c} {t} a = ends_then (ends_drop 1 (c ∷ t)) a
+pub after_one : {c : ℕ} {t u : Text} → Ends t u → Ends (c ∷ t) u
+after_one {c} {t} a = ends_then (ends_drop 1 (c ∷ t)) a
 
 -- ---- numbers
 ends_by_number : (o : Option ℕ) (b : Bool) (t : Text) {x : ℕ × Bool} {u : Text} → by_number o b t ≡ Some (x, u) → t ≡ u
@@ -44,7 +44,7 @@ ends_by_number (Some n) b t h =
       | inr y ↦ absurd (some_is_none (sym y.1))
     ]
 
-pub ends_number : (count : ℕ) (t : Text) {x : ℕ × Bool} {u : Text} → number count t ≡ Some (x, u) → Ends t u
+pub ends_number : (count : ℕ) (t : Text) {x : ℕ × Bool} {u : Text} → escape_number count t ≡ Some (x, u) → Ends t u
 ends_number count t {x} {u} h =
     elim (chosen (is_at "{" t) _ _ _ h) [
       | inl y ↦ braced (drop 1 t) (ends_drop 1 t) y.1
@@ -66,7 +66,7 @@ ends_escape_at : (o : Option ℕ) (t : Text) {x : ℕ × Bool} {u : Text} → es
 ends_escape_at None t h = absurd (some_is_none (sym h))
 ends_escape_at (Some n) t h = (some_pair h).1
 
-ends_single : (t : Text) {x : ℕ × Bool} {u : Text} → single t ≡ Some (x, u) → Ends t u
+ends_single : (t : Text) {x : ℕ × Bool} {u : Text} → single_character t ≡ Some (x, u) → Ends t u
 ends_single [] h = absurd (some_is_none (sym h))
 ends_single (c ∷ []) h =
     elim (chosen (c ∈ "\\[") _ _ _ h) [
@@ -83,19 +83,19 @@ ends_single (c ∷ d ∷ t) {x} {u} h =
     ]
   where
     two : {v : Text} → Ends t v → Ends (c ∷ d ∷ t) v
-    two e = behind_one (behind_one e)
+    two e = after_one (after_one e)
 
-    by_letter : (if takes_number d then number (digits_behind d) t else escape_at (escaped d) t) ≡ Some (x, u) → Ends (c ∷ d ∷ t) u
+    by_letter : (if takes_number d then escape_number (digits_after d) t else escape_at (escape_meaning d) t) ≡ Some (x, u) → Ends (c ∷ d ∷ t) u
     by_letter e =
         elim (chosen (takes_number d) _ _ _ e) [
-          | inl y ↦ two (ends_number (digits_behind d) t y.1)
-          | inr y ↦ two (ends_at (ends_here t) (ends_escape_at (escaped d) t y.1))
+          | inl y ↦ two (ends_number (digits_after d) t y.1)
+          | inr y ↦ two (ends_at (ends_here t) (ends_escape_at (escape_meaning d) t y.1))
         ]
 
 ends_range : (m : Meaning) (t : Text) {x : Token} {u : Text} → range m t ≡ Some (x, u) → Ends t u
-ends_range m t {x} {u} h = from (single t) refl h
+ends_range m t {x} {u} h = from (single_character t) refl h
   where
-    to : (q : Text) (a : ℕ) (o : Option ((ℕ × Bool) × Text)) → single (drop 1 q) ≡ o → range_to m a o ≡ Some (x, u) → Ends q u
+    to : (q : Text) (a : ℕ) (o : Option ((ℕ × Bool) × Text)) → single_character (drop 1 q) ≡ o → range_to m a o ≡ Some (x, u) → Ends q u
     to q a None e k = absurd (some_is_none (sym k))
     to q a (Some (b, r)) e k =
         elim (chosen (not (fits m b.0 b.1) || nat_lt b.0 a) _ _ _ k) [
@@ -103,20 +103,20 @@ ends_range m t {x} {u} h = from (single t) refl h
           | inr y ↦ ends_then (ends_drop 1 q) (ends_at (ends_single (drop 1 q) e) (some_pair y.1).1)
         ]
 
-    from : (o : Option ((ℕ × Bool) × Text)) → single t ≡ o → range_from m o ≡ Some (x, u) → Ends t u
+    from : (o : Option ((ℕ × Bool) × Text)) → single_character t ≡ o → range_from m o ≡ Some (x, u) → Ends t u
     from None e k = absurd (some_is_none (sym k))
     from (Some (a, q)) e k =
         elim (chosen (not (fits m a.0 a.1)) _ _ _ k) [
           | inl y ↦ absurd (some_is_none (sym y.1))
           | inr y ↦ elim (chosen (is_ranged q) _ _ _ y.1) [
-            | inl z ↦ ends_then (ends_single t e) (to q a.0 (single (drop 1 q)) refl z.1)
+            | inl z ↦ ends_then (ends_single t e) (to q a.0 (single_character (drop 1 q)) refl z.1)
             | inr z ↦ ends_at (ends_single t e) (some_pair z.1).1
           ]
         ]
 
 ends_named : (m : Meaning) (t : Text) (n : Named × Bool) {x : Token} {u : Text} → named_of m t n ≡ Some (x, u) → t ≡ u
 ends_named m t n h =
-    elim (chosen (may_turn m n.1) _ _ _ h) [
+    elim (chosen (may_negate m n.1) _ _ _ h) [
       | inl y ↦ (some_pair y.1).1
       | inr y ↦ absurd (some_is_none (sym y.1))
     ]
@@ -145,7 +145,7 @@ ends_property_name [] h = absurd (some_is_none (sym h))
 ends_property_name (c ∷ t) h =
     elim (chosen (c == 123) _ _ _ h) [
       | inl y ↦ elim (chosen (nat_lt (before_brace t) (length t)) _ _ _ y.1) [
-        | inl z ↦ ends_at (behind_one (ends_drop (before_brace t + 1) t)) (some_pair z.1).1
+        | inl z ↦ ends_at (after_one (ends_drop (before_brace t + 1) t)) (some_pair z.1).1
         | inr z ↦ absurd (some_is_none (sym z.1))
       ]
       | inr y ↦ ends_at (ends_drop 1 (c ∷ t)) (some_pair y.1).1

@@ -9,7 +9,7 @@ use Rattle.fancy_tree.specs.declared.tree.Meaning.TheVariants.{Unicode, Bytes, A
 use Rattle.fancy_tree.specs.Sets.{in_range}
 use Rattle.fancy_tree.specs.Members.{Members, both}
 use Rattle.fancy_tree.specs.Widening.{in_pairs, pairs_to, ascii_pairs}
-use Rattle.fancy_class.specs.ClassGrammar.{folded, characters, none_of}
+use Rattle.fancy_class.specs.ClassGrammar.{fold_case, characters, none_of}
 use Rattle.fancy_tree.proofs.EdgesLemmas.{in_ranges-push, in_ranges-nil}
 
 and-false : (b : Bool) → (b && false) ≡ false
@@ -36,19 +36,19 @@ in_pairs-both [] f g c = refl
 in_pairs-both (q ∷ ps) f g c =
     ap (λ b. pairs_to (both f g) c q || b) (in_pairs-both ps f g c) ∙ mix (q.0 == c) (f q.1) (g q.1) (in_pairs ps f c) (in_pairs ps g c)
 
-folded-none : (m : Meaning) (i : Bool) (c : ℕ) → folded m i none_of c ≡ false
-folded-none m false c = refl
-folded-none Unicode true c = in_pairs-none fold_pairs c
-folded-none Bytes true c = in_pairs-none ascii_pairs c
-folded-none AsciiText true c = in_pairs-none ascii_pairs c
+fold_case-none : (m : Meaning) (i : Bool) (c : ℕ) → fold_case m i none_of c ≡ false
+fold_case-none m false c = refl
+fold_case-none Unicode true c = in_pairs-none fold_pairs c
+fold_case-none Bytes true c = in_pairs-none ascii_pairs c
+fold_case-none AsciiText true c = in_pairs-none ascii_pairs c
 
-folded-both : (m : Meaning) (i : Bool) (f g : Members) (c : ℕ) → folded m i (both f g) c ≡ (folded m i f c || folded m i g c)
-folded-both m false f g c = refl
-folded-both Unicode true f g c =
+fold_case-both : (m : Meaning) (i : Bool) (f g : Members) (c : ℕ) → fold_case m i (both f g) c ≡ (fold_case m i f c || fold_case m i g c)
+fold_case-both m false f g c = refl
+fold_case-both Unicode true f g c =
     ap (λ b. (f c || g c) || b) (in_pairs-both fold_pairs f g c) ∙ mix true (f c) (g c) (in_pairs fold_pairs f c) (in_pairs fold_pairs g c)
-folded-both Bytes true f g c =
+fold_case-both Bytes true f g c =
     ap (λ b. (f c || g c) || b) (in_pairs-both ascii_pairs f g c) ∙ mix true (f c) (g c) (in_pairs ascii_pairs f c) (in_pairs ascii_pairs g c)
-folded-both AsciiText true f g c =
+fold_case-both AsciiText true f g c =
     ap (λ b. (f c || g c) || b) (in_pairs-both ascii_pairs f g c) ∙ mix true (f c) (g c) (in_pairs ascii_pairs f c) (in_pairs ascii_pairs g c)
 
 -- the numbers up to the last character in any of the ranges
@@ -69,14 +69,14 @@ with_pieces rs new a b x y c h e f is =
     ∙ (ap (λ z. nat_le c 0x10_FFFF && z) (in_ranges-push (rs ++ (a, x) ∷ []) (y, b) c ∙ ap (λ z. z || in_range (y, b) c) (in_ranges-push rs (a, x) c))
     ∙ (split (nat_le c 0x10_FFFF) (in_ranges rs c) (in_range (a, x) c) (in_range (y, b) c) ∙ ap (λ z. within rs c || z) (pieces a b x y c h e f)))
 
-pub gathered_none : (m : Meaning) (i : Bool) (f : Members) (rs : List (ℕ × ℕ)) (c : ℕ) → f c ≡ false → rs ≡ [] → (f c || folded m i (within rs) c) ≡ false
+pub gathered_none : (m : Meaning) (i : Bool) (f : Members) (rs : List (ℕ × ℕ)) (c : ℕ) → f c ≡ false → rs ≡ [] → (f c || fold_case m i (within rs) c) ≡ false
 gathered_none m i f rs c e is =
     let nothing : within rs ≡ none_of = fun_ext (λ x. ap (λ l. nat_le x 0x10_FFFF && in_ranges l x) is ∙ (ap (λ b. nat_le x 0x10_FFFF && b) (in_ranges-nil x) ∙ and-false (nat_le x 0x10_FFFF))) in
-    ap (λ b. b || folded m i (within rs) c) e ∙ (ap (λ h. folded m i h c) nothing ∙ folded-none m i c)
+    ap (λ b. b || fold_case m i (within rs) c) e ∙ (ap (λ h. fold_case m i h c) nothing ∙ fold_case-none m i c)
 
 pub gathered_range : (m : Meaning) (i : Bool) (f : Members) (rs new : List (ℕ × ℕ)) (a b x y c : ℕ) → b ≤ 0x10_FFFF → x ≡ min b 0xD7FF → y ≡ max a 0xE000 → new ≡ (rs ++ (a, x) ∷ []) ++ (y, b) ∷ [] →
-    (f c || folded m i (within new) c) ≡ ((f c || folded m i (within rs) c) || folded m i (characters a b) c)
+    (f c || fold_case m i (within new) c) ≡ ((f c || fold_case m i (within rs) c) || fold_case m i (characters a b) c)
 gathered_range m i f rs new a b x y c h e g is =
     let grown : within new ≡ both (within rs) (characters a b) = fun_ext (λ z. with_pieces rs new a b x y z h e g is) in
-    ap (λ s. f c || folded m i s c) grown
-    ∙ (ap (λ z. f c || z) (folded-both m i (within rs) (characters a b) c) ∙ or_assoc (f c) (folded m i (within rs) c) (folded m i (characters a b) c))
+    ap (λ s. f c || fold_case m i s c) grown
+    ∙ (ap (λ z. f c || z) (fold_case-both m i (within rs) (characters a b) c) ∙ or_assoc (f c) (fold_case m i (within rs) c) (fold_case m i (characters a b) c))

@@ -4,12 +4,12 @@ use Rattle.ucd_sets.specs.declared.set.Set.{Set as PropertySet}
 use Rattle.fancy_tree.specs.Limits.{most_brackets}
 use Rattle.fancy_tree.specs.Text.{Text}
 use Rattle.fancy_class.specs.Words.{is_at, begins, by_word}
-use Rattle.fancy_class.specs.Escapes.{single, set_here, letters, is_property, property_name}
+use Rattle.fancy_class.specs.EscapeGrammar.{single_character, set_here, letters, is_property, property_name}
 use Rattle.fancy_tree.specs.Properties.{property_named, has_property}
 use Rattle.fancy_tree.specs.Sets.{has, AreEdges, in_range}
 use Rattle.fancy_tree.specs.Members.{Members, both, applied}
-use Rattle.fancy_tree.specs.Named.{named, in_universe, is_unicode}
-use Rattle.fancy_tree.specs.Widening.{widened}
+use Rattle.fancy_tree.specs.Named.{in_named_set, in_universe, is_unicode}
+use Rattle.fancy_tree.specs.Widening.{case_closure}
 use Rattle.fancy_class.specs.declared.token.Token.{Token}
 use Rattle.fancy_class.specs.declared.token.Token.TheVariants.{Range, Named as NamedSet, Property}
 use Rattle.fancy_tree.specs.declared.named.Named.{Named}
@@ -30,8 +30,8 @@ is_ascii_meaning AsciiText = true
 is_ascii_meaning _ = false
 
 -- a set may have its complement taken
-abbrev pub may_turn : Meaning → Bool → Bool
-may_turn m negated = not (negated && is_ascii_meaning m)
+abbrev pub may_negate : Meaning → Bool → Bool
+may_negate m negated = not (negated && is_ascii_meaning m)
 
 -- a hyphen that makes a range
 abbrev pub is_ranged : Text → Bool
@@ -44,16 +44,16 @@ range_to m a None = None
 abbrev pub range_from : Meaning → Option ((ℕ × Bool) × Text) → Option (Token × Text)
 range_from m (Some ((a, is_byte), q)) =
     if not (fits m a is_byte) then None
-    else if is_ranged q then range_to m a (single (drop 1 q))
+    else if is_ranged q then range_to m a (single_character (drop 1 q))
     else Some (Range a a, q)
 range_from m None = None
 
 -- a single character, or a range
 abbrev pub range : Meaning → Text → Option (Token × Text)
-range m p = range_from m (single p)
+range m p = range_from m (single_character p)
 
 abbrev pub named_of : Meaning → Text → Named × Bool → Option (Token × Text)
-named_of m t (n, negated) = if may_turn m negated then Some (NamedSet n negated, t) else None
+named_of m t (n, negated) = if may_negate m negated then Some (NamedSet n negated, t) else None
 
 -- the names of POSIX sets, each with what closes it
 abbrev pub posix_words : List (Text × Named)
@@ -119,17 +119,17 @@ abbrev pub starts_class : Text → Bool
 starts_class t = is_at "[" t && not (is_posix t)
 
 -- the members of a set, in a class under flag `i` or not
-abbrev pub folded : Meaning → Bool → Members → Members
-folded m false f = f
-folded m true f = widened m f
+abbrev pub fold_case : Meaning → Bool → Members → Members
+fold_case m false f = f
+fold_case m true f = case_closure m f
 
 -- what the set lacks, of the numbers that an item can consume
 abbrev pub complement : Meaning → Members → Members
 complement m f = λ c. in_universe m c && not (f c)
 
-abbrev pub turned : Meaning → Bool → Members → Members
-turned m false f = f
-turned m true f = complement m f
+abbrev pub negate_if : Meaning → Bool → Members → Members
+negate_if m false f = f
+negate_if m true f = complement m f
 
 -- the characters from the first to the last
 abbrev pub characters : ℕ → ℕ → Members
@@ -137,9 +137,9 @@ characters a b = λ c. in_universe Unicode c && in_range (a, b) c
 
 -- the members of one item: under flag `i` a set is widened before its complement is taken
 abbrev pub token_members : Meaning → Bool → Token → Members
-token_members m i (Range a b) = folded m i (characters a b)
-token_members m i (NamedSet n negated) = turned m negated (folded m i (named m n))
-token_members m i (Property s negated) = turned m negated (folded m i (has_property s))
+token_members m i (Range a b) = fold_case m i (characters a b)
+token_members m i (NamedSet n negated) = negate_if m negated (fold_case m i (in_named_set m n))
+token_members m i (Property s negated) = negate_if m negated (fold_case m i (has_property s))
 
 abbrev pub none_of : Members
 none_of = λ c. false
@@ -149,10 +149,10 @@ abbrev pub united : List Members → Members
 united [] = none_of
 united (f ∷ fs) = both f (united fs)
 
--- a set, and behind it operators with a set each: they are applied from the left to the right
-abbrev pub combined : Members → List (Operation × Members) → Members
-combined f [] = f
-combined f ((how, x) ∷ others) = combined (λ c. applied how (f c) (x c)) others
+-- a set, and after it operators with a set each: they are applied from the left to the right
+abbrev pub combine_all : Members → List (Operation × Members) → Members
+combine_all f [] = f
+combine_all f ((how, x) ∷ others) = combine_all (λ c. applied how (f c) (x c)) others
 
 -- These two characters are an operator.
 pub data Operator : Text → Operation → Type 0 where
@@ -162,14 +162,14 @@ pub data Operator : Text → Operation → Type 0 where
 
 -- `after` is what follows the text in the whole pattern, so that each case can say that no other form begins at its place. The number says how many brackets more may be open at one place.
 mutual
-  -- A class, from its bracket to the other one. Behind `^` the complement is taken, last of all.
+  -- A class, from its bracket to the other one. After `^` the complement is taken, last of all.
   pub data Class : Meaning → Bool → ℕ → Text → Text → Members → Type 0 where
-    plain : {m : Meaning} {i : Bool} {k : ℕ} {t after : Text} {f : Members} → is_at "^" (t ++ (codes "]" ++ after)) ≡ false → Operands m i k t (codes "]" ++ after) f → Class m i (suc k) (codes "[" ++ (t ++ codes "]")) after f
+    unnegated : {m : Meaning} {i : Bool} {k : ℕ} {t after : Text} {f : Members} → is_at "^" (t ++ (codes "]" ++ after)) ≡ false → Operands m i k t (codes "]" ++ after) f → Class m i (suc k) (codes "[" ++ (t ++ codes "]")) after f
     negated : {m : Meaning} {i : Bool} {k : ℕ} {t after : Text} {f : Members} → is_ascii_meaning m ≡ false → Operands m i k t (codes "]" ++ after) f → Class m i (suc k) (codes "[^" ++ (t ++ codes "]")) after (complement m f)
 
   -- operands with operators between them
   pub data Operands : Meaning → Bool → ℕ → Text → Text → Members → Type 0 where
-    operands : {m : Meaning} {i : Bool} {k : ℕ} {t u after : Text} {fs : List Members} {others : List (Operation × Members)} → Items m i k true t (u ++ after) fs → Others m i k u after others → Operands m i k (t ++ u) after (combined (united fs) others)
+    operands : {m : Meaning} {i : Bool} {k : ℕ} {t u after : Text} {fs : List Members} {others : List (Operation × Members)} → Items m i k true t (u ++ after) fs → Others m i k u after others → Operands m i k (t ++ u) after (combine_all (united fs) others)
 
   -- operators, each with the members of the operand that follows it
   pub data Others : Meaning → Bool → ℕ → Text → Text → List (Operation × Members) → Type 0 where
@@ -177,7 +177,7 @@ mutual
     other : {m : Meaning} {i : Bool} {k : ℕ} {o t u after : Text} {how : Operation} {fs : List Members} {others : List (Operation × Members)} → Operator o how → Items m i k false t (u ++ after) fs → Others m i k u after others
         → Others m i k (o ++ (t ++ u)) after ((how, united fs) ∷ others)
 
-  -- the items of an operand, one behind the other, by the members of each; `first` says that the class begins with them
+  -- the items of an operand, one after another, by the members of each; `first` says that the class begins with them
   pub data Items : Meaning → Bool → ℕ → Bool → Text → Text → List Members → Type 0 where
     no_item : {m : Meaning} {i : Bool} {k : ℕ} {first : Bool} {after : Text} → ends_operand first after ≡ true → Items m i k first [] after []
     item : {m : Meaning} {i : Bool} {k : ℕ} {first : Bool} {t u after : Text} {f : Members} {fs : List Members} → ends_operand first (t ++ (u ++ after)) ≡ false → Item m i k t (u ++ after) f → Items m i k false u after fs

@@ -3,7 +3,7 @@ use Rattle.std.specs.Prelude.{◌≡◌, ℕ, suc, Bool, true, false, drop, Opti
 use Rattle.fancy_tree.specs.Text.{Text}
 use Rattle.fancy_class.specs.Words.{is_at, begins}
 use Rattle.fancy_tree.specs.Members.{Members, both, applied}
-use Rattle.fancy_class.specs.ClassGrammar.{may_turn, token, token_members, ends_operand, starts_class, turned, none_of}
+use Rattle.fancy_class.specs.ClassGrammar.{may_negate, token, token_members, ends_operand, starts_class, negate_if, none_of}
 use Rattle.fancy_class.specs.declared.token.Token.{Token}
 use Rattle.fancy_tree.specs.declared.tree.Meaning.{Meaning}
 use Rattle.fancy_tree.specs.declared.operation.Operation.{Operation}
@@ -20,23 +20,23 @@ operator p =
     else if begins "~~" p then Some (SymmetricDifference, drop 2 p)
     else None
 
--- behind the bracket, whether `^` stands there, and the place of the first item
-abbrev pub opening : Text → Bool × Text
-opening t = if is_at "^" (drop 1 t) then (true, drop 2 t) else (false, drop 1 t)
+-- after the bracket, whether `^` stands there, and the place of the first item
+abbrev pub class_opening : Text → Bool × Text
+class_opening t = if is_at "^" (drop 1 t) then (true, drop 2 t) else (false, drop 1 t)
 
 -- The number says how many brackets more may be open at one place.
 mutual
-  -- a class, from its bracket to behind the other one
+  -- a class, from its bracket to the place after the other one
   pub data Class : Meaning → Bool → ℕ → Text → Members → Text → Type 0 where
-    class : {m : Meaning} {i : Bool} {k : ℕ} {p q r : Text} {f g : Members} → is_bracket p ≡ true → may_turn m (opening p).0 ≡ true → Items m i k true none_of (opening p).1 f q → Operands m i k f q g r → is_at "]" r ≡ true
-        → Class m i (suc k) p (turned m (opening p).0 g) (drop 1 r)
+    class : {m : Meaning} {i : Bool} {k : ℕ} {p q r : Text} {f g : Members} → is_bracket p ≡ true → may_negate m (class_opening p).0 ≡ true → Items m i k true none_of (class_opening p).1 f q → Operands m i k f q g r → is_at "]" r ≡ true
+        → Class m i (suc k) p (negate_if m (class_opening p).0 g) (drop 1 r)
 
-  -- the items up to an operator or the end, behind others with these members
+  -- the items up to an operator or the end, after others with these members
   pub data Items : Meaning → Bool → ℕ → Bool → Members → Text → Members → Text → Type 0 where
     none : {m : Meaning} {i : Bool} {k : ℕ} {first : Bool} {f : Members} {p : Text} → ends_operand first p ≡ true → Items m i k first f p f p
     next : {m : Meaning} {i : Bool} {k : ℕ} {first : Bool} {f g x : Members} {p q r : Text} → ends_operand first p ≡ false → Item m i k p x q → Items m i k false (both f x) q g r → Items m i k first f p g r
 
-  -- the operators and what follows each, behind a set
+  -- the operators and what follows each, after a set
   pub data Operands : Meaning → Bool → ℕ → Members → Text → Members → Text → Type 0 where
     last : {m : Meaning} {i : Bool} {k : ℕ} {f : Members} {p : Text} → operator p ≡ None → Operands m i k f p f p
     more : {m : Meaning} {i : Bool} {k : ℕ} {f g x : Members} {how : Operation} {p q r s : Text} → operator p ≡ Some (how, q) → Items m i k false none_of q x r → Operands m i k (λ c. applied how (f c) (x c)) r g s → Operands m i k f p g s

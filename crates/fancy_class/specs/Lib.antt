@@ -1,5 +1,5 @@
 pub mod Words
-pub mod Escapes
+pub mod EscapeGrammar
 pub mod ClassGrammar
 pub mod ClassReading
 pub mod ClassViews

@@ -2,18 +2,18 @@
 
 ghost use Rattle.std.specs.Prelude.{◌≡◌, ℕ, IfOk};
 ghost use Rattle.fancy_tree.specs.Members.{members};
-ghost use Rattle.fancy_class.specs.ClassGrammar.{fits, folded, turned, may_turn};
+ghost use Rattle.fancy_class.specs.ClassGrammar.{fits, fold_case, negate_if, may_negate};
 
 use fancy_tree::named::universe;
 use fancy_tree::operation::Operation;
 use fancy_tree::set::Set;
 use fancy_tree::tree::Meaning;
-use fancy_tree::widening::widened;
+use fancy_tree::widening::case_closure;
 use std::alloc::{AllocError, Global};
 
 /// What is in force where a class stands.
 #[derive(Clone, Copy)]
-pub struct Context {
+pub struct ClassContext {
     /// What an item consumes.
     pub meaning: Meaning,
     /// Flag `i`: sets are widened by the characters that share a simple folding with a member.
@@ -33,31 +33,31 @@ pub(crate) fn fits(meaning: Meaning, c: char, is_byte: bool) -> bool
 }
 
 /// Whether a set may have its complement taken.
-pub fn may_turn(meaning: Meaning, negated: bool) -> bool
-    ensures { result ≡ may_turn meaning negated }
+pub fn may_negate(meaning: Meaning, negated: bool) -> bool
+    ensures { result ≡ may_negate meaning negated }
 {
     !(negated && matches!(meaning, Meaning::AsciiText))
 }
 
-impl Context {
+impl ClassContext {
     /// The set with what flag `i` adds to it, where it is set.
-    pub(crate) fn folded(self, set: Set) -> Result<Set, AllocError>
-        ensures { IfOk result (λ s. (c : ℕ) → members s c ≡ folded self.meaning self.fold (members set) c) }
+    pub(crate) fn fold_case(self, set: Set) -> Result<Set, AllocError>
+        ensures { IfOk result (λ s. (c : ℕ) → members s c ≡ fold_case self.meaning self.fold (members set) c) }
     {
         if self.fold {
-            widened(self.meaning, &set)
+            case_closure(self.meaning, &set)
         } else {
             Ok(set)
         }
     }
 
     /// The set, or its complement where it is negated.
-    pub(crate) fn turned(self, negated: bool, set: Set) -> Result<Set, AllocError>
-        ensures { IfOk result (λ s. (c : ℕ) → members s c ≡ turned self.meaning negated (members set) c) }
+    pub(crate) fn negate_if(self, negated: bool, set: Set) -> Result<Set, AllocError>
+        ensures { IfOk result (λ s. (c : ℕ) → members s c ≡ negate_if self.meaning negated (members set) c) }
     {
         if !negated {
             return Ok(set);
         }
-        universe(self.alloc, self.meaning)?.combined(Operation::Difference, &set)
+        universe(self.alloc, self.meaning)?.combine(Operation::Difference, &set)
     }
 }

@@ -2,11 +2,11 @@
 
 ghost use Rattle.std.specs.Prelude.{◌≡◌, ◌+◌, ◌<◌, ◌≤◌, length, take, drop, OnOk, Some, None, if◌then◌else◌};
 ghost use Rattle.fancy_class.specs.Words.{is_at};
-ghost use Rattle.fancy_class.specs.Escapes.{control_of, escaped, set_letter, set_here, before_brace, is_character, hexadecimal, by_number, braced_number, fixed_number, number, single};
+ghost use Rattle.fancy_class.specs.EscapeGrammar.{control_of, escape_meaning, set_letter, set_here, before_brace, is_character, hexadecimal, by_number, braced_number, fixed_number, escape_number, single_character};
 ghost use Rattle.fancy_class.specs.ClassViews.{GivesValue, same, capped_number};
 
 use crate::cursor::Cursor;
-use crate::refusal::Refusal;
+use crate::refusal::ClassRefusal;
 use crate::words::is_at_any;
 use fancy_tree::error::ParseErrorKind;
 use fancy_tree::named::Named;
@@ -27,9 +27,9 @@ pub fn control(letter: char) -> Option<char>
     }
 }
 
-/// The character that a letter or mark behind a backslash stands for in a class.
-fn escaped(c: char) -> Option<char>
-    ensures { result ≡ escaped c }
+/// The character that a letter or mark after a backslash stands for in a class.
+fn escape_meaning(c: char) -> Option<char>
+    ensures { result ≡ escape_meaning c }
 {
     if c == 'b' {
         return Some('\u{8}');
@@ -44,7 +44,7 @@ fn escaped(c: char) -> Option<char>
     }
 }
 
-/// The set that a letter behind a backslash names, and whether its complement is meant.
+/// The set that a letter after a backslash names, and whether its complement is meant.
 pub fn set_letter(c: char) -> Option<(Named, bool)>
     ensures { result ≡ set_letter c }
 {
@@ -107,55 +107,55 @@ fn character(number: u32) -> Option<char>
 
 impl<'a> Cursor<'a> {
     /// The character that these digits number, with what follows them left to be read.
-    #[tactic(auto, using(crate::proofs::NumberLemmas::by_number_read))]
+    #[tactic(auto, using(crate::proofs::NumberEscapeLemmas::by_number_read))]
     fn by_number(
         &mut self,
         digits: usize,
         past: usize,
         is_byte: bool,
-    ) -> Result<(char, bool), Refusal>
+    ) -> Result<(char, bool), ClassRefusal>
         requires digits { digits ≤ length self.old.rest.now }
         requires past { past ≤ length self.old.rest.now }
         ensures value { GivesValue same (by_number (hexadecimal 0 (take digits self.old.rest.now)) is_byte (drop past self.old.rest.now)) result self.new.rest.now }
         ensures forward { OnOk result (length self.new.rest.now ≤ length self.old.rest.now) }
     {
         let Some(value) = hexadecimal(&self.rest[..digits]) else {
-            return Err(Refusal::Invalid(ParseErrorKind::InvalidHex));
+            return Err(ClassRefusal::Invalid(ParseErrorKind::InvalidHex));
         };
         let Some(found) = character(value) else {
-            return Err(Refusal::Invalid(ParseErrorKind::InvalidCodepointValue));
+            return Err(ClassRefusal::Invalid(ParseErrorKind::InvalidCodepointValue));
         };
         self.skip(past);
         Ok((found, is_byte))
     }
 
     /// Reads one to eight digits and a closing brace.
-    fn braced_number(&mut self) -> Result<(char, bool), Refusal>
+    fn braced_number(&mut self) -> Result<(char, bool), ClassRefusal>
         ensures value { GivesValue same (braced_number self.old.rest.now) result self.new.rest.now }
         ensures forward { OnOk result (length self.new.rest.now ≤ length self.old.rest.now) }
     {
         let len = before_brace(self.rest);
         if len == 0 || len > 8 || len >= self.rest.len() {
-            return Err(Refusal::Invalid(ParseErrorKind::InvalidHex));
+            return Err(ClassRefusal::Invalid(ParseErrorKind::InvalidHex));
         }
         self.by_number(len, len + 1, false)
     }
 
     /// Reads so many digits, of which two write a byte.
-    fn fixed_number(&mut self, count: usize) -> Result<(char, bool), Refusal>
+    fn fixed_number(&mut self, count: usize) -> Result<(char, bool), ClassRefusal>
         ensures value { GivesValue same (fixed_number count self.old.rest.now) result self.new.rest.now }
         ensures forward { OnOk result (length self.new.rest.now ≤ length self.old.rest.now) }
     {
         if self.rest.len() < count {
-            return Err(Refusal::Invalid(ParseErrorKind::InvalidHex));
+            return Err(ClassRefusal::Invalid(ParseErrorKind::InvalidHex));
         }
         self.by_number(count, count, count == 2)
     }
 
-    /// Reads the number behind the letter of its escape: so many hexadecimal digits, or one to eight in
+    /// Reads the number after the letter of its escape: so many hexadecimal digits, or one to eight in
     /// braces. Tells whether it was written as a byte, as `\xFF` is.
-    pub fn number(&mut self, count: usize) -> Result<(char, bool), Refusal>
-        ensures value { GivesValue same (number count self.old.rest.now) result self.new.rest.now }
+    pub fn number(&mut self, count: usize) -> Result<(char, bool), ClassRefusal>
+        ensures value { GivesValue same (escape_number count self.old.rest.now) result self.new.rest.now }
         ensures forward { OnOk result (length self.new.rest.now ≤ length self.old.rest.now) }
     {
         if is_at_any(self.rest, &['{']) {
@@ -166,9 +166,9 @@ impl<'a> Cursor<'a> {
     }
 
     /// Reads the number of an escape, from its backslash on.
-    fn numbered(&mut self, count: usize) -> Result<(char, bool), Refusal>
+    fn number_escape(&mut self, count: usize) -> Result<(char, bool), ClassRefusal>
         requires { 2 ≤ length self.old.rest.now }
-        ensures value { GivesValue same (number count (drop 2 self.old.rest.now)) result self.new.rest.now }
+        ensures value { GivesValue same (escape_number count (drop 2 self.old.rest.now)) result self.new.rest.now }
         ensures progress { OnOk result (length self.new.rest.now < length self.old.rest.now) }
     {
         self.skip(2);
@@ -176,22 +176,22 @@ impl<'a> Cursor<'a> {
     }
 
     /// Reads one character, or an escape that stands for one. Tells whether it was written as a byte.
-    pub(crate) fn single(&mut self) -> Result<(char, bool), Refusal>
-        ensures value { GivesValue same (single self.old.rest.now) result self.new.rest.now }
+    pub(crate) fn single_character(&mut self) -> Result<(char, bool), ClassRefusal>
+        ensures value { GivesValue same (single_character self.old.rest.now) result self.new.rest.now }
         ensures progress { OnOk result (length self.new.rest.now < length self.old.rest.now) }
     {
         match self.rest {
-            ['\\', 'x', ..] => self.numbered(2),
-            ['\\', 'u', ..] => self.numbered(4),
-            ['\\', 'U', ..] => self.numbered(8),
+            ['\\', 'x', ..] => self.number_escape(2),
+            ['\\', 'u', ..] => self.number_escape(4),
+            ['\\', 'U', ..] => self.number_escape(8),
             ['\\', c, ..] => {
-                let Some(found) = escaped(*c) else {
-                    return Err(Refusal::Invalid(ParseErrorKind::InvalidEscape));
+                let Some(found) = escape_meaning(*c) else {
+                    return Err(ClassRefusal::Invalid(ParseErrorKind::InvalidEscape));
                 };
                 self.skip(2);
                 Ok((found, false))
             }
-            ['\\' | '[', ..] | [] => Err(Refusal::Invalid(ParseErrorKind::InvalidClass)),
+            ['\\' | '[', ..] | [] => Err(ClassRefusal::Invalid(ParseErrorKind::InvalidClass)),
             [c, ..] => {
                 let c = *c;
                 self.skip(1);

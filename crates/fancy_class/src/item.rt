@@ -1,14 +1,14 @@
 //! What stands in a class: characters, ranges, sets, operators.
 
 ghost use Rattle.std.specs.Prelude.{◌≡◌, ◌<◌, ◌≤◌, true, length, drop, option_map, IsTrue, IsSome, OnOk};
-ghost use Rattle.fancy_class.specs.Escapes.{single};
+ghost use Rattle.fancy_class.specs.EscapeGrammar.{single_character};
 ghost use Rattle.fancy_class.specs.ClassGrammar.{range, token, ends_operand, is_ranged, starts_class};
-ghost use Rattle.fancy_class.specs.ClassReading.{operator, opening, is_bracket};
+ghost use Rattle.fancy_class.specs.ClassReading.{operator, class_opening, is_bracket};
 ghost use Rattle.fancy_class.specs.ClassViews.{GivesValue, same};
 
-use crate::context::{Context, fits, may_turn};
+use crate::context::{ClassContext, fits, may_negate};
 use crate::cursor::Cursor;
-use crate::refusal::Refusal;
+use crate::refusal::ClassRefusal;
 use crate::token::Token;
 use crate::words::{begins, is_at_any};
 use fancy_tree::error::ParseErrorKind;
@@ -29,27 +29,27 @@ impl<'a> Cursor<'a> {
     }
 
     /// Reads the last character of a range. An escape that stands for a set is none.
-    fn last_of_range(&mut self) -> Result<(char, bool), Refusal>
-        ensures value { GivesValue same (single self.old.rest.now) result self.new.rest.now }
+    fn last_of_range(&mut self) -> Result<(char, bool), ClassRefusal>
+        ensures value { GivesValue same (single_character self.old.rest.now) result self.new.rest.now }
         ensures progress { OnOk result (length self.new.rest.now < length self.old.rest.now) }
     {
         let is_set = self.set_here().is_some() || self.is_property();
-        match self.single() {
-            Err(Refusal::Invalid(_)) if is_set => {
-                Err(Refusal::Invalid(ParseErrorKind::InvalidClass))
+        match self.single_character() {
+            Err(ClassRefusal::Invalid(_)) if is_set => {
+                Err(ClassRefusal::Invalid(ParseErrorKind::InvalidClass))
             }
             found => found,
         }
     }
 
     /// Reads a character or a range.
-    fn range(&mut self, meaning: Meaning) -> Result<Token, Refusal>
+    fn range(&mut self, meaning: Meaning) -> Result<Token, ClassRefusal>
         ensures value { GivesValue same (range meaning self.old.rest.now) result self.new.rest.now }
         ensures progress { OnOk result (length self.new.rest.now < length self.old.rest.now) }
     {
-        let (first, is_byte) = self.single()?;
+        let (first, is_byte) = self.single_character()?;
         if !fits(meaning, first, is_byte) {
-            return Err(Refusal::Invalid(ParseErrorKind::InvalidClass));
+            return Err(ClassRefusal::Invalid(ParseErrorKind::InvalidClass));
         }
         if !self.is_ranged() {
             return Ok(Token::Range(first, first));
@@ -57,13 +57,13 @@ impl<'a> Cursor<'a> {
         self.skip(1);
         let (last, is_byte) = self.last_of_range()?;
         if !fits(meaning, last, is_byte) || last < first {
-            return Err(Refusal::Invalid(ParseErrorKind::InvalidClass));
+            return Err(ClassRefusal::Invalid(ParseErrorKind::InvalidClass));
         }
         Ok(Token::Range(first, last))
     }
 
     /// Reads a character, a range or the name of a set.
-    pub(crate) fn token(&mut self, context: Context) -> Result<Token, Refusal>
+    pub(crate) fn token(&mut self, context: ClassContext) -> Result<Token, ClassRefusal>
         ensures value { GivesValue same (token context.meaning self.old.rest.now) result self.new.rest.now }
         ensures progress { OnOk result (length self.new.rest.now < length self.old.rest.now) }
     {
@@ -76,8 +76,8 @@ impl<'a> Cursor<'a> {
         let Some((which, negated)) = self.set_here() else {
             return self.range(context.meaning);
         };
-        if !may_turn(context.meaning, negated) {
-            return Err(Refusal::Invalid(ParseErrorKind::InvalidClass));
+        if !may_negate(context.meaning, negated) {
+            return Err(ClassRefusal::Invalid(ParseErrorKind::InvalidClass));
         }
         self.skip(2);
         Ok(Token::Named(which, negated))
@@ -120,7 +120,7 @@ impl<'a> Cursor<'a> {
     /// Reads what opens a class, and tells whether its complement is meant.
     pub(crate) fn opening(&mut self) -> bool
         requires { is_bracket self.old.rest.now ≡ true }
-        ensures value { opening self.old.rest.now ≡ (result, self.new.rest.now) }
+        ensures value { class_opening self.old.rest.now ≡ (result, self.new.rest.now) }
         ensures progress { length self.new.rest.now < length self.old.rest.now }
     {
         self.skip(1);

@@ -1,14 +1,14 @@
 //! POSIX sets, as `[:alpha:]`.
 
 ghost use Rattle.std.specs.Prelude.{◌≡◌, ◌<◌, ◌≤◌, length, drop, option_map, IsTrue, OnOk, IfSome};
-ghost use Rattle.fancy_class.specs.Escapes.{letters};
+ghost use Rattle.fancy_class.specs.EscapeGrammar.{letters};
 ghost use Rattle.fancy_class.specs.Words.{by_word};
 ghost use Rattle.fancy_class.specs.ClassGrammar.{posix_words, is_posix_name, is_posix, posix, posix_of};
 ghost use Rattle.fancy_class.specs.ClassViews.{GivesValue, same};
 
-use crate::context::may_turn;
+use crate::context::may_negate;
 use crate::cursor::Cursor;
-use crate::refusal::Refusal;
+use crate::refusal::ClassRefusal;
 use crate::token::Token;
 use crate::words::begins;
 use fancy_tree::error::ParseErrorKind;
@@ -94,22 +94,22 @@ impl<'a> Cursor<'a> {
     }
 
     /// Reads the name of a POSIX set with what closes it.
-    fn posix_end(&mut self, meaning: Meaning, negated: bool) -> Result<Token, Refusal>
+    fn posix_end(&mut self, meaning: Meaning, negated: bool) -> Result<Token, ClassRefusal>
         ensures value { GivesValue same (posix_of meaning negated (by_word posix_words self.old.rest.now)) result self.new.rest.now }
         ensures forward { OnOk result (length self.new.rest.now ≤ length self.old.rest.now) }
     {
         let Some((which, len)) = self.posix_word() else {
-            return Err(Refusal::Invalid(ParseErrorKind::InvalidClass));
+            return Err(ClassRefusal::Invalid(ParseErrorKind::InvalidClass));
         };
-        if !may_turn(meaning, negated) {
-            return Err(Refusal::Invalid(ParseErrorKind::InvalidClass));
+        if !may_negate(meaning, negated) {
+            return Err(ClassRefusal::Invalid(ParseErrorKind::InvalidClass));
         }
         self.skip(len);
         Ok(Token::Named(which, negated))
     }
 
     /// Reads a POSIX set.
-    pub(crate) fn posix(&mut self, meaning: Meaning) -> Result<Token, Refusal>
+    pub(crate) fn posix(&mut self, meaning: Meaning) -> Result<Token, ClassRefusal>
         requires { 3 ≤ length self.old.rest.now }
         ensures value { GivesValue same (posix meaning self.old.rest.now) result self.new.rest.now }
         ensures progress { OnOk result (length self.new.rest.now < length self.old.rest.now) }

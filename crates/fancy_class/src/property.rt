@@ -1,14 +1,14 @@
 //! Escapes that name a property of Unicode.
 
 ghost use Rattle.std.specs.Prelude.{◌≡◌, ◌<◌, ◌≤◌, true, length, IsTrue, OnOk};
-ghost use Rattle.fancy_class.specs.Escapes.{is_property, property_name};
+ghost use Rattle.fancy_class.specs.EscapeGrammar.{is_property, property_name};
 ghost use Rattle.fancy_class.specs.ClassGrammar.{property, property_of};
 ghost use Rattle.fancy_class.specs.ClassViews.{GivesValue, same, IsInvalid};
 
-use crate::context::Context;
+use crate::context::ClassContext;
 use crate::cursor::Cursor;
 use crate::escape::before_brace;
-use crate::refusal::Refusal;
+use crate::refusal::ClassRefusal;
 use crate::token::Token;
 use crate::words::begins;
 use fancy_tree::error::ParseErrorKind;
@@ -16,13 +16,13 @@ use fancy_tree::property::property_named;
 use fancy_tree::tree::Meaning;
 
 /// Why a property of this name is refused: a value of a property is a form of its own.
-fn refusal(name: &[char]) -> Refusal
+fn refusal(name: &[char]) -> ClassRefusal
     ensures { IsInvalid result }
 {
     if name.contains(&'=') || name.contains(&':') {
-        Refusal::Invalid(ParseErrorKind::NotInProfile)
+        ClassRefusal::Invalid(ParseErrorKind::NotInProfile)
     } else {
-        Refusal::Invalid(ParseErrorKind::InvalidClass)
+        ClassRefusal::Invalid(ParseErrorKind::InvalidClass)
     }
 }
 
@@ -36,7 +36,7 @@ impl<'a> Cursor<'a> {
     }
 
     /// Reads the name of a property: what stands in braces, or one character.
-    fn property_name(&mut self) -> Result<&'a [char], Refusal>
+    fn property_name(&mut self) -> Result<&'a [char], ClassRefusal>
         ensures value { GivesValue (λ s. s.now) (property_name self.old.rest.now) result self.new.rest.now }
         ensures forward { OnOk result (length self.new.rest.now ≤ length self.old.rest.now) }
     {
@@ -44,7 +44,7 @@ impl<'a> Cursor<'a> {
             ['{', inside @ ..] => {
                 let len = before_brace(inside);
                 if len == inside.len() {
-                    return Err(Refusal::Invalid(ParseErrorKind::InvalidClass));
+                    return Err(ClassRefusal::Invalid(ParseErrorKind::InvalidClass));
                 }
                 self.skip(len + 2);
                 Ok(&inside[..len])
@@ -54,18 +54,18 @@ impl<'a> Cursor<'a> {
                 self.skip(1);
                 Ok(name)
             }
-            [] => Err(Refusal::Invalid(ParseErrorKind::InvalidClass)),
+            [] => Err(ClassRefusal::Invalid(ParseErrorKind::InvalidClass)),
         }
     }
 
     /// Reads the name of a property and finds the property.
-    fn property_end(&mut self, context: Context, negated: bool) -> Result<Token, Refusal>
+    fn property_end(&mut self, context: ClassContext, negated: bool) -> Result<Token, ClassRefusal>
         ensures value { GivesValue same (property_of context.meaning negated (property_name self.old.rest.now)) result self.new.rest.now }
         ensures forward { OnOk result (length self.new.rest.now ≤ length self.old.rest.now) }
     {
         let name = self.property_name()?;
         if !matches!(context.meaning, Meaning::Unicode) {
-            return Err(Refusal::Invalid(ParseErrorKind::InvalidClass));
+            return Err(ClassRefusal::Invalid(ParseErrorKind::InvalidClass));
         }
         let Some(found) = property_named(context.alloc, name)? else {
             return Err(refusal(name));
@@ -74,7 +74,7 @@ impl<'a> Cursor<'a> {
     }
 
     /// Reads an escape that names a property.
-    pub fn property(&mut self, context: Context) -> Result<Token, Refusal>
+    pub fn property(&mut self, context: ClassContext) -> Result<Token, ClassRefusal>
         requires { is_property self.old.rest.now ≡ true }
         ensures value { GivesValue same (property context.meaning self.old.rest.now) result self.new.rest.now }
         ensures progress { OnOk result (length self.new.rest.now < length self.old.rest.now) }

@@ -6,10 +6,10 @@ ghost use Rattle.fancy_class.specs.ClassGrammar.{none_of, ReadsClass, ReadsEdges
 ghost use Rattle.fancy_class.specs.ClassReading.{is_bracket, Class, Items};
 ghost use Rattle.fancy_class.specs.ClassViews.{Gives};
 
-use crate::context::{Context, may_turn};
+use crate::context::{ClassContext, may_negate};
 use crate::cursor::Cursor;
 use crate::gathered::Gathered;
-use crate::refusal::Refusal;
+use crate::refusal::ClassRefusal;
 use crate::words::is_at_any;
 use fancy_tree::error::ParseErrorKind;
 use fancy_tree::set::Set;
@@ -19,53 +19,60 @@ const DEEPEST: u32 = 64;
 
 impl<'a> Cursor<'a> {
     /// Reads the class that stands here.
-    pub fn class(&mut self, context: Context) -> Result<Set, Refusal>
+    pub fn class(&mut self, context: ClassContext) -> Result<Set, ClassRefusal>
         requires { is_bracket self.old.rest.now ≡ true }
-        ensures value { Gives members (ReadsClass context.meaning context.fold) result self.old.rest.now self.new.rest.now }
-        ensures edges { Gives edges_of (ReadsEdges context.meaning context.fold) result self.old.rest.now self.new.rest.now }
+        ensures value { Gives members (ReadsClass context.meaning context.fold)
+            result self.old.rest.now self.new.rest.now }
+        ensures edges { Gives edges_of (ReadsEdges context.meaning context.fold)
+            result self.old.rest.now self.new.rest.now }
         ensures progress { OnOk result (length self.new.rest.now < length self.old.rest.now) }
     {
-        self.bracketed(context, DEEPEST)
+        self.bracketed_class(context, DEEPEST)
     }
 
     /// Reads a class; `room` brackets may be open in it, its own with them.
     #[cycle(reader)]
-    fn bracketed(&mut self, context: Context, room: u32) -> Result<Set, Refusal>
+    fn bracketed_class(&mut self, context: ClassContext, room: u32) -> Result<Set, ClassRefusal>
         requires { is_bracket self.old.rest.now ≡ true }
         ensures value { Gives members (Class context.meaning context.fold room) result self.old.rest.now self.new.rest.now }
         ensures progress { OnOk result (length self.new.rest.now < length self.old.rest.now) }
     {
         let negated = self.opening();
-        if !may_turn(context.meaning, negated) {
-            return Err(Refusal::Invalid(ParseErrorKind::InvalidClass));
+        if !may_negate(context.meaning, negated) {
+            return Err(ClassRefusal::Invalid(ParseErrorKind::InvalidClass));
         }
         if room == 0 {
-            return Err(Refusal::Invalid(ParseErrorKind::RecursionExceeded));
+            return Err(ClassRefusal::Invalid(ParseErrorKind::RecursionExceeded));
         }
         let mut set = self.items(context, room - 1, true)?;
         'operands: while let Some(how) = self.operator() {
             self.skip(2);
             let right = self.items(context, room - 1, false)?;
-            set = set.combined(how, &right)?;
+            set = set.combine(how, &right)?;
         }
         if !is_at_any(self.rest, &[']']) {
-            return Err(Refusal::Invalid(ParseErrorKind::InvalidClass));
+            return Err(ClassRefusal::Invalid(ParseErrorKind::InvalidClass));
         }
         self.skip(1);
-        Ok(context.turned(negated, set)?)
+        Ok(context.negate_if(negated, set)?)
     }
 
     /// Reads items up to an operator or the end; at its start a class may have a bracket or two hyphens as
     /// members.
     #[cycle(reader)]
-    fn items(&mut self, context: Context, room: u32, mut first: bool) -> Result<Set, Refusal>
+    fn items(
+        &mut self,
+        context: ClassContext,
+        room: u32,
+        mut first: bool,
+    ) -> Result<Set, ClassRefusal>
         ensures value { Gives members (λ p f q. Items context.meaning context.fold room first none_of p f q) result self.old.rest.now self.new.rest.now }
         ensures forward { OnOk result (length self.new.rest.now ≤ length self.old.rest.now) }
     {
         let mut gathered = Gathered::new(context.alloc);
         'more: while !self.ends_operand(first) {
             if self.starts_class() {
-                let nested = self.bracketed(context, room)?;
+                let nested = self.bracketed_class(context, room)?;
                 gathered.add_set(&nested)?;
             } else {
                 let token = self.token(context)?;

@@ -4,10 +4,10 @@ use Rattle.fancy_tree.specs.declared.error.Error.{Error}
 use Rattle.fancy_tree.specs.declared.error.Error.TheVariants.{Memory}
 use Rattle.fancy_syntax.specs.Dialect.{IsPattern}
 use Rattle.fancy_tree.specs.Pattern.{Pattern}
-use Rattle.fancy_core.specs.declared.options.Options.{Options}
+use Rattle.fancy_search.specs.declared.options.Options.{Options}
 use Rattle.fancy_core.specs.Built.{IsReading}
-use Rattle.fancy_core.specs.Options.{dialect_of}
-use Rattle.fancy_core.specs.ProgramSize.{RefusesPattern, IsRefusedUnder}
+use Rattle.fancy_search.specs.Options.{dialect_of}
+use Rattle.fancy_search.specs.ProgramSize.{RefusesPattern, IsRefusedUnder}
 
 -- a refusal
 pub is_refused : (o : Options) (pattern : List ℕ) (e : Error) → IsRefusedUnder o (chars pattern) e → ((p : Pattern) → IsPattern (dialect_of o) (chars pattern) p → RefusesPattern o p e) → IsReading o pattern (Err e)

@@ -1,5 +1,6 @@
 -- A search that answers with none has no position with an accepted outcome.
 use Rattle.std.proofs.Common.{◌≡◌, ◌↔◌, ℕ, Option, Some, None, option_map, refl, sym, ap, ◌∙◌}
+use Rattle.fancy_input.specs.declared.span.Span.{Span}
 use Rattle.fancy_engine.specs.Search.{Query, search, span_of}
 use Rattle.fancy_engine.specs.Answers.{HasNone}
 use Rattle.fancy_engine.proofs.SearchLemmas.{none-is_none}
@@ -9,7 +10,7 @@ none_of f None e = refl
 none_of f (Some x) e = cc
 
 -- the match is none exactly where the answer is
-pub none_found : {A : Type 0} (span : A → ℕ × ℕ) (m : Option A) (q : Query) → option_map span m ≡ option_map span_of (search q) →
+pub none_found : {A : Type 0} (span : A → Span) (m : Option A) (q : Query) → option_map span m ≡ option_map span_of (search q) →
     (m ≡ None) ↔ HasNone q
 none_found span m q e = (
   λ none. (none-is_none q).0 (none_of span_of (search q) (sym e ∙ ap (option_map span) none)),

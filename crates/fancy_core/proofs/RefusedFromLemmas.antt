@@ -8,15 +8,15 @@ use Rattle.fancy_input.specs.Places.{next_place}
 use Rattle.fancy_input.proofs.PlaceLemmas.{next_place_above}
 use Rattle.fancy_core.specs.declared.regex.Regex.{Regex}
 use Rattle.fancy_core.specs.Limited.{Refuses}
-use Rattle.fancy_core.specs.Limits.{up_to}
-use Rattle.fancy_core.specs.Left.{refused_next, at_first, at_next, scan, upcoming_if, left_if, items_left}
-use Rattle.fancy_core.specs.Matching.{Scan, Item, stop_of, is_empty, answer, unless_empty_at, items_from, Sound}
-use Rattle.fancy_core.specs.Regexes.{asked_in_turn}
+use Rattle.fancy_core.specs.ItemLimits.{up_to}
+use Rattle.fancy_search.specs.Remaining.{refused_next, at_first, at_next, scan, upcoming_if, left_if, items_left}
+use Rattle.fancy_search.specs.MatchList.{Scan, Item, stop_of, is_empty_item, answer, unless_empty_at, items_from, Sound}
+use Rattle.fancy_core.specs.Regexes.{program_in, query_in_turn}
 use Rattle.fancy_core.specs.Replacing.{StartFrom, IsRefusedFrom}
-use Rattle.fancy_core.proofs.LeftLemmas.{skips}
-use Rattle.fancy_core.proofs.MatchingLemmas.{LiesFrom, answer_lies}
-use Rattle.fancy_core.proofs.ScanLemmas.{scan_sound}
-use Rattle.fancy_core.proofs.StepLemmas.{nat_same}
+use Rattle.fancy_search.proofs.RemainingLemmas.{skips}
+use Rattle.fancy_search.proofs.MatchListLemmas.{LiesFrom, answer_lies}
+use Rattle.fancy_search.proofs.ScanLemmas.{scan_sound}
+use Rattle.fancy_search.proofs.IterationStepLemmas.{nat_same}
 
 start_up_to : (left : Option ℕ) (s : ℕ) (xs : List Item) → StartFrom s xs → StartFrom s (up_to left xs)
 start_up_to None s xs h = h
@@ -51,33 +51,33 @@ left_start : (k : Scan) (s : ℕ) (c b : Bool) → Sound k → StartFrom s (left
 left_start k s c b h = items_start k s (upcoming_if b k s c) (upcoming_lies k s c b h)
 
 -- and at the next place or later, where an empty match is passed over
-passed_start : (k : Scan) (s : ℕ) (c : Bool) (i : Item) → Sound k → answer k s c ≡ Some i → is_empty i ≡ true → stop_of i ≡ s → StartFrom (k.advance s) (left_if false k s c true)
+passed_start : (k : Scan) (s : ℕ) (c : Bool) (i : Item) → Sound k → answer k s c ≡ Some i → is_empty_item i ≡ true → stop_of i ≡ s → StartFrom (k.advance s) (left_if false k s c true)
 passed_start k s c i h e m p =
-    let u : upcoming_if true k s c ≡ answer k (k.advance s) false = skips k s c i e (both_true {s = is_empty i} {t = nat_eq (stop_of i) s} m (rw p (nat_same s))) in
+    let u : upcoming_if true k s c ≡ answer k (k.advance s) false = skips k s c i e (both_true {s = is_empty_item i} {t = nat_eq (stop_of i) s} m (rw p (nat_same s))) in
     rw u (items_start k (k.advance s) _ (answer_lies k (k.advance s) false h))
 
 -- the next search of an iteration over a text is the search for what it has left
 pub search_refused : (regex : Regex) (t : List ℕ) (r : Request) (c b ended : Bool) (from : ℕ) (left : Option ℕ) (e : Error) → r ≡ record (whole t) { start = r.start } → ended ≡ false → from ≤ r.start →
-    refused_next regex true t r c b e → IsRefusedFrom regex t from (up_to left (items_left regex true t r ended c b)) e
+    refused_next (program_in regex) true t r c b e → IsRefusedFrom regex t from (up_to left (items_left (program_in regex) true t r ended c b)) e
 search_refused regex t r c b ended from left e of_text going later (at_first x) =
     let range : r.range_end ≡ length t = ap (λ (q : Request). q.range_end) of_text in
-    let k = scan regex true t r in
+    let k = scan (program_in regex) true t r in
     record {
       start = r.start;
       on = c;
-      behind = later;
-      before = rw going (start_up_to left r.start _ (left_start k r.start c b (scan_sound regex true t r (omega (arith, range)))));
-      refused = subst (λ (q : Request). Refuses regex (asked_in_turn regex t (record q { start = r.start }) c) e) of_text x;
+      after = later;
+      before = rw going (start_up_to left r.start _ (left_start k r.start c b (scan_sound (program_in regex) true t r (omega (arith, range)))));
+      refused = subst (λ (q : Request). Refuses regex (query_in_turn regex t (record q { start = r.start }) c) e) of_text x;
     }
 search_refused regex t r c b ended from left e of_text going later (at_next i on found empty stops x) =
     let range : r.range_end ≡ length t = ap (λ (q : Request). q.range_end) of_text in
-    let k = scan regex true t r in
+    let k = scan (program_in regex) true t r in
     let s = next_place true t r.start in
     let above = next_place_above true t r.start in
     record {
       start = s;
       on = false;
-      behind = omega (arith, later, above);
-      before = rw (going, on) (start_up_to left s _ (passed_start k r.start c i (scan_sound regex true t r (omega (arith, range))) found empty stops));
-      refused = subst (λ (q : Request). Refuses regex (asked_in_turn regex t (record q { start = s }) false) e) of_text x;
+      after = omega (arith, later, above);
+      before = rw (going, on) (start_up_to left s _ (passed_start k r.start c i (scan_sound (program_in regex) true t r (omega (arith, range))) found empty stops));
+      refused = subst (λ (q : Request). Refuses regex (query_in_turn regex t (record q { start = s }) false) e) of_text x;
     }

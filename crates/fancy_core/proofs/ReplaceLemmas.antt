@@ -4,16 +4,16 @@ use Rattle.std.specs.Prelude.{MatchBool, ◌↔◌, ◌⊎◌}
 use Rattle.std.proofs.lemmas.List.{map-append}
 use Rattle.fancy_tree.specs.declared.error.Error.{Error}
 use Rattle.fancy_tree.specs.declared.error.Error.TheVariants.{Memory}
-use Rattle.fancy_engine.specs.Context.{Span}
+use Rattle.fancy_input.specs.declared.span.Span.{Span}
 use Rattle.fancy_core.specs.declared.regex.Regex.{Regex}
 use Rattle.fancy_core.specs.GroupTexts.{Seen}
-use Rattle.fancy_core.specs.Matching.{Item, span_of_item, start_of, stop_of}
+use Rattle.fancy_search.specs.MatchList.{Item, span_of_item, start_of, stop_of}
 use Rattle.fancy_core.specs.Pieces.{pieces, interleaved, limited}
-use Rattle.fancy_core.specs.Replacing.{Answers, IsReplaced, IsRefusedFrom, IsRefusedBehind, IsRefusedBetweenCalls, IsRefusedByReplacer, end_of, replaced, filled, seen_of}
-use Rattle.fancy_core.specs.Limits.{up_to, is_reached, one_fewer}
+use Rattle.fancy_core.specs.Replacing.{Answers, IsReplaced, IsRefusedFrom, IsRefusedAfter, IsRefusedBetweenCalls, IsRefusedByReplacer, end_of, replaced, text_with_each, seen_of}
+use Rattle.fancy_core.specs.ItemLimits.{up_to, is_reached, one_fewer}
 use Rattle.fancy_core.proofs.PieceLemmas.{whole_of}
 
--- behind one item more the last of them ends
+-- after one item more the last of them ends
 end_of_more : (x : Item) (xs : List Item) → end_of (xs ++ (x ∷ [])) ≡ stop_of x
 end_of_more x [] = refl
 end_of_more x (y ∷ []) = refl
@@ -52,7 +52,7 @@ module _ {R : Type 0} (gave : R → Seen → List ℕ → R → Type 0) where
   answers_more first now next x a [] [] h g = (next, subst (λ (z : R). gave z x a next) (sym h) g, refl)
   answers_more first now next x a [] (b ∷ answers) h g = absurd h
   answers_more first now next x a (y ∷ xs) [] h g = absurd h
-  answers_more first now next x a (y ∷ xs) (b ∷ answers) (middle, here, behind) g = (middle, here, answers_more middle now next x a xs answers behind g)
+  answers_more first now next x a (y ∷ xs) (b ∷ answers) (middle, here, after) g = (middle, here, answers_more middle now next x a xs answers after g)
 
   -- with no match nothing is called
   answers_to_none : (first now : R) (answers : List (List ℕ)) → Answers gave first [] answers now → first ≡ now
@@ -115,7 +115,7 @@ module _ {R : Type 0} (gave : R → Seen → List ℕ → R → Type 0) where
     pub goes_stopped : (all : List Item) (first now : R) (out : List ℕ) (at : ℕ) (found : Bool) (todo : List Item) (error : Error) → (error ≡ Memory) ⊎ IsRefusedFrom regex t at todo error → Goes gave regex t all first now out at found todo → IsRefusedBetweenCalls None gave first now regex t all error
     goes_stopped all first now out at found todo error w h = record {
       done = h.done;
-      behind = record { later = todo; order = h.order; refused = subst (λ (z : ℕ). (error ≡ Memory) ⊎ IsRefusedFrom regex t z todo error) h.ended w };
+      after = record { later = todo; order = h.order; refused = subst (λ (z : ℕ). (error ≡ Memory) ⊎ IsRefusedFrom regex t z todo error) h.ended w };
       answers = h.answers;
       given = h.given;
     }
@@ -165,20 +165,20 @@ each_same f x [] = refl
 each_same f x (y ∷ xs) = ap (λ (z : List _). x ∷ z) (each_same f x xs)
 
 -- one text for all matches makes the text that is filled with it
-pub same_fills : (x last : List ℕ) (regex : Regex) (t : List ℕ) (all : List Item) (result : List ℕ) → IsReplaced None SaysItself x last regex t all result → result ≡ filled t all x
+pub same_fills : (x last : List ℕ) (regex : Regex) (t : List ℕ) (all : List Item) (result : List ℕ) → IsReplaced None SaysItself x last regex t all result → result ≡ text_with_each t all x
 same_fills x last regex t all result w =
     w.joined ∙ ap (replaced t all) (same_answers x x refl (map (seen_of regex t) all) w.answers last w.given ∙ each_same (seen_of regex t) x all)
 
 -- a replacer with one text for all matches is not called
-pub filled_replaces : {R : Type 0} (gave : R → Seen → List ℕ → R → Type 0) (first : R) (fixed : Option (List ℕ)) (x : List ℕ) (regex : Regex) (t : List ℕ) (all : List Item) (result : List ℕ) → fixed ≡ Some x → result ≡ filled t all x → IsReplaced fixed gave first first regex t all result
+pub filled_replaces : {R : Type 0} (gave : R → Seen → List ℕ → R → Type 0) (first : R) (fixed : Option (List ℕ)) (x : List ℕ) (regex : Regex) (t : List ℕ) (all : List Item) (result : List ℕ) → fixed ≡ Some x → result ≡ text_with_each t all x → IsReplaced fixed gave first first regex t all result
 filled_replaces gave first fixed x regex t all result e f = rw e (record { answers = map (λ _. x) all; given = (sym (each_same (seen_of regex t) x all), refl); joined = f })
 
-pub fixed_stays : {R : Type 0} (gave : R → Seen → List ℕ → R → Type 0) (first : R) (fixed : Option (List ℕ)) (x : List ℕ) (regex : Regex) (t : List ℕ) (all : List Item) (error : Error) → fixed ≡ Some x → (done : List Item) × IsRefusedBehind regex t all done error → IsRefusedBetweenCalls fixed gave first first regex t all error
-fixed_stays gave first fixed x regex t all error e w = rw e (record { done = w.0; behind = w.1; answers = map (λ _. x) (map (seen_of regex t) w.0); given = (refl, refl) })
+pub fixed_stays : {R : Type 0} (gave : R → Seen → List ℕ → R → Type 0) (first : R) (fixed : Option (List ℕ)) (x : List ℕ) (regex : Regex) (t : List ℕ) (all : List Item) (error : Error) → fixed ≡ Some x → (done : List Item) × IsRefusedAfter regex t all done error → IsRefusedBetweenCalls fixed gave first first regex t all error
+fixed_stays gave first fixed x regex t all error e w = rw e (record { done = w.0; after = w.1; answers = map (λ _. x) (map (seen_of regex t) w.0); given = (refl, refl) })
 
--- what was refused behind the items that a text filled
-pub fills_stopped : (x last : List ℕ) (regex : Regex) (t : List ℕ) (all : List Item) (error : Error) → IsRefusedBetweenCalls None SaysItself x last regex t all error → (done : List Item) × IsRefusedBehind regex t all done error
-fills_stopped x last regex t all error w = (w.done, w.behind)
+-- what was refused after the items that a text filled
+pub fills_stopped : (x last : List ℕ) (regex : Regex) (t : List ℕ) (all : List Item) (error : Error) → IsRefusedBetweenCalls None SaysItself x last regex t all error → (done : List Item) × IsRefusedAfter regex t all done error
+fills_stopped x last regex t all error w = (w.done, w.after)
 
 pub one_done : {A : Type 0} (xs rest : List A) (x : A) → xs ≡ x ∷ rest → length rest < length xs
 one_done xs rest x e = rw e (omega arith)
@@ -201,17 +201,9 @@ pub none_is : {A : Type 0} (o : Option A) → ((x : A) → o ≡ Some x → ⊥)
 none_is None h = refl
 none_is (Some x) h = absurd (h x refl)
 
-pub if_err : {A E : Type 0} (P Q : E → Type 0) → ((e : E) → P e → Q e) → (r : Result A E) → IfErr r P → IfErr r Q
-if_err P Q f (Ok a) h = tt
-if_err P Q f (Err e) h = f e h
-
 pub or_both : (A B C D : Type 0) → (A → C) → (B → D) → A ⊎ B → C ⊎ D
 or_both A B C D f g (inl a) = inl (f a)
 or_both A B C D f g (inr b) = inr (g b)
-
-pub if_ok : {A E : Type 0} (P Q : A → Type 0) → ((a : A) → P a → Q a) → (r : Result A E) → IfOk r P → IfOk r Q
-if_ok P Q f (Ok a) h = f a h
-if_ok P Q f (Err e) h = tt
 
 -- what is borrowed where nothing was found is borrowed where there are no matches
 pub borrowed_is : {A : Type 0} {E : Type 0} (r : Result A E) (P : A → Type 0) (Q W : Type 0) → IfOk r (λ a. P a ↔ Q) → Q ↔ W → IfOk r (λ a. P a ↔ W)

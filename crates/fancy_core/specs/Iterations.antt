@@ -1,56 +1,58 @@
 -- What stands for an iterator over matches: the regex, the haystack, what the next search is asked, and what is left.
 use Rattle.std.specs.Prelude.{◌≡◌, ◌+◌, ℕ, Bool, false, List, Option, Result, IfNone, MatchOption, MatchResult, ⊤, map}
+use Rattle.fancy_input.specs.declared.span.Span.{Span}
 use Rattle.fancy_tree.specs.declared.error.Error.{Error}
 use Rattle.fancy_input.specs.declared.input.Request.{Request}
 use Rattle.fancy_core.specs.declared.regex.Regex.{Regex}
 use Rattle.fancy_core.specs.declared.iter.Matches.{Matches}
-use Rattle.fancy_core.specs.Matching.{Item, span_of_item}
-use Rattle.fancy_core.specs.Left.{items_left, end_left, turns_left, start_behind, refused_next, GivesFirst, EndsUnlessOk, IfItem}
+use Rattle.fancy_core.specs.Regexes.{program_in}
+use Rattle.fancy_search.specs.MatchList.{Item, span_of_item}
+use Rattle.fancy_search.specs.Remaining.{items_left, end_left, turns_left, next_start, refused_next, GivesFirst, EndsUnlessOk, IfItem}
 
 abbrev pub regex_in : {S : Type 0} {g : _} → Matches S g → Regex
 regex_in m = m.regex.now
 
-abbrev pub text_of : {S : Type 0} {g : _} → Matches S g → S
-text_of m = m.walk.haystack
+abbrev pub haystack_of : {S : Type 0} {g : _} → Matches S g → S
+haystack_of m = m.searcher.haystack
 
 -- what the next search is asked
 abbrev pub next_request : {S : Type 0} {g : _} → Matches S g → Request
-next_request m = m.walk.request
+next_request m = m.searcher.request
 
 -- whether nothing more comes
 abbrev pub has_ended : {S : Type 0} {g : _} → Matches S g → Bool
-has_ended m = m.walk.ended
+has_ended m = m.searcher.ended
 
 -- the items that are left; a haystack is text where `text` holds of it, and has these bytes
 abbrev pub left_in : {S : Type 0} {g : _} → (S → Bool) → (S → List ℕ) → Matches S g → List Item
-left_in text bytes m = items_left m.regex.now (text m.walk.haystack) (bytes m.walk.haystack) m.walk.request m.walk.ended m.walk.continues m.walk.skips_empty
+left_in text bytes m = items_left (program_in m.regex.now) (text m.searcher.haystack) (bytes m.searcher.haystack) m.searcher.request m.searcher.ended m.searcher.continues m.searcher.skips_empty
 
 -- the spans of the matches that are left
-abbrev pub spans_left : {S : Type 0} {g : _} → (S → Bool) → (S → List ℕ) → Matches S g → List (ℕ × ℕ)
+abbrev pub spans_left : {S : Type 0} {g : _} → (S → Bool) → (S → List ℕ) → Matches S g → List Span
 spans_left text bytes m = map span_of_item (left_in text bytes m)
 
 -- where the search starts that finds none, at the end of the items that are left
 abbrev pub end_in : {S : Type 0} {g : _} → (S → Bool) → (S → List ℕ) → Matches S g → ℕ
-end_in text bytes m = end_left m.regex.now (text m.walk.haystack) (bytes m.walk.haystack) m.walk.request m.walk.ended m.walk.continues m.walk.skips_empty
+end_in text bytes m = end_left (program_in m.regex.now) (text m.searcher.haystack) (bytes m.searcher.haystack) m.searcher.request m.searcher.ended m.searcher.continues m.searcher.skips_empty
 
 -- the next search may be refused by this error
 abbrev pub refuses_next : {S : Type 0} {g : _} → (S → Bool) → (S → List ℕ) → Matches S g → Error → Type 0
-refuses_next text bytes m e = refused_next m.regex.now (text m.walk.haystack) (bytes m.walk.haystack) m.walk.request m.walk.continues m.walk.skips_empty e
+refuses_next text bytes m e = refused_next (program_in m.regex.now) (text m.searcher.haystack) (bytes m.searcher.haystack) m.searcher.request m.searcher.continues m.searcher.skips_empty e
 
 -- how many items can still come
-abbrev pub turns_of : {S : Type 0} {g : _} → (S → Bool) → (S → List ℕ) → Matches S g → ℕ
-turns_of text bytes m = turns_left m.walk.ended (left_in text bytes m)
+abbrev pub items_bound : {S : Type 0} {g : _} → (S → Bool) → (S → List ℕ) → Matches S g → ℕ
+items_bound text bytes m = turns_left m.searcher.ended (left_in text bytes m)
 
 -- One call of `next`, from s to t. A haystack is text where `text` holds of it, and has these bytes; an item stands in `within` and has the span `span`.
-pub record IsNext {S A : Type 0} {g : _} (text : S → Bool) (bytes : S → List ℕ) (within : A → List ℕ) (span : A → ℕ × ℕ) (s : Matches S g) (r : Option (Result A Error)) (t : Matches S g) : Type 0 where
-  -- the first of the spans that are left, or a refusal behind which there is none
+pub record IsNext {S A : Type 0} {g : _} (text : S → Bool) (bytes : S → List ℕ) (within : A → List ℕ) (span : A → Span) (s : Matches S g) (r : Option (Result A Error)) (t : Matches S g) : Type 0 where
+  -- the first of the spans that are left, or a refusal after which there is none
   pub gives : GivesFirst (refuses_next text bytes) span (spans_left text bytes) s r t
-  pub within_text : IfItem r (λ x. within x ≡ bytes (text_of s))
+  pub within_text : IfItem r (λ x. within x ≡ bytes (haystack_of s))
   pub same_regex : regex_in t ≡ regex_in s
-  pub same_text : text_of t ≡ text_of s
+  pub same_text : haystack_of t ≡ haystack_of s
   pub same_request : next_request t ≡ record (next_request s) { start = (next_request t).start }
-  -- the next search starts behind the item
-  pub moves : IfItem r (λ x. (next_request t).start ≡ start_behind (text (text_of s)) (bytes (text_of s)) (span x))
+  -- the next search starts after the item
+  pub moves : IfItem r (λ x. (next_request t).start ≡ next_start (text (haystack_of s)) (bytes (haystack_of s)) (span x))
   pub refuses : MatchOption r ⊤ (λ item. MatchResult item (λ _. ⊤) (λ _. (next_request t).start ≡ (next_request s).range_end + 1))
   -- an item leaves the list's end where it is, and there the next search is that which found none
   pub keeps_end : IfItem r (λ _. end_in text bytes t ≡ end_in text bytes s)

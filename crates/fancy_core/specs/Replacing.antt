@@ -1,28 +1,24 @@
 -- What matches are replaced by, and what that makes of a text.
 use Prim.Native.Char.{code}
-use Rattle.std.specs.Prelude.{◌≡◌, ◌≤◌, ◌⊎◌, ℕ, Bool, List, [], ◌∷◌, ◌++◌, Option, None, Some, chars, encode_utf8_all, map, true, if◌then◌else◌}
+use Rattle.std.specs.Prelude.{◌≡◌, ◌≤◌, ◌⊎◌, ℕ, Bool, List, [], ◌∷◌, ◌++◌, Option, None, Some, Result, IfOk, IfErr, chars, encode_utf8_all, map, true, if◌then◌else◌}
+use Rattle.std.specs.Cow.{cow_str_bytes}
+use Rattle.std.specs.declared.borrow.CowStr.{CowStr}
 use Rattle.fancy_tree.specs.declared.error.Error.{Error}
 use Rattle.fancy_tree.specs.declared.error.Error.TheVariants.{Memory}
 use Rattle.fancy_input.specs.Requests.{whole}
-use Rattle.fancy_template.specs.Expansions.{expansion}
 use Rattle.fancy_template.specs.Marks.{has_mark}
-use Rattle.fancy_template.specs.Templates.{dollar_syntax}
 use Rattle.fancy_core.specs.declared.regex.Regex.{Regex}
-use Rattle.fancy_core.specs.GroupTexts.{Seen, captured}
-use Rattle.fancy_core.specs.Groups.{spans_of}
-use Rattle.fancy_core.specs.Left.{matches_of}
+use Rattle.fancy_core.specs.GroupTexts.{Seen, expansion_of}
+use Rattle.fancy_search.specs.Groups.{spans_of}
+use Rattle.fancy_core.specs.Searches.{matches_of}
 use Rattle.fancy_core.specs.Limited.{Refuses}
-use Rattle.fancy_core.specs.Matching.{Item, span_of_item, start_of, stop_of}
-use Rattle.fancy_core.specs.Pieces.{pieces, interleaved}
-use Rattle.fancy_core.specs.Regexes.{groups_in, asked_in_turn}
+use Rattle.fancy_search.specs.MatchList.{Item, span_of_item, start_of, stop_of}
+use Rattle.fancy_core.specs.Pieces.{pieces, interleaved, limited}
+use Rattle.fancy_core.specs.Regexes.{group_count_in, query_in_turn}
 
 -- a template without `$` is one text for all matches: its own characters
 abbrev pub fixed_of : List ℕ → Option (List ℕ)
 fixed_of template = if has_mark (code "$") (chars template) then None else Some (encode_utf8_all (chars template))
-
--- what a template gives for a match
-abbrev pub expansion_of : List ℕ → Seen → List ℕ
-expansion_of template seen = expansion dollar_syntax (captured seen) (chars template)
 
 -- A template appends this text for a match: what it expands to, and where it is one text for all matches, that text.
 pub record Expands (template : List ℕ) (seen : Seen) (text : List ℕ) : Type 0 where
@@ -31,7 +27,7 @@ pub record Expands (template : List ℕ) (seen : Seen) (text : List ℕ) : Type 
 
 -- what a replacer sees of an item
 abbrev pub seen_of : Regex → List ℕ → Item → Seen
-seen_of regex t i = record { regex = regex; haystack = t; spans = spans_of (groups_in regex) i.found }
+seen_of regex t i = record { regex = regex; haystack = t; spans = spans_of (group_count_in regex) i.found }
 
 -- The answers to these matches, one after the other: each call goes on from the state that the one before left, and the last leaves this state.
 abbrev pub Answers : {R : Type 0} → (R → Seen → List ℕ → R → Type 0) → R → List Seen → List (List ℕ) → R → Type 0
@@ -50,12 +46,16 @@ abbrev pub replaced : List ℕ → List Item → List (List ℕ) → List ℕ
 replaced t items answers = interleaved (pieces t 0 (map span_of_item items)) answers
 
 -- the text with one and the same text in the place of each of the items
-abbrev pub filled : List ℕ → List Item → List ℕ → List ℕ
-filled t items x = replaced t items (map (λ _. x) items)
+abbrev pub text_with_each : List ℕ → List Item → List ℕ → List ℕ
+text_with_each t items x = replaced t items (map (λ _. x) items)
 
 -- the matches in a text, from its start on
 abbrev pub all_matches : Regex → List ℕ → List Item
 all_matches regex t = matches_of regex true t (whole t)
+
+-- the matches in a text that a limit takes: all of them for 0, else the first so many
+abbrev pub first_matches : Regex → List ℕ → ℕ → List Item
+first_matches regex t limit = limited limit (all_matches regex t)
 
 -- where the last of these items ends; the start of the text, where there is none
 abbrev pub end_of : List Item → ℕ
@@ -68,19 +68,23 @@ abbrev pub StartFrom : ℕ → List Item → Type 0
 StartFrom s [] = Unit {0}
 StartFrom s (x ∷ xs) = s ≤ start_of x
 
--- The search for these items may be refused by this error: one of the whole text, with `\G` on or off, that starts at `from` or later, and not behind the start of the first of them.
+-- The search for these items may be refused by this error: one of the whole text, with `\G` on or off, that starts at `from` or later, and not after the start of the first of them.
 pub record IsRefusedFrom (regex : Regex) (t : List ℕ) (from : ℕ) (items : List Item) (error : Error) : Type 0 where
   pub start : ℕ
   pub on : Bool
-  pub behind : from ≤ start
+  pub after : from ≤ start
   pub before : StartFrom start items
-  pub refused : Refuses regex (asked_in_turn regex t (record (whole t) { start = start }) on) error
+  pub refused : Refuses regex (query_in_turn regex t (record (whole t) { start = start }) on) error
 
--- A replacement of these items was refused behind those that come first, `done`, and by no call of the replacer: for want of memory, or by the search for the others.
-pub record IsRefusedBehind (regex : Regex) (t : List ℕ) (items done : List Item) (error : Error) : Type 0 where
+-- A replacement of these items was refused after those that come first, `done`, and by no call of the replacer: for want of memory, or by the search for the others.
+pub record IsRefusedAfter (regex : Regex) (t : List ℕ) (items done : List Item) (error : Error) : Type 0 where
   pub later : List Item
   pub order : items ≡ done ++ later
   pub refused : (error ≡ Memory) ⊎ IsRefusedFrom regex t (end_of done) later error
+
+-- A replacement of these items was refused after some of them.
+abbrev pub IsRefusedAfterSome : Regex → List ℕ → List Item → Error → Type 0
+IsRefusedAfterSome regex t items error = (done : List Item) × IsRefusedAfter regex t items done error
 
 -- These items of the text were replaced, and this is what came of it. The answers took the replacer from its first state to its last.
 pub record IsReplaced {R : Type 0} (fixed : Option (List ℕ)) (gave : R → Seen → List ℕ → R → Type 0) (first last : R) (regex : Regex) (t : List ℕ) (items : List Item) (result : List ℕ) : Type 0 where
@@ -91,7 +95,7 @@ pub record IsReplaced {R : Type 0} (fixed : Option (List ℕ)) (gave : R → See
 -- A replacement of these items was refused between the replacer's calls. The answers to the items that come before took it from its first state to its last.
 pub record IsRefusedBetweenCalls {R : Type 0} (fixed : Option (List ℕ)) (gave : R → Seen → List ℕ → R → Type 0) (first last : R) (regex : Regex) (t : List ℕ) (items : List Item) (error : Error) : Type 0 where
   pub done : List Item
-  pub behind : IsRefusedBehind regex t items done error
+  pub after : IsRefusedAfter regex t items done error
   pub answers : List (List ℕ)
   pub given : AnswersOf fixed gave first (map (seen_of regex t) done) answers last
 
@@ -106,3 +110,29 @@ pub record IsRefusedByReplacer {R : Type 0} (fixed : Option (List ℕ)) (gave : 
   pub state : R
   pub given : Answers gave first (map (seen_of regex t) done) answers state
   pub refused : refuses state (seen_of regex t next) error last
+
+-- The text that a replacement answers: the matches that the limit takes were replaced in it, which took the replacer from its first state to its last. `fixed` gives the one text that a state has for all matches.
+abbrev pub Replaces : {R Z : Type 0} → (R → Option (List ℕ)) → (R → Seen → List ℕ → R → Type 0) → Regex → List ℕ → ℕ → R → R → Result (CowStr Z) Error → Type 0
+Replaces fixed gave regex t limit first last result =
+    IfOk result (λ r. IsReplaced (fixed first) gave first last regex t (first_matches regex t limit) (cow_str_bytes r))
+
+-- The same where the replacer was given away: some state was its last.
+abbrev pub ReplacesBy : {R Z : Type 0} → (R → Option (List ℕ)) → (R → Seen → List ℕ → R → Type 0) → Regex → List ℕ → ℕ → R → Result (CowStr Z) Error → Type 0
+ReplacesBy {R} fixed gave regex t limit first result =
+    IfOk result (λ r. (last : R) × IsReplaced (fixed first) gave first last regex t (first_matches regex t limit) (cow_str_bytes r))
+
+-- One of the matches that the limit takes was not replaced, for this error: between the replacer's calls, or by a call.
+abbrev pub IsRefusedReplacing : {R : Type 0} → (R → Option (List ℕ)) → (R → Seen → List ℕ → R → Type 0) → (R → Seen → Error → R → Type 0) → Regex → List ℕ → ℕ → R → R → Error → Type 0
+IsRefusedReplacing fixed gave refuses regex t limit first last error =
+    IsRefusedBetweenCalls (fixed first) gave first last regex t (first_matches regex t limit) error
+    ⊎ IsRefusedByReplacer (fixed first) gave refuses first last regex t (first_matches regex t limit) error
+
+-- The error that a replacement answers is such a refusal, which took the replacer from its first state to its last.
+abbrev pub Fails : {R Z : Type 0} → (R → Option (List ℕ)) → (R → Seen → List ℕ → R → Type 0) → (R → Seen → Error → R → Type 0) → Regex → List ℕ → ℕ → R → R → Result (CowStr Z) Error → Type 0
+Fails fixed gave refuses regex t limit first last result =
+    IfErr result (λ e. IsRefusedReplacing fixed gave refuses regex t limit first last e)
+
+-- The same where the replacer was given away.
+abbrev pub FailsBy : {R Z : Type 0} → (R → Option (List ℕ)) → (R → Seen → List ℕ → R → Type 0) → (R → Seen → Error → R → Type 0) → Regex → List ℕ → ℕ → R → Result (CowStr Z) Error → Type 0
+FailsBy {R} fixed gave refuses regex t limit first result =
+    IfErr result (λ e. (last : R) × IsRefusedReplacing fixed gave refuses regex t limit first last e)

@@ -1,25 +1,55 @@
 -- What stands for a text on its way to having its matches replaced.
-use Rattle.std.specs.Prelude.{◌≡◌, List, ℕ}
+use Rattle.std.specs.Prelude.{◌≡◌, ◌++◌, ◌∷◌, List, ℕ, length, slice_range, string_bytes}
+use Rattle.fancy_tree.specs.declared.error.Error.{Error}
 use Rattle.fancy_core.specs.declared.regex.Regex.{Regex}
 use Rattle.fancy_core.specs.declared.rewriting.Rewriting.{Rewriting}
-use Rattle.fancy_core.specs.Limits.{up_to}
-use Rattle.fancy_core.specs.Matching.{Item}
-use Rattle.fancy_core.specs.Walks.{left_of}
+use Rattle.fancy_search.specs.declared.searcher.FoundItem.{FoundItem}
+use Rattle.fancy_core.specs.GroupTexts.{Seen}
+use Rattle.fancy_core.specs.Regexes.{program_in}
+use Rattle.fancy_search.specs.Remaining.{item_in}
+use Rattle.fancy_core.specs.ItemLimits.{up_to}
+use Rattle.fancy_search.specs.MatchList.{Item}
+use Rattle.fancy_core.specs.Replacing.{seen_of, IsRefusedFrom}
+use Rattle.fancy_search.specs.Searchers.{left_of}
 
-abbrev pub regex_of : Rewriting → Regex
-regex_of w = w.regex.now
+abbrev pub rewriting_regex : Rewriting → Regex
+rewriting_regex w = w.regex.now
 
-abbrev pub text_of : Rewriting → List ℕ
-text_of w = w.walk.haystack.now
+abbrev pub rewriting_text : Rewriting → List ℕ
+rewriting_text w = w.searcher.haystack.now
 
 -- the matches that are still to be replaced
 abbrev pub todo_of : Rewriting → List Item
-todo_of w = up_to w.left (left_of w.regex.now w.walk)
+todo_of w = up_to w.left (left_of (program_in w.regex.now) w.searcher)
+
+-- what a replacer sees of a match that was located, whose groups the search left in its memory
+abbrev pub seen_at : Rewriting → FoundItem → Seen
+seen_at w i = seen_of (rewriting_regex w) (rewriting_text w) (item_in w.cache i)
+
+-- what is written, and the text from the end of the last match up to a byte offset
+abbrev pub written_to : ℕ → Rewriting → List ℕ
+written_to end w = string_bytes w.out ++ slice_range (rewriting_text w) w.last end
+
+-- what is written, and the rest of the text
+abbrev pub all_written : Rewriting → List ℕ
+all_written w = written_to (length (rewriting_text w)) w
+
+-- the text up to a byte offset was written
+abbrev pub WritesTo : ℕ → Rewriting → Rewriting → Type 0
+WritesTo end s t = string_bytes t.out ≡ written_to end s
+
+-- this is the first of the matches that are to be replaced, and the others are left
+abbrev pub TakesFirst : Rewriting → FoundItem → Rewriting → Type 0
+TakesFirst s i t = todo_of s ≡ item_in t.cache i ∷ todo_of t
+
+-- the search for the next match may be refused by this error
+abbrev pub RefusesSearch : Rewriting → Error → Type 0
+RefusesSearch w e = IsRefusedFrom (rewriting_regex w) (rewriting_text w) w.last (todo_of w) e
 
 -- nothing changed but what was written
 pub record Stays (s t : Rewriting) : Type 0 where
-  pub regex : regex_of t ≡ regex_of s
-  pub text : text_of t ≡ text_of s
+  pub regex : rewriting_regex t ≡ rewriting_regex s
+  pub text : rewriting_text t ≡ rewriting_text s
   pub todo : todo_of t ≡ todo_of s
   pub last : t.last ≡ s.last
   pub found : t.found ≡ s.found

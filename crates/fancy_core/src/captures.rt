@@ -1,7 +1,7 @@
 //! The groups of a match.
 
 ghost use Rattle.std.specs.Prelude.{◌≡◌};
-ghost use Rattle.fancy_core.specs.Groups.{AreCut};
+ghost use Rattle.fancy_search.specs.Groups.{AreCut};
 
 mod borrowed_text;
 mod named;
@@ -11,6 +11,7 @@ mod views;
 
 use crate::regex::Regex;
 use fancy_input::input::Haystack;
+use fancy_input::span::Span;
 pub use views::SubCaptureMatches;
 
 /// The groups of a match in a haystack of the form `S`, by their numbers: group 0 is the whole match, and the
@@ -26,6 +27,6 @@ pub use views::SubCaptureMatches;
 pub struct Captures<'r, S: Haystack> {
     regex: &'r Regex,
     haystack: S,
-    slots: Vec<Option<(usize, usize)>>,
+    slots: Vec<Option<Span>>,
     pub ghost placed: { AreCut (S.text haystack) (S.bytes haystack) slots.items },
 }

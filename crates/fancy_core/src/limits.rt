@@ -1,7 +1,7 @@
 //! How many matches may be replaced.
 
 ghost use Rattle.std.specs.Prelude.{◌≡◌};
-ghost use Rattle.fancy_core.specs.Limits.{limit_of, is_reached, one_fewer};
+ghost use Rattle.fancy_core.specs.ItemLimits.{limit_of, is_reached, one_fewer};
 
 /// How many matches may be replaced: 0 stands for no limit.
 pub(crate) fn limit_of(limit: usize) -> Option<usize>
@@ -20,7 +20,7 @@ pub(crate) fn is_reached(left: Option<usize>) -> bool
     }
 }
 
-/// How many more may be replaced behind one.
+/// How many more may be replaced after one.
 pub(crate) fn one_fewer(left: Option<usize>) -> Option<usize>
     ensures { result ≡ one_fewer left }
 {

@@ -2,8 +2,8 @@
 
 ghost use Rattle.std.specs.Prelude.{◌≡◌, ◌-◌, IfOk, IfErr, None, Some, length, map, replicate, slice_get, slice_index_or};
 ghost use Rattle.std.specs.Iterator.{YieldsFirstBy, at_most};
-ghost use Rattle.fancy_core.specs.Names.{template_groups, names_of_groups, names_left, read_name};
-ghost use Rattle.fancy_core.specs.Regexes.{groups_in};
+ghost use Rattle.fancy_core.specs.CaptureNames.{template_groups, names_of_groups, names_left, read_name};
+ghost use Rattle.fancy_core.specs.Regexes.{group_count_in};
 
 use crate::regex::Regex;
 use fancy_template::groups::GroupNames;
@@ -27,11 +27,11 @@ impl Regex {
     /// ```
     pub fn capture_names(&self) -> Result<CaptureNames<'_>>
         ensures names { IfOk result (λ n. names_left n ≡ names_of_groups self.now) }
-        ensures count { IfOk result (λ n. length (names_left n) ≡ groups_in self.now) }
+        ensures count { IfOk result (λ n. length (names_left n) ≡ group_count_in self.now) }
         ensures whole_match { IfOk result (λ n. slice_get (names_left n) 0 ≡ Some None) }
         ensures refused { IfErr result (λ e. e ≡ Error.Memory) }
     {
-        let mut names = unnamed(self.allocator(), self.captures_len())?;
+        let mut names = groups_without_names(self.allocator(), self.captures_len())?;
         let groups = self.names();
         for named in groups {
             if named.group < names.len() {
@@ -65,7 +65,10 @@ impl GroupNames for Regex {
 }
 
 /// So many groups without names.
-fn unnamed<'r>(alloc: Global, count: usize) -> std::result::Result<Vec<Option<&'r str>>, AllocError>
+fn groups_without_names<'r>(
+    alloc: Global,
+    count: usize,
+) -> std::result::Result<Vec<Option<&'r str>>, AllocError>
     ensures { IfOk result (λ v. v.items ≡ replicate count None) }
 {
     let mut names = Vec::new(alloc);

@@ -1,12 +1,10 @@
 //! Replacing matches.
 
-ghost use Rattle.std.specs.Prelude.{◌≡◌, ◌↔◌, ◌⊎◌, [], true, None, List, IfOk, IfErr};
+ghost use Rattle.std.specs.Prelude.{◌≡◌, ◌↔◌, [], true, None, IfOk, IfErr};
 ghost use Rattle.std.specs.Cow.{cow_str_bytes, IsBorrowedStr};
-ghost use Rattle.fancy_core.specs.Matching.{Item};
-ghost use Rattle.fancy_core.specs.Pieces.{limited};
 ghost use Rattle.fancy_core.specs.Regexes.{options_in};
-ghost use Rattle.fancy_core.specs.Replacing.{IsReplaced, IsRefusedBehind, IsRefusedBetweenCalls, IsRefusedByReplacer, all_matches, filled};
-ghost use Rattle.fancy_core.specs.Searching.{Suits};
+ghost use Rattle.fancy_core.specs.Replacing.{Replaces, ReplacesBy, Fails, FailsBy, IsRefusedAfterSome, all_matches, first_matches, text_with_each};
+ghost use Rattle.fancy_search.specs.Searching.{Suits};
 
 use crate::regex::Regex;
 use crate::replacer::Replacer;
@@ -31,8 +29,8 @@ impl Regex {
         requires callable { R.callable replacer }
         ensures borrowed { IfOk result (λ t. IsBorrowedStr t ↔ (all_matches self.now text.now ≡ [])) }
         ensures kept { IfOk result (λ t. IsBorrowedStr t → cow_str_bytes t ≡ text.now) }
-        ensures text { IfOk result (λ t. (last : R) × IsReplaced (R.fixed replacer) R.appends replacer last self.now text.now (limited 1 (all_matches self.now text.now)) (cow_str_bytes t)) }
-        ensures refused { IfErr result (λ e. (last : R) × (IsRefusedBetweenCalls (R.fixed replacer) R.appends replacer last self.now text.now (limited 1 (all_matches self.now text.now)) e ⊎ IsRefusedByReplacer (R.fixed replacer) R.appends R.refuses replacer last self.now text.now (limited 1 (all_matches self.now text.now)) e)) }
+        ensures text { ReplacesBy R.fixed R.appends self.now text.now 1 replacer result }
+        ensures refused { FailsBy R.fixed R.appends R.refuses self.now text.now 1 replacer result }
     {
         self.try_replacen(text, 1, replacer)
     }
@@ -51,8 +49,8 @@ impl Regex {
         requires callable { R.callable replacer }
         ensures borrowed { IfOk result (λ t. IsBorrowedStr t ↔ (all_matches self.now text.now ≡ [])) }
         ensures kept { IfOk result (λ t. IsBorrowedStr t → cow_str_bytes t ≡ text.now) }
-        ensures text { IfOk result (λ t. (last : R) × IsReplaced (R.fixed replacer) R.appends replacer last self.now text.now (all_matches self.now text.now) (cow_str_bytes t)) }
-        ensures refused { IfErr result (λ e. (last : R) × (IsRefusedBetweenCalls (R.fixed replacer) R.appends replacer last self.now text.now (all_matches self.now text.now) e ⊎ IsRefusedByReplacer (R.fixed replacer) R.appends R.refuses replacer last self.now text.now (all_matches self.now text.now) e)) }
+        ensures text { ReplacesBy R.fixed R.appends self.now text.now 0 replacer result }
+        ensures refused { FailsBy R.fixed R.appends R.refuses self.now text.now 0 replacer result }
     {
         self.try_replacen(text, 0, replacer)
     }
@@ -72,8 +70,8 @@ impl Regex {
         requires callable { R.callable replacer }
         ensures borrowed { IfOk result (λ t. IsBorrowedStr t ↔ (all_matches self.now text.now ≡ [])) }
         ensures kept { IfOk result (λ t. IsBorrowedStr t → cow_str_bytes t ≡ text.now) }
-        ensures text { IfOk result (λ t. (last : R) × IsReplaced (R.fixed replacer) R.appends replacer last self.now text.now (limited limit (all_matches self.now text.now)) (cow_str_bytes t)) }
-        ensures refused { IfErr result (λ e. (last : R) × (IsRefusedBetweenCalls (R.fixed replacer) R.appends replacer last self.now text.now (limited limit (all_matches self.now text.now)) e ⊎ IsRefusedByReplacer (R.fixed replacer) R.appends R.refuses replacer last self.now text.now (limited limit (all_matches self.now text.now)) e)) }
+        ensures text { ReplacesBy R.fixed R.appends self.now text.now limit replacer result }
+        ensures refused { FailsBy R.fixed R.appends R.refuses self.now text.now limit replacer result }
     {
         self.try_replacen(text, limit, replacer)
     }
@@ -94,8 +92,8 @@ impl Regex {
         requires callable { R.callable replacer }
         ensures borrowed { IfOk result (λ t. IsBorrowedStr t ↔ (all_matches self.now text.now ≡ [])) }
         ensures kept { IfOk result (λ t. IsBorrowedStr t → cow_str_bytes t ≡ text.now) }
-        ensures text { IfOk result (λ t. (last : R) × IsReplaced (R.fixed replacer) R.appends replacer last self.now text.now (limited limit (all_matches self.now text.now)) (cow_str_bytes t)) }
-        ensures refused { IfErr result (λ e. (last : R) × (IsRefusedBetweenCalls (R.fixed replacer) R.appends replacer last self.now text.now (limited limit (all_matches self.now text.now)) e ⊎ IsRefusedByReplacer (R.fixed replacer) R.appends R.refuses replacer last self.now text.now (limited limit (all_matches self.now text.now)) e)) }
+        ensures text { ReplacesBy R.fixed R.appends self.now text.now limit replacer result }
+        ensures refused { FailsBy R.fixed R.appends R.refuses self.now text.now limit replacer result }
     {
         self.try_replacen_by(text, limit, &mut replacer)
     }
@@ -125,23 +123,23 @@ impl Regex {
         requires callable { R.callable replacer.old }
         ensures borrowed { IfOk result (λ t. IsBorrowedStr t ↔ (all_matches self.now text.now ≡ [])) }
         ensures kept { IfOk result (λ t. IsBorrowedStr t → cow_str_bytes t ≡ text.now) }
-        ensures text { IfOk result (λ t. IsReplaced (R.fixed replacer.old) R.appends replacer.old replacer.new self.now text.now (limited limit (all_matches self.now text.now)) (cow_str_bytes t)) }
-        ensures refused { IfErr result (λ e. IsRefusedBetweenCalls (R.fixed replacer.old) R.appends replacer.old replacer.new self.now text.now (limited limit (all_matches self.now text.now)) e ⊎ IsRefusedByReplacer (R.fixed replacer.old) R.appends R.refuses replacer.old replacer.new self.now text.now (limited limit (all_matches self.now text.now)) e) }
+        ensures text { Replaces R.fixed R.appends self.now text.now limit replacer.old replacer.new result }
+        ensures refused { Fails R.fixed R.appends R.refuses self.now text.now limit replacer.old replacer.new result }
         ensures again { R.callable replacer.new }
     {
         if let Some(fixed) = replacer.fixed_text() {
-            return self.filled(text, limit, fixed);
+            return self.fill(text, limit, fixed);
         }
-        self.rewritten(text, limit, replacer)
+        self.rewrite(text, limit, replacer)
     }
 
     /// The text with this one in the place of the first matches. No groups are collected.
-    fn filled<'t>(&self, text: &'t str, limit: usize, fixed: &str) -> Result<CowStr<'t, Global>>
+    fn fill<'t>(&self, text: &'t str, limit: usize, fixed: &str) -> Result<CowStr<'t, Global>>
         requires suits { Suits (options_in self.now) true text.now }
         ensures borrowed { IfOk result (λ t. IsBorrowedStr t ↔ (all_matches self.now text.now ≡ [])) }
         ensures kept { IfOk result (λ t. IsBorrowedStr t → cow_str_bytes t ≡ text.now) }
-        ensures text { IfOk result (λ t. cow_str_bytes t ≡ filled text.now (limited limit (all_matches self.now text.now)) fixed.now) }
-        ensures refused { IfErr result (λ e. (done : List Item) × IsRefusedBehind self.now text.now (limited limit (all_matches self.now text.now)) done e) }
+        ensures text { IfOk result (λ t. cow_str_bytes t ≡ text_with_each text.now (first_matches self.now text.now limit) fixed.now) }
+        ensures refused { IfErr result (λ e. IsRefusedAfterSome self.now text.now (first_matches self.now text.now limit) e) }
     {
         let mut rewriting = Rewriting::new(self, text, limit);
         'matches: while let Some(_) = rewriting.next_match()? {
@@ -151,7 +149,7 @@ impl Regex {
     }
 
     /// The text with the first matches replaced by what calls of the replacer append.
-    fn rewritten<'t, R: Replacer>(
+    fn rewrite<'t, R: Replacer>(
         &self,
         text: &'t str,
         limit: usize,
@@ -161,8 +159,8 @@ impl Regex {
         requires callable { R.callable replacer.old }
         ensures borrowed { IfOk result (λ t. IsBorrowedStr t ↔ (all_matches self.now text.now ≡ [])) }
         ensures kept { IfOk result (λ t. IsBorrowedStr t → cow_str_bytes t ≡ text.now) }
-        ensures text { IfOk result (λ t. IsReplaced None R.appends replacer.old replacer.new self.now text.now (limited limit (all_matches self.now text.now)) (cow_str_bytes t)) }
-        ensures refused { IfErr result (λ e. IsRefusedBetweenCalls None R.appends replacer.old replacer.new self.now text.now (limited limit (all_matches self.now text.now)) e ⊎ IsRefusedByReplacer None R.appends R.refuses replacer.old replacer.new self.now text.now (limited limit (all_matches self.now text.now)) e) }
+        ensures text { Replaces (λ _. None) R.appends self.now text.now limit replacer.old replacer.new result }
+        ensures refused { Fails (λ _. None) R.appends R.refuses self.now text.now limit replacer.old replacer.new result }
         ensures again { R.callable replacer.new }
     {
         let mut rewriting = Rewriting::new(self, text, limit);

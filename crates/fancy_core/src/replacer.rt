@@ -1,9 +1,10 @@
 //! What matches are replaced by.
 
-ghost use Rattle.std.specs.Prelude.{◌≡◌, ◌++◌, ⊤, ℕ, List, Option, Some, IfErr, OnOk, OnErr, option_map, string_bytes};
+ghost use Rattle.std.specs.Prelude.{◌≡◌, ⊤, ℕ, List, Option, Some, IfErr, OnOk, OnErr, option_map, string_bytes};
 ghost use Rattle.std.specs.Cow.{cow_str_bytes};
 ghost use Rattle.fancy_tree.specs.declared.error.Error.{Error as Refusal};
-ghost use Rattle.fancy_core.specs.GroupTexts.{Seen, bytes_of_str, seen_in};
+ghost use Rattle.fancy_template.specs.Appended.{AddsSome};
+ghost use Rattle.fancy_core.specs.GroupTexts.{Seen, seen_in_str};
 
 mod functions;
 mod lent;
@@ -41,16 +42,16 @@ pub trait Replacer {
     /// which it may be called again.
     fn replace_append(&mut self, captures: &Captures<'_, &str>, dst: &mut String) -> Result<()>
         requires { callable self.old }
-        ensures ok { OnOk result ((text : List ℕ) × (string_bytes dst.new ≡ string_bytes dst.old ++ text) × appends self.old (seen_in bytes_of_str captures.now) text self.new) }
+        ensures ok { OnOk result (AddsSome dst.old dst.new (λ t. appends self.old (seen_in_str captures.now) t self.new)) }
         ensures kept { OnErr result (string_bytes dst.new ≡ string_bytes dst.old) }
-        ensures refused { IfErr result (λ e. refuses self.old (seen_in bytes_of_str captures.now) e self.new) }
+        ensures refused { IfErr result (λ e. refuses self.old (seen_in_str captures.now) e self.new) }
         ensures again { callable self.new };
 
     /// The text for all matches, if there is one. It is asked for once, before the first search.
     fn fixed_text(&self) -> Option<&str>
         ensures { option_map (λ t. t.now) result ≡ fixed self.now };
 
-    /// The text for all matches, if there is one, as [`Replacer::fixed_text`] gives it. Behind this call nothing is known of the
+    /// The text for all matches, if there is one, as [`Replacer::fixed_text`] gives it. After this call nothing is known of the
     /// replacer, since it lends text out of it: a caller who goes on with the replacer asks `fixed_text`.
     final fn no_expansion(&mut self) -> Option<CowStr<'_, Global>>
         ensures { option_map cow_str_bytes result ≡ fixed self.old }

@@ -5,15 +5,15 @@ ghost use Rattle.std.specs.Borrow.{Bor};
 ghost use Rattle.std.specs.Iterator.{at_most};
 ghost use Rattle.fancy_input.specs.Places.{is_boundary};
 ghost use Rattle.fancy_core.specs.Regexes.{options_in};
-ghost use Rattle.fancy_core.specs.Searching.{Suits};
+ghost use Rattle.fancy_search.specs.Searching.{Suits};
 
 mod limited;
 
 use crate::regex::Regex;
-use crate::scratch::Scratch;
-use crate::walk::Walk;
 use fancy_input::input::Input;
 use fancy_input::regex_input::RegexInput;
+use fancy_search::cache::Cache;
+use fancy_search::searcher::Searcher;
 use fancy_tree::error::Result;
 pub use limited::SplitN;
 
@@ -23,24 +23,24 @@ pub use limited::SplitN;
 /// After the last match the rest comes. So there is one piece more than there are matches, and pieces may be empty.
 ///
 /// The first `next` takes memory, which the later searches reuse. Where memory runs out an item is `Error::Memory`, and
-/// behind it the rest from the end of the last match still comes.
+/// after it the rest from the end of the last match still comes.
 #[derive(Drop)]
 pub struct Split<'r, 't> {
     regex: &'r Regex,
-    walk: Walk<&'t str>,
-    memory: Scratch,
+    searcher: Searcher<&'t str>,
+    cache: Cache,
     // where the last match ended
     last: usize,
     // whether the rest was given
     ended: bool,
-    ghost suits: { Suits (options_in regex.now) true walk.haystack.now },
-    ghost inside: { last ≤ length walk.haystack.now },
-    ghost cleanly: { IsTrue (is_boundary walk.haystack.now last) },
-    ghost before: { walk.ended ≡ false → last ≤ walk.request.start },
+    ghost suits: { Suits (options_in regex.now) true searcher.haystack.now },
+    ghost inside: { last ≤ length searcher.haystack.now },
+    ghost cleanly: { IsTrue (is_boundary searcher.haystack.now last) },
+    ghost before: { searcher.ended ≡ false → last ≤ searcher.request.start },
 }
 
 impl Regex {
-    ghost use Rattle.fancy_core.specs.Splits.{match_spans, progress, searches, regex_of, turns_of};
+    ghost use Rattle.fancy_core.specs.Splits.{at_start, progress, searches, split_regex, pieces_bound};
 
     /// The pieces of a text between the matches in it.
     ///
@@ -50,15 +50,15 @@ impl Regex {
     /// ```
     pub fn split<'r, 't>(&'r self, text: &'t str) -> Split<'r, 't>
         requires suits { Suits (options_in self.now) true text.now }
-        ensures progress { progress result ≡ record { text = text.now; last = 0; spans = match_spans self.now text.now; ended = false } }
+        ensures progress { progress result ≡ at_start self.now text.now }
         ensures searches { searches result ≡ true }
-        ensures countable { turns_of result < 2 ^ 64 }
-        ensures regex { regex_of result ≡ self.now }
+        ensures countable { pieces_bound result < 2 ^ 64 }
+        ensures regex { split_regex result ≡ self.now }
     {
         Split {
             regex: self,
-            walk: Walk::new(RegexInput::new(text)),
-            memory: Scratch::new(self.allocator()),
+            searcher: Searcher::new(RegexInput::new(text)),
+            cache: Cache::new(self.allocator()),
             last: 0,
             ended: false,
         }
@@ -66,48 +66,52 @@ impl Regex {
 }
 
 impl<'r, 't> Split<'r, 't> {
-    ghost use Rattle.fancy_core.specs.Splits.{progress, regex_of};
+    ghost use Rattle.fancy_core.specs.Pieces.{rest_of};
+    ghost use Rattle.fancy_core.specs.Splits.{progress, split_regex};
 
     /// The part of the text from the end of the last match to `end`, in bytes.
     fn part(&self, end: usize) -> &'t str
         requires ordered { self.now.last ≤ end }
-        requires inside { end ≤ length self.now.walk.haystack.now }
-        requires cleanly { IsTrue (is_boundary self.now.walk.haystack.now end) }
-        ensures { result.now ≡ slice_range self.now.walk.haystack.now self.now.last end }
+        requires inside { end ≤ length self.now.searcher.haystack.now }
+        requires cleanly { IsTrue (is_boundary self.now.searcher.haystack.now end) }
+        ensures { result.now ≡ slice_range self.now.searcher.haystack.now self.now.last end }
     {
-        self.walk.haystack().make_match(self.last, end).as_str()
+        self.searcher.haystack().make_match(self.last, end).as_str()
     }
 
     /// Gives the rest from the end of the last match on, which is the last piece.
     fn rest(&mut self) -> &'t str
-        ensures piece { result.now ≡ slice_range self.old.walk.haystack.now self.old.last (length self.old.walk.haystack.now) }
+        ensures piece { result.now ≡ rest_of (progress self.old) }
         ensures progress { progress self.new ≡ record (progress self.old) { ended = true } }
-        ensures regex { regex_of self.new ≡ regex_of self.old }
+        ensures regex { split_regex self.new ≡ split_regex self.old }
     {
         self.ended = true;
-        let text = self.walk.haystack();
+        let text = self.searcher.haystack();
         self.part(text.len())
     }
 }
 
 impl<'r, 't> Iterator for Split<'r, 't> {
-    ghost use Rattle.fancy_core.specs.Splits.{IsNextPiece, turns_of};
+    ghost use Rattle.fancy_core.specs.Splits.{IsNextPiece, pieces_bound};
 
     type Item = Result<&'t str>;
 
     ghost next_gives = { IsNextPiece (λ (x : Bor (List ℕ)). x.now) };
 
-    ghost remaining = { λ s. at_most (turns_of s) };
+    ghost remaining = { λ s. at_most (pieces_bound s) };
 
     fn next(&mut self) -> Option<Result<&'t str>> {
         if self.ended {
             return None;
         }
-        match self.walk.next_item(self.regex, &mut self.memory) {
+        match self
+            .searcher
+            .next_item(&self.regex.program, &mut self.cache)
+        {
             None => Some(Ok(self.rest())),
             Some(Ok(item)) => {
-                let piece = self.part(item.start);
-                self.last = item.end;
+                let piece = self.part(item.found.start);
+                self.last = item.found.end;
                 Some(Ok(piece))
             }
             Some(Err(error)) => Some(Err(error)),

@@ -16,8 +16,9 @@ use Rattle.fancy_tree.specs.declared.tree.Meaning.TheVariants.{Unicode, Bytes, A
 use Rattle.fancy_input.specs.Places.{char_at, has_bytes_at, is_boundary, is_continuation}
 use Rattle.fancy_input.proofs.PlaceLemmas.{boundary_of_text}
 use Rattle.fancy_input.proofs.TextLemmas.{char_at-boundary, text_at-boundary}
-use Rattle.fancy_engine.specs.Context.{Context, State, Span, group_span, unit_at, unit_in, one_character, past_item, past_byte, option_to}
-use Rattle.fancy_engine.specs.Backreference.{text_of, past_text, past_letters, shares_folding, past_characters, past_folded, past_span, past_backreference}
+use Rattle.fancy_input.specs.declared.span.Span.{Span}
+use Rattle.fancy_engine.specs.Context.{Context, State, group_span, unit_at, unit_in, one_character, past_item, past_byte, option_to}
+use Rattle.fancy_engine.specs.Backreference.{captured_text, past_text, past_letters, shares_folding, past_characters, past_folded, past_span, past_backreference}
 use Rattle.fancy_engine.specs.Placed.{IsSpan, IsPlaced, reads_characters}
 use Rattle.fancy_input.proofs.CharacterLemmas.{char_at-from_bytes, char_at-fits, bytes_stand}
 
@@ -33,7 +34,7 @@ unfolding EndsWell
 ends_then haystack None next first on = tt
 ends_then haystack (Some r) next first on = on r first.0 first.1
 
--- the place behind a character of the text
+-- the place after a character of the text
 
 test_ends : (haystack : List ℕ) (b : Bool) (r : ℕ) → r ≤ length haystack → IsTrue (is_boundary haystack r) → EndsWell haystack (if b then Some r else None)
 unfolding EndsWell
@@ -58,7 +59,7 @@ item_ends : (x : Context) (test : ℕ → Bool) (p : ℕ) → reads_characters x
 unfolding past_item unit_at
 item_ends x test p m text within here = unit_ends x.meaning x.haystack test p m text within here
 
--- the place behind text that matches a text, a character by one
+-- the place after text that matches a text, a character by one
 
 characters_end : (x : Context) (n : ℕ) (text cs : List ℕ) (p : ℕ) → reads_characters x.meaning ≡ true → IsUtf8 x.haystack → scalars cs ≡ true →
     encode_utf8_all cs ≡ text → p ≤ length x.haystack → IsTrue (is_boundary x.haystack p) → EndsWell x.haystack (past_characters x n text p)
@@ -78,7 +79,7 @@ characters_end x (suc n) (b ∷ bs) (c ∷ cs) p m whole are e within here =
     (ends_then x.haystack (past_item x (shares_folding c) p) (past_characters x n (drop (len_utf8 c) (b ∷ bs))) (item_ends x (shares_folding c) p m whole within here)
     (λ r within here. characters_end x n (drop (len_utf8 c) (b ∷ bs)) cs r m whole good.1 (sym rest) within here))
 
--- the place behind text that equals a text, ASCII letters in either case
+-- the place after text that equals a text, ASCII letters in either case
 
 lower_index : (bs : List ℕ) (i : ℕ) → slice_index (map to_ascii_lowercase bs) i ≡ to_ascii_lowercase (slice_index bs i)
 lower_index [] i = refl
@@ -148,11 +149,11 @@ letters_boundary haystack text p whole part within here e =
     let begins : drop p (low haystack) ≡ low text ++ low (drop (length text) (drop p haystack)) =
     drop-map to_ascii_lowercase p haystack ∙ ap low (sym (take-append-drop (length text) (drop p haystack)))
     ∙ map-append to_ascii_lowercase next (drop (length text) (drop p haystack)) ∙ ap (λ (l : List ℕ). l ++ low (drop (length text) (drop p haystack))) same in
-    let behind =
+    let after =
     text_at-boundary (low haystack) p (low text) (lowered haystack whole) (lowered text part) (omega (arith, length-map haystack to_ascii_lowercase))
     (lower_boundary haystack p ∙ here)
     (bytes_stand (low haystack) p (low text) (low (drop (length text) (drop p haystack))) begins) in
-    sym (lower_boundary haystack (p + length text)) ∙ ap (λ (n : ℕ). is_boundary (low haystack) (p + n)) (sym (length-map text to_ascii_lowercase)) ∙ behind
+    sym (lower_boundary haystack (p + length text)) ∙ ap (λ (n : ℕ). is_boundary (low haystack) (p + n)) (sym (length-map text to_ascii_lowercase)) ∙ after
 
 -- a group's text once more
 
@@ -167,12 +168,12 @@ ends_at haystack (Some q) r h e = subst (λ (i : ℕ). IsTrue (is_boundary hayst
 
 module _ (x : Context) (whole : IsUtf8 x.haystack) where
   -- the text of a span between boundaries is text
-  span_text : (a b : ℕ) → IsSpan x.haystack (is_boundary x.haystack) a b → IsUtf8 (text_of x (a, b))
-  unfolding text_of
-  span_text a b span =
-      IsUtf8-between x.haystack a b whole span.ordered
-      (boundary_of_text x.haystack a whole (le_trans span.ordered span.within) span.begins)
-      (boundary_of_text x.haystack b whole span.within span.ends)
+  span_text : (span : Span) → IsSpan x.haystack (is_boundary x.haystack) span → IsUtf8 (captured_text x span)
+  unfolding captured_text
+  span_text span is =
+      IsUtf8-between x.haystack span.start span.end whole is.ordered
+      (boundary_of_text x.haystack span.start whole (le_trans is.ordered is.within) is.begins)
+      (boundary_of_text x.haystack span.end whole is.within is.ends)
 
   text_ends : (text : List ℕ) (p r : ℕ) → IsUtf8 text → p ≤ length x.haystack → IsTrue (is_boundary x.haystack p) → past_text x text p ≡ Some r →
       IsTrue (is_boundary x.haystack r)
@@ -197,12 +198,12 @@ module _ (x : Context) (whole : IsUtf8 x.haystack) where
   folded_ends AsciiText text p r reads part within here e = letters_end text p r part within here e
 
   span_ends : (folded : Bool) (o : Option Span) (p r : ℕ) → reads_characters x.meaning ≡ true →
-      ((a b : ℕ) → o ≡ Some (a, b) → IsSpan x.haystack (is_boundary x.haystack) a b) → p ≤ length x.haystack → IsTrue (is_boundary x.haystack p) →
+      ((span : Span) → o ≡ Some span → IsSpan x.haystack (is_boundary x.haystack) span) → p ≤ length x.haystack → IsTrue (is_boundary x.haystack p) →
       past_span x folded o p ≡ Some r → IsTrue (is_boundary x.haystack r)
   span_ends folded None p r reads spans within here e = cc
-  span_ends false (Some span) p r reads spans within here e = text_ends (text_of x span) p r (span_text span.0 span.1 (spans span.0 span.1 refl)) within here e
+  span_ends false (Some span) p r reads spans within here e = text_ends (captured_text x span) p r (span_text span (spans span refl)) within here e
   span_ends true (Some span) p r reads spans within here e =
-      folded_ends x.meaning (text_of x span) p r reads (span_text span.0 span.1 (spans span.0 span.1 refl)) within here e
+      folded_ends x.meaning (captured_text x span) p r reads (span_text span (spans span refl)) within here e
 
 pub past_backreference-boundary : (x : Context) (folded : Bool) (number r : ℕ) (s : State) → IsUtf8 x.haystack → reads_characters x.meaning ≡ true →
     IsPlaced x.haystack (is_boundary x.haystack) s → past_backreference x folded number s ≡ Some r → IsTrue (is_boundary x.haystack r)

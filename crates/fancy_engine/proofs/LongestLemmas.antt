@@ -4,7 +4,7 @@ use Rattle.std.proofs.lemmas.Bool.Decides.{nat_tests}
 use Rattle.std.proofs.lemmas.List.Elements.{All-nil, All-cons}
 use Rattle.fancy_input.specs.Requests.{effective_start, positions}
 use Rattle.fancy_engine.specs.Context.{State}
-use Rattle.fancy_engine.specs.Search.{Query, Found, outcomes_at, accepted, further, longest_one, answer_at, search}
+use Rattle.fancy_engine.specs.Search.{Query, Answer, outcomes_at, accepted, further, longest_one, answer_at, search}
 use Rattle.fancy_engine.specs.Answers.{IsLongestAccepted, IsLongestAnswer}
 use Rattle.fancy_engine.proofs.SearchLemmas.{accepted-is, is-accepted, all_refused, longest_none, no_answer-is, found_from}
 
@@ -100,7 +100,7 @@ longest_answer_at q p s long e =
     }
 
 -- the answer is the first of those that end last, of the accepted outcomes at the least position that has one
-pub longest_answer-is : (q : Query) (f : Found) → q.sought.longest ≡ true → search q ≡ Some f → IsLongestAnswer q f
+pub longest_answer-is : (q : Query) (f : Answer) → q.sought.longest ≡ true → search q ≡ Some f → IsLongestAnswer q f
 longest_answer-is q f long e =
     let found = found_from q (positions q.request) (effective_start q.request) f e in
     record {

@@ -6,17 +6,18 @@ use Rattle.unicode.specs.CaseFolding.{simple_fold}
 use Rattle.fancy_tree.specs.declared.tree.Meaning.{Meaning}
 use Rattle.fancy_tree.specs.declared.tree.Meaning.TheVariants.{Unicode, Bytes, AsciiText}
 use Rattle.fancy_input.specs.Places.{char_at, has_bytes_at}
-use Rattle.fancy_engine.specs.Context.{Context, State, Span, group_span, past_item, past_byte, option_to}
+use Rattle.fancy_input.specs.declared.span.Span.{Span}
+use Rattle.fancy_engine.specs.Context.{Context, State, group_span, past_item, past_byte, option_to}
 
 -- the bytes of a span
-unfoldable pub text_of : Context → Span → List ℕ
-text_of x span = take (span.1 - span.0) (drop span.0 x.haystack)
+unfoldable pub captured_text : Context → Span → List ℕ
+captured_text x span = take (span.end - span.start) (drop span.start x.haystack)
 
--- the place behind the bytes at p that equal these
+-- the place after the bytes at p that equal these
 unfoldable pub past_text : Context → List ℕ → ℕ → Option ℕ
 past_text x text p = if has_bytes_at x.haystack p text then Some (p + length text) else None
 
--- the place behind the bytes at p that equal these, ASCII letters in either case
+-- the place after the bytes at p that equal these, ASCII letters in either case
 unfoldable pub past_letters : Context → List ℕ → ℕ → Option ℕ
 past_letters x text p = if str_eq_ignore_ascii_case (take (length text) (drop p x.haystack)) text then Some (p + length text) else None
 
@@ -24,7 +25,7 @@ past_letters x text p = if str_eq_ignore_ascii_case (take (length text) (drop p 
 abbrev pub shares_folding : ℕ → ℕ → Bool
 shares_folding c d = simple_fold d == simple_fold c
 
--- The place behind what matches a text of at most n bytes. The text is cut from the left into well-formed characters and single other bytes: each character is matched by one with the same simple folding, each other byte by itself.
+-- The place after what matches a text of at most n bytes. The text is cut from the left into well-formed characters and single other bytes: each character is matched by one with the same simple folding, each other byte by itself.
 unfoldable pub past_characters : Context → ℕ → List ℕ → ℕ → Option ℕ
 past_characters x zero text p = Some p
 past_characters x (suc n) [] p = Some p
@@ -33,18 +34,18 @@ past_characters x (suc n) (b ∷ bs) p =
     (option_to (past_byte x b p) None (λ r. past_characters x n bs r))
     (λ c. option_to (past_item x (shares_folding c) p) None (λ r. past_characters x n (drop (len_utf8 c) (b ∷ bs)) r))
 
--- the place behind what matches a text under flag `i`
+-- the place after what matches a text under flag `i`
 abbrev pub past_folded : Context → Meaning → List ℕ → ℕ → Option ℕ
 past_folded x Unicode text p = past_characters x (length text) text p
 past_folded x Bytes text p = past_letters x text p
 past_folded x AsciiText text p = past_letters x text p
 
--- the place behind the text of a span once more; where it is folded, under flag `i`
+-- the place after the text of a span once more; where it is folded, under flag `i`
 abbrev pub past_span : Context → Bool → Option Span → ℕ → Option ℕ
 past_span x folded None p = None
-past_span x false (Some span) p = past_text x (text_of x span) p
-past_span x true (Some span) p = past_folded x x.meaning (text_of x span) p
+past_span x false (Some span) p = past_text x (captured_text x span) p
+past_span x true (Some span) p = past_folded x x.meaning (captured_text x span) p
 
--- the place behind a group's text; none where the group has taken no part
+-- the place after a group's text; none where the group has taken no part
 unfoldable pub past_backreference : Context → Bool → ℕ → State → Option ℕ
 past_backreference x folded number s = past_span x folded (group_span s number) s.place

@@ -2,15 +2,22 @@
 use Rattle.std.specs.Prelude.{ℕ, List, length}
 use Rattle.fancy_engine.specs.declared.code.Code.{Code}
 use Rattle.fancy_engine.specs.declared.code.Instr.{Instr}
-use Rattle.fancy_tree.specs.declared.char_set.CharSet.{CharSet}
-use Rattle.fancy_tree.specs.Members.{edges_of}
+use Rattle.fancy_engine.specs.Instructions.{Instruction, edges_at, with_set, with_sets}
 
-abbrev pub instrs_of : Code → List Instr
-instrs_of c = c.instrs.items
+-- each with the edges of its set
+abbrev pub instrs_of : Code → List Instruction
+instrs_of c = with_sets c.sets.items c.instrs.items
 
 abbrev pub code_len : Code → ℕ
-code_len c = length c.instrs.items
+code_len c = length (instrs_of c)
 
--- the numbers at which the set of an instruction begins and ends in turn
-abbrev pub edges_in : CharSet → List ℕ
-edges_in s = edges_of s.set
+-- one instruction with the edges of its set
+abbrev pub instr_in : Code → Instr → Instruction
+instr_in c i = with_set c.sets.items i
+
+abbrev pub sets_len : Code → ℕ
+sets_len c = length c.sets.items
+
+-- the edges of the set with this number
+abbrev pub set_edges : Code → ℕ → List ℕ
+set_edges c n = edges_at c.sets.items n

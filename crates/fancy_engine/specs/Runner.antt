@@ -1,10 +1,8 @@
 -- What the runner keeps true, which follows each pair of an instruction and a place at most once.
-use Rattle.std.specs.Prelude.{◌≡◌, ℕ, ◌+◌, ◌-◌, ◌*◌, ◌<◌, ◌≤◌, ◌⊎◌, Bool, true, false, not, ◌||◌, List, [], ◌∷◌, ◌++◌, length, Option, Some, None, if◌then◌else◌, slice_index_or, is_some}
-use Rattle.fancy_input.specs.Places.{is_boundary}
-use Rattle.fancy_engine.specs.declared.code.Instr.{Instr}
+use Rattle.std.specs.Prelude.{◌≡◌, ℕ, ◌+◌, ◌-◌, ◌*◌, ◌<◌, ◌≤◌, ◌⊎◌, Bool, true, false, List, [], ◌∷◌, ◌++◌, length, Option, Some, None, if◌then◌else◌, slice_index_or, is_some}
+use Rattle.fancy_engine.specs.Instructions.{Instruction}
 use Rattle.fancy_engine.specs.declared.runner.Next.{Next}
 use Rattle.fancy_engine.specs.declared.runner.Next.TheVariants.{On, Dead, Found}
-use Rattle.fancy_engine.specs.declared.runner.Bounds.{Bounds}
 use Rattle.fancy_engine.specs.Context.{Context, State}
 use Rattle.fancy_engine.specs.Events.{Event, mark, return, outcome, either}
 use Rattle.fancy_engine.specs.Run.{Raw, run, erase}
@@ -16,10 +14,6 @@ first_accepted ok [] = None
 first_accepted ok (mark ∷ es) = first_accepted ok es
 first_accepted ok (return ∷ es) = first_accepted ok es
 first_accepted ok (outcome s ∷ es) = if ok s then Some s else first_accepted ok es
-
--- whether a match may begin or end at a place
-abbrev pub good_end : Bounds → List ℕ → ℕ → Bool
-good_end b haystack i = not b.on_boundaries || is_boundary haystack i
 
 -- an outcome is accepted by its place alone
 abbrev pub ends_well : (ℕ → Bool) → State → Bool
@@ -52,10 +46,10 @@ Moved Dead limit None next t u = u ≡ t
 Moved Dead limit (Some p) next t u = (limit < p) × (u ≡ t)
 Moved Found limit o next t u = ⊥
 
--- each way stands at a place that is searched
-abbrev pub AllWithin : Bounds → List Thread → Type 0
-AllWithin b [] = Unit {0}
-AllWithin b (t ∷ ts) = (b.first ≤ t.place) × (t.place ≤ b.last) × AllWithin b ts
+-- each thread stands at a place that is searched
+abbrev pub AllWithin : ℕ → ℕ → List Thread → Type 0
+AllWithin first last [] = Unit {0}
+AllWithin first last (t ∷ ts) = (first ≤ t.place) × (t.place ≤ last) × AllWithin first last ts
 
 -- what a visit may leave: one more branch, where it marked a pair
 abbrev pub Progresses : Next → ℕ → ℕ → ℕ → ℕ → Type 0
@@ -63,13 +57,13 @@ Progresses On before after len now = (before < after) × (now ≤ len + 1)
 Progresses Dead before after len now = (before ≤ after) × (now ≡ len)
 Progresses Found before after len now = Unit {0}
 
-module _ (x : Context) (limit : ℕ) (code : List Instr) (deep : ℕ) where
-  -- what a way has before it, where the match will have begun at `kept`
-  abbrev pub way : ℕ → Thread → Option (List Raw)
-  way kept t = run x limit code deep t.at (state_of kept t) (starts_of t)
+module _ (x : Context) (limit : ℕ) (code : List Instruction) (deep : ℕ) where
+  -- what a thread has before it, where the match will have begun at `kept`
+  abbrev pub thread_run : ℕ → Thread → Option (List Raw)
+  thread_run kept t = run x limit code deep t.at (state_of kept t) (starts_of t)
 
   abbrev pub Known : ℕ → Thread → Type 0
-  Known kept t = IsKnown (way kept t)
+  Known kept t = IsKnown (thread_run kept t)
 
   abbrev pub AllKnown : ℕ → List Thread → Type 0
   AllKnown kept [] = Unit {0}
@@ -78,33 +72,33 @@ module _ (x : Context) (limit : ℕ) (code : List Instr) (deep : ℕ) where
   -- what the saved branches have before them, the last one first
   abbrev pub pending : ℕ → List Thread → List Event
   pending kept [] = []
-  pending kept (t ∷ ts) = return ∷ (events_of (way kept t) ++ pending kept ts)
+  pending kept (t ∷ ts) = return ∷ (events_of (thread_run kept t) ++ pending kept ts)
 
-  -- the way went on to the next, and did so alone
+  -- the thread went on to the next, and did so alone
   abbrev pub Went : ℕ → Thread → Thread → Type 0
-  Went kept t u = Known kept u × (events_of (way kept t) ≡ events_of (way kept u)) × (size_of (way kept u) < size_of (way kept t))
+  Went kept t u = Known kept u × (events_of (thread_run kept t) ≡ events_of (thread_run kept u)) × (size_of (thread_run kept u) < size_of (thread_run kept t))
 
-  -- the way saved a branch
+  -- the thread saved a branch
   abbrev pub Parted : ℕ → Thread → Thread → Thread → Type 0
-  Parted kept t u b = Known kept u × Known kept b × (events_of (way kept t) ≡ either (events_of (way kept u)) (events_of (way kept b)))
-      × (size_of (way kept u) + size_of (way kept b) < size_of (way kept t)) × (b.place ≡ t.place)
+  Parted kept t u b = Known kept u × Known kept b × (events_of (thread_run kept t) ≡ either (events_of (thread_run kept u)) (events_of (thread_run kept b)))
+      × (size_of (thread_run kept u) + size_of (thread_run kept b) < size_of (thread_run kept t)) × (b.place ≡ t.place)
 
   -- what a step did
   abbrev pub Stepped : ℕ → Next → Thread → List Thread → Thread → List Thread → Type 0
   Stepped kept On t ts u us = (Went kept t u × (us ≡ ts)) ⊎ ((b : Thread) × Parted kept t u b × (us ≡ b ∷ ts))
-  Stepped kept Dead t ts u us = (events_of (way kept t) ≡ []) × (us ≡ ts)
-  Stepped kept Found t ts u us = (events_of (way kept t) ≡ outcome (state_of kept t) ∷ []) × (u ≡ t) × (us ≡ ts)
+  Stepped kept Dead t ts u us = (events_of (thread_run kept t) ≡ []) × (us ≡ ts)
+  Stepped kept Found t ts u us = (events_of (thread_run kept t) ≡ outcome (state_of kept t) ∷ []) × (u ≡ t) × (us ≡ ts)
 
   -- what the code gives from the pair, where no group is written
-  abbrev pub pair_way : ℕ → ℕ → Option (List Raw)
-  pair_way q i = run x limit code deep q (record { place = i; captures = []; kept = 0 }) []
+  abbrev pub pair_run : ℕ → ℕ → Option (List Raw)
+  pair_run q i = run x limit code deep q (record { place = i; captures = []; kept = 0 }) []
 
   -- how many events the pair gives: fewer for each pair that follows
   abbrev pub rank : ℕ → ℕ → ℕ
-  rank q i = size_of (pair_way q i)
+  rank q i = size_of (pair_run q i)
 
 -- `good` tests the place of an outcome; positions and places are counted from `base`
-module _ (good : ℕ → Bool) (x : Context) (base limit : ℕ) (code : List Instr) (deep : ℕ) where
+module _ (good : ℕ → Bool) (x : Context) (base limit : ℕ) (code : List Instruction) (deep : ℕ) where
   abbrev pub IsPair : ℕ → ℕ → Type 0
   IsPair q i = (q < length code) × (base ≤ i) × (i ≤ limit)
 
@@ -114,14 +108,14 @@ module _ (good : ℕ → Bool) (x : Context) (base limit : ℕ) (code : List Ins
 
   -- an accepted outcome comes from the pair, whatever the groups are
   abbrev pub Hits : ℕ → ℕ → Type 0
-  Hits q i = is_some (first_accepted (ends_well good) (events_of (pair_way x limit code deep q i))) ≡ true
+  Hits q i = is_some (first_accepted (ends_well good) (events_of (pair_run x limit code deep q i))) ≡ true
 
-  -- some way of these hits, and it and those before it rank below r
+  -- some thread of these hits, and it and those before it rank below r
   abbrev pub HitsBelow : ℕ → List Thread → Type 0
   HitsBelow r [] = ⊥
   HitsBelow r (t ∷ ts) = (rank x limit code deep t.at t.place < r) × (Hits t.at t.place ⊎ HitsBelow r ts)
 
-  -- a visited pair that hits is answered for by a way that is still to be followed
+  -- a visited pair that hits is answered for by a thread that is still to be followed
   abbrev pub Covers : List Bool → List Thread → Type 0
   Covers table ts = (q i : ℕ) → Seen table q i → Hits q i → HitsBelow (rank x limit code deep q i) ts
 
@@ -139,7 +133,7 @@ module _ (good : ℕ → Bool) (x : Context) (base limit : ℕ) (code : List Ins
   pub record Running (kept : ℕ) (goal : Option State) (table : List Bool) (t : Thread) (ts : List Thread) : Type 0 where
     pub known : Known x limit code deep kept t
     pub all : AllKnown x limit code deep kept ts
-    pub answer : first_accepted (ends_well good) (events_of (way x limit code deep kept t) ++ pending x limit code deep kept ts) ≡ goal
+    pub answer : first_accepted (ends_well good) (events_of (thread_run x limit code deep kept t) ++ pending x limit code deep kept ts) ≡ goal
     pub covers : Covers table (t ∷ ts)
 
   -- the same after a visit

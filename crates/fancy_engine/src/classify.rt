@@ -2,7 +2,7 @@
 
 ghost use Rattle.std.specs.Prelude.{◌≡◌, map};
 ghost use Rattle.fancy_tree.specs.Pattern.{pattern_of};
-ghost use Rattle.fancy_engine.specs.Means.{is_easy, goes_back, all_easy};
+ghost use Rattle.fancy_engine.specs.Compile.{is_easy, goes_back, all_easy};
 
 use fancy_tree::tree::{Taste, Tree};
 
@@ -47,7 +47,7 @@ pub fn is_easy(tree: &Tree) -> bool
 
 /// Whether these are easy, all of them.
 #[cycle(is_easy)]
-#[tactic(auto, using(crate::proofs::EasyLemmas::easy_from, crate::proofs::EasyLemmas::easy_past))]
+#[tactic(auto, using(crate::proofs::ClassifyLemmas::easy_from, crate::proofs::ClassifyLemmas::easy_past))]
 fn are_easy(trees: &[Tree]) -> bool
     ensures { result ≡ all_easy (map pattern_of trees.now) }
 {

@@ -1,9 +1,7 @@
 //! The code of a pattern: instructions that say where they go on.
 
-ghost use Rattle.std.specs.Prelude.{◌≡◌, ◌<◌};
-ghost use Rattle.fancy_engine.specs.Code.{instrs_of, code_len};
-ghost use Rattle.fancy_engine.specs.Run.{instr_at};
-ghost use Rattle.fancy_engine.specs.Work.{steps_of, stepped};
+ghost use Rattle.std.specs.Prelude.{◌≡◌, ◌<◌, ℕ, IsTrue, length};
+ghost use Rattle.fancy_engine.specs.Instructions.{are_known, edges_in, with_sets};
 
 use crate::work::Work;
 use fancy_tree::char_set::CharSet;
@@ -18,8 +16,8 @@ pub enum Instr {
     Fail,
     /// One item with this code.
     Character(char, usize),
-    /// One item of this set.
-    Member(Box<CharSet>, usize),
+    /// One item of the set with this number.
+    Member(usize, usize),
     /// One byte, in any meaning.
     RawByte(u8, usize),
     /// A test of the place.
@@ -74,28 +72,42 @@ pub struct Entry {
     pub still: usize,
 }
 
-/// The instructions of a pattern.
+/// The instructions of a pattern, and the sets in them. Instructions share a set: a counted repeat has each of its sets once.
 #[derive(Drop)]
 pub struct Code {
     instrs: Vec<Instr>,
+    sets: Vec<CharSet>,
     /// The number of the first instruction.
     pub start: usize,
     /// The groups of the pattern, with group 0.
     pub groups: usize,
     /// What one item consumes.
     pub meaning: Meaning,
+    ghost known: { IsTrue (are_known (length sets.items) instrs.items) },
 }
 
 impl Code {
-    /// These instructions, which begin at `start`.
-    pub fn new(instrs: Vec<Instr>, start: usize, groups: usize, meaning: Meaning) -> Code
-        ensures instrs { instrs_of result ≡ instrs.items }
+    ghost use Rattle.fancy_engine.specs.Code.{instrs_of, code_len, instr_in, sets_len, set_edges};
+    ghost use Rattle.fancy_engine.specs.Run.{instr_at};
+    ghost use Rattle.fancy_engine.specs.Work.{steps_of, stepped};
+
+    /// These instructions with these sets, which begin at `start`.
+    pub(crate) fn new(
+        instrs: Vec<Instr>,
+        sets: Vec<CharSet>,
+        start: usize,
+        groups: usize,
+        meaning: Meaning,
+    ) -> Code
+        requires known { IsTrue (are_known (length sets.items) instrs.items) }
+        ensures instrs { instrs_of result ≡ with_sets sets.items instrs.items }
         ensures start { result.start ≡ start }
         ensures groups { result.groups ≡ groups }
         ensures meaning { result.meaning ≡ meaning }
     {
         Code {
             instrs,
+            sets,
             start,
             groups,
             meaning,
@@ -106,19 +118,29 @@ impl Code {
     pub fn fetch(&self, at: usize, work: &mut Work) -> &Instr
         requires within { at < code_len self.now }
         requires room { steps_of work.old < usize.MAX }
-        ensures instr { result.now ≡ instr_at (instrs_of self.now) at }
+        ensures instr { instr_in self.now result.now ≡ instr_at (instrs_of self.now) at }
+        ensures known { (number next : ℕ) → result.now ≡ Instr.Member number next → number < sets_len self.now }
         ensures work { work.new ≡ stepped work.old }
     {
         work.count_step();
-        &self.instrs[at]
+        self.instr(at)
     }
 
     /// The instruction with this number. The call counts as no step.
     pub fn instr(&self, at: usize) -> &Instr
         requires within { at < code_len self.now }
-        ensures instr { result.now ≡ instr_at (instrs_of self.now) at }
+        ensures instr { instr_in self.now result.now ≡ instr_at (instrs_of self.now) at }
+        ensures known { (number next : ℕ) → result.now ≡ Instr.Member number next → number < sets_len self.now }
     {
         &self.instrs[at]
+    }
+
+    /// The set with this number, which an instruction has.
+    pub fn set(&self, number: usize) -> &CharSet
+        requires { number < sets_len self.now }
+        ensures { edges_in result.now ≡ set_edges self.now number }
+    {
+        &self.sets[number]
     }
 
     /// How many instructions there are.

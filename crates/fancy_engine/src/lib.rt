@@ -4,12 +4,15 @@
 pub mod classify;
 pub mod code;
 pub mod compile;
+mod emitter;
+pub mod found;
 pub mod laws;
+pub mod options;
 pub mod reading;
 pub mod refusal;
 pub mod runner;
 pub mod search;
 pub mod slot;
 pub mod table;
-pub mod ways;
+pub mod threads;
 pub mod work;

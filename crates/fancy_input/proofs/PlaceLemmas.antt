@@ -50,14 +50,14 @@ prev_place_first bs zero h = same_branches (is_continuation (slice_index bs 0))
 prev_place_first bs (suc i) h = absurd (omega arith)
 
 -- the place before is a boundary below, and no boundary stands between
-boundary_behind : (bs : List ℕ) (i : ℕ) (b : Bool) → is_continuation (slice_index bs i) ≡ b → IsTrue (is_boundary bs (prev_place bs i)) → IsTrue (is_boundary bs (if b then prev_place bs i else i))
-boundary_behind bs i true e h = h
-boundary_behind bs i false e h = is_boundary_from_byte bs i e
+boundary_after : (bs : List ℕ) (i : ℕ) (b : Bool) → is_continuation (slice_index bs i) ≡ b → IsTrue (is_boundary bs (prev_place bs i)) → IsTrue (is_boundary bs (if b then prev_place bs i else i))
+boundary_after bs i true e h = h
+boundary_after bs i false e h = is_boundary_from_byte bs i e
 
 pub prev_place_boundary : (bs : List ℕ) (i : ℕ) → IsTrue (is_boundary bs (prev_place bs i))
 unfolding prev_place
 prev_place_boundary bs zero = refl
-prev_place_boundary bs (suc i) = boundary_behind bs i (is_continuation (slice_index bs i)) refl (prev_place_boundary bs i)
+prev_place_boundary bs (suc i) = boundary_after bs i (is_continuation (slice_index bs i)) refl (prev_place_boundary bs i)
 
 step_below : (bs : List ℕ) (i : ℕ) (b : Bool) → prev_place bs i ≤ i → (if b then prev_place bs i else i) < suc i
 step_below bs i true h = omega arith
@@ -77,17 +77,17 @@ prev_place_below bs (suc i) h = step_below bs i (is_continuation (slice_index bs
 inside_no_boundary : (bs : List ℕ) (j : ℕ) → 0 < j → j < length bs → is_continuation (slice_index bs j) ≡ true → is_boundary bs j ≡ false
 inside_no_boundary bs j p l h = grind (arith, nat_tests, common_steps)
 
-none_behind : (bs : List ℕ) (i j : ℕ) (b : Bool) → is_continuation (slice_index bs i) ≡ b → suc i ≤ length bs → (prev_place bs i < j → j < i → is_boundary bs j ≡ false)
+none_after : (bs : List ℕ) (i j : ℕ) (b : Bool) → is_continuation (slice_index bs i) ≡ b → suc i ≤ length bs → (prev_place bs i < j → j < i → is_boundary bs j ≡ false)
     → (if b then prev_place bs i else i) < j → j < suc i → is_boundary bs j ≡ false
-none_behind bs i j false e l h lo hi = absurd (omega arith)
-none_behind bs i j true e l h lo hi = grind (arith, inside_no_boundary, h)
+none_after bs i j false e l h lo hi = absurd (omega arith)
+none_after bs i j true e l h lo hi = grind (arith, inside_no_boundary, h)
 
 pub prev_place_nearest : (bs : List ℕ) (i j : ℕ) → i ≤ length bs → prev_place bs i < j → j < i → is_boundary bs j ≡ false
 unfolding prev_place
 prev_place_nearest bs zero j l lo hi = absurd (omega arith)
-prev_place_nearest bs (suc i) j l lo hi = none_behind bs i j (is_continuation (slice_index bs i)) refl l (prev_place_nearest bs i j (omega arith)) lo hi
+prev_place_nearest bs (suc i) j l lo hi = none_after bs i j (is_continuation (slice_index bs i)) refl l (prev_place_nearest bs i j (omega arith)) lo hi
 
--- behind the bytes that continue a character there is none
+-- after the bytes that continue a character there is none
 at_stop : (x : ℕ) (xs : List ℕ) (b : Bool) → is_continuation x ≡ b → (continuations xs < length xs → is_continuation (slice_index xs (continuations xs)) ≡ false)
     → (if b then suc (continuations xs) else zero) < suc (length xs) → is_continuation (slice_index (x ∷ xs) (if b then suc (continuations xs) else zero)) ≡ false
 at_stop x xs true e r h = r (omega arith)

@@ -18,7 +18,7 @@ char_at-boundary haystack i c text within here e =
     text_of_boundary haystack (i + len_utf8 c)
     (IsCharBoundary-past_char haystack stands.1 i c within (IsUtf8-drop haystack i text (boundary_of_text haystack i text within here)) stands.2)
 
--- behind a text that a text begins with, text follows
+-- after a text that a text begins with, text follows
 past_characters : (cs bs rest : List ℕ) → IsUtf8 bs → bs ≡ encode_utf8_all cs ++ rest → IsUtf8 rest
 past_characters [] bs rest h e = subst IsUtf8 e h
 past_characters (c ∷ cs) bs rest h e =

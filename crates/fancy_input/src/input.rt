@@ -1,8 +1,10 @@
 //! What can be searched, and what a search is asked.
 
-ghost use Rattle.std.specs.Prelude.{◌≡◌, ◌≤◌, ◌<◌, ◌↔◌, ◌+◌, ℕ, Bool, true, List, length, IsTrue, IsFalse, IsUtf8, IsAscii, IsCharBoundary};
-ghost use Rattle.fancy_input.specs.Requests.{effective_start};
+ghost use Rattle.std.specs.Prelude.{◌≡◌, ◌≤◌, ◌<◌, ◌↔◌, ◌+◌, ◌-◌, ℕ, Bool, true, List, length, IsTrue, IsFalse, IsUtf8, IsAscii, IsCharBoundary};
+ghost use Rattle.fancy_input.specs.Requests.{effective_start, positions};
 ghost use Rattle.fancy_input.specs.Places.{is_boundary, is_place, prev_place, next_place};
+ghost use Rattle.fancy_input.specs.Spans.{from_to};
+ghost use Rattle.fancy_input.specs.declared.span.Span.{Span};
 
 use crate::places;
 
@@ -34,6 +36,19 @@ impl Request {
         ensures { result ≡ effective_start self.now }
     {
         self.start.max(self.range_start)
+    }
+
+    /// The last position that is tried, in bytes, where the first one is within the range.
+    pub fn last_position(&self) -> usize
+        requires { effective_start self.now ≤ self.now.range_end }
+        ensures count { result + 1 - effective_start self.now ≡ positions self.now }
+        ensures inside { result ≤ self.now.range_end }
+    {
+        if self.anchored {
+            self.effective_start()
+        } else {
+            self.range_end
+        }
     }
 }
 
@@ -68,7 +83,7 @@ pub trait Input: Haystack {
     // The haystack of a match, and its two ends.
     ghost within: { Self.Match → List ℕ };
 
-    ghost span: { Self.Match → ℕ × ℕ };
+    ghost span: { Self.Match → Span };
 
     /// The bytes of the haystack, for text its UTF-8.
     fn as_bytes(&self) -> &[u8]
@@ -87,7 +102,7 @@ pub trait Input: Haystack {
         requires inside { end ≤ length (Self.bytes self.now) }
         requires starts_cleanly { Self.text self.now ≡ true → IsTrue (is_boundary (Self.bytes self.now) start) }
         requires ends_cleanly { Self.text self.now ≡ true → IsTrue (is_boundary (Self.bytes self.now) end) }
-        ensures span { span result ≡ (start, end) }
+        ensures span { span result ≡ from_to start end }
         ensures within { within result ≡ Self.bytes self.now };
 
     /// The length in bytes.
@@ -154,7 +169,8 @@ pub trait Input: Haystack {
         ensures most { result ≤ length (Self.bytes self.now) + 1 }
         ensures within { i < length (Self.bytes self.now) → result ≤ length (Self.bytes self.now) }
         ensures boundary { Self.text self.now ≡ true → IsTrue (is_boundary (Self.bytes self.now) result) }
-        ensures nearest { Self.text self.now ≡ true → (j : ℕ) → i < j → j < result → IsFalse (is_boundary (Self.bytes self.now) j) }
+        ensures nearest { Self.text self.now ≡ true → (j : ℕ) → i < j → j < result
+            → IsFalse (is_boundary (Self.bytes self.now) j) }
     {
         if self.is_text() {
             places::next_boundary(self.as_bytes(), i)

@@ -4,7 +4,7 @@ ghost use Rattle.std.specs.Prelude.{◌≡◌, ◌<◌, ◌≤◌, drop, false, 
 ghost use Rattle.fancy_input.specs.Lines.{are_line_feeds, are_line_ends};
 ghost use Rattle.fancy_input.specs.LastLines.{ends_only, Told, KnowsLastLines};
 
-/// The place behind the line end at a place: a line feed, or where a carriage return ends lines too, perhaps one
+/// The place after the line end at a place: a line feed, or where a carriage return ends lines too, perhaps one
 /// before it. `None` where something else stands there.
 fn past_line_end(haystack: &[u8], crlf: bool, place: usize) -> Option<usize>
     requires { place < length haystack.now }
@@ -94,7 +94,7 @@ impl LastLines {
         self.feeds.is_followed(haystack, false, place)
     }
 
-    /// Whether only line feeds, each perhaps behind a carriage return, or nothing, follow at a place, a byte offset.
+    /// Whether only line feeds, each perhaps after a carriage return, or nothing, follow at a place, a byte offset.
     pub fn is_last_line_crlf(&mut self, haystack: &[u8], place: usize) -> bool
         requires { KnowsLastLines haystack.now self.old }
         ensures last { result ≡ are_line_ends (drop place haystack.now) }

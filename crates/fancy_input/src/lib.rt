@@ -11,3 +11,4 @@ pub mod lines;
 pub mod matches;
 pub mod places;
 pub mod regex_input;
+pub mod span;

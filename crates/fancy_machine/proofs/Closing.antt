@@ -4,8 +4,8 @@ use Rattle.std.specs.Prelude.{if◌then◌else◌}
 use Rattle.std.proofs.lemmas.Option.{none-some, same_Some}
 use Rattle.fancy_engine.specs.Context.{State}
 use Rattle.fancy_engine.specs.Run.{Raw, Note, Stop, Sign, returned, Go, before, join, guard, fenced}
-use Rattle.fancy_machine.specs.Frames.{Spot, Region, Frame, Atom, Look, Denial, Condition, Saved, Within, saved}
-use Rattle.fancy_machine.specs.Machine.{IsBare, Opens, IsSpent, Takes, wanted_by, after, found_of, missed_of, finish, left}
+use Rattle.fancy_machine.specs.Frames.{Spot, Region, Frame, Atom, LookAround, Denial, Condition, Saved, Within, saved}
+use Rattle.fancy_machine.specs.Machine.{IsBare, HasInnermost, IsSpent, Takes, wanted_by, after, found_of, missed_of, finish, left}
 
 join_note : (m : Sign) (o p : Option (List Raw)) → join (before (Note m) o) p ≡ before (Note m) (join o p)
 join_note m None p = refl
@@ -63,7 +63,7 @@ module _ (go : ℕ → Go) where
   finish_back [] rest y w h t = absurd t
   finish_back (Saved x ∷ fs) rest y w h t = take_at fs rest x y w t.0 t.1 (sym (ap (finish go fs) (join_nothing (after go x))) ∙ h)
   finish_back (Within (Atom l) ∷ fs) rest y w h t = finish_back fs rest y w h t
-  finish_back (Within (Look behind next i l) ∷ fs) rest y w h t = finish_back fs rest y w h t
+  finish_back (Within (LookAround behind next i l) ∷ fs) rest y w h t = finish_back fs rest y w h t
   finish_back (Within (Denial behind x) ∷ fs) rest y w h t = take_at fs rest x y w t.0 t.1 h
   finish_back (Within (Condition x) ∷ fs) rest y w h t = take_at fs rest x y w t.0 t.1 h
 
@@ -72,7 +72,7 @@ module _ (go : ℕ → Go) where
   finish_spent [] w h t = sym (same_Some _ _ h)
   finish_spent (Saved x ∷ fs) w h t = absurd t
   finish_spent (Within (Atom l) ∷ fs) w h t = finish_spent fs w h t
-  finish_spent (Within (Look behind next i l) ∷ fs) w h t = finish_spent fs w h t
+  finish_spent (Within (LookAround behind next i l) ∷ fs) w h t = finish_spent fs w h t
   finish_spent (Within (Denial behind x) ∷ fs) w h t = absurd t
   finish_spent (Within (Condition x) ∷ fs) w h t = absurd t
 
@@ -81,7 +81,7 @@ module _ (go : ℕ → Go) where
   finish_unspent [] w h t = absurd (t tt)
   finish_unspent (Saved x ∷ fs) w h t = let k = take_branch fs (after go x) w (sym (ap (finish go fs) (join_nothing (after go x))) ∙ h) in (k.0, k.2)
   finish_unspent (Within (Atom l) ∷ fs) w h t = finish_unspent fs w h t
-  finish_unspent (Within (Look behind next i l) ∷ fs) w h t = finish_unspent fs w h t
+  finish_unspent (Within (LookAround behind next i l) ∷ fs) w h t = finish_unspent fs w h t
   finish_unspent (Within (Denial behind x) ∷ fs) w h t = let k = take_branch fs (after go x) w h in (k.0, k.2)
   finish_unspent (Within (Condition x) ∷ fs) w h t = let k = take_branch fs (after go x) w h in (k.0, k.2)
 
@@ -101,7 +101,7 @@ module _ (go : ℕ → Go) where
 
   -- a stop that is wanted ends the innermost region, and the branches above it are dropped
   pub finish_ends : (fs rest : List Frame) (r : Region) (q : ℕ) (s : State) (v : List ℕ) (u w : List Raw) → finish go fs (Some (Stop q s v ∷ u)) ≡ Some w
-      → Opens fs r rest → wanted_by r s ≡ true → finish go rest (found_of go r q s v) ≡ Some w
+      → HasInnermost fs r rest → wanted_by r s ≡ true → finish go rest (found_of go r q s v) ≡ Some w
   finish_ends [] rest r q s v u w h o e = absurd o
   finish_ends (Saved x ∷ fs) rest r q s v u w h o e = ended (λ u' h'. finish_ends fs rest r q s v u' w h' o e) (after go x) refl where
     ended : ((u' : List Raw) → finish go fs (Some (Stop q s v ∷ u')) ≡ Some w → finish go rest (found_of go r q s v) ≡ Some w) → (p : Option (List Raw)) → after go x ≡ p → finish go rest (found_of go r q s v) ≡ Some w
@@ -117,7 +117,7 @@ module _ (go : ℕ → Go) where
 
   -- a stop that is not wanted is dead
   pub finish_elsewhere : (fs rest : List Frame) (r : Region) (q : ℕ) (s : State) (v : List ℕ) (u w : List Raw) → finish go fs (Some (Stop q s v ∷ u)) ≡ Some w
-      → Opens fs r rest → wanted_by r s ≡ false → finish go fs (Some u) ≡ Some w
+      → HasInnermost fs r rest → wanted_by r s ≡ false → finish go fs (Some u) ≡ Some w
   finish_elsewhere [] rest r q s v u w h o e = absurd o
   finish_elsewhere (Saved x ∷ fs) rest r q s v u w h o e = ended (λ u' h'. finish_elsewhere fs rest r q s v u' w h' o e) (after go x) refl where
     ended : ((u' : List Raw) → finish go fs (Some (Stop q s v ∷ u')) ≡ Some w → finish go fs (Some u') ≡ Some w) → (p : Option (List Raw)) → after go x ≡ p → finish go (Saved x ∷ fs) (Some u) ≡ Some w
@@ -132,7 +132,7 @@ module _ (go : ℕ → Go) where
       (ap (λ (y : Region). wanted_by y s) o.0 ∙ e)) ∙ h
 
 -- what is below a region, or a branch, saves no more
-pub saved_below : (fs rest : List Frame) (r : Region) → Opens fs r rest → saved rest ≤ saved fs
+pub saved_below : (fs rest : List Frame) (r : Region) → HasInnermost fs r rest → saved rest ≤ saved fs
 saved_below [] rest r o = absurd o
 saved_below (Saved x ∷ fs) rest r o = omega (arith, saved_below fs rest r o)
 saved_below (Within p ∷ fs) rest r o = rw (sym o.1) (omega arith)
@@ -141,6 +141,6 @@ pub saved_taken : (fs rest : List Frame) (y : Spot) → Takes fs y rest → save
 saved_taken [] rest y t = absurd t
 saved_taken (Saved x ∷ fs) rest y t = rw (sym t.1) (omega arith)
 saved_taken (Within (Atom l) ∷ fs) rest y t = omega (arith, saved_taken fs rest y t)
-saved_taken (Within (Look behind next i l) ∷ fs) rest y t = omega (arith, saved_taken fs rest y t)
+saved_taken (Within (LookAround behind next i l) ∷ fs) rest y t = omega (arith, saved_taken fs rest y t)
 saved_taken (Within (Denial behind x) ∷ fs) rest y t = rw (sym t.1) (omega arith)
 saved_taken (Within (Condition x) ∷ fs) rest y t = rw (sym t.1) (omega arith)

@@ -1,5 +1,5 @@
 -- What a backreference sees.
-use Rattle.std.proofs.Common.{◌≡◌, ℕ, zero, suc, ◌+◌, ◌-◌, ◌<◌, ◌≤◌, ◌==◌, Bool, true, false, List, [], ◌∷◌, length, map, take, drop, IsTrue, Option, Some, None, option_map, nat_eq, if◌then◌else◌, refl, sym, ap, ap₂, ◌∙◌, arith, le_refl, length-drop}
+use Rattle.std.proofs.Common.{◌≡◌, ℕ, zero, suc, ◌+◌, ◌-◌, ◌<◌, ◌≤◌, ◌==◌, Bool, true, false, List, [], ◌∷◌, length, map, take, drop, IsTrue, Option, Some, None, nat_eq, if◌then◌else◌, refl, sym, ap, ap₂, ◌∙◌, arith, le_refl, length-drop}
 use Rattle.std.specs.Prelude.{slice_index}
 use Rattle.std.specs.Char.{len_utf8, is_ascii, to_ascii_lowercase}
 use Rattle.std.specs.Str.{str_eq_ignore_ascii_case}
@@ -12,12 +12,10 @@ use Rattle.fancy_tree.specs.declared.tree.Meaning.{Meaning}
 use Rattle.fancy_tree.specs.declared.tree.Meaning.TheVariants.{Unicode}
 use Rattle.fancy_input.specs.Places.{char_at, has_bytes_at}
 use Rattle.fancy_engine.specs.Context.{Context, State, group_span, unit_at, past_item, past_byte, one_character, option_to}
-use Rattle.fancy_engine.specs.declared.slot.Extent.{Extent}
-use Rattle.fancy_engine.specs.Threads.{ends_of}
-use Rattle.fancy_engine.specs.Backreference.{text_of, past_text, past_folded, past_characters, past_span, past_backreference, shares_folding}
+use Rattle.fancy_input.specs.declared.span.Span.{Span}
+use Rattle.fancy_engine.specs.Backreference.{captured_text, past_text, past_folded, past_characters, past_span, past_backreference, shares_folding}
 use Rattle.fancy_input.proofs.CharacterLemmas.{char_at-fits}
-use Rattle.fancy_machine.specs.declared.machine.Field.{Field}
-use Rattle.fancy_machine.specs.Field.{context_in}
+use Rattle.fancy_machine.specs.Attempt.{reading}
 
 pub recall_seen : (x : Context) (folded : Bool) (number : ℕ) (s : State) → past_backreference x folded number s ≡ past_span x folded (group_span s number) s.place
 unfolding past_backreference
@@ -56,22 +54,22 @@ none_left text b e f = grind (arith, nat_tests)
 pub shares_ascii : (c d : ℕ) → c < 128 → d < 128 → shares_folding c d ≡ (to_ascii_lowercase d == to_ascii_lowercase c)
 shares_ascii c d low_c low_d = ap₂ (λ (a b : ℕ). a == b) (simple_fold-ascii d low_d) (simple_fold-ascii c low_c)
 
-module _ (haystack : List ℕ) (f : Field) (c p : ℕ) where
+module _ (haystack : List ℕ) (x : Context) (c p : ℕ) where
   -- what the character at p gives
   sharing_seen : (o : Option ℕ) → o ≡ char_at haystack p
-      → past_item (context_in haystack Unicode f) (shares_folding c) p ≡ option_to (one_character o) None (λ u. if shares_folding c u.code then Some (p + u.width) else None)
+      → past_item (reading haystack Unicode x) (shares_folding c) p ≡ option_to (one_character o) None (λ u. if shares_folding c u.code then Some (p + u.width) else None)
   unfolding past_item unit_at
   sharing_seen o e = ap (λ (o : Option ℕ). option_to (one_character o) None (λ u. if shares_folding c u.code then Some (p + u.width) else None)) (sym e)
 
-  pub sharing_none : None ≡ char_at haystack p → past_item (context_in haystack Unicode f) (shares_folding c) p ≡ None
+  pub sharing_none : None ≡ char_at haystack p → past_item (reading haystack Unicode x) (shares_folding c) p ≡ None
   sharing_none e = sharing_seen None e
 
   pub sharing_other : (d : ℕ) (b : Bool) → Some d ≡ char_at haystack p → b ≡ shares_folding c d → b ≡ false
-      → past_item (context_in haystack Unicode f) (shares_folding c) p ≡ None
+      → past_item (reading haystack Unicode x) (shares_folding c) p ≡ None
   sharing_other d b e h n = sharing_seen (Some d) e ∙ ap (λ (b : Bool). if b then Some (p + len_utf8 d) else None) (sym h ∙ n)
 
   pub sharing_some : (d : ℕ) (b : Bool) → Some d ≡ char_at haystack p → b ≡ shares_folding c d → b ≡ true
-      → past_item (context_in haystack Unicode f) (shares_folding c) p ≡ Some (p + len_utf8 d)
+      → past_item (reading haystack Unicode x) (shares_folding c) p ≡ Some (p + len_utf8 d)
   sharing_some d b e h y = sharing_seen (Some d) e ∙ ap (λ (b : Bool). if b then Some (p + len_utf8 d) else None) (sym h ∙ y)
 
 pub character_fits : (haystack : List ℕ) (i c : ℕ) → Some c ≡ char_at haystack i → i + len_utf8 c ≤ length haystack
@@ -143,20 +141,20 @@ module _ (x : Context) where
 
 -- the text of a span, and what matches it
 
-pub text_seen : (haystack : List ℕ) (m : Meaning) (f : Field) (e : Extent) (rest text : List ℕ) (n : ℕ) → rest ≡ drop e.start haystack → text ≡ take n rest → n ≡ e.end - e.start
-    → text ≡ text_of (context_in haystack m f) (ends_of e)
-unfolding text_of
-text_seen haystack m f e rest text n is cut long = cut ∙ ap₂ (λ (n : ℕ) (l : List ℕ). take n l) long is
+pub text_seen : (haystack : List ℕ) (m : Meaning) (x : Context) (e : Span) (rest text : List ℕ) (n : ℕ) → rest ≡ drop e.start haystack → text ≡ take n rest → n ≡ e.end - e.start
+    → text ≡ captured_text (reading haystack m x) e
+unfolding captured_text
+text_seen haystack m x e rest text n is cut long = cut ∙ ap₂ (λ (n : ℕ) (l : List ℕ). take n l) long is
 
-pub again_exact : (x : Context) (folded : Bool) (o : Option Extent) (e : Extent) (p : ℕ) (text : List ℕ) → folded ≡ false → o ≡ Some e → text ≡ text_of x (ends_of e)
-    → past_text x text p ≡ past_span x folded (option_map ends_of o) p
+pub again_exact : (x : Context) (folded : Bool) (o : Option Span) (e : Span) (p : ℕ) (text : List ℕ) → folded ≡ false → o ≡ Some e → text ≡ captured_text x e
+    → past_text x text p ≡ past_span x folded o p
 again_exact x folded o e p text exact some is =
-    ap (λ (t : List ℕ). past_text x t p) is ∙ sym (ap₂ (λ (b : Bool) (o : Option Extent). past_span x b (option_map ends_of o) p) exact some)
+    ap (λ (t : List ℕ). past_text x t p) is ∙ sym (ap₂ (λ (b : Bool) (o : Option Span). past_span x b o p) exact some)
 
 -- under flag `i`, where the meaning is n
-pub again_folded : (haystack : List ℕ) (m n : Meaning) (f : Field) (folded : Bool) (o : Option Extent) (e : Extent) (p : ℕ) (text : List ℕ) → m ≡ n → folded ≡ true → o ≡ Some e
-    → text ≡ text_of (context_in haystack m f) (ends_of e) → past_folded (context_in haystack n f) n text p ≡ past_span (context_in haystack m f) folded (option_map ends_of o) p
-again_folded haystack m n f folded o e p text same fold some is =
-    ap (λ (n : Meaning). past_folded (context_in haystack n f) n text p) (sym same)
-    ∙ ap (λ (t : List ℕ). past_folded (context_in haystack m f) m t p) is
-    ∙ sym (ap₂ (λ (b : Bool) (o : Option Extent). past_span (context_in haystack m f) b (option_map ends_of o) p) fold some)
+pub again_folded : (haystack : List ℕ) (m n : Meaning) (x : Context) (folded : Bool) (o : Option Span) (e : Span) (p : ℕ) (text : List ℕ) → m ≡ n → folded ≡ true → o ≡ Some e
+    → text ≡ captured_text (reading haystack m x) e → past_folded (reading haystack n x) n text p ≡ past_span (reading haystack m x) folded o p
+again_folded haystack m n x folded o e p text same fold some is =
+    ap (λ (n : Meaning). past_folded (reading haystack n x) n text p) (sym same)
+    ∙ ap (λ (t : List ℕ). past_folded (reading haystack m x) m t p) is
+    ∙ sym (ap₂ (λ (b : Bool) (o : Option Span). past_span (reading haystack m x) b o p) fold some)

@@ -1,32 +1,21 @@
 -- What a search by the machine is asked, and what it answers.
-use Rattle.std.specs.Prelude.{ℕ, Bool, true, List, Option, Some, None}
-use Rattle.fancy_tree.specs.Pattern.{Pattern}
-use Rattle.fancy_input.specs.declared.input.Request.{Request}
-use Rattle.fancy_engine.specs.declared.code.Code.{Code}
-use Rattle.fancy_engine.specs.Search.{Query, Found}
-use Rattle.fancy_machine.specs.declared.search.Options.{Options}
-use Rattle.fancy_machine.specs.Frames.{Spot}
+use Rattle.std.specs.Prelude.{◌≡◌, ℕ, Bool, true, List, Option}
+use Rattle.fancy_input.specs.declared.span.Span.{Span}
+use Rattle.fancy_engine.specs.Search.{Query, context_of}
+use Rattle.fancy_machine.specs.declared.attempt.Attempt.{Attempt}
+use Rattle.fancy_machine.specs.declared.search.Cache.{Cache}
+use Rattle.fancy_machine.specs.Attempt.{attempt_context}
 
-abbrev pub asked : Pattern → Code → Options → List ℕ → Request → Query
-asked p code o haystack request = record {
-  sought = record {
-    pattern = p;
-    meaning = code.meaning;
-    groups = code.groups;
-    on_boundaries = o.on_boundaries;
-    overrides = o.overrides;
-    not_empty = o.not_empty;
-    longest = o.longest;
-  };
-  haystack = haystack;
-  request = request;
-  continues = o.continues;
-}
+-- the attempt sees what the query shows, and accepts by the same options
+pub record Serves (a : Attempt) (q : Query) : Type 0 where
+  pub context : attempt_context a ≡ context_of q
+  pub on_boundaries : a.options.on_boundaries ≡ q.sought.on_boundaries
+  pub not_empty : a.options.not_empty ≡ q.sought.not_empty
+  pub longest : a.options.longest ≡ q.sought.longest
 
--- what was found at a position, if anything was
-abbrev pub answer_of : Option ℕ → Spot → Option Found
-answer_of None x = None
-answer_of (Some p) x = Some (record { position = p; state = x.state })
+-- where the groups stand in the match that the last search found
+abbrev pub groups_held : Cache → List (Option Span)
+groups_held cache = cache.trail.now.state.captures
 
 -- every position counts
 abbrev pub all_tried : ℕ → Bool

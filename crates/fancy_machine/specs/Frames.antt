@@ -9,12 +9,12 @@ pub record Spot : Type 0 where
   pub state : State
   pub starts : List ℕ
 
--- What is open. Each says where text that is consumed behind it ends at the latest.
+-- What is open. Each says where text that is consumed after it ends at the latest.
 pub data Region : Type 0 where
   -- a part of which the first way that stops is taken
   Atom : (limit : ℕ) → Region
   -- a look-around, which goes on at `next` and the place
-  Look : (behind : Bool) → (next place limit : ℕ) → Region
+  LookAround : (behind : Bool) → (next place limit : ℕ) → Region
   -- a negated look-around, with the way that is taken where it finds nothing
   Denial : (behind : Bool) → Spot → Region
   -- a condition, with its second branch
@@ -28,7 +28,7 @@ pub data Frame : Type 0 where
 abbrev pub saved_in : Frame → ℕ
 saved_in (Saved x) = 1
 saved_in (Within (Atom l)) = 0
-saved_in (Within (Look behind next p l)) = 0
+saved_in (Within (LookAround behind next p l)) = 0
 saved_in (Within (Denial behind x)) = 1
 saved_in (Within (Condition x)) = 1
 

@@ -1,5 +1,5 @@
 pub mod Frames
-pub mod Held
+pub mod Layers
 pub mod Machine
-pub mod Field
+pub mod Attempt
 pub mod Asked

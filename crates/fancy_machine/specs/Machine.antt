@@ -2,20 +2,20 @@
 use Rattle.std.specs.Prelude.{◌≡◌, ℕ, suc, ◌+◌, ◌<◌, ◌≤◌, ◌⊎◌, Bool, true, false, List, [], ◌∷◌, length, Option, Some, None, Result, Ok, Err, take, if◌then◌else◌, ◌==◌, not, ◌&&◌, nat_lt, slice_index, slice_set}
 use Rattle.fancy_engine.specs.declared.runner.Next.{Next}
 use Rattle.fancy_engine.specs.declared.runner.Next.TheVariants.{On, Dead, Found}
-use Rattle.fancy_engine.specs.declared.refusal.Refusal.{Refusal}
-use Rattle.fancy_engine.specs.declared.refusal.Refusal.TheVariants.{Memory, Returns, Choices}
+use Rattle.fancy_engine.specs.declared.refusal.SearchRefusal.{SearchRefusal}
+use Rattle.fancy_engine.specs.declared.refusal.SearchRefusal.TheVariants.{Memory, Returns, Choices}
 use Rattle.fancy_engine.specs.declared.work.Work.{Work}
 use Rattle.fancy_engine.specs.declared.slot.Slot.{Slot}
 use Rattle.fancy_engine.specs.declared.slot.Write.{Write}
 use Rattle.fancy_engine.specs.Work.{returns_of, went_back}
-use Rattle.fancy_engine.specs.Context.{State, moved_to, captured}
+use Rattle.fancy_engine.specs.Context.{State, moved_to, with_capture}
 use Rattle.fancy_engine.specs.Events.{Event, mark, return, outcome, any, ends_look}
-use Rattle.fancy_engine.specs.Run.{Raw, Note, Stop, marked, returned, fetched, Go, before, join, fenced, resume, halt, erase}
+use Rattle.fancy_engine.specs.Run.{Raw, Note, Stop, choice_opened, returned, fetched, Go, before, join, fenced, resume, halt, erase}
 use Rattle.fancy_machine.specs.declared.layer.Layer.{Layer}
 use Rattle.fancy_machine.specs.declared.layer.Kind.{Kind}
 use Rattle.fancy_machine.specs.declared.layer.Kind.TheVariants as k
-use Rattle.fancy_machine.specs.Frames.{Spot, Region, Frame, Held, Atom, Look, Denial, Condition, Saved, Within, saved}
-use Rattle.fancy_machine.specs.Held.{frames_of}
+use Rattle.fancy_machine.specs.Frames.{Spot, Region, Frame, Held, Atom, LookAround, Denial, Condition, Saved, Within, saved}
+use Rattle.fancy_machine.specs.Layers.{frames_of}
 
 abbrev pub at_instr : ℕ → Spot → Spot
 at_instr q x = record x { at = q }
@@ -27,7 +27,7 @@ abbrev pub opened_at : ℕ → ℕ → Spot → Spot
 opened_at g q x = record x { at = q; starts = slice_set x.starts g x.state.place }
 
 abbrev pub closed_at : ℕ → ℕ → Spot → Spot
-closed_at g q x = record x { at = q; state = captured x.state g (slice_index x.starts g) }
+closed_at g q x = record x { at = q; state = with_capture x.state g (slice_index x.starts g) }
 
 abbrev pub kept_at : ℕ → Spot → Spot
 kept_at q x = record x { at = q; state = record x.state { kept = x.state.place } }
@@ -51,6 +51,12 @@ RecalledTo Dead moved still None x y = Unit {0}
 RecalledTo Dead moved still (Some p) x y = x.limit < p
 RecalledTo Found moved still o x y = ⊥
 
+-- what going on does, if a test holds
+abbrev pub WentIf : Next → Bool → ℕ → Spot → Spot → Type 0
+WentIf On holds next x y = (holds ≡ true) × (y ≡ at_instr next x)
+WentIf Dead holds next x y = holds ≡ false
+WentIf Found holds next x y = ⊥
+
 -- no region is open
 abbrev pub IsBare : List Frame → Type 0
 IsBare [] = Unit {0}
@@ -58,17 +64,17 @@ IsBare (Saved x ∷ fs) = IsBare fs
 IsBare (Within r ∷ fs) = ⊥
 
 -- r is the innermost open region, and the rest is below it
-abbrev pub Opens : List Frame → Region → List Frame → Type 0
-Opens [] r rest = ⊥
-Opens (Saved x ∷ fs) r rest = Opens fs r rest
-Opens (Within p ∷ fs) r rest = (p ≡ r) × (fs ≡ rest)
+abbrev pub HasInnermost : List Frame → Region → List Frame → Type 0
+HasInnermost [] r rest = ⊥
+HasInnermost (Saved x ∷ fs) r rest = HasInnermost fs r rest
+HasInnermost (Within p ∷ fs) r rest = (p ≡ r) × (fs ≡ rest)
 
 -- no branch is saved
 abbrev pub IsSpent : List Frame → Type 0
 IsSpent [] = Unit {0}
 IsSpent (Saved x ∷ fs) = ⊥
 IsSpent (Within (Atom l) ∷ fs) = IsSpent fs
-IsSpent (Within (Look behind next p l) ∷ fs) = IsSpent fs
+IsSpent (Within (LookAround behind next p l) ∷ fs) = IsSpent fs
 IsSpent (Within (Denial behind x) ∷ fs) = ⊥
 IsSpent (Within (Condition x) ∷ fs) = ⊥
 
@@ -77,14 +83,14 @@ abbrev pub Takes : List Frame → Spot → List Frame → Type 0
 Takes [] y rest = ⊥
 Takes (Saved x ∷ fs) y rest = (x ≡ y) × (fs ≡ rest)
 Takes (Within (Atom l) ∷ fs) y rest = Takes fs y rest
-Takes (Within (Look behind next p l) ∷ fs) y rest = Takes fs y rest
+Takes (Within (LookAround behind next p l) ∷ fs) y rest = Takes fs y rest
 Takes (Within (Denial behind x) ∷ fs) y rest = (x ≡ y) × (fs ≡ rest)
 Takes (Within (Condition x) ∷ fs) y rest = (x ≡ y) × (fs ≡ rest)
 
 -- which ways that stop end a region
 abbrev pub wanted_by : Region → State → Bool
 wanted_by (Atom l) = any
-wanted_by (Look behind next p l) = ends_look behind p
+wanted_by (LookAround behind next p l) = ends_look behind p
 wanted_by (Denial behind x) = ends_look behind x.state.place
 wanted_by (Condition x) = any
 
@@ -96,13 +102,13 @@ module _ (go : ℕ → Go) where
   -- what a region's first way that stops goes on with
   abbrev pub found_of : Region → Go
   found_of (Atom l) = go l
-  found_of (Look behind next p l) = resume (go l) next p
+  found_of (LookAround behind next p l) = resume (go l) next p
   found_of (Denial behind x) = halt
   found_of (Condition x) = go x.limit
 
   abbrev pub missed_of : Region → Option (List Raw)
   missed_of (Atom l) = Some []
-  missed_of (Look behind next p l) = Some []
+  missed_of (LookAround behind next p l) = Some []
   missed_of (Denial behind x) = before (Note returned) (after x)
   missed_of (Condition x) = before (Note returned) (after x)
 
@@ -117,26 +123,30 @@ module _ (go : ℕ → Go) where
   left x fs = finish fs (after x)
 
   -- what a step did to x and fs, where w was left of the attempt
-  abbrev pub Stepped : Next → List Raw → Spot → List Frame → Spot → List Frame → Type 0
-  Stepped On w x fs y gs =
+  abbrev pub IsStep : Next → List Raw → Spot → List Frame → Spot → List Frame → Type 0
+  IsStep On w x fs y gs =
       (rest : List Raw) × (left y gs ≡ Some rest)
-      × (((w ≡ Note fetched ∷ rest) × (saved gs ≤ saved fs)) ⊎ ((w ≡ Note fetched ∷ Note marked ∷ rest) × (saved gs ≤ saved fs + 1)))
-  Stepped Dead w x fs y gs = (rest : List Raw) × (finish gs (Some []) ≡ Some rest) × (w ≡ Note fetched ∷ rest) × (saved gs ≤ saved fs)
-  Stepped Found w x fs y gs =
+      × (((w ≡ Note fetched ∷ rest) × (saved gs ≤ saved fs)) ⊎ ((w ≡ Note fetched ∷ Note choice_opened ∷ rest) × (saved gs ≤ saved fs + 1)))
+  IsStep Dead w x fs y gs = (rest : List Raw) × (finish gs (Some []) ≡ Some rest) × (w ≡ Note fetched ∷ rest) × (saved gs ≤ saved fs)
+  IsStep Found w x fs y gs =
       (rest : List Raw) × (q : ℕ) × (finish gs (Some []) ≡ Some rest) × (w ≡ Note fetched ∷ Stop q y.state y.starts ∷ rest) × (saved gs ≤ saved fs)
+
+-- what a way that stops leaves, whatever the code is
+abbrev pub Stops : Next → ℕ → Held → Spot → List Frame → Type 0
+Stops next q h y gs = (go : ℕ → Go) (u : List Raw) → finish go h.frames (Some (Stop q h.now.state h.now.starts ∷ [])) ≡ Some u → IsStep go next (Note fetched ∷ u) h.now h.frames y gs
 
 -- a step was refused for its choice
 abbrev pub Crowded : ℕ → List Raw → List Frame → Type 0
-Crowded most w fs = (most ≤ saved fs) × (rest : List Raw) × (w ≡ Note fetched ∷ Note marked ∷ rest)
+Crowded most w fs = (most ≤ saved fs) × (rest : List Raw) × (w ≡ Note fetched ∷ Note choice_opened ∷ rest)
 
 -- what taking the last saved branch did
-abbrev pub Backed : Result Bool Refusal → ℕ → Held → Held → Work → Work → Type 0
-Backed (Ok false) limit old new before after = IsSpent old.frames × (after ≡ before)
-Backed (Ok true) limit old new before after =
+abbrev pub TookBranch : Result Bool SearchRefusal → ℕ → Held → Held → Work → Work → Type 0
+TookBranch (Ok false) limit old new before after = IsSpent old.frames × (after ≡ before)
+TookBranch (Ok true) limit old new before after =
     Takes old.frames new.now new.frames × (new.most ≡ old.most) × (after ≡ went_back before) × (returns_of before < limit)
-Backed (Err Returns) limit old new before after = (IsSpent old.frames → ⊥) × (returns_of before ≡ limit) × (after ≡ before)
-Backed (Err Memory) limit old new before after = ⊥
-Backed (Err Choices) limit old new before after = ⊥
+TookBranch (Err Returns) limit old new before after = (IsSpent old.frames → ⊥) × (returns_of before ≡ limit) × (after ≡ before)
+TookBranch (Err Memory) limit old new before after = ⊥
+TookBranch (Err Choices) limit old new before after = ⊥
 
 abbrev pub IsBranch : Kind → Type 0
 IsBranch k.Branch = Unit {0}
@@ -154,9 +164,9 @@ ends_kind (k.Denial behind) from p = if behind then p == from else true
 ends_kind k.Condition from p = true
 
 -- the innermost layer that isn't a saved branch is the last of the first n
-pub record Reaches (n : ℕ) (ls : List Layer) : Type 0 where
+pub record ReachesInnermost (n : ℕ) (ls : List Layer) : Type 0 where
   pub within : n ≤ length ls
-  pub opens : (log : List Write) (slots : List Slot) (r : Region) (rest : List Frame) → Opens (frames_of log slots (take n ls)) r rest → Opens (frames_of log slots ls) r rest
+  pub opens : (log : List Write) (slots : List Slot) (r : Region) (rest : List Frame) → HasInnermost (frames_of log slots (take n ls)) r rest → HasInnermost (frames_of log slots ls) r rest
   pub bare : (log : List Write) (slots : List Slot) → IsBare (frames_of log slots (take n ls)) → IsBare (frames_of log slots ls)
 
 -- the first outcome that is accepted, or under `longest` the first of those with the greatest end, where `best` came before
@@ -167,12 +177,12 @@ betters (Some b) p = nat_lt b.place p
 abbrev pub better : Option State → State → Option State
 better best s = if betters best s.place then Some s else best
 
-abbrev pub chosen : Bool → (State → Bool) → Option State → List Event → Option State
-chosen longest ok best [] = best
-chosen longest ok best (mark ∷ es) = chosen longest ok best es
-chosen longest ok best (return ∷ es) = chosen longest ok best es
-chosen longest ok best (outcome s ∷ es) =
-    if ok s then (if longest then chosen longest ok (better best s) es else Some s) else chosen longest ok best es
+abbrev pub taken_outcome : Bool → (State → Bool) → Option State → List Event → Option State
+taken_outcome longest ok best [] = best
+taken_outcome longest ok best (mark ∷ es) = taken_outcome longest ok best es
+taken_outcome longest ok best (return ∷ es) = taken_outcome longest ok best es
+taken_outcome longest ok best (outcome s ∷ es) =
+    if ok s then (if longest then taken_outcome longest ok (better best s) es else Some s) else taken_outcome longest ok best es
 
 -- the outcomes that end an attempt
 abbrev pub final : Bool → (State → Bool) → State → Bool
@@ -192,22 +202,9 @@ marks_to ok (mark ∷ es) = suc (marks_to ok es)
 marks_to ok (return ∷ es) = marks_to ok es
 marks_to ok (outcome s ∷ es) = if ok s then 0 else marks_to ok es
 
-abbrev pub size_of : Option (List Raw) → ℕ
-size_of None = 0
-size_of (Some w) = length w
-
--- the events that are left, as the pattern has them
-abbrev pub events_of : Option (List Raw) → List Event
-events_of None = []
-events_of (Some w) = erase w
-
-abbrev pub IsKnown : Option (List Raw) → Type 0
-IsKnown None = ⊥
-IsKnown (Some w) = Unit {0}
-
 -- What is left after w is `rest`, and an attempt looks for the same in both.
 pub record Fewer (longest : Bool) (ok : State → Bool) (best now : Option State) (w rest : List Raw) (before after : ℕ) : Type 0 where
-  pub answer : chosen longest ok best (erase w) ≡ chosen longest ok now (erase rest)
+  pub answer : taken_outcome longest ok best (erase w) ≡ taken_outcome longest ok now (erase rest)
   pub count : returns_to (final longest ok) (erase w) ≡ returns_to (final longest ok) (erase rest)
   pub room : after + marks_to (final longest ok) (erase rest) ≤ before + marks_to (final longest ok) (erase w)
   pub shorter : length rest < length w
@@ -216,12 +213,12 @@ pub record Fewer (longest : Bool) (ok : State → Bool) (best now : Option State
 abbrev pub Turned : (ℕ → Go) → Bool → (State → Bool) → Next → List Raw → Option State → List Frame → Spot → Option State → List Frame → Type 0
 Turned go longest ok On w best fs y now gs = (rest : List Raw) × (left go y gs ≡ Some rest) × Fewer longest ok best now w rest (saved fs) (saved gs)
 Turned go longest ok Dead w best fs y now gs = (rest : List Raw) × (finish go gs (Some []) ≡ Some rest) × Fewer longest ok best now w rest (saved fs) (saved gs)
-Turned go longest ok Found w best fs y now gs = (chosen longest ok best (erase w) ≡ Some y.state) × (returns_to (final longest ok) (erase w) ≡ 0)
+Turned go longest ok Found w best fs y now gs = (taken_outcome longest ok best (erase w) ≡ Some y.state) × (returns_to (final longest ok) (erase w) ≡ 0)
 
 -- what an attempt still has before it, where o is left: its answer, the returns up to it, and the choices
 pub record Searching (longest : Bool) (ok : State → Bool) (goal : Option State) (total choices : ℕ) (o : Option (List Raw)) (fs : List Frame) (best : Option State) (returns : ℕ) : Type 0 where
   pub rest : List Raw
   pub known : o ≡ Some rest
-  pub answer : chosen longest ok best (erase rest) ≡ goal
+  pub answer : taken_outcome longest ok best (erase rest) ≡ goal
   pub count : returns + returns_to (final longest ok) (erase rest) ≡ total
   pub room : saved fs + marks_to (final longest ok) (erase rest) ≤ choices

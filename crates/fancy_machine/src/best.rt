@@ -1,6 +1,6 @@
 //! The best outcome of an attempt so far, where the longest is asked for.
 
-ghost use Rattle.std.specs.Prelude.{◌≡◌, map, None, if◌then◌else◌, OnOk};
+ghost use Rattle.std.specs.Prelude.{◌≡◌, None, OnOk};
 
 use crate::trail::Trail;
 use fancy_engine::slot::Slot;
@@ -19,7 +19,7 @@ pub struct Best {
 impl Model for Best {
     ghost use Rattle.std.specs.Prelude.{Option};
     ghost use Rattle.fancy_engine.specs.Context.{State};
-    ghost use Rattle.fancy_machine.specs.Held.{outcome_of};
+    ghost use Rattle.fancy_machine.specs.Layers.{outcome_of};
 
     ghost Value = { Option State };
 
@@ -27,7 +27,7 @@ impl Model for Best {
 }
 
 impl Best {
-    ghost use Rattle.fancy_machine.specs.Field.{found_state};
+    ghost use Rattle.fancy_machine.specs.Attempt.{state_if_found};
     ghost use Rattle.fancy_machine.specs.Machine.{betters, better};
 
     /// No outcome so far.
@@ -73,7 +73,7 @@ impl Best {
 
     /// Whether there is an outcome, where the trail then stands.
     pub fn give(&mut self, trail: &mut Trail) -> bool
-        ensures { found_state result trail.new.now ≡ self.old }
+        ensures { state_if_found result trail.new.now ≡ self.old }
     {
         if self.found {
             trail.stand(self.place, self.kept, &mut self.slots);

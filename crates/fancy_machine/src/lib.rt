@@ -1,10 +1,14 @@
 //! The backtracking machine, for patterns that no runner can follow.
 #![tactic(auto)]
 
-pub mod best;
-pub mod layer;
-pub mod machine;
+mod attempt;
+mod best;
+mod choice;
+mod condition;
+mod layer;
+mod read;
 pub mod search;
-pub mod texts;
-pub mod trail;
+mod step;
+mod texts;
+mod trail;
 pub mod units;

@@ -1,129 +1,122 @@
 //! Searches by the machine.
 
-ghost use Rattle.std.specs.Prelude.{◌≡◌, ◌+◌, ◌-◌, ◌<◌, ◌≤◌, ◌&&◌, not, Option, Some, None, Err, IfOk, length};
+ghost use Rattle.std.specs.Prelude.{◌≡◌, ◌+◌, ◌-◌, ◌<◌, ◌≤◌, Option, Some, None, Err, IfOk, length, slice_index_or};
 ghost use Rattle.fancy_tree.specs.Limits.{most_branches};
-ghost use Rattle.fancy_tree.specs.Pattern.{Pattern};
-ghost use Rattle.fancy_input.specs.Requests.{effective_start};
-ghost use Rattle.fancy_engine.specs.Means.{IsCodeOf};
-ghost use Rattle.fancy_engine.specs.Search.{continues_from, search, returns, choices};
+ghost use Rattle.fancy_engine.specs.Compile.{IsCodeOf};
+ghost use Rattle.fancy_engine.specs.Search.{Query, search, returns, choices};
 ghost use Rattle.fancy_engine.specs.Work.{steps_of, returns_of, HasRoom};
-ghost use Rattle.fancy_machine.specs.Asked.{asked, answer_of, all_tried};
+ghost use Rattle.fancy_engine.specs.Queries.{query_of, answer_with};
+ghost use Rattle.fancy_machine.specs.Asked.{groups_held, all_tried};
 
+use crate::attempt::Attempt;
 use crate::best::Best;
-use crate::machine::{Field, attempt, is_good};
 use crate::trail::Trail;
 use fancy_engine::code::Code;
-use fancy_engine::refusal::Refusal;
-use fancy_engine::search::{last_position, suppressed_in};
+use fancy_engine::found::Found;
+use fancy_engine::options::{SearchOptions, is_match_boundary};
+use fancy_engine::refusal::SearchRefusal;
 use fancy_engine::work::Work;
 use fancy_input::input::Request;
 use fancy_input::last_lines::LastLines;
+use fancy_input::span::Span;
+use std::alloc::Global;
 
 /// The most branches that are saved at once.
-pub const MOST: usize = 1_000_000;
+const MAX_BRANCHES: usize = 1_000_000;
 
-/// The options that hold while a haystack is searched.
-#[derive(Clone, Copy, PartialEq, Eq, Debug)]
-pub struct Options {
-    /// Matches begin and end on character boundaries alone.
-    pub on_boundaries: bool,
-    /// A request may say that the text's start, or its end, does not count as one, or that `\G` holds nowhere.
-    pub overrides: bool,
-    /// Whether `\G` is on at all in this search.
-    pub continues: bool,
-    /// An empty match is refused.
-    pub not_empty: bool,
-    /// At a position the longest match is asked for, and not the first.
-    pub longest: bool,
-    /// The most returns of a search.
-    pub limit: usize,
+/// What searches work in, reused from one to the next, with the groups of the last match.
+#[derive(Drop)]
+pub struct Cache {
+    trail: Trail,
+    /// The best outcome of an attempt so far, where the longest is asked for.
+    best: Best,
 }
 
-/// Where `\G` holds, where the search begins at `first`: there, or nowhere.
-fn continues_from(options: Options, request: Request, first: usize) -> Option<usize>
-    requires { first ≡ effective_start request }
-    ensures { result ≡ continues_from options.continues options.overrides request }
-{
-    let suppressed = options.overrides && !request.continues;
-    if options.continues && !suppressed {
-        Some(first)
-    } else {
-        None
+impl Cache {
+    /// It has no memory yet: the searches take it.
+    pub fn new(alloc: Global) -> Cache {
+        Cache {
+            trail: Trail::new(alloc),
+            best: Best::new(alloc),
+        }
+    }
+
+    /// Where the group with this number stands in the match that the last search found. `None` where the group
+    /// took no part, or there is none with this number.
+    pub fn group(&self, number: usize) -> Option<Span>
+        ensures { result ≡ slice_index_or (groups_held self.now) number None }
+    {
+        self.trail.span(number)
     }
 }
 
-/// Searches a haystack for the pattern of the code. Found is the position, a byte offset: that of the first attempt,
-/// from the effective start on, which has an accepted outcome; the trail then stands there. Where the longest match is
-/// asked for `best` is the memory that it takes, and all returns of that attempt count.
+/// Searches a haystack for the pattern of the code, with `\G` on or off. Found is the outcome that is taken at the
+/// least position, from the effective start on, which has an accepted one; its groups then stand in `cache`. Where the
+/// longest match is asked for, all returns of that attempt count.
 ///
 /// What is done is added to the counts of `work`, after a refusal what was done up to it. They never begin anew here.
 /// Steps are counted as far as a `usize` goes.
 ///
 /// # Errors
 ///
-/// `Refusal::Memory` where memory runs out, `Refusal::Returns` where the search takes more returns than the options
-/// allow, and `Refusal::Choices` where it would save more than 1,000,000 branches at once.
+/// `SearchRefusal::Memory` where memory runs out, `SearchRefusal::Returns` where the search takes more returns than the options
+/// allow, and `SearchRefusal::Choices` where it would save more than 1,000,000 branches at once.
 pub fn search(
     code: &Code,
     haystack: &[u8],
     request: Request,
-    options: Options,
-    trail: &mut Trail,
-    best: &mut Best,
+    options: SearchOptions,
+    continues: bool,
+    cache: &mut Cache,
     work: &mut Work,
-) -> Result<Option<usize>, Refusal>
-    ghost p: { Pattern }
-    requires code { ∥ IsCodeOf p code.now ∥₁ }
+) -> Result<Option<Found>, SearchRefusal>
+    ghost q: { Query }
+    requires query { q ≡ query_of q.sought.pattern code.now options haystack.now request continues }
+    requires code { ∥ IsCodeOf q.sought.pattern code.now ∥₁ }
     requires inside { request.range_end ≤ length haystack.now }
-    requires room { HasRoom (returns_of work.old) options.limit }
-    ensures answer { IfOk result (λ m. answer_of m trail.new.now ≡ search (asked p code.now options haystack.now request)) }
-    ensures count { IfOk result (λ _. returns_of work.new ≡ returns_of work.old + returns (asked p code.now options haystack.now request) all_tried) }
-    ensures refused { result ≡ Err Refusal.Returns → options.limit < returns (asked p code.now options haystack.now request) all_tried }
-    ensures stopped { result ≡ Err Refusal.Returns → returns_of work.new ≡ returns_of work.old + options.limit }
-    ensures fits { returns_of work.new ≤ returns_of work.old + options.limit }
+    requires room { HasRoom (returns_of work.old) options.backtrack_limit }
+    ensures answer { IfOk result (λ found. answer_with (groups_held cache.new) found ≡ search q) }
+    ensures count { IfOk result (λ _. returns_of work.new ≡ returns_of work.old + returns q all_tried) }
+    ensures refused { result ≡ Err SearchRefusal.Returns → options.backtrack_limit < returns q all_tried }
+    ensures stopped { result ≡ Err SearchRefusal.Returns
+        → returns_of work.new ≡ returns_of work.old + options.backtrack_limit }
+    ensures fits { returns_of work.new ≤ returns_of work.old + options.backtrack_limit }
     ensures steps { steps_of work.old ≤ steps_of work.new }
     ensures returns { returns_of work.old ≤ returns_of work.new }
-    ensures bounded { returns_of work.new ≤ returns_of work.old + returns (asked p code.now options haystack.now request) all_tried }
+    ensures bounded { returns_of work.new ≤ returns_of work.old + returns q all_tried }
     ensures paired { returns_of work.old ≤ steps_of work.old → returns_of work.new ≤ steps_of work.new }
-    ensures crowded { result ≡ Err Refusal.Choices → most_branches < choices (asked p code.now options haystack.now request) all_tried }
+    ensures crowded { result ≡ Err SearchRefusal.Choices → most_branches < choices q all_tried }
 {
-    let first = request.start.max(request.range_start);
+    let first = request.effective_start();
     if first > request.range_end {
         return Ok(None);
     }
-    let field = Field {
-        continues: continues_from(options, request, first),
-        suppressed: suppressed_in(options.overrides, request),
-        on_boundaries: options.on_boundaries,
-        not_empty: options.not_empty,
-        longest: options.longest,
-    };
-    let limit = work.returns() + options.limit;
-    let last = last_position(request, first);
-    let mut last_lines = LastLines::new(haystack);
+    let attempt = Attempt::new(code, haystack, request, options, continues);
+    let trail = &mut cache.trail;
+    let best = &mut cache.best;
+    let limit = work.returns() + options.backtrack_limit;
+    let last = request.last_position();
+    let mut last_lines = LastLines::new(attempt.haystack);
     for place in first..last + 1 {
-        if !is_good(field, haystack, place) {
+        if !is_match_boundary(options.on_boundaries, haystack, place) {
             continue;
         }
-        match trail.begin(code.start, place, request.range_end, code.groups, MOST) {
-            Ok(()) => {}
-            Err(_) => return Err(Refusal::Memory),
-        }
-        let found = match attempt(
-            code,
-            haystack,
-            field,
-            trail,
-            best,
-            limit,
-            &mut last_lines,
-            work,
-        ) {
-            Ok(found) => found,
-            Err(refusal) => return Err(refusal),
-        };
+        trail.begin(
+            code.start,
+            place,
+            request.range_end,
+            code.groups,
+            MAX_BRANCHES,
+        )?;
+        let found = attempt.run(trail, best, limit, &mut last_lines, work)?;
         if found {
-            return Ok(Some(place));
+            let start = trail.kept();
+            let end = trail.place();
+            return Ok(Some(Found {
+                position: place,
+                start,
+                end,
+            }));
         }
     }
     Ok(None)

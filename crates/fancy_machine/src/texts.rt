@@ -1,16 +1,14 @@
 //! The text of a group once more.
 
-ghost use Rattle.std.specs.Prelude.{◌≡◌, take, drop, length, option_map};
+ghost use Rattle.std.specs.Prelude.{◌≡◌, take, drop, length};
 ghost use Rattle.fancy_engine.specs.Backreference.{past_text, past_letters, past_characters, past_span, shares_folding};
-ghost use Rattle.fancy_engine.specs.Context.{past_item};
-ghost use Rattle.fancy_engine.specs.Threads.{ends_of};
-ghost use Rattle.fancy_machine.specs.declared.machine.Field.{Field as FieldIs};
-ghost use Rattle.fancy_machine.specs.Field.{context_in};
+ghost use Rattle.fancy_engine.specs.Context.{Context, past_item};
+ghost use Rattle.fancy_machine.specs.Attempt.{reading};
 ghost use Rattle.fancy_tree.specs.declared.tree.Meaning.{Meaning as MeaningIs};
 
 use fancy_engine::runner::past_raw_byte;
-use fancy_engine::slot::Extent;
 use fancy_input::characters::character_at;
+use fancy_input::span::Span;
 use fancy_tree::tree::Meaning;
 use unicode::case::simple_fold;
 
@@ -36,9 +34,9 @@ fn first_of(bytes: &[u8], count: usize) -> &[u8]
     }
 }
 
-/// The place behind a text that stands at a place, if it does.
+/// The place after a text that stands at a place, if it does.
 fn past_text(haystack: &[u8], text: &[u8], place: usize) -> Option<usize>
-    ensures { (meaning : MeaningIs) (field : FieldIs) → result ≡ past_text (context_in haystack.now meaning field) text.now place }
+    ensures { (meaning : MeaningIs) (x : Context) → result ≡ past_text (reading haystack.now meaning x) text.now place }
 {
     if bytes_from(haystack, place).starts_with(text) {
         return Some(place + text.len());
@@ -48,7 +46,7 @@ fn past_text(haystack: &[u8], text: &[u8], place: usize) -> Option<usize>
 
 /// The same where ASCII letters stand in either case.
 fn past_letters(haystack: &[u8], text: &[u8], place: usize) -> Option<usize>
-    ensures { (meaning : MeaningIs) (field : FieldIs) → result ≡ past_letters (context_in haystack.now meaning field) text.now place }
+    ensures { (meaning : MeaningIs) (x : Context) → result ≡ past_letters (reading haystack.now meaning x) text.now place }
 {
     let next = first_of(bytes_from(haystack, place), text.len());
     if next.eq_ignore_ascii_case(text) {
@@ -67,9 +65,9 @@ fn shares_folding(c: char, d: char) -> bool
     simple_fold(d) == simple_fold(c)
 }
 
-/// The place behind the character at a place, if it has the same simple folding as this one.
+/// The place after the character at a place, if it has the same simple folding as this one.
 fn past_sharing(haystack: &[u8], c: char, place: usize) -> Option<usize>
-    ensures { (field : FieldIs) → result ≡ past_item (context_in haystack.now Meaning.Unicode field) (shares_folding c) place }
+    ensures { (x : Context) → result ≡ past_item (reading haystack.now Meaning.Unicode x) (shares_folding c) place }
 {
     let found = character_at(haystack, place)?;
     if !shares_folding(c, found) {
@@ -78,10 +76,10 @@ fn past_sharing(haystack: &[u8], c: char, place: usize) -> Option<usize>
     Some(place + found.len_utf8())
 }
 
-/// The place behind what matches a text under flag `i` in Unicode meaning: a character is matched by one with
+/// The place after what matches a text under flag `i` in Unicode meaning: a character is matched by one with
 /// the same simple folding, and a byte that is in none by itself.
 fn past_characters(haystack: &[u8], text: &[u8], place: usize) -> Option<usize>
-    ensures { (field : FieldIs) → result ≡ past_characters (context_in haystack.now Meaning.Unicode field) (length text.now) text.now place }
+    ensures { (x : Context) → result ≡ past_characters (reading haystack.now Meaning.Unicode x) (length text.now) text.now place }
 {
     let mut at = place;
     let mut rest = text;
@@ -100,16 +98,16 @@ fn past_characters(haystack: &[u8], text: &[u8], place: usize) -> Option<usize>
     Some(at)
 }
 
-/// The place behind the text of a span that stands at a place once more, if it does; where it is folded, under
+/// The place after the text of a span that stands at a place once more, if it does; where it is folded, under
 /// flag `i`.
 pub fn past_span(
     haystack: &[u8],
     meaning: Meaning,
     folded: bool,
-    span: Option<Extent>,
+    span: Option<Span>,
     place: usize,
 ) -> Option<usize>
-    ensures { (field : FieldIs) → result ≡ past_span (context_in haystack.now meaning field) folded (option_map ends_of span) place }
+    ensures { (x : Context) → result ≡ past_span (reading haystack.now meaning x) folded span place }
 {
     let span = span?;
     let rest = bytes_from(haystack, span.start);

@@ -1,30 +1,29 @@
 //! The way that the machine follows, with the branches that it saved and the regions that are open.
 
-ghost use Rattle.std.specs.Prelude.{◌≡◌, ◌≢◌, ◌+◌, ◌-◌, ◌<◌, ◌≤◌, [], ◌∷◌, ◌++◌, ℕ, List, Err, Some, map, length, take, drop, replicate, OnOk, IfOk, vec_len, slice_index, slice_index_or, slice_set, if◌then◌else◌, ◌==◌, true, is_some, option_map};
+ghost use Rattle.std.specs.Prelude.{◌≡◌, ◌≢◌, ◌+◌, ◌-◌, ◌<◌, ◌≤◌, [], ◌∷◌, Err, Some, map, length, take, replicate, OnOk, vec_len, slice_index_or, if◌then◌else◌, ◌==◌, true, is_some};
 ghost use Rattle.fancy_engine.specs.Context.{group_span};
-ghost use Rattle.fancy_engine.specs.Run.{Raw, Stop, Note, fetched, Go};
-ghost use Rattle.fancy_engine.specs.Threads.{undone, empty, span_of, ends_of};
+ghost use Rattle.fancy_engine.specs.Threads.{empty_slot, slot_span};
 ghost use Rattle.fancy_engine.specs.Work.{returns_of};
 ghost use Rattle.fancy_engine.specs.declared.slot.Write.{Write};
-ghost use Rattle.fancy_engine.specs.declared.slot.Slot.{Slot as SlotIs};
 ghost use Rattle.fancy_machine.specs.declared.layer.Layer.{Layer as LayerIs};
 ghost use Rattle.fancy_machine.specs.Frames.{saved};
-ghost use Rattle.fancy_machine.specs.Held.{spot_of, outcome_of, frame_by, saves, is_one, branches_in, frames_of};
-ghost use Rattle.fancy_machine.specs.Machine.{at_instr, at_place, opened_at, closed_at, kept_at, within_at, finish, Stepped, Backed, Reaches, IsBranch, ends_kind};
+ghost use Rattle.fancy_machine.specs.Layers.{spot_of, outcome_of, frame_by, saves, is_one, branches_in, frames_of};
+ghost use Rattle.fancy_machine.specs.Machine.{at_instr, at_place, opened_at, closed_at, kept_at, within_at, Stops, TookBranch, ReachesInnermost, IsBranch, ends_kind};
 
 use crate::layer::{Kind, Layer};
-use fancy_engine::refusal::Refusal;
+use fancy_engine::refusal::SearchRefusal;
 use fancy_engine::runner::Next;
-use fancy_engine::slot::{EMPTY, Extent, Slot, Write};
-use fancy_engine::ways::undo;
+use fancy_engine::slot::{EMPTY, Slot, Write};
+use fancy_engine::threads::undo;
 use fancy_engine::work::Work;
+use fancy_input::span::Span;
 use std::alloc::{AllocError, Global};
 use std::marker::Model;
 use std::mem::swap;
 
 /// How many layers stand up to the innermost that is no saved branch, if there is one.
 fn innermost(layers: &[Layer]) -> usize
-    ensures reaches { Reaches result layers.now }
+    ensures reaches { ReachesInnermost result layers.now }
     ensures open { (d : LayerIs) → 0 < result → IsBranch (slice_index_or layers.now (result - 1) d).kind → ⊥ }
 {
     let mut top = layers.len();
@@ -73,7 +72,7 @@ fn is_saved(kind: Kind) -> bool
 
 /// What is known of a group.
 fn slot_at(slots: &[Slot], number: usize) -> Slot
-    ensures { result ≡ slice_index_or slots.now number empty }
+    ensures { result ≡ slice_index_or slots.now number empty_slot }
 {
     match slots.get(number) {
         Some(slot) => *slot,
@@ -83,7 +82,7 @@ fn slot_at(slots: &[Slot], number: usize) -> Slot
 
 /// Whether the group of a slot has taken part.
 fn has_span(slot: Slot) -> bool
-    ensures { result ≡ is_some (span_of slot) }
+    ensures { result ≡ is_some (slot_span slot) }
 {
     match slot.span {
         Some(_) => true,
@@ -127,7 +126,7 @@ pub struct Trail {
 impl Model for Trail {
     ghost use Rattle.std.specs.Prelude.{◌≡◌, ◌≤◌, length};
     ghost use Rattle.fancy_machine.specs.Frames.{Held};
-    ghost use Rattle.fancy_machine.specs.Held.{spot_of, frames_of, branches_in, Rises};
+    ghost use Rattle.fancy_machine.specs.Layers.{spot_of, frames_of, branches_in, Rises};
 
     ghost Value = { Held };
 
@@ -169,7 +168,7 @@ impl Trail {
         count: usize,
         most: usize,
     ) -> Result<(), AllocError>
-        ensures begun { OnOk result (self.new.now ≡ spot_of at limit place place (replicate count empty)) }
+        ensures begun { OnOk result (self.new.now ≡ spot_of at limit place place (replicate count empty_slot)) }
         ensures frames { self.new.frames ≡ [] }
         ensures most { self.new.most ≡ most }
     {
@@ -215,7 +214,7 @@ impl Trail {
 
     /// What is known of each group.
     pub(crate) fn slots(&self) -> &[Slot]
-        ensures { map span_of result.now ≡ self.now.now.state.captures }
+        ensures { map slot_span result.now ≡ self.now.now.state.captures }
     {
         &self.slots
     }
@@ -237,8 +236,8 @@ impl Trail {
     }
 
     /// Where the text of a group stands, if it has taken part.
-    pub fn span(&self, group: usize) -> Option<Extent>
-        ensures { option_map ends_of result ≡ group_span self.now.now.state group }
+    pub fn span(&self, group: usize) -> Option<Span>
+        ensures { result ≡ group_span self.now.now.state group }
     {
         slot_at(&self.slots, group).span
     }
@@ -302,16 +301,16 @@ impl Trail {
     }
 
     /// One more layer, which is a saved branch.
-    pub fn save(&mut self, kind: Kind, at: usize) -> Result<(), Refusal>
+    pub fn save(&mut self, kind: Kind, at: usize) -> Result<(), SearchRefusal>
         requires { saves kind ≡ 1 }
         ensures now { self.new.now ≡ self.old.now }
         ensures saved { OnOk result (self.new.frames ≡ frame_by kind (at_instr at self.old.now) ∷ self.old.frames) }
-        ensures refused { result ≢ Err Refusal.Returns }
-        ensures full { result ≡ Err Refusal.Choices → self.old.most ≤ saved self.old.frames }
+        ensures refused { result ≢ Err SearchRefusal.Returns }
+        ensures full { result ≡ Err SearchRefusal.Choices → self.old.most ≤ saved self.old.frames }
         ensures most { self.new.most ≡ self.old.most }
     {
         if self.branches >= self.most {
-            return Err(Refusal::Choices);
+            return Err(SearchRefusal::Choices);
         }
         let layer = Layer {
             kind,
@@ -321,13 +320,9 @@ impl Trail {
             limit: self.limit,
             log: self.log.len(),
         };
-        match self.layers.push(layer) {
-            Ok(()) => {
-                self.branches += 1;
-                Ok(())
-            }
-            Err(_) => Err(Refusal::Memory),
-        }
+        self.layers.push(layer)?;
+        self.branches += 1;
+        Ok(())
     }
 
     /// A group begins.
@@ -361,21 +356,20 @@ impl Trail {
         }
         let old = self.slots[group];
         self.log.push(Write { slot: group, old })?;
-        let extent = Extent {
+        let span = Span {
             start: old.from,
             end: self.place,
         };
         self.slots[group] = Slot {
             from: old.from,
-            span: Some(extent),
+            span: Some(span),
         };
         Ok(())
     }
 
     /// The way stops: the innermost region ends where it may, and what is round it goes on at `next`.
     pub fn stop(&mut self, next: usize) -> Next
-        ensures stopped { (go : ℕ → Go) (u : List Raw) → finish go self.old.frames (Some (Stop next self.old.now.state self.old.now.starts ∷ [])) ≡ Some u
-            → Stepped go result (Note fetched ∷ u) self.old.now self.old.frames self.new.now self.new.frames }
+        ensures stopped { Stops result next self.old self.new.now self.new.frames }
         ensures most { self.new.most ≡ self.old.most }
     {
         let top = innermost(&self.layers);
@@ -410,9 +404,9 @@ impl Trail {
     }
 
     /// Takes the branch that was saved last, which is one return, and goes back to what was written then.
-    pub fn back(&mut self, limit: usize, work: &mut Work) -> Result<bool, Refusal>
+    pub fn back(&mut self, limit: usize, work: &mut Work) -> Result<bool, SearchRefusal>
         requires { returns_of work.old ≤ limit }
-        ensures { Backed result limit self.old self.new work.old work.new }
+        ensures { TookBranch result limit self.old self.new work.old work.new }
     {
         'layers: loop {
             let Some(layer) = self.layers.pop() else {
@@ -423,7 +417,7 @@ impl Trail {
             }
             self.branches -= 1;
             if work.returns() >= limit {
-                return Err(Refusal::Returns);
+                return Err(SearchRefusal::Returns);
             }
             work.count_return();
             self.at = layer.at;

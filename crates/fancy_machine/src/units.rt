@@ -1,9 +1,8 @@
 //! Units before a place.
 
 ghost use Rattle.std.specs.Prelude.{◌≡◌, ◌<◌, ◌-◌, Option};
-ghost use Rattle.fancy_engine.specs.Context.{previous_in, units_back};
-ghost use Rattle.fancy_machine.specs.declared.machine.Field.{Field as FieldIs};
-ghost use Rattle.fancy_machine.specs.Field.{context_in};
+ghost use Rattle.fancy_engine.specs.Context.{Context, previous_in, units_back};
+ghost use Rattle.fancy_machine.specs.Attempt.{reading};
 
 use fancy_input::places::prev_boundary;
 use fancy_tree::tree::Meaning;
@@ -22,7 +21,7 @@ fn previous(haystack: &[u8], meaning: Meaning, place: usize) -> usize
 
 /// The place so many units before another; none where the text's start is passed.
 pub fn units_back(haystack: &[u8], meaning: Meaning, units: usize, place: usize) -> Option<usize>
-    ensures { (field : FieldIs) → result ≡ units_back (context_in haystack.now meaning field) units place }
+    ensures { (x : Context) → result ≡ units_back (reading haystack.now meaning x) units place }
 {
     let mut at = place;
     for done in 0..units {

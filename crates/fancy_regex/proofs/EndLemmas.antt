@@ -1,14 +1,14 @@
 -- Lemmas on the search at the end of a list of matches.
 use Rattle.std.proofs.Common.{arith, ℕ, zero, suc, ◌≡◌, Bool, true, false, not, ◌&&◌, nat_eq, max, Option, None, Some, MatchOption, option_map, if◌then◌else◌, refl}
-use Rattle.fancy_engine.specs.Search.{Found}
-use Rattle.fancy_core.specs.Matching.{Scan, Item, stop_of, is_empty, item_of, answer, unless_empty_at, start_unless_empty_at, behind, searched_behind, chain_end, end_from, last_start, Sound, FindsNone}
-use Rattle.fancy_core.proofs.MatchingLemmas.{LiesFrom, answer_lies, behind_follows, Within, within_behind}
+use Rattle.fancy_engine.specs.Search.{Answer}
+use Rattle.fancy_search.specs.MatchList.{Scan, Item, stop_of, is_empty_item, item_of, answer, unless_empty_at, start_unless_empty_at, next_after, search_start_after, chain_end, end_from, last_start, Sound, FindsNone}
+use Rattle.fancy_search.proofs.MatchListLemmas.{LiesFrom, answer_lies, next_after_follows, Within, within_after}
 
 -- where that is none, the search from s finds none
 abbrev NoneAt : Scan → ℕ → Option Item → Type 0
 NoneAt k s o = MatchOption o (FindsNone k s) (λ i. Unit)
 
-found_at : (k : Scan) (s : ℕ) (c : Bool) (o : Option Found) → k.find s c ≡ o → NoneAt k s (option_map (item_of (max s k.floor) c) o)
+found_at : (k : Scan) (s : ℕ) (c : Bool) (o : Option Answer) → k.find s c ≡ o → NoneAt k s (option_map (item_of (max s k.floor) c) o)
 found_at k s c None e = record { continues = c; none = e }
 found_at k s c (Some x) e = tt
 
@@ -22,20 +22,20 @@ passed_at k e i false = tt
 
 unless_at : (k : Scan) (e : ℕ) (o : Option Item) → NoneAt k e o → NoneAt k (start_unless_empty_at k e o) (unless_empty_at k e o)
 unless_at k e None h = h
-unless_at k e (Some i) h = passed_at k e i (is_empty i && nat_eq (stop_of i) e)
+unless_at k e (Some i) h = passed_at k e i (is_empty_item i && nat_eq (stop_of i) e)
 
-behind_if : (k : Scan) (e : ℕ) (c b : Bool) → NoneAt k (if b then k.advance e else start_unless_empty_at k e (answer k e true)) (if b then answer k (k.advance e) c else unless_empty_at k e (answer k e true))
-behind_if k e c true = answer_at k (k.advance e) c
-behind_if k e c false = unless_at k e (answer k e true) (answer_at k e true)
+after_if : (k : Scan) (e : ℕ) (c b : Bool) → NoneAt k (if b then k.advance e else start_unless_empty_at k e (answer k e true)) (if b then answer k (k.advance e) c else unless_empty_at k e (answer k e true))
+after_if k e c true = answer_at k (k.advance e) c
+after_if k e c false = unless_at k e (answer k e true) (answer_at k e true)
 
-behind_at : (k : Scan) (i : Item) → NoneAt k (searched_behind k i) (behind k i)
-unfolding behind searched_behind
-behind_at k i = behind_if k (stop_of i) (not (nat_eq i.from (stop_of i))) (is_empty i)
+after_at : (k : Scan) (i : Item) → NoneAt k (search_start_after k i) (next_after k i)
+unfolding next_after search_start_after
+after_at k i = after_if k (stop_of i) (not (nat_eq i.from (stop_of i))) (is_empty_item i)
 
 chain_end_finds_none : (n : ℕ) (k : Scan) (s : ℕ) (o : Option Item) → Sound k → Within n k o → NoneAt k s o → FindsNone k (chain_end n k s o)
 chain_end_finds_none n k s None h w e = e
 chain_end_finds_none zero k s (Some i) h w e = absurd (omega (arith, w.0.after, w.0.ordered, w.0.inside, w.1))
-chain_end_finds_none (suc n) k s (Some i) h w e = chain_end_finds_none n k (searched_behind k i) (behind k i) h (within_behind n k i _ w.1 (behind_follows k i h w.0)) (behind_at k i)
+chain_end_finds_none (suc n) k s (Some i) h w e = chain_end_finds_none n k (search_start_after k i) (next_after k i) h (within_after n k i _ w.1 (next_after_follows k i h w.0)) (after_at k i)
 
 first_within : (k : Scan) (s : ℕ) (o : Option Item) → LiesFrom k s o → Within (suc k.last) k o
 first_within k s None l = tt

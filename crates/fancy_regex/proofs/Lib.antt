@@ -1,4 +1,4 @@
 pub mod EscapeLemmas
-pub mod LiteralLemmas
-pub mod ExampleLemmas
+pub mod EscapedLiteralLemmas
+pub mod ListExampleLemmas
 pub mod EndLemmas

@@ -1,6 +1,7 @@
 -- What a builder has been set to.
-use Rattle.std.specs.Prelude.{ℕ, List, string_bytes}
-use Rattle.fancy_core.specs.declared.options.Options.{Options}
+use Rattle.std.specs.Prelude.{ℕ, Bool, List, string_bytes}
+use Rattle.fancy_syntax.specs.declared.flags.Flags.{Flags}
+use Rattle.fancy_search.specs.declared.options.Options.{Options}
 use Rattle.fancy_regex.specs.declared.options.RegexOptionsBuilder.{RegexOptionsBuilder}
 use Rattle.fancy_regex.specs.declared.builder.RegexBuilder.{RegexBuilder}
 
@@ -15,3 +16,15 @@ options_set b = options_of b.options
 -- the bytes of that pattern's text
 abbrev pub pattern_set : RegexBuilder → List ℕ
 pattern_set b = string_bytes b.pattern
+
+-- the options with other flags
+abbrev pub with_flags : Options → (Flags → Flags) → Options
+with_flags o change = record o { flags = change o.flags }
+
+-- the options where groups without a name capture nothing beside named ones, or do
+abbrev pub with_only_named : Options → Bool → Options
+with_only_named o on = record o { ignore_numbered_groups_when_named_groups_exist = on }
+
+-- the options where an input may suppress the text's start and its end, or may not
+abbrev pub with_overrides : Options → Bool → Options
+with_overrides o on = record o { allow_input_assertion_overrides = on }

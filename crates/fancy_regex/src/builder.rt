@@ -1,9 +1,9 @@
 //! A pattern and its options, set one after another.
 
 ghost use Rattle.std.specs.Prelude.{◌≡◌, IfOk, IfErr, Some, string_bytes};
-ghost use Rattle.fancy_regex.specs.Builders.{options_set, pattern_set};
+ghost use Rattle.fancy_regex.specs.Builders.{options_set, pattern_set, with_flags, with_only_named, with_overrides};
 ghost use Rattle.fancy_core.specs.Built.{IsReading};
-ghost use Rattle.fancy_core.specs.Options.{by_default};
+ghost use Rattle.fancy_search.specs.Options.{by_default};
 
 use crate::options::RegexOptionsBuilder;
 use fancy_core::regex::Regex;
@@ -72,7 +72,8 @@ impl RegexBuilder {
     pub fn case_insensitive(&mut self, yes: bool) -> &mut Self
         ensures same { result.ghost_name ≡ self.entry.ghost_name }
         ensures pattern { pattern_set result.now ≡ pattern_set self.old }
-        ensures value { options_set result.now ≡ record (options_set self.old) { flags = record (options_set self.old).flags { ignore_case = yes } } }
+        ensures value { options_set result.now
+            ≡ with_flags (options_set self.old) (λ f. record f { ignore_case = yes }) }
     {
         self.options.case_insensitive(yes);
         self
@@ -82,7 +83,8 @@ impl RegexBuilder {
     pub fn multi_line(&mut self, yes: bool) -> &mut Self
         ensures same { result.ghost_name ≡ self.entry.ghost_name }
         ensures pattern { pattern_set result.now ≡ pattern_set self.old }
-        ensures value { options_set result.now ≡ record (options_set self.old) { flags = record (options_set self.old).flags { multi_line = yes } } }
+        ensures value { options_set result.now
+            ≡ with_flags (options_set self.old) (λ f. record f { multi_line = yes }) }
     {
         self.options.multi_line(yes);
         self
@@ -92,7 +94,7 @@ impl RegexBuilder {
     pub fn dot_matches_new_line(&mut self, yes: bool) -> &mut Self
         ensures same { result.ghost_name ≡ self.entry.ghost_name }
         ensures pattern { pattern_set result.now ≡ pattern_set self.old }
-        ensures value { options_set result.now ≡ record (options_set self.old) { flags = record (options_set self.old).flags { dot_all = yes } } }
+        ensures value { options_set result.now ≡ with_flags (options_set self.old) (λ f. record f { dot_all = yes }) }
     {
         self.options.dot_matches_new_line(yes);
         self
@@ -102,7 +104,8 @@ impl RegexBuilder {
     pub fn ignore_whitespace(&mut self, yes: bool) -> &mut Self
         ensures same { result.ghost_name ≡ self.entry.ghost_name }
         ensures pattern { pattern_set result.now ≡ pattern_set self.old }
-        ensures value { options_set result.now ≡ record (options_set self.old) { flags = record (options_set self.old).flags { ignore_blanks = yes } } }
+        ensures value { options_set result.now
+            ≡ with_flags (options_set self.old) (λ f. record f { ignore_blanks = yes }) }
     {
         self.options.ignore_whitespace(yes);
         self
@@ -112,7 +115,8 @@ impl RegexBuilder {
     pub fn verbose_mode(&mut self, yes: bool) -> &mut Self
         ensures same { result.ghost_name ≡ self.entry.ghost_name }
         ensures pattern { pattern_set result.now ≡ pattern_set self.old }
-        ensures value { options_set result.now ≡ record (options_set self.old) { flags = record (options_set self.old).flags { ignore_blanks = yes } } }
+        ensures value { options_set result.now
+            ≡ with_flags (options_set self.old) (λ f. record f { ignore_blanks = yes }) }
     {
         self.ignore_whitespace(yes)
     }
@@ -121,7 +125,7 @@ impl RegexBuilder {
     pub fn crlf(&mut self, yes: bool) -> &mut Self
         ensures same { result.ghost_name ≡ self.entry.ghost_name }
         ensures pattern { pattern_set result.now ≡ pattern_set self.old }
-        ensures value { options_set result.now ≡ record (options_set self.old) { flags = record (options_set self.old).flags { crlf = yes } } }
+        ensures value { options_set result.now ≡ with_flags (options_set self.old) (λ f. record f { crlf = yes }) }
     {
         self.options.crlf(yes);
         self
@@ -131,7 +135,7 @@ impl RegexBuilder {
     pub fn ignore_numbered_groups_when_named_groups_exist(&mut self, yes: bool) -> &mut Self
         ensures same { result.ghost_name ≡ self.entry.ghost_name }
         ensures pattern { pattern_set result.now ≡ pattern_set self.old }
-        ensures value { options_set result.now ≡ record (options_set self.old) { ignore_numbered_groups_when_named_groups_exist = yes } }
+        ensures value { options_set result.now ≡ with_only_named (options_set self.old) yes }
     {
         self.options
             .ignore_numbered_groups_when_named_groups_exist(yes);
@@ -142,7 +146,7 @@ impl RegexBuilder {
     pub fn allow_input_assertion_overrides(&mut self, yes: bool) -> &mut Self
         ensures same { result.ghost_name ≡ self.entry.ghost_name }
         ensures pattern { pattern_set result.now ≡ pattern_set self.old }
-        ensures value { options_set result.now ≡ record (options_set self.old) { allow_input_assertion_overrides = yes } }
+        ensures value { options_set result.now ≡ with_overrides (options_set self.old) yes }
     {
         self.options.allow_input_assertion_overrides(yes);
         self

@@ -2,11 +2,11 @@
 
 ghost use Rattle.std.specs.Prelude.{◌≡◌, Some, string_bytes};
 ghost use Rattle.fancy_core.specs.Built.{IsReading};
-ghost use Rattle.fancy_core.specs.Options.{by_default};
-ghost use Rattle.fancy_regex.specs.Builders.{options_of};
+ghost use Rattle.fancy_search.specs.Options.{by_default};
+ghost use Rattle.fancy_regex.specs.Builders.{options_of, with_flags, with_only_named, with_overrides};
 
-use fancy_core::options::Options;
 use fancy_core::regex::Regex;
+use fancy_search::options::Options;
 use fancy_tree::error::Result;
 use fancy_tree::tree::BytesMode;
 
@@ -56,7 +56,7 @@ impl RegexOptionsBuilder {
     /// folding. Off by default.
     pub fn case_insensitive(&mut self, yes: bool) -> &mut Self
         ensures same { result.ghost_name ≡ self.entry.ghost_name }
-        ensures value { options_of result.now ≡ record (options_of self.old) { flags = record (options_of self.old).flags { ignore_case = yes } } }
+        ensures value { options_of result.now ≡ with_flags (options_of self.old) (λ f. record f { ignore_case = yes }) }
     {
         self.options.flags.ignore_case = yes;
         self
@@ -65,7 +65,7 @@ impl RegexOptionsBuilder {
     /// Whether flag `m` holds at the pattern's start: `^` and `$` hold at lines. Off by default.
     pub fn multi_line(&mut self, yes: bool) -> &mut Self
         ensures same { result.ghost_name ≡ self.entry.ghost_name }
-        ensures value { options_of result.now ≡ record (options_of self.old) { flags = record (options_of self.old).flags { multi_line = yes } } }
+        ensures value { options_of result.now ≡ with_flags (options_of self.old) (λ f. record f { multi_line = yes }) }
     {
         self.options.flags.multi_line = yes;
         self
@@ -74,16 +74,17 @@ impl RegexOptionsBuilder {
     /// Whether flag `s` holds at the pattern's start: `.` takes line feeds too. Off by default.
     pub fn dot_matches_new_line(&mut self, yes: bool) -> &mut Self
         ensures same { result.ghost_name ≡ self.entry.ghost_name }
-        ensures value { options_of result.now ≡ record (options_of self.old) { flags = record (options_of self.old).flags { dot_all = yes } } }
+        ensures value { options_of result.now ≡ with_flags (options_of self.old) (λ f. record f { dot_all = yes }) }
     {
         self.options.flags.dot_all = yes;
         self
     }
 
-    /// Whether flag `x` holds at the pattern's start: blanks, and lines behind `#`, are skipped. Off by default.
+    /// Whether flag `x` holds at the pattern's start: blanks, and lines after `#`, are skipped. Off by default.
     pub fn ignore_whitespace(&mut self, yes: bool) -> &mut Self
         ensures same { result.ghost_name ≡ self.entry.ghost_name }
-        ensures value { options_of result.now ≡ record (options_of self.old) { flags = record (options_of self.old).flags { ignore_blanks = yes } } }
+        ensures value { options_of result.now
+            ≡ with_flags (options_of self.old) (λ f. record f { ignore_blanks = yes }) }
     {
         self.options.flags.ignore_blanks = yes;
         self
@@ -92,7 +93,8 @@ impl RegexOptionsBuilder {
     /// The same option as [`RegexOptionsBuilder::ignore_whitespace`], by another name.
     pub fn verbose_mode(&mut self, yes: bool) -> &mut Self
         ensures same { result.ghost_name ≡ self.entry.ghost_name }
-        ensures value { options_of result.now ≡ record (options_of self.old) { flags = record (options_of self.old).flags { ignore_blanks = yes } } }
+        ensures value { options_of result.now
+            ≡ with_flags (options_of self.old) (λ f. record f { ignore_blanks = yes }) }
     {
         self.ignore_whitespace(yes)
     }
@@ -100,7 +102,7 @@ impl RegexOptionsBuilder {
     /// Whether flag `R` holds at the pattern's start: a carriage return ends a line too. Off by default.
     pub fn crlf(&mut self, yes: bool) -> &mut Self
         ensures same { result.ghost_name ≡ self.entry.ghost_name }
-        ensures value { options_of result.now ≡ record (options_of self.old) { flags = record (options_of self.old).flags { crlf = yes } } }
+        ensures value { options_of result.now ≡ with_flags (options_of self.old) (λ f. record f { crlf = yes }) }
     {
         self.options.flags.crlf = yes;
         self
@@ -119,7 +121,7 @@ impl RegexOptionsBuilder {
     /// ```
     pub fn ignore_numbered_groups_when_named_groups_exist(&mut self, yes: bool) -> &mut Self
         ensures same { result.ghost_name ≡ self.entry.ghost_name }
-        ensures value { options_of result.now ≡ record (options_of self.old) { ignore_numbered_groups_when_named_groups_exist = yes } }
+        ensures value { options_of result.now ≡ with_only_named (options_of self.old) yes }
     {
         self.options.ignore_numbered_groups_when_named_groups_exist = yes;
         self
@@ -140,7 +142,7 @@ impl RegexOptionsBuilder {
     /// ```
     pub fn allow_input_assertion_overrides(&mut self, yes: bool) -> &mut Self
         ensures same { result.ghost_name ≡ self.entry.ghost_name }
-        ensures value { options_of result.now ≡ record (options_of self.old) { allow_input_assertion_overrides = yes } }
+        ensures value { options_of result.now ≡ with_overrides (options_of self.old) yes }
     {
         self.options.allow_input_assertion_overrides = yes;
         self
@@ -186,7 +188,7 @@ impl RegexOptionsBuilder {
 
     /// Whether empty matches are refused: those whose start is their end. Off by default.
     ///
-    /// A search goes on past them, at the same position and behind it. A pattern that always consumes 0 units can then never
+    /// A search goes on past them, at the same position and after it. A pattern that always consumes 0 units can then never
     /// match, and is refused as `CompileError(PatternCanNeverMatch)`, as the empty pattern or `(?=a)`. Under this option no
     /// pattern is easy ([`Regex::is_easy`]).
     ///

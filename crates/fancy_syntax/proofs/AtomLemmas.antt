@@ -13,11 +13,11 @@ use Rattle.fancy_class.specs.Words.{is_at, by_word}
 use Rattle.fancy_syntax.specs.Counts.{begins_count}
 use Rattle.fancy_tree.specs.Members.{Members}
 use Rattle.fancy_tree.specs.Sets.{AreEdges}
-use Rattle.fancy_class.specs.Escapes.{control_of, number, takes_number, digits_behind, set_letter}
-use Rattle.fancy_class.specs.ClassGrammar.{is_ascii_meaning, may_turn, property}
-use Rattle.fancy_syntax.specs.Dialect.{Scope, Lexeme, leaf, one_of, any_case_of, IsMeant, by_itself, by_edges, by_folding, lexeme, ReadsAtom, by_lexeme, by_class, literal_of, spelled_character, spelled_number, spelled_set, lettered_set, is_one_item, numbered, boundary_words, boundary, property_here, followed_by, any_item, any_code, lettered, place_test, start_mark, anchor_of, lone, escape, escape_in, is_escapable, is_special}
+use Rattle.fancy_class.specs.EscapeGrammar.{control_of, escape_number, takes_number, digits_after, set_letter}
+use Rattle.fancy_class.specs.ClassGrammar.{is_ascii_meaning, may_negate, property}
+use Rattle.fancy_syntax.specs.Dialect.{Scope, Lexeme, leaf, one_of, any_case_of, IsMeant, by_itself, by_edges, by_folding, lexeme, ReadsAtom, by_lexeme, by_class, literal_of, spelled_character, spelled_number, spelled_set, set_lexeme, is_one_item, number_lexeme, boundary_words, boundary, property_here, followed_by, any_item, any_code, letter_lexeme, place_test, start_mark, anchor_of, unescaped_lexeme, escape, escape_in, is_escapable, must_be_escaped}
 use Rattle.fancy_tree.proofs.Facts.{true_is_false, some_is_none, some_pair, not_false, chosen, same_some, char_is}
-use Rattle.fancy_class.proofs.EndsLemmas.{Ends, ends_here, ends_drop, ends_at, behind_one, ends_number, ends_by_word, ends_property}
+use Rattle.fancy_class.proofs.EndsLemmas.{Ends, ends_here, ends_drop, ends_at, after_one, ends_number, ends_by_word, ends_property}
 
 -- ---- lexemes, and what they can be
 pub data Kind (s : Scope) : Lexeme → Type 0 where
@@ -60,18 +60,18 @@ both_hold : (a b : Bool) → (a && b) ≡ true → b ≡ true
 both_hold true b h = h
 both_hold false b h = cc
 
-lettered_kind : (s : Scope) (d : ℕ) (y : Lexeme) → lettered s d ≡ Some y → Kind s y
+lettered_kind : (s : Scope) (d : ℕ) (y : Lexeme) → letter_lexeme s d ≡ Some y → Kind s y
 lettered_kind s d y h = by_control (control_of d) h
   where
-    by_set : (o : Option (Named × Bool)) → option_and_then (lettered_set s) o ≡ Some y → Kind s y
+    by_set : (o : Option (Named × Bool)) → option_and_then (set_lexeme s) o ≡ Some y → Kind s y
     by_set None e = absurd (some_is_none (sym e))
     by_set (Some n) e =
-        elim (chosen (may_turn s.meaning n.1) _ _ _ e) [
+        elim (chosen (may_negate s.meaning n.1) _ _ _ e) [
           | inl z ↦ subst (Kind s) (same_some z.1) (a_set _)
           | inr z ↦ absurd (some_is_none (sym z.1))
         ]
 
-    by_mark : (o : Option Pattern) → start_mark s.in_look_around d ≡ o → option_or (option_map leaf o) (option_and_then (lettered_set s) (set_letter d)) ≡ Some y → Kind s y
+    by_mark : (o : Option Pattern) → start_mark s.in_look_around d ≡ o → option_or (option_map leaf o) (option_and_then (set_lexeme s) (set_letter d)) ≡ Some y → Kind s y
     by_mark None is e = by_set (set_letter d) e
     by_mark (Some p) is e =
         subst (Kind s) (same_some e)
@@ -83,29 +83,29 @@ lettered_kind s d y h = by_control (control_of d) h
           ]
         ])
 
-    by_test : (o : Option Assertion) → option_or (option_map (λ (a : Assertion). leaf (assertion a)) o) (option_or (option_map leaf (start_mark s.in_look_around d)) (option_and_then (lettered_set s) (set_letter d))) ≡ Some y → Kind s y
+    by_test : (o : Option Assertion) → option_or (option_map (λ (a : Assertion). leaf (assertion a)) o) (option_or (option_map leaf (start_mark s.in_look_around d)) (option_and_then (set_lexeme s) (set_letter d))) ≡ Some y → Kind s y
     by_test None e = by_mark (start_mark s.in_look_around d) refl e
     by_test (Some a) e = subst (Kind s) (same_some e) (a_test a)
 
-    by_control : (o : Option ℕ) → option_or (option_map (spelled_character s) o) (option_or (option_map (λ (a : Assertion). leaf (assertion a)) (place_test s.flags d)) (option_or (option_map leaf (start_mark s.in_look_around d)) (option_and_then (lettered_set s) (set_letter d)))) ≡ Some y → Kind s y
+    by_control : (o : Option ℕ) → option_or (option_map (spelled_character s) o) (option_or (option_map (λ (a : Assertion). leaf (assertion a)) (place_test s.flags d)) (option_or (option_map leaf (start_mark s.in_look_around d)) (option_and_then (set_lexeme s) (set_letter d)))) ≡ Some y → Kind s y
     by_control None e = by_test (place_test s.flags d) e
     by_control (Some c) e = subst (Kind s) (same_some e) (a_character c)
 
-lone_kind : (s : Scope) (c : ℕ) (t : Text) (y : Lexeme) → lone s c t ≡ Some y → Kind s y
+lone_kind : (s : Scope) (c : ℕ) (t : Text) (y : Lexeme) → unescaped_lexeme s c t ≡ Some y → Kind s y
 lone_kind s c t y h = by_anchor (anchor_of s.flags c) h
   where
-    by_anchor : (o : Option Assertion) → option_or (option_map (λ (a : Assertion). leaf (assertion a)) o) (if is_special c || begins_count (c ∷ t) then None else Some (spelled_character s c)) ≡ Some y → Kind s y
+    by_anchor : (o : Option Assertion) → option_or (option_map (λ (a : Assertion). leaf (assertion a)) o) (if must_be_escaped c || begins_count (c ∷ t) then None else Some (spelled_character s c)) ≡ Some y → Kind s y
     by_anchor (Some a) e = subst (Kind s) (same_some e) (a_test a)
     by_anchor None e =
-        elim (chosen (is_special c || begins_count (c ∷ t)) _ _ _ e) [
+        elim (chosen (must_be_escaped c || begins_count (c ∷ t)) _ _ _ e) [
           | inl z ↦ absurd (some_is_none (sym z.1))
           | inr z ↦ subst (Kind s) (same_some z.1) (a_character c)
         ]
 
-lexed_number : (s : Scope) (count : ℕ) (t : Text) {x : Lexeme} {u : Text} → numbered s count t ≡ Some (x, u) → Lexed s t x u
-lexed_number s count t {x} {u} h = go (number count t) refl h
+lexed_number : (s : Scope) (count : ℕ) (t : Text) {x : Lexeme} {u : Text} → number_lexeme s count t ≡ Some (x, u) → Lexed s t x u
+lexed_number s count t {x} {u} h = go (escape_number count t) refl h
   where
-    go : (o : Option ((ℕ × Bool) × Text)) → number count t ≡ o → option_map {U = Lexeme × Text} (λ (r : (ℕ × Bool) × Text). (spelled_number s r.0, r.1)) o ≡ Some (x, u) → Lexed s t x u
+    go : (o : Option ((ℕ × Bool) × Text)) → escape_number count t ≡ o → option_map {U = Lexeme × Text} (λ (r : (ℕ × Bool) × Text). (spelled_number s r.0, r.1)) o ≡ Some (x, u) → Lexed s t x u
     go None e k = absurd (some_is_none (sym k))
     go (Some (n, v)) e k = lexed_as k (ends_number count t e) (number_kind s n)
 
@@ -130,14 +130,14 @@ lexed_escape s d t {x} {u} h =
       | inr y ↦ elim (chosen (98 == d) _ _ _ y.1) [
         | inl y ↦ lexed_as y.1 (two (ends_boundary t)) (a_test (boundary t).0)
         | inr y ↦ elim (chosen (takes_number d) _ _ _ y.1) [
-          | inl y ↦ behind_two (lexed_number s (digits_behind d) t y.1)
+          | inl y ↦ after_two (lexed_number s (digits_after d) t y.1)
           | inr y ↦ elim (chosen (79 == d) _ _ _ y.1) [
             | inl y ↦ lexed_followed (any_item s true) y.1 (two (ends_here t)) (any_kind s true)
             | inr y ↦ elim (chosen (78 == d) _ _ _ y.1) [
               | inl y ↦ lexed_followed (any_item s false) y.1 (two (ends_here t)) (any_kind s false)
               | inr y ↦ elim (chosen ((112 == d) || (80 == d)) _ _ _ y.1) [
                 | inl y ↦ lexed_property s (92 ∷ d ∷ t) y.1
-                | inr y ↦ lexed_followed (lettered s d) y.1 (two (ends_here t)) (lettered_kind s d)
+                | inr y ↦ lexed_followed (letter_lexeme s d) y.1 (two (ends_here t)) (lettered_kind s d)
               ]
             ]
           ]
@@ -146,10 +146,10 @@ lexed_escape s d t {x} {u} h =
     ]
   where
     two : {v : Text} → Ends t v → Ends (92 ∷ d ∷ t) v
-    two e = behind_one (behind_one e)
+    two e = after_one (after_one e)
 
-    behind_two : Lexed s t x u → Lexed s (92 ∷ d ∷ t) x u
-    behind_two l = record { ends = two l.ends; kind = l.kind }
+    after_two : Lexed s t x u → Lexed s (92 ∷ d ∷ t) x u
+    after_two l = record { ends = two l.ends; kind = l.kind }
 
 pub lexed : (s : Scope) (t : Text) {x : Lexeme} {u : Text} → lexeme s t ≡ Some (x, u) → Lexed s t x u
 lexed s [] h = absurd (some_is_none (sym h))
@@ -158,7 +158,7 @@ lexed s (c ∷ t) {x} {u} h =
       | inl y ↦ subst (λ d. Lexed s (d ∷ t) x u) (sym (char_is 92 c y.0)) (escaped_at t y.1)
       | inr y ↦ elim (chosen (46 == c) _ _ _ y.1) [
         | inl z ↦ lexed_followed (any_item s s.flags.dot_all) z.1 (ends_drop 1 (c ∷ t)) (any_kind s s.flags.dot_all)
-        | inr z ↦ lexed_followed (lone s c t) z.1 (ends_drop 1 (c ∷ t)) (lone_kind s c t)
+        | inr z ↦ lexed_followed (unescaped_lexeme s c t) z.1 (ends_drop 1 (c ∷ t)) (lone_kind s c t)
       ]
     ]
   where

@@ -223,7 +223,7 @@ unquantified_is_spelled x after h t u is row = go (begins_quantifier u) refl
     go true e = (let left : past_blanks x after ≡ u = ap (past_blanks x) is ∙ read_blanks row (quantifier_is_no_blank x u e) in absurd (true_is_false (sym e ∙ (ap begins_quantifier (sym left) ∙ h))))
     go false e = refl
 
--- behind all blanks stands none
+-- after all blanks stands none
 none_in : (n : ℕ) (x : Bool) (t : Text) → length t < n → past_blank x (past_blanks_in n x t) ≡ None
 unfolding past_blanks_in
 none_in zero x t h = absurd (omega (arith, h))

@@ -7,8 +7,8 @@ use Rattle.fancy_tree.specs.Limits.{most_turns}
 use Rattle.fancy_tree.specs.Text.{Text}
 use Rattle.fancy_class.specs.Words.{is_at}
 use Rattle.fancy_syntax.specs.Counts.{is_at_digit, past_digits, decimal_from, decimal, are_digits, is_count, begins_count}
-use Rattle.fancy_syntax.specs.Dialect.{IsBound, Turns, exactly, at_least, between, at_most}
-use Rattle.fancy_syntax.specs.Grammar.{Bounds, bounds_in, past_count, are_bounds}
+use Rattle.fancy_syntax.specs.Dialect.{IsBound, Quantifier, exactly, at_least, between, at_most}
+use Rattle.fancy_syntax.specs.Grammar.{RepeatBounds, bounds_in, past_count, are_bounds}
 use Rattle.fancy_tree.proofs.Facts.{both_true, left_of}
 use Rattle.fancy_class.proofs.WordLemmas.{first_is}
 
@@ -97,12 +97,12 @@ le_true n m h = grind (arith, nat_tests)
 true_le : (n m : ℕ) → nat_le n m ≡ true → n ≤ m
 true_le n m h = grind (arith, nat_tests)
 
--- a count that is spelled, as it is read behind its brace
-pub record IsRead (t after : Text) (b : Bounds) : Type 0 where
+-- a count that is spelled, as it is read after its brace
+pub record IsRead (t after : Text) (b : RepeatBounds) : Type 0 where
   pub begins : begins_count (123 ∷ t) ≡ true
   pub bounds : bounds_in t ≡ b
   pub fits : are_bounds b ≡ true
-  pub behind : past_count t ≡ after
+  pub follows : past_count t ≡ after
 
 pub exactly_is_read : (n after : Text) → IsBound n → IsRead (n ++ (codes "}" ++ after)) after (decimal n, Some (decimal n))
 exactly_is_read n after h =
@@ -113,7 +113,7 @@ exactly_is_read n after h =
       begins = rw (some, past) refl;
       bounds = rw (past, value) refl;
       fits = rw (le_true (decimal n) (decimal n) (omega arith), le_true (decimal n) most_turns h.small) refl;
-      behind = rw past refl;
+      follows = rw past refl;
     }
 
 pub at_least_is_read : (n after : Text) → IsBound n → IsRead (n ++ (codes ",}" ++ after)) after (decimal n, None)
@@ -125,7 +125,7 @@ at_least_is_read n after h =
       begins = rw (some, past) refl;
       bounds = rw (past, value) refl;
       fits = le_true (decimal n) most_turns h.small;
-      behind = rw past refl;
+      follows = rw past refl;
     }
 
 pub between_is_read : (n m after : Text) → IsBound n → IsBound m → decimal n ≤ decimal m → IsRead (n ++ (codes "," ++ (m ++ (codes "}" ++ after)))) after (decimal n, Some (decimal m))
@@ -140,7 +140,7 @@ between_is_read n m after h f le =
       begins = rw (some, past, past_upper) refl;
       bounds = rw (past, some_upper, value, upper) refl;
       fits = rw (le_true (decimal n) (decimal m) le, le_true (decimal m) most_turns f.small) refl;
-      behind = rw (past, past_upper) refl;
+      follows = rw (past, past_upper) refl;
     }
 
 pub at_most_is_read : (m after : Text) → IsBound m → IsRead (codes "," ++ (m ++ (codes "}" ++ after))) after (0, Some (decimal m))
@@ -152,14 +152,14 @@ at_most_is_read m after f =
       begins = rw (past_upper, some_upper) refl;
       bounds = rw (some_upper, upper, decimal_stop (m ++ 125 ∷ after) 0 44 refl) refl;
       fits = rw (le_true 0 (decimal m) (omega arith), le_true (decimal m) most_turns f.small) refl;
-      behind = rw past_upper refl;
+      follows = rw past_upper refl;
     }
 
--- a count that is read behind its brace, as it is spelled
-pub record IsSpelled (t : Text) (b : Bounds) (after : Text) : Type 0 where
+-- a count that is read after its brace, as it is spelled
+pub record IsSpelled (t : Text) (b : RepeatBounds) (after : Text) : Type 0 where
   pub mark : Text
   pub text : t ≡ mark ++ after
-  pub states : Turns (123 ∷ mark) b.0 b.1
+  pub states : Quantifier (123 ∷ mark) b.0 b.1
 
 bound_of : (t : Text) (r : Row t) → is_at_digit t ≡ true → decimal t ≤ most_turns → IsBound r.row
 bound_of t r h small = record { some = sym r.begins ∙ h; digits = r.digits; small = subst (λ n. n ≤ most_turns) (r.number 0) small }
@@ -193,7 +193,7 @@ closed_count t h e f =
     record {
       mark = r.row ++ codes "}";
       text = r.is ∙ (ap (λ l. r.row ++ l) is ∙ sym (append_assoc r.row (125 ∷ []) (drop 1 u)));
-      states = subst (λ n. Turns (123 ∷ (r.row ++ 125 ∷ [])) n (Some n)) (sym (r.number 0)) (exactly r.row (bound_of t r some small));
+      states = subst (λ n. Quantifier (123 ∷ (r.row ++ 125 ∷ [])) n (Some n)) (sym (r.number 0)) (exactly r.row (bound_of t r some small));
     }
 
 open_count : (t : Text) → is_count t ≡ true → is_at "}" (past_digits t) ≡ false → is_at_digit (drop 1 (past_digits t)) ≡ false → are_bounds (decimal t, None) ≡ true
@@ -209,12 +209,12 @@ open_count t h e ended f =
     let ends : w ≡ 125 ∷ drop 1 w = first_is 125 w facts.1.0 in
     let some : is_at_digit t ≡ true = left_of (is_at_digit t) (is_at_digit v) facts.1.1 ended in
     let none : q.row ≡ [] = no_row q.row q.digits (sym q.begins ∙ ended) in
-    let behind : v ≡ w = q.is ∙ ap (λ l. l ++ w) none in
+    let follows : v ≡ w = q.is ∙ ap (λ l. l ++ w) none in
     let small : decimal t ≤ most_turns = true_le (decimal t) most_turns f in
     record {
       mark = r.row ++ codes ",}";
-      text = r.is ∙ (ap (λ l. r.row ++ l) (is ∙ ap (λ l. 44 ∷ l) (behind ∙ ends)) ∙ sym (append_assoc r.row (44 ∷ 125 ∷ []) (drop 1 w)));
-      states = subst (λ n. Turns (123 ∷ (r.row ++ 44 ∷ 125 ∷ [])) n None) (sym (r.number 0)) (at_least r.row (bound_of t r some small));
+      text = r.is ∙ (ap (λ l. r.row ++ l) (is ∙ ap (λ l. 44 ∷ l) (follows ∙ ends)) ∙ sym (append_assoc r.row (44 ∷ 125 ∷ []) (drop 1 w)));
+      states = subst (λ n. Quantifier (123 ∷ (r.row ++ 44 ∷ 125 ∷ [])) n None) (sym (r.number 0)) (at_least r.row (bound_of t r some small));
     }
 
 two_counts : (t : Text) → is_count t ≡ true → is_at "}" (past_digits t) ≡ false → is_at_digit (drop 1 (past_digits t)) ≡ true → are_bounds (decimal t, Some (decimal (drop 1 (past_digits t)))) ≡ true
@@ -238,7 +238,7 @@ two_counts t h e some_upper f = go (is_at_digit t) refl
         record {
           mark = r.row ++ (codes "," ++ (q.row ++ codes "}"));
           text = r.is ∙ (ap (λ l. r.row ++ l) (is ∙ ap (λ l. 44 ∷ l) (q.is ∙ (ap (λ l. q.row ++ l) ends ∙ sym (append_assoc q.row (125 ∷ []) (drop 1 w))))) ∙ sym (append_assoc r.row (44 ∷ (q.row ++ 125 ∷ [])) (drop 1 w)));
-          states = subst (λ m. Turns (123 ∷ (r.row ++ (44 ∷ (q.row ++ 125 ∷ [])))) (decimal t) (Some m)) (sym (q.number 0)) (subst (λ n. Turns (123 ∷ (r.row ++ (44 ∷ (q.row ++ 125 ∷ [])))) n (Some (decimal q.row))) (sym (r.number 0))
+          states = subst (λ m. Quantifier (123 ∷ (r.row ++ (44 ∷ (q.row ++ 125 ∷ [])))) (decimal t) (Some m)) (sym (q.number 0)) (subst (λ n. Quantifier (123 ∷ (r.row ++ (44 ∷ (q.row ++ 125 ∷ [])))) n (Some (decimal q.row))) (sym (r.number 0))
               (between r.row q.row (bound_of t r x less) (bound_of v q some_upper small) (subst (λ n. decimal r.row ≤ n) (q.number 0) (subst (λ n. n ≤ decimal v) (r.number 0) ordered))));
         }
     go false x =
@@ -257,7 +257,7 @@ two_counts t h e some_upper f = go (is_at_digit t) refl
         record {
           mark = codes "," ++ (q.row ++ codes "}");
           text = r.is ∙ (ap (λ l. l ++ u) none ∙ (is ∙ ap (λ l. 44 ∷ l) (q.is ∙ (ap (λ l. q.row ++ l) ends ∙ sym (append_assoc q.row (125 ∷ []) (drop 1 w))))));
-          states = subst (λ m. Turns (123 ∷ 44 ∷ (q.row ++ 125 ∷ [])) (decimal t) (Some m)) (sym (q.number 0)) (subst (λ n. Turns (123 ∷ 44 ∷ (q.row ++ 125 ∷ [])) n (Some (decimal q.row))) (sym zero_low) (at_most q.row (bound_of v q some_upper small)));
+          states = subst (λ m. Quantifier (123 ∷ 44 ∷ (q.row ++ 125 ∷ [])) (decimal t) (Some m)) (sym (q.number 0)) (subst (λ n. Quantifier (123 ∷ 44 ∷ (q.row ++ 125 ∷ [])) n (Some (decimal q.row))) (sym zero_low) (at_most q.row (bound_of v q some_upper small)));
         }
 
 pub count_spelled : (t : Text) → is_count t ≡ true → are_bounds (bounds_in t) ≡ true → IsSpelled t (bounds_in t) (past_count t)

@@ -5,7 +5,7 @@ use Rattle.std.specs.Option.{option_map, option_and_then}
 use Rattle.fancy_tree.specs.declared.tree.Meaning.{Meaning}
 use Rattle.fancy_tree.specs.Text.{Text, ◌∈◌}
 use Rattle.fancy_class.specs.Words.{is_at, begins}
-use Rattle.fancy_syntax.specs.Dialect.{Flags, with_flag, Letters, no_letter, letter, Setting, setting_on, setting_off}
+use Rattle.fancy_syntax.specs.Dialect.{Flags, with_flag, FlagLetters, no_letter, letter, Setting, setting_on, setting_off}
 use Rattle.fancy_syntax.specs.Grammar.{LettersRead, next_letter, flags_in, first_letter, mark_here}
 use Rattle.fancy_tree.proofs.Facts.{some_is_none, some_pair, chosen, char_is}
 
@@ -36,18 +36,18 @@ one_letter m on some f g c t h =
     letter_step m t c (reached f on some) (reached g on true) (rw (colon, paren) refl) (rw dash (ap (option_map (λ (x : Flags). reached x on true)) h))
 
 -- letters that are spelled are read
-more_read : {m : Meaning} {on : Bool} {t : Text} {f g : Flags} → Letters m on t f g → (rest : Text) → flags_in m (t ++ rest) (reached f on true) ≡ flags_in m rest (reached g on true)
+more_read : {m : Meaning} {on : Bool} {t : Text} {f g : Flags} → FlagLetters m on t f g → (rest : Text) → flags_in m (t ++ rest) (reached f on true) ≡ flags_in m rest (reached g on true)
 more_read no_letter rest = refl
 more_read {m} {on} {f = f} (letter {t = t} {g = g} c h r) rest = one_letter m on true f g c (t ++ rest) h ∙ more_read r rest
 
-some_read : {m : Meaning} {on : Bool} {t : Text} {f g : Flags} {c : ℕ} → Letters m on (c ∷ t) f g → (rest : Text) → flags_in m (c ∷ (t ++ rest)) (reached f on false) ≡ flags_in m rest (reached g on true)
+some_read : {m : Meaning} {on : Bool} {t : Text} {f g : Flags} {c : ℕ} → FlagLetters m on (c ∷ t) f g → (rest : Text) → flags_in m (c ∷ (t ++ rest)) (reached f on false) ≡ flags_in m rest (reached g on true)
 some_read {m} {on} {f = f} (letter {t = t} {g = g} c h r) rest = one_letter m on false f g c (t ++ rest) h ∙ more_read r rest
 
--- a dash, behind letters or at once
+-- a dash, after letters or at once
 dash_read : (m : Meaning) (f : Flags) (some : Bool) (t : Text) → flags_in m (45 ∷ t) (reached f true some) ≡ flags_in m t (reached f false false)
 dash_read m f some t = letter_step m t 45 (reached f true some) (reached f false false) refl refl
 
-on_read : {m : Meaning} {t : Text} {f g : Flags} → Letters m true t f g → (rest : Text) → flags_in m (t ++ 45 ∷ rest) (reached f true false) ≡ flags_in m rest (reached g false false)
+on_read : {m : Meaning} {t : Text} {f g : Flags} → FlagLetters m true t f g → (rest : Text) → flags_in m (t ++ 45 ∷ rest) (reached f true false) ≡ flags_in m rest (reached g false false)
 on_read {m} {f = f} no_letter rest = dash_read m f false rest
 on_read {m} {f = f} (letter {t = t} {g = g} {h = h} c e r) rest = one_letter m true false f g c (t ++ 45 ∷ rest) e ∙ (more_read r (45 ∷ rest) ∙ dash_read m h true rest)
 
@@ -61,7 +61,7 @@ first_is_not : {m : Meaning} {t : Text} {f g : Flags} → Setting m t f g → (d
 first_is_not {m} {f = f} (setting_on {t = t} c (letter {g = g} _ h r)) d e none = (c, t, (refl, not_letter m true f g d c (none true f) h))
 first_is_not {m} {f = f} (setting_off {t = t} {u = u} c l k) d e none = from_letters l
   where
-    from_letters : {t : Text} {x : Flags} → Letters m true t f x → (b : ℕ) × (v : Text) × ((t ++ (45 ∷ (c ∷ u)) ≡ b ∷ v) × ((d == b) ≡ false))
+    from_letters : {t : Text} {x : Flags} → FlagLetters m true t f x → (b : ℕ) × (v : Text) × ((t ++ (45 ∷ (c ∷ u)) ≡ b ∷ v) × ((d == b) ≡ false))
     from_letters no_letter = (45, c ∷ u, (refl, e))
     from_letters (letter {t = t} {g = g} b h r) = (b, t ++ (45 ∷ (c ∷ u)), (refl, not_letter m true f g d b (none true f) h))
 
@@ -98,14 +98,14 @@ no_hash_first s = first_is_not s 35 refl (λ on x. refl)
 record Cleared (m : Meaning) (text : Text) (f : Flags) (some : Bool) (g : Flags) (rest : Text) : Type 0 where
   letters : Text
   is : text ≡ letters ++ rest
-  spelled : Letters m false letters f g
+  spelled : FlagLetters m false letters f g
   enough : (some ≡ true) ⊎ ((c : ℕ) × (t : Text) × (letters ≡ c ∷ t))
   ends : is_at ":)" rest ≡ true
 
 -- those that are set, with what follows a dash
 data Switched (m : Meaning) (text : Text) (f : Flags) (some : Bool) (g : Flags) (rest : Text) : Type 0 where
-  only_set : (t : Text) → text ≡ t ++ rest → Letters m true t f g → (some ≡ true) ⊎ ((c : ℕ) × (u : Text) × (t ≡ c ∷ u)) → is_at ":)" rest ≡ true → Switched m text f some g rest
-  then_cleared : (t : Text) (h : Flags) (u : Text) → text ≡ t ++ 45 ∷ u → Letters m true t f h → Cleared m u h false g rest → Switched m text f some g rest
+  only_set : (t : Text) → text ≡ t ++ rest → FlagLetters m true t f g → (some ≡ true) ⊎ ((c : ℕ) × (u : Text) × (t ≡ c ∷ u)) → is_at ":)" rest ≡ true → Switched m text f some g rest
+  then_cleared : (t : Text) (h : Flags) (u : Text) → text ≡ t ++ 45 ∷ u → FlagLetters m true t f h → Cleared m u h false g rest → Switched m text f some g rest
 
 cleared : (m : Meaning) (text : Text) (f : Flags) (some : Bool) (g : Flags) (rest : Text) → ◌≡◌ {A = Option (Flags × Text)} (flags_in m text (reached f false some)) (Some (g, rest)) → Cleared m text f some g rest
 unfolding flags_in
@@ -113,7 +113,7 @@ cleared m [] f some g rest h = absurd (some_is_none (sym h))
 cleared m (c ∷ t) f some g rest h =
     elim (chosen (c ∈ ":)") _ _ _ h) [
       | inl x ↦ elim (chosen some _ _ _ x.1) [
-        | inl y ↦ (let s = some_pair y.1 in record { letters = []; is = s.1; spelled = subst (λ z. Letters m false [] f z) s.0 no_letter; enough = inl y.0; ends = ap (is_at ":)") (sym s.1) ∙ x.0 })
+        | inl y ↦ (let s = some_pair y.1 in record { letters = []; is = s.1; spelled = subst (λ z. FlagLetters m false [] f z) s.0 no_letter; enough = inl y.0; ends = ap (is_at ":)") (sym s.1) ∙ x.0 })
         | inr y ↦ absurd (some_is_none (sym y.1))
       ]
       | inr x ↦ further (45 == c) (with_flag m false c f) refl x.1 (λ n e. cleared m t n true g rest e)
@@ -133,7 +133,7 @@ switched m [] f some g rest h = absurd (some_is_none (sym h))
 switched m (c ∷ t) f some g rest h =
     elim (chosen (c ∈ ":)") _ _ _ h) [
       | inl x ↦ elim (chosen some _ _ _ x.1) [
-        | inl y ↦ (let s = some_pair y.1 in only_set [] s.1 (subst (λ z. Letters m true [] f z) s.0 no_letter) (inl y.0) (ap (is_at ":)") (sym s.1) ∙ x.0))
+        | inl y ↦ (let s = some_pair y.1 in only_set [] s.1 (subst (λ z. FlagLetters m true [] f z) s.0 no_letter) (inl y.0) (ap (is_at ":)") (sym s.1) ∙ x.0))
         | inr y ↦ absurd (some_is_none (sym y.1))
       ]
       | inr x ↦ further (45 == c) (with_flag m true c f) refl refl x.1 (λ n e. switched m t n true g rest e)
@@ -165,14 +165,14 @@ setting_spelled m text f g rest h = of_switched (switched m text f false g rest 
     of_switched : Switched m text f false g rest → IsSetting m text f g rest
     of_switched (only_set t is l s d) = elim s [
       | inl x ↦ absurd (false_is_true x)
-      | inr x ↦ record { letters = t; is = is; spelled = subst (λ v. Setting m v f g) (sym x.2) (setting_on x.0 (subst (λ v. Letters m true v f g) x.2 l)); ends = d }
+      | inr x ↦ record { letters = t; is = is; spelled = subst (λ v. Setting m v f g) (sym x.2) (setting_on x.0 (subst (λ v. FlagLetters m true v f g) x.2 l)); ends = d }
     ]
     of_switched (then_cleared t h u is l r) = elim r.enough [
       | inl x ↦ absurd (false_is_true x)
       | inr x ↦ record {
         letters = t ++ (45 ∷ r.letters);
         is = is ∙ (ap (λ v. t ++ 45 ∷ v) r.is ∙ sym (append_assoc t (45 ∷ r.letters) rest));
-        spelled = subst (λ v. Setting m (t ++ (45 ∷ v)) f g) (sym x.2) (setting_off x.0 l (subst (λ v. Letters m false v h g) x.2 r.spelled));
+        spelled = subst (λ v. Setting m (t ++ (45 ∷ v)) f g) (sym x.2) (setting_off x.0 l (subst (λ v. FlagLetters m false v h g) x.2 r.spelled));
         ends = r.ends;
       }
     ]

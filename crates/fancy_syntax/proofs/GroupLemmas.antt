@@ -1,7 +1,7 @@
 -- Groups are numbered by their openings.
 use Rattle.std.proofs.Common.{ℕ, ◌+◌, ◌≤◌, arith}
 use Rattle.fancy_syntax.specs.Dialect.{Scope, Spells}
-use Rattle.fancy_tree.specs.Groups.{Numbered, InOrder}
+use Rattle.fancy_tree.specs.GroupNumbers.{Numbered, NumbersInOrder}
 use Rattle.fancy_tree.specs.Pattern.{Pattern, empty, character, member_of, in_any_case, raw_byte, backreference, assertion, group_test, keep_start, continue_here, group, repeat, look_ahead, look_behind, atomic, conditional, followed, or_else, last_branch}
 use Rattle.fancy_tree.specs.Text.{Text}
 use Rattle.fancy_syntax.proofs.OrderLemmas.{in_order}
@@ -31,7 +31,7 @@ wider (or_else branch others) lo hi low high a b (x, y) = (wider branch lo hi lo
 wider (last_branch branch) lo hi low high a b h = wider branch lo hi low high a b h
 
 -- numbers that follow one another lie in the range from the first of them to the next
-within : (p : Pattern) (n m : ℕ) → InOrder n m p → (n ≤ m) × Numbered n m p
+within : (p : Pattern) (n m : ℕ) → NumbersInOrder n m p → (n ≤ m) × Numbered n m p
 within empty n m e = (omega (arith, e), tt)
 within (character c) n m e = (omega (arith, e), tt)
 within (member_of edges) n m e = (omega (arith, e), tt)

@@ -7,8 +7,8 @@ use Rattle.std.specs.Prelude.{IfOk}
 use Rattle.std.specs.declared.alloc.AllocError.{AllocError}
 use Rattle.fancy_tree.specs.declared.error.Error.{Error}
 use Rattle.fancy_tree.specs.declared.error.Error.TheVariants.{Memory, ParseError, CompileError, RuntimeError}
-use Rattle.fancy_class.specs.declared.refusal.Refusal.{Refusal}
-use Rattle.fancy_class.specs.declared.refusal.Refusal.TheVariants as refusal
+use Rattle.fancy_class.specs.declared.refusal.ClassRefusal.{ClassRefusal}
+use Rattle.fancy_class.specs.declared.refusal.ClassRefusal.TheVariants as refusal
 use Rattle.fancy_tree.specs.declared.tree.Assertion.{Assertion}
 use Rattle.std.proofs.lemmas.List.{drop-drop}
 use Rattle.fancy_syntax.specs.declared.parser.Parser.{Parser}
@@ -16,13 +16,13 @@ use Rattle.fancy_tree.specs.declared.tree.Tree.{Tree}
 use Rattle.fancy_tree.specs.Pattern.{Pattern, pattern_of, member_of, in_any_case, assertion}
 use Rattle.fancy_tree.specs.Text.{Text}
 use Rattle.fancy_class.specs.Words.{is_at}
-use Rattle.fancy_class.specs.Escapes.{hexadecimal, number, fixed_number, braced_number, before_brace, by_number, is_character}
+use Rattle.fancy_class.specs.EscapeGrammar.{hexadecimal, escape_number, fixed_number, braced_number, before_brace, by_number, is_character}
 use Rattle.fancy_class.specs.ClassGrammar.{ReadsEdges}
 use Rattle.fancy_class.specs.ClassViews as class
-use Rattle.fancy_syntax.specs.Dialect.{Scope, Lexeme, leaf, IsMeant, by_itself, by_edges, by_folding, lexeme, ReadsAtom, by_lexeme, by_class, wants, reference_here, literal_of, spelled_character, spelled_number, is_one_item, numbered, boundary, boundary_here}
-use Rattle.fancy_syntax.specs.References.{Target, reference, begins_reference}
+use Rattle.fancy_syntax.specs.Dialect.{Scope, Lexeme, leaf, IsMeant, by_itself, by_edges, by_folding, lexeme, ReadsAtom, by_lexeme, by_class, wants, reference_here, literal_of, spelled_character, spelled_number, is_one_item, number_lexeme, boundary, boundary_here}
+use Rattle.fancy_syntax.specs.References.{Target, read_reference, begins_reference}
 use Rattle.fancy_syntax.specs.Grammar.{Place, past, start, IsAtom, alone, refers}
-use Rattle.fancy_syntax.specs.Views.{Refuses, IsTheReading, HasNoReading, Gives, GivesMeant, error_of}
+use Rattle.fancy_syntax.specs.Views.{MemoryOr, IsTheReading, HasNoReading, Gives, GivesMeant, error_of}
 use Rattle.fancy_tree.proofs.CanonicalLemmas.{edges_unique}
 use Rattle.fancy_tree.proofs.Facts.{some_pair, some_is_none, true_is_false, chosen, same_some, char_is, left_of}
 use Rattle.fancy_syntax.proofs.ReferenceLemmas.{reference_begins, no_bracket_begun, no_atom_begun}
@@ -76,7 +76,7 @@ by_number_is (Some m) b t {n} {is_byte} {u} h =
       | inr x ↦ absurd (some_is_none (sym x.1))
     ]
 
-pub byte_is_small : (count : ℕ) (t : Text) {n : ℕ} {is_byte : Bool} {u : Text} → number count t ≡ Some ((n, is_byte), u) → is_byte ≡ true → n ≤ 255
+pub byte_is_small : (count : ℕ) (t : Text) {n : ℕ} {is_byte : Bool} {u : Text} → escape_number count t ≡ Some ((n, is_byte), u) → is_byte ≡ true → n ≤ 255
 byte_is_small count t {n} {is_byte} {u} h b =
     elim (chosen (is_at "{" t) _ _ _ h) [
       | inl x ↦ absurd (in_braces (drop 1 t) x.1)
@@ -101,7 +101,7 @@ byte_is_small count t {n} {is_byte} {u} h b =
         ]
 
 -- the number that is read where a letter of numbers stands
-pub number_meant : (s : Scope) (count : ℕ) (t : Text) {c : ℕ × Bool} {u : Text} (p : Place) {q : Place} (tree : Tree) → number count t ≡ Some (c, u) → q ≡ start s u → p.scope ≡ s → IsMeant (spelled_number s c) (pattern_of tree) → GivesMeant (numbered s count t) (Ok tree) p q
+pub number_meant : (s : Scope) (count : ℕ) (t : Text) {c : ℕ × Bool} {u : Text} (p : Place) {q : Place} (tree : Tree) → escape_number count t ≡ Some (c, u) → q ≡ start s u → p.scope ≡ s → IsMeant (spelled_number s c) (pattern_of tree) → GivesMeant (number_lexeme s count t) (Ok tree) p q
 number_meant s count t {c} {u} p {q} tree h e f m = (
   spelled_number s c,
   ap (option_map (λ (r : (ℕ × Bool) × Text). (spelled_number s r.0, r.1))) h ∙ ap (λ (y : Place). Some (spelled_number s c, y.text)) (sym e),
@@ -110,11 +110,11 @@ number_meant s count t {c} {u} p {q} tree h e f m = (
 )
 
 -- a refusal of the class's reader says of its text what the parser's says
-pub refuses_too : (p : Parser) (e : Refusal) {A B : Type 0} → (A → B) → class.Refuses e A → Refuses (error_of p e) B
+pub refuses_too : (p : Parser) (e : ClassRefusal) {A B : Type 0} → (A → B) → class.MemoryOr e A → MemoryOr (error_of p e) B
 refuses_too p refusal.Memory f h = tt
 refuses_too p (refusal.Invalid kind) f h = f h
 
-pub numbered_none : (s : Scope) (count : ℕ) (t : Text) → number count t ≡ None → numbered s count t ≡ None
+pub numbered_none : (s : Scope) (count : ℕ) (t : Text) → escape_number count t ≡ None → number_lexeme s count t ≡ None
 numbered_none s count t h = ap (option_map (λ (r : (ℕ × Bool) × Text). (spelled_number s r.0, r.1))) h
 
 pub meant_same : {o n : Lexeme × Text} (t : Tree) (p q : Place) → o ≡ n → GivesMeant (Some n) (Ok t) p q → GivesMeant (Some o) (Ok t) p q
@@ -156,10 +156,10 @@ pub the_atom : {p q : Place} {a : Pattern} → IsAtom p a q → IsTheReading IsA
 the_atom h = (h, λ b r k. one_reading h k)
 
 -- the reference that a parser has read
-pub the_reference : (p : Place) {q : Place} {w : Target} {t : Text} {a : Pattern} → reference p.scope.opened p.text ≡ Some (w, t) → a ≡ reference_here p.scope → q ≡ start (wants w p.scope) t → IsTheReading IsAtom p a q
+pub the_reference : (p : Place) {q : Place} {w : Target} {t : Text} {a : Pattern} → read_reference p.scope.opened p.text ≡ Some (w, t) → a ≡ reference_here p.scope → q ≡ start (wants w p.scope) t → IsTheReading IsAtom p a q
 the_reference p {q} h e there = subst (λ x. IsTheReading IsAtom p x q) (sym e) (subst (λ z. IsTheReading IsAtom p (reference_here p.scope) z) (sym there) (the_atom (refers h)))
 
-pub no_reference_here : (p : Place) → begins_reference p.text ≡ true → reference p.scope.opened p.text ≡ None → HasNoReading IsAtom p
+pub no_reference_here : (p : Place) → begins_reference p.text ≡ true → read_reference p.scope.opened p.text ≡ None → HasNoReading IsAtom p
 no_reference_here p h none a q (alone k) = no_atom_begun h k
 no_reference_here p h none a q (refers k) = some_is_none (sym k ∙ none)
 
@@ -180,5 +180,5 @@ no_class_here {p} h none a q (alone (by_lexeme k m)) = some_is_none (sym k ∙ n
 no_class_here h none a q (alone (by_class k m)) = none _ _ m
 no_class_here {p} h none a q (refers k) = true_is_false (sym h ∙ no_bracket_begun p.text (reference_begins p.scope.opened p.text k))
 
-pub class_refused : (parser : Parser) (e : Refusal) (p : Place) → is_at "[" p.text ≡ true → class.Refuses e (class.HasNoReading (ReadsEdges p.scope.meaning p.scope.flags.ignore_case) p.text) → Refuses (error_of parser e) (HasNoReading IsAtom p)
+pub class_refused : (parser : Parser) (e : ClassRefusal) (p : Place) → is_at "[" p.text ≡ true → class.MemoryOr e (class.HasNoReading (ReadsEdges p.scope.meaning p.scope.flags.ignore_case) p.text) → MemoryOr (error_of parser e) (HasNoReading IsAtom p)
 class_refused parser e p h none = refuses_too parser e (no_class_here h) none

@@ -1,6 +1,6 @@
 pub mod LexemeLemmas
 pub mod AtomLemmas
-pub mod ReadingLemmas
+pub mod ParserLemmas
 pub mod ReferenceLemmas
 pub mod ResolveLemmas
 pub mod CountLemmas
@@ -9,7 +9,7 @@ pub mod FlagLemmas
 pub mod SpellingLemmas
 pub mod UniqueLemmas
 pub mod UnnamedLemmas
-pub mod LiteralLemmas
+pub mod LiteralSpelling
 pub mod ParseLemmas
 pub mod GroupLemmas
 pub mod OrderLemmas

@@ -1,11 +1,11 @@
--- Names stand on groups, one behind the other.
+-- Names stand on groups, one after another.
 use Rattle.std.proofs.Common.{◌≡◌, ℕ, ◌+◌, ◌≤◌, Bool, List, [], ◌∷◌, ◌++◌, Option, sym, subst, ap, ◌∙◌, append_assoc, append-nil, arith}
 use Rattle.fancy_tree.specs.Pattern.{Pattern}
 use Rattle.fancy_tree.specs.Text.{Text}
 use Rattle.fancy_syntax.specs.Dialect.{Scope, Options, begin, Branches, one, either, Parts, nothing, item, Item, set, bare, quantified, Atom, single, plain, flagged, capture, unnamed, named, marked, reference, reference_by_name, tested, decided, back_to, inside, Spells}
 use Rattle.fancy_syntax.specs.declared.groups.Grouping.{Grouping}
 use Rattle.fancy_syntax.specs.declared.groups.Grouping.TheVariants.{Atomic, LookAhead, LookBehind}
-use Rattle.fancy_tree.specs.Groups.{Rising}
+use Rattle.fancy_tree.specs.GroupNumbers.{Rising}
 
 -- numbers that rise from a number on do so from a lesser one
 from_less : (a b hi : ℕ) (names : List (Text × ℕ)) → a ≤ b → Rising b hi names → Rising a hi names
@@ -39,8 +39,8 @@ of_marked Atomic s q x = x
 of_marked (LookAhead negated) s q x = record { more = x.more; new = x.new; names = x.names; rising = x.rising }
 of_marked (LookBehind negated) s q x = record { more = x.more; new = x.new; names = x.names; rising = x.rising }
 
-behind_condition : (s r q : Scope) → Named (back_to s r) q → Named r q
-behind_condition s r q x = record { more = x.more; new = x.new; names = x.names; rising = x.rising }
+after_condition : (s r q : Scope) → Named (back_to s r) q → Named r q
+after_condition s r q x = record { more = x.more; new = x.new; names = x.names; rising = x.rising }
 
 mutual
   named_branches : {k : ℕ} {s r : Scope} {t after : Text} {bs : List Pattern} → Branches k s t after bs r → Named s r
@@ -67,7 +67,7 @@ mutual
   named_atom (tested c h b) = let x = named_branches b in record { more = x.more; new = x.new; names = x.names; rising = x.rising }
   named_atom (decided {s = s} {r = r} {q = q} c h f a b) =
       let y = named_branches b in
-      let z = then (named_branches a) (behind_condition s r q y) in
+      let z = then (named_branches a) (after_condition s r q y) in
       record { more = z.more; new = z.new; names = z.names; rising = z.rising }
   named_atom (capture {s = s} {q = q} u e b) =
       let x = named_branches b in

@@ -17,13 +17,13 @@ use Rattle.fancy_syntax.specs.declared.parse.Draft.{Draft}
 use Rattle.fancy_syntax.specs.declared.reference.Target.{Target as Found_target}
 use Rattle.fancy_tree.specs.declared.error.CompileError.{CompileError as Compiling}
 use Rattle.fancy_syntax.specs.References as references
-use Rattle.fancy_syntax.specs.References.{Target, Fault, Groups, group_for}
+use Rattle.fancy_syntax.specs.References.{Target, ReferenceFault, Groups, group_for}
 use Rattle.fancy_tree.specs.Refers.{number_in, refers_to}
-use Rattle.fancy_syntax.specs.Dialect.{Scope, Options, begin, has_name, groups_at, fault_of, numbers, Spells, SpellsUnder, IsPattern}
+use Rattle.fancy_syntax.specs.Dialect.{Scope, Options, begin, has_name, groups_at, fault_in_scope, numbers, Spells, SpellsUnder, IsPattern}
 use Rattle.fancy_syntax.specs.Grammar.{Place, start}
 use Rattle.fancy_syntax.specs.Refusals.{IsRefused, IsNotAccepted}
-use Rattle.fancy_syntax.specs.Views.{Refuses, IsTheReading, HasNoReading, Alternation, target_of, targets_of, groups_in, told_fault, RefusesReference, HasBadSize, RefusesSizes, SpellsDraft, HasNoSpelling}
-use Rattle.fancy_syntax.proofs.ReadingLemmas.{Refuses-weaker, no_whole_reading, not_whole, whole_reading}
+use Rattle.fancy_syntax.specs.Views.{MemoryOr, IsTheReading, HasNoReading, Alternation, target_of, targets_of, draft_groups, told_fault, RefusesReference, HasBadSize, RefusesSizes, SpellsDraft, HasNoSpelling}
+use Rattle.fancy_syntax.proofs.ParserLemmas.{MemoryOr-weaker, no_whole_reading, not_whole, whole_reading}
 use Rattle.fancy_tree.proofs.Facts.{true_is_false, some_is_none}
 use Rattle.fancy_syntax.proofs.SpellingLemmas.{spelling_read, reading_spelled}
 use Rattle.fancy_syntax.proofs.UnnamedLemmas.{settles, none_settled, one_under, one_end_under}
@@ -34,8 +34,8 @@ pub begun : (s : Scope) {names : List GroupName} {wanted : List Found_target} {t
     → ◌≡◌ {A = Place} (start (record s { names = named_groups names; wanted = targets_of wanted }) text) (start s text)
 begun s {names} {wanted} {text} h f e g = ap₂ (λ (l : List (Text × ℕ)) (m : List Target). start (record s { names = l; wanted = m }) text) (ap named_groups e ∙ sym h) (ap targets_of g ∙ sym f)
 
-pub no_reading : {s : Scope} {text : Text} {p : Place} (e : Error) → p ≡ start s text → Refuses e (HasNoReading (Alternation 64) p) → Refuses e (HasNoSpelling (Spells s text))
-no_reading e is none = Refuses-weaker e (λ h t end x. no_whole_reading is h t _ (spelling_read x)) none
+pub no_reading : {s : Scope} {text : Text} {p : Place} (e : Error) → p ≡ start s text → MemoryOr e (HasNoReading (Alternation 64) p) → MemoryOr e (HasNoSpelling (Spells s text))
+no_reading e is none = MemoryOr-weaker e (λ h t end x. no_whole_reading is h t _ (spelling_read x)) none
 
 pub no_pattern : {s : Scope} {text : Text} {p q : Place} {found : Pattern} → p ≡ start s text → IsTheReading (Alternation 64) p found q → (q.text ≡ [] → ⊥) → HasNoSpelling (Spells s text)
 no_pattern is h left t end x = not_whole is h left t _ (spelling_read x)
@@ -44,7 +44,7 @@ pub spelled : {s : Scope} {text : Text} {p q : Place} {found : Pattern} → p �
 spelled is h all = reading_spelled (whole_reading is h all)
 
 -- what is not spelled is refused
-pub refused_as : (o : Options) {text whole : Text} (e : Error) → text ≡ whole → Refuses e (HasNoSpelling (SpellsUnder o text)) → IsRefused e o whole
+pub refused_as : (o : Options) {text whole : Text} (e : Error) → text ≡ whole → MemoryOr e (HasNoSpelling (SpellsUnder o text)) → IsRefused e o whole
 refused_as o Memory is none = tt
 refused_as o (ParseError at kind) is none = subst (λ t. HasNoSpelling (SpellsUnder o t)) is none
 refused_as o (CompileError why) is none = absurd none
@@ -67,16 +67,16 @@ module _ (o : Options) (text : Text) (first : Draft) (s : SpellsDraft (Spells (b
   spelled_again (Ok p) (e, x, groups, names, wanted) = (e, settles false s.1 decided x, groups, names, wanted)
   spelled_again (Err e) x = tt
 
-  pub refused_again : (r : Result Draft Error) → IfErr r (λ e. Refuses e (HasNoSpelling (Spells (begin false o) text))) → IfErr r (λ e. Refuses e (HasNoSpelling (SpellsUnder o text)))
+  pub refused_again : (r : Result Draft Error) → IfErr r (λ e. MemoryOr e (HasNoSpelling (Spells (begin false o) text))) → IfErr r (λ e. MemoryOr e (HasNoSpelling (SpellsUnder o text)))
   refused_again (Ok p) x = tt
-  refused_again (Err e) x = Refuses-weaker e (none_settled false s.1 decided) x
+  refused_again (Err e) x = MemoryOr-weaker e (none_settled false s.1 decided) x
 
 -- references that each name a group have no fault
-no_fault : (o : Options) (e : Scope) {f : Fault} → All (λ w. fault_of o e w ≡ None) e.wanted → Any (λ w. fault_of o e w ≡ Some f) e.wanted → ⊥
-no_fault o e all (k, w, below, is, h) = some_is_none (sym h ∙ (ap (fault_of o e) (sym is) ∙ all k w below))
+no_fault : (o : Options) (e : Scope) {f : ReferenceFault} → All (λ w. fault_in_scope o e w ≡ None) e.wanted → Any (λ w. fault_in_scope o e w ≡ Some f) e.wanted → ⊥
+no_fault o e all (k, w, below, is, h) = some_is_none (sym h ∙ (ap (fault_in_scope o e) (sym is) ∙ all k w below))
 
-no_fault_under : {o : Options} {text : Text} {p q : Pattern} {e : Scope} {f : Fault} (x : IsPattern o text p) → SpellsUnder o text q e → Any (λ w. fault_of o e w ≡ Some f) e.wanted → ⊥
-no_fault_under {o} {f = f} x y some = no_fault o x.end x.resolved (subst (λ (z : Scope). Any (λ w. fault_of o z w ≡ Some f) z.wanted) (one_end_under y x.spelled) some)
+no_fault_under : {o : Options} {text : Text} {p q : Pattern} {e : Scope} {f : ReferenceFault} (x : IsPattern o text p) → SpellsUnder o text q e → Any (λ w. fault_in_scope o e w ≡ Some f) e.wanted → ⊥
+no_fault_under {o} {f = f} x y some = no_fault o x.end x.resolved (subst (λ (z : Scope). Any (λ w. fault_in_scope o z w ≡ Some f) z.wanted) (one_end_under y x.spelled) some)
 
 -- the accepted pattern is what the text spells, its references resolved
 same_resolved : {o : Options} {text : Text} {p q : Pattern} {e : Scope} → SpellsUnder o text q e → IsPattern o text p → refers_to (numbers o e) q ≡ p
@@ -120,15 +120,15 @@ any_seen f P xs (k, x, below, is, h) = (k, f x, omega (arith, below, length-map 
 
 module _ (o : Options) {text whole : Text} (draft : Draft) (s : SpellsDraft (SpellsUnder o text) draft) (same : text ≡ whole) where
   -- the groups that references are resolved by are those of the pattern's end
-  groups_are : groups_in o.only_named draft ≡ groups_at o s.0
+  groups_are : draft_groups o.only_named draft ≡ groups_at o s.0
   groups_are =
       let opened : draft.groups - 1 ≡ s.0.opened = omega (arith, s.2) in
       ap₂ (λ (n : ℕ) (names : List (Text × ℕ)). let g : Groups = record { by_name = o.only_named && has_name names; opened = n; names = names } in g) opened s.3
 
   pub accepted : {m : ℕ} (first : Parsed) (r : Result Parsed Error) → m ≡ min (nodes (pattern_of draft.tree)) (2 ^ 64 - 1) → m ≤ most_nodes
-      → pattern_of first.tree ≡ refers_to (number_in (map (group_for (groups_in o.only_named draft)) (targets_of draft.wanted.items))) (pattern_of draft.tree)
+      → pattern_of first.tree ≡ refers_to (number_in (map (group_for (draft_groups o.only_named draft)) (targets_of draft.wanted.items))) (pattern_of draft.tree)
       → (first.groups ≡ draft.groups) × (first.names ≡ draft.names)
-      → All (λ w. references.fault_of (groups_in o.only_named draft) (target_of w) ≡ None) draft.wanted.items
+      → All (λ w. references.target_fault (draft_groups o.only_named draft) (target_of w) ≡ None) draft.wanted.items
       → IfOk r (λ p. p ≡ first) → IfOk r (λ p. are_sized o.meaning (pattern_of p.tree) ≡ true)
       → IfOk r (λ p. o.not_empty ≡ true → (size o.meaning (pattern_of p.tree) ≡ Some 0) → ⊥)
       → IfOk r (λ p. (h : IsPattern o whole (pattern_of p.tree)) × (h.end.opened + 1 ≡ p.groups) × (named_groups p.names.items ≡ h.end.names))
@@ -136,9 +136,9 @@ module _ (o : Options) {text whole : Text} (draft : Draft) (s : SpellsDraft (Spe
   accepted first (Ok p) n few tree kept all same_one sized fills =
       let is : pattern_of p.tree ≡ refers_to (numbers o s.0) (pattern_of draft.tree) =
       ap (λ (x : Parsed). pattern_of x.tree) same_one ∙ tree ∙ ap₂ (λ (g : Groups) (ws : List Target). refers_to (number_in (map (group_for g) ws)) (pattern_of draft.tree)) groups_are s.4 in
-      let resolved : All (λ w. fault_of o s.0 w ≡ None) s.0.wanted =
-      subst (λ (ws : List Target). All (λ w. fault_of o s.0 w ≡ None) ws) s.4
-      (All-map (λ w. fault_of o s.0 w ≡ None) target_of draft.wanted.items (subst (λ (g : Groups). All (λ w. references.fault_of g (target_of w) ≡ None) draft.wanted.items) groups_are all)) in
+      let resolved : All (λ w. fault_in_scope o s.0 w ≡ None) s.0.wanted =
+      subst (λ (ws : List Target). All (λ w. fault_in_scope o s.0 w ≡ None) ws) s.4
+      (All-map (λ w. fault_in_scope o s.0 w ≡ None) target_of draft.wanted.items (subst (λ (g : Groups). All (λ w. references.target_fault g (target_of w) ≡ None) draft.wanted.items) groups_are all)) in
       let few_written = few_nodes (nodes (pattern_of draft.tree)) _ n few in
       let as_many : nodes (pattern_of p.tree) ≡ nodes (pattern_of draft.tree) = ap nodes is ∙ nodes-refers_to (numbers o s.0) (pattern_of draft.tree) in (
         record {
@@ -156,20 +156,20 @@ module _ (o : Options) {text whole : Text} (draft : Draft) (s : SpellsDraft (Spe
       )
 
   -- a reference that names no group is the reason of a refusal
-  has_fault : {f : Fault} → Any (λ w. references.fault_of (groups_in o.only_named draft) (target_of w) ≡ Some f) draft.wanted.items → Any (λ w. fault_of o s.0 w ≡ Some f) s.0.wanted
+  has_fault : {f : ReferenceFault} → Any (λ w. references.target_fault (draft_groups o.only_named draft) (target_of w) ≡ Some f) draft.wanted.items → Any (λ w. fault_in_scope o s.0 w ≡ Some f) s.0.wanted
   has_fault {f} some =
-      subst (λ (ws : List Target). Any (λ w. fault_of o s.0 w ≡ Some f) ws) s.4
-      (any_seen target_of (λ w. fault_of o s.0 w ≡ Some f) draft.wanted.items (subst (λ (g : Groups). Any (λ w. references.fault_of g (target_of w) ≡ Some f) draft.wanted.items) groups_are some))
+      subst (λ (ws : List Target). Any (λ w. fault_in_scope o s.0 w ≡ Some f) ws) s.4
+      (any_seen target_of (λ w. fault_in_scope o s.0 w ≡ Some f) draft.wanted.items (subst (λ (g : Groups). Any (λ w. references.target_fault g (target_of w) ≡ Some f) draft.wanted.items) groups_are some))
 
-  not_accepted : (why : Compiling) (f : Fault) → told_fault why ≡ Some f → Any (λ w. fault_of o s.0 w ≡ Some f) s.0.wanted → IsNotAccepted why o whole
-  not_accepted (InvalidBackref n) f e some = (pattern_of draft.tree, s.0, subst (λ t. SpellsUnder o t (pattern_of draft.tree) s.0) same s.1, subst (λ g. Any (λ w. fault_of o s.0 w ≡ g) s.0.wanted) (sym e) some)
-  not_accepted (InvalidGroupNameBackref n) f e some = (pattern_of draft.tree, s.0, subst (λ t. SpellsUnder o t (pattern_of draft.tree) s.0) same s.1, subst (λ g. Any (λ w. fault_of o s.0 w ≡ g) s.0.wanted) (sym e) some)
-  not_accepted NamedBackrefOnly f e some = (pattern_of draft.tree, s.0, subst (λ t. SpellsUnder o t (pattern_of draft.tree) s.0) same s.1, subst (λ g. Any (λ w. fault_of o s.0 w ≡ g) s.0.wanted) (sym e) some)
+  not_accepted : (why : Compiling) (f : ReferenceFault) → told_fault why ≡ Some f → Any (λ w. fault_in_scope o s.0 w ≡ Some f) s.0.wanted → IsNotAccepted why o whole
+  not_accepted (InvalidBackref n) f e some = (pattern_of draft.tree, s.0, subst (λ t. SpellsUnder o t (pattern_of draft.tree) s.0) same s.1, subst (λ g. Any (λ w. fault_in_scope o s.0 w ≡ g) s.0.wanted) (sym e) some)
+  not_accepted (InvalidGroupNameBackref n) f e some = (pattern_of draft.tree, s.0, subst (λ t. SpellsUnder o t (pattern_of draft.tree) s.0) same s.1, subst (λ g. Any (λ w. fault_in_scope o s.0 w ≡ g) s.0.wanted) (sym e) some)
+  not_accepted NamedBackrefOnly f e some = (pattern_of draft.tree, s.0, subst (λ t. SpellsUnder o t (pattern_of draft.tree) s.0) same s.1, subst (λ g. Any (λ w. fault_in_scope o s.0 w ≡ g) s.0.wanted) (sym e) some)
   not_accepted LookBehindNotConst f e some = absurd (some_is_none (sym e))
   not_accepted PatternCanNeverMatch f e some = absurd (some_is_none (sym e))
   not_accepted PatternTooComplex f e some = absurd (some_is_none (sym e))
 
-  pub refused_by : (e : Error) → RefusesReference e (λ f. Any (λ w. references.fault_of (groups_in o.only_named draft) (target_of w) ≡ Some f) draft.wanted.items) → IsRefused e o whole
+  pub refused_by : (e : Error) → RefusesReference e (λ f. Any (λ w. references.target_fault (draft_groups o.only_named draft) (target_of w) ≡ Some f) draft.wanted.items) → IsRefused e o whole
   refused_by Memory h = tt
   refused_by (ParseError at kind) h = absurd h
   refused_by (CompileError why) (f, e, some) = not_accepted why f e (has_fault some)
@@ -192,7 +192,7 @@ module _ (o : Options) {text whole : Text} (draft : Draft) (s : SpellsDraft (Spe
 
   -- a size is the reason of a refusal
   pub refused_sizes : (first : Parsed) (r : Result Parsed Error)
-      → pattern_of first.tree ≡ refers_to (number_in (map (group_for (groups_in o.only_named draft)) (targets_of draft.wanted.items))) (pattern_of draft.tree)
+      → pattern_of first.tree ≡ refers_to (number_in (map (group_for (draft_groups o.only_named draft)) (targets_of draft.wanted.items))) (pattern_of draft.tree)
       → IfErr r (λ e. RefusesSizes e o (pattern_of first.tree)) → IfErr r (λ e. IsRefused e o whole)
   refused_sizes first (Ok p) tree h = tt
   refused_sizes first (Err e) tree h =

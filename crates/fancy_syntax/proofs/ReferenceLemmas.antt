@@ -9,12 +9,12 @@ use Rattle.fancy_syntax.specs.Counts.{is_at_digit, past_digits, decimal}
 use Rattle.fancy_syntax.specs.Blanks.{past_blank}
 use Rattle.fancy_tree.specs.Names.{name_here, past_name}
 use Rattle.fancy_tree.specs.Limits.{largest_told}
-use Rattle.fancy_syntax.specs.References.{Target, back, number_reference, distance_reference, name_reference, delimited, reference, begins_reference, number_condition, name_condition, group_condition}
+use Rattle.fancy_syntax.specs.References.{Target, back, number_reference, distance_reference, name_reference, delimited_target, read_reference, begins_reference, number_condition, name_condition, group_condition}
 use Rattle.fancy_syntax.specs.Dialect.{Scope, lexeme, ReadsAtom, by_lexeme, by_class}
 use Rattle.fancy_syntax.specs.Grammar.{ends_branch}
 use Rattle.fancy_tree.proofs.Facts.{some_pair, some_is_none, true_is_false, chosen, char_is, both_true, left_of}
 use Rattle.fancy_class.proofs.WordLemmas.{begins_with}
-use Rattle.fancy_class.proofs.EndsLemmas.{Ends, ends_here, ends_drop, ends_then, ends_at, behind_one}
+use Rattle.fancy_class.proofs.EndsLemmas.{Ends, ends_here, ends_drop, ends_then, ends_at, after_one}
 
 -- ---- what follows a reference ends the text
 ends_digits : (t : Text) → Ends t (past_digits t)
@@ -22,7 +22,7 @@ ends_digits [] = ends_here []
 ends_digits (c ∷ t) = go (is_ascii_digit c) (ends_digits t)
   where
     go : (b : Bool) → Ends t (past_digits t) → Ends (c ∷ t) (cond {A = Text} b (past_digits t) (c ∷ t))
-    go true e = behind_one e
+    go true e = after_one e
     go false e = ends_here (c ∷ t)
 
 ends_by_digits : (t : Text) {w : Target} {u : Text} → number_reference t ≡ Some (w, u) → Ends t u
@@ -46,14 +46,14 @@ ends_by_name c t h =
       | inr y ↦ ends_at (ends_then (ends_drop (length (name_here t)) t) (ends_drop 1 (past_name t))) (some_pair y.1).1
     ]
 
-ends_delimited : (opened c : ℕ) (t : Text) {w : Target} {u : Text} → delimited opened c t ≡ Some (w, u) → Ends t u
+ends_delimited : (opened c : ℕ) (t : Text) {w : Target} {u : Text} → delimited_target opened c t ≡ Some (w, u) → Ends t u
 ends_delimited opened c t h =
     elim (chosen (is_at "-" t) _ _ _ h) [
       | inl y ↦ ends_then (ends_drop 1 t) (ends_by_distance opened c (drop 1 t) y.1)
       | inr y ↦ ends_by_name c t y.1
     ]
 
-pub ends_reference : (opened : ℕ) (t : Text) {w : Target} {u : Text} → reference opened t ≡ Some (w, u) → Ends t u
+pub ends_reference : (opened : ℕ) (t : Text) {w : Target} {u : Text} → read_reference opened t ≡ Some (w, u) → Ends t u
 ends_reference opened t h =
     elim (chosen (begins "\\k<" t) _ _ _ h) [
       | inl y ↦ ends_then (ends_drop 3 t) (ends_delimited opened 62 (drop 3 t) y.1)
@@ -103,7 +103,7 @@ digit_begins : (t : Text) → is_at "123456789" t ≡ true → is_at "123456789k
 digit_begins [] h = h
 digit_begins (c ∷ t) h = any_more (λ d. d == c) (codes "123456789") (codes "k") h
 
-pub reference_begins : (opened : ℕ) (t : Text) {w : Target} {u : Text} → reference opened t ≡ Some (w, u) → begins_reference t ≡ true
+pub reference_begins : (opened : ℕ) (t : Text) {w : Target} {u : Text} → read_reference opened t ≡ Some (w, u) → begins_reference t ≡ true
 reference_begins opened t h =
     elim (chosen (begins "\\k<" t) _ _ _ h) [
       | inl y ↦ subst (λ v. begins_reference v ≡ true) (sym (begins_with (codes "\\k<") t y.0)) refl
@@ -174,14 +174,14 @@ distance_any opened n c t h =
       | inr y ↦ absurd (some_is_none (sym y.1))
     ]
 
-delimited_any : (opened n c : ℕ) (t : Text) {w : Target} {u : Text} → delimited opened c t ≡ Some (w, u) → (v : Target) × (delimited n c t ≡ Some (v, u))
+delimited_any : (opened n c : ℕ) (t : Text) {w : Target} {u : Text} → delimited_target opened c t ≡ Some (w, u) → (v : Target) × (delimited_target n c t ≡ Some (v, u))
 delimited_any opened n c t {w} h =
     elim (chosen (is_at "-" t) _ _ _ h) [
       | inl y ↦ (let r = distance_any opened n c (drop 1 t) y.1 in (r.0, rw y.0 r.1))
       | inr y ↦ (w, rw y.0 y.1)
     ]
 
-pub reference_any : (opened n : ℕ) (t : Text) {w : Target} {u : Text} → reference opened t ≡ Some (w, u) → (v : Target) × (reference n t ≡ Some (v, u))
+pub reference_any : (opened n : ℕ) (t : Text) {w : Target} {u : Text} → read_reference opened t ≡ Some (w, u) → (v : Target) × (read_reference n t ≡ Some (v, u))
 reference_any opened n t {w} h =
     elim (chosen (begins "\\k<" t) _ _ _ h) [
       | inl y ↦ (let r = delimited_any opened n 62 (drop 3 t) y.1 in (r.0, rw y.0 r.1))

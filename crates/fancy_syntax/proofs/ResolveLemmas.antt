@@ -1,4 +1,4 @@
--- How references are resolved, one behind the other.
+-- How references are resolved, one after another.
 use Rattle.std.proofs.Common.{◌≡◌, ℕ, ◌+◌, ◌-◌, ◌<◌, ◌≤◌, ◌==◌, ◌&&◌, not, nat_le, min, Bool, true, false, List, [], ◌∷◌, ◌++◌, map, length, take, get_or, All, Any, Some, None, Result, Ok, Err, refl, sym, ap, ap₂, ◌∙◌, cond, arith}
 use Rattle.std.proofs.lemmas.Bool.Decides.{nat_tests}
 use Rattle.std.specs.Char.{is_ascii_digit}
@@ -10,14 +10,14 @@ use Rattle.fancy_syntax.specs.declared.reference.Target.{Target as Found_target}
 use Rattle.fancy_tree.specs.Text.{Text}
 use Rattle.fancy_syntax.specs.Counts.{past_digits, are_digits, decimal}
 use Rattle.fancy_tree.specs.Limits.{largest_told}
-use Rattle.fancy_syntax.specs.References.{Groups, Fault, no_number, no_name, resolve, fault_in, group_in, fault_of, group_for, group_numbered, group_in_digits}
+use Rattle.fancy_syntax.specs.References.{Groups, ReferenceFault, no_number, no_name, resolve, fault_in, group_in, target_fault, group_for, group_numbered, group_in_digits}
 use Rattle.fancy_tree.specs.declared.name.GroupName.{GroupName}
 use Rattle.fancy_syntax.specs.declared.parse.Draft.{Draft}
 use Rattle.fancy_tree.specs.Names.{named_groups}
 use Rattle.fancy_syntax.specs.Dialect.{has_name}
-use Rattle.fancy_syntax.specs.Views.{target_of, targets_of, groups_in, Resolves, RefusesReference}
+use Rattle.fancy_syntax.specs.Views.{target_of, targets_of, draft_groups, Resolves, RefusesReference}
 
-pub refuses_as : (e : Error) {P Q : Fault → Type 0} → ((f : Fault) → P f → Q f) → RefusesReference e P → RefusesReference e Q
+pub refuses_as : (e : Error) {P Q : ReferenceFault → Type 0} → ((f : ReferenceFault) → P f → Q f) → RefusesReference e P → RefusesReference e Q
 refuses_as Memory more h = tt
 refuses_as (ParseError at kind) more h = absurd h
 refuses_as (CompileError why) more (f, e, h) = (f, e, more f h)
@@ -65,7 +65,7 @@ any_named (n ∷ names) = let some : (length (n ∷ names) == 0) ≡ false = gri
 
 -- the groups that the code resolves by are those of the pattern
 pub same_groups : (only_named : Bool) (draft : Draft) (b : Bool) (listed : List GroupName) → b ≡ (only_named && has_name (named_groups listed)) → listed ≡ draft.names.items
-    → ◌≡◌ {A = Groups} (record { by_name = b; opened = draft.groups - 1; names = named_groups listed }) (groups_in only_named draft)
+    → ◌≡◌ {A = Groups} (record { by_name = b; opened = draft.groups - 1; names = named_groups listed }) (draft_groups only_named draft)
 same_groups only_named draft b listed h e =
     ap₂ (λ (x : Bool) (names : List (Text × ℕ)). let g : Groups = record { by_name = x; opened = draft.groups - 1; names = names } in g)
     (h ∙ ap (λ (l : List GroupName). only_named && has_name (named_groups l)) e) (ap named_groups e)
@@ -78,8 +78,8 @@ module _ (g : Groups) (ts : List Found_target) (i : ℕ) (t : Found_target) (bel
       ∙ (map-append (group_for g) (targets_of (take i ts)) (target_of (get_or ts i t) ∷ [])
       ∙ ap (λ m. map (group_for g) (targets_of (take i ts)) ++ m ∷ []) (ap (λ (x : Found_target). group_for g (target_of x)) (sym is) ∙ ap group_in e))
 
-  pub resolved_more : (n : ℕ) → resolve g (target_of t) ≡ Ok n → All (λ w. fault_of g (target_of w) ≡ None) (take i ts) → All (λ w. fault_of g (target_of w) ≡ None) (take (i + 1) ts)
-  resolved_more n e all = All-more (λ w. fault_of g (target_of w) ≡ None) ts i t below all (ap (λ (x : Found_target). fault_of g (target_of x)) (sym is) ∙ ap fault_in e)
+  pub resolved_more : (n : ℕ) → resolve g (target_of t) ≡ Ok n → All (λ w. target_fault g (target_of w) ≡ None) (take i ts) → All (λ w. target_fault g (target_of w) ≡ None) (take (i + 1) ts)
+  resolved_more n e all = All-more (λ w. target_fault g (target_of w) ≡ None) ts i t below all (ap (λ (x : Found_target). target_fault g (target_of x)) (sym is) ∙ ap fault_in e)
 
-  pub refused_here : (e : Error) → RefusesReference e (λ f. resolve g (target_of t) ≡ Err f) → RefusesReference e (λ f. Any (λ w. fault_of g (target_of w) ≡ Some f) ts)
+  pub refused_here : (e : Error) → RefusesReference e (λ f. resolve g (target_of t) ≡ Err f) → RefusesReference e (λ f. Any (λ w. target_fault g (target_of w) ≡ Some f) ts)
   refused_here e h = refuses_as e (λ f k. (i, t, below, sym is, ap fault_in k)) h

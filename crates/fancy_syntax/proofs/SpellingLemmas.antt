@@ -16,11 +16,11 @@ use Rattle.fancy_tree.specs.Names.{is_name_character, is_name, name_here, past_n
 use Rattle.fancy_syntax.specs.References as references
 use Rattle.fancy_syntax.specs.References.{Target, called, group_condition, is_left_out}
 use Rattle.fancy_syntax.specs.Dialect as d
-use Rattle.fancy_syntax.specs.Dialect.{Flags, Scope, in_force, Setting, one_more_group, one_more_name, NameMark, name_mark, name_mark_after_p, GroupMark, mark_atomic, mark_ahead, mark_not_ahead, mark_behind, mark_not_behind, inside, wants, test_here, back_to, ReadsAtom, begins_quantifier, Turns, optional, star, plus, exactly, at_least, between, at_most, Quantifies, greedily, lazily, possessively, Blanks, IsUnquantified, with_part}
+use Rattle.fancy_syntax.specs.Dialect.{Flags, Scope, in_force, Setting, one_more_group, one_more_name, NameMark, name_mark, name_mark_after_p, GroupMark, mark_atomic, mark_ahead, mark_not_ahead, mark_behind, mark_not_behind, inside, wants, test_here, back_to, ReadsAtom, begins_quantifier, Quantifier, optional, asterisk, plus, exactly, at_least, between, at_most, Quantifies, greedily, lazily, possessively, Blanks, IsUnquantified, with_part}
 use Rattle.fancy_syntax.specs.Grammar as g
-use Rattle.fancy_syntax.specs.Grammar.{Place, past, past_blanks, here, Bounds, bounds_in, past_count, are_bounds, opening, opens_group, parentheses, wrap, closed, ends_branch, start}
+use Rattle.fancy_syntax.specs.Grammar.{Place, past, past_blanks, here, RepeatBounds, bounds_in, past_count, are_bounds, opening, opens_group, parentheses, wrap, after_group, ends_branch, start}
 use Rattle.fancy_tree.proofs.Facts.{some_pair, some_is_none, chosen, same_some, char_is, either_no, both_true, left_of}
-use Rattle.fancy_syntax.proofs.ReadingLemmas.{referred}
+use Rattle.fancy_syntax.proofs.ParserLemmas.{referred}
 use Rattle.fancy_syntax.proofs.ReferenceLemmas.{ends_reference, ends_condition, reference_begins, no_paren_begun, no_end_begun, no_blank_begun}
 use Rattle.fancy_syntax.proofs.AtomLemmas.{ends_atom, no_paren, no_end}
 use Rattle.fancy_syntax.proofs.FlagLemmas.{setting_is_read, no_colon_first, no_angle_first, no_p_first, no_mark_first, no_parenthesis_first, no_hash_first, setting_spelled}
@@ -98,25 +98,25 @@ item_is_no_blank (d.bare a h) = atom_is_no_blank a
 item_is_no_blank (d.quantified {t = t} {u = u} {v = v} {after = after} a e b h) = rw (append_assoc t (u ++ v) after, append_assoc u v after) (atom_is_no_blank a)
 
 -- the quantifier that is spelled is read
-turns_begin : {t : Text} {low : ℕ} {high : Option ℕ} → Turns t low high → (after : Text) → begins_quantifier (t ++ after) ≡ true
+turns_begin : {t : Text} {low : ℕ} {high : Option ℕ} → Quantifier t low high → (after : Text) → begins_quantifier (t ++ after) ≡ true
 turns_begin optional after = refl
-turns_begin star after = refl
+turns_begin asterisk after = refl
 turns_begin plus after = refl
 turns_begin (exactly n h) after = rw (append_assoc n (125 ∷ []) after) (exactly_is_read n after h).begins
 turns_begin (at_least n h) after = rw (append_assoc n (44 ∷ 125 ∷ []) after) (at_least_is_read n after h).begins
 turns_begin (between n m h f le) after = rw (append_assoc n (44 ∷ (m ++ 125 ∷ [])) after, append_assoc m (125 ∷ []) after) (between_is_read n m after h f le).begins
 turns_begin (at_most m f) after = rw (append_assoc m (125 ∷ []) after) (at_most_is_read m after f).begins
 
-choose_count : (b : Bool) (c d : Bounds) (u v : Text) (s : Scope) → b ≡ true → c ≡ d → are_bounds d ≡ true → u ≡ v
-    → ◌≡◌ {A = Option (Bounds × Place)} (cond {A = Option (Bounds × Place)} (b && are_bounds c) (Some (c, start s u)) None) (Some (d, start s v))
+choose_count : (b : Bool) (c d : RepeatBounds) (u v : Text) (s : Scope) → b ≡ true → c ≡ d → are_bounds d ≡ true → u ≡ v
+    → ◌≡◌ {A = Option (RepeatBounds × Place)} (cond {A = Option (RepeatBounds × Place)} (b && are_bounds c) (Some (c, start s u)) None) (Some (d, start s v))
 choose_count b c d u v s h e f w = rw (h, e, f, w) refl
 
-count_is_read : {t after : Text} {b : Bounds} → IsRead t after b → (s : Scope) → ◌≡◌ {A = Option (Bounds × Place)} (g.turns (start s (123 ∷ t))) (Some (b, start s after))
-count_is_read {t} {after} {b} x s = choose_count (begins_count (123 ∷ t)) (bounds_in t) b (past_count t) after s x.begins x.bounds x.fits x.behind
+count_is_read : {t after : Text} {b : RepeatBounds} → IsRead t after b → (s : Scope) → ◌≡◌ {A = Option (RepeatBounds × Place)} (g.quantifier_here (start s (123 ∷ t))) (Some (b, start s after))
+count_is_read {t} {after} {b} x s = choose_count (begins_count (123 ∷ t)) (bounds_in t) b (past_count t) after s x.begins x.bounds x.fits x.follows
 
-turns_are_read : {t : Text} {low : ℕ} {high : Option ℕ} → Turns t low high → (s : Scope) (after : Text) → ◌≡◌ {A = Option (Bounds × Place)} (g.turns (start s (t ++ after))) (Some ((low, high), start s after))
+turns_are_read : {t : Text} {low : ℕ} {high : Option ℕ} → Quantifier t low high → (s : Scope) (after : Text) → ◌≡◌ {A = Option (RepeatBounds × Place)} (g.quantifier_here (start s (t ++ after))) (Some ((low, high), start s after))
 turns_are_read optional s after = refl
-turns_are_read star s after = refl
+turns_are_read asterisk s after = refl
 turns_are_read plus s after = refl
 turns_are_read (exactly n h) s after = rw (append_assoc n (125 ∷ []) after) (count_is_read (exactly_is_read n after h) s)
 turns_are_read (at_least n h) s after = rw (append_assoc n (44 ∷ 125 ∷ []) after) (count_is_read (at_least_is_read n after h) s)
@@ -130,11 +130,11 @@ greedy_is_read s (c ∷ rest) h =
     let n = either_false (43 == c) false m.1 in
     rw (m.0, n.0) refl
 
-quantified_is : (a : Pattern) (p : Place) {s q r : Place} {b : Bounds} {how : Taste} → here p ≡ s → begins_quantifier s.text ≡ true → is_empty a ≡ false → ◌≡◌ {A = Option (Bounds × Place)} (g.turns s) (Some (b, q))
+quantified_is : (a : Pattern) (p : Place) {s q r : Place} {b : RepeatBounds} {how : Taste} → here p ≡ s → begins_quantifier s.text ≡ true → is_empty a ≡ false → ◌≡◌ {A = Option (RepeatBounds × Place)} (g.quantifier_here s) (Some (b, q))
     → ◌≡◌ {A = Option (Taste × Place)} (g.taste q) (Some (how, r)) → ◌≡◌ {A = Option (Pattern × Place)} (g.quantified a p) (Some (repeat b.0 b.1 how a, r))
 quantified_is a p {b = b} is h e f t =
     let begun : begins_quantifier (here p).text ≡ true = ap (λ (y : Place). begins_quantifier y.text) is ∙ h in
-    rw (begun, e) (ap (g.tasted a) (ap g.turns is ∙ f) ∙ ap (option_map (λ (found : Taste × Place). (repeat b.0 b.1 found.0 a, found.1))) t)
+    rw (begun, e) (ap (g.with_taste a) (ap g.quantifier_here is ∙ f) ∙ ap (option_map (λ (found : Taste × Place). (repeat b.0 b.1 found.0 a, found.1))) t)
 
 -- a quantifier that stands at once
 mark_here : {u after : Text} {low : ℕ} {high : Option ℕ} {taste : Taste} → Quantifies u after low high taste → (a : Pattern) (s : Scope) (p : Place) → here p ≡ start s (u ++ after) → is_empty a ≡ false
@@ -158,7 +158,7 @@ mark_is_read {w} {u} {after} q a s b e =
 pub bare_is_read : (a : Pattern) (s : Scope) (after : Text) → IsUnquantified s.flags.ignore_blanks after → g.quantified a (start s after) ≡ Some (a, start s after)
 bare_is_read a s after h = rw (unquantified_is_read s.flags.ignore_blanks after h) refl
 
-unnamed_opens : (s : Scope) (rest : Text) → is_at "?*" rest ≡ false → ◌≡◌ {A = Option (g.Opening × Place)} (opening (start s (40 ∷ rest))) (Some (g.unnamed (start s (40 ∷ rest))))
+unnamed_opens : (s : Scope) (rest : Text) → is_at "?*" rest ≡ false → ◌≡◌ {A = Option (g.Opening × Place)} (opening (start s (40 ∷ rest))) (Some (g.unnamed_opening (start s (40 ∷ rest))))
 unnamed_opens s [] h = refl
 unnamed_opens s (x ∷ rest) h =
     let m = either_false (63 == x) ((42 == x) || false) h in
@@ -209,7 +209,7 @@ choose_name : (s : Scope) (a b : Bool) (m n u v : Text) → a ≡ false → b �
     → ◌≡◌ {A = Option (g.Opening × Place)} (cond {A = Option (g.Opening × Place)} (a || not b) None (Some (g.capture (s.opened + 1), start (one_more_name m s) (drop 1 u)))) (Some (g.capture (s.opened + 1), start (one_more_name n s) (drop 1 v)))
 choose_name s a b m n u v h e f w = rw (h, e, f, w) refl
 
-named_is_read : (s : Scope) (whole n rest : Text) → is_name n ≡ true → ◌≡◌ {A = Option (g.Opening × Place)} (g.named (start s whole) (n ++ 62 ∷ rest)) (Some (g.capture (s.opened + 1), start (one_more_name n s) rest))
+named_is_read : (s : Scope) (whole n rest : Text) → is_name n ≡ true → ◌≡◌ {A = Option (g.Opening × Place)} (g.named_opening (start s whole) (n ++ 62 ∷ rest)) (Some (g.capture (s.opened + 1), start (one_more_name n s) rest))
 named_is_read s whole n rest h =
     choose_name s (length (name_here (n ++ 62 ∷ rest)) == 0) (is_at ">" (past_name (n ++ 62 ∷ rest))) (name_here (n ++ 62 ∷ rest)) n (past_name (n ++ 62 ∷ rest)) (62 ∷ rest)
     (ap (λ l. length l == 0) (name_is_read 62 n rest no_closing h) ∙ name_is_some n h) (ap (is_at ">") (past_read 62 n rest no_closing h)) (name_is_read 62 n rest no_closing h) (past_read 62 n rest no_closing h)
@@ -302,7 +302,7 @@ mutual
       (g.grouped refl (g.at_once (test_opens s (c ++ (t ++ 41 ∷ after)) h) refl (two_parentheses k)) refl (read_branches b refl refl) refl f)
   read_atom {s = s} {after = after} (d.decided {t = t} c h f a b) x =
       rw (append_assoc c (41 ∷ (t ++ 41 ∷ [])) after, append_assoc t (41 ∷ []) after)
-      (g.grouped refl (g.behind_condition (condition_opens s (c ++ 41 ∷ (t ++ 41 ∷ after)) h f) (read_branches a refl refl) refl) refl (read_branches b refl refl) refl x)
+      (g.grouped refl (g.after_condition (condition_opens s (c ++ 41 ∷ (t ++ 41 ∷ after)) h f) (read_branches a refl refl) refl) refl (read_branches b refl refl) refl x)
 
 not_true : (b : Bool) → not b ≡ true → b ≡ false
 not_true true h = cc
@@ -348,7 +348,7 @@ flags_opened p how q f t (c ∷ v) is l e h = go (58 == c) refl e h
     go false x e h = is_opened h (as_setting t v f (is ∙ ap (λ d. 40 ∷ 63 ∷ (t ++ d ∷ v)) (char_is 41 c (left_of (41 == c) false e refl))) l)
 
 -- the opening by a name
-name_opened : (p : Place) (how : g.Opening) (q : Place) (m t : Text) → NameMark m → p.text ≡ codes "(?" ++ (m ++ t) → g.named p t ≡ Some (how, q) → Opened p how q
+name_opened : (p : Place) (how : g.Opening) (q : Place) (m t : Text) → NameMark m → p.text ≡ codes "(?" ++ (m ++ t) → g.named_opening p t ≡ Some (how, q) → Opened p how q
 name_opened p how q m t l is h =
     elim (chosen ((length (name_here t) == 0) || not (is_at ">" (past_name t))) _ _ _ h) [
       | inl x ↦ absurd (some_is_none (sym x.1))
@@ -412,7 +412,7 @@ marked_here t how n h =
     is_it {a} {i} s o = let e = some_pair s in subst (λ x. MarkRead t x n) e.0 (subst (λ y. MarkRead t a y) e.1 o)
 
 -- the opening that nothing distinguishes
-unnamed_opened : (p : Place) (how : g.Opening) (q : Place) → p.text ≡ 40 ∷ drop 1 p.text → is_at "?*" (drop 1 p.text) ≡ false → ◌≡◌ {A = Option (g.Opening × Place)} (Some (g.unnamed p)) (Some (how, q)) → Opened p how q
+unnamed_opened : (p : Place) (how : g.Opening) (q : Place) → p.text ≡ 40 ∷ drop 1 p.text → is_at "?*" (drop 1 p.text) ≡ false → ◌≡◌ {A = Option (g.Opening × Place)} (Some (g.unnamed_opening p)) (Some (how, q)) → Opened p how q
 unnamed_opened p how q is n h =
     elim (chosen p.scope.unnamed_capture (g.capture (p.scope.opened + 1), start (one_more_group p.scope) (drop 1 p.text)) (g.plain, past 1 p) (how, q) (same_some h)) [
       | inl x ↦ is_opened (ap Some x.1) (as_capture (drop 1 p.text) x.0 is n)
@@ -420,7 +420,7 @@ unnamed_opened p how q is n h =
     ]
 
 -- the opening where no mark stands
-unmarked_opened : (p : Place) (how : g.Opening) (q : Place) → is_at "(" p.text ≡ true → g.unmarked p ≡ Some (how, q) → Opened p how q
+unmarked_opened : (p : Place) (how : g.Opening) (q : Place) → is_at "(" p.text ≡ true → g.unmarked_opening p ≡ Some (how, q) → Opened p how q
 unmarked_opened p how q e h =
     elim (chosen (begins "(?<" p.text) _ _ _ h) [
       | inl y ↦ name_opened p how q (codes "<") (drop 3 p.text) name_mark (begins_with (codes "(?<") p.text y.0) y.1
@@ -461,19 +461,19 @@ opened p how q e h =
     by_mark (Some (m, n)) f x = let k = marked_here p.text m n f in is_opened x (as_marked k.mark (drop n p.text) m k.spelled k.is)
 
 -- the number of turns that was read
-pub record Stated (p : Place) (b : Bounds) (q : Place) : Type 0 where
+pub record Stated (p : Place) (b : RepeatBounds) (q : Place) : Type 0 where
   pub mark : Text
   pub rest : Text
   pub text : p.text ≡ mark ++ rest
-  pub states : Turns mark b.0 b.1
+  pub states : Quantifier mark b.0 b.1
   pub end : q ≡ start p.scope rest
 
-pub stated : (p : Place) (b : Bounds) (q : Place) → g.turns p ≡ Some (b, q) → Stated p b q
+pub stated : (p : Place) (b : RepeatBounds) (q : Place) → g.quantifier_here p ≡ Some (b, q) → Stated p b q
 stated p b q h =
     elim (chosen (is_at "?" p.text) _ _ _ h) [
       | inl x ↦ is_it x.1 (one_mark 63 optional x.0)
       | inr x ↦ elim (chosen (is_at "*" p.text) _ _ _ x.1) [
-        | inl x ↦ is_it x.1 (one_mark 42 star x.0)
+        | inl x ↦ is_it x.1 (one_mark 42 asterisk x.0)
         | inr x ↦ elim (chosen (is_at "+" p.text) _ _ _ x.1) [
           | inl x ↦ is_it x.1 (one_mark 43 plus x.0)
           | inr x ↦ elim (chosen (begins_count p.text && are_bounds (bounds_in (drop 1 p.text))) _ _ _ x.1) [
@@ -491,10 +491,10 @@ stated p b q h =
         let c = count_spelled (drop 1 p.text) b.1 f.1 in
         record { mark = 123 ∷ c.mark; rest = past_count (drop 1 p.text); text = at_char 123 p.text b.0 ∙ ap (λ l. 123 ∷ l) c.text; states = c.states; end = refl }
 
-    one_mark : (c : ℕ) {low : ℕ} {high : Option ℕ} → Turns (c ∷ []) low high → is_at_any (c ∷ []) p.text ≡ true → Stated p (low, high) (past 1 p)
+    one_mark : (c : ℕ) {low : ℕ} {high : Option ℕ} → Quantifier (c ∷ []) low high → is_at_any (c ∷ []) p.text ≡ true → Stated p (low, high) (past 1 p)
     one_mark c w x = record { mark = c ∷ []; rest = drop 1 p.text; text = at_char c p.text x; states = w; end = refl }
 
-    is_it : {a : Bounds} {r : Place} → ◌≡◌ {A = Option (Bounds × Place)} (Some (a, r)) (Some (b, q)) → Stated p a r → Stated p b q
+    is_it : {a : RepeatBounds} {r : Place} → ◌≡◌ {A = Option (RepeatBounds × Place)} (Some (a, r)) (Some (b, q)) → Stated p a r → Stated p b q
     is_it {a} {r} s o = let t = some_pair s in subst (λ x. Stated p x q) t.0 (subst (λ y. Stated p a y) t.1 o)
 
 -- the taste that was read
@@ -532,23 +532,23 @@ pub data Quantity (a : Pattern) (q : Place) : Pattern → Place → Type 0 where
       → Quantity a q (repeat low high taste a) (start q.scope u)
 
 -- a repeat is its number of turns and its taste
-pub record Repeats (a : Pattern) (o : Option (Bounds × Place)) (t : Pattern) (r : Place) : Type 0 where
-  pub bounds : Bounds
-  pub behind : Place
+pub record Repeats (a : Pattern) (o : Option (RepeatBounds × Place)) (t : Pattern) (r : Place) : Type 0 where
+  pub bounds : RepeatBounds
+  pub follows : Place
   pub how : Taste
-  pub turns : o ≡ Some (bounds, behind)
-  pub taste : g.taste behind ≡ Some (how, r)
+  pub turns : o ≡ Some (bounds, follows)
+  pub taste : g.taste follows ≡ Some (how, r)
   pub is : repeat bounds.0 bounds.1 how a ≡ t
 
-pub repeats : (a : Pattern) (o : Option (Bounds × Place)) (t : Pattern) (r : Place) → g.tasted a o ≡ Some (t, r) → Repeats a o t r
+pub repeats : (a : Pattern) (o : Option (RepeatBounds × Place)) (t : Pattern) (r : Place) → g.with_taste a o ≡ Some (t, r) → Repeats a o t r
 repeats a None t r h = absurd (some_is_none (sym h))
 repeats a (Some (b, p)) t r h = go (g.taste p) refl h
   where
     go : (o : Option (Taste × Place)) → g.taste p ≡ o → ◌≡◌ {A = Option (Pattern × Place)} (option_map {U = Pattern × Place} (λ (found : Taste × Place). (repeat b.0 b.1 found.0 a, found.1)) o) (Some (t, r)) → Repeats a (Some (b, p)) t r
     go None e h = absurd (some_is_none (sym h))
-    go (Some (how, s)) e h = let x = some_pair h in record { bounds = b; behind = p; how = how; turns = refl; taste = e ∙ ap (λ (y : Place). Some (how, y)) x.1; is = x.0 }
+    go (Some (how, s)) e h = let x = some_pair h in record { bounds = b; follows = p; how = how; turns = refl; taste = e ∙ ap (λ (y : Place). Some (how, y)) x.1; is = x.0 }
 
-quantity_of : (a : Pattern) (q p : Place) {b : Bounds} {r : Place} {how : Taste} → is_empty a ≡ false → Stated (here q) b p → Tasted p how r → Quantity a q (repeat b.0 b.1 how a) r
+quantity_of : (a : Pattern) (q p : Place) {b : RepeatBounds} {r : Place} {how : Taste} → is_empty a ≡ false → Stated (here q) b p → Tasted p how r → Quantity a q (repeat b.0 b.1 how a) r
 quantity_of a q p {b} e s (no_suffix h) =
     let w = skipped q.scope.flags.ignore_blanks q.text in
     subst (λ y. Quantity a q (repeat b.0 b.1 Greedy a) y) (sym s.end)
@@ -572,8 +572,8 @@ quantity a q t r h =
       | inr x ↦ elim (chosen (is_empty a) _ _ _ x.1) [
         | inl x ↦ absurd (some_is_none (sym x.1))
         | inr x ↦
-            let w = repeats a (g.turns (here q)) t r x.1 in
-            subst (λ y. Quantity a q y r) w.is (quantity_of a q w.behind x.0 (stated (here q) w.bounds w.behind w.turns) (tasted w.behind w.how r w.taste))
+            let w = repeats a (g.quantifier_here (here q)) t r x.1 in
+            subst (λ y. Quantity a q y r) w.is (quantity_of a q w.follows x.0 (stated (here q) w.bounds w.follows w.turns) (tasted w.follows w.how r w.taste))
       ]
     ]
   where
@@ -588,7 +588,7 @@ atom_is p a q (g.alone {t = t} h) clean =
       λ k. d.single (subst (λ u. past_blank p.scope.flags.ignore_blanks u ≡ None) e.is clean) (subst (λ u. ReadsAtom p.scope u a t) e.is h),
     )
 atom_is p a q (g.refers {w = w} {t = t} h) clean =
-    let e = ends_reference p.scope.opened p.text h in (e.front, e.is, λ k. d.reference (subst (λ u. references.reference p.scope.opened u ≡ Some (w, t)) e.is h))
+    let e = ends_reference p.scope.opened p.text h in (e.front, e.is, λ k. d.reference (subst (λ u. references.read_reference p.scope.opened u ≡ Some (w, t)) e.is h))
 
 -- an atom with what quantifies it
 pub spell_quantity : {k : ℕ} {s : Scope} {a t : Pattern} {q r : Place} {w : Text} → d.Atom k s w q.text a q.scope → Quantity a q t r → (v : Text) × (w ++ q.text ≡ v ++ r.text) × d.Item k s v r.text (Some t) r.scope
@@ -636,7 +636,7 @@ spell_reference (as_reference n u l e) h = (codes "(?P=" ++ (n ++ codes ")"), e 
 -- what a parenthesis opens at once
 at_most_opened : {k : ℕ} {p q : Place} {how : g.Opening} → is_at "(" p.text ≡ true → g.Opens k p how q → opens_group how ≡ false → (j : ℕ) × (k ≡ suc j) × Opened p how q
 at_most_opened {p = p} {q = q} {how = how} e (g.at_once {k = j} o a f) n = (j, refl, opened p how q e o)
-at_most_opened e (g.behind_condition o b c) n = absurd (false_is_true (sym n))
+at_most_opened e (g.after_condition o b c) n = absurd (false_is_true (sym n))
 
 -- the place of a condition
 record IsCondition (p inside : Place) : Type 0 where
@@ -659,7 +659,7 @@ condition_of (as_condition u n l e) h = record { is = e; untested = n; kept = l;
 
 -- a conditional has room for two parentheses
 spell_test : {t after : Text} {bs : List Pattern} {q : Scope} (k : ℕ) (s : Scope) (c : Text) (w : Target) → group_condition (c ++ (t ++ 41 ∷ after)) ≡ Some (w, t ++ 41 ∷ after) → 2 ≤ suc k
-    → d.Branches k (wants w s) t (41 ∷ after) bs q → d.Atom (suc k) s (codes "(?(" ++ (c ++ (t ++ codes ")"))) after (d.chosen (test_here s) bs) (back_to s q)
+    → d.Branches k (wants w s) t (41 ∷ after) bs q → d.Atom (suc k) s (codes "(?(" ++ (c ++ (t ++ codes ")"))) after (d.conditional_of (test_here s) bs) (back_to s q)
 spell_test zero s c w h fits b = absurd (omega (arith, fits))
 spell_test (suc k) s c w h fits b = d.tested c h b
 
@@ -692,14 +692,14 @@ spell_group {t = t} {after = after} fits (as_name m v u l f e) n i b = (
 spell_group {t = t} {after = after} fits (as_capture u c e f) n i b = (codes "(" ++ (t ++ codes ")"), e ∙ ap (λ l. 40 ∷ l) (i ∙ sym (append_assoc t (41 ∷ []) after)), d.capture c (rw i at f) b)
 spell_group {t = t} {after = after} fits (as_unnamed u c e f) n i b = (codes "(" ++ (t ++ codes ")"), e ∙ ap (λ l. 40 ∷ l) (i ∙ sym (append_assoc t (41 ∷ []) after)), d.unnamed c (rw i at f) b)
 
--- what is spelled inside a group, and the parenthesis behind it, spell an atom with what opens it
+-- what is spelled inside a group, and the parenthesis after it, spell an atom with what opens it
 abbrev Wraps : ℕ → Place → g.Opening → Place → Type 0
 Wraps j p how inside = (k : ℕ) → j ≡ suc k → (t after : Text) (bs : List Pattern) (s : Scope) → inside.text ≡ t ++ 41 ∷ after → d.Branches k inside.scope t (41 ∷ after) bs s
     → (w : Text) × (p.text ≡ w ++ after) × d.Atom j p.scope w after (wrap how bs) (back_to p.scope s)
 
--- a condition that is a pattern, with the branches behind it
+-- a condition that is a pattern, with the branches after it
 spell_condition : {p inside : Place} {c t after : Text} {cs bs : List Pattern} {r s : Scope} (i : ℕ) → IsCondition p inside → inside.text ≡ c ++ 41 ∷ (t ++ 41 ∷ after) → d.Branches i inside.scope c (41 ∷ (t ++ 41 ∷ after)) cs r
-    → d.Branches (suc i) (back_to p.scope r) t (41 ∷ after) bs s → (w : Text) × (p.text ≡ w ++ after) × d.Atom (suc (suc i)) p.scope w after (d.chosen (in_branches cs) bs) (back_to p.scope s)
+    → d.Branches (suc i) (back_to p.scope r) t (41 ∷ after) bs s → (w : Text) × (p.text ≡ w ++ after) × d.Atom (suc (suc i)) p.scope w after (d.conditional_of (in_branches cs) bs) (back_to p.scope s)
 spell_condition {p} {inside} {c} {t} {after} {cs} {bs} {r} {s} i x is a b = (
   codes "(?(" ++ (c ++ (codes ")" ++ (t ++ codes ")"))),
   x.is ∙ ap (λ v. codes "(?(" ++ v) (is ∙ (ap (λ v. c ++ 41 ∷ v) (sym (append_assoc t (41 ∷ []) after)) ∙ sym (append_assoc c (41 ∷ (t ++ 41 ∷ [])) after))),
@@ -751,7 +751,7 @@ mutual
   spell_opening {p = p} {inside = inside} {how = how} e (g.at_once {k = i} o a f) n k deep t after bs s is b =
       let same : k ≡ i = omega (arith, deep) in
       spell_group {k = i} f (opened p how inside e o) n is (subst (λ m. d.Branches m inside.scope t (41 ∷ after) bs s) same b)
-  spell_opening {p = p} e (g.behind_condition {k = i} {inside = inside} {q = q} {cs = cs} o x y) n k deep t after bs s is b =
+  spell_opening {p = p} e (g.after_condition {k = i} {inside = inside} {q = q} {cs = cs} o x y) n k deep t after bs s is b =
       let same : k ≡ suc i = omega (arith, deep) in
       let z = spell_branches x in
       let closes : q.text ≡ 41 ∷ (t ++ 41 ∷ after) = at_char 41 q.text y ∙ ap (λ l. 41 ∷ l) is in

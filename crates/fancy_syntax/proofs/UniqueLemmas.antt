@@ -3,13 +3,13 @@ use Rattle.std.proofs.Common.{◌≡◌, ℕ, List, [], ◌∷◌, Option, Some,
 use Rattle.fancy_tree.specs.Pattern.{Pattern, in_sequence, in_branches}
 use Rattle.fancy_tree.specs.Text.{Text}
 use Rattle.fancy_class.specs.Words.{is_at}
-use Rattle.fancy_syntax.specs.Grammar.{Place, past, quantified, Opening, Opens, at_once, behind_condition, wrap, closed, Branches, last, more, Parts, none, next, Item, sets, refers_by_name, single, grouped}
+use Rattle.fancy_syntax.specs.Grammar.{Place, past, quantified, Opening, Opens, at_once, after_condition, wrap, after_group, Branches, last, more, Parts, none, next, Item, sets, refers_by_name, single, grouped}
 use Rattle.fancy_syntax.specs.Dialect.{Scope, Spells, with_part}
 use Rattle.fancy_syntax.specs.Views.{IsTheReading}
 use Rattle.fancy_syntax.proofs.SpellingLemmas.{spelling_read}
 use Rattle.fancy_syntax.proofs.LexemeLemmas.{the_atom}
 use Rattle.fancy_tree.proofs.Facts.{true_is_false, some_pair}
-use Rattle.fancy_syntax.proofs.ReadingLemmas.{branches_first, parts_end, parts_next, single_is, opens_is, condition_is, setting_is, reference_is, body_reads}
+use Rattle.fancy_syntax.proofs.ParserLemmas.{branches_first, parts_end, parts_next, single_is, opens_is, condition_is, setting_is, reference_is, body_reads}
 
 mutual
   pub one_branches : {k : ℕ} {p q r : Place} {bs cs : List Pattern} → Branches k p bs q → Branches k p cs r → (cs ≡ bs) × (r ≡ q)
@@ -44,12 +44,12 @@ mutual
   one_item {r = r} (grouped {k = k} {p = p} {inside = inside} {how = how} e o n b c f) y =
       let m = body_reads e (one_opening o) n (sym (add-one k)) y in
       let w = one_branches b m.3 in
-      let z = some_pair (sym m.5 ∙ (ap₂ (λ (bs : List Pattern) (s : Place). quantified (wrap how bs) (closed p s)) w.0 w.1 ∙ f)) in
+      let z = some_pair (sym m.5 ∙ (ap₂ (λ (bs : List Pattern) (s : Place). quantified (wrap how bs) (after_group p s)) w.0 w.1 ∙ f)) in
       (m.6 ∙ ap Some z.0, z.1)
 
   pub one_opening : {k : ℕ} {p q : Place} {how : Opening} → Opens k p how q → IsTheReading (Opens k) p how q
   one_opening (at_once {k = k} h n f) = opens_is k h n f
-  one_opening (behind_condition h b c) = condition_is h refl (b, λ cs r y. one_branches b y) c refl
+  one_opening (after_condition h b c) = condition_is h refl (b, λ cs r y. one_branches b y) c refl
 
 pub one_pattern : (s : Scope) (text : Text) (p q : Pattern) (e f : Scope) → Spells s text p e → Spells s text q f → p ≡ q
 one_pattern s text p q e f x y =

@@ -5,7 +5,7 @@ use Rattle.fancy_syntax.specs.declared.groups.Grouping.TheVariants.{Atomic, Look
 use Rattle.fancy_tree.specs.Pattern.{Pattern, backreference, group_test, group, repeat, in_sequence, in_branches}
 use Rattle.fancy_tree.specs.Sizes.{is_empty}
 use Rattle.fancy_tree.specs.Text.{Text}
-use Rattle.fancy_syntax.specs.Dialect.{Scope, Options, begin, has_name, lexeme, ReadsAtom, by_lexeme, by_class, with_part, Branches, one, either, Parts, nothing, item, Item, set, bare, quantified, Atom, single, plain, flagged, capture, unnamed, named, marked, reference, reference_by_name, tested, decided, chosen, inside, grouped, Spells, SpellsUnder}
+use Rattle.fancy_syntax.specs.Dialect.{Scope, Options, begin, has_name, lexeme, ReadsAtom, by_lexeme, by_class, with_part, Branches, one, either, Parts, nothing, item, Item, set, bare, quantified, Atom, single, plain, flagged, capture, unnamed, named, marked, reference, reference_by_name, tested, decided, conditional_of, inside, grouped, Spells, SpellsUnder}
 use Rattle.fancy_syntax.specs.References.{Target, called}
 use Rattle.fancy_tree.proofs.Facts.{true_is_false}
 use Rattle.fancy_syntax.proofs.UniqueLemmas.{one_pattern, one_end}
@@ -97,28 +97,28 @@ fuller_marked Atomic p q = never_empty refl
 fuller_marked (LookAhead negated) p q = never_empty refl
 fuller_marked (LookBehind negated) p q = never_empty refl
 
-fuller_chosen : (c d : Pattern) (ps qs : List Pattern) → IsFuller (chosen c ps) (chosen d qs)
+fuller_chosen : (c d : Pattern) (ps qs : List Pattern) → IsFuller (conditional_of c ps) (conditional_of d qs)
 fuller_chosen c d ps [] = never_empty refl
 fuller_chosen c d ps (q ∷ qs) = never_empty refl
 
 -- What is spelled from s to r is spelled so where groups without a name capture: something fuller, with names where there were some.
 record Captures {T : Type 0} (Fuller : T → T → Type 0) (Spelled : Scope → T → Scope → Type 0) (before : Before) (s : Scope) (x : T) (r : Scope) : Type 0 where
-  behind : Before
+  after : Before
   found : T
   fuller : Fuller x found
-  spelled : Spelled (capturing before s) found (capturing behind r)
-  named : has_name before.names ≡ has_name s.names → has_name behind.names ≡ has_name r.names
+  spelled : Spelled (capturing before s) found (capturing after r)
+  named : has_name before.names ≡ has_name s.names → has_name after.names ≡ has_name r.names
 
 mutual
   capture_branches : {k : ℕ} {s r : Scope} {t after : Text} {bs : List Pattern} → Branches k s t after bs r → (f : Before) → Captures AreFuller (λ q cs e. Branches k q t after cs e) f s bs r
   capture_branches (one p) f =
       let x = capture_parts p f in
-      record { behind = x.behind; found = in_sequence x.found ∷ []; fuller = one_more_pattern (fuller_sequence x.fuller) no_more; spelled = one x.spelled; named = x.named }
+      record { after = x.after; found = in_sequence x.found ∷ []; fuller = one_more_pattern (fuller_sequence x.fuller) no_more; spelled = one x.spelled; named = x.named }
   capture_branches (either p b) f =
       let x = capture_parts p f in
-      let y = capture_branches b x.behind in
+      let y = capture_branches b x.after in
       record {
-        behind = y.behind;
+        after = y.after;
         found = in_sequence x.found ∷ y.found;
         fuller = one_more_pattern (fuller_sequence x.fuller) y.fuller;
         spelled = either x.spelled y.spelled;
@@ -126,21 +126,21 @@ mutual
       }
 
   capture_parts : {k : ℕ} {s r : Scope} {t after : Text} {ps : List Pattern} → Parts k s t after ps r → (f : Before) → Captures AreFuller (λ q us e. Parts k q t after us e) f s ps r
-  capture_parts (nothing b) f = record { behind = f; found = []; fuller = no_more; spelled = nothing b; named = λ h. h }
+  capture_parts (nothing b) f = record { after = f; found = []; fuller = no_more; spelled = nothing b; named = λ h. h }
   capture_parts (item b i p) f =
       let x = capture_item i f in
-      let y = capture_parts p x.behind in
-      record { behind = y.behind; found = with_part x.found y.found; fuller = fuller_parts x.fuller y.fuller; spelled = item b x.spelled y.spelled; named = λ h. y.named (x.named h) }
+      let y = capture_parts p x.after in
+      record { after = y.after; found = with_part x.found y.found; fuller = fuller_parts x.fuller y.fuller; spelled = item b x.spelled y.spelled; named = λ h. y.named (x.named h) }
 
   capture_item : {k : ℕ} {s r : Scope} {t after : Text} {i : Option Pattern} → Item k s t after i r → (f : Before) → Captures IsFullerPart (λ q j e. Item k q t after j e) f s i r
-  capture_item (set g) f = record { behind = f; found = None; fuller = no_part; spelled = set g; named = λ h. h }
+  capture_item (set g) f = record { after = f; found = None; fuller = no_part; spelled = set g; named = λ h. h }
   capture_item (bare a u) f =
       let x = capture_atom a f in
-      record { behind = x.behind; found = Some x.found; fuller = a_part x.fuller; spelled = bare x.spelled u; named = x.named }
+      record { after = x.after; found = Some x.found; fuller = a_part x.fuller; spelled = bare x.spelled u; named = x.named }
   capture_item (quantified {low = low} {high = high} {taste = taste} {a = a} b e c q) f =
       let x = capture_atom b f in
       record {
-        behind = x.behind;
+        after = x.after;
         found = Some (repeat low high taste x.found);
         fuller = a_part (never_empty refl);
         spelled = quantified x.spelled (not_empty a x.found x.fuller e) c q;
@@ -148,23 +148,23 @@ mutual
       }
 
   capture_atom : {k : ℕ} {s r : Scope} {t after : Text} {a : Pattern} → Atom k s t after a r → (f : Before) → Captures IsFuller (λ q b e. Atom k q t after b e) f s a r
-  capture_atom (single {a = a} b h) f = record { behind = f; found = a; fuller = record { empty = λ e. e }; spelled = single b (same_atom f h); named = λ e. e }
+  capture_atom (single {a = a} b h) f = record { after = f; found = a; fuller = record { empty = λ e. e }; spelled = single b (same_atom f h); named = λ e. e }
   capture_atom (plain b) f =
       let x = capture_branches b f in
-      record { behind = x.behind; found = in_branches x.found; fuller = fuller_branches x.fuller; spelled = plain x.spelled; named = x.named }
+      record { after = x.after; found = in_branches x.found; fuller = fuller_branches x.fuller; spelled = plain x.spelled; named = x.named }
   capture_atom (flagged g b) f =
       let x = capture_branches b f in
-      record { behind = x.behind; found = in_branches x.found; fuller = fuller_branches x.fuller; spelled = flagged g x.spelled; named = x.named }
+      record { after = x.after; found = in_branches x.found; fuller = fuller_branches x.fuller; spelled = flagged g x.spelled; named = x.named }
   capture_atom (capture u h b) f =
       let x = capture_branches b (one_more f) in
-      record { behind = x.behind; found = group (f.opened + 1) (in_branches x.found); fuller = never_empty refl; spelled = capture refl h x.spelled; named = x.named }
+      record { after = x.after; found = group (f.opened + 1) (in_branches x.found); fuller = never_empty refl; spelled = capture refl h x.spelled; named = x.named }
   capture_atom (unnamed u h b) f =
       let x = capture_branches b (one_more f) in
-      record { behind = x.behind; found = group (f.opened + 1) (in_branches x.found); fuller = never_empty refl; spelled = capture refl h x.spelled; named = x.named }
+      record { after = x.after; found = group (f.opened + 1) (in_branches x.found); fuller = never_empty refl; spelled = capture refl h x.spelled; named = x.named }
   capture_atom (named {s = s} name m h b) f =
       let x = capture_branches b (record f { opened = f.opened + 1; names = f.names ++ ((name, f.opened + 1) ∷ []) }) in
       record {
-        behind = x.behind;
+        after = x.after;
         found = group (f.opened + 1) (in_branches x.found);
         fuller = never_empty refl;
         spelled = named name m h x.spelled;
@@ -173,30 +173,30 @@ mutual
   capture_atom (marked {k = k} {s = s} {q = q} {t = t} {after = after} {how = how} {bs = bs} m b) f =
       let x = capture_branches b f in
       record {
-        behind = x.behind;
+        after = x.after;
         found = grouped how (in_branches x.found);
         fuller = fuller_marked how (in_branches bs) (in_branches x.found);
-        spelled = marked m (subst (λ z. Branches k z t (codes ")" ++ after) x.found (capturing x.behind q)) (same_inside how f s) x.spelled);
+        spelled = marked m (subst (λ z. Branches k z t (codes ")" ++ after) x.found (capturing x.after q)) (same_inside how f s) x.spelled);
         named = λ e. x.named (e ∙ ap has_name (sym (same_names how s)));
       }
   capture_atom (reference {s = s} {t = t} {after = after} h) f =
       let w = reference_any s.opened f.opened (t ++ after) h in
-      record { behind = record f { wanted = f.wanted ++ (w.0 ∷ []) }; found = backreference s.flags.ignore_case (length f.wanted); fuller = never_empty refl; spelled = reference w.1; named = λ e. e }
+      record { after = record f { wanted = f.wanted ++ (w.0 ∷ []) }; found = backreference s.flags.ignore_case (length f.wanted); fuller = never_empty refl; spelled = reference w.1; named = λ e. e }
   capture_atom (tested {s = s} {w = w} {bs = bs} c h b) f =
       let x = capture_branches b (record f { wanted = f.wanted ++ (w ∷ []) }) in
-      record { behind = x.behind; found = chosen (group_test (length f.wanted)) x.found; fuller = fuller_chosen (group_test (length s.wanted)) (group_test (length f.wanted)) bs x.found; spelled = tested c h x.spelled; named = x.named }
+      record { after = x.after; found = conditional_of (group_test (length f.wanted)) x.found; fuller = fuller_chosen (group_test (length s.wanted)) (group_test (length f.wanted)) bs x.found; spelled = tested c h x.spelled; named = x.named }
   capture_atom (decided {cs = cs} {bs = bs} c h g a b) f =
       let x = capture_branches a f in
-      let y = capture_branches b x.behind in
+      let y = capture_branches b x.after in
       record {
-        behind = y.behind;
-        found = chosen (in_branches x.found) y.found;
+        after = y.after;
+        found = conditional_of (in_branches x.found) y.found;
         fuller = fuller_chosen (in_branches cs) (in_branches x.found) bs y.found;
         spelled = decided c h g x.spelled y.spelled;
         named = λ e. y.named (x.named e);
       }
   capture_atom (reference_by_name {s = s} n h) f =
-      record { behind = record f { wanted = f.wanted ++ (called n ∷ []) }; found = backreference s.flags.ignore_case (length f.wanted); fuller = never_empty refl; spelled = reference_by_name n h; named = λ e. e }
+      record { after = record f { wanted = f.wanted ++ (called n ∷ []) }; found = backreference s.flags.ignore_case (length f.wanted); fuller = never_empty refl; spelled = reference_by_name n h; named = λ e. e }
 
 -- what is spelled where groups without a name capture nothing, is spelled where they capture, with names where there were some
 pub record Capturing (o : Options) (text : Text) (end : Scope) : Type 0 where
@@ -208,7 +208,7 @@ pub record Capturing (o : Options) (text : Text) (end : Scope) : Type 0 where
 pub spelled_capturing : (b : Bool) (o : Options) {text : Text} {p : Pattern} {end : Scope} → Spells (begin b o) text p end → Capturing o text end
 spelled_capturing b o {end = end} x =
     let y = capture_branches x.spelled nothing_before in
-    record { pattern = in_branches y.found; inside = capturing y.behind end; spelled = record { branches = y.found; is = refl; spelled = y.spelled }; named = y.named refl }
+    record { pattern = in_branches y.found; inside = capturing y.after end; spelled = record { branches = y.found; is = refl; spelled = y.spelled }; named = y.named refl }
 
 -- a text that is not spelled where groups without a name capture, is spelled under no options
 pub none_under : {o : Options} {text : Text} → ((p : Pattern) (end : Scope) → Spells (begin true o) text p end → ⊥) → (p : Pattern) (end : Scope) → SpellsUnder o text p end → ⊥

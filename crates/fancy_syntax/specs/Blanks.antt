@@ -18,7 +18,7 @@ abbrev pub past_comment : Text → Option Text
 past_comment [] = None
 past_comment (c ∷ t) = if c == code ")" then Some t else past_comment t
 
--- what follows the blank or comment that stands first, if one does; blanks, and lines behind `#`, only where the flag is set
+-- what follows the blank or comment that stands first, if one does; blanks, and lines after `#`, only where the flag is set
 abbrev pub past_blank : Bool → Text → Option Text
 past_blank ignore_blanks [] = None
 past_blank ignore_blanks (c ∷ t) =

@@ -14,7 +14,7 @@ abbrev pub past_digits : Text → Text
 past_digits [] = []
 past_digits (c ∷ t) = if is_ascii_digit c then past_digits t else c ∷ t
 
--- Decimal digits behind a number: the number that the row of digits which stands first is, where n was read before it.
+-- Decimal digits after a number: the number that the row of digits which stands first is, where n was read before it.
 unfoldable pub decimal_from : ℕ → Text → ℕ
 decimal_from n [] = n
 decimal_from n (c ∷ t) = if is_ascii_digit c then decimal_from (n * 10 + (c - code "0")) t else n
@@ -28,7 +28,7 @@ abbrev pub are_digits : Text → Bool
 are_digits [] = true
 are_digits (c ∷ t) = is_ascii_digit c && are_digits t
 
--- behind a brace: `n}`, `n,}`, `n,m}` or `,m}`
+-- after a brace: `n}`, `n,}`, `n,m}` or `,m}`
 abbrev pub is_count : Text → Bool
 is_count t =
     (is_at_digit t && is_at "}" (past_digits t))

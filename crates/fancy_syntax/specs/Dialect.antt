@@ -23,12 +23,12 @@ use Rattle.fancy_syntax.specs.Blanks.{is_blank, past_blank}
 use Rattle.fancy_tree.specs.Sets.{has, AreEdges, in_range}
 use Rattle.fancy_tree.specs.Members.{Members}
 use Rattle.fancy_tree.specs.Named.{in_universe, is_unicode}
-use Rattle.fancy_tree.specs.Widening.{widened}
-use Rattle.fancy_class.specs.Escapes.{is_mark, control_of, set_letter, number, takes_number, digits_behind}
-use Rattle.fancy_class.specs.ClassGrammar.{ReadsEdges, is_ascii_meaning, may_turn, token_members, property}
+use Rattle.fancy_tree.specs.Widening.{case_closure}
+use Rattle.fancy_class.specs.EscapeGrammar.{is_mark, control_of, set_letter, escape_number, takes_number, digits_after}
+use Rattle.fancy_class.specs.ClassGrammar.{ReadsEdges, is_ascii_meaning, may_negate, token_members, property}
 use Rattle.fancy_tree.specs.Names.{is_name}
 use Rattle.fancy_syntax.specs.References as references
-use Rattle.fancy_syntax.specs.References.{Target, called, Fault, Groups, group_condition, is_left_out, group_for}
+use Rattle.fancy_syntax.specs.References.{Target, called, ReferenceFault, Groups, group_condition, is_left_out, group_for}
 use Rattle.fancy_tree.specs.Refers.{number_in, refers_to}
 
 -- the flags `i m s x R`
@@ -75,14 +75,14 @@ with_flag m on c f =
     else None
 
 -- letters of flags, each of which is set, or cleared, in turn
-pub data Letters : Meaning → Bool → Text → Flags → Flags → Type 0 where
-  no_letter : {m : Meaning} {on : Bool} {f : Flags} → Letters m on [] f f
-  letter : {m : Meaning} {on : Bool} {t : Text} {f g h : Flags} (c : ℕ) → with_flag m on c f ≡ Some g → Letters m on t g h → Letters m on (c ∷ t) f h
+pub data FlagLetters : Meaning → Bool → Text → Flags → Flags → Type 0 where
+  no_letter : {m : Meaning} {on : Bool} {f : Flags} → FlagLetters m on [] f f
+  letter : {m : Meaning} {on : Bool} {t : Text} {f g h : Flags} (c : ℕ) → with_flag m on c f ≡ Some g → FlagLetters m on t g h → FlagLetters m on (c ∷ t) f h
 
--- letters of the flags that are set, and behind a dash of those that are cleared: at least one, and at least one behind the dash
+-- letters of the flags that are set, and after a dash of those that are cleared: at least one, and at least one after the dash
 pub data Setting : Meaning → Text → Flags → Flags → Type 0 where
-  setting_on : {m : Meaning} {t : Text} {f g : Flags} (c : ℕ) → Letters m true (c ∷ t) f g → Setting m (c ∷ t) f g
-  setting_off : {m : Meaning} {t u : Text} {f g h : Flags} (c : ℕ) → Letters m true t f g → Letters m false (c ∷ u) g h → Setting m (t ++ (codes "-" ++ (c ∷ u))) f h
+  setting_on : {m : Meaning} {t : Text} {f g : Flags} (c : ℕ) → FlagLetters m true (c ∷ t) f g → Setting m (c ∷ t) f g
+  setting_off : {m : Meaning} {t u : Text} {f g h : Flags} (c : ℕ) → FlagLetters m true t f g → FlagLetters m false (c ∷ u) g h → Setting m (t ++ (codes "-" ++ (c ∷ u))) f h
 
 -- one more capturing group was opened
 abbrev pub one_more_group : Scope → Scope
@@ -105,9 +105,9 @@ abbrev pub test_here : Scope → Pattern
 test_here s = group_test (length s.wanted)
 
 -- The conditional of this condition: its first branch where the condition holds, and the others, joined by `|`, where it does not.
-abbrev pub chosen : Pattern → List Pattern → Pattern
-chosen c [] = conditional c empty empty
-chosen c (b ∷ bs) = conditional c b (in_branches bs)
+abbrev pub conditional_of : Pattern → List Pattern → Pattern
+conditional_of c [] = conditional c empty empty
+conditional_of c (b ∷ bs) = conditional c b (in_branches bs)
 
 -- in force in such a group
 abbrev pub inside : Grouping → Scope → Scope
@@ -121,13 +121,13 @@ grouped Atomic p = atomic p
 grouped (LookAhead negated) p = look_ahead negated p
 grouped (LookBehind negated) p = look_behind negated p
 
--- behind a group the flags are those from before it, and the groups and references inside it count
+-- after a group the flags are those from before it, and the groups and references inside it count
 abbrev pub back_to : Scope → Scope → Scope
 back_to before inside = record inside { flags = before.flags; in_look_around = before.in_look_around }
 
 -- these characters stand for themselves only where they are escaped
-abbrev pub is_special : ℕ → Bool
-is_special c = c ∈ "|()*+?\\.^$["
+abbrev pub must_be_escaped : ℕ → Bool
+must_be_escaped c = c ∈ "|()*+?\\.^$["
 
 -- the characters that a backslash makes literals
 abbrev pub is_escapable : ℕ → Bool
@@ -151,11 +151,11 @@ place_test f d =
     else if code ">" == d then Some WordEnd
     else None
 
--- what `\b` tests where one of these words stands behind it
+-- what `\b` tests where one of these words stands after it
 abbrev pub boundary_words : List (Text × Assertion)
 boundary_words = (codes "{start}", WordStart) ∷ (codes "{end}", WordEnd) ∷ (codes "{start-half}", WordStartHalf) ∷ (codes "{end-half}", WordEndHalf) ∷ []
 
--- what `\b` tests, by the word behind it, and what follows
+-- what `\b` tests, by the word after it, and what follows
 abbrev pub boundary : Text → Assertion × Text
 boundary t = unwrap_or (by_word boundary_words t) (WordBoundary, t)
 
@@ -194,10 +194,10 @@ is_one_item AsciiText c = true
 abbrev pub spelled_character : Scope → ℕ → Lexeme
 spelled_character s c =
     if s.flags.ignore_case && is_one_item s.meaning c
-    then any_case_of (widened s.meaning (in_range (c, c)))
+    then any_case_of (case_closure s.meaning (in_range (c, c)))
     else leaf (literal_of s.meaning c)
 
--- A character by its number. Where matches may stand anywhere two digits behind `x` are a byte, if it is no ASCII.
+-- A character by its number. Where matches may stand anywhere two digits after `x` are a byte, if it is no ASCII.
 abbrev pub spelled_number : Scope → ℕ × Bool → Lexeme
 spelled_number s n = if n.1 && (nat_lt 127 n.0 && not s.keeps_characters) then leaf (raw_byte n.0) else spelled_character s n.0
 
@@ -216,22 +216,22 @@ abbrev pub spelled_set : Scope → Token → Lexeme
 spelled_set s x = one_of (token_members s.meaning s.flags.ignore_case x)
 
 -- the set of a letter, or its complement
-abbrev pub lettered_set : Scope → Named × Bool → Option Lexeme
-lettered_set s n = if may_turn s.meaning n.1 then Some (spelled_set s (NamedSet n.0 n.1)) else None
+abbrev pub set_lexeme : Scope → Named × Bool → Option Lexeme
+set_lexeme s n = if may_negate s.meaning n.1 then Some (spelled_set s (NamedSet n.0 n.1)) else None
 
--- what a letter alone stands for behind a backslash
-abbrev pub lettered : Scope → ℕ → Option Lexeme
-lettered s d =
+-- what a letter alone stands for after a backslash
+abbrev pub letter_lexeme : Scope → ℕ → Option Lexeme
+letter_lexeme s d =
     option_or (option_map (spelled_character s) (control_of d))
     (option_or (option_map (λ a. leaf (assertion a)) (place_test s.flags d))
     (option_or (option_map leaf (start_mark s.in_look_around d))
-    (option_and_then (lettered_set s) (set_letter d))))
+    (option_and_then (set_lexeme s) (set_letter d))))
 
 abbrev pub followed_by : Text → Option Lexeme → Option (Lexeme × Text)
 followed_by t o = option_map (λ x. (x, t)) o
 
-abbrev pub numbered : Scope → ℕ → Text → Option (Lexeme × Text)
-numbered s count t = option_map (λ r. (spelled_number s r.0, r.1)) (number count t)
+abbrev pub number_lexeme : Scope → ℕ → Text → Option (Lexeme × Text)
+number_lexeme s count t = option_map (λ r. (spelled_number s r.0, r.1)) (escape_number count t)
 
 abbrev pub boundary_here : Text → Lexeme × Text
 boundary_here t = (leaf (assertion (boundary t).0), (boundary t).1)
@@ -239,26 +239,26 @@ boundary_here t = (leaf (assertion (boundary t).0), (boundary t).1)
 abbrev pub property_here : Scope → Text → Option (Lexeme × Text)
 property_here s t = option_map (λ r. (spelled_set s r.0, r.1)) (property s.meaning t)
 
--- what a backslash, this character and the text behind it begin with, and what follows that
+-- what a backslash, this character and the text after it begin with, and what follows that
 abbrev pub escape : Scope → ℕ → Text → Option (Lexeme × Text)
 escape s d t =
     if is_escapable d then Some (spelled_character s d, t)
     else if code "b" == d then Some (boundary_here t)
-    else if takes_number d then numbered s (digits_behind d) t
+    else if takes_number d then number_lexeme s (digits_after d) t
     else if code "O" == d then followed_by t (any_item s true)
     else if code "N" == d then followed_by t (any_item s false)
     else if (code "p" == d) || (code "P" == d) then property_here s (codes "\\" ++ (d ∷ t))
-    else followed_by t (lettered s d)
+    else followed_by t (letter_lexeme s d)
 
 abbrev pub escape_in : Scope → Text → Option (Lexeme × Text)
 escape_in s [] = None
 escape_in s (d ∷ t) = escape s d t
 
 -- a character that stands for itself, or for a place
-abbrev pub lone : Scope → ℕ → Text → Option Lexeme
-lone s c t =
+abbrev pub unescaped_lexeme : Scope → ℕ → Text → Option Lexeme
+unescaped_lexeme s c t =
     option_or (option_map (λ a. leaf (assertion a)) (anchor_of s.flags c))
-    (if is_special c || begins_count (c ∷ t) then None else Some (spelled_character s c))
+    (if must_be_escaped c || begins_count (c ∷ t) then None else Some (spelled_character s c))
 
 -- the character or escape at the start of a text, and what follows it
 abbrev pub lexeme : Scope → Text → Option (Lexeme × Text)
@@ -266,7 +266,7 @@ lexeme s [] = None
 lexeme s (c ∷ t) =
     if code "\\" == c then escape_in s t
     else if code "." == c then followed_by t (any_item s s.flags.dot_all)
-    else followed_by t (lone s c t)
+    else followed_by t (unescaped_lexeme s c t)
 
 -- A text begins with this atom, which is no group: a character, an escape or a class. The last index is what follows it.
 pub data ReadsAtom : Scope → Text → Pattern → Text → Type 0 where
@@ -284,22 +284,22 @@ pub record IsBound (t : Text) : Type 0 where
   pub small : decimal t ≤ most_turns
 
 -- this text states the least and the greatest number of turns
-pub data Turns : Text → ℕ → Option ℕ → Type 0 where
-  optional : Turns (codes "?") 0 (Some 1)
-  star : Turns (codes "*") 0 None
-  plus : Turns (codes "+") 1 None
-  exactly : (n : Text) → IsBound n → Turns (codes "{" ++ (n ++ codes "}")) (decimal n) (Some (decimal n))
-  at_least : (n : Text) → IsBound n → Turns (codes "{" ++ (n ++ codes ",}")) (decimal n) None
-  between : (n m : Text) → IsBound n → IsBound m → decimal n ≤ decimal m → Turns (codes "{" ++ (n ++ (codes "," ++ (m ++ codes "}")))) (decimal n) (Some (decimal m))
-  at_most : (m : Text) → IsBound m → Turns (codes "{," ++ (m ++ codes "}")) 0 (Some (decimal m))
+pub data Quantifier : Text → ℕ → Option ℕ → Type 0 where
+  optional : Quantifier (codes "?") 0 (Some 1)
+  asterisk : Quantifier (codes "*") 0 None
+  plus : Quantifier (codes "+") 1 None
+  exactly : (n : Text) → IsBound n → Quantifier (codes "{" ++ (n ++ codes "}")) (decimal n) (Some (decimal n))
+  at_least : (n : Text) → IsBound n → Quantifier (codes "{" ++ (n ++ codes ",}")) (decimal n) None
+  between : (n m : Text) → IsBound n → IsBound m → decimal n ≤ decimal m → Quantifier (codes "{" ++ (n ++ (codes "," ++ (m ++ codes "}")))) (decimal n) (Some (decimal m))
+  at_most : (m : Text) → IsBound m → Quantifier (codes "{," ++ (m ++ codes "}")) 0 (Some (decimal m))
 
 -- this text is a quantifier, the longest that stands at its place: the least and the greatest number of turns, and the taste
 pub data Quantifies : Text → Text → ℕ → Option ℕ → Taste → Type 0 where
-  greedily : {t after : Text} {low : ℕ} {high : Option ℕ} → Turns t low high → is_at "?+" after ≡ false → Quantifies t after low high Greedy
-  lazily : {t after : Text} {low : ℕ} {high : Option ℕ} → Turns t low high → Quantifies (t ++ codes "?") after low high Lazy
-  possessively : {t after : Text} {low : ℕ} {high : Option ℕ} → Turns t low high → Quantifies (t ++ codes "+") after low high Possessive
+  greedily : {t after : Text} {low : ℕ} {high : Option ℕ} → Quantifier t low high → is_at "?+" after ≡ false → Quantifies t after low high Greedy
+  lazily : {t after : Text} {low : ℕ} {high : Option ℕ} → Quantifier t low high → Quantifies (t ++ codes "?") after low high Lazy
+  possessively : {t after : Text} {low : ℕ} {high : Option ℕ} → Quantifier t low high → Quantifies (t ++ codes "+") after low high Possessive
 
--- This text is a comment, or where the flag is set a blank or a line behind `#`; at the pattern's end the line needs no line feed.
+-- This text is a comment, or where the flag is set a blank or a line after `#`; at the pattern's end the line needs no line feed.
 pub data Blank : Bool → Text → Text → Type 0 where
   comment : {ignore_blanks : Bool} {after : Text} (inside : Text) → is_among (code ")") inside ≡ false → Blank ignore_blanks (codes "(?#" ++ (inside ++ codes ")")) after
   blank : {after : Text} (c : ℕ) → is_blank c ≡ true → Blank true (c ∷ []) after
@@ -311,7 +311,7 @@ pub data Blanks : Bool → Text → Text → Type 0 where
   no_blank : {ignore_blanks : Bool} {after : Text} → Blanks ignore_blanks [] after
   blanks : {ignore_blanks : Bool} {t u after : Text} → Blank ignore_blanks t (u ++ after) → Blanks ignore_blanks u after → Blanks ignore_blanks (t ++ u) after
 
--- no quantifier stands here, not behind blanks either
+-- no quantifier stands here, not after blanks either
 abbrev pub IsUnquantified : Bool → Text → Type 0
 IsUnquantified ignore_blanks after = (t u : Text) → after ≡ t ++ u → Blanks ignore_blanks t u → begins_quantifier u ≡ false
 
@@ -333,7 +333,7 @@ abbrev pub with_part : Option Pattern → List Pattern → List Pattern
 with_part None ps = ps
 with_part (Some p) ps = p ∷ ps
 
--- The number k says how many parentheses more may be open at one place; `s` is what is in force before the text, and the last index what is in force behind it.
+-- The number k says how many parentheses more may be open at one place; `s` is what is in force before the text, and the last index what is in force after it.
 mutual
   -- branches joined by `|`
   pub data Branches : ℕ → Scope → Text → Text → List Pattern → Scope → Type 0 where
@@ -341,7 +341,7 @@ mutual
     either : {k : ℕ} {s q r : Scope} {t u after : Text} {ps bs : List Pattern} → Parts k s t (codes "|" ++ (u ++ after)) ps q → Branches k q u after bs r
         → Branches k s (t ++ (codes "|" ++ u)) after (in_sequence ps ∷ bs) r
 
-  -- items, one behind the other, with blanks before and behind them
+  -- items, one after another, with blanks before and after them
   pub data Parts : ℕ → Scope → Text → Text → List Pattern → Scope → Type 0 where
     nothing : {k : ℕ} {s : Scope} {t after : Text} → Blanks s.flags.ignore_blanks t after → Parts k s t after [] s
     item : {k : ℕ} {s q r : Scope} {t u v after : Text} {x : Option Pattern} {ps : List Pattern} → Blanks s.flags.ignore_blanks t (u ++ (v ++ after)) → Item k s u (v ++ after) x q
@@ -376,13 +376,13 @@ mutual
         → Atom (suc k) s (codes "(" ++ (m ++ (t ++ codes ")"))) after (grouped how (in_branches bs)) (back_to s q)
     -- a conditional that tests a group; two parentheses are open in its condition, and one in its body
     tested : {k : ℕ} {s q : Scope} {t after : Text} {w : Target} {bs : List Pattern} (c : Text) → group_condition (c ++ (t ++ (codes ")" ++ after))) ≡ Some (w, t ++ (codes ")" ++ after))
-        → Branches (suc k) (wants w s) t (codes ")" ++ after) bs q → Atom (suc (suc k)) s (codes "(?(" ++ (c ++ (t ++ codes ")"))) after (chosen (test_here s) bs) (back_to s q)
+        → Branches (suc k) (wants w s) t (codes ")" ++ after) bs q → Atom (suc (suc k)) s (codes "(?(" ++ (c ++ (t ++ codes ")"))) after (conditional_of (test_here s) bs) (back_to s q)
     -- a conditional whose condition is a pattern; flags that are set in the condition end with it
     decided : {k : ℕ} {s r q : Scope} {t after : Text} {cs bs : List Pattern} (c : Text) → group_condition (c ++ (codes ")" ++ (t ++ (codes ")" ++ after)))) ≡ None
         → is_left_out (c ++ (codes ")" ++ (t ++ (codes ")" ++ after)))) ≡ false → Branches k s c (codes ")" ++ (t ++ (codes ")" ++ after))) cs r → Branches (suc k) (back_to s r) t (codes ")" ++ after) bs q
-        → Atom (suc (suc k)) s (codes "(?(" ++ (c ++ (codes ")" ++ (t ++ codes ")")))) after (chosen (in_branches cs) bs) (back_to s q)
-    -- references may name groups that are opened only behind them
-    reference : {k : ℕ} {s : Scope} {t after : Text} {w : Target} → references.reference s.opened (t ++ after) ≡ Some (w, after) → Atom k s t after (reference_here s) (wants w s)
+        → Atom (suc (suc k)) s (codes "(?(" ++ (c ++ (codes ")" ++ (t ++ codes ")")))) after (conditional_of (in_branches cs) bs) (back_to s q)
+    -- references may name groups that are opened only after them
+    reference : {k : ℕ} {s : Scope} {t after : Text} {w : Target} → references.read_reference s.opened (t ++ after) ≡ Some (w, after) → Atom k s t after (reference_here s) (wants w s)
     reference_by_name : {k : ℕ} {s : Scope} {after : Text} (n : Text) → is_name n ≡ true → Atom (suc k) s (codes "(?P=" ++ (n ++ codes ")")) after (reference_here s) (wants (called n) s)
 
 -- the whole text spells this pattern, with at most so many parentheses open at one place
@@ -427,8 +427,8 @@ abbrev pub groups_at : Options → Scope → Groups
 groups_at o end = record { by_name = o.only_named && has_name end.names; opened = end.opened; names = end.names }
 
 -- why this reference of the pattern that ends here names no group
-abbrev pub fault_of : Options → Scope → Target → Option Fault
-fault_of o end w = references.fault_of (groups_at o end) w
+abbrev pub fault_in_scope : Options → Scope → Target → Option ReferenceFault
+fault_in_scope o end w = references.target_fault (groups_at o end) w
 
 -- the group that each reference names, by how many were written before it
 abbrev pub numbers : Options → Scope → ℕ → ℕ
@@ -440,7 +440,7 @@ pub record IsPattern (o : Options) (text : Text) (p : Pattern) : Type 0 where
   pub end : Scope
   pub spelled : SpellsUnder o text written end
   pub is : p ≡ refers_to (numbers o end) written
-  pub resolved : All (λ w. fault_of o end w ≡ None) end.wanted
+  pub resolved : All (λ w. fault_in_scope o end w ≡ None) end.wanted
   pub sized : are_sized o.meaning p ≡ true
   pub fills : o.not_empty ≡ true → (size o.meaning p ≡ Some 0) → ⊥
   pub small : nodes p ≤ most_nodes

@@ -17,7 +17,7 @@ use Rattle.fancy_syntax.specs.Blanks.{past_blank}
 use Rattle.fancy_tree.specs.Names.{name_here, past_name}
 use Rattle.fancy_syntax.specs.References as references
 use Rattle.fancy_syntax.specs.References.{Target}
-use Rattle.fancy_syntax.specs.Dialect.{Flags, Scope, in_force, with_flag, one_more_group, one_more_name, wants, reference_here, test_here, chosen, inside, grouped as group_of, back_to, ReadsAtom, begins_quantifier, with_part}
+use Rattle.fancy_syntax.specs.Dialect.{Flags, Scope, in_force, with_flag, one_more_group, one_more_name, wants, reference_here, test_here, conditional_of, inside, grouped as group_of, back_to, ReadsAtom, begins_quantifier, with_part}
 
 -- a place in a pattern: what follows, and what is in force there
 pub record Place : Type 0 where
@@ -42,7 +42,7 @@ past_blanks_in (suc n) ignore_blanks t = text_or (past_blanks_in n ignore_blanks
 abbrev pub past_blanks : Bool → Text → Text
 past_blanks ignore_blanks t = past_blanks_in (length t) ignore_blanks t
 
--- the place behind the blanks and comments that stand here
+-- the place after the blanks and comments that stand here
 abbrev pub here : Place → Place
 here p = record p { text = past_blanks p.scope.flags.ignore_blanks p.text }
 
@@ -83,7 +83,7 @@ asks (reference folded n) = false
 asks (chooses c) = false
 asks condition = true
 
--- how many parentheses are open behind it
+-- how many parentheses are open after it
 abbrev pub parentheses : Opening → ℕ
 parentheses setting = 1
 parentheses plain = 1
@@ -100,7 +100,7 @@ wrap plain bs = in_branches bs
 wrap (capture n) bs = group n (in_branches bs)
 wrap (marked how) bs = group_of how (in_branches bs)
 wrap (reference folded n) bs = in_branches bs
-wrap (chooses c) bs = chosen c bs
+wrap (chooses c) bs = conditional_of c bs
 wrap condition bs = in_branches bs
 
 -- letters of flags, as far as they were read: the flags by now, whether the next ones are set, and whether one was read since the start or the dash
@@ -131,19 +131,19 @@ flag_group p (Some (f, c ∷ t)) = Some (if code ":" == c then plain else settin
 abbrev pub first_letter : Flags → LettersRead
 first_letter f = record { flags = f; on = true; some = false }
 
--- what the letters of flags behind a parenthesis and its question mark open
-abbrev pub flagged : Place → Option (Opening × Place)
-flagged p = flag_group p (flags_in p.scope.meaning (drop 2 p.text) (first_letter p.scope.flags))
+-- what the letters of flags after a parenthesis and its question mark open
+abbrev pub flags_opening : Place → Option (Opening × Place)
+flags_opening p = flag_group p (flags_in p.scope.meaning (drop 2 p.text) (first_letter p.scope.flags))
 
 -- what the name that stands first in this text opens, up to its `>`
-abbrev pub named : Place → Text → Option (Opening × Place)
-named p t =
+abbrev pub named_opening : Place → Text → Option (Opening × Place)
+named_opening p t =
     if (length (name_here t) == 0) || not (is_at ">" (past_name t)) then None
     else Some (capture (p.scope.opened + 1), record { text = drop 1 (past_name t); scope = one_more_name (name_here t) p.scope })
 
 -- what a parenthesis opens that no mark follows
-abbrev pub unnamed : Place → Opening × Place
-unnamed p =
+abbrev pub unnamed_opening : Place → Opening × Place
+unnamed_opening p =
     if p.scope.unnamed_capture then (capture (p.scope.opened + 1), record { text = drop 1 p.text; scope = one_more_group p.scope })
     else (plain, past 1 p)
 
@@ -172,39 +172,39 @@ mark_here t =
     else if begins "(?<!" t then Some (LookBehind true, 4)
     else None
 
--- what the parenthesis here opens where no such mark stands, and the place behind that
-abbrev pub unmarked : Place → Option (Opening × Place)
-unmarked p =
-    if begins "(?<" p.text then named p (drop 3 p.text)
-    else if begins "(?P<" p.text then named p (drop 4 p.text)
+-- what the parenthesis here opens where no such mark stands, and the place after that
+abbrev pub unmarked_opening : Place → Option (Opening × Place)
+unmarked_opening p =
+    if begins "(?<" p.text then named_opening p (drop 3 p.text)
+    else if begins "(?P<" p.text then named_opening p (drop 4 p.text)
     else if begins "(?P=" p.text then named_reference p (drop 4 p.text)
     else if begins "(?(" p.text then conditional_at p (drop 3 p.text)
-    else if begins "(?" p.text then flagged p
+    else if begins "(?" p.text then flags_opening p
     else if begins "(*" p.text then None
-    else Some (unnamed p)
+    else Some (unnamed_opening p)
 
 abbrev pub by_mark : Place → Option (Grouping × ℕ) → Option (Opening × Place)
-by_mark p None = unmarked p
+by_mark p None = unmarked_opening p
 by_mark p (Some m) = Some (marked m.0, record { text = drop m.1 p.text; scope = inside m.0 p.scope })
 
--- what the parenthesis here opens, and the place behind that
+-- what the parenthesis here opens, and the place after that
 abbrev pub opening : Place → Option (Opening × Place)
 opening p = if begins "(?:" p.text then Some (plain, past 3 p) else by_mark p (mark_here p.text)
 
 abbrev pub start : Scope → Text → Place
 start s text = record { text = text; scope = s }
 
--- what stands here and begins with no parenthesis, and the place behind it
+-- what stands here and begins with no parenthesis, and the place after it
 pub data IsAtom : Place → Pattern → Place → Type 0 where
   alone : {p : Place} {a : Pattern} {t : Text} → ReadsAtom p.scope p.text a t → IsAtom p a (start p.scope t)
-  refers : {p : Place} {w : Target} {t : Text} → references.reference p.scope.opened p.text ≡ Some (w, t) → IsAtom p (reference_here p.scope) (start (wants w p.scope) t)
+  refers : {p : Place} {w : Target} {t : Text} → references.read_reference p.scope.opened p.text ≡ Some (w, t) → IsAtom p (reference_here p.scope) (start (wants w p.scope) t)
 
 -- the least and the greatest number of turns
-abbrev pub Bounds : Type 0
-Bounds = ℕ × Option ℕ
+abbrev pub RepeatBounds : Type 0
+RepeatBounds = ℕ × Option ℕ
 
--- the bounds that stand behind a brace, where it begins a count
-abbrev pub bounds_in : Text → Bounds
+-- the bounds that stand after a brace, where it begins a count
+abbrev pub bounds_in : Text → RepeatBounds
 bounds_in t =
     if is_at "}" (past_digits t) then (decimal t, Some (decimal t))
     else if is_at_digit (drop 1 (past_digits t)) then (decimal t, Some (decimal (drop 1 (past_digits t))))
@@ -215,13 +215,13 @@ abbrev pub past_count : Text → Text
 past_count t = if is_at "}" (past_digits t) then drop 1 (past_digits t) else drop 1 (past_digits (drop 1 (past_digits t)))
 
 -- bounds of a repeat: not reversed, and within their limit
-abbrev pub are_bounds : Bounds → Bool
+abbrev pub are_bounds : RepeatBounds → Bool
 are_bounds (low, None) = nat_le low most_turns
 are_bounds (low, Some high) = nat_le low high && nat_le high most_turns
 
 -- the number of turns that a quantifier states here
-abbrev pub turns : Place → Option (Bounds × Place)
-turns p =
+abbrev pub quantifier_here : Place → Option (RepeatBounds × Place)
+quantifier_here p =
     if is_at "?" p.text then Some ((0, Some 1), past 1 p)
     else if is_at "*" p.text then Some ((0, None), past 1 p)
     else if is_at "+" p.text then Some ((1, None), past 1 p)
@@ -236,20 +236,20 @@ taste p =
     else Some (Greedy, p)
 
 -- this many turns of the pattern, with the taste that stands here
-abbrev pub tasted : Pattern → Option (Bounds × Place) → Option (Pattern × Place)
-tasted a None = None
-tasted a (Some (bounds, p)) = option_map (λ found. (repeat bounds.0 bounds.1 found.0 a, found.1)) (taste p)
+abbrev pub with_taste : Pattern → Option (RepeatBounds × Place) → Option (Pattern × Place)
+with_taste a None = None
+with_taste a (Some (bounds, p)) = option_map (λ found. (repeat bounds.0 bounds.1 found.0 a, found.1)) (taste p)
 
 -- the pattern with the quantifier that stands here, if one does
 abbrev pub quantified : Pattern → Place → Option (Pattern × Place)
 quantified a p =
     if not (begins_quantifier (here p).text) then Some (a, p)
     else if is_empty a then None
-    else tasted a (turns (here p))
+    else with_taste a (quantifier_here (here p))
 
--- the place behind a group, which was opened outside and whose inside ends at q
-abbrev pub closed : Place → Place → Place
-closed outside q = record { text = drop 1 q.text; scope = back_to outside.scope q.scope }
+-- the place after a group, which was opened outside and whose inside ends at q
+abbrev pub after_group : Place → Place → Place
+after_group outside q = record { text = drop 1 q.text; scope = back_to outside.scope q.scope }
 
 -- nothing more belongs to this branch
 abbrev pub ends_branch : Text → Bool
@@ -275,12 +275,12 @@ mutual
         → Item k p (Some x) r
     single : {k : ℕ} {p q r : Place} {a x : Pattern} → is_at "(" p.text ≡ false → IsAtom p a q → quantified a q ≡ Some (x, r) → Item k p (Some x) r
     grouped : {k : ℕ} {p inside q r : Place} {how : Opening} {bs : List Pattern} {x : Pattern} → is_at "(" p.text ≡ true → Opens (suc k) p how inside → opens_group how ≡ true
-        → Branches k inside bs q → is_at ")" q.text ≡ true → quantified (wrap how bs) (closed p q) ≡ Some (x, r) → Item (suc k) p (Some x) r
+        → Branches k inside bs q → is_at ")" q.text ≡ true → quantified (wrap how bs) (after_group p q) ≡ Some (x, r) → Item (suc k) p (Some x) r
 
-  -- what a parenthesis opens, behind its condition if it has one, where so many may still be open
+  -- what a parenthesis opens, after its condition if it has one, where so many may still be open
   pub data Opens : ℕ → Place → Opening → Place → Type 0 where
     at_once : {k : ℕ} {p inside : Place} {how : Opening} → opening p ≡ Some (how, inside) → asks how ≡ false → parentheses how ≤ suc k → Opens (suc k) p how inside
-    behind_condition : {k : ℕ} {p inside q : Place} {cs : List Pattern} → opening p ≡ Some (condition, inside) → Branches k inside cs q → is_at ")" q.text ≡ true → Opens (suc (suc k)) p (chooses (in_branches cs)) (closed p q)
+    after_condition : {k : ℕ} {p inside q : Place} {cs : List Pattern} → opening p ≡ Some (condition, inside) → Branches k inside cs q → is_at ")" q.text ≡ true → Opens (suc (suc k)) p (chooses (in_branches cs)) (after_group p q)
 
 -- the whole text has this pattern, with at most so many parentheses open at one place
 pub record Reads (s : Scope) (text : Text) (p : Pattern) (end : Place) : Type 0 where

@@ -19,19 +19,19 @@ pub data Target : Type 0 where
   called_or_numbered : Text → Target
 
 -- why a reference names no group
-pub data Fault : Type 0 where
+pub data ReferenceFault : Type 0 where
   -- groups are referred to by name alone
-  by_name_alone : Fault
+  by_name_alone : ReferenceFault
   -- no group has this number; one above 2^32 - 1 stands as that
-  no_number : ℕ → Fault
+  no_number : ℕ → ReferenceFault
   -- no group has this name
-  no_name : Text → Fault
+  no_name : Text → ReferenceFault
 
 -- the group that is so many back from those opened so far: 1 is the last one
 abbrev pub back : ℕ → ℕ → Target
 back opened k = if nat_le 1 k && nat_le k opened then numbered (opened + 1 - k) else missing (min k largest_told)
 
--- the row of digits that stands behind a backslash, if its first is not 0
+-- the row of digits that stands after a backslash, if its first is not 0
 abbrev pub number_reference : Text → Option (Target × Text)
 number_reference t = if is_at "123456789" t && nat_le (decimal t) largest_told then Some (numbered (decimal t), past_digits t) else None
 
@@ -47,14 +47,14 @@ name_reference delimiter t =
     else Some (called_or_numbered (name_here t), drop 1 (past_name t))
 
 -- a name, or a dash and a distance, up to this delimiter
-abbrev pub delimited : ℕ → ℕ → Text → Option (Target × Text)
-delimited opened delimiter t = if is_at "-" t then distance_reference opened delimiter (drop 1 t) else name_reference delimiter t
+abbrev pub delimited_target : ℕ → ℕ → Text → Option (Target × Text)
+delimited_target opened delimiter t = if is_at "-" t then distance_reference opened delimiter (drop 1 t) else name_reference delimiter t
 
 -- the reference that a text begins with, where so many groups were opened before it, and what follows it
-abbrev pub reference : ℕ → Text → Option (Target × Text)
-reference opened t =
-    if begins "\\k<" t then delimited opened (code ">") (drop 3 t)
-    else if begins "\\k'" t then delimited opened (code "'") (drop 3 t)
+abbrev pub read_reference : ℕ → Text → Option (Target × Text)
+read_reference opened t =
+    if begins "\\k<" t then delimited_target opened (code ">") (drop 3 t)
+    else if begins "\\k'" t then delimited_target opened (code "'") (drop 3 t)
     else if is_at "\\" t then number_reference (drop 1 t)
     else None
 
@@ -94,39 +94,39 @@ pub record Groups : Type 0 where
   pub names : List (Text × ℕ)
 
 -- the group of this number
-abbrev pub group_numbered : Groups → ℕ → Result ℕ Fault
+abbrev pub group_numbered : Groups → ℕ → Result ℕ ReferenceFault
 group_numbered g n =
     if g.by_name then Err by_name_alone
     else if nat_le 1 n && nat_le n g.opened then Ok n
     else Err (no_number (min n largest_told))
 
 -- the group of the number that these digits are
-abbrev pub group_in_digits : Groups → Text → Result ℕ Fault
+abbrev pub group_in_digits : Groups → Text → Result ℕ ReferenceFault
 group_in_digits g t = if are_digits t then group_numbered g (decimal t) else Err (no_name t)
 
 -- this group, or where there is none what else is found
-abbrev pub group_or : Option ℕ → Result ℕ Fault → Result ℕ Fault
+abbrev pub group_or : Option ℕ → Result ℕ ReferenceFault → Result ℕ ReferenceFault
 group_or None other = other
 group_or (Some n) other = Ok n
 
 -- the group that a reference names, or why it names none
-abbrev pub resolve : Groups → Target → Result ℕ Fault
+abbrev pub resolve : Groups → Target → Result ℕ ReferenceFault
 resolve g (numbered n) = group_numbered g n
 resolve g (missing n) = Err (if g.by_name then by_name_alone else no_number n)
 resolve g (called t) = group_or (last_named t g.names) (Err (no_name t))
 resolve g (called_or_numbered t) = group_or (last_named t g.names) (group_in_digits g t)
 
-abbrev pub fault_in : Result ℕ Fault → Option Fault
+abbrev pub fault_in : Result ℕ ReferenceFault → Option ReferenceFault
 fault_in (Ok n) = None
 fault_in (Err f) = Some f
 
-abbrev pub group_in : Result ℕ Fault → ℕ
+abbrev pub group_in : Result ℕ ReferenceFault → ℕ
 group_in (Ok n) = n
 group_in (Err f) = 0
 
 -- why a reference names no group
-abbrev pub fault_of : Groups → Target → Option Fault
-fault_of g w = fault_in (resolve g w)
+abbrev pub target_fault : Groups → Target → Option ReferenceFault
+target_fault g w = fault_in (resolve g w)
 
 -- the group that a reference names
 abbrev pub group_for : Groups → Target → ℕ

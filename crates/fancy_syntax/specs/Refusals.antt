@@ -8,13 +8,13 @@ use Rattle.fancy_tree.specs.declared.error.Error.TheVariants.{Memory, ParseError
 use Rattle.fancy_tree.specs.Pattern.{Pattern}
 use Rattle.fancy_tree.specs.Sizes.{size, nodes, are_sized}
 use Rattle.fancy_tree.specs.Text.{Text}
-use Rattle.fancy_syntax.specs.References.{Fault, by_name_alone, no_number, no_name}
+use Rattle.fancy_syntax.specs.References.{ReferenceFault, by_name_alone, no_number, no_name}
 use Rattle.fancy_tree.specs.Refers.{refers_to}
-use Rattle.fancy_syntax.specs.Dialect.{Scope, Options, SpellsUnder, fault_of, numbers}
+use Rattle.fancy_syntax.specs.Dialect.{Scope, Options, SpellsUnder, fault_in_scope, numbers}
 
 -- The text spells a pattern, one of whose references has this fault.
-abbrev pub HasFault : Fault → Options → Text → Type 0
-HasFault f o text = (p : Pattern) × (end : Scope) × SpellsUnder o text p end × Any (λ w. fault_of o end w ≡ Some f) end.wanted
+abbrev pub HasFault : ReferenceFault → Options → Text → Type 0
+HasFault f o text = (p : Pattern) × (end : Scope) × SpellsUnder o text p end × Any (λ w. fault_in_scope o end w ≡ Some f) end.wanted
 
 -- The text spells a pattern, but this is why it is not accepted.
 abbrev pub IsNotAccepted : Compiling → Options → Text → Type 0

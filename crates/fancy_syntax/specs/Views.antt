@@ -11,33 +11,33 @@ use Rattle.fancy_syntax.specs.declared.groups.Opening.TheVariants.{Setting, Plai
 use Rattle.fancy_syntax.specs.declared.reference.Target.{Target as Found_target}
 use Rattle.fancy_syntax.specs.declared.reference.Target.TheVariants.{Numbered, Missing, Called, CalledOrNumbered}
 use Rattle.fancy_syntax.specs.declared.resolve.Groups.{Groups as Found_groups}
-use Rattle.fancy_syntax.specs.declared.flags.Letters.{Letters}
+use Rattle.fancy_syntax.specs.declared.flags.FlagReader.{FlagReader}
 use Rattle.fancy_syntax.specs.declared.count.Turns.{Turns}
 use Rattle.fancy_syntax.specs.declared.flags.Flags.{Flags as Found_flags}
 use Rattle.fancy_syntax.specs.declared.parse.Syntax.{Syntax}
 use Rattle.fancy_syntax.specs.declared.parse.Draft.{Draft}
 use Rattle.fancy_tree.specs.declared.error.CompileError.{CompileError as Compiling}
 use Rattle.fancy_tree.specs.declared.error.CompileError.TheVariants.{InvalidBackref, InvalidGroupNameBackref, NamedBackrefOnly, LookBehindNotConst, PatternCanNeverMatch}
-use Rattle.fancy_class.specs.declared.refusal.Refusal.{Refusal}
-use Rattle.fancy_class.specs.declared.refusal.Refusal.TheVariants.{Memory as OutOfMemory, Invalid}
+use Rattle.fancy_class.specs.declared.refusal.ClassRefusal.{ClassRefusal}
+use Rattle.fancy_class.specs.declared.refusal.ClassRefusal.TheVariants.{Memory as OutOfMemory, Invalid}
 use Rattle.fancy_tree.specs.declared.tree.Tree.{Tree}
 use Rattle.fancy_tree.specs.Pattern.{Pattern, pattern_of, in_sequence, in_branches}
 use Rattle.fancy_tree.specs.Sizes.{size, are_sized}
 use Rattle.fancy_tree.specs.Text.{Text}
 use Rattle.fancy_tree.specs.Names.{named_groups}
-use Rattle.fancy_syntax.specs.References.{Target, numbered, missing, called, called_or_numbered, Fault, by_name_alone, no_number, no_name, Groups}
+use Rattle.fancy_syntax.specs.References.{Target, numbered, missing, called, called_or_numbered, ReferenceFault, by_name_alone, no_number, no_name, Groups}
 use Rattle.fancy_syntax.specs.Dialect.{Flags, Scope, Options, has_name, Lexeme, IsMeant}
-use Rattle.fancy_syntax.specs.Grammar.{Place, start, Opening, setting, plain, capture, marked, reference, chooses, condition, parentheses, opening, Opens, LettersRead, Bounds, Branches, Parts}
+use Rattle.fancy_syntax.specs.Grammar.{Place, start, Opening, setting, plain, capture, marked, reference, chooses, condition, parentheses, opening, Opens, LettersRead, RepeatBounds, Branches, Parts}
 
 abbrev pub flags_of : Found_flags → Flags
 flags_of f = record { ignore_case = f.ignore_case; multi_line = f.multi_line; dot_all = f.dot_all; ignore_blanks = f.ignore_blanks; crlf = f.crlf }
 
-abbrev pub letters_of : Letters → LettersRead
+abbrev pub letters_of : FlagReader → LettersRead
 letters_of l = record { flags = flags_of l.flags; on = l.on; some = l.some }
 
--- flags, and the text behind them
-abbrev pub read_of : Found_flags × Bor Text → Flags × Text
-read_of r = (flags_of r.0, r.1.now)
+-- flags, and the text after them
+abbrev pub flags_read : Found_flags × Bor Text → Flags × Text
+flags_read r = (flags_of r.0, r.1.now)
 
 -- what a reference names
 abbrev pub target_of : Found_target → Target
@@ -49,7 +49,7 @@ target_of (CalledOrNumbered name) = called_or_numbered (chars (string_bytes name
 abbrev pub targets_of : List Found_target → List Target
 targets_of = map target_of
 
--- a reference, and the text behind it
+-- a reference, and the text after it
 abbrev pub reading_of : Found_target × Bor Text → Target × Text
 reading_of r = (target_of r.0, r.1.now)
 
@@ -57,8 +57,8 @@ abbrev pub groups_of : Found_groups → Groups
 groups_of g = record { by_name = g.by_name; opened = g.count - 1; names = named_groups g.names.now }
 
 -- the groups of a whole pattern; they are referred to by name alone where only those with a name capture and there is one
-abbrev pub groups_in : Bool → Draft → Groups
-groups_in only_named r = record { by_name = only_named && has_name (named_groups r.names.items); opened = r.groups - 1; names = named_groups r.names.items }
+abbrev pub draft_groups : Bool → Draft → Groups
+draft_groups only_named r = record { by_name = only_named && has_name (named_groups r.names.items); opened = r.groups - 1; names = named_groups r.names.items }
 
 -- what is in force where the parser stands
 abbrev pub scope_of : Parser → Scope
@@ -80,43 +80,43 @@ found (Reference folded index) = reference folded index
 found (Chooses c) = chooses (pattern_of c.value)
 found Condition = condition
 
-abbrev pub bounds_of : Turns → Bounds
+abbrev pub bounds_of : Turns → RepeatBounds
 bounds_of t = (t.low, t.high)
 
 abbrev pub itself : {T : Type 0} → T → T
 itself x = x
 
 -- the error at the place that the parser has reached, of what a class was refused for
-abbrev pub error_of : Parser → Refusal → Error
+abbrev pub error_of : Parser → ClassRefusal → Error
 error_of p OutOfMemory = Memory
 error_of p (Invalid kind) = ParseError (bytes_before p.whole.now p.rest.now) kind
 
-abbrev pub options_of : Syntax → Options
-options_of s = record { meaning = s.meaning; keeps_characters = s.keeps_characters; only_named = s.only_named; not_empty = s.not_empty; flags = flags_of s.flags }
+abbrev pub dialect_options : Syntax → Options
+dialect_options s = record { meaning = s.meaning; keeps_characters = s.keeps_characters; only_named = s.only_named; not_empty = s.not_empty; flags = flags_of s.flags }
 
 -- memory ran out, or the claim holds
-abbrev pub Refuses : Error → Type 0 → Type 0
-Refuses Memory claim = Unit {0}
-Refuses (ParseError at kind) claim = claim
-Refuses (CompileError why) claim = ⊥
-Refuses (RuntimeError why) claim = ⊥
+abbrev pub MemoryOr : Error → Type 0 → Type 0
+MemoryOr Memory claim = Unit {0}
+MemoryOr (ParseError at kind) claim = claim
+MemoryOr (CompileError why) claim = ⊥
+MemoryOr (RuntimeError why) claim = ⊥
 
 -- The pattern was spelled, in one of these ways: with so many groups, these names, and references to these.
 abbrev pub SpellsDraft : (Pattern → Scope → Type 0) → Draft → Type 0
 SpellsDraft S r = (end : Scope) × S (pattern_of r.tree) end × (end.opened + 1 ≡ r.groups) × (named_groups r.names.items ≡ end.names) × (targets_of r.wanted.items ≡ end.wanted)
 
 -- the fault of a reference that a refusal tells
-abbrev pub told_fault : Compiling → Option Fault
+abbrev pub told_fault : Compiling → Option ReferenceFault
 told_fault (InvalidBackref n) = Some (no_number n)
 told_fault (InvalidGroupNameBackref name) = Some (no_name (chars (string_bytes name)))
 told_fault NamedBackrefOnly = Some by_name_alone
 told_fault _ = None
 
 -- memory ran out, or the claim holds of what is told
-abbrev pub RefusesReference : Error → (Fault → Type 0) → Type 0
+abbrev pub RefusesReference : Error → (ReferenceFault → Type 0) → Type 0
 RefusesReference Memory claim = Unit {0}
 RefusesReference (ParseError at kind) claim = ⊥
-RefusesReference (CompileError why) claim = (f : Fault) × (told_fault why ≡ Some f) × claim f
+RefusesReference (CompileError why) claim = (f : ReferenceFault) × (told_fault why ≡ Some f) × claim f
 RefusesReference (RuntimeError why) claim = ⊥
 
 -- The sizes of this pattern refuse it for this.
@@ -133,7 +133,7 @@ RefusesSizes (CompileError why) o p = HasBadSize why o p
 RefusesSizes (RuntimeError why) o p = ⊥
 
 -- The group was found, or the error tells why there is none.
-abbrev pub Resolves : Result ℕ Fault → Result ℕ Error → Type 0
+abbrev pub Resolves : Result ℕ ReferenceFault → Result ℕ Error → Type 0
 Resolves r (Ok n) = r ≡ Ok n
 Resolves r (Err e) = RefusesReference e (λ f. r ≡ Err f)
 
@@ -151,17 +151,17 @@ HasNoReading R p = (u : _) (r : Place) → R p u r → ⊥
 -- The result is the one reading from p, and q is where it ends; or there is none, unless memory ran out.
 abbrev pub Gives : {X T : Type 0} → (X → T) → (Place → T → Place → Type 0) → Result X Error → Place → Place → Type 0
 Gives view R (Ok x) p q = IsTheReading R p (view x) q
-Gives view R (Err e) p q = Refuses e (HasNoReading R p)
+Gives view R (Err e) p q = MemoryOr e (HasNoReading R p)
 
 -- the same where the grammar's own reading is a function
 abbrev pub GivesValue : {X T : Type 0} → (X → T) → Option (T × Place) → Result X Error → Place → Type 0
 GivesValue view o (Ok x) q = o ≡ Some (view x, q)
-GivesValue view o (Err e) q = Refuses e (o ≡ None)
+GivesValue view o (Err e) q = MemoryOr e (o ≡ None)
 
--- The result is what the lexeme that stands at p means, and q is the place behind it.
+-- The result is what the lexeme that stands at p means, and q is the place after it.
 abbrev pub GivesMeant : Option (Lexeme × Text) → Result Tree Error → Place → Place → Type 0
 GivesMeant o (Ok t) p q = (x : Lexeme) × (o ≡ Some (x, q.text)) × IsMeant x (pattern_of t) × (q ≡ start p.scope q.text)
-GivesMeant o (Err e) p q = Refuses e (o ≡ None)
+GivesMeant o (Err e) p q = MemoryOr e (o ≡ None)
 
 abbrev pub Alternation : ℕ → Place → Pattern → Place → Type 0
 Alternation k p x q = (bs : List Pattern) × (x ≡ in_branches bs) × Branches k p bs q
@@ -172,7 +172,7 @@ Sequence k p x q = (ps : List Pattern) × (x ≡ in_sequence ps) × Parts k p ps
 -- The parenthesis at p opens what was found, at q; or it opens nothing where so many may still be open, unless memory ran out.
 abbrev pub GivesOpening : ℕ → Result Found Error → Place → Place → Type 0
 GivesOpening k (Ok how) p q = (opening p ≡ Some (found how, q)) × (parentheses (found how) ≤ k)
-GivesOpening k (Err e) p q = Refuses e (HasNoReading (Opens k) p)
+GivesOpening k (Err e) p q = MemoryOr e (HasNoReading (Opens k) p)
 
 -- the patterns of trees
 abbrev pub patterns_of : Vec Tree Global → List Pattern

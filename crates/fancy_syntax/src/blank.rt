@@ -1,4 +1,4 @@
-//! What is skipped between the items of a pattern: comments, and under flag `x` blanks and lines behind `#`.
+//! What is skipped between the items of a pattern: comments, and under flag `x` blanks and lines after `#`.
 
 ghost use Rattle.std.specs.Prelude.{◌≡◌, ◌≤◌, ◌<◌, IfSome, option_map, length};
 ghost use Rattle.fancy_syntax.specs.Blanks.{past_line, past_comment, past_blank};
@@ -33,7 +33,7 @@ fn past_blank(text: &[char], ignore_blanks: bool) -> Option<&[char]>
     ensures { option_map (λ r. r.now) result ≡ past_blank ignore_blanks text.now }
 {
     match text {
-        [' ' | '\t' | '\n' | '\r', behind @ ..] if ignore_blanks => Some(behind),
+        [' ' | '\t' | '\n' | '\r', after @ ..] if ignore_blanks => Some(after),
         ['#', line @ ..] if ignore_blanks => Some(past_line(line)),
         ['(', '?', '#', comment @ ..] => past_comment(comment),
         _ => None,
@@ -46,8 +46,8 @@ pub(crate) fn past_blanks(text: &[char], ignore_blanks: bool) -> &[char]
     ensures shorter { length result.now ≤ length text.now }
 {
     let mut rest = text;
-    while let Some(behind) = past_blank(rest, ignore_blanks) {
-        rest = behind;
+    while let Some(after) = past_blank(rest, ignore_blanks) {
+        rest = after;
     }
     rest
 }

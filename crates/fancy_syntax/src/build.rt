@@ -2,7 +2,7 @@
 
 ghost use Rattle.std.specs.Prelude.{◌≡◌, map, IfOk};
 ghost use Rattle.fancy_tree.specs.Pattern.{pattern_of, character, backreference, repeat, in_sequence, in_branches};
-ghost use Rattle.fancy_syntax.specs.Dialect.{literal_of, chosen, grouped};
+ghost use Rattle.fancy_syntax.specs.Dialect.{literal_of, conditional_of, grouped};
 ghost use Rattle.fancy_syntax.specs.Grammar.{chooses, wrap};
 ghost use Rattle.fancy_syntax.specs.Views.{found};
 
@@ -11,7 +11,7 @@ use crate::groups::{Grouping, Opening};
 use fancy_tree::tree::{Meaning, Taste, Tree};
 use std::alloc::{AllocError, Global};
 
-/// One part behind the other.
+/// One part after another.
 #[tactic(auto, using(fancy_tree::proofs::PatternLemmas::pattern_equations))]
 pub(crate) fn sequence(mut parts: Vec<Tree>) -> Tree
     ensures { pattern_of result ≡ in_sequence (map pattern_of parts.items) }
@@ -97,7 +97,7 @@ pub(crate) fn reference(folded: bool, index: usize) -> Tree
 
 /// What an atomic group or look-around makes of its body.
 #[tactic(auto, using(fancy_tree::proofs::PatternLemmas::pattern_equations))]
-fn grouped(how: Grouping, body: Box<Tree>) -> Tree
+fn group_tree(how: Grouping, body: Box<Tree>) -> Tree
     ensures { pattern_of result ≡ grouped how (pattern_of body.value) }
 {
     match how {
@@ -110,7 +110,7 @@ fn grouped(how: Grouping, body: Box<Tree>) -> Tree
 /// A conditional: the first branch of its body where the condition holds, and the others where it does not.
 #[tactic(auto, using(fancy_tree::proofs::PatternLemmas::pattern_equations))]
 fn conditional(alloc: Global, condition: Box<Tree>, mut body: Vec<Tree>) -> Result<Tree, AllocError>
-    ensures { IfOk result (λ t. pattern_of t ≡ chosen (pattern_of condition.value) (map pattern_of body.items)) }
+    ensures { IfOk result (λ t. pattern_of t ≡ conditional_of (pattern_of condition.value) (map pattern_of body.items)) }
 {
     let on_match = if body.is_empty() {
         Tree::Empty
@@ -140,7 +140,7 @@ pub(crate) fn wrap(alloc: Global, how: Opening, body: Vec<Tree>) -> Result<Tree,
         Opening::Setting | Opening::Plain | Opening::Reference { .. } | Opening::Condition => {
             Ok(branches(body))
         }
-        Opening::Marked(how) => Ok(grouped(how, Box::new(alloc, branches(body))?)),
+        Opening::Marked(how) => Ok(group_tree(how, Box::new(alloc, branches(body))?)),
         Opening::Capture(index) => Ok(Tree::Group {
             index,
             body: Box::new(alloc, branches(body))?,

@@ -51,17 +51,17 @@ pub(crate) fn decimal(text: &[char]) -> u64
     number
 }
 
-/// The bounds that stand behind a brace, where it begins a count; none where they are reversed or above `u32::MAX`.
+/// The bounds that stand after a brace, where it begins a count; none where they are reversed or above `u32::MAX`.
 pub(crate) fn bounds(text: &[char]) -> Option<Turns>
     ensures some { IfSome result (λ t. (bounds_of t ≡ bounds_in text.now) × (are_bounds (bounds_in text.now) ≡ true)) }
     ensures none { result ≡ None → are_bounds (bounds_in text.now) ≡ false }
 {
     let least = decimal(text);
-    let behind = past_digits(text);
-    if let ['}', ..] = behind {
+    let after = past_digits(text);
+    if let ['}', ..] = after {
         return within_limit(least, Some(least));
     }
-    match behind {
+    match after {
         [_, upper @ ..] if is_at_digit(upper) => within_limit(least, Some(decimal(upper))),
         _ => within_limit(least, None),
     }
@@ -80,15 +80,15 @@ fn within_limit(low: u64, high: Option<u64>) -> Option<Turns>
     })
 }
 
-/// What follows the count that stands behind a brace.
+/// What follows the count that stands after a brace.
 pub(crate) fn past_count(text: &[char]) -> &[char]
     ensures value { result.now ≡ past_count text.now }
     ensures shorter { length result.now ≤ length text.now }
 {
     match past_digits(text) {
-        ['}', behind @ ..] => behind,
+        ['}', after @ ..] => after,
         [_, upper @ ..] => match past_digits(upper) {
-            [_, behind @ ..] => behind,
+            [_, after @ ..] => after,
             [] => &[],
         },
         [] => &[],

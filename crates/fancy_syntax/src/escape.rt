@@ -1,7 +1,7 @@
-//! Escapes and anchors: what one character means behind a backslash, or by itself.
+//! Escapes and anchors: what one character means after a backslash, or by itself.
 
 ghost use Rattle.std.specs.Prelude.{◌≡◌, option_map};
-ghost use Rattle.fancy_syntax.specs.Dialect.{anchor_of, place_test, start_mark, is_escapable, is_special, is_one_item, ends_line};
+ghost use Rattle.fancy_syntax.specs.Dialect.{anchor_of, place_test, start_mark, is_escapable, must_be_escaped, is_one_item, ends_line};
 ghost use Rattle.fancy_tree.specs.Pattern.{pattern_of};
 ghost use Rattle.fancy_syntax.specs.Views.{flags_of};
 
@@ -18,7 +18,7 @@ pub(crate) fn is_escapable(c: char) -> bool
 
 /// Whether this character stands for itself only where it is escaped.
 pub(crate) fn is_special(c: char) -> bool
-    ensures { result ≡ is_special c }
+    ensures { result ≡ must_be_escaped c }
 {
     ['|', '(', ')', '*', '+', '?', '\\', '.', '^', '$', '['].contains(&c)
 }
@@ -76,7 +76,7 @@ pub(crate) fn start_mark(in_look_around: bool, letter: char) -> Option<Tree>
     }
 }
 
-/// What is wrong with an escape by a letter that stands for nothing, or not in this meaning; from behind its backslash.
+/// What is wrong with an escape by a letter that stands for nothing, or not in this meaning; the text begins after its backslash.
 pub(crate) fn escape_fault(text: &[char]) -> ParseErrorKind {
     match text {
         ['R' | 'X' | 'g' | 'K', ..] => ParseErrorKind::NotInProfile,

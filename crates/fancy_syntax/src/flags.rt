@@ -3,7 +3,7 @@
 ghost use Rattle.std.specs.Prelude.{◌≡◌, ◌≤◌, IfSome, option_map, length};
 ghost use Rattle.fancy_syntax.specs.Dialect.{with_flag};
 ghost use Rattle.fancy_syntax.specs.Grammar.{next_letter, flags_in, first_letter};
-ghost use Rattle.fancy_syntax.specs.Views.{flags_of, read_of};
+ghost use Rattle.fancy_syntax.specs.Views.{flags_of, flags_read};
 
 use fancy_tree::tree::Meaning;
 
@@ -16,7 +16,7 @@ pub struct Flags {
     pub multi_line: bool,
     /// `s`: `.` takes line feeds too.
     pub dot_all: bool,
-    /// `x`: blanks and lines behind `#` are skipped.
+    /// `x`: blanks and lines after `#` are skipped.
     pub ignore_blanks: bool,
     /// `R`: a carriage return ends a line too.
     pub crlf: bool,
@@ -63,7 +63,7 @@ impl Flags {
 
 /// Letters of flags, as far as they were read.
 #[derive(Clone, Copy)]
-struct Letters {
+struct FlagReader {
     /// The flags by now.
     flags: Flags,
     /// Whether the next letters set their flags.
@@ -72,22 +72,22 @@ struct Letters {
     some: bool,
 }
 
-impl Letters {
+impl FlagReader {
     ghost use Rattle.fancy_syntax.specs.Views.{letters_of};
 
     /// With one more character read.
-    fn next(self, meaning: Meaning, c: char) -> Option<Letters>
+    fn next(self, meaning: Meaning, c: char) -> Option<FlagReader>
         ensures { option_map letters_of result ≡ next_letter meaning c (letters_of self) }
     {
         if c == '-' && self.on {
-            return Some(Letters {
+            return Some(FlagReader {
                 flags: self.flags,
                 on: false,
                 some: false,
             });
         }
         match self.flags.with(meaning, self.on, c) {
-            Some(flags) => Some(Letters {
+            Some(flags) => Some(FlagReader {
                 flags,
                 on: self.on,
                 some: true,
@@ -100,10 +100,10 @@ impl Letters {
 /// The flags that stand before the first colon or parenthesis, and the text from there on; none where they are no
 /// flags.
 pub(crate) fn read_flags(text: &[char], meaning: Meaning, flags: Flags) -> Option<(Flags, &[char])>
-    ensures value { option_map read_of result ≡ flags_in meaning text.now (first_letter (flags_of flags)) }
+    ensures value { option_map flags_read result ≡ flags_in meaning text.now (first_letter (flags_of flags)) }
     ensures shorter { IfSome result (λ r. length r.1.now ≤ length text.now) }
 {
-    let mut letters = Letters {
+    let mut letters = FlagReader {
         flags,
         on: true,
         some: false,

@@ -37,7 +37,7 @@ pub(crate) enum Opening {
 }
 
 impl Opening {
-    /// How many parentheses are open behind it.
+    /// How many parentheses are open after it.
     pub(crate) fn parentheses(&self) -> u32
         ensures { result ≡ parentheses (found self.now) }
     {

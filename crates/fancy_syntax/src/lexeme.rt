@@ -4,7 +4,7 @@ ghost use Rattle.std.specs.Prelude.{◌≡◌, ◌+◌, ◌<◌, ◌≤◌, ◌�
 ghost use Rattle.fancy_tree.specs.Pattern.{pattern_of, assertion};
 ghost use Rattle.fancy_class.specs.Words.{is_at};
 ghost use Rattle.fancy_tree.specs.Members.{Members, members};
-ghost use Rattle.fancy_class.specs.Escapes.{is_property, set_letter};
+ghost use Rattle.fancy_class.specs.EscapeGrammar.{is_property, set_letter};
 ghost use Rattle.fancy_class.specs.ClassGrammar.{is_ascii_meaning};
 ghost use Rattle.fancy_syntax.specs.Dialect.{IsMeant, leaf, one_of, any_case_of, spelled_character, spelled_number, spelled_set, any_code, ends_line};
 ghost use Rattle.fancy_syntax.specs.Dialect as dialect;
@@ -19,22 +19,22 @@ use crate::escape::{
 };
 use crate::parser::Parser;
 use crate::reference::{begins_reference, read_reference, reference_fault};
-use fancy_class::context::{Context, may_turn};
+use fancy_class::context::{ClassContext, may_negate};
 use fancy_class::cursor::Cursor;
 use fancy_class::escape::{control, set_letter};
 use fancy_class::gathered::Gathered;
-use fancy_class::refusal::Refusal;
+use fancy_class::refusal::ClassRefusal;
 use fancy_class::token::Token;
 use fancy_class::words::is_at_any;
 use fancy_tree::error::{Error, ParseErrorKind};
 use fancy_tree::named::universe;
 use fancy_tree::operation::Operation;
 use fancy_tree::set::Set;
-use fancy_tree::sharing::sharing;
+use fancy_tree::sharing::case_variants;
 use fancy_tree::tree::{Assertion, Meaning, Tree};
 use std::alloc::{AllocError, Global};
 
-/// What `\b` tests, by the word in braces behind it, and how many characters that has.
+/// What `\b` tests, by the word in braces after it, and how many characters that has.
 fn boundary(text: &[char]) -> (Assertion, usize)
     ensures value { dialect.boundary text.now ≡ (result.0, drop result.1 text.now) }
     ensures room { result.1 ≤ length text.now }
@@ -57,7 +57,7 @@ fn boundary(text: &[char]) -> (Assertion, usize)
 fn item(set: Set) -> Tree
     ensures { (f : Members) → ((c : ℕ) → members set c ≡ f c) → IsMeant (one_of f) (pattern_of result) }
 {
-    Tree::Member(set.into_edges())
+    Tree::Member(set)
 }
 
 /// A literal under flag `i`, with the characters that this flag takes for it.
@@ -65,7 +65,7 @@ fn item(set: Set) -> Tree
 fn in_any_case(set: Set) -> Tree
     ensures { (f : Members) → ((c : ℕ) → members set c ≡ f c) → IsMeant (any_case_of f) (pattern_of result) }
 {
-    Tree::InAnyCase(set.into_edges())
+    Tree::InAnyCase(set)
 }
 
 fn is_ascii_text(meaning: Meaning) -> bool
@@ -80,7 +80,7 @@ fn line_ends(alloc: Global, crlf: bool) -> Result<Set, AllocError>
 {
     let feed = Set::range(alloc, 10, 10)?;
     if crlf {
-        feed.combined(Operation::Union, &Set::range(alloc, 13, 13)?)
+        feed.combine(Operation::Union, &Set::range(alloc, 13, 13)?)
     } else {
         Ok(feed)
     }
@@ -88,21 +88,21 @@ fn line_ends(alloc: Global, crlf: bool) -> Result<Set, AllocError>
 
 impl<'a> Parser<'a> {
     /// The error of what a class or an item of one was refused for, at the place that is reached.
-    fn refused(&self, refusal: Refusal) -> Error
+    fn class_error(&self, refusal: ClassRefusal) -> Error
         ensures { result ≡ error_of self.now refusal }
     {
         match refusal {
-            Refusal::Memory => Error::Memory,
-            Refusal::Invalid(kind) => self.error(kind),
+            ClassRefusal::Memory => Error::Memory,
+            ClassRefusal::Invalid(kind) => self.error(kind),
         }
     }
 
     /// What is in force where a class stands.
-    fn context(&self) -> Context
+    fn context(&self) -> ClassContext
         ensures meaning { result.meaning ≡ self.now.meaning }
         ensures fold { result.fold ≡ self.now.flags.ignore_case }
     {
-        Context {
+        ClassContext {
             meaning: self.meaning,
             fold: self.flags.ignore_case,
             alloc: self.alloc,
@@ -118,7 +118,7 @@ impl<'a> Parser<'a> {
             return Ok(every);
         }
         let ends = line_ends(self.alloc, self.flags.crlf)?;
-        every.combined(Operation::Difference, &ends)
+        every.combine(Operation::Difference, &ends)
     }
 
     /// Whether flag `i` gives this character others.
@@ -137,25 +137,25 @@ impl<'a> Parser<'a> {
 
     /// A character, under flag `i` with those that share its simple folding.
     #[tactic(auto, using(fancy_tree::proofs::PatternLemmas::pattern_equations))]
-    fn spelled(&self, c: char) -> Result<Tree, AllocError>
+    fn literal_tree(&self, c: char) -> Result<Tree, AllocError>
         ensures { IfOk result (λ t. IsMeant (spelled_character (scope_of self.now) c) (pattern_of t)) }
     {
         if self.is_folded(c) {
-            return Ok(in_any_case(sharing(self.alloc, self.meaning, c)?));
+            return Ok(in_any_case(case_variants(self.alloc, self.meaning, c)?));
         }
         literal(self.alloc, self.meaning, c)
     }
 
     /// A character by its number, or a byte.
     #[tactic(auto, using(fancy_tree::proofs::PatternLemmas::pattern_equations))]
-    fn spelled_by_number(&self, c: char, is_byte: bool) -> Result<Tree, AllocError>
+    fn literal_tree_by_number(&self, c: char, is_byte: bool) -> Result<Tree, AllocError>
         requires { is_byte ≡ true → c ≤ 255 }
         ensures { IfOk result (λ t. IsMeant (spelled_number (scope_of self.now) (c, is_byte)) (pattern_of t)) }
     {
         if self.is_raw_byte(c, is_byte) {
             return Ok(Tree::RawByte(c as u8));
         }
-        self.spelled(c)
+        self.literal_tree(c)
     }
 
     /// One item of the set that stands for a token in a class.
@@ -174,7 +174,7 @@ impl<'a> Parser<'a> {
         ensures value { GivesMeant (Some (spelled_character (scope_of self.old) c, drop count self.old.rest.now)) result (place self.old) (place self.new) }
         ensures progress { OnOk result (length self.new.rest.now + count ≡ length self.old.rest.now) }
     {
-        let tree = self.spelled(c)?;
+        let tree = self.literal_tree(c)?;
         self.skip(count);
         Ok(tree)
     }
@@ -215,13 +215,13 @@ impl<'a> Parser<'a> {
     }
 
     /// Reads a backslash and a letter that stands for a set or its complement.
-    fn lettered_set(&mut self, c: char) -> Result<Tree, Error>
+    fn read_set_escape(&mut self, c: char) -> Result<Tree, Error>
         requires { 2 ≤ length self.old.rest.now }
-        ensures value { GivesMeant (dialect.followed_by (drop 2 self.old.rest.now) (option_and_then (dialect.lettered_set (scope_of self.old)) (set_letter c))) result (place self.old) (place self.new) }
+        ensures value { GivesMeant (dialect.followed_by (drop 2 self.old.rest.now) (option_and_then (dialect.set_lexeme (scope_of self.old)) (set_letter c))) result (place self.old) (place self.new) }
         ensures progress { OnOk result (length self.new.rest.now < length self.old.rest.now) }
     {
         match set_letter(c) {
-            Some((which, negated)) if may_turn(self.meaning, negated) => {
+            Some((which, negated)) if may_negate(self.meaning, negated) => {
                 let tree = self.spelled_set(Token::Named(which, negated))?;
                 self.skip(2);
                 Ok(tree)
@@ -231,9 +231,9 @@ impl<'a> Parser<'a> {
     }
 
     /// Reads a backslash and a letter that alone stands for something.
-    fn lettered(&mut self, c: char) -> Result<Tree, Error>
+    fn read_letter_escape(&mut self, c: char) -> Result<Tree, Error>
         requires { 2 ≤ length self.old.rest.now }
-        ensures value { GivesMeant (dialect.followed_by (drop 2 self.old.rest.now) (dialect.lettered (scope_of self.old) c)) result (place self.old) (place self.new) }
+        ensures value { GivesMeant (dialect.followed_by (drop 2 self.old.rest.now) (dialect.letter_lexeme (scope_of self.old) c)) result (place self.old) (place self.new) }
         ensures progress { OnOk result (length self.new.rest.now < length self.old.rest.now) }
     {
         if let Some(c) = control(c) {
@@ -245,24 +245,24 @@ impl<'a> Parser<'a> {
         if let Some(mark) = start_mark(self.in_look_around, c) {
             return Ok(self.leaf(mark, 2));
         }
-        self.lettered_set(c)
+        self.read_set_escape(c)
     }
 
     /// Reads a backslash, its letter, and a number.
     fn numbered(&mut self, digits: usize) -> Result<Tree, Error>
         requires { 2 ≤ length self.old.rest.now }
-        ensures value { GivesMeant (dialect.numbered (scope_of self.old) digits (drop 2 self.old.rest.now)) result (place self.old) (place self.new) }
+        ensures value { GivesMeant (dialect.number_lexeme (scope_of self.old) digits (drop 2 self.old.rest.now)) result (place self.old) (place self.new) }
         ensures progress { OnOk result (length self.new.rest.now < length self.old.rest.now) }
     {
         let mut cursor = Cursor { rest: self.rest };
         cursor.skip(2);
         match cursor.number(digits) {
             Ok((c, is_byte)) => {
-                let tree = self.spelled_by_number(c, is_byte)?;
+                let tree = self.literal_tree_by_number(c, is_byte)?;
                 self.rest = cursor.rest;
                 Ok(tree)
             }
-            Err(refusal) => Err(self.refused(refusal)),
+            Err(refusal) => Err(self.class_error(refusal)),
         }
     }
 
@@ -279,11 +279,11 @@ impl<'a> Parser<'a> {
                 self.rest = cursor.rest;
                 Ok(tree)
             }
-            Err(refusal) => Err(self.refused(refusal)),
+            Err(refusal) => Err(self.class_error(refusal)),
         }
     }
 
-    /// Reads `\b` with the word in braces behind it, if one stands there.
+    /// Reads `\b` with the word in braces after it, if one stands there.
     fn boundary(&mut self) -> Tree
         requires { 2 ≤ length self.old.rest.now }
         ensures value { GivesMeant (Some (dialect.boundary_here (drop 2 self.old.rest.now))) (Ok result) (place self.old) (place self.new) }
@@ -312,14 +312,14 @@ impl<'a> Parser<'a> {
             'O' => self.any_item(true, 2),
             'N' => self.any_item(false, 2),
             'p' | 'P' => self.property(),
-            _ => self.lettered(c),
+            _ => self.read_letter_escape(c),
         }
     }
 
     /// Reads a character that stands for itself, or for a place.
-    fn lone(&mut self, c: char) -> Result<Tree, Error>
+    fn read_unescaped(&mut self, c: char) -> Result<Tree, Error>
         requires { self.old.rest.now ≡ c ∷ drop 1 self.old.rest.now }
-        ensures value { GivesMeant (dialect.followed_by (drop 1 self.old.rest.now) (dialect.lone (scope_of self.old) c (drop 1 self.old.rest.now))) result (place self.old) (place self.new) }
+        ensures value { GivesMeant (dialect.followed_by (drop 1 self.old.rest.now) (dialect.unescaped_lexeme (scope_of self.old) c (drop 1 self.old.rest.now))) result (place self.old) (place self.new) }
         ensures progress { OnOk result (length self.new.rest.now < length self.old.rest.now) }
     {
         if let Some(test) = anchor(self.flags, c) {
@@ -340,7 +340,7 @@ impl<'a> Parser<'a> {
             ['\\', c, ..] => self.escape(*c),
             ['\\'] => Err(self.error(ParseErrorKind::TrailingBackslash)),
             ['.', ..] => self.any_item(self.flags.dot_all, 1),
-            [c, ..] => self.lone(*c),
+            [c, ..] => self.read_unescaped(*c),
             [] => Err(self.unexpected()),
         }
     }
@@ -356,9 +356,9 @@ impl<'a> Parser<'a> {
         match cursor.class(self.context()) {
             Ok(set) => {
                 self.rest = cursor.rest;
-                Ok(Tree::Member(set.into_edges()))
+                Ok(Tree::Member(set))
             }
-            Err(refusal) => Err(self.refused(refusal)),
+            Err(refusal) => Err(self.class_error(refusal)),
         }
     }
 
@@ -370,10 +370,10 @@ impl<'a> Parser<'a> {
     {
         let found = read_reference(self.alloc, self.rest, self.opened)?;
         match found {
-            Some((target, behind)) => {
+            Some((target, after)) => {
                 let index = self.wanted.len();
                 self.wanted.push(target)?;
-                self.rest = behind;
+                self.rest = after;
                 Ok(reference(self.flags.ignore_case, index))
             }
             None => Err(self.error(reference_fault(self.rest))),

@@ -6,10 +6,10 @@ ghost use Rattle.fancy_tree.specs.Sizes.{size, are_sized};
 ghost use Rattle.fancy_syntax.specs.Dialect.{standard, begin, Spells, SpellsUnder, IsPattern};
 ghost use Rattle.fancy_tree.specs.Names.{named_groups};
 ghost use Rattle.fancy_tree.specs.Pattern.{Pattern, pattern_of};
-ghost use Rattle.fancy_syntax.specs.References.{fault_of, group_for};
+ghost use Rattle.fancy_syntax.specs.References.{target_fault, group_for};
 ghost use Rattle.fancy_tree.specs.Refers.{number_in, refers_to};
 ghost use Rattle.fancy_syntax.specs.Refusals.{IsRefused};
-ghost use Rattle.fancy_syntax.specs.Views.{options_of, target_of, targets_of, groups_in, Refuses, RefusesReference, RefusesSizes, SpellsDraft, HasNoSpelling};
+ghost use Rattle.fancy_syntax.specs.Views.{dialect_options, target_of, targets_of, draft_groups, MemoryOr, RefusesReference, RefusesSizes, SpellsDraft, HasNoSpelling};
 
 use crate::flags::Flags;
 use crate::parser::Parser;
@@ -81,11 +81,11 @@ pub struct Parsed {
 /// - atomic groups `(?>..)`, look-ahead `(?=..)` and look-behind `(?<=..)`, and their negations `(?!..)` and `(?<!..)`;
 /// - backreferences by number, `\1`, of a row of digits that does not begin with 0; by name, `(?P=n)`; by name or else by
 ///   number, `\k<n>` and `\k'n'`; and `\k<-n>` and `\k'-n'` to the group `n` back from those opened before it, where 1
-///   is the last one. A group may stand behind a reference to it, and of several groups with one name the last is meant;
+///   is the last one. A group may stand after a reference to it, and of several groups with one name the last is meant;
 /// - conditionals `(?(1)yes|no)`, `(?(<n>)yes|no)` and `(?('n')yes|no)`, which test whether a group has taken part, and
 ///   `(?(condition)yes|no)`, whose condition is a pattern; the first branch is that for yes, and all others are that for no;
 /// - branches joined by `|`;
-/// - the quantifiers `?`, `*`, `+`, `{n}`, `{n,}`, `{n,m}` and `{,m}`, each with a `?` behind it where it is lazy, or a
+/// - the quantifiers `?`, `*`, `+`, `{n}`, `{n,}`, `{n,m}` and `{,m}`, each with a `?` after it where it is lazy, or a
 ///   `+` where it is possessive; the bounds `n` and `m` are at most 4,294,967,295;
 /// - comments `(?#..)` between items and before quantifiers;
 /// - the flags `i m s x u R`, as `(?ms-x)` up to the end of the enclosing group, over later branches too, or as
@@ -105,7 +105,9 @@ pub struct Parsed {
 /// As an example `(a|b)?c` is the sequence of an optional group 1 and a character, so that `groups` is 2, while
 /// `a)` is refused at place 1 with [`ParseErrorKind::GeneralParseError`].
 pub fn parse(alloc: Global, pattern: &str) -> Result<Parsed, Error>
-    ensures accepted { IfOk result (λ r. (h : IsPattern standard (chars pattern.now) (pattern_of r.tree)) × (h.end.opened + 1 ≡ r.groups) × (named_groups r.names.items ≡ h.end.names)) }
+    ensures accepted { IfOk result
+        (λ r. (h : IsPattern standard (chars pattern.now) (pattern_of r.tree)) × (h.end.opened + 1 ≡ r.groups)
+        × (named_groups r.names.items ≡ h.end.names)) }
     ensures refused { IfErr result (λ e. IsRefused e standard (chars pattern.now)) }
     ensures succeeds { (p : Pattern) → IsPattern standard (chars pattern.now) p → IfErr result (λ e. e ≡ Memory) }
 {
@@ -124,9 +126,12 @@ pub fn parse(alloc: Global, pattern: &str) -> Result<Parsed, Error>
 /// Where `not_empty` is set a pattern that always consumes 0 units is refused by [`CompileError::PatternCanNeverMatch`],
 /// as the empty pattern, `^` or `(?=a)`; `a?` is not, and `()|a` is not.
 pub fn parse_with(alloc: Global, pattern: &str, syntax: Syntax) -> Result<Parsed, Error>
-    ensures accepted { IfOk result (λ r. (h : IsPattern (options_of syntax) (chars pattern.now) (pattern_of r.tree)) × (h.end.opened + 1 ≡ r.groups) × (named_groups r.names.items ≡ h.end.names)) }
-    ensures refused { IfErr result (λ e. IsRefused e (options_of syntax) (chars pattern.now)) }
-    ensures succeeds { (p : Pattern) → IsPattern (options_of syntax) (chars pattern.now) p → IfErr result (λ e. e ≡ Memory) }
+    ensures accepted { IfOk result
+        (λ r. (h : IsPattern (dialect_options syntax) (chars pattern.now) (pattern_of r.tree))
+        × (h.end.opened + 1 ≡ r.groups) × (named_groups r.names.items ≡ h.end.names)) }
+    ensures refused { IfErr result (λ e. IsRefused e (dialect_options syntax) (chars pattern.now)) }
+    ensures succeeds { (p : Pattern) → IsPattern (dialect_options syntax) (chars pattern.now) p
+        → IfErr result (λ e. e ≡ Memory) }
 {
     let characters = characters_of(alloc, pattern)?;
     let draft = read(alloc, &characters, syntax)?;
@@ -143,7 +148,7 @@ impl Parsed {
         ensures value { IfOk result (λ r. r ≡ self) }
         ensures sized { IfOk result (λ r. are_sized syntax.meaning (pattern_of r.tree) ≡ true) }
         ensures fills { IfOk result (λ r. syntax.not_empty ≡ true → (size syntax.meaning (pattern_of r.tree) ≡ Some 0) → ⊥) }
-        ensures refused { IfErr result (λ e. RefusesSizes e (options_of syntax) (pattern_of self.tree)) }
+        ensures refused { IfErr result (λ e. RefusesSizes e (dialect_options syntax) (pattern_of self.tree)) }
     {
         if !self.tree.is_sized(syntax.meaning) {
             return Err(Error::CompileError(CompileError::LookBehindNotConst));
@@ -168,10 +173,10 @@ struct Draft {
 impl Draft {
     /// Puts the number of its group in each reference.
     fn resolved(self, alloc: Global, only_named: bool) -> Result<Parsed, Error>
-        ensures tree { IfOk result (λ r. pattern_of r.tree ≡ refers_to (number_in (map (group_for (groups_in only_named self)) (targets_of self.wanted.items))) (pattern_of self.tree)) }
+        ensures tree { IfOk result (λ r. pattern_of r.tree ≡ refers_to (number_in (map (group_for (draft_groups only_named self)) (targets_of self.wanted.items))) (pattern_of self.tree)) }
         ensures same { IfOk result (λ r. (r.groups ≡ self.groups) × (r.names ≡ self.names)) }
-        ensures resolved { IfOk result (λ r. All (λ w. fault_of (groups_in only_named self) (target_of w) ≡ None) self.wanted.items) }
-        ensures refused { IfErr result (λ e. RefusesReference e (λ f. Any (λ w. fault_of (groups_in only_named self) (target_of w) ≡ Some f) self.wanted.items)) }
+        ensures resolved { IfOk result (λ r. All (λ w. target_fault (draft_groups only_named self) (target_of w) ≡ None) self.wanted.items) }
+        ensures refused { IfErr result (λ e. RefusesReference e (λ f. Any (λ w. target_fault (draft_groups only_named self) (target_of w) ≡ Some f) self.wanted.items)) }
     {
         let Draft {
             mut tree,
@@ -199,8 +204,8 @@ impl Draft {
 /// Reads a whole pattern: once more where a group has a name and those without are to capture nothing then.
 fn read(alloc: Global, characters: &[char], syntax: Syntax) -> Result<Draft, Error>
     requires { length characters.now < 2 ^ 63 }
-    ensures value { IfOk result (λ r. SpellsDraft (SpellsUnder (options_of syntax) characters.now) r) }
-    ensures refused { IfErr result (λ e. Refuses e (HasNoSpelling (SpellsUnder (options_of syntax) characters.now))) }
+    ensures value { IfOk result (λ r. SpellsDraft (SpellsUnder (dialect_options syntax) characters.now) r) }
+    ensures refused { IfErr result (λ e. MemoryOr e (HasNoSpelling (SpellsUnder (dialect_options syntax) characters.now))) }
 {
     let capturing = read_whole(alloc, characters, syntax, true)?;
     if syntax.only_named && !capturing.names.is_empty() {
@@ -217,8 +222,8 @@ fn read_whole(
     unnamed_capture: bool,
 ) -> Result<Draft, Error>
     requires { length characters.now < 2 ^ 63 }
-    ensures value { IfOk result (λ r. SpellsDraft (Spells (begin unnamed_capture (options_of syntax)) characters.now) r) }
-    ensures refused { IfErr result (λ e. Refuses e (HasNoSpelling (Spells (begin unnamed_capture (options_of syntax)) characters.now))) }
+    ensures value { IfOk result (λ r. SpellsDraft (Spells (begin unnamed_capture (dialect_options syntax)) characters.now) r) }
+    ensures refused { IfErr result (λ e. MemoryOr e (HasNoSpelling (Spells (begin unnamed_capture (dialect_options syntax)) characters.now))) }
 {
     let mut parser = Parser {
         whole: characters,

@@ -67,7 +67,7 @@ fn begins_quantifier(text: &[char]) -> bool
     }
 }
 
-/// What is wrong behind a parenthesis and its question mark, where no group and no flags stand.
+/// What is wrong after a parenthesis and its question mark, where no group and no flags stand.
 fn flags_fault(inside: &[char], meaning: Meaning) -> ParseErrorKind {
     match inside {
         ['#', ..] => return ParseErrorKind::UnclosedOpenParen,
@@ -144,7 +144,7 @@ impl<'a> Parser<'a> {
     ghost use Rattle.fancy_syntax.specs.Views.{place, found, bounds_of, itself, GivesValue};
     ghost use Rattle.fancy_tree.specs.Pattern.{pattern_of};
     ghost use Rattle.std.specs.Prelude.{Some, Ok};
-    ghost use Rattle.fancy_syntax.specs.Grammar.{opening, by_mark, unmarked, named, named_reference, by_test, conditional_at, flagged, quantified, turns, taste};
+    ghost use Rattle.fancy_syntax.specs.Grammar.{opening, by_mark, unmarked_opening, named_opening, named_reference, by_test, conditional_at, flags_opening, quantified, quantifier_here, taste};
 
     /// Reads what a parenthesis opens.
     fn opening(&mut self) -> Result<Opening, Error>
@@ -158,7 +158,7 @@ impl<'a> Parser<'a> {
         }
         match mark(self.rest) {
             Some((how, width)) => Ok(self.marked(how, width)),
-            None => self.unmarked(),
+            None => self.unmarked_opening(),
         }
     }
 
@@ -177,9 +177,9 @@ impl<'a> Parser<'a> {
     }
 
     /// Reads what a parenthesis opens where no such mark stands.
-    fn unmarked(&mut self) -> Result<Opening, Error>
+    fn unmarked_opening(&mut self) -> Result<Opening, Error>
         requires { is_at "(" self.old.rest.now ≡ true }
-        ensures value { GivesValue found (unmarked (place self.old)) result (place self.new) }
+        ensures value { GivesValue found (unmarked_opening (place self.old)) result (place self.new) }
         ensures progress { OnOk result (length self.new.rest.now < length self.old.rest.now) }
     {
         if begins(self.rest, &['(', '?', '<']) {
@@ -199,7 +199,7 @@ impl<'a> Parser<'a> {
             return self.conditional(inside);
         }
         if begins(self.rest, &['(', '?']) {
-            return self.flagged();
+            return self.flags_opening();
         }
         if begins(self.rest, &['(', '*']) {
             return Err(self.error(ParseErrorKind::NotInProfile));
@@ -215,11 +215,11 @@ impl<'a> Parser<'a> {
     /// Reads the name that stands first in `inside`, the last characters, and opens its group.
     fn named(&mut self, inside: &'a [char]) -> Result<Opening, Error>
         requires { length inside.now < length self.old.rest.now }
-        ensures value { GivesValue found (named (place self.old) inside.now) result (place self.new) }
+        ensures value { GivesValue found (named_opening (place self.old) inside.now) result (place self.new) }
         ensures progress { OnOk result (length self.new.rest.now < length self.old.rest.now) }
     {
-        let (name, behind) = split_name(inside);
-        match behind {
+        let (name, after) = split_name(inside);
+        match after {
             ['>', body @ ..] if !name.is_empty() => {
                 let name = text_of(self.alloc, name)?;
                 self.rest = body;
@@ -238,11 +238,11 @@ impl<'a> Parser<'a> {
         ensures value { GivesValue found (named_reference (place self.old) inside.now) result (place self.new) }
         ensures progress { OnOk result (length self.new.rest.now < length self.old.rest.now) }
     {
-        let (name, behind) = split_name(inside);
-        match behind {
-            [')', behind @ ..] if !name.is_empty() => {
+        let (name, after) = split_name(inside);
+        match after {
+            [')', after @ ..] if !name.is_empty() => {
                 let name = text_of(self.alloc, name)?;
-                self.rest = behind;
+                self.rest = after;
                 let index = self.wanted.len();
                 self.wanted.push(Target::Called(name))?;
                 let folded = self.flags.ignore_case;
@@ -261,10 +261,10 @@ impl<'a> Parser<'a> {
     {
         let tested = read_condition(self.alloc, inside)?;
         match tested {
-            Some((target, behind)) => {
+            Some((target, after)) => {
                 let index = self.wanted.len();
                 self.wanted.push(target)?;
-                self.rest = behind;
+                self.rest = after;
                 let condition = Box::new(self.alloc, Tree::GroupTest(index))?;
                 Ok(Opening::Chooses(condition))
             }
@@ -286,20 +286,20 @@ impl<'a> Parser<'a> {
     }
 
     /// Reads flags, and what they open.
-    fn flagged(&mut self) -> Result<Opening, Error>
+    fn flags_opening(&mut self) -> Result<Opening, Error>
         requires { 2 ≤ length self.old.rest.now }
-        ensures value { GivesValue found (flagged (place self.old)) result (place self.new) }
+        ensures value { GivesValue found (flags_opening (place self.old)) result (place self.new) }
         ensures progress { OnOk result (length self.new.rest.now < length self.old.rest.now) }
     {
         let inside = &self.rest[2..];
         match read_flags(inside, self.meaning, self.flags) {
-            Some((flags, [c, behind @ ..])) => {
+            Some((flags, [c, after @ ..])) => {
                 let how = if *c == ':' {
                     Opening::Plain
                 } else {
                     Opening::Setting
                 };
-                self.rest = behind;
+                self.rest = after;
                 self.flags = flags;
                 Ok(how)
             }
@@ -309,15 +309,15 @@ impl<'a> Parser<'a> {
 
     /// Puts the quantifier that stands here, if one does, on what was read.
     #[tactic(auto, using(fancy_tree::proofs::PatternLemmas::pattern_equations))]
-    fn quantified(&mut self, part: Tree) -> Result<Tree, Error>
+    fn with_quantifier(&mut self, part: Tree) -> Result<Tree, Error>
         ensures value { GivesValue pattern_of (quantified (pattern_of part) (place self.old)) result (place self.new) }
         ensures progress { OnOk result (length self.new.rest.now ≤ length self.old.rest.now) }
     {
-        let behind = past_blanks(self.rest, self.flags.ignore_blanks);
-        if !begins_quantifier(behind) {
+        let after = past_blanks(self.rest, self.flags.ignore_blanks);
+        if !begins_quantifier(after) {
             return Ok(part);
         }
-        self.rest = behind;
+        self.rest = after;
         if is_empty(&part) {
             return Err(self.error(ParseErrorKind::TargetNotRepeatable));
         }
@@ -328,7 +328,7 @@ impl<'a> Parser<'a> {
 
     /// Reads the number of turns that a quantifier states.
     fn turns(&mut self) -> Result<Turns, Error>
-        ensures value { GivesValue bounds_of (turns (place self.old)) result (place self.new) }
+        ensures value { GivesValue bounds_of (quantifier_here (place self.old)) result (place self.new) }
         ensures progress { OnOk result (length self.new.rest.now ≤ length self.old.rest.now) }
     {
         if is_at_any(self.rest, &['?']) {
@@ -355,7 +355,7 @@ impl<'a> Parser<'a> {
     /// Reads a count.
     fn count(&mut self) -> Result<Turns, Error>
         requires { begins_count self.old.rest.now ≡ true }
-        ensures value { GivesValue bounds_of (turns (place self.old)) result (place self.new) }
+        ensures value { GivesValue bounds_of (quantifier_here (place self.old)) result (place self.new) }
         ensures progress { OnOk result (length self.new.rest.now ≤ length self.old.rest.now) }
     {
         match self.rest {
@@ -483,7 +483,7 @@ impl<'a> Parser<'a> {
     {
         if !is_at_any(self.rest, &['(']) {
             let part = self.atom()?;
-            return Ok(Some(self.quantified(part)?));
+            return Ok(Some(self.with_quantifier(part)?));
         }
         let (flags, looking) = (self.flags, self.in_look_around);
         let how = self.head(room)?;
@@ -491,7 +491,7 @@ impl<'a> Parser<'a> {
             return Ok(None);
         }
         if let Opening::Reference { folded, index } = how {
-            return Ok(Some(self.quantified(reference(folded, index))?));
+            return Ok(Some(self.with_quantifier(reference(folded, index))?));
         }
         let body = self.alternatives(room - 1)?;
         if !is_at_any(self.rest, &[')']) {
@@ -501,6 +501,6 @@ impl<'a> Parser<'a> {
         self.flags = flags;
         self.in_look_around = looking;
         let group = wrap(self.alloc, how, body)?;
-        Ok(Some(self.quantified(group)?))
+        Ok(Some(self.with_quantifier(group)?))
     }
 }

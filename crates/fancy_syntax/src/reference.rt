@@ -1,7 +1,7 @@
 //! References to groups, as they are written: `\1`, `\k<n>`, `\k'n'`, `\k<-1>`, `(?P=n)`, and in conditions `1`, `<n>` and `'n'`.
 
 ghost use Rattle.std.specs.Prelude.{◌≡◌, ℕ, ◌-◌, ◌^◌, ◌<◌, ◌≤◌, min, IfOk, IfSome, length, option_map};
-ghost use Rattle.fancy_syntax.specs.References.{back, number_reference, distance_reference, name_reference, delimited, reference, begins_reference, within_largest, number_condition, name_condition, group_condition, is_left_out};
+ghost use Rattle.fancy_syntax.specs.References.{back, number_reference, distance_reference, name_reference, delimited_target, read_reference, begins_reference, within_largest, number_condition, name_condition, group_condition, is_left_out};
 ghost use Rattle.fancy_syntax.specs.Views.{target_of, reading_of};
 
 use crate::count::{decimal, is_at_digit, past_digits};
@@ -26,16 +26,16 @@ pub(crate) enum Target {
     CalledOrNumbered(String),
 }
 
-/// A reference that was read, and the text behind it.
-pub(crate) type Reading<'a> = (Target, &'a [char]);
+/// A reference that was read, and the text after it.
+pub(crate) type ReadReference<'a> = (Target, &'a [char]);
 
 /// Whether what may only be a reference begins here.
 pub(crate) fn begins_reference(text: &[char]) -> bool
     ensures { result ≡ begins_reference text.now }
 {
     match text {
-        ['\\', behind @ ..] => {
-            is_at_any(behind, &['1', '2', '3', '4', '5', '6', '7', '8', '9', 'k'])
+        ['\\', after @ ..] => {
+            is_at_any(after, &['1', '2', '3', '4', '5', '6', '7', '8', '9', 'k'])
         }
         _ => false,
     }
@@ -53,8 +53,8 @@ fn back(opened: usize, distance: u64) -> Target
     }
 }
 
-/// The row of digits that stands behind a backslash, if its first is not 0.
-fn number_reference(text: &[char]) -> Option<Reading<'_>>
+/// The row of digits that stands after a backslash, if its first is not 0.
+fn number_reference(text: &[char]) -> Option<ReadReference<'_>>
     ensures value { option_map reading_of result ≡ number_reference text.now }
     ensures shorter { IfSome result (λ r. length r.1.now ≤ length text.now) }
 {
@@ -69,14 +69,14 @@ fn number_reference(text: &[char]) -> Option<Reading<'_>>
 }
 
 /// A row of digits up to this delimiter: a distance back from the `opened` groups before it.
-fn distance_reference(text: &[char], opened: usize, delimiter: char) -> Option<Reading<'_>>
+fn distance_reference(text: &[char], opened: usize, delimiter: char) -> Option<ReadReference<'_>>
     requires { opened < 2 ^ 63 }
     ensures value { option_map reading_of result ≡ distance_reference opened delimiter text.now }
     ensures shorter { IfSome result (λ r. length r.1.now ≤ length text.now) }
 {
     match past_digits(text) {
-        [c, behind @ ..] if *c == delimiter && is_at_digit(text) => {
-            Some((back(opened, decimal(text)), behind))
+        [c, after @ ..] if *c == delimiter && is_at_digit(text) => {
+            Some((back(opened, decimal(text)), after))
         }
         _ => None,
     }
@@ -87,29 +87,29 @@ fn name_reference(
     alloc: Global,
     text: &[char],
     delimiter: char,
-) -> Result<Option<Reading<'_>>, AllocError>
+) -> Result<Option<ReadReference<'_>>, AllocError>
     ensures value { IfOk result (λ r. option_map reading_of r ≡ name_reference delimiter text.now) }
     ensures shorter { IfOk result (λ r. IfSome r (λ x. length x.1.now ≤ length text.now)) }
 {
-    let (name, behind) = split_name(text);
-    match behind {
-        [c, behind @ ..] if *c == delimiter && !name.is_empty() => {
+    let (name, after) = split_name(text);
+    match after {
+        [c, after @ ..] if *c == delimiter && !name.is_empty() => {
             let name = text_of(alloc, name)?;
-            Ok(Some((Target::CalledOrNumbered(name), behind)))
+            Ok(Some((Target::CalledOrNumbered(name), after)))
         }
         _ => Ok(None),
     }
 }
 
 /// A name, or a dash and a distance, up to this delimiter.
-fn delimited(
+fn delimited_target(
     alloc: Global,
     text: &[char],
     opened: usize,
     delimiter: char,
-) -> Result<Option<Reading<'_>>, AllocError>
+) -> Result<Option<ReadReference<'_>>, AllocError>
     requires { opened < 2 ^ 63 }
-    ensures value { IfOk result (λ r. option_map reading_of r ≡ delimited opened delimiter text.now) }
+    ensures value { IfOk result (λ r. option_map reading_of r ≡ delimited_target opened delimiter text.now) }
     ensures shorter { IfOk result (λ r. IfSome r (λ x. length x.1.now ≤ length text.now)) }
 {
     match text {
@@ -123,16 +123,16 @@ pub(crate) fn read_reference(
     alloc: Global,
     text: &[char],
     opened: usize,
-) -> Result<Option<Reading<'_>>, AllocError>
+) -> Result<Option<ReadReference<'_>>, AllocError>
     requires { opened < 2 ^ 63 }
-    ensures value { IfOk result (λ r. option_map reading_of r ≡ reference opened text.now) }
+    ensures value { IfOk result (λ r. option_map reading_of r ≡ read_reference opened text.now) }
     ensures shorter { IfOk result (λ r. IfSome r (λ x. length x.1.now < length text.now)) }
 {
     if text.starts_with(&['\\', 'k', '<']) {
-        return delimited(alloc, &text[3..], opened, '>');
+        return delimited_target(alloc, &text[3..], opened, '>');
     }
     if text.starts_with(&['\\', 'k', '\'']) {
-        return delimited(alloc, &text[3..], opened, '\'');
+        return delimited_target(alloc, &text[3..], opened, '\'');
     }
     match text {
         ['\\', digits @ ..] => Ok(number_reference(digits)),
@@ -152,12 +152,12 @@ fn within_largest(number: u64) -> Target
 }
 
 /// A row of digits up to a parenthesis.
-fn number_condition(text: &[char]) -> Option<Reading<'_>>
+fn number_condition(text: &[char]) -> Option<ReadReference<'_>>
     ensures value { option_map reading_of result ≡ number_condition text.now }
     ensures shorter { IfSome result (λ r. length r.1.now ≤ length text.now) }
 {
     match past_digits(text) {
-        [')', behind @ ..] if is_at_digit(text) => { Some((within_largest(decimal(text)), behind)) }
+        [')', after @ ..] if is_at_digit(text) => { Some((within_largest(decimal(text)), after)) }
         _ => None,
     }
 }
@@ -167,25 +167,25 @@ fn name_condition(
     alloc: Global,
     text: &[char],
     delimiter: char,
-) -> Result<Option<Reading<'_>>, AllocError>
+) -> Result<Option<ReadReference<'_>>, AllocError>
     ensures value { IfOk result (λ r. option_map reading_of r ≡ name_condition delimiter text.now) }
     ensures shorter { IfOk result (λ r. IfSome r (λ x. length x.1.now ≤ length text.now)) }
 {
-    let (name, behind) = split_name(text);
-    match behind {
-        [c, ')', behind @ ..] if *c == delimiter && !name.is_empty() => {
+    let (name, after) = split_name(text);
+    match after {
+        [c, ')', after @ ..] if *c == delimiter && !name.is_empty() => {
             let name = text_of(alloc, name)?;
-            Ok(Some((Target::Called(name), behind)))
+            Ok(Some((Target::Called(name), after)))
         }
         _ => Ok(None),
     }
 }
 
-/// The group that a condition tests, and the text behind the condition's parenthesis; none where the condition is no test of a group.
+/// The group that a condition tests, and the text after the condition's parenthesis; none where the condition is no test of a group.
 pub(crate) fn read_condition(
     alloc: Global,
     text: &[char],
-) -> Result<Option<Reading<'_>>, AllocError>
+) -> Result<Option<ReadReference<'_>>, AllocError>
     ensures value { IfOk result (λ r. option_map reading_of r ≡ group_condition text.now) }
     ensures shorter { IfOk result (λ r. IfSome r (λ x. length x.1.now ≤ length text.now)) }
 {
@@ -212,10 +212,10 @@ pub(crate) fn reference_fault(text: &[char]) -> ParseErrorKind {
     }
 }
 
-/// What is wrong between delimiters: other dialects count levels and groups further on by digits behind a sign.
+/// What is wrong between delimiters: other dialects count levels and groups further on by digits after a sign.
 fn delimited_fault(inside: &[char], delimiter: char) -> ParseErrorKind {
-    let (name, behind) = split_name(inside);
-    match behind {
+    let (name, after) = split_name(inside);
+    match after {
         ['-', ..] if name.is_empty() => ParseErrorKind::InvalidGroupName,
         ['+' | '-', digits @ ..]
             if is_at_digit(digits) && is_at_any(past_digits(digits), &[delimiter]) => {

@@ -3,7 +3,7 @@
 ghost use Rattle.std.specs.Prelude.{◌≡◌, ℕ, ◌-◌, ◌^◌, ◌&&◌, min, None, Some, map, All, Any, IfOk, IfErr, chars, string_bytes};
 ghost use Rattle.fancy_syntax.specs.Dialect.{has_name};
 ghost use Rattle.fancy_tree.specs.Names.{named_groups};
-ghost use Rattle.fancy_syntax.specs.References.{no_name as no_name_fault, group_numbered, group_in_digits, resolve, fault_of, group_for};
+ghost use Rattle.fancy_syntax.specs.References.{no_name as no_name_fault, group_numbered, group_in_digits, resolve, target_fault, group_for};
 ghost use Rattle.fancy_syntax.specs.Views.{target_of, targets_of, groups_of, Resolves, RefusesReference};
 
 use crate::count::{decimal, past_digits};
@@ -90,8 +90,8 @@ impl Groups<'_> {
     /// The group that each reference names.
     pub(crate) fn resolve_all(&self, alloc: Global, targets: &[Target]) -> Result<Vec<usize>, Error>
         ensures numbers { IfOk result (λ v. v.items ≡ map (group_for (groups_of self.now)) (targets_of targets.now)) }
-        ensures resolved { IfOk result (λ v. All (λ w. fault_of (groups_of self.now) (target_of w) ≡ None) targets.now) }
-        ensures refused { IfErr result (λ e. RefusesReference e (λ f. Any (λ w. fault_of (groups_of self.now) (target_of w) ≡ Some f) targets.now)) }
+        ensures resolved { IfOk result (λ v. All (λ w. target_fault (groups_of self.now) (target_of w) ≡ None) targets.now) }
+        ensures refused { IfErr result (λ e. RefusesReference e (λ f. Any (λ w. target_fault (groups_of self.now) (target_of w) ≡ Some f) targets.now)) }
     {
         let mut numbers = Vec::new(alloc);
         for target in targets {

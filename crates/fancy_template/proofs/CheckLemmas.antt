@@ -5,9 +5,9 @@ use Rattle.std.proofs.lemmas.Bool.Decides.{nat_tests}
 use Rattle.fancy_tree.specs.Text.{Text}
 use Rattle.fancy_template.specs.Templates.{Step}
 use Rattle.fancy_template.specs.Expansions.{as_number}
-use Rattle.fancy_template.specs.Checks.{Groups, Fault, no_number, no_name, fault_of, fault_of_number, fault_of_numeral, fault_unless_named, fault_of_name, first_fault}
+use Rattle.fancy_template.specs.Checks.{TemplateGroups, TemplateFault, no_number, no_name, step_fault, fault_of_number, fault_of_numeral, fault_unless_named, fault_of_name, first_fault}
 
-module _ (groups : Groups) where
+module _ (groups : TemplateGroups) where
   pub number_refused : (n : ℕ) → 0 < n → groups.has_names ≡ false → groups.count ≤ n → fault_of_number groups n ≡ Some (no_number n)
   number_refused n p h q =
       let a : (n == 0) ≡ false = grind (arith, nat_tests) in
@@ -18,9 +18,9 @@ module _ (groups : Groups) where
   name_refused w None e f g = ap (fault_unless_named groups w) (sym e) ∙ ap (fault_of_numeral groups w) (sym g)
   name_refused w (Some n) e f g = absurd (cc)
 
-  -- a step that passes leaves the first fault to those behind it
-  pub fault_behind : (left rest : List Step) (x : Step) → left ≡ x ∷ rest → fault_of groups x ≡ None → first_fault groups left ≡ first_fault groups rest
-  fault_behind left rest x e f = ap (first_fault groups) e ∙ ap (λ (z : Option Fault). option_or z (first_fault groups rest)) f
+  -- a step that passes leaves the first fault to those after it
+  pub fault_after : (left rest : List Step) (x : Step) → left ≡ x ∷ rest → step_fault groups x ≡ None → first_fault groups left ≡ first_fault groups rest
+  fault_after left rest x e f = ap (first_fault groups) e ∙ ap (λ (z : Option TemplateFault). option_or z (first_fault groups rest)) f
 
-  pub fault_here : (left rest : List Step) (x : Step) (fault : Fault) → left ≡ x ∷ rest → fault_of groups x ≡ Some fault → first_fault groups left ≡ Some fault
-  fault_here left rest x fault e f = ap (first_fault groups) e ∙ ap (λ (z : Option Fault). option_or z (first_fault groups rest)) f
+  pub fault_here : (left rest : List Step) (x : Step) (fault : TemplateFault) → left ≡ x ∷ rest → step_fault groups x ≡ Some fault → first_fault groups left ≡ Some fault
+  fault_here left rest x fault e f = ap (first_fault groups) e ∙ ap (λ (z : Option TemplateFault). option_or z (first_fault groups rest)) f

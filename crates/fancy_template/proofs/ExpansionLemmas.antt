@@ -7,7 +7,7 @@ use Rattle.std.proofs.KnownBytes.{Appends-trans}
 use Rattle.std.proofs.lemmas.List.{take-append-le}
 use Rattle.std.proofs.Math.Seq.{take-append-add}
 use Rattle.fancy_tree.specs.Text.{Text}
-use Rattle.fancy_template.specs.Templates.{Syntax, Step, steps}
+use Rattle.fancy_template.specs.Templates.{TemplateSyntax, Step, steps}
 use Rattle.fancy_template.specs.Expansions.{Captured, expanded, expansion}
 
 -- What was given so far, of which P holds, and what the steps that are left give make up the whole.
@@ -16,7 +16,7 @@ pub record Given (k : Captured) (whole : List ℕ) (P : List ℕ → Type 0) (le
   pub joined : whole ≡ done ++ flat_map (expanded k) left
   pub holds : P done
 
-pub given_none : (s : Syntax) (k : Captured) (t : Text) (P : List ℕ → Type 0) (left : List Step) → left ≡ steps s t → P [] → Given k (expansion s k t) P left
+pub given_none : (s : TemplateSyntax) (k : Captured) (t : Text) (P : List ℕ → Type 0) (left : List Step) → left ≡ steps s t → P [] → Given k (expansion s k t) P left
 unfolding expansion
 given_none s k t P left e p = record { done = []; joined = ap (λ (z : List Step). flat_map (expanded k) z) (sym e); holds = p }
 
@@ -51,12 +51,12 @@ written_part k whole old now next left rest x add e f (n, short, part) g =
     let size : length whole ≡ length g.done + (length add + length more) = ap length all ∙ (length-append g.done (add ++ more) ∙ ap (λ (z : ℕ). length g.done + z) (length-append add more)) in
     (length g.done + n, omega arith, rw (all, ← take_part g.done add more n short) (Appends-trans old now next g.done (take n add) g.holds part))
 
-text_behind : (cs : Text) (rest : List ℕ) → IsUtf8 (encode_utf8_all cs ++ rest) → IsUtf8 rest
-text_behind [] rest u = u
-text_behind (c ∷ cs) rest u = text_behind cs rest (IsUtf8-past_char ((encode_utf8 c ++ encode_utf8_all cs) ++ rest) (encode_utf8_all cs ++ rest) c u (append_assoc (encode_utf8 c) (encode_utf8_all cs) rest))
+text_after : (cs : Text) (rest : List ℕ) → IsUtf8 (encode_utf8_all cs ++ rest) → IsUtf8 rest
+text_after [] rest u = u
+text_after (c ∷ cs) rest u = text_after cs rest (IsUtf8-past_char ((encode_utf8 c ++ encode_utf8_all cs) ++ rest) (encode_utf8_all cs ++ rest) c u (append_assoc (encode_utf8 c) (encode_utf8_all cs) rest))
 
 -- what was appended to a text can be cut off again
 pub may_cut : (old now more : List ℕ) → IsUtf8 old → IsUtf8 now → now ≡ old ++ more → IsSplitPoint now (length old)
 may_cut old now more u v e =
-    let seam : IsCharBoundary now (length old) = IsCharBoundary-at_seam now old more e (text_behind (chars old) more (rw (encodes-chars old u, ← e) v)) in
+    let seam : IsCharBoundary now (length old) = IsCharBoundary-at_seam now old more e (text_after (chars old) more (rw (encodes-chars old u, ← e) v)) in
     (seam.0, λ _. seam.1)

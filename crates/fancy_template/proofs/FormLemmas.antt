@@ -1,4 +1,4 @@
--- Lemmas on the forms that may stand behind a mark.
+-- Lemmas on the forms that may stand after a mark.
 use Rattle.std.proofs.Common.{arith, ℕ, zero, suc, ◌+◌, ◌<◌, ◌≤◌, ◌≡◌, ◌==◌, ◌^◌, ◌&&◌, Bool, true, false, not, nat_lt, List, [], ◌∷◌, Option, None, Some, Result, Ok, Err, length, drop, refl, sym, ◌∙◌, ap, option_map, if◌then◌else◌, IsAscii, chars, IsUtf8, OkIff, encode_utf8_all, MatchResult, lit<}
 use Rattle.std.specs.Option.{option_or}
 use Rattle.std.specs.Char.{is_ascii_digit}
@@ -10,44 +10,44 @@ use Rattle.std.proofs.lemmas.Str.{encodes-chars, encodes-IsAscii}
 use Rattle.std.proofs.lemmas.Bool.Decides.{nat_tests}
 use Rattle.std.proofs.lemmas.List.{drop-drop}
 use Rattle.fancy_tree.specs.Text.{Text}
-use Rattle.fancy_template.specs.Templates.{Syntax, Step, literal, name, number, Form, form, doubled, delimited, undelimited, numbered, begins_with, is_name_character, is_empty, row, past_row, fitting}
+use Rattle.fancy_template.specs.Templates.{TemplateSyntax, Step, literal, name, number, Form, form, doubled, name_in_delimiters, undelimited, number_form, begins_with, is_name_character, is_empty_text, row, past_row, fitting}
 use Rattle.fancy_template.specs.Expanders.{form_in}
 
 -- where the row of a name is what stands inside, and r what follows the closing delimiter
-module _ (s : Syntax) (t : Text) where
-  pub not_opened : begins_with s.opening t ≡ false → None ≡ option_map (form_in t) (delimited s t)
-  unfolding delimited
+module _ (s : TemplateSyntax) (t : Text) where
+  pub not_opened : begins_with s.opening t ≡ false → None ≡ option_map (form_in t) (name_in_delimiters s t)
+  unfolding name_in_delimiters
   not_opened o = rw o refl
 
-  pub no_name : begins_with s.opening t ≡ true → (inside : Text) → inside ≡ drop (length s.opening) t → is_empty (row is_name_character inside) ≡ true → None ≡ option_map (form_in t) (delimited s t)
-  unfolding delimited
-  no_name o inside e n = let k : is_empty (row is_name_character (drop (length s.opening) t)) ≡ true = rw (← e) n in rw (o, k) refl
+  pub no_name : begins_with s.opening t ≡ true → (inside : Text) → inside ≡ drop (length s.opening) t → is_empty_text (row is_name_character inside) ≡ true → None ≡ option_map (form_in t) (name_in_delimiters s t)
+  unfolding name_in_delimiters
+  no_name o inside e n = let k : is_empty_text (row is_name_character (drop (length s.opening) t)) ≡ true = rw (← e) n in rw (o, k) refl
 
-  pub not_closed : begins_with s.opening t ≡ true → (inside : Text) → inside ≡ drop (length s.opening) t → is_empty (row is_name_character inside) ≡ false → begins_with s.closing (past_row is_name_character inside) ≡ false → None ≡ option_map (form_in t) (delimited s t)
-  unfolding delimited
+  pub not_closed : begins_with s.opening t ≡ true → (inside : Text) → inside ≡ drop (length s.opening) t → is_empty_text (row is_name_character inside) ≡ false → begins_with s.closing (past_row is_name_character inside) ≡ false → None ≡ option_map (form_in t) (name_in_delimiters s t)
+  unfolding name_in_delimiters
   not_closed o inside e n b =
-      let k : is_empty (row is_name_character (drop (length s.opening) t)) ≡ false = rw (← e) n in
+      let k : is_empty_text (row is_name_character (drop (length s.opening) t)) ≡ false = rw (← e) n in
       let l : begins_with s.closing (past_row is_name_character (drop (length s.opening) t)) ≡ false = rw (← e) b in
       rw (o, k, l) refl
 
-  behind_name : (w : Text) (n : ℕ) → drop (length s.closing) (drop n (drop (length s.opening) t)) ≡ drop (length s.opening + (n + length s.closing)) t
-  behind_name w n = ap (drop (length s.closing)) (drop-drop n (length s.opening) t) ∙ drop-drop (length s.closing) (length s.opening + n) t ∙ ap (λ (z : ℕ). drop z t) (omega arith)
+  after_name : (w : Text) (n : ℕ) → drop (length s.closing) (drop n (drop (length s.opening) t)) ≡ drop (length s.opening + (n + length s.closing)) t
+  after_name w n = ap (drop (length s.closing)) (drop-drop n (length s.opening) t) ∙ drop-drop (length s.closing) (length s.opening + n) t ∙ ap (λ (z : ℕ). drop z t) (omega arith)
 
-  pub named : begins_with s.opening t ≡ true → (inside : Text) → inside ≡ drop (length s.opening) t → is_empty (row is_name_character inside) ≡ false → begins_with s.closing (past_row is_name_character inside) ≡ true
-      → (w r : Text) → w ≡ row is_name_character inside → r ≡ drop (length s.closing) (past_row is_name_character inside) → Some (name w, r) ≡ option_map (form_in t) (delimited s t)
-  unfolding delimited
+  pub named : begins_with s.opening t ≡ true → (inside : Text) → inside ≡ drop (length s.opening) t → is_empty_text (row is_name_character inside) ≡ false → begins_with s.closing (past_row is_name_character inside) ≡ true
+      → (w r : Text) → w ≡ row is_name_character inside → r ≡ drop (length s.closing) (past_row is_name_character inside) → Some (name w, r) ≡ option_map (form_in t) (name_in_delimiters s t)
+  unfolding name_in_delimiters
   named o inside e n b w r ew er =
-      let k : is_empty (row is_name_character (drop (length s.opening) t)) ≡ false = rw (← e) n in
+      let k : is_empty_text (row is_name_character (drop (length s.opening) t)) ≡ false = rw (← e) n in
       let l : begins_with s.closing (past_row is_name_character (drop (length s.opening) t)) ≡ true = rw (← e) b in
-      rw (er, ew, e, o, k, l, behind_name [] (length (row is_name_character (drop (length s.opening) t)))) refl
+      rw (er, ew, e, o, k, l, after_name [] (length (row is_name_character (drop (length s.opening) t)))) refl
 
   pub no_bare_names : s.undelimited ≡ false → None ≡ option_map (form_in t) (undelimited s t)
   no_bare_names u = rw u refl
 
-  pub no_bare_name : s.undelimited ≡ true → is_empty (row is_name_character t) ≡ true → None ≡ option_map (form_in t) (undelimited s t)
+  pub no_bare_name : s.undelimited ≡ true → is_empty_text (row is_name_character t) ≡ true → None ≡ option_map (form_in t) (undelimited s t)
   no_bare_name u n = rw (u, n) refl
 
-  pub bare_name : s.undelimited ≡ true → is_empty (row is_name_character t) ≡ false → (w r : Text) → w ≡ row is_name_character t → r ≡ past_row is_name_character t → Some (name w, r) ≡ option_map (form_in t) (undelimited s t)
+  pub bare_name : s.undelimited ≡ true → is_empty_text (row is_name_character t) ≡ false → (w r : Text) → w ≡ row is_name_character t → r ≡ past_row is_name_character t → Some (name w, r) ≡ option_map (form_in t) (undelimited s t)
   bare_name u n w r ew er = rw (er, ew, u, n) refl
 
 -- digits
@@ -90,10 +90,10 @@ row_parsed t d r u k h =
     let ok : OkIff r ((0 < length d) × (digits_value 10 d < 2 ^ 64)) (digits_value 10 d) = parse_digits own 64 d r h all in
     fits (row is_ascii_digit t) r (rw (← same) ok)
 
-pub a_number : (t : Text) (n : ℕ) (r : Text) → fitting (row is_ascii_digit t) ≡ Some n → r ≡ past_row is_ascii_digit t → Some (number n, r) ≡ option_map (form_in t) (numbered t)
+pub a_number : (t : Text) (n : ℕ) (r : Text) → fitting (row is_ascii_digit t) ≡ Some n → r ≡ past_row is_ascii_digit t → Some (number n, r) ≡ option_map (form_in t) (number_form t)
 a_number t n r f e = rw (e, f) refl
 
-pub no_number : (t : Text) → fitting (row is_ascii_digit t) ≡ None → None ≡ option_map (form_in t) (numbered t)
+pub no_number : (t : Text) → fitting (row is_ascii_digit t) ≡ None → None ≡ option_map (form_in t) (number_form t)
 no_number t f = rw f refl
 
 -- the first form that fits
@@ -106,7 +106,7 @@ module _ (v : Form → Step × Text) where
   is_later None b x e f = f
   is_later (Some f) b x e g = absurd (cc)
 
-module _ (s : Syntax) (t : Text) where
+module _ (s : TemplateSyntax) (t : Text) where
   pub a_mark : begins_with (s.mark ∷ []) t ≡ true → (r : Text) → r ≡ drop 1 t → Some (literal s.mark, r) ≡ option_map (form_in t) (form s t)
   unfolding form
   a_mark b r e = rw (b, e) refl
@@ -114,14 +114,14 @@ module _ (s : Syntax) (t : Text) where
   not_doubled : begins_with (s.mark ∷ []) t ≡ false → None ≡ option_map (form_in t) (doubled s t)
   not_doubled b = rw b refl
 
-  pub a_delimited : begins_with (s.mark ∷ []) t ≡ false → (x : Step × Text) → Some x ≡ option_map (form_in t) (delimited s t) → Some x ≡ option_map (form_in t) (form s t)
+  pub a_delimited : begins_with (s.mark ∷ []) t ≡ false → (x : Step × Text) → Some x ≡ option_map (form_in t) (name_in_delimiters s t) → Some x ≡ option_map (form_in t) (form s t)
   unfolding form
-  a_delimited b x e = is_later (form_in t) (doubled s t) _ (Some x) (not_doubled b) (is_first (form_in t) (delimited s t) _ x e)
+  a_delimited b x e = is_later (form_in t) (doubled s t) _ (Some x) (not_doubled b) (is_first (form_in t) (name_in_delimiters s t) _ x e)
 
-  pub an_undelimited : begins_with (s.mark ∷ []) t ≡ false → None ≡ option_map (form_in t) (delimited s t) → (x : Step × Text) → Some x ≡ option_map (form_in t) (undelimited s t) → Some x ≡ option_map (form_in t) (form s t)
+  pub an_undelimited : begins_with (s.mark ∷ []) t ≡ false → None ≡ option_map (form_in t) (name_in_delimiters s t) → (x : Step × Text) → Some x ≡ option_map (form_in t) (undelimited s t) → Some x ≡ option_map (form_in t) (form s t)
   unfolding form
-  an_undelimited b d x e = is_later (form_in t) (doubled s t) _ (Some x) (not_doubled b) (is_later (form_in t) (delimited s t) _ (Some x) d (is_first (form_in t) (undelimited s t) _ x e))
+  an_undelimited b d x e = is_later (form_in t) (doubled s t) _ (Some x) (not_doubled b) (is_later (form_in t) (name_in_delimiters s t) _ (Some x) d (is_first (form_in t) (undelimited s t) _ x e))
 
-  pub at_last : begins_with (s.mark ∷ []) t ≡ false → None ≡ option_map (form_in t) (delimited s t) → None ≡ option_map (form_in t) (undelimited s t) → (x : Option (Step × Text)) → x ≡ option_map (form_in t) (numbered t) → x ≡ option_map (form_in t) (form s t)
+  pub at_last : begins_with (s.mark ∷ []) t ≡ false → None ≡ option_map (form_in t) (name_in_delimiters s t) → None ≡ option_map (form_in t) (undelimited s t) → (x : Option (Step × Text)) → x ≡ option_map (form_in t) (number_form t) → x ≡ option_map (form_in t) (form s t)
   unfolding form
-  at_last b d u x e = is_later (form_in t) (doubled s t) _ x (not_doubled b) (is_later (form_in t) (delimited s t) _ x d (is_later (form_in t) (undelimited s t) _ x u e))
+  at_last b d u x e = is_later (form_in t) (doubled s t) _ x (not_doubled b) (is_later (form_in t) (name_in_delimiters s t) _ x d (is_later (form_in t) (undelimited s t) _ x u e))

@@ -4,23 +4,23 @@ use Rattle.std.specs.List.{list_any}
 use Rattle.std.proofs.lemmas.Str.{encodes-chars, chars_from_encodes, encodes-append}
 use Rattle.std.proofs.lemmas.Grind.{flat_map-append}
 use Rattle.fancy_tree.specs.Text.{Text}
-use Rattle.fancy_template.specs.Templates.{Syntax, Step, literal, form, steps, begins_with}
+use Rattle.fancy_template.specs.Templates.{TemplateSyntax, Step, literal, form, steps, begins_with}
 use Rattle.fancy_template.specs.Expansions.{Captured, expanded, expansion}
 use Rattle.fancy_template.specs.Marks.{escaped_template}
 use Rattle.fancy_template.proofs.RowLemmas.{begins_is}
 use Rattle.fancy_template.proofs.TemplateLemmas.{steps_plain, steps_formed}
 
--- a mark behind a mark is a form
-pub twice : (s : Syntax) (t : Text) → form s (s.mark ∷ t) ≡ Some (record { step = literal s.mark; width = 1 })
+-- a mark after a mark is a form
+pub twice : (s : TemplateSyntax) (t : Text) → form s (s.mark ∷ t) ≡ Some (record { step = literal s.mark; width = 1 })
 unfolding form
 twice s t = let b : begins_with (s.mark ∷ []) (s.mark ∷ t) ≡ true = (begins_is (s.mark ∷ []) (s.mark ∷ t)).1 t refl in rw b refl
 
-literals_at : (s : Syntax) (c : ℕ) (t : Text) (b : Bool) → (c == s.mark) ≡ b → steps s (escaped_template s.mark t) ≡ map literal t → steps s ((if b then c ∷ c ∷ [] else c ∷ []) ++ escaped_template s.mark t) ≡ literal c ∷ map literal t
+literals_at : (s : TemplateSyntax) (c : ℕ) (t : Text) (b : Bool) → (c == s.mark) ≡ b → steps s (escaped_template s.mark t) ≡ map literal t → steps s ((if b then c ∷ c ∷ [] else c ∷ []) ++ escaped_template s.mark t) ≡ literal c ∷ map literal t
 literals_at s c t true e r = rw (eqb-true c s.mark e) (steps_formed s _ _ (twice s (escaped_template s.mark t)) ∙ ap (λ (z : List Step). literal s.mark ∷ z) r)
 literals_at s c t false e r = steps_plain s c (escaped_template s.mark t) e ∙ ap (λ (z : List Step). literal c ∷ z) r
 
 -- a text with its marks doubled is cut into its characters
-literals : (s : Syntax) (t : Text) → steps s (escaped_template s.mark t) ≡ map literal t
+literals : (s : TemplateSyntax) (t : Text) → steps s (escaped_template s.mark t) ≡ map literal t
 unfolding steps
 literals s [] = refl
 literals s (c ∷ t) = literals_at s c t (c == s.mark) refl (literals s t)
@@ -30,7 +30,7 @@ expands_back k [] = refl
 expands_back k (c ∷ t) = ap (λ (z : List ℕ). encode_utf8 c ++ z) (expands_back k t)
 
 -- what was escaped expands to the text
-pub stands_for : (s : Syntax) (k : Captured) (text bs : List ℕ) → IsUtf8 text → IsUtf8 bs → bs ≡ encode_utf8_all (escaped_template s.mark (chars text)) → expansion s k (chars bs) ≡ text
+pub stands_for : (s : TemplateSyntax) (k : Captured) (text bs : List ℕ) → IsUtf8 text → IsUtf8 bs → bs ≡ encode_utf8_all (escaped_template s.mark (chars text)) → expansion s k (chars bs) ≡ text
 unfolding expansion
 stands_for s k text bs u v e =
     let w : escaped_template s.mark (chars text) ≡ chars bs = chars_from_encodes (escaped_template s.mark (chars text)) bs v (sym e) in
@@ -54,7 +54,7 @@ unmarked m [] e = refl
 unmarked m (c ∷ t) e = unmarked_at m c t (c == m) refl (left (c == m) (list_any (λ d. d == m) t) e) (unmarked m t (right (c == m) (list_any (λ d. d == m) t) e))
 
 -- a template without a mark stands for itself
-pub unmarked_expands : (s : Syntax) (k : Captured) (t : Text) → list_any (λ c. c == s.mark) t ≡ false → expansion s k t ≡ encode_utf8_all t
+pub unmarked_expands : (s : TemplateSyntax) (k : Captured) (t : Text) → list_any (λ c. c == s.mark) t ≡ false → expansion s k t ≡ encode_utf8_all t
 unfolding expansion
 unmarked_expands s k t e = ap (λ (z : List Step). flat_map (expanded k) z) (ap (steps s) (sym (unmarked s.mark t e)) ∙ literals s t) ∙ expands_back k t
 

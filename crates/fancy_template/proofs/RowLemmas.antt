@@ -51,11 +51,11 @@ row_more p c t e = rw e refl
 pub row_stops : (p : ℕ → Bool) (c : ℕ) (t : Text) → p c ≡ false → row p (c ∷ t) ≡ []
 row_stops p c t e = rw e refl
 
-pub passed_more : (p : ℕ → Bool) (text rest behind : List ℕ) (c : ℕ) → Passed p text rest → rest ≡ encode_utf8 c ++ behind → chars rest ≡ c ∷ chars behind → p c ≡ true → Passed p text behind
-passed_more p text rest behind c h e k b = record {
+pub passed_more : (p : ℕ → Bool) (text rest after : List ℕ) (c : ℕ) → Passed p text rest → rest ≡ encode_utf8 c ++ after → chars rest ≡ c ∷ chars after → p c ≡ true → Passed p text after
+passed_more p text rest after c h e k b = record {
   front = h.front ++ (c ∷ []);
-  bytes = h.bytes ∙ ap (λ (z : List ℕ). encode_utf8_all h.front ++ z) e ∙ sym (append_assoc (encode_utf8_all h.front) (encode_utf8 c) behind) ∙ ap (λ (z : List ℕ). z ++ behind) (ap (λ (z : List ℕ). encode_utf8_all h.front ++ z) (sym (append-nil (encode_utf8 c))) ∙ sym (encodes-append h.front (c ∷ [])));
-  spelled = h.spelled ∙ ap (λ (z : List ℕ). h.front ++ z) k ∙ sym (append_assoc h.front (c ∷ []) (chars behind));
+  bytes = h.bytes ∙ ap (λ (z : List ℕ). encode_utf8_all h.front ++ z) e ∙ sym (append_assoc (encode_utf8_all h.front) (encode_utf8 c) after) ∙ ap (λ (z : List ℕ). z ++ after) (ap (λ (z : List ℕ). encode_utf8_all h.front ++ z) (sym (append-nil (encode_utf8 c))) ∙ sym (encodes-append h.front (c ∷ [])));
+  spelled = h.spelled ∙ ap (λ (z : List ℕ). h.front ++ z) k ∙ sym (append_assoc h.front (c ∷ []) (chars after));
   onward = λ (more : Text). ap (row p) (append_assoc h.front (c ∷ []) more) ∙ h.onward (c ∷ more) ∙ ap (λ (z : List ℕ). h.front ++ z) (row_more p c more b) ∙ sym (append_assoc h.front (c ∷ []) (row p more));
 }
 

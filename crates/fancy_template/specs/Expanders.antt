@@ -1,9 +1,12 @@
 -- What an expander and the steps that it has in hand stand for.
-use Rattle.std.specs.Prelude.{ℕ, Bool, true, false, List, ◌∷◌, chars, codes, drop}
+use Rattle.std.specs.Prelude.{◌≡◌, ℕ, Bool, true, false, List, ◌∷◌, Option, Result, OnOk, OnErr, chars, codes, drop, encode_utf8_all}
 use Rattle.std.specs.Borrow.{Bor}
 use Rattle.std.specs.Char.{is_ascii_digit}
 use Rattle.fancy_tree.specs.Text.{Text}
-use Rattle.fancy_template.specs.Templates.{Syntax, Step, literal, name, number, error, steps, Form, is_name_character}
+use Rattle.fancy_template.specs.Templates.{TemplateSyntax, Step, literal, name, number, error, steps, Form, is_name_character}
+use Rattle.fancy_template.specs.Appended.{Writes, WritesPart}
+use Rattle.fancy_template.specs.Expansions.{Captured, expansion}
+use Rattle.fancy_template.specs.Marks.{escaped_template}
 use Rattle.fancy_template.specs.declared.scan.CharKind.{CharKind}
 use Rattle.fancy_template.specs.declared.scan.CharKind.TheVariants.{OfName, Digit}
 use Rattle.fancy_template.specs.declared.expander.Delimiters.{Delimiters}
@@ -18,17 +21,37 @@ abbrev pub opening_of : Delimiters → Text
 opening_of Braces = codes "{"
 opening_of Angles = codes "g<"
 
--- and behind it
+-- and after it
 abbrev pub closing_of : Delimiters → Text
 closing_of Braces = codes "}"
 closing_of Angles = codes ">"
 
 -- how its templates are written
-abbrev pub syntax_of : Expander → Syntax
+abbrev pub syntax_of : Expander → TemplateSyntax
 syntax_of e = record { mark = e.mark; opening = opening_of e.delimiters; closing = closing_of e.delimiters; undelimited = e.undelimited }
 
 abbrev pub mark_of : Expander → ℕ
 mark_of e = e.mark
+
+-- what a template of these bytes expands to for captures, of which `captured` says what templates see
+abbrev pub expand : {C : Type 0} → Expander → (C → Captured) → C → List ℕ → List ℕ
+expand e captured c template = expansion (syntax_of e) (captured c) (chars template)
+
+-- where a writer took all that it was given, that is the expansion of a template
+abbrev pub WritesAll : {W C A F : Type 0} → (W → Option (List ℕ)) → W → W → Result A F → Expander → (C → Captured) → C → List ℕ → Type 0
+WritesAll contents before after result e captured c template = OnOk result (Writes contents before (expand e captured c template) after)
+
+-- where it refused, it has taken a beginning of the expansion, and not all of it
+abbrev pub WritesSome : {W C A F : Type 0} → (W → Option (List ℕ)) → W → W → Result A F → Expander → (C → Captured) → C → List ℕ → Type 0
+WritesSome contents before after result e captured c template = OnErr result (WritesPart contents before (expand e captured c template) after)
+
+-- whatever was captured, a template of these bytes expands to this text
+abbrev pub ExpandsTo : Expander → List ℕ → List ℕ → Type 0
+ExpandsTo e template text = (k : Captured) → expansion (syntax_of e) k (chars template) ≡ text
+
+-- the bytes of the template that stands for a text of these bytes
+abbrev pub escape_by : Expander → List ℕ → List ℕ
+escape_by e text = encode_utf8_all (escaped_template (mark_of e) (chars text))
 
 -- the step, with a name as a text of characters
 abbrev pub step_of : read.Step → Step
@@ -46,8 +69,8 @@ abbrev pub steps_left : Steps → List Step
 steps_left s = with_mark_if s.owes_mark s.expander.mark (steps (syntax_of s.expander) (chars s.rest.now))
 
 -- a step that was read from the front of a text, and what follows it there
-abbrev pub read_of : (read.Step × Bor (List ℕ)) → Step × Text
-read_of x = (step_of x.0, chars x.1.now)
+abbrev pub step_read : (read.Step × Bor (List ℕ)) → Step × Text
+step_read x = (step_of x.0, chars x.1.now)
 
 abbrev pub form_in : Text → Form → Step × Text
 form_in t f = (f.step, drop f.width t)

@@ -4,7 +4,7 @@ use Rattle.std.specs.Char.{is_ascii_digit}
 use Rattle.std.specs.List.{list_all}
 use Rattle.std.specs.Option.{option_or, option_and_then}
 use Rattle.fancy_tree.specs.Text.{Text}
-use Rattle.fancy_template.specs.Templates.{Step, literal, name, number, error, fitting, Syntax, steps}
+use Rattle.fancy_template.specs.Templates.{Step, literal, name, number, error, fitting, TemplateSyntax, steps}
 
 -- What the groups with a name, and with a number, matched: `None` where there is no such group or it took no part.
 pub record Captured : Type 0 where
@@ -19,13 +19,17 @@ or_nothing (Some bs) = bs
 abbrev pub as_number : Text → Option ℕ
 as_number w = if list_all is_ascii_digit w then fitting w else None
 
+-- the text of the group with a name where that took part, else of the group whose decimal number it is
+abbrev pub text_of_group : Captured → Text → Option (List ℕ)
+text_of_group k w = option_or (k.text_of_name w) (option_and_then k.text_of_number (as_number w))
+
 -- what a step gives
 abbrev pub expanded : Captured → Step → List ℕ
 expanded k (literal c) = encode_utf8 c
-expanded k (name w) = or_nothing (option_or (k.text_of_name w) (option_and_then k.text_of_number (as_number w)))
+expanded k (name w) = or_nothing (text_of_group k w)
 expanded k (number n) = or_nothing (k.text_of_number n)
 expanded k error = []
 
 -- what a template gives
-unfoldable pub expansion : Syntax → Captured → Text → List ℕ
+unfoldable pub expansion : TemplateSyntax → Captured → Text → List ℕ
 expansion s k t = flat_map (expanded k) (steps s t)

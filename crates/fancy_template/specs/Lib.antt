@@ -4,3 +4,4 @@ pub mod Marks
 pub mod Expanders
 pub mod Expanded
 pub mod Checks
+pub mod Appended

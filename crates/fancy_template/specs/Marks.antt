@@ -1,4 +1,4 @@
--- Texts that are to stand for themselves in a template. A mark is the character behind which a form may stand.
+-- Texts that are to stand for themselves in a template. A mark is the character after which a form may stand.
 use Rattle.std.specs.Prelude.{ℕ, ◌==◌, Bool, [], ◌∷◌, flat_map, if◌then◌else◌}
 use Rattle.std.specs.List.{list_any}
 use Rattle.fancy_tree.specs.Text.{Text}

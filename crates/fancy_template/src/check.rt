@@ -1,9 +1,8 @@
 //! Whether a template fits a regex.
 
-ghost use Rattle.std.specs.Prelude.{◌≡◌, None, Some, chars, IfOk, IfErr};
-ghost use Rattle.fancy_template.specs.Templates.{steps};
-ghost use Rattle.fancy_template.specs.Expanders.{syntax_of, step_of};
-ghost use Rattle.fancy_template.specs.Checks.{Fault, no_name, fault_of, fault_of_name, fault_of_number, first_fault, Tells};
+ghost use Rattle.std.specs.Prelude.{◌≡◌, None, chars, IfOk, IfErr};
+ghost use Rattle.fancy_template.specs.Expanders.{step_of};
+ghost use Rattle.fancy_template.specs.Checks.{no_name, step_fault, fault_of_name, fault_of_number, Tells, TellsThe};
 
 use crate::expander::Expander;
 use crate::groups::GroupNames;
@@ -12,13 +11,15 @@ use crate::steps::Step;
 use fancy_tree::error::{CompileError, Error, ParseErrorKind, Result};
 
 impl Expander {
+    ghost use Rattle.fancy_template.specs.Checks.{template_fault};
+
     /// Checks that a template names only groups that the regex has. The first step that does not pass says why:
     ///
     /// - A name that no group has is read as a number; where it is none, it is
     ///   `CompileError::InvalidGroupNameBackref`.
     /// - Number 0, the whole match, passes. Another number is `CompileError::NamedBackrefOnly` where groups have
     ///   names, and `CompileError::InvalidBackref` where the regex has no such group.
-    /// - A substitution character behind which no form stands is `ParseErrorKind::GeneralParseError`, with the
+    /// - A substitution character after which no form stands is `ParseErrorKind::GeneralParseError`, with the
     ///   place 0.
     ///
     /// ```text
@@ -28,8 +29,8 @@ impl Expander {
     /// Expander::default().check("a$", &regex)  // Err(ParseError(0, GeneralParseError))
     /// ```
     pub fn check<G: GroupNames>(&self, template: &str, regex: &G) -> Result<()>
-        ensures passes { IfOk result (λ _. first_fault (G.groups regex.now) (steps (syntax_of self.now) (chars template.now)) ≡ None) }
-        ensures refused { IfErr result (λ e. (f : Fault) × (first_fault (G.groups regex.now) (steps (syntax_of self.now) (chars template.now)) ≡ Some f) × Tells e f) }
+        ensures passes { IfOk result (λ _. template_fault self.now (G.groups regex.now) template.now ≡ None) }
+        ensures refused { IfErr result (λ e. TellsThe e (template_fault self.now (G.groups regex.now) template.now)) }
     {
         for step in self.steps(template) {
             check_step(step, regex)?;
@@ -39,8 +40,8 @@ impl Expander {
 }
 
 fn check_step<G: GroupNames>(step: Step<'_>, regex: &G) -> Result<()>
-    ensures passes { IfOk result (λ _. fault_of (G.groups regex.now) (step_of step.entry) ≡ None) }
-    ensures refused { IfErr result (λ e. (f : Fault) × (fault_of (G.groups regex.now) (step_of step.entry) ≡ Some f) × Tells e f) }
+    ensures passes { IfOk result (λ _. step_fault (G.groups regex.now) (step_of step.entry) ≡ None) }
+    ensures refused { IfErr result (λ e. TellsThe e (step_fault (G.groups regex.now) (step_of step.entry))) }
 {
     match step {
         Step::Literal(_) => Ok(()),
@@ -52,7 +53,7 @@ fn check_step<G: GroupNames>(step: Step<'_>, regex: &G) -> Result<()>
 
 fn check_name<G: GroupNames>(name: &str, regex: &G) -> Result<()>
     ensures passes { IfOk result (λ _. fault_of_name (G.groups regex.now) (chars name.now) ≡ None) }
-    ensures refused { IfErr result (λ e. (f : Fault) × (fault_of_name (G.groups regex.now) (chars name.now) ≡ Some f) × Tells e f) }
+    ensures refused { IfErr result (λ e. TellsThe e (fault_of_name (G.groups regex.now) (chars name.now))) }
 {
     if regex.group_named(name).is_some() {
         return Ok(());
@@ -65,7 +66,7 @@ fn check_name<G: GroupNames>(name: &str, regex: &G) -> Result<()>
 
 fn check_number<G: GroupNames>(number: usize, regex: &G) -> Result<()>
     ensures passes { IfOk result (λ _. fault_of_number (G.groups regex.now) number ≡ None) }
-    ensures refused { IfErr result (λ e. (f : Fault) × (fault_of_number (G.groups regex.now) number ≡ Some f) × Tells e f) }
+    ensures refused { IfErr result (λ e. TellsThe e (fault_of_number (G.groups regex.now) number)) }
 {
     if number == 0 {
         return Ok(());

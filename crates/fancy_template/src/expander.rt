@@ -1,12 +1,12 @@
 //! How templates are written.
 
-ghost use Rattle.std.specs.Prelude.{◌≡◌, ◌↔◌, ◌==◌, ◌++◌, false, chars, IfOk, IfErr, OnOk, string_bytes, encode_utf8_all};
+ghost use Rattle.std.specs.Prelude.{◌≡◌, ◌↔◌, ◌==◌, false, chars, IfOk, IfErr, OnOk, string_bytes, encode_utf8_all};
 ghost use Rattle.std.specs.List.{list_any};
 ghost use Rattle.std.specs.Cow.{cow_str_bytes, IsBorrowedStr};
 ghost use Rattle.fancy_template.specs.Templates.{steps, dollar_syntax, python_syntax};
-ghost use Rattle.fancy_template.specs.Expansions.{Captured, expansion};
+ghost use Rattle.fancy_template.specs.Appended.{AddsText};
 ghost use Rattle.fancy_template.specs.Marks.{doubled_mark, escaped_template, has_mark};
-ghost use Rattle.fancy_template.specs.Expanders.{syntax_of, opening_of, closing_of, mark_of, steps_left};
+ghost use Rattle.fancy_template.specs.Expanders.{syntax_of, opening_of, closing_of, mark_of, steps_left, ExpandsTo, escape_by};
 
 use crate::steps::Steps;
 use fancy_tree::error::{Error, Result};
@@ -24,7 +24,7 @@ pub struct Expander {
     pub(crate) undelimited: bool,
 }
 
-/// What stands before and behind the name of a group.
+/// What stands before and after the name of a group.
 #[derive(Clone, Copy)]
 pub(crate) enum Delimiters {
     /// `{` and `}`.
@@ -95,9 +95,9 @@ impl Expander {
     /// Expander::default().escape(alloc, "Has a literal $ sign.")  // Has a literal $$ sign.
     /// ```
     pub fn escape<'t>(&self, alloc: Global, text: &'t str) -> Result<CowStr<'t, Global>>
-        ensures value { IfOk result (λ r. cow_str_bytes r ≡ encode_utf8_all (escaped_template (mark_of self.now) (chars text.now))) }
+        ensures value { IfOk result (λ r. cow_str_bytes r ≡ escape_by self.now text.now) }
         ensures borrowed { IfOk result (λ r. IsBorrowedStr r ↔ (has_mark (mark_of self.now) (chars text.now) ≡ false)) }
-        ensures stands { IfOk result (λ r. (k : Captured) → expansion (syntax_of self.now) k (chars (cow_str_bytes r)) ≡ text.now) }
+        ensures stands { IfOk result (λ r. ExpandsTo self.now (cow_str_bytes r) text.now) }
         ensures refused { IfErr result (λ e. e ≡ Error.Memory) }
     {
         let mark = self.mark;
@@ -127,7 +127,7 @@ fn with_doubled(alloc: Global, text: &str, mark: char) -> std::result::Result<St
 }
 
 fn push_doubled(doubled: &mut String, c: char, mark: char) -> std::result::Result<(), AllocError>
-    ensures { OnOk result (string_bytes doubled.new ≡ string_bytes doubled.old ++ encode_utf8_all (doubled_mark mark c)) }
+    ensures { OnOk result (AddsText doubled.old (encode_utf8_all (doubled_mark mark c)) doubled.new) }
 {
     if c == mark {
         doubled.push(mark)?;

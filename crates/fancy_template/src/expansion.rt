@@ -1,10 +1,9 @@
 //! What templates expand to.
 
-ghost use Rattle.std.specs.Prelude.{◌≡◌, ◌<◌, ◌++◌, ℕ, List, chars, string_bytes, take, length, option_map, IfOk, IfErr, OnOk, OnErr};
-ghost use Rattle.std.specs.Option.{option_or, option_and_then};
-ghost use Rattle.std.specs.Io.KnownBytes.{Appends};
-ghost use Rattle.fancy_template.specs.Expansions.{expanded, expansion, as_number};
-ghost use Rattle.fancy_template.specs.Expanders.{syntax_of, step_of};
+ghost use Rattle.std.specs.Prelude.{◌≡◌, ℕ, List, chars, string_bytes, option_map, IfOk, IfErr, OnOk, OnErr};
+ghost use Rattle.fancy_template.specs.Appended.{AddsText, AddsItems, Writes, WritesPart};
+ghost use Rattle.fancy_template.specs.Expansions.{expanded, text_of_group};
+ghost use Rattle.fancy_template.specs.Expanders.{step_of};
 ghost use Rattle.fancy_template.specs.Expanded.{bytes_of};
 
 use crate::expander::Expander;
@@ -26,6 +25,8 @@ pub(crate) enum Expanded<'t> {
 }
 
 impl Expander {
+    ghost use Rattle.fancy_template.specs.Expanders.{WritesAll, WritesSome, expand};
+
     /// What a template expands to for these captures.
     ///
     /// ```text
@@ -36,7 +37,7 @@ impl Expander {
     /// ```
     pub fn expansion<'t, C: GroupTexts<'t>>(&self, template: &str, captures: &C) -> Result<String>
         requires of_text { C.readable captures.now }
-        ensures value { IfOk result (λ s. string_bytes s ≡ expansion (syntax_of self.now) (C.captured captures.now) (chars template.now)) }
+        ensures value { IfOk result (λ s. string_bytes s ≡ expand self.now C.captured captures.now template.now) }
         ensures refused { IfErr result (λ e. e ≡ Error.Memory) }
     {
         let mut text = String::new(captures.allocator());
@@ -52,7 +53,7 @@ impl Expander {
         captures: &C,
     ) -> Result<()>
         requires of_text { C.readable captures.now }
-        ensures value { OnOk result (string_bytes dst.new ≡ string_bytes dst.old ++ expansion (syntax_of self.now) (C.captured captures.now) (chars template.now)) }
+        ensures value { OnOk result (AddsText dst.old (expand self.now C.captured captures.now template.now) dst.new) }
         ensures kept { OnErr result (string_bytes dst.new ≡ string_bytes dst.old) }
         ensures refused { IfErr result (λ e. e ≡ Error.Memory) }
     {
@@ -74,8 +75,8 @@ impl Expander {
         captures: &C,
     ) -> std::result::Result<(), AllocError>
         requires of_text { C.readable captures.now }
-        ensures value { OnOk result (string_bytes dst.new ≡ string_bytes dst.old ++ expansion (syntax_of self.now) (C.captured captures.now) (chars template.now)) }
-        ensures begun { OnErr result ((more : List ℕ) × (string_bytes dst.new ≡ string_bytes dst.old ++ more)) }
+        ensures value { OnOk result (AddsText dst.old (expand self.now C.captured captures.now template.now) dst.new) }
+        ensures begun { OnErr result ((more : List ℕ) × AddsText dst.old more dst.new) }
     {
         for step in self.steps(template) {
             push_expanded(dst, expand_step(step, captures))?;
@@ -95,8 +96,8 @@ impl Expander {
         captures: &C,
     ) -> io::Result<()>
         requires of_text { C.readable captures.now }
-        ensures ok { OnOk result (Appends (W.contents writer.old) (W.contents writer.new) (expansion (syntax_of self.now) (C.captured captures.now) (chars template.now))) }
-        ensures err { let whole = expansion (syntax_of self.now) (C.captured captures.now) (chars template.now) in OnErr result ((count : ℕ) × (count < length whole) × Appends (W.contents writer.old) (W.contents writer.new) (take count whole)) }
+        ensures ok { WritesAll W.contents writer.old writer.new result self.now C.captured captures.now template.now }
+        ensures err { WritesSome W.contents writer.old writer.new result self.now C.captured captures.now template.now }
     {
         for step in self.steps(template) {
             write_expanded(writer, expand_step(step, captures))?;
@@ -112,7 +113,7 @@ impl Expander {
         captures: &C,
     ) -> Result<()>
         requires of_text { C.readable captures.now }
-        ensures value { OnOk result (dst.new.items ≡ dst.old.items ++ expansion (syntax_of self.now) (C.captured captures.now) (chars template.now)) }
+        ensures value { OnOk result (AddsItems dst.old (expand self.now C.captured captures.now template.now) dst.new) }
         ensures kept { OnErr result (dst.new.items ≡ dst.old.items) }
         ensures refused { IfErr result (λ e. e ≡ Error.Memory) }
     {
@@ -143,7 +144,7 @@ fn expand_step<'t, C: GroupTexts<'t>>(step: Step<'_>, captures: &C) -> Expanded<
 /// The text of the group with this name where that took part, else of the one whose decimal number it is.
 fn text_of_name<'t, C: GroupTexts<'t>>(name: &str, captures: &C) -> Option<&'t str>
     requires of_text { C.readable captures.now }
-    ensures { let k = C.captured captures.now in option_map (λ t. t.now) result ≡ option_or (k.text_of_name (chars name.now)) (option_and_then k.text_of_number (as_number (chars name.now))) }
+    ensures { option_map (λ t. t.now) result ≡ text_of_group (C.captured captures.now) (chars name.now) }
 {
     if let Some(text) = captures.text_named(name) {
         return Some(text);
@@ -153,7 +154,7 @@ fn text_of_name<'t, C: GroupTexts<'t>>(name: &str, captures: &C) -> Option<&'t s
 }
 
 fn push_expanded(dst: &mut String, expanded: Expanded<'_>) -> std::result::Result<(), AllocError>
-    ensures value { OnOk result (string_bytes dst.new ≡ string_bytes dst.old ++ bytes_of expanded.entry) }
+    ensures value { OnOk result (AddsText dst.old (bytes_of expanded.entry) dst.new) }
     ensures kept { OnErr result (string_bytes dst.new ≡ string_bytes dst.old) }
 {
     match expanded {
@@ -163,8 +164,8 @@ fn push_expanded(dst: &mut String, expanded: Expanded<'_>) -> std::result::Resul
 }
 
 fn write_expanded<W: io::Write>(writer: &mut W, expanded: Expanded<'_>) -> io::Result<()>
-    ensures ok { OnOk result (Appends (W.contents writer.old) (W.contents writer.new) (bytes_of expanded.entry)) }
-    ensures err { OnErr result ((count : ℕ) × (count < length (bytes_of expanded.entry)) × Appends (W.contents writer.old) (W.contents writer.new) (take count (bytes_of expanded.entry))) }
+    ensures ok { OnOk result (Writes W.contents writer.old (bytes_of expanded.entry) writer.new) }
+    ensures err { OnErr result (WritesPart W.contents writer.old (bytes_of expanded.entry) writer.new) }
 {
     match expanded {
         Expanded::Character(c) => write_whole(writer, c.encode_utf8(&mut [0; 4]).as_bytes()),

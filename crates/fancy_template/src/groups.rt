@@ -1,7 +1,7 @@
 //! What a template asks of a match and of a regex.
 
 ghost use Rattle.std.specs.Prelude.{◌≡◌, ⊤, chars, option_map};
-ghost use Rattle.fancy_template.specs.Checks.{Groups};
+ghost use Rattle.fancy_template.specs.Checks.{TemplateGroups};
 ghost use Rattle.fancy_template.specs.Expansions.{Captured};
 
 use std::alloc::Global;
@@ -32,7 +32,7 @@ pub trait GroupTexts<'t> {
 /// The groups that a template may name, as [`Expander::check`](crate::expander::Expander::check) asks for them.
 pub trait GroupNames {
     // How many there are, and their names.
-    ghost groups: { Self → Groups };
+    ghost groups: { Self → TemplateGroups };
 
     /// How many groups there are, with group 0, the whole match.
     fn group_count(&self) -> usize

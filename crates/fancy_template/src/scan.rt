@@ -3,7 +3,7 @@
 ghost use Rattle.std.specs.Prelude.{◌≡◌, ◌∷◌, ◌++◌, ℕ, [], true, false, chars, drop, length, MatchOption, IfSome, ◌<◌, encode_utf8, IsUtf8};
 ghost use Rattle.std.specs.List.{list_all};
 ghost use Rattle.std.specs.Char.{is_ascii_digit};
-ghost use Rattle.fancy_template.specs.Templates.{begins_with, row, past_row};
+ghost use Rattle.fancy_template.specs.Templates.{Follows, begins_with, row, past_row};
 ghost use Rattle.fancy_template.specs.Expansions.{as_number};
 ghost use Rattle.fancy_template.specs.Expanders.{test_of};
 
@@ -43,7 +43,7 @@ pub(crate) fn split_first(text: &str) -> Option<(char, &str)>
 
 /// What follows a character, if the text begins with it.
 pub(crate) fn after_char(text: &str, c: char) -> Option<&str>
-    ensures { MatchOption result (begins_with (c ∷ []) (chars text.now) ≡ false) (λ x. (begins_with (c ∷ []) (chars text.now) ≡ true) × (chars x.now ≡ drop 1 (chars text.now))) }
+    ensures { MatchOption result (begins_with (c ∷ []) (chars text.now) ≡ false) (λ x. Follows (c ∷ []) (chars text.now) (chars x.now)) }
 {
     let (first, rest) = split_first(text)?;
     if first == c { Some(rest) } else { None }
@@ -51,7 +51,7 @@ pub(crate) fn after_char(text: &str, c: char) -> Option<&str>
 
 /// What follows a word, if the text begins with it.
 pub(crate) fn after_word<'a>(text: &'a str, word: &str) -> Option<&'a str>
-    ensures { MatchOption result (begins_with (chars word.now) (chars text.now) ≡ false) (λ x. (begins_with (chars word.now) (chars text.now) ≡ true) × (chars x.now ≡ drop (length (chars word.now)) (chars text.now))) }
+    ensures { MatchOption result (begins_with (chars word.now) (chars text.now) ≡ false) (λ x. Follows (chars word.now) (chars text.now) (chars x.now)) }
 {
     text.strip_prefix(word)
 }
@@ -63,11 +63,11 @@ pub(crate) fn split_row(text: &str, kind: CharKind) -> (&str, &str)
     ensures text { IsUtf8 result.0.now }
 {
     let mut rest = text;
-    while let Some((c, behind)) = split_first(rest) {
+    while let Some((c, after)) = split_first(rest) {
         if !kind.includes(c) {
             break;
         }
-        rest = behind;
+        rest = after;
     }
     text.split_at(text.len() - rest.len())
 }

@@ -2,8 +2,8 @@
 
 ghost use Rattle.std.specs.Prelude.{◌≡◌, ℕ, chars, length, option_map, map};
 ghost use Rattle.std.specs.Iterator.{at_most, YieldsFirstBy};
-ghost use Rattle.fancy_template.specs.Templates.{form, delimited, undelimited, numbered};
-ghost use Rattle.fancy_template.specs.Expanders.{syntax_of, step_of, steps_left, read_of, form_in};
+ghost use Rattle.fancy_template.specs.Templates.{form, name_in_delimiters, undelimited, number_form};
+ghost use Rattle.fancy_template.specs.Expanders.{syntax_of, step_of, steps_left, step_read, form_in};
 
 use crate::expander::Expander;
 use crate::scan::{CharKind, after_char, after_word, split_first, split_row};
@@ -17,7 +17,7 @@ pub enum Step<'a> {
     Name(&'a str),
     /// The group with this number.
     Number(usize),
-    /// A substitution character behind which no form stands. The next step is that character.
+    /// A substitution character after which no form stands. The next step is that character.
     Error,
 }
 
@@ -46,14 +46,14 @@ impl<'a> Iterator for Steps<'a> {
             self.owes_mark = false;
             return Some(Step::Literal(self.expander.mark));
         }
-        let Some((first, behind)) = split_first(self.rest) else {
+        let Some((first, after)) = split_first(self.rest) else {
             return None;
         };
-        self.rest = behind;
+        self.rest = after;
         if first != self.expander.mark {
             return Some(Step::Literal(first));
         }
-        match read_form(&self.expander, behind) {
+        match read_form(&self.expander, after) {
             Some((step, rest)) => {
                 self.rest = rest;
                 Some(step)
@@ -66,9 +66,9 @@ impl<'a> Iterator for Steps<'a> {
     }
 }
 
-/// The form that stands at the front of a text behind a substitution character, and what follows it.
+/// The form that stands at the front of a text after a substitution character, and what follows it.
 fn read_form<'a>(expander: &Expander, text: &'a str) -> Option<(Step<'a>, &'a str)>
-    ensures { option_map read_of result ≡ option_map (form_in (chars text.now)) (form (syntax_of expander.now) (chars text.now)) }
+    ensures { option_map step_read result ≡ option_map (form_in (chars text.now)) (form (syntax_of expander.now) (chars text.now)) }
 {
     if let Some(rest) = after_char(text, expander.mark) {
         return Some((Step::Literal(expander.mark), rest));
@@ -84,16 +84,16 @@ fn read_form<'a>(expander: &Expander, text: &'a str) -> Option<(Step<'a>, &'a st
 
 /// A name between delimiters.
 fn read_delimited<'a>(expander: &Expander, text: &'a str) -> Option<(Step<'a>, &'a str)>
-    ensures { option_map read_of result ≡ option_map (form_in (chars text.now)) (delimited (syntax_of expander.now) (chars text.now)) }
+    ensures { option_map step_read result ≡ option_map (form_in (chars text.now)) (name_in_delimiters (syntax_of expander.now) (chars text.now)) }
 {
     let Some(inside) = after_word(text, expander.delimiters.opening()) else {
         return None;
     };
-    let (name, behind) = split_row(inside, CharKind::OfName);
+    let (name, after) = split_row(inside, CharKind::OfName);
     if name.is_empty() {
         return None;
     }
-    match after_word(behind, expander.delimiters.closing()) {
+    match after_word(after, expander.delimiters.closing()) {
         Some(rest) => Some((Step::Name(name), rest)),
         None => None,
     }
@@ -101,7 +101,7 @@ fn read_delimited<'a>(expander: &Expander, text: &'a str) -> Option<(Step<'a>, &
 
 /// A name with nothing around it, where that is allowed.
 fn read_undelimited<'a>(expander: &Expander, text: &'a str) -> Option<(Step<'a>, &'a str)>
-    ensures { option_map read_of result ≡ option_map (form_in (chars text.now)) (undelimited (syntax_of expander.now) (chars text.now)) }
+    ensures { option_map step_read result ≡ option_map (form_in (chars text.now)) (undelimited (syntax_of expander.now) (chars text.now)) }
 {
     if !expander.undelimited {
         return None;
@@ -115,7 +115,7 @@ fn read_undelimited<'a>(expander: &Expander, text: &'a str) -> Option<(Step<'a>,
 
 /// A number: all digits that stand there.
 fn read_number(text: &str) -> Option<(Step<'_>, &str)>
-    ensures { option_map read_of result ≡ option_map (form_in (chars text.now)) (numbered (chars text.now)) }
+    ensures { option_map step_read result ≡ option_map (form_in (chars text.now)) (number_form (chars text.now)) }
 {
     let (digits, rest) = split_row(text, CharKind::Digit);
     match digits.parse::<usize>() {

@@ -1,7 +1,7 @@
 //! Writing to any writer.
 
-ghost use Rattle.std.specs.Prelude.{◌≡◌, ◌≤◌, ◌<◌, ◌++◌, ℕ, take, length, OnOk, OnErr};
-ghost use Rattle.std.specs.Io.KnownBytes.{Appends};
+ghost use Rattle.std.specs.Prelude.{OnOk, OnErr};
+ghost use Rattle.fancy_template.specs.Appended.{Writes, WritesPart};
 
 use std::io;
 use std::io::ErrorKind;
@@ -13,8 +13,8 @@ use std::io::ErrorKind;
 ///
 /// Which error it is stands in no clause: `io::Write` says of a refused write only that it took nothing.
 pub fn write_whole<W: io::Write>(writer: &mut W, text: &[u8]) -> io::Result<()>
-    ensures ok { OnOk result (Appends (W.contents writer.old) (W.contents writer.new) text.now) }
-    ensures err { OnErr result ((count : ℕ) × (count < length text.now) × Appends (W.contents writer.old) (W.contents writer.new) (take count text.now)) }
+    ensures ok { OnOk result (Writes W.contents writer.old text.now writer.new) }
+    ensures err { OnErr result (WritesPart W.contents writer.old text.now writer.new) }
 {
     let mut at = 0;
     while at < text.len() {

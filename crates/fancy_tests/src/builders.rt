@@ -5,10 +5,22 @@ use fancy_regex::{ParseErrorKind, Regex, RegexBuilder, RegexInput};
 use std::alloc::Global;
 use std::process::Abort;
 
-/// The first match of what the builder holds.
-fn built_finds(rt: &impl Abort, builder: &RegexBuilder, haystack: &str) -> Option<Span> {
-    let regex = builder.build().expect(rt, haystack);
-    first_span(rt, &regex, RegexInput::new(haystack))
+/// A text, and where the first match starts and ends.
+type Row<'a> = (&'a str, Option<Span>);
+
+/// Checks what the builder builds.
+fn check_built(rt: &impl Abort, builder: &RegexBuilder, rows: &[Row<'_>]) {
+    for &(haystack, wanted) in rows {
+        let regex = builder.build().expect(rt, haystack);
+        let found = first_span(rt, &regex, RegexInput::new(haystack));
+        assert_eq!(rt; found, wanted, "{} on {haystack}", regex.as_str());
+    }
+}
+
+/// Checks the pattern that the builder holds.
+fn check_pattern(rt: &impl Abort, builder: &RegexBuilder, wanted: &str) {
+    let regex = builder.build().expect(rt, wanted);
+    assert_eq!(rt; regex.as_str(), wanted);
 }
 
 /// A text that a builder may take.
@@ -19,21 +31,17 @@ fn owned(rt: &impl Abort, alloc: Global, text: &str) -> String {
 #[test]
 fn another_pattern_keeps_the_options(rt: HostRuntime) {
     let mut builder = RegexBuilder::new(rt.alloc(), "a b").expect(&rt, "a builder");
-    assert_eq!(rt; built_finds(&rt, &builder, "ab"), None);
-    assert_eq!(rt; built_finds(&rt, &builder, "a b"), Some((0, 3)));
+    check_built(&rt, &builder, &[("ab", None), ("a b", Some((0, 3)))]);
     builder.ignore_whitespace(true).multi_line(true);
-    assert_eq!(rt; built_finds(&rt, &builder, "ab"), Some((0, 2)));
+    check_built(&rt, &builder, &[("ab", Some((0, 2)))]);
     builder.pattern(owned(&rt, rt.alloc(), "^ B $"));
-    let regex = builder.build().expect(&rt, "a regex");
-    assert_eq!(rt; regex.as_str(), "^ B $");
-    assert_eq!(rt; built_finds(&rt, &builder, "a\nb\n"), None);
-    assert_eq!(rt; built_finds(&rt, &builder, "a\nB\n"), Some((2, 3)));
+    check_pattern(&rt, &builder, "^ B $");
+    check_built(&rt, &builder, &[("a\nb\n", None), ("a\nB\n", Some((2, 3)))]);
     builder
         .case_insensitive(true)
         .pattern(owned(&rt, rt.alloc(), "^ \\x{62} $"))
         .multi_line(false);
-    assert_eq!(rt; built_finds(&rt, &builder, "a\nB\n"), None);
-    assert_eq!(rt; built_finds(&rt, &builder, "B"), Some((0, 1)));
+    check_built(&rt, &builder, &[("a\nB\n", None), ("B", Some((0, 1)))]);
 }
 
 #[test]
@@ -44,18 +52,22 @@ fn a_refused_pattern_can_be_replaced(rt: HostRuntime) {
         assert_eq!(rt; fault_of(&builder.build()), wanted);
     }
     builder.pattern(owned(&rt, rt.alloc(), "(?:a)"));
-    assert_eq!(rt; built_finds(&rt, &builder, "ba"), Some((1, 2)));
+    check_built(&rt, &builder, &[("ba", Some((1, 2)))]);
+}
+
+/// Checks a search whose input says that the text's start does not count, where the builder allows it or not.
+fn check_override(rt: &impl Abort, alloc: Global, allowed: bool, wanted: Option<Span>) {
+    let mut builder = RegexBuilder::new(alloc, "^a").expect(rt, "a builder");
+    builder.allow_input_assertion_overrides(allowed);
+    let regex = builder.build().expect(rt, "a regex");
+    let input = RegexInput::new("a").start_text(false);
+    assert_eq!(rt; first_span(rt, &regex, input), wanted);
 }
 
 #[test]
 fn overrides_where_the_builder_allows_them(rt: HostRuntime) {
-    for (allowed, wanted) in [(false, Some((0, 1))), (true, None)] {
-        let mut builder = RegexBuilder::new(rt.alloc(), "^a").expect(&rt, "a builder");
-        builder.allow_input_assertion_overrides(allowed);
-        let regex = builder.build().expect(&rt, "a regex");
-        let input = RegexInput::new("a").start_text(false);
-        assert_eq!(rt; first_span(&rt, &regex, input), wanted);
-    }
+    check_override(&rt, rt.alloc(), false, Some((0, 1)));
+    check_override(&rt, rt.alloc(), true, None);
 }
 
 #[test]
@@ -64,6 +76,10 @@ fn a_text_becomes_a_regex(rt: HostRuntime) {
     assert_eq!(rt; regex.as_str(), "a|ab");
     let found = first_span(&rt, &regex, RegexInput::new("xab"));
     assert_eq!(rt; found, Some((1, 2)));
+}
+
+#[test]
+fn a_faulty_text_becomes_none(rt: HostRuntime) {
     let refused = Regex::try_from(owned(&rt, rt.alloc(), "a)"));
     let wanted = Some((1, ParseErrorKind::GeneralParseError));
     assert_eq!(rt; fault_of(&refused), wanted);

@@ -1,6 +1,6 @@
 //! The members of classes, by the sets that they are read as, and why classes are refused.
 
-use crate::asking::{TextListRow, check_text_list, kind_of};
+use crate::asking::{TextListRow, check_text_lists, kind_of};
 use fancy_syntax::flags::Flags;
 use fancy_syntax::parse::{Syntax, parse_with};
 use fancy_tree::error::ParseErrorKind;
@@ -33,29 +33,18 @@ const ASCII: Syntax = Syntax {
     ..Syntax::STANDARD
 };
 
-/// Whether a number is within the ranges that these rising numbers begin and end in turn.
-fn is_within(edges: &[u32], number: u32) -> bool {
-    let mut within = false;
-    for edge in edges {
-        if *edge <= number {
-            within = !within;
-        }
-    }
-    within
-}
-
 /// What holds at the start, a class, probed characters, and the same with each that is no member shown as a dot.
 type MembersRow = (Syntax, &'static str, &'static str, &'static str);
 
 fn check_members(rt: &impl Abort, alloc: Global, row: &MembersRow) {
     let (syntax, pattern, probe, wanted) = *row;
     let found = parse_with(alloc, pattern, syntax).expect(rt, pattern);
-    let Tree::Member(edges) = &found.tree else {
+    let Tree::Member(set) = &found.tree else {
         rt.panic(pattern)
     };
     let mut shown = String::new(alloc);
     for c in probe.chars() {
-        let is_member = is_within(edges.as_slice(), c as u32);
+        let is_member = set.contains(c as u32);
         shown
             .push(if is_member { c } else { '.' })
             .expect(rt, pattern);
@@ -128,9 +117,7 @@ const ENDED_CLASSES: &[TextListRow] = &[("[a-c]z", "azbzczdz", &[(0, 2), (2, 4),
 
 #[test]
 fn a_bracket_ends_a_class(rt: HostRuntime) {
-    for row in ENDED_CLASSES {
-        check_text_list(&rt, rt.alloc(), row);
-    }
+    check_text_lists(&rt, rt.alloc(), ENDED_CLASSES);
 }
 
 /// What holds at the start, a class, and why it is refused.

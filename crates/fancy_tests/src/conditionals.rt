@@ -1,8 +1,8 @@
 //! Conditionals: a test of a group, or a pattern, that picks one of two branches.
 
 use crate::asking::{
-    CHARACTERS, Flaw, FlawRow, GroupsRow, KindRow, ONLY_NAMED, TextListRow, TextRow, check_flaw,
-    check_groups, check_kind, check_text_list, check_texts, kind_of, read_nested,
+    CHARACTERS, Flaw, FlawRow, GroupsRow, KindRow, ONLY_NAMED, TextListRow, TextRow, check_flaws,
+    check_groups, check_kinds, check_text_lists, check_texts, kind_of, read_nested,
 };
 use fancy_regex::ParseErrorKind;
 
@@ -116,9 +116,7 @@ const GROUPS: &[GroupsRow] = &[
 
 #[test]
 fn groups_of_conditionals(rt: HostRuntime) {
-    for row in GROUPS {
-        check_groups(&rt, rt.alloc(), row);
-    }
+    check_groups(&rt, rt.alloc(), GROUPS);
 }
 
 const LISTS: &[TextListRow] = &[
@@ -128,9 +126,7 @@ const LISTS: &[TextListRow] = &[
 
 #[test]
 fn lists_of_conditionals(rt: HostRuntime) {
-    for row in LISTS {
-        check_text_list(&rt, rt.alloc(), row);
-    }
+    check_text_lists(&rt, rt.alloc(), LISTS);
 }
 
 const FLAWS: &[FlawRow] = &[
@@ -146,9 +142,7 @@ const FLAWS: &[FlawRow] = &[
 
 #[test]
 fn tests_of_groups_that_are_not_there(rt: HostRuntime) {
-    for row in FLAWS {
-        check_flaw(&rt, rt.alloc(), row);
-    }
+    check_flaws(&rt, rt.alloc(), FLAWS);
 }
 
 const FAULTS: &[KindRow] = &[
@@ -163,9 +157,7 @@ const FAULTS: &[KindRow] = &[
 
 #[test]
 fn conditionals_of_one_fault(rt: HostRuntime) {
-    for row in FAULTS {
-        check_kind(&rt, rt.alloc(), row);
-    }
+    check_kinds(&rt, rt.alloc(), FAULTS);
 }
 
 // in the innermost condition two parentheses are open besides those of the bodies round it

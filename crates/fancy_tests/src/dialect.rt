@@ -2,7 +2,7 @@
 
 use crate::asking::{
     BYTES, BYTES_WITHOUT_UNICODE, BytesRow, CHARACTERS, CHARACTERS_ANYWHERE, ListRow, SearchRow,
-    TextRow, check_list, check_search, check_span, check_texts, is_too_complex,
+    TextRow, check_lists, check_searches, check_spans, check_texts, is_too_complex,
 };
 use fancy_regex::Regex;
 
@@ -83,9 +83,7 @@ const EITHER_CASE_IN_BYTES: &[BytesRow] = &[
 #[test]
 fn letters_stand_for_either_case(rt: HostRuntime) {
     check_texts(&rt, rt.alloc(), EITHER_CASE);
-    for row in EITHER_CASE_IN_BYTES {
-        check_span(&rt, rt.alloc(), row);
-    }
+    check_spans(&rt, rt.alloc(), EITHER_CASE_IN_BYTES);
 }
 
 const LINES: &[TextRow] = &[
@@ -139,9 +137,7 @@ const WORDS_IN_BYTES: &[BytesRow] = &[
 #[test]
 fn assertions_read_words(rt: HostRuntime) {
     check_texts(&rt, rt.alloc(), WORDS);
-    for row in WORDS_IN_BYTES {
-        check_span(&rt, rt.alloc(), row);
-    }
+    check_spans(&rt, rt.alloc(), WORDS_IN_BYTES);
 }
 
 const BEYOND_THE_RANGE: &[SearchRow<&str>] = &[
@@ -156,9 +152,7 @@ const BEYOND_THE_RANGE: &[SearchRow<&str>] = &[
 
 #[test]
 fn assertions_read_beyond_the_range(rt: HostRuntime) {
-    for row in BEYOND_THE_RANGE {
-        check_search(&rt, rt.alloc(), row);
-    }
+    check_searches(&rt, rt.alloc(), BEYOND_THE_RANGE);
 }
 
 const ESCAPES: &[TextRow] = &[
@@ -202,9 +196,7 @@ const NUMBERED_BYTES: &[BytesRow] = &[
 
 #[test]
 fn numbers_stand_for_bytes(rt: HostRuntime) {
-    for row in NUMBERED_BYTES {
-        check_span(&rt, rt.alloc(), row);
-    }
+    check_spans(&rt, rt.alloc(), NUMBERED_BYTES);
 }
 
 const ANY_ITEM: &[BytesRow] = &[
@@ -226,9 +218,7 @@ const ANY_ITEM: &[BytesRow] = &[
 
 #[test]
 fn any_item_is_a_character_or_a_byte(rt: HostRuntime) {
-    for row in ANY_ITEM {
-        check_span(&rt, rt.alloc(), row);
-    }
+    check_spans(&rt, rt.alloc(), ANY_ITEM);
 }
 
 const ITERATIONS: &[ListRow<&[u8]>] = &[
@@ -246,7 +236,5 @@ const ITERATIONS: &[ListRow<&[u8]>] = &[
 
 #[test]
 fn iterates_over_lines_and_items(rt: HostRuntime) {
-    for row in ITERATIONS {
-        check_list(&rt, rt.alloc(), row);
-    }
+    check_lists(&rt, rt.alloc(), ITERATIONS);
 }

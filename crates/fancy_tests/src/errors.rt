@@ -1,10 +1,11 @@
 //! What errors print.
 
+use crate::asking::Flaw;
 use fancy_regex::{CompileError, Error, ParseErrorKind, RuntimeError};
 use std::alloc::Global;
 use std::process::Abort;
 
-/// Checks that the error prints the words behind its beginning.
+/// Checks that the error prints the words after its beginning.
 fn check_shown(rt: &impl Abort, alloc: Global, error: Error, beginning: &str, words: &str) {
     let shown = error.to_string(alloc).expect(rt, words);
     assert_eq!(rt; shown.as_str().strip_prefix(beginning), Some(words));
@@ -65,45 +66,61 @@ fn texts_of_kinds(rt: HostRuntime) {
     }
 }
 
-fn check_compile_error(rt: &impl Abort, alloc: Global, why: CompileError, words: &str) {
-    let error = Error::CompileError(why);
-    check_shown(rt, alloc, error, "error compiling regex: ", words);
+/// The error of a flaw.
+fn error_of(rt: &impl Abort, alloc: Global, flaw: Flaw) -> CompileError {
+    match flaw {
+        Flaw::Number(number) => CompileError::InvalidBackref(number),
+        Flaw::Name(name) => {
+            let name = String::from_str(alloc, name).expect(rt, "no memory");
+            CompileError::InvalidGroupNameBackref(name)
+        }
+        Flaw::ByNameAlone => CompileError::NamedBackrefOnly,
+        Flaw::LookBehind => CompileError::LookBehindNotConst,
+        Flaw::NeverMatches => CompileError::PatternCanNeverMatch,
+        Flaw::TooComplex => CompileError::PatternTooComplex,
+    }
 }
+
+const FLAWS: &[(Flaw, &str)] = &[
+    (Flaw::Number(2), "no group has the number 2"),
+    (Flaw::Name("n"), "no group has the name n"),
+    (
+        Flaw::ByNameAlone,
+        "groups are referred to by name alone here",
+    ),
+    (Flaw::LookBehind, "look-behind of no constant size"),
+    (Flaw::NeverMatches, "pattern that can never match"),
+    (
+        Flaw::TooComplex,
+        "pattern with more than 1000000 nodes, or too much code",
+    ),
+];
 
 #[test]
 fn texts_of_compile_errors(rt: HostRuntime) {
-    let alloc = rt.alloc();
-    let why = CompileError::InvalidBackref(2);
-    check_compile_error(&rt, alloc, why, "no group has the number 2");
-    let name = String::from_str(alloc, "n").expect(&rt, "no memory");
-    let why = CompileError::InvalidGroupNameBackref(name);
-    check_compile_error(&rt, alloc, why, "no group has the name n");
-    let why = CompileError::NamedBackrefOnly;
-    check_compile_error(&rt, alloc, why, "groups are referred to by name alone here");
-    let why = CompileError::LookBehindNotConst;
-    check_compile_error(&rt, alloc, why, "look-behind of no constant size");
-    let why = CompileError::PatternCanNeverMatch;
-    check_compile_error(&rt, alloc, why, "pattern that can never match");
-    let why = CompileError::PatternTooComplex;
-    check_compile_error(
-        &rt,
-        alloc,
-        why,
-        "pattern with more than 1000000 nodes, or too much code",
-    );
+    for &(flaw, words) in FLAWS {
+        let error = Error::CompileError(error_of(&rt, rt.alloc(), flaw));
+        check_shown(&rt, rt.alloc(), error, "error compiling regex: ", words);
+    }
 }
 
+const REFUSED_SEARCHES: &[(RuntimeError, &str)] = &[
+    (
+        RuntimeError::BacktrackLimitExceeded,
+        "limit for backtracking exceeded",
+    ),
+    (RuntimeError::StackOverflow, "too many saved branches"),
+];
+
 #[test]
-fn texts_of_other_errors(rt: HostRuntime) {
-    check_shown(&rt, rt.alloc(), Error::Memory, "out of memory", "");
-    for (why, words) in [
-        (
-            RuntimeError::BacktrackLimitExceeded,
-            "limit for backtracking exceeded",
-        ),
-        (RuntimeError::StackOverflow, "too many saved branches"),
-    ] {
+fn texts_of_refused_searches(rt: HostRuntime) {
+    for &(why, words) in REFUSED_SEARCHES {
         let error = Error::RuntimeError(why);
         check_shown(&rt, rt.alloc(), error, "error executing regex: ", words);
     }
+}
+
+#[test]
+fn the_text_of_want_of_memory(rt: HostRuntime) {
+    check_shown(&rt, rt.alloc(), Error::Memory, "out of memory", "");
 }

@@ -1,14 +1,14 @@
 //! That the regex of an escaped text finds the text itself.
 
-use crate::asking::{Span, first_span};
+use crate::asking::{Span, first_span, regex_of};
 use fancy_regex::{Regex, RegexInput, escape};
 use std::alloc::Global;
 use std::process::Abort;
 
 /// The regex of the escaped text.
-fn regex_of(rt: &impl Abort, alloc: Global, text: &str) -> Regex {
+fn regex_of_text(rt: &impl Abort, alloc: Global, text: &str) -> Regex {
     let escaped = escape(alloc, text).expect(rt, text);
-    Regex::new(alloc, escaped.as_str()).expect(rt, text)
+    regex_of(rt, alloc, escaped.as_str())
 }
 
 /// A text, a haystack, where the search is anchored, and where the text is found.
@@ -36,7 +36,7 @@ const TEXTS: &[Row] = &[
 #[test]
 fn escapes_are_found_where_their_text_stands(rt: HostRuntime) {
     for &(text, haystack, at, wanted) in TEXTS {
-        let regex = regex_of(&rt, rt.alloc(), text);
+        let regex = regex_of_text(&rt, rt.alloc(), text);
         let input = RegexInput::new(haystack).from_pos(at).anchored(true);
         let found = first_span(&rt, &regex, input);
         assert_eq!(rt; found, wanted, "{text} on {haystack} at {at}");
@@ -49,20 +49,24 @@ fn escapes_of_all_ascii_are_found(rt: HostRuntime) {
     for byte in 0..128u8 {
         text.push(char::from(byte)).expect(&rt, "no memory");
     }
-    let regex = regex_of(&rt, rt.alloc(), text.as_str());
+    let regex = regex_of_text(&rt, rt.alloc(), text.as_str());
     let input = RegexInput::new(text.as_str());
     assert_eq!(rt; first_span(&rt, &regex, input), Some((0, 128)));
 }
 
+/// A text, a haystack, up to where it is searched, and where the text is found first.
+const FIRST_PLACES: &[Row] = &[
+    ("a.b", "a-b a.b a.b", 11, Some((4, 7))),
+    ("a.b", "a-b", 3, None),
+    ("a.b", "a.b", 2, None),
+];
+
 #[test]
 fn escapes_are_found_at_the_first_place(rt: HostRuntime) {
-    let regex = regex_of(&rt, rt.alloc(), "a.b");
-    let first = RegexInput::new("a-b a.b a.b");
-    assert_eq!(rt; first_span(&rt, &regex, first), Some((4, 7)));
-    let none = RegexInput::new("a-b");
-    assert!(rt; first_span(&rt, &regex, none).is_none());
-    let haystack = "a.b";
-    assert!(rt; 2 <= haystack.len());
-    let short = RegexInput::new(haystack).range(0..2);
-    assert!(rt; first_span(&rt, &regex, short).is_none());
+    for &(text, haystack, end, wanted) in FIRST_PLACES {
+        let regex = regex_of_text(&rt, rt.alloc(), text);
+        assert!(rt; end <= haystack.len());
+        let found = first_span(&rt, &regex, RegexInput::new(haystack).range(0..end));
+        assert_eq!(rt; found, wanted, "{text} on {haystack} to {end}");
+    }
 }

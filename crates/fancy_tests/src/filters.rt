@@ -1,10 +1,10 @@
 //! The two filters: empty matches refused, and the longest match asked for.
 
 use crate::asking::{
-    CHARACTERS, Flaw, FlawRow, LONGEST, ListRow, NOT_EMPTY, Settings, SpanRow, check_flaw,
-    check_list, check_span, read, regex_with, span,
+    CHARACTERS, CountedRow, FaultRow, Flaw, FlawRow, LONGEST, ListRow, NOT_EMPTY, Settings,
+    SpanRow, check_captured, check_counted, check_easy, check_faults, check_flaws, check_lists,
+    check_spans, regex_with,
 };
-use fancy_regex::{Error, RegexInput, RuntimeError, Work};
 
 const NOT_EMPTY_MATCHES: &[SpanRow<&str>] = &[
     (CHARACTERS, "a*", "baa", Some((0, 0))),
@@ -19,9 +19,7 @@ const NOT_EMPTY_MATCHES: &[SpanRow<&str>] = &[
 
 #[test]
 fn empty_matches_are_passed_over(rt: HostRuntime) {
-    for row in NOT_EMPTY_MATCHES {
-        check_span(&rt, rt.alloc(), row);
-    }
+    check_spans(&rt, rt.alloc(), NOT_EMPTY_MATCHES);
 }
 
 const LONGEST_MATCHES: &[SpanRow<&str>] = &[
@@ -47,9 +45,7 @@ const BOTH: Settings = Settings {
 
 #[test]
 fn the_longest_match_at_the_least_position(rt: HostRuntime) {
-    for row in LONGEST_MATCHES {
-        check_span(&rt, rt.alloc(), row);
-    }
+    check_spans(&rt, rt.alloc(), LONGEST_MATCHES);
 }
 
 const LISTS: &[ListRow<&str>] = &[
@@ -66,44 +62,27 @@ const LISTS: &[ListRow<&str>] = &[
 
 #[test]
 fn lists_of_filtered_matches(rt: HostRuntime) {
-    for row in LISTS {
-        check_list(&rt, rt.alloc(), row);
-    }
+    check_lists(&rt, rt.alloc(), LISTS);
 }
 
 // of the two that end last the one that is preferred
 #[test]
 fn groups_of_the_longest_match(rt: HostRuntime) {
     let regex = regex_with(&rt, rt.alloc(), LONGEST, "(a)|(ab)|(a)(b)");
-    let found = regex.captures("ab").expect(&rt, "a search");
-    let captures = found.expect(&rt, "a match");
-    for (number, wanted) in [(0, Some((0, 2))), (1, None), (2, Some((0, 2))), (3, None)] {
-        assert_eq!(rt; captures.get(number).map(span), wanted);
-    }
+    let wanted = [Some((0, 2)), None, Some((0, 2)), None, None];
+    check_captured(&rt, &regex, "ab", &wanted);
 }
 
-// `a|ab` has one return at a position with an `a`, behind the first match
+// `a|ab` has one return at a position with an `a`, after the first match
+const COUNTED: &[CountedRow] = &[
+    (LONGEST, "a|ab", "ab", 1, Some(Some((0, 2))), 1),
+    (LONGEST, "a|ab", "ab", 0, None, 0),
+];
+
 #[test]
-fn returns_behind_the_first_match_count(rt: HostRuntime) {
-    for (backtrack_limit, is_found) in [(1, true), (0, false)] {
-        let settings = Settings {
-            backtrack_limit,
-            ..LONGEST
-        };
-        let regex = regex_with(&rt, rt.alloc(), settings, "a|ab");
-        assert!(rt; !regex.is_easy());
-        let mut work = Work::new();
-        let found = regex.find_input_counted(RegexInput::new("ab"), &mut work);
-        assert!(rt; found.is_ok() == is_found);
-        assert!(rt;
-            is_found
-                || matches!(
-                    found,
-                    Err(Error::RuntimeError(RuntimeError::BacktrackLimitExceeded))
-                )
-        );
-        assert_eq!(rt; work.returns(), backtrack_limit);
-    }
+fn returns_after_the_first_match_count(rt: HostRuntime) {
+    check_counted(&rt, rt.alloc(), COUNTED);
+    check_easy(&rt, rt.alloc(), &[(LONGEST, "a|ab", false)]);
 }
 
 const NEVER: &[FlawRow] = &[
@@ -114,15 +93,25 @@ const NEVER: &[FlawRow] = &[
     (NOT_EMPTY, "(?<=a)\\b", Flaw::NeverMatches),
 ];
 
-const SOMETIMES: &[&str] = &["a?", "()|a", "a{0,1}", "(?=a)|b"];
-
 #[test]
 fn patterns_that_can_never_match(rt: HostRuntime) {
-    for row in NEVER {
-        check_flaw(&rt, rt.alloc(), row);
-        assert!(rt; read(rt.alloc(), LONGEST, row.1).is_ok(), "{}", row.1);
-    }
-    for &pattern in SOMETIMES {
-        assert!(rt; read(rt.alloc(), NOT_EMPTY, pattern).is_ok(), "{pattern}");
-    }
+    check_flaws(&rt, rt.alloc(), NEVER);
+}
+
+/// What is accepted.
+const ACCEPTED: &[FaultRow] = &[
+    (LONGEST, "", None),
+    (LONGEST, "(?=a)", None),
+    (LONGEST, "(?:^|$)", None),
+    (LONGEST, "(a{0})", None),
+    (LONGEST, "(?<=a)\\b", None),
+    (NOT_EMPTY, "a?", None),
+    (NOT_EMPTY, "()|a", None),
+    (NOT_EMPTY, "a{0,1}", None),
+    (NOT_EMPTY, "(?=a)|b", None),
+];
+
+#[test]
+fn patterns_that_can_match(rt: HostRuntime) {
+    check_faults(&rt, rt.alloc(), ACCEPTED);
 }

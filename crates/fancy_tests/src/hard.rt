@@ -2,11 +2,13 @@
 
 use crate::asking::{
     BYTES, BytesRow, CHARACTERS, CHARACTERS_ANYWHERE, CountedRow, FOLDED, Flaw, FlawRow, GroupsRow,
-    ONLY_NAMED, PiecesRow, SearchRow, Settings, TextListRow, TextRow, check_counted, check_flaw,
-    check_groups, check_pieces, check_search, check_span, check_text_list, check_texts, first_span,
-    is_too_complex, regex_with, repeated,
+    ONLY_NAMED, PiecesRow, SearchRow, Settings, SpanRow, TextListRow, TextRow, check_counted,
+    check_flaws, check_groups, check_pieces, check_searches, check_spans, check_text_lists,
+    check_texts, first_span, is_too_complex, regex_of, regex_with, repeated,
 };
-use fancy_regex::{Error, Regex, RegexBuilder, RegexInput, RegexOptionsBuilder, RuntimeError};
+use fancy_regex::{
+    Error, Regex, RegexBuilder, RegexInput, RegexOptionsBuilder, Result, RuntimeError,
+};
 use std::alloc::Global;
 use std::process::Abort;
 
@@ -104,9 +106,7 @@ const GROUPS: &[GroupsRow] = &[
 
 #[test]
 fn groups_of_hard_patterns(rt: HostRuntime) {
-    for row in GROUPS {
-        check_groups(&rt, rt.alloc(), row);
-    }
+    check_groups(&rt, rt.alloc(), GROUPS);
 }
 
 const SEARCHES: &[SearchRow<&str>] = &[
@@ -122,9 +122,7 @@ const SEARCHES: &[SearchRow<&str>] = &[
 
 #[test]
 fn look_around_reads_past_the_range(rt: HostRuntime) {
-    for row in SEARCHES {
-        check_search(&rt, rt.alloc(), row);
-    }
+    check_searches(&rt, rt.alloc(), SEARCHES);
 }
 
 const IN_BYTES: &[BytesRow] = &[
@@ -156,9 +154,7 @@ const IN_BYTES: &[BytesRow] = &[
 
 #[test]
 fn hard_patterns_on_bytes(rt: HostRuntime) {
-    for row in IN_BYTES {
-        check_span(&rt, rt.alloc(), row);
-    }
+    check_spans(&rt, rt.alloc(), IN_BYTES);
 }
 
 /// Letters that share their simple folding.
@@ -198,44 +194,44 @@ fn references_fold_letters(rt: HostRuntime) {
 }
 
 const COUNTED: &[CountedRow] = &[
-    ("(?:a|b)(?=c)", "bc", 1, Some(Some((0, 1))), 1),
-    ("(?:a|b)(?=c)", "bc", 0, None, 0),
-    ("(?:a|b)(?=c)", "xxbc", 1, None, 1),
-    ("(?:a|b)(?=c)", "xxbc", 3, Some(Some((2, 3))), 3),
-    ("b(?=c)", "aabc", 0, Some(Some((2, 3))), 0),
-    ("b(?!c)", "bcbd", 1, Some(Some((2, 3))), 1),
-    ("(?=a)b", "ab", 0, Some(None), 0),
-    ("(?>a|b)c", "bc", 1, Some(Some((0, 2))), 1),
-    ("(?>a|b)c", "bc", 0, None, 0),
+    (CHARACTERS, "(?:a|b)(?=c)", "bc", 1, Some(Some((0, 1))), 1),
+    (CHARACTERS, "(?:a|b)(?=c)", "bc", 0, None, 0),
+    (CHARACTERS, "(?:a|b)(?=c)", "xxbc", 1, None, 1),
+    (CHARACTERS, "(?:a|b)(?=c)", "xxbc", 3, Some(Some((2, 3))), 3),
+    (CHARACTERS, "b(?=c)", "aabc", 0, Some(Some((2, 3))), 0),
+    (CHARACTERS, "b(?!c)", "bcbd", 1, Some(Some((2, 3))), 1),
+    (CHARACTERS, "(?=a)b", "ab", 0, Some(None), 0),
+    (CHARACTERS, "(?>a|b)c", "bc", 1, Some(Some((0, 2))), 1),
+    (CHARACTERS, "(?>a|b)c", "bc", 0, None, 0),
 ];
 
 #[test]
 fn returns_are_counted(rt: HostRuntime) {
-    for row in COUNTED {
-        check_counted(&rt, rt.alloc(), row);
-    }
+    check_counted(&rt, rt.alloc(), COUNTED);
 }
 
 // each turn of the star saves a branch
 #[test]
 fn too_many_branches_are_saved(rt: HostRuntime) {
-    let regex = Regex::new(rt.alloc(), "a*(?=c)").expect(&rt, "a regex");
+    let regex = regex_of(&rt, rt.alloc(), "a*(?=c)");
     let haystack = repeated(&rt, rt.alloc(), "a", 1_000_002);
     let found = regex.find(haystack.as_str());
     assert!(rt; matches!(found, Err(Error::RuntimeError(RuntimeError::StackOverflow))));
 }
 
-#[test]
-fn easy_patterns_heed_no_limit(rt: HostRuntime) {
-    let settings = Settings {
+const UNLIMITED: &[SpanRow<&str>] = &[(
+    Settings {
         backtrack_limit: 0,
         ..CHARACTERS
-    };
-    check_span(
-        &rt,
-        rt.alloc(),
-        &(settings, "(?:a|b)*c", "abc", Some((0, 3))),
-    );
+    },
+    "(?:a|b)*c",
+    "abc",
+    Some((0, 3)),
+)];
+
+#[test]
+fn easy_patterns_heed_no_limit(rt: HostRuntime) {
+    check_spans(&rt, rt.alloc(), UNLIMITED);
 }
 
 const SPLIT: &[PiecesRow] = &[
@@ -245,9 +241,7 @@ const SPLIT: &[PiecesRow] = &[
 
 #[test]
 fn hard_patterns_split(rt: HostRuntime) {
-    for row in SPLIT {
-        check_pieces(&rt, rt.alloc(), row);
-    }
+    check_pieces(&rt, rt.alloc(), SPLIT);
 }
 
 const LISTS: &[TextListRow] = &[
@@ -258,9 +252,7 @@ const LISTS: &[TextListRow] = &[
 
 #[test]
 fn matches_of_hard_patterns(rt: HostRuntime) {
-    for row in LISTS {
-        check_text_list(&rt, rt.alloc(), row);
-    }
+    check_text_lists(&rt, rt.alloc(), LISTS);
 }
 
 const FLAWS: &[FlawRow] = &[
@@ -294,22 +286,30 @@ const FLAWS: &[FlawRow] = &[
 
 #[test]
 fn references_to_nothing_and_look_behind_without_a_size(rt: HostRuntime) {
-    for row in FLAWS {
-        check_flaw(&rt, rt.alloc(), row);
-    }
+    check_flaws(&rt, rt.alloc(), FLAWS);
 }
 
-/// Whether the pattern is refused where its code may have this size.
-fn is_too_long(rt: &impl Abort, alloc: Global, pattern: &str, size: usize) -> bool {
+/// What is read of the pattern where its code may have this size.
+fn read_within(rt: &impl Abort, alloc: Global, pattern: &str, size: usize) -> Result<Regex> {
     let text = String::from_str(alloc, pattern).expect(rt, pattern);
-    let mut options = RegexOptionsBuilder::new();
-    let read = options.max_prog_size(size).build(text);
-    let refused = is_too_complex(&read);
-    assert!(rt; refused == read.is_err(), "{pattern}");
+    RegexOptionsBuilder::new().max_prog_size(size).build(text)
+}
+
+/// The same, by a builder that holds the pattern.
+fn read_by_its_builder(
+    rt: &impl Abort,
+    alloc: Global,
+    pattern: &str,
+    size: usize,
+) -> Result<Regex> {
     let mut builder = RegexBuilder::new(alloc, pattern).expect(rt, pattern);
-    let read = builder.max_prog_size(size).build();
-    assert!(rt; is_too_complex(&read) == refused, "{pattern}");
-    refused
+    builder.max_prog_size(size).build()
+}
+
+/// Checks that the pattern is read, or refused for the size of its code.
+fn check_size(rt: &impl Abort, read: &Result<Regex>, pattern: &str, wanted: bool) {
+    assert!(rt; is_too_complex(read) == wanted, "{pattern}");
+    assert!(rt; read.is_err() == wanted, "{pattern}");
 }
 
 /// A pattern, how large its code may be, and whether it is refused.
@@ -326,9 +326,9 @@ const SIZES: &[SizeRow] = &[
 #[test]
 fn the_size_of_hard_code_is_limited(rt: HostRuntime) {
     for &(pattern, size, wanted) in SIZES {
-        assert!(rt;
-            is_too_long(&rt, rt.alloc(), pattern, size) == wanted,
-            "{pattern}"
-        );
+        let read = read_within(&rt, rt.alloc(), pattern, size);
+        check_size(&rt, &read, pattern, wanted);
+        let read = read_by_its_builder(&rt, rt.alloc(), pattern, size);
+        check_size(&rt, &read, pattern, wanted);
     }
 }

@@ -8,6 +8,7 @@ use fancy_input::input::Input;
 use fancy_input::matches::Match;
 use fancy_input::regex_input::RegexInput;
 use std::ops::Range;
+use std::process::Abort;
 
 /// What a form says of itself: its length, whether it is empty, ASCII and text.
 fn facts<S: Input>(haystack: S) -> (usize, bool, bool, bool) {
@@ -16,17 +17,20 @@ fn facts<S: Input>(haystack: S) -> (usize, bool, bool, bool) {
     (seen.len(), seen.is_empty(), seen.is_ascii(), seen.is_text())
 }
 
+/// Checks the length, and whether the haystack is empty, ASCII and text.
+fn check_facts<S: Input>(rt: &impl Abort, haystack: S, wanted: (usize, bool, bool, bool)) {
+    assert!(rt; facts(haystack) == wanted);
+}
+
 #[test]
 fn four_forms_state_their_facts(rt: HostRuntime) {
     let text = "aé";
     let owned = String::from_str(rt.alloc(), text).expect(&rt, text);
-    let bytes: &[u8] = text.as_bytes();
-    let array = [97u8, 98];
-    assert!(rt; facts(text) == (3, false, false, true));
-    assert!(rt; facts(&owned) == (3, false, false, true));
-    assert!(rt; facts(bytes) == (3, false, false, false));
-    assert!(rt; facts(&array) == (2, false, true, false));
-    assert!(rt; facts("") == (0, true, true, true));
+    check_facts(&rt, text, (3, false, false, true));
+    check_facts(&rt, &owned, (3, false, false, true));
+    check_facts(&rt, text.as_bytes(), (3, false, false, false));
+    check_facts(&rt, &[97u8, 98], (2, false, true, false));
+    check_facts(&rt, "", (0, true, true, true));
 }
 
 /// How many places a walk from the start to the end goes over.
@@ -58,46 +62,76 @@ fn boundaries<S: Input>(haystack: S) -> [bool; 5] {
     ]
 }
 
+/// Checks which of the places 0 to 4 are boundaries.
+fn check_boundaries<S: Input>(rt: &impl Abort, haystack: S, wanted: [bool; 5]) {
+    assert!(rt; boundaries(haystack) == wanted);
+}
+
 #[test]
 fn boundaries_of_each_form(rt: HostRuntime) {
     let text = "aé";
     let owned = String::from_str(rt.alloc(), text).expect(&rt, text);
-    let bytes: &[u8] = text.as_bytes();
-    let array = [97u8, 0xC3, 0xA9];
-    assert!(rt; boundaries(text) == [true, true, false, true, false]);
-    assert!(rt; boundaries(&owned) == [true, true, false, true, false]);
-    assert!(rt; boundaries(bytes) == [true, true, false, true, true]);
-    assert!(rt; boundaries(&array) == [true, true, false, true, true]);
+    check_boundaries(&rt, text, [true, true, false, true, false]);
+    check_boundaries(&rt, &owned, [true, true, false, true, false]);
+    check_boundaries(&rt, text.as_bytes(), [true, true, false, true, true]);
+    check_boundaries(&rt, &[97u8, 0xC3, 0xA9], [true, true, false, true, true]);
 }
 
 #[test]
 fn steps_go_over_whole_characters_of_text(rt: HostRuntime) {
     let text = "aé";
-    let bytes: &[u8] = text.as_bytes();
-    let array = [0x80u8, 0x80];
-    let array = &array;
     assert!(rt; text.is_char_boundary(1) && text.is_char_boundary(3));
     assert_eq!(rt; text.prev_codepoint_ix(3), 1);
     assert_eq!(rt; text.advance_position(1), 3);
     assert_eq!(rt; text.advance_position(3), 4);
-    assert_eq!(rt; bytes.prev_codepoint_ix(3), 1);
-    assert_eq!(rt; bytes.advance_position(1), 2);
-    assert_eq!(rt; bytes.advance_position(3), 4);
-    assert_eq!(rt; array.prev_codepoint_ix(2), 0);
-    assert_eq!(rt; steps(text), 2);
-    assert_eq!(rt; steps(bytes), 3);
-    assert!(rt; whole(text).as_str() == text && whole(bytes).as_bytes() == bytes);
 }
 
 #[test]
-fn settings_change_one_at_a_time(rt: HostRuntime) {
+fn steps_go_over_bytes(rt: HostRuntime) {
+    let bytes: &[u8] = "aé".as_bytes();
+    assert_eq!(rt; bytes.prev_codepoint_ix(3), 1);
+    assert_eq!(rt; bytes.advance_position(1), 2);
+    assert_eq!(rt; bytes.advance_position(3), 4);
+    let array = &[0x80u8, 0x80];
+    assert_eq!(rt; array.prev_codepoint_ix(2), 0);
+}
+
+#[test]
+fn a_walk_goes_over_the_whole_haystack(rt: HostRuntime) {
+    let text = "aé";
+    let bytes: &[u8] = text.as_bytes();
+    assert_eq!(rt; steps(text), 2);
+    assert_eq!(rt; steps(bytes), 3);
+    assert!(rt; whole(text).as_str() == text);
+    assert!(rt; whole(bytes).as_bytes() == bytes);
+}
+
+#[test]
+fn a_new_input_asks_for_the_whole(rt: HostRuntime) {
     let input = RegexInput::new("abcabc");
     assert!(rt; input.start() == 0 && input.get_range() == (0..6));
-    let input = input.range(2..5).from_pos(1).anchored(true);
+}
+
+/// A part of a text, from a start before it.
+fn part(rt: &impl Abort) -> RegexInput<&'static str> {
+    let haystack = "abcabc";
+    assert!(rt; 5 <= haystack.len());
+    let input = RegexInput::new(haystack).range(2..5);
+    input.from_pos(1).anchored(true)
+}
+
+#[test]
+fn a_part_is_searched_from_where_it_begins(rt: HostRuntime) {
+    let input = part(&rt);
     assert!(rt; input.start() == 1 && input.get_range() == (2..5));
     assert_eq!(rt; input.effective_start(), 2);
     let copy = input.clone().expect(&rt, "a copy");
     assert!(rt; copy.request() == input.request());
+}
+
+#[test]
+fn settings_change_one_at_a_time(rt: HostRuntime) {
+    let input = part(&rt);
     let changed = input.again().start_text(false).end_text(false);
     let changed = changed.continue_from_previous_match_end(false);
     assert!(rt; changed.request() != input.request());

@@ -3,10 +3,12 @@
 //! The first rows of each table were worked out by hand, the others by an independent model of the search.
 
 use crate::asking::{
-    BYTES, CHARACTERS, CHARACTERS_ANYWHERE, SearchRow, check_search, regex_with, span,
-    span_of_bytes,
+    BYTES, CHARACTERS, CHARACTERS_ANYWHERE, SearchRow, Settings, TextRow, check_searches,
+    check_texts, regex_of, regex_with, span, span_of_bytes,
 };
-use fancy_regex::{BytesMode, Regex, RegexInput};
+use fancy_regex::{BytesMode, Input, RegexInput};
+use std::alloc::Global;
+use std::process::Abort;
 
 const IN_TEXT: &[SearchRow<&str>] = &[
     (CHARACTERS, "abc", "zabc", 0, (0, 4), false, Some((1, 4))),
@@ -126,9 +128,7 @@ const IN_TEXT: &[SearchRow<&str>] = &[
 
 #[test]
 fn searches_text(rt: HostRuntime) {
-    for row in IN_TEXT {
-        check_search(&rt, rt.alloc(), row);
-    }
+    check_searches(&rt, rt.alloc(), IN_TEXT);
 }
 
 const IN_BYTES: &[SearchRow<&[u8]>] = &[
@@ -308,26 +308,38 @@ const IN_BYTES: &[SearchRow<&[u8]>] = &[
 
 #[test]
 fn searches_bytes(rt: HostRuntime) {
-    for row in IN_BYTES {
-        check_search(&rt, rt.alloc(), row);
+    check_searches(&rt, rt.alloc(), IN_BYTES);
+}
+
+const IN_OWNED_TEXT: &[TextRow] = &[("b", "ab", Some((1, 2)))];
+
+#[test]
+fn searches_owned_text(rt: HostRuntime) {
+    for &(pattern, text, wanted) in IN_OWNED_TEXT {
+        let regex = regex_of(&rt, rt.alloc(), pattern);
+        let owned = String::from_str(rt.alloc(), text).expect(&rt, text);
+        let first = regex.find(&owned).expect(&rt, pattern);
+        assert_eq!(rt; first.map(span), wanted);
     }
 }
 
+const SHORT_TEXT: &[TextRow] = &[("b", "ab", Some((1, 2)))];
+
 #[test]
-fn searches_each_form(rt: HostRuntime) {
-    let regex = Regex::new(rt.alloc(), "b").expect(&rt, "a regex");
-    let owned = String::from_str(rt.alloc(), "ab").expect(&rt, "a text");
-    let in_text = regex.find("ab").expect(&rt, "a search");
-    assert_eq!(rt; in_text.map(span), Some((1, 2)));
-    let in_owned = regex.find(&owned).expect(&rt, "a search");
-    assert_eq!(rt; in_owned.map(span), Some((1, 2)));
-    let in_array = regex.find(b"ab").expect(&rt, "a search");
-    assert_eq!(rt; in_array.map(span_of_bytes), Some((1, 2)));
+fn searches_text_without_an_input(rt: HostRuntime) {
+    check_texts(&rt, rt.alloc(), SHORT_TEXT);
+}
+
+#[test]
+fn searches_an_array(rt: HostRuntime) {
+    let regex = regex_of(&rt, rt.alloc(), "b");
+    let found = regex.find(b"ab").expect(&rt, "a search");
+    assert_eq!(rt; found.map(span_of_bytes), Some((1, 2)));
 }
 
 #[test]
 fn searches_bytes_from_a_start(rt: HostRuntime) {
-    let regex = Regex::new(rt.alloc(), "b").expect(&rt, "a regex");
+    let regex = regex_of(&rt, rt.alloc(), "b");
     let bytes: &[u8] = b"ab";
     let found = regex.find_from_pos(bytes, 1).expect(&rt, "a search");
     let matched = found.expect(&rt, "a match");
@@ -335,19 +347,33 @@ fn searches_bytes_from_a_start(rt: HostRuntime) {
     assert!(rt; regex.is_match(bytes).expect(&rt, "a search"));
 }
 
-fn may_start(regex: &Regex, haystack: &str, start: usize) -> bool {
-    regex.can_search(&RegexInput::new(haystack).from_pos(start))
+/// Options, a haystack, where the search starts, and whether it may be searched from there.
+type MayStartRow<S> = (Settings, S, usize, bool);
+
+fn check_starts<S: Input>(rt: &impl Abort, alloc: Global, rows: &[MayStartRow<S>]) {
+    for &(settings, haystack, start, wanted) in rows {
+        let regex = regex_with(rt, alloc, settings, "a");
+        let input = RegexInput::new(haystack).from_pos(start);
+        assert!(rt; regex.can_search(&input) == wanted, "from {start}");
+    }
 }
+
+const STARTS_IN_TEXT: &[MayStartRow<&str>] = &[
+    (CHARACTERS, "é", 1, false),
+    (CHARACTERS, "é", 3, true),
+    (BYTES, "é", 0, false),
+    (BYTES, "e", 0, true),
+];
+
+const STARTS_IN_BYTES: &[MayStartRow<&[u8]>] = &[(BYTES, b"\xC3\xA9", 1, true)];
 
 #[test]
 fn says_what_may_be_searched(rt: HostRuntime) {
-    let by_characters = Regex::new(rt.alloc(), "a").expect(&rt, "a regex");
-    assert!(rt; !may_start(&by_characters, "é", 1));
-    assert!(rt; may_start(&by_characters, "é", 3));
-    let by_bytes = regex_with(&rt, rt.alloc(), BYTES, "a");
-    assert!(rt; !may_start(&by_bytes, "é", 0));
-    assert!(rt; may_start(&by_bytes, "e", 0));
-    let bytes: &[u8] = b"\xC3\xA9";
-    assert!(rt; by_bytes.can_search(&RegexInput::new(bytes).from_pos(1)));
+    check_starts(&rt, rt.alloc(), STARTS_IN_TEXT);
+    check_starts(&rt, rt.alloc(), STARTS_IN_BYTES);
+}
+
+#[test]
+fn matches_stand_between_characters_by_default(rt: HostRuntime) {
     assert!(rt; BytesMode::default() == BytesMode::Unicode);
 }

@@ -4,14 +4,14 @@
 
 use crate::asking::{
     AllGroupsRow, BYTES, CHARACTERS, CHARACTERS_ANYWHERE, Settings, Span, Spanned, TextListRow,
-    check_all_groups, check_text_list, regex_with, span,
+    check_all_groups, check_text_lists, regex_of, regex_with, span,
 };
-use fancy_regex::{Captures, Input, Match, MatchBytes, Regex, RegexInput};
+use fancy_regex::{Captures, Input, Match, MatchBytes, Matches, Regex, RegexInput};
 use std::alloc::Global;
 use std::process::Abort;
 
 /// An iteration: what is searched, where its matches start and end, and where the search starts that is next: at
-/// first, behind each match, and at the end.
+/// first, after each match, and at the end.
 #[derive(Clone, Copy)]
 struct Row<S> {
     settings: Settings,
@@ -401,10 +401,8 @@ const LISTS: &[TextListRow] = &[
 ];
 
 #[test]
-fn matches_come_one_behind_the_other(rt: HostRuntime) {
-    for row in LISTS {
-        check_text_list(&rt, rt.alloc(), row);
-    }
+fn matches_come_one_after_another(rt: HostRuntime) {
+    check_text_lists(&rt, rt.alloc(), LISTS);
 }
 
 const GROUPS_OF_ALL_MATCHES: &[AllGroupsRow] = &[
@@ -422,28 +420,35 @@ const GROUPS_OF_ALL_MATCHES: &[AllGroupsRow] = &[
 
 #[test]
 fn groups_come_with_each_match(rt: HostRuntime) {
-    for row in GROUPS_OF_ALL_MATCHES {
-        check_all_groups(&rt, rt.alloc(), row);
+    check_all_groups(&rt, rt.alloc(), GROUPS_OF_ALL_MATCHES);
+}
+
+/// A pattern, a text, and how many matches it has.
+const COLLECTED: &[(&str, &str, usize)] = &[("(a)|b", "ba", 2), ("a|", "bab", 3)];
+
+#[test]
+fn collects_matches(rt: HostRuntime) {
+    for &(pattern, text, count) in COLLECTED {
+        let regex = regex_of(&rt, rt.alloc(), pattern);
+        let matches = regex.find_iter(text).try_collect(rt.alloc());
+        let all: Vec<Match<'_>> = matches.expect(&rt, pattern);
+        assert_eq!(rt; all.len(), count, "{pattern}");
     }
 }
 
 #[test]
-fn collects_matches(rt: HostRuntime) {
-    let alloc = rt.alloc();
-    for (pattern, text, count) in [("(a)|b", "ba", 2), ("a|", "bab", 3)] {
-        let regex = Regex::new(alloc, pattern).expect(&rt, pattern);
-        let in_text = regex.find_iter(text).try_collect(alloc);
-        let all: Vec<Match<'_>> = in_text.expect(&rt, pattern);
-        assert_eq!(rt; all.len(), count, "{pattern}");
-        let in_bytes = regex.find_iter(text.as_bytes()).try_collect(alloc);
-        let all: Vec<MatchBytes<'_>> = in_bytes.expect(&rt, pattern);
+fn collects_matches_of_bytes(rt: HostRuntime) {
+    for &(pattern, text, count) in COLLECTED {
+        let regex = regex_of(&rt, rt.alloc(), pattern);
+        let matches = regex.find_iter(text.as_bytes()).try_collect(rt.alloc());
+        let all: Vec<MatchBytes<'_>> = matches.expect(&rt, pattern);
         assert_eq!(rt; all.len(), count, "{pattern}");
     }
 }
 
 #[test]
 fn ends_of_matches_in_bytes(rt: HostRuntime) {
-    let regex = Regex::new(rt.alloc(), "a|").expect(&rt, "a regex");
+    let regex = regex_of(&rt, rt.alloc(), "a|");
     let bytes: &[u8] = b"bab";
     let mut total = 0usize;
     for found in regex.find_iter(bytes) {
@@ -452,79 +457,100 @@ fn ends_of_matches_in_bytes(rt: HostRuntime) {
     assert_eq!(rt; total, 5);
 }
 
-#[test]
-fn counts_matches(rt: HostRuntime) {
-    let regex = Regex::new(rt.alloc(), "a?").expect(&rt, "a regex");
-    let bytes: &[u8] = b"baa";
-    assert_eq!(rt; regex.find_iter("baa").count(), 3);
-    assert_eq!(rt; regex.find_iter(bytes).count(), 3);
-    let from_one = RegexInput::new("baa").from_pos(1);
-    assert_eq!(rt; regex.find_iter_input(from_one).count(), 2);
-    let from_one = RegexInput::new(bytes).from_pos(1);
-    assert_eq!(rt; regex.find_iter_input(from_one).count(), 2);
+/// Checks how many matches there are.
+fn check_count<S: Input>(rt: &impl Abort, regex: &Regex, haystack: S, wanted: usize) {
+    let input = RegexInput::new(haystack);
+    assert!(rt; regex.can_search(&input));
+    assert_eq!(rt; regex.find_iter(haystack).count(), wanted);
+    assert_eq!(rt; regex.captures_iter(haystack).count(), wanted);
+}
+
+/// Checks how many matches there are from a start on.
+fn check_later_count<S: Input>(
+    rt: &impl Abort,
+    regex: &Regex,
+    input: RegexInput<S>,
+    wanted: usize,
+) {
+    assert!(rt; regex.can_search(&input));
+    assert_eq!(rt; regex.find_iter_input(input.again()).count(), wanted);
+    assert_eq!(rt; regex.captures_iter_input(input).count(), wanted);
 }
 
 #[test]
-fn counts_captures(rt: HostRuntime) {
-    let regex = Regex::new(rt.alloc(), "a?").expect(&rt, "a regex");
+fn counts_matches(rt: HostRuntime) {
+    let regex = regex_of(&rt, rt.alloc(), "a?");
     let bytes: &[u8] = b"baa";
-    assert_eq!(rt; regex.captures_iter("baa").count(), 3);
-    assert_eq!(rt; regex.captures_iter(bytes).count(), 3);
-    let from_one = RegexInput::new("baa").from_pos(1);
-    assert_eq!(rt; regex.captures_iter_input(from_one).count(), 2);
-    let from_one = RegexInput::new(bytes).from_pos(1);
-    assert_eq!(rt; regex.captures_iter_input(from_one).count(), 2);
+    check_count(&rt, &regex, "baa", 3);
+    check_count(&rt, &regex, bytes, 3);
+    check_later_count(&rt, &regex, RegexInput::new("baa").from_pos(1), 2);
+    check_later_count(&rt, &regex, RegexInput::new(bytes).from_pos(1), 2);
+}
+
+/// Where the next match starts and ends.
+fn next_span(rt: &impl Abort, matches: &mut Matches<'_, &str>) -> Option<Span> {
+    match matches.next() {
+        Some(found) => Some(span(found.expect(rt, "a search"))),
+        None => None,
+    }
 }
 
 #[test]
 fn counts_the_matches_left(rt: HostRuntime) {
-    let regex = Regex::new(rt.alloc(), "a?").expect(&rt, "a regex");
+    let regex = regex_of(&rt, rt.alloc(), "a?");
     let mut matches = regex.find_iter("baa");
-    let first = matches
-        .next()
-        .expect(&rt, "a match")
-        .expect(&rt, "a search");
-    assert_eq!(rt; span(first), (0, 0));
+    assert_eq!(rt; next_span(&rt, &mut matches), Some((0, 0)));
     assert_eq!(rt; matches.count(), 2);
 }
 
 #[test]
 fn counts_groups(rt: HostRuntime) {
-    let regex = Regex::new(rt.alloc(), "(a)|b").expect(&rt, "a regex");
+    let regex = regex_of(&rt, rt.alloc(), "(a)|b");
     let found = regex.captures("ba").expect(&rt, "a search");
     assert_eq!(rt; found.expect(&rt, "a match").iter().count(), 2);
 }
 
 #[test]
 fn the_input_moves_on(rt: HostRuntime) {
-    let regex = Regex::new(rt.alloc(), "a|").expect(&rt, "a regex");
+    let regex = regex_of(&rt, rt.alloc(), "a|");
     let mut matches = regex.find_iter_input(RegexInput::new("éa").from_pos(2));
     assert_eq!(rt; matches.input().start(), 2);
-    let first = matches
-        .next()
-        .expect(&rt, "a match")
-        .expect(&rt, "a search");
-    assert_eq!(rt; span(first), (2, 3));
+    assert_eq!(rt; next_span(&rt, &mut matches), Some((2, 3)));
     assert_eq!(rt; matches.input().start(), 3);
     assert!(rt; matches.next().is_none() && matches.next().is_none());
     assert_eq!(rt; matches.input().start(), 4);
-    assert!(rt; matches.text() == "éa" && matches.regex().as_str() == "a|");
+}
+
+#[test]
+fn the_input_passes_over_a_character(rt: HostRuntime) {
+    let regex = regex_of(&rt, rt.alloc(), "a|");
     let mut matches = regex.find_iter("é");
-    let empty = matches
-        .next()
-        .expect(&rt, "a match")
-        .expect(&rt, "a search");
-    assert_eq!(rt; span(empty), (0, 0));
+    assert_eq!(rt; next_span(&rt, &mut matches), Some((0, 0)));
     assert_eq!(rt; matches.input().start(), 2);
 }
 
 #[test]
+fn a_list_tells_its_text_and_its_regex(rt: HostRuntime) {
+    let regex = regex_of(&rt, rt.alloc(), "a|");
+    let matches = regex.find_iter_input(RegexInput::new("éa").from_pos(2));
+    assert_eq!(rt; matches.text(), "éa");
+    assert_eq!(rt; matches.regex().as_str(), "a|");
+}
+
+#[test]
 fn captures_in_bytes_are_collected(rt: HostRuntime) {
-    let regex = Regex::new(rt.alloc(), "a(b)?").expect(&rt, "a regex");
+    let regex = regex_of(&rt, rt.alloc(), "a(b)?");
+    let bytes: &[u8] = b"aab";
+    let matches = regex.captures_iter_input(RegexInput::new(bytes).from_pos(1));
+    let all: Vec<Captures<'_, &[u8]>> = matches.try_collect(rt.alloc()).expect(&rt, "a search");
+    assert_eq!(rt; all.len(), 1);
+}
+
+#[test]
+fn a_list_of_captures_tells_its_text_and_its_regex(rt: HostRuntime) {
+    let regex = regex_of(&rt, rt.alloc(), "a(b)?");
     let bytes: &[u8] = b"aab";
     let matches = regex.captures_iter_input(RegexInput::new(bytes).from_pos(1));
     assert!(rt; matches.text() == bytes && matches.regex().captures_len() == 2);
     assert_eq!(rt; matches.input().start(), 1);
-    let all: Vec<Captures<'_, &[u8]>> = matches.try_collect(rt.alloc()).expect(&rt, "a search");
-    assert_eq!(rt; all.len(), 1);
 }

@@ -3,10 +3,12 @@
 use crate::asking::{
     AllGroupsRow, BYTES, BytesRow, CHARACTERS, CHARACTERS_ANYWHERE, FirstPiecesRow, GroupsRow,
     KindRow, OVERRIDING, PiecesRow, ReplacedRow, SearchRow, Settings, Span, TextListRow, TextRow,
-    check_all_groups, check_first_pieces, check_groups, check_kind, check_pieces, check_replaced,
-    check_search, check_span, check_text_list, check_texts, first_span, regex_with,
+    check_all_groups, check_first_pieces, check_groups, check_kinds, check_pieces, check_replaced,
+    check_searches, check_spans, check_text_lists, check_texts, first_span, regex_with,
 };
 use fancy_regex::{ParseErrorKind, RegexInput};
+use std::alloc::Global;
+use std::process::Abort;
 
 const KEPT_STARTS: &[TextRow] = &[
     ("a\\Kb", "ab", Some((1, 2))),
@@ -75,9 +77,7 @@ const SEARCHES: &[SearchRow<&str>] = &[
 
 #[test]
 fn searches_from_a_place(rt: HostRuntime) {
-    for row in SEARCHES {
-        check_search(&rt, rt.alloc(), row);
-    }
+    check_searches(&rt, rt.alloc(), SEARCHES);
 }
 
 const IN_BYTES: &[BytesRow] = &[
@@ -89,9 +89,7 @@ const IN_BYTES: &[BytesRow] = &[
 
 #[test]
 fn bytes_are_kept_too(rt: HostRuntime) {
-    for row in IN_BYTES {
-        check_span(&rt, rt.alloc(), row);
-    }
+    check_spans(&rt, rt.alloc(), IN_BYTES);
 }
 
 const GROUPS: &[GroupsRow] = &[
@@ -106,9 +104,7 @@ const GROUPS: &[GroupsRow] = &[
 
 #[test]
 fn groups_are_not_moved(rt: HostRuntime) {
-    for row in GROUPS {
-        check_groups(&rt, rt.alloc(), row);
-    }
+    check_groups(&rt, rt.alloc(), GROUPS);
 }
 
 const LISTS: &[TextListRow] = &[
@@ -119,16 +115,14 @@ const LISTS: &[TextListRow] = &[
     ("\\Gx*", "ab", &[(0, 0)]),
     ("\\Ga", "aaba", &[(0, 1), (1, 2)]),
     ("\\G[ab]?", "abc", &[(0, 1), (1, 2)]),
-    // an empty match that ended behind the search's start leaves `\G` on
+    // an empty match that ended after the search's start leaves `\G` on
     ("\\Ga\\K", "aaa", &[(1, 1), (3, 3)]),
     ("\\Ga|b", "abab", &[(0, 1), (1, 2), (2, 3), (3, 4)]),
 ];
 
 #[test]
 fn lists_go_on_at_ends(rt: HostRuntime) {
-    for row in LISTS {
-        check_text_list(&rt, rt.alloc(), row);
-    }
+    check_text_lists(&rt, rt.alloc(), LISTS);
 }
 
 const GROUPS_OF_LISTS: &[AllGroupsRow] = &[(
@@ -142,9 +136,7 @@ const GROUPS_OF_LISTS: &[AllGroupsRow] = &[(
 
 #[test]
 fn groups_of_lists(rt: HostRuntime) {
-    for row in GROUPS_OF_LISTS {
-        check_all_groups(&rt, rt.alloc(), row);
-    }
+    check_all_groups(&rt, rt.alloc(), GROUPS_OF_LISTS);
 }
 
 const PIECES: &[PiecesRow] = &[
@@ -165,15 +157,9 @@ const REPLACED: &[ReplacedRow] = &[
 
 #[test]
 fn texts_are_cut_at_kept_starts(rt: HostRuntime) {
-    for row in PIECES {
-        check_pieces(&rt, rt.alloc(), row);
-    }
-    for row in FIRST_PIECES {
-        check_first_pieces(&rt, rt.alloc(), row);
-    }
-    for row in REPLACED {
-        check_replaced(&rt, rt.alloc(), row);
-    }
+    check_pieces(&rt, rt.alloc(), PIECES);
+    check_first_pieces(&rt, rt.alloc(), FIRST_PIECES);
+    check_replaced(&rt, rt.alloc(), REPLACED);
 }
 
 /// Options, a pattern, a text, and where the first match starts and ends: of an input as it is made, and of one that says
@@ -186,6 +172,15 @@ type ContinuedRow = (
     Option<Span>,
 );
 
+fn check_continued(rt: &impl Abort, alloc: Global, row: &ContinuedRow) {
+    let (settings, pattern, haystack, going_on, suppressed) = *row;
+    let regex = regex_with(rt, alloc, settings, pattern);
+    let input = RegexInput::new(haystack);
+    assert_eq!(rt; first_span(rt, &regex, input), going_on, "{pattern}");
+    let input = RegexInput::new(haystack).continue_from_previous_match_end(false);
+    assert_eq!(rt; first_span(rt, &regex, input), suppressed, "{pattern}");
+}
+
 const SUPPRESSED: &[ContinuedRow] = &[
     (CHARACTERS, "\\Gx", "x", Some((0, 1)), Some((0, 1))),
     (OVERRIDING, "\\Gx", "x", Some((0, 1)), None),
@@ -195,12 +190,8 @@ const SUPPRESSED: &[ContinuedRow] = &[
 
 #[test]
 fn an_input_may_not_go_on_from_a_match(rt: HostRuntime) {
-    for &(settings, pattern, haystack, going_on, suppressed) in SUPPRESSED {
-        let regex = regex_with(&rt, rt.alloc(), settings, pattern);
-        let input = RegexInput::new(haystack);
-        assert_eq!(rt; first_span(&rt, &regex, input), going_on, "{pattern}");
-        let input = RegexInput::new(haystack).continue_from_previous_match_end(false);
-        assert_eq!(rt; first_span(&rt, &regex, input), suppressed, "{pattern}");
+    for row in SUPPRESSED {
+        check_continued(&rt, rt.alloc(), row);
     }
 }
 
@@ -215,9 +206,7 @@ const IN_LOOK_AROUND: &[KindRow] = &[
 
 #[test]
 fn no_start_is_kept_in_look_around(rt: HostRuntime) {
-    for row in IN_LOOK_AROUND {
-        check_kind(&rt, rt.alloc(), row);
-    }
+    check_kinds(&rt, rt.alloc(), IN_LOOK_AROUND);
 }
 
 const IN_CLASSES: &[KindRow] = &[
@@ -227,7 +216,5 @@ const IN_CLASSES: &[KindRow] = &[
 
 #[test]
 fn classes_have_no_such_members(rt: HostRuntime) {
-    for row in IN_CLASSES {
-        check_kind(&rt, rt.alloc(), row);
-    }
+    check_kinds(&rt, rt.alloc(), IN_CLASSES);
 }

@@ -1,7 +1,7 @@
 //! Groups by their names.
 
 use crate::asking::{
-    NameRow, NamesRow, TextsRow, check_kind, check_name, check_names, check_owned_texts,
+    KindRow, NameRow, NamesRow, TextsRow, check_kinds, check_name, check_names, check_owned_texts,
     check_texts_of_groups,
 };
 use fancy_regex::ParseErrorKind;
@@ -17,9 +17,7 @@ const SPANS_OF_NAMES: &[NameRow] = &[
 
 #[test]
 fn the_last_group_of_a_name_is_meant(rt: HostRuntime) {
-    for row in SPANS_OF_NAMES {
-        check_name(&rt, rt.alloc(), row);
-    }
+    check_name(&rt, rt.alloc(), SPANS_OF_NAMES);
 }
 
 const NAMES: &[NamesRow] = &[
@@ -33,9 +31,7 @@ const NAMES: &[NamesRow] = &[
 
 #[test]
 fn names_stand_at_their_numbers(rt: HostRuntime) {
-    for row in NAMES {
-        check_names(&rt, rt.alloc(), row);
-    }
+    check_names(&rt, rt.alloc(), NAMES);
 }
 
 const TEXTS: &[TextsRow] = &[
@@ -64,16 +60,18 @@ const TEXTS: &[TextsRow] = &[
 
 #[test]
 fn texts_of_groups(rt: HostRuntime) {
-    for row in TEXTS {
-        check_texts_of_groups(&rt, rt.alloc(), row);
-        check_owned_texts(&rt, rt.alloc(), row);
-    }
+    check_texts_of_groups(&rt, rt.alloc(), TEXTS);
+    check_owned_texts(&rt, rt.alloc(), TEXTS);
 }
+
+const NO_NAMES: &[KindRow] = &[
+    ("(?<>a)", ParseErrorKind::InvalidGroupName),
+    ("(?<a b>c)", ParseErrorKind::InvalidGroupName),
+    ("(?P<a-b>c)", ParseErrorKind::InvalidGroupName),
+    ("(?<a", ParseErrorKind::InvalidGroupName),
+];
 
 #[test]
 fn names_are_rows_of_their_characters(rt: HostRuntime) {
-    for pattern in ["(?<>a)", "(?<a b>c)", "(?P<a-b>c)", "(?<a"] {
-        let row = (pattern, ParseErrorKind::InvalidGroupName);
-        check_kind(&rt, rt.alloc(), &row);
-    }
+    check_kinds(&rt, rt.alloc(), NO_NAMES);
 }

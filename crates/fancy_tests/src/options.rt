@@ -1,8 +1,8 @@
 //! What each option changes, and what is so without it.
 
 use crate::asking::{
-    BYTES, BytesRow, CHARACTERS, CHARACTERS_ANYWHERE, Settings, Span, check_span, first_span,
-    kind_of,
+    BYTES, BytesRow, CHARACTERS, CHARACTERS_ANYWHERE, Settings, Span, check_spans, first_span,
+    kind_of, regex_of,
 };
 use fancy_regex::{
     BytesMode, ParseErrorKind, Regex, RegexBuilder, RegexInput, RegexOptionsBuilder,
@@ -89,17 +89,22 @@ fn check_found(rt: &impl Abort, regex: &Regex, haystack: &str, wanted: Option<Sp
     assert_eq!(rt; found, wanted, "{}", regex.as_str());
 }
 
-fn check_row(rt: &impl Abort, alloc: Global, row: &Row) {
+/// Checks what is found where the switch is not set.
+fn check_default(rt: &impl Abort, alloc: Global, row: &Row) {
     let (switch, pattern, haystack, off, on) = *row;
     let is_on = matches!(switch, Switch::UnicodeMode);
-    let regex = Regex::new(alloc, pattern).expect(rt, pattern);
+    let regex = regex_of(rt, alloc, pattern);
     check_found(rt, &regex, haystack, if is_on { on } else { off });
-    for (yes, wanted) in [(false, off), (true, on)] {
-        let regex = read_with(rt, alloc, pattern, switch, yes);
-        check_found(rt, &regex, haystack, wanted);
-        let regex = read_by_its_builder(rt, alloc, pattern, switch, yes);
-        check_found(rt, &regex, haystack, wanted);
-    }
+}
+
+/// Checks what is found where the switch is off, or on.
+fn check_switched(rt: &impl Abort, alloc: Global, row: &Row, yes: bool) {
+    let (switch, pattern, haystack, off, on) = *row;
+    let wanted = if yes { on } else { off };
+    let regex = read_with(rt, alloc, pattern, switch, yes);
+    check_found(rt, &regex, haystack, wanted);
+    let regex = read_by_its_builder(rt, alloc, pattern, switch, yes);
+    check_found(rt, &regex, haystack, wanted);
 }
 
 const ROWS: &[Row] = &[
@@ -134,7 +139,9 @@ const ROWS: &[Row] = &[
 #[test]
 fn each_switch_changes_answers(rt: HostRuntime) {
     for row in ROWS {
-        check_row(&rt, rt.alloc(), row);
+        check_default(&rt, rt.alloc(), row);
+        check_switched(&rt, rt.alloc(), row, false);
+        check_switched(&rt, rt.alloc(), row, true);
     }
 }
 
@@ -149,23 +156,31 @@ const MODES: &[BytesRow] = &[
 
 #[test]
 fn the_mode_changes_answers(rt: HostRuntime) {
-    for row in MODES {
-        check_span(&rt, rt.alloc(), row);
-    }
+    check_spans(&rt, rt.alloc(), MODES);
+}
+
+/// The mode, a pattern, and where the first match of the byte 80 starts and ends.
+type ModeRow = (BytesMode, &'static str, Option<Span>);
+
+const MODES_OF_BUILDERS: &[ModeRow] = &[
+    (BytesMode::Unicode, "\\x80", None),
+    (BytesMode::Ascii, "\\x80", Some((0, 1))),
+    (BytesMode::UnicodeBytes, ".", None),
+];
+
+fn check_mode(rt: &impl Abort, alloc: Global, row: &ModeRow) {
+    let (mode, pattern, wanted) = *row;
+    let mut builder = RegexBuilder::new(alloc, pattern).expect(rt, pattern);
+    let regex = builder.bytes_mode(mode).build().expect(rt, pattern);
+    let haystack: &[u8] = b"\x80";
+    let found = first_span(rt, &regex, RegexInput::new(haystack));
+    assert_eq!(rt; found, wanted, "{pattern}");
 }
 
 #[test]
 fn the_mode_of_a_builder_with_a_pattern_changes_answers(rt: HostRuntime) {
-    let haystack: &[u8] = b"\x80";
-    for (mode, pattern, wanted) in [
-        (BytesMode::Unicode, "\\x80", None),
-        (BytesMode::Ascii, "\\x80", Some((0, 1))),
-        (BytesMode::UnicodeBytes, ".", None),
-    ] {
-        let mut builder = RegexBuilder::new(rt.alloc(), pattern).expect(&rt, pattern);
-        let regex = builder.bytes_mode(mode).build().expect(&rt, pattern);
-        let found = first_span(&rt, &regex, RegexInput::new(haystack));
-        assert_eq!(rt; found, wanted, "{pattern}");
+    for row in MODES_OF_BUILDERS {
+        check_mode(&rt, rt.alloc(), row);
     }
 }
 
@@ -239,9 +254,7 @@ const TOGETHER: &[BytesRow] = &[(
 
 #[test]
 fn setters_chain(rt: HostRuntime) {
-    for row in TOGETHER {
-        check_span(&rt, rt.alloc(), row);
-    }
+    check_spans(&rt, rt.alloc(), TOGETHER);
 }
 
 #[test]

@@ -1,6 +1,6 @@
 //! Where patterns are refused and why, and how large they are that are read.
 
-use crate::asking::{CHARACTERS, FaultRow, ONLY_NAMED, check_fault, is_too_complex, repeated};
+use crate::asking::{CHARACTERS, FaultRow, ONLY_NAMED, check_faults, is_too_complex, repeated};
 use fancy_syntax::parse::{Syntax, parse, parse_with};
 use fancy_tree::error::ParseErrorKind;
 use fancy_tree::tree::Meaning;
@@ -313,12 +313,8 @@ const FAULTS_BESIDE_NAMES: &[FaultRow] = &[
 
 #[test]
 fn places_and_kinds(rt: HostRuntime) {
-    for row in FAULTS {
-        check_fault(&rt, rt.alloc(), row);
-    }
-    for row in FAULTS_BESIDE_NAMES {
-        check_fault(&rt, rt.alloc(), row);
-    }
+    check_faults(&rt, rt.alloc(), FAULTS);
+    check_faults(&rt, rt.alloc(), FAULTS_BESIDE_NAMES);
 }
 
 const OF_BYTES: Syntax = Syntax {

@@ -1,47 +1,58 @@
 //! The examples of the README. The tests, and the rows of each table, are in its order.
 
 use crate::asking::{
-    ASCII_TEXT, AllGroupsRow, BYTES, BytesRow, CHARACTERS, CheckedRow, CountedRow, FaultRow,
-    FirstPiecesRow, GroupsRow, LONGEST, LaterGroupsRow, NOT_EMPTY, NameRow, NamesRow, ONLY_NAMED,
-    OVERRIDING, PiecesRow, ReplacedRow, SearchRow, Settings, SpanRow, TemplateRow, TextListRow,
-    TextsRow, Told, check_all_groups, check_answer, check_counted, check_escaped, check_expanded,
-    check_fault, check_first_pieces, check_fixed, check_groups, check_later_groups, check_name,
-    check_names, check_pieces, check_replaced, check_search, check_span, check_templates,
-    check_text_list, check_texts_of_groups, check_told, first_span, is_too_complex, regex_with,
+    ASCII_TEXT, AllGroupsRow, BYTES, BytesRow, CHARACTERS, CheckedRow, CountedRow, EasyRow,
+    FaultRow, FirstPiecesRow, GroupsRow, LONGEST, LaterGroupsRow, MatchRow, NOT_EMPTY, NameRow,
+    NamesRow, ONLY_NAMED, OVERRIDING, PiecesRow, ReplacedRow, SearchRow, Settings, Span, SpanRow,
+    TemplateRow, TextListRow, TextsRow, Told, check_all_groups, check_answer, check_counted,
+    check_easy, check_escaped, check_expanded, check_faults, check_first_pieces, check_fixed,
+    check_groups, check_later_groups, check_matches, check_name, check_names, check_pieces,
+    check_replaced, check_searches, check_spans, check_templates, check_text_lists,
+    check_texts_of_groups, check_told, counted, first_span, is_too_complex, regex_of, regex_with,
     span,
 };
 use fancy_regex::{
     Captures, Expander, NoExpand, ParseErrorKind, Regex, RegexBuilder, RegexInput,
     RegexOptionsBuilder, ReplaceFn, Replacer, Work, escape,
 };
+use std::alloc::Global;
+use std::process::Abort;
+
+const FIRST_MATCHES: &[MatchRow] = &[("a|ab", "xab", (1, 2), "a")];
 
 #[test]
 fn a_first_match(rt: HostRuntime) {
-    let regex = Regex::new(rt.alloc(), "a|ab").expect(&rt, "a regex");
-    let first = regex.find("xab").expect(&rt, "a search");
-    let found = first.expect(&rt, "a match");
-    assert_eq!(rt; span(found), (1, 2));
-    let range = found.range();
-    assert_eq!(rt; (range.start, range.end), (1, 2));
-    assert_eq!(rt; found.as_str(), "a");
-    let text: &str = found.into();
-    assert_eq!(rt; text, "a");
+    check_matches(&rt, rt.alloc(), FIRST_MATCHES);
+}
+
+#[test]
+fn other_searches(rt: HostRuntime) {
+    let regex = regex_of(&rt, rt.alloc(), "a|ab");
+    let found = regex.find_from_pos("xabab", 2).expect(&rt, "a search");
+    assert_eq!(rt; found.map(span), Some((3, 4)));
+    assert!(rt; !regex.is_match("xyz").expect(&rt, "a search"));
+}
+
+#[test]
+fn a_first_match_in_bytes(rt: HostRuntime) {
+    let regex = regex_of(&rt, rt.alloc(), "a|ab");
     let first = regex.find(b"xab").expect(&rt, "a search");
     let found = first.expect(&rt, "a match");
     assert!(rt; found.as_bytes() == b"a".as_slice());
 }
 
 #[test]
-fn other_searches(rt: HostRuntime) {
-    let regex = Regex::new(rt.alloc(), "a|ab").expect(&rt, "a regex");
-    let found = regex.find_from_pos("xabab", 2).expect(&rt, "a search");
-    assert_eq!(rt; found.map(span), Some((3, 4)));
-    assert!(rt; !regex.is_match("xyz").expect(&rt, "a search"));
+fn an_input(rt: HostRuntime) {
     let input = RegexInput::new("xabab").range(2..5);
     assert_eq!(rt; input.haystack(), "xabab");
     assert_eq!(rt; input.start(), 0);
     let range = input.get_range();
     assert_eq!(rt; (range.start, range.end), (2, 5));
+}
+
+#[test]
+fn what_may_be_searched(rt: HostRuntime) {
+    let regex = regex_of(&rt, rt.alloc(), "a|ab");
     assert!(rt; !regex.can_search(&RegexInput::new("é").from_pos(1)));
 }
 
@@ -100,25 +111,22 @@ const PATTERNS_OF_BYTES: &[BytesRow] = &[(BYTES, "\\xE9.", b"a\xE9\xFF", Some((1
 
 #[test]
 fn spans(rt: HostRuntime) {
-    for row in SEARCHES {
-        check_search(&rt, rt.alloc(), row);
-    }
-    for row in PATTERNS {
-        check_span(&rt, rt.alloc(), row);
-    }
-    for row in PATTERNS_OF_BYTES {
-        check_span(&rt, rt.alloc(), row);
-    }
+    check_searches(&rt, rt.alloc(), SEARCHES);
+    check_spans(&rt, rt.alloc(), PATTERNS);
+    check_spans(&rt, rt.alloc(), PATTERNS_OF_BYTES);
+}
+
+/// A text that a builder may take.
+fn owned(rt: &impl Abort, alloc: Global, text: &str) -> String {
+    String::from_str(alloc, text).expect(rt, text)
 }
 
 #[test]
 fn verbose_mode(rt: HostRuntime) {
-    let pattern = String::from_str(rt.alloc(), "a b # c").expect(&rt, "a text");
+    let pattern = owned(&rt, rt.alloc(), "a b # c");
     let mut options = RegexOptionsBuilder::new();
-    let spaced = options
-        .verbose_mode(true)
-        .build(pattern)
-        .expect(&rt, "a regex");
+    let read = options.verbose_mode(true).build(pattern);
+    let spaced = read.expect(&rt, "a regex");
     let found = first_span(&rt, &spaced, RegexInput::new("ab"));
     assert_eq!(rt; found, Some((0, 2)));
 }
@@ -144,43 +152,52 @@ fn named_groups_alone_are_captured(rt: HostRuntime) {
 }
 
 const LIMITED: &[CountedRow] = &[
-    ("(?:a|b)(?=c)", "bc", 0, None, 0),
-    ("(?:a|b)(?=c)", "bc", 1_000_000, Some(Some((0, 1))), 1),
+    (CHARACTERS, "(?:a|b)(?=c)", "bc", 0, None, 0),
+    (
+        CHARACTERS,
+        "(?:a|b)(?=c)",
+        "bc",
+        1_000_000,
+        Some(Some((0, 1))),
+        1,
+    ),
 ];
+
+const HARD: &[EasyRow] = &[(CHARACTERS, "(?:a|b)(?=c)", false)];
 
 #[test]
 fn limits_of_hard_patterns(rt: HostRuntime) {
-    for row in LIMITED {
-        check_counted(&rt, rt.alloc(), row);
-    }
-    let pattern = String::from_str(rt.alloc(), "a(?=b)").expect(&rt, "a text");
+    check_counted(&rt, rt.alloc(), LIMITED);
+    check_easy(&rt, rt.alloc(), HARD);
+}
+
+#[test]
+fn a_limit_of_size(rt: HostRuntime) {
+    let pattern = owned(&rt, rt.alloc(), "a(?=b)");
     let mut options = RegexOptionsBuilder::new();
     let refused = options.max_prog_size(0).build(pattern);
     assert!(rt; is_too_complex(&refused));
-    let hard = Regex::new(rt.alloc(), "(?:a|b)(?=c)").expect(&rt, "a regex");
-    assert!(rt; !hard.is_easy());
+}
+
+/// Checks where the first match stands in `ab`.
+fn check_built(rt: &impl Abort, read: fancy_regex::Result<Regex>, wanted: Span) {
+    let regex = read.expect(rt, "a regex");
+    let found = first_span(rt, &regex, RegexInput::new("ab"));
+    assert_eq!(rt; found, Some(wanted));
 }
 
 #[test]
 fn a_builder(rt: HostRuntime) {
     let mut builder = RegexBuilder::new(rt.alloc(), "a b").expect(&rt, "a builder");
-    let first = builder
-        .ignore_whitespace(true)
-        .build()
-        .expect(&rt, "a regex");
-    let found = first_span(&rt, &first, RegexInput::new("ab"));
-    assert_eq!(rt; found, Some((0, 2)));
-    let other = String::from_str(rt.alloc(), "b #").expect(&rt, "a text");
-    let second = builder.pattern(other).build().expect(&rt, "a regex");
-    let found = first_span(&rt, &second, RegexInput::new("ab"));
-    assert_eq!(rt; found, Some((1, 2)));
+    check_built(&rt, builder.ignore_whitespace(true).build(), (0, 2));
+    let other = owned(&rt, rt.alloc(), "b #");
+    check_built(&rt, builder.pattern(other).build(), (1, 2));
 }
 
 #[test]
 fn try_from(rt: HostRuntime) {
-    let pattern = String::from_str(rt.alloc(), "a|ab").expect(&rt, "a text");
-    let owned = Regex::try_from(pattern).expect(&rt, "a regex");
-    assert_eq!(rt; owned.as_str(), "a|ab");
+    let regex = Regex::try_from(owned(&rt, rt.alloc(), "a|ab")).expect(&rt, "a regex");
+    assert_eq!(rt; regex.as_str(), "a|ab");
 }
 
 const PAIRS: &[GroupsRow] = &[(
@@ -223,38 +240,34 @@ const LATER_GROUPS: &[LaterGroupsRow] = &[(
 
 #[test]
 fn groups(rt: HostRuntime) {
-    for row in PAIRS {
-        check_groups(&rt, rt.alloc(), row);
-    }
-    for row in NAMED_SPANS {
-        check_name(&rt, rt.alloc(), row);
-    }
-    for row in NAMES {
-        check_names(&rt, rt.alloc(), row);
-    }
-    for row in TEXTS {
-        check_texts_of_groups(&rt, rt.alloc(), row);
-    }
-    for row in GROUPS {
-        check_groups(&rt, rt.alloc(), row);
-    }
-    for row in LATER_GROUPS {
-        check_later_groups(&rt, rt.alloc(), row);
-    }
+    check_groups(&rt, rt.alloc(), PAIRS);
+    check_name(&rt, rt.alloc(), NAMED_SPANS);
+    check_names(&rt, rt.alloc(), NAMES);
+    check_texts_of_groups(&rt, rt.alloc(), TEXTS);
+    check_groups(&rt, rt.alloc(), GROUPS);
+    check_later_groups(&rt, rt.alloc(), LATER_GROUPS);
 }
 
 const LISTS: &[TextListRow] = &[("a|ab", "xabab", &[(1, 2), (3, 4)])];
 
 #[test]
 fn all_matches(rt: HostRuntime) {
-    for row in LISTS {
-        check_text_list(&rt, rt.alloc(), row);
-    }
-    let regex = Regex::new(rt.alloc(), "a|ab").expect(&rt, "a regex");
-    let mut matches = regex.find_iter_input(RegexInput::new("xabab").from_pos(2));
+    check_text_lists(&rt, rt.alloc(), LISTS);
+}
+
+#[test]
+fn a_list_of_matches(rt: HostRuntime) {
+    let regex = regex_of(&rt, rt.alloc(), "a|ab");
+    let matches = regex.find_iter_input(RegexInput::new("xabab").from_pos(2));
     assert_eq!(rt; matches.text(), "xabab");
     assert_eq!(rt; matches.regex().as_str(), "a|ab");
     assert_eq!(rt; matches.input().start(), 2);
+}
+
+#[test]
+fn one_match_after_the_other(rt: HostRuntime) {
+    let regex = regex_of(&rt, rt.alloc(), "a|ab");
+    let mut matches = regex.find_iter_input(RegexInput::new("xabab").from_pos(2));
     let next = matches.next().expect(&rt, "a match");
     assert_eq!(rt; span(next.expect(&rt, "a search")), (3, 4));
     assert_eq!(rt; matches.input().start(), 4);
@@ -269,10 +282,12 @@ const ALL_GROUPS: &[AllGroupsRow] = &[(
 
 #[test]
 fn groups_of_all_matches(rt: HostRuntime) {
-    for row in ALL_GROUPS {
-        check_all_groups(&rt, rt.alloc(), row);
-    }
-    let regex = Regex::new(rt.alloc(), "(a)|b").expect(&rt, "a regex");
+    check_all_groups(&rt, rt.alloc(), ALL_GROUPS);
+}
+
+#[test]
+fn groups_of_one_match_after_the_other(rt: HostRuntime) {
+    let regex = regex_of(&rt, rt.alloc(), "(a)|b");
     let input = RegexInput::new("ba").from_pos(1);
     let mut groups = regex.captures_iter_input(input);
     let next = groups.next().expect(&rt, "a match");
@@ -290,12 +305,8 @@ const FIRST_PIECES: &[FirstPiecesRow] = &[("a|ab", "xabab", 2, &["x", "bab"])];
 
 #[test]
 fn pieces(rt: HostRuntime) {
-    for row in PIECES {
-        check_pieces(&rt, rt.alloc(), row);
-    }
-    for row in FIRST_PIECES {
-        check_first_pieces(&rt, rt.alloc(), row);
-    }
+    check_pieces(&rt, rt.alloc(), PIECES);
+    check_first_pieces(&rt, rt.alloc(), FIRST_PIECES);
 }
 
 const REPLACED: &[ReplacedRow] = &[
@@ -306,10 +317,12 @@ const REPLACED: &[ReplacedRow] = &[
 
 #[test]
 fn replacement(rt: HostRuntime) {
-    for row in REPLACED {
-        check_replaced(&rt, rt.alloc(), row);
-    }
-    let regex = Regex::new(rt.alloc(), "a|ab").expect(&rt, "a regex");
+    check_replaced(&rt, rt.alloc(), REPLACED);
+}
+
+#[test]
+fn literal_replacement(rt: HostRuntime) {
+    let regex = regex_of(&rt, rt.alloc(), "a|ab");
     check_answer(&rt, regex.replace("xab", NoExpand("$0")), "x$0b");
     check_fixed(&rt, &mut NoExpand("$0"), Some("$0"));
     check_fixed(&rt, &mut "$0", None);
@@ -318,7 +331,7 @@ fn replacement(rt: HostRuntime) {
 #[test]
 fn a_lent_function_keeps_its_state(rt: HostRuntime) {
     let alloc = rt.alloc();
-    let regex = Regex::new(alloc, "a").expect(&rt, "a regex");
+    let regex = regex_of(&rt, alloc, "a");
     let mut calls = 0u32;
     let mut counting = ReplaceFn::new(|_captures: &Captures<'_, &str>| {
         calls = calls.wrapping_add(1);
@@ -346,14 +359,12 @@ fn templates(rt: HostRuntime) {
     check_templates(&rt, rt.alloc(), &Expander::python(), PYTHON_TEMPLATES);
     check_templates(&rt, rt.alloc(), &Expander::default(), TEMPLATES);
     check_expanded(&rt, rt.alloc(), TEMPLATES);
-    for row in CHECKS {
-        check_told(&rt, rt.alloc(), &Expander::default(), row);
-    }
+    check_told(&rt, rt.alloc(), &Expander::default(), CHECKS);
 }
 
 #[test]
 fn replace_append(rt: HostRuntime) {
-    let regex = Regex::new(rt.alloc(), "(b)").expect(&rt, "a regex");
+    let regex = regex_of(&rt, rt.alloc(), "(b)");
     let found = regex.captures("abc").expect(&rt, "a search");
     let captures = found.expect(&rt, "a match");
     let mut text = String::new(rt.alloc());
@@ -372,11 +383,10 @@ fn escapes(rt: HostRuntime) {
 
 #[test]
 fn work(rt: HostRuntime) {
-    let regex = Regex::new(rt.alloc(), "a|ab").expect(&rt, "a regex");
+    let regex = regex_of(&rt, rt.alloc(), "a|ab");
     let mut work = Work::new();
-    let counted = regex.find_input_counted(RegexInput::new("xab"), &mut work);
-    let found = counted.expect(&rt, "a search");
-    assert_eq!(rt; found.map(span), Some((1, 2)));
+    let found = counted(&rt, &regex, RegexInput::new("xab"), &mut work);
+    assert_eq!(rt; found.expect(&rt, "a search"), Some((1, 2)));
     assert!(rt; regex.is_easy());
     assert!(rt; work.steps() <= regex.code_len().saturating_mul(4));
 }
@@ -389,7 +399,5 @@ const REFUSED: &[FaultRow] = &[(
 
 #[test]
 fn a_refused_pattern(rt: HostRuntime) {
-    for row in REFUSED {
-        check_fault(&rt, rt.alloc(), row);
-    }
+    check_faults(&rt, rt.alloc(), REFUSED);
 }

@@ -1,18 +1,12 @@
 //! What is refused, and why.
 
 use crate::asking::{
-    ASCII_TEXT, BYTES, BYTES_WITHOUT_UNICODE, KindRow, Settings, check_kind, fault_of,
+    ASCII_TEXT, BYTES, BYTES_WITHOUT_UNICODE, KindRow, Settings, check_kinds, fault_of,
     is_too_complex, kind_of, read, read_many, read_nested,
 };
 use fancy_regex::ParseErrorKind;
 use std::alloc::Global;
 use std::process::Abort;
-
-fn check_kinds(rt: &impl Abort, alloc: Global, rows: &[KindRow]) {
-    for row in rows {
-        check_kind(rt, alloc, row);
-    }
-}
 
 const FAULTY_PATTERNS: &[KindRow] = &[
     ("a)", ParseErrorKind::GeneralParseError),

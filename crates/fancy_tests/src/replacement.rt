@@ -1,7 +1,7 @@
 //! What comes of a text whose matches are replaced.
 
-use crate::asking::{ReplacedRow, check_answer, check_fixed, check_replaced};
-use fancy_regex::{Captures, Error, NoExpand, Regex, ReplaceFn, Replacer, RuntimeError};
+use crate::asking::{ReplacedRow, check_answer, check_fixed, check_replaced, regex_of};
+use fancy_regex::{Captures, Error, NoExpand, ReplaceFn, Replacer, RuntimeError};
 use std::alloc::Global;
 use std::borrow::CowStr;
 use std::process::Abort;
@@ -39,9 +39,7 @@ const REPLACED: &[ReplacedRow] = &[
 
 #[test]
 fn texts_are_replaced(rt: HostRuntime) {
-    for row in REPLACED {
-        check_replaced(&rt, rt.alloc(), row);
-    }
+    check_replaced(&rt, rt.alloc(), REPLACED);
 }
 
 /// Whether the answer is the text itself, and no copy.
@@ -51,17 +49,17 @@ fn is_borrowed(answer: &fancy_regex::Result<CowStr<'_, Global>>, wanted: &str) -
 
 #[test]
 fn a_text_without_matches_is_borrowed(rt: HostRuntime) {
-    let regex = Regex::new(rt.alloc(), "x").expect(&rt, "a regex");
+    let regex = regex_of(&rt, rt.alloc(), "x");
     assert!(rt; is_borrowed(&regex.replace_all("abc", "$0"), "abc"));
     assert!(rt; is_borrowed(&regex.replace("abc", "y"), "abc"));
     assert!(rt; is_borrowed(&regex.replace_all("", NoExpand("y")), ""));
-    let same = Regex::new(rt.alloc(), "b").expect(&rt, "a regex");
+    let same = regex_of(&rt, rt.alloc(), "b");
     assert!(rt; matches!(same.replace_all("abc", "b"), Ok(CowStr::Owned(_))));
 }
 
 #[test]
 fn literal_texts_are_not_expanded(rt: HostRuntime) {
-    let regex = Regex::new(rt.alloc(), "([^,\\s]+),\\s+(\\S+)").expect(&rt, "a regex");
+    let regex = regex_of(&rt, rt.alloc(), "([^,\\s]+),\\s+(\\S+)");
     let replaced = regex.replace_all("Springsteen, Bruce", NoExpand("$2 $last"));
     check_answer(&rt, replaced, "$2 $last");
     check_fixed(&rt, &mut NoExpand("$2"), Some("$2"));
@@ -85,7 +83,7 @@ fn swapped(alloc: Global, captures: &Captures<'_, &str>) -> fancy_regex::Result<
 #[test]
 fn functions_replace(rt: HostRuntime) {
     let alloc = rt.alloc();
-    let regex = Regex::new(alloc, "([^,\\s]+),\\s+(\\S+)").expect(&rt, "a regex");
+    let regex = regex_of(&rt, alloc, "([^,\\s]+),\\s+(\\S+)");
     let swap = ReplaceFn::new(|captures: &Captures<'_, &str>| swapped(alloc, captures));
     let replaced = regex.replace("Springsteen, Bruce", swap);
     check_answer(&rt, replaced, "Bruce Springsteen");
@@ -110,7 +108,7 @@ fn is_second_error(answer: &fancy_regex::Result<CowStr<'_, Global>>) -> bool {
 #[test]
 fn an_error_of_a_replacer_is_the_answer(rt: HostRuntime) {
     let alloc = rt.alloc();
-    let regex = Regex::new(alloc, "a").expect(&rt, "a regex");
+    let regex = regex_of(&rt, alloc, "a");
     let mut calls = 0u32;
     let mut failing = ReplaceFn::new(|_captures: &Captures<'_, &str>| {
         calls = calls.wrapping_add(1);
@@ -128,9 +126,9 @@ fn an_error_of_a_replacer_is_the_answer(rt: HostRuntime) {
 }
 
 #[test]
-fn a_replacer_behind_a_reference_goes_on(rt: HostRuntime) {
+fn a_replacer_by_reference_goes_on(rt: HostRuntime) {
     let alloc = rt.alloc();
-    let regex = Regex::new(alloc, "a").expect(&rt, "a regex");
+    let regex = regex_of(&rt, alloc, "a");
     let mut calls = 0u32;
     let mut failing = ReplaceFn::new(|_captures: &Captures<'_, &str>| {
         calls = calls.wrapping_add(1);

@@ -2,7 +2,7 @@
 
 use crate::asking::{
     ASCII_TEXT, BYTES, BYTES_WITHOUT_UNICODE, BytesRow, CHARACTERS, CHARACTERS_ANYWHERE, Settings,
-    TextRow, check_span, check_texts, first_span, regex_with,
+    TextRow, check_spans, check_texts, first_span, regex_with,
 };
 use fancy_regex::{Regex, RegexInput};
 use std::alloc::Global;
@@ -108,7 +108,7 @@ const POSIX_SETS: &[SetRow] = &[
     ),
 ];
 
-/// The sets of letters behind a backslash, with their members in ASCII.
+/// The sets of letters after a backslash, with their members in ASCII.
 const LETTERED_SETS: &[SetRow] = &[
     ("\\d", "\\D", &[(0x30, 0x39)]),
     ("\\s", "\\S", &[(0x09, 0x0D), (0x20, 0x20)]),
@@ -282,7 +282,5 @@ const ITEMS: &[BytesRow] = &[
 
 #[test]
 fn items_of_sets_are_characters_or_bytes(rt: HostRuntime) {
-    for row in ITEMS {
-        check_span(&rt, rt.alloc(), row);
-    }
+    check_spans(&rt, rt.alloc(), ITEMS);
 }

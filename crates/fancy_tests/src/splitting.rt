@@ -4,9 +4,9 @@
 
 use crate::asking::{
     BYTES, CHARACTERS, CHARACTERS_ANYWHERE, FirstPiecesRow, PiecesRow, check_first_pieces,
-    check_pieces, regex_with,
+    check_pieces, regex_of, regex_with,
 };
-use fancy_regex::{Regex, RegexInput, Split, SplitN};
+use fancy_regex::{RegexInput, Split, SplitN};
 use std::process::Abort;
 
 const PIECES: &[PiecesRow] = &[
@@ -36,9 +36,7 @@ const PIECES: &[PiecesRow] = &[
 
 #[test]
 fn splits_at_matches(rt: HostRuntime) {
-    for row in PIECES {
-        check_pieces(&rt, rt.alloc(), row);
-    }
+    check_pieces(&rt, rt.alloc(), PIECES);
 }
 
 const FIRST_PIECES: &[FirstPiecesRow] = &[
@@ -71,9 +69,7 @@ const FIRST_PIECES: &[FirstPiecesRow] = &[
 
 #[test]
 fn splits_up_to_a_limit(rt: HostRuntime) {
-    for row in FIRST_PIECES {
-        check_first_pieces(&rt, rt.alloc(), row);
-    }
+    check_first_pieces(&rt, rt.alloc(), FIRST_PIECES);
 }
 
 /// Checks that these are the pieces left, and that the split then stays ended.
@@ -96,7 +92,7 @@ fn check_the_first(rt: &impl Abort, mut split: SplitN<'_, '_>, pieces: &[&str]) 
 
 #[test]
 fn an_ended_split_stays_ended(rt: HostRuntime) {
-    let regex = Regex::new(rt.alloc(), ",").expect(&rt, "a regex");
+    let regex = regex_of(&rt, rt.alloc(), ",");
     check_the_rest(&rt, regex.split("1,2"), &["1", "2"]);
     check_the_first(&rt, regex.splitn("1,2", 9), &["1", "2"]);
     check_the_first(&rt, regex.splitn("1,2", 1), &["1,2"]);
@@ -105,7 +101,7 @@ fn an_ended_split_stays_ended(rt: HostRuntime) {
 
 #[test]
 fn pieces_are_counted(rt: HostRuntime) {
-    let regex = Regex::new(rt.alloc(), ",").expect(&rt, "a regex");
+    let regex = regex_of(&rt, rt.alloc(), ",");
     assert_eq!(rt; regex.split("1,2,3").count(), 3);
     assert_eq!(rt; regex.splitn("1,2,3", 2).count(), 2);
 }

@@ -2,8 +2,9 @@
 
 use crate::asking::{
     CheckedRow, TemplateRow, Told, check_escaped, check_expanded, check_templates, check_told,
+    regex_of,
 };
-use fancy_regex::{Expander, Regex, escape};
+use fancy_regex::{Expander, escape};
 use fancy_template::steps::Step;
 use fancy_template::write::write_whole;
 use std::alloc::Global;
@@ -21,7 +22,7 @@ fn shown(alloc: Global, step: Step<'_>) -> fancy_regex::Result<String> {
     Ok(text)
 }
 
-/// Checks the steps of a template, shown one behind the other.
+/// Checks the steps of a template, shown one after another.
 fn check_steps(rt: &impl Abort, alloc: Global, expander: &Expander, template: &str, wanted: &str) {
     let mut all = String::new(alloc);
     for step in expander.steps(template) {
@@ -102,7 +103,7 @@ fn templates_expand(rt: HostRuntime) {
 #[test]
 fn captures_of_owned_text_expand(rt: HostRuntime) {
     let haystack = String::from_str(rt.alloc(), "éab").expect(&rt, "a text");
-    let regex = Regex::new(rt.alloc(), "(é)(x)?a").expect(&rt, "a regex");
+    let regex = regex_of(&rt, rt.alloc(), "(é)(x)?a");
     let found = regex.captures(&haystack).expect(&rt, "a search");
     let captures = found.expect(&rt, "a match");
     let answer = Expander::default().expansion("$2[$1]$0", &captures);
@@ -143,12 +144,8 @@ const PYTHON_CHECKS: &[CheckedRow] = &[
 
 #[test]
 fn the_first_faulty_step_is_told(rt: HostRuntime) {
-    for row in DOLLAR_CHECKS {
-        check_told(&rt, rt.alloc(), &Expander::default(), row);
-    }
-    for row in PYTHON_CHECKS {
-        check_told(&rt, rt.alloc(), &Expander::python(), row);
-    }
+    check_told(&rt, rt.alloc(), &Expander::default(), DOLLAR_CHECKS);
+    check_told(&rt, rt.alloc(), &Expander::python(), PYTHON_CHECKS);
 }
 
 /// Texts, and what stands for them in a pattern.
@@ -223,7 +220,7 @@ impl io::Write for Narrow {
 
 /// Writes an expansion of three bytes to a writer that takes `left` of them.
 fn check_writer(rt: &impl Abort, alloc: Global, most: usize, left: usize, fails: bool) {
-    let regex = Regex::new(alloc, "(b)").expect(rt, "a regex");
+    let regex = regex_of(rt, alloc, "(b)");
     let found = regex.captures("abc").expect(rt, "a search");
     let captures = found.expect(rt, "a match");
     let mut writer = Narrow {
@@ -256,7 +253,7 @@ fn a_fault_ends_the_writing(rt: HostRuntime) {
 
 #[test]
 fn nothing_is_written_for_nothing(rt: HostRuntime) {
-    let regex = Regex::new(rt.alloc(), "(b)|c").expect(&rt, "a regex");
+    let regex = regex_of(&rt, rt.alloc(), "(b)|c");
     let found = regex.captures("c").expect(&rt, "a search");
     let captures = found.expect(&rt, "a match");
     for template in &["", "$1", "$7$x"] {

@@ -1,6 +1,6 @@
 //! What searches count: the instructions that they fetch, and the saved branches that they take.
 //!
-//! The counts were worked out by hand. The code of a pattern was written down in the order in which `compile` emits it, behind
+//! The counts were worked out by hand. The code of a pattern was written down in the order in which `compile` emits it, after
 //! `0 Match` and `1 Fail`; a comment above each row has the instructions that the search reaches. Then the code was followed over
 //! the text from one position to the next, with each pair of an instruction and a place as one step where it is met first.
 
@@ -38,10 +38,6 @@ const HARD_SEARCHES: &[WorkRow] = &[
 #[test]
 fn work_is_counted(rt: HostRuntime) {
     let mut work = Work::new();
-    for row in EASY_SEARCHES {
-        check_work(&rt, rt.alloc(), row, &mut work);
-    }
-    for row in HARD_SEARCHES {
-        check_work(&rt, rt.alloc(), row, &mut work);
-    }
+    check_work(&rt, rt.alloc(), EASY_SEARCHES, &mut work);
+    check_work(&rt, rt.alloc(), HARD_SEARCHES, &mut work);
 }

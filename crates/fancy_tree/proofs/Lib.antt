@@ -4,13 +4,13 @@ pub mod SizeLemmas
 pub mod PartLemmas
 pub mod FittingLemmas
 pub mod EmptyLemmas
-pub mod BehindLemmas
+pub mod LookBehindLemmas
 pub mod RefersLemmas
 pub mod RefersFacts
 pub mod NameLemmas
 pub mod EdgesLemmas
 pub mod SetLemmas
-pub mod BitLemmas
+pub mod CharSetLemmas
 pub mod PropertyLetters
 pub mod CanonicalLemmas
 pub mod SharingLemmas

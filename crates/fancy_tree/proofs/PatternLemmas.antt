@@ -2,8 +2,10 @@
 use Rattle.std.proofs.Common.{◌≡◌, ℕ, Bool, map, Option, Vec, Box, Global, sym, ap, ◌∙◌}
 use Rattle.fancy_tree.specs.declared.tree.Assertion.{Assertion}
 use Rattle.fancy_tree.specs.declared.tree.Taste.{Taste}
+use Rattle.fancy_tree.specs.declared.set.Set.{Set}
 use Rattle.fancy_tree.specs.declared.tree.Tree.{Tree, Tree-F, fold-roll-Tree}
 use Rattle.fancy_tree.specs.declared.tree.Tree.TheVariants as made
+use Rattle.fancy_tree.specs.Members.{edges_of}
 use Rattle.fancy_tree.specs.Pattern.{Pattern, empty, raw_byte, backreference, assertion, group_test, keep_start, continue_here, group, repeat, look_ahead, look_behind, atomic, conditional, in_sequence, in_choice, node_pattern, character, member_of, in_any_case, pattern_of}
 
 pub pattern-Empty : pattern_of made.Empty ≡ empty
@@ -20,15 +22,15 @@ pub pattern-Character : (c : ℕ) →
 pattern-Character c =
     ap pattern_of (sym (made.rolls-Character c)) ∙ fold-roll-Tree Pattern node_pattern (Tree-F.Character c)
 
-pub pattern-Member : (edges : Vec ℕ Global) →
-    pattern_of (made.Member edges) ≡ member_of edges.items
-pattern-Member edges =
-    ap pattern_of (sym (made.rolls-Member edges)) ∙ fold-roll-Tree Pattern node_pattern (Tree-F.Member edges)
+pub pattern-Member : (set : Set) →
+    pattern_of (made.Member set) ≡ member_of (edges_of set)
+pattern-Member set =
+    ap pattern_of (sym (made.rolls-Member set)) ∙ fold-roll-Tree Pattern node_pattern (Tree-F.Member set)
 
-pub pattern-InAnyCase : (edges : Vec ℕ Global) →
-    pattern_of (made.InAnyCase edges) ≡ in_any_case edges.items
-pattern-InAnyCase edges =
-    ap pattern_of (sym (made.rolls-InAnyCase edges)) ∙ fold-roll-Tree Pattern node_pattern (Tree-F.InAnyCase edges)
+pub pattern-InAnyCase : (set : Set) →
+    pattern_of (made.InAnyCase set) ≡ in_any_case (edges_of set)
+pattern-InAnyCase set =
+    ap pattern_of (sym (made.rolls-InAnyCase set)) ∙ fold-roll-Tree Pattern node_pattern (Tree-F.InAnyCase set)
 
 pub pattern-RawByte : (byte : ℕ) →
     pattern_of (made.RawByte byte) ≡ raw_byte byte

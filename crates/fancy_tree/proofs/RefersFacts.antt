@@ -3,7 +3,7 @@ use Rattle.std.proofs.Common.{◌≡◌, ℕ, ◌+◌, refl, ap, ap₂}
 use Rattle.fancy_tree.specs.declared.tree.Meaning.{Meaning}
 use Rattle.fancy_tree.specs.Pattern.{Pattern, empty, character, member_of, in_any_case, raw_byte, backreference, assertion, group_test, keep_start, continue_here, group, repeat, look_ahead, look_behind, atomic, conditional, followed, or_else, last_branch}
 use Rattle.fancy_tree.specs.Sizes.{size, is_empty, plus_size, common_size, repeat_size}
-use Rattle.fancy_tree.specs.Groups.{Numbered}
+use Rattle.fancy_tree.specs.GroupNumbers.{Numbered}
 use Rattle.fancy_tree.specs.Refers.{refers_to}
 
 pub numbered-refers_to : (f : ℕ → ℕ) (lo hi : ℕ) (p : Pattern) → Numbered lo hi p → Numbered lo hi (refers_to f p)

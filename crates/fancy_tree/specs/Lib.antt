@@ -6,10 +6,10 @@ pub mod SetViews
 pub mod Pattern
 pub mod Sizes
 pub mod Refers
-pub mod Groups
+pub mod GroupNumbers
 pub mod Names
 pub mod Members
 pub mod Widening
 pub mod Named
 pub mod Properties
-pub mod Low
+pub mod CharSet

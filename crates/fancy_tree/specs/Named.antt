@@ -54,5 +54,5 @@ is_unicode Unicode = true
 is_unicode _ = false
 
 -- the members of a set with a name
-abbrev pub named : Meaning → Named → ℕ → Bool
-named m n c = if is_unicode m && is_wide n then in_universe Unicode c && in_wide n c else in_ranges (ascii_ranges n) c
+abbrev pub in_named_set : Meaning → Named → ℕ → Bool
+in_named_set m n c = if is_unicode m && is_wide n then in_universe Unicode c && in_wide n c else in_ranges (ascii_ranges n) c

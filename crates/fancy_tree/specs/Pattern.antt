@@ -5,6 +5,7 @@ use Rattle.fancy_tree.specs.declared.tree.Taste.{Taste}
 use Rattle.fancy_tree.specs.declared.tree.Tree.{Tree}
 use Rattle.fancy_tree.specs.declared.tree.Tree.TheOpen.{Tree-F}
 use Rattle.fancy_tree.specs.declared.tree.Tree.TheFolds.{fold-Tree}
+use Rattle.fancy_tree.specs.Members.{edges_of}
 
 pub data Pattern : Type 0 where
   -- consumes nothing, and always holds
@@ -64,8 +65,8 @@ in_branches (p ∷ q ∷ rest) = in_choice (p ∷ q ∷ rest)
 abbrev pub node_pattern : Tree-F Pattern → Pattern
 node_pattern Tree-F.Empty = empty
 node_pattern (Tree-F.Character c) = character c
-node_pattern (Tree-F.Member edges) = member_of edges.items
-node_pattern (Tree-F.InAnyCase edges) = in_any_case edges.items
+node_pattern (Tree-F.Member set) = member_of (edges_of set)
+node_pattern (Tree-F.InAnyCase set) = in_any_case (edges_of set)
 node_pattern (Tree-F.RawByte byte) = raw_byte byte
 node_pattern (Tree-F.Backreference folded number) = backreference folded number
 node_pattern (Tree-F.Assertion a) = assertion a

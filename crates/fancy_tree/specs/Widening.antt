@@ -27,7 +27,7 @@ abbrev pub ascii_pairs : List (ℕ × ℕ)
 ascii_pairs = zip capitals small_letters ++ zip small_letters capitals
 
 -- what flag `i` makes of a set
-abbrev pub widened : Meaning → (ℕ → Bool) → ℕ → Bool
-widened Unicode p c = p c || in_pairs fold_pairs p c
-widened Bytes p c = p c || in_pairs ascii_pairs p c
-widened AsciiText p c = p c || in_pairs ascii_pairs p c
+abbrev pub case_closure : Meaning → (ℕ → Bool) → ℕ → Bool
+case_closure Unicode p c = p c || in_pairs fold_pairs p c
+case_closure Bytes p c = p c || in_pairs ascii_pairs p c
+case_closure AsciiText p c = p c || in_pairs ascii_pairs p c

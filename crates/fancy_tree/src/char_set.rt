@@ -1,7 +1,7 @@
 //! Sets that are asked often.
 
 ghost use Rattle.std.specs.Prelude.{◌≡◌, ◌≢◌, ◌↔◌, ◌<◌, ◌*◌, ℕ, true, IsTrue, length};
-ghost use Rattle.fancy_tree.specs.Low.{bit, IsLow};
+ghost use Rattle.fancy_tree.specs.CharSet.{bit, IsLow};
 
 use crate::set::Set;
 
@@ -32,7 +32,7 @@ fn mark(words: &mut [u64], i: usize)
 }
 
 impl CharSet {
-    ghost use Rattle.fancy_tree.specs.Members.{members};
+    ghost use Rattle.fancy_tree.specs.Members.{edges_of, members};
 
     /// The set with its table.
     pub fn new(set: Set) -> CharSet
@@ -45,6 +45,13 @@ impl CharSet {
             }
         }
         CharSet { low, set }
+    }
+
+    /// Whether it has the members of this set.
+    pub fn is_of(&self, set: &Set) -> bool
+        ensures { IsTrue result → edges_of self.now.set ≡ edges_of set.now }
+    {
+        self.set.is_same(set)
     }
 
     /// Whether this number is a member: by the table below 256, else by binary search.

@@ -1,9 +1,9 @@
 //! What a pattern is: its tree, the sets of numbers in it and the names of its groups; and why it, or a search, is refused.
 #![tactic(auto)]
 
-mod behind;
 pub mod char_set;
 pub mod error;
+mod look_behind;
 pub mod measure;
 pub mod name;
 pub mod named;

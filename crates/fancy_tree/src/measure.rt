@@ -171,7 +171,7 @@ pub fn are_empty(first: &Tree, second: &Tree) -> bool
     first.is_empty() && second.is_empty()
 }
 
-/// The size of parts that stand one behind the other.
+/// The size of parts that follow one another.
 #[cycle(size)]
 fn size_of_sequence(parts: &[Tree], meaning: Meaning) -> Option<usize>
     ensures { result ≡ fitting_size (size meaning (in_sequence (map pattern_of parts.now))) }

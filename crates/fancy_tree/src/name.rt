@@ -38,7 +38,7 @@ pub fn is_name_character(c: char) -> bool
 /// The row of such characters that stands first, perhaps empty, and what follows it.
 pub fn split_name(text: &[char]) -> (&[char], &[char])
     ensures name { result.0.now ≡ name_here text.now }
-    ensures behind { result.1.now ≡ past_name text.now }
+    ensures after { result.1.now ≡ past_name text.now }
 {
     for (i, c) in text.iter().enumerate() {
         if !is_name_character(*c) {

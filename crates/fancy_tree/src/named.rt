@@ -3,7 +3,7 @@
 ghost use Rattle.std.specs.Prelude.{◌≡◌, ℕ, ◌&&◌, IfOk};
 ghost use Rattle.unicode.specs.Rows.{in_ranges, HasExactly};
 ghost use Rattle.fancy_tree.specs.Members.{members};
-ghost use Rattle.fancy_tree.specs.Named.{named, is_unicode, is_wide, in_wide, ascii_ranges, universe_ranges, in_universe};
+ghost use Rattle.fancy_tree.specs.Named.{in_named_set, is_unicode, is_wide, in_wide, ascii_ranges, universe_ranges, in_universe};
 
 use crate::operation::Operation;
 use crate::set::Set;
@@ -89,7 +89,7 @@ pub(crate) fn characters(alloc: Global, ranges: &[(u32, u32)]) -> Result<Set, Al
 {
     let all = universe(alloc, Meaning::Unicode)?;
     let found = Set::from_ranges(alloc, ranges)?;
-    all.combined(Operation::Intersection, &found)
+    all.combine(Operation::Intersection, &found)
 }
 
 fn is_unicode(meaning: Meaning) -> bool
@@ -124,7 +124,7 @@ fn wide_ranges(alloc: Global, which: Named) -> Result<Vec<(u32, u32)>, AllocErro
 
 /// The members of a set with a name.
 pub fn members_of(alloc: Global, meaning: Meaning, which: Named) -> Result<Set, AllocError>
-    ensures { IfOk result (λ s. (c : ℕ) → members s c ≡ named meaning which c) }
+    ensures { IfOk result (λ s. (c : ℕ) → members s c ≡ in_named_set meaning which c) }
 {
     if is_wide_in(meaning, which) {
         characters(alloc, &wide_ranges(alloc, which)?)

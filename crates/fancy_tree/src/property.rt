@@ -52,11 +52,18 @@ pub fn property_members(alloc: Global, property: PropertySet) -> Result<Set, All
 
 /// A name of one letter is that of a group of general categories, in either case.
 pub fn property_letters_law()
-    ensures letter { (property_named (76 ∷ []) ≡ Some (CategoryGroup Letter)) × (property_named (108 ∷ []) ≡ Some (CategoryGroup Letter)) }
-    ensures mark { (property_named (77 ∷ []) ≡ Some (CategoryGroup Mark)) × (property_named (109 ∷ []) ≡ Some (CategoryGroup Mark)) }
-    ensures number { (property_named (78 ∷ []) ≡ Some (CategoryGroup Number)) × (property_named (110 ∷ []) ≡ Some (CategoryGroup Number)) }
-    ensures punctuation { (property_named (80 ∷ []) ≡ Some (CategoryGroup Punctuation)) × (property_named (112 ∷ []) ≡ Some (CategoryGroup Punctuation)) }
-    ensures symbol { (property_named (83 ∷ []) ≡ Some (CategoryGroup Symbol)) × (property_named (115 ∷ []) ≡ Some (CategoryGroup Symbol)) }
-    ensures separator { (property_named (90 ∷ []) ≡ Some (CategoryGroup Separator)) × (property_named (122 ∷ []) ≡ Some (CategoryGroup Separator)) }
-    ensures other { (property_named (67 ∷ []) ≡ Some (CategoryGroup Other)) × (property_named (99 ∷ []) ≡ Some (CategoryGroup Other)) }
+    ensures letter { (property_named (76 ∷ []) ≡ Some (CategoryGroup Letter))
+        × (property_named (108 ∷ []) ≡ Some (CategoryGroup Letter)) }
+    ensures mark { (property_named (77 ∷ []) ≡ Some (CategoryGroup Mark))
+        × (property_named (109 ∷ []) ≡ Some (CategoryGroup Mark)) }
+    ensures number { (property_named (78 ∷ []) ≡ Some (CategoryGroup Number))
+        × (property_named (110 ∷ []) ≡ Some (CategoryGroup Number)) }
+    ensures punctuation { (property_named (80 ∷ []) ≡ Some (CategoryGroup Punctuation))
+        × (property_named (112 ∷ []) ≡ Some (CategoryGroup Punctuation)) }
+    ensures symbol { (property_named (83 ∷ []) ≡ Some (CategoryGroup Symbol))
+        × (property_named (115 ∷ []) ≡ Some (CategoryGroup Symbol)) }
+    ensures separator { (property_named (90 ∷ []) ≡ Some (CategoryGroup Separator))
+        × (property_named (122 ∷ []) ≡ Some (CategoryGroup Separator)) }
+    ensures other { (property_named (67 ∷ []) ≡ Some (CategoryGroup Other))
+        × (property_named (99 ∷ []) ≡ Some (CategoryGroup Other)) }
 {}

@@ -1,6 +1,6 @@
 //! Sets of numbers.
 
-ghost use Rattle.std.specs.Prelude.{◌≡◌, ◌||◌, ℕ, ◌+◌, ◌<◌, ◌≤◌, ◌⊎◌, [], ◌&&◌, false, length, slice_index, nat_le, IfOk, MatchOption};
+ghost use Rattle.std.specs.Prelude.{◌≡◌, ◌||◌, ℕ, ◌+◌, ◌<◌, ◌≤◌, ◌⊎◌, [], ◌&&◌, false, length, slice_index, nat_le, IfOk, IsTrue, MatchOption};
 ghost use Rattle.unicode.specs.Rows.{in_ranges};
 ghost use Rattle.fancy_tree.specs.Sets.{has, is_odd, in_range, AreRising, AreEdges};
 ghost use Rattle.fancy_tree.specs.SetViews.{Cut, IsNearest};
@@ -37,7 +37,7 @@ fn edges_to(edges: &[u32], c: u32) -> usize
 }
 
 /// The next edge of either list.
-fn nearest(a: &[u32], i: usize, b: &[u32], j: usize) -> Option<u32>
+fn next_edge(a: &[u32], i: usize, b: &[u32], j: usize) -> Option<u32>
     requires a_rises { AreRising a.now }
     requires b_rises { AreRising b.now }
     ensures { MatchOption result ((length a.now ≤ i) × (length b.now ≤ j)) (λ at. IsNearest a.now i b.now j at) }
@@ -51,7 +51,7 @@ fn nearest(a: &[u32], i: usize, b: &[u32], j: usize) -> Option<u32>
 }
 
 /// The place after the edge `at`, where it stands next.
-fn past(edges: &[u32], i: usize, at: u32) -> usize
+fn skip_edge(edges: &[u32], i: usize, at: u32) -> usize
     requires rising { AreRising edges.now }
     requires cut { Cut edges.now i at }
     ensures cut { Cut edges.now result (at + 1) }
@@ -71,7 +71,8 @@ impl Set {
 
     /// The set without members.
     pub fn empty(alloc: Global) -> Set
-        ensures { (c : ℕ) → members result c ≡ false }
+        ensures none { (c : ℕ) → members result c ≡ false }
+        ensures edges { edges_of result ≡ [] }
     {
         Set {
             edges: Vec::new(alloc),
@@ -91,20 +92,20 @@ impl Set {
         })
     }
 
-    /// The set that begins and ends at these numbers in turn.
-    pub fn from_edges(edges: Vec<u32>) -> Set
-        requires { AreEdges edges.items }
-        ensures { edges_of result ≡ edges.items }
+    /// The same set once more.
+    pub fn copied(&self) -> Result<Set, AllocError>
+        ensures { IfOk result (λ s. edges_of s ≡ edges_of self.now) }
     {
-        Set { edges }
+        Ok(Set {
+            edges: self.edges.to_vec(*self.edges.allocator())?,
+        })
     }
 
-    /// The numbers at which the set begins and ends in turn. They rise.
-    pub fn into_edges(self) -> Vec<u32>
-        ensures edges { result.items ≡ edges_of self }
-        ensures rising { AreEdges result.items }
+    /// Whether both sets have the same members.
+    pub fn is_same(&self, other: &Set) -> bool
+        ensures { IsTrue result → edges_of self.now ≡ edges_of other.now }
     {
-        self.edges
+        self.edges == other.edges
     }
 
     /// Whether this number is a member.
@@ -115,7 +116,7 @@ impl Set {
     }
 
     /// The numbers that the operation keeps. One walk over the edges of both sets.
-    pub fn combined(&self, how: Operation, other: &Set) -> Result<Set, AllocError>
+    pub fn combine(&self, how: Operation, other: &Set) -> Result<Set, AllocError>
         ensures { IfOk result (λ s. (c : ℕ) → members s c ≡ applied how (members self.now c) (members other.now c)) }
     {
         let a: &[u32] = &self.edges;
@@ -123,9 +124,9 @@ impl Set {
         let mut edges = Vec::new(*self.edges.allocator());
         let mut i = 0;
         let mut j = 0;
-        while let Some(at) = nearest(a, i, b, j) {
-            i = past(a, i, at);
-            j = past(b, j, at);
+        while let Some(at) = next_edge(a, i, b, j) {
+            i = skip_edge(a, i, at);
+            j = skip_edge(b, j, at);
             let turns = how.keeps(i % 2 == 1, j % 2 == 1) != (edges.len() % 2 == 1);
             if turns {
                 edges.push(at)?;
@@ -149,7 +150,7 @@ impl Set {
         let (left, right) = ranges.split_at(len / 2);
         let left = Set::from_ranges(alloc, left)?;
         let right = Set::from_ranges(alloc, right)?;
-        left.combined(Operation::Union, &right)
+        left.combine(Operation::Union, &right)
     }
 
     /// The members as ranges in order, which hold both their ends.
@@ -178,6 +179,6 @@ impl Set {
             }
         }
         let others = Set::from_ranges(alloc, &others)?;
-        self.combined(Operation::Union, &others)
+        self.combine(Operation::Union, &others)
     }
 }

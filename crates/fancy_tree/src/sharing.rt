@@ -5,13 +5,13 @@ ghost use Rattle.std.specs.List.Sorted.{IsNonDecreasingBy};
 ghost use Rattle.unicode.specs.CaseFolding.{fold_pairs};
 ghost use Rattle.fancy_tree.specs.Sets.{in_range};
 ghost use Rattle.fancy_tree.specs.Members.{members};
-ghost use Rattle.fancy_tree.specs.Widening.{widened, in_pairs};
+ghost use Rattle.fancy_tree.specs.Widening.{case_closure, in_pairs};
 ghost use Rattle.fancy_tree.specs.SetViews.{PairsCut, first_of, second_alone};
 
 use crate::operation::Operation;
 use crate::set::Set;
 use crate::tree::Meaning;
-use crate::widening::widened;
+use crate::widening::case_closure;
 use std::alloc::{AllocError, Global};
 use unicode::case::fold_pairs;
 
@@ -54,12 +54,12 @@ fn partners(alloc: Global, c: char) -> Result<Set, AllocError>
 
 /// The character with those that share its simple folding; outside Unicode meaning, an ASCII letter in
 /// both cases.
-pub fn sharing(alloc: Global, meaning: Meaning, c: char) -> Result<Set, AllocError>
-    ensures { IfOk result (λ s. (x : ℕ) → members s x ≡ widened meaning (in_range (c, c)) x) }
+pub fn case_variants(alloc: Global, meaning: Meaning, c: char) -> Result<Set, AllocError>
+    ensures { IfOk result (λ s. (x : ℕ) → members s x ≡ case_closure meaning (in_range (c, c)) x) }
 {
     let one = Set::range(alloc, c as u32, c as u32)?;
     match meaning {
-        Meaning::Unicode => one.combined(Operation::Union, &partners(alloc, c)?),
-        Meaning::Bytes | Meaning::AsciiText => widened(meaning, &one),
+        Meaning::Unicode => one.combine(Operation::Union, &partners(alloc, c)?),
+        Meaning::Bytes | Meaning::AsciiText => case_closure(meaning, &one),
     }
 }

@@ -4,6 +4,8 @@ ghost use Rattle.std.specs.Prelude.{◌≡◌};
 ghost use Rattle.fancy_tree.specs.Modes.{meaning_of, keeps_characters};
 ghost use Rattle.fancy_tree.specs.declared.tree.BytesMode.TheVariants.{Unicode as ByCharacters};
 
+use crate::set::Set;
+
 /// How bytes are read, in the pattern and in the haystack.
 ///
 /// | Mode | An item is | with the Unicode mode off | A match begins and ends |
@@ -71,11 +73,11 @@ pub enum Assertion {
     TextStart,
     /// The text's end.
     TextEnd,
-    /// The text's start, or behind a line feed.
+    /// The text's start, or after a line feed.
     LineStart,
     /// The text's end, or before a line feed.
     LineEnd,
-    /// The text's start, behind a line feed, or behind a carriage return that no line feed follows.
+    /// The text's start, after a line feed, or after a carriage return that no line feed follows.
     LineStartCrlf,
     /// The text's end, before a carriage return, or before a line feed that no carriage return precedes.
     LineEndCrlf,
@@ -83,17 +85,17 @@ pub enum Assertion {
     LastLine,
     /// Only line feeds follow, each perhaps with a carriage return before it, if anything.
     LastLineCrlf,
-    /// A word character stands before or behind the place, but not both.
+    /// A word character stands before or after the place, but not both.
     WordBoundary,
-    /// Word characters stand before and behind the place, or neither.
+    /// Word characters stand before and after the place, or neither.
     NotWordBoundary,
-    /// No word character stands before the place, and one behind it.
+    /// No word character stands before the place, and one after it.
     WordStart,
-    /// A word character stands before the place, and none behind it.
+    /// A word character stands before the place, and none after it.
     WordEnd,
     /// No word character stands before the place.
     WordStartHalf,
-    /// No word character stands behind the place.
+    /// No word character stands after the place.
     WordEndHalf,
 }
 
@@ -116,11 +118,10 @@ pub enum Tree {
     Empty,
     /// One item, a character or in byte meaning a byte, with this code.
     Character(char),
-    /// One item of a set, which these rising numbers begin and end in turn.
-    Member(Vec<u32>),
-    /// A literal under flag `i`: one item of the set of what that flag takes for the literal's character, by the edges of
-    /// this set.
-    InAnyCase(Vec<u32>),
+    /// One item of a set.
+    Member(Set),
+    /// A literal under flag `i`: one item of the set of what that flag takes for the literal's character.
+    InAnyCase(Set),
     /// One byte, in any meaning.
     RawByte(u8),
     /// The text of the group with this number; where it is folded, as flag `i` compares it.
@@ -148,7 +149,7 @@ pub enum Tree {
         taste: Taste,
         body: Box<Tree>,
     },
-    /// The body stands behind the place, or does not where it is negated.
+    /// The body stands after the place, or does not where it is negated.
     LookAhead {
         negated: bool,
         body: Box<Tree>,
@@ -160,13 +161,13 @@ pub enum Tree {
     },
     /// The first outcome of the body, and no other.
     Atomic(Box<Tree>),
-    /// The first branch behind the condition, or without it the second.
+    /// The first branch after the condition, or without it the second.
     Conditional {
         condition: Box<Tree>,
         on_match: Box<Tree>,
         otherwise: Box<Tree>,
     },
-    /// One part behind the other.
+    /// One part after another.
     Sequence(Vec<Tree>),
     /// One of the branches, an earlier one first.
     Alternative(Vec<Tree>),

@@ -2,7 +2,7 @@
 
 ghost use Rattle.std.specs.Prelude.{◌≡◌, ◌↔◌, ◌≤◌, ℕ, Bool, true, ◌||◌, IfOk};
 ghost use Rattle.fancy_tree.specs.Members.{members};
-ghost use Rattle.fancy_tree.specs.Widening.{widened, in_pairs, ascii_pairs, SharesFolding};
+ghost use Rattle.fancy_tree.specs.Widening.{case_closure, in_pairs, ascii_pairs, SharesFolding};
 
 use crate::set::Set;
 use crate::tree::Meaning;
@@ -66,8 +66,8 @@ const ASCII_PAIRS: [(u32, u32); 52] = [
 ];
 
 /// This set with what flag `i` adds to it.
-pub fn widened(meaning: Meaning, set: &Set) -> Result<Set, AllocError>
-    ensures { IfOk result (λ s. (c : ℕ) → members s c ≡ widened meaning (members set.now) c) }
+pub fn case_closure(meaning: Meaning, set: &Set) -> Result<Set, AllocError>
+    ensures { IfOk result (λ s. (c : ℕ) → members s c ≡ case_closure meaning (members set.now) c) }
 {
     match meaning {
         Meaning::Unicode => set.with_pairs(fold_pairs()),
@@ -77,5 +77,5 @@ pub fn widened(meaning: Meaning, set: &Set) -> Result<Set, AllocError>
 
 /// A character is a member in Unicode meaning exactly where it shares a simple folding with one.
 pub fn widening_law()
-    ensures { (p : ℕ → Bool) (c : ℕ) → (widened Meaning.Unicode p c ≡ true) ↔ SharesFolding p c }
+    ensures { (p : ℕ → Bool) (c : ℕ) → (case_closure Meaning.Unicode p c ≡ true) ↔ SharesFolding p c }
 {}

@@ -38,7 +38,7 @@ impl From<io::Error> for Fault {
 }
 
 impl Fault {
-    /// What stands behind `error: `.
+    /// What stands after `error: `.
     fn name(&self) -> &'static str {
         match self {
             Fault::Usage => "usage",
@@ -88,7 +88,7 @@ fn runtime_name(kind: &RuntimeError) -> &'static str {
     }
 }
 
-/// Runs the command that `words`, those behind the program's name, spell, and answers the program's status:
+/// Runs the command that `words`, those after the program's name, spell, and answers the program's status:
 /// 0 where something was found or split, 1 where nothing was found, 2 where the command was refused.
 pub fn run<W: io::Write, X: io::Write>(
     alloc: Global,

@@ -12,7 +12,7 @@ use std::process::ExitCode;
 use std::rt::Env;
 use std::{env, io};
 
-/// The words behind the program's name.
+/// The words after the program's name.
 fn words(rt: &(impl Env + Alloc<A = Global>)) -> io::Result<Vec<String>> {
     let mut words = Vec::new(rt.alloc());
     for word in env::args(rt)?.skip(1) {

@@ -1,8 +1,7 @@
 //! Captures by the names of groups.
 
 ghost use Rattle.std.specs.Prelude.{◌≡◌, IfSome, chars, option_map};
-ghost use Rattle.fancy_core.specs.Captured.{spans_in, searched_in, found_by};
-ghost use Rattle.fancy_core.specs.Names.{span_named};
+ghost use Rattle.fancy_core.specs.Captures.{searched_in, span_by_name};
 
 use crate::captures::Captures;
 use fancy_input::input::Input;
@@ -18,7 +17,7 @@ impl<'r, S: Input> Captures<'r, S> {
     /// captures.name("b")  // None
     /// ```
     pub fn name(&self, name: &str) -> Option<S::Match>
-        ensures found { option_map S.span result ≡ span_named (found_by self.now) (spans_in self.now) (chars name.now) }
+        ensures found { option_map S.span result ≡ span_by_name self.now (chars name.now) }
         ensures within { IfSome result (λ m. S.within m ≡ S.bytes (searched_in self.now)) }
     {
         let number = self.regex.group_named(name)?;

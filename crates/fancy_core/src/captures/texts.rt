@@ -1,9 +1,8 @@
 //! The texts of groups, and what templates make of them.
 
-ghost use Rattle.std.specs.Prelude.{◌≡◌, ◌++◌, chars, string_bytes, IfErr, OnOk, OnErr};
-ghost use Rattle.fancy_template.specs.Expansions.{expansion};
-ghost use Rattle.fancy_template.specs.Templates.{dollar_syntax};
-ghost use Rattle.fancy_core.specs.GroupTexts.{AreOfText, captured, seen_in};
+ghost use Rattle.std.specs.Prelude.{◌≡◌, string_bytes, IfErr, OnOk, OnErr};
+ghost use Rattle.fancy_template.specs.Appended.{AddsText};
+ghost use Rattle.fancy_core.specs.GroupTexts.{AreOfText, group_texts, expansion_of, seen_in};
 
 use crate::captures::Captures;
 use fancy_input::input::Input;
@@ -14,7 +13,7 @@ use fancy_tree::error::{Error, Result};
 use std::alloc::Global;
 
 impl<'r, 't, S: Input<Match = Match<'t>>> GroupTexts<'t> for Captures<'r, S> {
-    ghost captured = { λ c. captured (seen_in S.bytes c) };
+    ghost captured = { λ c. group_texts (seen_in S.bytes c) };
 
     ghost readable = { λ _. AreOfText S.span S.within };
 
@@ -43,7 +42,7 @@ impl<'r, 't, S: Input<Match = Match<'t>>> Captures<'r, S> {
     /// ```
     pub fn expand(&self, template: &str, dst: &mut String) -> Result<()>
         requires of_text { AreOfText S.span S.within }
-        ensures value { OnOk result (string_bytes dst.new ≡ string_bytes dst.old ++ expansion dollar_syntax (captured (seen_in S.bytes self.now)) (chars template.now)) }
+        ensures value { OnOk result (AddsText dst.old (expansion_of template.now (seen_in S.bytes self.now)) dst.new) }
         ensures kept { OnErr result (string_bytes dst.new ≡ string_bytes dst.old) }
         ensures refused { IfErr result (λ e. e ≡ Error.Memory) }
     {

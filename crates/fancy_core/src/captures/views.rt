@@ -2,19 +2,16 @@
 
 ghost use Rattle.std.specs.Prelude.{◌≡◌, ◌-◌, IfSome, length, option_map};
 ghost use Rattle.std.specs.Iterator.{YieldsFirstBy, at_most};
-ghost use Rattle.fancy_core.specs.Groups.{AreCut, span_at};
-ghost use Rattle.fancy_core.specs.Captured.{spans_in, searched_in, found_by, sub_captures_left};
+ghost use Rattle.fancy_search.specs.Groups.{AreCut, span_at};
+ghost use Rattle.fancy_core.specs.Captures.{spans_in, searched_in, found_by, sub_captures_left};
 
 use crate::captures::Captures;
 use crate::regex::Regex;
 use fancy_input::input::{Haystack, Input};
+use fancy_input::span::Span;
 
 impl<'r, S: Input> Captures<'r, S> {
-    pub(crate) fn new(
-        regex: &'r Regex,
-        haystack: S,
-        slots: Vec<Option<(usize, usize)>>,
-    ) -> Captures<'r, S>
+    pub(crate) fn new(regex: &'r Regex, haystack: S, slots: Vec<Option<Span>>) -> Captures<'r, S>
         requires placed { AreCut (S.text haystack) (S.bytes haystack) slots.items }
         ensures haystack { searched_in result ≡ haystack }
         ensures slots { spans_in result ≡ slots.items }
@@ -41,7 +38,7 @@ impl<'r, S: Input> Captures<'r, S> {
         ensures within { IfSome result (λ m. S.within m ≡ S.bytes (searched_in self.now)) }
     {
         match slot_at(&self.slots, number) {
-            Some((start, end)) => Some(self.haystack.make_match(start, end)),
+            Some(span) => Some(self.haystack.make_match(span.start, span.end)),
             None => None,
         }
     }
@@ -65,7 +62,7 @@ impl<'r, S: Input> Captures<'r, S> {
 }
 
 /// What the group with this number matched, if there is one and it took part.
-fn slot_at(slots: &[Option<(usize, usize)>], number: usize) -> Option<(usize, usize)>
+fn slot_at(slots: &[Option<Span>], number: usize) -> Option<Span>
     ensures { result ≡ span_at slots.now number }
 {
     if number < slots.len() {

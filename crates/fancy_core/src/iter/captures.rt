@@ -4,31 +4,31 @@ ghost use Rattle.std.specs.Prelude.{◌≡◌, ◌<◌, ◌^◌};
 ghost use Rattle.std.specs.Iterator.{at_most};
 ghost use Rattle.fancy_input.specs.Inputs.{haystack_in, request_in};
 ghost use Rattle.fancy_input.specs.Requests.{whole};
-ghost use Rattle.fancy_core.specs.Captured.{spans_in, searched_in, found_by};
-ghost use Rattle.fancy_core.specs.Regexes.{options_in, groups_in};
-ghost use Rattle.fancy_core.specs.Searching.{Suits, CanSearch};
-ghost use Rattle.fancy_core.specs.Left.{matches_of, last_start_of};
+ghost use Rattle.fancy_core.specs.Captures.{spans_in, searched_in, found_by};
+ghost use Rattle.fancy_core.specs.Regexes.{options_in};
+ghost use Rattle.fancy_core.specs.Searches.{CanSearchInput, last_start_in_whole, last_start_of_input};
+ghost use Rattle.fancy_search.specs.Searching.{Suits};
 
 use crate::captures::Captures;
-use crate::capturing::groups_found;
 use crate::iter::Matches;
 use crate::regex::Regex;
 use fancy_input::input::{Haystack, Input};
 use fancy_input::regex_input::RegexInput;
+use fancy_search::groups::groups_found;
 use fancy_tree::error::{Error, Result};
 
-/// The matches of an input with their groups, one behind the other.
+/// The matches of an input with their groups, one after another.
 ///
 /// They are those of [`Matches`], in the same order. An item is `Error::Memory` where memory runs out, also for the
-/// groups, and nothing comes behind it.
+/// groups, and nothing comes after it.
 #[derive(Drop)]
 pub struct CaptureMatches<'r, S: Haystack> {
     matches: Matches<'r, S>,
 }
 
 impl Regex {
-    ghost use Rattle.fancy_core.specs.CaptureIterations.{groups_left, groups_of_each, matches_in};
-    ghost use Rattle.fancy_core.specs.Iterations.{end_in, turns_of, regex_in, text_of, next_request};
+    ghost use Rattle.fancy_core.specs.CaptureIterations.{groups_left, groups_in_whole, groups_of_input, matches_in};
+    ghost use Rattle.fancy_core.specs.Iterations.{end_in, items_bound, regex_in, haystack_of, next_request};
 
     /// The matches in the haystack with their groups, from its start on.
     ///
@@ -37,11 +37,11 @@ impl Regex {
     /// ```
     pub fn captures_iter<S: Input>(&self, haystack: S) -> CaptureMatches<'_, S>
         requires suits { Suits (options_in self.now) (S.text haystack) (S.bytes haystack) }
-        ensures matches { groups_left S.text S.bytes result ≡ groups_of_each (groups_in self.now) (matches_of self.now (S.text haystack) (S.bytes haystack) (whole (S.bytes haystack))) }
-        ensures end { end_in S.text S.bytes (matches_in result) ≡ last_start_of self.now (S.text haystack) (S.bytes haystack) (whole (S.bytes haystack)) }
-        ensures countable { turns_of S.text S.bytes (matches_in result) < 2 ^ 64 }
+        ensures matches { groups_left S.text S.bytes result ≡ groups_in_whole self.now S.text S.bytes haystack }
+        ensures end { end_in S.text S.bytes (matches_in result) ≡ last_start_in_whole self.now S.text S.bytes haystack }
+        ensures countable { items_bound S.text S.bytes (matches_in result) < 2 ^ 64 }
         ensures regex { regex_in (matches_in result) ≡ self.now }
-        ensures text { text_of (matches_in result) ≡ haystack }
+        ensures text { haystack_of (matches_in result) ≡ haystack }
         ensures request { next_request (matches_in result) ≡ whole (S.bytes haystack) }
     {
         CaptureMatches {
@@ -51,12 +51,12 @@ impl Regex {
 
     /// The matches that the input asks for, with their groups.
     pub fn captures_iter_input<S: Input>(&self, input: RegexInput<S>) -> CaptureMatches<'_, S>
-        requires searched { CanSearch (options_in self.now) (S.text (haystack_in input)) (S.bytes (haystack_in input)) (request_in input) }
-        ensures matches { groups_left S.text S.bytes result ≡ groups_of_each (groups_in self.now) (matches_of self.now (S.text (haystack_in input)) (S.bytes (haystack_in input)) (request_in input)) }
-        ensures end { end_in S.text S.bytes (matches_in result) ≡ last_start_of self.now (S.text (haystack_in input)) (S.bytes (haystack_in input)) (request_in input) }
-        ensures countable { turns_of S.text S.bytes (matches_in result) < 2 ^ 64 }
+        requires searched { CanSearchInput S.text S.bytes (options_in self.now) input }
+        ensures matches { groups_left S.text S.bytes result ≡ groups_of_input self.now S.text S.bytes input }
+        ensures end { end_in S.text S.bytes (matches_in result) ≡ last_start_of_input self.now S.text S.bytes input }
+        ensures countable { items_bound S.text S.bytes (matches_in result) < 2 ^ 64 }
         ensures regex { regex_in (matches_in result) ≡ self.now }
-        ensures text { text_of (matches_in result) ≡ haystack_in input }
+        ensures text { haystack_of (matches_in result) ≡ haystack_in input }
         ensures request { next_request (matches_in result) ≡ request_in input }
     {
         CaptureMatches {
@@ -67,7 +67,7 @@ impl Regex {
 
 impl<'r, S: Input> CaptureMatches<'r, S> {
     ghost use Rattle.fancy_core.specs.CaptureIterations.{matches_in};
-    ghost use Rattle.fancy_core.specs.Iterations.{regex_in, text_of, next_request};
+    ghost use Rattle.fancy_core.specs.Iterations.{regex_in, haystack_of, next_request};
 
     /// The regex that searches.
     pub fn regex(&self) -> &'r Regex
@@ -78,14 +78,14 @@ impl<'r, S: Input> CaptureMatches<'r, S> {
 
     /// The whole haystack.
     pub fn text(&self) -> S
-        ensures { result ≡ text_of (matches_in self.now) }
+        ensures { result ≡ haystack_of (matches_in self.now) }
     {
         self.matches.text()
     }
 
     /// The input of the next search, as [`Matches::input`] has it.
     pub fn input(&self) -> RegexInput<S>
-        ensures haystack { haystack_in result ≡ text_of (matches_in self.now) }
+        ensures haystack { haystack_in result ≡ haystack_of (matches_in self.now) }
         ensures request { request_in result ≡ next_request (matches_in self.now) }
     {
         self.matches.input()
@@ -94,26 +94,29 @@ impl<'r, S: Input> CaptureMatches<'r, S> {
 
 impl<'r, S: Input> Iterator for CaptureMatches<'r, S> {
     ghost use Rattle.fancy_core.specs.CaptureIterations.{IsNextCaptures, matches_in};
-    ghost use Rattle.fancy_core.specs.Iterations.{turns_of};
+    ghost use Rattle.fancy_core.specs.Iterations.{items_bound};
 
     type Item = Result<Captures<'r, S>>;
 
     ghost next_gives = { IsNextCaptures S.text S.bytes (λ c. spans_in c) (λ c. searched_in c) (λ c. found_by c) };
 
-    ghost remaining = { λ m. at_most (turns_of S.text S.bytes (matches_in m)) };
+    ghost remaining = { λ m. at_most (items_bound S.text S.bytes (matches_in m)) };
 
     fn next(&mut self) -> Option<Result<Captures<'r, S>>> {
         let matches = &mut self.matches;
         let regex = matches.regex;
-        let haystack = matches.walk.haystack();
-        match matches.walk.next_item(regex, &mut matches.memory) {
+        let haystack = matches.searcher.haystack();
+        match matches
+            .searcher
+            .next_item(&regex.program, &mut matches.cache)
+        {
             None => None,
             Some(Ok(item)) => {
                 let count = regex.captures_len();
-                match groups_found(regex.allocator(), count, item.position, &matches.memory) {
+                match groups_found(regex.allocator(), count, item.found, &matches.cache) {
                     Ok(slots) => Some(Ok(Captures::new(regex, haystack, slots))),
                     Err(_) => {
-                        matches.walk.refuse();
+                        matches.searcher.refuse();
                         Some(Err(Error::Memory))
                     }
                 }

@@ -40,10 +40,12 @@ impl<F: FnMut(&Captures<'_, &str>) -> Result<String>> Replacer for ReplaceFn<F> 
 
     ghost callable = { λ s. F.IsAlwaysCallable s.0 };
 
-    ghost appends = { λ s c text t. (captures : _) × (answer : _) × (seen_in bytes_of_str captures.now ≡ c) × F.step s.0 captures (Ok answer) t.0 × (text ≡ string_bytes answer) };
+    ghost appends = { λ s c text t. (captures : _) × (answer : _) × (seen_in bytes_of_str captures.now ≡ c)
+        × F.step s.0 captures (Ok answer) t.0 × (text ≡ string_bytes answer) };
 
     // The function refuses, or it answers and memory runs out where its answer is appended. Its call left the state after.
-    ghost refuses = { λ s c e t. (captures : _) × (seen_in bytes_of_str captures.now ≡ c) × (F.step s.0 captures (Err e) t.0 ⊎ ((e ≡ Memory) × (answer : _) × F.step s.0 captures (Ok answer) t.0)) };
+    ghost refuses = { λ s c e t. (captures : _) × (seen_in bytes_of_str captures.now ≡ c)
+        × (F.step s.0 captures (Err e) t.0 ⊎ ((e ≡ Memory) × (answer : _) × F.step s.0 captures (Ok answer) t.0)) };
 
     ghost same = { λ s t c x y f a. Prim.search rules };
 

@@ -1,8 +1,9 @@
 //! Texts as replacers: templates, as `Captures::expand` reads them.
 
-ghost use Rattle.std.specs.Prelude.{◌≡◌, ◌++◌, List, ℕ, IfErr, OnOk, OnErr, option_map, string_bytes};
+ghost use Rattle.std.specs.Prelude.{◌≡◌, IfErr, OnOk, OnErr, option_map, string_bytes};
 ghost use Rattle.std.specs.Cow.{cow_str_bytes};
 ghost use Rattle.fancy_tree.specs.declared.error.Error.TheVariants.{Memory};
+ghost use Rattle.fancy_template.specs.Appended.{AddsSome};
 ghost use Rattle.fancy_core.specs.GroupTexts.{bytes_of_str, seen_in};
 ghost use Rattle.fancy_core.specs.Replacing.{fixed_of, Expands};
 
@@ -105,7 +106,7 @@ impl<'a, 'b> Replacer for &'b CowStr<'a, Global> {
 
 /// Appends what a template expands to.
 fn append_expanded(template: &str, captures: &Captures<'_, &str>, dst: &mut String) -> Result<()>
-    ensures ok { OnOk result ((text : List ℕ) × (string_bytes dst.new ≡ string_bytes dst.old ++ text) × Expands template.now (seen_in bytes_of_str captures.now) text) }
+    ensures ok { OnOk result (AddsSome dst.old dst.new (Expands template.now (seen_in bytes_of_str captures.now))) }
     ensures kept { OnErr result (string_bytes dst.new ≡ string_bytes dst.old) }
     ensures refused { IfErr result (λ e. e ≡ Error.Memory) }
 {

@@ -4,7 +4,7 @@ ghost use Rattle.std.specs.Prelude.{◌≡◌, true, false, List, ℕ};
 ghost use Rattle.std.specs.Borrow.{Bor};
 ghost use Rattle.std.specs.Iterator.{at_most};
 ghost use Rattle.fancy_core.specs.Regexes.{options_in};
-ghost use Rattle.fancy_core.specs.Searching.{Suits};
+ghost use Rattle.fancy_search.specs.Searching.{Suits};
 
 use crate::regex::Regex;
 use crate::split::Split;
@@ -22,7 +22,7 @@ pub struct SplitN<'r, 't> {
 }
 
 impl Regex {
-    ghost use Rattle.fancy_core.specs.Splits.{match_spans, progress, searches, regex_of, split_in, limit_in};
+    ghost use Rattle.fancy_core.specs.Splits.{at_start, progress, searches, split_regex, split_in, pieces_allowed};
 
     /// The pieces of a text between the matches in it, at most `limit` of them: the last of so many is the rest. For the
     /// limit 0 there is none.
@@ -32,10 +32,10 @@ impl Regex {
     /// ```
     pub fn splitn<'r, 't>(&'r self, text: &'t str, limit: usize) -> SplitN<'r, 't>
         requires suits { Suits (options_in self.now) true text.now }
-        ensures progress { progress (split_in result) ≡ record { text = text.now; last = 0; spans = match_spans self.now text.now; ended = false } }
-        ensures limit { limit_in result ≡ limit }
+        ensures progress { progress (split_in result) ≡ at_start self.now text.now }
+        ensures limit { pieces_allowed result ≡ limit }
         ensures searches { searches (split_in result) ≡ true }
-        ensures regex { regex_of (split_in result) ≡ self.now }
+        ensures regex { split_regex (split_in result) ≡ self.now }
     {
         SplitN {
             split: self.split(text),
@@ -45,13 +45,13 @@ impl Regex {
 }
 
 impl<'r, 't> Iterator for SplitN<'r, 't> {
-    ghost use Rattle.fancy_core.specs.Splits.{IsNextOfFirst, limit_in};
+    ghost use Rattle.fancy_core.specs.Splits.{IsNextOfFirst, pieces_allowed};
 
     type Item = Result<&'t str>;
 
     ghost next_gives = { IsNextOfFirst (λ (x : Bor (List ℕ)). x.now) };
 
-    ghost remaining = { λ s. at_most (limit_in s) };
+    ghost remaining = { λ s. at_most (pieces_allowed s) };
 
     fn next(&mut self) -> Option<Result<&'t str>> {
         if self.limit == 0 {

@@ -83,7 +83,8 @@ impl<S: Input> RegexInput<S> {
         requires ordered { range.start ≤ range.end }
         requires inside { range.end ≤ length (S.bytes (haystack_in self)) }
         ensures haystack { haystack_in result ≡ haystack_in self }
-        ensures request { request_in result ≡ record (request_in self) { range_start = range.start; range_end = range.end } }
+        ensures request { request_in result
+            ≡ record (request_in self) { range_start = range.start; range_end = range.end } }
     {
         self.request.range_start = range.start;
         self.request.range_end = range.end;

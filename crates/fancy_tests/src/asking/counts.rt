@@ -1,21 +1,44 @@
 //! What a search counts, and where it is given up.
 
-use crate::asking::{CHARACTERS, Settings, Span, regex_with, span};
-use fancy_regex::{Error, Match, Regex, RegexInput, RuntimeError, Work};
+use crate::asking::{Settings, Span, regex_of, regex_with, span};
+use fancy_regex::{Error, Regex, RegexInput, RuntimeError, Work};
 use std::alloc::Global;
 use std::process::Abort;
 
-/// What a search answered: where the first match starts and ends, or nothing where it was given up at its limit.
-fn answer_of(found: &fancy_regex::Result<Option<Match<'_>>>) -> Option<Option<Span>> {
+/// Where the first match starts and ends that the input asks for, which the regex may search. What it counts is in `work`.
+pub(crate) fn counted(
+    rt: &impl Abort,
+    regex: &Regex,
+    input: RegexInput<&str>,
+    work: &mut Work,
+) -> fancy_regex::Result<Option<Span>> {
+    assert!(rt; regex.can_search(&input), "{}", regex.as_str());
+    match regex.find_input_counted(input, work) {
+        Ok(found) => Ok(found.map(span)),
+        Err(why) => Err(why),
+    }
+}
+
+/// What a search answered, or nothing where it was given up.
+fn answer_of(found: &fancy_regex::Result<Option<Span>>) -> Option<Option<Span>> {
     match found {
-        Ok(found) => Some(found.map(span)),
+        Ok(found) => Some(*found),
         Err(_) => None,
     }
 }
 
-/// A pattern, a text, how many returns a search may take, where the first match starts and ends (nothing where the
-/// search is given up), and how many returns it took.
+/// Whether a search was given up at its limit of returns.
+fn is_past_limit(found: &fancy_regex::Result<Option<Span>>) -> bool {
+    matches!(
+        found,
+        Err(Error::RuntimeError(RuntimeError::BacktrackLimitExceeded))
+    )
+}
+
+/// Options, a pattern, a text, how many returns a search may take, where the first match starts and ends (nothing where
+/// the search is given up), and how many returns it took.
 pub(crate) type CountedRow = (
+    Settings,
     &'static str,
     &'static str,
     usize,
@@ -23,41 +46,55 @@ pub(crate) type CountedRow = (
     usize,
 );
 
-pub(crate) fn check_counted(rt: &impl Abort, alloc: Global, row: &CountedRow) {
-    let (pattern, haystack, backtrack_limit, wanted, returns) = *row;
+fn check_counted_row(rt: &impl Abort, alloc: Global, row: &CountedRow) {
+    let (settings, pattern, haystack, backtrack_limit, wanted, returns) = *row;
     let settings = Settings {
         backtrack_limit,
-        ..CHARACTERS
+        ..settings
     };
     let regex = regex_with(rt, alloc, settings, pattern);
-    let input = RegexInput::new(haystack);
-    assert!(rt; regex.can_search(&input), "{pattern}");
     let mut work = Work::new();
-    let found = regex.find_input_counted(input, &mut work);
+    let found = counted(rt, &regex, RegexInput::new(haystack), &mut work);
     assert!(rt; answer_of(&found) == wanted, "{pattern} on {haystack}");
     assert_eq!(rt; work.returns(), returns, "{pattern} on {haystack}");
-    let is_past_limit = matches!(
-        found,
-        Err(Error::RuntimeError(RuntimeError::BacktrackLimitExceeded))
-    );
     assert!(rt;
-        is_past_limit == wanted.is_none(),
+        is_past_limit(&found) == wanted.is_none(),
         "{pattern} on {haystack}"
     );
+}
+
+pub(crate) fn check_counted(rt: &impl Abort, alloc: Global, rows: &[CountedRow]) {
+    for row in rows {
+        check_counted_row(rt, alloc, row);
+    }
 }
 
 /// A pattern, a text, where the first match starts and ends, how many instructions its search fetches, and how many saved
 /// branches it takes.
 pub(crate) type WorkRow = (&'static str, &'static str, Option<Span>, usize, usize);
 
-/// Checks what a search finds and counts, whatever was counted before.
-pub(crate) fn check_work(rt: &impl Abort, alloc: Global, row: &WorkRow, work: &mut Work) {
+fn check_work_row(rt: &impl Abort, alloc: Global, row: &WorkRow, work: &mut Work) {
     let (pattern, haystack, wanted, steps, returns) = *row;
-    let regex = Regex::new(alloc, pattern).expect(rt, pattern);
-    let input = RegexInput::new(haystack);
-    assert!(rt; regex.can_search(&input), "{pattern}");
-    let found = regex.find_input_counted(input, work).expect(rt, pattern);
-    assert!(rt; found.map(span) == wanted, "{pattern} on {haystack}");
+    let regex = regex_of(rt, alloc, pattern);
+    let found = counted(rt, &regex, RegexInput::new(haystack), work).expect(rt, pattern);
+    assert!(rt; found == wanted, "{pattern} on {haystack}");
     assert_eq!(rt; work.steps(), steps, "{pattern} on {haystack}");
     assert_eq!(rt; work.returns(), returns, "{pattern} on {haystack}");
+}
+
+/// Checks what searches find and count, whatever was counted before.
+pub(crate) fn check_work(rt: &impl Abort, alloc: Global, rows: &[WorkRow], work: &mut Work) {
+    for row in rows {
+        check_work_row(rt, alloc, row, work);
+    }
+}
+
+/// Options, a pattern, and whether it is easy.
+pub(crate) type EasyRow = (Settings, &'static str, bool);
+
+pub(crate) fn check_easy(rt: &impl Abort, alloc: Global, rows: &[EasyRow]) {
+    for &(settings, pattern, wanted) in rows {
+        let regex = regex_with(rt, alloc, settings, pattern);
+        assert!(rt; regex.is_easy() == wanted, "{pattern}");
+    }
 }

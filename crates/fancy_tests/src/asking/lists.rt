@@ -1,7 +1,7 @@
-//! Matches that come one behind the other.
+//! Matches that come one after another.
 
-use crate::asking::{Settings, Span, Spanned, regex_with};
-use fancy_regex::{Input, Matches, Regex, RegexInput};
+use crate::asking::{Settings, Span, Spanned, regex_of, regex_with};
+use fancy_regex::{Input, Matches, RegexInput};
 use std::alloc::Global;
 use std::process::Abort;
 
@@ -24,11 +24,7 @@ fn check_matches<M: Spanned, S: Input<Match = M>>(
 /// Options, a pattern, a haystack, and where the matches start and end.
 pub(crate) type ListRow<S> = (Settings, &'static str, S, &'static [Span]);
 
-pub(crate) fn check_list<M: Spanned, S: Input<Match = M>>(
-    rt: &impl Abort,
-    alloc: Global,
-    row: &ListRow<S>,
-) {
+fn check_list<M: Spanned, S: Input<Match = M>>(rt: &impl Abort, alloc: Global, row: &ListRow<S>) {
     let (settings, pattern, haystack, wanted) = *row;
     let regex = regex_with(rt, alloc, settings, pattern);
     let input = RegexInput::new(haystack);
@@ -36,16 +32,32 @@ pub(crate) fn check_list<M: Spanned, S: Input<Match = M>>(
     check_matches(rt, regex.find_iter_input(input), pattern, wanted);
 }
 
+pub(crate) fn check_lists<M: Spanned, S: Input<Match = M>>(
+    rt: &impl Abort,
+    alloc: Global,
+    rows: &[ListRow<S>],
+) {
+    for row in rows {
+        check_list(rt, alloc, row);
+    }
+}
+
 /// A pattern, a text, and where the matches start and end.
 pub(crate) type TextListRow = (&'static str, &'static str, &'static [Span]);
 
-pub(crate) fn check_text_list(rt: &impl Abort, alloc: Global, row: &TextListRow) {
+fn check_text_list(rt: &impl Abort, alloc: Global, row: &TextListRow) {
     let (pattern, haystack, wanted) = *row;
-    let regex = Regex::new(alloc, pattern).expect(rt, pattern);
+    let regex = regex_of(rt, alloc, pattern);
     check_matches(rt, regex.find_iter(haystack), pattern, wanted);
     assert_eq!(rt;
         regex.find_iter(haystack).count(),
         wanted.len(),
         "{pattern}"
     );
+}
+
+pub(crate) fn check_text_lists(rt: &impl Abort, alloc: Global, rows: &[TextListRow]) {
+    for row in rows {
+        check_text_list(rt, alloc, row);
+    }
 }

@@ -4,7 +4,7 @@ use fancy_regex::Regex;
 use std::alloc::Global;
 use std::process::Abort;
 
-/// So many of a text, one behind the other.
+/// So many of a text, one after another.
 pub(crate) fn repeated(rt: &impl Abort, alloc: Global, text: &str, count: usize) -> String {
     text.repeat(alloc, count).expect(rt, text)
 }

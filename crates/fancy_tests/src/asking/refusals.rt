@@ -66,28 +66,46 @@ fn has_flaw<T>(read: &fancy_regex::Result<T>, flaw: Flaw) -> bool {
 /// Options, a pattern, and its flaw.
 pub(crate) type FlawRow = (Settings, &'static str, Flaw);
 
-pub(crate) fn check_flaw(rt: &impl Abort, alloc: Global, row: &FlawRow) {
+fn check_flaw(rt: &impl Abort, alloc: Global, row: &FlawRow) {
     let (settings, pattern, wanted) = *row;
     let read = read(alloc, settings, pattern);
     assert!(rt; has_flaw(&read, wanted), "{pattern}");
 }
 
+pub(crate) fn check_flaws(rt: &impl Abort, alloc: Global, rows: &[FlawRow]) {
+    for row in rows {
+        check_flaw(rt, alloc, row);
+    }
+}
+
 /// A pattern, and the kind of its fault.
 pub(crate) type KindRow = (&'static str, ParseErrorKind);
 
-pub(crate) fn check_kind(rt: &impl Abort, alloc: Global, row: &KindRow) {
+fn check_kind(rt: &impl Abort, alloc: Global, row: &KindRow) {
     let (pattern, wanted) = *row;
     let read = Regex::new(alloc, pattern);
     assert!(rt; kind_of(&read) == Some(wanted), "{pattern}");
+}
+
+pub(crate) fn check_kinds(rt: &impl Abort, alloc: Global, rows: &[KindRow]) {
+    for row in rows {
+        check_kind(rt, alloc, row);
+    }
 }
 
 /// Options, a pattern, and the place and kind of its fault, or none where it has none.
 pub(crate) type FaultRow = (Settings, &'static str, Option<(usize, ParseErrorKind)>);
 
 /// Checks that a pattern is read, or where it is refused and why.
-pub(crate) fn check_fault(rt: &impl Abort, alloc: Global, row: &FaultRow) {
+fn check_fault(rt: &impl Abort, alloc: Global, row: &FaultRow) {
     let (settings, pattern, wanted) = *row;
     let read = read(alloc, settings, pattern);
     assert_eq!(rt; fault_of(&read), wanted, "{pattern}");
     assert!(rt; read.is_ok() == wanted.is_none(), "{pattern}");
+}
+
+pub(crate) fn check_faults(rt: &impl Abort, alloc: Global, rows: &[FaultRow]) {
+    for row in rows {
+        check_fault(rt, alloc, row);
+    }
 }

@@ -1,6 +1,7 @@
 //! Texts whose matches are replaced.
 
-use fancy_regex::{Regex, Replacer};
+use crate::asking::regex_of;
+use fancy_regex::{Regex, RegexInput, Replacer};
 use std::alloc::Global;
 use std::borrow::CowStr;
 use std::process::Abort;
@@ -24,23 +25,52 @@ pub(crate) type ReplacedRow = (
     &'static str,
 );
 
-/// Checks a row on a template of each form, and by the calls whose limit it has.
-pub(crate) fn check_replaced(rt: &impl Abort, alloc: Global, row: &ReplacedRow) {
-    let (pattern, text, limit, template, wanted) = *row;
-    let regex = Regex::new(alloc, pattern).expect(rt, pattern);
+/// Checks what comes of a text with a template in this form.
+fn check_form<R: Replacer + Drop>(
+    rt: &impl Abort,
+    regex: &Regex,
+    asked: (&str, usize, &str),
+    template: R,
+)
+    requires callable { R.callable template }
+{
+    let (text, limit, wanted) = asked;
+    assert!(rt; regex.can_search(&RegexInput::new(text)));
     check_answer(rt, regex.replacen(text, limit, template), wanted);
-    check_answer(rt, regex.try_replacen(text, limit, template), wanted);
+}
+
+/// Checks a row on a template of each form.
+fn check_forms(rt: &impl Abort, alloc: Global, regex: &Regex, row: &ReplacedRow) {
+    let (_, text, limit, template, wanted) = *row;
+    let asked = (text, limit, wanted);
+    check_form(rt, regex, asked, template);
     let owned = String::from_str(alloc, template).expect(rt, template);
-    check_answer(rt, regex.replacen(text, limit, &owned), wanted);
-    check_answer(rt, regex.replacen(text, limit, owned), wanted);
+    check_form(rt, regex, asked, &owned);
+    check_form(rt, regex, asked, owned);
     let copied: CowStr<'_, Global> = CowStr::Borrowed(template);
-    check_answer(rt, regex.replacen(text, limit, &copied), wanted);
-    check_answer(rt, regex.replacen(text, limit, copied), wanted);
+    check_form(rt, regex, asked, &copied);
+    check_form(rt, regex, asked, copied);
+}
+
+/// Checks a row by the calls whose limit it has.
+fn check_calls(rt: &impl Abort, regex: &Regex, row: &ReplacedRow) {
+    let (_, text, limit, template, wanted) = *row;
+    assert!(rt; regex.can_search(&RegexInput::new(text)));
+    check_answer(rt, regex.try_replacen(text, limit, template), wanted);
     if limit == 0 {
         check_answer(rt, regex.replace_all(text, template), wanted);
     }
     if limit == 1 {
         check_answer(rt, regex.replace(text, template), wanted);
+    }
+}
+
+/// Checks rows on a template of each form, and by the calls whose limit they have.
+pub(crate) fn check_replaced(rt: &impl Abort, alloc: Global, rows: &[ReplacedRow]) {
+    for row in rows {
+        let regex = regex_of(rt, alloc, row.0);
+        check_forms(rt, alloc, &regex, row);
+        check_calls(rt, &regex, row);
     }
 }
 

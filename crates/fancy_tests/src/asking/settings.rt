@@ -1,5 +1,9 @@
 //! The options of a row.
 
+ghost use Rattle.std.specs.Prelude.{◌≡◌};
+ghost use Rattle.fancy_search.specs.Options.{by_default};
+ghost use Rattle.fancy_core.specs.Regexes.{options_in};
+
 use fancy_regex::{BytesMode, Regex, RegexOptionsBuilder};
 use std::alloc::Global;
 use std::process::Abort;
@@ -117,7 +121,14 @@ pub(crate) fn read(alloc: Global, settings: Settings, pattern: &str) -> fancy_re
         .build(pattern)
 }
 
-/// The regex of the pattern.
+/// The regex of the pattern with the default options, of which alone the tests know something.
+pub(crate) fn regex_of(rt: &impl Abort, alloc: Global, pattern: &str) -> Regex
+    ensures { options_in result ≡ by_default }
+{
+    Regex::new(alloc, pattern).expect(rt, pattern)
+}
+
+/// The regex of the pattern with these options.
 pub(crate) fn regex_with(
     rt: &impl Abort,
     alloc: Global,

@@ -1,6 +1,6 @@
 //! First matches.
 
-use crate::asking::{Settings, regex_with};
+use crate::asking::{Settings, regex_of, regex_with};
 use fancy_regex::{Input, Match, MatchBytes, Regex, RegexInput};
 use std::alloc::Global;
 use std::process::Abort;
@@ -46,13 +46,38 @@ pub(crate) fn first_span<M: Spanned, S: Input<Match = M>>(
     }
 }
 
+/// A pattern, a text, where the first match starts and ends, and its text.
+pub(crate) type MatchRow = (&'static str, &'static str, Span, &'static str);
+
+/// Checks what a match says of itself.
+fn check_match(rt: &impl Abort, found: Match<'_>, wanted: Span, text: &str) {
+    assert_eq!(rt; span(found), wanted, "{text}");
+    let range = found.range();
+    assert_eq!(rt; (range.start, range.end), wanted, "{text}");
+    assert_eq!(rt; found.as_str(), text);
+    let part: &str = found.into();
+    assert_eq!(rt; part, text);
+}
+
+/// Checks what the first match says of itself, and that it is found again.
+pub(crate) fn check_matches(rt: &impl Abort, alloc: Global, rows: &[MatchRow]) {
+    for &(pattern, haystack, wanted, text) in rows {
+        let regex = regex_of(rt, alloc, pattern);
+        let first = regex.find(haystack).expect(rt, pattern);
+        let found = first.expect(rt, pattern);
+        check_match(rt, found, wanted, text);
+        let again = regex.find(haystack).expect(rt, pattern);
+        assert!(rt; Some(found) == again, "{pattern}");
+    }
+}
+
 /// A pattern, a text, and where the first match starts and ends.
 pub(crate) type TextRow = (&'static str, &'static str, Option<Span>);
 
 /// Checks a row on its text, and on the bytes of it.
 fn check_text(rt: &impl Abort, alloc: Global, row: &TextRow) {
     let (pattern, haystack, wanted) = *row;
-    let regex = Regex::new(alloc, pattern).expect(rt, pattern);
+    let regex = regex_of(rt, alloc, pattern);
     let first = regex.find(haystack).expect(rt, pattern);
     assert_eq!(rt; first.map(span), wanted, "{pattern} on {haystack}");
     let found = first_span(rt, &regex, RegexInput::new(haystack));
@@ -73,40 +98,64 @@ pub(crate) type SpanRow<S> = (Settings, &'static str, S, Option<Span>);
 /// The same on bytes.
 pub(crate) type BytesRow = SpanRow<&'static [u8]>;
 
-pub(crate) fn check_span<M: Spanned, S: Input<Match = M>>(
-    rt: &impl Abort,
-    alloc: Global,
-    row: &SpanRow<S>,
-) {
+fn check_span<M: Spanned, S: Input<Match = M>>(rt: &impl Abort, alloc: Global, row: &SpanRow<S>) {
     let (settings, pattern, haystack, wanted) = *row;
     let regex = regex_with(rt, alloc, settings, pattern);
     let found = first_span(rt, &regex, RegexInput::new(haystack));
     assert_eq!(rt; found, wanted, "{pattern}");
 }
 
+pub(crate) fn check_spans<M: Spanned, S: Input<Match = M>>(
+    rt: &impl Abort,
+    alloc: Global,
+    rows: &[SpanRow<S>],
+) {
+    for row in rows {
+        check_span(rt, alloc, row);
+    }
+}
+
 /// Options, a pattern, a haystack, the start, the range, whether the search is anchored, and where the first match
 /// starts and ends.
 pub(crate) type SearchRow<S> = (Settings, &'static str, S, usize, Span, bool, Option<Span>);
 
-pub(crate) fn check_search<M: Spanned, S: Input<Match = M>>(
+/// What a row searches.
+fn input_of<S: Input>(rt: &impl Abort, row: &SearchRow<S>) -> RegexInput<S> {
+    let (_, _, haystack, start, range, anchored, _) = *row;
+    assert!(rt; range.0 <= range.1);
+    assert!(rt; range.1 <= haystack.len());
+    RegexInput::new(haystack)
+        .from_pos(start)
+        .range(range.0..range.1)
+        .anchored(anchored)
+}
+
+/// Whether the input has a match, which the regex may search.
+fn has_match<S: Input>(rt: &impl Abort, regex: &Regex, input: RegexInput<S>) -> bool {
+    assert!(rt; regex.can_search(&input), "{}", regex.as_str());
+    regex.is_match_input(input).expect(rt, regex.as_str())
+}
+
+fn check_search<M: Spanned, S: Input<Match = M>>(
     rt: &impl Abort,
     alloc: Global,
     row: &SearchRow<S>,
 ) {
-    let (settings, pattern, haystack, start, range, anchored, wanted) = *row;
+    let (settings, pattern, _, start, _, _, wanted) = *row;
     let regex = regex_with(rt, alloc, settings, pattern);
-    assert!(rt; range.0 <= range.1);
-    assert!(rt; range.1 <= haystack.len());
-    let input = RegexInput::new(haystack)
-        .from_pos(start)
-        .range(range.0..range.1)
-        .anchored(anchored);
-    assert_eq!(rt;
-        first_span(rt, &regex, input.again()),
-        wanted,
-        "{pattern} from {start}"
-    );
-    assert!(rt; regex.can_search(&input));
-    let matched = regex.is_match_input(input).expect(rt, pattern);
+    let input = input_of(rt, row);
+    let found = first_span(rt, &regex, input.again());
+    assert_eq!(rt; found, wanted, "{pattern} from {start}");
+    let matched = has_match(rt, &regex, input);
     assert!(rt; matched == wanted.is_some(), "{pattern} from {start}");
+}
+
+pub(crate) fn check_searches<M: Spanned, S: Input<Match = M>>(
+    rt: &impl Abort,
+    alloc: Global,
+    rows: &[SearchRow<S>],
+) {
+    for row in rows {
+        check_search(rt, alloc, row);
+    }
 }

@@ -1,5 +1,6 @@
 //! Templates, and texts that are escaped for them.
 
+use crate::asking::regex_of;
 use fancy_regex::{Captures, CompileError, Error, Expander, ParseErrorKind, Regex};
 use std::alloc::Global;
 use std::borrow::CowStr;
@@ -69,7 +70,7 @@ pub(crate) fn check_templates(
     expander: &Expander,
     rows: &[TemplateRow],
 ) {
-    let regex = Regex::new(alloc, "(b)").expect(rt, "a regex");
+    let regex = regex_of(rt, alloc, "(b)");
     let found = regex.captures("abc").expect(rt, "a search");
     let captures = found.expect(rt, "a match");
     for &(template, wanted) in rows {
@@ -79,7 +80,7 @@ pub(crate) fn check_templates(
 
 /// Checks the expansion by the captures.
 pub(crate) fn check_expanded(rt: &impl Abort, alloc: Global, rows: &[TemplateRow]) {
-    let regex = Regex::new(alloc, "(b)").expect(rt, "a regex");
+    let regex = regex_of(rt, alloc, "(b)");
     let found = regex.captures("abc").expect(rt, "a search");
     let captures = found.expect(rt, "a match");
     for &(template, wanted) in rows {
@@ -117,11 +118,17 @@ fn is_told(answer: &fancy_regex::Result<()>, wanted: Told) -> bool {
 /// A pattern, a template, and what is told of it.
 pub(crate) type CheckedRow = (&'static str, &'static str, Told);
 
-pub(crate) fn check_told(rt: &impl Abort, alloc: Global, expander: &Expander, row: &CheckedRow) {
+fn check_told_row(rt: &impl Abort, alloc: Global, expander: &Expander, row: &CheckedRow) {
     let (pattern, template, wanted) = *row;
-    let regex = Regex::new(alloc, pattern).expect(rt, pattern);
+    let regex = regex_of(rt, alloc, pattern);
     let answer = expander.check(template, &regex);
     assert!(rt; is_told(&answer, wanted), "{template}");
+}
+
+pub(crate) fn check_told(rt: &impl Abort, alloc: Global, expander: &Expander, rows: &[CheckedRow]) {
+    for row in rows {
+        check_told_row(rt, alloc, expander, row);
+    }
 }
 
 /// Checks that an escape gives this text, which is the one that was given where it is the same.

@@ -6,11 +6,11 @@ use Rattle.fancy_tree.specs.declared.tree.Tree.{Tree}
 use Rattle.fancy_tree.specs.Pattern.{pattern_of}
 use Rattle.fancy_tree.specs.Sizes.{are_sized}
 use Rattle.fancy_tree.proofs.PatternLemmas.{pattern-Sequence, pattern-Alternative}
-use Rattle.fancy_tree.proofs.BehindLemmas.{sized-in_sequence, sized-in_choice}
+use Rattle.fancy_tree.proofs.LookBehindLemmas.{sized-in_sequence, sized-in_choice}
 use Rattle.fancy_tree.proofs.+sized.Goals as goal
 
-pub behind::are_sized-returns-then-not-is_sized : goal.behind::are_sized-returns-then-not-is_sized
-behind::are_sized-returns-then-not-is_sized t c =
+pub look_behind::are_sized-returns-then-not-is_sized : goal.look_behind::are_sized-returns-then-not-is_sized
+look_behind::are_sized-returns-then-not-is_sized t c =
     sym
     (list_all_at (are_sized c.args.meaning) (map pattern_of c.args.trees.now) c.loop-i.i (pattern_of c.index-trees-i.result) (omega (arith, c.loop-i-test.true, length-map c.args.trees.now pattern_of))
     (ap (are_sized c.args.meaning) (get_or-map pattern_of c.args.trees.now c.loop-i.i c.index-trees-i.result (pattern_of c.index-trees-i.result) c.loop-i-test.true ∙ ap pattern_of (sym c.index-trees-i.is))

@@ -4,5 +4,5 @@ use Rattle.fancy_tree.specs.Pattern.{pattern_of}
 use Rattle.fancy_tree.specs.Sizes.{are_sized}
 use Rattle.fancy_tree.proofs.+sized.Given as goal
 
-abbrev pub invariant-behind::are_sized-loop-i : goal.invariant-behind::are_sized-loop-i
-invariant-behind::are_sized-loop-i l = list_all (are_sized l.meaning) (map pattern_of (take l.i l.trees)) ≡ true
+abbrev pub invariant-look_behind::are_sized-loop-i : goal.invariant-look_behind::are_sized-loop-i
+invariant-look_behind::are_sized-loop-i l = list_all (are_sized l.meaning) (map pattern_of (take l.i l.trees)) ≡ true

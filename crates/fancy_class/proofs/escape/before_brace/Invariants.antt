@@ -1,5 +1,5 @@
 use Rattle.std.proofs.Common.{◌≡◌, ◌+◌, length}
-use Rattle.fancy_class.specs.Escapes.{before_brace}
+use Rattle.fancy_class.specs.EscapeGrammar.{before_brace}
 use Rattle.fancy_class.proofs.escape.before_brace.Given as goal
 
 abbrev pub invariant-loop-rest : goal.invariant-loop-rest

@@ -1,5 +1,5 @@
 use Rattle.std.proofs.Common.{◌≡◌, ◌+◌, length}
-use Rattle.fancy_class.specs.Escapes.{letters}
+use Rattle.fancy_class.specs.EscapeGrammar.{letters}
 use Rattle.fancy_class.proofs.posix.letters.Given as goal
 
 abbrev pub invariant-loop-rest : goal.invariant-loop-rest

@@ -1,4 +1,4 @@
-use Rattle.fancy_engine.proofs.EasyLemmas.{easy-Sequence, easy-Alternative}
+use Rattle.fancy_engine.proofs.ClassifyLemmas.{easy-Sequence, easy-Alternative}
 use Rattle.fancy_engine.proofs.classify.+is_easy.Goals as goal
 
 pub is_easy-returns-in-Sequence : goal.is_easy-returns-in-Sequence

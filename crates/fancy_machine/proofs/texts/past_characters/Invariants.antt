@@ -1,14 +1,14 @@
 use Rattle.std.proofs.Common.{◌≡◌, length}
 use Rattle.fancy_tree.specs.declared.tree.Meaning.TheVariants.{Unicode}
 use Rattle.fancy_engine.specs.Backreference.{past_characters}
-use Rattle.fancy_machine.specs.declared.machine.Field.{Field}
-use Rattle.fancy_machine.specs.Field.{context_in}
+use Rattle.fancy_engine.specs.Context.{Context}
+use Rattle.fancy_machine.specs.Attempt.{reading}
 use Rattle.fancy_machine.proofs.texts.past_characters.Given as goal
 
 abbrev pub invariant-loop-rest : goal.invariant-loop-rest
 invariant-loop-rest l =
-    (field : Field) → past_characters (context_in l.haystack Unicode field) (length l.rest) l.rest l.at
-    ≡ past_characters (context_in l.haystack Unicode field) (length l.text) l.text l.place
+    (x : Context) → past_characters (reading l.haystack Unicode x) (length l.rest) l.rest l.at
+    ≡ past_characters (reading l.haystack Unicode x) (length l.text) l.text l.place
 
 abbrev pub decreases-loop-rest : goal.decreases-loop-rest
 decreases-loop-rest l = length l.rest

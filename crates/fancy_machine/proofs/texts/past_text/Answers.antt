@@ -6,12 +6,12 @@ use Rattle.fancy_machine.proofs.texts.past_text.Goals as goal
 
 pub returns-then-starts_with : goal.returns-then-starts_with
 unfolding past_text
-returns-then-starts_with c meaning field =
+returns-then-starts_with c meaning x =
     ap (λ (b : Bool). if b then Some (c.args.place + length c.args.text.now) else None)
     (sym (stands_if c.args.haystack.now _ c.args.text.now c.args.place _ c.bytes_from.ensures c.starts_with.ensures.value ∙ c.if-starts_with.true))
 
 pub returns : goal.returns
 unfolding past_text
-returns c meaning field =
+returns c meaning x =
     ap (λ (b : Bool). if b then Some (c.args.place + length c.args.text.now) else None)
     (sym (stands_if c.args.haystack.now _ c.args.text.now c.args.place _ c.bytes_from.ensures c.starts_with.ensures.value ∙ c.if-starts_with.false))

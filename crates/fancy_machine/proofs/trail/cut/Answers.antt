@@ -1,5 +1,5 @@
 use Rattle.std.proofs.Common.{◌∙◌, arith, length, ap, length-append}
-use Rattle.fancy_machine.proofs.Layers.{counted_snoc, saves_one, saves_none, take_snoc}
+use Rattle.fancy_machine.proofs.LayerLemmas.{counted_snoc, saves_one, saves_none, take_snoc}
 use Rattle.fancy_machine.proofs.trail.cut.Goals as goal
 
 pub overflow_sub-branches : goal.overflow_sub-branches

@@ -1,6 +1,6 @@
 use Rattle.std.proofs.Common.{◌≡◌, ◌≤◌, take}
 use Rattle.std.specs.Prelude.{vec_len}
-use Rattle.fancy_machine.specs.Held.{branches_in}
+use Rattle.fancy_machine.specs.Layers.{branches_in}
 use Rattle.fancy_machine.proofs.trail.cut.Given as goal
 
 abbrev pub invariant-layers : goal.invariant-layers

@@ -1,4 +1,4 @@
-use Rattle.fancy_regex.proofs.LiteralLemmas.{found_first, found_anchored, found_in_text}
+use Rattle.fancy_regex.proofs.EscapedLiteralLemmas.{found_first, found_anchored, found_in_text}
 use Rattle.fancy_regex.proofs.laws.escapes_find_their_text.Goals as goal
 
 pub returns-clause-first : goal.returns-clause-first

@@ -1,5 +1,5 @@
 use Rattle.std.proofs.Common.{chars}
-use Rattle.fancy_regex.proofs.LiteralLemmas.{escape_spells, spells_escape}
+use Rattle.fancy_regex.proofs.EscapedLiteralLemmas.{escape_spells, spells_escape}
 use Rattle.fancy_regex.proofs.laws.escapes_spell_their_text.Goals as goal
 
 pub returns : goal.returns

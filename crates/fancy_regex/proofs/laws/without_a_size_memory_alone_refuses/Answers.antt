@@ -1,4 +1,4 @@
-use Rattle.fancy_core.proofs.ProgramSizeLemmas.{refused_for_memory, refused_by_text}
+use Rattle.fancy_search.proofs.ProgramSizeLemmas.{refused_for_memory, refused_by_text}
 use Rattle.fancy_regex.proofs.laws.without_a_size_memory_alone_refuses.Goals as goal
 
 pub returns-clause-pattern : goal.returns-clause-pattern

@@ -1,4 +1,4 @@
-use Rattle.fancy_regex.proofs.ExampleLemmas.{lists}
+use Rattle.fancy_regex.proofs.ListExampleLemmas.{lists}
 use Rattle.fancy_regex.proofs.laws.worked_lists.Goals as goal
 
 pub returns : goal.returns

@@ -1,8 +1,7 @@
-use Rattle.std.proofs.Common.{◌∙◌, sym, ap, subst}
-use Rattle.fancy_tree.specs.Pattern.{member_of}
+use Rattle.std.proofs.Common.{sym, subst}
 use Rattle.fancy_syntax.specs.Dialect.{IsMeant, one_of, by_edges}
 use Rattle.fancy_tree.proofs.PatternLemmas.{pattern-Member}
 use Rattle.fancy_syntax.proofs.lexeme.item.Goals as goal
 
 pub returns : goal.returns
-returns c f h = subst (λ x. IsMeant (one_of f) x) (sym (pattern-Member c.into_edges.result ∙ ap member_of c.into_edges.ensures.edges)) (by_edges c.args.set.are_edges h)
+returns c f h = subst (λ x. IsMeant (one_of f) x) (sym (pattern-Member c.args.set)) (by_edges c.args.set.are_edges h)

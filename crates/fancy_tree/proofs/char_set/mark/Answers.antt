@@ -1,5 +1,5 @@
 use Rattle.std.proofs.Common.{arith, refl, slice_index, ◌/◌}
-use Rattle.fancy_tree.proofs.BitLemmas.{set_same, set_other}
+use Rattle.fancy_tree.proofs.CharSetLemmas.{set_same, set_other}
 use Rattle.fancy_tree.proofs.char_set.mark.Goals as goal
 
 pub returns-clause-marked : goal.returns-clause-marked

@@ -5,44 +5,44 @@ use Rattle.fancy_tree.specs.Members.{members}
 use Rattle.fancy_tree.specs.Text.{Text}
 use Rattle.fancy_class.specs.ClassGrammar.{none_of}
 use Rattle.fancy_class.specs.ClassReading.{Class, Items}
-use Rattle.fancy_class.proofs.ClassSteps.{refused, Refuses-weaker, goes_on_then, items_step, items_done, no_item, operands_step, simple_is, no_token, nested_is, no_nested, no_operand, unclosed, class_is}
+use Rattle.fancy_class.proofs.ClassSteps.{refused, MemoryOr-weaker, goes_on_then, items_step, items_done, no_item, operands_step, simple_is, no_token, nested_is, no_nested, no_operand, unclosed, class_is}
 use Rattle.fancy_class.proofs.cursor.Cursor.+reader.Goals as goal
 
-pub bracketed-returns-in_err-right-clause-value : goal.bracketed-returns-in_err-right-clause-value
-bracketed-returns-in_err-right-clause-value t c =
+pub bracketed_class-returns-in_err-right-clause-value : goal.bracketed_class-returns-in_err-right-clause-value
+bracketed_class-returns-in_err-right-clause-value t c =
     let p = err_from_is_err_and c.from_residual-in_err-right.result c.from_residual-in_err-right.ensures.1 in
     let op = c.in-Some.ensures.value ∙ ap (λ (u : Text). Some (c.in-Some.how, u)) (sym c.skip.ensures.place) in
     refused members (Class c.args.context.meaning c.args.context.fold c.args.room) c.from_residual-in_err-right.result _ _ p.0 c.in_err-right.field-0.0 p.1 p.2
-    (Refuses-weaker c.in_err-right.field-0.0
-    (no_operand c.requires c.opening-negated.ensures.value (sym c.if-not-may_turn.ensures) (omega arith) c.in_ok-set.ensures.value c.operands.invariant.goes_on op) c.in_err-right.ensures.value)
+    (MemoryOr-weaker c.in_err-right.field-0.0
+    (no_operand c.requires c.opening-negated.ensures.value (sym c.if-not-may_negate.ensures) (omega arith) c.in_ok-set.ensures.value c.operands.invariant.goes_on op) c.in_err-right.ensures.value)
 
-pub bracketed-operands-preserved : goal.bracketed-operands-preserved
-bracketed-operands-preserved t c =
+pub bracketed_class-operands-preserved : goal.bracketed_class-operands-preserved
+bracketed_class-operands-preserved t c =
     let op = c.in-Some.ensures.value ∙ ap (λ (u : Text). Some (c.in-Some.how, u)) (sym c.skip.ensures.place) in
     record {
       goes_on = goes_on_then c.operands.invariant.goes_on (operands_step op c.in_ok-right.ensures.value (fun_ext c.in_ok-set-2.ensures));
       forward = omega (arith, c.operands.invariant.forward, c.in_ok-right.ensures.forward, c.skip.ensures.len);
     }
 
-pub bracketed-returns-then-not-is_at_any-clause-value : goal.bracketed-returns-then-not-is_at_any-clause-value
-bracketed-returns-then-not-is_at_any-clause-value t c =
-    unclosed c.requires c.opening-negated.ensures.value (sym c.if-not-may_turn.ensures) (omega arith) c.in_ok-set.ensures.value c.operands.invariant.goes_on c.in_default.ensures.value (sym c.if-not-is_at_any.ensures.value)
+pub bracketed_class-returns-then-not-is_at_any-clause-value : goal.bracketed_class-returns-then-not-is_at_any-clause-value
+bracketed_class-returns-then-not-is_at_any-clause-value t c =
+    unclosed c.requires c.opening-negated.ensures.value (sym c.if-not-may_negate.ensures) (omega arith) c.in_ok-set.ensures.value c.operands.invariant.goes_on c.in_default.ensures.value (sym c.if-not-is_at_any.ensures.value)
 
-pub bracketed-returns-clause-value : goal.bracketed-returns-clause-value
-bracketed-returns-clause-value t c =
-    rw c.skip-2.ensures.place (class_is c.requires c.opening-negated.ensures.value (sym c.if-not-may_turn.ensures) (omega arith) c.in_ok-set.ensures.value c.operands.invariant.goes_on c.in_default.ensures.value (sym c.if-not-is_at_any.ensures.value) (fun_ext c.in_ok-turned.ensures))
+pub bracketed_class-returns-clause-value : goal.bracketed_class-returns-clause-value
+bracketed_class-returns-clause-value t c =
+    rw c.skip-2.ensures.place (class_is c.requires c.opening-negated.ensures.value (sym c.if-not-may_negate.ensures) (omega arith) c.in_ok-set.ensures.value c.operands.invariant.goes_on c.in_default.ensures.value (sym c.if-not-is_at_any.ensures.value) (fun_ext c.in_ok-negate_if.ensures))
 
 pub items-returns-in_err-nested-clause-value : goal.items-returns-in_err-nested-clause-value
 items-returns-in_err-nested-clause-value t c =
     let p = err_from_is_err_and c.from_residual.result c.from_residual.ensures.1 in
     refused members (λ u f v. Items c.args.context.meaning c.args.context.fold c.args.room c.args.first none_of u f v) c.from_residual.result _ _ p.0 c.in_err-nested.field-0.0 p.1 p.2
-    (Refuses-weaker c.in_err-nested.field-0.0 (λ nothing. no_item c.more.invariant.goes_on (sym c.more-test.ensures) (no_nested (sym c.if-starts_class.ensures.value) nothing)) c.in_err-nested.ensures.value)
+    (MemoryOr-weaker c.in_err-nested.field-0.0 (λ nothing. no_item c.more.invariant.goes_on (sym c.more-test.ensures) (no_nested (sym c.if-starts_class.ensures.value) nothing)) c.in_err-nested.ensures.value)
 
 pub items-returns-in_err-token-clause-value : goal.items-returns-in_err-token-clause-value
 items-returns-in_err-token-clause-value t c =
     let p = err_from_is_err_and c.from_residual-in_err-token.result c.from_residual-in_err-token.ensures.1 in
     refused members (λ u f v. Items c.args.context.meaning c.args.context.fold c.args.room c.args.first none_of u f v) c.from_residual-in_err-token.result _ _ p.0 c.in_err-token.field-0.0 p.1 p.2
-    (Refuses-weaker c.in_err-token.field-0.0 (λ nothing. no_item c.more.invariant.goes_on (sym c.more-test.ensures) (no_token (sym c.if-starts_class.ensures.value) nothing)) c.in_err-token.ensures.value)
+    (MemoryOr-weaker c.in_err-token.field-0.0 (λ nothing. no_item c.more.invariant.goes_on (sym c.more-test.ensures) (no_token (sym c.if-starts_class.ensures.value) nothing)) c.in_err-token.ensures.value)
 
 pub items-more-preserved-in_ok-add_set : goal.items-more-preserved-in_ok-add_set
 items-more-preserved-in_ok-add_set t c = record {

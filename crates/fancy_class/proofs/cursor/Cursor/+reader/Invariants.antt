@@ -6,20 +6,20 @@ use Rattle.fancy_class.specs.ClassViews.{gathered}
 use Rattle.fancy_class.proofs.ClassSteps.{GoesOn}
 use Rattle.fancy_class.proofs.cursor.Cursor.+reader.Given as goal
 
-abbrev pub decreases-bracketed : goal.decreases-bracketed
-decreases-bracketed l = 2 * l.room
+abbrev pub decreases-bracketed_class : goal.decreases-bracketed_class
+decreases-bracketed_class l = 2 * l.room
 
 abbrev pub decreases-items : goal.decreases-items
 decreases-items l = 2 * l.room + 1
 
-abbrev pub invariant-bracketed-operands : goal.invariant-bracketed-operands
-invariant-bracketed-operands l = record {
+abbrev pub invariant-bracketed_class-operands : goal.invariant-bracketed_class-operands
+invariant-bracketed_class-operands l = record {
   goes_on : GoesOn (λ g r. Operands l.context.meaning l.context.fold (l.room - 1) (members l.initial.set) l.initial.self.rest.now g r) (λ g r. Operands l.context.meaning l.context.fold (l.room - 1) (members l.set) l.self.rest.now g r);
   forward : length l.self.rest.now ≤ length l.initial.self.rest.now;
 }
 
-abbrev pub decreases-bracketed-operands : goal.decreases-bracketed-operands
-decreases-bracketed-operands l = length l.self.rest.now
+abbrev pub decreases-bracketed_class-operands : goal.decreases-bracketed_class-operands
+decreases-bracketed_class-operands l = length l.self.rest.now
 
 abbrev pub invariant-items-more : goal.invariant-items-more
 invariant-items-more l = record {

@@ -2,9 +2,9 @@ use Rattle.std.proofs.Common.{◌≡◌, ◌<◌, ◌≤◌, ◌+◌, ℕ, List,
 use Rattle.std.specs.Borrow.{Bor}
 use Rattle.std.proofs.lemmas.List.{take_all, length-set}
 use Rattle.fancy_tree.specs.Names.{named_groups}
-use Rattle.fancy_core.specs.Names.{names_in}
-use Rattle.fancy_core.specs.Regexes.{groups_in}
-use Rattle.fancy_core.proofs.NamesLemmas.{Placed, placed_none, as_many, placed_more, placed_past, placed_all}
+use Rattle.fancy_core.specs.CaptureNames.{names_in}
+use Rattle.fancy_core.specs.Regexes.{group_count_in}
+use Rattle.fancy_core.proofs.CaptureNamesLemmas.{Placed, placed_none, as_many, placed_more, placed_past, placed_all}
 use Rattle.fancy_core.proofs.NumberedLemmas.{as_many_as_groups, first_is_none}
 use Rattle.fancy_core.proofs.regex.Regex.capture_names.Goals as goal
 use Rattle.fancy_core.proofs.regex.Regex.capture_names.Goals.{then-named-len, else-named-len}
@@ -37,7 +37,7 @@ loop-named-preserved c =
 pub returns-clause-names : goal.returns-clause-names
 returns-clause-names c =
     let all : named_groups (take c.loop-named.named-index c.names-groups.result.now) ≡ names_in c.args.self.now = ap named_groups (take_all c.loop-named.named-index c.names-groups.result.now c.loop-named-test.false) ∙ c.names-groups.ensures in
-    placed_all c.loop-named.names.items (groups_in c.args.self.now) (names_in c.args.self.now) c.loop-named.invariant.0 (subst (λ l. Placed c.loop-named.names.items l) all c.loop-named.invariant.1)
+    placed_all c.loop-named.names.items (group_count_in c.args.self.now) (names_in c.args.self.now) c.loop-named.invariant.0 (subst (λ l. Placed c.loop-named.names.items l) all c.loop-named.invariant.1)
 
 pub returns-clause-count : goal.returns-clause-count
 returns-clause-count c = ap length (returns-clause-names c) ∙ as_many_as_groups c.args.self.now

@@ -1,4 +1,4 @@
-use Rattle.fancy_core.proofs.ReplaceLemmas.{if_ok, if_err}
+use Rattle.fancy_search.proofs.ResultLemmas.{if_ok, if_err}
 use Rattle.fancy_core.proofs.regex.Regex.try_replacen.Goals as goal
 
 pub returns-clause-text : goal.returns-clause-text

@@ -1,8 +1,7 @@
 use Rattle.std.proofs.Common.{refl}
-use Rattle.fancy_core.specs.GroupTexts.{bytes_of_str, seen_in}
-use Rattle.fancy_core.specs.Replacing.{expansion_of}
+use Rattle.fancy_core.specs.GroupTexts.{bytes_of_str, expansion_of, seen_in}
 use Rattle.fancy_core.proofs.FixedLemmas.{fixed_is_expansion}
-use Rattle.fancy_core.proofs.ReplaceLemmas.{if_ok}
+use Rattle.fancy_search.proofs.ResultLemmas.{if_ok}
 use Rattle.fancy_core.proofs.replacer.templates.append_expanded.Goals as goal
 
 pub returns-clause-ok : goal.returns-clause-ok

@@ -1,7 +1,7 @@
 use Rattle.std.proofs.Common.{inr, sym, ◌∙◌}
 use Rattle.fancy_core.proofs.RefusedFromLemmas.{search_refused}
 use Rattle.fancy_core.proofs.ReplaceLemmas.{one_taken}
-use Rattle.fancy_core.specs.Rewriting.{regex_of, text_of}
+use Rattle.fancy_core.specs.Rewriting.{rewriting_regex, rewriting_text}
 use Rattle.fancy_core.proofs.rewriting.Rewriting.next_match.Goals as goal
 
 pub returns-in_ok-push_str-in-Some-Ok-clause-steps : goal.returns-in_ok-push_str-in-Some-Ok-clause-steps
@@ -12,4 +12,4 @@ returns-in-Some-Err-clause-refused c =
     let steps = rw c.in-Some-Err.field-0-is at c.in-Some-Err.ensures.steps in
     let going = c.in-Some-Err.ensures.open in
     let before = c.args.self.now in
-    inr (search_refused (regex_of before) (text_of before) before.walk.request before.walk.continues before.walk.skips_empty before.walk.ended before.last before.left c.in-Some-Err.error before.of_text going (before.before going) steps.0)
+    inr (search_refused (rewriting_regex before) (rewriting_text before) before.searcher.request before.searcher.continues before.searcher.skips_empty before.searcher.ended before.last before.left c.in-Some-Err.error before.of_text going (before.before going) steps.0)

@@ -5,9 +5,9 @@ use Rattle.fancy_engine.specs.declared.slot.Write.{Write}
 use Rattle.fancy_engine.specs.Work.{returns_of, went_back}
 use Rattle.fancy_machine.specs.declared.layer.Layer.{Layer}
 use Rattle.fancy_machine.specs.Frames.{Spot, Frame}
-use Rattle.fancy_machine.specs.Held.{spot_of, spot_at, frame_at, frames_of, Rises}
+use Rattle.fancy_machine.specs.Layers.{spot_of, spot_at, frame_at, frames_of, Rises}
 use Rattle.fancy_machine.specs.Machine.{IsSpent, Takes}
-use Rattle.fancy_machine.proofs.Layers.{counted_snoc, saves_one, saves_none, rises_pop, rises_more, frames_snoc, frames_undone, takes_by, takes_past, spent_past, unspent_past}
+use Rattle.fancy_machine.proofs.LayerLemmas.{counted_snoc, saves_one, saves_none, rises_pop, rises_more, frames_snoc, frames_undone, takes_by, takes_past, spent_past, unspent_past}
 use Rattle.fancy_machine.proofs.trail.Trail.back.Goals as goal
 
 pub layers-preserved : goal.layers-preserved

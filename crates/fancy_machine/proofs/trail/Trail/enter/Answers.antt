@@ -1,7 +1,7 @@
 use Rattle.std.proofs.Common.{List, arith, length, sym, subst}
 use Rattle.fancy_machine.specs.declared.layer.Layer.{Layer}
-use Rattle.fancy_machine.specs.Held.{Rises}
-use Rattle.fancy_machine.proofs.Layers.{counted_snoc, rises_push}
+use Rattle.fancy_machine.specs.Layers.{Rises}
+use Rattle.fancy_machine.proofs.LayerLemmas.{counted_snoc, rises_push}
 use Rattle.fancy_machine.proofs.trail.Trail.enter.Goals as goal
 
 pub invariant_of-self-2 : goal.invariant_of-self-2

@@ -2,10 +2,10 @@ use Rattle.std.proofs.Common.{◌≡◌, ◌∙◌, ap, arith, get_or, length, l
 use Rattle.std.proofs.lemmas.List.{get_or_read}
 use Rattle.fancy_engine.specs.declared.slot.Slot.{Slot}
 use Rattle.fancy_engine.specs.declared.slot.Write.{Write}
-use Rattle.fancy_engine.specs.Threads.{empty}
+use Rattle.fancy_engine.specs.Threads.{empty_slot}
 use Rattle.fancy_machine.specs.Frames.{Held}
 use Rattle.fancy_machine.specs.Machine.{opened_at}
-use Rattle.fancy_machine.proofs.Layers.{rises_more, frames_write, opened_spot}
+use Rattle.fancy_machine.proofs.LayerLemmas.{rises_more, frames_write, opened_spot}
 use Rattle.fancy_machine.proofs.trail.Trail.open_group.Goals as goal
 
 pub invariant_of-self-2 : goal.invariant_of-self-2
@@ -17,8 +17,8 @@ invariant_of-self-2 c = (
 
 pub returns-clause-now : goal.returns-clause-now
 returns-clause-now c =
-    let old : c.index-old.result.now ≡ get_or c.self.inside.slots.items c.args.group empty =
-    get_or_read c.self.inside.slots.items c.args.group c.index-old.result.now (omega (arith, c.if-group-len.false, c.self.inside.slots.ok.0)) c.index-old.ensures empty in
+    let old : c.index-old.result.now ≡ get_or c.self.inside.slots.items c.args.group empty_slot =
+    get_or_read c.self.inside.slots.items c.args.group c.index-old.result.now (omega (arith, c.if-group-len.false, c.self.inside.slots.ok.0)) c.index-old.ensures empty_slot in
     opened_spot c.self.inside.at c.args.next c.self.inside.limit c.self.inside.place c.self.inside.kept c.args.group c.self.inside.slots.items c.index-old.result.now old
     ∙ ap (λ (h : Held). opened_at c.args.group c.args.next h.now) c.self.view_is
 
@@ -26,7 +26,7 @@ pub returns-clause-frames : goal.returns-clause-frames
 returns-clause-frames c =
     let w : Write = record { slot = c.args.group; old = c.index-old.result.now } in
     let x : Slot = record { from = c.self.inside.place; span = c.index-old.result.now.span } in
-    let old : c.index-old.result.now ≡ get_or c.self.inside.slots.items c.args.group empty =
-    get_or_read c.self.inside.slots.items c.args.group c.index-old.result.now (omega (arith, c.if-group-len.false, c.self.inside.slots.ok.0)) c.index-old.ensures empty in
+    let old : c.index-old.result.now ≡ get_or c.self.inside.slots.items c.args.group empty_slot =
+    get_or_read c.self.inside.slots.items c.args.group c.index-old.result.now (omega (arith, c.if-group-len.false, c.self.inside.slots.ok.0)) c.index-old.ensures empty_slot in
     rw c.in_ok-push.ensures.items
     (frames_write c.self.inside.slots.items c.self.inside.log.items c.self.inside.layers.items w x c.self.invariant.2 old ∙ ap (λ (h : Held). h.frames) c.self.view_is)

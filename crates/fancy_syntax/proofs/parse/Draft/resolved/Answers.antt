@@ -2,9 +2,9 @@ use Rattle.std.proofs.Common.{◌≡◌, List, All, Any, Some, None, map, ap, ap
 use Rattle.std.proofs.lemmas.Result.{err_from_is_err_and}
 use Rattle.fancy_syntax.specs.declared.reference.Target.{Target as Found_target}
 use Rattle.fancy_tree.specs.Pattern.{pattern_of}
-use Rattle.fancy_syntax.specs.References.{Groups, group_for, fault_of}
+use Rattle.fancy_syntax.specs.References.{Groups, group_for, target_fault}
 use Rattle.fancy_tree.specs.Refers.{number_in, refers_to}
-use Rattle.fancy_syntax.specs.Views.{target_of, targets_of, groups_in, RefusesReference}
+use Rattle.fancy_syntax.specs.Views.{target_of, targets_of, draft_groups, RefusesReference}
 use Rattle.fancy_syntax.proofs.ResolveLemmas.{same_groups}
 use Rattle.fancy_syntax.proofs.parse.Draft.resolved.Goals as goal
 
@@ -13,8 +13,8 @@ returns-in_err-numbers-clause-refused c =
     let p = err_from_is_err_and c.from_residual.result c.from_residual.ensures.1 in
     let same = same_groups c.args.only_named c.args.self c.names_alone-by_name.result c.as_slice-listed.result.now c.names_alone-by_name.ensures c.as_slice-listed.ensures.value in
     rw (p.1, p.2)
-    (subst (λ (ts : List Found_target). RefusesReference c.in_err-numbers.field-0.0 (λ f. Any (λ w. fault_of (groups_in c.args.only_named c.args.self) (target_of w) ≡ Some f) ts)) c.deref.ensures.value
-    (subst (λ (g : Groups). RefusesReference c.in_err-numbers.field-0.0 (λ f. Any (λ w. fault_of g (target_of w) ≡ Some f) c.deref.result.now)) same c.in_err-numbers.ensures.refused))
+    (subst (λ (ts : List Found_target). RefusesReference c.in_err-numbers.field-0.0 (λ f. Any (λ w. target_fault (draft_groups c.args.only_named c.args.self) (target_of w) ≡ Some f) ts)) c.deref.ensures.value
+    (subst (λ (g : Groups). RefusesReference c.in_err-numbers.field-0.0 (λ f. Any (λ w. target_fault g (target_of w) ≡ Some f) c.deref.result.now)) same c.in_err-numbers.ensures.refused))
 
 pub returns-clause-tree : goal.returns-clause-tree
 returns-clause-tree c =
@@ -26,5 +26,5 @@ returns-clause-tree c =
 pub returns-clause-resolved : goal.returns-clause-resolved
 returns-clause-resolved c =
     let same = same_groups c.args.only_named c.args.self c.names_alone-by_name.result c.as_slice-listed.result.now c.names_alone-by_name.ensures c.as_slice-listed.ensures.value in
-    subst (λ (ts : List Found_target). All (λ w. fault_of (groups_in c.args.only_named c.args.self) (target_of w) ≡ None) ts) c.deref.ensures.value
-    (subst (λ (g : Groups). All (λ w. fault_of g (target_of w) ≡ None) c.deref.result.now) same c.in_ok-numbers.ensures.resolved)
+    subst (λ (ts : List Found_target). All (λ w. target_fault (draft_groups c.args.only_named c.args.self) (target_of w) ≡ None) ts) c.deref.ensures.value
+    (subst (λ (g : Groups). All (λ w. target_fault g (target_of w) ≡ None) c.deref.result.now) same c.in_ok-numbers.ensures.resolved)

@@ -2,7 +2,7 @@ use Rattle.std.proofs.Common.{◌+◌, ◌*◌, ◌≤◌, length, map}
 use Rattle.fancy_syntax.specs.Views.{place}
 use Rattle.fancy_tree.specs.Pattern.{pattern_of}
 use Rattle.fancy_syntax.specs.Grammar.{Parts, Branches}
-use Rattle.fancy_syntax.proofs.ReadingLemmas.{GoesOn}
+use Rattle.fancy_syntax.proofs.ParserLemmas.{GoesOn}
 use Rattle.fancy_syntax.proofs.parser.Parser.+parser.Given as goal
 
 abbrev pub decreases-alternatives : goal.decreases-alternatives

@@ -1,7 +1,7 @@
 use Rattle.std.proofs.Common.{arith}
 use Rattle.std.proofs.lemmas.Result.{err_from_is_err_and}
 use Rattle.fancy_syntax.specs.Views.{place}
-use Rattle.fancy_syntax.proofs.ReadingLemmas.{opening_refused, no_room}
+use Rattle.fancy_syntax.proofs.ParserLemmas.{opening_refused, no_room}
 use Rattle.fancy_syntax.proofs.parser.Parser.opening_within.Goals as goal
 
 pub returns-in_err-how-clause-value : goal.returns-in_err-how-clause-value

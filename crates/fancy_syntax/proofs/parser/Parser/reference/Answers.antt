@@ -14,7 +14,7 @@ returns-in_ok-push-in-Some-clause-value c =
     omega (arith, c.len-index.ensures, c.args.self.now.wanted.ok.0, length-map c.args.self.now.wanted.items target_of) in
     the_reference (place c.args.self.now) (sym c.in_ok-found.ensures.value ∙ ap (option_map reading_of) c.in-Some.is)
     (c.reference.ensures ∙ ap (backreference c.args.self.now.flags.ignore_case) count)
-    (ap (λ (l : List Target). start (record (scope_of c.args.self.now) { wanted = l }) c.in-Some.behind.now)
+    (ap (λ (l : List Target). start (record (scope_of c.args.self.now) { wanted = l }) c.in-Some.after.now)
     (ap (map target_of) c.in_ok-push-in-Some.ensures.items ∙ map-append target_of c.args.self.now.wanted.items (c.in-Some.target ∷ [])))
 
 pub returns-in-None-clause-value : goal.returns-in-None-clause-value

@@ -1,7 +1,7 @@
 use Rattle.std.proofs.Common.{◌≡◌, ◌-◌, ◌^◌, min, chars, sym, ap, ◌∙◌}
 use Rattle.fancy_syntax.specs.Counts.{past_digits, decimal}
 use Rattle.fancy_syntax.specs.Views.{groups_of}
-use Rattle.fancy_syntax.proofs.ReadingLemmas.{nothing_left, some_left}
+use Rattle.fancy_syntax.proofs.ParserLemmas.{nothing_left, some_left}
 use Rattle.fancy_syntax.proofs.ResolveLemmas.{by_its_number, no_number_either}
 use Rattle.fancy_syntax.proofs.resolve.Groups.in_digits.Goals as goal
 

@@ -1,11 +1,11 @@
 use Rattle.std.proofs.Common.{◌∙◌, ap}
 use Rattle.std.proofs.lemmas.Result.{err_from_is_err_and}
 use Rattle.fancy_template.specs.Checks.{first_fault}
-use Rattle.fancy_template.proofs.CheckLemmas.{fault_behind, fault_here}
+use Rattle.fancy_template.proofs.CheckLemmas.{fault_after, fault_here}
 use Rattle.fancy_template.proofs.expander.Expander.check.Goals as goal
 
 pub loop-step-preserved : goal.loop-step-preserved
-loop-step-preserved g c = c.loop-step.invariant ∙ fault_behind (g.G.GroupNames.groups c.args.regex.now) _ _ _ (rw c.in-Some.is at c.next.ensures.steps) c.in_ok-check_step.ensures.passes
+loop-step-preserved g c = c.loop-step.invariant ∙ fault_after (g.G.GroupNames.groups c.args.regex.now) _ _ _ (rw c.in-Some.is at c.next.ensures.steps) c.in_ok-check_step.ensures.passes
 
 pub returns-in_err-check_step-clause-refused : goal.returns-in_err-check_step-clause-refused
 returns-in_err-check_step-clause-refused g c =

@@ -1,5 +1,5 @@
 use Rattle.std.proofs.Common.{arith}
-use Rattle.fancy_tree.proofs.BitLemmas.{bit_clear}
+use Rattle.fancy_tree.proofs.CharSetLemmas.{bit_clear}
 use Rattle.fancy_tree.proofs.char_set.CharSet.new.Goals as goal
 
 pub loop-c-init : goal.loop-c-init

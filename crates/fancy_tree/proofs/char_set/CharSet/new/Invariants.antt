@@ -1,5 +1,5 @@
 use Rattle.std.proofs.Common.{◌≡◌, ◌↔◌, ◌<◌, ℕ, true}
-use Rattle.fancy_tree.specs.Low.{bit}
+use Rattle.fancy_tree.specs.CharSet.{bit}
 use Rattle.fancy_tree.specs.Members.{members}
 use Rattle.fancy_tree.proofs.char_set.CharSet.new.Given as goal
 

@@ -4,5 +4,5 @@ use Rattle.fancy_tree.proofs.set.Set.empty.Goals as goal
 pub invariant_of-result : goal.invariant_of-result
 invariant_of-result c = record { are_edges = no_edges _ c.new.ensures.items }
 
-pub returns : goal.returns
-returns c = λ x. no_edges-has _ x c.new.ensures.items
+pub returns-clause-none : goal.returns-clause-none
+returns-clause-none c = λ x. no_edges-has _ x c.new.ensures.items

@@ -22,6 +22,6 @@ pub returns : goal.returns
 returns c =
     let p = members c.args.self.now in
     let all = take_all _ _ c.loop-pair-test.false in
-    same_set c.combined.result
+    same_set c.combine.result
     (λ x. others_in (p x) p c.deref.result.now c.args.pairs.now x _
-    (ap (λ l. in_ranges l x) c.deref.ensures.value ∙ (c.loop-pair.invariant x ∙ ap (λ l. in_pairs l p x) all)) (c.in_ok-others.ensures x)) c.combined.ensures
+    (ap (λ l. in_ranges l x) c.deref.ensures.value ∙ (c.loop-pair.invariant x ∙ ap (λ l. in_pairs l p x) all)) (c.in_ok-others.ensures x)) c.combine.ensures

@@ -6,7 +6,7 @@ use Rattle.fancy_tree.specs.declared.tree.Tree.{Tree}
 use Rattle.fancy_tree.specs.Pattern.{pattern_of, in_sequence}
 use Rattle.fancy_tree.specs.Sizes.{has_size, has_sizes}
 use Rattle.fancy_tree.proofs.PatternLemmas.{pattern-Sequence, pattern-Alternative}
-use Rattle.fancy_tree.proofs.BehindLemmas.{have_sizes, one_size, only_part}
+use Rattle.fancy_tree.proofs.LookBehindLemmas.{have_sizes, one_size, only_part}
 use Rattle.fancy_tree.proofs.tree.Tree.+has_sizes.Goals as goal
 
 pub returns-in-Alternative : goal.returns-in-Alternative

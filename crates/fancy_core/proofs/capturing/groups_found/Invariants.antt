@@ -1,7 +1,0 @@
-use Rattle.std.proofs.Common.{◌≡◌}
-use Rattle.fancy_core.specs.Groups.{spans_of}
-use Rattle.fancy_core.specs.Scratch.{found_at}
-use Rattle.fancy_core.proofs.capturing.groups_found.Given as goal
-
-abbrev pub invariant-loop-number : goal.invariant-loop-number
-invariant-loop-number l = l.slots.items ≡ spans_of l.number (found_at l.position l.memory)

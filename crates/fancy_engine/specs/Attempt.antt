@@ -1,0 +1,55 @@
+-- What the runner says of an attempt, with its code, its haystack and its bounds.
+use Rattle.std.specs.Prelude.{ℕ, ◌+◌, ◌-◌, ◌*◌, Bool, List, Option}
+use Rattle.fancy_engine.specs.Instructions.{Instruction}
+use Rattle.fancy_engine.specs.declared.runner.Attempt.{Attempt}
+use Rattle.fancy_engine.specs.declared.runner.Next.{Next}
+use Rattle.fancy_engine.specs.Code.{instrs_of, code_len}
+use Rattle.fancy_engine.specs.Context.{Context, State}
+use Rattle.fancy_engine.specs.Reading.{search_context}
+use Rattle.fancy_engine.specs.Search.{is_match_boundary}
+use Rattle.fancy_engine.specs.Threads.{Thread, ThreadStack}
+use Rattle.fancy_engine.specs.Runner.{thread_run, events_of, first_accepted, ends_well, Known, Stepped, AllFailed, Resting, Running, Visited}
+
+module _ (a : Attempt) where
+  -- what the code sees; easy code has no `\G`, which would hold at the first position
+  abbrev pub context_in : Context
+  context_in = search_context a.haystack.now a.code.now.meaning a.suppressed a.first
+
+  abbrev pub instrs_in : List Instruction
+  instrs_in = instrs_of a.code.now
+
+  -- how many pairs of an instruction and a place there are
+  abbrev pub pairs_in : ℕ
+  pairs_in = (a.last - a.first + 1) * code_len a.code.now
+
+  -- a match may begin or end at a place
+  abbrev pub may_end_in : ℕ → Bool
+  may_end_in = is_match_boundary a.on_boundaries a.haystack.now
+
+  -- no visited pair gives an accepted outcome
+  abbrev pub AllFailedIn : ℕ → List Bool → Type 0
+  AllFailedIn deep table = AllFailed may_end_in context_in a.first a.last instrs_in deep table
+
+  -- what the thread that is followed gives is known
+  abbrev pub KnownIn : ℕ → ℕ → ThreadStack → Type 0
+  KnownIn kept deep ts = Known context_in a.last instrs_in deep kept ts.current
+
+  -- the first accepted outcome of the thread that is followed
+  abbrev pub first_accepted_in : ℕ → ℕ → ThreadStack → Option State
+  first_accepted_in kept deep ts = first_accepted (ends_well may_end_in) (events_of (thread_run context_in a.last instrs_in deep kept ts.current))
+
+  -- what a step did
+  abbrev pub SteppedIn : ℕ → ℕ → Next → ThreadStack → ThreadStack → Type 0
+  SteppedIn kept deep next old new = Stepped context_in a.last instrs_in deep kept next old.current old.saved new.current new.saved
+
+  -- what the runner still has before it
+  abbrev pub RunningIn : ℕ → ℕ → Option State → List Bool → ThreadStack → Type 0
+  RunningIn kept deep goal table ts = Running may_end_in context_in a.first a.last instrs_in deep kept goal table ts.current ts.saved
+
+  -- the same once the saved branches are all that is left
+  abbrev pub RestingIn : ℕ → ℕ → Option State → List Bool → List Thread → Type 0
+  RestingIn kept deep goal table saved = Resting may_end_in context_in a.first a.last instrs_in deep kept goal table saved
+
+  -- the same after a visit
+  abbrev pub VisitedIn : ℕ → ℕ → Next → Option State → List Bool → ThreadStack → Type 0
+  VisitedIn kept deep next goal table ts = Visited may_end_in context_in a.first a.last instrs_in deep kept next goal table ts.current ts.saved

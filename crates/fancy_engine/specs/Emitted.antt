@@ -1,0 +1,16 @@
+-- The instructions that were emitted so far.
+use Rattle.std.specs.Prelude.{ℕ, List, length}
+use Rattle.fancy_engine.specs.declared.emitter.Emitter.{Emitter}
+use Rattle.fancy_engine.specs.declared.code.Instr.{Instr}
+use Rattle.fancy_engine.specs.Instructions.{Instruction, with_set, with_sets}
+
+-- each with the edges of its set
+abbrev pub instrs_in : Emitter → List Instruction
+instrs_in e = with_sets e.sets.items e.instrs.items
+
+abbrev pub len_in : Emitter → ℕ
+len_in e = length (instrs_in e)
+
+-- one instruction with the edges of its set
+abbrev pub instr_by : Emitter → Instr → Instruction
+instr_by e i = with_set e.sets.items i

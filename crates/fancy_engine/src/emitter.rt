@@ -1,0 +1,148 @@
+//! The code of a pattern while it is made.
+
+ghost use Rattle.std.specs.Prelude.{◌≡◌, ◌+◌, ◌<◌, IfOk, IsTrue, true, length, slice_set};
+ghost use Rattle.fancy_tree.specs.Pattern.{member_of};
+ghost use Rattle.fancy_tree.specs.Members.{edges_of};
+ghost use Rattle.fancy_engine.specs.Instructions.{are_known, is_known, edges_at};
+
+use crate::code::{Code, Entry, Instr};
+use fancy_tree::char_set::CharSet;
+use fancy_tree::set::Set;
+use fancy_tree::tree::Meaning;
+use std::alloc::{AllocError, Global};
+
+/// The instructions so far, and the sets in them.
+///
+/// A repeat that emits its body more than once goes back before each further copy, by `next_set`, to the first set of the
+/// copy before; so each copy of a set finds the one that is there.
+#[derive(Drop)]
+pub(crate) struct Emitter {
+    instrs: Vec<Instr>,
+    sets: Vec<CharSet>,
+    // the number of the next set, if that is there already
+    pub(crate) next_set: usize,
+    ghost known: { IsTrue (are_known (length sets.items) instrs.items) },
+}
+
+impl Emitter {
+    ghost use Rattle.fancy_engine.specs.Code.{instrs_of};
+    ghost use Rattle.fancy_engine.specs.Emitted.{instrs_in, len_in, instr_by};
+    ghost use Rattle.fancy_engine.specs.Compile.{Keeps, Has, HasBoth, Emitted, StaysEasy, is_easy_instr};
+
+    /// No instruction yet.
+    pub(crate) fn new(alloc: Global) -> Emitter
+        ensures { len_in result ≡ 0 }
+    {
+        Emitter {
+            instrs: Vec::new(alloc),
+            sets: Vec::new(alloc),
+            next_set: 0,
+        }
+    }
+
+    pub(crate) fn allocator(&self) -> Global {
+        *self.instrs.allocator()
+    }
+
+    /// One more instruction, and its number.
+    pub(crate) fn put(&mut self, instr: Instr) -> Result<usize, AllocError>
+        requires known { is_known (length self.old.sets.items) instr ≡ true }
+        ensures at { IfOk result (λ at. at ≡ len_in self.old) }
+        ensures length { IfOk result (λ _. len_in self.new ≡ len_in self.old + 1) }
+        ensures kept { IfOk result (λ _. Keeps (instrs_in self.old) (instrs_in self.new)) }
+        ensures easy { IfOk result (λ _. is_easy_instr (instr_by self.old instr) ≡ true → StaysEasy (instrs_in self.old) (instrs_in self.new)) }
+        ensures stands { IfOk result (λ at. Has (instrs_in self.new) at (instr_by self.old instr)) }
+        ensures sets { self.new.sets ≡ self.old.sets }
+    {
+        let at = self.instrs.len();
+        self.instrs.push(instr)?;
+        Ok(at)
+    }
+
+    /// One more instruction, for both forms.
+    pub(crate) fn put_shared(&mut self, instr: Instr) -> Result<Entry, AllocError>
+        requires known { is_known (length self.old.sets.items) instr ≡ true }
+        ensures at { IfOk result (λ entry. entry.moved ≡ len_in self.old) }
+        ensures still { IfOk result (λ entry. entry.still ≡ entry.moved) }
+        ensures length { IfOk result (λ _. len_in self.new ≡ len_in self.old + 1) }
+        ensures kept { IfOk result (λ _. Keeps (instrs_in self.old) (instrs_in self.new)) }
+        ensures easy { IfOk result (λ _. is_easy_instr (instr_by self.old instr) ≡ true → StaysEasy (instrs_in self.old) (instrs_in self.new)) }
+        ensures stands { IfOk result (λ entry. Has (instrs_in self.new) entry.moved (instr_by self.old instr)) }
+    {
+        let at = self.put(instr)?;
+        Ok(Entry {
+            moved: at,
+            still: at,
+        })
+    }
+
+    /// One more instruction for each form.
+    pub(crate) fn put_both(&mut self, moved: Instr, still: Instr) -> Result<Entry, AllocError>
+        requires moved_known { is_known (length self.old.sets.items) moved ≡ true }
+        requires still_known { is_known (length self.old.sets.items) still ≡ true }
+        ensures moved_at { IfOk result (λ entry. entry.moved ≡ len_in self.old) }
+        ensures still_at { IfOk result (λ entry. entry.still ≡ len_in self.old + 1) }
+        ensures length { IfOk result (λ _. len_in self.new ≡ len_in self.old + 2) }
+        ensures kept { IfOk result (λ _. Keeps (instrs_in self.old) (instrs_in self.new)) }
+        ensures easy { IfOk result (λ _. is_easy_instr (instr_by self.old moved) ≡ true → is_easy_instr (instr_by self.old still) ≡ true
+            → StaysEasy (instrs_in self.old) (instrs_in self.new)) }
+        ensures stands { IfOk result (λ entry. HasBoth (instrs_in self.new) entry (instr_by self.old moved) (instr_by self.old still)) }
+    {
+        let moved = self.put(moved)?;
+        let still = self.put(still)?;
+        Ok(Entry { moved, still })
+    }
+
+    /// One more instruction that consumes an item of the set, for both forms.
+    pub(crate) fn put_member(
+        &mut self,
+        meaning: Meaning,
+        set: &Set,
+        next: Entry,
+    ) -> Result<Entry, AllocError>
+        ensures length { IfOk result (λ _. len_in self.new ≡ len_in self.old + 1) }
+        ensures kept { IfOk result (λ _. Keeps (instrs_in self.old) (instrs_in self.new)) }
+        ensures easy { IfOk result (λ _. StaysEasy (instrs_in self.old) (instrs_in self.new)) }
+        ensures means { IfOk result (λ entry. Emitted meaning (member_of (edges_of set.now)) (len_in self.old) (instrs_in self.new) next entry) }
+    {
+        let number = self.number_of(set)?;
+        self.put_shared(Instr::Member(number, next.moved))
+    }
+
+    /// The number of the set, which is shared with the copy before where there is one.
+    fn number_of(&mut self, set: &Set) -> Result<usize, AllocError>
+        ensures instrs { IfOk result (λ _. instrs_in self.new ≡ instrs_in self.old) }
+        ensures within { IfOk result (λ number. number < length self.new.sets.items) }
+        ensures edges { IfOk result (λ number. edges_at self.new.sets.items number ≡ edges_of set.now) }
+    {
+        let number = self.next_set;
+        if number < self.sets.len() && self.sets[number].is_of(set) {
+            self.next_set = number + 1;
+            return Ok(number);
+        }
+        let number = self.sets.len();
+        self.sets.push(CharSet::new(set.copied()?))?;
+        self.next_set = number + 1;
+        Ok(number)
+    }
+
+    /// The instruction at `at`, which was reserved, is this one.
+    pub(crate) fn write(&mut self, at: usize, instr: Instr)
+        requires within { at < len_in self.old }
+        requires known { is_known (length self.old.sets.items) instr ≡ true }
+        ensures length { len_in self.new ≡ len_in self.old }
+        ensures items { instrs_in self.new ≡ slice_set (instrs_in self.old) at (instr_by self.old instr) }
+    {
+        self.instrs[at] = instr;
+    }
+
+    /// The code, which begins at `start`.
+    pub(crate) fn into_code(self, start: usize, groups: usize, meaning: Meaning) -> Code
+        ensures instrs { instrs_of result ≡ instrs_in self }
+        ensures start { result.start ≡ start }
+        ensures groups { result.groups ≡ groups }
+        ensures meaning { result.meaning ≡ meaning }
+    {
+        Code::new(self.instrs, self.sets, start, groups, meaning)
+    }
+}

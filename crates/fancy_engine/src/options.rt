@@ -1,0 +1,43 @@
+//! The options of a search, of which both engines know.
+
+ghost use Rattle.std.specs.Prelude.{◌≡◌};
+ghost use Rattle.fancy_engine.specs.Reading.{suppressed_ends};
+ghost use Rattle.fancy_engine.specs.Search.{is_match_boundary};
+
+use crate::reading::SuppressedEnds;
+use fancy_input::input::Request;
+use fancy_input::places::is_boundary;
+
+/// The options that hold while a haystack is searched.
+#[derive(Clone, Copy, PartialEq, Eq, Debug)]
+pub struct SearchOptions {
+    /// Matches begin and end on character boundaries alone.
+    pub on_boundaries: bool,
+    /// A request may say that the text's start, or its end, does not count as one, or that `\G` holds nowhere.
+    pub overrides: bool,
+    /// An empty match is refused.
+    pub not_empty: bool,
+    /// At a position the longest match is asked for, and not the first.
+    pub longest: bool,
+    /// The most returns of a search.
+    pub backtrack_limit: usize,
+}
+
+impl SearchOptions {
+    /// The ends of the text that the request suppresses, where it may.
+    pub fn suppressed_ends(self, request: Request) -> SuppressedEnds
+        ensures { result ≡ suppressed_ends self.overrides request }
+    {
+        SuppressedEnds {
+            start: self.overrides && !request.start_text,
+            end: self.overrides && !request.end_text,
+        }
+    }
+}
+
+/// Whether a match may begin or end at a place, a byte offset: anywhere, or on character boundaries alone.
+pub fn is_match_boundary(on_boundaries: bool, haystack: &[u8], place: usize) -> bool
+    ensures { result ≡ is_match_boundary on_boundaries haystack.now place }
+{
+    !on_boundaries || is_boundary(haystack, place)
+}

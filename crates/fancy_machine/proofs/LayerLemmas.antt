@@ -1,0 +1,210 @@
+-- The layers as frames.
+use Rattle.std.proofs.Common.{◌≡◌, ℕ, zero, suc, ◌+◌, ◌-◌, ◌<◌, ◌≤◌, true, false, List, [], ◌∷◌, ◌++◌, length, map, take, drop, set, get_or, Option, Some, refl, sym, ap, ap₂, ◌∙◌, subst, arith, true≢false, length-append}
+use Rattle.std.specs.Prelude.{reverse, slice_index_or}
+use Rattle.std.proofs.lemmas.List.{take_more, map-append, reverse-append, drop-append-le, take-append-drop, length-take-le, set-set, set-get_or, map-set}
+use Rattle.fancy_input.specs.declared.span.Span.{Span}
+use Rattle.fancy_engine.specs.declared.slot.Slot.{Slot}
+use Rattle.fancy_engine.specs.declared.slot.Write.{Write}
+use Rattle.fancy_engine.specs.Threads.{undone, empty_slot, slot_from}
+use Rattle.fancy_engine.proofs.ThreadsLemmas.{undone-append, saved_now, open_spans, close_starts, close_spans}
+use Rattle.fancy_machine.specs.declared.layer.Layer.{Layer}
+use Rattle.fancy_machine.specs.declared.layer.Kind.{Kind}
+use Rattle.fancy_machine.specs.declared.layer.Kind.TheVariants as k
+use Rattle.fancy_machine.specs.Frames.{Spot, Region, Frame, Saved, Within, saved, saved_in}
+use Rattle.fancy_machine.specs.Layers.{spot_of, frame_by, saves, is_one, branches_in, spot_at, frame_at, frames_of, Rises}
+use Rattle.fancy_machine.specs.Machine.{opened_at, closed_at, IsBare, HasInnermost, IsSpent, Takes, ReachesInnermost}
+
+pub rises_le : (lo n : ℕ) (ls : List Layer) → Rises lo ls n → lo ≤ n
+rises_le lo n [] r = r
+rises_le lo n (l ∷ ls) r = let le : l.log ≤ n = rises_le l.log n ls r.1 in omega (arith, r.0, le)
+
+pub rises_more : (lo n m : ℕ) (ls : List Layer) → n ≤ m → Rises lo ls n → Rises lo ls m
+rises_more lo n m [] le r = omega (arith, r)
+rises_more lo n m (l ∷ ls) le r = (r.0, rises_more l.log n m ls le r.1)
+
+pub rises_push : (lo n m : ℕ) (ls : List Layer) (l : Layer) → Rises lo ls n → l.log ≡ n → n ≤ m → Rises lo (ls ++ l ∷ []) m
+rises_push lo n m [] l r e le = (omega (arith, r, e), omega (arith, e))
+rises_push lo n m (d ∷ ls) l r e le = (r.0, rises_push d.log n m ls l r.1 e le)
+
+pub rises_pop : (lo n : ℕ) (ls : List Layer) (l : Layer) → Rises lo (ls ++ l ∷ []) n → Rises lo ls l.log × (l.log ≤ n)
+rises_pop lo n [] l r = (r.0, r.1)
+rises_pop lo n (d ∷ ls) l r = let s = rises_pop d.log n ls l r.1 in ((r.0, s.0), s.1)
+
+pub rises_take : (lo n j : ℕ) (ls : List Layer) → Rises lo ls n → Rises lo (take j ls) n
+rises_take lo n zero [] r = r
+rises_take lo n (suc j) [] r = r
+rises_take lo n zero (l ∷ ls) r = rises_le lo n (l ∷ ls) r
+rises_take lo n (suc j) (l ∷ ls) r = (r.0, rises_take l.log n j ls r.1)
+
+maps_same : (f g : Layer → Frame) (lo n : ℕ) (ls : List Layer) → Rises lo ls n → ((l : Layer) → l.log ≤ n → f l ≡ g l) → map f ls ≡ map g ls
+maps_same f g lo n [] r same = refl
+maps_same f g lo n (l ∷ ls) r same = ap₂ (λ (x : Frame) (xs : List Frame). x ∷ xs) (same l (rises_le l.log n ls r.1)) (maps_same f g l.log n ls r.1 same)
+
+-- the frame of a layer depends on the slots that it stands for
+frame_same : (l : Layer) (s t : List Slot) → s ≡ t → frame_by l.kind (spot_of l.at l.limit l.place l.kept s) ≡ frame_by l.kind (spot_of l.at l.limit l.place l.kept t)
+frame_same l s t e = ap (λ (u : List Slot). frame_by l.kind (spot_of l.at l.limit l.place l.kept u)) e
+
+-- a write that is logged changes no frame
+pub frames_write : (slots : List Slot) (log : List Write) (ls : List Layer) (w : Write) (x : Slot) → Rises 0 ls (length log) → w.old ≡ get_or slots w.slot empty_slot
+    → frames_of (log ++ w ∷ []) (set slots w.slot x) ls ≡ frames_of log slots ls
+frames_write slots log ls w x r old =
+    ap reverse
+    (maps_same (frame_at (log ++ w ∷ []) (set slots w.slot x)) (frame_at log slots) 0 (length log) ls r
+    (λ l le. frame_same l _ _
+    (ap (undone (set slots w.slot x)) (drop-append-le l.log log (w ∷ []) le)
+    ∙ undone-append (set slots w.slot x) (drop l.log log) (w ∷ [])
+    ∙ ap (λ (s : List Slot). undone s (drop l.log log)) (set-set slots w.slot x w.old ∙ ap (set slots w.slot) old ∙ set-get_or slots w.slot empty_slot))))
+
+-- nor does going back to where the log was when these were made
+pub frames_undone : (slots : List Slot) (log : List Write) (n : ℕ) (ls : List Layer) → Rises 0 ls n → n ≤ length log
+    → frames_of (take n log) (undone slots (drop n log)) ls ≡ frames_of log slots ls
+frames_undone slots log n ls r le =
+    ap reverse
+    (maps_same (frame_at (take n log) (undone slots (drop n log))) (frame_at log slots) 0 n ls r
+    (λ l low. frame_same l _ _
+    (sym (undone-append slots (drop l.log (take n log)) (drop n log))
+    ∙ ap (undone slots)
+    (sym (drop-append-le l.log (take n log) (drop n log) (omega (arith, low, length-take-le n log le)))
+    ∙ ap (drop l.log) (take-append-drop n log)))))
+
+pub frames_snoc : (log : List Write) (slots : List Slot) (ls : List Layer) (l : Layer) → frames_of log slots (ls ++ l ∷ []) ≡ frame_at log slots l ∷ frames_of log slots ls
+frames_snoc log slots ls l = ap reverse (map-append (frame_at log slots) ls (l ∷ [])) ∙ reverse-append (map (frame_at log slots) ls) (frame_at log slots l ∷ [])
+
+-- a layer that is made now stands for the slots as they are
+pub frames_push : (log : List Write) (slots : List Slot) (ls items : List Layer) (l : Layer) → items ≡ ls ++ l ∷ [] → l.log ≡ length log
+    → frames_of log slots items ≡ frame_by l.kind (spot_of l.at l.limit l.place l.kept slots) ∷ frames_of log slots ls
+frames_push log slots ls items l e is =
+    ap (frames_of log slots) e ∙ frames_snoc log slots ls l
+    ∙ ap (λ (f : Frame). f ∷ frames_of log slots ls) (frame_same l _ _ (saved_now slots log l.log (omega (arith, is))))
+
+pub branches_snoc : (ls : List Layer) (l : Layer) → branches_in (ls ++ l ∷ []) ≡ branches_in ls + saves l.kind
+branches_snoc [] l = omega arith
+branches_snoc (d ∷ ls) l = omega (arith, branches_snoc ls l)
+
+saved_by : (j : Kind) (x : Spot) → saved_in (frame_by j x) ≡ saves j
+saved_by k.Branch x = refl
+saved_by k.Atom x = refl
+saved_by (k.Look behind) x = refl
+saved_by (k.Denial behind) x = refl
+saved_by k.Condition x = refl
+
+saved_snoc : (fs : List Frame) (f : Frame) → saved (fs ++ f ∷ []) ≡ saved fs + saved_in f
+saved_snoc [] f = omega arith
+saved_snoc (g ∷ fs) f = omega (arith, saved_snoc fs f)
+
+-- the frames save as many branches as the layers
+pub saved_frames : (log : List Write) (slots : List Slot) (ls : List Layer) → saved (frames_of log slots ls) ≡ branches_in ls
+saved_frames log slots [] = refl
+saved_frames log slots (l ∷ ls) =
+    let e : frames_of log slots (l ∷ ls) ≡ frames_of log slots ls ++ frame_at log slots l ∷ [] = reverse-cons (map (frame_at log slots) ls) (frame_at log slots l) in
+    let n : saved (frames_of log slots (l ∷ ls)) ≡ saved (frames_of log slots ls ++ frame_at log slots l ∷ []) = ap saved e in
+    omega (arith, n, saved_snoc (frames_of log slots ls) (frame_at log slots l), saved_frames log slots ls, saved_by l.kind (spot_at log slots l))
+  where
+    reverse-cons : (fs : List Frame) (f : Frame) → reverse (f ∷ fs) ≡ reverse fs ++ f ∷ []
+    reverse-cons fs f = reverse-append (f ∷ []) fs
+
+-- the layer below the first n + 1
+pub frames_of_more : (log : List Write) (slots : List Slot) (ls : List Layer) (n : ℕ) (d : Layer) → n < length ls
+    → frames_of log slots (take (n + 1) ls) ≡ frame_at log slots (slice_index_or ls n d) ∷ frames_of log slots (take n ls)
+frames_of_more log slots ls n d lt = ap (frames_of log slots) (take_more ls n d lt) ∙ frames_snoc log slots (take n ls) (slice_index_or ls n d)
+
+pub reaches_all : (ls : List Layer) (n : ℕ) → n ≡ length ls → take n ls ≡ ls → ReachesInnermost n ls
+reaches_all ls n e all = record {
+  within = omega (arith, e);
+  opens = λ log slots r rest o. subst (λ (l : List Layer). HasInnermost (frames_of log slots l) r rest) all o;
+  bare = λ log slots b. subst (λ (l : List Layer). IsBare (frames_of log slots l)) all b;
+}
+
+pub reaches_less : (ls : List Layer) (n : ℕ) (d : Layer) → n < length ls → (slice_index_or ls n d).kind ≡ k.Branch → ReachesInnermost (n + 1) ls → ReachesInnermost n ls
+reaches_less ls n d lt e r =
+    let m : (log : List Write) (slots : List Slot) → frames_of log slots (take (n + 1) ls) ≡ Saved (spot_at log slots (slice_index_or ls n d)) ∷ frames_of log slots (take n ls) =
+    λ log slots. frames_of_more log slots ls n d lt ∙ ap (λ (j : Kind). frame_by j (spot_at log slots (slice_index_or ls n d)) ∷ frames_of log slots (take n ls)) e in
+    record {
+      within = omega arith;
+      opens = λ log slots p rest o. r.opens log slots p rest (subst (λ (l : List Frame). HasInnermost l p rest) (sym (m log slots)) o);
+      bare = λ log slots b. r.bare log slots (subst IsBare (sym (m log slots)) b);
+    }
+
+-- the region of the innermost layer that is no saved branch
+pub opens_top : (log : List Write) (slots : List Slot) (ls : List Layer) (top : ℕ) (x : Layer) → x ≡ slice_index_or ls (top - 1) x → (top ≡ 0 → ⊥) → ReachesInnermost top ls
+    → (p : Region) → frame_by x.kind (spot_at log slots x) ≡ Within p → HasInnermost (frames_of log slots ls) p (frames_of log slots (take (top - 1) ls))
+opens_top log slots ls top x at some r p e =
+    let same : top ≡ top - 1 + 1 = omega (arith, some) in
+    let r' : ReachesInnermost (top - 1 + 1) ls = subst (λ (n : ℕ). ReachesInnermost n ls) same r in
+    let f : frame_at log slots (slice_index_or ls (top - 1) x) ≡ Within p = sym (ap (frame_at log slots) at) ∙ e in
+    r'.opens log slots p (frames_of log slots (take (top - 1) ls))
+    (subst (λ (l : List Frame). HasInnermost l p (frames_of log slots (take (top - 1) ls)))
+    (sym (frames_of_more log slots ls (top - 1) x (omega (arith, r.within, some)) ∙ ap (λ (g : Frame). g ∷ frames_of log slots (take (top - 1) ls)) f)) (refl, refl))
+
+-- a branch is taken, or passed over
+pub takes_by : (j : Kind) (x : Spot) (fs : List Frame) → true ≡ is_one (saves j) → Takes (frame_by j x ∷ fs) x fs
+takes_by k.Branch x fs e = (refl, refl)
+takes_by k.Atom x fs e = absurd (true≢false e)
+takes_by (k.Look behind) x fs e = absurd (true≢false e)
+takes_by (k.Denial behind) x fs e = (refl, refl)
+takes_by k.Condition x fs e = (refl, refl)
+
+pub takes_past : (j : Kind) (x y : Spot) (fs rest : List Frame) → false ≡ is_one (saves j) → Takes fs y rest → Takes (frame_by j x ∷ fs) y rest
+takes_past k.Branch x y fs rest e t = absurd (true≢false (sym e))
+takes_past k.Atom x y fs rest e t = t
+takes_past (k.Look behind) x y fs rest e t = t
+takes_past (k.Denial behind) x y fs rest e t = absurd (true≢false (sym e))
+takes_past k.Condition x y fs rest e t = absurd (true≢false (sym e))
+
+pub spent_past : (j : Kind) (x : Spot) (fs : List Frame) → false ≡ is_one (saves j) → IsSpent fs → IsSpent (frame_by j x ∷ fs)
+spent_past k.Branch x fs e t = absurd (true≢false (sym e))
+spent_past k.Atom x fs e t = t
+spent_past (k.Look behind) x fs e t = t
+spent_past (k.Denial behind) x fs e t = absurd (true≢false (sym e))
+spent_past k.Condition x fs e t = absurd (true≢false (sym e))
+
+pub unspent_past : (j : Kind) (x : Spot) (fs : List Frame) → false ≡ is_one (saves j) → IsSpent (frame_by j x ∷ fs) → IsSpent fs
+unspent_past k.Branch x fs e t = absurd (true≢false (sym e))
+unspent_past k.Atom x fs e t = t
+unspent_past (k.Look behind) x fs e t = t
+unspent_past (k.Denial behind) x fs e t = absurd (true≢false (sym e))
+unspent_past k.Condition x fs e t = absurd (true≢false (sym e))
+
+pub unspent_by : (j : Kind) (x : Spot) (fs : List Frame) → true ≡ is_one (saves j) → IsSpent (frame_by j x ∷ fs) → ⊥
+unspent_by k.Branch x fs e t = t
+unspent_by k.Atom x fs e t = absurd (true≢false e)
+unspent_by (k.Look behind) x fs e t = absurd (true≢false e)
+unspent_by (k.Denial behind) x fs e t = t
+unspent_by k.Condition x fs e t = t
+
+pub saves_one : (j : Kind) → true ≡ is_one (saves j) → saves j ≡ 1
+saves_one k.Branch e = refl
+saves_one k.Atom e = absurd (true≢false e)
+saves_one (k.Look behind) e = absurd (true≢false e)
+saves_one (k.Denial behind) e = refl
+saves_one k.Condition e = refl
+
+pub saves_none : (j : Kind) → false ≡ is_one (saves j) → saves j ≡ 0
+saves_none k.Branch e = absurd (true≢false (sym e))
+saves_none k.Atom e = refl
+saves_none (k.Look behind) e = refl
+saves_none (k.Denial behind) e = absurd (true≢false (sym e))
+saves_none k.Condition e = absurd (true≢false (sym e))
+
+pub take_snoc : (n : ℕ) (ls all : List Layer) (l : Layer) → all ≡ ls ++ l ∷ [] → n < length all → take n ls ≡ take n all
+take_snoc n ls all l e lt = sym (ap (take n) e ∙ by n ls (omega (arith, ap length e, length-append ls (l ∷ [])))) where
+  by : (m : ℕ) (xs : List Layer) → m ≤ length xs → take m (xs ++ l ∷ []) ≡ take m xs
+  by zero xs le = refl
+  by (suc m) [] le = absurd (omega arith)
+  by (suc m) (x ∷ xs) le = ap (λ (ys : List Layer). x ∷ ys) (by m xs (omega arith))
+
+-- the last of the layers that are counted
+pub counted_snoc : (ls all : List Layer) (l : Layer) → all ≡ ls ++ l ∷ [] → branches_in all ≡ branches_in ls + saves l.kind
+counted_snoc ls all l e = ap branches_in e ∙ branches_snoc ls l
+
+pub opened_spot : (at next limit place kept g : ℕ) (slots : List Slot) (slot : Slot) → slot ≡ get_or slots g empty_slot
+    → spot_of next limit place kept (set slots g (record { from = place; span = slot.span })) ≡ opened_at g next (spot_of at limit place kept slots)
+opened_spot at next limit place kept g slots slot e =
+    ap₂ (λ (cs : List (Option Span)) (vs : List ℕ). record { at = next; limit = limit; state = record { place = place; captures = cs; kept = kept }; starts = vs })
+    (open_spans slots g place slot e) (map-set slot_from slots g (record { from = place; span = slot.span }))
+
+pub closed_spot : (at next limit place kept g : ℕ) (slots : List Slot) (slot : Slot) → slot ≡ get_or slots g empty_slot
+    → spot_of next limit place kept (set slots g (record { from = slot.from; span = Some (record { start = slot.from; end = place }) })) ≡ closed_at g next (spot_of at limit place kept slots)
+closed_spot at next limit place kept g slots slot e =
+    ap₂ (λ (cs : List (Option Span)) (vs : List ℕ). record { at = next; limit = limit; state = record { place = place; captures = cs; kept = kept }; starts = vs })
+    (close_spans slots g place slot e) (close_starts slots g (Some (record { start = slot.from; end = place })) slot e)

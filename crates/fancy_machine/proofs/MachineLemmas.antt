@@ -1,0 +1,172 @@
+-- What an attempt still has before it.
+use Rattle.std.proofs.Common.{◌≡◌, ℕ, suc, ◌+◌, ◌<◌, Bool, true, false, List, [], ◌∷◌, Option, Some, None, refl, sym, ap, ap₂, ◌∙◌, subst, inl, inr, arith, length, not, ◌&&◌}
+use Rattle.std.specs.Prelude.{if◌then◌else◌}
+use Rattle.fancy_engine.specs.declared.runner.Next.TheVariants.{On, Dead, Found}
+use Rattle.fancy_engine.specs.Context.{State}
+use Rattle.fancy_engine.specs.Run.{Raw, Note, Stop, fetched, Go, erase}
+use Rattle.fancy_machine.specs.Frames.{Spot, Frame, Held, saved}
+use Rattle.fancy_engine.specs.Runner.{size_of, IsKnown, events_of}
+use Rattle.fancy_machine.specs.Machine.{IsSpent, Takes, left, after, IsStep, Crowded, Turned, Fewer, Searching, betters, better, taken_outcome, final, returns_to, marks_to}
+use Rattle.std.specs.Prelude.{Err}
+use Rattle.fancy_engine.specs.declared.work.Work.{Work}
+use Rattle.fancy_engine.specs.declared.refusal.SearchRefusal.{SearchRefusal}
+use Rattle.fancy_engine.specs.declared.refusal.SearchRefusal.TheVariants.{Memory, Returns, Choices}
+use Rattle.fancy_engine.specs.Work.{returns_of}
+use Rattle.fancy_machine.specs.Machine.{TookBranch}
+use Rattle.fancy_machine.proofs.Closing.{finish_back, finish_spent, finish_unspent, saved_taken}
+
+module _ (go : ℕ → Go) (longest : Bool) (ok : State → Bool) (best : Option State) (w : List Raw) (x : Spot) (fs : List Frame) (y : Spot) (gs : List Frame) where
+  pub turn_on : IsStep go On w x fs y gs → Turned go longest ok On w best fs y best gs
+  turn_on s =
+      elim s.2 [
+        | inl a ↦ (
+          s.0,
+          s.1,
+          subst (λ (l : List Raw). Fewer longest ok best best l s.0 (saved fs) (saved gs)) (sym a.0)
+              (record { answer = refl; count = refl; room = omega (arith, a.1); shorter = omega arith }),
+        )
+        | inr a ↦ (
+          s.0,
+          s.1,
+          subst (λ (l : List Raw). Fewer longest ok best best l s.0 (saved fs) (saved gs)) (sym a.0)
+              (record { answer = refl; count = refl; room = omega (arith, a.1); shorter = omega arith }),
+        )
+      ]
+
+  pub turn_dead : IsStep go Dead w x fs y gs → Turned go longest ok Dead w best fs y best gs
+  turn_dead s = (
+    s.0,
+    s.1,
+    subst (λ (l : List Raw). Fewer longest ok best best l s.0 (saved fs) (saved gs)) (sym s.2)
+        (record { answer = refl; count = refl; room = omega (arith, s.3); shorter = omega arith }),
+  )
+
+  not_final : ok y.state ≡ false → final longest ok y.state ≡ false
+  not_final bad = ap (λ (c : Bool). c && not longest) bad
+
+  -- an outcome that isn't accepted
+  pub turn_bad : IsStep go Found w x fs y gs → ok y.state ≡ false → Turned go longest ok Dead w best fs y best gs
+  turn_bad s bad = (
+    s.0,
+    s.2,
+    subst (λ (l : List Raw). Fewer longest ok best best l s.0 (saved fs) (saved gs)) (sym s.3)
+        (record {
+          answer = ap (λ (c : Bool). if c then (if longest then taken_outcome longest ok (better best y.state) (erase s.0) else Some y.state) else taken_outcome longest ok best (erase s.0)) bad;
+          count = ap (λ (c : Bool). if c then 0 else returns_to (final longest ok) (erase s.0)) (not_final bad);
+          room = (let m : marks_to (final longest ok) (erase (Note fetched ∷ Stop s.1 y.state y.starts ∷ s.0)) ≡ marks_to (final longest ok) (erase s.0) =
+              ap (λ (c : Bool). if c then 0 else marks_to (final longest ok) (erase s.0)) (not_final bad) in omega (arith, m, s.4));
+          shorter = omega arith;
+        }),
+  )
+
+  -- the first outcome that is accepted
+  pub turn_found : IsStep go Found w x fs y gs → ok y.state ≡ true → longest ≡ false → Turned go longest ok Found w best fs y best gs
+  turn_found s good first =
+      subst (λ (l : List Raw). (taken_outcome longest ok best (erase l) ≡ Some y.state) × (returns_to (final longest ok) (erase l) ≡ 0)) (sym s.3) (
+        ap₂ (λ (c d : Bool). if c then (if d then taken_outcome longest ok (better best y.state) (erase s.0) else Some y.state) else taken_outcome longest ok best (erase s.0)) good first,
+        ap₂ (λ (c d : Bool). if (c && not d) then 0 else returns_to (final longest ok) (erase s.0)) good first,
+      )
+
+  -- one more outcome that is accepted, where all are asked for
+  pub turn_more : (now : Option State) → IsStep go Found w x fs y gs → ok y.state ≡ true → longest ≡ true → now ≡ better best y.state → Turned go longest ok Dead w best fs y now gs
+  turn_more now s good all is =
+      let f : final longest ok y.state ≡ false = ap₂ (λ (c d : Bool). c && not d) good all in (
+        s.0,
+        s.2,
+        subst (λ (l : List Raw). Fewer longest ok best now l s.0 (saved fs) (saved gs)) (sym s.3)
+            (record {
+              answer = ap₂ (λ (c d : Bool). if c then (if d then taken_outcome longest ok (better best y.state) (erase s.0) else Some y.state) else taken_outcome longest ok best (erase s.0)) good all
+                  ∙ ap (λ (b : Option State). taken_outcome longest ok b (erase s.0)) (sym is);
+              count = ap (λ (c : Bool). if c then 0 else returns_to (final longest ok) (erase s.0)) f;
+              room = (let m : marks_to (final longest ok) (erase (Note fetched ∷ Stop s.1 y.state y.starts ∷ s.0)) ≡ marks_to (final longest ok) (erase s.0) =
+                  ap (λ (c : Bool). if c then 0 else marks_to (final longest ok) (erase s.0)) f in omega (arith, m, s.4));
+              shorter = omega arith;
+            }),
+      )
+
+pub better_new : (best : Option State) (s : State) → betters best s.place ≡ true → better best s ≡ Some s
+better_new best s e = ap (λ (c : Bool). if c then Some s else best) e
+
+pub better_old : (best : Option State) (s : State) → betters best s.place ≡ false → better best s ≡ best
+better_old best s e = ap (λ (c : Bool). if c then Some s else best) e
+
+known_some : (o : Option (List Raw)) → IsKnown o → (w : List Raw) × (o ≡ Some w) × (events_of o ≡ erase w)
+known_some None k = absurd k
+known_some (Some w) k = (w, refl, refl)
+
+module _ (go : ℕ → Go) (longest : Bool) (ok : State → Bool) where
+  pub search_begins : (x : Spot) (r : ℕ) → IsKnown (after go x)
+      → Searching longest ok (taken_outcome longest ok None (events_of (after go x))) (r + returns_to (final longest ok) (events_of (after go x)))
+      (marks_to (final longest ok) (events_of (after go x))) (left go x []) [] None r
+  search_begins x r k =
+      let s = known_some (after go x) k in
+      record {
+        rest = s.0;
+        known = s.1;
+        answer = ap (taken_outcome longest ok None) (sym s.2);
+        count = ap (λ (t : _). r + returns_to (final longest ok) t) (sym s.2);
+        room = (let e : marks_to (final longest ok) (erase s.0) ≡ marks_to (final longest ok) (events_of (after go x)) = ap (marks_to (final longest ok)) (sym s.2) in omega (arith, e));
+      }
+
+  module _ (goal : Option State) (total choices : ℕ) (x : Spot) (fs : List Frame) (best : Option State) (r : ℕ) (s : Searching longest ok goal total choices (left go x fs) fs best r)
+      (y : Spot) (gs : List Frame) (now : Option State) where
+    pub search_on : Turned go longest ok On s.rest best fs y now gs → Searching longest ok goal total choices (left go y gs) gs now r
+    search_on t = record {
+      rest = t.0;
+      known = t.1;
+      answer = sym t.2.answer ∙ s.answer;
+      count = omega (arith, t.2.count, s.count);
+      room = omega (arith, t.2.room, s.room);
+    }
+
+    pub smaller_on : Turned go longest ok On s.rest best fs y now gs → size_of (left go y gs) < size_of (left go x fs)
+    smaller_on t = let a = ap size_of t.1 in let b = ap size_of s.known in omega (arith, t.2.shorter, a, b)
+
+    pub search_found : Turned go longest ok Found s.rest best fs y now gs → (Some y.state ≡ goal) × (r ≡ total)
+    search_found t = (sym t.0 ∙ s.answer, omega (arith, t.1, s.count))
+
+    pub search_back : (z : Spot) (hs : List Frame) → Turned go longest ok Dead s.rest best fs y now gs → Takes gs z hs → Searching longest ok goal total choices (left go z hs) hs now (r + 1)
+    search_back z hs t k =
+        let b = finish_back go gs hs z t.0 t.1 k in
+        let e = ap erase b.2 in
+        let c : returns_to (final longest ok) (erase t.0) ≡ suc (returns_to (final longest ok) (erase b.0)) = ap (returns_to (final longest ok)) e in
+        let m : marks_to (final longest ok) (erase t.0) ≡ marks_to (final longest ok) (erase b.0) = ap (marks_to (final longest ok)) e in
+        record {
+          rest = b.0;
+          known = b.1;
+          answer = sym (ap (taken_outcome longest ok now) e) ∙ sym t.2.answer ∙ s.answer;
+          count = omega (arith, t.2.count, s.count, c);
+          room = omega (arith, t.2.room, s.room, m, saved_taken gs hs z k);
+        }
+
+    pub smaller_back : (z : Spot) (hs : List Frame) → Turned go longest ok Dead s.rest best fs y now gs → Takes gs z hs → size_of (left go z hs) < size_of (left go x fs)
+    smaller_back z hs t k =
+        let b = finish_back go gs hs z t.0 t.1 k in
+        let c : length t.0 ≡ suc (length b.0) = ap length b.2 in
+        let d = ap size_of b.1 in
+        let e = ap size_of s.known in
+        omega (arith, t.2.shorter, c, d, e)
+
+    pub search_end : Turned go longest ok Dead s.rest best fs y now gs → IsSpent gs → (now ≡ goal) × (r ≡ total)
+    search_end t k =
+        let e = ap erase (finish_spent go gs t.0 t.1 k) in
+        let c : returns_to (final longest ok) (erase t.0) ≡ 0 = ap (returns_to (final longest ok)) e in
+        (sym (ap (taken_outcome longest ok now) e) ∙ sym t.2.answer ∙ s.answer, omega (arith, t.2.count, s.count, c))
+
+    pub search_refused : Turned go longest ok Dead s.rest best fs y now gs → (IsSpent gs → ⊥) → r < total
+    search_refused t k =
+        let b = finish_unspent go gs t.0 t.1 k in
+        let c : returns_to (final longest ok) (erase t.0) ≡ suc (returns_to (final longest ok) (erase b.0)) = ap (λ (l : List Raw). returns_to (final longest ok) (erase l)) b.1 in
+        omega (arith, t.2.count, s.count, c)
+
+  pub search_crowded : (most : ℕ) (goal : Option State) (total choices : ℕ) (x : Spot) (fs : List Frame) (best : Option State) (r : ℕ)
+      (s : Searching longest ok goal total choices (left go x fs) fs best r) → Crowded most s.rest fs → most < choices
+  search_crowded most goal total choices x fs best r s k =
+      let m : marks_to (final longest ok) (erase s.rest) ≡ suc (marks_to (final longest ok) (erase k.1)) = ap (λ (l : List Raw). marks_to (final longest ok) (erase l)) k.2 in
+      omega (arith, s.room, k.0, m)
+
+pub backed_err : (e : SearchRefusal) (limit : ℕ) (old new : Held) (before after : Work) → TookBranch (Err e) limit old new before after
+    → (IsSpent old.frames → ⊥) × (returns_of before ≡ limit) × (after ≡ before)
+backed_err Memory limit old new before after b = absurd b
+backed_err Choices limit old new before after b = absurd b
+backed_err Returns limit old new before after b = b

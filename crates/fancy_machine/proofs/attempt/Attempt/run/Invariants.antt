@@ -1,0 +1,22 @@
+use Rattle.std.proofs.Common.{◌≡◌, ◌+◌, ◌≤◌}
+use Rattle.fancy_input.specs.LastLines.{KnowsLastLines}
+use Rattle.fancy_engine.specs.Work.{steps_of, returns_of}
+use Rattle.fancy_machine.specs.Attempt.{accepts, code_in, outcome_from, returns_from, marks_from}
+use Rattle.fancy_engine.specs.Runner.{size_of}
+use Rattle.fancy_machine.specs.Machine.{Searching, left}
+use Rattle.fancy_machine.proofs.attempt.Attempt.run.Given as goal
+
+abbrev pub invariant-steps : goal.invariant-steps
+invariant-steps g l = record {
+  searching : Searching l.self.options.longest (accepts l.self) (outcome_from l.self g.deep l.fn.trail.now) (returns_of l.fn.work + returns_from l.self g.deep l.fn.trail.now)
+      (marks_from l.self g.deep l.fn.trail.now) (left (code_in l.self g.deep) l.trail.now l.trail.frames) l.trail.frames l.best (returns_of l.work);
+  room : returns_of l.work ≤ l.limit;
+  steps : steps_of l.fn.work ≤ steps_of l.work;
+  returns : returns_of l.fn.work ≤ returns_of l.work;
+  paired : returns_of l.fn.work ≤ steps_of l.fn.work → returns_of l.work ≤ steps_of l.work;
+  most : l.trail.most ≡ l.fn.trail.most;
+  last_lines : KnowsLastLines l.self.haystack.now l.last_lines;
+}
+
+abbrev pub decreases-steps : goal.decreases-steps
+decreases-steps g l = size_of (left (code_in l.self g.deep) l.trail.now l.trail.frames)

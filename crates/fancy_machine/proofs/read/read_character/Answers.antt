@@ -1,0 +1,17 @@
+use Rattle.std.proofs.Common.{◌==◌, refl, ap, ◌∙◌}
+use Rattle.fancy_engine.specs.Instructions as i
+use Rattle.fancy_engine.specs.Code.{instrs_of}
+use Rattle.fancy_engine.specs.Context.{past_item}
+use Rattle.fancy_machine.specs.Attempt.{attempt_context}
+use Rattle.fancy_machine.proofs.ContinuesLemmas.{item_seen, suppressed_of}
+use Rattle.fancy_machine.proofs.MachineSteps.{read_by}
+use Rattle.fancy_machine.proofs.read.read_character.Goals as goal
+
+pub returns-clause-stepped : goal.returns-clause-stepped
+returns-clause-stepped c e deep w known =
+    read_by (attempt_context c.args.attempt.now) (instrs_of c.args.attempt.now.code.now) deep c.args.trail.now.now c.args.trail.now.frames w known
+    c.advance.result (i.Character c.args.character c.args.next) c.args.next c.past_character-past.result _ c.advance.new.trail.now c.advance.new.trail.frames e refl
+    (c.past_character-past.ensures.past (suppressed_of (attempt_context c.args.attempt.now)) 0
+    ∙ item_seen c.args.attempt.now.haystack.now c.args.attempt.now.code.now.meaning (attempt_context c.args.attempt.now) (suppressed_of (attempt_context c.args.attempt.now)) 0 c.place.result (λ d. d == c.args.character)
+    ∙ ap (past_item (attempt_context c.args.attempt.now) (λ d. d == c.args.character)) c.place.ensures)
+    c.advance.ensures.moved c.advance.ensures.frames

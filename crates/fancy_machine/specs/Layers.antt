@@ -1,0 +1,62 @@
+-- The layers of a search as frames.
+use Rattle.std.specs.Prelude.{ℕ, ◌+◌, ◌≤◌, Bool, true, false, ◌==◌, Option, Some, None, List, [], ◌∷◌, map, drop, reverse}
+use Rattle.fancy_engine.specs.declared.slot.Slot.{Slot}
+use Rattle.fancy_engine.specs.declared.slot.Write.{Write}
+use Rattle.fancy_engine.specs.Context.{State}
+use Rattle.fancy_engine.specs.Threads.{undone, slot_span, slot_from}
+use Rattle.fancy_machine.specs.declared.layer.Layer.{Layer}
+use Rattle.fancy_machine.specs.declared.layer.Kind.{Kind}
+use Rattle.fancy_machine.specs.declared.layer.Kind.TheVariants as k
+use Rattle.fancy_machine.specs.Frames.{Spot, Frame, Saved, Within, Atom, LookAround, Denial, Condition}
+
+abbrev pub spot_of : ℕ → ℕ → ℕ → ℕ → List Slot → Spot
+spot_of at limit place kept slots = record {
+  at = at;
+  limit = limit;
+  state = record { place = place; captures = map slot_span slots; kept = kept };
+  starts = map slot_from slots;
+}
+
+-- the outcome that was kept, with these slots, if one was
+abbrev pub outcome_of : Bool → ℕ → ℕ → List Slot → Option State
+outcome_of false place kept slots = None
+outcome_of true place kept slots = Some (record { place = place; captures = map slot_span slots; kept = kept })
+
+-- the frame of this kind for a way
+abbrev pub frame_by : Kind → Spot → Frame
+frame_by k.Branch x = Saved x
+frame_by k.Atom x = Within (Atom x.limit)
+frame_by (k.Look behind) x = Within (LookAround behind x.at x.state.place x.limit)
+frame_by (k.Denial behind) x = Within (Denial behind x)
+frame_by k.Condition x = Within (Condition x)
+
+-- how many branches a layer of this kind saves
+abbrev pub saves : Kind → ℕ
+saves k.Branch = 1
+saves k.Atom = 0
+saves (k.Look behind) = 0
+saves (k.Denial behind) = 1
+saves k.Condition = 1
+
+abbrev pub is_one : ℕ → Bool
+is_one n = n == 1
+
+abbrev pub branches_in : List Layer → ℕ
+branches_in [] = 0
+branches_in (l ∷ ls) = saves l.kind + branches_in ls
+
+-- the way of a layer, with the slots that there were when it was made
+abbrev pub spot_at : List Write → List Slot → Layer → Spot
+spot_at log slots l = spot_of l.at l.limit l.place l.kept (undone slots (drop l.log log))
+
+abbrev pub frame_at : List Write → List Slot → Layer → Frame
+frame_at log slots l = frame_by l.kind (spot_at log slots l)
+
+-- the layers as frames, the last one first
+abbrev pub frames_of : List Write → List Slot → List Layer → List Frame
+frames_of log slots ls = reverse (map (frame_at log slots) ls)
+
+-- the log was at least lo writes long when the first of these layers was made, no shorter for each next one, and is n writes long now, or longer
+abbrev pub Rises : ℕ → List Layer → ℕ → Type 0
+Rises lo [] n = lo ≤ n
+Rises lo (l ∷ ls) n = (lo ≤ l.log) × Rises l.log ls n

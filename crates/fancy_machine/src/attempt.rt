@@ -1,0 +1,163 @@
+//! One attempt: a walk through the code from a position, which goes back to the saved branches.
+
+ghost use Rattle.std.specs.Prelude.{◌≡◌, ◌≢◌, ◌+◌, ◌<◌, ◌≤◌, [], ℕ, Option, Err, IfOk};
+ghost use Rattle.fancy_tree.specs.Pattern.{Pattern};
+ghost use Rattle.fancy_input.specs.LastLines.{KnowsLastLines};
+ghost use Rattle.fancy_engine.specs.Queries.{query_of};
+ghost use Rattle.fancy_engine.specs.Search.{continues_from};
+ghost use Rattle.fancy_engine.specs.Work.{steps_of, returns_of, stepped_within};
+ghost use Rattle.fancy_machine.specs.Asked.{Serves};
+ghost use Rattle.fancy_machine.specs.Attempt.{accepts, code_in, state_if_found, IsFull, TurnsTo, outcome_from, returns_from, marks_from};
+ghost use Rattle.fancy_engine.specs.Runner.{IsKnown};
+ghost use Rattle.fancy_machine.specs.Machine.{after};
+
+use crate::best::Best;
+use crate::step::step;
+use crate::trail::Trail;
+use fancy_engine::code::Code;
+use fancy_engine::options::{SearchOptions, is_match_boundary};
+use fancy_engine::reading::SuppressedEnds;
+use fancy_engine::refusal::SearchRefusal;
+use fancy_engine::runner::Next;
+use fancy_engine::work::Work;
+use fancy_input::input::Request;
+use fancy_input::last_lines::LastLines;
+
+/// The attempts of one search: the code that they follow, the haystack, and what they accept there.
+#[derive(Drop)]
+pub(crate) struct Attempt<'a> {
+    pub(crate) code: &'a Code,
+    pub(crate) haystack: &'a [u8],
+    /// Where `\G` holds, as a byte offset, if anywhere.
+    pub(crate) continues: Option<usize>,
+    /// The ends of the text that do not count as such.
+    pub(crate) suppressed: SuppressedEnds,
+    pub(crate) options: SearchOptions,
+}
+
+/// Where `\G` holds: at the first position of the search, or nowhere.
+fn continues_from(continues: bool, overrides: bool, request: Request) -> Option<usize>
+    ensures { result ≡ continues_from continues overrides request }
+{
+    let suppressed = overrides && !request.continues;
+    if continues && !suppressed {
+        Some(request.effective_start())
+    } else {
+        None
+    }
+}
+
+impl<'a> Attempt<'a> {
+    /// The attempts of a search, in which `\G` is on or off.
+    pub(crate) fn new(
+        code: &'a Code,
+        haystack: &'a [u8],
+        request: Request,
+        options: SearchOptions,
+        continues: bool,
+    ) -> Attempt<'a>
+        ensures code { result.code.now ≡ code.now }
+        ensures serves { (p : Pattern) → Serves result (query_of p code.now options haystack.now request continues) }
+    {
+        Attempt {
+            code,
+            haystack,
+            continues: continues_from(continues, options.overrides, request),
+            suppressed: options.suppressed_ends(request),
+            options,
+        }
+    }
+
+    /// Whether the outcome is accepted at which a trail stands.
+    fn accepts(&self, trail: &Trail) -> bool
+        ensures { result ≡ accepts self.now trail.now.now.state }
+    {
+        let kept = trail.kept();
+        let place = trail.place();
+        let on_boundaries = self.options.on_boundaries;
+        is_match_boundary(on_boundaries, self.haystack, kept)
+            && is_match_boundary(on_boundaries, self.haystack, place)
+            && (!self.options.not_empty || kept != place)
+    }
+
+    /// Follows one instruction, where an outcome that is not accepted is a dead end, and so is each where the longest
+    /// is asked for: it is offered as the best one, and the attempt goes on.
+    fn turn(
+        &self,
+        trail: &mut Trail,
+        best: &mut Best,
+        last_lines: &mut LastLines,
+        work: &mut Work,
+    ) -> Result<Next, SearchRefusal>
+        requires { KnowsLastLines self.now.haystack.now last_lines.old }
+        ensures turned { IfOk result (λ next. TurnsTo self.now next trail.old best.old trail.new best.new) }
+        ensures refused { result ≢ Err SearchRefusal.Returns }
+        ensures crowded { result ≡ Err SearchRefusal.Choices → IsFull self.now trail.old }
+        ensures most { trail.new.most ≡ trail.old.most }
+        ensures work { work.new ≡ stepped_within work.old }
+        ensures returns { returns_of work.new ≡ returns_of work.old }
+        ensures last_lines { KnowsLastLines self.now.haystack.now last_lines.new }
+    {
+        let next = step(self, trail, last_lines, work)?;
+        match next {
+            Next::On => Ok(Next::On),
+            Next::Dead => Ok(Next::Dead),
+            Next::Found => {
+                if !self.accepts(trail) {
+                    return Ok(Next::Dead);
+                }
+                if self.options.longest {
+                    best.offer(trail)?;
+                    return Ok(Next::Dead);
+                }
+                Ok(Next::Found)
+            }
+        }
+    }
+
+    /// One attempt, from where the trail stands: whether it has an accepted outcome. The first one is where the trail
+    /// then stands, or where the longest is asked for the first of those that end last, which `best` kept meanwhile.
+    /// The returns of the attempt are added to those of `work`, also up to a refusal, and none is done past the limit.
+    pub(crate) fn run(
+        &self,
+        trail: &mut Trail,
+        best: &mut Best,
+        limit: usize,
+        last_lines: &mut LastLines,
+        work: &mut Work,
+    ) -> Result<bool, SearchRefusal>
+        ghost deep: { ℕ }
+        requires known { IsKnown (after (code_in self.now deep) trail.old.now) }
+        requires fresh { trail.old.frames ≡ [] }
+        requires room { returns_of work.old ≤ limit }
+        requires last_lines { KnowsLastLines self.now.haystack.now last_lines.old }
+        ensures answer { IfOk result (λ found. state_if_found found trail.new.now ≡ outcome_from self.now deep trail.old.now) }
+        ensures count { IfOk result (λ _. returns_of work.new
+            ≡ returns_of work.old + returns_from self.now deep trail.old.now) }
+        ensures refused { result ≡ Err SearchRefusal.Returns
+            → limit < returns_of work.old + returns_from self.now deep trail.old.now }
+        ensures stopped { result ≡ Err SearchRefusal.Returns → returns_of work.new ≡ limit }
+        ensures fits { returns_of work.new ≤ limit }
+        ensures steps { steps_of work.old ≤ steps_of work.new }
+        ensures returns { returns_of work.old ≤ returns_of work.new }
+        ensures bounded { returns_of work.new ≤ returns_of work.old + returns_from self.now deep trail.old.now }
+        ensures paired { returns_of work.old ≤ steps_of work.old → returns_of work.new ≤ steps_of work.new }
+        ensures last_lines { KnowsLastLines self.now.haystack.now last_lines.new }
+        ensures crowded { result ≡ Err SearchRefusal.Choices → trail.old.most < marks_from self.now deep trail.old.now }
+    {
+        best.clear();
+        'steps: loop {
+            let next = self.turn(trail, best, last_lines, work)?;
+            match next {
+                Next::On => {}
+                Next::Found => return Ok(true),
+                Next::Dead => {
+                    let taken = trail.back(limit, work)?;
+                    if !taken {
+                        return Ok(best.give(trail));
+                    }
+                }
+            }
+        }
+    }
+}

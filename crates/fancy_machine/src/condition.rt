@@ -1,0 +1,81 @@
+//! The instructions that test: an assertion, `\G`, or whether a group has taken part.
+
+ghost use Rattle.std.specs.Prelude.{◌≡◌};
+ghost use Rattle.fancy_input.specs.LastLines.{KnowsLastLines};
+ghost use Rattle.fancy_engine.specs.Context.{continues};
+ghost use Rattle.fancy_machine.specs.Attempt.{attempt_context, FollowsInstr};
+ghost use Rattle.fancy_machine.specs.Machine.{WentIf};
+
+use crate::attempt::Attempt;
+use crate::trail::Trail;
+use fancy_engine::code::Instr;
+use fancy_engine::reading::holds_at;
+use fancy_engine::runner::Next;
+use fancy_input::last_lines::LastLines;
+use fancy_tree::tree::Assertion;
+
+/// Goes on at another instruction, if a test holds.
+fn go_if(trail: &mut Trail, holds: bool, next: usize) -> Next
+    ensures went { WentIf result holds next trail.old.now trail.new.now }
+    ensures frames { trail.new.frames ≡ trail.old.frames }
+    ensures most { trail.new.most ≡ trail.old.most }
+{
+    if holds {
+        trail.go(next);
+        return Next::On;
+    }
+    Next::Dead
+}
+
+/// Tests an assertion.
+pub(crate) fn assert_at(
+    attempt: &Attempt,
+    trail: &mut Trail,
+    last_lines: &mut LastLines,
+    assertion: Assertion,
+    next: usize,
+) -> Next
+    requires { KnowsLastLines attempt.now.haystack.now last_lines.old }
+    ensures stepped { FollowsInstr attempt.now (Instr.Assert assertion next) result trail.old trail.new }
+    ensures most { trail.new.most ≡ trail.old.most }
+    ensures last_lines { KnowsLastLines attempt.now.haystack.now last_lines.new }
+{
+    let holds = holds_at(
+        attempt.haystack,
+        attempt.code.meaning,
+        attempt.suppressed,
+        assertion,
+        trail.place(),
+        last_lines,
+    );
+    go_if(trail, holds, next)
+}
+
+/// Whether `\G` holds at a place.
+#[tactic(auto, unfolding(fancy_engine::specs::Context::continues))]
+fn is_continued(attempt: &Attempt, place: usize) -> bool
+    ensures { result ≡ continues (attempt_context attempt.now) place }
+{
+    match attempt.continues {
+        Some(from) => place == from,
+        None => false,
+    }
+}
+
+/// Tests `\G`.
+pub(crate) fn test_continued(attempt: &Attempt, trail: &mut Trail, next: usize) -> Next
+    ensures stepped { FollowsInstr attempt.now (Instr.Continue next) result trail.old trail.new }
+    ensures most { trail.new.most ≡ trail.old.most }
+{
+    let holds = is_continued(attempt, trail.place());
+    go_if(trail, holds, next)
+}
+
+/// Tests whether a group has taken part.
+pub(crate) fn test_taken(attempt: &Attempt, trail: &mut Trail, group: usize, next: usize) -> Next
+    ensures stepped { FollowsInstr attempt.now (Instr.Taken group next) result trail.old trail.new }
+    ensures most { trail.new.most ≡ trail.old.most }
+{
+    let holds = trail.is_taken(group);
+    go_if(trail, holds, next)
+}

@@ -1,0 +1,38 @@
+-- What the laws say of lists of matches, and of the pieces between them.
+use Rattle.std.specs.Prelude.{◌≡◌, ◌+◌, ◌≤◌, ℕ, suc, min, max, Bool, List, length, take}
+use Rattle.fancy_input.specs.declared.span.Span.{Span}
+use Rattle.fancy_input.specs.declared.input.Request.{Request}
+use Rattle.fancy_input.specs.declared.regex_input.RegexInput.{RegexInput}
+use Rattle.fancy_input.specs.Requests.{effective_start}
+use Rattle.fancy_search.specs.MatchList.{Item, FindsNone}
+use Rattle.fancy_core.specs.declared.regex.Regex.{Regex}
+use Rattle.fancy_core.specs.Pieces.{pieces, first_pieces, interleaved, texts}
+use Rattle.fancy_core.specs.Searches.{scan_of_input, last_start_of_input}
+
+-- the search at the end of the matches of an input finds none
+abbrev pub EndsInNone : {S : Type 0} {g : _} → Regex → (S → Bool) → (S → List ℕ) → RegexInput S g → Type 0
+EndsInNone r text bytes input = FindsNone (scan_of_input r text bytes input) (last_start_of_input r text bytes input)
+
+-- there are at most as many as there are places to search
+abbrev pub FitsPlaces : Request → List Item → Type 0
+FitsPlaces r items = effective_start r + length items ≤ max (effective_start r) (suc r.range_end)
+
+-- the pieces of a text between spans, with the texts of the spans between them, are the text
+abbrev pub Rejoins : List ℕ → List Span → Type 0
+Rejoins t spans = interleaved (pieces t 0 spans) (texts t spans) ≡ t
+
+-- so are the first n + 1 pieces, with the texts of the first n spans
+abbrev pub RejoinsFirst : ℕ → List ℕ → List Span → Type 0
+RejoinsFirst n t spans = interleaved (first_pieces (suc n) t 0 spans) (texts t (take n spans)) ≡ t
+
+-- there is one piece more than there are spans, or as many as the limit n allows
+abbrev pub CountsPieces : ℕ → List ℕ → List Span → Type 0
+CountsPieces n t spans = length (first_pieces n t 0 spans) ≡ min n (suc (length spans))
+
+-- the limit n cuts none of the pieces off
+abbrev pub CutsNone : ℕ → List ℕ → List Span → Type 0
+CutsNone n t spans = first_pieces n t 0 spans ≡ pieces t 0 spans
+
+-- the limit n + 1 leaves the first n pieces as they are
+abbrev pub KeepsPieces : ℕ → List ℕ → List Span → Type 0
+KeepsPieces n t spans = take n (first_pieces (suc n) t 0 spans) ≡ take n (pieces t 0 spans)

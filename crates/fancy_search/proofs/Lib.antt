@@ -1,0 +1,10 @@
+pub mod ResultLemmas
+pub mod SearchedLemmas
+pub mod ProgramSizeLemmas
+pub mod CutLemmas
+pub mod RisingLemmas
+pub mod MatchListLemmas
+pub mod ScanLemmas
+pub mod RemainingLemmas
+pub mod IterationStepLemmas
+pub mod SpelledLemmas

@@ -1,0 +1,10 @@
+-- What follows for a value or an error, where there is one.
+use Rattle.std.proofs.Common.{Result, Ok, Err, IfOk, IfErr}
+
+pub if_err : {A E : Type 0} (P Q : E → Type 0) → ((e : E) → P e → Q e) → (r : Result A E) → IfErr r P → IfErr r Q
+if_err P Q f (Ok a) h = tt
+if_err P Q f (Err e) h = f e h
+
+pub if_ok : {A E : Type 0} (P Q : A → Type 0) → ((a : A) → P a → Q a) → (r : Result A E) → IfOk r P → IfOk r Q
+if_ok P Q f (Ok a) h = f a h
+if_ok P Q f (Err e) h = tt

@@ -1,0 +1,5 @@
+use Rattle.fancy_engine.specs.Queries.{query_of}
+use Rattle.fancy_search.proofs.program.Program.backtrack.Given as goal
+
+abbrev pub ghost-search : goal.ghost-search
+ghost-search g a = query_of g.p a.code.now a.options a.haystack.now a.request a.continues

@@ -1,0 +1,77 @@
+use Rattle.std.proofs.Common.{refl, sym, ◌∙◌, ◌+◌, ap, subst, inl, inr, arith}
+use Rattle.fancy_syntax.specs.Dialect as dialect
+use Rattle.std.proofs.lemmas.Result.{err_from_is_err_and}
+use Rattle.fancy_tree.specs.Pattern.{pattern_of}
+use Rattle.fancy_syntax.specs.Views as views
+use Rattle.fancy_syntax.proofs.GroupLemmas.{numbered, wider}
+use Rattle.fancy_tree.proofs.RefersFacts.{numbered-refers_to}
+use Rattle.fancy_tree.specs.GroupNumbers.{Numbered}
+use Rattle.fancy_search.proofs.SpelledLemmas.{bytes_accepted, kept_accepted}
+use Rattle.fancy_search.proofs.RisingLemmas.{rising_names}
+use Rattle.fancy_search.proofs.ProgramSizeLemmas.{too_long, both_of, second_fails}
+use Rattle.fancy_search.proofs.program.Program.new.Goals as goal
+
+pub returns-in_err-tree : goal.returns-in_err-tree
+returns-in_err-tree c =
+    let q = err_from_is_err_and c.from_residual.result c.from_residual.ensures.1 in
+    let refused = rw c.syntax.ensures at c.in_err-tree.ensures.refused in
+    rw (q.1, q.2) (record {
+      options = tt;
+      spelled = tt;
+      sized = tt;
+      refused = inl refused;
+      succeeds = λ p h. let e = c.in_err-tree.ensures.succeeds p (rw c.syntax.ensures h) in rw e tt;
+    })
+
+pub returns-in_err-code : goal.returns-in_err-code
+returns-in_err-code c =
+    let q = err_from_is_err_and c.from_residual-in_err-code.result c.from_residual-in_err-code.ensures.1 in
+    rw (q.1, q.2) (record { options = tt; spelled = tt; sized = tt; refused = inl tt; succeeds = λ p h. tt })
+
+pub compile-requires-clause-small : goal.compile-requires-clause-small
+compile-requires-clause-small c = omega (arith, (c.in_ok-tree.ensures.accepted.0).small)
+
+pub compile-requires-clause-numbered : goal.compile-requires-clause-numbered
+compile-requires-clause-numbered c =
+    let h = c.in_ok-tree.ensures.accepted in
+    wider (pattern_of c.in_ok-tree.field-0.tree) (0 + 1) ((h.0).end.opened + 1) 0 c.in_ok-tree.field-0.groups (omega arith) (omega (arith, h.1)) (subst (Numbered (0 + 1) ((h.0).end.opened + 1)) (sym (h.0).is) (numbered-refers_to _ (0 + 1) ((h.0).end.opened + 1) (h.0).written (numbered _ _ _ _ (h.0).spelled.spelled)))
+
+pub invariant_of-result : goal.invariant_of-result
+invariant_of-result c = record {
+  compiled = ∣ record {
+    coded = c.in_ok-code.ensures.code;
+    has_group_zero = omega (arith, c.in_ok-tree.ensures.accepted.1, c.in_ok-code.ensures.groups);
+    rising = rising_names _ (views.dialect_options c.syntax.result) _ _ _ _ _ (c.in_ok-tree.ensures.accepted.0).spelled.spelled (c.in_ok-tree.ensures.accepted.1 ∙ sym c.in_ok-code.ensures.groups) c.in_ok-tree.ensures.accepted.2;
+  } ∣₁;
+  meant = c.in_ok-code.ensures.meaning ∙ c.meaning.ensures;
+  short = c.in_ok-code.ensures.short;
+  decided = c.is_easy-easy.ensures;
+  light = c.in_ok-code.ensures.easy;
+  starts = kept_accepted (c.in_ok-tree.ensures.accepted.0);
+  whole = λ e. bytes_accepted (ap (λ (o : dialect.Options). o.keeps_characters) c.syntax.ensures ∙ e) (c.in_ok-tree.ensures.accepted.0);
+}
+
+pub returns-then-forbids : goal.returns-then-forbids
+returns-then-forbids c =
+    let h = rw c.syntax.ensures at c.in_ok-tree.ensures.accepted.0 in
+    let found = rw c.len.ensures at (sym c.if-forbids.ensures) in
+    let why = both_of _ _ found in
+    let hard = sym c.is_easy-easy.ensures ∙ why.0 in
+    record {
+      options = tt;
+      spelled = tt;
+      sized = tt;
+      refused = inr (_, h, too_long c.args.options _ _ _ _ h h hard (c.in_ok-code.ensures.short) why.1);
+      succeeds = λ p x. too_long c.args.options _ _ _ _ x h hard (c.in_ok-code.ensures.short) why.1;
+    }
+
+pub returns : goal.returns
+returns c = record {
+  options = refl;
+  spelled =
+      let h = rw c.syntax.ensures at c.in_ok-tree.ensures.accepted in
+      record { spelled = h.0; counted = h.1 ∙ sym c.in_ok-code.ensures.groups; named = sym h.2 };
+  sized = λ hard. second_fails _ _ (c.is_easy-easy.ensures ∙ hard) (rw c.len.ensures at (sym c.if-forbids.ensures));
+  refused = tt;
+  succeeds = λ p h. tt;
+}

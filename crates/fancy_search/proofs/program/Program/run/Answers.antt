@@ -1,0 +1,13 @@
+use Rattle.fancy_engine.proofs.ClassifyLemmas.{easy_code}
+use Rattle.fancy_search.proofs.SearchedLemmas.{known}
+use Rattle.fancy_search.proofs.ProgramSizeLemmas.{parts_of_easy}
+use Rattle.fancy_search.proofs.program.Program.run.Goals as goal
+
+pub search-requires-clause-easy : goal.search-requires-clause-easy
+search-requires-clause-easy c = easy_code _ (c.args.self.now.light (parts_of_easy _ _ _ c.requires.easy).0)
+
+pub returns-in-Ok-clause-answer : goal.returns-in-Ok-clause-answer
+returns-in-Ok-clause-answer c on =
+    let easy = parts_of_easy _ _ _ c.requires.easy in
+    rw (easy.1, easy.2) (known _ _ c.args.self.now.compiled
+    (λ compiled. rw (c.args.self.now.meant, c.for_search-options.ensures) at (c.in-Ok.ensures.answer _ on compiled.coded)))

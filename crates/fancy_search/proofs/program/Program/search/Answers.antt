@@ -1,0 +1,32 @@
+use Rattle.fancy_search.specs.Cached.{cached_groups}
+use Rattle.fancy_search.specs.Programs.{asked_of}
+use Rattle.fancy_search.proofs.ResultLemmas.{if_ok}
+use Rattle.fancy_search.proofs.SearchedLemmas.{ordered_found, inside_found, clean_found}
+use Rattle.fancy_search.proofs.program.Program.search.Goals as goal
+
+pub returns-then-self-clause-answer : goal.returns-then-self-clause-answer
+returns-then-self-clause-answer c = if_ok _ _ (λ m e. e c.args.continues) c.run.result c.run.ensures.answer
+
+pub returns-then-self-clause-ordered : goal.returns-then-self-clause-ordered
+returns-then-self-clause-ordered c =
+    if_ok _ _ (λ m e. ordered_found (asked_of c.args.self.now c.args.haystack.now c.args.request c.args.continues) (cached_groups c.run.new.cache) c.requires.inside c.args.self.now.starts m (e c.args.continues)) c.run.result c.run.ensures.answer
+
+pub returns-then-self-clause-inside : goal.returns-then-self-clause-inside
+returns-then-self-clause-inside c =
+    if_ok _ _ (λ m e. inside_found (asked_of c.args.self.now c.args.haystack.now c.args.request c.args.continues) (cached_groups c.run.new.cache) c.requires.inside c.args.self.now.starts m (e c.args.continues)) c.run.result c.run.ensures.answer
+
+pub returns-then-self-clause-cleanly : goal.returns-then-self-clause-cleanly
+returns-then-self-clause-cleanly c = λ on.
+    if_ok _ _ (λ m e. clean_found (asked_of c.args.self.now c.args.haystack.now c.args.request c.args.continues) (cached_groups c.run.new.cache) c.requires.inside c.args.self.now.starts m on (e c.args.continues)) c.run.result c.run.ensures.answer
+
+pub returns-clause-ordered : goal.returns-clause-ordered
+returns-clause-ordered c =
+    if_ok _ _ (ordered_found (asked_of c.args.self.now c.args.haystack.now c.args.request c.args.continues) (cached_groups c.backtrack.new.cache) c.requires.inside c.args.self.now.starts) c.backtrack.result c.backtrack.ensures.answer
+
+pub returns-clause-inside : goal.returns-clause-inside
+returns-clause-inside c =
+    if_ok _ _ (inside_found (asked_of c.args.self.now c.args.haystack.now c.args.request c.args.continues) (cached_groups c.backtrack.new.cache) c.requires.inside c.args.self.now.starts) c.backtrack.result c.backtrack.ensures.answer
+
+pub returns-clause-cleanly : goal.returns-clause-cleanly
+returns-clause-cleanly c = λ on.
+    if_ok _ _ (λ m e. clean_found (asked_of c.args.self.now c.args.haystack.now c.args.request c.args.continues) (cached_groups c.backtrack.new.cache) c.requires.inside c.args.self.now.starts m on e) c.backtrack.result c.backtrack.ensures.answer

@@ -1,0 +1,10 @@
+use Rattle.fancy_search.proofs.ScanLemmas.{answered_after, answered_groups}
+use Rattle.fancy_search.proofs.searcher.Searcher.answer.Goals as goal
+
+pub returns-clause-after : goal.returns-clause-after
+returns-clause-after g c =
+    (answered_after c.args.program.now c.as_bytes-bytes.result.now _ c.args.self.now.request _ c.in_ok-found.found c.in-Some.found c.search.new.cache c.args.self.now.inside c.as_bytes-bytes.ensures.bytes c.in-Some.is c.in_ok-found.ensures.answer)
+
+pub returns-clause-groups : goal.returns-clause-groups
+returns-clause-groups g c =
+    answered_groups c.args.program.now _ c.as_bytes-bytes.result.now _ c.args.self.now.request _ c.in_ok-found.found c.in-Some.found c.search.new.cache c.args.self.now.inside c.as_bytes-bytes.ensures.bytes c.in-Some.is c.requires.suits c.as_bytes-bytes.ensures.utf8 c.in_ok-found.ensures.answer

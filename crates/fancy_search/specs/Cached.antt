@@ -1,0 +1,32 @@
+-- What searches work in, and what it holds of the last match, by whichever engine.
+use Rattle.std.specs.Prelude.{◌≡◌, ℕ, List, Option, IsTrue}
+use Rattle.fancy_input.specs.Places.{is_boundary}
+use Rattle.fancy_input.specs.declared.span.Span.{Span}
+use Rattle.fancy_engine.specs.Search.{Query, Answer, search}
+use Rattle.fancy_engine.specs.declared.found.Found.{Found}
+use Rattle.fancy_engine.specs.Queries.{groups_in, answer_with}
+use Rattle.fancy_machine.specs.Asked.{groups_held}
+use Rattle.fancy_search.specs.declared.cache.Engine.{Engine}
+use Rattle.fancy_search.specs.declared.cache.Engine.TheVariants.{Runner, Machine}
+use Rattle.fancy_search.specs.declared.cache.Cache.{Cache}
+
+-- of the groups that the two engines hold those of the engine that served
+abbrev pub groups_by : Engine → List (Option Span) → List (Option Span) → List (Option Span)
+groups_by Runner runner machine = runner
+groups_by Machine runner machine = machine
+
+-- where the groups stand in the match that the last search found
+abbrev pub cached_groups : Cache → List (Option Span)
+cached_groups c = groups_by c.served (groups_in c.runner) (groups_held c.machine)
+
+-- what the last search found, with its groups
+abbrev pub found_at : Found → Cache → Answer
+found_at f c = record { position = f.position; state = record { place = f.end; captures = cached_groups c; kept = f.start } }
+
+-- what was found, with its groups, is the answer of the search
+abbrev pub IsAnswerIn : Option Found → Cache → Query → Type 0
+IsAnswerIn found c q = answer_with (cached_groups c) found ≡ search q
+
+-- what was found starts and ends on boundaries of characters
+abbrev pub IsCleanlyFound : List ℕ → Found → Type 0
+IsCleanlyFound haystack f = IsTrue (is_boundary haystack f.start) × IsTrue (is_boundary haystack f.end)

@@ -1,0 +1,11 @@
+pub mod Options
+pub mod Compiled
+pub mod Programs
+pub mod Searching
+pub mod Cached
+pub mod SearchCounts
+pub mod ProgramSize
+pub mod Groups
+pub mod MatchList
+pub mod Remaining
+pub mod Searchers

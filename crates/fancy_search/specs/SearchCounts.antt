@@ -1,0 +1,81 @@
+-- What a search may be refused for, and what it counts.
+use Rattle.std.specs.Prelude.{◌≡◌, ℕ, ◌+◌, ◌-◌, ◌*◌, ◌<◌, ◌≤◌, Result, Option, Err, IfOk, IfSome, false}
+use Rattle.fancy_tree.specs.Limits.{most_branches}
+use Rattle.fancy_tree.specs.declared.error.Error.{Error}
+use Rattle.fancy_tree.specs.declared.error.Error.TheVariants.{Memory, ParseError, CompileError, RuntimeError}
+use Rattle.fancy_tree.specs.declared.error.RuntimeError.{RuntimeError as Running}
+use Rattle.fancy_tree.specs.declared.error.RuntimeError.TheVariants.{BacktrackLimitExceeded, StackOverflow}
+use Rattle.fancy_input.specs.declared.input.Request.{Request}
+use Rattle.fancy_input.specs.Requests.{effective_start}
+use Rattle.fancy_engine.specs.declared.work.Work.{Work}
+use Rattle.fancy_engine.specs.Work.{steps_of, returns_of, HasRoom}
+use Rattle.fancy_engine.specs.Search.{Query, returns, choices}
+use Rattle.fancy_machine.specs.Asked.{all_tried}
+use Rattle.fancy_search.specs.declared.program.Program.{Program}
+use Rattle.fancy_search.specs.Programs.{program_is_easy, program_length, program_limit}
+
+-- Whether a search for it is refused past limits: its pattern reads what it captured, or ends a way early, or one of the two filters is set.
+abbrev pub IsHardProgram : Program → Type 0
+IsHardProgram r = program_is_easy r ≡ false
+
+-- how many returns the search takes
+abbrev pub returns_taken : Query → ℕ
+returns_taken q = returns q all_tried
+
+-- how many choices it opens
+abbrev pub choices_in : Query → ℕ
+choices_in q = choices q all_tried
+
+abbrev pub IsPastLimit : Running → Program → Query → Type 0
+IsPastLimit BacktrackLimitExceeded r q = program_limit r < returns_taken q
+IsPastLimit StackOverflow r q = most_branches < choices_in q
+
+-- how many steps an easy search takes at most: the length of the code for each position of the searched text, its end among them
+abbrev pub step_bound : Program → Request → ℕ
+step_bound r request = program_length r * (request.range_end + 1 - effective_start request)
+
+-- The counts have room for what a search adds to them: counts that were just begun have it for every search.
+abbrev pub HasRoomFor : Program → Request → Work → Type 0
+HasRoomFor r request w =
+    HasRoom (steps_of w) (step_bound r request)
+    × HasRoom (returns_of w) (program_limit r)
+    × (returns_of w ≤ steps_of w)
+
+-- The search may be refused by this error: for want of memory at any time, and of a hard pattern past a limit.
+abbrev pub RefusesQuery : Program → Query → Error → Type 0
+RefusesQuery r q Memory = Unit {0}
+RefusesQuery r q (ParseError at kind) = ⊥
+RefusesQuery r q (CompileError why) = ⊥
+RefusesQuery r q (RuntimeError why) = IsHardProgram r × IsPastLimit why r q
+
+-- A search for a hard pattern that is not refused takes no more returns than its limit allows.
+abbrev pub AllowsQuery : Program → Query → Type 0
+AllowsQuery r q = IsHardProgram r → returns_taken q ≤ program_limit r
+
+-- a search was refused because it would return more often than its limit allows
+abbrev pub IsStopped : {A : Type 0} → Result A Error → Type 0
+IsStopped result = result ≡ Err (RuntimeError BacktrackLimitExceeded)
+
+-- the count of returns is that of the search
+abbrev pub HasReturns : Work → Query → Type 0
+HasReturns w q = returns_of w ≡ returns_taken q
+
+-- the count of returns rose by this number
+abbrev pub AddsReturns : Work → ℕ → Work → Type 0
+AddsReturns before n after = returns_of after ≡ returns_of before + n
+
+-- the count of returns rose by this number at most
+abbrev pub AddsReturnsUpTo : Work → ℕ → Work → Type 0
+AddsReturnsUpTo before n after = returns_of after ≤ returns_of before + n
+
+-- the returns of a hard search that is not refused are those of what was asked
+abbrev pub Counted : {A : Type 0} → Program → Query → Result A Error → Work → Work → Type 0
+Counted p q result before after = IsHardProgram p → IfOk result (λ _. AddsReturns before (returns_taken q) after)
+
+-- a hard search returns no more often than what was asked does
+abbrev pub CountedUpTo : Program → Query → Work → Work → Type 0
+CountedUpTo p q before after = IsHardProgram p → AddsReturnsUpTo before (returns_taken q) after
+
+-- P of what a search found, if it found anything
+abbrev pub IfFound : {A : Type 0} → Result (Option A) Error → (A → Type 0) → Type 0
+IfFound result P = IfOk result (λ found. IfSome found P)

@@ -1,0 +1,74 @@
+-- What stands for an iteration over matches: what it has left, and what it gives next. `text` and `bytes` are those of the haystack's form.
+use Rattle.std.specs.Prelude.{◌≡◌, ℕ, Bool, true, List, Option, Result}
+use Rattle.std.specs.Borrow.{Bor}
+use Rattle.fancy_input.specs.Spans.{from_to}
+use Rattle.fancy_tree.specs.declared.error.Error.{Error}
+use Rattle.fancy_input.specs.Places.{next_place}
+use Rattle.fancy_search.specs.declared.program.Program.{Program}
+use Rattle.fancy_search.specs.declared.cache.Cache.{Cache}
+use Rattle.fancy_search.specs.declared.searcher.FoundItem.{FoundItem}
+use Rattle.fancy_search.specs.declared.searcher.Searcher.{Searcher}
+use Rattle.fancy_search.specs.Groups.{IsCut}
+use Rattle.fancy_search.specs.Remaining.{scan, items_left, end_left, upcoming_if, start_if, next_start, refuses_at, refused_next, item_in, HasGroups, GivesFirst}
+use Rattle.fancy_search.specs.MatchList.{Scan, Item, answer}
+
+-- what it searches, again and again
+abbrev pub scan_of : {S : Type 0} {g : _} → (S → Bool) → (S → List ℕ) → Program → Searcher S g → Scan
+scan_of text bytes program w = scan program (text w.haystack) (bytes w.haystack) w.request
+
+-- the answer of its next search
+abbrev pub answer_next : {S : Type 0} {g : _} → (S → Bool) → (S → List ℕ) → Program → Searcher S g → Option Item
+answer_next text bytes program w = answer (scan_of text bytes program w) w.request.start w.continues
+
+-- its next item: an empty match that is passed over gives way to the next
+abbrev pub item_next : {S : Type 0} {g : _} → (S → Bool) → (S → List ℕ) → Program → Searcher S g → Option Item
+item_next text bytes program w = upcoming_if w.skips_empty (scan_of text bytes program w) w.request.start w.continues
+
+-- where the search of that item starts
+abbrev pub start_next : {S : Type 0} {g : _} → (S → Bool) → (S → List ℕ) → Program → Searcher S g → ℕ
+start_next text bytes program w = start_if w.skips_empty (scan_of text bytes program w) w.request.start w.continues
+
+-- the items that it has left
+abbrev pub items_of : {S : Type 0} {g : _} → (S → Bool) → (S → List ℕ) → Program → Searcher S g → List Item
+items_of text bytes program w = items_left program (text w.haystack) (bytes w.haystack) w.request w.ended w.continues w.skips_empty
+
+-- where the search starts that finds none, at the end of the items that it has left
+abbrev pub end_of_items : {S : Type 0} {g : _} → (S → Bool) → (S → List ℕ) → Program → Searcher S g → ℕ
+end_of_items text bytes program w = end_left program (text w.haystack) (bytes w.haystack) w.request w.ended w.continues w.skips_empty
+
+-- that stays where it was
+abbrev pub KeepsEnd : {S : Type 0} {g : _} → (S → Bool) → (S → List ℕ) → Program → Searcher S g → Searcher S g → Type 0
+KeepsEnd text bytes program before after = end_of_items text bytes program after ≡ end_of_items text bytes program before
+
+-- its next search may be refused by this error
+abbrev pub RefusesAnswer : {S : Type 0} {g : _} → (S → List ℕ) → Program → Searcher S g → Error → Type 0
+RefusesAnswer bytes program w e = refuses_at program (bytes w.haystack) w.request w.request.start w.continues e
+
+-- the search for its next item may be refused by this error
+abbrev pub RefusesItem : {S : Type 0} {g : _} → (S → Bool) → (S → List ℕ) → Program → Searcher S g → Error → Type 0
+RefusesItem text bytes program w e = refused_next program (text w.haystack) (bytes w.haystack) w.request w.continues w.skips_empty e
+
+-- One step: the first of the items that are left, whose groups the search left in its memory; or a refusal, after which none is left.
+abbrev pub GivesItem : {S : Type 0} {g : _} → (S → Bool) → (S → List ℕ) → Program → Cache → Searcher S g → Option (Result FoundItem Error) → Searcher S g → Type 0
+GivesItem text bytes program cache before r after =
+    GivesFirst (λ w e. RefusesItem text bytes program w e) (item_in cache) (λ w. items_of text bytes program w) before r after
+
+-- the place after another
+abbrev pub place_after : {S : Type 0} {g : _} → (S → Bool) → (S → List ℕ) → Searcher S g → ℕ → ℕ
+place_after text bytes w p = next_place (text w.haystack) (bytes w.haystack) p
+
+-- where the search after an item starts
+abbrev pub start_after : {S : Type 0} {g : _} → (S → Bool) → (S → List ℕ) → Searcher S g → FoundItem → ℕ
+start_after text bytes w i = next_start (text w.haystack) (bytes w.haystack) (from_to i.found.start i.found.end)
+
+-- the haystack can be cut at both ends of an item
+abbrev pub IsCutOut : {S : Type 0} {g : _} → (S → Bool) → (S → List ℕ) → Searcher S g → FoundItem → Type 0
+IsCutOut text bytes w i = IsCut (text w.haystack) (bytes w.haystack) i.found.start i.found.end
+
+-- and at the ends of the groups of an item, which the search left in its memory
+abbrev pub HasGroupsOf : {S : Type 0} {g : _} → (S → Bool) → (S → List ℕ) → Searcher S g → FoundItem → Cache → Type 0
+HasGroupsOf text bytes w i cache = HasGroups (text w.haystack) (bytes w.haystack) i.found cache
+
+-- the items that an iteration over a text has left
+abbrev pub left_of : {g : _} → Program → Searcher (Bor (List ℕ)) g → List Item
+left_of program w = items_left program true w.haystack.now w.request w.ended w.continues w.skips_empty

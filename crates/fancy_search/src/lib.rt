@@ -1,0 +1,8 @@
+//! One compiled pattern, and the searches with it.
+#![tactic(auto)]
+
+pub mod cache;
+pub mod groups;
+pub mod options;
+pub mod program;
+pub mod searcher;

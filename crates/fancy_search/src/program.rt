@@ -1,0 +1,230 @@
+//! A compiled pattern: the code that is searched with, and what decides how.
+
+ghost use Rattle.std.specs.Prelude.{◌≡◌, ◌≤◌, ◌+◌, ◌*◌, Bool, IfOk, IfErr, IsTrue, chars, true, false, length};
+ghost use Rattle.fancy_tree.specs.Pattern.{Pattern, pattern_of};
+ghost use Rattle.fancy_tree.specs.Names.{named_groups};
+ghost use Rattle.fancy_tree.specs.Modes.{keeps_characters};
+ghost use Rattle.fancy_tree.specs.Sizes.{nodes};
+ghost use Rattle.fancy_syntax.specs.Dialect.{IsPattern};
+ghost use Rattle.fancy_engine.specs.Code.{code_len, instrs_of};
+ghost use Rattle.fancy_engine.specs.Compile.{is_easy, are_easy};
+ghost use Rattle.fancy_engine.specs.Placed.{has_raw_byte, has_keep_start_in_look_around};
+ghost use Rattle.fancy_engine.specs.Work.{steps_of, returns_of};
+ghost use Rattle.fancy_search.specs.Compiled.{IsCompiled, IsSpelled};
+ghost use Rattle.fancy_search.specs.Options.{meaning_in, dialect_of, is_easy_under};
+ghost use Rattle.fancy_search.specs.ProgramSize.{IsRefusedUnder, RefusesPattern, passes};
+ghost use Rattle.fancy_search.specs.Cached.{IsAnswerIn, IsCleanlyFound};
+
+use crate::cache::{Cache, Engine};
+use crate::options::Options;
+use fancy_engine::code::Code;
+use fancy_engine::compile::compile;
+use fancy_engine::found::Found;
+use fancy_engine::refusal::SearchRefusal;
+use fancy_engine::search as runner;
+use fancy_engine::work::Work;
+use fancy_input::input::Request;
+use fancy_machine::search as machine;
+use fancy_syntax::parse::{Parsed, parse_with};
+use fancy_tree::error::{CompileError, Error, Result, RuntimeError};
+use fancy_tree::name::GroupName;
+use fancy_tree::tree::Tree;
+use std::alloc::Global;
+
+/// A pattern that was read and compiled under options.
+///
+/// Which engine serves its searches is decided once: the memoised runner an easy pattern, and the backtracking machine a
+/// hard one.
+#[derive(Drop)]
+pub struct Program {
+    options: Options,
+    tree: Tree,
+    code: Code,
+    names: Vec<GroupName>,
+    easy: bool,
+    pub ghost compiled: { ∥ IsCompiled (pattern_of tree) code (named_groups names.items) ∥₁ },
+    ghost meant: { code.meaning ≡ meaning_in options },
+    ghost short: { code_len code ≤ 4 * nodes (pattern_of tree) + 2 },
+    ghost decided: { easy ≡ is_easy_under options (pattern_of tree) },
+    ghost light: { is_easy (pattern_of tree) ≡ true → are_easy (instrs_of code) ≡ true },
+    ghost starts: { has_keep_start_in_look_around (pattern_of tree) ≡ false },
+    ghost whole: { keeps_characters options.bytes_mode ≡ true → has_raw_byte (pattern_of tree) ≡ false },
+}
+
+impl Program {
+    ghost use Rattle.fancy_search.specs.SearchCounts.{Counted, CountedUpTo, IfFound, IsHardProgram, RefusesQuery, AllowsQuery, HasRoomFor, IsStopped, AddsReturns, AddsReturnsUpTo, step_bound, returns_taken};
+    ghost use Rattle.fancy_search.specs.Programs.{KeepsCharacters, program_pattern, program_options, program_groups, program_names, program_length, program_is_easy, program_limit, asked_of};
+
+    /// Reads a pattern under these options, and compiles it.
+    ///
+    /// It is refused where the text is no pattern of the dialect, for a hard pattern whose code is longer than the
+    /// size that is set, as `CompileError(PatternTooComplex)`, and where memory runs out (`Memory`).
+    pub fn new(alloc: Global, pattern: &str, options: Options) -> Result<Program>
+        ensures options { IfOk result (λ p. program_options p ≡ options) }
+        ensures spelled { IfOk result
+            (λ p. IsSpelled options pattern.now (program_pattern p) (program_groups p) (program_names p)) }
+        ensures sized { IfOk result (λ p. IsHardProgram p → passes (program_length p) options.max_prog_size ≡ false) }
+        ensures refused { IfErr result (λ e. IsRefusedUnder options (chars pattern.now) e) }
+        ensures succeeds { (q : Pattern) → IsPattern (dialect_of options) (chars pattern.now) q
+            → IfErr result (λ e. RefusesPattern options q e) }
+    {
+        let Parsed {
+            tree,
+            groups,
+            names,
+        } = parse_with(alloc, pattern, options.syntax())?;
+        let code = compile(alloc, &tree, groups, options.meaning())?;
+        let easy = options.is_easy(&tree);
+        if options.forbids(easy, code.len()) {
+            return Err(Error::CompileError(CompileError::PatternTooComplex));
+        }
+        Ok(Program {
+            options,
+            tree,
+            code,
+            names,
+            easy,
+        })
+    }
+
+    /// The options that it was built with.
+    pub fn options(&self) -> Options
+        ensures { result ≡ program_options self.now }
+    {
+        self.options
+    }
+
+    /// The names of groups, in the order of their openings.
+    pub fn names(&self) -> &[GroupName]
+        ensures { named_groups result.now ≡ program_names self.now }
+    {
+        &self.names
+    }
+
+    /// How many groups the pattern has, with group 0, the whole match.
+    pub fn group_count(&self) -> usize
+        ensures { result ≡ program_groups self.now }
+    {
+        self.code.groups
+    }
+
+    /// Whether a search takes at most [`Program::code_len`] times the searched length plus one steps, whatever the haystack.
+    pub fn is_easy(&self) -> bool
+        ensures { result ≡ program_is_easy self.now }
+    {
+        self.easy
+    }
+
+    /// How many instructions its code has: at most 4 for each node of the pattern with its counted repeats written out,
+    /// and 2 more.
+    pub fn code_len(&self) -> usize
+        ensures value { result ≡ program_length self.now }
+        ensures short { result ≤ 4 * nodes (program_pattern self.now) + 2 }
+    {
+        self.code.len()
+    }
+
+    /// The first match that the request asks for in the bytes of a haystack, with `\G` on or off. Its groups stand in
+    /// `cache` then.
+    ///
+    /// It is refused where memory runs out (`Memory`), and for a hard pattern past a limit: as
+    /// `RuntimeError(BacktrackLimitExceeded)` or `RuntimeError(StackOverflow)`.
+    pub fn search(
+        &self,
+        haystack: &[u8],
+        request: Request,
+        continues: bool,
+        cache: &mut Cache,
+        work: &mut Work,
+    ) -> Result<Option<Found>>
+        requires inside { request.range_end ≤ length haystack.now }
+        requires room { HasRoomFor self.now request work.old }
+        ensures answer { IfOk result (λ m. IsAnswerIn m cache.new (asked_of self.now haystack.now request continues)) }
+        ensures ordered { IfFound result (λ f. f.start ≤ f.end) }
+        ensures inside { IfFound result (λ f. f.end ≤ request.range_end) }
+        ensures cleanly { KeepsCharacters self.now → IfFound result (IsCleanlyFound haystack.now) }
+        ensures steps { steps_of work.old ≤ steps_of work.new }
+        ensures bounded { program_is_easy self.now ≡ true
+            → steps_of work.new ≤ steps_of work.old + step_bound self.now request }
+        ensures returns { returns_of work.old ≤ returns_of work.new }
+        ensures paired { returns_of work.new ≤ steps_of work.new }
+        ensures counted { Counted self.now (asked_of self.now haystack.now request continues) result work.old work.new }
+        ensures stopped { IsHardProgram self.now → IsStopped result
+            → AddsReturns work.old (program_limit self.now) work.new }
+        ensures fits { IsHardProgram self.now → AddsReturnsUpTo work.old (program_limit self.now) work.new }
+        ensures most { CountedUpTo self.now (asked_of self.now haystack.now request continues) work.old work.new }
+        ensures refused { IfErr result (RefusesQuery self.now (asked_of self.now haystack.now request continues)) }
+        ensures allowed { IfOk result (λ _. AllowsQuery self.now (asked_of self.now haystack.now request continues)) }
+    {
+        if self.easy {
+            return self.run(haystack, request, cache, work);
+        }
+        self.backtrack(haystack, request, continues, cache, work)
+    }
+
+    /// The search for an easy pattern, by the memoised runner. It has no `\G`.
+    fn run(
+        &self,
+        haystack: &[u8],
+        request: Request,
+        cache: &mut Cache,
+        work: &mut Work,
+    ) -> Result<Option<Found>>
+        requires inside { request.range_end ≤ length haystack.now }
+        requires easy { program_is_easy self.now ≡ true }
+        requires room { HasRoomFor self.now request work.old }
+        ensures answer { IfOk result (λ m. (on : Bool) → IsAnswerIn m cache.new (asked_of self.now haystack.now request on)) }
+        ensures steps { steps_of work.old ≤ steps_of work.new }
+        ensures bounded { steps_of work.new ≤ steps_of work.old + step_bound self.now request }
+        ensures returns { returns_of work.old ≤ returns_of work.new }
+        ensures paired { returns_of work.new ≤ steps_of work.new }
+        ensures refused { IfErr result (λ e. e ≡ Error.Memory) }
+    {
+        cache.served = Engine::Runner;
+        let runner = &mut cache.runner;
+        let options = self.options.for_search();
+        match runner::search(&self.code, haystack, request, options, runner, work) {
+            Ok(found) => Ok(found),
+            Err(_) => Err(Error::Memory),
+        }
+    }
+
+    /// The search for a hard pattern, by the backtracking machine.
+    fn backtrack(
+        &self,
+        haystack: &[u8],
+        request: Request,
+        continues: bool,
+        cache: &mut Cache,
+        work: &mut Work,
+    ) -> Result<Option<Found>>
+        ghost p: { Pattern }
+        requires inside { request.range_end ≤ length haystack.now }
+        requires of { p ≡ program_pattern self.now }
+        requires hard { IsHardProgram self.now }
+        requires room { HasRoomFor self.now request work.old }
+        ensures answer { IfOk result (λ m. IsAnswerIn m cache.new (asked_of self.now haystack.now request continues)) }
+        ensures steps { steps_of work.old ≤ steps_of work.new }
+        ensures returns { returns_of work.old ≤ returns_of work.new }
+        ensures paired { returns_of work.new ≤ steps_of work.new }
+        ensures counted { IfOk result (λ _. AddsReturns work.old (returns_taken (asked_of self.now haystack.now request continues)) work.new) }
+        ensures stopped { IsStopped result → AddsReturns work.old (program_limit self.now) work.new }
+        ensures fits { AddsReturnsUpTo work.old (program_limit self.now) work.new }
+        ensures most { AddsReturnsUpTo work.old (returns_taken (asked_of self.now haystack.now request continues)) work.new }
+        ensures refused { IfErr result (λ e. RefusesQuery self.now (asked_of self.now haystack.now request continues) e) }
+    {
+        cache.served = Engine::Machine;
+        let machine = &mut cache.machine;
+        let options = self.options.for_search();
+        match machine::search(
+            &self.code, haystack, request, options, continues, machine, work,
+        ) {
+            Ok(found) => Ok(found),
+            Err(SearchRefusal::Memory) => Err(Error::Memory),
+            Err(SearchRefusal::Returns) => Err(Error::RuntimeError(
+                RuntimeError::BacktrackLimitExceeded,
+            )),
+            Err(SearchRefusal::Choices) => Err(Error::RuntimeError(RuntimeError::StackOverflow)),
+        }
+    }
+}

@@ -1,0 +1,242 @@
+//! Where an iteration over matches stands, and its next match.
+
+ghost use Rattle.std.specs.Prelude.{◌≡◌, ◌≤◌, ◌<◌, ◌+◌, ◌^◌, ◌&&◌, not, nat_eq, true, false, option_map, length, IsTrue, IfOk, IfErr, IfSome, IfNone, MatchOption, ⊤};
+ghost use Rattle.fancy_input.specs.Inputs.{haystack_in, request_in};
+ghost use Rattle.fancy_input.specs.Places.{is_boundary};
+ghost use Rattle.fancy_search.specs.Programs.{program_options};
+ghost use Rattle.fancy_search.specs.Searching.{Suits};
+ghost use Rattle.fancy_search.specs.Remaining.{item_in, EndsUnlessOk, IfItem, IfRefusal};
+
+use crate::cache::Cache;
+use crate::program::Program;
+use fancy_engine::found::Found;
+use fancy_engine::work::Work;
+use fancy_input::input::{Haystack, Input, Request};
+use fancy_input::regex_input::RegexInput;
+use fancy_tree::error::{Error, Result};
+
+/// What a search of an iteration found, the effective start that it was searched from, and whether `\G` was on. Its groups
+/// stand in the cache of the search.
+#[derive(Clone, Copy)]
+pub struct FoundItem {
+    /// What was found: its position and its two ends.
+    pub found: Found,
+    /// The effective start that it was searched from, as a byte offset.
+    pub from: usize,
+    /// Whether `\G` was on.
+    pub continues: bool,
+}
+
+/// An iteration over the matches of an input.
+///
+/// The next search starts at the end of the last match. After an empty match it starts at the place after it, and an
+/// empty match at the end of the match before is passed over.
+#[derive(Drop)]
+pub struct Searcher<S: Haystack> {
+    haystack: S,
+    request: Request,
+    // whether `\G` is on in the next search
+    continues: bool,
+    // whether an empty match at the start is passed over
+    skips_empty: bool,
+    ended: bool,
+    pub ghost ordered: { request.range_start ≤ request.range_end },
+    pub ghost inside: { request.range_end ≤ length (S.bytes haystack) },
+    pub ghost short: { length (S.bytes haystack) < 2 ^ 63 },
+}
+
+impl<S: Input> Searcher<S> {
+    ghost use Rattle.fancy_search.specs.Searchers.{IsCutOut, HasGroupsOf, GivesItem, KeepsEnd, answer_next, item_next, start_next, end_of_items, place_after, start_after, RefusesAnswer, RefusesItem};
+
+    /// The iteration of `input`.
+    pub fn new(input: RegexInput<S>) -> Searcher<S>
+        ensures haystack { result.haystack ≡ haystack_in input }
+        ensures request { result.request ≡ request_in input }
+        ensures continues { result.continues ≡ true }
+        ensures skips_empty { result.skips_empty ≡ false }
+        ensures ended { result.ended ≡ false }
+    {
+        let haystack = input.haystack();
+        // a slice is shorter than 2^63 bytes
+        let _bytes = haystack.as_bytes();
+        Searcher {
+            haystack,
+            request: input.request(),
+            continues: true,
+            skips_empty: false,
+            ended: false,
+        }
+    }
+
+    pub fn haystack(&self) -> S
+        ensures { result ≡ self.now.haystack }
+    {
+        self.haystack
+    }
+
+    /// The input of the next search.
+    pub fn input(&self) -> RegexInput<S>
+        ensures haystack { haystack_in result ≡ self.now.haystack }
+        ensures request { request_in result ≡ self.now.request }
+    {
+        let request = self.request;
+        RegexInput::new(self.haystack)
+            .from_pos(request.start)
+            .range(request.range_start..request.range_end)
+            .anchored(request.anchored)
+            .start_text(request.start_text)
+            .end_text(request.end_text)
+            .continue_from_previous_match_end(request.continues)
+    }
+
+    /// The same iteration with its next search from `start`.
+    fn at(&self, start: usize, continues: bool, skips_empty: bool) -> Searcher<S>
+        ensures haystack { result.haystack ≡ self.now.haystack }
+        ensures request { result.request ≡ record self.now.request { start = start } }
+        ensures continues { result.continues ≡ continues }
+        ensures skips_empty { result.skips_empty ≡ skips_empty }
+        ensures ended { result.ended ≡ false }
+    {
+        let mut request = self.request;
+        request.start = start;
+        Searcher {
+            haystack: self.haystack,
+            request,
+            continues,
+            skips_empty,
+            ended: false,
+        }
+    }
+
+    /// The iteration from the place after `end`, where an empty match stands.
+    fn past(&self, end: usize, continues: bool) -> Searcher<S>
+        requires inside { end ≤ length (S.bytes self.now.haystack) }
+        requires place { S.text self.now.haystack ≡ true → IsTrue (is_boundary (S.bytes self.now.haystack) end) }
+        ensures haystack { result.haystack ≡ self.now.haystack }
+        ensures request { result.request ≡ record self.now.request { start = place_after S.text S.bytes self.now end } }
+        ensures continues { result.continues ≡ continues }
+        ensures skips_empty { result.skips_empty ≡ false }
+        ensures ended { result.ended ≡ false }
+        ensures later { end < result.request.start }
+    {
+        let next = self.haystack.advance_position(end);
+        self.at(next, continues, false)
+    }
+
+    /// The iteration that goes on after an item.
+    fn after(&self, item: FoundItem) -> Searcher<S>
+        requires span { IsCutOut S.text S.bytes self.now item }
+        ensures haystack { result.haystack ≡ self.now.haystack }
+        ensures request { result.request ≡ record self.now.request { start = result.request.start } }
+        ensures continues { result.continues ≡ not (nat_eq item.found.start item.found.end && nat_eq item.from item.found.end) }
+        ensures skips_empty { result.skips_empty ≡ not (nat_eq item.found.start item.found.end) }
+        ensures ended { result.ended ≡ false }
+        ensures moved { item.found.end ≤ result.request.start }
+        ensures stands { result.request.start ≡ start_after S.text S.bytes self.now item }
+    {
+        let found = item.found;
+        if found.start == found.end {
+            self.past(found.end, item.from != found.end)
+        } else {
+            self.at(found.end, true, true)
+        }
+    }
+
+    /// The answer of the next search.
+    #[tactic(auto, unfolding(crate::specs::MatchList::answer))]
+    fn answer(&self, program: &Program, cache: &mut Cache) -> Result<Option<FoundItem>>
+        requires suits { Suits (program_options program.now) (S.text self.now.haystack) (S.bytes self.now.haystack) }
+        ensures value { IfOk result (λ o. option_map (item_in cache.new) o ≡ answer_next S.text S.bytes program.now self.now) }
+        ensures placed { IfOk result (λ o. IfSome o (λ i. IsCutOut S.text S.bytes self.now i)) }
+        ensures after { IfOk result (λ o. IfSome o (λ i. self.now.request.start ≤ i.found.start)) }
+        ensures groups { IfOk result (λ o. IfSome o (λ i. HasGroupsOf S.text S.bytes self.now i cache.new)) }
+        ensures refused { IfErr result (λ e. RefusesAnswer S.bytes program.now self.now e) }
+    {
+        let from = self.request.effective_start();
+        let mut work = Work::new();
+        let bytes = self.haystack.as_bytes();
+        let found = program.search(bytes, self.request, self.continues, cache, &mut work)?;
+        let Some(found) = found else {
+            return Ok(None);
+        };
+        Ok(Some(FoundItem {
+            found,
+            from,
+            continues: self.continues,
+        }))
+    }
+
+    /// The next item. An empty match that is passed over moves the iteration on.
+    #[tactic(auto, using(crate::proofs::RemainingLemmas::skips, crate::proofs::RemainingLemmas::keeps, crate::proofs::RemainingLemmas::keeps_none, crate::proofs::RemainingLemmas::stays, crate::proofs::RemainingLemmas::stays_none))]
+    fn upcoming(&mut self, program: &Program, cache: &mut Cache) -> Result<Option<FoundItem>>
+        requires open { self.old.ended ≡ false }
+        requires suits { Suits (program_options program.now) (S.text self.old.haystack) (S.bytes self.old.haystack) }
+        ensures value { IfOk result (λ o. option_map (item_in cache.new) o ≡ item_next S.text S.bytes program.now self.old) }
+        ensures start { IfOk result (λ _. self.new.request.start ≡ start_next S.text S.bytes program.now self.old) }
+        ensures placed { IfOk result (λ o. IfSome o (λ i. IsCutOut S.text S.bytes self.old i)) }
+        ensures after { IfOk result (λ o. IfSome o (λ i. self.old.request.start ≤ i.found.start)) }
+        ensures groups { IfOk result (λ o. IfSome o (λ i. HasGroupsOf S.text S.bytes self.old i cache.new)) }
+        ensures haystack { self.new.haystack ≡ self.old.haystack }
+        ensures request { self.new.request ≡ record self.old.request { start = self.new.request.start } }
+        ensures ended { self.new.ended ≡ false }
+        ensures refused { IfErr result (λ e. RefusesItem S.text S.bytes program.now self.old e) }
+    {
+        let Some(item) = self.answer(program, cache)? else {
+            return Ok(None);
+        };
+        let start = self.request.start;
+        let found = item.found;
+        if self.skips_empty && found.start == found.end && found.end == start {
+            *self = self.past(found.end, false);
+            return self.answer(program, cache);
+        }
+        Ok(Some(item))
+    }
+
+    /// Gives the next item and goes on after it. A refusal ends the list.
+    #[tactic(auto, using(crate::proofs::ScanLemmas::scan_sound, crate::proofs::RemainingLemmas::next_left, crate::proofs::RemainingLemmas::none_left, crate::proofs::RemainingLemmas::none_end))]
+    pub fn next_item(&mut self, program: &Program, cache: &mut Cache) -> Option<Result<FoundItem>>
+        requires suits { Suits (program_options program.now) (S.text self.old.haystack) (S.bytes self.old.haystack) }
+        ensures steps { GivesItem S.text S.bytes program.now cache.new self.old result self.new }
+        ensures keeps_end { IfItem result (λ _. KeepsEnd S.text S.bytes program.now self.old self.new) }
+        ensures rests { IfNone result (self.new.request.start ≡ end_of_items S.text S.bytes program.now self.old) }
+        ensures haystack { self.new.haystack ≡ self.old.haystack }
+        ensures request { self.new.request ≡ record self.old.request { start = self.new.request.start } }
+        ensures ends { EndsUnlessOk result self.new.ended }
+        ensures refused { IfRefusal result (self.new.request.start ≡ self.old.request.range_end + 1) }
+        ensures open { MatchOption result ⊤ (λ _. self.old.ended ≡ false) }
+        ensures placed { IfItem result (λ i. IsCutOut S.text S.bytes self.old i) }
+        ensures after { IfItem result (λ i. self.old.request.start ≤ i.found.start) }
+        ensures groups { IfItem result (λ i. HasGroupsOf S.text S.bytes self.old i cache.new) }
+        ensures moved { IfItem result (λ i. i.found.end ≤ self.new.request.start) }
+        ensures stands { IfItem result (λ i. self.new.request.start ≡ start_after S.text S.bytes self.old i) }
+    {
+        if self.ended {
+            return None;
+        }
+        match self.upcoming(program, cache) {
+            Ok(Some(item)) => {
+                *self = self.after(item);
+                Some(Ok(item))
+            }
+            Ok(None) => {
+                self.ended = true;
+                None
+            }
+            Err(error) => {
+                self.refuse();
+                Some(Err(error))
+            }
+        }
+    }
+
+    /// Ends the list, as after an item that is an error.
+    pub fn refuse(&mut self)
+        ensures haystack { self.new.haystack ≡ self.old.haystack }
+        ensures request { self.new.request ≡ record self.old.request { start = self.old.request.range_end + 1 } }
+        ensures ended { self.new.ended ≡ true }
+    {
+        self.ended = true;
+        self.request.start = self.request.range_end + 1;
+    }
+}
