@@ -49,7 +49,7 @@ impl CharSet {
 
     /// Whether it has the members of this set.
     pub fn is_of(&self, set: &Set) -> bool
-        ensures { IsTrue result → edges_of self.now.set ≡ edges_of set.now }
+        ensures { IsTrue result ↔ (edges_of self.now.set ≡ edges_of set.now) }
     {
         self.set.is_same(set)
     }

@@ -1,6 +1,6 @@
 //! Sets of numbers.
 
-ghost use Rattle.std.specs.Prelude.{◌≡◌, ◌||◌, ℕ, ◌+◌, ◌<◌, ◌≤◌, ◌⊎◌, [], ◌&&◌, false, length, slice_index, nat_le, IfOk, IsTrue, MatchOption};
+ghost use Rattle.std.specs.Prelude.{◌≡◌, ◌↔◌, ◌||◌, ℕ, ◌+◌, ◌<◌, ◌≤◌, ◌⊎◌, [], ◌&&◌, false, length, slice_index, nat_le, IfOk, IsTrue, MatchOption};
 ghost use Rattle.unicode.specs.Rows.{in_ranges};
 ghost use Rattle.fancy_tree.specs.Sets.{has, is_odd, in_range, AreRising, AreEdges};
 ghost use Rattle.fancy_tree.specs.SetViews.{Cut, IsNearest};
@@ -103,7 +103,7 @@ impl Set {
 
     /// Whether both sets have the same members.
     pub fn is_same(&self, other: &Set) -> bool
-        ensures { IsTrue result → edges_of self.now ≡ edges_of other.now }
+        ensures { IsTrue result ↔ (edges_of self.now ≡ edges_of other.now) }
     {
         self.edges == other.edges
     }
