@@ -1,0 +1,5 @@
+pub mod BoolLemmas
+pub mod SetLemmas
+pub mod ItemLemmas
+pub mod ListLemmas
+pub mod EdgeLemmas

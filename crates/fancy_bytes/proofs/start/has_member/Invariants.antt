@@ -1,0 +1,5 @@
+use Rattle.fancy_bytes.proofs.EdgeLemmas.{NoEdgeIn}
+use Rattle.fancy_bytes.proofs.start.has_member.Given as goal
+
+abbrev pub invariant-loop-i : goal.invariant-loop-i
+invariant-loop-i l = NoEdgeIn l.edges l.first l.last l.i
