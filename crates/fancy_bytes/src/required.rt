@@ -25,8 +25,8 @@ pub fn required_bytes(tree: &Tree, meaning: Meaning) -> ByteSet
         | Tree::KeepStart
         | Tree::ContinueHere => ByteSet::new(),
         Tree::Character(c) => bytes_of_character(*c, meaning),
-        Tree::Member(edges) => bytes_of_one(edges, meaning),
-        Tree::InAnyCase(edges) => bytes_of_all(edges, meaning),
+        Tree::Member(set) => bytes_of_one(set.edges(), meaning),
+        Tree::InAnyCase(set) => bytes_of_all(set.edges(), meaning),
         Tree::RawByte(byte) => {
             let mut set = ByteSet::new();
             set.insert(*byte);

@@ -96,8 +96,8 @@ pub fn add_first(tree: &Tree, meaning: Meaning, set: &mut ByteSet)
         | Tree::LookAhead { .. }
         | Tree::LookBehind { .. } => {}
         Tree::Character(c) => add_first_of_character(*c, meaning, set),
-        Tree::Member(edges) => add_first_of_set(edges, meaning, set),
-        Tree::InAnyCase(edges) => add_first_of_set(edges, meaning, set),
+        Tree::Member(members) => add_first_of_set(members.edges(), meaning, set),
+        Tree::InAnyCase(members) => add_first_of_set(members.edges(), meaning, set),
         Tree::RawByte(byte) => set.insert(*byte),
         Tree::Backreference { .. } => *set = ByteSet::all(),
         Tree::Group { body, .. } => add_first(body, meaning, set),

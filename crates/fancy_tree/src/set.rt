@@ -101,6 +101,13 @@ impl Set {
         })
     }
 
+    /// The numbers at which the set begins and ends in turn.
+    pub fn edges(&self) -> &[u32]
+        ensures { result.now ≡ edges_of self.now }
+    {
+        &self.edges
+    }
+
     /// Whether both sets have the same members.
     pub fn is_same(&self, other: &Set) -> bool
         ensures { IsTrue result → edges_of self.now ≡ edges_of other.now }
