@@ -12,7 +12,7 @@ use Rattle.fancy_tree.specs.Sets.{has}
 use Rattle.fancy_input.specs.Places.{is_scalar, char_at, has_bytes_at}
 use Rattle.fancy_engine.specs.Context.{Context, State, Span, Unit_at, one_character, one_byte, unit_in, unit_at, past_item, past_byte, group_span, option_to}
 use Rattle.fancy_engine.specs.Backreference.{captured_text, past_text, past_letters, shares_folding, past_characters, past_folded, past_span, past_backreference}
-use Rattle.fancy_engine.proofs.CharacterLemmas.{is_scalar-scalar, char_at-bytes, char_at-past, bytes_begin}
+use Rattle.fancy_input.proofs.CharacterLemmas.{is_scalar-scalar, char_at-bytes, char_at-past, bytes_begin}
 use Rattle.fancy_bytes.specs.Items.{codes, encoding, begins, includes, first_of_characters, first_of_items, one_member, is_item, is_in_one, is_in_all, only}
 use Rattle.fancy_engine.specs.Seen.{SeesByte, Stands}
 use Rattle.fancy_bytes.proofs.BoolLemmas.{parts_of, both_hold, either_of, some_below_from}
