@@ -1,4 +1,4 @@
-//! The text of a class, as far as it is left.
+//! The text of a class or an escape, as far as it is left to read.
 
 ghost use Rattle.std.specs.Prelude.{◌≡◌, ◌+◌, ◌≤◌, length, drop};
 

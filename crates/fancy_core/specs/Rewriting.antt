@@ -22,7 +22,7 @@ rewriting_text w = w.searcher.haystack.now
 abbrev pub todo_of : Rewriting → List Item
 todo_of w = up_to w.left (left_of (program_in w.regex.now) w.searcher)
 
--- what a replacer sees of a match that was located, whose groups the search left in its memory
+-- what a replacer sees of a match that was found, whose groups the search left in its cache
 abbrev pub seen_at : Rewriting → FoundItem → Seen
 seen_at w i = seen_of (rewriting_regex w) (rewriting_text w) (item_in w.cache i)
 

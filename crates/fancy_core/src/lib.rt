@@ -1,4 +1,4 @@
-//! Regexes: a pattern that was read once, and the searches with it.
+//! Regexes: the text of a pattern with its program, and what users ask of them.
 #![tactic(auto)]
 
 pub mod captures;

@@ -1,4 +1,4 @@
-//! A text on its way to having its matches replaced.
+//! A text while its matches are replaced, one after another.
 
 ghost use Rattle.std.specs.Prelude.{◌≡◌, ◌≤◌, ◌↔◌, ◌⊎◌, ◌++◌, ◌∷◌, [], true, false, length, slice_range, string_bytes, IsTrue, IfOk, IfErr, IfSome, OnOk, MatchBool, MatchOption, List, ℕ};
 ghost use Rattle.std.specs.Cow.{cow_str_bytes, IsBorrowedStr};

@@ -1,4 +1,4 @@
-//! The engines: what a pattern finds in a haystack.
+//! What a pattern finds in a haystack: its definition, its code, and the runner, the engine for easy patterns.
 #![tactic(auto)]
 
 pub mod classify;

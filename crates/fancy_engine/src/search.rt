@@ -38,8 +38,8 @@ impl Cache {
         }
     }
 
-    /// Where the group with this number stands in the match that the last search found. `None` where the group
-    /// took no part, or there is none with this number.
+    /// Where the group with this number stands in what the search before found, in byte offsets. `None` where the group
+    /// took no part, or there is none with this number. After a search that found nothing the answer means nothing.
     pub fn group(&self, number: usize) -> Option<Span>
         ensures { result ≡ slice_index_or (groups_in self.now) number None }
     {

@@ -13,7 +13,7 @@ pub record Serves (a : Attempt) (q : Query) : Type 0 where
   pub not_empty : a.options.not_empty ≡ q.sought.not_empty
   pub longest : a.options.longest ≡ q.sought.longest
 
--- where the groups stand in the match that the last search found
+-- where the groups stand in the match that the search before found
 abbrev pub groups_held : Cache → List (Option Span)
 groups_held cache = cache.trail.now.state.captures
 

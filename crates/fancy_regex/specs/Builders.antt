@@ -25,6 +25,6 @@ with_flags o change = record o { flags = change o.flags }
 abbrev pub with_only_named : Options → Bool → Options
 with_only_named o on = record o { ignore_numbered_groups_when_named_groups_exist = on }
 
--- the options where an input may suppress the text's start and its end, or may not
+-- the options where an input may say that the text's start or its end does not count as one, or that `\G` holds nowhere; or may not
 abbrev pub with_overrides : Options → Bool → Options
 with_overrides o on = record o { allow_input_assertion_overrides = on }

@@ -28,14 +28,14 @@ use fancy_core::regex::Regex;
 use fancy_input::input::Input;
 use fancy_input::regex_input::RegexInput;
 
-/// A regex stands for the pattern that its text spells under its options; the number of its groups and their names are those that the
-/// text has. So whoever is lent a regex can reason about what it finds.
+/// A regex stands for the pattern that its text spells under its options; the number of its groups and their names are those
+/// that the text has. So whoever is lent a regex can reason about what it finds.
 pub fn regex_is_of_its_text(_regex: &Regex)
     ensures { ∥ IsOfItsText _regex.now ∥₁ }
 {}
 
-/// Where no size was set for the code of hard patterns, want of memory alone refuses a pattern of the dialect, and what is refused for
-/// anything else is none.
+/// Where no size was set for the code of hard patterns, want of memory alone refuses a pattern of the dialect, and what is
+/// refused for anything else is none.
 pub fn without_a_size_memory_alone_refuses()
     ensures pattern { (o : Options) (p : Pattern) (e : Error) → SetsNoSize o → RefusesPattern o p e → e ≡ Error.Memory }
     ensures text { (o : Options) (t : Text) (e : Error) → SetsNoSize o → IsRefusedUnder o t e

@@ -22,7 +22,8 @@ pub struct RegexOptionsBuilder {
 }
 
 impl RegexOptionsBuilder {
-    /// A builder with the default options: `BytesMode::Unicode`, the Unicode mode on, and every other switch off.
+    /// A builder with the default options: `BytesMode::Unicode`, the Unicode mode on, at most 1,000,000 returns, and every other
+    /// switch off.
     pub fn new() -> RegexOptionsBuilder
         ensures { options_of result ≡ by_default }
     {

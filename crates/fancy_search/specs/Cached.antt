@@ -15,11 +15,11 @@ abbrev pub groups_by : Engine → List (Option Span) → List (Option Span) → 
 groups_by Runner runner machine = runner
 groups_by Machine runner machine = machine
 
--- where the groups stand in the match that the last search found
+-- where the groups stand in the match that the search before found
 abbrev pub cached_groups : Cache → List (Option Span)
 cached_groups c = groups_by c.served (groups_in c.runner) (groups_held c.machine)
 
--- what the last search found, with its groups
+-- what the search before found, with its groups
 abbrev pub found_at : Found → Cache → Answer
 found_at f c = record { position = f.position; state = record { place = f.end; captures = cached_groups c; kept = f.start } }
 

@@ -88,7 +88,7 @@ end_from k s o = chain_end (suc k.last) k s o
 abbrev pub last_start : Scan → ℕ → ℕ
 last_start k s = end_from k s (answer k s true)
 
--- an item lies after the start that it was searched from, and within the range
+-- an item lies at or after the start that it was searched from, and within the range
 pub record Lies (k : Scan) (i : Item) : Type 0 where
   pub after : i.from ≤ start_of i
   pub ordered : start_of i ≤ stop_of i

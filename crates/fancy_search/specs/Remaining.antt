@@ -36,11 +36,11 @@ program_matches program text haystack r = matches (scan program text haystack r)
 abbrev pub program_last_start : Program → Bool → List ℕ → Request → ℕ
 program_last_start program text haystack r = last_start (scan program text haystack r) r.start
 
--- the haystack can be cut at the groups of what the last search with this memory found
+-- the haystack can be cut at the groups of what was found, which the search left in this cache
 pub record HasGroups (text : Bool) (haystack : List ℕ) (found : Found) (cache : Cache) : Type 0 where
   pub cut : (n : ℕ) → AreCut text haystack (spans_of n (found_at found cache))
 
--- what was located, with the groups that the search left in its memory
+-- what was found, with the groups that the search left in its cache
 abbrev pub item_in : Cache → FoundItem → Item
 item_in cache l = record { found = found_at l.found cache; from = l.from; continues = l.continues }
 

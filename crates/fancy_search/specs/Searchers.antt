@@ -48,7 +48,7 @@ RefusesAnswer bytes program w e = refuses_at program (bytes w.haystack) w.reques
 abbrev pub RefusesItem : {S : Type 0} {g : _} → (S → Bool) → (S → List ℕ) → Program → Searcher S g → Error → Type 0
 RefusesItem text bytes program w e = refused_next program (text w.haystack) (bytes w.haystack) w.request w.continues w.skips_empty e
 
--- One step: the first of the items that are left, whose groups the search left in its memory; or a refusal, after which none is left.
+-- One step: the first of the items that are left, whose groups the search left in its cache; or a refusal, after which none is left.
 abbrev pub GivesItem : {S : Type 0} {g : _} → (S → Bool) → (S → List ℕ) → Program → Cache → Searcher S g → Option (Result FoundItem Error) → Searcher S g → Type 0
 GivesItem text bytes program cache before r after =
     GivesFirst (λ w e. RefusesItem text bytes program w e) (item_in cache) (λ w. items_of text bytes program w) before r after
@@ -65,7 +65,7 @@ start_after text bytes w i = next_start (text w.haystack) (bytes w.haystack) (fr
 abbrev pub IsCutOut : {S : Type 0} {g : _} → (S → Bool) → (S → List ℕ) → Searcher S g → FoundItem → Type 0
 IsCutOut text bytes w i = IsCut (text w.haystack) (bytes w.haystack) i.found.start i.found.end
 
--- and at the ends of the groups of an item, which the search left in its memory
+-- and at the ends of the groups of an item, which the search left in its cache
 abbrev pub HasGroupsOf : {S : Type 0} {g : _} → (S → Bool) → (S → List ℕ) → Searcher S g → FoundItem → Cache → Type 0
 HasGroupsOf text bytes w i cache = HasGroups (text w.haystack) (bytes w.haystack) i.found cache
 

@@ -21,7 +21,7 @@ pub enum Engine {
 pub struct Cache {
     pub(crate) runner: runner::Cache,
     pub(crate) machine: machine::Cache,
-    /// Which engine served the last search.
+    /// Which engine worked in it last.
     pub(crate) served: Engine,
 }
 
@@ -37,8 +37,8 @@ impl Cache {
         }
     }
 
-    /// Where the group with this number stands in the match that the last search found, in byte offsets. `None` where the
-    /// group took no part, or there is none with this number.
+    /// Where the group with this number stands in what the search before found, in byte offsets. `None` where the group took
+    /// no part, or there is none with this number. After a search that found nothing the answer means nothing.
     pub fn group(&self, number: usize) -> Option<Span>
         ensures { result ≡ slice_index_or (cached_groups self.now) number None }
     {

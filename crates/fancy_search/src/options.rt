@@ -15,7 +15,7 @@ use fancy_tree::tree::{BytesMode, Meaning, Tree};
 /// How many returns a search may take where nothing else is set.
 const BACKTRACK_LIMIT: usize = 1_000_000;
 
-/// The switches of a program.
+/// The options of a program: how its pattern is read, and how it is searched.
 #[derive(Clone, Copy, PartialEq, Eq)]
 pub struct Options {
     /// How bytes are read.
@@ -26,7 +26,7 @@ pub struct Options {
     pub flags: Flags,
     /// Whether groups without a name capture nothing where a group has one.
     pub ignore_numbered_groups_when_named_groups_exist: bool,
-    /// Whether an input may suppress the text's start and its end.
+    /// Whether an input may suppress the text's start, its end, and `\G`.
     pub allow_input_assertion_overrides: bool,
     /// How many returns to an earlier choice a search for a hard pattern may take.
     pub backtrack_limit: usize,
@@ -41,7 +41,7 @@ pub struct Options {
 impl Default for Options {
     ghost is_default = { λ o. o ≡ by_default };
 
-    /// `BytesMode::Unicode`, the Unicode mode on, and every other switch off.
+    /// `BytesMode::Unicode`, the Unicode mode on, at most 1,000,000 returns, and every other switch off.
     fn default() -> Options {
         Options {
             bytes_mode: BytesMode::Unicode,

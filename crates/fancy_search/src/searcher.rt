@@ -68,6 +68,7 @@ impl<S: Input> Searcher<S> {
         }
     }
 
+    /// The haystack.
     pub fn haystack(&self) -> S
         ensures { result ≡ self.now.haystack }
     {

@@ -181,7 +181,8 @@ fn name_condition(
     }
 }
 
-/// The group that a condition tests, and the text after the condition's parenthesis; none where the condition is no test of a group.
+/// The group that a condition tests, and the text after the condition's parenthesis; none where the condition is no test of a
+/// group.
 pub(crate) fn read_condition(
     alloc: Global,
     text: &[char],

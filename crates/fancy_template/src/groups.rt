@@ -6,8 +6,8 @@ ghost use Rattle.fancy_template.specs.Expansions.{Captured};
 
 use std::alloc::Global;
 
-/// The texts of the groups of a match, as [`Expander::expansion`](crate::expander::Expander::expansion) asks for them. They are lent
-/// out of the text that was searched.
+/// The texts of the groups of a match, as [`Expander::expansion`](crate::expander::Expander::expansion) asks for them. They are
+/// lent out of the text that was searched.
 pub trait GroupTexts<'t> {
     // What the groups matched, by their names and by their numbers.
     ghost captured: { Self → Captured };

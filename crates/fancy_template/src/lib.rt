@@ -1,5 +1,5 @@
-//! Templates: texts in which a mark stands before the name or the number of a group; what they expand to, and which groups they may
-//! name.
+//! Templates: texts in which a mark stands before the name or the number of a group; what they expand to, and which groups
+//! they may name.
 #![tactic(auto)]
 
 mod check;

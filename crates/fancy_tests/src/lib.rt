@@ -1,4 +1,4 @@
-//! Tests that cross the crates, through the public names alone.
+//! Tests that cross the crates, through public names. What no call of `fancy_regex` shows by itself is asked of its own crate.
 #![tactic(auto)]
 
 #[cfg(test)]

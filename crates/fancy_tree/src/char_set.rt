@@ -1,4 +1,4 @@
-//! Sets that are asked often.
+//! Sets with a table of their members below 256.
 
 ghost use Rattle.std.specs.Prelude.{◌≡◌, ◌≢◌, ◌↔◌, ◌<◌, ◌*◌, ℕ, true, IsTrue, length};
 ghost use Rattle.fancy_tree.specs.CharSet.{bit, IsLow};

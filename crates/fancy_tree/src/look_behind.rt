@@ -74,7 +74,7 @@ fn have_size(branches: &[Tree], meaning: Meaning) -> bool
     branches.iter().all(|branch| branch.has_size(meaning))
 }
 
-/// Whether the bodies of all look-behinds in these trees can be measured.
+/// Whether each look-behind in these trees can step back.
 #[cycle(sized)]
 fn are_sized(trees: &[Tree], meaning: Meaning) -> bool
     ensures { result ≡ list_all (are_sized meaning) (map pattern_of trees.now) }

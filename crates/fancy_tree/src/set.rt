@@ -50,7 +50,7 @@ fn next_edge(a: &[u32], i: usize, b: &[u32], j: usize) -> Option<u32>
     }
 }
 
-/// The place after the edge `at`, where it stands next.
+/// The index after the edge `at`, if that stands at the index `i`; else `i`.
 fn skip_edge(edges: &[u32], i: usize, at: u32) -> usize
     requires rising { AreRising edges.now }
     requires cut { Cut edges.now i at }

@@ -6,7 +6,8 @@ use crate::captures::Captures;
 use crate::replacer::Replacer;
 use fancy_tree::error::Result;
 
-/// A replacer that lends another one, made by [`Replacer::by_ref`]. Each call is a call of that other one, which keeps the state that the call leaves.
+/// A replacer that lends another one, made by [`Replacer::by_ref`]. Each call is a call of that other one, which keeps the
+/// state that the call leaves.
 pub struct ReplacerRef<'a, R: Replacer>(pub &'a mut R);
 
 impl<'a, R: Replacer> Drop for ReplacerRef<'a, R> {
