@@ -499,7 +499,11 @@ fn next_span(rt: &impl Abort, matches: &mut Matches<'_, &str>) -> Option<Span> {
 fn counts_the_matches_left(rt: HostRuntime) {
     let regex = regex_of(&rt, rt.alloc(), "a?");
     let mut matches = regex.find_iter("baa");
-    assert_eq!(rt; next_span(&rt, &mut matches), Some((0, 0)));
+    let first = matches
+        .next()
+        .expect(&rt, "a match")
+        .expect(&rt, "a search");
+    assert_eq!(rt; (first.start(), first.end()), (0, 0));
     assert_eq!(rt; matches.count(), 2);
 }
 
