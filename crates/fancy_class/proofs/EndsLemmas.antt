@@ -7,12 +7,12 @@ use Rattle.ucd_sets.specs.declared.set.Set.{Set as PropertySet}
 use Rattle.fancy_tree.specs.declared.tree.Meaning.{Meaning}
 use Rattle.fancy_tree.specs.Named.{is_unicode}
 use Rattle.fancy_tree.specs.declared.named.Named.{Named}
-use Rattle.fancy_class.specs.declared.token.Token.{Token}
+use Rattle.fancy_class.specs.declared.class_item.ClassItem.{ClassItem}
 use Rattle.fancy_tree.specs.Text.{Text, ◌∈◌}
 use Rattle.fancy_class.specs.Words.{is_at, begins, by_word}
 use Rattle.fancy_class.specs.EscapeGrammar.{escape_meaning, escape_at, hexadecimal, escape_number, braced_number, before_brace, by_number, is_character, takes_number, digits_after, single_character, set_here, is_property, property_name}
 use Rattle.fancy_tree.specs.Properties.{property_named}
-use Rattle.fancy_class.specs.ClassGrammar.{fits, may_negate, range, range_from, range_to, is_ranged, named_of, posix, posix_of, posix_words, is_posix, property, property_of, found_property, token, token_of}
+use Rattle.fancy_class.specs.ClassGrammar.{fits, may_negate, range, range_from, range_to, is_ranged, named_set_of, posix, posix_of, posix_words, is_posix, property, property_of, found_property, class_item, class_item_of}
 use Rattle.fancy_tree.proofs.Facts.{some_is_none, some_pair, chosen}
 
 -- the second text is an end of the first
@@ -92,7 +92,7 @@ ends_single (c ∷ d ∷ t) {x} {u} h =
           | inr y ↦ two (ends_at (ends_here t) (ends_escape_at (escape_meaning d) t y.1))
         ]
 
-ends_range : (m : Meaning) (t : Text) {x : Token} {u : Text} → range m t ≡ Some (x, u) → Ends t u
+ends_range : (m : Meaning) (t : Text) {x : ClassItem} {u : Text} → range m t ≡ Some (x, u) → Ends t u
 ends_range m t {x} {u} h = from (single_character t) refl h
   where
     to : (q : Text) (a : ℕ) (o : Option ((ℕ × Bool) × Text)) → single_character (drop 1 q) ≡ o → range_to m a o ≡ Some (x, u) → Ends q u
@@ -114,7 +114,7 @@ ends_range m t {x} {u} h = from (single_character t) refl h
           ]
         ]
 
-ends_named : (m : Meaning) (t : Text) (n : Named × Bool) {x : Token} {u : Text} → named_of m t n ≡ Some (x, u) → t ≡ u
+ends_named : (m : Meaning) (t : Text) (n : Named × Bool) {x : ClassItem} {u : Text} → named_set_of m t n ≡ Some (x, u) → t ≡ u
 ends_named m t n h =
     elim (chosen (may_negate m n.1) _ _ _ h) [
       | inl y ↦ (some_pair y.1).1
@@ -129,11 +129,11 @@ ends_by_word ((word, x) ∷ others) t h =
       | inr y ↦ ends_by_word others t y.1
     ]
 
-ends_posix_of : (m : Meaning) (negated : Bool) (t : Text) (o : Option (Named × Text)) {x : Token} {u : Text} → by_word posix_words t ≡ o → posix_of m negated o ≡ Some (x, u) → Ends t u
+ends_posix_of : (m : Meaning) (negated : Bool) (t : Text) (o : Option (Named × Text)) {x : ClassItem} {u : Text} → by_word posix_words t ≡ o → posix_of m negated o ≡ Some (x, u) → Ends t u
 ends_posix_of m negated t None e h = absurd (some_is_none (sym h))
 ends_posix_of m negated t (Some (n, v)) e h = ends_at (ends_by_word posix_words t e) (ends_named m v (n, negated) h)
 
-ends_posix : (m : Meaning) (t : Text) {x : Token} {u : Text} → posix m t ≡ Some (x, u) → Ends t u
+ends_posix : (m : Meaning) (t : Text) {x : ClassItem} {u : Text} → posix m t ≡ Some (x, u) → Ends t u
 ends_posix m t h =
     elim (chosen (begins "[:^" t) _ _ _ h) [
       | inl y ↦ ends_then (ends_drop 3 t) (ends_posix_of m true (drop 3 t) (by_word posix_words (drop 3 t)) refl y.1)
@@ -151,7 +151,7 @@ ends_property_name (c ∷ t) h =
       | inr y ↦ ends_at (ends_drop 1 (c ∷ t)) (some_pair y.1).1
     ]
 
-pub ends_property : (m : Meaning) (t : Text) {x : Token} {u : Text} → property m t ≡ Some (x, u) → Ends t u
+pub ends_property : (m : Meaning) (t : Text) {x : ClassItem} {u : Text} → property m t ≡ Some (x, u) → Ends t u
 ends_property m t {x} {u} h = from (property_name (drop 2 t)) refl h
   where
     found : (negated : Bool) (v : Text) (o : Option PropertySet) → found_property negated v o ≡ Some (x, u) → v ≡ u
@@ -166,16 +166,16 @@ ends_property m t {x} {u} h = from (property_name (drop 2 t)) refl h
           | inr y ↦ absurd (some_is_none (sym y.1))
         ]
 
-ends_token_of : (m : Meaning) (t : Text) (o : Option (Named × Bool)) {x : Token} {u : Text} → token_of m t o ≡ Some (x, u) → Ends t u
-ends_token_of m t None h = ends_range m t h
-ends_token_of m t (Some n) h = ends_at (ends_drop 2 t) (ends_named m (drop 2 t) n h)
+ends_class_item_of : (m : Meaning) (t : Text) (o : Option (Named × Bool)) {x : ClassItem} {u : Text} → class_item_of m t o ≡ Some (x, u) → Ends t u
+ends_class_item_of m t None h = ends_range m t h
+ends_class_item_of m t (Some n) h = ends_at (ends_drop 2 t) (ends_named m (drop 2 t) n h)
 
-pub ends_token : (m : Meaning) (t : Text) {x : Token} {u : Text} → token m t ≡ Some (x, u) → Ends t u
-ends_token m t h =
+pub ends_class_item : (m : Meaning) (t : Text) {x : ClassItem} {u : Text} → class_item m t ≡ Some (x, u) → Ends t u
+ends_class_item m t h =
     elim (chosen (is_posix t) _ _ _ h) [
       | inl y ↦ ends_posix m t y.1
       | inr y ↦ elim (chosen (is_property t) _ _ _ y.1) [
         | inl z ↦ ends_property m t z.1
-        | inr z ↦ ends_token_of m t (set_here t) z.1
+        | inr z ↦ ends_class_item_of m t (set_here t) z.1
       ]
     ]

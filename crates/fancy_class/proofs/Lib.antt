@@ -1,6 +1,6 @@
 pub mod WordLemmas
 pub mod EndsLemmas
-pub mod GatheredLemmas
+pub mod ClassBuilderLemmas
 pub mod NumberEscapeLemmas
 pub mod ClassSteps
 pub mod ClassSpelling

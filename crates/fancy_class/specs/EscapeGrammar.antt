@@ -73,15 +73,19 @@ abbrev pub by_number : Option ℕ → Bool → Text → Option ((ℕ × Bool) ×
 by_number (Some n) is_byte t = if is_character n then Some ((n, is_byte), t) else None
 by_number None is_byte t = None
 
+-- the character that so many digits at the start number, with what follows so many characters
+abbrev pub number_in_digits : ℕ → ℕ → Bool → Text → Option ((ℕ × Bool) × Text)
+number_in_digits digits past is_byte t = by_number (hexadecimal 0 (take digits t)) is_byte (drop past t)
+
 -- so many digits, of which two write a byte
 abbrev pub fixed_number : ℕ → Text → Option ((ℕ × Bool) × Text)
-fixed_number count t = if nat_lt (length t) count then None else by_number (hexadecimal 0 (take count t)) (count == 2) (drop count t)
+fixed_number count t = if nat_lt (length t) count then None else number_in_digits count count (count == 2) t
 
 -- one to eight digits and a closing brace
 abbrev pub braced_number : Text → Option ((ℕ × Bool) × Text)
 braced_number t =
     if nat_lt 0 (before_brace t) && (nat_lt (before_brace t) 9 && nat_lt (before_brace t) (length t))
-    then by_number (hexadecimal 0 (take (before_brace t) t)) false (drop (before_brace t + 1) t)
+    then number_in_digits (before_brace t) (before_brace t + 1) false t
     else None
 
 -- what follows the letter of a number escape: so many digits, or one to eight in braces

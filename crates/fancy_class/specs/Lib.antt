@@ -1,4 +1,5 @@
 pub mod Words
+pub mod Readings
 pub mod EscapeGrammar
 pub mod ClassGrammar
 pub mod ClassReading

@@ -1,4 +1,4 @@
-//! The text of a class or an escape, as far as it is left to read.
+//! The text of a pattern, as far as it is left to read.
 
 ghost use Rattle.std.specs.Prelude.{◌≡◌, ◌+◌, ◌≤◌, length, drop};
 

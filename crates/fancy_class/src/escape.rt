@@ -1,9 +1,10 @@
 //! Single characters, and escapes that stand for one.
 
-ghost use Rattle.std.specs.Prelude.{◌≡◌, ◌+◌, ◌<◌, ◌≤◌, length, take, drop, OnOk, Some, None, if◌then◌else◌};
+ghost use Rattle.std.specs.Prelude.{◌≡◌, ◌+◌, ◌<◌, ◌≤◌, length, drop, OnOk, Some, None, if◌then◌else◌};
 ghost use Rattle.fancy_class.specs.Words.{is_at};
-ghost use Rattle.fancy_class.specs.EscapeGrammar.{control_of, escape_meaning, set_letter, set_here, before_brace, is_character, hexadecimal, by_number, braced_number, fixed_number, escape_number, single_character};
-ghost use Rattle.fancy_class.specs.ClassViews.{GivesValue, same, capped_number};
+ghost use Rattle.fancy_class.specs.EscapeGrammar.{control_of, escape_meaning, set_letter, set_here, before_brace, is_character, number_in_digits, braced_number, fixed_number, escape_number, single_character};
+ghost use Rattle.fancy_class.specs.ClassViews.{ClassGivesValue, capped_number};
+ghost use Rattle.fancy_class.specs.Readings.{itself};
 
 use crate::cursor::Cursor;
 use crate::refusal::ClassRefusal;
@@ -116,7 +117,7 @@ impl<'a> Cursor<'a> {
     ) -> Result<(char, bool), ClassRefusal>
         requires digits { digits ≤ length self.old.rest.now }
         requires past { past ≤ length self.old.rest.now }
-        ensures value { GivesValue same (by_number (hexadecimal 0 (take digits self.old.rest.now)) is_byte (drop past self.old.rest.now)) result self.new.rest.now }
+        ensures value { ClassGivesValue itself (number_in_digits digits past is_byte self.old.rest.now) result self.new.rest.now }
         ensures forward { OnOk result (length self.new.rest.now ≤ length self.old.rest.now) }
     {
         let Some(value) = hexadecimal(&self.rest[..digits]) else {
@@ -131,7 +132,7 @@ impl<'a> Cursor<'a> {
 
     /// Reads one to eight digits and a closing brace.
     fn braced_number(&mut self) -> Result<(char, bool), ClassRefusal>
-        ensures value { GivesValue same (braced_number self.old.rest.now) result self.new.rest.now }
+        ensures value { ClassGivesValue itself (braced_number self.old.rest.now) result self.new.rest.now }
         ensures forward { OnOk result (length self.new.rest.now ≤ length self.old.rest.now) }
     {
         let len = before_brace(self.rest);
@@ -143,7 +144,7 @@ impl<'a> Cursor<'a> {
 
     /// Reads so many digits, of which two write a byte.
     fn fixed_number(&mut self, count: usize) -> Result<(char, bool), ClassRefusal>
-        ensures value { GivesValue same (fixed_number count self.old.rest.now) result self.new.rest.now }
+        ensures value { ClassGivesValue itself (fixed_number count self.old.rest.now) result self.new.rest.now }
         ensures forward { OnOk result (length self.new.rest.now ≤ length self.old.rest.now) }
     {
         if self.rest.len() < count {
@@ -155,7 +156,7 @@ impl<'a> Cursor<'a> {
     /// Reads the number after the letter of its escape: so many hexadecimal digits, or one to eight in
     /// braces. Tells whether it was written as a byte, as `\xFF` is.
     pub fn number(&mut self, count: usize) -> Result<(char, bool), ClassRefusal>
-        ensures value { GivesValue same (escape_number count self.old.rest.now) result self.new.rest.now }
+        ensures value { ClassGivesValue itself (escape_number count self.old.rest.now) result self.new.rest.now }
         ensures forward { OnOk result (length self.new.rest.now ≤ length self.old.rest.now) }
     {
         if is_at_any(self.rest, &['{']) {
@@ -168,7 +169,7 @@ impl<'a> Cursor<'a> {
     /// Reads the number of an escape, from its backslash on.
     fn number_escape(&mut self, count: usize) -> Result<(char, bool), ClassRefusal>
         requires { 2 ≤ length self.old.rest.now }
-        ensures value { GivesValue same (escape_number count (drop 2 self.old.rest.now)) result self.new.rest.now }
+        ensures value { ClassGivesValue itself (escape_number count (drop 2 self.old.rest.now)) result self.new.rest.now }
         ensures progress { OnOk result (length self.new.rest.now < length self.old.rest.now) }
     {
         self.skip(2);
@@ -177,7 +178,7 @@ impl<'a> Cursor<'a> {
 
     /// Reads one character, or an escape that stands for one. Tells whether it was written as a byte.
     pub(crate) fn single_character(&mut self) -> Result<(char, bool), ClassRefusal>
-        ensures value { GivesValue same (single_character self.old.rest.now) result self.new.rest.now }
+        ensures value { ClassGivesValue itself (single_character self.old.rest.now) result self.new.rest.now }
         ensures progress { OnOk result (length self.new.rest.now < length self.old.rest.now) }
     {
         match self.rest {

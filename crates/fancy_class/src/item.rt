@@ -2,14 +2,15 @@
 
 ghost use Rattle.std.specs.Prelude.{◌≡◌, ◌<◌, ◌≤◌, true, length, drop, option_map, IsTrue, IsSome, OnOk};
 ghost use Rattle.fancy_class.specs.EscapeGrammar.{single_character};
-ghost use Rattle.fancy_class.specs.ClassGrammar.{range, token, ends_operand, is_ranged, starts_class};
+ghost use Rattle.fancy_class.specs.ClassGrammar.{range, class_item, ends_operand, is_ranged, starts_class};
 ghost use Rattle.fancy_class.specs.ClassReading.{operator, class_opening, is_bracket};
-ghost use Rattle.fancy_class.specs.ClassViews.{GivesValue, same};
+ghost use Rattle.fancy_class.specs.ClassViews.{ClassGivesValue};
+ghost use Rattle.fancy_class.specs.Readings.{itself};
 
+use crate::class_item::ClassItem;
 use crate::context::{ClassContext, fits, may_negate};
 use crate::cursor::Cursor;
 use crate::refusal::ClassRefusal;
-use crate::token::Token;
 use crate::words::{begins, is_at_any};
 use fancy_tree::error::ParseErrorKind;
 use fancy_tree::operation::Operation;
@@ -30,7 +31,7 @@ impl<'a> Cursor<'a> {
 
     /// Reads the last character of a range. An escape that stands for a set is none.
     fn last_of_range(&mut self) -> Result<(char, bool), ClassRefusal>
-        ensures value { GivesValue same (single_character self.old.rest.now) result self.new.rest.now }
+        ensures value { ClassGivesValue itself (single_character self.old.rest.now) result self.new.rest.now }
         ensures progress { OnOk result (length self.new.rest.now < length self.old.rest.now) }
     {
         let is_set = self.set_here().is_some() || self.is_property();
@@ -43,8 +44,8 @@ impl<'a> Cursor<'a> {
     }
 
     /// Reads a character or a range.
-    fn range(&mut self, meaning: Meaning) -> Result<Token, ClassRefusal>
-        ensures value { GivesValue same (range meaning self.old.rest.now) result self.new.rest.now }
+    fn range(&mut self, meaning: Meaning) -> Result<ClassItem, ClassRefusal>
+        ensures value { ClassGivesValue itself (range meaning self.old.rest.now) result self.new.rest.now }
         ensures progress { OnOk result (length self.new.rest.now < length self.old.rest.now) }
     {
         let (first, is_byte) = self.single_character()?;
@@ -52,19 +53,19 @@ impl<'a> Cursor<'a> {
             return Err(ClassRefusal::Invalid(ParseErrorKind::InvalidClass));
         }
         if !self.is_ranged() {
-            return Ok(Token::Range(first, first));
+            return Ok(ClassItem::Range(first, first));
         }
         self.skip(1);
         let (last, is_byte) = self.last_of_range()?;
         if !fits(meaning, last, is_byte) || last < first {
             return Err(ClassRefusal::Invalid(ParseErrorKind::InvalidClass));
         }
-        Ok(Token::Range(first, last))
+        Ok(ClassItem::Range(first, last))
     }
 
     /// Reads a character, a range or the name of a set.
-    pub(crate) fn token(&mut self, context: ClassContext) -> Result<Token, ClassRefusal>
-        ensures value { GivesValue same (token context.meaning self.old.rest.now) result self.new.rest.now }
+    pub(crate) fn class_item(&mut self, context: ClassContext) -> Result<ClassItem, ClassRefusal>
+        ensures value { ClassGivesValue itself (class_item context.meaning self.old.rest.now) result self.new.rest.now }
         ensures progress { OnOk result (length self.new.rest.now < length self.old.rest.now) }
     {
         if self.is_posix() {
@@ -80,7 +81,7 @@ impl<'a> Cursor<'a> {
             return Err(ClassRefusal::Invalid(ParseErrorKind::InvalidClass));
         }
         self.skip(2);
-        Ok(Token::Named(which, negated))
+        Ok(ClassItem::NamedSet(which, negated))
     }
 
     /// Whether a nested class starts here.

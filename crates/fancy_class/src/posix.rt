@@ -4,12 +4,13 @@ ghost use Rattle.std.specs.Prelude.{◌≡◌, ◌<◌, ◌≤◌, length, drop,
 ghost use Rattle.fancy_class.specs.EscapeGrammar.{letters};
 ghost use Rattle.fancy_class.specs.Words.{by_word};
 ghost use Rattle.fancy_class.specs.ClassGrammar.{posix_words, is_posix_name, is_posix, posix, posix_of};
-ghost use Rattle.fancy_class.specs.ClassViews.{GivesValue, same};
+ghost use Rattle.fancy_class.specs.ClassViews.{ClassGivesValue};
+ghost use Rattle.fancy_class.specs.Readings.{itself};
 
+use crate::class_item::ClassItem;
 use crate::context::may_negate;
 use crate::cursor::Cursor;
 use crate::refusal::ClassRefusal;
-use crate::token::Token;
 use crate::words::begins;
 use fancy_tree::error::ParseErrorKind;
 use fancy_tree::named::Named;
@@ -94,8 +95,8 @@ impl<'a> Cursor<'a> {
     }
 
     /// Reads the name of a POSIX set with what closes it.
-    fn posix_end(&mut self, meaning: Meaning, negated: bool) -> Result<Token, ClassRefusal>
-        ensures value { GivesValue same (posix_of meaning negated (by_word posix_words self.old.rest.now)) result self.new.rest.now }
+    fn posix_end(&mut self, meaning: Meaning, negated: bool) -> Result<ClassItem, ClassRefusal>
+        ensures value { ClassGivesValue itself (posix_of meaning negated (by_word posix_words self.old.rest.now)) result self.new.rest.now }
         ensures forward { OnOk result (length self.new.rest.now ≤ length self.old.rest.now) }
     {
         let Some((which, len)) = self.posix_word() else {
@@ -105,13 +106,13 @@ impl<'a> Cursor<'a> {
             return Err(ClassRefusal::Invalid(ParseErrorKind::InvalidClass));
         }
         self.skip(len);
-        Ok(Token::Named(which, negated))
+        Ok(ClassItem::NamedSet(which, negated))
     }
 
     /// Reads a POSIX set.
-    pub(crate) fn posix(&mut self, meaning: Meaning) -> Result<Token, ClassRefusal>
+    pub(crate) fn posix(&mut self, meaning: Meaning) -> Result<ClassItem, ClassRefusal>
         requires { 3 ≤ length self.old.rest.now }
-        ensures value { GivesValue same (posix meaning self.old.rest.now) result self.new.rest.now }
+        ensures value { ClassGivesValue itself (posix meaning self.old.rest.now) result self.new.rest.now }
         ensures progress { OnOk result (length self.new.rest.now < length self.old.rest.now) }
     {
         if begins(self.rest, &['[', ':', '^']) {

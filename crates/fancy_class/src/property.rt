@@ -3,13 +3,14 @@
 ghost use Rattle.std.specs.Prelude.{◌≡◌, ◌<◌, ◌≤◌, true, length, IsTrue, OnOk};
 ghost use Rattle.fancy_class.specs.EscapeGrammar.{is_property, property_name};
 ghost use Rattle.fancy_class.specs.ClassGrammar.{property, property_of};
-ghost use Rattle.fancy_class.specs.ClassViews.{GivesValue, same, IsInvalid};
+ghost use Rattle.fancy_class.specs.ClassViews.{ClassGivesValue, IsInvalid};
+ghost use Rattle.fancy_class.specs.Readings.{itself};
 
+use crate::class_item::ClassItem;
 use crate::context::ClassContext;
 use crate::cursor::Cursor;
 use crate::escape::before_brace;
 use crate::refusal::ClassRefusal;
-use crate::token::Token;
 use crate::words::begins;
 use fancy_tree::error::ParseErrorKind;
 use fancy_tree::property::property_named;
@@ -37,7 +38,7 @@ impl<'a> Cursor<'a> {
 
     /// Reads the name of a property: what stands in braces, or one character.
     fn property_name(&mut self) -> Result<&'a [char], ClassRefusal>
-        ensures value { GivesValue (λ s. s.now) (property_name self.old.rest.now) result self.new.rest.now }
+        ensures value { ClassGivesValue (λ s. s.now) (property_name self.old.rest.now) result self.new.rest.now }
         ensures forward { OnOk result (length self.new.rest.now ≤ length self.old.rest.now) }
     {
         match self.rest {
@@ -59,8 +60,12 @@ impl<'a> Cursor<'a> {
     }
 
     /// Reads the name of a property and finds the property.
-    fn property_end(&mut self, context: ClassContext, negated: bool) -> Result<Token, ClassRefusal>
-        ensures value { GivesValue same (property_of context.meaning negated (property_name self.old.rest.now)) result self.new.rest.now }
+    fn property_end(
+        &mut self,
+        context: ClassContext,
+        negated: bool,
+    ) -> Result<ClassItem, ClassRefusal>
+        ensures value { ClassGivesValue itself (property_of context.meaning negated (property_name self.old.rest.now)) result self.new.rest.now }
         ensures forward { OnOk result (length self.new.rest.now ≤ length self.old.rest.now) }
     {
         let name = self.property_name()?;
@@ -70,13 +75,13 @@ impl<'a> Cursor<'a> {
         let Some(found) = property_named(context.alloc, name)? else {
             return Err(refusal(name));
         };
-        Ok(Token::Property(found, negated))
+        Ok(ClassItem::Property(found, negated))
     }
 
     /// Reads an escape that names a property.
-    pub fn property(&mut self, context: ClassContext) -> Result<Token, ClassRefusal>
+    pub fn property(&mut self, context: ClassContext) -> Result<ClassItem, ClassRefusal>
         requires { is_property self.old.rest.now ≡ true }
-        ensures value { GivesValue same (property context.meaning self.old.rest.now) result self.new.rest.now }
+        ensures value { ClassGivesValue itself (property context.meaning self.old.rest.now) result self.new.rest.now }
         ensures progress { OnOk result (length self.new.rest.now < length self.old.rest.now) }
     {
         let negated = begins(self.rest, &['\\', 'P']);

@@ -3,12 +3,12 @@
 ghost use Rattle.std.specs.Prelude.{◌≡◌, ◌<◌, ◌≤◌, true, length, OnOk};
 ghost use Rattle.fancy_tree.specs.Members.{members, edges_of};
 ghost use Rattle.fancy_class.specs.ClassGrammar.{none_of, ReadsClass, ReadsEdges};
-ghost use Rattle.fancy_class.specs.ClassReading.{is_bracket, Class, Items};
-ghost use Rattle.fancy_class.specs.ClassViews.{Gives};
+ghost use Rattle.fancy_class.specs.ClassReading.{is_bracket, ClassReading, OperandItemsReading};
+ghost use Rattle.fancy_class.specs.ClassViews.{ClassGives};
 
+use crate::class_builder::ClassBuilder;
 use crate::context::{ClassContext, may_negate};
 use crate::cursor::Cursor;
-use crate::gathered::Gathered;
 use crate::refusal::ClassRefusal;
 use crate::words::is_at_any;
 use fancy_tree::error::ParseErrorKind;
@@ -21,9 +21,9 @@ impl<'a> Cursor<'a> {
     /// Reads the class that stands here.
     pub fn class(&mut self, context: ClassContext) -> Result<Set, ClassRefusal>
         requires { is_bracket self.old.rest.now ≡ true }
-        ensures value { Gives members (ReadsClass context.meaning context.fold)
+        ensures value { ClassGives members (ReadsClass context.meaning context.fold)
             result self.old.rest.now self.new.rest.now }
-        ensures edges { Gives edges_of (ReadsEdges context.meaning context.fold)
+        ensures edges { ClassGives edges_of (ReadsEdges context.meaning context.fold)
             result self.old.rest.now self.new.rest.now }
         ensures progress { OnOk result (length self.new.rest.now < length self.old.rest.now) }
     {
@@ -34,7 +34,7 @@ impl<'a> Cursor<'a> {
     #[cycle(reader)]
     fn bracketed_class(&mut self, context: ClassContext, room: u32) -> Result<Set, ClassRefusal>
         requires { is_bracket self.old.rest.now ≡ true }
-        ensures value { Gives members (Class context.meaning context.fold room) result self.old.rest.now self.new.rest.now }
+        ensures value { ClassGives members (ClassReading context.meaning context.fold room) result self.old.rest.now self.new.rest.now }
         ensures progress { OnOk result (length self.new.rest.now < length self.old.rest.now) }
     {
         let negated = self.opening();
@@ -66,20 +66,20 @@ impl<'a> Cursor<'a> {
         room: u32,
         mut first: bool,
     ) -> Result<Set, ClassRefusal>
-        ensures value { Gives members (λ p f q. Items context.meaning context.fold room first none_of p f q) result self.old.rest.now self.new.rest.now }
+        ensures value { ClassGives members (OperandItemsReading context.meaning context.fold room first none_of) result self.old.rest.now self.new.rest.now }
         ensures forward { OnOk result (length self.new.rest.now ≤ length self.old.rest.now) }
     {
-        let mut gathered = Gathered::new(context.alloc);
+        let mut builder = ClassBuilder::new(context.alloc);
         'more: while !self.ends_operand(first) {
             if self.starts_class() {
                 let nested = self.bracketed_class(context, room)?;
-                gathered.add_set(&nested)?;
+                builder.add_set(&nested)?;
             } else {
-                let token = self.token(context)?;
-                gathered.add_token(context, token)?;
+                let item = self.class_item(context)?;
+                builder.add_item(context, item)?;
             }
             first = false;
         }
-        Ok(gathered.finished(context)?)
+        Ok(builder.build(context)?)
     }
 }

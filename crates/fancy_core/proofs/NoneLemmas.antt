@@ -1,5 +1,5 @@
 -- A search that answers with none has no position with an accepted outcome.
-use Rattle.std.proofs.Common.{◌≡◌, ◌↔◌, ℕ, Option, Some, None, option_map, refl, sym, ap, ◌∙◌}
+use Rattle.std.proofs.Common.{◌≡◌, ◌↔◌, Option, Some, None, option_map, refl, sym, ap, ◌∙◌}
 use Rattle.fancy_input.specs.declared.span.Span.{Span}
 use Rattle.fancy_engine.specs.Search.{Query, search, span_of}
 use Rattle.fancy_engine.specs.Answers.{HasNone}

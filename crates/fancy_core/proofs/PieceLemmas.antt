@@ -4,7 +4,7 @@ use Rattle.std.proofs.lemmas.List.{take_all, length-take}
 use Rattle.std.proofs.lemmas.List.Folds.{drop_split}
 use Rattle.std.proofs.Math.Seq.{drop-length}
 use Rattle.fancy_input.specs.declared.span.Span.{Span}
-use Rattle.fancy_search.specs.MatchList.{Scan, Item, start_of, stop_of, span_of_item, next_after, chain, items_from, answer, matches, Sound, Lies}
+use Rattle.fancy_search.specs.MatchList.{Scan, MatchItem, start_of, stop_of, span_of_item, next_after, chain, items_from, answer, matches, Sound, Lies}
 use Rattle.fancy_core.specs.Pieces.{pieces, first_pieces, interleaved, texts, AreBetween}
 use Rattle.fancy_search.proofs.MatchListLemmas.{LiesFrom, FollowsIf, answer_lies, next_after_follows}
 
@@ -52,18 +52,18 @@ between_first (suc n) at last [] h = h
 between_first (suc n) at last (x ∷ xs) h = (h.0, h.1, between_first n x.end last xs h.2)
 
 -- an item, if there is one, that lies in the range and starts at or after a place
-abbrev StartsFrom : Scan → ℕ → Option Item → Type 0
+abbrev StartsFrom : Scan → ℕ → Option MatchItem → Type 0
 StartsFrom k at o = MatchOption o Unit (λ i. Lies k i × (at ≤ start_of i))
 
-starts_after : (k : Scan) (i : Item) (o : Option Item) → FollowsIf k i o → StartsFrom k (stop_of i) o
+starts_after : (k : Scan) (i : MatchItem) (o : Option MatchItem) → FollowsIf k i o → StartsFrom k (stop_of i) o
 starts_after k i None f = tt
 starts_after k i (Some j) f = (f.lies, f.after)
 
-starts_first : (k : Scan) (s : ℕ) (o : Option Item) → LiesFrom k s o → StartsFrom k s o
+starts_first : (k : Scan) (s : ℕ) (o : Option MatchItem) → LiesFrom k s o → StartsFrom k s o
 starts_first k s None l = tt
 starts_first k s (Some i) l = (l.0, omega (arith, l.1, l.0.after))
 
-chain_between : (n : ℕ) (k : Scan) (at : ℕ) (o : Option Item) → Sound k → at ≤ k.last → StartsFrom k at o → AreBetween at k.last (map span_of_item (chain n k o))
+chain_between : (n : ℕ) (k : Scan) (at : ℕ) (o : Option MatchItem) → Sound k → at ≤ k.last → StartsFrom k at o → AreBetween at k.last (map span_of_item (chain n k o))
 chain_between n k at None h a l = a
 chain_between zero k at (Some i) h a l = a
 chain_between (suc n) k at (Some i) h a l = (l.1, l.0.ordered, chain_between n k (stop_of i) (next_after k i) h l.0.inside (starts_after k i _ (next_after_follows k i h l.0)))

@@ -10,7 +10,7 @@ use Rattle.fancy_core.specs.declared.regex.Regex.{Regex}
 use Rattle.fancy_core.specs.Limited.{Refuses}
 use Rattle.fancy_core.specs.ItemLimits.{up_to}
 use Rattle.fancy_search.specs.Remaining.{refused_next, at_first, at_next, scan, upcoming_if, left_if, items_left}
-use Rattle.fancy_search.specs.MatchList.{Scan, Item, stop_of, is_empty_item, answer, unless_empty_at, items_from, Sound}
+use Rattle.fancy_search.specs.MatchList.{Scan, MatchItem, stop_of, is_empty_item, answer, unless_empty_at, items_from, Sound}
 use Rattle.fancy_core.specs.Regexes.{program_in, query_in_turn}
 use Rattle.fancy_core.specs.Replacing.{StartFrom, IsRefusedFrom}
 use Rattle.fancy_search.proofs.RemainingLemmas.{skips}
@@ -18,27 +18,27 @@ use Rattle.fancy_search.proofs.MatchListLemmas.{LiesFrom, answer_lies}
 use Rattle.fancy_search.proofs.ScanLemmas.{scan_sound}
 use Rattle.fancy_search.proofs.IterationStepLemmas.{nat_same}
 
-start_up_to : (left : Option ℕ) (s : ℕ) (xs : List Item) → StartFrom s xs → StartFrom s (up_to left xs)
+start_up_to : (left : Option ℕ) (s : ℕ) (xs : List MatchItem) → StartFrom s xs → StartFrom s (up_to left xs)
 start_up_to None s xs h = h
 start_up_to (Some zero) s [] h = tt
 start_up_to (Some zero) s (x ∷ xs) h = tt
 start_up_to (Some (suc n)) s [] h = tt
 start_up_to (Some (suc n)) s (x ∷ xs) h = h
 
-items_start : (k : Scan) (s : ℕ) (o : Option Item) → LiesFrom k s o → StartFrom s (items_from k o)
+items_start : (k : Scan) (s : ℕ) (o : Option MatchItem) → LiesFrom k s o → StartFrom s (items_from k o)
 unfolding items_from
 items_start k s None l = tt
 items_start k s (Some i) l = let a = l.0.after in let b = l.1 in omega (arith, a, b)
 
-lies_earlier : (k : Scan) (s t : ℕ) (o : Option Item) → s ≤ t → LiesFrom k t o → LiesFrom k s o
+lies_earlier : (k : Scan) (s t : ℕ) (o : Option MatchItem) → s ≤ t → LiesFrom k t o → LiesFrom k s o
 lies_earlier k s t None h l = tt
 lies_earlier k s t (Some i) h l = let b = l.1 in (l.0, omega (arith, h, b))
 
-lies_unless_at : (k : Scan) (s : ℕ) (i : Item) (b : Bool) → Sound k → LiesFrom k s (Some i) → LiesFrom k s (if b then answer k (k.advance s) false else Some i)
+lies_unless_at : (k : Scan) (s : ℕ) (i : MatchItem) (b : Bool) → Sound k → LiesFrom k s (Some i) → LiesFrom k s (if b then answer k (k.advance s) false else Some i)
 lies_unless_at k s i true h l = let a = h.advances s in lies_earlier k s (k.advance s) _ (omega (arith, a)) (answer_lies k (k.advance s) false h)
 lies_unless_at k s i false h l = l
 
-lies_unless : (k : Scan) (s : ℕ) (o : Option Item) → Sound k → LiesFrom k s o → LiesFrom k s (unless_empty_at k s o)
+lies_unless : (k : Scan) (s : ℕ) (o : Option MatchItem) → Sound k → LiesFrom k s o → LiesFrom k s (unless_empty_at k s o)
 lies_unless k s None h l = tt
 lies_unless k s (Some i) h l = lies_unless_at k s i _ h l
 
@@ -51,7 +51,7 @@ left_start : (k : Scan) (s : ℕ) (c b : Bool) → Sound k → StartFrom s (left
 left_start k s c b h = items_start k s (upcoming_if b k s c) (upcoming_lies k s c b h)
 
 -- and at the next place or later, where an empty match is passed over
-passed_start : (k : Scan) (s : ℕ) (c : Bool) (i : Item) → Sound k → answer k s c ≡ Some i → is_empty_item i ≡ true → stop_of i ≡ s → StartFrom (k.advance s) (left_if false k s c true)
+passed_start : (k : Scan) (s : ℕ) (c : Bool) (i : MatchItem) → Sound k → answer k s c ≡ Some i → is_empty_item i ≡ true → stop_of i ≡ s → StartFrom (k.advance s) (left_if false k s c true)
 passed_start k s c i h e m p =
     let u : upcoming_if true k s c ≡ answer k (k.advance s) false = skips k s c i e (both_true {s = is_empty_item i} {t = nat_eq (stop_of i) s} m (rw p (nat_same s))) in
     rw u (items_start k (k.advance s) _ (answer_lies k (k.advance s) false h))

@@ -1,5 +1,5 @@
 -- Lemmas on replacing matches one after the other.
-use Rattle.std.proofs.Common.{arith, ℕ, zero, suc, ◌-◌, ◌<◌, ◌≡◌, Bool, true, false, List, [], ◌∷◌, ◌++◌, Option, None, Some, Result, Ok, Err, IfOk, IfErr, length, map, slice_range, refl, sym, ◌∙◌, ap, subst, append-nil, append_assoc, inl, inr}
+use Rattle.std.proofs.Common.{arith, ℕ, zero, suc, ◌-◌, ◌<◌, ◌≡◌, Bool, true, false, List, [], ◌∷◌, ◌++◌, Option, None, Some, Result, Ok, Err, IfOk, length, map, slice_range, refl, sym, ◌∙◌, ap, subst, append-nil, append_assoc, inl, inr}
 use Rattle.std.specs.Prelude.{MatchBool, ◌↔◌, ◌⊎◌}
 use Rattle.std.proofs.lemmas.List.{map-append}
 use Rattle.fancy_tree.specs.declared.error.Error.{Error}
@@ -7,14 +7,14 @@ use Rattle.fancy_tree.specs.declared.error.Error.TheVariants.{Memory}
 use Rattle.fancy_input.specs.declared.span.Span.{Span}
 use Rattle.fancy_core.specs.declared.regex.Regex.{Regex}
 use Rattle.fancy_core.specs.GroupTexts.{Seen}
-use Rattle.fancy_search.specs.MatchList.{Item, span_of_item, start_of, stop_of}
+use Rattle.fancy_search.specs.MatchList.{MatchItem, span_of_item, start_of, stop_of}
 use Rattle.fancy_core.specs.Pieces.{pieces, interleaved, limited}
 use Rattle.fancy_core.specs.Replacing.{Answers, IsReplaced, IsRefusedFrom, IsRefusedAfter, IsRefusedBetweenCalls, IsRefusedByReplacer, end_of, replaced, text_with_each, seen_of}
 use Rattle.fancy_core.specs.ItemLimits.{up_to, is_reached, one_fewer}
 use Rattle.fancy_core.proofs.PieceLemmas.{whole_of}
 
 -- after one item more the last of them ends
-end_of_more : (x : Item) (xs : List Item) → end_of (xs ++ (x ∷ [])) ≡ stop_of x
+end_of_more : (x : MatchItem) (xs : List MatchItem) → end_of (xs ++ (x ∷ [])) ≡ stop_of x
 end_of_more x [] = refl
 end_of_more x (y ∷ []) = refl
 end_of_more x (y ∷ (z ∷ zs)) = end_of_more x (z ∷ zs)
@@ -33,8 +33,8 @@ limited_none (suc n) [] e = refl
 limited_none (suc n) (x ∷ xs) e = absurd (cc)
 
 -- How far a replacement has come in these matches in t. The state `first` answered to those that are done and left the state `now`. Whatever answers to those that are left come, with the answers so far they make up `out` and then the rest from `at` on.
-pub record Goes {R : Type 0} (gave : R → Seen → List ℕ → R → Type 0) (regex : Regex) (t : List ℕ) (all : List Item) (first now : R) (out : List ℕ) (at : ℕ) (found : Bool) (todo : List Item) : Type 0 where
-  pub done : List Item
+pub record Goes {R : Type 0} (gave : R → Seen → List ℕ → R → Type 0) (regex : Regex) (t : List ℕ) (all : List MatchItem) (first now : R) (out : List ℕ) (at : ℕ) (found : Bool) (todo : List MatchItem) : Type 0 where
+  pub done : List MatchItem
   pub order : all ≡ done ++ todo
   pub answers : List (List ℕ)
   pub given : Answers gave first (map (seen_of regex t) done) answers now
@@ -60,7 +60,7 @@ module _ {R : Type 0} (gave : R → Seen → List ℕ → R → Type 0) where
   answers_to_none first now (a ∷ answers) h = absurd h
 
   module _ (regex : Regex) (t : List ℕ) where
-    pub goes_first : (all todo : List Item) (r : R) (out : List ℕ) (at : ℕ) (found : Bool) → todo ≡ all → out ≡ [] → at ≡ 0 → found ≡ false → Goes gave regex t all r r out at found todo
+    pub goes_first : (all todo : List MatchItem) (r : R) (out : List ℕ) (at : ℕ) (found : Bool) → todo ≡ all → out ≡ [] → at ≡ 0 → found ≡ false → Goes gave regex t all r r out at found todo
     goes_first all todo r out at found e f g h = rw (e, f, g, h) (record {
       done = [];
       order = refl;
@@ -72,18 +72,18 @@ module _ {R : Type 0} (gave : R → Seen → List ℕ → R → Type 0) where
       some = λ (w : false ≡ true) _. absurd (cc);
     })
 
-    pub goes_on : (all : List Item) (first now next : R) (out more : List ℕ) (at end : ℕ) (found found_one : Bool) (x : Item) (todo rest : List Item) (seen : Seen) (a : List ℕ) → todo ≡ x ∷ rest → seen ≡ seen_of regex t x → gave now seen a next → more ≡ (out ++ slice_range t at (start_of x)) ++ a → end ≡ stop_of x → found_one ≡ true
+    pub goes_on : (all : List MatchItem) (first now next : R) (out more : List ℕ) (at end : ℕ) (found found_one : Bool) (x : MatchItem) (todo rest : List MatchItem) (seen : Seen) (a : List ℕ) → todo ≡ x ∷ rest → seen ≡ seen_of regex t x → gave now seen a next → more ≡ (out ++ slice_range t at (start_of x)) ++ a → end ≡ stop_of x → found_one ≡ true
         → Goes gave regex t all first now out at found todo → Goes gave regex t all first next more end found_one rest
     goes_on all first now next out more at end found found_one x todo rest seen a e s g m f i h = record {
       done = h.done ++ (x ∷ []);
-      order = h.order ∙ (ap (λ (z : List Item). h.done ++ z) e ∙ sym (append_assoc h.done (x ∷ []) rest));
+      order = h.order ∙ (ap (λ (z : List MatchItem). h.done ++ z) e ∙ sym (append_assoc h.done (x ∷ []) rest));
       answers = h.answers ++ (a ∷ []);
       given =
           let step : gave now (seen_of regex t x) a next = subst (λ (z : Seen). gave now z a next) s g in
           rw (map-append (seen_of regex t) h.done (x ∷ [])) (answers_more first now next (seen_of regex t x) a (map (seen_of regex t) h.done) h.answers h.given step);
       joined = λ others.
           let tail : List ℕ = interleaved (pieces t (stop_of x) (map span_of_item rest)) others in
-          let before : replaced t all (h.answers ++ (a ∷ others)) ≡ out ++ interleaved (pieces t at (map span_of_item (x ∷ rest))) (a ∷ others) = subst (λ (z : List Item). replaced t all (h.answers ++ (a ∷ others)) ≡ out ++ interleaved (pieces t at (map span_of_item z)) (a ∷ others)) e (h.joined (a ∷ others)) in
+          let before : replaced t all (h.answers ++ (a ∷ others)) ≡ out ++ interleaved (pieces t at (map span_of_item (x ∷ rest))) (a ∷ others) = subst (λ (z : List MatchItem). replaced t all (h.answers ++ (a ∷ others)) ≡ out ++ interleaved (pieces t at (map span_of_item z)) (a ∷ others)) e (h.joined (a ∷ others)) in
           let joined : replaced t all (h.answers ++ (a ∷ others)) ≡ more ++ tail = before ∙ (regroup out (slice_range t at (start_of x)) a tail ∙ ap (λ (z : List ℕ). z ++ tail) (sym m)) in
           ap (replaced t all) (append_assoc h.answers (a ∷ []) others) ∙ (joined ∙ ap (λ (z : ℕ). more ++ interleaved (pieces t z (map span_of_item rest)) others) (sym f));
       ended = f ∙ sym (end_of_more x h.done);
@@ -92,27 +92,27 @@ module _ {R : Type 0} (gave : R → Seen → List ℕ → R → Type 0) where
     }
 
     -- where no match is left, nothing was written any more
-    pub goes_over : (all : List Item) (first now : R) (out out_now : List ℕ) (at at_now : ℕ) (found found_now : Bool) (todo : List Item) → todo ≡ [] → out_now ≡ out → at_now ≡ at → found_now ≡ found → Goes gave regex t all first now out at found todo → Goes gave regex t all first now out_now at_now found_now []
-    goes_over all first now out out_now at at_now found found_now todo d e f g h = rw (e, f, g) (subst (λ (z : List Item). Goes gave regex t all first now out at found z) d h)
+    pub goes_over : (all : List MatchItem) (first now : R) (out out_now : List ℕ) (at at_now : ℕ) (found found_now : Bool) (todo : List MatchItem) → todo ≡ [] → out_now ≡ out → at_now ≡ at → found_now ≡ found → Goes gave regex t all first now out at found todo → Goes gave regex t all first now out_now at_now found_now []
+    goes_over all first now out out_now at at_now found found_now todo d e f g h = rw (e, f, g) (subst (λ (z : List MatchItem). Goes gave regex t all first now out at found z) d h)
 
-    done_is_all : (all : List Item) (first now : R) (out : List ℕ) (at : ℕ) (found : Bool) (h : Goes gave regex t all first now out at found []) → all ≡ h.done
+    done_is_all : (all : List MatchItem) (first now : R) (out : List ℕ) (at : ℕ) (found : Bool) (h : Goes gave regex t all first now out at found []) → all ≡ h.done
     done_is_all all first now out at found h = h.order ∙ append-nil h.done
 
-    pub goes_last : (all : List Item) (first now : R) (out result : List ℕ) (at : ℕ) (found : Bool) → MatchBool found (result ≡ out ++ slice_range t at (length t)) (result ≡ t) → Goes gave regex t all first now out at found [] → IsReplaced None gave first now regex t all result
+    pub goes_last : (all : List MatchItem) (first now : R) (out result : List ℕ) (at : ℕ) (found : Bool) → MatchBool found (result ≡ out ++ slice_range t at (length t)) (result ≡ t) → Goes gave regex t all first now out at found [] → IsReplaced None gave first now regex t all result
     goes_last all first now out result at true w h =
         let over : all ≡ h.done = done_is_all all first now out at true h in
         record {
           answers = h.answers;
-          given = subst (λ (z : List Item). Answers gave first (map (seen_of regex t) z) h.answers now) (sym over) h.given;
+          given = subst (λ (z : List MatchItem). Answers gave first (map (seen_of regex t) z) h.answers now) (sym over) h.given;
           joined = w ∙ (ap (λ (z : List ℕ). out ++ z) (sym (append-nil (slice_range t at (length t)))) ∙ (sym (h.joined []) ∙ ap (replaced t all) (append-nil h.answers)));
         }
     goes_last all first now out result at false w h =
         let over : all ≡ [] = done_is_all all first now out at false h ∙ h.none refl in
-        let kept : first ≡ now = answers_to_none first now h.answers (subst (λ (z : List Item). Answers gave first (map (seen_of regex t) z) h.answers now) (h.none refl) h.given) in
+        let kept : first ≡ now = answers_to_none first now h.answers (subst (λ (z : List MatchItem). Answers gave first (map (seen_of regex t) z) h.answers now) (h.none refl) h.given) in
         rw (over, w) (record { answers = []; given = kept; joined = sym (append-nil _ ∙ whole_of t) })
 
     -- a refusal between the calls
-    pub goes_stopped : (all : List Item) (first now : R) (out : List ℕ) (at : ℕ) (found : Bool) (todo : List Item) (error : Error) → (error ≡ Memory) ⊎ IsRefusedFrom regex t at todo error → Goes gave regex t all first now out at found todo → IsRefusedBetweenCalls None gave first now regex t all error
+    pub goes_stopped : (all : List MatchItem) (first now : R) (out : List ℕ) (at : ℕ) (found : Bool) (todo : List MatchItem) (error : Error) → (error ≡ Memory) ⊎ IsRefusedFrom regex t at todo error → Goes gave regex t all first now out at found todo → IsRefusedBetweenCalls None gave first now regex t all error
     goes_stopped all first now out at found todo error w h = record {
       done = h.done;
       after = record { later = todo; order = h.order; refused = subst (λ (z : ℕ). (error ≡ Memory) ⊎ IsRefusedFrom regex t z todo error) h.ended w };
@@ -121,21 +121,21 @@ module _ {R : Type 0} (gave : R → Seen → List ℕ → R → Type 0) where
     }
 
     -- where no match is left, one was found exactly where there are any
-    pub goes_found : (n : ℕ) (matches : List Item) (first now : R) (out : List ℕ) (at : ℕ) (found : Bool) → Goes gave regex t (limited n matches) first now out at found [] → (found ≡ false) ↔ (matches ≡ [])
+    pub goes_found : (n : ℕ) (matches : List MatchItem) (first now : R) (out : List ℕ) (at : ℕ) (found : Bool) → Goes gave regex t (limited n matches) first now out at found [] → (found ≡ false) ↔ (matches ≡ [])
     goes_found n matches first now out at true h =
         (λ (w : true ≡ false). absurd (cc), λ (w : matches ≡ []). absurd (h.some refl (sym (done_is_all (limited n matches) first now out at true h) ∙ (ap (limited n) w ∙ limited_nil n))))
     goes_found n matches first now out at false h =
         (λ _. limited_none n matches (done_is_all (limited n matches) first now out at false h ∙ h.none refl), λ _. refl)
 
     -- a call that refuses, of a replacer with no one text for all matches
-    pub goes_refused : (refuses : R → Seen → Error → R → Type 0) (all : List Item) (first now last : R) (out : List ℕ) (at : ℕ) (found : Bool) (x : Item) (todo rest : List Item) (seen : Seen) (error : Error) → todo ≡ x ∷ rest → seen ≡ seen_of regex t x → refuses now seen error last
+    pub goes_refused : (refuses : R → Seen → Error → R → Type 0) (all : List MatchItem) (first now last : R) (out : List ℕ) (at : ℕ) (found : Bool) (x : MatchItem) (todo rest : List MatchItem) (seen : Seen) (error : Error) → todo ≡ x ∷ rest → seen ≡ seen_of regex t x → refuses now seen error last
         → Goes gave regex t all first now out at found todo → IsRefusedByReplacer None gave refuses first last regex t all error
     goes_refused refuses all first now last out at found x todo rest seen error e s r h = record {
       unfixed = refl;
       done = h.done;
       next = x;
       later = rest;
-      order = h.order ∙ ap (λ (z : List Item). h.done ++ z) e;
+      order = h.order ∙ ap (λ (z : List MatchItem). h.done ++ z) e;
       answers = h.answers;
       state = now;
       given = h.given;
@@ -165,30 +165,30 @@ each_same f x [] = refl
 each_same f x (y ∷ xs) = ap (λ (z : List _). x ∷ z) (each_same f x xs)
 
 -- one text for all matches makes the text that is filled with it
-pub same_fills : (x last : List ℕ) (regex : Regex) (t : List ℕ) (all : List Item) (result : List ℕ) → IsReplaced None SaysItself x last regex t all result → result ≡ text_with_each t all x
+pub same_fills : (x last : List ℕ) (regex : Regex) (t : List ℕ) (all : List MatchItem) (result : List ℕ) → IsReplaced None SaysItself x last regex t all result → result ≡ text_with_each t all x
 same_fills x last regex t all result w =
     w.joined ∙ ap (replaced t all) (same_answers x x refl (map (seen_of regex t) all) w.answers last w.given ∙ each_same (seen_of regex t) x all)
 
 -- a replacer with one text for all matches is not called
-pub filled_replaces : {R : Type 0} (gave : R → Seen → List ℕ → R → Type 0) (first : R) (fixed : Option (List ℕ)) (x : List ℕ) (regex : Regex) (t : List ℕ) (all : List Item) (result : List ℕ) → fixed ≡ Some x → result ≡ text_with_each t all x → IsReplaced fixed gave first first regex t all result
+pub filled_replaces : {R : Type 0} (gave : R → Seen → List ℕ → R → Type 0) (first : R) (fixed : Option (List ℕ)) (x : List ℕ) (regex : Regex) (t : List ℕ) (all : List MatchItem) (result : List ℕ) → fixed ≡ Some x → result ≡ text_with_each t all x → IsReplaced fixed gave first first regex t all result
 filled_replaces gave first fixed x regex t all result e f = rw e (record { answers = map (λ _. x) all; given = (sym (each_same (seen_of regex t) x all), refl); joined = f })
 
-pub fixed_stays : {R : Type 0} (gave : R → Seen → List ℕ → R → Type 0) (first : R) (fixed : Option (List ℕ)) (x : List ℕ) (regex : Regex) (t : List ℕ) (all : List Item) (error : Error) → fixed ≡ Some x → (done : List Item) × IsRefusedAfter regex t all done error → IsRefusedBetweenCalls fixed gave first first regex t all error
+pub fixed_stays : {R : Type 0} (gave : R → Seen → List ℕ → R → Type 0) (first : R) (fixed : Option (List ℕ)) (x : List ℕ) (regex : Regex) (t : List ℕ) (all : List MatchItem) (error : Error) → fixed ≡ Some x → (done : List MatchItem) × IsRefusedAfter regex t all done error → IsRefusedBetweenCalls fixed gave first first regex t all error
 fixed_stays gave first fixed x regex t all error e w = rw e (record { done = w.0; after = w.1; answers = map (λ _. x) (map (seen_of regex t) w.0); given = (refl, refl) })
 
 -- what was refused after the items that a text filled
-pub fills_stopped : (x last : List ℕ) (regex : Regex) (t : List ℕ) (all : List Item) (error : Error) → IsRefusedBetweenCalls None SaysItself x last regex t all error → (done : List Item) × IsRefusedAfter regex t all done error
+pub fills_stopped : (x last : List ℕ) (regex : Regex) (t : List ℕ) (all : List MatchItem) (error : Error) → IsRefusedBetweenCalls None SaysItself x last regex t all error → (done : List MatchItem) × IsRefusedAfter regex t all done error
 fills_stopped x last regex t all error w = (w.done, w.after)
 
 pub one_done : {A : Type 0} (xs rest : List A) (x : A) → xs ≡ x ∷ rest → length rest < length xs
 one_done xs rest x e = rw e (omega arith)
 
 -- how a search is refused depends on the regex and the text
-pub refused_same : (a b : Regex) (t u : List ℕ) (at : ℕ) (items : List Item) (e : Error) → a ≡ b → t ≡ u → (e ≡ Memory) ⊎ IsRefusedFrom a t at items e → (e ≡ Memory) ⊎ IsRefusedFrom b u at items e
+pub refused_same : (a b : Regex) (t u : List ℕ) (at : ℕ) (items : List MatchItem) (e : Error) → a ≡ b → t ≡ u → (e ≡ Memory) ⊎ IsRefusedFrom a t at items e → (e ≡ Memory) ⊎ IsRefusedFrom b u at items e
 refused_same a b t u at items e p q h = rw (← p, ← q) h
 
 -- what a replacer sees depends on the regex, the text and the match
-pub seen_same : (a b : Regex) (t u : List ℕ) (x : Item) → a ≡ b → t ≡ u → seen_of a t x ≡ seen_of b u x
+pub seen_same : (a b : Regex) (t u : List ℕ) (x : MatchItem) → a ≡ b → t ≡ u → seen_of a t x ≡ seen_of b u x
 seen_same a b t u x e f = ap (λ (z : Regex). seen_of z t x) e ∙ ap (λ (z : List ℕ). seen_of b z x) f
 
 pub seen_is : (a b : Seen) → a.regex ≡ b.regex → a.haystack ≡ b.haystack → a.spans ≡ b.spans → a ≡ b

@@ -6,7 +6,7 @@ use Rattle.fancy_core.specs.declared.regex.Regex.{Regex}
 use Rattle.fancy_core.specs.declared.iter.Matches.{Matches}
 use Rattle.fancy_core.specs.declared.iter.captures.CaptureMatches.{CaptureMatches}
 use Rattle.fancy_search.specs.Groups.{spans_of}
-use Rattle.fancy_search.specs.MatchList.{Item}
+use Rattle.fancy_search.specs.MatchList.{MatchItem}
 use Rattle.fancy_search.specs.Remaining.{GivesFirst, EndsUnlessOk, IfItem}
 use Rattle.fancy_core.specs.Regexes.{group_count_in}
 use Rattle.fancy_core.specs.Searches.{matches_in_whole, matches_of_input}
@@ -18,7 +18,7 @@ abbrev pub matches_in : {S : Type 0} {g : _} → CaptureMatches S g → Matches 
 matches_in m = m.matches
 
 -- the spans of the groups of each of these, of so many groups
-abbrev pub groups_of_each : ℕ → List Item → List (List (Option Span))
+abbrev pub groups_of_each : ℕ → List MatchItem → List (List (Option Span))
 groups_of_each n items = map (λ i. spans_of n i.found) items
 
 -- the groups of the matches of a whole haystack

@@ -6,7 +6,7 @@ use Rattle.fancy_input.specs.declared.input.Request.{Request}
 use Rattle.fancy_core.specs.declared.regex.Regex.{Regex}
 use Rattle.fancy_core.specs.declared.iter.Matches.{Matches}
 use Rattle.fancy_core.specs.Regexes.{program_in}
-use Rattle.fancy_search.specs.MatchList.{Item, span_of_item}
+use Rattle.fancy_search.specs.MatchList.{MatchItem, span_of_item}
 use Rattle.fancy_search.specs.Remaining.{items_left, end_left, turns_left, next_start, refused_next, GivesFirst, EndsUnlessOk, IfItem}
 
 abbrev pub regex_in : {S : Type 0} {g : _} → Matches S g → Regex
@@ -24,7 +24,7 @@ abbrev pub has_ended : {S : Type 0} {g : _} → Matches S g → Bool
 has_ended m = m.searcher.ended
 
 -- the items that are left; a haystack is text where `text` holds of it, and has these bytes
-abbrev pub left_in : {S : Type 0} {g : _} → (S → Bool) → (S → List ℕ) → Matches S g → List Item
+abbrev pub left_in : {S : Type 0} {g : _} → (S → Bool) → (S → List ℕ) → Matches S g → List MatchItem
 left_in text bytes m = items_left (program_in m.regex.now) (text m.searcher.haystack) (bytes m.searcher.haystack) m.searcher.request m.searcher.ended m.searcher.continues m.searcher.skips_empty
 
 -- the spans of the matches that are left

@@ -12,7 +12,7 @@ use Rattle.fancy_core.specs.GroupTexts.{Seen, expansion_of}
 use Rattle.fancy_search.specs.Groups.{spans_of}
 use Rattle.fancy_core.specs.Searches.{matches_of}
 use Rattle.fancy_core.specs.Limited.{Refuses}
-use Rattle.fancy_search.specs.MatchList.{Item, span_of_item, start_of, stop_of}
+use Rattle.fancy_search.specs.MatchList.{MatchItem, span_of_item, start_of, stop_of}
 use Rattle.fancy_core.specs.Pieces.{pieces, interleaved, limited}
 use Rattle.fancy_core.specs.Regexes.{group_count_in, query_in_turn}
 
@@ -26,7 +26,7 @@ pub record Expands (template : List ℕ) (seen : Seen) (text : List ℕ) : Type 
   pub fixed : (x : List ℕ) → fixed_of template ≡ Some x → text ≡ x
 
 -- what a replacer sees of an item
-abbrev pub seen_of : Regex → List ℕ → Item → Seen
+abbrev pub seen_of : Regex → List ℕ → MatchItem → Seen
 seen_of regex t i = record { regex = regex; haystack = t; spans = spans_of (group_count_in regex) i.found }
 
 -- The answers to these matches, one after the other: each call goes on from the state that the one before left, and the last leaves this state.
@@ -42,34 +42,34 @@ AnswersOf (Some x) gave first xs answers last = (answers ≡ map (λ _. x) xs) �
 AnswersOf None gave first xs answers last = Answers gave first xs answers last
 
 -- the text with answers in the place of the items
-abbrev pub replaced : List ℕ → List Item → List (List ℕ) → List ℕ
+abbrev pub replaced : List ℕ → List MatchItem → List (List ℕ) → List ℕ
 replaced t items answers = interleaved (pieces t 0 (map span_of_item items)) answers
 
 -- the text with one and the same text in the place of each of the items
-abbrev pub text_with_each : List ℕ → List Item → List ℕ → List ℕ
+abbrev pub text_with_each : List ℕ → List MatchItem → List ℕ → List ℕ
 text_with_each t items x = replaced t items (map (λ _. x) items)
 
 -- the matches in a text, from its start on
-abbrev pub all_matches : Regex → List ℕ → List Item
+abbrev pub all_matches : Regex → List ℕ → List MatchItem
 all_matches regex t = matches_of regex true t (whole t)
 
 -- the matches in a text that a limit takes: all of them for 0, else the first so many
-abbrev pub first_matches : Regex → List ℕ → ℕ → List Item
+abbrev pub first_matches : Regex → List ℕ → ℕ → List MatchItem
 first_matches regex t limit = limited limit (all_matches regex t)
 
 -- where the last of these items ends; the start of the text, where there is none
-abbrev pub end_of : List Item → ℕ
+abbrev pub end_of : List MatchItem → ℕ
 end_of [] = 0
 end_of (x ∷ []) = stop_of x
 end_of (x ∷ (y ∷ ys)) = end_of (y ∷ ys)
 
 -- the first of these items, if there is one, starts at s or later
-abbrev pub StartFrom : ℕ → List Item → Type 0
+abbrev pub StartFrom : ℕ → List MatchItem → Type 0
 StartFrom s [] = Unit {0}
 StartFrom s (x ∷ xs) = s ≤ start_of x
 
 -- The search for these items may be refused by this error: one of the whole text, with `\G` on or off, that starts at `from` or later, and not after the start of the first of them.
-pub record IsRefusedFrom (regex : Regex) (t : List ℕ) (from : ℕ) (items : List Item) (error : Error) : Type 0 where
+pub record IsRefusedFrom (regex : Regex) (t : List ℕ) (from : ℕ) (items : List MatchItem) (error : Error) : Type 0 where
   pub start : ℕ
   pub on : Bool
   pub after : from ≤ start
@@ -77,34 +77,34 @@ pub record IsRefusedFrom (regex : Regex) (t : List ℕ) (from : ℕ) (items : Li
   pub refused : Refuses regex (query_in_turn regex t (record (whole t) { start = start }) on) error
 
 -- A replacement of these items was refused after those that come first, `done`, and by no call of the replacer: for want of memory, or by the search for the others.
-pub record IsRefusedAfter (regex : Regex) (t : List ℕ) (items done : List Item) (error : Error) : Type 0 where
-  pub later : List Item
+pub record IsRefusedAfter (regex : Regex) (t : List ℕ) (items done : List MatchItem) (error : Error) : Type 0 where
+  pub later : List MatchItem
   pub order : items ≡ done ++ later
   pub refused : (error ≡ Memory) ⊎ IsRefusedFrom regex t (end_of done) later error
 
 -- A replacement of these items was refused after some of them.
-abbrev pub IsRefusedAfterSome : Regex → List ℕ → List Item → Error → Type 0
-IsRefusedAfterSome regex t items error = (done : List Item) × IsRefusedAfter regex t items done error
+abbrev pub IsRefusedAfterSome : Regex → List ℕ → List MatchItem → Error → Type 0
+IsRefusedAfterSome regex t items error = (done : List MatchItem) × IsRefusedAfter regex t items done error
 
 -- These items of the text were replaced, and this is what came of it. The answers took the replacer from its first state to its last.
-pub record IsReplaced {R : Type 0} (fixed : Option (List ℕ)) (gave : R → Seen → List ℕ → R → Type 0) (first last : R) (regex : Regex) (t : List ℕ) (items : List Item) (result : List ℕ) : Type 0 where
+pub record IsReplaced {R : Type 0} (fixed : Option (List ℕ)) (gave : R → Seen → List ℕ → R → Type 0) (first last : R) (regex : Regex) (t : List ℕ) (items : List MatchItem) (result : List ℕ) : Type 0 where
   pub answers : List (List ℕ)
   pub given : AnswersOf fixed gave first (map (seen_of regex t) items) answers last
   pub joined : result ≡ replaced t items answers
 
 -- A replacement of these items was refused between the replacer's calls. The answers to the items that come before took it from its first state to its last.
-pub record IsRefusedBetweenCalls {R : Type 0} (fixed : Option (List ℕ)) (gave : R → Seen → List ℕ → R → Type 0) (first last : R) (regex : Regex) (t : List ℕ) (items : List Item) (error : Error) : Type 0 where
-  pub done : List Item
+pub record IsRefusedBetweenCalls {R : Type 0} (fixed : Option (List ℕ)) (gave : R → Seen → List ℕ → R → Type 0) (first last : R) (regex : Regex) (t : List ℕ) (items : List MatchItem) (error : Error) : Type 0 where
+  pub done : List MatchItem
   pub after : IsRefusedAfter regex t items done error
   pub answers : List (List ℕ)
   pub given : AnswersOf fixed gave first (map (seen_of regex t) done) answers last
 
 -- A call for one of these items refused with this error. There is no one text for all matches; the calls for the items before answered, in order from the first state on, and in the state that they left the call for the next item refuses, which leaves the last state.
-pub record IsRefusedByReplacer {R : Type 0} (fixed : Option (List ℕ)) (gave : R → Seen → List ℕ → R → Type 0) (refuses : R → Seen → Error → R → Type 0) (first last : R) (regex : Regex) (t : List ℕ) (items : List Item) (error : Error) : Type 0 where
+pub record IsRefusedByReplacer {R : Type 0} (fixed : Option (List ℕ)) (gave : R → Seen → List ℕ → R → Type 0) (refuses : R → Seen → Error → R → Type 0) (first last : R) (regex : Regex) (t : List ℕ) (items : List MatchItem) (error : Error) : Type 0 where
   pub unfixed : fixed ≡ None
-  pub done : List Item
-  pub next : Item
-  pub later : List Item
+  pub done : List MatchItem
+  pub next : MatchItem
+  pub later : List MatchItem
   pub order : items ≡ done ++ (next ∷ later)
   pub answers : List (List ℕ)
   pub state : R

@@ -8,7 +8,7 @@ use Rattle.fancy_core.specs.GroupTexts.{Seen}
 use Rattle.fancy_core.specs.Regexes.{program_in}
 use Rattle.fancy_search.specs.Remaining.{item_in}
 use Rattle.fancy_core.specs.ItemLimits.{up_to}
-use Rattle.fancy_search.specs.MatchList.{Item}
+use Rattle.fancy_search.specs.MatchList.{MatchItem}
 use Rattle.fancy_core.specs.Replacing.{seen_of, IsRefusedFrom}
 use Rattle.fancy_search.specs.Searchers.{left_of}
 
@@ -19,7 +19,7 @@ abbrev pub rewriting_text : Rewriting → List ℕ
 rewriting_text w = w.searcher.haystack.now
 
 -- the matches that are still to be replaced
-abbrev pub todo_of : Rewriting → List Item
+abbrev pub todo_of : Rewriting → List MatchItem
 todo_of w = up_to w.left (left_of (program_in w.regex.now) w.searcher)
 
 -- what a replacer sees of a match that was found, whose groups the search left in its cache

@@ -10,7 +10,7 @@ use Rattle.fancy_search.specs.declared.options.Options.{Options}
 use Rattle.fancy_core.specs.declared.regex.Regex.{Regex}
 use Rattle.fancy_search.specs.Groups.{spans_of}
 use Rattle.fancy_search.specs.Remaining.{scan, program_matches, program_last_start}
-use Rattle.fancy_search.specs.MatchList.{Scan, Item}
+use Rattle.fancy_search.specs.MatchList.{Scan, MatchItem}
 use Rattle.fancy_core.specs.Regexes.{program_in, query}
 use Rattle.fancy_search.specs.Searching.{CanSearch}
 
@@ -43,7 +43,7 @@ abbrev pub first_groups : Query → Option (List (Option Span))
 first_groups q = option_map (spans_of q.sought.groups) (search q)
 
 -- the matches that a request has one after the other; `text` says whether the haystack is text
-abbrev pub matches_of : Regex → Bool → List ℕ → Request → List Item
+abbrev pub matches_of : Regex → Bool → List ℕ → Request → List MatchItem
 matches_of r text haystack request = program_matches (program_in r) text haystack request
 
 -- where the search starts that finds none, at the end of these
@@ -55,11 +55,11 @@ abbrev pub scan_of_input : {S : Type 0} {g : _} → Regex → (S → Bool) → (
 scan_of_input r text bytes input = scan (program_in r) (text (haystack_in input)) (bytes (haystack_in input)) (request_in input)
 
 -- the matches that a whole haystack has one after the other
-abbrev pub matches_in_whole : {S : Type 0} → Regex → (S → Bool) → (S → List ℕ) → S → List Item
+abbrev pub matches_in_whole : {S : Type 0} → Regex → (S → Bool) → (S → List ℕ) → S → List MatchItem
 matches_in_whole r text bytes haystack = matches_of r (text haystack) (bytes haystack) (whole (bytes haystack))
 
 -- the matches that an input has one after the other
-abbrev pub matches_of_input : {S : Type 0} {g : _} → Regex → (S → Bool) → (S → List ℕ) → RegexInput S g → List Item
+abbrev pub matches_of_input : {S : Type 0} {g : _} → Regex → (S → Bool) → (S → List ℕ) → RegexInput S g → List MatchItem
 matches_of_input r text bytes input = matches_of r (text (haystack_in input)) (bytes (haystack_in input)) (request_in input)
 
 -- where the search starts that finds none, at the end of the matches of a whole haystack

@@ -32,7 +32,8 @@ use std::fmt;
 pub struct Regex {
     pattern: String,
     pub(crate) program: Program,
-    pub ghost spelled: { ∥ IsSpelled (program_options program) (string_bytes pattern) (program_pattern program) (program_groups program) (program_names program) ∥₁ },
+    pub ghost spelled: { ∥ IsSpelled (program_options program) (string_bytes pattern)
+        (program_pattern program) (program_groups program) (program_names program) ∥₁ },
 }
 
 impl Regex {

@@ -42,7 +42,8 @@ pub trait Replacer {
     /// which it may be called again.
     fn replace_append(&mut self, captures: &Captures<'_, &str>, dst: &mut String) -> Result<()>
         requires { callable self.old }
-        ensures ok { OnOk result (AddsSome dst.old dst.new (λ t. appends self.old (seen_in_str captures.now) t self.new)) }
+        ensures ok { OnOk result
+            (AddsSome dst.old dst.new (λ t. appends self.old (seen_in_str captures.now) t self.new)) }
         ensures kept { OnErr result (string_bytes dst.new ≡ string_bytes dst.old) }
         ensures refused { IfErr result (λ e. refuses self.old (seen_in_str captures.now) e self.new) }
         ensures again { callable self.new };

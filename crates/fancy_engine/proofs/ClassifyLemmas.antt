@@ -5,9 +5,9 @@ use Rattle.std.proofs.lemmas.Bool.{and_parts}
 use Rattle.std.proofs.lemmas.List.{length-map, get_or-map, drop_all}
 use Rattle.std.proofs.lemmas.List.Elements.{All-cons}
 use Rattle.fancy_tree.specs.declared.tree.Tree.{Tree}
-use Rattle.fancy_tree.specs.declared.tree.Tree.TheVariants.{Sequence, Alternative}
+use Rattle.fancy_tree.specs.declared.tree.Tree.TheVariants.{Concat, Alternation}
 use Rattle.fancy_tree.specs.Pattern.{Pattern, in_sequence, in_choice, pattern_of}
-use Rattle.fancy_tree.proofs.PatternLemmas.{pattern-Sequence, pattern-Alternative}
+use Rattle.fancy_tree.proofs.PatternLemmas.{pattern-Concat, pattern-Alternation}
 use Rattle.fancy_engine.specs.Instructions.{Instruction}
 use Rattle.fancy_engine.specs.Instructions as i
 use Rattle.fancy_engine.specs.Compile.{is_easy, all_easy, is_easy_instr, are_easy, StaysEasy, IsEasyInstr, AreEasy, split_of}
@@ -86,11 +86,11 @@ easy-in_choice (p ∷ q ∷ ps) e =
     let parts = and_parts (is_easy p) (is_easy (in_choice (q ∷ ps))) e in
     All-cons (λ x. IsTrue (is_easy x)) p (q ∷ ps) parts.0 (easy-in_choice (q ∷ ps) parts.1)
 
-pub easy_parts : (t : Tree) (parts : Vec Tree Global) → t ≡ Sequence parts → is_easy (pattern_of t) ≡ true → All (λ p. IsTrue (is_easy p)) (map pattern_of parts.items)
-easy_parts t parts e easy = easy-in_sequence (map pattern_of parts.items) (sym (ap is_easy (ap pattern_of e ∙ pattern-Sequence parts)) ∙ easy)
+pub easy_parts : (t : Tree) (parts : Vec Tree Global) → t ≡ Concat parts → is_easy (pattern_of t) ≡ true → All (λ p. IsTrue (is_easy p)) (map pattern_of parts.items)
+easy_parts t parts e easy = easy-in_sequence (map pattern_of parts.items) (sym (ap is_easy (ap pattern_of e ∙ pattern-Concat parts)) ∙ easy)
 
-pub easy_branches : (t : Tree) (branches : Vec Tree Global) → t ≡ Alternative branches → is_easy (pattern_of t) ≡ true → All (λ p. IsTrue (is_easy p)) (map pattern_of branches.items)
-easy_branches t branches e easy = easy-in_choice (map pattern_of branches.items) (sym (ap is_easy (ap pattern_of e ∙ pattern-Alternative branches)) ∙ easy)
+pub easy_branches : (t : Tree) (branches : Vec Tree Global) → t ≡ Alternation branches → is_easy (pattern_of t) ≡ true → All (λ p. IsTrue (is_easy p)) (map pattern_of branches.items)
+easy_branches t branches e easy = easy-in_choice (map pattern_of branches.items) (sym (ap is_easy (ap pattern_of e ∙ pattern-Alternation branches)) ∙ easy)
 
 pub easy_at : (ts : List Tree) (j : ℕ) (t : Tree) → All (λ p. IsTrue (is_easy p)) (map pattern_of ts) → j < length ts → t ≡ get_or ts j t → is_easy (pattern_of t) ≡ true
 easy_at ts j t all h e =
@@ -112,11 +112,11 @@ easy_choice [] = refl
 easy_choice (p ∷ []) = and_true (is_easy p)
 easy_choice (p ∷ q ∷ ps) = ap (λ b. is_easy p && b) (easy_choice (q ∷ ps))
 
-pub easy-Sequence : (parts : Vec Tree Global) → is_easy (pattern_of (Sequence parts)) ≡ all_easy (map pattern_of parts.items)
-easy-Sequence parts = ap is_easy (pattern-Sequence parts) ∙ easy_sequence (map pattern_of parts.items)
+pub easy-Concat : (parts : Vec Tree Global) → is_easy (pattern_of (Concat parts)) ≡ all_easy (map pattern_of parts.items)
+easy-Concat parts = ap is_easy (pattern-Concat parts) ∙ easy_sequence (map pattern_of parts.items)
 
-pub easy-Alternative : (branches : Vec Tree Global) → is_easy (pattern_of (Alternative branches)) ≡ all_easy (map pattern_of branches.items)
-easy-Alternative branches = ap is_easy (pattern-Alternative branches) ∙ easy_choice (map pattern_of branches.items)
+pub easy-Alternation : (branches : Vec Tree Global) → is_easy (pattern_of (Alternation branches)) ≡ all_easy (map pattern_of branches.items)
+easy-Alternation branches = ap is_easy (pattern-Alternation branches) ∙ easy_choice (map pattern_of branches.items)
 
 -- from the j-th tree on
 pub easy_from : (ts : List Tree) (j : ℕ) (t : Tree) → j < length ts → t ≡ get_or ts j t →

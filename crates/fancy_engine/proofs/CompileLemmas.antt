@@ -1,17 +1,16 @@
 -- What one more piece of code makes of what was emitted before.
-use Rattle.std.proofs.Common.{◌≡◌, ℕ, ◌+◌, ◌^◌, ◌<◌, ◌≤◌, Bool, true, false, ◌&&◌, List, [], ◌∷◌, length, map, drop, get_or, sum_by, Option, Some, None, All, Vec, Box, Global, refl, sym, ap, ◌∙◌, subst, arith, add-one, ◌⊎◌, inl, inr}
+use Rattle.std.proofs.Common.{◌≡◌, ℕ, ◌+◌, ◌^◌, ◌<◌, ◌≤◌, Bool, true, false, ◌&&◌, List, [], ◌∷◌, length, map, drop, get_or, sum_by, Option, Some, None, Vec, Global, refl, sym, ap, ◌∙◌, subst, arith, add-one, ◌⊎◌, inl, inr}
 use Rattle.std.specs.Prelude.{slice_set}
 use Rattle.std.proofs.lemmas.List.{length-map, get_or-map}
-use Rattle.std.proofs.lemmas.List.Elements.{All-cons}
 use Rattle.std.proofs.lemmas.List.Sums.{sum_by-cons, get_or-le-sum_by}
 use Rattle.fancy_tree.specs.declared.tree.Meaning.{Meaning}
 use Rattle.fancy_tree.specs.declared.tree.Tree.{Tree}
-use Rattle.fancy_tree.specs.declared.tree.Tree.TheVariants.{Member, InAnyCase, Sequence, Alternative}
+use Rattle.fancy_tree.specs.declared.tree.Tree.TheVariants.{Member, InAnyCase, Concat, Alternation}
 use Rattle.fancy_tree.specs.Pattern.{Pattern, member_of, group, or_else, last_branch, look_ahead, look_behind, conditional, in_sequence, in_choice, pattern_of}
 use Rattle.fancy_tree.specs.Sizes.{nodes, size, is_empty}
 use Rattle.fancy_tree.specs.Members.{edges_of}
 use Rattle.fancy_tree.specs.declared.set.Set.{Set}
-use Rattle.fancy_tree.proofs.PatternLemmas.{pattern-Member, pattern-InAnyCase, pattern-Sequence, pattern-Alternative}
+use Rattle.fancy_tree.proofs.PatternLemmas.{pattern-Member, pattern-InAnyCase, pattern-Concat, pattern-Alternation}
 use Rattle.fancy_tree.proofs.PartLemmas.{parts_from}
 use Rattle.fancy_tree.proofs.SizeLemmas.{nodes-in_sequence, nodes-in_choice}
 use Rattle.fancy_engine.specs.Instructions.{Instruction}
@@ -211,11 +210,11 @@ condition_emitted m p q r all same e from n1 n2 c1 c2 c3 next one two entry a k 
     ))
 
 -- the parts of a pattern of few nodes have few
-pub few_in_parts : (t : Tree) (parts : Vec Tree Global) → t ≡ Sequence parts → nodes (pattern_of t) < 2 ^ 64 → sum_by nodes (map pattern_of parts.items) < 2 ^ 64
-few_in_parts t parts e small = omega (arith, ap nodes (ap pattern_of e ∙ pattern-Sequence parts), nodes-in_sequence (map pattern_of parts.items))
+pub few_in_parts : (t : Tree) (parts : Vec Tree Global) → t ≡ Concat parts → nodes (pattern_of t) < 2 ^ 64 → sum_by nodes (map pattern_of parts.items) < 2 ^ 64
+few_in_parts t parts e small = omega (arith, ap nodes (ap pattern_of e ∙ pattern-Concat parts), nodes-in_sequence (map pattern_of parts.items))
 
-pub few_in_branches : (t : Tree) (branches : Vec Tree Global) → t ≡ Alternative branches → nodes (pattern_of t) < 2 ^ 64 → nodes (in_choice (map pattern_of branches.items)) < 2 ^ 64
-few_in_branches t branches e small = omega (arith, ap nodes (ap pattern_of e ∙ pattern-Alternative branches))
+pub few_in_branches : (t : Tree) (branches : Vec Tree Global) → t ≡ Alternation branches → nodes (pattern_of t) < 2 ^ 64 → nodes (in_choice (map pattern_of branches.items)) < 2 ^ 64
+few_in_branches t branches e small = omega (arith, ap nodes (ap pattern_of e ∙ pattern-Alternation branches))
 
 pub nodes-conditional : (p q r all : Pattern) → all ≡ conditional p q r → nodes all ≡ nodes p + nodes q + nodes r + 1
 unfolding nodes

@@ -1,7 +1,7 @@
 -- The code of a pattern follows the pattern's trace.
-use Rattle.std.proofs.Common.{ℕ, suc, ◌+◌, ◌≤◌, ◌≡◌, Bool, ◌&&◌, true, false, List, [], ◌∷◌, length, refl, ap, arith}
+use Rattle.std.proofs.Common.{ℕ, suc, ◌+◌, ◌≤◌, ◌≡◌, Bool, ◌&&◌, true, false, List, [], ◌∷◌, length, refl, arith}
 use Rattle.std.specs.Prelude.{◌==◌, is_some, if◌then◌else◌}
-use Rattle.fancy_tree.specs.declared.tree.Taste.TheVariants.{Greedy, Lazy, Possessive}
+use Rattle.fancy_tree.specs.declared.tree.RepeatKind.TheVariants.{Greedy, Lazy, Possessive}
 use Rattle.fancy_tree.specs.Pattern.{Pattern, empty, character, member_of, in_any_case, raw_byte, backreference, assertion, group_test, keep_start, continue_here, group, repeat, look_ahead, look_behind, atomic, conditional, followed, or_else, last_branch}
 use Rattle.fancy_tree.specs.Sets.{has}
 use Rattle.fancy_engine.specs.Instructions.{Instruction}
@@ -10,7 +10,7 @@ use Rattle.fancy_engine.specs.declared.code.Entry.{Entry}
 use Rattle.fancy_engine.specs.Context.{Context, State, group_span, past_item, past_byte, holds, continues}
 use Rattle.fancy_engine.specs.Events.{mark, return, stay, guarded, any, move, looked}
 use Rattle.fancy_engine.specs.Trace.{trace, behind, repeated}
-use Rattle.fancy_engine.specs.Run.{CodeGives, onward, run}
+use Rattle.fancy_engine.specs.Run.{CodeGives}
 use Rattle.fancy_tree.specs.GroupNumbers.{Numbered}
 use Rattle.fancy_tree.specs.Sizes.{size, is_empty}
 use Rattle.fancy_engine.specs.Compile.{Has, Means, Behind, AtomicBy, ConditionBy, EitherBy, depth, behind_depth, copies_depth, rest_depth, stopping}
@@ -130,7 +130,7 @@ module _ (x : Context) (code : List Instruction) (hi : ℕ) (matching : Has code
     behind_gives keep_start lo M each start by num s v le len = back_gives x (length x.haystack) code hi matching failing (size x.meaning keep_start) (trace x (length x.haystack) keep_start) M (depth (length x.haystack) keep_start) lo start each by s v le len
     behind_gives continue_here lo M each start by num s v le len = back_gives x (length x.haystack) code hi matching failing (size x.meaning continue_here) (trace x (length x.haystack) continue_here) M (depth (length x.haystack) continue_here) lo start each by s v le len
     behind_gives (group index body) lo M each start by num s v le len = back_gives x (length x.haystack) code hi matching failing (size x.meaning (group index body)) (trace x (length x.haystack) (group index body)) M (depth (length x.haystack) (group index body)) lo start each by s v le len
-    behind_gives (repeat low high taste body) lo M each start by num s v le len = back_gives x (length x.haystack) code hi matching failing (size x.meaning (repeat low high taste body)) (trace x (length x.haystack) (repeat low high taste body)) M (depth (length x.haystack) (repeat low high taste body)) lo start each by s v le len
+    behind_gives (repeat low high kind body) lo M each start by num s v le len = back_gives x (length x.haystack) code hi matching failing (size x.meaning (repeat low high kind body)) (trace x (length x.haystack) (repeat low high kind body)) M (depth (length x.haystack) (repeat low high kind body)) lo start each by s v le len
     behind_gives (look_ahead negated body) lo M each start by num s v le len = back_gives x (length x.haystack) code hi matching failing (size x.meaning (look_ahead negated body)) (trace x (length x.haystack) (look_ahead negated body)) M (depth (length x.haystack) (look_ahead negated body)) lo start each by s v le len
     behind_gives (look_behind negated body) lo M each start by num s v le len = back_gives x (length x.haystack) code hi matching failing (size x.meaning (look_behind negated body)) (trace x (length x.haystack) (look_behind negated body)) M (depth (length x.haystack) (look_behind negated body)) lo start each by s v le len
     behind_gives (atomic body) lo M each start by num s v le len = back_gives x (length x.haystack) code hi matching failing (size x.meaning (atomic body)) (trace x (length x.haystack) (atomic body)) M (depth (length x.haystack) (atomic body)) lo start each by s v le len

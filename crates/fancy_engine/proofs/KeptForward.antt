@@ -8,7 +8,7 @@ use Rattle.fancy_engine.specs.Trace.{trace, is_greedy}
 use Rattle.fancy_engine.specs.Forward.{EachOutcome}
 use Rattle.fancy_engine.specs.Placed.{has_keep_start_in_look_around, IsKeptFrom}
 use Rattle.fancy_engine.proofs.EventLemmas.{EachOutcome-bind, EachOutcome-either, EachOutcome-only_if, EachOutcome-guarded, EachOutcome-if}
-use Rattle.fancy_engine.proofs.ForwardLemmas.{PastIs, past_item-past, past_byte-past, past_backreference-past, LeadsOn-by_taste}
+use Rattle.fancy_engine.proofs.ForwardLemmas.{PastIs, past_item-past, past_byte-past, past_backreference-past, LeadsOn-by_kind}
 use Rattle.fancy_engine.proofs.KeptLemmas.{KeptAt, either_fails, kept_without, kept_behind}
 use Rattle.fancy_engine.proofs.WalkLemmas.{Retains, Retains-stay, Retains-holding, Retains-bind, Retains-repeated}
 
@@ -46,9 +46,9 @@ module _ (x : Context) (k : ℕ) where
   kept_forward limit (group index body) e s h =
       EachOutcome-bind (IsKeptFrom k) (IsKeptFrom k) (trace x limit body s) _ (kept_forward limit body e s h)
       (λ t b. (record { from = b.from; to = b.to }, tt))
-  kept_forward limit (repeat low high taste body) e s h =
-      LeadsOn-by_taste (IsKeptFrom k) taste _
-      (Retains-repeated (IsKeptFrom k) (is_greedy taste) limit low high (trace x limit body) (kept_forward limit body e) s h)
+  kept_forward limit (repeat low high kind body) e s h =
+      LeadsOn-by_kind (IsKeptFrom k) kind _
+      (Retains-repeated (IsKeptFrom k) (is_greedy kind) limit low high (trace x limit body) (kept_forward limit body e) s h)
   kept_forward limit (look_ahead negated body) e s h =
       IsKeptFrom-looked k negated false s _ h (kept_without x s.kept (length x.haystack) body e s refl)
   kept_forward limit (look_behind negated body) e s h =

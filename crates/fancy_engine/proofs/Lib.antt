@@ -36,3 +36,7 @@ pub mod LeadsLemmas
 pub mod PlacedLemmas
 pub mod FoundLemmas
 pub mod LiteralLemmas
+pub mod SeenLemmas
+pub mod BeginLemmas
+pub mod RequireLemmas
+pub mod SkipLemmas

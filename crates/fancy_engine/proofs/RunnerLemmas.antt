@@ -10,7 +10,7 @@ use Rattle.fancy_engine.specs.declared.runner.Next.TheVariants.{On}
 use Rattle.fancy_engine.specs.Context.{Context, State}
 use Rattle.fancy_engine.specs.Events.{Event, mark, return, outcome, either}
 use Rattle.fancy_engine.specs.Threads.{Thread, starts_of, state_of}
-use Rattle.fancy_engine.specs.Runner.{events_of, size_of, Known, AllKnown, thread_run, pending, Stepped, Stacked, first_accepted, ends_well, AllWithin, IsPair, Seen, pair_run, rank, Hits, HitsBelow, Covers, AllFailed, Resting, Running}
+use Rattle.fancy_engine.specs.Runner.{events_of, size_of, Known, AllKnown, thread_run, pending, Stepped, Stacked, first_accepted, ends_well, AllWithin, IsPair, WasVisited, pair_run, rank, Hits, HitsBelow, Covers, AllFailed, Resting, Running}
 use Rattle.fancy_engine.specs.Compile.{AreEasy}
 use Rattle.fancy_engine.proofs.EasyCode.{run_both}
 use Rattle.fancy_engine.proofs.Hits.{both_size, both_hits}
@@ -71,7 +71,7 @@ module _ (good : ℕ → Bool) (cx : Context) (base limit : ℕ) (code : List In
 
   -- the table has one more pair
   abbrev pub Adds : List Bool → List Bool → ℕ → ℕ → Type 0
-  Adds table table' q i = (p j : ℕ) → Seen good cx base limit code deep table' p j → Seen good cx base limit code deep table p j ⊎ ((p ≡ q) × (j ≡ i))
+  Adds table table' q i = (p j : ℕ) → WasVisited good cx base limit code deep table' p j → WasVisited good cx base limit code deep table p j ⊎ ((p ≡ q) × (j ≡ i))
 
   covers_next : (table table' : List Bool) (t : Thread) (ts next : List Thread) → Adds table table' t.at t.place → Covers good cx base limit code deep table (t ∷ ts)
       → ((r : ℕ) → RankAt t < r + 1 → HitsAt t → Below r next)
@@ -107,7 +107,7 @@ module _ (good : ℕ → Bool) (cx : Context) (base limit : ℕ) (code : List In
 
     -- a pair that was visited before has no accepted outcome
     pub run_seen : (table : List Bool) (t : Thread) (ts : List Thread) → Running good cx base limit code deep kept goal table t ts
-        → Seen good cx base limit code deep table t.at t.place → Resting good cx base limit code deep kept goal table ts
+        → WasVisited good cx base limit code deep table t.at t.place → Resting good cx base limit code deep kept goal table ts
     run_seen table t ts r seen =
         rest_of table table t ts r (same_table table t.at t.place)
         (false_from_ne_true _ (λ e. let h = r.covers t.at t.place seen (sym (hits_is kept t) ∙ e) in let lt : RankAt t < RankAt t = h.0 in absurd (omega arith)))

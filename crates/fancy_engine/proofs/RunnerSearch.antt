@@ -123,6 +123,13 @@ no_positions false n e = e
 pub positions_none : (r : Request) → r.range_end < effective_start r → positions r ≡ 0
 positions_none r lt = no_positions r.anchored (r.range_end + 1 - effective_start r) (omega arith)
 
+one_position : (b : Bool) (n : ℕ) → 1 ≤ n → 1 ≤ (if b then (min 1 n) else n)
+one_position true n le = omega arith
+one_position false n le = le
+
+pub positions_some : (r : Request) → effective_start r ≤ r.range_end → 1 ≤ positions r
+positions_some r le = one_position r.anchored (r.range_end + 1 - effective_start r) (omega arith)
+
 pub unmarked_table : (table : List Bool) (n : ℕ) → table ≡ replicate n false → (k : ℕ) → slice_index_or table k false ≡ true → ⊥
 unmarked_table table n e k h = unmarked n k (subst (λ (bits : List Bool). slice_index_or bits k false ≡ true) e h)
 

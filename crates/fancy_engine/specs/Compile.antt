@@ -1,9 +1,10 @@
 -- What it is for instructions to be those of a pattern.
 use Rattle.std.specs.Prelude.{◌≡◌, ℕ, zero, suc, ◌+◌, ◌-◌, ◌<◌, ◌≤◌, Bool, true, false, ◌&&◌, List, [], ◌∷◌, Option, Some, None, length, slice_get, slice_index}
-use Rattle.fancy_tree.specs.declared.tree.Taste.{Taste}
-use Rattle.fancy_tree.specs.declared.tree.Taste.TheVariants.{Greedy, Lazy, Possessive}
+use Rattle.fancy_tree.specs.declared.tree.RepeatKind.{RepeatKind}
+use Rattle.fancy_tree.specs.declared.tree.RepeatKind.TheVariants.{Greedy, Lazy, Possessive}
 use Rattle.fancy_tree.specs.GroupNumbers.{Numbered}
 use Rattle.fancy_tree.specs.Pattern.{Pattern, empty, character, member_of, in_any_case, raw_byte, backreference, assertion, group_test, keep_start, continue_here, group, repeat, look_ahead, look_behind, atomic, conditional, followed, or_else, last_branch}
+use Rattle.fancy_bytes.specs.Firsts.{AreStartBytes}
 use Rattle.fancy_engine.specs.declared.code.Code.{Code}
 use Rattle.fancy_engine.specs.declared.code.Entry.{Entry}
 use Rattle.fancy_engine.specs.Instructions.{Instruction}
@@ -13,8 +14,8 @@ use Rattle.fancy_tree.specs.Sizes.{size, is_empty}
 use Rattle.fancy_engine.specs.Code.{instrs_of}
 use Rattle.fancy_engine.specs.Run.{instr_at}
 
--- a repeat of this taste can go back to another number of turns
-abbrev pub goes_back : Taste → Bool
+-- a repeat of this kind can go back to another number of turns
+abbrev pub goes_back : RepeatKind → Bool
 goes_back Greedy = true
 goes_back Lazy = true
 goes_back Possessive = false
@@ -32,7 +33,7 @@ is_easy (group_test number) = false
 is_easy keep_start = false
 is_easy continue_here = false
 is_easy (group index body) = is_easy body
-is_easy (repeat low high taste body) = goes_back taste && is_easy body
+is_easy (repeat low high kind body) = goes_back kind && is_easy body
 is_easy (look_ahead negated body) = false
 is_easy (look_behind negated body) = false
 is_easy (atomic body) = false
@@ -111,10 +112,10 @@ ConditionBy M First Second code entry =
     × HasBoth code close (i.Commit one.moved) (i.Commit one.still)
     × HasBoth code entry (i.Test inner.moved two.moved) (i.Test inner.still two.still)
 
-abbrev pub TasteBy : (Entry → Entry → Type 0) → Taste → List Instruction → ℕ → Option ℕ → Entry → Entry → Type 0
-TasteBy M Greedy code low high next entry = RepeatBy M true code low high next entry
-TasteBy M Lazy code low high next entry = RepeatBy M false code low high next entry
-TasteBy M Possessive code low high next entry = AtomicBy (RepeatBy M true code low high) code next entry
+abbrev pub KindBy : (Entry → Entry → Type 0) → RepeatKind → List Instruction → ℕ → Option ℕ → Entry → Entry → Type 0
+KindBy M Greedy code low high next entry = RepeatBy M true code low high next entry
+KindBy M Lazy code low high next entry = RepeatBy M false code low high next entry
+KindBy M Possessive code low high next entry = AtomicBy (RepeatBy M true code low high) code next entry
 
 abbrev pub look_of : Bool → Bool → ℕ → ℕ → Instruction
 look_of true behind body next = i.Deny behind body next
@@ -150,7 +151,7 @@ abbrev mutual
       (close : Entry) × (inner : Entry) × Means m body code close inner
       × HasBoth code close (i.Close index next.moved) (i.Close index next.still)
       × HasBoth code entry (i.Open index inner.moved) (i.Open index inner.still)
-  Means m (repeat low high taste body) code next entry = TasteBy (Means m body code) taste code low high next entry
+  Means m (repeat low high kind body) code next entry = KindBy (Means m body code) kind code low high next entry
   Means m (look_ahead negated body) code next entry = (inner : Entry) × Means m body code stopping inner × LooksBy negated false inner.moved code next entry
   Means m (look_behind negated body) code next entry =
       (start : ℕ) × Behind m body (Means m body code stopping) code start × LooksBy negated true start code next entry
@@ -231,10 +232,10 @@ abbrev pub rest_depth : ℕ → ℕ → ℕ → Option ℕ → ℕ
 rest_depth d n low None = turn_depth d (suc n)
 rest_depth d n low (Some high) = optionals_depth d (high - low)
 
-abbrev pub taste_depth : Taste → ℕ → ℕ
-taste_depth Greedy n = n
-taste_depth Lazy n = n
-taste_depth Possessive n = n + 2
+abbrev pub kind_depth : RepeatKind → ℕ → ℕ
+kind_depth Greedy n = n
+kind_depth Lazy n = n
+kind_depth Possessive n = n + 2
 
 -- how many instructions deep the code of the pattern goes in a text of n bytes
 abbrev mutual
@@ -250,7 +251,7 @@ abbrev mutual
   depth n keep_start = 1
   depth n continue_here = 1
   depth n (group index body) = depth n body + 2
-  depth n (repeat low high taste body) = taste_depth taste (copies_depth (depth n body) (rest_depth (depth n body) n low high) low)
+  depth n (repeat low high kind body) = kind_depth kind (copies_depth (depth n body) (rest_depth (depth n body) n low high) low)
   depth n (look_ahead negated body) = depth n body + 2
   depth n (look_behind negated body) = behind_depth n body (depth n body) + 1
   depth n (atomic body) = depth n body + 2
@@ -277,6 +278,7 @@ pub record IsCodeOf (p : Pattern) (code : Code) : Type 0 where
   pub matching : Has (instrs_of code) 0 i.Match
   pub failing : Has (instrs_of code) 1 i.Fail
   pub numbered : Numbered 0 code.groups p
+  pub starts : AreStartBytes code.meaning p code.start_bytes
 
 -- An instruction that reads neither captures nor where groups began, and that ends no way early.
 abbrev pub IsEasyInstr : Instruction → Type 0

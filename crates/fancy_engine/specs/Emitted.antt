@@ -5,11 +5,11 @@ use Rattle.fancy_engine.specs.declared.code.Instr.{Instr}
 use Rattle.fancy_engine.specs.Instructions.{Instruction, with_set, with_sets}
 
 -- each with the edges of its set
-abbrev pub instrs_in : Emitter → List Instruction
-instrs_in e = with_sets e.sets.items e.instrs.items
+abbrev pub emitted : Emitter → List Instruction
+emitted e = with_sets e.sets.items e.instrs.items
 
-abbrev pub len_in : Emitter → ℕ
-len_in e = length (instrs_in e)
+abbrev pub len_of : Emitter → ℕ
+len_of e = length (emitted e)
 
 -- one instruction with the edges of its set
 abbrev pub instr_by : Emitter → Instr → Instruction

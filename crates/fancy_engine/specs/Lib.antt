@@ -19,6 +19,7 @@ pub mod Queries
 pub mod Compile
 pub mod Answers
 pub mod Forward
+pub mod Seen
 pub mod Placed
 pub mod Laws
 pub mod Examples

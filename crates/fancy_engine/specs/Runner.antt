@@ -103,8 +103,8 @@ module _ (good : ℕ → Bool) (x : Context) (base limit : ℕ) (code : List Ins
   IsPair q i = (q < length code) × (base ≤ i) × (i ≤ limit)
 
   -- the pair was visited
-  abbrev pub Seen : List Bool → ℕ → ℕ → Type 0
-  Seen table q i = IsPair q i × (slice_index_or table ((i - base) * length code + q) false ≡ true)
+  abbrev pub WasVisited : List Bool → ℕ → ℕ → Type 0
+  WasVisited table q i = IsPair q i × (slice_index_or table ((i - base) * length code + q) false ≡ true)
 
   -- an accepted outcome comes from the pair, whatever the groups are
   abbrev pub Hits : ℕ → ℕ → Type 0
@@ -117,11 +117,11 @@ module _ (good : ℕ → Bool) (x : Context) (base limit : ℕ) (code : List Ins
 
   -- a visited pair that hits is answered for by a thread that is still to be followed
   abbrev pub Covers : List Bool → List Thread → Type 0
-  Covers table ts = (q i : ℕ) → Seen table q i → Hits q i → HitsBelow (rank x limit code deep q i) ts
+  Covers table ts = (q i : ℕ) → WasVisited table q i → Hits q i → HitsBelow (rank x limit code deep q i) ts
 
   -- no visited pair hits
   abbrev pub AllFailed : List Bool → Type 0
-  AllFailed table = (q i : ℕ) → Seen table q i → Hits q i → ⊥
+  AllFailed table = (q i : ℕ) → WasVisited table q i → Hits q i → ⊥
 
   -- what the runner has before it once the saved branches are all that is left
   pub record Resting (kept : ℕ) (goal : Option State) (table : List Bool) (ts : List Thread) : Type 0 where

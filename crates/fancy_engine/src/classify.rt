@@ -4,15 +4,15 @@ ghost use Rattle.std.specs.Prelude.{◌≡◌, map};
 ghost use Rattle.fancy_tree.specs.Pattern.{pattern_of};
 ghost use Rattle.fancy_engine.specs.Compile.{is_easy, goes_back, all_easy};
 
-use fancy_tree::tree::{Taste, Tree};
+use fancy_tree::tree::{RepeatKind, Tree};
 
-/// Whether a repeat of this taste can go back to another number of turns.
-fn goes_back(taste: Taste) -> bool
-    ensures { result ≡ goes_back taste }
+/// Whether a repeat of this kind can go back to another number of turns.
+fn goes_back(kind: RepeatKind) -> bool
+    ensures { result ≡ goes_back kind }
 {
-    match taste {
-        Taste::Greedy | Taste::Lazy => true,
-        Taste::Possessive => false,
+    match kind {
+        RepeatKind::Greedy | RepeatKind::Lazy => true,
+        RepeatKind::Possessive => false,
     }
 }
 
@@ -39,9 +39,9 @@ pub fn is_easy(tree: &Tree) -> bool
         | Tree::Atomic(_)
         | Tree::Conditional { .. } => false,
         Tree::Group { body, .. } => is_easy(body),
-        Tree::Repeat { taste, body, .. } => goes_back(*taste) && is_easy(body),
-        Tree::Sequence(parts) => are_easy(parts),
-        Tree::Alternative(branches) => are_easy(branches),
+        Tree::Repeat { kind, body, .. } => goes_back(*kind) && is_easy(body),
+        Tree::Concat(parts) => are_easy(parts),
+        Tree::Alternation(branches) => are_easy(branches),
     }
 }
 

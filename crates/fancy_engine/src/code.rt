@@ -4,6 +4,7 @@ ghost use Rattle.std.specs.Prelude.{◌≡◌, ◌<◌, ℕ, IsTrue, length};
 ghost use Rattle.fancy_engine.specs.Instructions.{are_known, edges_in, with_sets};
 
 use crate::work::Work;
+use fancy_bytes::scan::Scan;
 use fancy_tree::char_set::CharSet;
 use fancy_tree::tree::{Assertion, Meaning};
 
@@ -83,6 +84,8 @@ pub struct Code {
     pub groups: usize,
     /// What one item consumes.
     pub meaning: Meaning,
+    /// The bytes that a match starts with. `None` where it may start anywhere.
+    pub start_bytes: Option<Scan>,
     ghost known: { IsTrue (are_known (length sets.items) instrs.items) },
 }
 
@@ -98,12 +101,14 @@ impl Code {
         start: usize,
         groups: usize,
         meaning: Meaning,
+        start_bytes: Option<Scan>,
     ) -> Code
         requires known { IsTrue (are_known (length sets.items) instrs.items) }
         ensures instrs { instrs_of result ≡ with_sets sets.items instrs.items }
         ensures start { result.start ≡ start }
         ensures groups { result.groups ≡ groups }
         ensures meaning { result.meaning ≡ meaning }
+        ensures start_bytes { result.start_bytes ≡ start_bytes }
     {
         Code {
             instrs,
@@ -111,6 +116,7 @@ impl Code {
             start,
             groups,
             meaning,
+            start_bytes,
         }
     }
 

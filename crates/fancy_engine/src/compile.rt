@@ -2,20 +2,21 @@
 
 ghost use Rattle.std.specs.Prelude.{◌≡◌, ℕ, List, ◌+◌, ◌*◌, ◌^◌, ◌<◌, ◌≤◌, IfOk, IsTrue, All, map, sum_by, true, length};
 ghost use Rattle.fancy_tree.specs.Pattern.{pattern_of, group, repeat, look_ahead, look_behind, atomic, in_sequence, in_choice};
-ghost use Rattle.fancy_tree.specs.declared.tree.Taste.TheVariants.{Possessive};
-ghost use Rattle.fancy_tree.specs.Sizes.{nodes, repeat_nodes, taste_nodes};
+ghost use Rattle.fancy_tree.specs.declared.tree.RepeatKind.TheVariants.{Possessive};
+ghost use Rattle.fancy_tree.specs.Sizes.{nodes, repeat_nodes, kind_nodes};
 ghost use Rattle.fancy_engine.specs.Code.{code_len, instrs_of};
 ghost use Rattle.fancy_engine.specs.Instructions.{with_set, is_known};
-ghost use Rattle.fancy_engine.specs.Emitted.{instrs_in, len_in};
+ghost use Rattle.fancy_engine.specs.Emitted.{emitted, len_of};
 ghost use Rattle.fancy_tree.specs.GroupNumbers.{Numbered};
 ghost use Rattle.fancy_engine.specs.Compile.{Keeps, Emitted, CopiesEmitted, OptionalsEmitted, StarEmitted, RestEmitted, RepeatEmitted, TestEmitted, BackEmitted, BehindEmitted, IsCodeOf, StaysEasy, goes_back, is_easy, are_easy, split_of, look_of};
 
 use crate::code::{Code, Entry, FAIL, Instr, MATCH};
 use crate::emitter::Emitter;
+use fancy_bytes::scan::start_scan;
 use fancy_tree::char_set::CharSet;
 use fancy_tree::measure::are_empty;
 use fancy_tree::set::Set;
-use fancy_tree::tree::{Meaning, Taste, Tree};
+use fancy_tree::tree::{Meaning, RepeatKind, Tree};
 use std::alloc::{AllocError, Global};
 
 /// A choice between one more turn and none.
@@ -47,19 +48,16 @@ fn look(negated: bool, behind: bool, body: usize, next: usize) -> Instr
 #[tactic(auto, using(fancy_tree::proofs::PatternLemmas::pattern_equations), unfolding(fancy_tree::specs::Sizes::nodes))]
 fn emit(code: &mut Emitter, meaning: Meaning, tree: &Tree, next: Entry) -> Result<Entry, AllocError>
     requires small { nodes (pattern_of tree.now) < 2 ^ 64 }
-    ensures kept { IfOk result (λ _. Keeps (instrs_in code.old) (instrs_in code.new)) }
-    ensures easy { IfOk result (λ _. is_easy (pattern_of tree.now) ≡ true → StaysEasy (instrs_in code.old) (instrs_in code.new)) }
-    ensures means { IfOk result (λ entry. Emitted meaning (pattern_of tree.now) (len_in code.old) (instrs_in code.new) next entry) }
-    ensures longer { IfOk result (λ _. len_in code.old ≤ len_in code.new) }
-    ensures short { IfOk result (λ _. len_in code.new ≤ len_in code.old + 4 * nodes (pattern_of tree.now)) }
+    ensures kept { IfOk result (λ _. Keeps (emitted code.old) (emitted code.new)) }
+    ensures easy { IfOk result (λ _. is_easy (pattern_of tree.now) ≡ true → StaysEasy (emitted code.old) (emitted code.new)) }
+    ensures means { IfOk result (λ entry. Emitted meaning (pattern_of tree.now) (len_of code.old) (emitted code.new) next entry) }
+    ensures longer { IfOk result (λ _. len_of code.old ≤ len_of code.new) }
+    ensures short { IfOk result (λ _. len_of code.new ≤ len_of code.old + 4 * nodes (pattern_of tree.now)) }
 {
     match tree {
         Tree::Empty => Ok(next),
         Tree::Character(c) => code.put_shared(Instr::Character(*c, next.moved)),
-        Tree::Member(set) | Tree::InAnyCase(set) => {
-            let entry = code.put_member(meaning, set, next)?;
-            Ok(entry)
-        }
+        Tree::Member(set) | Tree::InAnyCase(set) => code.put_member(meaning, set, next),
         Tree::RawByte(byte) => code.put_shared(Instr::RawByte(*byte, next.moved)),
         Tree::Assertion(a) => code.put_both(
             Instr::Assert(*a, next.moved),
@@ -69,31 +67,12 @@ fn emit(code: &mut Emitter, meaning: Meaning, tree: &Tree, next: Entry) -> Resul
         Tree::Repeat {
             low,
             high,
-            taste,
+            kind,
             body,
-        } => { emit_taste(code, meaning, *taste, *low, *high, body, next) }
-        Tree::Sequence(parts) => {
-            let entry = emit_sequence(code, meaning, parts, next)?;
-            Ok(entry)
-        }
-        Tree::Alternative(branches) => {
-            let entry = emit_choice(code, meaning, branches, next)?;
-            Ok(entry)
-        }
-        Tree::Backreference { folded, group } => code.put_both(
-            Instr::Recall {
-                folded: *folded,
-                group: *group,
-                moved: next.moved,
-                still: next.moved,
-            },
-            Instr::Recall {
-                folded: *folded,
-                group: *group,
-                moved: next.moved,
-                still: next.still,
-            },
-        ),
+        } => { emit_kind(code, meaning, *kind, *low, *high, body, next) }
+        Tree::Concat(parts) => emit_sequence(code, meaning, parts, next),
+        Tree::Alternation(branches) => emit_choice(code, meaning, branches, next),
+        Tree::Backreference { folded, group } => code.put_recall(meaning, *folded, *group, next),
         Tree::GroupTest(number) => code.put_both(
             Instr::Taken(*number, next.moved),
             Instr::Taken(*number, next.still),
@@ -111,8 +90,7 @@ fn emit(code: &mut Emitter, meaning: Meaning, tree: &Tree, next: Entry) -> Resul
             otherwise,
         } => {
             if are_empty(on_match, otherwise) {
-                let entry = emit_atomic(code, meaning, condition, next)?;
-                return Ok(entry);
+                return emit_atomic(code, meaning, condition, next);
             }
             let one = emit(code, meaning, on_match, next)?;
             let two = emit(code, meaning, otherwise, next)?;
@@ -133,11 +111,11 @@ fn emit_group(
     next: Entry,
 ) -> Result<Entry, AllocError>
     requires small { nodes (pattern_of body.now) < 2 ^ 64 }
-    ensures kept { IfOk result (λ _. Keeps (instrs_in code.old) (instrs_in code.new)) }
-    ensures easy { IfOk result (λ _. is_easy (pattern_of body.now) ≡ true → StaysEasy (instrs_in code.old) (instrs_in code.new)) }
-    ensures means { IfOk result (λ entry. Emitted meaning (group index (pattern_of body.now)) (len_in code.old) (instrs_in code.new) next entry) }
-    ensures longer { IfOk result (λ _. len_in code.old ≤ len_in code.new) }
-    ensures short { IfOk result (λ _. len_in code.new ≤ len_in code.old + 4 * (nodes (pattern_of body.now) + 1)) }
+    ensures kept { IfOk result (λ _. Keeps (emitted code.old) (emitted code.new)) }
+    ensures easy { IfOk result (λ _. is_easy (pattern_of body.now) ≡ true → StaysEasy (emitted code.old) (emitted code.new)) }
+    ensures means { IfOk result (λ entry. Emitted meaning (group index (pattern_of body.now)) (len_of code.old) (emitted code.new) next entry) }
+    ensures longer { IfOk result (λ _. len_of code.old ≤ len_of code.new) }
+    ensures short { IfOk result (λ _. len_of code.new ≤ len_of code.old + 4 * (nodes (pattern_of body.now) + 1)) }
 {
     let close = code.put_both(
         Instr::Close(index, next.moved),
@@ -160,10 +138,10 @@ fn emit_atomic(
     next: Entry,
 ) -> Result<Entry, AllocError>
     requires small { nodes (pattern_of body.now) < 2 ^ 64 }
-    ensures kept { IfOk result (λ _. Keeps (instrs_in code.old) (instrs_in code.new)) }
-    ensures means { IfOk result (λ entry. Emitted meaning (atomic (pattern_of body.now)) (len_in code.old) (instrs_in code.new) next entry) }
-    ensures longer { IfOk result (λ _. len_in code.old ≤ len_in code.new) }
-    ensures short { IfOk result (λ _. len_in code.new ≤ len_in code.old + 4 * (nodes (pattern_of body.now) + 1)) }
+    ensures kept { IfOk result (λ _. Keeps (emitted code.old) (emitted code.new)) }
+    ensures means { IfOk result (λ entry. Emitted meaning (atomic (pattern_of body.now)) (len_of code.old) (emitted code.new) next entry) }
+    ensures longer { IfOk result (λ _. len_of code.old ≤ len_of code.new) }
+    ensures short { IfOk result (λ _. len_of code.new ≤ len_of code.old + 4 * (nodes (pattern_of body.now) + 1)) }
 {
     let close = code.put_both(Instr::Commit(next.moved), Instr::Commit(next.still))?;
     let inner = emit(code, meaning, body, close)?;
@@ -181,10 +159,10 @@ fn emit_ahead(
     next: Entry,
 ) -> Result<Entry, AllocError>
     requires small { nodes (pattern_of body.now) < 2 ^ 64 }
-    ensures kept { IfOk result (λ _. Keeps (instrs_in code.old) (instrs_in code.new)) }
-    ensures means { IfOk result (λ entry. Emitted meaning (look_ahead negated (pattern_of body.now)) (len_in code.old) (instrs_in code.new) next entry) }
-    ensures longer { IfOk result (λ _. len_in code.old ≤ len_in code.new) }
-    ensures short { IfOk result (λ _. len_in code.new ≤ len_in code.old + 4 * (nodes (pattern_of body.now) + 1)) }
+    ensures kept { IfOk result (λ _. Keeps (emitted code.old) (emitted code.new)) }
+    ensures means { IfOk result (λ entry. Emitted meaning (look_ahead negated (pattern_of body.now)) (len_of code.old) (emitted code.new) next entry) }
+    ensures longer { IfOk result (λ _. len_of code.old ≤ len_of code.new) }
+    ensures short { IfOk result (λ _. len_of code.new ≤ len_of code.old + 4 * (nodes (pattern_of body.now) + 1)) }
 {
     let stop = Entry {
         moved: MATCH,
@@ -208,10 +186,10 @@ fn emit_behind(
     next: Entry,
 ) -> Result<Entry, AllocError>
     requires small { nodes (pattern_of body.now) < 2 ^ 64 }
-    ensures kept { IfOk result (λ _. Keeps (instrs_in code.old) (instrs_in code.new)) }
-    ensures means { IfOk result (λ entry. Emitted meaning (look_behind negated (pattern_of body.now)) (len_in code.old) (instrs_in code.new) next entry) }
-    ensures longer { IfOk result (λ _. len_in code.old ≤ len_in code.new) }
-    ensures short { IfOk result (λ _. len_in code.new ≤ len_in code.old + 4 * (nodes (pattern_of body.now) + 1)) }
+    ensures kept { IfOk result (λ _. Keeps (emitted code.old) (emitted code.new)) }
+    ensures means { IfOk result (λ entry. Emitted meaning (look_behind negated (pattern_of body.now)) (len_of code.old) (emitted code.new) next entry) }
+    ensures longer { IfOk result (λ _. len_of code.old ≤ len_of code.new) }
+    ensures short { IfOk result (λ _. len_of code.new ≤ len_of code.old + 4 * (nodes (pattern_of body.now) + 1)) }
 {
     let start = emit_backward(code, meaning, body)?;
     let entry = code.put_both(
@@ -227,13 +205,13 @@ fn emit_behind(
 #[tactic(auto, using(fancy_tree::proofs::PatternLemmas::pattern_equations), unfolding(fancy_tree::specs::Sizes::nodes))]
 fn emit_backward(code: &mut Emitter, meaning: Meaning, body: &Tree) -> Result<usize, AllocError>
     requires small { nodes (pattern_of body.now) < 2 ^ 64 }
-    ensures kept { IfOk result (λ _. Keeps (instrs_in code.old) (instrs_in code.new)) }
-    ensures means { IfOk result (λ start. BehindEmitted meaning (pattern_of body.now) (len_in code.old) (instrs_in code.new) start) }
-    ensures longer { IfOk result (λ _. len_in code.old ≤ len_in code.new) }
-    ensures short { IfOk result (λ _. len_in code.new ≤ len_in code.old + 4 * nodes (pattern_of body.now) + 1) }
+    ensures kept { IfOk result (λ _. Keeps (emitted code.old) (emitted code.new)) }
+    ensures means { IfOk result (λ start. BehindEmitted meaning (pattern_of body.now) (len_of code.old) (emitted code.new) start) }
+    ensures longer { IfOk result (λ _. len_of code.old ≤ len_of code.new) }
+    ensures short { IfOk result (λ _. len_of code.new ≤ len_of code.old + 4 * nodes (pattern_of body.now) + 1) }
 {
     match body {
-        Tree::Sequence(parts) => match parts.as_slice() {
+        Tree::Concat(parts) => match parts.as_slice() {
             [] => {
                 let empty = emit_back(code, meaning, body)?;
                 Ok(empty)
@@ -247,7 +225,7 @@ fn emit_backward(code: &mut Emitter, meaning: Meaning, body: &Tree) -> Result<us
                 Ok(start)
             }
         },
-        Tree::Alternative(branches) => {
+        Tree::Alternation(branches) => {
             if branches.is_empty() {
                 let nothing = emit_back(code, meaning, body)?;
                 return Ok(nothing);
@@ -271,10 +249,10 @@ fn emit_backward_choice(
 ) -> Result<usize, AllocError>
     requires some { 0 < length branches.now }
     requires small { nodes (in_choice (map pattern_of branches.now)) < 2 ^ 64 }
-    ensures kept { IfOk result (λ _. Keeps (instrs_in code.old) (instrs_in code.new)) }
-    ensures means { IfOk result (λ start. BehindEmitted meaning (in_choice (map pattern_of branches.now)) (len_in code.old) (instrs_in code.new) start) }
-    ensures longer { IfOk result (λ _. len_in code.old ≤ len_in code.new) }
-    ensures short { IfOk result (λ _. len_in code.new ≤ len_in code.old + 4 * nodes (in_choice (map pattern_of branches.now))) }
+    ensures kept { IfOk result (λ _. Keeps (emitted code.old) (emitted code.new)) }
+    ensures means { IfOk result (λ start. BehindEmitted meaning (in_choice (map pattern_of branches.now)) (len_of code.old) (emitted code.new) start) }
+    ensures longer { IfOk result (λ _. len_of code.old ≤ len_of code.new) }
+    ensures short { IfOk result (λ _. len_of code.new ≤ len_of code.old + 4 * nodes (in_choice (map pattern_of branches.now))) }
 {
     let last = branches.len() - 1;
     let mut start = emit_back(code, meaning, &branches[last])?;
@@ -289,10 +267,10 @@ fn emit_backward_choice(
 #[cycle(emit)]
 fn emit_back(code: &mut Emitter, meaning: Meaning, branch: &Tree) -> Result<usize, AllocError>
     requires small { nodes (pattern_of branch.now) < 2 ^ 64 }
-    ensures kept { IfOk result (λ _. Keeps (instrs_in code.old) (instrs_in code.new)) }
-    ensures means { IfOk result (λ start. BackEmitted meaning (pattern_of branch.now) (len_in code.old) (instrs_in code.new) start) }
-    ensures longer { IfOk result (λ _. len_in code.old ≤ len_in code.new) }
-    ensures short { IfOk result (λ _. len_in code.new ≤ len_in code.old + 4 * nodes (pattern_of branch.now) + 1) }
+    ensures kept { IfOk result (λ _. Keeps (emitted code.old) (emitted code.new)) }
+    ensures means { IfOk result (λ start. BackEmitted meaning (pattern_of branch.now) (len_of code.old) (emitted code.new) start) }
+    ensures longer { IfOk result (λ _. len_of code.old ≤ len_of code.new) }
+    ensures short { IfOk result (λ _. len_of code.new ≤ len_of code.old + 4 * nodes (pattern_of branch.now) + 1) }
 {
     match branch.size(meaning) {
         None => Ok(FAIL),
@@ -318,10 +296,10 @@ fn emit_condition(
     two: Entry,
 ) -> Result<Entry, AllocError>
     requires small { nodes (pattern_of condition.now) < 2 ^ 64 }
-    ensures kept { IfOk result (λ _. Keeps (instrs_in code.old) (instrs_in code.new)) }
-    ensures means { IfOk result (λ entry. TestEmitted meaning (pattern_of condition.now) (len_in code.old) (instrs_in code.new) one two entry) }
-    ensures longer { IfOk result (λ _. len_in code.old ≤ len_in code.new) }
-    ensures short { IfOk result (λ _. len_in code.new ≤ len_in code.old + 4 * (nodes (pattern_of condition.now) + 1)) }
+    ensures kept { IfOk result (λ _. Keeps (emitted code.old) (emitted code.new)) }
+    ensures means { IfOk result (λ entry. TestEmitted meaning (pattern_of condition.now) (len_of code.old) (emitted code.new) one two entry) }
+    ensures longer { IfOk result (λ _. len_of code.old ≤ len_of code.new) }
+    ensures short { IfOk result (λ _. len_of code.new ≤ len_of code.old + 4 * (nodes (pattern_of condition.now) + 1)) }
 {
     let close = code.put_both(Instr::Commit(one.moved), Instr::Commit(one.still))?;
     let inner = emit(code, meaning, condition, close)?;
@@ -332,28 +310,28 @@ fn emit_condition(
     Ok(entry)
 }
 
-/// Appends the code of a repeat of this taste.
+/// Appends the code of a repeat of this kind.
 #[cycle(emit)]
-fn emit_taste(
+fn emit_kind(
     code: &mut Emitter,
     meaning: Meaning,
-    taste: Taste,
+    kind: RepeatKind,
     low: u32,
     high: Option<u32>,
     body: &Tree,
     next: Entry,
 ) -> Result<Entry, AllocError>
     requires small { repeat_nodes low high (nodes (pattern_of body.now)) < 2 ^ 64 }
-    ensures kept { IfOk result (λ _. Keeps (instrs_in code.old) (instrs_in code.new)) }
-    ensures easy { IfOk result (λ _. goes_back taste ≡ true → is_easy (pattern_of body.now) ≡ true → StaysEasy (instrs_in code.old) (instrs_in code.new)) }
-    ensures means { IfOk result (λ entry. Emitted meaning (repeat low high taste (pattern_of body.now)) (len_in code.old) (instrs_in code.new) next entry) }
-    ensures longer { IfOk result (λ _. len_in code.old ≤ len_in code.new) }
-    ensures short { IfOk result (λ _. len_in code.new ≤ len_in code.old + 4 * (repeat_nodes low high (nodes (pattern_of body.now)) + taste_nodes taste)) }
+    ensures kept { IfOk result (λ _. Keeps (emitted code.old) (emitted code.new)) }
+    ensures easy { IfOk result (λ _. goes_back kind ≡ true → is_easy (pattern_of body.now) ≡ true → StaysEasy (emitted code.old) (emitted code.new)) }
+    ensures means { IfOk result (λ entry. Emitted meaning (repeat low high kind (pattern_of body.now)) (len_of code.old) (emitted code.new) next entry) }
+    ensures longer { IfOk result (λ _. len_of code.old ≤ len_of code.new) }
+    ensures short { IfOk result (λ _. len_of code.new ≤ len_of code.old + 4 * (repeat_nodes low high (nodes (pattern_of body.now)) + kind_nodes kind)) }
 {
-    match taste {
-        Taste::Greedy => emit_repeat(code, meaning, true, low, high, body, next),
-        Taste::Lazy => emit_repeat(code, meaning, false, low, high, body, next),
-        Taste::Possessive => emit_possessive(code, meaning, low, high, body, next),
+    match kind {
+        RepeatKind::Greedy => emit_repeat(code, meaning, true, low, high, body, next),
+        RepeatKind::Lazy => emit_repeat(code, meaning, false, low, high, body, next),
+        RepeatKind::Possessive => emit_possessive(code, meaning, low, high, body, next),
     }
 }
 
@@ -368,10 +346,11 @@ fn emit_possessive(
     next: Entry,
 ) -> Result<Entry, AllocError>
     requires small { repeat_nodes low high (nodes (pattern_of body.now)) < 2 ^ 64 }
-    ensures kept { IfOk result (λ _. Keeps (instrs_in code.old) (instrs_in code.new)) }
-    ensures means { IfOk result (λ entry. Emitted meaning (repeat low high Possessive (pattern_of body.now)) (len_in code.old) (instrs_in code.new) next entry) }
-    ensures longer { IfOk result (λ _. len_in code.old ≤ len_in code.new) }
-    ensures short { IfOk result (λ _. len_in code.new ≤ len_in code.old + 4 * (repeat_nodes low high (nodes (pattern_of body.now)) + 1)) }
+    ensures kept { IfOk result (λ _. Keeps (emitted code.old) (emitted code.new)) }
+    ensures means { IfOk result (λ entry. Emitted meaning (repeat low high Possessive (pattern_of body.now))
+        (len_of code.old) (emitted code.new) next entry) }
+    ensures longer { IfOk result (λ _. len_of code.old ≤ len_of code.new) }
+    ensures short { IfOk result (λ _. len_of code.new ≤ len_of code.old + 4 * (repeat_nodes low high (nodes (pattern_of body.now)) + 1)) }
 {
     let close = code.put_both(Instr::Commit(next.moved), Instr::Commit(next.still))?;
     let inner = emit_repeat(code, meaning, true, low, high, body, close)?;
@@ -391,11 +370,11 @@ fn emit_repeat(
     next: Entry,
 ) -> Result<Entry, AllocError>
     requires small { repeat_nodes low high (nodes (pattern_of body.now)) < 2 ^ 64 }
-    ensures kept { IfOk result (λ _. Keeps (instrs_in code.old) (instrs_in code.new)) }
-    ensures easy { IfOk result (λ _. is_easy (pattern_of body.now) ≡ true → StaysEasy (instrs_in code.old) (instrs_in code.new)) }
-    ensures means { IfOk result (λ entry. RepeatEmitted meaning greedy low high (pattern_of body.now) (len_in code.old) (instrs_in code.new) next entry) }
-    ensures longer { IfOk result (λ _. len_in code.old ≤ len_in code.new) }
-    ensures short { IfOk result (λ _. len_in code.new ≤ len_in code.old + 4 * repeat_nodes low high (nodes (pattern_of body.now))) }
+    ensures kept { IfOk result (λ _. Keeps (emitted code.old) (emitted code.new)) }
+    ensures easy { IfOk result (λ _. is_easy (pattern_of body.now) ≡ true → StaysEasy (emitted code.old) (emitted code.new)) }
+    ensures means { IfOk result (λ entry. RepeatEmitted meaning greedy low high (pattern_of body.now) (len_of code.old) (emitted code.new) next entry) }
+    ensures longer { IfOk result (λ _. len_of code.old ≤ len_of code.new) }
+    ensures short { IfOk result (λ _. len_of code.new ≤ len_of code.old + 4 * repeat_nodes low high (nodes (pattern_of body.now))) }
 {
     let first_set = code.next_set;
     let rest = match high {
@@ -418,11 +397,11 @@ fn emit_star(
     next: Entry,
 ) -> Result<Entry, AllocError>
     requires small { nodes (pattern_of body.now) < 2 ^ 64 }
-    ensures kept { IfOk result (λ _. Keeps (instrs_in code.old) (instrs_in code.new)) }
-    ensures easy { IfOk result (λ _. is_easy (pattern_of body.now) ≡ true → StaysEasy (instrs_in code.old) (instrs_in code.new)) }
-    ensures means { IfOk result (λ entry. StarEmitted meaning greedy (pattern_of body.now) (len_in code.old) (instrs_in code.new) next entry) }
-    ensures longer { IfOk result (λ _. len_in code.old ≤ len_in code.new) }
-    ensures short { IfOk result (λ _. len_in code.new ≤ len_in code.old + 4 * (nodes (pattern_of body.now) + 1)) }
+    ensures kept { IfOk result (λ _. Keeps (emitted code.old) (emitted code.new)) }
+    ensures easy { IfOk result (λ _. is_easy (pattern_of body.now) ≡ true → StaysEasy (emitted code.old) (emitted code.new)) }
+    ensures means { IfOk result (λ entry. StarEmitted meaning greedy (pattern_of body.now) (len_of code.old) (emitted code.new) next entry) }
+    ensures longer { IfOk result (λ _. len_of code.old ≤ len_of code.new) }
+    ensures short { IfOk result (λ _. len_of code.new ≤ len_of code.old + 4 * (nodes (pattern_of body.now) + 1)) }
 {
     let moved = code.put(Instr::Fail)?;
     let turn = emit(code, meaning, body, Entry { moved, still: FAIL })?;
@@ -442,11 +421,11 @@ fn emit_copies(
     next: Entry,
 ) -> Result<Entry, AllocError>
     requires small { count * nodes (pattern_of body.now) < 2 ^ 64 }
-    ensures kept { IfOk result (λ _. Keeps (instrs_in code.old) (instrs_in code.new)) }
-    ensures easy { IfOk result (λ _. is_easy (pattern_of body.now) ≡ true → StaysEasy (instrs_in code.old) (instrs_in code.new)) }
-    ensures means { IfOk result (λ entry. CopiesEmitted meaning count (pattern_of body.now) (len_in code.old) (instrs_in code.new) next entry) }
-    ensures longer { IfOk result (λ _. len_in code.old ≤ len_in code.new) }
-    ensures short { IfOk result (λ _. len_in code.new ≤ len_in code.old + 4 * (count * nodes (pattern_of body.now))) }
+    ensures kept { IfOk result (λ _. Keeps (emitted code.old) (emitted code.new)) }
+    ensures easy { IfOk result (λ _. is_easy (pattern_of body.now) ≡ true → StaysEasy (emitted code.old) (emitted code.new)) }
+    ensures means { IfOk result (λ entry. CopiesEmitted meaning count (pattern_of body.now) (len_of code.old) (emitted code.new) next entry) }
+    ensures longer { IfOk result (λ _. len_of code.old ≤ len_of code.new) }
+    ensures short { IfOk result (λ _. len_of code.new ≤ len_of code.old + 4 * (count * nodes (pattern_of body.now))) }
 {
     let mut entry = next;
     for copy in 0..count {
@@ -467,11 +446,11 @@ fn emit_optionals(
     next: Entry,
 ) -> Result<Entry, AllocError>
     requires small { count * (nodes (pattern_of body.now) + 1) < 2 ^ 64 }
-    ensures kept { IfOk result (λ _. Keeps (instrs_in code.old) (instrs_in code.new)) }
-    ensures easy { IfOk result (λ _. is_easy (pattern_of body.now) ≡ true → StaysEasy (instrs_in code.old) (instrs_in code.new)) }
-    ensures means { IfOk result (λ entry. OptionalsEmitted meaning greedy count (pattern_of body.now) (len_in code.old) (instrs_in code.new) next entry) }
-    ensures longer { IfOk result (λ _. len_in code.old ≤ len_in code.new) }
-    ensures short { IfOk result (λ _. len_in code.new ≤ len_in code.old + 4 * (count * (nodes (pattern_of body.now) + 1))) }
+    ensures kept { IfOk result (λ _. Keeps (emitted code.old) (emitted code.new)) }
+    ensures easy { IfOk result (λ _. is_easy (pattern_of body.now) ≡ true → StaysEasy (emitted code.old) (emitted code.new)) }
+    ensures means { IfOk result (λ entry. OptionalsEmitted meaning greedy count (pattern_of body.now) (len_of code.old) (emitted code.new) next entry) }
+    ensures longer { IfOk result (λ _. len_of code.old ≤ len_of code.new) }
+    ensures short { IfOk result (λ _. len_of code.new ≤ len_of code.old + 4 * (count * (nodes (pattern_of body.now) + 1))) }
 {
     let first_set = code.next_set;
     let mut entry = next;
@@ -495,11 +474,11 @@ fn emit_sequence(
     next: Entry,
 ) -> Result<Entry, AllocError>
     requires small { sum_by nodes (map pattern_of parts.now) < 2 ^ 64 }
-    ensures kept { IfOk result (λ _. Keeps (instrs_in code.old) (instrs_in code.new)) }
-    ensures easy { IfOk result (λ _. All (λ p. IsTrue (is_easy p)) (map pattern_of parts.now) → StaysEasy (instrs_in code.old) (instrs_in code.new)) }
-    ensures means { IfOk result (λ entry. Emitted meaning (in_sequence (map pattern_of parts.now)) (len_in code.old) (instrs_in code.new) next entry) }
-    ensures longer { IfOk result (λ _. len_in code.old ≤ len_in code.new) }
-    ensures short { IfOk result (λ _. len_in code.new ≤ len_in code.old + 4 * sum_by nodes (map pattern_of parts.now)) }
+    ensures kept { IfOk result (λ _. Keeps (emitted code.old) (emitted code.new)) }
+    ensures easy { IfOk result (λ _. All (λ p. IsTrue (is_easy p)) (map pattern_of parts.now) → StaysEasy (emitted code.old) (emitted code.new)) }
+    ensures means { IfOk result (λ entry. Emitted meaning (in_sequence (map pattern_of parts.now)) (len_of code.old) (emitted code.new) next entry) }
+    ensures longer { IfOk result (λ _. len_of code.old ≤ len_of code.new) }
+    ensures short { IfOk result (λ _. len_of code.new ≤ len_of code.old + 4 * sum_by nodes (map pattern_of parts.now)) }
 {
     let mut entry = next;
     for i in (0..parts.len()).rev() {
@@ -517,11 +496,11 @@ fn emit_choice(
     next: Entry,
 ) -> Result<Entry, AllocError>
     requires small { nodes (in_choice (map pattern_of branches.now)) < 2 ^ 64 }
-    ensures kept { IfOk result (λ _. Keeps (instrs_in code.old) (instrs_in code.new)) }
-    ensures easy { IfOk result (λ _. All (λ p. IsTrue (is_easy p)) (map pattern_of branches.now) → StaysEasy (instrs_in code.old) (instrs_in code.new)) }
-    ensures means { IfOk result (λ entry. Emitted meaning (in_choice (map pattern_of branches.now)) (len_in code.old) (instrs_in code.new) next entry) }
-    ensures longer { IfOk result (λ _. len_in code.old ≤ len_in code.new) }
-    ensures short { IfOk result (λ _. len_in code.new ≤ len_in code.old + 4 * nodes (in_choice (map pattern_of branches.now))) }
+    ensures kept { IfOk result (λ _. Keeps (emitted code.old) (emitted code.new)) }
+    ensures easy { IfOk result (λ _. All (λ p. IsTrue (is_easy p)) (map pattern_of branches.now) → StaysEasy (emitted code.old) (emitted code.new)) }
+    ensures means { IfOk result (λ entry. Emitted meaning (in_choice (map pattern_of branches.now)) (len_of code.old) (emitted code.new) next entry) }
+    ensures longer { IfOk result (λ _. len_of code.old ≤ len_of code.new) }
+    ensures short { IfOk result (λ _. len_of code.new ≤ len_of code.old + 4 * nodes (in_choice (map pattern_of branches.now))) }
 {
     if branches.is_empty() {
         let set = Set::empty(code.allocator());
@@ -570,5 +549,6 @@ pub fn compile(
         still: MATCH,
     };
     let entry = emit(&mut code, meaning, tree, stop)?;
-    Ok(code.into_code(entry.moved, groups, meaning))
+    let start_bytes = start_scan(tree, meaning);
+    Ok(code.into_code(entry.moved, groups, meaning, start_bytes))
 }

@@ -1,11 +1,12 @@
 //! The code of a pattern while it is made.
 
 ghost use Rattle.std.specs.Prelude.{◌≡◌, ◌+◌, ◌<◌, IfOk, IsTrue, true, length, slice_set};
-ghost use Rattle.fancy_tree.specs.Pattern.{member_of};
+ghost use Rattle.fancy_tree.specs.Pattern.{member_of, backreference};
 ghost use Rattle.fancy_tree.specs.Members.{edges_of};
 ghost use Rattle.fancy_engine.specs.Instructions.{are_known, is_known, edges_at};
 
 use crate::code::{Code, Entry, Instr};
+use fancy_bytes::scan::Scan;
 use fancy_tree::char_set::CharSet;
 use fancy_tree::set::Set;
 use fancy_tree::tree::Meaning;
@@ -26,12 +27,12 @@ pub(crate) struct Emitter {
 
 impl Emitter {
     ghost use Rattle.fancy_engine.specs.Code.{instrs_of};
-    ghost use Rattle.fancy_engine.specs.Emitted.{instrs_in, len_in, instr_by};
+    ghost use Rattle.fancy_engine.specs.Emitted.{emitted, len_of, instr_by};
     ghost use Rattle.fancy_engine.specs.Compile.{Keeps, Has, HasBoth, Emitted, StaysEasy, is_easy_instr};
 
     /// No instruction yet.
     pub(crate) fn new(alloc: Global) -> Emitter
-        ensures { len_in result ≡ 0 }
+        ensures { len_of result ≡ 0 }
     {
         Emitter {
             instrs: Vec::new(alloc),
@@ -47,11 +48,11 @@ impl Emitter {
     /// One more instruction, and its number.
     pub(crate) fn put(&mut self, instr: Instr) -> Result<usize, AllocError>
         requires known { is_known (length self.old.sets.items) instr ≡ true }
-        ensures at { IfOk result (λ at. at ≡ len_in self.old) }
-        ensures length { IfOk result (λ _. len_in self.new ≡ len_in self.old + 1) }
-        ensures kept { IfOk result (λ _. Keeps (instrs_in self.old) (instrs_in self.new)) }
-        ensures easy { IfOk result (λ _. is_easy_instr (instr_by self.old instr) ≡ true → StaysEasy (instrs_in self.old) (instrs_in self.new)) }
-        ensures stands { IfOk result (λ at. Has (instrs_in self.new) at (instr_by self.old instr)) }
+        ensures at { IfOk result (λ at. at ≡ len_of self.old) }
+        ensures length { IfOk result (λ _. len_of self.new ≡ len_of self.old + 1) }
+        ensures kept { IfOk result (λ _. Keeps (emitted self.old) (emitted self.new)) }
+        ensures easy { IfOk result (λ _. is_easy_instr (instr_by self.old instr) ≡ true → StaysEasy (emitted self.old) (emitted self.new)) }
+        ensures stands { IfOk result (λ at. Has (emitted self.new) at (instr_by self.old instr)) }
         ensures sets { self.new.sets ≡ self.old.sets }
     {
         let at = self.instrs.len();
@@ -62,12 +63,12 @@ impl Emitter {
     /// One more instruction, for both forms.
     pub(crate) fn put_shared(&mut self, instr: Instr) -> Result<Entry, AllocError>
         requires known { is_known (length self.old.sets.items) instr ≡ true }
-        ensures at { IfOk result (λ entry. entry.moved ≡ len_in self.old) }
+        ensures at { IfOk result (λ entry. entry.moved ≡ len_of self.old) }
         ensures still { IfOk result (λ entry. entry.still ≡ entry.moved) }
-        ensures length { IfOk result (λ _. len_in self.new ≡ len_in self.old + 1) }
-        ensures kept { IfOk result (λ _. Keeps (instrs_in self.old) (instrs_in self.new)) }
-        ensures easy { IfOk result (λ _. is_easy_instr (instr_by self.old instr) ≡ true → StaysEasy (instrs_in self.old) (instrs_in self.new)) }
-        ensures stands { IfOk result (λ entry. Has (instrs_in self.new) entry.moved (instr_by self.old instr)) }
+        ensures length { IfOk result (λ _. len_of self.new ≡ len_of self.old + 1) }
+        ensures kept { IfOk result (λ _. Keeps (emitted self.old) (emitted self.new)) }
+        ensures easy { IfOk result (λ _. is_easy_instr (instr_by self.old instr) ≡ true → StaysEasy (emitted self.old) (emitted self.new)) }
+        ensures stands { IfOk result (λ entry. Has (emitted self.new) entry.moved (instr_by self.old instr)) }
     {
         let at = self.put(instr)?;
         Ok(Entry {
@@ -80,13 +81,13 @@ impl Emitter {
     pub(crate) fn put_both(&mut self, moved: Instr, still: Instr) -> Result<Entry, AllocError>
         requires moved_known { is_known (length self.old.sets.items) moved ≡ true }
         requires still_known { is_known (length self.old.sets.items) still ≡ true }
-        ensures moved_at { IfOk result (λ entry. entry.moved ≡ len_in self.old) }
-        ensures still_at { IfOk result (λ entry. entry.still ≡ len_in self.old + 1) }
-        ensures length { IfOk result (λ _. len_in self.new ≡ len_in self.old + 2) }
-        ensures kept { IfOk result (λ _. Keeps (instrs_in self.old) (instrs_in self.new)) }
+        ensures moved_at { IfOk result (λ entry. entry.moved ≡ len_of self.old) }
+        ensures still_at { IfOk result (λ entry. entry.still ≡ len_of self.old + 1) }
+        ensures length { IfOk result (λ _. len_of self.new ≡ len_of self.old + 2) }
+        ensures kept { IfOk result (λ _. Keeps (emitted self.old) (emitted self.new)) }
         ensures easy { IfOk result (λ _. is_easy_instr (instr_by self.old moved) ≡ true → is_easy_instr (instr_by self.old still) ≡ true
-            → StaysEasy (instrs_in self.old) (instrs_in self.new)) }
-        ensures stands { IfOk result (λ entry. HasBoth (instrs_in self.new) entry (instr_by self.old moved) (instr_by self.old still)) }
+            → StaysEasy (emitted self.old) (emitted self.new)) }
+        ensures stands { IfOk result (λ entry. HasBoth (emitted self.new) entry (instr_by self.old moved) (instr_by self.old still)) }
     {
         let moved = self.put(moved)?;
         let still = self.put(still)?;
@@ -100,18 +101,46 @@ impl Emitter {
         set: &Set,
         next: Entry,
     ) -> Result<Entry, AllocError>
-        ensures length { IfOk result (λ _. len_in self.new ≡ len_in self.old + 1) }
-        ensures kept { IfOk result (λ _. Keeps (instrs_in self.old) (instrs_in self.new)) }
-        ensures easy { IfOk result (λ _. StaysEasy (instrs_in self.old) (instrs_in self.new)) }
-        ensures means { IfOk result (λ entry. Emitted meaning (member_of (edges_of set.now)) (len_in self.old) (instrs_in self.new) next entry) }
+        ensures length { IfOk result (λ _. len_of self.new ≡ len_of self.old + 1) }
+        ensures kept { IfOk result (λ _. Keeps (emitted self.old) (emitted self.new)) }
+        ensures easy { IfOk result (λ _. StaysEasy (emitted self.old) (emitted self.new)) }
+        ensures means { IfOk result (λ entry. Emitted meaning (member_of (edges_of set.now)) (len_of self.old) (emitted self.new) next entry) }
     {
         let number = self.number_of(set)?;
         self.put_shared(Instr::Member(number, next.moved))
     }
 
+    /// One more instruction for each form, which reads on over the text of a group.
+    pub(crate) fn put_recall(
+        &mut self,
+        meaning: Meaning,
+        folded: bool,
+        group: usize,
+        next: Entry,
+    ) -> Result<Entry, AllocError>
+        ensures length { IfOk result (λ _. len_of self.new ≡ len_of self.old + 2) }
+        ensures kept { IfOk result (λ _. Keeps (emitted self.old) (emitted self.new)) }
+        ensures means { IfOk result (λ entry. Emitted meaning (backreference folded group) (len_of self.old) (emitted self.new) next entry) }
+    {
+        let moved = next.moved;
+        let read = Instr::Recall {
+            folded,
+            group,
+            moved,
+            still: moved,
+        };
+        let still = Instr::Recall {
+            folded,
+            group,
+            moved,
+            still: next.still,
+        };
+        self.put_both(read, still)
+    }
+
     /// The number of the set, which is shared with the copy before where there is one.
     fn number_of(&mut self, set: &Set) -> Result<usize, AllocError>
-        ensures instrs { IfOk result (λ _. instrs_in self.new ≡ instrs_in self.old) }
+        ensures instrs { IfOk result (λ _. emitted self.new ≡ emitted self.old) }
         ensures within { IfOk result (λ number. number < length self.new.sets.items) }
         ensures edges { IfOk result (λ number. edges_at self.new.sets.items number ≡ edges_of set.now) }
     {
@@ -128,21 +157,28 @@ impl Emitter {
 
     /// The instruction at `at`, which was reserved, is this one.
     pub(crate) fn write(&mut self, at: usize, instr: Instr)
-        requires within { at < len_in self.old }
+        requires within { at < len_of self.old }
         requires known { is_known (length self.old.sets.items) instr ≡ true }
-        ensures length { len_in self.new ≡ len_in self.old }
-        ensures items { instrs_in self.new ≡ slice_set (instrs_in self.old) at (instr_by self.old instr) }
+        ensures length { len_of self.new ≡ len_of self.old }
+        ensures items { emitted self.new ≡ slice_set (emitted self.old) at (instr_by self.old instr) }
     {
         self.instrs[at] = instr;
     }
 
     /// The code, which begins at `start`.
-    pub(crate) fn into_code(self, start: usize, groups: usize, meaning: Meaning) -> Code
-        ensures instrs { instrs_of result ≡ instrs_in self }
+    pub(crate) fn into_code(
+        self,
+        start: usize,
+        groups: usize,
+        meaning: Meaning,
+        start_bytes: Option<Scan>,
+    ) -> Code
+        ensures instrs { instrs_of result ≡ emitted self }
         ensures start { result.start ≡ start }
         ensures groups { result.groups ≡ groups }
         ensures meaning { result.meaning ≡ meaning }
+        ensures start_bytes { result.start_bytes ≡ start_bytes }
     {
-        Code::new(self.instrs, self.sets, start, groups, meaning)
+        Code::new(self.instrs, self.sets, start, groups, meaning, start_bytes)
     }
 }

@@ -243,16 +243,7 @@ fn step(
             close_group(threads, *group, *next)?;
             Ok(Next::On)
         }
-        Instr::Enter(_)
-        | Instr::Commit(_)
-        | Instr::Look(_, _, _)
-        | Instr::Deny(_, _, _)
-        | Instr::Test(_, _)
-        | Instr::Back(_, _)
-        | Instr::Recall { .. }
-        | Instr::Keep(_)
-        | Instr::Continue(_)
-        | Instr::Taken(_, _) => unreachable!(),
+        _ => unreachable!(),
     }
 }
 

@@ -1,11 +1,12 @@
 //! Searches by the runner: their time is bounded by the product of the code's length and the text's.
 
-ghost use Rattle.std.specs.Prelude.{◌≡◌, ◌+◌, ◌-◌, ◌*◌, ◌^◌, ◌<◌, ◌≤◌, Bool, false, length, replicate, slice_index_or, IfOk, IfErr, OnOk};
+ghost use Rattle.std.specs.Prelude.{◌≡◌, ◌+◌, ◌-◌, ◌*◌, ◌^◌, ◌<◌, ◌≤◌, Bool, false, [], length, replicate, slice_index_or, IfOk, IfErr, OnOk, MatchOption};
 ghost use Rattle.fancy_tree.specs.Pattern.{Pattern};
 ghost use Rattle.fancy_engine.specs.Code.{instrs_of};
 ghost use Rattle.fancy_engine.specs.Attempt.{pairs_in};
 ghost use Rattle.fancy_engine.specs.Compile.{IsCodeOf, AreEasy};
 ghost use Rattle.fancy_engine.specs.Search.{search};
+ghost use Rattle.fancy_engine.specs.Seen.{NoneMayStart, IsNextStart};
 ghost use Rattle.fancy_engine.specs.Queries.{query_of, unfiltered, groups_in, answer_with, most_steps};
 ghost use Rattle.fancy_engine.specs.Work.{steps_of, returns_of, HasRoom};
 
@@ -30,8 +31,10 @@ pub struct Cache {
 }
 
 impl Cache {
-    /// It has no memory yet: the searches take it.
-    pub fn new(alloc: Global) -> Cache {
+    /// It has no memory yet, which the searches take, and holds no group.
+    pub fn new(alloc: Global) -> Cache
+        ensures { groups_in result ≡ [] }
+    {
         Cache {
             threads: Threads::new(alloc),
             table: Table::new(alloc),
@@ -62,6 +65,22 @@ fn begin_table(table: &mut Table, attempt: &Attempt) -> Result<(), SearchRefusal
     };
     table.reset(pairs)?;
     Ok(())
+}
+
+/// The first position, from the one on and up to the last, at which a match of the code may start.
+fn next_start(code: &Code, haystack: &[u8], from: usize, last: usize) -> Option<usize>
+    requires ordered { from ≤ last }
+    requires inside { last ≤ length haystack.now }
+    ensures { MatchOption result (NoneMayStart code.now.start_bytes haystack.now from (last + 1))
+        (IsNextStart code.now.start_bytes haystack.now from last) }
+{
+    match &code.start_bytes {
+        None => Some(from),
+        Some(scan) => {
+            let end = (last + 1).min(haystack.len());
+            scan.next_seen(haystack, from, end)
+        }
+    }
 }
 
 /// Searches a haystack for the pattern of the code. Found is the first outcome at the least position, from the
@@ -99,6 +118,10 @@ pub fn search(
     if first > request.range_end {
         return Ok(None);
     }
+    let last = request.last_position();
+    let Some(mut next) = next_start(code, haystack, first, last) else {
+        return Ok(None);
+    };
     let attempt = Attempt {
         code,
         haystack,
@@ -110,9 +133,12 @@ pub fn search(
     let threads = &mut cache.threads;
     let table = &mut cache.table;
     begin_table(table, &attempt)?;
-    let last = request.last_position();
     let mut last_lines = LastLines::new(haystack);
-    for place in first..last + 1 {
+    while next <= last {
+        let Some(place) = next_start(code, haystack, next, last) else {
+            return Ok(None);
+        };
+        next = place + 1;
         if !is_match_boundary(options.on_boundaries, haystack, place) {
             continue;
         }

@@ -1,6 +1,6 @@
 //! Searches by the machine.
 
-ghost use Rattle.std.specs.Prelude.{◌≡◌, ◌+◌, ◌-◌, ◌<◌, ◌≤◌, Option, Some, None, Err, IfOk, length, slice_index_or};
+ghost use Rattle.std.specs.Prelude.{◌≡◌, ◌+◌, ◌-◌, ◌<◌, ◌≤◌, [], Option, Some, None, Err, IfOk, length, slice_index_or};
 ghost use Rattle.fancy_tree.specs.Limits.{most_branches};
 ghost use Rattle.fancy_engine.specs.Compile.{IsCodeOf};
 ghost use Rattle.fancy_engine.specs.Search.{Query, search, returns, choices};
@@ -33,8 +33,10 @@ pub struct Cache {
 }
 
 impl Cache {
-    /// It has no memory yet: the searches take it.
-    pub fn new(alloc: Global) -> Cache {
+    /// It has no memory yet, which the searches take, and holds no group.
+    pub fn new(alloc: Global) -> Cache
+        ensures { groups_held result ≡ [] }
+    {
         Cache {
             trail: Trail::new(alloc),
             best: Best::new(alloc),

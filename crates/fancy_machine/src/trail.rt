@@ -142,6 +142,7 @@ impl Model for Trail {
 impl Trail {
     /// No way and no branch.
     pub fn new(alloc: Global) -> Trail
+        ensures captures { result.now.state.captures ≡ [] }
         ensures frames { result.frames ≡ [] }
         ensures most { result.most ≡ 0 }
     {

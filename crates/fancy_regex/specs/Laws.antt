@@ -4,7 +4,7 @@ use Rattle.fancy_input.specs.declared.span.Span.{Span}
 use Rattle.fancy_input.specs.declared.input.Request.{Request}
 use Rattle.fancy_input.specs.declared.regex_input.RegexInput.{RegexInput}
 use Rattle.fancy_input.specs.Requests.{effective_start}
-use Rattle.fancy_search.specs.MatchList.{Item, FindsNone}
+use Rattle.fancy_search.specs.MatchList.{MatchItem, FindsNone}
 use Rattle.fancy_core.specs.declared.regex.Regex.{Regex}
 use Rattle.fancy_core.specs.Pieces.{pieces, first_pieces, interleaved, texts}
 use Rattle.fancy_core.specs.Searches.{scan_of_input, last_start_of_input}
@@ -14,7 +14,7 @@ abbrev pub EndsInNone : {S : Type 0} {g : _} → Regex → (S → Bool) → (S �
 EndsInNone r text bytes input = FindsNone (scan_of_input r text bytes input) (last_start_of_input r text bytes input)
 
 -- there are at most as many as there are places to search
-abbrev pub FitsPlaces : Request → List Item → Type 0
+abbrev pub FitsPlaces : Request → List MatchItem → Type 0
 FitsPlaces r items = effective_start r + length items ≤ max (effective_start r) (suc r.range_end)
 
 -- the pieces of a text between spans, with the texts of the spans between them, are the text

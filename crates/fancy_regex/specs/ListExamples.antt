@@ -1,7 +1,7 @@
 -- Small lists of matches that are known from elsewhere.
 use Prim.Native.Char.{code}
 use Rattle.std.specs.Prelude.{◌≡◌, List, [], ◌∷◌, None, map, true, codes}
-use Rattle.fancy_tree.specs.declared.tree.Taste.TheVariants.{Greedy}
+use Rattle.fancy_tree.specs.declared.tree.RepeatKind.TheVariants.{Greedy}
 use Rattle.fancy_tree.specs.Pattern.{Pattern, character, keep_start, continue_here, repeat, followed, or_else, last_branch}
 use Rattle.fancy_input.specs.declared.span.Span.{Span}
 use Rattle.fancy_input.specs.Spans.{from_to}

@@ -17,6 +17,8 @@ mod options;
 
 pub use builder::RegexBuilder;
 pub use escapes::escape;
+pub use fancy_bytes::byte_set::ByteSet;
+pub use fancy_bytes::members::Members;
 pub use fancy_core::captures::{Captures, SubCaptureMatches};
 pub use fancy_core::iter::{CaptureMatches, Matches};
 pub use fancy_core::names::CaptureNames;

@@ -1,14 +1,22 @@
 //! Options, set one after another.
 
-ghost use Rattle.std.specs.Prelude.{◌≡◌, Some, string_bytes};
+ghost use Rattle.std.specs.Prelude.{◌≡◌, Some, chars, string_bytes, IfOk, IfErr};
+ghost use Rattle.fancy_tree.specs.Pattern.{Pattern};
+ghost use Rattle.fancy_tree.specs.declared.error.Error.TheVariants.{Memory};
+ghost use Rattle.fancy_syntax.specs.Dialect.{IsPattern};
+ghost use Rattle.fancy_syntax.specs.Refusals.{IsRefused};
+ghost use Rattle.fancy_search.specs.ByteSets.{HasStartBytes, HasRequiredBytes};
 ghost use Rattle.fancy_core.specs.Built.{IsReading};
-ghost use Rattle.fancy_search.specs.Options.{by_default};
+ghost use Rattle.fancy_search.specs.Options.{by_default, dialect_of};
 ghost use Rattle.fancy_regex.specs.Builders.{options_of, with_flags, with_only_named, with_overrides};
 
+use fancy_bytes::byte_set::ByteSet;
 use fancy_core::regex::Regex;
+use fancy_search::byte_sets;
 use fancy_search::options::Options;
 use fancy_tree::error::Result;
 use fancy_tree::tree::BytesMode;
+use std::alloc::Global;
 
 /// Builds regexes with options. Each setter changes one option and answers the builder, so that setters
 /// chain:
@@ -237,6 +245,44 @@ impl RegexOptionsBuilder {
         ensures { IsReading (options_of self.now) (string_bytes pattern) result }
     {
         Regex::with_options(pattern, self.options)
+    }
+
+    /// The bytes that each match of a pattern starts with under these options. `None` where a match may start at any byte: where
+    /// the pattern may match the empty text, or holds `\K`.
+    ///
+    /// A haystack without one of these bytes has no match. The pattern is refused as [`RegexOptionsBuilder::build`] refuses
+    /// it, but for [`RegexOptionsBuilder::max_prog_size`], which has no effect here, as no code is made.
+    ///
+    /// ```text
+    /// RegexOptionsBuilder::new().start_bytes(alloc, "fn|let|impl")?    // Some: f, i, l
+    /// RegexOptionsBuilder::new().start_bytes(alloc, "a?")?             // None
+    /// ```
+    pub fn start_bytes(&self, alloc: Global, pattern: &str) -> Result<Option<ByteSet>>
+        ensures value { IfOk result (λ set. HasStartBytes (options_of self.now) (chars pattern.now) set) }
+        ensures refused { IfErr result (λ e. IsRefused e (dialect_of (options_of self.now)) (chars pattern.now)) }
+        ensures succeeds { (p : Pattern) → IsPattern (dialect_of (options_of self.now)) (chars pattern.now) p
+            → IfErr result (λ e. e ≡ Memory) }
+    {
+        byte_sets::start_bytes(alloc, pattern, self.options)
+    }
+
+    /// The bytes that every haystack has in which a pattern matches somewhere under these options.
+    ///
+    /// They are told from the pattern alone, so there may be more that each such haystack has: of a set of several characters none
+    /// are told. The pattern is refused as [`RegexOptionsBuilder::build`] refuses it, but for
+    /// [`RegexOptionsBuilder::max_prog_size`], which has no effect here, as no code is made.
+    ///
+    /// ```text
+    /// RegexOptionsBuilder::new().required_bytes(alloc, "a?b")?      // b
+    /// RegexOptionsBuilder::new().required_bytes(alloc, "(?i)é")?    // C3, which `é` and `É` begin with
+    /// ```
+    pub fn required_bytes(&self, alloc: Global, pattern: &str) -> Result<ByteSet>
+        ensures value { IfOk result (λ set. HasRequiredBytes (options_of self.now) (chars pattern.now) set) }
+        ensures refused { IfErr result (λ e. IsRefused e (dialect_of (options_of self.now)) (chars pattern.now)) }
+        ensures succeeds { (p : Pattern) → IsPattern (dialect_of (options_of self.now)) (chars pattern.now) p
+            → IfErr result (λ e. e ≡ Memory) }
+    {
+        byte_sets::required_bytes(alloc, pattern, self.options)
     }
 
     /// The options that were set.

@@ -8,7 +8,7 @@ use Rattle.fancy_search.specs.declared.cache.Cache.{Cache}
 use Rattle.fancy_input.specs.Spans.{from_to}
 use Rattle.fancy_search.specs.declared.program.Program.{Program}
 use Rattle.fancy_search.specs.declared.searcher.FoundItem.{FoundItem}
-use Rattle.fancy_search.specs.MatchList.{Item, start_of, stop_of, answer}
+use Rattle.fancy_search.specs.MatchList.{MatchItem, start_of, stop_of, answer}
 use Rattle.fancy_tree.specs.declared.error.Error.{Error}
 use Rattle.fancy_search.specs.Remaining.{refuses_at, refused_next, at_next, scan, item_in, upcoming_if, next_start, items_left, end_left}
 use Rattle.fancy_search.proofs.RemainingLemmas.{skips, StandsAfter, stands_after, next_left, next_end}
@@ -21,7 +21,7 @@ pub nat_same : (n : ℕ) → nat_eq n n ≡ true
 nat_same n = grind (arith, common_steps)
 
 -- an empty match that is passed over
-pub passes : {H : Type 0} (tx : H → Bool) (by : H → List ℕ) (p : Program) (h g : H) (r q : Request) (b c d : Bool) (i : Item) (begin end : ℕ) → g ≡ h → answer (scan p (tx h) (by h) r) r.start c ≡ Some i → b ≡ true → begin ≡ start_of i → end ≡ stop_of i → begin ≡ end → end ≡ r.start → q ≡ record r { start = next_place (tx h) (by h) end } → d ≡ false → answer (scan p (tx g) (by g) q) q.start d ≡ upcoming_if b (scan p (tx h) (by h) r) r.start c
+pub passes : {H : Type 0} (tx : H → Bool) (by : H → List ℕ) (p : Program) (h g : H) (r q : Request) (b c d : Bool) (i : MatchItem) (begin end : ℕ) → g ≡ h → answer (scan p (tx h) (by h) r) r.start c ≡ Some i → b ≡ true → begin ≡ start_of i → end ≡ stop_of i → begin ≡ end → end ≡ r.start → q ≡ record r { start = next_place (tx h) (by h) end } → d ≡ false → answer (scan p (tx g) (by g) q) q.start d ≡ upcoming_if b (scan p (tx h) (by h) r) r.start c
 passes tx by p h g r q b c d i begin end eg ea eb es ef en ee eq ed =
     let k = scan p (tx h) (by h) r in
     let starts : start_of i ≡ r.start = sym es ∙ (en ∙ ee) in
@@ -30,7 +30,7 @@ passes tx by p h g r q b c d i begin end eg ea eb es ef en ee eq ed =
     rw (eb, eg, eq, ed, skipped, ee) refl
 
 -- and the search after it is refused
-pub refuses_passed : {H : Type 0} (tx : H → Bool) (by : H → List ℕ) (p : Program) (h g : H) (r q : Request) (b c d : Bool) (i : Item) (begin end : ℕ) → g ≡ h → answer (scan p (tx h) (by h) r) r.start c ≡ Some i → b ≡ true → begin ≡ start_of i → end ≡ stop_of i → begin ≡ end → end ≡ r.start → q ≡ record r { start = next_place (tx h) (by h) end } → d ≡ false
+pub refuses_passed : {H : Type 0} (tx : H → Bool) (by : H → List ℕ) (p : Program) (h g : H) (r q : Request) (b c d : Bool) (i : MatchItem) (begin end : ℕ) → g ≡ h → answer (scan p (tx h) (by h) r) r.start c ≡ Some i → b ≡ true → begin ≡ start_of i → end ≡ stop_of i → begin ≡ end → end ≡ r.start → q ≡ record r { start = next_place (tx h) (by h) end } → d ≡ false
     → (e : Error) → refuses_at p (by g) q q.start d e → refused_next p (tx h) (by h) r c b e
 refuses_passed tx by p h g r q b c d i begin end eg ea eb es ef en ee eq ed e x =
     let starts : start_of i ≡ r.start = sym es ∙ (en ∙ ee) in
@@ -38,7 +38,7 @@ refuses_passed tx by p h g r q b c d i begin end eg ea eb es ef en ee eq ed e x 
     at_next i eb ea (rw (starts, stops) (nat_same r.start)) stops (rw (eg, eq, ed, ee) at x)
 
 -- An item is given: it is the first of those that are left, and the list's end stays where it is.
-pub record Gives {H : Type 0} (tx : H → Bool) (by : H → List ℕ) (p : Program) (h h_after : H) (r r_after : Request) (o o_after c d b a : Bool) (i : Item) : Type 0 where
+pub record Gives {H : Type 0} (tx : H → Bool) (by : H → List ℕ) (p : Program) (h h_after : H) (r r_after : Request) (o o_after c d b a : Bool) (i : MatchItem) : Type 0 where
   pub items : items_left p (tx h) (by h) r o c b ≡ i ∷ items_left p (tx h_after) (by h_after) r_after o_after d a
   pub end : end_left p (tx h_after) (by h_after) r_after o_after d a ≡ end_left p (tx h) (by h) r o c b
 

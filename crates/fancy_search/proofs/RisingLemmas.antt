@@ -3,12 +3,12 @@ use Rattle.std.proofs.Common.{◌≡◌, ℕ, ◌+◌, ◌<◌, ◌≤◌, Bool,
 use Rattle.std.proofs.lemmas.List.Elements.{All-cons}
 use Rattle.fancy_tree.specs.Pattern.{Pattern}
 use Rattle.fancy_tree.specs.Text.{Text}
-use Rattle.fancy_syntax.specs.Dialect.{Scope, Options, begin, Spells}
+use Rattle.fancy_syntax.specs.Dialect.{Scope, DialectOptions, begin, Spells}
 use Rattle.fancy_tree.specs.GroupNumbers.{Rising}
 use Rattle.fancy_syntax.proofs.NameNumbers.{names_rise}
 
 -- the numbers of the names that a text spells rise, however these are written
-pub rising_names : (unnamed : Bool) (o : Options) (text : Text) (p : Pattern) (e : Scope) (groups : ℕ) (names : List (Text × ℕ)) → Spells (begin unnamed o) text p e → e.opened + 1 ≡ groups → names ≡ e.names → Rising 1 groups names
+pub rising_names : (unnamed : Bool) (o : DialectOptions) (text : Text) (p : Pattern) (e : Scope) (groups : ℕ) (names : List (Text × ℕ)) → Spells (begin unnamed o) text p e → e.opened + 1 ≡ groups → names ≡ e.names → Rising 1 groups names
 rising_names unnamed o text p e groups names spelled f g = rw (g, ← f) (names_rise unnamed o text p e spelled)
 
 -- numbers that rise from lo on and below hi lie there

@@ -3,7 +3,7 @@ use Rattle.std.proofs.Common.{◌≡◌, ℕ, Bool, true, false, ◌||◌, List,
 use Rattle.std.specs.Prelude.{encode_utf8}
 use Rattle.fancy_tree.specs.declared.tree.Meaning.{Meaning}
 use Rattle.fancy_tree.specs.declared.tree.Meaning.TheVariants.{Unicode, Bytes, AsciiText}
-use Rattle.fancy_tree.specs.declared.tree.Taste.{Taste}
+use Rattle.fancy_tree.specs.declared.tree.RepeatKind.{RepeatKind}
 use Rattle.fancy_tree.specs.Text.{Text}
 use Rattle.fancy_tree.specs.declared.tree.Assertion.{Assertion}
 use Rattle.fancy_tree.specs.Sets.{AreEdges}
@@ -13,7 +13,7 @@ use Rattle.fancy_syntax.specs.declared.groups.Grouping.{Grouping}
 use Rattle.fancy_syntax.specs.declared.groups.Grouping.TheVariants.{Atomic, LookAhead, LookBehind}
 use Rattle.fancy_tree.specs.Refers.{refers_to}
 use Rattle.fancy_tree.specs.Pattern.{Pattern, empty, character, member_of, in_any_case, raw_byte, backreference, assertion, group_test, keep_start, continue_here, group, repeat, look_ahead, look_behind, atomic, conditional, followed, or_else, last_branch, in_sequence, in_choice, in_branches}
-use Rattle.fancy_syntax.specs.Dialect.{Scope, inside, grouped, back_to, literal_of, Branches, one, either, Parts, nothing, item, Item, set, bare, quantified, Atom, single, plain, flagged, capture, unnamed, named, marked, reference, reference_by_name, tested, decided, conditional_of, Spells, Options, IsPattern, with_part}
+use Rattle.fancy_syntax.specs.Dialect.{Scope, inside, group_of, back_to, literal_of, Branches, one, either, Parts, nothing, item, Item, set, bare, quantified, Atom, single, plain, flagged, capture, unnamed, named, marked, reference, reference_by_name, tested, decided, conditional_of, Spells, DialectOptions, IsPattern, with_part}
 use Rattle.fancy_engine.specs.Placed.{has_raw_byte, has_keep_start, has_keep_start_in_look_around}
 
 -- whether a place inside such a group, at a place inside of look-around or not, is inside of look-around
@@ -33,10 +33,10 @@ record IsKept (keeps : Bool) (nice : Bool → Pattern → Type 0) : Type 0 where
   search_starts : (l : Bool) → nice l continue_here
   kept_starts : (l : Bool) → l ≡ false → nice l keep_start
   groups : (l : Bool) (index : ℕ) (p : Pattern) → nice l p → nice l (group index p)
-  repeats : (l : Bool) (low : ℕ) (high : Option ℕ) (taste : Taste) (p : Pattern) → nice l p → nice l (repeat low high taste p)
+  repeats : (l : Bool) (low : ℕ) (high : Option ℕ) (kind : RepeatKind) (p : Pattern) → nice l p → nice l (repeat low high kind p)
   references : (l : Bool) (folded : Bool) (number : ℕ) → nice l (backreference folded number)
   tests : (l : Bool) (number : ℕ) → nice l (group_test number)
-  groupings : (l : Bool) (how : Grouping) (p : Pattern) → nice (looks how l) p → nice l (grouped how p)
+  groupings : (l : Bool) (how : Grouping) (p : Pattern) → nice (looks how l) p → nice l (group_of how p)
   sequences : (l : Bool) (p q : Pattern) → nice l p → nice l q → nice l (followed p q)
   choices : (l : Bool) (p q : Pattern) → nice l p → nice l q → nice l (or_else p q)
   last : (l : Bool) (p : Pattern) → nice l p → nice l (last_branch p)
@@ -155,7 +155,7 @@ neither_holds false b e f = f
 none_holds : (a b c : Bool) → a ≡ false → b ≡ false → c ≡ false → (a || (b || c)) ≡ false
 none_holds a b c e f g = neither_holds a (b || c) e (neither_holds b c f g)
 
-bytes_grouped : (how : Grouping) (p : Pattern) → has_raw_byte p ≡ false → has_raw_byte (grouped how p) ≡ false
+bytes_grouped : (how : Grouping) (p : Pattern) → has_raw_byte p ≡ false → has_raw_byte (group_of how p) ≡ false
 bytes_grouped Atomic p e = e
 bytes_grouped (LookAhead negated) p e = e
 bytes_grouped (LookBehind negated) p e = e
@@ -174,7 +174,7 @@ no_raw_bytes k h =
       search_starts = λ l. refl;
       kept_starts = λ l e. refl;
       groups = λ l index p e. e;
-      repeats = λ l low high taste p e. e;
+      repeats = λ l low high kind p e. e;
       references = λ l folded number. refl;
       tests = λ l number. refl;
       groupings = λ l how p e. bytes_grouped how p e;
@@ -190,7 +190,7 @@ record KeepsStart (l : Bool) (p : Pattern) : Type 0 where
   below : has_keep_start_in_look_around p ≡ false
   anywhere : l ≡ true → has_keep_start p ≡ false
 
-start_grouped : (l : Bool) (how : Grouping) (p : Pattern) → KeepsStart (looks how l) p → KeepsStart l (grouped how p)
+start_grouped : (l : Bool) (how : Grouping) (p : Pattern) → KeepsStart (looks how l) p → KeepsStart l (group_of how p)
 start_grouped l Atomic p e = record { below = e.below; anywhere = e.anywhere }
 start_grouped l (LookAhead negated) p e = record { below = e.anywhere refl; anywhere = λ h. e.anywhere refl }
 start_grouped l (LookBehind negated) p e = record { below = e.anywhere refl; anywhere = λ h. e.anywhere refl }
@@ -209,7 +209,7 @@ start_spelled {s} h =
       search_starts = λ l. record { below = refl; anywhere = λ i. refl };
       kept_starts = λ l e. record { below = refl; anywhere = λ i. absurd (true_is_false (sym i ∙ e)) };
       groups = λ l index p e. record { below = e.below; anywhere = e.anywhere };
-      repeats = λ l low high taste p e. record { below = e.below; anywhere = e.anywhere };
+      repeats = λ l low high kind p e. record { below = e.below; anywhere = e.anywhere };
       references = λ l folded number. record { below = refl; anywhere = λ i. refl };
       tests = λ l number. record { below = refl; anywhere = λ i. refl };
       groupings = start_grouped;
@@ -243,7 +243,7 @@ bytes-refers_to f (group_test number) = refl
 bytes-refers_to f keep_start = refl
 bytes-refers_to f continue_here = refl
 bytes-refers_to f (group index body) = bytes-refers_to f body
-bytes-refers_to f (repeat low high taste body) = bytes-refers_to f body
+bytes-refers_to f (repeat low high kind body) = bytes-refers_to f body
 bytes-refers_to f (look_ahead negated body) = bytes-refers_to f body
 bytes-refers_to f (look_behind negated body) = bytes-refers_to f body
 bytes-refers_to f (atomic body) = bytes-refers_to f body
@@ -265,7 +265,7 @@ start-refers_to f (group_test number) = refl
 start-refers_to f keep_start = refl
 start-refers_to f continue_here = refl
 start-refers_to f (group index body) = start-refers_to f body
-start-refers_to f (repeat low high taste body) = start-refers_to f body
+start-refers_to f (repeat low high kind body) = start-refers_to f body
 start-refers_to f (look_ahead negated body) = start-refers_to f body
 start-refers_to f (look_behind negated body) = start-refers_to f body
 start-refers_to f (atomic body) = start-refers_to f body
@@ -287,7 +287,7 @@ below-refers_to f (group_test number) = refl
 below-refers_to f keep_start = refl
 below-refers_to f continue_here = refl
 below-refers_to f (group index body) = below-refers_to f body
-below-refers_to f (repeat low high taste body) = below-refers_to f body
+below-refers_to f (repeat low high kind body) = below-refers_to f body
 below-refers_to f (look_ahead negated body) = start-refers_to f body
 below-refers_to f (look_behind negated body) = start-refers_to f body
 below-refers_to f (atomic body) = below-refers_to f body
@@ -297,9 +297,9 @@ below-refers_to f (or_else branch others) = rw (below-refers_to f branch, below-
 below-refers_to f (last_branch branch) = below-refers_to f branch
 
 -- what the dialect accepts
-pub bytes_accepted : {o : Options} {text : Text} {p : Pattern} → o.keeps_characters ≡ true → IsPattern o text p → has_raw_byte p ≡ false
+pub bytes_accepted : {o : DialectOptions} {text : Text} {p : Pattern} → o.keeps_characters ≡ true → IsPattern o text p → has_raw_byte p ≡ false
 bytes_accepted e h = ap has_raw_byte h.is ∙ (bytes-refers_to _ h.written ∙ no_raw_bytes e h.spelled.spelled)
 
 -- no `\K` stands inside of look-around
-pub kept_accepted : {o : Options} {text : Text} {p : Pattern} → IsPattern o text p → has_keep_start_in_look_around p ≡ false
+pub kept_accepted : {o : DialectOptions} {text : Text} {p : Pattern} → IsPattern o text p → has_keep_start_in_look_around p ≡ false
 kept_accepted h = ap has_keep_start_in_look_around h.is ∙ (below-refers_to _ h.written ∙ (start_spelled h.spelled.spelled).below)

@@ -9,3 +9,4 @@ pub mod Groups
 pub mod MatchList
 pub mod Remaining
 pub mod Searchers
+pub mod ByteSets

@@ -5,7 +5,7 @@ use Rattle.fancy_tree.specs.declared.tree.Meaning.{Meaning}
 use Rattle.fancy_tree.specs.declared.tree.BytesMode.TheVariants.{Unicode}
 use Rattle.fancy_tree.specs.Modes as modes
 use Rattle.fancy_tree.specs.Modes.{keeps_characters}
-use Rattle.fancy_syntax.specs.Dialect as dialect
+use Rattle.fancy_syntax.specs.Dialect.{DialectOptions}
 use Rattle.fancy_syntax.specs.Views.{flags_of}
 use Rattle.fancy_tree.specs.Pattern.{Pattern}
 use Rattle.fancy_engine.specs.Compile.{is_easy}
@@ -30,7 +30,7 @@ abbrev pub meaning_in : Options → Meaning
 meaning_in o = modes.meaning_of o.bytes_mode o.unicode_mode
 
 -- how patterns are read under these options
-abbrev pub dialect_of : Options → dialect.Options
+abbrev pub dialect_of : Options → DialectOptions
 dialect_of o = record { meaning = meaning_in o; keeps_characters = keeps_characters o.bytes_mode; only_named = o.ignore_numbered_groups_when_named_groups_exist; not_empty = o.find_not_empty; flags = flags_of o.flags }
 
 -- The pattern is easy under these options: it is easy by itself, and neither of the two filters is set.

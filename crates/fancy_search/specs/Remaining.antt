@@ -13,7 +13,7 @@ use Rattle.fancy_search.specs.declared.cache.Cache.{Cache}
 use Rattle.fancy_search.specs.Groups.{AreCut, spans_of}
 use Rattle.fancy_search.specs.SearchCounts.{RefusesQuery}
 use Rattle.fancy_search.specs.Cached.{found_at}
-use Rattle.fancy_search.specs.MatchList.{Scan, Item, stop_of, is_empty_item, answer, unless_empty_at, start_unless_empty_at, items_from, end_from, matches, last_start}
+use Rattle.fancy_search.specs.MatchList.{Scan, MatchItem, stop_of, is_empty_item, answer, unless_empty_at, start_unless_empty_at, items_from, end_from, matches, last_start}
 
 -- The iteration of a query: it is asked again from each start, with `\G` on or off, and off everywhere where the query has it off. `text` says that the haystack is text.
 abbrev pub iteration : Bool → Query → Scan
@@ -29,7 +29,7 @@ abbrev pub scan : Program → Bool → List ℕ → Request → Scan
 scan program text haystack r = iteration text (asked_of program haystack r true)
 
 -- the matches that a request has one after another
-abbrev pub program_matches : Program → Bool → List ℕ → Request → List Item
+abbrev pub program_matches : Program → Bool → List ℕ → Request → List MatchItem
 program_matches program text haystack r = matches (scan program text haystack r) r.start
 
 -- where the search starts that finds none, at the end of these
@@ -41,7 +41,7 @@ pub record HasGroups (text : Bool) (haystack : List ℕ) (found : Found) (cache 
   pub cut : (n : ℕ) → AreCut text haystack (spans_of n (found_at found cache))
 
 -- what was found, with the groups that the search left in its cache
-abbrev pub item_in : Cache → FoundItem → Item
+abbrev pub item_in : Cache → FoundItem → MatchItem
 item_in cache l = record { found = found_at l.found cache; from = l.from; continues = l.continues }
 
 -- where the search after a match starts: at its end, and after an empty one at the next place
@@ -49,7 +49,7 @@ abbrev pub next_start : Bool → List ℕ → Span → ℕ
 next_start text haystack span = if nat_eq span.start span.end then next_place text haystack span.end else span.end
 
 -- The next item, where an iteration stands at s: whether an empty match at s is passed over, and whether `\G` is on.
-abbrev pub upcoming_if : Bool → Scan → ℕ → Bool → Option Item
+abbrev pub upcoming_if : Bool → Scan → ℕ → Bool → Option MatchItem
 upcoming_if false k s c = answer k s c
 upcoming_if true k s c = unless_empty_at k s (answer k s c)
 
@@ -58,12 +58,12 @@ abbrev pub start_if : Bool → Scan → ℕ → Bool → ℕ
 start_if false k s c = s
 start_if true k s c = start_unless_empty_at k s (answer k s c)
 
-abbrev pub left_if : Bool → Scan → ℕ → Bool → Bool → List Item
+abbrev pub left_if : Bool → Scan → ℕ → Bool → Bool → List MatchItem
 left_if true k s c b = []
 left_if false k s c b = items_from k (upcoming_if b k s c)
 
 -- the items that are left: whether the list has ended, whether `\G` is on, and whether an empty match at the start is passed over
-abbrev pub items_left : Program → Bool → List ℕ → Request → Bool → Bool → Bool → List Item
+abbrev pub items_left : Program → Bool → List ℕ → Request → Bool → Bool → Bool → List MatchItem
 items_left program text haystack r ended continues skips_empty = left_if ended (scan program text haystack r) r.start continues skips_empty
 
 abbrev pub end_if : Bool → Scan → ℕ → Bool → Bool → ℕ
@@ -81,7 +81,7 @@ refuses_at program haystack r s c e = RefusesQuery program (asked_of program hay
 -- The next search may be refused by this error, where an iteration stands at s: that from s, or that from the next place, where the empty match at s is passed over.
 pub data RefusesNext (refuses : ℕ → Bool → Error → Type 0) (k : Scan) (skips_empty : Bool) (s : ℕ) (c : Bool) (e : Error) : Type 0 where
   at_first : refuses s c e → RefusesNext refuses k skips_empty s c e
-  at_next : (i : Item) → skips_empty ≡ true → answer k s c ≡ Some i → is_empty_item i ≡ true → stop_of i ≡ s → refuses (k.advance s) false e → RefusesNext refuses k skips_empty s c e
+  at_next : (i : MatchItem) → skips_empty ≡ true → answer k s c ≡ Some i → is_empty_item i ≡ true → stop_of i ≡ s → refuses (k.advance s) false e → RefusesNext refuses k skips_empty s c e
 
 -- the next search of what is left of an iteration may be refused by this error
 abbrev pub refused_next : Program → Bool → List ℕ → Request → Bool → Bool → Error → Type 0

@@ -10,18 +10,18 @@ use Rattle.fancy_search.specs.declared.searcher.FoundItem.{FoundItem}
 use Rattle.fancy_search.specs.declared.searcher.Searcher.{Searcher}
 use Rattle.fancy_search.specs.Groups.{IsCut}
 use Rattle.fancy_search.specs.Remaining.{scan, items_left, end_left, upcoming_if, start_if, next_start, refuses_at, refused_next, item_in, HasGroups, GivesFirst}
-use Rattle.fancy_search.specs.MatchList.{Scan, Item, answer}
+use Rattle.fancy_search.specs.MatchList.{Scan, MatchItem, answer}
 
 -- what it searches, again and again
 abbrev pub scan_of : {S : Type 0} {g : _} → (S → Bool) → (S → List ℕ) → Program → Searcher S g → Scan
 scan_of text bytes program w = scan program (text w.haystack) (bytes w.haystack) w.request
 
 -- the answer of its next search
-abbrev pub answer_next : {S : Type 0} {g : _} → (S → Bool) → (S → List ℕ) → Program → Searcher S g → Option Item
+abbrev pub answer_next : {S : Type 0} {g : _} → (S → Bool) → (S → List ℕ) → Program → Searcher S g → Option MatchItem
 answer_next text bytes program w = answer (scan_of text bytes program w) w.request.start w.continues
 
 -- its next item: an empty match that is passed over gives way to the next
-abbrev pub item_next : {S : Type 0} {g : _} → (S → Bool) → (S → List ℕ) → Program → Searcher S g → Option Item
+abbrev pub item_next : {S : Type 0} {g : _} → (S → Bool) → (S → List ℕ) → Program → Searcher S g → Option MatchItem
 item_next text bytes program w = upcoming_if w.skips_empty (scan_of text bytes program w) w.request.start w.continues
 
 -- where the search of that item starts
@@ -29,7 +29,7 @@ abbrev pub start_next : {S : Type 0} {g : _} → (S → Bool) → (S → List �
 start_next text bytes program w = start_if w.skips_empty (scan_of text bytes program w) w.request.start w.continues
 
 -- the items that it has left
-abbrev pub items_of : {S : Type 0} {g : _} → (S → Bool) → (S → List ℕ) → Program → Searcher S g → List Item
+abbrev pub items_of : {S : Type 0} {g : _} → (S → Bool) → (S → List ℕ) → Program → Searcher S g → List MatchItem
 items_of text bytes program w = items_left program (text w.haystack) (bytes w.haystack) w.request w.ended w.continues w.skips_empty
 
 -- where the search starts that finds none, at the end of the items that it has left
@@ -70,5 +70,5 @@ abbrev pub HasGroupsOf : {S : Type 0} {g : _} → (S → Bool) → (S → List �
 HasGroupsOf text bytes w i cache = HasGroups (text w.haystack) (bytes w.haystack) i.found cache
 
 -- the items that an iteration over a text has left
-abbrev pub left_of : {g : _} → Program → Searcher (Bor (List ℕ)) g → List Item
+abbrev pub left_of : {g : _} → Program → Searcher (Bor (List ℕ)) g → List MatchItem
 left_of program w = items_left program true w.haystack.now w.request w.ended w.continues w.skips_empty

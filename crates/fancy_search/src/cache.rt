@@ -1,6 +1,6 @@
 //! What searches work in, by either engine.
 
-ghost use Rattle.std.specs.Prelude.{◌≡◌, None, slice_index_or};
+ghost use Rattle.std.specs.Prelude.{◌≡◌, [], None, slice_index_or};
 
 use fancy_engine::search as runner;
 use fancy_input::span::Span;
@@ -28,8 +28,10 @@ pub struct Cache {
 impl Cache {
     ghost use Rattle.fancy_search.specs.Cached.{cached_groups};
 
-    /// It has no memory yet: the searches take it.
-    pub fn new(alloc: Global) -> Cache {
+    /// It has no memory yet, which the searches take, and holds no group.
+    pub fn new(alloc: Global) -> Cache
+        ensures { cached_groups result ≡ [] }
+    {
         Cache {
             runner: runner::Cache::new(alloc),
             machine: machine::Cache::new(alloc),

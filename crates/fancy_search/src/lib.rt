@@ -1,6 +1,7 @@
 //! One compiled pattern, and the searches with it.
 #![tactic(auto)]
 
+pub mod byte_sets;
 pub mod cache;
 pub mod groups;
 pub mod options;

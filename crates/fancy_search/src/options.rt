@@ -1,7 +1,7 @@
 //! How a pattern is read and searched.
 
 ghost use Rattle.std.specs.Prelude.{◌≡◌, ◌&&◌, not};
-ghost use Rattle.fancy_syntax.specs.Views.{dialect_options as syntax_options};
+ghost use Rattle.fancy_syntax.specs.Views.{dialect_options};
 ghost use Rattle.fancy_tree.specs.Pattern.{pattern_of};
 ghost use Rattle.fancy_search.specs.Options.{by_default, meaning_in, dialect_of, is_easy_under, search_options};
 ghost use Rattle.fancy_search.specs.ProgramSize.{passes};
@@ -9,7 +9,7 @@ ghost use Rattle.fancy_search.specs.ProgramSize.{passes};
 use fancy_engine::classify::is_easy;
 use fancy_engine::options::SearchOptions;
 use fancy_syntax::flags::Flags;
-use fancy_syntax::parse::Syntax;
+use fancy_syntax::parse::ParseOptions;
 use fancy_tree::tree::{BytesMode, Meaning, Tree};
 
 /// How many returns a search may take where nothing else is set.
@@ -66,10 +66,10 @@ impl Options {
     }
 
     /// What holds at the start of a pattern.
-    pub(crate) fn syntax(&self) -> Syntax
-        ensures { syntax_options result ≡ dialect_of self.now }
+    pub(crate) fn parse_options(&self) -> ParseOptions
+        ensures { dialect_options result ≡ dialect_of self.now }
     {
-        Syntax {
+        ParseOptions {
             meaning: self.meaning(),
             keeps_characters: self.bytes_mode.keeps_characters(),
             only_named: self.ignore_numbered_groups_when_named_groups_exist,

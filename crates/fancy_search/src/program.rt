@@ -72,7 +72,7 @@ impl Program {
             tree,
             groups,
             names,
-        } = parse_with(alloc, pattern, options.syntax())?;
+        } = parse_with(alloc, pattern, options.parse_options())?;
         let code = compile(alloc, &tree, groups, options.meaning())?;
         let easy = options.is_easy(&tree);
         if options.forbids(easy, code.len()) {

@@ -6,7 +6,7 @@ use Rattle.fancy_tree.specs.declared.tree.Assertion.{Assertion}
 use Rattle.fancy_tree.specs.declared.tree.Assertion.TheVariants.{WordBoundary}
 use Rattle.fancy_syntax.specs.Grammar.{ends_branch}
 use Rattle.fancy_tree.specs.declared.named.Named.{Named}
-use Rattle.fancy_class.specs.declared.token.Token.{Token}
+use Rattle.fancy_class.specs.declared.class_item.ClassItem.{ClassItem}
 use Rattle.fancy_tree.specs.Pattern.{Pattern, member_of, in_any_case, raw_byte, assertion, keep_start, continue_here}
 use Rattle.fancy_tree.specs.Text.{Text}
 use Rattle.fancy_class.specs.Words.{is_at, by_word}
@@ -15,13 +15,13 @@ use Rattle.fancy_tree.specs.Members.{Members}
 use Rattle.fancy_tree.specs.Sets.{AreEdges}
 use Rattle.fancy_class.specs.EscapeGrammar.{control_of, escape_number, takes_number, digits_after, set_letter}
 use Rattle.fancy_class.specs.ClassGrammar.{is_ascii_meaning, may_negate, property}
-use Rattle.fancy_syntax.specs.Dialect.{Scope, Lexeme, leaf, one_of, any_case_of, IsMeant, by_itself, by_edges, by_folding, lexeme, ReadsAtom, by_lexeme, by_class, literal_of, spelled_character, spelled_number, spelled_set, set_lexeme, is_one_item, number_lexeme, boundary_words, boundary, property_here, followed_by, any_item, any_code, letter_lexeme, place_test, start_mark, anchor_of, unescaped_lexeme, escape, escape_in, is_escapable, must_be_escaped}
+use Rattle.fancy_syntax.specs.Dialect.{Scope, Lexeme, leaf, one_of, any_case_of, IsMeant, by_itself, by_edges, by_folding, lexeme, ReadsAtom, by_lexeme, by_class, literal_of, character_lexeme, character_by_number, class_item_lexeme, set_lexeme, is_one_item, number_lexeme, boundary_words, boundary, property_here, followed_by, any_item, any_item_members, letter_lexeme, place_test, start_mark, anchor_of, unescaped_lexeme, escape, escape_in, is_escapable, must_be_escaped}
 use Rattle.fancy_tree.proofs.Facts.{true_is_false, some_is_none, some_pair, not_false, chosen, same_some, char_is}
 use Rattle.fancy_class.proofs.EndsLemmas.{Ends, ends_here, ends_drop, ends_at, after_one, ends_number, ends_by_word, ends_property}
 
 -- ---- lexemes, and what they can be
 pub data Kind (s : Scope) : Lexeme → Type 0 where
-  a_character : (c : ℕ) → Kind s (spelled_character s c)
+  a_character : (c : ℕ) → Kind s (character_lexeme s c)
   a_test : (a : Assertion) → Kind s (leaf (assertion a))
   a_set : (f : Members) → Kind s (one_of f)
   a_byte : (c : ℕ) → s.keeps_characters ≡ false → Kind s (leaf (raw_byte c))
@@ -40,10 +40,10 @@ lexed_followed None h e k = absurd (some_is_none (sym h))
 lexed_followed (Some y) h e k = lexed_as h e (k y refl)
 
 -- what is false by its negation
-number_kind : (s : Scope) (n : ℕ × Bool) → Kind s (spelled_number s n)
+number_kind : (s : Scope) (n : ℕ × Bool) → Kind s (character_by_number s n)
 number_kind s n = go n.1 (nat_lt 127 n.0) s.keeps_characters refl
   where
-    go : (a b keeps : Bool) → s.keeps_characters ≡ keeps → Kind s (if a && (b && not keeps) then leaf (raw_byte n.0) else spelled_character s n.0)
+    go : (a b keeps : Bool) → s.keeps_characters ≡ keeps → Kind s (if a && (b && not keeps) then leaf (raw_byte n.0) else character_lexeme s n.0)
     go true true false e = a_byte n.0 e
     go true true true e = a_character n.0
     go true false keeps e = a_character n.0
@@ -53,7 +53,7 @@ any_kind : (s : Scope) (all : Bool) (y : Lexeme) → any_item s all ≡ Some y �
 any_kind s all y h =
     elim (chosen (is_ascii_meaning s.meaning) _ _ _ h) [
       | inl z ↦ absurd (some_is_none (sym z.1))
-      | inr z ↦ subst (Kind s) (same_some z.1) (a_set (any_code s all))
+      | inr z ↦ subst (Kind s) (same_some z.1) (a_set (any_item_members s all))
     ]
 
 both_hold : (a b : Bool) → (a && b) ≡ true → b ≡ true
@@ -87,14 +87,14 @@ lettered_kind s d y h = by_control (control_of d) h
     by_test None e = by_mark (start_mark s.in_look_around d) refl e
     by_test (Some a) e = subst (Kind s) (same_some e) (a_test a)
 
-    by_control : (o : Option ℕ) → option_or (option_map (spelled_character s) o) (option_or (option_map (λ (a : Assertion). leaf (assertion a)) (place_test s.flags d)) (option_or (option_map leaf (start_mark s.in_look_around d)) (option_and_then (set_lexeme s) (set_letter d)))) ≡ Some y → Kind s y
+    by_control : (o : Option ℕ) → option_or (option_map (character_lexeme s) o) (option_or (option_map (λ (a : Assertion). leaf (assertion a)) (place_test s.flags d)) (option_or (option_map leaf (start_mark s.in_look_around d)) (option_and_then (set_lexeme s) (set_letter d)))) ≡ Some y → Kind s y
     by_control None e = by_test (place_test s.flags d) e
     by_control (Some c) e = subst (Kind s) (same_some e) (a_character c)
 
 lone_kind : (s : Scope) (c : ℕ) (t : Text) (y : Lexeme) → unescaped_lexeme s c t ≡ Some y → Kind s y
 lone_kind s c t y h = by_anchor (anchor_of s.flags c) h
   where
-    by_anchor : (o : Option Assertion) → option_or (option_map (λ (a : Assertion). leaf (assertion a)) o) (if must_be_escaped c || begins_count (c ∷ t) then None else Some (spelled_character s c)) ≡ Some y → Kind s y
+    by_anchor : (o : Option Assertion) → option_or (option_map (λ (a : Assertion). leaf (assertion a)) o) (if must_be_escaped c || begins_count (c ∷ t) then None else Some (character_lexeme s c)) ≡ Some y → Kind s y
     by_anchor (Some a) e = subst (Kind s) (same_some e) (a_test a)
     by_anchor None e =
         elim (chosen (must_be_escaped c || begins_count (c ∷ t)) _ _ _ e) [
@@ -105,14 +105,14 @@ lone_kind s c t y h = by_anchor (anchor_of s.flags c) h
 lexed_number : (s : Scope) (count : ℕ) (t : Text) {x : Lexeme} {u : Text} → number_lexeme s count t ≡ Some (x, u) → Lexed s t x u
 lexed_number s count t {x} {u} h = go (escape_number count t) refl h
   where
-    go : (o : Option ((ℕ × Bool) × Text)) → escape_number count t ≡ o → option_map {U = Lexeme × Text} (λ (r : (ℕ × Bool) × Text). (spelled_number s r.0, r.1)) o ≡ Some (x, u) → Lexed s t x u
+    go : (o : Option ((ℕ × Bool) × Text)) → escape_number count t ≡ o → option_map {U = Lexeme × Text} (λ (r : (ℕ × Bool) × Text). (character_by_number s r.0, r.1)) o ≡ Some (x, u) → Lexed s t x u
     go None e k = absurd (some_is_none (sym k))
     go (Some (n, v)) e k = lexed_as k (ends_number count t e) (number_kind s n)
 
 lexed_property : (s : Scope) (t : Text) {x : Lexeme} {u : Text} → property_here s t ≡ Some (x, u) → Lexed s t x u
 lexed_property s t {x} {u} h = go (property s.meaning t) refl h
   where
-    go : (o : Option (Token × Text)) → property s.meaning t ≡ o → option_map {U = Lexeme × Text} (λ (r : Token × Text). (spelled_set s r.0, r.1)) o ≡ Some (x, u) → Lexed s t x u
+    go : (o : Option (ClassItem × Text)) → property s.meaning t ≡ o → option_map {U = Lexeme × Text} (λ (r : ClassItem × Text). (class_item_lexeme s r.0, r.1)) o ≡ Some (x, u) → Lexed s t x u
     go None e k = absurd (some_is_none (sym k))
     go (Some (y, v)) e k = lexed_as k (ends_property s.meaning t e) (a_set _)
 

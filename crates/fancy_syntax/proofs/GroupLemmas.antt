@@ -20,7 +20,7 @@ wider keep_start lo hi low high a b h = tt
 wider continue_here lo hi low high a b h = tt
 wider (group index body) lo hi low high a b (from, below, inside) =
     (omega (arith, a, from), omega (arith, b, below), wider body (index + 1) hi (index + 1) high (omega arith) b inside)
-wider (repeat least most taste body) lo hi low high a b h = wider body lo hi low high a b h
+wider (repeat least most kind body) lo hi low high a b h = wider body lo hi low high a b h
 wider (look_ahead negated body) lo hi low high a b h = wider body lo hi low high a b h
 wider (look_behind negated body) lo hi low high a b h = wider body lo hi low high a b h
 wider (atomic body) lo hi low high a b h = wider body lo hi low high a b h
@@ -45,7 +45,7 @@ within continue_here n m e = (omega (arith, e), tt)
 within (group index body) n m (e, h) =
     let x = within body (n + 1) m h in
     (omega (arith, x.0), (omega (arith, e), omega (arith, e, x.0), rw e x.1))
-within (repeat low high taste body) n m h = within body n m h
+within (repeat low high kind body) n m h = within body n m h
 within (look_ahead negated body) n m h = within body n m h
 within (look_behind negated body) n m h = within body n m h
 within (atomic body) n m h = within body n m h

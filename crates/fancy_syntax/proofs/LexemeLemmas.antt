@@ -1,5 +1,5 @@
 -- What the functions that read characters and escapes give, is what the dialect means.
-use Rattle.std.proofs.Common.{◌≡◌, ℕ, ◌+◌, ◌*◌, ◌<◌, ◌≤◌, ◌==◌, ◌&&◌, nat_lt, Bool, true, false, List, [], ◌∷◌, take, Option, Some, None, drop, length, refl, sym, ap, ap₂, ◌∙◌, subst, add_comm, arith, inl, inr, Result, Ok, Err}
+use Rattle.std.proofs.Common.{◌≡◌, ℕ, ◌+◌, ◌*◌, ◌<◌, ◌≤◌, ◌==◌, ◌&&◌, nat_lt, Bool, true, false, List, [], ◌∷◌, take, Option, Some, None, drop, length, refl, sym, ap, ap₂, ◌∙◌, subst, arith, inl, inr, Result, Ok, Err}
 use Rattle.std.proofs.lemmas.Bool.Decides.{nat_tests}
 use Rattle.std.specs.Char.{digit_value}
 use Rattle.std.specs.Option.{option_map}
@@ -10,19 +10,18 @@ use Rattle.fancy_tree.specs.declared.error.Error.TheVariants.{Memory, ParseError
 use Rattle.fancy_class.specs.declared.refusal.ClassRefusal.{ClassRefusal}
 use Rattle.fancy_class.specs.declared.refusal.ClassRefusal.TheVariants as refusal
 use Rattle.fancy_tree.specs.declared.tree.Assertion.{Assertion}
-use Rattle.std.proofs.lemmas.List.{drop-drop}
-use Rattle.fancy_syntax.specs.declared.parser.Parser.{Parser}
 use Rattle.fancy_tree.specs.declared.tree.Tree.{Tree}
 use Rattle.fancy_tree.specs.Pattern.{Pattern, pattern_of, member_of, in_any_case, assertion}
 use Rattle.fancy_tree.specs.Text.{Text}
 use Rattle.fancy_class.specs.Words.{is_at}
 use Rattle.fancy_class.specs.EscapeGrammar.{hexadecimal, escape_number, fixed_number, braced_number, before_brace, by_number, is_character}
 use Rattle.fancy_class.specs.ClassGrammar.{ReadsEdges}
-use Rattle.fancy_class.specs.ClassViews as class
-use Rattle.fancy_syntax.specs.Dialect.{Scope, Lexeme, leaf, IsMeant, by_itself, by_edges, by_folding, lexeme, ReadsAtom, by_lexeme, by_class, wants, reference_here, literal_of, spelled_character, spelled_number, is_one_item, number_lexeme, boundary, boundary_here}
+use Rattle.fancy_class.specs.ClassViews.{RefusesClass}
+use Rattle.fancy_syntax.specs.Dialect.{Scope, Lexeme, leaf, IsMeant, by_itself, by_edges, by_folding, lexeme, ReadsAtom, by_lexeme, by_class, wants, reference_here, literal_of, character_lexeme, character_by_number, is_one_item, number_lexeme, boundary, boundary_here}
 use Rattle.fancy_syntax.specs.References.{Target, read_reference, begins_reference}
-use Rattle.fancy_syntax.specs.Grammar.{Place, past, start, IsAtom, alone, refers}
-use Rattle.fancy_syntax.specs.Views.{MemoryOr, IsTheReading, HasNoReading, Gives, GivesMeant, error_of}
+use Rattle.fancy_syntax.specs.Grammar.{Place, place_past, start, IsAtom, alone, refers}
+use Rattle.fancy_syntax.specs.Views.{MemoryOr, Gives, GivesMeant, GivesLexeme, error_at}
+use Rattle.fancy_class.specs.Readings.{IsTheReading, HasNoReading}
 use Rattle.fancy_tree.proofs.CanonicalLemmas.{edges_unique}
 use Rattle.fancy_tree.proofs.Facts.{some_pair, some_is_none, true_is_false, chosen, same_some, char_is, left_of}
 use Rattle.fancy_syntax.proofs.ReferenceLemmas.{reference_begins, no_bracket_begun, no_atom_begun}
@@ -30,20 +29,20 @@ use Rattle.fancy_class.proofs.ClassSpelling.{one_class}
 use mathlib.Core.Path.{fun_ext}
 
 -- a place that moved on, and one that the text alone makes
-pub meant_past : {x : Lexeme} (p : Place) {q : Place} (n : ℕ) (t : Tree) → q ≡ past n p → IsMeant x (pattern_of t) → GivesMeant (Some (x, drop n p.text)) (Ok t) p q
+pub meant_past : {x : Lexeme} (p : Place) {q : Place} (n : ℕ) (t : Tree) → q ≡ place_past n p → IsMeant x (pattern_of t) → GivesMeant (Some (x, drop n p.text)) (Ok t) p q
 meant_past {x} p n t e m = (x, ap (λ (y : Place). Some (x, y.text)) (sym e), m, e ∙ ap (λ (y : Place). start p.scope y.text) (sym e))
 
-pub leaf_past : {a : Pattern} (p : Place) {q : Place} (n : ℕ) (t : Tree) → q ≡ past n p → pattern_of t ≡ a → GivesMeant (Some (leaf a, drop n p.text)) (Ok t) p q
+pub leaf_past : {a : Pattern} (p : Place) {q : Place} (n : ℕ) (t : Tree) → q ≡ place_past n p → pattern_of t ≡ a → GivesMeant (Some (leaf a, drop n p.text)) (Ok t) p q
 leaf_past {a} p n t e is = meant_past p n t e (subst (λ x. IsMeant (leaf a) x) (sym is) by_itself)
 
 pub leaf_is : {a b : Pattern} → b ≡ a → IsMeant (leaf a) b
 leaf_is {a} e = subst (λ x. IsMeant (leaf a) x) (sym e) by_itself
 
 -- characters
-pub one_character : (s : Scope) (c : ℕ) {a : Pattern} → (s.flags.ignore_case && is_one_item s.meaning c) ≡ false → a ≡ literal_of s.meaning c → IsMeant (spelled_character s c) a
+pub one_character : (s : Scope) (c : ℕ) {a : Pattern} → (s.flags.ignore_case && is_one_item s.meaning c) ≡ false → a ≡ literal_of s.meaning c → IsMeant (character_lexeme s c) a
 one_character s c h e = rw h (leaf_is e)
 
-pub if_literal : (s : Scope) (c : ℕ) (r : Result Tree AllocError) → (s.flags.ignore_case && is_one_item s.meaning c) ≡ false → IfOk r (λ t. pattern_of t ≡ literal_of s.meaning c) → IfOk r (λ t. IsMeant (spelled_character s c) (pattern_of t))
+pub if_literal : (s : Scope) (c : ℕ) (r : Result Tree AllocError) → (s.flags.ignore_case && is_one_item s.meaning c) ≡ false → IfOk r (λ t. pattern_of t ≡ literal_of s.meaning c) → IfOk r (λ t. IsMeant (character_lexeme s c) (pattern_of t))
 if_literal s c (Ok t) h e = one_character s c h e
 if_literal s c (Err e) h f = tt
 
@@ -101,27 +100,30 @@ byte_is_small count t {n} {is_byte} {u} h b =
         ]
 
 -- the number that is read where a letter of numbers stands
-pub number_meant : (s : Scope) (count : ℕ) (t : Text) {c : ℕ × Bool} {u : Text} (p : Place) {q : Place} (tree : Tree) → escape_number count t ≡ Some (c, u) → q ≡ start s u → p.scope ≡ s → IsMeant (spelled_number s c) (pattern_of tree) → GivesMeant (number_lexeme s count t) (Ok tree) p q
+pub number_meant : (s : Scope) (count : ℕ) (t : Text) {c : ℕ × Bool} {u : Text} (p : Place) {q : Place} (tree : Tree) → escape_number count t ≡ Some (c, u) → q ≡ start s u → p.scope ≡ s → IsMeant (character_by_number s c) (pattern_of tree) → GivesMeant (number_lexeme s count t) (Ok tree) p q
 number_meant s count t {c} {u} p {q} tree h e f m = (
-  spelled_number s c,
-  ap (option_map (λ (r : (ℕ × Bool) × Text). (spelled_number s r.0, r.1))) h ∙ ap (λ (y : Place). Some (spelled_number s c, y.text)) (sym e),
+  character_by_number s c,
+  ap (option_map (λ (r : (ℕ × Bool) × Text). (character_by_number s r.0, r.1))) h ∙ ap (λ (y : Place). Some (character_by_number s c, y.text)) (sym e),
   m,
   e ∙ ap (λ (y : Place). start s y.text) (sym e) ∙ ap (λ (z : Scope). start z q.text) (sym f),
 )
 
 -- a refusal of the class's reader says of its text what the parser's says
-pub refuses_too : (p : Parser) (e : ClassRefusal) {A B : Type 0} → (A → B) → class.MemoryOr e A → MemoryOr (error_of p e) B
-refuses_too p refusal.Memory f h = tt
-refuses_too p (refusal.Invalid kind) f h = f h
+pub refuses_too : (at : ℕ) (e : ClassRefusal) {A B : Type 0} → (A → B) → RefusesClass e A → MemoryOr (error_at at e) B
+refuses_too at refusal.Memory f h = tt
+refuses_too at (refusal.Invalid kind) f h = f h
 
-pub numbered_none : (s : Scope) (count : ℕ) (t : Text) → escape_number count t ≡ None → number_lexeme s count t ≡ None
-numbered_none s count t h = ap (option_map (λ (r : (ℕ × Bool) × Text). (spelled_number s r.0, r.1))) h
+pub no_number_lexeme : (s : Scope) (count : ℕ) (t : Text) → escape_number count t ≡ None → number_lexeme s count t ≡ None
+no_number_lexeme s count t h = ap (option_map (λ (r : (ℕ × Bool) × Text). (character_by_number s r.0, r.1))) h
 
 pub meant_same : {o n : Lexeme × Text} (t : Tree) (p q : Place) → o ≡ n → GivesMeant (Some n) (Ok t) p q → GivesMeant (Some o) (Ok t) p q
 meant_same t p q e h = subst (λ x. GivesMeant (Some x) (Ok t) p q) (sym e) h
 
-pub boundary_is : (t : Text) {a : Assertion} (w : ℕ) → boundary (drop 2 t) ≡ (a, drop w (drop 2 t)) → boundary_here (drop 2 t) ≡ (leaf (assertion a), drop (w + 2) t)
-boundary_is t {a} w e = ap (λ (r : Assertion × Text). (leaf (assertion r.0), r.1)) e ∙ ap (λ l. (leaf (assertion a), l)) (drop-drop w 2 t ∙ ap (λ k. drop k t) (add_comm 2 w))
+-- what was read after `\b`, by the test that it is
+pub boundary_meant : {a : Assertion} (w : ℕ) (t : Tree) (p r q : Place) → r ≡ place_past 2 p → boundary r.text ≡ (a, drop w r.text) → GivesLexeme w (Some (leaf (assertion a))) (Ok t) r q → GivesMeant (Some (boundary_here (drop 2 p.text))) (Ok t) p q
+boundary_meant {a} w t p r q there e h =
+    let word : boundary (drop 2 p.text) ≡ (a, drop w (drop 2 p.text)) = subst (λ (s : Place). boundary s.text ≡ (a, drop w s.text)) there e in
+    meant_same t p q (ap (λ (b : Assertion × Text). (leaf (assertion b.0), b.1)) word) (subst (λ (s : Place). GivesLexeme w (Some (leaf (assertion a))) (Ok t) s q) there h)
 
 -- what a text means, it means alone
 pub one_meant : {x : Lexeme} {a b : Pattern} → IsMeant x a → IsMeant x b → b ≡ a
@@ -180,5 +182,5 @@ no_class_here {p} h none a q (alone (by_lexeme k m)) = some_is_none (sym k ∙ n
 no_class_here h none a q (alone (by_class k m)) = none _ _ m
 no_class_here {p} h none a q (refers k) = true_is_false (sym h ∙ no_bracket_begun p.text (reference_begins p.scope.opened p.text k))
 
-pub class_refused : (parser : Parser) (e : ClassRefusal) (p : Place) → is_at "[" p.text ≡ true → class.MemoryOr e (class.HasNoReading (ReadsEdges p.scope.meaning p.scope.flags.ignore_case) p.text) → MemoryOr (error_of parser e) (HasNoReading IsAtom p)
-class_refused parser e p h none = refuses_too parser e (no_class_here h) none
+pub class_refused : (at : ℕ) (e : ClassRefusal) (p : Place) → is_at "[" p.text ≡ true → RefusesClass e (HasNoReading (ReadsEdges p.scope.meaning p.scope.flags.ignore_case) p.text) → MemoryOr (error_at at e) (HasNoReading IsAtom p)
+class_refused at e p h none = refuses_too at e (no_class_here h) none

@@ -8,8 +8,8 @@ use Rattle.fancy_tree.specs.Sizes.{nodes}
 use Rattle.fancy_tree.specs.Text.{Text, is_among}
 use Rattle.fancy_class.specs.Words.{is_at, is_at_any}
 use Rattle.fancy_syntax.specs.Blanks.{past_blank, is_blank}
-use Rattle.fancy_syntax.specs.Dialect.{Scope, Spells, leaf, by_itself, by_lexeme, lexeme, escape, is_escapable, spelled_character, begins_quantifier}
-use Rattle.fancy_syntax.specs.Grammar.{Place, here, start, ends_branch, last, Parts, none, next, Item, single, alone}
+use Rattle.fancy_syntax.specs.Dialect.{Scope, Spells, leaf, by_itself, by_lexeme, lexeme, escape, is_escapable, character_lexeme, begins_quantifier}
+use Rattle.fancy_syntax.specs.Grammar.{Place, after_blanks, start, ends_branch, last, PartsReading, none, next, ItemReading, single, alone}
 use Rattle.fancy_tree.proofs.Facts.{true_is_false, both_true, char_is}
 use Rattle.fancy_syntax.proofs.BlankLemmas.{blanks_stop}
 use Rattle.fancy_syntax.proofs.SpellingLemmas.{reading_spelled}
@@ -72,7 +72,7 @@ no_quantifier : (t : Text) → BeginsPlainly t → begins_quantifier t ≡ false
 no_quantifier [] h = refl
 no_quantifier (c ∷ t) h = rw (other_than 63 c marks refl h, other_than 42 c marks refl h, other_than 43 c marks refl h, other_than 123 c marks refl h) refl
 
-here_is : (s : Scope) (t : Text) → IsPlain s → BeginsPlainly t → here (start s t) ≡ start s t
+here_is : (s : Scope) (t : Text) → IsPlain s → BeginsPlainly t → after_blanks (start s t) ≡ start s t
 here_is s t plain h = ap (start s) (rw plain.ignore_blanks (blanks_stop false t (no_blank t h)))
 
 -- the word stands for this character, whatever follows it
@@ -106,19 +106,19 @@ opens_nothing (c ∷ t) h = rw (other_than 40 c marks refl h) refl
 goes_on : {s : Scope} {w : Text} {c : ℕ} → StandsFor s w c → (rest : Text) → ends_branch (w ++ rest) ≡ false
 goes_on x rest = ap ends_branch (word_begins x rest) ∙ rw (other_than 124 x.first marks refl x.plain, other_than 41 x.first marks refl x.plain) refl
 
-word_read : {k : ℕ} (s : Scope) (w rest : Text) (c : ℕ) → IsPlain s → StandsFor s w c → BeginsPlainly rest → Item k (start s (w ++ rest)) (Some (character c)) (start s rest)
+word_read : {k : ℕ} (s : Scope) (w rest : Text) (c : ℕ) → IsPlain s → StandsFor s w c → BeginsPlainly rest → ItemReading k (start s (w ++ rest)) (Some (character c)) (start s rest)
 word_read s w rest c plain x h =
-    let unquantified : begins_quantifier (here (start s rest)).text ≡ false = ap (λ (p : Place). begins_quantifier p.text) (here_is s rest plain h) ∙ no_quantifier rest h in
+    let unquantified : begins_quantifier (after_blanks (start s rest)).text ≡ false = ap (λ (p : Place). begins_quantifier p.text) (here_is s rest plain h) ∙ no_quantifier rest h in
     single (opens_nothing (w ++ rest) (word_plain x rest)) (alone (by_lexeme (x.reads rest) by_itself)) (rw unquantified refl)
 
-words_read : {k : ℕ} {s : Scope} {v t : Text} → IsPlain s → StandFor s v t → Parts k (start s v) (map character t) (start s [])
+words_read : {k : ℕ} {s : Scope} {v t : Text} → IsPlain s → StandFor s v t → PartsReading k (start s v) (map character t) (start s [])
 words_read {k} {s} plain no_word =
     let stays = here_is s [] plain refl in
-    subst (λ p. Parts k (start s []) [] p) stays (none (ap (λ (p : Place). ends_branch p.text) stays))
+    subst (λ p. PartsReading k (start s []) [] p) stays (none (ap (λ (p : Place). ends_branch p.text) stays))
 words_read {k} {s} plain (word {w = w} {v = v} {c = c} x rest) =
     let stays = here_is s (w ++ v) plain (word_plain x v) in
     next (ap (λ (p : Place). ends_branch p.text) stays ∙ goes_on x v)
-    (subst (λ p. Item k p (Some (character c)) (start s v)) (sym stays) (word_read s w v c plain x (words_plain rest)))
+    (subst (λ p. ItemReading k p (Some (character c)) (start s v)) (sym stays) (word_read s w v c plain x (words_plain rest)))
     (words_read plain rest)
 
 -- words for characters spell the sequence of these, and nothing else
@@ -138,7 +138,7 @@ pub nodes-characters : (t : Text) → nodes (in_sequence (map character t)) ≡ 
 nodes-characters t = omega (arith, nodes-in_sequence (map character t), characters_counted t)
 
 -- an escape that stands for a character
-pub by_escape : (s : Scope) (d c : ℕ) → IsPlain s → ((rest : Text) → escape s d rest ≡ Some (spelled_character s c, rest)) → StandsFor s (92 ∷ d ∷ []) c
+pub by_escape : (s : Scope) (d c : ℕ) → IsPlain s → ((rest : Text) → escape s d rest ≡ Some (character_lexeme s c, rest)) → StandsFor s (92 ∷ d ∷ []) c
 by_escape s d c plain h = record { first = 92; others = d ∷ []; is = refl; plain = refl; reads = λ rest. h rest ∙ rw (plain.ignore_case, plain.meaning) refl }
 
 -- a character that is escaped

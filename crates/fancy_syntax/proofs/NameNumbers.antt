@@ -2,7 +2,7 @@
 use Rattle.std.proofs.Common.{◌≡◌, ℕ, ◌+◌, ◌≤◌, Bool, List, [], ◌∷◌, ◌++◌, Option, sym, subst, ap, ◌∙◌, append_assoc, append-nil, arith}
 use Rattle.fancy_tree.specs.Pattern.{Pattern}
 use Rattle.fancy_tree.specs.Text.{Text}
-use Rattle.fancy_syntax.specs.Dialect.{Scope, Options, begin, Branches, one, either, Parts, nothing, item, Item, set, bare, quantified, Atom, single, plain, flagged, capture, unnamed, named, marked, reference, reference_by_name, tested, decided, back_to, inside, Spells}
+use Rattle.fancy_syntax.specs.Dialect.{Scope, DialectOptions, begin, Branches, one, either, Parts, nothing, item, Item, set, bare, quantified, Atom, single, plain, flagged, capture, unnamed, named, marked, reference, reference_by_name, tested, decided, back_to, inside, Spells}
 use Rattle.fancy_syntax.specs.declared.groups.Grouping.{Grouping}
 use Rattle.fancy_syntax.specs.declared.groups.Grouping.TheVariants.{Atomic, LookAhead, LookBehind}
 use Rattle.fancy_tree.specs.GroupNumbers.{Rising}
@@ -81,5 +81,5 @@ mutual
         rising = (omega arith, omega (arith, x.more), x.rising);
       }
 
-pub names_rise : (unnamed : Bool) (o : Options) (text : Text) (p : Pattern) (e : Scope) → Spells (begin unnamed o) text p e → Rising 1 (e.opened + 1) e.names
+pub names_rise : (unnamed : Bool) (o : DialectOptions) (text : Text) (p : Pattern) (e : Scope) → Spells (begin unnamed o) text p e → Rising 1 (e.opened + 1) e.names
 names_rise u o text p e x = let y = named_branches x.spelled in subst (λ l. Rising 1 (e.opened + 1) l) (sym y.names) y.rising

@@ -5,7 +5,7 @@ use Rattle.fancy_syntax.specs.declared.groups.Grouping.{Grouping}
 use Rattle.fancy_syntax.specs.declared.groups.Grouping.TheVariants.{Atomic, LookAhead, LookBehind}
 use Rattle.fancy_tree.specs.declared.tree.Meaning.{Meaning}
 use Rattle.fancy_tree.specs.declared.tree.Meaning.TheVariants.{Unicode, Bytes, AsciiText}
-use Rattle.fancy_syntax.specs.Dialect.{Scope, inside, grouped, literal_of, Branches, one, either, Parts, nothing, item, Item, set, bare, quantified, Atom, single, plain, flagged, capture, unnamed, named, marked, reference, reference_by_name, tested, decided, test_here, conditional_of, Spells, with_part}
+use Rattle.fancy_syntax.specs.Dialect.{Scope, inside, group_of, literal_of, Branches, one, either, Parts, nothing, item, Item, set, bare, quantified, Atom, single, plain, flagged, capture, unnamed, named, marked, reference, reference_by_name, tested, decided, test_here, conditional_of, Spells, with_part}
 use Rattle.fancy_tree.specs.GroupNumbers.{NumbersInOrder}
 use Rattle.fancy_tree.specs.Pattern.{Pattern, character, in_sequence, in_choice, in_branches}
 use Rattle.fancy_tree.specs.Text.{Text}
@@ -62,7 +62,7 @@ parts_in_order : (n k m : ℕ) (x : Option Pattern) (ps : List Pattern) → Part
 parts_in_order n k m None ps e all = subst (λ (j : ℕ). AllInOrder j m ps) e all
 parts_in_order n k m (Some p) ps h all = (k, h, all)
 
-marked_in_order : (how : Grouping) (n m : ℕ) (p : Pattern) → NumbersInOrder n m p → NumbersInOrder n m (grouped how p)
+marked_in_order : (how : Grouping) (n m : ℕ) (p : Pattern) → NumbersInOrder n m p → NumbersInOrder n m (group_of how p)
 marked_in_order Atomic n m p h = h
 marked_in_order (LookAhead negated) n m p h = h
 marked_in_order (LookBehind negated) n m p h = h

@@ -16,13 +16,13 @@ use Rattle.fancy_syntax.specs.declared.parse.Parsed.{Parsed}
 use Rattle.fancy_syntax.specs.declared.parse.Draft.{Draft}
 use Rattle.fancy_syntax.specs.declared.reference.Target.{Target as Found_target}
 use Rattle.fancy_tree.specs.declared.error.CompileError.{CompileError as Compiling}
-use Rattle.fancy_syntax.specs.References as references
 use Rattle.fancy_syntax.specs.References.{Target, ReferenceFault, Groups, group_for}
 use Rattle.fancy_tree.specs.Refers.{number_in, refers_to}
-use Rattle.fancy_syntax.specs.Dialect.{Scope, Options, begin, has_name, groups_at, fault_in_scope, numbers, Spells, SpellsUnder, IsPattern}
+use Rattle.fancy_syntax.specs.Dialect.{Scope, DialectOptions, begin, has_name, groups_at, fault_in_scope, numbers, Spells, SpellsUnder, IsPattern}
 use Rattle.fancy_syntax.specs.Grammar.{Place, start}
 use Rattle.fancy_syntax.specs.Refusals.{IsRefused, IsNotAccepted}
-use Rattle.fancy_syntax.specs.Views.{MemoryOr, IsTheReading, HasNoReading, Alternation, target_of, targets_of, draft_groups, told_fault, RefusesReference, HasBadSize, RefusesSizes, SpellsDraft, HasNoSpelling}
+use Rattle.fancy_syntax.specs.Views.{MemoryOr, Alternation, target_of, targets_of, draft_groups, told_fault, RefusesReference, HasBadSize, RefusesSizes, SpellsDraft, HasNoSpelling, AreResolved, HaveFault, draft_numbers}
+use Rattle.fancy_class.specs.Readings.{IsTheReading, HasNoReading}
 use Rattle.fancy_syntax.proofs.ParserLemmas.{MemoryOr-weaker, no_whole_reading, not_whole, whole_reading}
 use Rattle.fancy_tree.proofs.Facts.{true_is_false, some_is_none}
 use Rattle.fancy_syntax.proofs.SpellingLemmas.{spelling_read, reading_spelled}
@@ -44,7 +44,7 @@ pub spelled : {s : Scope} {text : Text} {p q : Place} {found : Pattern} → p �
 spelled is h all = reading_spelled (whole_reading is h all)
 
 -- what is not spelled is refused
-pub refused_as : (o : Options) {text whole : Text} (e : Error) → text ≡ whole → MemoryOr e (HasNoSpelling (SpellsUnder o text)) → IsRefused e o whole
+pub refused_as : (o : DialectOptions) {text whole : Text} (e : Error) → text ≡ whole → MemoryOr e (HasNoSpelling (SpellsUnder o text)) → IsRefused e o whole
 refused_as o Memory is none = tt
 refused_as o (ParseError at kind) is none = subst (λ t. HasNoSpelling (SpellsUnder o t)) is none
 refused_as o (CompileError why) is none = absurd none
@@ -59,7 +59,7 @@ has_some (n ∷ names) e same h = ap has_name (sym e)
 only_names : {on : Bool} {named : Bool} → on ≡ true → named ≡ true → false ≡ not (on && named)
 only_names h e = rw (h, e) refl
 
-module _ (o : Options) (text : Text) (first : Draft) (s : SpellsDraft (Spells (begin true o) text) first) (h : o.only_named ≡ true) (n : ℕ) (many : n ≡ length first.names.items) (some : false ≡ (n == 0)) where
+module _ (o : DialectOptions) (text : Text) (first : Draft) (s : SpellsDraft (Spells (begin true o) text) first) (h : o.only_named ≡ true) (n : ℕ) (many : n ≡ length first.names.items) (some : false ≡ (n == 0)) where
   decided : false ≡ not (o.only_named && has_name s.0.names)
   decided = only_names h (has_some first.names.items s.3 many some)
 
@@ -72,18 +72,18 @@ module _ (o : Options) (text : Text) (first : Draft) (s : SpellsDraft (Spells (b
   refused_again (Err e) x = MemoryOr-weaker e (none_settled false s.1 decided) x
 
 -- references that each name a group have no fault
-no_fault : (o : Options) (e : Scope) {f : ReferenceFault} → All (λ w. fault_in_scope o e w ≡ None) e.wanted → Any (λ w. fault_in_scope o e w ≡ Some f) e.wanted → ⊥
+no_fault : (o : DialectOptions) (e : Scope) {f : ReferenceFault} → All (λ w. fault_in_scope o e w ≡ None) e.wanted → Any (λ w. fault_in_scope o e w ≡ Some f) e.wanted → ⊥
 no_fault o e all (k, w, below, is, h) = some_is_none (sym h ∙ (ap (fault_in_scope o e) (sym is) ∙ all k w below))
 
-no_fault_under : {o : Options} {text : Text} {p q : Pattern} {e : Scope} {f : ReferenceFault} (x : IsPattern o text p) → SpellsUnder o text q e → Any (λ w. fault_in_scope o e w ≡ Some f) e.wanted → ⊥
+no_fault_under : {o : DialectOptions} {text : Text} {p q : Pattern} {e : Scope} {f : ReferenceFault} (x : IsPattern o text p) → SpellsUnder o text q e → Any (λ w. fault_in_scope o e w ≡ Some f) e.wanted → ⊥
 no_fault_under {o} {f = f} x y some = no_fault o x.end x.resolved (subst (λ (z : Scope). Any (λ w. fault_in_scope o z w ≡ Some f) z.wanted) (one_end_under y x.spelled) some)
 
 -- the accepted pattern is what the text spells, its references resolved
-same_resolved : {o : Options} {text : Text} {p q : Pattern} {e : Scope} → SpellsUnder o text q e → IsPattern o text p → refers_to (numbers o e) q ≡ p
+same_resolved : {o : DialectOptions} {text : Text} {p q : Pattern} {e : Scope} → SpellsUnder o text q e → IsPattern o text p → refers_to (numbers o e) q ≡ p
 same_resolved {o} y x = ap₂ (λ (e : Scope) (w : Pattern). refers_to (numbers o e) w) (one_end_under y x.spelled) (one_under y x.spelled) ∙ sym x.is
 
 -- a pattern of the dialect is refused only for want of memory
-pub refused_is_memory : {o : Options} {text : Text} {p : Pattern} (e : Error) → IsRefused e o text → IsPattern o text p → e ≡ Memory
+pub refused_is_memory : {o : DialectOptions} {text : Text} {p : Pattern} (e : Error) → IsRefused e o text → IsPattern o text p → e ≡ Memory
 refused_is_memory Memory h x = refl
 refused_is_memory (ParseError at kind) h x = absurd (h x.written x.end x.spelled)
 refused_is_memory {o} {text} {p} (CompileError PatternTooComplex) (q, end, y, large) x =
@@ -102,7 +102,7 @@ refused_is_memory {o} (CompileError PatternCanNeverMatch) (q, end, y, on, none) 
 refused_is_memory (RuntimeError why) h x = absurd h
 
 -- a text under options has at most one pattern
-pub one_accepted : {o : Options} {text : Text} {p q : Pattern} → IsPattern o text p → IsPattern o text q → p ≡ q
+pub one_accepted : {o : DialectOptions} {text : Text} {p q : Pattern} → IsPattern o text p → IsPattern o text q → p ≡ q
 one_accepted {o} x y = x.is ∙ (ap₂ (λ (e : Scope) (p : Pattern). refers_to (numbers o e) p) (one_end_under x.spelled y.spelled) (one_under x.spelled y.spelled) ∙ sym y.is)
 
 more_nodes : (n m : ℕ) → m ≡ min n (2 ^ 64 - 1) → most_nodes < m → most_nodes < n
@@ -111,14 +111,14 @@ more_nodes n m e h = omega (arith, e, h)
 few_nodes : (n m : ℕ) → m ≡ min n (2 ^ 64 - 1) → m ≤ most_nodes → n ≤ most_nodes
 few_nodes n m e h = omega (arith, e, h)
 
-pub too_complex : {o : Options} {text whole : Text} (r : Draft) {m : ℕ} → SpellsDraft (SpellsUnder o text) r → text ≡ whole → m ≡ min (nodes (pattern_of r.tree)) (2 ^ 64 - 1) → most_nodes < m → IsRefused (CompileError PatternTooComplex) o whole
+pub too_complex : {o : DialectOptions} {text whole : Text} (r : Draft) {m : ℕ} → SpellsDraft (SpellsUnder o text) r → text ≡ whole → m ≡ min (nodes (pattern_of r.tree)) (2 ^ 64 - 1) → most_nodes < m → IsRefused (CompileError PatternTooComplex) o whole
 too_complex {o} r {m} s is e h = (pattern_of r.tree, s.0, subst (λ t. SpellsUnder o t (pattern_of r.tree) s.0) is s.1, more_nodes (nodes (pattern_of r.tree)) m e h)
 
 -- what holds of some view holds of one of the views
 any_seen : {X Y : Type 0} (f : X → Y) (P : Y → Type 0) (xs : List X) → Any (λ x. P (f x)) xs → Any P (map f xs)
 any_seen f P xs (k, x, below, is, h) = (k, f x, omega (arith, below, length-map xs f), math.get_or-map f xs k x ∙ ap f is, h)
 
-module _ (o : Options) {text whole : Text} (draft : Draft) (s : SpellsDraft (SpellsUnder o text) draft) (same : text ≡ whole) where
+module _ (o : DialectOptions) {text whole : Text} (draft : Draft) (s : SpellsDraft (SpellsUnder o text) draft) (same : text ≡ whole) where
   -- the groups that references are resolved by are those of the pattern's end
   groups_are : draft_groups o.only_named draft ≡ groups_at o s.0
   groups_are =
@@ -126,9 +126,9 @@ module _ (o : Options) {text whole : Text} (draft : Draft) (s : SpellsDraft (Spe
       ap₂ (λ (n : ℕ) (names : List (Text × ℕ)). let g : Groups = record { by_name = o.only_named && has_name names; opened = n; names = names } in g) opened s.3
 
   pub accepted : {m : ℕ} (first : Parsed) (r : Result Parsed Error) → m ≡ min (nodes (pattern_of draft.tree)) (2 ^ 64 - 1) → m ≤ most_nodes
-      → pattern_of first.tree ≡ refers_to (number_in (map (group_for (draft_groups o.only_named draft)) (targets_of draft.wanted.items))) (pattern_of draft.tree)
+      → pattern_of first.tree ≡ refers_to (draft_numbers o.only_named draft) (pattern_of draft.tree)
       → (first.groups ≡ draft.groups) × (first.names ≡ draft.names)
-      → All (λ w. references.target_fault (draft_groups o.only_named draft) (target_of w) ≡ None) draft.wanted.items
+      → AreResolved (draft_groups o.only_named draft) draft.wanted.items
       → IfOk r (λ p. p ≡ first) → IfOk r (λ p. are_sized o.meaning (pattern_of p.tree) ≡ true)
       → IfOk r (λ p. o.not_empty ≡ true → (size o.meaning (pattern_of p.tree) ≡ Some 0) → ⊥)
       → IfOk r (λ p. (h : IsPattern o whole (pattern_of p.tree)) × (h.end.opened + 1 ≡ p.groups) × (named_groups p.names.items ≡ h.end.names))
@@ -138,7 +138,7 @@ module _ (o : Options) {text whole : Text} (draft : Draft) (s : SpellsDraft (Spe
       ap (λ (x : Parsed). pattern_of x.tree) same_one ∙ tree ∙ ap₂ (λ (g : Groups) (ws : List Target). refers_to (number_in (map (group_for g) ws)) (pattern_of draft.tree)) groups_are s.4 in
       let resolved : All (λ w. fault_in_scope o s.0 w ≡ None) s.0.wanted =
       subst (λ (ws : List Target). All (λ w. fault_in_scope o s.0 w ≡ None) ws) s.4
-      (All-map (λ w. fault_in_scope o s.0 w ≡ None) target_of draft.wanted.items (subst (λ (g : Groups). All (λ w. references.target_fault g (target_of w) ≡ None) draft.wanted.items) groups_are all)) in
+      (All-map (λ w. fault_in_scope o s.0 w ≡ None) target_of draft.wanted.items (subst (λ (g : Groups). AreResolved g draft.wanted.items) groups_are all)) in
       let few_written = few_nodes (nodes (pattern_of draft.tree)) _ n few in
       let as_many : nodes (pattern_of p.tree) ≡ nodes (pattern_of draft.tree) = ap nodes is ∙ nodes-refers_to (numbers o s.0) (pattern_of draft.tree) in (
         record {
@@ -156,10 +156,10 @@ module _ (o : Options) {text whole : Text} (draft : Draft) (s : SpellsDraft (Spe
       )
 
   -- a reference that names no group is the reason of a refusal
-  has_fault : {f : ReferenceFault} → Any (λ w. references.target_fault (draft_groups o.only_named draft) (target_of w) ≡ Some f) draft.wanted.items → Any (λ w. fault_in_scope o s.0 w ≡ Some f) s.0.wanted
+  has_fault : {f : ReferenceFault} → HaveFault (draft_groups o.only_named draft) draft.wanted.items f → Any (λ w. fault_in_scope o s.0 w ≡ Some f) s.0.wanted
   has_fault {f} some =
       subst (λ (ws : List Target). Any (λ w. fault_in_scope o s.0 w ≡ Some f) ws) s.4
-      (any_seen target_of (λ w. fault_in_scope o s.0 w ≡ Some f) draft.wanted.items (subst (λ (g : Groups). Any (λ w. references.target_fault g (target_of w) ≡ Some f) draft.wanted.items) groups_are some))
+      (any_seen target_of (λ w. fault_in_scope o s.0 w ≡ Some f) draft.wanted.items (subst (λ (g : Groups). HaveFault g draft.wanted.items f) groups_are some))
 
   not_accepted : (why : Compiling) (f : ReferenceFault) → told_fault why ≡ Some f → Any (λ w. fault_in_scope o s.0 w ≡ Some f) s.0.wanted → IsNotAccepted why o whole
   not_accepted (InvalidBackref n) f e some = (pattern_of draft.tree, s.0, subst (λ t. SpellsUnder o t (pattern_of draft.tree) s.0) same s.1, subst (λ g. Any (λ w. fault_in_scope o s.0 w ≡ g) s.0.wanted) (sym e) some)
@@ -169,7 +169,7 @@ module _ (o : Options) {text whole : Text} (draft : Draft) (s : SpellsDraft (Spe
   not_accepted PatternCanNeverMatch f e some = absurd (some_is_none (sym e))
   not_accepted PatternTooComplex f e some = absurd (some_is_none (sym e))
 
-  pub refused_by : (e : Error) → RefusesReference e (λ f. Any (λ w. references.target_fault (draft_groups o.only_named draft) (target_of w) ≡ Some f) draft.wanted.items) → IsRefused e o whole
+  pub refused_by : (e : Error) → RefusesReference e (HaveFault (draft_groups o.only_named draft) draft.wanted.items) → IsRefused e o whole
   refused_by Memory h = tt
   refused_by (ParseError at kind) h = absurd h
   refused_by (CompileError why) (f, e, some) = not_accepted why f e (has_fault some)
@@ -192,13 +192,13 @@ module _ (o : Options) {text whole : Text} (draft : Draft) (s : SpellsDraft (Spe
 
   -- a size is the reason of a refusal
   pub refused_sizes : (first : Parsed) (r : Result Parsed Error)
-      → pattern_of first.tree ≡ refers_to (number_in (map (group_for (draft_groups o.only_named draft)) (targets_of draft.wanted.items))) (pattern_of draft.tree)
+      → pattern_of first.tree ≡ refers_to (draft_numbers o.only_named draft) (pattern_of draft.tree)
       → IfErr r (λ e. RefusesSizes e o (pattern_of first.tree)) → IfErr r (λ e. IsRefused e o whole)
   refused_sizes first (Ok p) tree h = tt
   refused_sizes first (Err e) tree h =
       let same_one = tree ∙ ap₂ (λ (g : Groups) (ws : List Target). refers_to (number_in (map (group_for g) ws)) (pattern_of draft.tree)) groups_are s.4 in
       by_size e (subst (λ (q : Pattern). RefusesSizes e o q) same_one h)
 
-pub only_memory : {o : Options} {text : Text} {p : Pattern} (r : Result Parsed Error) → IfErr r (λ e. IsRefused e o text) → IsPattern o text p → IfErr r (λ e. e ≡ Memory)
+pub only_memory : {o : DialectOptions} {text : Text} {p : Pattern} (r : Result Parsed Error) → IfErr r (λ e. IsRefused e o text) → IsPattern o text p → IfErr r (λ e. e ≡ Memory)
 only_memory (Ok p) h x = tt
 only_memory (Err e) h x = refused_is_memory e h x

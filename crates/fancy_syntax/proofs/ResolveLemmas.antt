@@ -1,5 +1,5 @@
 -- How references are resolved, one after another.
-use Rattle.std.proofs.Common.{◌≡◌, ℕ, ◌+◌, ◌-◌, ◌<◌, ◌≤◌, ◌==◌, ◌&&◌, not, nat_le, min, Bool, true, false, List, [], ◌∷◌, ◌++◌, map, length, take, get_or, All, Any, Some, None, Result, Ok, Err, refl, sym, ap, ap₂, ◌∙◌, cond, arith}
+use Rattle.std.proofs.Common.{◌≡◌, ℕ, ◌+◌, ◌-◌, ◌<◌, ◌≤◌, ◌==◌, ◌&&◌, not, nat_le, min, Bool, true, false, List, [], ◌∷◌, ◌++◌, map, length, take, get_or, None, Result, Ok, Err, refl, sym, ap, ap₂, ◌∙◌, cond, arith}
 use Rattle.std.proofs.lemmas.Bool.Decides.{nat_tests}
 use Rattle.std.specs.Char.{is_ascii_digit}
 use Rattle.std.proofs.lemmas.List.{map_more, map-append}
@@ -15,7 +15,7 @@ use Rattle.fancy_tree.specs.declared.name.GroupName.{GroupName}
 use Rattle.fancy_syntax.specs.declared.parse.Draft.{Draft}
 use Rattle.fancy_tree.specs.Names.{named_groups}
 use Rattle.fancy_syntax.specs.Dialect.{has_name}
-use Rattle.fancy_syntax.specs.Views.{target_of, targets_of, draft_groups, Resolves, RefusesReference}
+use Rattle.fancy_syntax.specs.Views.{target_of, targets_of, draft_groups, Resolves, RefusesReference, AreResolved, HaveFault}
 
 pub refuses_as : (e : Error) {P Q : ReferenceFault → Type 0} → ((f : ReferenceFault) → P f → Q f) → RefusesReference e P → RefusesReference e Q
 refuses_as Memory more h = tt
@@ -78,8 +78,8 @@ module _ (g : Groups) (ts : List Found_target) (i : ℕ) (t : Found_target) (bel
       ∙ (map-append (group_for g) (targets_of (take i ts)) (target_of (get_or ts i t) ∷ [])
       ∙ ap (λ m. map (group_for g) (targets_of (take i ts)) ++ m ∷ []) (ap (λ (x : Found_target). group_for g (target_of x)) (sym is) ∙ ap group_in e))
 
-  pub resolved_more : (n : ℕ) → resolve g (target_of t) ≡ Ok n → All (λ w. target_fault g (target_of w) ≡ None) (take i ts) → All (λ w. target_fault g (target_of w) ≡ None) (take (i + 1) ts)
+  pub resolved_more : (n : ℕ) → resolve g (target_of t) ≡ Ok n → AreResolved g (take i ts) → AreResolved g (take (i + 1) ts)
   resolved_more n e all = All-more (λ w. target_fault g (target_of w) ≡ None) ts i t below all (ap (λ (x : Found_target). target_fault g (target_of x)) (sym is) ∙ ap fault_in e)
 
-  pub refused_here : (e : Error) → RefusesReference e (λ f. resolve g (target_of t) ≡ Err f) → RefusesReference e (λ f. Any (λ w. target_fault g (target_of w) ≡ Some f) ts)
+  pub refused_here : (e : Error) → RefusesReference e (λ f. resolve g (target_of t) ≡ Err f) → RefusesReference e (HaveFault g ts)
   refused_here e h = refuses_as e (λ f k. (i, t, below, sym is, ap fault_in k)) h

@@ -3,8 +3,8 @@ use Rattle.std.proofs.Common.{◌≡◌, ℕ, zero, suc, ◌+◌, ◌≤◌, ◌
 use Rattle.std.specs.Option.{option_map}
 use Rattle.std.specs.List.{starts_with, list_all}
 use Rattle.fancy_tree.specs.declared.tree.Meaning.{Meaning}
-use Rattle.fancy_tree.specs.declared.tree.Taste.{Taste}
-use Rattle.fancy_tree.specs.declared.tree.Taste.TheVariants.{Greedy, Lazy, Possessive}
+use Rattle.fancy_tree.specs.declared.tree.RepeatKind.{RepeatKind}
+use Rattle.fancy_tree.specs.declared.tree.RepeatKind.TheVariants.{Greedy, Lazy, Possessive}
 use Rattle.fancy_syntax.specs.declared.groups.Grouping.{Grouping}
 use Rattle.fancy_tree.specs.Pattern.{Pattern, backreference, repeat, in_branches}
 use Rattle.fancy_tree.specs.Sizes.{is_empty}
@@ -18,7 +18,7 @@ use Rattle.fancy_syntax.specs.References.{Target, called, group_condition, is_le
 use Rattle.fancy_syntax.specs.Dialect as d
 use Rattle.fancy_syntax.specs.Dialect.{Flags, Scope, in_force, Setting, one_more_group, one_more_name, NameMark, name_mark, name_mark_after_p, GroupMark, mark_atomic, mark_ahead, mark_not_ahead, mark_behind, mark_not_behind, inside, wants, test_here, back_to, ReadsAtom, begins_quantifier, Quantifier, optional, asterisk, plus, exactly, at_least, between, at_most, Quantifies, greedily, lazily, possessively, Blanks, IsUnquantified, with_part}
 use Rattle.fancy_syntax.specs.Grammar as g
-use Rattle.fancy_syntax.specs.Grammar.{Place, past, past_blanks, here, RepeatBounds, bounds_in, past_count, are_bounds, opening, opens_group, parentheses, wrap, after_group, ends_branch, start}
+use Rattle.fancy_syntax.specs.Grammar.{Place, place_past, past_blanks, after_blanks, RepeatBounds, bounds_in, past_count, are_bounds, opening_here, opens_group, parentheses, wrap, after_group, ends_branch, start}
 use Rattle.fancy_tree.proofs.Facts.{some_pair, some_is_none, chosen, same_some, char_is, either_no, both_true, left_of}
 use Rattle.fancy_syntax.proofs.ParserLemmas.{referred}
 use Rattle.fancy_syntax.proofs.ReferenceLemmas.{ends_reference, ends_condition, reference_begins, no_paren_begun, no_end_begun, no_blank_begun}
@@ -123,42 +123,42 @@ turns_are_read (at_least n h) s after = rw (append_assoc n (44 ∷ 125 ∷ []) a
 turns_are_read (between n m h f le) s after = rw (append_assoc n (44 ∷ (m ++ 125 ∷ [])) after, append_assoc m (125 ∷ []) after) (count_is_read (between_is_read n m after h f le) s)
 turns_are_read (at_most m f) s after = rw (append_assoc m (125 ∷ []) after) (count_is_read (at_most_is_read m after f) s)
 
-greedy_is_read : (s : Scope) (after : Text) → is_at "?+" after ≡ false → ◌≡◌ {A = Option (Taste × Place)} (g.taste (start s after)) (Some (Greedy, start s after))
+greedy_is_read : (s : Scope) (after : Text) → is_at "?+" after ≡ false → ◌≡◌ {A = Option (RepeatKind × Place)} (g.kind (start s after)) (Some (Greedy, start s after))
 greedy_is_read s [] h = refl
 greedy_is_read s (c ∷ rest) h =
     let m = either_false (63 == c) ((43 == c) || false) h in
     let n = either_false (43 == c) false m.1 in
     rw (m.0, n.0) refl
 
-quantified_is : (a : Pattern) (p : Place) {s q r : Place} {b : RepeatBounds} {how : Taste} → here p ≡ s → begins_quantifier s.text ≡ true → is_empty a ≡ false → ◌≡◌ {A = Option (RepeatBounds × Place)} (g.quantifier_here s) (Some (b, q))
-    → ◌≡◌ {A = Option (Taste × Place)} (g.taste q) (Some (how, r)) → ◌≡◌ {A = Option (Pattern × Place)} (g.quantified a p) (Some (repeat b.0 b.1 how a, r))
+quantified_is : (a : Pattern) (p : Place) {s q r : Place} {b : RepeatBounds} {how : RepeatKind} → after_blanks p ≡ s → begins_quantifier s.text ≡ true → is_empty a ≡ false → ◌≡◌ {A = Option (RepeatBounds × Place)} (g.quantifier_here s) (Some (b, q))
+    → ◌≡◌ {A = Option (RepeatKind × Place)} (g.kind q) (Some (how, r)) → ◌≡◌ {A = Option (Pattern × Place)} (g.with_quantifier a p) (Some (repeat b.0 b.1 how a, r))
 quantified_is a p {b = b} is h e f t =
-    let begun : begins_quantifier (here p).text ≡ true = ap (λ (y : Place). begins_quantifier y.text) is ∙ h in
-    rw (begun, e) (ap (g.with_taste a) (ap g.quantifier_here is ∙ f) ∙ ap (option_map (λ (found : Taste × Place). (repeat b.0 b.1 found.0 a, found.1))) t)
+    let begun : begins_quantifier (after_blanks p).text ≡ true = ap (λ (y : Place). begins_quantifier y.text) is ∙ h in
+    rw (begun, e) (ap (g.with_kind a) (ap g.quantifier_here is ∙ f) ∙ ap (option_map (λ (found : RepeatKind × Place). (repeat b.0 b.1 found.0 a, found.1))) t)
 
 -- a quantifier that stands at once
-mark_here : {u after : Text} {low : ℕ} {high : Option ℕ} {taste : Taste} → Quantifies u after low high taste → (a : Pattern) (s : Scope) (p : Place) → here p ≡ start s (u ++ after) → is_empty a ≡ false
-    → g.quantified a p ≡ Some (repeat low high taste a, start s after)
+mark_here : {u after : Text} {low : ℕ} {high : Option ℕ} {kind : RepeatKind} → Quantifies u after low high kind → (a : Pattern) (s : Scope) (p : Place) → after_blanks p ≡ start s (u ++ after) → is_empty a ≡ false
+    → g.with_quantifier a p ≡ Some (repeat low high kind a, start s after)
 mark_here {after = after} (greedily {t = t} w h) a s p is e = quantified_is a p is (turns_begin w after) e (turns_are_read w s after) (greedy_is_read s after h)
 mark_here {after = after} (lazily {t = t} w) a s p is e =
     quantified_is a p (is ∙ ap (start s) (append_assoc t (63 ∷ []) after)) (turns_begin w (63 ∷ after)) e (turns_are_read w s (63 ∷ after)) refl
 mark_here {after = after} (possessively {t = t} w) a s p is e =
     quantified_is a p (is ∙ ap (start s) (append_assoc t (43 ∷ []) after)) (turns_begin w (43 ∷ after)) e (turns_are_read w s (43 ∷ after)) refl
 
-quantifies_begin : {u after : Text} {low : ℕ} {high : Option ℕ} {taste : Taste} → Quantifies u after low high taste → begins_quantifier (u ++ after) ≡ true
+quantifies_begin : {u after : Text} {low : ℕ} {high : Option ℕ} {kind : RepeatKind} → Quantifies u after low high kind → begins_quantifier (u ++ after) ≡ true
 quantifies_begin {after = after} (greedily w h) = turns_begin w after
 quantifies_begin {after = after} (lazily {t = t} w) = rw (append_assoc t (63 ∷ []) after) (turns_begin w (63 ∷ after))
 quantifies_begin {after = after} (possessively {t = t} w) = rw (append_assoc t (43 ∷ []) after) (turns_begin w (43 ∷ after))
 
-pub mark_is_read : {w u after : Text} {low : ℕ} {high : Option ℕ} {taste : Taste} → Quantifies u after low high taste → (a : Pattern) (s : Scope) → Blanks s.flags.ignore_blanks w (u ++ after) → is_empty a ≡ false
-    → g.quantified a (start s (w ++ (u ++ after))) ≡ Some (repeat low high taste a, start s after)
+pub mark_is_read : {w u after : Text} {low : ℕ} {high : Option ℕ} {kind : RepeatKind} → Quantifies u after low high kind → (a : Pattern) (s : Scope) → Blanks s.flags.ignore_blanks w (u ++ after) → is_empty a ≡ false
+    → g.with_quantifier a (start s (w ++ (u ++ after))) ≡ Some (repeat low high kind a, start s after)
 mark_is_read {w} {u} {after} q a s b e =
     mark_here q a s (start s (w ++ (u ++ after))) (ap (start s) (read_blanks b (quantifier_is_no_blank s.flags.ignore_blanks (u ++ after) (quantifies_begin q)))) e
 
-pub bare_is_read : (a : Pattern) (s : Scope) (after : Text) → IsUnquantified s.flags.ignore_blanks after → g.quantified a (start s after) ≡ Some (a, start s after)
+pub bare_is_read : (a : Pattern) (s : Scope) (after : Text) → IsUnquantified s.flags.ignore_blanks after → g.with_quantifier a (start s after) ≡ Some (a, start s after)
 bare_is_read a s after h = rw (unquantified_is_read s.flags.ignore_blanks after h) refl
 
-unnamed_opens : (s : Scope) (rest : Text) → is_at "?*" rest ≡ false → ◌≡◌ {A = Option (g.Opening × Place)} (opening (start s (40 ∷ rest))) (Some (g.unnamed_opening (start s (40 ∷ rest))))
+unnamed_opens : (s : Scope) (rest : Text) → is_at "?*" rest ≡ false → ◌≡◌ {A = Option (g.Opening × Place)} (opening_here (start s (40 ∷ rest))) (Some (g.unnamed_opening (start s (40 ∷ rest))))
 unnamed_opens s [] h = refl
 unnamed_opens s (x ∷ rest) h =
     let m = either_false (63 == x) ((42 == x) || false) h in
@@ -166,10 +166,10 @@ unnamed_opens s (x ∷ rest) h =
     rw (m.0, n.0) (rw m.0 refl)
 
 pub capture_is_read : (s : Scope) (rest : Text) → s.unnamed_capture ≡ true → is_at "?*" rest ≡ false
-    → ◌≡◌ {A = Option (g.Opening × Place)} (opening (start s (40 ∷ rest))) (Some (g.capture (s.opened + 1), start (one_more_group s) rest))
+    → ◌≡◌ {A = Option (g.Opening × Place)} (opening_here (start s (40 ∷ rest))) (Some (g.capture (s.opened + 1), start (one_more_group s) rest))
 capture_is_read s rest u h = unnamed_opens s rest h ∙ ap (λ b. Some (cond {A = g.Opening × Place} b (g.capture (s.opened + 1), start (one_more_group s) rest) (g.plain, start s rest))) u
 
-pub unnamed_is_read : (s : Scope) (rest : Text) → s.unnamed_capture ≡ false → is_at "?*" rest ≡ false → ◌≡◌ {A = Option (g.Opening × Place)} (opening (start s (40 ∷ rest))) (Some (g.plain, start s rest))
+pub unnamed_is_read : (s : Scope) (rest : Text) → s.unnamed_capture ≡ false → is_at "?*" rest ≡ false → ◌≡◌ {A = Option (g.Opening × Place)} (opening_here (start s (40 ∷ rest))) (Some (g.plain, start s rest))
 unnamed_is_read s rest u h = unnamed_opens s rest h ∙ ap (λ b. Some (cond {A = g.Opening × Place} b (g.capture (s.opened + 1), start (one_more_group s) rest) (g.plain, start s rest))) u
 
 plain_opens : g.plain ≡ g.setting → ⊥
@@ -192,7 +192,7 @@ condition_is_no_setting e = cc
 
 -- flags that are spelled open what they are to open
 pub flags_open : (s : Scope) {t : Text} {f : Flags} → Setting s.meaning t s.flags f → (d : ℕ) (rest : Text) → (d ∈ ":)") ≡ true
-    → ◌≡◌ {A = Option (g.Opening × Place)} (opening (start s (40 ∷ 63 ∷ (t ++ d ∷ rest)))) (Some (cond (58 == d) g.plain g.setting, start (in_force f s) rest))
+    → ◌≡◌ {A = Option (g.Opening × Place)} (opening_here (start s (40 ∷ 63 ∷ (t ++ d ∷ rest)))) (Some (cond (58 == d) g.plain g.setting, start (in_force f s) rest))
 flags_open s {t} {f} l d rest h =
     let n = no_colon_first l in
     let other : begins "(?:" (40 ∷ 63 ∷ (t ++ d ∷ rest)) ≡ false = rw n.2.0 (rw n.2.1 refl) in
@@ -216,7 +216,7 @@ named_is_read s whole n rest h =
 
 -- a name that is spelled opens its group
 pub name_opens : (s : Scope) {m : Text} → NameMark m → (n rest : Text) → is_name n ≡ true
-    → ◌≡◌ {A = Option (g.Opening × Place)} (opening (start s (40 ∷ 63 ∷ (m ++ (n ++ 62 ∷ rest))))) (Some (g.capture (s.opened + 1), start (one_more_name n s) rest))
+    → ◌≡◌ {A = Option (g.Opening × Place)} (opening_here (start s (40 ∷ 63 ∷ (m ++ (n ++ 62 ∷ rest))))) (Some (g.capture (s.opened + 1), start (one_more_name n s) rest))
 name_opens s name_mark n rest h =
     let no_look = name_is_no_look n (62 ∷ rest) h in
     let behind : begins "(?<=" (40 ∷ 63 ∷ 60 ∷ (n ++ 62 ∷ rest)) ≡ false = no_word (n ++ 62 ∷ rest) 61 no_look.0 in
@@ -229,7 +229,7 @@ name_opens s name_mark n rest h =
 name_opens s name_mark_after_p n rest h = named_is_read s (40 ∷ 63 ∷ 80 ∷ 60 ∷ (n ++ 62 ∷ rest)) n rest h
 
 -- a mark that is spelled opens its group
-pub mark_opens : (s : Scope) {m : Text} {how : Grouping} → GroupMark m how → (rest : Text) → ◌≡◌ {A = Option (g.Opening × Place)} (opening (start s (40 ∷ (m ++ rest)))) (Some (g.marked how, start (inside how s) rest))
+pub mark_opens : (s : Scope) {m : Text} {how : Grouping} → GroupMark m how → (rest : Text) → ◌≡◌ {A = Option (g.Opening × Place)} (opening_here (start s (40 ∷ (m ++ rest)))) (Some (g.marked how, start (inside how s) rest))
 mark_opens s mark_atomic rest = refl
 mark_opens s mark_ahead rest = refl
 mark_opens s mark_not_ahead rest = refl
@@ -243,17 +243,17 @@ choose_reference s a b m n u v h e f w = rw (h, e, f, w) refl
 
 -- a reference to a name that is spelled is one
 pub reference_opens : (s : Scope) (n rest : Text) → is_name n ≡ true
-    → ◌≡◌ {A = Option (g.Opening × Place)} (opening (start s (40 ∷ 63 ∷ 80 ∷ 61 ∷ (n ++ 41 ∷ rest)))) (Some (g.reference s.flags.ignore_case (length s.wanted), start (wants (called n) s) rest))
+    → ◌≡◌ {A = Option (g.Opening × Place)} (opening_here (start s (40 ∷ 63 ∷ 80 ∷ 61 ∷ (n ++ 41 ∷ rest)))) (Some (g.reference s.flags.ignore_case (length s.wanted), start (wants (called n) s) rest))
 reference_opens s n rest h =
     choose_reference s (length (name_here (n ++ 41 ∷ rest)) == 0) (is_at ")" (past_name (n ++ 41 ∷ rest))) (name_here (n ++ 41 ∷ rest)) n (past_name (n ++ 41 ∷ rest)) (41 ∷ rest)
     (ap (λ l. length l == 0) (name_is_read 41 n rest no_parenthesis h) ∙ name_is_some n h) (ap (is_at ")") (past_read 41 n rest no_parenthesis h)) (name_is_read 41 n rest no_parenthesis h) (past_read 41 n rest no_parenthesis h)
 
 -- a conditional that is spelled is one
-pub test_opens : (s : Scope) (t : Text) {w : Target} {u : Text} → group_condition t ≡ Some (w, u) → ◌≡◌ {A = Option (g.Opening × Place)} (opening (start s (40 ∷ 63 ∷ 40 ∷ t))) (Some (g.chooses (test_here s), start (wants w s) u))
+pub test_opens : (s : Scope) (t : Text) {w : Target} {u : Text} → group_condition t ≡ Some (w, u) → ◌≡◌ {A = Option (g.Opening × Place)} (opening_here (start s (40 ∷ 63 ∷ 40 ∷ t))) (Some (g.chooses (test_here s), start (wants w s) u))
 test_opens s t h = ap (g.by_test (start s (40 ∷ 63 ∷ 40 ∷ t)) t) h
 
 -- and so is one whose condition is a pattern
-pub condition_opens : (s : Scope) (t : Text) → group_condition t ≡ None → is_left_out t ≡ false → ◌≡◌ {A = Option (g.Opening × Place)} (opening (start s (40 ∷ 63 ∷ 40 ∷ t))) (Some (g.condition, start s t))
+pub condition_opens : (s : Scope) (t : Text) → group_condition t ≡ None → is_left_out t ≡ false → ◌≡◌ {A = Option (g.Opening × Place)} (opening_here (start s (40 ∷ 63 ∷ 40 ∷ t))) (Some (g.condition, start s t))
 condition_opens s t h f = ap (g.by_test (start s (40 ∷ 63 ∷ 40 ∷ t)) t) h ∙ ap (λ b. cond {A = Option (g.Opening × Place)} b None (Some (g.condition, start s t))) f
 
 one_parenthesis : (k : ℕ) → 1 ≤ suc k
@@ -263,25 +263,25 @@ two_parentheses : (k : ℕ) → 2 ≤ suc (suc k)
 two_parentheses k = omega arith
 
 mutual
-  pub read_branches : {k : ℕ} {s r : Scope} {t after : Text} {bs : List Pattern} → d.Branches k s t after bs r → ends_branch after ≡ true → is_at "|" after ≡ false → g.Branches k (start s (t ++ after)) bs (start r after)
+  pub read_branches : {k : ℕ} {s r : Scope} {t after : Text} {bs : List Pattern} → d.Branches k s t after bs r → ends_branch after ≡ true → is_at "|" after ≡ false → g.BranchesReading k (start s (t ++ after)) bs (start r after)
   read_branches (d.one p) e f = g.last (read_parts p e) f
   read_branches {after = after} (d.either {q = q} {t = t} {u = u} p b) e f = rw (append_assoc t (124 ∷ u) after) (g.more (read_parts p refl) refl (read_branches b e f))
 
-  pub read_parts : {k : ℕ} {s r : Scope} {t after : Text} {ps : List Pattern} → d.Parts k s t after ps r → ends_branch after ≡ true → g.Parts k (start s (t ++ after)) ps (start r after)
+  pub read_parts : {k : ℕ} {s r : Scope} {t after : Text} {ps : List Pattern} → d.Parts k s t after ps r → ends_branch after ≡ true → g.PartsReading k (start s (t ++ after)) ps (start r after)
   read_parts {k} {s = s} {t = t} {after = after} (d.nothing b) e =
       let left : past_blanks s.flags.ignore_blanks (t ++ after) ≡ after = read_blanks b (end_is_no_blank s.flags.ignore_blanks after e) in
-      subst (λ l. g.Parts k (start s (t ++ after)) [] (start s l)) left (g.none (ap ends_branch left ∙ e))
+      subst (λ l. g.PartsReading k (start s (t ++ after)) [] (start s l)) left (g.none (ap ends_branch left ∙ e))
   read_parts {k} {s = s} {r = r} {after = after} (d.item {q = q} {t = t} {u = u} {v = v} {x = x} b i p) e =
       let left : past_blanks s.flags.ignore_blanks (t ++ (u ++ (v ++ after))) ≡ u ++ (v ++ after) = read_blanks b (item_is_no_blank i) in
       rw (append_assoc t (u ++ v) after, append_assoc u v after)
-      (g.next (ap ends_branch left ∙ item_begins i) (subst (λ l. g.Item k (start s l) x (start q (v ++ after))) (sym left) (read_item i)) (read_parts p e))
+      (g.next (ap ends_branch left ∙ item_begins i) (subst (λ l. g.ItemReading k (start s l) x (start q (v ++ after))) (sym left) (read_item i)) (read_parts p e))
 
-  pub read_item : {k : ℕ} {s r : Scope} {t after : Text} {x : Option Pattern} → d.Item k s t after x r → g.Item k (start s (t ++ after)) x (start r after)
+  pub read_item : {k : ℕ} {s r : Scope} {t after : Text} {x : Option Pattern} → d.Item k s t after x r → g.ItemReading k (start s (t ++ after)) x (start r after)
   read_item {s = s} {after = after} (d.set {t = t} f) = rw (append_assoc t (41 ∷ []) after) (g.sets refl (g.at_once (flags_open s f 41 after refl) refl (one_parenthesis _)))
   read_item (d.bare {q = q} {after = after} {a = a} b h) = read_atom b (bare_is_read a q after h)
   read_item (d.quantified {q = q} {t = t} {u = u} {v = v} {after = after} {a = a} b e c h) = rw (append_assoc t (u ++ v) after, append_assoc u v after) (read_atom b (mark_is_read h a q c e))
 
-  pub read_atom : {k : ℕ} {s q : Scope} {t after : Text} {a x : Pattern} {r : Place} → d.Atom k s t after a q → g.quantified a (start q after) ≡ Some (x, r) → g.Item k (start s (t ++ after)) (Some x) r
+  pub read_atom : {k : ℕ} {s q : Scope} {t after : Text} {a x : Pattern} {r : Place} → d.Atom k s t after a q → g.with_quantifier a (start q after) ≡ Some (x, r) → g.ItemReading k (start s (t ++ after)) (Some x) r
   read_atom (d.single b r) f = g.single (no_paren r) (g.alone r) f
   read_atom {after = after} (d.plain {t = t} b) f = rw (append_assoc t (41 ∷ []) after) (g.grouped refl (g.at_once refl refl (one_parenthesis _)) refl (read_branches b refl refl) refl f)
   read_atom {s = s} {after = after} (d.flagged {u = u} {t = t} l b) f =
@@ -414,7 +414,7 @@ marked_here t how n h =
 -- the opening that nothing distinguishes
 unnamed_opened : (p : Place) (how : g.Opening) (q : Place) → p.text ≡ 40 ∷ drop 1 p.text → is_at "?*" (drop 1 p.text) ≡ false → ◌≡◌ {A = Option (g.Opening × Place)} (Some (g.unnamed_opening p)) (Some (how, q)) → Opened p how q
 unnamed_opened p how q is n h =
-    elim (chosen p.scope.unnamed_capture (g.capture (p.scope.opened + 1), start (one_more_group p.scope) (drop 1 p.text)) (g.plain, past 1 p) (how, q) (same_some h)) [
+    elim (chosen p.scope.unnamed_capture (g.capture (p.scope.opened + 1), start (one_more_group p.scope) (drop 1 p.text)) (g.plain, place_past 1 p) (how, q) (same_some h)) [
       | inl x ↦ is_opened (ap Some x.1) (as_capture (drop 1 p.text) x.0 is n)
       | inr x ↦ is_opened (ap Some x.1) (as_unnamed (drop 1 p.text) x.0 is n)
     ]
@@ -449,7 +449,7 @@ unmarked_opened p how q e h =
         let r = setting_spelled p.scope.meaning (drop 2 p.text) p.scope.flags f v x in
         flags_opened p how q f r.letters v (is ∙ ap (λ l. 40 ∷ 63 ∷ l) r.is) r.spelled r.ends h
 
-pub opened : (p : Place) (how : g.Opening) (q : Place) → is_at "(" p.text ≡ true → opening p ≡ Some (how, q) → Opened p how q
+pub opened : (p : Place) (how : g.Opening) (q : Place) → is_at "(" p.text ≡ true → opening_here p ≡ Some (how, q) → Opened p how q
 opened p how q e h =
     elim (chosen (begins "(?:" p.text) _ _ _ h) [
       | inl x ↦ is_opened x.1 (as_plain (drop 3 p.text) (begins_with (codes "(?:") p.text x.0))
@@ -491,20 +491,20 @@ stated p b q h =
         let c = count_spelled (drop 1 p.text) b.1 f.1 in
         record { mark = 123 ∷ c.mark; rest = past_count (drop 1 p.text); text = at_char 123 p.text b.0 ∙ ap (λ l. 123 ∷ l) c.text; states = c.states; end = refl }
 
-    one_mark : (c : ℕ) {low : ℕ} {high : Option ℕ} → Quantifier (c ∷ []) low high → is_at_any (c ∷ []) p.text ≡ true → Stated p (low, high) (past 1 p)
+    one_mark : (c : ℕ) {low : ℕ} {high : Option ℕ} → Quantifier (c ∷ []) low high → is_at_any (c ∷ []) p.text ≡ true → Stated p (low, high) (place_past 1 p)
     one_mark c w x = record { mark = c ∷ []; rest = drop 1 p.text; text = at_char c p.text x; states = w; end = refl }
 
     is_it : {a : RepeatBounds} {r : Place} → ◌≡◌ {A = Option (RepeatBounds × Place)} (Some (a, r)) (Some (b, q)) → Stated p a r → Stated p b q
     is_it {a} {r} s o = let t = some_pair s in subst (λ x. Stated p x q) t.0 (subst (λ y. Stated p a y) t.1 o)
 
--- the taste that was read
-pub data Tasted (p : Place) : Taste → Place → Type 0 where
-  no_suffix : is_at "?+" p.text ≡ false → Tasted p Greedy p
-  lazy_suffix : (u : Text) → p.text ≡ 63 ∷ u → Tasted p Lazy (start p.scope u)
-  possessive_suffix : (u : Text) → p.text ≡ 43 ∷ u → Tasted p Possessive (start p.scope u)
+-- the kind that was read
+pub data Suffixed (p : Place) : RepeatKind → Place → Type 0 where
+  no_suffix : is_at "?+" p.text ≡ false → Suffixed p Greedy p
+  lazy_suffix : (u : Text) → p.text ≡ 63 ∷ u → Suffixed p Lazy (start p.scope u)
+  possessive_suffix : (u : Text) → p.text ≡ 43 ∷ u → Suffixed p Possessive (start p.scope u)
 
-pub tasted : (p : Place) (how : Taste) (q : Place) → g.taste p ≡ Some (how, q) → Tasted p how q
-tasted p how q h =
+pub suffixed : (p : Place) (how : RepeatKind) (q : Place) → g.kind p ≡ Some (how, q) → Suffixed p how q
+suffixed p how q h =
     elim (chosen (is_at "?" p.text) _ _ _ h) [
       | inl x ↦ is_it x.1 (lazy_suffix (drop 1 p.text) (at_char 63 p.text x.0))
       | inr x ↦ (let lazy = x.0 in elim (chosen (is_at "+" p.text) _ _ _ x.1) [
@@ -522,33 +522,33 @@ tasted p how q h =
         go false true h f = cc
         go false false h f = refl
 
-    is_it : {a : Taste} {r : Place} → ◌≡◌ {A = Option (Taste × Place)} (Some (a, r)) (Some (how, q)) → Tasted p a r → Tasted p how q
-    is_it {a} {r} s o = let t = some_pair s in subst (λ x. Tasted p x q) t.0 (subst (λ y. Tasted p a y) t.1 o)
+    is_it : {a : RepeatKind} {r : Place} → ◌≡◌ {A = Option (RepeatKind × Place)} (Some (a, r)) (Some (how, q)) → Suffixed p a r → Suffixed p how q
+    is_it {a} {r} s o = let t = some_pair s in subst (λ x. Suffixed p x q) t.0 (subst (λ y. Suffixed p a y) t.1 o)
 
 -- the quantifier that was read, or none
 pub data Quantity (a : Pattern) (q : Place) : Pattern → Place → Type 0 where
   no_mark : IsUnquantified q.scope.flags.ignore_blanks q.text → Quantity a q a q
-  marked : {low : ℕ} {high : Option ℕ} {taste : Taste} (w m u : Text) → q.text ≡ w ++ (m ++ u) → Blanks q.scope.flags.ignore_blanks w (m ++ u) → is_empty a ≡ false → Quantifies m u low high taste
-      → Quantity a q (repeat low high taste a) (start q.scope u)
+  marked : {low : ℕ} {high : Option ℕ} {kind : RepeatKind} (w m u : Text) → q.text ≡ w ++ (m ++ u) → Blanks q.scope.flags.ignore_blanks w (m ++ u) → is_empty a ≡ false → Quantifies m u low high kind
+      → Quantity a q (repeat low high kind a) (start q.scope u)
 
--- a repeat is its number of turns and its taste
+-- a repeat is its number of turns and its kind
 pub record Repeats (a : Pattern) (o : Option (RepeatBounds × Place)) (t : Pattern) (r : Place) : Type 0 where
   pub bounds : RepeatBounds
   pub follows : Place
-  pub how : Taste
+  pub how : RepeatKind
   pub turns : o ≡ Some (bounds, follows)
-  pub taste : g.taste follows ≡ Some (how, r)
+  pub kind : g.kind follows ≡ Some (how, r)
   pub is : repeat bounds.0 bounds.1 how a ≡ t
 
-pub repeats : (a : Pattern) (o : Option (RepeatBounds × Place)) (t : Pattern) (r : Place) → g.with_taste a o ≡ Some (t, r) → Repeats a o t r
+pub repeats : (a : Pattern) (o : Option (RepeatBounds × Place)) (t : Pattern) (r : Place) → g.with_kind a o ≡ Some (t, r) → Repeats a o t r
 repeats a None t r h = absurd (some_is_none (sym h))
-repeats a (Some (b, p)) t r h = go (g.taste p) refl h
+repeats a (Some (b, p)) t r h = go (g.kind p) refl h
   where
-    go : (o : Option (Taste × Place)) → g.taste p ≡ o → ◌≡◌ {A = Option (Pattern × Place)} (option_map {U = Pattern × Place} (λ (found : Taste × Place). (repeat b.0 b.1 found.0 a, found.1)) o) (Some (t, r)) → Repeats a (Some (b, p)) t r
+    go : (o : Option (RepeatKind × Place)) → g.kind p ≡ o → ◌≡◌ {A = Option (Pattern × Place)} (option_map {U = Pattern × Place} (λ (found : RepeatKind × Place). (repeat b.0 b.1 found.0 a, found.1)) o) (Some (t, r)) → Repeats a (Some (b, p)) t r
     go None e h = absurd (some_is_none (sym h))
-    go (Some (how, s)) e h = let x = some_pair h in record { bounds = b; follows = p; how = how; turns = refl; taste = e ∙ ap (λ (y : Place). Some (how, y)) x.1; is = x.0 }
+    go (Some (how, s)) e h = let x = some_pair h in record { bounds = b; follows = p; how = how; turns = refl; kind = e ∙ ap (λ (y : Place). Some (how, y)) x.1; is = x.0 }
 
-quantity_of : (a : Pattern) (q p : Place) {b : RepeatBounds} {r : Place} {how : Taste} → is_empty a ≡ false → Stated (here q) b p → Tasted p how r → Quantity a q (repeat b.0 b.1 how a) r
+quantity_of : (a : Pattern) (q p : Place) {b : RepeatBounds} {r : Place} {how : RepeatKind} → is_empty a ≡ false → Stated (after_blanks q) b p → Suffixed p how r → Quantity a q (repeat b.0 b.1 how a) r
 quantity_of a q p {b} e s (no_suffix h) =
     let w = skipped q.scope.flags.ignore_blanks q.text in
     subst (λ y. Quantity a q (repeat b.0 b.1 Greedy a) y) (sym s.end)
@@ -556,24 +556,24 @@ quantity_of a q p {b} e s (no_suffix h) =
     (greedily s.states (ap (λ (y : Place). is_at "?+" y.text) (sym s.end) ∙ h)))
 quantity_of a q p {b} e s (lazy_suffix u h) =
     let w = skipped q.scope.flags.ignore_blanks q.text in
-    let is : (here q).text ≡ (s.mark ++ codes "?") ++ u = s.text ∙ (ap (λ l. s.mark ++ l) (ap (λ (y : Place). y.text) (sym s.end) ∙ h) ∙ sym (append_assoc s.mark (63 ∷ []) u)) in
+    let is : (after_blanks q).text ≡ (s.mark ++ codes "?") ++ u = s.text ∙ (ap (λ l. s.mark ++ l) (ap (λ (y : Place). y.text) (sym s.end) ∙ h) ∙ sym (append_assoc s.mark (63 ∷ []) u)) in
     subst (λ (y : Place). Quantity a q (repeat b.0 b.1 Lazy a) (start y.scope u)) (sym s.end)
     (marked w.row (s.mark ++ codes "?") u (w.is ∙ ap (λ l. w.row ++ l) is) (subst (λ l. Blanks q.scope.flags.ignore_blanks w.row l) is w.spelled) e (lazily s.states))
 quantity_of a q p {b} e s (possessive_suffix u h) =
     let w = skipped q.scope.flags.ignore_blanks q.text in
-    let is : (here q).text ≡ (s.mark ++ codes "+") ++ u = s.text ∙ (ap (λ l. s.mark ++ l) (ap (λ (y : Place). y.text) (sym s.end) ∙ h) ∙ sym (append_assoc s.mark (43 ∷ []) u)) in
+    let is : (after_blanks q).text ≡ (s.mark ++ codes "+") ++ u = s.text ∙ (ap (λ l. s.mark ++ l) (ap (λ (y : Place). y.text) (sym s.end) ∙ h) ∙ sym (append_assoc s.mark (43 ∷ []) u)) in
     subst (λ (y : Place). Quantity a q (repeat b.0 b.1 Possessive a) (start y.scope u)) (sym s.end)
     (marked w.row (s.mark ++ codes "+") u (w.is ∙ ap (λ l. w.row ++ l) is) (subst (λ l. Blanks q.scope.flags.ignore_blanks w.row l) is w.spelled) e (possessively s.states))
 
-pub quantity : (a : Pattern) (q : Place) (t : Pattern) (r : Place) → g.quantified a q ≡ Some (t, r) → Quantity a q t r
+pub quantity : (a : Pattern) (q : Place) (t : Pattern) (r : Place) → g.with_quantifier a q ≡ Some (t, r) → Quantity a q t r
 quantity a q t r h =
-    elim (chosen (not (begins_quantifier (here q).text)) _ _ _ h) [
+    elim (chosen (not (begins_quantifier (after_blanks q).text)) _ _ _ h) [
       | inl x ↦ is_it x.1 (no_mark (unquantified_is_spelled q.scope.flags.ignore_blanks q.text (not_true _ x.0)))
       | inr x ↦ elim (chosen (is_empty a) _ _ _ x.1) [
         | inl x ↦ absurd (some_is_none (sym x.1))
         | inr x ↦
-            let w = repeats a (g.quantifier_here (here q)) t r x.1 in
-            subst (λ y. Quantity a q y r) w.is (quantity_of a q w.follows x.0 (stated (here q) w.bounds w.follows w.turns) (tasted w.follows w.how r w.taste))
+            let w = repeats a (g.quantifier_here (after_blanks q)) t r x.1 in
+            subst (λ y. Quantity a q y r) w.is (quantity_of a q w.follows x.0 (stated (after_blanks q) w.bounds w.follows w.turns) (suffixed w.follows w.how r w.kind))
       ]
     ]
   where
@@ -707,7 +707,7 @@ spell_condition {p} {inside} {c} {t} {after} {cs} {bs} {r} {s} i x is a b = (
 )
 
 mutual
-  pub spell_branches : {k : ℕ} {p r : Place} {bs : List Pattern} → g.Branches k p bs r → (t : Text) × (p.text ≡ t ++ r.text) × d.Branches k p.scope t r.text bs r.scope
+  pub spell_branches : {k : ℕ} {p r : Place} {bs : List Pattern} → g.BranchesReading k p bs r → (t : Text) × (p.text ≡ t ++ r.text) × d.Branches k p.scope t r.text bs r.scope
   spell_branches (g.last b e) = let x = spell_parts b in (x.0, x.1, d.one x.2)
   spell_branches {k} {p} {r} (g.more {q = q} {ps = ps} b e c) =
       let x = spell_parts b in
@@ -715,19 +715,19 @@ mutual
       let is : q.text ≡ 124 ∷ (y.0 ++ r.text) = at_char 124 q.text e ∙ ap (λ l. 124 ∷ l) y.1 in
       (x.0 ++ (124 ∷ y.0), x.1 ∙ (ap (λ l. x.0 ++ l) is ∙ sym (append_assoc x.0 (124 ∷ y.0) r.text)), d.either (subst (λ l. d.Parts k p.scope x.0 l ps q.scope) is x.2) y.2)
 
-  pub spell_parts : {k : ℕ} {p r : Place} {ps : List Pattern} → g.Parts k p ps r → (t : Text) × (p.text ≡ t ++ r.text) × d.Parts k p.scope t r.text ps r.scope
+  pub spell_parts : {k : ℕ} {p r : Place} {ps : List Pattern} → g.PartsReading k p ps r → (t : Text) × (p.text ≡ t ++ r.text) × d.Parts k p.scope t r.text ps r.scope
   spell_parts {p = p} (g.none e) = let w = skipped p.scope.flags.ignore_blanks p.text in (w.row, w.is, d.nothing w.spelled)
   spell_parts {k} {p} {r} (g.next {q = q} {item = item} h i ps) =
       let w = skipped p.scope.flags.ignore_blanks p.text in
       let x = spell_item i (no_blank_left p.scope.flags.ignore_blanks p.text) in
       let y = spell_parts ps in
-      let is : (here p).text ≡ x.0 ++ (y.0 ++ r.text) = x.1 ∙ ap (λ l. x.0 ++ l) y.1 in (
+      let is : (after_blanks p).text ≡ x.0 ++ (y.0 ++ r.text) = x.1 ∙ ap (λ l. x.0 ++ l) y.1 in (
         w.row ++ (x.0 ++ y.0),
         w.is ∙ (ap (λ l. w.row ++ l) (is ∙ sym (append_assoc x.0 y.0 r.text)) ∙ sym (append_assoc w.row (x.0 ++ y.0) r.text)),
         d.item (subst (λ l. Blanks p.scope.flags.ignore_blanks w.row l) is w.spelled) (subst (λ l. d.Item k p.scope x.0 l item q.scope) y.1 x.2) y.2,
       )
 
-  pub spell_item : {k : ℕ} {p r : Place} {x : Option Pattern} → g.Item k p x r → past_blank p.scope.flags.ignore_blanks p.text ≡ None → (t : Text) × (p.text ≡ t ++ r.text) × d.Item k p.scope t r.text x r.scope
+  pub spell_item : {k : ℕ} {p r : Place} {x : Option Pattern} → g.ItemReading k p x r → past_blank p.scope.flags.ignore_blanks p.text ≡ None → (t : Text) × (p.text ≡ t ++ r.text) × d.Item k p.scope t r.text x r.scope
   spell_item {p = p} {r = r} (g.sets e o) clean =
       let w = at_most_opened e o refl in
       subst (λ m. (t : Text) × (p.text ≡ t ++ r.text) × d.Item m p.scope t r.text None r.scope) (sym w.1) (spell_setting {k = w.0} w.2 refl)
@@ -762,7 +762,7 @@ pub spelling_read : {s : Scope} {text : Text} {p : Pattern} {end : Scope} → d.
 spelling_read {s} {text} {p} {end} x = record {
   branches = x.branches;
   is = x.is;
-  reads = subst (λ l. g.Branches 64 (start s l) x.branches (start end [])) (append-nil text) (read_branches x.spelled refl refl);
+  reads = subst (λ l. g.BranchesReading 64 (start s l) x.branches (start end [])) (append-nil text) (read_branches x.spelled refl refl);
   all = refl;
 }
 

@@ -5,7 +5,7 @@ use Rattle.fancy_syntax.specs.declared.groups.Grouping.TheVariants.{Atomic, Look
 use Rattle.fancy_tree.specs.Pattern.{Pattern, backreference, group_test, group, repeat, in_sequence, in_branches}
 use Rattle.fancy_tree.specs.Sizes.{is_empty}
 use Rattle.fancy_tree.specs.Text.{Text}
-use Rattle.fancy_syntax.specs.Dialect.{Scope, Options, begin, has_name, lexeme, ReadsAtom, by_lexeme, by_class, with_part, Branches, one, either, Parts, nothing, item, Item, set, bare, quantified, Atom, single, plain, flagged, capture, unnamed, named, marked, reference, reference_by_name, tested, decided, conditional_of, inside, grouped, Spells, SpellsUnder}
+use Rattle.fancy_syntax.specs.Dialect.{Scope, DialectOptions, begin, has_name, lexeme, ReadsAtom, by_lexeme, by_class, with_part, Branches, one, either, Parts, nothing, item, Item, set, bare, quantified, Atom, single, plain, flagged, capture, unnamed, named, marked, reference, reference_by_name, tested, decided, conditional_of, inside, group_of, Spells, SpellsUnder}
 use Rattle.fancy_syntax.specs.References.{Target, called}
 use Rattle.fancy_tree.proofs.Facts.{true_is_false}
 use Rattle.fancy_syntax.proofs.UniqueLemmas.{one_pattern, one_end}
@@ -92,7 +92,7 @@ same_names Atomic s = refl
 same_names (LookAhead negated) s = refl
 same_names (LookBehind negated) s = refl
 
-fuller_marked : (how : Grouping) (p q : Pattern) → IsFuller (grouped how p) (grouped how q)
+fuller_marked : (how : Grouping) (p q : Pattern) → IsFuller (group_of how p) (group_of how q)
 fuller_marked Atomic p q = never_empty refl
 fuller_marked (LookAhead negated) p q = never_empty refl
 fuller_marked (LookBehind negated) p q = never_empty refl
@@ -137,11 +137,11 @@ mutual
   capture_item (bare a u) f =
       let x = capture_atom a f in
       record { after = x.after; found = Some x.found; fuller = a_part x.fuller; spelled = bare x.spelled u; named = x.named }
-  capture_item (quantified {low = low} {high = high} {taste = taste} {a = a} b e c q) f =
+  capture_item (quantified {low = low} {high = high} {kind = kind} {a = a} b e c q) f =
       let x = capture_atom b f in
       record {
         after = x.after;
-        found = Some (repeat low high taste x.found);
+        found = Some (repeat low high kind x.found);
         fuller = a_part (never_empty refl);
         spelled = quantified x.spelled (not_empty a x.found x.fuller e) c q;
         named = x.named;
@@ -174,7 +174,7 @@ mutual
       let x = capture_branches b f in
       record {
         after = x.after;
-        found = grouped how (in_branches x.found);
+        found = group_of how (in_branches x.found);
         fuller = fuller_marked how (in_branches bs) (in_branches x.found);
         spelled = marked m (subst (λ z. Branches k z t (codes ")" ++ after) x.found (capturing x.after q)) (same_inside how f s) x.spelled);
         named = λ e. x.named (e ∙ ap has_name (sym (same_names how s)));
@@ -199,48 +199,48 @@ mutual
       record { after = record f { wanted = f.wanted ++ (called n ∷ []) }; found = backreference s.flags.ignore_case (length f.wanted); fuller = never_empty refl; spelled = reference_by_name n h; named = λ e. e }
 
 -- what is spelled where groups without a name capture nothing, is spelled where they capture, with names where there were some
-pub record Capturing (o : Options) (text : Text) (end : Scope) : Type 0 where
+pub record Capturing (o : DialectOptions) (text : Text) (end : Scope) : Type 0 where
   pub pattern : Pattern
   pub inside : Scope
   pub spelled : Spells (begin true o) text pattern inside
   pub named : has_name inside.names ≡ has_name end.names
 
-pub spelled_capturing : (b : Bool) (o : Options) {text : Text} {p : Pattern} {end : Scope} → Spells (begin b o) text p end → Capturing o text end
+pub spelled_capturing : (b : Bool) (o : DialectOptions) {text : Text} {p : Pattern} {end : Scope} → Spells (begin b o) text p end → Capturing o text end
 spelled_capturing b o {end = end} x =
     let y = capture_branches x.spelled nothing_before in
     record { pattern = in_branches y.found; inside = capturing y.after end; spelled = record { branches = y.found; is = refl; spelled = y.spelled }; named = y.named refl }
 
 -- a text that is not spelled where groups without a name capture, is spelled under no options
-pub none_under : {o : Options} {text : Text} → ((p : Pattern) (end : Scope) → Spells (begin true o) text p end → ⊥) → (p : Pattern) (end : Scope) → SpellsUnder o text p end → ⊥
+pub none_under : {o : DialectOptions} {text : Text} → ((p : Pattern) (end : Scope) → Spells (begin true o) text p end → ⊥) → (p : Pattern) (end : Scope) → SpellsUnder o text p end → ⊥
 none_under {o} none p end x = let y = spelled_capturing x.unnamed o x.spelled in none y.pattern y.inside y.spelled
 
 -- the options settle whether groups without a name capture, by the names that are found where they do
-pub settled_by : {o : Options} {text : Text} {p q : Pattern} {e f : Scope} → Spells (begin true o) text q f → (x : SpellsUnder o text p e) → x.unnamed ≡ not (o.only_named && has_name f.names)
+pub settled_by : {o : DialectOptions} {text : Text} {p q : Pattern} {e f : Scope} → Spells (begin true o) text q f → (x : SpellsUnder o text p e) → x.unnamed ≡ not (o.only_named && has_name f.names)
 settled_by {o} {text} {q = q} {f = f} y x =
     let z = spelled_capturing x.unnamed o x.spelled in
     let same : f ≡ z.inside = one_end (begin true o) text q z.pattern f z.inside y z.spelled in
     x.settled ∙ ap (λ b. not (o.only_named && b)) (sym z.named ∙ ap (λ (s : Scope). has_name s.names) (sym same))
 
 -- what is spelled as the names settle, is spelled under the options
-pub settles : {o : Options} {text : Text} {p q : Pattern} {e f : Scope} (b : Bool) → Spells (begin true o) text q f → b ≡ not (o.only_named && has_name f.names) → Spells (begin b o) text p e → SpellsUnder o text p e
+pub settles : {o : DialectOptions} {text : Text} {p q : Pattern} {e f : Scope} (b : Bool) → Spells (begin true o) text q f → b ≡ not (o.only_named && has_name f.names) → Spells (begin b o) text p e → SpellsUnder o text p e
 settles {o} {text} {q = q} {e = e} {f = f} b y h x =
     let z = spelled_capturing b o x in
     let same : f ≡ z.inside = one_end (begin true o) text q z.pattern f z.inside y z.spelled in
     record { unnamed = b; spelled = x; settled = h ∙ ap (λ n. not (o.only_named && n)) (ap (λ (s : Scope). has_name s.names) same ∙ z.named) }
 
-pub none_settled : {o : Options} {text : Text} {q : Pattern} {f : Scope} (b : Bool) → Spells (begin true o) text q f → b ≡ not (o.only_named && has_name f.names)
+pub none_settled : {o : DialectOptions} {text : Text} {q : Pattern} {f : Scope} (b : Bool) → Spells (begin true o) text q f → b ≡ not (o.only_named && has_name f.names)
     → ((p : Pattern) (end : Scope) → Spells (begin b o) text p end → ⊥) → (p : Pattern) (end : Scope) → SpellsUnder o text p end → ⊥
 none_settled {o} {text} b y h none p end x = none p end (subst (λ c. Spells (begin c o) text p end) (settled_by y x ∙ sym h) x.spelled)
 
-same_unnamed : {o : Options} {text : Text} {p q : Pattern} {e f : Scope} → SpellsUnder o text q f → (x : SpellsUnder o text p e) → Spells (begin x.unnamed o) text q f
+same_unnamed : {o : DialectOptions} {text : Text} {p q : Pattern} {e f : Scope} → SpellsUnder o text q f → (x : SpellsUnder o text p e) → Spells (begin x.unnamed o) text q f
 same_unnamed {o} {text} {q = q} {f = f} y x =
     let z = spelled_capturing y.unnamed o y.spelled in
     let same : y.unnamed ≡ x.unnamed = settled_by z.spelled y ∙ sym (settled_by z.spelled x) in
     subst (λ b. Spells (begin b o) text q f) same y.spelled
 
-pub one_under : {o : Options} {text : Text} {p q : Pattern} {e f : Scope} → SpellsUnder o text p e → SpellsUnder o text q f → p ≡ q
+pub one_under : {o : DialectOptions} {text : Text} {p q : Pattern} {e f : Scope} → SpellsUnder o text p e → SpellsUnder o text q f → p ≡ q
 one_under {o} {text} {p} {q} {e} {f} x y = one_pattern (begin x.unnamed o) text p q e f x.spelled (same_unnamed y x)
 
 -- and ends in one way
-pub one_end_under : {o : Options} {text : Text} {p q : Pattern} {e f : Scope} → SpellsUnder o text p e → SpellsUnder o text q f → e ≡ f
+pub one_end_under : {o : DialectOptions} {text : Text} {p q : Pattern} {e f : Scope} → SpellsUnder o text p e → SpellsUnder o text q f → e ≡ f
 one_end_under {o} {text} {p} {q} {e} {f} x y = one_end (begin x.unnamed o) text p q e f x.spelled (same_unnamed y x)

@@ -7,12 +7,12 @@ use Rattle.fancy_tree.specs.declared.tree.Meaning.{Meaning}
 use Rattle.fancy_tree.specs.declared.tree.Meaning.TheVariants.{Unicode, Bytes, AsciiText}
 use Rattle.fancy_tree.specs.declared.tree.Assertion.{Assertion}
 use Rattle.fancy_tree.specs.declared.tree.Assertion.TheVariants.{TextStart, TextEnd, LineStart, LineEnd, LineStartCrlf, LineEndCrlf, LastLine, LastLineCrlf, WordBoundary, NotWordBoundary, WordStart, WordEnd, WordStartHalf, WordEndHalf}
-use Rattle.fancy_tree.specs.declared.tree.Taste.{Taste}
-use Rattle.fancy_tree.specs.declared.tree.Taste.TheVariants.{Greedy, Lazy, Possessive}
+use Rattle.fancy_tree.specs.declared.tree.RepeatKind.{RepeatKind}
+use Rattle.fancy_tree.specs.declared.tree.RepeatKind.TheVariants.{Greedy, Lazy, Possessive}
 use Rattle.fancy_syntax.specs.declared.groups.Grouping.{Grouping}
 use Rattle.fancy_syntax.specs.declared.groups.Grouping.TheVariants.{Atomic, LookAhead, LookBehind}
-use Rattle.fancy_class.specs.declared.token.Token.{Token}
-use Rattle.fancy_class.specs.declared.token.Token.TheVariants.{Named as NamedSet}
+use Rattle.fancy_class.specs.declared.class_item.ClassItem.{ClassItem}
+use Rattle.fancy_class.specs.declared.class_item.ClassItem.TheVariants.{NamedSet}
 use Rattle.fancy_tree.specs.declared.named.Named.{Named}
 use Rattle.fancy_tree.specs.Pattern.{Pattern, empty, character, member_of, in_any_case, raw_byte, backreference, assertion, group_test, keep_start, continue_here, group, repeat, look_ahead, look_behind, atomic, conditional, in_sequence, in_branches}
 use Rattle.fancy_tree.specs.Sizes.{size, nodes, are_sized, is_empty}
@@ -25,7 +25,7 @@ use Rattle.fancy_tree.specs.Members.{Members}
 use Rattle.fancy_tree.specs.Named.{in_universe, is_unicode}
 use Rattle.fancy_tree.specs.Widening.{case_closure}
 use Rattle.fancy_class.specs.EscapeGrammar.{is_mark, control_of, set_letter, escape_number, takes_number, digits_after}
-use Rattle.fancy_class.specs.ClassGrammar.{ReadsEdges, is_ascii_meaning, may_negate, token_members, property}
+use Rattle.fancy_class.specs.ClassGrammar.{ReadsEdges, is_ascii_meaning, may_negate, item_members, property}
 use Rattle.fancy_tree.specs.Names.{is_name}
 use Rattle.fancy_syntax.specs.References as references
 use Rattle.fancy_syntax.specs.References.{Target, called, ReferenceFault, Groups, group_condition, is_left_out, group_for}
@@ -116,10 +116,10 @@ inside (LookAhead negated) s = record s { in_look_around = true }
 inside (LookBehind negated) s = record s { in_look_around = true }
 
 -- what such a group makes of the pattern inside it
-abbrev pub grouped : Grouping → Pattern → Pattern
-grouped Atomic p = atomic p
-grouped (LookAhead negated) p = look_ahead negated p
-grouped (LookBehind negated) p = look_behind negated p
+abbrev pub group_of : Grouping → Pattern → Pattern
+group_of Atomic p = atomic p
+group_of (LookAhead negated) p = look_ahead negated p
+group_of (LookBehind negated) p = look_behind negated p
 
 -- after a group the flags are those from before it, and the groups and references inside it count
 abbrev pub back_to : Scope → Scope → Scope
@@ -191,38 +191,38 @@ is_one_item Bytes c = nat_lt c 128
 is_one_item AsciiText c = true
 
 -- a character, under flag `i` with those that share its simple folding
-abbrev pub spelled_character : Scope → ℕ → Lexeme
-spelled_character s c =
+abbrev pub character_lexeme : Scope → ℕ → Lexeme
+character_lexeme s c =
     if s.flags.ignore_case && is_one_item s.meaning c
     then any_case_of (case_closure s.meaning (in_range (c, c)))
     else leaf (literal_of s.meaning c)
 
 -- A character by its number. Where matches may stand anywhere two digits after `x` are a byte, if it is no ASCII.
-abbrev pub spelled_number : Scope → ℕ × Bool → Lexeme
-spelled_number s n = if n.1 && (nat_lt 127 n.0 && not s.keeps_characters) then leaf (raw_byte n.0) else spelled_character s n.0
+abbrev pub character_by_number : Scope → ℕ × Bool → Lexeme
+character_by_number s n = if n.1 && (nat_lt 127 n.0 && not s.keeps_characters) then leaf (raw_byte n.0) else character_lexeme s n.0
 
 abbrev pub ends_line : Bool → ℕ → Bool
 ends_line crlf c = (c == code "\n") || (crlf && (c == code "\r"))
 
--- any code, or any but one that ends a line
-abbrev pub any_code : Scope → Bool → Members
-any_code s all = λ c. in_universe s.meaning c && (all || not (ends_line s.flags.crlf c))
+-- the numbers that any item can consume, or any but one that ends a line
+abbrev pub any_item_members : Scope → Bool → Members
+any_item_members s all = λ c. in_universe s.meaning c && (all || not (ends_line s.flags.crlf c))
 
 abbrev pub any_item : Scope → Bool → Option Lexeme
-any_item s all = if is_ascii_meaning s.meaning then None else Some (one_of (any_code s all))
+any_item s all = if is_ascii_meaning s.meaning then None else Some (one_of (any_item_members s all))
 
 -- a set with the members that this stands for in a class
-abbrev pub spelled_set : Scope → Token → Lexeme
-spelled_set s x = one_of (token_members s.meaning s.flags.ignore_case x)
+abbrev pub class_item_lexeme : Scope → ClassItem → Lexeme
+class_item_lexeme s x = one_of (item_members s.meaning s.flags.ignore_case x)
 
 -- the set of a letter, or its complement
 abbrev pub set_lexeme : Scope → Named × Bool → Option Lexeme
-set_lexeme s n = if may_negate s.meaning n.1 then Some (spelled_set s (NamedSet n.0 n.1)) else None
+set_lexeme s n = if may_negate s.meaning n.1 then Some (class_item_lexeme s (NamedSet n.0 n.1)) else None
 
 -- what a letter alone stands for after a backslash
 abbrev pub letter_lexeme : Scope → ℕ → Option Lexeme
 letter_lexeme s d =
-    option_or (option_map (spelled_character s) (control_of d))
+    option_or (option_map (character_lexeme s) (control_of d))
     (option_or (option_map (λ a. leaf (assertion a)) (place_test s.flags d))
     (option_or (option_map leaf (start_mark s.in_look_around d))
     (option_and_then (set_lexeme s) (set_letter d))))
@@ -231,18 +231,18 @@ abbrev pub followed_by : Text → Option Lexeme → Option (Lexeme × Text)
 followed_by t o = option_map (λ x. (x, t)) o
 
 abbrev pub number_lexeme : Scope → ℕ → Text → Option (Lexeme × Text)
-number_lexeme s count t = option_map (λ r. (spelled_number s r.0, r.1)) (escape_number count t)
+number_lexeme s count t = option_map (λ r. (character_by_number s r.0, r.1)) (escape_number count t)
 
 abbrev pub boundary_here : Text → Lexeme × Text
 boundary_here t = (leaf (assertion (boundary t).0), (boundary t).1)
 
 abbrev pub property_here : Scope → Text → Option (Lexeme × Text)
-property_here s t = option_map (λ r. (spelled_set s r.0, r.1)) (property s.meaning t)
+property_here s t = option_map (λ r. (class_item_lexeme s r.0, r.1)) (property s.meaning t)
 
 -- what a backslash, this character and the text after it begin with, and what follows that
 abbrev pub escape : Scope → ℕ → Text → Option (Lexeme × Text)
 escape s d t =
-    if is_escapable d then Some (spelled_character s d, t)
+    if is_escapable d then Some (character_lexeme s d, t)
     else if code "b" == d then Some (boundary_here t)
     else if takes_number d then number_lexeme s (digits_after d) t
     else if code "O" == d then followed_by t (any_item s true)
@@ -258,7 +258,10 @@ escape_in s (d ∷ t) = escape s d t
 abbrev pub unescaped_lexeme : Scope → ℕ → Text → Option Lexeme
 unescaped_lexeme s c t =
     option_or (option_map (λ a. leaf (assertion a)) (anchor_of s.flags c))
-    (if must_be_escaped c || begins_count (c ∷ t) then None else Some (spelled_character s c))
+    (if must_be_escaped c || begins_count (c ∷ t) then None else Some (character_lexeme s c))
+
+abbrev pub unescaped_here : Scope → ℕ → Text → Option (Lexeme × Text)
+unescaped_here s c t = followed_by t (unescaped_lexeme s c t)
 
 -- the character or escape at the start of a text, and what follows it
 abbrev pub lexeme : Scope → Text → Option (Lexeme × Text)
@@ -266,7 +269,7 @@ lexeme s [] = None
 lexeme s (c ∷ t) =
     if code "\\" == c then escape_in s t
     else if code "." == c then followed_by t (any_item s s.flags.dot_all)
-    else followed_by t (unescaped_lexeme s c t)
+    else unescaped_here s c t
 
 -- A text begins with this atom, which is no group: a character, an escape or a class. The last index is what follows it.
 pub data ReadsAtom : Scope → Text → Pattern → Text → Type 0 where
@@ -293,8 +296,8 @@ pub data Quantifier : Text → ℕ → Option ℕ → Type 0 where
   between : (n m : Text) → IsBound n → IsBound m → decimal n ≤ decimal m → Quantifier (codes "{" ++ (n ++ (codes "," ++ (m ++ codes "}")))) (decimal n) (Some (decimal m))
   at_most : (m : Text) → IsBound m → Quantifier (codes "{," ++ (m ++ codes "}")) 0 (Some (decimal m))
 
--- this text is a quantifier, the longest that stands at its place: the least and the greatest number of turns, and the taste
-pub data Quantifies : Text → Text → ℕ → Option ℕ → Taste → Type 0 where
+-- this text is a quantifier, the longest that stands at its place: the least and the greatest number of turns, and the kind
+pub data Quantifies : Text → Text → ℕ → Option ℕ → RepeatKind → Type 0 where
   greedily : {t after : Text} {low : ℕ} {high : Option ℕ} → Quantifier t low high → is_at "?+" after ≡ false → Quantifies t after low high Greedy
   lazily : {t after : Text} {low : ℕ} {high : Option ℕ} → Quantifier t low high → Quantifies (t ++ codes "?") after low high Lazy
   possessively : {t after : Text} {low : ℕ} {high : Option ℕ} → Quantifier t low high → Quantifies (t ++ codes "+") after low high Possessive
@@ -352,8 +355,8 @@ mutual
     -- a setting of flags gives no part, and holds up to the end of the enclosing group
     set : {k : ℕ} {s : Scope} {t after : Text} {f : Flags} → Setting s.meaning t s.flags f → Item (suc k) s (codes "(?" ++ (t ++ codes ")")) after None (in_force f s)
     bare : {k : ℕ} {s q : Scope} {t after : Text} {a : Pattern} → Atom k s t after a q → IsUnquantified q.flags.ignore_blanks after → Item k s t after (Some a) q
-    quantified : {k low : ℕ} {high : Option ℕ} {taste : Taste} {s q : Scope} {t u v after : Text} {a : Pattern} → Atom k s t (u ++ (v ++ after)) a q → is_empty a ≡ false
-        → Blanks q.flags.ignore_blanks u (v ++ after) → Quantifies v after low high taste → Item k s (t ++ (u ++ v)) after (Some (repeat low high taste a)) q
+    quantified : {k low : ℕ} {high : Option ℕ} {kind : RepeatKind} {s q : Scope} {t u v after : Text} {a : Pattern} → Atom k s t (u ++ (v ++ after)) a q → is_empty a ≡ false
+        → Blanks q.flags.ignore_blanks u (v ++ after) → Quantifies v after low high kind → Item k s (t ++ (u ++ v)) after (Some (repeat low high kind a)) q
 
   -- a character, an escape, a class, a group, a conditional or a reference to a group
   pub data Atom : ℕ → Scope → Text → Text → Pattern → Scope → Type 0 where
@@ -373,7 +376,7 @@ mutual
         → Atom (suc k) s (codes "(?" ++ (m ++ (n ++ (codes ">" ++ (t ++ codes ")"))))) after (group (s.opened + 1) (in_branches bs)) (back_to s q)
     -- atomic groups and look-around
     marked : {k : ℕ} {s q : Scope} {m t after : Text} {how : Grouping} {bs : List Pattern} → GroupMark m how → Branches k (inside how s) t (codes ")" ++ after) bs q
-        → Atom (suc k) s (codes "(" ++ (m ++ (t ++ codes ")"))) after (grouped how (in_branches bs)) (back_to s q)
+        → Atom (suc k) s (codes "(" ++ (m ++ (t ++ codes ")"))) after (group_of how (in_branches bs)) (back_to s q)
     -- a conditional that tests a group; two parentheses are open in its condition, and one in its body
     tested : {k : ℕ} {s q : Scope} {t after : Text} {w : Target} {bs : List Pattern} (c : Text) → group_condition (c ++ (t ++ (codes ")" ++ after))) ≡ Some (w, t ++ (codes ")" ++ after))
         → Branches (suc k) (wants w s) t (codes ")" ++ after) bs q → Atom (suc (suc k)) s (codes "(?(" ++ (c ++ (t ++ codes ")"))) after (conditional_of (test_here s) bs) (back_to s q)
@@ -392,7 +395,7 @@ pub record Spells (start : Scope) (text : Text) (p : Pattern) (end : Scope) : Ty
   pub spelled : Branches most_parentheses start text [] branches end
 
 -- the options that a pattern is read under
-pub record Options : Type 0 where
+pub record DialectOptions : Type 0 where
   pub meaning : Meaning
   pub keeps_characters : Bool
   -- where a group has a name, those without capture nothing
@@ -404,11 +407,11 @@ pub record Options : Type 0 where
 abbrev pub no_flags : Flags
 no_flags = record { ignore_case = false; multi_line = false; dot_all = false; ignore_blanks = false; crlf = false }
 
-abbrev pub standard : Options
+abbrev pub standard : DialectOptions
 standard = record { meaning = Unicode; keeps_characters = true; only_named = false; not_empty = false; flags = no_flags }
 
 -- what is in force where a pattern begins, by whether its groups without a name capture
-abbrev pub begin : Bool → Options → Scope
+abbrev pub begin : Bool → DialectOptions → Scope
 begin captures o = record { meaning = o.meaning; keeps_characters = o.keeps_characters; unnamed_capture = captures; flags = o.flags; opened = 0; names = []; wanted = []; in_look_around = false }
 
 -- a group has a name
@@ -417,25 +420,25 @@ has_name [] = false
 has_name (g ∷ names) = true
 
 -- The text spells this pattern under these options. Its groups without a name capture, but not where only those with a name are to and there is one.
-pub record SpellsUnder (o : Options) (text : Text) (p : Pattern) (end : Scope) : Type 0 where
+pub record SpellsUnder (o : DialectOptions) (text : Text) (p : Pattern) (end : Scope) : Type 0 where
   pub unnamed : Bool
   pub spelled : Spells (begin unnamed o) text p end
   pub settled : unnamed ≡ not (o.only_named && has_name end.names)
 
 -- the groups that references are resolved by, from where the pattern ends
-abbrev pub groups_at : Options → Scope → Groups
+abbrev pub groups_at : DialectOptions → Scope → Groups
 groups_at o end = record { by_name = o.only_named && has_name end.names; opened = end.opened; names = end.names }
 
 -- why this reference of the pattern that ends here names no group
-abbrev pub fault_in_scope : Options → Scope → Target → Option ReferenceFault
+abbrev pub fault_in_scope : DialectOptions → Scope → Target → Option ReferenceFault
 fault_in_scope o end w = references.target_fault (groups_at o end) w
 
 -- the group that each reference names, by how many were written before it
-abbrev pub numbers : Options → Scope → ℕ → ℕ
+abbrev pub numbers : DialectOptions → Scope → ℕ → ℕ
 numbers o end = number_in (map (group_for (groups_at o end)) end.wanted)
 
 -- The text is a pattern of the dialect: it spells this one, whose references each name a group, whose look-behind has sizes, which can match where empty matches are refused, and which is not too complex.
-pub record IsPattern (o : Options) (text : Text) (p : Pattern) : Type 0 where
+pub record IsPattern (o : DialectOptions) (text : Text) (p : Pattern) : Type 0 where
   pub written : Pattern
   pub end : Scope
   pub spelled : SpellsUnder o text written end

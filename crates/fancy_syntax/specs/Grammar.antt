@@ -4,8 +4,8 @@ use Prim.Native.Char.{code}
 use Rattle.std.specs.Option.{option_and_then}
 use Rattle.fancy_tree.specs.Limits.{most_parentheses, most_turns}
 use Rattle.fancy_tree.specs.declared.tree.Meaning.{Meaning}
-use Rattle.fancy_tree.specs.declared.tree.Taste.{Taste}
-use Rattle.fancy_tree.specs.declared.tree.Taste.TheVariants.{Greedy, Lazy, Possessive}
+use Rattle.fancy_tree.specs.declared.tree.RepeatKind.{RepeatKind}
+use Rattle.fancy_tree.specs.declared.tree.RepeatKind.TheVariants.{Greedy, Lazy, Possessive}
 use Rattle.fancy_syntax.specs.declared.groups.Grouping.{Grouping}
 use Rattle.fancy_syntax.specs.declared.groups.Grouping.TheVariants.{Atomic, LookAhead, LookBehind}
 use Rattle.fancy_tree.specs.Pattern.{Pattern, backreference, group, repeat, in_sequence, in_branches}
@@ -17,7 +17,7 @@ use Rattle.fancy_syntax.specs.Blanks.{past_blank}
 use Rattle.fancy_tree.specs.Names.{name_here, past_name}
 use Rattle.fancy_syntax.specs.References as references
 use Rattle.fancy_syntax.specs.References.{Target}
-use Rattle.fancy_syntax.specs.Dialect.{Flags, Scope, in_force, with_flag, one_more_group, one_more_name, wants, reference_here, test_here, conditional_of, inside, grouped as group_of, back_to, ReadsAtom, begins_quantifier, with_part}
+use Rattle.fancy_syntax.specs.Dialect.{Flags, Scope, in_force, with_flag, one_more_group, one_more_name, wants, reference_here, test_here, conditional_of, inside, group_of, back_to, ReadsAtom, begins_quantifier, with_part}
 
 -- a place in a pattern: what follows, and what is in force there
 pub record Place : Type 0 where
@@ -25,8 +25,8 @@ pub record Place : Type 0 where
   pub scope : Scope
 
 -- the place after the next n characters
-abbrev pub past : ℕ → Place → Place
-past n p = record p { text = drop n p.text }
+abbrev pub place_past : ℕ → Place → Place
+place_past n p = record p { text = drop n p.text }
 
 -- this text, or where it is none the other
 abbrev pub text_or : (Text → Text) → Text → Option Text → Text
@@ -43,8 +43,8 @@ abbrev pub past_blanks : Bool → Text → Text
 past_blanks ignore_blanks t = past_blanks_in (length t) ignore_blanks t
 
 -- the place after the blanks and comments that stand here
-abbrev pub here : Place → Place
-here p = record p { text = past_blanks p.scope.flags.ignore_blanks p.text }
+abbrev pub after_blanks : Place → Place
+after_blanks p = record p { text = past_blanks p.scope.flags.ignore_blanks p.text }
 
 -- what a parenthesis opens
 pub data Opening : Type 0 where
@@ -145,7 +145,7 @@ named_opening p t =
 abbrev pub unnamed_opening : Place → Opening × Place
 unnamed_opening p =
     if p.scope.unnamed_capture then (capture (p.scope.opened + 1), record { text = drop 1 p.text; scope = one_more_group p.scope })
-    else (plain, past 1 p)
+    else (plain, place_past 1 p)
 
 -- the reference to the name that stands first in this text, up to its parenthesis
 abbrev pub named_reference : Place → Text → Option (Opening × Place)
@@ -188,8 +188,8 @@ by_mark p None = unmarked_opening p
 by_mark p (Some m) = Some (marked m.0, record { text = drop m.1 p.text; scope = inside m.0 p.scope })
 
 -- what the parenthesis here opens, and the place after that
-abbrev pub opening : Place → Option (Opening × Place)
-opening p = if begins "(?:" p.text then Some (plain, past 3 p) else by_mark p (mark_here p.text)
+abbrev pub opening_here : Place → Option (Opening × Place)
+opening_here p = if begins "(?:" p.text then Some (plain, place_past 3 p) else by_mark p (mark_here p.text)
 
 abbrev pub start : Scope → Text → Place
 start s text = record { text = text; scope = s }
@@ -222,30 +222,30 @@ are_bounds (low, Some high) = nat_le low high && nat_le high most_turns
 -- the number of turns that a quantifier states here
 abbrev pub quantifier_here : Place → Option (RepeatBounds × Place)
 quantifier_here p =
-    if is_at "?" p.text then Some ((0, Some 1), past 1 p)
-    else if is_at "*" p.text then Some ((0, None), past 1 p)
-    else if is_at "+" p.text then Some ((1, None), past 1 p)
+    if is_at "?" p.text then Some ((0, Some 1), place_past 1 p)
+    else if is_at "*" p.text then Some ((0, None), place_past 1 p)
+    else if is_at "+" p.text then Some ((1, None), place_past 1 p)
     else if begins_count p.text && are_bounds (bounds_in (drop 1 p.text)) then Some (bounds_in (drop 1 p.text), record p { text = past_count (drop 1 p.text) })
     else None
 
--- the taste by the suffix that stands here, if one does
-abbrev pub taste : Place → Option (Taste × Place)
-taste p =
-    if is_at "?" p.text then Some (Lazy, past 1 p)
-    else if is_at "+" p.text then Some (Possessive, past 1 p)
+-- the kind by the suffix that stands here, if one does
+abbrev pub kind : Place → Option (RepeatKind × Place)
+kind p =
+    if is_at "?" p.text then Some (Lazy, place_past 1 p)
+    else if is_at "+" p.text then Some (Possessive, place_past 1 p)
     else Some (Greedy, p)
 
--- this many turns of the pattern, with the taste that stands here
-abbrev pub with_taste : Pattern → Option (RepeatBounds × Place) → Option (Pattern × Place)
-with_taste a None = None
-with_taste a (Some (bounds, p)) = option_map (λ found. (repeat bounds.0 bounds.1 found.0 a, found.1)) (taste p)
+-- this many turns of the pattern, with the kind that stands here
+abbrev pub with_kind : Pattern → Option (RepeatBounds × Place) → Option (Pattern × Place)
+with_kind a None = None
+with_kind a (Some (bounds, p)) = option_map (λ found. (repeat bounds.0 bounds.1 found.0 a, found.1)) (kind p)
 
 -- the pattern with the quantifier that stands here, if one does
-abbrev pub quantified : Pattern → Place → Option (Pattern × Place)
-quantified a p =
-    if not (begins_quantifier (here p).text) then Some (a, p)
+abbrev pub with_quantifier : Pattern → Place → Option (Pattern × Place)
+with_quantifier a p =
+    if not (begins_quantifier (after_blanks p).text) then Some (a, p)
     else if is_empty a then None
-    else with_taste a (quantifier_here (here p))
+    else with_kind a (quantifier_here (after_blanks p))
 
 -- the place after a group, which was opened outside and whose inside ends at q
 abbrev pub after_group : Place → Place → Place
@@ -259,32 +259,32 @@ ends_branch (c ∷ t) = c ∈ "|)"
 -- The number says how many parentheses more may be open at one place.
 mutual
   -- branches, joined by `|`, up to the end of the group or the pattern
-  pub data Branches : ℕ → Place → List Pattern → Place → Type 0 where
-    last : {k : ℕ} {p q : Place} {ps : List Pattern} → Parts k p ps q → is_at "|" q.text ≡ false → Branches k p (in_sequence ps ∷ []) q
-    more : {k : ℕ} {p q r : Place} {ps bs : List Pattern} → Parts k p ps q → is_at "|" q.text ≡ true → Branches k (past 1 q) bs r → Branches k p (in_sequence ps ∷ bs) r
+  pub data BranchesReading : ℕ → Place → List Pattern → Place → Type 0 where
+    last : {k : ℕ} {p q : Place} {ps : List Pattern} → PartsReading k p ps q → is_at "|" q.text ≡ false → BranchesReading k p (in_sequence ps ∷ []) q
+    more : {k : ℕ} {p q r : Place} {ps bs : List Pattern} → PartsReading k p ps q → is_at "|" q.text ≡ true → BranchesReading k (place_past 1 q) bs r → BranchesReading k p (in_sequence ps ∷ bs) r
 
   -- the parts of one branch
-  pub data Parts : ℕ → Place → List Pattern → Place → Type 0 where
-    none : {k : ℕ} {p : Place} → ends_branch (here p).text ≡ true → Parts k p [] (here p)
-    next : {k : ℕ} {p q r : Place} {item : Option Pattern} {ps : List Pattern} → ends_branch (here p).text ≡ false → Item k (here p) item q → Parts k q ps r → Parts k p (with_part item ps) r
+  pub data PartsReading : ℕ → Place → List Pattern → Place → Type 0 where
+    none : {k : ℕ} {p : Place} → ends_branch (after_blanks p).text ≡ true → PartsReading k p [] (after_blanks p)
+    next : {k : ℕ} {p q r : Place} {item : Option Pattern} {ps : List Pattern} → ends_branch (after_blanks p).text ≡ false → ItemReading k (after_blanks p) item q → PartsReading k q ps r → PartsReading k p (with_part item ps) r
 
   -- what can be quantified, with its quantifier
-  pub data Item : ℕ → Place → Option Pattern → Place → Type 0 where
-    sets : {k : ℕ} {p q : Place} → is_at "(" p.text ≡ true → Opens k p setting q → Item k p None q
-    refers_by_name : {k n : ℕ} {p q r : Place} {folded : Bool} {x : Pattern} → is_at "(" p.text ≡ true → Opens k p (reference folded n) q → quantified (backreference folded n) q ≡ Some (x, r)
-        → Item k p (Some x) r
-    single : {k : ℕ} {p q r : Place} {a x : Pattern} → is_at "(" p.text ≡ false → IsAtom p a q → quantified a q ≡ Some (x, r) → Item k p (Some x) r
+  pub data ItemReading : ℕ → Place → Option Pattern → Place → Type 0 where
+    sets : {k : ℕ} {p q : Place} → is_at "(" p.text ≡ true → Opens k p setting q → ItemReading k p None q
+    refers_by_name : {k n : ℕ} {p q r : Place} {folded : Bool} {x : Pattern} → is_at "(" p.text ≡ true → Opens k p (reference folded n) q → with_quantifier (backreference folded n) q ≡ Some (x, r)
+        → ItemReading k p (Some x) r
+    single : {k : ℕ} {p q r : Place} {a x : Pattern} → is_at "(" p.text ≡ false → IsAtom p a q → with_quantifier a q ≡ Some (x, r) → ItemReading k p (Some x) r
     grouped : {k : ℕ} {p inside q r : Place} {how : Opening} {bs : List Pattern} {x : Pattern} → is_at "(" p.text ≡ true → Opens (suc k) p how inside → opens_group how ≡ true
-        → Branches k inside bs q → is_at ")" q.text ≡ true → quantified (wrap how bs) (after_group p q) ≡ Some (x, r) → Item (suc k) p (Some x) r
+        → BranchesReading k inside bs q → is_at ")" q.text ≡ true → with_quantifier (wrap how bs) (after_group p q) ≡ Some (x, r) → ItemReading (suc k) p (Some x) r
 
   -- what a parenthesis opens, after its condition if it has one, where so many may still be open
   pub data Opens : ℕ → Place → Opening → Place → Type 0 where
-    at_once : {k : ℕ} {p inside : Place} {how : Opening} → opening p ≡ Some (how, inside) → asks how ≡ false → parentheses how ≤ suc k → Opens (suc k) p how inside
-    after_condition : {k : ℕ} {p inside q : Place} {cs : List Pattern} → opening p ≡ Some (condition, inside) → Branches k inside cs q → is_at ")" q.text ≡ true → Opens (suc (suc k)) p (chooses (in_branches cs)) (after_group p q)
+    at_once : {k : ℕ} {p inside : Place} {how : Opening} → opening_here p ≡ Some (how, inside) → asks how ≡ false → parentheses how ≤ suc k → Opens (suc k) p how inside
+    after_condition : {k : ℕ} {p inside q : Place} {cs : List Pattern} → opening_here p ≡ Some (condition, inside) → BranchesReading k inside cs q → is_at ")" q.text ≡ true → Opens (suc (suc k)) p (chooses (in_branches cs)) (after_group p q)
 
 -- the whole text has this pattern, with at most so many parentheses open at one place
 pub record Reads (s : Scope) (text : Text) (p : Pattern) (end : Place) : Type 0 where
   pub branches : List Pattern
   pub is : p ≡ in_branches branches
-  pub reads : Branches most_parentheses (start s text) branches end
+  pub reads : BranchesReading most_parentheses (start s text) branches end
   pub all : end.text ≡ []

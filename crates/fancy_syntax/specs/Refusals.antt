@@ -10,14 +10,14 @@ use Rattle.fancy_tree.specs.Sizes.{size, nodes, are_sized}
 use Rattle.fancy_tree.specs.Text.{Text}
 use Rattle.fancy_syntax.specs.References.{ReferenceFault, by_name_alone, no_number, no_name}
 use Rattle.fancy_tree.specs.Refers.{refers_to}
-use Rattle.fancy_syntax.specs.Dialect.{Scope, Options, SpellsUnder, fault_in_scope, numbers}
+use Rattle.fancy_syntax.specs.Dialect.{Scope, DialectOptions, SpellsUnder, fault_in_scope, numbers}
 
 -- The text spells a pattern, one of whose references has this fault.
-abbrev pub HasFault : ReferenceFault → Options → Text → Type 0
+abbrev pub HasFault : ReferenceFault → DialectOptions → Text → Type 0
 HasFault f o text = (p : Pattern) × (end : Scope) × SpellsUnder o text p end × Any (λ w. fault_in_scope o end w ≡ Some f) end.wanted
 
 -- The text spells a pattern, but this is why it is not accepted.
-abbrev pub IsNotAccepted : Compiling → Options → Text → Type 0
+abbrev pub IsNotAccepted : Compiling → DialectOptions → Text → Type 0
 IsNotAccepted (InvalidBackref n) o text = HasFault (no_number n) o text
 IsNotAccepted (InvalidGroupNameBackref name) o text = HasFault (no_name (chars (string_bytes name))) o text
 IsNotAccepted NamedBackrefOnly o text = HasFault by_name_alone o text
@@ -27,7 +27,7 @@ IsNotAccepted PatternCanNeverMatch o text =
 IsNotAccepted PatternTooComplex o text = (p : Pattern) × (end : Scope) × SpellsUnder o text p end × (most_nodes < nodes p)
 
 -- The error says the truth of the text, except that memory may run out at any time: a parse error of any kind says that the text spells nothing.
-abbrev pub IsRefused : Error → Options → Text → Type 0
+abbrev pub IsRefused : Error → DialectOptions → Text → Type 0
 IsRefused Memory o text = Unit {0}
 IsRefused (ParseError at kind) o text = (p : Pattern) (end : Scope) → SpellsUnder o text p end → ⊥
 IsRefused (CompileError why) o text = IsNotAccepted why o text

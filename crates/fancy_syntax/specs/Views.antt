@@ -1,5 +1,5 @@
 -- What the parser's functions promise each other.
-use Rattle.std.specs.Prelude.{Vec, ◌≡◌, ℕ, ◌+◌, ◌-◌, ◌≤◌, ◌^◌, min, Bool, true, false, ◌&&◌, List, length, take, sum_by, Option, Some, None, option_map, Result, Ok, Err, map, Any, chars, string_bytes}
+use Rattle.std.specs.Prelude.{Vec, ◌≡◌, ℕ, ◌+◌, ◌-◌, ◌≤◌, ◌^◌, min, Bool, true, false, ◌&&◌, List, length, take, drop, sum_by, Option, Some, None, option_map, Result, Ok, Err, map, All, Any, chars, string_bytes}
 use Rattle.std.specs.Borrow.{Bor}
 use Rattle.std.specs.Global.{Global}
 use Rattle.std.specs.Char.{len_utf8}
@@ -14,20 +14,22 @@ use Rattle.fancy_syntax.specs.declared.resolve.Groups.{Groups as Found_groups}
 use Rattle.fancy_syntax.specs.declared.flags.FlagReader.{FlagReader}
 use Rattle.fancy_syntax.specs.declared.count.Turns.{Turns}
 use Rattle.fancy_syntax.specs.declared.flags.Flags.{Flags as Found_flags}
-use Rattle.fancy_syntax.specs.declared.parse.Syntax.{Syntax}
+use Rattle.fancy_syntax.specs.declared.parse.ParseOptions.{ParseOptions}
 use Rattle.fancy_syntax.specs.declared.parse.Draft.{Draft}
 use Rattle.fancy_tree.specs.declared.error.CompileError.{CompileError as Compiling}
 use Rattle.fancy_tree.specs.declared.error.CompileError.TheVariants.{InvalidBackref, InvalidGroupNameBackref, NamedBackrefOnly, LookBehindNotConst, PatternCanNeverMatch}
 use Rattle.fancy_class.specs.declared.refusal.ClassRefusal.{ClassRefusal}
 use Rattle.fancy_class.specs.declared.refusal.ClassRefusal.TheVariants.{Memory as OutOfMemory, Invalid}
+use Rattle.fancy_class.specs.Readings.{IsTheReading, HasNoReading}
 use Rattle.fancy_tree.specs.declared.tree.Tree.{Tree}
 use Rattle.fancy_tree.specs.Pattern.{Pattern, pattern_of, in_sequence, in_branches}
 use Rattle.fancy_tree.specs.Sizes.{size, are_sized}
 use Rattle.fancy_tree.specs.Text.{Text}
 use Rattle.fancy_tree.specs.Names.{named_groups}
-use Rattle.fancy_syntax.specs.References.{Target, numbered, missing, called, called_or_numbered, ReferenceFault, by_name_alone, no_number, no_name, Groups}
-use Rattle.fancy_syntax.specs.Dialect.{Flags, Scope, Options, has_name, Lexeme, IsMeant}
-use Rattle.fancy_syntax.specs.Grammar.{Place, start, Opening, setting, plain, capture, marked, reference, chooses, condition, parentheses, opening, Opens, LettersRead, RepeatBounds, Branches, Parts}
+use Rattle.fancy_tree.specs.Refers.{number_in}
+use Rattle.fancy_syntax.specs.References.{Target, numbered, missing, called, called_or_numbered, ReferenceFault, by_name_alone, no_number, no_name, Groups, target_fault, group_for}
+use Rattle.fancy_syntax.specs.Dialect.{Flags, Scope, DialectOptions, has_name, Lexeme, IsMeant, followed_by}
+use Rattle.fancy_syntax.specs.Grammar.{Place, start, Opening, setting, plain, capture, marked, reference, chooses, condition, parentheses, opening_here, Opens, LettersRead, RepeatBounds, BranchesReading, PartsReading}
 
 abbrev pub flags_of : Found_flags → Flags
 flags_of f = record { ignore_case = f.ignore_case; multi_line = f.multi_line; dot_all = f.dot_all; ignore_blanks = f.ignore_blanks; crlf = f.crlf }
@@ -60,38 +62,51 @@ groups_of g = record { by_name = g.by_name; opened = g.count - 1; names = named_
 abbrev pub draft_groups : Bool → Draft → Groups
 draft_groups only_named r = record { by_name = only_named && has_name (named_groups r.names.items); opened = r.groups - 1; names = named_groups r.names.items }
 
+-- each of these names a group
+abbrev pub AreResolved : Groups → List Found_target → Type 0
+AreResolved g targets = All (λ w. target_fault g (target_of w) ≡ None) targets
+
+-- one of these has this fault
+abbrev pub HaveFault : Groups → List Found_target → ReferenceFault → Type 0
+HaveFault g targets = λ f. Any (λ w. target_fault g (target_of w) ≡ Some f) targets
+
+-- the group that each reference of a draft names, by how many were written before it
+abbrev pub draft_numbers : Bool → Draft → ℕ → ℕ
+draft_numbers only_named r = number_in (map (group_for (draft_groups only_named r)) (targets_of r.wanted.items))
+
 -- what is in force where the parser stands
 abbrev pub scope_of : Parser → Scope
 scope_of p = record { meaning = p.meaning; keeps_characters = p.keeps_characters; unnamed_capture = p.unnamed_capture; flags = flags_of p.flags; opened = p.opened; names = named_groups p.names.items; wanted = targets_of p.wanted.items; in_look_around = p.in_look_around }
 
+-- what is left to read
+abbrev pub text_left : Parser → Text
+text_left p = p.cursor.rest.now
+
 abbrev pub place : Parser → Place
-place p = start (scope_of p) p.rest.now
+place p = start (scope_of p) (text_left p)
 
 -- how many bytes of the whole pattern stand before the rest
 abbrev pub bytes_before : Text → Text → ℕ
 bytes_before whole rest = min (sum_by len_utf8 (take (length whole - length rest) whole)) (2 ^ 64 - 1)
 
-abbrev pub found : Found → Opening
-found Setting = setting
-found Plain = plain
-found (Capture n) = capture n
-found (Marked how) = marked how
-found (Reference folded index) = reference folded index
-found (Chooses c) = chooses (pattern_of c.value)
-found Condition = condition
+abbrev pub opening_found : Found → Opening
+opening_found Setting = setting
+opening_found Plain = plain
+opening_found (Capture n) = capture n
+opening_found (Marked how) = marked how
+opening_found (Reference folded index) = reference folded index
+opening_found (Chooses c) = chooses (pattern_of c.value)
+opening_found Condition = condition
 
 abbrev pub bounds_of : Turns → RepeatBounds
 bounds_of t = (t.low, t.high)
 
-abbrev pub itself : {T : Type 0} → T → T
-itself x = x
+-- the error of what a class was refused for, at this byte of the pattern
+abbrev pub error_at : ℕ → ClassRefusal → Error
+error_at at OutOfMemory = Memory
+error_at at (Invalid kind) = ParseError at kind
 
--- the error at the place that the parser has reached, of what a class was refused for
-abbrev pub error_of : Parser → ClassRefusal → Error
-error_of p OutOfMemory = Memory
-error_of p (Invalid kind) = ParseError (bytes_before p.whole.now p.rest.now) kind
-
-abbrev pub dialect_options : Syntax → Options
+abbrev pub dialect_options : ParseOptions → DialectOptions
 dialect_options s = record { meaning = s.meaning; keeps_characters = s.keeps_characters; only_named = s.only_named; not_empty = s.not_empty; flags = flags_of s.flags }
 
 -- memory ran out, or the claim holds
@@ -120,13 +135,13 @@ RefusesReference (CompileError why) claim = (f : ReferenceFault) × (told_fault 
 RefusesReference (RuntimeError why) claim = ⊥
 
 -- The sizes of this pattern refuse it for this.
-abbrev pub HasBadSize : Compiling → Options → Pattern → Type 0
+abbrev pub HasBadSize : Compiling → DialectOptions → Pattern → Type 0
 HasBadSize LookBehindNotConst o p = are_sized o.meaning p ≡ false
 HasBadSize PatternCanNeverMatch o p = (o.not_empty ≡ true) × (size o.meaning p ≡ Some 0)
 HasBadSize _ o p = ⊥
 
 -- a refusal for the sizes of this pattern
-abbrev pub RefusesSizes : Error → Options → Pattern → Type 0
+abbrev pub RefusesSizes : Error → DialectOptions → Pattern → Type 0
 RefusesSizes Memory o p = ⊥
 RefusesSizes (ParseError at kind) o p = ⊥
 RefusesSizes (CompileError why) o p = HasBadSize why o p
@@ -140,13 +155,6 @@ Resolves r (Err e) = RefusesReference e (λ f. r ≡ Err f)
 -- nothing is spelled, in none of these ways
 abbrev pub HasNoSpelling : (Pattern → Scope → Type 0) → Type 0
 HasNoSpelling S = (p : Pattern) (end : Scope) → S p end → ⊥
-
--- from p there is this reading, up to q, and no other
-abbrev pub IsTheReading : {T : Type 0} → (Place → T → Place → Type 0) → Place → T → Place → Type 0
-IsTheReading R p t q = R p t q × ((u : _) (r : Place) → R p u r → (u ≡ t) × (r ≡ q))
-
-abbrev pub HasNoReading : {T : Type 0} → (Place → T → Place → Type 0) → Place → Type 0
-HasNoReading R p = (u : _) (r : Place) → R p u r → ⊥
 
 -- The result is the one reading from p, and q is where it ends; or there is none, unless memory ran out.
 abbrev pub Gives : {X T : Type 0} → (X → T) → (Place → T → Place → Type 0) → Result X Error → Place → Place → Type 0
@@ -163,15 +171,19 @@ abbrev pub GivesMeant : Option (Lexeme × Text) → Result Tree Error → Place 
 GivesMeant o (Ok t) p q = (x : Lexeme) × (o ≡ Some (x, q.text)) × IsMeant x (pattern_of t) × (q ≡ start p.scope q.text)
 GivesMeant o (Err e) p q = MemoryOr e (o ≡ None)
 
+-- The next so many characters are this lexeme, and the result is what it means; or there is none.
+abbrev pub GivesLexeme : ℕ → Option Lexeme → Result Tree Error → Place → Place → Type 0
+GivesLexeme count o r p q = GivesMeant (followed_by (drop count p.text) o) r p q
+
 abbrev pub Alternation : ℕ → Place → Pattern → Place → Type 0
-Alternation k p x q = (bs : List Pattern) × (x ≡ in_branches bs) × Branches k p bs q
+Alternation k p x q = (bs : List Pattern) × (x ≡ in_branches bs) × BranchesReading k p bs q
 
 abbrev pub Sequence : ℕ → Place → Pattern → Place → Type 0
-Sequence k p x q = (ps : List Pattern) × (x ≡ in_sequence ps) × Parts k p ps q
+Sequence k p x q = (ps : List Pattern) × (x ≡ in_sequence ps) × PartsReading k p ps q
 
 -- The parenthesis at p opens what was found, at q; or it opens nothing where so many may still be open, unless memory ran out.
 abbrev pub GivesOpening : ℕ → Result Found Error → Place → Place → Type 0
-GivesOpening k (Ok how) p q = (opening p ≡ Some (found how, q)) × (parentheses (found how) ≤ k)
+GivesOpening k (Ok how) p q = (opening_here p ≡ Some (opening_found how, q)) × (parentheses (opening_found how) ≤ k)
 GivesOpening k (Err e) p q = MemoryOr e (HasNoReading (Opens k) p)
 
 -- the patterns of trees

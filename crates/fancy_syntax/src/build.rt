@@ -2,13 +2,13 @@
 
 ghost use Rattle.std.specs.Prelude.{◌≡◌, map, IfOk};
 ghost use Rattle.fancy_tree.specs.Pattern.{pattern_of, character, backreference, repeat, in_sequence, in_branches};
-ghost use Rattle.fancy_syntax.specs.Dialect.{literal_of, conditional_of, grouped};
+ghost use Rattle.fancy_syntax.specs.Dialect.{literal_of, conditional_of, group_of};
 ghost use Rattle.fancy_syntax.specs.Grammar.{chooses, wrap};
-ghost use Rattle.fancy_syntax.specs.Views.{found};
+ghost use Rattle.fancy_syntax.specs.Views.{opening_found};
 
 use crate::count::Turns;
 use crate::groups::{Grouping, Opening};
-use fancy_tree::tree::{Meaning, Taste, Tree};
+use fancy_tree::tree::{Meaning, RepeatKind, Tree};
 use std::alloc::{AllocError, Global};
 
 /// One part after another.
@@ -17,7 +17,7 @@ pub(crate) fn sequence(mut parts: Vec<Tree>) -> Tree
     ensures { pattern_of result ≡ in_sequence (map pattern_of parts.items) }
 {
     if parts.len() > 1 {
-        return Tree::Sequence(parts);
+        return Tree::Concat(parts);
     }
     match parts.pop() {
         Some(only) => only,
@@ -31,7 +31,7 @@ pub(crate) fn branches(mut branches: Vec<Tree>) -> Tree
     ensures { pattern_of result ≡ in_branches (map pattern_of branches.items) }
 {
     if branches.len() > 1 {
-        return Tree::Alternative(branches);
+        return Tree::Alternation(branches);
     }
     match branches.pop() {
         Some(only) => only,
@@ -71,15 +71,15 @@ fn one_by_one(alloc: Global, bytes: &[u8]) -> Result<Vec<Tree>, AllocError>
 pub(crate) fn repeat(
     alloc: Global,
     turns: Turns,
-    taste: Taste,
+    kind: RepeatKind,
     body: Tree,
 ) -> Result<Tree, AllocError>
-    ensures { IfOk result (λ t. pattern_of t ≡ repeat turns.low turns.high taste (pattern_of body)) }
+    ensures { IfOk result (λ t. pattern_of t ≡ repeat turns.low turns.high kind (pattern_of body)) }
 {
     Ok(Tree::Repeat {
         low: turns.low,
         high: turns.high,
-        taste,
+        kind,
         body: Box::new(alloc, body)?,
     })
 }
@@ -98,7 +98,7 @@ pub(crate) fn reference(folded: bool, index: usize) -> Tree
 /// What an atomic group or look-around makes of its body.
 #[tactic(auto, using(fancy_tree::proofs::PatternLemmas::pattern_equations))]
 fn group_tree(how: Grouping, body: Box<Tree>) -> Tree
-    ensures { pattern_of result ≡ grouped how (pattern_of body.value) }
+    ensures { pattern_of result ≡ group_of how (pattern_of body.value) }
 {
     match how {
         Grouping::Atomic => Tree::Atomic(body),
@@ -126,7 +126,7 @@ fn conditional(alloc: Global, condition: Box<Tree>, mut body: Vec<Tree>) -> Resu
 
 /// The body of a conditional whose condition has these branches.
 pub(crate) fn chooses(alloc: Global, condition: Vec<Tree>) -> Result<Opening, AllocError>
-    ensures { IfOk result (λ how. found how ≡ chooses (in_branches (map pattern_of condition.items))) }
+    ensures { IfOk result (λ how. opening_found how ≡ chooses (in_branches (map pattern_of condition.items))) }
 {
     Ok(Opening::Chooses(Box::new(alloc, branches(condition))?))
 }
@@ -134,7 +134,7 @@ pub(crate) fn chooses(alloc: Global, condition: Vec<Tree>) -> Result<Opening, Al
 /// What a group makes of the branches inside it.
 #[tactic(auto, using(fancy_tree::proofs::PatternLemmas::pattern_equations))]
 pub(crate) fn wrap(alloc: Global, how: Opening, body: Vec<Tree>) -> Result<Tree, AllocError>
-    ensures { IfOk result (λ t. pattern_of t ≡ wrap (found how) (map pattern_of body.items)) }
+    ensures { IfOk result (λ t. pattern_of t ≡ wrap (opening_found how) (map pattern_of body.items)) }
 {
     match how {
         Opening::Setting | Opening::Plain | Opening::Reference { .. } | Opening::Condition => {

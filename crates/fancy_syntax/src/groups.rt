@@ -2,7 +2,7 @@
 
 ghost use Rattle.std.specs.Prelude.{◌≡◌, ◌≤◌, ◌<◌, IfSome, length};
 ghost use Rattle.fancy_syntax.specs.Grammar.{mark_here, parentheses, asks};
-ghost use Rattle.fancy_syntax.specs.Views.{found};
+ghost use Rattle.fancy_syntax.specs.Views.{opening_found};
 
 use fancy_tree::tree::Tree;
 
@@ -39,7 +39,7 @@ pub(crate) enum Opening {
 impl Opening {
     /// How many parentheses are open after it.
     pub(crate) fn parentheses(&self) -> u32
-        ensures { result ≡ parentheses (found self.now) }
+        ensures { result ≡ parentheses (opening_found self.now) }
     {
         match self {
             Opening::Chooses(_) | Opening::Condition => 2,
@@ -49,7 +49,7 @@ impl Opening {
 
     /// Whether a condition follows.
     pub(crate) fn asks(&self) -> bool
-        ensures { result ≡ asks (found self.now) }
+        ensures { result ≡ asks (opening_found self.now) }
     {
         matches!(self, Opening::Condition)
     }

@@ -1,7 +1,7 @@
 //! What holds of the dialect itself.
 
 ghost use Rattle.std.specs.Prelude.{◌≡◌, ◌+◌, Bool};
-ghost use Rattle.fancy_syntax.specs.Dialect.{Scope, Options, begin, Spells, IsPattern};
+ghost use Rattle.fancy_syntax.specs.Dialect.{Scope, DialectOptions, begin, Spells, IsPattern};
 ghost use Rattle.fancy_tree.specs.GroupNumbers.{Numbered, NumbersInOrder, Rising};
 ghost use Rattle.fancy_tree.specs.Pattern.{Pattern};
 ghost use Rattle.fancy_tree.specs.Text.{Text};
@@ -13,9 +13,9 @@ pub fn one_pattern()
         → p ≡ q }
     ensures ends { (s : Scope) (text : Text) (p q : Pattern) (e f : Scope) → Spells s text p e → Spells s text q f
         → e ≡ f }
-    ensures under_options { (o : Options) (text : Text) (p q : Pattern) → IsPattern o text p → IsPattern o text q
+    ensures under_options { (o : DialectOptions) (text : Text) (p q : Pattern) → IsPattern o text p → IsPattern o text q
         → p ≡ q }
-    ensures ends_under_options { (o : Options) (text : Text) (p q : Pattern)
+    ensures ends_under_options { (o : DialectOptions) (text : Text) (p q : Pattern)
         (x : IsPattern o text p) (y : IsPattern o text q) → x.end ≡ y.end }
 {}
 
@@ -31,6 +31,6 @@ pub fn groups_are_numbered()
 
 /// A name stands on a group of the pattern, and each on another: their numbers rise in the order of the openings.
 pub fn names_are_numbered()
-    ensures { (unnamed : Bool) (o : Options) (text : Text) (p : Pattern) (e : Scope) → Spells (begin unnamed o) text p e
-        → Rising 1 (e.opened + 1) e.names }
+    ensures { (unnamed : Bool) (o : DialectOptions) (text : Text) (p : Pattern) (e : Scope)
+        → Spells (begin unnamed o) text p e → Rising 1 (e.opened + 1) e.names }
 {}

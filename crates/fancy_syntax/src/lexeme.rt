@@ -6,25 +6,24 @@ ghost use Rattle.fancy_class.specs.Words.{is_at};
 ghost use Rattle.fancy_tree.specs.Members.{Members, members};
 ghost use Rattle.fancy_class.specs.EscapeGrammar.{is_property, set_letter};
 ghost use Rattle.fancy_class.specs.ClassGrammar.{is_ascii_meaning};
-ghost use Rattle.fancy_syntax.specs.Dialect.{IsMeant, leaf, one_of, any_case_of, spelled_character, spelled_number, spelled_set, any_code, ends_line};
+ghost use Rattle.fancy_syntax.specs.Dialect.{IsMeant, leaf, one_of, any_case_of, character_lexeme, character_by_number, class_item_lexeme, any_item_members, ends_line};
 ghost use Rattle.fancy_syntax.specs.Dialect as dialect;
 ghost use Rattle.fancy_syntax.specs.Grammar.{IsAtom, start};
 ghost use Rattle.fancy_syntax.specs.References.{begins_reference};
-ghost use Rattle.fancy_syntax.specs.Views.{place, Gives, GivesMeant, error_of, scope_of};
+ghost use Rattle.fancy_syntax.specs.Views.{place, text_left, Gives, GivesMeant, GivesLexeme, bytes_before, error_at, scope_of};
 
 use crate::build::{literal, reference};
 use crate::count::begins_count;
 use crate::escape::{
     anchor, escape_fault, is_escapable, is_one_item, is_special, place_test, start_mark,
 };
-use crate::parser::Parser;
+use crate::parser::{Parser, unexpected_fault};
 use crate::reference::{begins_reference, read_reference, reference_fault};
+use fancy_class::class_builder::ClassBuilder;
+use fancy_class::class_item::ClassItem;
 use fancy_class::context::{ClassContext, may_negate};
-use fancy_class::cursor::Cursor;
 use fancy_class::escape::{control, set_letter};
-use fancy_class::gathered::Gathered;
 use fancy_class::refusal::ClassRefusal;
-use fancy_class::token::Token;
 use fancy_class::words::is_at_any;
 use fancy_tree::error::{Error, ParseErrorKind};
 use fancy_tree::named::universe;
@@ -54,7 +53,7 @@ fn boundary(text: &[char]) -> (Assertion, usize)
 
 /// One item of a set.
 #[tactic(auto, using(fancy_tree::proofs::PatternLemmas::pattern_equations))]
-fn item(set: Set) -> Tree
+fn set_tree(set: Set) -> Tree
     ensures { (f : Members) → ((c : ℕ) → members set c ≡ f c) → IsMeant (one_of f) (pattern_of result) }
 {
     Tree::Member(set)
@@ -89,7 +88,7 @@ fn line_ends(alloc: Global, crlf: bool) -> Result<Set, AllocError>
 impl<'a> Parser<'a> {
     /// The error of what a class or an item of one was refused for, at the place that is reached.
     fn class_error(&self, refusal: ClassRefusal) -> Error
-        ensures { result ≡ error_of self.now refusal }
+        ensures { result ≡ error_at (bytes_before self.now.whole.now (text_left self.now)) refusal }
     {
         match refusal {
             ClassRefusal::Memory => Error::Memory,
@@ -109,9 +108,9 @@ impl<'a> Parser<'a> {
         }
     }
 
-    /// Any code, or any but one that ends a line.
-    fn any_code(&self, all: bool) -> Result<Set, AllocError>
-        ensures { IfOk result (λ s. (c : ℕ) → members s c ≡ any_code (scope_of self.now) all c) }
+    /// What any item can be, or any but one that ends a line.
+    fn any_item_set(&self, all: bool) -> Result<Set, AllocError>
+        ensures { IfOk result (λ s. (c : ℕ) → members s c ≡ any_item_members (scope_of self.now) all c) }
     {
         let every = universe(self.alloc, self.meaning)?;
         if all {
@@ -138,7 +137,7 @@ impl<'a> Parser<'a> {
     /// A character, under flag `i` with those that share its simple folding.
     #[tactic(auto, using(fancy_tree::proofs::PatternLemmas::pattern_equations))]
     fn literal_tree(&self, c: char) -> Result<Tree, AllocError>
-        ensures { IfOk result (λ t. IsMeant (spelled_character (scope_of self.now) c) (pattern_of t)) }
+        ensures { IfOk result (λ t. IsMeant (character_lexeme (scope_of self.now) c) (pattern_of t)) }
     {
         if self.is_folded(c) {
             return Ok(in_any_case(case_variants(self.alloc, self.meaning, c)?));
@@ -150,7 +149,7 @@ impl<'a> Parser<'a> {
     #[tactic(auto, using(fancy_tree::proofs::PatternLemmas::pattern_equations))]
     fn literal_tree_by_number(&self, c: char, is_byte: bool) -> Result<Tree, AllocError>
         requires { is_byte ≡ true → c ≤ 255 }
-        ensures { IfOk result (λ t. IsMeant (spelled_number (scope_of self.now) (c, is_byte)) (pattern_of t)) }
+        ensures { IfOk result (λ t. IsMeant (character_by_number (scope_of self.now) (c, is_byte)) (pattern_of t)) }
     {
         if self.is_raw_byte(c, is_byte) {
             return Ok(Tree::RawByte(c as u8));
@@ -158,21 +157,21 @@ impl<'a> Parser<'a> {
         self.literal_tree(c)
     }
 
-    /// One item of the set that stands for a token in a class.
-    fn spelled_set(&self, token: Token) -> Result<Tree, AllocError>
-        ensures { IfOk result (λ t. IsMeant (spelled_set (scope_of self.now) token) (pattern_of t)) }
+    /// One item of the set that this stands for in a class.
+    fn class_item_tree(&self, item: ClassItem) -> Result<Tree, AllocError>
+        ensures { IfOk result (λ t. IsMeant (class_item_lexeme (scope_of self.now) item) (pattern_of t)) }
     {
         let context = self.context();
-        let mut members = Gathered::new(self.alloc);
-        members.add_token(context, token)?;
-        Ok(item(members.finished(context)?))
+        let mut builder = ClassBuilder::new(self.alloc);
+        builder.add_item(context, item)?;
+        Ok(set_tree(builder.build(context)?))
     }
 
     /// Reads so many characters that stand for this one.
     fn character(&mut self, c: char, count: usize) -> Result<Tree, Error>
-        requires { count ≤ length self.old.rest.now }
-        ensures value { GivesMeant (Some (spelled_character (scope_of self.old) c, drop count self.old.rest.now)) result (place self.old) (place self.new) }
-        ensures progress { OnOk result (length self.new.rest.now + count ≡ length self.old.rest.now) }
+        requires { count ≤ length (text_left self.old) }
+        ensures value { GivesLexeme count (Some (character_lexeme (scope_of self.old) c)) result (place self.old) (place self.new) }
+        ensures progress { OnOk result (length (text_left self.new) + count ≡ length (text_left self.old)) }
     {
         let tree = self.literal_tree(c)?;
         self.skip(count);
@@ -181,9 +180,9 @@ impl<'a> Parser<'a> {
 
     /// Reads so many characters that stand for this leaf.
     fn leaf(&mut self, tree: Tree, count: usize) -> Tree
-        requires { count ≤ length self.old.rest.now }
-        ensures value { GivesMeant (Some (leaf (pattern_of tree), drop count self.old.rest.now)) (Ok result) (place self.old) (place self.new) }
-        ensures progress { length self.new.rest.now + count ≡ length self.old.rest.now }
+        requires { count ≤ length (text_left self.old) }
+        ensures value { GivesLexeme count (Some (leaf (pattern_of tree))) (Ok result) (place self.old) (place self.new) }
+        ensures progress { length (text_left self.new) + count ≡ length (text_left self.old) }
     {
         self.skip(count);
         tree
@@ -192,9 +191,9 @@ impl<'a> Parser<'a> {
     /// Reads so many characters that stand for this test.
     #[tactic(auto, using(fancy_tree::proofs::PatternLemmas::pattern_equations))]
     fn test(&mut self, test: Assertion, count: usize) -> Tree
-        requires { count ≤ length self.old.rest.now }
-        ensures value { GivesMeant (Some (leaf (assertion test), drop count self.old.rest.now)) (Ok result) (place self.old) (place self.new) }
-        ensures progress { length self.new.rest.now + count ≡ length self.old.rest.now }
+        requires { count ≤ length (text_left self.old) }
+        ensures value { GivesLexeme count (Some (leaf (assertion test))) (Ok result) (place self.old) (place self.new) }
+        ensures progress { length (text_left self.new) + count ≡ length (text_left self.old) }
     {
         self.skip(count);
         Tree::Assertion(test)
@@ -202,39 +201,39 @@ impl<'a> Parser<'a> {
 
     /// Reads so many characters that stand for any item, or for any but one that ends a line.
     fn any_item(&mut self, all: bool, count: usize) -> Result<Tree, Error>
-        requires { count ≤ length self.old.rest.now }
-        ensures value { GivesMeant (dialect.followed_by (drop count self.old.rest.now) (dialect.any_item (scope_of self.old) all)) result (place self.old) (place self.new) }
-        ensures progress { OnOk result (length self.new.rest.now + count ≡ length self.old.rest.now) }
+        requires { count ≤ length (text_left self.old) }
+        ensures value { GivesLexeme count (dialect.any_item (scope_of self.old) all) result (place self.old) (place self.new) }
+        ensures progress { OnOk result (length (text_left self.new) + count ≡ length (text_left self.old)) }
     {
         if is_ascii_text(self.meaning) {
             return Err(self.error(ParseErrorKind::InvalidClass));
         }
-        let tree = item(self.any_code(all)?);
+        let tree = set_tree(self.any_item_set(all)?);
         self.skip(count);
         Ok(tree)
     }
 
     /// Reads a backslash and a letter that stands for a set or its complement.
     fn read_set_escape(&mut self, c: char) -> Result<Tree, Error>
-        requires { 2 ≤ length self.old.rest.now }
-        ensures value { GivesMeant (dialect.followed_by (drop 2 self.old.rest.now) (option_and_then (dialect.set_lexeme (scope_of self.old)) (set_letter c))) result (place self.old) (place self.new) }
-        ensures progress { OnOk result (length self.new.rest.now < length self.old.rest.now) }
+        requires { 2 ≤ length (text_left self.old) }
+        ensures value { GivesLexeme 2 (option_and_then (dialect.set_lexeme (scope_of self.old)) (set_letter c)) result (place self.old) (place self.new) }
+        ensures progress { OnOk result (length (text_left self.new) < length (text_left self.old)) }
     {
         match set_letter(c) {
             Some((which, negated)) if may_negate(self.meaning, negated) => {
-                let tree = self.spelled_set(Token::Named(which, negated))?;
+                let tree = self.class_item_tree(ClassItem::NamedSet(which, negated))?;
                 self.skip(2);
                 Ok(tree)
             }
-            _ => Err(self.error(escape_fault(&self.rest[1..]))),
+            _ => Err(self.error(escape_fault(&self.cursor.rest[1..]))),
         }
     }
 
     /// Reads a backslash and a letter that alone stands for something.
     fn read_letter_escape(&mut self, c: char) -> Result<Tree, Error>
-        requires { 2 ≤ length self.old.rest.now }
-        ensures value { GivesMeant (dialect.followed_by (drop 2 self.old.rest.now) (dialect.letter_lexeme (scope_of self.old) c)) result (place self.old) (place self.new) }
-        ensures progress { OnOk result (length self.new.rest.now < length self.old.rest.now) }
+        requires { 2 ≤ length (text_left self.old) }
+        ensures value { GivesLexeme 2 (dialect.letter_lexeme (scope_of self.old) c) result (place self.old) (place self.new) }
+        ensures progress { OnOk result (length (text_left self.new) < length (text_left self.old)) }
     {
         if let Some(c) = control(c) {
             return self.character(c, 2);
@@ -249,66 +248,64 @@ impl<'a> Parser<'a> {
     }
 
     /// Reads a backslash, its letter, and a number.
-    fn numbered(&mut self, digits: usize) -> Result<Tree, Error>
-        requires { 2 ≤ length self.old.rest.now }
-        ensures value { GivesMeant (dialect.number_lexeme (scope_of self.old) digits (drop 2 self.old.rest.now)) result (place self.old) (place self.new) }
-        ensures progress { OnOk result (length self.new.rest.now < length self.old.rest.now) }
+    fn read_number_escape(&mut self, digits: usize) -> Result<Tree, Error>
+        requires { 2 ≤ length (text_left self.old) }
+        ensures value { GivesMeant (dialect.number_lexeme (scope_of self.old) digits (drop 2 (text_left self.old))) result (place self.old) (place self.new) }
+        ensures progress { OnOk result (length (text_left self.new) < length (text_left self.old)) }
     {
-        let mut cursor = Cursor { rest: self.rest };
-        cursor.skip(2);
-        match cursor.number(digits) {
-            Ok((c, is_byte)) => {
-                let tree = self.literal_tree_by_number(c, is_byte)?;
-                self.rest = cursor.rest;
-                Ok(tree)
+        let start = self.cursor.rest;
+        self.cursor.skip(2);
+        match self.cursor.number(digits) {
+            Ok((c, is_byte)) => Ok(self.literal_tree_by_number(c, is_byte)?),
+            Err(refusal) => {
+                self.cursor.rest = start;
+                Err(self.class_error(refusal))
             }
-            Err(refusal) => Err(self.class_error(refusal)),
         }
     }
 
     /// Reads an escape that names a property.
     fn property(&mut self) -> Result<Tree, Error>
-        requires { is_property self.old.rest.now ≡ true }
-        ensures value { GivesMeant (dialect.property_here (scope_of self.old) self.old.rest.now) result (place self.old) (place self.new) }
-        ensures progress { OnOk result (length self.new.rest.now < length self.old.rest.now) }
+        requires { is_property (text_left self.old) ≡ true }
+        ensures value { GivesMeant (dialect.property_here (scope_of self.old) (text_left self.old)) result (place self.old) (place self.new) }
+        ensures progress { OnOk result (length (text_left self.new) < length (text_left self.old)) }
     {
-        let mut cursor = Cursor { rest: self.rest };
-        match cursor.property(self.context()) {
-            Ok(token) => {
-                let tree = self.spelled_set(token)?;
-                self.rest = cursor.rest;
-                Ok(tree)
+        let context = self.context();
+        let start = self.cursor.rest;
+        match self.cursor.property(context) {
+            Ok(item) => Ok(self.class_item_tree(item)?),
+            Err(refusal) => {
+                self.cursor.rest = start;
+                Err(self.class_error(refusal))
             }
-            Err(refusal) => Err(self.class_error(refusal)),
         }
     }
 
     /// Reads `\b` with the word in braces after it, if one stands there.
     fn boundary(&mut self) -> Tree
-        requires { 2 ≤ length self.old.rest.now }
-        ensures value { GivesMeant (Some (dialect.boundary_here (drop 2 self.old.rest.now))) (Ok result) (place self.old) (place self.new) }
-        ensures progress { length self.new.rest.now < length self.old.rest.now }
+        requires { 2 ≤ length (text_left self.old) }
+        ensures value { GivesMeant (Some (dialect.boundary_here (drop 2 (text_left self.old)))) (Ok result) (place self.old) (place self.new) }
+        ensures progress { length (text_left self.new) < length (text_left self.old) }
     {
-        let mut cursor = Cursor { rest: self.rest };
-        cursor.skip(2);
-        let (test, width) = boundary(cursor.rest);
-        self.test(test, width + 2)
+        self.skip(2);
+        let (test, width) = boundary(self.cursor.rest);
+        self.test(test, width)
     }
 
     /// Reads a backslash and what it escapes, which begins with this character.
     fn escape(&mut self, c: char) -> Result<Tree, Error>
-        requires { self.old.rest.now ≡ 92 ∷ c ∷ drop 2 self.old.rest.now }
-        ensures value { GivesMeant (dialect.escape (scope_of self.old) c (drop 2 self.old.rest.now)) result (place self.old) (place self.new) }
-        ensures progress { OnOk result (length self.new.rest.now < length self.old.rest.now) }
+        requires { text_left self.old ≡ 92 ∷ c ∷ drop 2 (text_left self.old) }
+        ensures value { GivesMeant (dialect.escape (scope_of self.old) c (drop 2 (text_left self.old))) result (place self.old) (place self.new) }
+        ensures progress { OnOk result (length (text_left self.new) < length (text_left self.old)) }
     {
         if is_escapable(c) {
             return self.character(c, 2);
         }
         match c {
             'b' => Ok(self.boundary()),
-            'x' => self.numbered(2),
-            'u' => self.numbered(4),
-            'U' => self.numbered(8),
+            'x' => self.read_number_escape(2),
+            'u' => self.read_number_escape(4),
+            'U' => self.read_number_escape(8),
             'O' => self.any_item(true, 2),
             'N' => self.any_item(false, 2),
             'p' | 'P' => self.property(),
@@ -318,77 +315,78 @@ impl<'a> Parser<'a> {
 
     /// Reads a character that stands for itself, or for a place.
     fn read_unescaped(&mut self, c: char) -> Result<Tree, Error>
-        requires { self.old.rest.now ≡ c ∷ drop 1 self.old.rest.now }
-        ensures value { GivesMeant (dialect.followed_by (drop 1 self.old.rest.now) (dialect.unescaped_lexeme (scope_of self.old) c (drop 1 self.old.rest.now))) result (place self.old) (place self.new) }
-        ensures progress { OnOk result (length self.new.rest.now < length self.old.rest.now) }
+        requires { text_left self.old ≡ c ∷ drop 1 (text_left self.old) }
+        ensures value { GivesMeant (dialect.unescaped_here (scope_of self.old) c (drop 1 (text_left self.old))) result (place self.old) (place self.new) }
+        ensures progress { OnOk result (length (text_left self.new) < length (text_left self.old)) }
     {
         if let Some(test) = anchor(self.flags, c) {
             return Ok(self.test(test, 1));
         }
-        if is_special(c) || begins_count(self.rest) {
-            return Err(self.unexpected());
+        if is_special(c) || begins_count(self.cursor.rest) {
+            return Err(self.error(unexpected_fault(self.cursor.rest)));
         }
         self.character(c, 1)
     }
 
     /// Reads a character or an escape.
     fn lexeme(&mut self) -> Result<Tree, Error>
-        ensures value { GivesMeant (dialect.lexeme (scope_of self.old) self.old.rest.now) result (place self.old) (place self.new) }
-        ensures progress { OnOk result (length self.new.rest.now < length self.old.rest.now) }
+        ensures value { GivesMeant (dialect.lexeme (scope_of self.old) (text_left self.old)) result (place self.old) (place self.new) }
+        ensures progress { OnOk result (length (text_left self.new) < length (text_left self.old)) }
     {
-        match self.rest {
+        match self.cursor.rest {
             ['\\', c, ..] => self.escape(*c),
             ['\\'] => Err(self.error(ParseErrorKind::TrailingBackslash)),
             ['.', ..] => self.any_item(self.flags.dot_all, 1),
             [c, ..] => self.read_unescaped(*c),
-            [] => Err(self.unexpected()),
+            [] => Err(self.error(unexpected_fault(self.cursor.rest))),
         }
     }
 
     /// Reads a class.
     #[tactic(auto, using(fancy_tree::proofs::PatternLemmas::pattern_equations))]
     fn class(&mut self) -> Result<Tree, Error>
-        requires { is_at "[" self.old.rest.now ≡ true }
+        requires { is_at "[" (text_left self.old) ≡ true }
         ensures value { Gives pattern_of IsAtom result (place self.old) (place self.new) }
-        ensures progress { OnOk result (length self.new.rest.now < length self.old.rest.now) }
+        ensures progress { OnOk result (length (text_left self.new) < length (text_left self.old)) }
     {
-        let mut cursor = Cursor { rest: self.rest };
-        match cursor.class(self.context()) {
-            Ok(set) => {
-                self.rest = cursor.rest;
-                Ok(Tree::Member(set))
+        let context = self.context();
+        let start = self.cursor.rest;
+        match self.cursor.class(context) {
+            Ok(set) => Ok(Tree::Member(set)),
+            Err(refusal) => {
+                self.cursor.rest = start;
+                Err(self.class_error(refusal))
             }
-            Err(refusal) => Err(self.class_error(refusal)),
         }
     }
 
     /// Reads a reference to a group; which one it names is settled where the pattern ends.
     fn reference(&mut self) -> Result<Tree, Error>
-        requires { begins_reference self.old.rest.now ≡ true }
+        requires { begins_reference (text_left self.old) ≡ true }
         ensures value { Gives pattern_of IsAtom result (place self.old) (place self.new) }
-        ensures progress { OnOk result (length self.new.rest.now < length self.old.rest.now) }
+        ensures progress { OnOk result (length (text_left self.new) < length (text_left self.old)) }
     {
-        let found = read_reference(self.alloc, self.rest, self.opened)?;
+        let found = read_reference(self.alloc, self.cursor.rest, self.opened)?;
         match found {
             Some((target, after)) => {
                 let index = self.wanted.len();
                 self.wanted.push(target)?;
-                self.rest = after;
+                self.cursor.rest = after;
                 Ok(reference(self.flags.ignore_case, index))
             }
-            None => Err(self.error(reference_fault(self.rest))),
+            None => Err(self.error(reference_fault(self.cursor.rest))),
         }
     }
 
     /// Reads a character, an escape, a class or a reference that begins with a backslash.
     pub(crate) fn atom(&mut self) -> Result<Tree, Error>
         ensures value { Gives pattern_of IsAtom result (place self.old) (place self.new) }
-        ensures progress { OnOk result (length self.new.rest.now < length self.old.rest.now) }
+        ensures progress { OnOk result (length (text_left self.new) < length (text_left self.old)) }
     {
-        if is_at_any(self.rest, &['[']) {
+        if is_at_any(self.cursor.rest, &['[']) {
             return self.class();
         }
-        if begins_reference(self.rest) {
+        if begins_reference(self.cursor.rest) {
             return self.reference();
         }
         self.lexeme()

@@ -1,20 +1,20 @@
 //! Patterns are read here.
 
-ghost use Rattle.std.specs.Prelude.{◌≡◌, ◌+◌, ◌<◌, ◌^◌, length, map, All, Any, IfOk, IfErr, None, Some, true, false, chars};
+ghost use Rattle.std.specs.Prelude.{◌≡◌, ◌+◌, ◌<◌, ◌^◌, length, IfOk, IfErr, Some, true, false, chars};
 ghost use Rattle.fancy_tree.specs.declared.error.Error.TheVariants.{Memory};
 ghost use Rattle.fancy_tree.specs.Sizes.{size, are_sized};
 ghost use Rattle.fancy_syntax.specs.Dialect.{standard, begin, Spells, SpellsUnder, IsPattern};
 ghost use Rattle.fancy_tree.specs.Names.{named_groups};
 ghost use Rattle.fancy_tree.specs.Pattern.{Pattern, pattern_of};
-ghost use Rattle.fancy_syntax.specs.References.{target_fault, group_for};
-ghost use Rattle.fancy_tree.specs.Refers.{number_in, refers_to};
+ghost use Rattle.fancy_tree.specs.Refers.{refers_to};
 ghost use Rattle.fancy_syntax.specs.Refusals.{IsRefused};
-ghost use Rattle.fancy_syntax.specs.Views.{dialect_options, target_of, targets_of, draft_groups, MemoryOr, RefusesReference, RefusesSizes, SpellsDraft, HasNoSpelling};
+ghost use Rattle.fancy_syntax.specs.Views.{dialect_options, draft_groups, draft_numbers, AreResolved, HaveFault, MemoryOr, RefusesReference, RefusesSizes, SpellsDraft, HasNoSpelling};
 
 use crate::flags::Flags;
 use crate::parser::Parser;
 use crate::reference::Target;
 use crate::resolve::{Groups, names_alone};
+use fancy_class::cursor::Cursor;
 use fancy_tree::error::{CompileError, Error, ParseErrorKind};
 use fancy_tree::name::{GroupName, characters_of};
 use fancy_tree::tree::{Meaning, Tree};
@@ -28,7 +28,7 @@ const MAX_NODES: usize = 1_000_000;
 
 /// What holds at the start of a pattern.
 #[derive(Clone, Copy, PartialEq, Eq)]
-pub struct Syntax {
+pub struct ParseOptions {
     /// What an item consumes.
     pub meaning: Meaning,
     /// Whether matches begin and end on character boundaries alone. Where they do not, `\xE9` is a byte.
@@ -41,9 +41,9 @@ pub struct Syntax {
     pub flags: Flags,
 }
 
-impl Syntax {
+impl ParseOptions {
     /// Items are characters, and no flag is set.
-    pub const STANDARD: Syntax = Syntax {
+    pub const STANDARD: ParseOptions = ParseOptions {
         meaning: Meaning::Unicode,
         keeps_characters: true,
         only_named: false,
@@ -111,7 +111,7 @@ pub fn parse(alloc: Global, pattern: &str) -> Result<Parsed, Error>
     ensures refused { IfErr result (λ e. IsRefused e standard (chars pattern.now)) }
     ensures succeeds { (p : Pattern) → IsPattern standard (chars pattern.now) p → IfErr result (λ e. e ≡ Memory) }
 {
-    parse_with(alloc, pattern, Syntax::STANDARD)
+    parse_with(alloc, pattern, ParseOptions::STANDARD)
 }
 
 /// Reads a pattern by the rules of [`parse`], where this holds at its start.
@@ -125,35 +125,35 @@ pub fn parse(alloc: Global, pattern: &str) -> Result<Parsed, Error>
 ///
 /// Where `not_empty` is set a pattern that always consumes 0 units is refused by [`CompileError::PatternCanNeverMatch`],
 /// as the empty pattern, `^` or `(?=a)`; `a?` is not, and `()|a` is not.
-pub fn parse_with(alloc: Global, pattern: &str, syntax: Syntax) -> Result<Parsed, Error>
+pub fn parse_with(alloc: Global, pattern: &str, options: ParseOptions) -> Result<Parsed, Error>
     ensures accepted { IfOk result
-        (λ r. (h : IsPattern (dialect_options syntax) (chars pattern.now) (pattern_of r.tree))
+        (λ r. (h : IsPattern (dialect_options options) (chars pattern.now) (pattern_of r.tree))
         × (h.end.opened + 1 ≡ r.groups) × (named_groups r.names.items ≡ h.end.names)) }
-    ensures refused { IfErr result (λ e. IsRefused e (dialect_options syntax) (chars pattern.now)) }
-    ensures succeeds { (p : Pattern) → IsPattern (dialect_options syntax) (chars pattern.now) p
+    ensures refused { IfErr result (λ e. IsRefused e (dialect_options options) (chars pattern.now)) }
+    ensures succeeds { (p : Pattern) → IsPattern (dialect_options options) (chars pattern.now) p
         → IfErr result (λ e. e ≡ Memory) }
 {
     let characters = characters_of(alloc, pattern)?;
-    let draft = read(alloc, &characters, syntax)?;
+    let draft = read(alloc, &characters, options)?;
     if draft.tree.nodes() > MAX_NODES {
         return Err(Error::CompileError(CompileError::PatternTooComplex));
     }
-    let parsed = draft.resolved(alloc, syntax.only_named)?;
-    parsed.with_sizes(syntax)
+    let parsed = draft.resolve(alloc, options.only_named)?;
+    parsed.with_sizes(options)
 }
 
 impl Parsed {
     /// This pattern, if each look-behind in it can step back, and if it can match where empty matches are refused.
-    fn with_sizes(self, syntax: Syntax) -> Result<Parsed, Error>
+    fn with_sizes(self, options: ParseOptions) -> Result<Parsed, Error>
         ensures value { IfOk result (λ r. r ≡ self) }
-        ensures sized { IfOk result (λ r. are_sized syntax.meaning (pattern_of r.tree) ≡ true) }
-        ensures fills { IfOk result (λ r. syntax.not_empty ≡ true → (size syntax.meaning (pattern_of r.tree) ≡ Some 0) → ⊥) }
-        ensures refused { IfErr result (λ e. RefusesSizes e (dialect_options syntax) (pattern_of self.tree)) }
+        ensures sized { IfOk result (λ r. are_sized options.meaning (pattern_of r.tree) ≡ true) }
+        ensures fills { IfOk result (λ r. options.not_empty ≡ true → (size options.meaning (pattern_of r.tree) ≡ Some 0) → ⊥) }
+        ensures refused { IfErr result (λ e. RefusesSizes e (dialect_options options) (pattern_of self.tree)) }
     {
-        if !self.tree.is_sized(syntax.meaning) {
+        if !self.tree.is_sized(options.meaning) {
             return Err(Error::CompileError(CompileError::LookBehindNotConst));
         }
-        if syntax.not_empty && self.tree.consumes_nothing(syntax.meaning) {
+        if options.not_empty && self.tree.consumes_nothing(options.meaning) {
             return Err(Error::CompileError(CompileError::PatternCanNeverMatch));
         }
         Ok(self)
@@ -172,11 +172,11 @@ struct Draft {
 
 impl Draft {
     /// Puts the number of its group in each reference.
-    fn resolved(self, alloc: Global, only_named: bool) -> Result<Parsed, Error>
-        ensures tree { IfOk result (λ r. pattern_of r.tree ≡ refers_to (number_in (map (group_for (draft_groups only_named self)) (targets_of self.wanted.items))) (pattern_of self.tree)) }
+    fn resolve(self, alloc: Global, only_named: bool) -> Result<Parsed, Error>
+        ensures tree { IfOk result (λ r. pattern_of r.tree ≡ refers_to (draft_numbers only_named self) (pattern_of self.tree)) }
         ensures same { IfOk result (λ r. (r.groups ≡ self.groups) × (r.names ≡ self.names)) }
-        ensures resolved { IfOk result (λ r. All (λ w. target_fault (draft_groups only_named self) (target_of w) ≡ None) self.wanted.items) }
-        ensures refused { IfErr result (λ e. RefusesReference e (λ f. Any (λ w. target_fault (draft_groups only_named self) (target_of w) ≡ Some f) self.wanted.items)) }
+        ensures resolved { IfOk result (λ r. AreResolved (draft_groups only_named self) self.wanted.items) }
+        ensures refused { IfErr result (λ e. RefusesReference e (HaveFault (draft_groups only_named self) self.wanted.items)) }
     {
         let Draft {
             mut tree,
@@ -202,14 +202,14 @@ impl Draft {
 }
 
 /// Reads a whole pattern: once more where a group has a name and those without are to capture nothing then.
-fn read(alloc: Global, characters: &[char], syntax: Syntax) -> Result<Draft, Error>
+fn read(alloc: Global, characters: &[char], options: ParseOptions) -> Result<Draft, Error>
     requires { length characters.now < 2 ^ 63 }
-    ensures value { IfOk result (λ r. SpellsDraft (SpellsUnder (dialect_options syntax) characters.now) r) }
-    ensures refused { IfErr result (λ e. MemoryOr e (HasNoSpelling (SpellsUnder (dialect_options syntax) characters.now))) }
+    ensures value { IfOk result (λ r. SpellsDraft (SpellsUnder (dialect_options options) characters.now) r) }
+    ensures refused { IfErr result (λ e. MemoryOr e (HasNoSpelling (SpellsUnder (dialect_options options) characters.now))) }
 {
-    let capturing = read_whole(alloc, characters, syntax, true)?;
-    if syntax.only_named && !capturing.names.is_empty() {
-        return read_whole(alloc, characters, syntax, false);
+    let capturing = read_whole(alloc, characters, options, true)?;
+    if options.only_named && !capturing.names.is_empty() {
+        return read_whole(alloc, characters, options, false);
     }
     Ok(capturing)
 }
@@ -218,20 +218,20 @@ fn read(alloc: Global, characters: &[char], syntax: Syntax) -> Result<Draft, Err
 fn read_whole(
     alloc: Global,
     characters: &[char],
-    syntax: Syntax,
+    options: ParseOptions,
     unnamed_capture: bool,
 ) -> Result<Draft, Error>
     requires { length characters.now < 2 ^ 63 }
-    ensures value { IfOk result (λ r. SpellsDraft (Spells (begin unnamed_capture (dialect_options syntax)) characters.now) r) }
-    ensures refused { IfErr result (λ e. MemoryOr e (HasNoSpelling (Spells (begin unnamed_capture (dialect_options syntax)) characters.now))) }
+    ensures value { IfOk result (λ r. SpellsDraft (Spells (begin unnamed_capture (dialect_options options)) characters.now) r) }
+    ensures refused { IfErr result (λ e. MemoryOr e (HasNoSpelling (Spells (begin unnamed_capture (dialect_options options)) characters.now))) }
 {
     let mut parser = Parser {
         whole: characters,
-        rest: characters,
-        meaning: syntax.meaning,
-        keeps_characters: syntax.keeps_characters,
+        cursor: Cursor { rest: characters },
+        meaning: options.meaning,
+        keeps_characters: options.keeps_characters,
         unnamed_capture,
-        flags: syntax.flags,
+        flags: options.flags,
         opened: 0,
         names: Vec::new(alloc),
         wanted: Vec::new(alloc),
@@ -239,7 +239,7 @@ fn read_whole(
         alloc,
     };
     let tree = parser.alternation(MAX_DEPTH)?;
-    if !parser.rest.is_empty() {
+    if !parser.cursor.rest.is_empty() {
         return Err(parser.error(ParseErrorKind::GeneralParseError));
     }
     Ok(Draft {

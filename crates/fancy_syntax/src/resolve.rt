@@ -1,10 +1,10 @@
 //! Which group a reference names, once the whole pattern is read.
 
-ghost use Rattle.std.specs.Prelude.{◌≡◌, ℕ, ◌-◌, ◌^◌, ◌&&◌, min, None, Some, map, All, Any, IfOk, IfErr, chars, string_bytes};
+ghost use Rattle.std.specs.Prelude.{◌≡◌, ℕ, ◌-◌, ◌^◌, ◌&&◌, min, map, IfOk, IfErr, chars, string_bytes};
 ghost use Rattle.fancy_syntax.specs.Dialect.{has_name};
 ghost use Rattle.fancy_tree.specs.Names.{named_groups};
-ghost use Rattle.fancy_syntax.specs.References.{no_name as no_name_fault, group_numbered, group_in_digits, resolve, target_fault, group_for};
-ghost use Rattle.fancy_syntax.specs.Views.{target_of, targets_of, groups_of, Resolves, RefusesReference};
+ghost use Rattle.fancy_syntax.specs.References.{no_name as no_name_fault, group_numbered, group_in_digits, resolve, group_for};
+ghost use Rattle.fancy_syntax.specs.Views.{target_of, targets_of, groups_of, AreResolved, HaveFault, Resolves, RefusesReference};
 
 use crate::count::{decimal, past_digits};
 use crate::reference::{LARGEST_TOLD, Target};
@@ -43,7 +43,7 @@ fn no_name(alloc: Global, name: &str) -> Error
 
 impl Groups<'_> {
     /// The group of this number.
-    fn numbered(&self, number: u64) -> Result<usize, Error>
+    fn resolve_number(&self, number: u64) -> Result<usize, Error>
         ensures { (n : ℕ) → number ≡ min n (2 ^ 64 - 1) → Resolves (group_numbered (groups_of self.now) n) result }
     {
         if self.by_name {
@@ -56,12 +56,12 @@ impl Groups<'_> {
     }
 
     /// The group of the number that these digits are.
-    fn in_digits(&self, alloc: Global, name: &str) -> Result<usize, Error>
+    fn resolve_digits(&self, alloc: Global, name: &str) -> Result<usize, Error>
         ensures { Resolves (group_in_digits (groups_of self.now) (chars name.now)) result }
     {
         let digits = characters_of(alloc, name)?;
         if past_digits(&digits).is_empty() {
-            return self.numbered(decimal(&digits));
+            return self.resolve_number(decimal(&digits));
         }
         Err(no_name(alloc, name))
     }
@@ -71,7 +71,7 @@ impl Groups<'_> {
         ensures { Resolves (resolve (groups_of self.now) (target_of target.now)) result }
     {
         match target {
-            Target::Numbered(number) => self.numbered(*number as u64),
+            Target::Numbered(number) => self.resolve_number(*number as u64),
             Target::Missing(number) if !self.by_name => {
                 Err(Error::CompileError(CompileError::InvalidBackref(*number)))
             }
@@ -82,7 +82,7 @@ impl Groups<'_> {
             },
             Target::CalledOrNumbered(name) => match last_named(self.names, name.as_str()) {
                 Some(group) => Ok(group),
-                None => self.in_digits(alloc, name.as_str()),
+                None => self.resolve_digits(alloc, name.as_str()),
             },
         }
     }
@@ -90,8 +90,8 @@ impl Groups<'_> {
     /// The group that each reference names.
     pub(crate) fn resolve_all(&self, alloc: Global, targets: &[Target]) -> Result<Vec<usize>, Error>
         ensures numbers { IfOk result (λ v. v.items ≡ map (group_for (groups_of self.now)) (targets_of targets.now)) }
-        ensures resolved { IfOk result (λ v. All (λ w. target_fault (groups_of self.now) (target_of w) ≡ None) targets.now) }
-        ensures refused { IfErr result (λ e. RefusesReference e (λ f. Any (λ w. target_fault (groups_of self.now) (target_of w) ≡ Some f) targets.now)) }
+        ensures resolved { IfOk result (λ v. AreResolved (groups_of self.now) targets.now) }
+        ensures refused { IfErr result (λ e. RefusesReference e (HaveFault (groups_of self.now) targets.now)) }
     {
         let mut numbers = Vec::new(alloc);
         for target in targets {

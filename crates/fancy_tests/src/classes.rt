@@ -2,43 +2,43 @@
 
 use crate::asking::{TextListRow, check_text_lists, kind_of};
 use fancy_syntax::flags::Flags;
-use fancy_syntax::parse::{Syntax, parse_with};
+use fancy_syntax::parse::{ParseOptions, parse_with};
 use fancy_tree::error::ParseErrorKind;
 use fancy_tree::tree::{Meaning, Tree};
 use std::alloc::Global;
 use std::process::Abort;
 
-const UNICODE: Syntax = Syntax::STANDARD;
+const UNICODE: ParseOptions = ParseOptions::STANDARD;
 
-const FOLDED: Syntax = Syntax {
+const FOLDED: ParseOptions = ParseOptions {
     flags: Flags {
         ignore_case: true,
         ..Flags::NONE
     },
-    ..Syntax::STANDARD
+    ..ParseOptions::STANDARD
 };
 
-const BYTES: Syntax = Syntax {
+const BYTES: ParseOptions = ParseOptions {
     meaning: Meaning::Bytes,
-    ..Syntax::STANDARD
+    ..ParseOptions::STANDARD
 };
 
-const FOLDED_BYTES: Syntax = Syntax {
+const FOLDED_BYTES: ParseOptions = ParseOptions {
     meaning: Meaning::Bytes,
     ..FOLDED
 };
 
-const ASCII: Syntax = Syntax {
+const ASCII: ParseOptions = ParseOptions {
     meaning: Meaning::AsciiText,
-    ..Syntax::STANDARD
+    ..ParseOptions::STANDARD
 };
 
 /// What holds at the start, a class, probed characters, and the same with each that is no member shown as a dot.
-type MembersRow = (Syntax, &'static str, &'static str, &'static str);
+type MembersRow = (ParseOptions, &'static str, &'static str, &'static str);
 
 fn check_members(rt: &impl Abort, alloc: Global, row: &MembersRow) {
-    let (syntax, pattern, probe, wanted) = *row;
-    let found = parse_with(alloc, pattern, syntax).expect(rt, pattern);
+    let (options, pattern, probe, wanted) = *row;
+    let found = parse_with(alloc, pattern, options).expect(rt, pattern);
     let Tree::Member(set) = &found.tree else {
         rt.panic(pattern)
     };
@@ -121,7 +121,7 @@ fn a_bracket_ends_a_class(rt: HostRuntime) {
 }
 
 /// What holds at the start, a class, and why it is refused.
-type RefusalRow = (Syntax, &'static str, ParseErrorKind);
+type RefusalRow = (ParseOptions, &'static str, ParseErrorKind);
 
 const REFUSALS: &[RefusalRow] = &[
     (UNICODE, "[]", ParseErrorKind::InvalidClass),
@@ -164,8 +164,8 @@ const REFUSALS: &[RefusalRow] = &[
 
 #[test]
 fn refusals(rt: HostRuntime) {
-    for &(syntax, pattern, wanted) in REFUSALS {
-        let found = parse_with(rt.alloc(), pattern, syntax);
+    for &(options, pattern, wanted) in REFUSALS {
+        let found = parse_with(rt.alloc(), pattern, options);
         assert!(rt; kind_of(&found) == Some(wanted), "{pattern}");
     }
 }

@@ -2,7 +2,7 @@
 
 use fancy_engine::compile::compile;
 use fancy_machine::units::units_back;
-use fancy_tree::tree::{Meaning, Taste, Tree};
+use fancy_tree::tree::{Meaning, RepeatKind, Tree};
 
 #[test]
 fn units_stand_before_a_place(rt: HostRuntime) {
@@ -19,7 +19,7 @@ fn a_star_shares_its_turn(rt: HostRuntime) {
     let tree = Tree::Repeat {
         low: 1,
         high: None,
-        taste: Taste::Greedy,
+        kind: RepeatKind::Greedy,
         body: Box::new(alloc, Tree::Character('a')).expect(&rt, "no memory"),
     };
     let code = compile(alloc, &tree, 1, Meaning::Unicode).expect(&rt, "no memory");

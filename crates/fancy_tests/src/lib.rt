@@ -6,6 +6,8 @@ mod asking;
 #[cfg(test)]
 mod builders;
 #[cfg(test)]
+mod byte_sets;
+#[cfg(test)]
 mod captures;
 #[cfg(test)]
 mod classes;

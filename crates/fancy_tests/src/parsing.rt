@@ -1,7 +1,7 @@
 //! Where patterns are refused and why, and how large they are that are read.
 
 use crate::asking::{CHARACTERS, FaultRow, ONLY_NAMED, check_faults, is_too_complex, repeated};
-use fancy_syntax::parse::{Syntax, parse, parse_with};
+use fancy_syntax::parse::{ParseOptions, parse, parse_with};
 use fancy_tree::error::ParseErrorKind;
 use fancy_tree::tree::Meaning;
 use std::alloc::Global;
@@ -317,46 +317,46 @@ fn places_and_kinds(rt: HostRuntime) {
     check_faults(&rt, rt.alloc(), FAULTS_BESIDE_NAMES);
 }
 
-const OF_BYTES: Syntax = Syntax {
+const OF_BYTES: ParseOptions = ParseOptions {
     meaning: Meaning::Bytes,
-    ..Syntax::STANDARD
+    ..ParseOptions::STANDARD
 };
 
-const OF_ASCII_TEXT: Syntax = Syntax {
+const OF_ASCII_TEXT: ParseOptions = ParseOptions {
     meaning: Meaning::AsciiText,
-    ..Syntax::STANDARD
+    ..ParseOptions::STANDARD
 };
 
 /// Where a group has a name, those without capture nothing.
-const OF_NAMED_GROUPS: Syntax = Syntax {
+const OF_NAMED_GROUPS: ParseOptions = ParseOptions {
     only_named: true,
-    ..Syntax::STANDARD
+    ..ParseOptions::STANDARD
 };
 
 /// What holds at the start, a pattern, and how many nodes, groups and names it has.
-type SizeRow = (Syntax, &'static str, (usize, usize, usize));
+type SizeRow = (ParseOptions, &'static str, (usize, usize, usize));
 
 fn check_size(rt: &impl Abort, alloc: Global, row: &SizeRow) {
-    let (syntax, pattern, wanted) = *row;
-    let found = parse_with(alloc, pattern, syntax).expect(rt, pattern);
+    let (options, pattern, wanted) = *row;
+    let found = parse_with(alloc, pattern, options).expect(rt, pattern);
     let size = (found.tree.nodes(), found.groups, found.names.len());
     assert_eq!(rt; size, wanted, "{pattern}");
 }
 
 const SIZES: &[SizeRow] = &[
-    (Syntax::STANDARD, "(?:a|b)?c", (7, 1, 0)),
+    (ParseOptions::STANDARD, "(?:a|b)?c", (7, 1, 0)),
     (OF_BYTES, "aé", (3, 1, 0)),
     (OF_ASCII_TEXT, "aé", (2, 1, 0)),
     (OF_BYTES, "(?i)aé", (3, 1, 0)),
-    (Syntax::STANDARD, "[a-c]\\d.", (3, 1, 0)),
-    (Syntax::STANDARD, "a*", (3, 1, 0)),
-    (Syntax::STANDARD, "a+", (4, 1, 0)),
-    (Syntax::STANDARD, "a{3}", (4, 1, 0)),
-    (Syntax::STANDARD, "a{02,2}", (3, 1, 0)),
-    (Syntax::STANDARD, "a{2,5}", (9, 1, 0)),
-    (Syntax::STANDARD, "a{,2}", (5, 1, 0)),
-    (Syntax::STANDARD, "a{2,}", (5, 1, 0)),
-    (Syntax::STANDARD, "((a)|b)(c)", (8, 4, 0)),
+    (ParseOptions::STANDARD, "[a-c]\\d.", (3, 1, 0)),
+    (ParseOptions::STANDARD, "a*", (3, 1, 0)),
+    (ParseOptions::STANDARD, "a+", (4, 1, 0)),
+    (ParseOptions::STANDARD, "a{3}", (4, 1, 0)),
+    (ParseOptions::STANDARD, "a{02,2}", (3, 1, 0)),
+    (ParseOptions::STANDARD, "a{2,5}", (9, 1, 0)),
+    (ParseOptions::STANDARD, "a{,2}", (5, 1, 0)),
+    (ParseOptions::STANDARD, "a{2,}", (5, 1, 0)),
+    (ParseOptions::STANDARD, "((a)|b)(c)", (8, 4, 0)),
     (OF_NAMED_GROUPS, "((a)|b)(c)", (8, 4, 0)),
     (OF_NAMED_GROUPS, "()*", (4, 2, 0)),
     (OF_NAMED_GROUPS, "(a)(?<n>b)", (3, 2, 1)),

@@ -1,5 +1,5 @@
 -- Lemmas on bits in words.
-use Rattle.std.proofs.Common.{arith, ℕ, Bool, true, false, ◌≡◌, ◌≢◌, ◌↔◌, ◌<◌, ◌/◌, ◌%◌, ◌*◌, ◌^◌, IsTrue, List, replicate, length, slice_index, slice_index_or, slice_set, bit_or, w64, sym, ◌∙◌, ap, ⊎_elim, refl}
+use Rattle.std.proofs.Common.{arith, ℕ, ◌+◌, Bool, true, false, true≢false, ◌≡◌, ◌≢◌, ◌↔◌, ◌<◌, ◌/◌, ◌%◌, ◌*◌, ◌^◌, IsTrue, List, replicate, length, slice_index, slice_index_or, slice_set, bit_or, w64, sym, ◌∙◌, ap, ⊎_elim, refl}
 use Rattle.std.specs.Int.{bit_at}
 use Rattle.std.proofs.lemmas.List.{get_or-set_same, get_or-set_other, get_or_default, get_or-replicate}
 use Rattle.std.proofs.lemmas.Nat.Bits.{bit_at_set_same, bit_at_set_other, bit_at-zero}
@@ -30,3 +30,26 @@ pub same_truth : (a b : Bool) → IsTrue a ↔ (b ≡ true) → a ≡ b
 same_truth true b h = sym (h.0 refl)
 same_truth false true h = h.1 refl
 same_truth false false h = refl
+
+-- a table of the members below n, with the bit of the member n set besides
+pub marked_on : (old new : List ℕ) (f : ℕ → Bool) (n : ℕ) → ((k : ℕ) → k < 256 → (bit old k ≡ 1) ↔ ((k < n) × (f k ≡ true)))
+    → f n ≡ true → bit new n ≡ 1 → ((j : ℕ) → j ≢ n → bit new j ≡ bit old j) → (k : ℕ) → k < 256 → (bit new k ≡ 1) ↔ ((k < n + 1) × (f k ≡ true))
+marked_on old new f n table is one others k small =
+    ⊎_elim
+    (λ (same : k ≡ n). (λ set. (omega arith, ap f same ∙ is), λ x. ap (bit new) same ∙ one))
+    (λ (other : k ≢ n). (
+      λ set. let x = (table k small).0 (sym (others k other) ∙ set) in (omega (arith, x.0), x.1),
+      λ x. others k other ∙ (table k small).1 (omega (arith, x.0, other), x.1),
+    ))
+    (cases_eq k n)
+
+-- a table of the members below n, where n is none
+pub passed_on : (old : List ℕ) (f : ℕ → Bool) (n : ℕ) → ((k : ℕ) → k < 256 → (bit old k ≡ 1) ↔ ((k < n) × (f k ≡ true)))
+    → f n ≡ false → (k : ℕ) → k < 256 → (bit old k ≡ 1) ↔ ((k < n + 1) × (f k ≡ true))
+passed_on old f n table is k small = (
+  λ set. let x = (table k small).0 set in (omega (arith, x.0), x.1),
+  λ x. ⊎_elim
+      (λ (same : k ≡ n). absurd (true≢false (sym x.1 ∙ (ap f same ∙ is))))
+      (λ (other : k ≢ n). (table k small).1 (omega (arith, x.0, other), x.1))
+      (cases_eq k n),
+)

@@ -17,9 +17,9 @@ choice [] = refl
 choice (p ∷ []) = refl
 choice (p ∷ q ∷ ps) = refl
 
-no_leaf_layer : (f : Tree-F Tree) → (roll-Tree f ≡ made.Empty → ⊥) → ((parts : Vec Tree Global) → roll-Tree f ≡ made.Sequence parts → ⊥) → is_empty (pattern_of (roll-Tree f)) ≡ false
+no_leaf_layer : (f : Tree-F Tree) → (roll-Tree f ≡ made.Empty → ⊥) → ((parts : Vec Tree Global) → roll-Tree f ≡ made.Concat parts → ⊥) → is_empty (pattern_of (roll-Tree f)) ≡ false
 no_leaf_layer Tree-F.Empty e s = absurd (e made.rolls-Empty)
-no_leaf_layer (Tree-F.Sequence parts) e s = absurd (s parts (made.rolls-Sequence parts))
+no_leaf_layer (Tree-F.Concat parts) e s = absurd (s parts (made.rolls-Concat parts))
 no_leaf_layer (Tree-F.Character a) e s = ap is_empty (fold-roll-Tree Pattern node_pattern (Tree-F.Character a))
 no_leaf_layer (Tree-F.Member a) e s = ap is_empty (fold-roll-Tree Pattern node_pattern (Tree-F.Member a))
 no_leaf_layer (Tree-F.InAnyCase a) e s = ap is_empty (fold-roll-Tree Pattern node_pattern (Tree-F.InAnyCase a))
@@ -35,9 +35,9 @@ no_leaf_layer (Tree-F.LookAhead a b) e s = ap is_empty (fold-roll-Tree Pattern n
 no_leaf_layer (Tree-F.LookBehind a b) e s = ap is_empty (fold-roll-Tree Pattern node_pattern (Tree-F.LookBehind a b))
 no_leaf_layer (Tree-F.Atomic a) e s = ap is_empty (fold-roll-Tree Pattern node_pattern (Tree-F.Atomic a))
 no_leaf_layer (Tree-F.Conditional a b c) e s = ap is_empty (fold-roll-Tree Pattern node_pattern (Tree-F.Conditional a b c))
-no_leaf_layer (Tree-F.Alternative branches) e s = ap is_empty (fold-roll-Tree Pattern node_pattern (Tree-F.Alternative branches)) ∙ choice (map pattern_of branches.items)
+no_leaf_layer (Tree-F.Alternation branches) e s = ap is_empty (fold-roll-Tree Pattern node_pattern (Tree-F.Alternation branches)) ∙ choice (map pattern_of branches.items)
 
-pub no_leaf : (t : Tree) → (t ≡ made.Empty → ⊥) → ((parts : Vec Tree Global) → t ≡ made.Sequence parts → ⊥) → is_empty (pattern_of t) ≡ false
+pub no_leaf : (t : Tree) → (t ≡ made.Empty → ⊥) → ((parts : Vec Tree Global) → t ≡ made.Concat parts → ⊥) → is_empty (pattern_of t) ≡ false
 no_leaf t e s =
     let is : roll-Tree (out-Tree t) ≡ t = roll-out-Tree t in
     ap (λ u. is_empty (pattern_of u)) (sym is) ∙ no_leaf_layer (out-Tree t) (λ h. e (sym is ∙ h)) (λ parts h. s parts (sym is ∙ h))

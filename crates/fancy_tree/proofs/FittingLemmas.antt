@@ -6,10 +6,10 @@ use Rattle.std.proofs.Math.Nat.{mul-le-mul_left, mul-le-mul_right}
 use Rattle.std.proofs.Math.Seq.{drop-length}
 use Rattle.fancy_tree.specs.declared.tree.Meaning.{Meaning}
 use Rattle.fancy_tree.specs.declared.tree.Meaning.TheVariants.{Unicode, Bytes, AsciiText}
-use Rattle.fancy_tree.specs.declared.tree.Taste.{Taste}
+use Rattle.fancy_tree.specs.declared.tree.RepeatKind.{RepeatKind}
 use Rattle.fancy_tree.specs.declared.tree.Tree.{Tree}
 use Rattle.fancy_tree.specs.Pattern.{Pattern, empty, character, member_of, in_any_case, raw_byte, backreference, assertion, group_test, keep_start, continue_here, group, repeat, look_ahead, look_behind, atomic, conditional, followed, or_else, last_branch, in_sequence, in_choice, pattern_of}
-use Rattle.fancy_tree.specs.Sizes.{nodes, repeat_nodes, taste_nodes, size, plus_size, common_size, times_size, only_zero, repeat_size, raw_byte_size, is_empty, fitting_size}
+use Rattle.fancy_tree.specs.Sizes.{nodes, repeat_nodes, kind_nodes, size, plus_size, common_size, times_size, only_zero, repeat_size, raw_byte_size, is_empty, fitting_size}
 use Rattle.fancy_tree.proofs.PartLemmas.{parts_from, branches_from, last_part}
 
 fits : (n : ℕ) → n < 2 ^ 64 → fitting_size (Some n) ≡ Some n
@@ -144,10 +144,10 @@ branch_size m ts n j t e h same x y z ex ey ez =
     ∙ ap fitting_size (sym (size-or_else m p others (in_choice (map pattern_of (drop j ts))) (branches_from ts n j t e h same)))
 
 -- of a repeat, and of a conditional that is more than its condition
-pub repeat_known : (m : Meaning) (low : ℕ) (high : Option ℕ) (taste : Taste) (p all : Pattern) → all ≡ repeat low high taste p → (x y : Option ℕ) → x ≡ fitting_size (size m p)
+pub repeat_known : (m : Meaning) (low : ℕ) (high : Option ℕ) (kind : RepeatKind) (p all : Pattern) → all ≡ repeat low high kind p → (x y : Option ℕ) → x ≡ fitting_size (size m p)
     → y ≡ fitting_size (repeat_size low high x) → y ≡ fitting_size (size m all)
 unfolding size
-repeat_known m low high taste p all e x y ex ey =
+repeat_known m low high kind p all e x y ex ey =
     ey
     ∙ ap (λ (u : Option ℕ). fitting_size (repeat_size low high u)) ex
     ∙ fitting_size-repeat_size low high (size m p)
@@ -221,8 +221,8 @@ size-nodes m (group_test number) = omega arith
 size-nodes m keep_start = omega arith
 size-nodes m continue_here = omega arith
 size-nodes m (group index body) = at_most_more (size m body) (nodes body) (nodes body + 1) (omega arith) (size-nodes m body)
-size-nodes m (repeat low high taste body) =
-    at_most_more (repeat_size low high (size m body)) (repeat_nodes low high (nodes body)) (repeat_nodes low high (nodes body) + taste_nodes taste) (omega arith)
+size-nodes m (repeat low high kind body) =
+    at_most_more (repeat_size low high (size m body)) (repeat_nodes low high (nodes body)) (repeat_nodes low high (nodes body) + kind_nodes kind) (omega arith)
     (at_most_repeat low high (size m body) (nodes body) (size-nodes m body))
 size-nodes m (look_ahead negated body) = omega arith
 size-nodes m (look_behind negated body) = omega arith

@@ -1,7 +1,7 @@
 -- The equations of `pattern_of`, one for each variant.
 use Rattle.std.proofs.Common.{◌≡◌, ℕ, Bool, map, Option, Vec, Box, Global, sym, ap, ◌∙◌}
 use Rattle.fancy_tree.specs.declared.tree.Assertion.{Assertion}
-use Rattle.fancy_tree.specs.declared.tree.Taste.{Taste}
+use Rattle.fancy_tree.specs.declared.tree.RepeatKind.{RepeatKind}
 use Rattle.fancy_tree.specs.declared.set.Set.{Set}
 use Rattle.fancy_tree.specs.declared.tree.Tree.{Tree, Tree-F, fold-roll-Tree}
 use Rattle.fancy_tree.specs.declared.tree.Tree.TheVariants as made
@@ -57,10 +57,10 @@ pub pattern-Group : (index : ℕ) (body : Box Tree Global) →
 pattern-Group index body =
     ap pattern_of (sym (made.rolls-Group index body)) ∙ fold-roll-Tree Pattern node_pattern (Tree-F.Group index body)
 
-pub pattern-Repeat : (low : ℕ) (high : Option ℕ) (taste : Taste) (body : Box Tree Global) →
-    pattern_of (made.Repeat low high taste body) ≡ repeat low high taste (pattern_of body.value)
-pattern-Repeat low high taste body =
-    ap pattern_of (sym (made.rolls-Repeat low high taste body)) ∙ fold-roll-Tree Pattern node_pattern (Tree-F.Repeat low high taste body)
+pub pattern-Repeat : (low : ℕ) (high : Option ℕ) (kind : RepeatKind) (body : Box Tree Global) →
+    pattern_of (made.Repeat low high kind body) ≡ repeat low high kind (pattern_of body.value)
+pattern-Repeat low high kind body =
+    ap pattern_of (sym (made.rolls-Repeat low high kind body)) ∙ fold-roll-Tree Pattern node_pattern (Tree-F.Repeat low high kind body)
 
 pub pattern-LookAhead : (negated : Bool) (body : Box Tree Global) →
     pattern_of (made.LookAhead negated body) ≡ look_ahead negated (pattern_of body.value)
@@ -82,14 +82,14 @@ pub pattern-Conditional : (condition on_match otherwise : Box Tree Global) →
 pattern-Conditional condition on_match otherwise =
     ap pattern_of (sym (made.rolls-Conditional condition on_match otherwise)) ∙ fold-roll-Tree Pattern node_pattern (Tree-F.Conditional condition on_match otherwise)
 
-pub pattern-Sequence : (parts : Vec Tree Global) →
-    pattern_of (made.Sequence parts) ≡ in_sequence (map pattern_of parts.items)
-pattern-Sequence parts =
-    ap pattern_of (sym (made.rolls-Sequence parts)) ∙ fold-roll-Tree Pattern node_pattern (Tree-F.Sequence parts)
+pub pattern-Concat : (parts : Vec Tree Global) →
+    pattern_of (made.Concat parts) ≡ in_sequence (map pattern_of parts.items)
+pattern-Concat parts =
+    ap pattern_of (sym (made.rolls-Concat parts)) ∙ fold-roll-Tree Pattern node_pattern (Tree-F.Concat parts)
 
-pub pattern-Alternative : (branches : Vec Tree Global) →
-    pattern_of (made.Alternative branches) ≡ in_choice (map pattern_of branches.items)
-pattern-Alternative branches =
-    ap pattern_of (sym (made.rolls-Alternative branches)) ∙ fold-roll-Tree Pattern node_pattern (Tree-F.Alternative branches)
+pub pattern-Alternation : (branches : Vec Tree Global) →
+    pattern_of (made.Alternation branches) ≡ in_choice (map pattern_of branches.items)
+pattern-Alternation branches =
+    ap pattern_of (sym (made.rolls-Alternation branches)) ∙ fold-roll-Tree Pattern node_pattern (Tree-F.Alternation branches)
 
-pub ruleset pattern_equations = (pattern-Empty, pattern-KeepStart, pattern-ContinueHere, pattern-Character, pattern-Member, pattern-InAnyCase, pattern-RawByte, pattern-Backreference, pattern-Assertion, pattern-GroupTest, pattern-Group, pattern-Repeat, pattern-LookAhead, pattern-LookBehind, pattern-Atomic, pattern-Conditional, pattern-Sequence, pattern-Alternative)
+pub ruleset pattern_equations = (pattern-Empty, pattern-KeepStart, pattern-ContinueHere, pattern-Character, pattern-Member, pattern-InAnyCase, pattern-RawByte, pattern-Backreference, pattern-Assertion, pattern-GroupTest, pattern-Group, pattern-Repeat, pattern-LookAhead, pattern-LookBehind, pattern-Atomic, pattern-Conditional, pattern-Concat, pattern-Alternation)

@@ -3,7 +3,7 @@ use Rattle.std.proofs.Common.{◌≡◌, ℕ, ◌+◌, ◌<◌, List, [], ◌∷
 use Rattle.std.proofs.lemmas.List.{map-set, get_or-map}
 use Rattle.std.proofs.lemmas.List.Edits.{map_over_more}
 use Rattle.fancy_tree.specs.Pattern.{Pattern, empty, character, member_of, in_any_case, raw_byte, backreference, assertion, group_test, keep_start, continue_here, group, repeat, look_ahead, look_behind, atomic, conditional, followed, or_else, last_branch, in_sequence, in_choice}
-use Rattle.fancy_tree.specs.Sizes.{nodes, repeat_nodes, taste_nodes}
+use Rattle.fancy_tree.specs.Sizes.{nodes, repeat_nodes, kind_nodes}
 use Rattle.fancy_tree.specs.Refers.{refers_to}
 
 pub refers_to-in_sequence : (f : ℕ → ℕ) (ps : List Pattern) → refers_to f (in_sequence ps) ≡ in_sequence (map (refers_to f) ps)
@@ -35,7 +35,7 @@ nodes-refers_to f (group_test number) = refl
 nodes-refers_to f keep_start = refl
 nodes-refers_to f continue_here = refl
 nodes-refers_to f (group index body) = ap (λ n. n + 1) (nodes-refers_to f body)
-nodes-refers_to f (repeat low high taste body) = ap (λ n. repeat_nodes low high n + taste_nodes taste) (nodes-refers_to f body)
+nodes-refers_to f (repeat low high kind body) = ap (λ n. repeat_nodes low high n + kind_nodes kind) (nodes-refers_to f body)
 nodes-refers_to f (look_ahead negated body) = ap (λ n. n + 1) (nodes-refers_to f body)
 nodes-refers_to f (look_behind negated body) = ap (λ n. n + 1) (nodes-refers_to f body)
 nodes-refers_to f (atomic body) = ap (λ n. n + 1) (nodes-refers_to f body)

@@ -6,8 +6,8 @@ use Rattle.fancy_tree.specs.Sizes.{nodes}
 
 pub nodes-pos : (p : Pattern) → 0 < nodes p
 unfolding nodes
-nodes-pos (repeat low None taste body) = omega arith
-nodes-pos (repeat low (Some high) taste body) = omega arith
+nodes-pos (repeat low None kind body) = omega arith
+nodes-pos (repeat low (Some high) kind body) = omega arith
 nodes-pos (followed part rest) = omega (arith, nodes-pos part)
 nodes-pos _ = omega arith
 

@@ -1,7 +1,7 @@
 -- A pattern as pure data, and the pattern that a `Tree` stands for. Unlike a `Tree` it holds no memory, so that two readings of one text can be one pattern.
 use Rattle.std.specs.Prelude.{ℕ, Bool, List, [], ◌∷◌, Option}
 use Rattle.fancy_tree.specs.declared.tree.Assertion.{Assertion}
-use Rattle.fancy_tree.specs.declared.tree.Taste.{Taste}
+use Rattle.fancy_tree.specs.declared.tree.RepeatKind.{RepeatKind}
 use Rattle.fancy_tree.specs.declared.tree.Tree.{Tree}
 use Rattle.fancy_tree.specs.declared.tree.Tree.TheOpen.{Tree-F}
 use Rattle.fancy_tree.specs.declared.tree.Tree.TheFolds.{fold-Tree}
@@ -29,7 +29,7 @@ pub data Pattern : Type 0 where
   continue_here : Pattern
   group : ℕ → Pattern → Pattern
   -- the least and the greatest number of turns
-  repeat : ℕ → Option ℕ → Taste → Pattern → Pattern
+  repeat : ℕ → Option ℕ → RepeatKind → Pattern → Pattern
   -- negated, if the flag is true
   look_ahead : Bool → Pattern → Pattern
   look_behind : Bool → Pattern → Pattern
@@ -74,13 +74,13 @@ node_pattern (Tree-F.GroupTest number) = group_test number
 node_pattern Tree-F.KeepStart = keep_start
 node_pattern Tree-F.ContinueHere = continue_here
 node_pattern (Tree-F.Group index body) = group index body.value
-node_pattern (Tree-F.Repeat low high taste body) = repeat low high taste body.value
+node_pattern (Tree-F.Repeat low high kind body) = repeat low high kind body.value
 node_pattern (Tree-F.LookAhead negated body) = look_ahead negated body.value
 node_pattern (Tree-F.LookBehind negated body) = look_behind negated body.value
 node_pattern (Tree-F.Atomic body) = atomic body.value
 node_pattern (Tree-F.Conditional condition on_match otherwise) = conditional condition.value on_match.value otherwise.value
-node_pattern (Tree-F.Sequence parts) = in_sequence parts.items
-node_pattern (Tree-F.Alternative branches) = in_choice branches.items
+node_pattern (Tree-F.Concat parts) = in_sequence parts.items
+node_pattern (Tree-F.Alternation branches) = in_choice branches.items
 
 -- the pattern that a tree stands for
 abbrev pub pattern_of : Tree → Pattern

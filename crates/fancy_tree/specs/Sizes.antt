@@ -1,7 +1,7 @@
 -- The size of a pattern in units (bytes in byte meaning, else characters), and the number of its nodes.
 use Rattle.std.specs.Prelude.{ℕ, ◌+◌, ◌-◌, ◌*◌, Bool, true, false, ◌&&◌, Option, Some, None, if◌then◌else◌, ◌==◌, ◌^◌, nat_lt, is_some}
-use Rattle.fancy_tree.specs.declared.tree.Taste.{Taste}
-use Rattle.fancy_tree.specs.declared.tree.Taste.TheVariants.{Greedy, Lazy, Possessive}
+use Rattle.fancy_tree.specs.declared.tree.RepeatKind.{RepeatKind}
+use Rattle.fancy_tree.specs.declared.tree.RepeatKind.TheVariants.{Greedy, Lazy, Possessive}
 use Rattle.fancy_tree.specs.declared.tree.Meaning.{Meaning}
 use Rattle.fancy_tree.specs.declared.tree.Meaning.TheVariants.{Unicode, Bytes, AsciiText}
 use Rattle.fancy_tree.specs.Pattern.{Pattern, empty, character, member_of, in_any_case, raw_byte, backreference, assertion, group_test, keep_start, continue_here, group, repeat, look_ahead, look_behind, atomic, conditional, followed, or_else, last_branch}
@@ -54,7 +54,7 @@ size m (group_test number) = Some 0
 size m keep_start = Some 0
 size m continue_here = Some 0
 size m (group index body) = size m body
-size m (repeat low high taste body) = repeat_size low high (size m body)
+size m (repeat low high kind body) = repeat_size low high (size m body)
 size m (look_ahead negated body) = Some 0
 size m (look_behind negated body) = Some 0
 size m (atomic body) = size m body
@@ -94,7 +94,7 @@ are_sized m (group_test number) = true
 are_sized m keep_start = true
 are_sized m continue_here = true
 are_sized m (group index body) = are_sized m body
-are_sized m (repeat low high taste body) = are_sized m body
+are_sized m (repeat low high kind body) = are_sized m body
 are_sized m (look_ahead negated body) = are_sized m body
 are_sized m (look_behind negated body) = has_sizes m body && are_sized m body
 are_sized m (atomic body) = are_sized m body
@@ -103,10 +103,10 @@ are_sized m (followed part rest) = are_sized m part && are_sized m rest
 are_sized m (or_else branch others) = are_sized m branch && are_sized m others
 are_sized m (last_branch branch) = are_sized m branch
 
-abbrev pub taste_nodes : Taste → ℕ
-taste_nodes Greedy = 0
-taste_nodes Lazy = 0
-taste_nodes Possessive = 1
+abbrev pub kind_nodes : RepeatKind → ℕ
+kind_nodes Greedy = 0
+kind_nodes Lazy = 0
+kind_nodes Possessive = 1
 
 -- with counted repeats written out, for a body of n nodes
 abbrev pub repeat_nodes : ℕ → Option ℕ → ℕ → ℕ
@@ -126,7 +126,7 @@ nodes (group_test number) = 1
 nodes keep_start = 1
 nodes continue_here = 1
 nodes (group index body) = nodes body + 1
-nodes (repeat low high taste body) = repeat_nodes low high (nodes body) + taste_nodes taste
+nodes (repeat low high kind body) = repeat_nodes low high (nodes body) + kind_nodes kind
 nodes (look_ahead negated body) = nodes body + 1
 nodes (look_behind negated body) = nodes body + 1
 nodes (atomic body) = nodes body + 1

@@ -3,7 +3,7 @@
 ghost use Rattle.std.specs.Prelude.{◌≡◌, ◌≢◌, ◌↔◌, ◌<◌, ◌*◌, ℕ, true, IsTrue, length};
 ghost use Rattle.fancy_tree.specs.CharSet.{bit, IsLow};
 
-use crate::set::Set;
+use crate::set::{Set, skip_edge};
 
 /// A set that is asked often: a table says which numbers below 256 are members.
 #[derive(Debug, Drop)]
@@ -34,13 +34,16 @@ fn mark(words: &mut [u64], i: usize)
 impl CharSet {
     ghost use Rattle.fancy_tree.specs.Members.{edges_of, members};
 
-    /// The set with its table.
+    /// The set with its table, which one walk over the edges fills.
     pub fn new(set: Set) -> CharSet
         ensures { result.set ≡ set }
     {
         let mut low = [0; 4];
+        let edges = set.edges();
+        let mut passed = 0;
         for c in 0..256 {
-            if set.contains(c) {
+            passed = skip_edge(edges, passed, c);
+            if passed % 2 == 1 {
                 mark(&mut low, c as usize);
             }
         }

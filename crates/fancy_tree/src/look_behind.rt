@@ -20,8 +20,8 @@ impl Tree {
         ensures { result ≡ has_sizes meaning (pattern_of self.now) }
     {
         match self {
-            Tree::Alternative(branches) => have_size(branches, meaning),
-            Tree::Sequence(parts) => match parts.as_slice() {
+            Tree::Alternation(branches) => have_size(branches, meaning),
+            Tree::Concat(parts) => match parts.as_slice() {
                 [] => self.has_size(meaning),
                 [only] => only.has_sizes(meaning),
                 _ => self.has_size(meaning),
@@ -61,8 +61,8 @@ impl Tree {
                     && on_match.is_sized(meaning)
                     && otherwise.is_sized(meaning)
             }
-            Tree::Sequence(parts) => are_sized(parts, meaning),
-            Tree::Alternative(branches) => are_sized(branches, meaning),
+            Tree::Concat(parts) => are_sized(parts, meaning),
+            Tree::Alternation(branches) => are_sized(branches, meaning),
         }
     }
 }

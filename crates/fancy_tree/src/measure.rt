@@ -2,9 +2,9 @@
 
 ghost use Rattle.std.specs.Prelude.{◌≡◌, ◌↔◌, ℕ, ◌+◌, ◌-◌, ◌^◌, min, map, sum_by, ◌&&◌, IsTrue, Some};
 ghost use Rattle.fancy_tree.specs.Pattern.{pattern_of, in_sequence, in_choice};
-ghost use Rattle.fancy_tree.specs.Sizes.{nodes, repeat_nodes, taste_nodes, is_empty, size, raw_byte_size, plus_size, common_size, times_size, only_zero, repeat_size, fitting_size};
+ghost use Rattle.fancy_tree.specs.Sizes.{nodes, repeat_nodes, kind_nodes, is_empty, size, raw_byte_size, plus_size, common_size, times_size, only_zero, repeat_size, fitting_size};
 
-use crate::tree::{Meaning, Taste, Tree};
+use crate::tree::{Meaning, RepeatKind, Tree};
 
 impl Tree {
     /// The nodes with counted repeats written out; `usize::MAX` stands for any number past it.
@@ -31,9 +31,9 @@ impl Tree {
             Tree::Repeat {
                 low,
                 high,
-                taste,
+                kind,
                 body,
-            } => nodes_of_repeat(*low, *high, *taste, body.nodes()),
+            } => nodes_of_repeat(*low, *high, *kind, body.nodes()),
             Tree::Conditional {
                 condition,
                 on_match,
@@ -43,8 +43,8 @@ impl Tree {
                 .saturating_add(on_match.nodes())
                 .saturating_add(otherwise.nodes())
                 .saturating_add(1),
-            Tree::Sequence(parts) => nodes_of_all(parts).max(1),
-            Tree::Alternative(branches) => nodes_of_all(branches)
+            Tree::Concat(parts) => nodes_of_all(parts).max(1),
+            Tree::Alternation(branches) => nodes_of_all(branches)
                 .saturating_add(branches.len())
                 .max(1),
         }
@@ -58,7 +58,7 @@ pub fn is_empty(tree: &Tree) -> bool
 {
     match tree {
         Tree::Empty => true,
-        Tree::Sequence(parts) => match parts.as_slice() {
+        Tree::Concat(parts) => match parts.as_slice() {
             [] => true,
             [only] => is_empty(only),
             _ => false,
@@ -87,17 +87,17 @@ fn nodes_of_all(trees: &[Tree]) -> usize
     total
 }
 
-fn nodes_of_repeat(low: u32, high: Option<u32>, taste: Taste, body: usize) -> usize
+fn nodes_of_repeat(low: u32, high: Option<u32>, kind: RepeatKind, body: usize) -> usize
     ensures { (n : ℕ) → body ≡ min n (2 ^ 64 - 1) →
-        result ≡ min (repeat_nodes low high n + taste_nodes taste) (2 ^ 64 - 1) }
+        result ≡ min (repeat_nodes low high n + kind_nodes kind) (2 ^ 64 - 1) }
 {
     let copies = (low as usize).saturating_mul(body);
     let rest = match high {
         None => body.saturating_add(1),
         Some(high) => { (high.saturating_sub(low) as usize).saturating_mul(body.saturating_add(1)) }
     };
-    let possessive = match taste {
-        Taste::Possessive => 1,
+    let possessive = match kind {
+        RepeatKind::Possessive => 1,
         _ => 0,
     };
     copies
@@ -149,8 +149,8 @@ impl Tree {
                 let matched = plus(tested, on_match.size(meaning));
                 common(matched, otherwise.size(meaning))
             }
-            Tree::Sequence(parts) => size_of_sequence(parts, meaning),
-            Tree::Alternative(branches) => size_of_choice(branches, meaning),
+            Tree::Concat(parts) => size_of_sequence(parts, meaning),
+            Tree::Alternation(branches) => size_of_choice(branches, meaning),
         }
     }
 }

@@ -41,8 +41,8 @@ impl Tree {
                 on_match.refer(numbers);
                 otherwise.refer(numbers);
             }
-            Tree::Sequence(parts) => refer_all(parts, numbers),
-            Tree::Alternative(branches) => refer_all(branches, numbers),
+            Tree::Concat(parts) => refer_all(parts, numbers),
+            Tree::Alternation(branches) => refer_all(branches, numbers),
             Tree::Empty
             | Tree::Character(_)
             | Tree::Member(_)

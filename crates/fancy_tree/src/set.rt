@@ -51,7 +51,7 @@ fn next_edge(a: &[u32], i: usize, b: &[u32], j: usize) -> Option<u32>
 }
 
 /// The index after the edge `at`, if that stands at the index `i`; else `i`.
-fn skip_edge(edges: &[u32], i: usize, at: u32) -> usize
+pub(crate) fn skip_edge(edges: &[u32], i: usize, at: u32) -> usize
     requires rising { AreRising edges.now }
     requires cut { Cut edges.now i at }
     ensures cut { Cut edges.now result (at + 1) }
@@ -99,6 +99,13 @@ impl Set {
         Ok(Set {
             edges: self.edges.to_vec(*self.edges.allocator())?,
         })
+    }
+
+    /// The numbers at which the set begins and ends in turn.
+    pub fn edges(&self) -> &[u32]
+        ensures { result.now ≡ edges_of self.now }
+    {
+        &self.edges
     }
 
     /// Whether both sets have the same members.

@@ -101,7 +101,7 @@ pub enum Assertion {
 
 /// Which number of turns a repeat prefers, and whether it goes back to another one.
 #[derive(Clone, Copy, PartialEq, Eq)]
-pub enum Taste {
+pub enum RepeatKind {
     /// One more turn first.
     Greedy,
     /// No more turn first.
@@ -110,7 +110,7 @@ pub enum Taste {
     Possessive,
 }
 
-/// A pattern. A sequence or an alternative holds its parts side by side, so that a pattern of a million
+/// A pattern. A concatenation or an alternation holds its parts side by side, so that a pattern of a million
 /// characters is not a million deep; only groups and repeats go deeper.
 #[derive(Drop)]
 pub enum Tree {
@@ -146,7 +146,7 @@ pub enum Tree {
     Repeat {
         low: u32,
         high: Option<u32>,
-        taste: Taste,
+        kind: RepeatKind,
         body: Box<Tree>,
     },
     /// The body stands after the place, or does not where it is negated.
@@ -168,7 +168,7 @@ pub enum Tree {
         otherwise: Box<Tree>,
     },
     /// One part after another.
-    Sequence(Vec<Tree>),
+    Concat(Vec<Tree>),
     /// One of the branches, an earlier one first.
-    Alternative(Vec<Tree>),
+    Alternation(Vec<Tree>),
 }

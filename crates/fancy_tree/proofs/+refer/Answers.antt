@@ -25,7 +25,7 @@ pub tree::Tree::refer-returns-in-Repeat : goal.tree::Tree::refer-returns-in-Repe
 unfolding Rattle.fancy_tree.specs.declared.tree.Tree.TheViews.out-Tree refers_to denote.Hole.Carrier.out
 tree::Tree::refer-returns-in-Repeat t c =
     let inside = c.refer-in-Repeat.ensures ∙ ap (λ (x : Tree). refers_to (number_in c.args.numbers.now) (pattern_of x)) (c.deref_mut-in-Repeat.ensures.value ∙ ap (λ (b : Box Tree Global). b.value) c.in-Repeat.body-is) in
-    rw c.in-Repeat.is (search (rules, pattern_equations, ap (repeat c.in-Repeat.low c.in-Repeat.high c.in-Repeat.taste) inside))
+    rw c.in-Repeat.is (search (rules, pattern_equations, ap (repeat c.in-Repeat.low c.in-Repeat.high c.in-Repeat.kind) inside))
 
 pub tree::Tree::refer-returns-in-LookAhead : goal.tree::Tree::refer-returns-in-LookAhead
 unfolding Rattle.fancy_tree.specs.declared.tree.Tree.TheViews.out-Tree refers_to denote.Hole.Carrier.out
@@ -56,17 +56,17 @@ tree::Tree::refer-returns-in-Conditional t c =
     ∙ sym (ap (λ (x : Tree). refers_to (number_in c.args.numbers.now) (pattern_of x)) c.in-Conditional.is
     ∙ ap (refers_to (number_in c.args.numbers.now)) (pattern-Conditional c.in-Conditional.condition c.in-Conditional.on_match c.in-Conditional.otherwise)))
 
-pub tree::Tree::refer-returns-in-Sequence : goal.tree::Tree::refer-returns-in-Sequence
+pub tree::Tree::refer-returns-in-Concat : goal.tree::Tree::refer-returns-in-Concat
 unfolding Rattle.fancy_tree.specs.declared.tree.Tree.TheViews.out-Tree denote.Hole.Carrier.out
-tree::Tree::refer-returns-in-Sequence t c =
-    let inside = c.refer_all.ensures ∙ ap (λ (v : Vec Tree Global). map (refers_to (number_in c.args.numbers.now)) (map pattern_of v.items)) c.in-Sequence.parts-is in
-    rw c.in-Sequence.is (search (rules, pattern_equations, refers_to-in_sequence, ap in_sequence inside))
+tree::Tree::refer-returns-in-Concat t c =
+    let inside = c.refer_all.ensures ∙ ap (λ (v : Vec Tree Global). map (refers_to (number_in c.args.numbers.now)) (map pattern_of v.items)) c.in-Concat.parts-is in
+    rw c.in-Concat.is (search (rules, pattern_equations, refers_to-in_sequence, ap in_sequence inside))
 
-pub tree::Tree::refer-returns-in-Alternative : goal.tree::Tree::refer-returns-in-Alternative
+pub tree::Tree::refer-returns-in-Alternation : goal.tree::Tree::refer-returns-in-Alternation
 unfolding Rattle.fancy_tree.specs.declared.tree.Tree.TheViews.out-Tree denote.Hole.Carrier.out
-tree::Tree::refer-returns-in-Alternative t c =
-    let inside = c.refer_all-in-Alternative.ensures ∙ ap (λ (v : Vec Tree Global). map (refers_to (number_in c.args.numbers.now)) (map pattern_of v.items)) c.in-Alternative.branches-is in
-    rw c.in-Alternative.is (search (rules, pattern_equations, refers_to-in_choice, ap in_choice inside))
+tree::Tree::refer-returns-in-Alternation t c =
+    let inside = c.refer_all-in-Alternation.ensures ∙ ap (λ (v : Vec Tree Global). map (refers_to (number_in c.args.numbers.now)) (map pattern_of v.items)) c.in-Alternation.branches-is in
+    rw c.in-Alternation.is (search (rules, pattern_equations, refers_to-in_choice, ap in_choice inside))
 
 pub refer::refer_all-loop-i-preserved : goal.refer::refer_all-loop-i-preserved
 refer::refer_all-loop-i-preserved t c =

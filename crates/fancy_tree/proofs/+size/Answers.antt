@@ -34,8 +34,8 @@ measure::size_of_choice-loop-i-preserved t c = record {
 
 pub tree::Tree::size-returns-in-Repeat : goal.tree::Tree::size-returns-in-Repeat
 tree::Tree::size-returns-in-Repeat t c =
-    repeat_known c.args.meaning c.in-Repeat.low c.in-Repeat.high c.in-Repeat.taste (pattern_of c.in-Repeat.body.value) (pattern_of c.args.self.now)
-    (ap pattern_of c.in-Repeat.is ∙ pattern-Repeat c.in-Repeat.low c.in-Repeat.high c.in-Repeat.taste c.in-Repeat.body)
+    repeat_known c.args.meaning c.in-Repeat.low c.in-Repeat.high c.in-Repeat.kind (pattern_of c.in-Repeat.body.value) (pattern_of c.args.self.now)
+    (ap pattern_of c.in-Repeat.is ∙ pattern-Repeat c.in-Repeat.low c.in-Repeat.high c.in-Repeat.kind c.in-Repeat.body)
     c.size-in-Repeat.result c.size_of_repeat.result (rw c.deref-in-Repeat.ensures at c.size-in-Repeat.ensures) c.size_of_repeat.ensures
 
 pub tree::Tree::size-returns-else-are_empty : goal.tree::Tree::size-returns-else-are_empty

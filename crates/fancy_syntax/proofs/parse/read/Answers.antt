@@ -13,11 +13,11 @@ returns-in_err-capturing-clause-refused c =
 
 pub returns-then-not-is_empty-clause-value : goal.returns-then-not-is_empty-clause-value
 returns-then-not-is_empty-clause-value c =
-    spelled_again (dialect_options c.args.syntax) c.args.characters.now c.in_ok-capturing.capturing c.in_ok-capturing.ensures.value c.if-syntax.true _ c.in_ok-capturing.capturing.names.ok.0 c.if-not-is_empty.ensures
+    spelled_again (dialect_options c.args.options) c.args.characters.now c.in_ok-capturing.capturing c.in_ok-capturing.ensures.value c.if-options.true _ c.in_ok-capturing.capturing.names.ok.0 c.if-not-is_empty.ensures
     c.read_whole-then-not-is_empty.result c.read_whole-then-not-is_empty.ensures.value
 
 pub returns-then-not-is_empty-clause-refused :
     goal.returns-then-not-is_empty-clause-refused
 returns-then-not-is_empty-clause-refused c =
-    refused_again (dialect_options c.args.syntax) c.args.characters.now c.in_ok-capturing.capturing c.in_ok-capturing.ensures.value c.if-syntax.true _ c.in_ok-capturing.capturing.names.ok.0 c.if-not-is_empty.ensures
+    refused_again (dialect_options c.args.options) c.args.characters.now c.in_ok-capturing.capturing c.in_ok-capturing.ensures.value c.if-options.true _ c.in_ok-capturing.capturing.names.ok.0 c.if-not-is_empty.ensures
     c.read_whole-then-not-is_empty.result c.read_whole-then-not-is_empty.ensures.refused

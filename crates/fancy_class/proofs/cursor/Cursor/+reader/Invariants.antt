@@ -1,8 +1,8 @@
 use Rattle.std.proofs.Common.{◌+◌, ◌*◌, ◌-◌, ◌≤◌, length}
 use Rattle.fancy_tree.specs.Members.{members}
 use Rattle.fancy_class.specs.ClassGrammar.{none_of}
-use Rattle.fancy_class.specs.ClassReading.{Items, Operands}
-use Rattle.fancy_class.specs.ClassViews.{gathered}
+use Rattle.fancy_class.specs.ClassReading.{OperandItemsReading, OperandsReading}
+use Rattle.fancy_class.specs.ClassViews.{builder_members}
 use Rattle.fancy_class.proofs.ClassSteps.{GoesOn}
 use Rattle.fancy_class.proofs.cursor.Cursor.+reader.Given as goal
 
@@ -14,7 +14,7 @@ decreases-items l = 2 * l.room + 1
 
 abbrev pub invariant-bracketed_class-operands : goal.invariant-bracketed_class-operands
 invariant-bracketed_class-operands l = record {
-  goes_on : GoesOn (λ g r. Operands l.context.meaning l.context.fold (l.room - 1) (members l.initial.set) l.initial.self.rest.now g r) (λ g r. Operands l.context.meaning l.context.fold (l.room - 1) (members l.set) l.self.rest.now g r);
+  goes_on : GoesOn (λ g r. OperandsReading l.context.meaning l.context.fold (l.room - 1) (members l.initial.set) l.initial.self.rest.now g r) (λ g r. OperandsReading l.context.meaning l.context.fold (l.room - 1) (members l.set) l.self.rest.now g r);
   forward : length l.self.rest.now ≤ length l.initial.self.rest.now;
 }
 
@@ -23,7 +23,7 @@ decreases-bracketed_class-operands l = length l.self.rest.now
 
 abbrev pub invariant-items-more : goal.invariant-items-more
 invariant-items-more l = record {
-  goes_on : GoesOn (λ g r. Items l.context.meaning l.context.fold l.room l.fn.first none_of l.fn.self.rest.now g r) (λ g r. Items l.context.meaning l.context.fold l.room l.first (gathered l.context.meaning l.context.fold l.gathered) l.self.rest.now g r);
+  goes_on : GoesOn (λ g r. OperandItemsReading l.context.meaning l.context.fold l.room l.fn.first none_of l.fn.self.rest.now g r) (λ g r. OperandItemsReading l.context.meaning l.context.fold l.room l.first (builder_members l.context l.builder) l.self.rest.now g r);
   forward : length l.self.rest.now ≤ length l.fn.self.rest.now;
 }
 

@@ -3,7 +3,7 @@ use Rattle.std.specs.Prelude.{◌⊎◌}
 use Rattle.std.proofs.lemmas.Result.{err_from_is_err_and}
 use Rattle.fancy_tree.specs.declared.error.Error.TheVariants.{Memory}
 use Rattle.fancy_search.specs.Remaining.{item_in}
-use Rattle.fancy_search.specs.MatchList.{Item, start_of}
+use Rattle.fancy_search.specs.MatchList.{MatchItem, start_of}
 use Rattle.fancy_core.specs.Pieces.{limited}
 use Rattle.fancy_core.specs.Replacing.{IsRefusedFrom, all_matches}
 use Rattle.fancy_core.specs.Rewriting.{rewriting_regex, rewriting_text, todo_of}
@@ -29,7 +29,7 @@ matches-preserved c =
     let written = rw c.in-Some.is at c.in_ok-next_match.ensures.written in
     let last = rw c.in-Some.is at c.in_ok-next_match.ensures.last in
     let found = rw c.in-Some.is at c.in_ok-next_match.ensures.found in
-    let todo : todo_of before ≡ item_in match.cache item ∷ todo_of after = steps ∙ ap (λ (z : List Item). item_in match.cache item ∷ z) (sym stays.todo) in
+    let todo : todo_of before ≡ item_in match.cache item ∷ todo_of after = steps ∙ ap (λ (z : List MatchItem). item_in match.cache item ∷ z) (sym stays.todo) in
     let part : string_bytes match.out ≡ string_bytes before.out ++ slice_range c.args.text.now before.last (start_of (item_in match.cache item)) = written ∙ ap (λ (z : List ℕ). string_bytes before.out ++ slice_range z before.last item.found.start) c.matches.invariant.text in
     let more : string_bytes after.out ≡ (string_bytes before.out ++ slice_range c.args.text.now before.last (start_of (item_in match.cache item))) ++ c.args.fixed.now = c.in_ok-push.ensures.ok ∙ ap (λ (z : List ℕ). z ++ c.args.fixed.now) part in
     record {
@@ -39,7 +39,7 @@ matches-preserved c =
     }
 
 pub matches-smaller : goal.matches-smaller
-matches-smaller c = one_done _ _ _ (rw c.in-Some.is at c.in_ok-next_match.ensures.steps ∙ ap (λ (z : List Item). item_in c.next_match.new.self.cache c.in-Some.field-0 ∷ z) (sym c.in_ok-push.ensures.stays.todo))
+matches-smaller c = one_done _ _ _ (rw c.in-Some.is at c.in_ok-next_match.ensures.steps ∙ ap (λ (z : List MatchItem). item_in c.next_match.new.self.cache c.in-Some.field-0 ∷ z) (sym c.in_ok-push.ensures.stays.todo))
 
 pub returns : goal.returns
 returns c =

@@ -3,7 +3,7 @@ use Rattle.std.specs.Prelude.{◌⊎◌}
 use Rattle.std.proofs.lemmas.Result.{err_from_is_err_and}
 use Rattle.fancy_tree.specs.declared.error.Error.TheVariants.{Memory}
 use Rattle.fancy_search.specs.Remaining.{item_in}
-use Rattle.fancy_search.specs.MatchList.{Item, start_of}
+use Rattle.fancy_search.specs.MatchList.{MatchItem, start_of}
 use Rattle.fancy_core.specs.Pieces.{limited}
 use Rattle.fancy_core.specs.Replacing.{IsRefusedFrom, IsRefusedBetweenCalls, all_matches, seen_of}
 use Rattle.fancy_core.specs.Rewriting.{rewriting_regex, rewriting_text, todo_of}
@@ -33,7 +33,7 @@ matches-preserved g c =
     let found = rw c.in-Some.is at c.in_ok-item.ensures.found in
     let regex : rewriting_regex match ≡ c.args.self.now = c.in_ok-item.ensures.regex ∙ c.matches.invariant.regex in
     let text : rewriting_text match ≡ c.args.text.now = c.in_ok-item.ensures.text ∙ c.matches.invariant.text in
-    let todo : todo_of before ≡ item_in match.cache item ∷ todo_of after = steps ∙ ap (λ (z : List Item). item_in match.cache item ∷ z) (sym stays.todo) in
+    let todo : todo_of before ≡ item_in match.cache item ∷ todo_of after = steps ∙ ap (λ (z : List MatchItem). item_in match.cache item ∷ z) (sym stays.todo) in
     let part : string_bytes match.out ≡ string_bytes before.out ++ slice_range c.args.text.now before.last (start_of (item_in match.cache item)) = written ∙ ap (λ (z : List ℕ). string_bytes before.out ++ slice_range z before.last item.found.start) c.matches.invariant.text in
     let more : string_bytes after.out ≡ (string_bytes before.out ++ slice_range c.args.text.now before.last (start_of (item_in match.cache item))) ++ ok.0 = ok.1 ∙ ap (λ (z : List ℕ). z ++ ok.0) part in
     record {
@@ -44,7 +44,7 @@ matches-preserved g c =
     }
 
 pub matches-smaller : goal.matches-smaller
-matches-smaller g c = one_done _ _ _ (rw c.in-Some.is at c.in_ok-item.ensures.steps ∙ ap (λ (z : List Item). item_in c.next_match.new.self.cache c.in-Some.item ∷ z) (sym c.in_ok-push_answer.ensures.stays.todo))
+matches-smaller g c = one_done _ _ _ (rw c.in-Some.is at c.in_ok-item.ensures.steps ∙ ap (λ (z : List MatchItem). item_in c.next_match.new.self.cache c.in-Some.item ∷ z) (sym c.in_ok-push_answer.ensures.stays.todo))
 
 pub returns : goal.returns
 returns g c =

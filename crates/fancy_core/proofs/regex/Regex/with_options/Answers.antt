@@ -1,4 +1,4 @@
-use Rattle.std.proofs.Common.{refl, subst}
+use Rattle.std.proofs.Common.{refl}
 use Rattle.std.proofs.lemmas.Result.{err_from_is_err_and}
 use Rattle.fancy_core.proofs.BuiltLemmas.{is_refused}
 use Rattle.fancy_core.proofs.regex.Regex.with_options.Goals as goal

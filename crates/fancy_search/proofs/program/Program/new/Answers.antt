@@ -1,5 +1,5 @@
 use Rattle.std.proofs.Common.{refl, sym, ◌∙◌, ◌+◌, ap, subst, inl, inr, arith}
-use Rattle.fancy_syntax.specs.Dialect as dialect
+use Rattle.fancy_syntax.specs.Dialect.{DialectOptions}
 use Rattle.std.proofs.lemmas.Result.{err_from_is_err_and}
 use Rattle.fancy_tree.specs.Pattern.{pattern_of}
 use Rattle.fancy_syntax.specs.Views as views
@@ -14,13 +14,13 @@ use Rattle.fancy_search.proofs.program.Program.new.Goals as goal
 pub returns-in_err-tree : goal.returns-in_err-tree
 returns-in_err-tree c =
     let q = err_from_is_err_and c.from_residual.result c.from_residual.ensures.1 in
-    let refused = rw c.syntax.ensures at c.in_err-tree.ensures.refused in
+    let refused = rw c.parse_options.ensures at c.in_err-tree.ensures.refused in
     rw (q.1, q.2) (record {
       options = tt;
       spelled = tt;
       sized = tt;
       refused = inl refused;
-      succeeds = λ p h. let e = c.in_err-tree.ensures.succeeds p (rw c.syntax.ensures h) in rw e tt;
+      succeeds = λ p h. let e = c.in_err-tree.ensures.succeeds p (rw c.parse_options.ensures h) in rw e tt;
     })
 
 pub returns-in_err-code : goal.returns-in_err-code
@@ -41,19 +41,19 @@ invariant_of-result c = record {
   compiled = ∣ record {
     coded = c.in_ok-code.ensures.code;
     has_group_zero = omega (arith, c.in_ok-tree.ensures.accepted.1, c.in_ok-code.ensures.groups);
-    rising = rising_names _ (views.dialect_options c.syntax.result) _ _ _ _ _ (c.in_ok-tree.ensures.accepted.0).spelled.spelled (c.in_ok-tree.ensures.accepted.1 ∙ sym c.in_ok-code.ensures.groups) c.in_ok-tree.ensures.accepted.2;
+    rising = rising_names _ (views.dialect_options c.parse_options.result) _ _ _ _ _ (c.in_ok-tree.ensures.accepted.0).spelled.spelled (c.in_ok-tree.ensures.accepted.1 ∙ sym c.in_ok-code.ensures.groups) c.in_ok-tree.ensures.accepted.2;
   } ∣₁;
   meant = c.in_ok-code.ensures.meaning ∙ c.meaning.ensures;
   short = c.in_ok-code.ensures.short;
   decided = c.is_easy-easy.ensures;
   light = c.in_ok-code.ensures.easy;
   starts = kept_accepted (c.in_ok-tree.ensures.accepted.0);
-  whole = λ e. bytes_accepted (ap (λ (o : dialect.Options). o.keeps_characters) c.syntax.ensures ∙ e) (c.in_ok-tree.ensures.accepted.0);
+  whole = λ e. bytes_accepted (ap (λ (o : DialectOptions). o.keeps_characters) c.parse_options.ensures ∙ e) (c.in_ok-tree.ensures.accepted.0);
 }
 
 pub returns-then-forbids : goal.returns-then-forbids
 returns-then-forbids c =
-    let h = rw c.syntax.ensures at c.in_ok-tree.ensures.accepted.0 in
+    let h = rw c.parse_options.ensures at c.in_ok-tree.ensures.accepted.0 in
     let found = rw c.len.ensures at (sym c.if-forbids.ensures) in
     let why = both_of _ _ found in
     let hard = sym c.is_easy-easy.ensures ∙ why.0 in
@@ -69,7 +69,7 @@ pub returns : goal.returns
 returns c = record {
   options = refl;
   spelled =
-      let h = rw c.syntax.ensures at c.in_ok-tree.ensures.accepted in
+      let h = rw c.parse_options.ensures at c.in_ok-tree.ensures.accepted in
       record { spelled = h.0; counted = h.1 ∙ sym c.in_ok-code.ensures.groups; named = sym h.2 };
   sized = λ hard. second_fails _ _ (c.is_easy-easy.ensures ∙ hard) (rw c.len.ensures at (sym c.if-forbids.ensures));
   refused = tt;

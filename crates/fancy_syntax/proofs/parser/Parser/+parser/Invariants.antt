@@ -1,7 +1,7 @@
 use Rattle.std.proofs.Common.{◌+◌, ◌*◌, ◌≤◌, length, map}
-use Rattle.fancy_syntax.specs.Views.{place}
+use Rattle.fancy_syntax.specs.Views.{place, text_left}
 use Rattle.fancy_tree.specs.Pattern.{pattern_of}
-use Rattle.fancy_syntax.specs.Grammar.{Parts, Branches}
+use Rattle.fancy_syntax.specs.Grammar.{PartsReading, BranchesReading}
 use Rattle.fancy_syntax.proofs.ParserLemmas.{GoesOn}
 use Rattle.fancy_syntax.proofs.parser.Parser.+parser.Given as goal
 
@@ -19,18 +19,18 @@ decreases-head l = 4 * l.room
 
 abbrev pub invariant-alternatives-loop-found : goal.invariant-alternatives-loop-found
 invariant-alternatives-loop-found l = record {
-  goes_on : GoesOn (Branches l.room) (place l.fn.self) (map pattern_of l.found.items) (place l.self);
-  forward : length l.self.rest.now ≤ length l.fn.self.rest.now;
+  goes_on : GoesOn (BranchesReading l.room) (place l.fn.self) (map pattern_of l.found.items) (place l.self);
+  forward : length (text_left l.self) ≤ length (text_left l.fn.self);
 }
 
 abbrev pub decreases-alternatives-loop-found : goal.decreases-alternatives-loop-found
-decreases-alternatives-loop-found l = length l.self.rest.now
+decreases-alternatives-loop-found l = length (text_left l.self)
 
 abbrev pub invariant-sequence-loop-self : goal.invariant-sequence-loop-self
 invariant-sequence-loop-self l = record {
-  goes_on : GoesOn (Parts l.room) (place l.fn.self) (map pattern_of l.parts.items) (place l.self);
-  forward : length l.self.rest.now ≤ length l.fn.self.rest.now;
+  goes_on : GoesOn (PartsReading l.room) (place l.fn.self) (map pattern_of l.parts.items) (place l.self);
+  forward : length (text_left l.self) ≤ length (text_left l.fn.self);
 }
 
 abbrev pub decreases-sequence-loop-self : goal.decreases-sequence-loop-self
-decreases-sequence-loop-self l = length l.self.rest.now
+decreases-sequence-loop-self l = length (text_left l.self)

@@ -1,0 +1,6 @@
+pub mod BoolLemmas
+pub mod SetLemmas
+pub mod ItemLemmas
+pub mod ListLemmas
+pub mod EdgeLemmas
+pub mod ScanLemmas

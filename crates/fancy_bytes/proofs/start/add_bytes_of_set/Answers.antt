@@ -1,0 +1,23 @@
+use Rattle.std.proofs.Common.{◌∙◌, List, Bool, arith, ap, sym}
+use Rattle.fancy_tree.specs.Members.{edges_of}
+use Rattle.fancy_tree.specs.Sets.{has}
+use Rattle.fancy_bytes.specs.Sets.{member}
+use Rattle.fancy_bytes.proofs.EdgeLemmas.{byte_added, byte_passed, bytes_done}
+use Rattle.fancy_bytes.proofs.start.add_bytes_of_set.Goals as goal
+use Rattle.fancy_bytes.proofs.start.add_bytes_of_set.Goals.{then-contains, else-contains}
+
+pub loop-byte-preserved : goal.loop-byte-preserved
+loop-byte-preserved c b lt =
+    elim c.if-contains.branch [
+      | then-contains w ↦
+          ap (λ (s : List Bool). member s b) w.set-is
+          ∙ byte_added (has (edges_of c.args.items.now)) c.loop-byte.byte b _ (member c.loop-byte.set b) _ (sym c.contains.ensures ∙ w.if-contains.true)
+          (c.loop-byte.invariant b lt) (w.insert.ensures b lt)
+      | else-contains w ↦
+          ap (λ (s : List Bool). member s b) w.set-is
+          ∙ byte_passed (has (edges_of c.args.items.now)) c.loop-byte.byte b _ (member c.loop-byte.set b) (sym c.contains.ensures ∙ w.if-contains.false)
+          (c.loop-byte.invariant b lt)
+    ]
+
+pub returns : goal.returns
+returns c b lt = bytes_done (has (edges_of c.args.items.now)) c.loop-byte.byte b _ (member c.loop-byte.set b) lt (omega arith) (c.loop-byte.invariant b lt)

@@ -1,0 +1,9 @@
+//! Which bytes a match can begin with, and which every haystack with a match has.
+#![tactic(auto)]
+
+pub mod byte_set;
+pub mod members;
+pub mod required;
+pub mod scan;
+pub mod seek;
+pub mod start;

@@ -1,0 +1,92 @@
+//! Scans of haystacks for the bytes of a set.
+
+ghost use Rattle.std.specs.Prelude.{◌≡◌, ◌↔◌, ℕ, ◌<◌, ◌≤◌, ◌==◌, List, Bool, length, IfSome, IsTrue, MatchOption};
+ghost use Rattle.fancy_tree.specs.Pattern.{pattern_of};
+ghost use Rattle.fancy_bytes.specs.Firsts.{AreStartBytes};
+ghost use Rattle.fancy_bytes.specs.Sets.{IsSetOf};
+ghost use Rattle.fancy_bytes.specs.Seeks.{NoneSeenBefore, IsNextSeen};
+
+use crate::byte_set::ByteSet;
+use crate::seek::next_seen;
+use crate::start::start_bytes;
+use fancy_tree::tree::{Meaning, Tree};
+use memchr::memchr;
+use std::marker::Model;
+
+/// Whether the set has this member and no other.
+fn is_only(set: &ByteSet, byte: u8) -> bool
+    ensures { IsTrue result ↔ IsSetOf (λ b. b == byte) set.now }
+{
+    for other in 0..256u32 {
+        let other = other as u8;
+        if set.contains(other) != (other == byte) {
+            return false;
+        }
+    }
+    true
+}
+
+/// The member of a set that has one. `None` where it has none, or more.
+fn only_member(set: &ByteSet) -> Option<u8>
+    ensures { MatchOption result ((byte : ℕ) → byte < 256 → ¬ (IsSetOf (λ b. b == byte) set.now)) (λ byte. IsSetOf (λ b. b == byte) set.now) }
+{
+    for code in 0..256u32 {
+        let byte = code as u8;
+        if set.contains(byte) {
+            return if is_only(set, byte) { Some(byte) } else { None };
+        }
+    }
+    None
+}
+
+/// A set of bytes, made ready for scans: a set of one byte is searched for as that byte, many places at a time.
+#[derive(Drop)]
+pub struct Scan {
+    set: ByteSet,
+    only: Option<u8>,
+}
+
+impl Model for Scan {
+    ghost Value = { List Bool };
+
+    ghost view = { λ s. s.set };
+
+    ghost invariant = { λ s. IfSome s.only (λ byte. IsSetOf (λ b. b == byte) s.set) };
+}
+
+impl Scan {
+    /// For the bytes of this set.
+    pub fn new(set: ByteSet) -> Scan
+        ensures { result ≡ set }
+    {
+        let only = only_member(&set);
+        Scan { set, only }
+    }
+
+    /// The first place, from the one on and before the other, where a byte of the set stands.
+    pub fn next_seen(&self, haystack: &[u8], from: usize, to: usize) -> Option<usize>
+        requires ordered { from ≤ to }
+        requires within { to ≤ length haystack.now }
+        ensures { MatchOption result (NoneSeenBefore self.now haystack.now from to)
+            (IsNextSeen self.now haystack.now from to) }
+    {
+        match self.only {
+            None => next_seen(&self.set, haystack, from, to),
+            Some(byte) => match memchr(byte, &haystack[from..to]) {
+                None => None,
+                Some(passed) => Some(from + passed),
+            },
+        }
+    }
+}
+
+/// The bytes that a match starts with, made ready for scans. `None` where a match may be empty, or need not start where
+/// it was tried.
+pub fn start_scan(tree: &Tree, meaning: Meaning) -> Option<Scan>
+    ensures { AreStartBytes meaning (pattern_of tree.now) result }
+{
+    match start_bytes(tree, meaning) {
+        None => None,
+        Some(set) => Some(Scan::new(set)),
+    }
+}

@@ -1,0 +1,38 @@
+-- Which bytes stand in a haystack, at one place or at any, and which stand where an outcome began.
+use Rattle.std.specs.Prelude.{◌≡◌, ℕ, ◌<◌, ◌≤◌, Bool, true, false, ◌⊎◌, List, Option, Some, None, length, slice_get, slice_index}
+use Rattle.fancy_bytes.specs.Sets.{ByteFlags, member}
+use Rattle.fancy_engine.specs.Context.{State}
+
+-- a byte of this kind stands at p
+pub record SeesByte (haystack : List ℕ) (kind : ℕ → Bool) (p : ℕ) : Type 0 where
+  pub byte : ℕ
+  pub stands : slice_get haystack p ≡ Some byte
+  pub passes : kind byte ≡ true
+
+-- the byte stands somewhere
+pub record Stands (haystack : List ℕ) (b : ℕ) : Type 0 where
+  pub place : ℕ
+  pub there : slice_get haystack place ≡ Some b
+
+-- no byte of this kind stands from the one place on and before the other
+abbrev pub NoneSeen : List ℕ → (ℕ → Bool) → ℕ → ℕ → Type 0
+NoneSeen haystack kind from to = (k : ℕ) → from ≤ k → k < to → ¬ SeesByte haystack kind k
+
+-- The outcome t is where the walk began at s, if it may be, or a byte that it can begin with stands there.
+abbrev pub BeginsBy : Type 0 → (ℕ → Type 0) → State → State → Type 0
+BeginsBy Still Seen s t = (Still × (t.place ≡ s.place)) ⊎ Seen s.place
+
+-- No match starts at p, by the set of the bytes that each match starts at. Without one it is said of no place.
+abbrev pub MayNotStart : Option ByteFlags → List ℕ → ℕ → Type 0
+MayNotStart None haystack p = ⊥
+MayNotStart (Some set) haystack p = p < length haystack → member set (slice_index haystack p) ≡ false
+
+-- no match starts from the one place on and before the other
+abbrev pub NoneMayStart : Option ByteFlags → List ℕ → ℕ → ℕ → Type 0
+NoneMayStart starts haystack from to = (p : ℕ) → from ≤ p → p < to → MayNotStart starts haystack p
+
+-- p is the first place, from the one on and up to the other, where a match may start
+pub record IsNextStart (starts : Option ByteFlags) (haystack : List ℕ) (from last p : ℕ) : Type 0 where
+  pub passed : from ≤ p
+  pub within : p ≤ last
+  pub none : NoneMayStart starts haystack from p

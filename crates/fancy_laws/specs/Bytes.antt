@@ -1,0 +1,51 @@
+-- What the byte sets of a pattern say of its outcomes, and of a search.
+use Rattle.std.specs.Prelude.{◌≡◌, ℕ, ◌+◌, true, false, None}
+use Rattle.fancy_tree.specs.Pattern.{Pattern}
+use Rattle.fancy_bytes.specs.Firsts.{nullable, first_bytes, has_start_bytes}
+use Rattle.fancy_bytes.specs.Required.{required_bytes}
+use Rattle.fancy_engine.specs.Context.{Context, State}
+use Rattle.fancy_engine.specs.Trace.{trace}
+use Rattle.fancy_engine.specs.Forward.{EachOutcome}
+use Rattle.fancy_engine.specs.Search.{Query, search, answer_from}
+use Rattle.fancy_engine.specs.Answers.{HasAccepted}
+use Rattle.fancy_engine.specs.Seen.{SeesByte, Stands, NoneSeen, BeginsBy}
+
+-- An outcome stands where the pattern began only if the pattern is nullable, or else one of its first bytes is there.
+abbrev pub OutcomesBegin : Type 0
+OutcomesBegin =
+    (x : Context) (limit : ℕ) (p : Pattern) (s : State) →
+    EachOutcome (BeginsBy (nullable p ≡ true) (SeesByte x.haystack (first_bytes x.meaning p)) s) (trace x limit p s)
+
+-- a pattern that is not nullable has an accepted outcome only where one of its first bytes stands
+abbrev pub AttemptsBegin : Type 0
+AttemptsBegin =
+    (q : Query) (p : ℕ) → nullable q.sought.pattern ≡ false → HasAccepted q p →
+    SeesByte q.haystack (first_bytes q.sought.meaning q.sought.pattern) p
+
+-- Where the first bytes tell, each match starts at one, and where it was tried.
+abbrev pub MatchesBegin : Type 0
+MatchesBegin =
+    (q : Query) (p : ℕ) (h : HasAccepted q p) → has_start_bytes q.sought.pattern ≡ true →
+    (h.state.kept ≡ p) × SeesByte q.haystack (first_bytes q.sought.meaning q.sought.pattern) h.state.kept
+
+-- where a pattern has an outcome, each byte that it requires stands in the haystack
+abbrev pub OutcomesRequire : Type 0
+OutcomesRequire =
+    (x : Context) (limit : ℕ) (p : Pattern) (b : ℕ) (s : State) → required_bytes x.meaning p b ≡ true →
+    EachOutcome (λ t. Stands x.haystack b) (trace x limit p s)
+
+-- where an attempt has an accepted outcome, each required byte stands in the haystack
+abbrev pub AttemptsRequire : Type 0
+AttemptsRequire =
+    (q : Query) (p b : ℕ) → HasAccepted q p → required_bytes q.sought.meaning q.sought.pattern b ≡ true → Stands q.haystack b
+
+-- Positions where no first byte stands may be passed over.
+abbrev pub SkipsLoseNothing : Type 0
+SkipsLoseNothing =
+    (q : Query) (d n p : ℕ) → nullable q.sought.pattern ≡ false →
+    NoneSeen q.haystack (first_bytes q.sought.meaning q.sought.pattern) p (p + d) → answer_from q (d + n) p ≡ answer_from q n (p + d)
+
+-- where a required byte stands nowhere, nothing is found
+abbrev pub LackingIsNone : Type 0
+LackingIsNone =
+    (q : Query) (b : ℕ) → required_bytes q.sought.meaning q.sought.pattern b ≡ true → ¬ Stands q.haystack b → search q ≡ None
