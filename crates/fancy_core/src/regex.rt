@@ -204,8 +204,8 @@ impl Regex {
     /// ```text
     /// let mut work = Work::new();
     /// Regex::new(alloc, "a|ab")?.find_input_counted(RegexInput::new("xab"), &mut work)?    // Some: 1..2
-    /// work.steps()      // 6
-    /// work.returns()    // 1
+    /// work.steps()      // 3: no match begins with the x
+    /// work.returns()    // 0
     /// ```
     ///
     /// An easy search takes at most [`Regex::code_len`] steps for each position of the searched text, its end
