@@ -3,6 +3,8 @@ pub mod Escapes
 pub mod EscapedLiterals
 pub mod ListExamples
 pub mod Laws
+pub mod SetMembers
+pub mod Sets
 pub use Rattle.fancy_tree.specs.Text
 pub use Rattle.fancy_tree.specs.Modes
 pub use Rattle.fancy_tree.specs.Pattern
