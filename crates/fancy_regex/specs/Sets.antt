@@ -47,9 +47,6 @@ RefusesTexts o texts e = (e ≡ Memory) ⊎ RefusesFirst o texts e
 abbrev pub set_of : {S : Type 0} {g : _} → RegexSetMatchesAt S g → RegexSet
 set_of m = m.set.now
 
-abbrev pub input_of : {S : Type 0} {g : _} → RegexSetMatchesAt S g → _
-input_of m = m.input
-
 -- the position that its members are tried at
 abbrev pub position_of : {S : Type 0} {g : _} → RegexSetMatchesAt S g → ℕ
 position_of m = m.position
