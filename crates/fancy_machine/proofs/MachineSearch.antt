@@ -255,13 +255,30 @@ module _ (q : Query) (a : Attempt) (some : ∥ IsCodeOf q.sought.pattern a.code.
     marks = ∥∥₁_elim some (hlevel props) (λ is. ap (marks_to (final a.options.longest (accepts a))) (begins is).1 ∙ marks_here q a is groups inside serves p may ∙ sym (ap marks_in (through_here q p may)));
   }
 
+-- what the attempt at a position i is asked
+pub record IsAsked (q : Query) (a : Attempt) (range_end i : ℕ) : Type 0 where
+  pub serves : Serves a q
+  pub groups : q.sought.groups ≡ a.code.now.groups
+  pub coded : ∥ IsCodeOf q.sought.pattern a.code.now ∥₁
+  pub range : range_end ≡ q.request.range_end
+  pub inside : q.request.range_end ≤ length q.haystack
+  pub ends : i ≤ q.request.range_end
+
 -- what is asked stands in the arguments of a search
 module _ (q : Query) (p : Pattern) (code : Code) (options : SearchOptions) (haystack : List ℕ) (request : Request) (continues : Bool) (is : q ≡ query_of p code options haystack request continues) where
   pub asked_request : q.request ≡ request
   asked_request = ap (λ (r : Query). r.request) is
 
-  pub served : (a : Attempt) → ((p : Pattern) → Serves a (query_of p code options haystack request continues)) → Serves a q
-  served a serves = subst (Serves a) (sym is) (serves p)
+  pub is_asked : (a : Attempt) → a.code.now ≡ code → ((p : Pattern) → Serves a (query_of p code options haystack request continues)) → ∥ IsCodeOf q.sought.pattern code ∥₁
+      → request.range_end ≤ length haystack → (i : ℕ) → i ≤ request.range_end → IsAsked q a request.range_end i
+  is_asked a same serves some inside i to = record {
+    serves = subst (Serves a) (sym is) (serves p);
+    groups = ap (λ (r : Query). r.sought.groups) is ∙ ap (λ (c : Code). c.groups) (sym same);
+    coded = subst (λ (c : Code). ∥ IsCodeOf q.sought.pattern c ∥₁) (sym same) some;
+    range = sym (ap (λ (r : Request). r.range_end) asked_request);
+    inside = subst (λ (r : Query). r.request.range_end ≤ length r.haystack) (sym is) inside;
+    ends = subst (λ (r : Query). i ≤ r.request.range_end) (sym is) to;
+  }
 
 returns-append : (a b : List Event) → returns_in (a ++ b) ≡ returns_in a + returns_in b
 returns-append [] b = omega arith

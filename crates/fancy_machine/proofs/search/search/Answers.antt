@@ -1,0 +1,100 @@
+use Rattle.std.proofs.Common.{◌≡◌, ℕ, suc, ◌+◌, ◌-◌, ◌∙◌, Err, sym, ap, ap₂, arith}
+use Rattle.fancy_input.specs.Requests.{positions, effective_start}
+use Rattle.fancy_engine.specs.Events.{marks_in, returns_in}
+use Rattle.fancy_engine.specs.Search.{Query, answer_from, gone_from}
+use Rattle.fancy_engine.proofs.AttemptLemmas.{found_here, found_later}
+use Rattle.fancy_engine.proofs.RunnerSearch.{search_over, positions_none}
+use Rattle.fancy_machine.specs.Asked.{all_tried}
+use Rattle.fancy_machine.proofs.MachineSearch.{asked_request, is_asked, gone_hit, gone_more, gone_counts, gone_over}
+use Rattle.fancy_machine.proofs.RefusalLemmas.{passed_on}
+use Rattle.fancy_machine.proofs.search.search.Goals as goal
+
+pub returns-then-first-request-clause-answer : goal.returns-then-first-request-clause-answer
+returns-then-first-request-clause-answer g c =
+    sym (search_over g.q _ _ (ap positions (asked_request g.q g.q.sought.pattern c.args.code.now c.args.options c.args.haystack.now c.args.request c.args.continues c.requires.0) ∙ positions_none c.args.request (omega (arith, c.effective_start-first.ensures))))
+
+pub returns-then-first-request-clause-count : goal.returns-then-first-request-clause-count
+returns-then-first-request-clause-count g c =
+    let none = ap returns_in (gone_over g.q (positions g.q.request) (effective_start g.q.request)
+    (ap positions (asked_request g.q g.q.sought.pattern c.args.code.now c.args.options c.args.haystack.now c.args.request c.args.continues c.requires.0) ∙ positions_none c.args.request (omega (arith, c.effective_start-first.ensures)))) in
+    omega (arith, none)
+
+pub loop-place-init : goal.loop-place-init
+loop-place-init g c =
+    let r = asked_request g.q g.q.sought.pattern c.args.code.now c.args.options c.args.haystack.now c.args.request c.args.continues c.requires.0 in
+    let tried : positions g.q.request ≡ c.last_position-last.result + 1 - c.effective_start-first.result = ap positions r ∙ sym c.last_position-last.ensures.count ∙ ap (λ (n : ℕ). c.last_position-last.result + 1 - n) (sym c.effective_start-first.ensures) in
+    let first : effective_start g.q.request ≡ c.effective_start-first.result = ap effective_start r ∙ sym c.effective_start-first.ensures in
+    let events = ap₂ (gone_from g.q all_tried) tried first in
+    record {
+      left = ap₂ (answer_from g.q) tried first;
+      count = omega (arith, ap returns_in events);
+      room = omega (arith, ap marks_in events);
+      fits = omega arith;
+      steps = omega arith;
+      returns = omega arith;
+      paired = λ pairs. pairs;
+      last_lines = c.new-last_lines.ensures;
+    }
+
+pub try_position-requires : goal.try_position-requires
+try_position-requires g c =
+    let k = is_asked g.q g.q.sought.pattern c.args.code.now c.args.options c.args.haystack.now c.args.request c.args.continues c.requires.0 c.new-attempt.result c.new-attempt.ensures.code c.new-attempt.ensures.serves c.requires.1.0 c.requires.1.1.0 c.loop-place.place (omega (arith, c.last_position-last.ensures.inside)) in
+    (k.serves, (k.groups, (k.coded, (k.range, (k.inside, (k.ends, (omega (arith, c.returns.ensures, c.loop-place.invariant.fits), c.loop-place.invariant.last_lines)))))))
+
+pub returns-in_err-found-clause-refused : goal.returns-in_err-found-clause-refused
+returns-in_err-found-clause-refused g c e =
+    let one : (c.last_position-last.result + 1 - c.loop-place.place) ≡ suc (c.last_position-last.result + 1 - (c.loop-place.place + 1)) = omega arith in
+    let more = gone_more g.q (c.last_position-last.result + 1 - c.loop-place.place) (c.last_position-last.result + 1 - (c.loop-place.place + 1)) c.loop-place.place one in
+    let lt = c.in_err-found.ensures.refused (ap Err (passed_on c.from_residual-in_err-found.result _ _ c.from_residual-in_err-found.ensures.1 e)) in
+    omega (arith, lt, more.0, c.returns.ensures, c.loop-place.invariant.count)
+
+pub returns-in_err-found-clause-bounded : goal.returns-in_err-found-clause-bounded
+returns-in_err-found-clause-bounded g c =
+    let one : (c.last_position-last.result + 1 - c.loop-place.place) ≡ suc (c.last_position-last.result + 1 - (c.loop-place.place + 1)) = omega arith in
+    let more = gone_more g.q (c.last_position-last.result + 1 - c.loop-place.place) (c.last_position-last.result + 1 - (c.loop-place.place + 1)) c.loop-place.place one in
+    omega (arith, c.try_position-found.ensures.bounded, more.0, c.loop-place.invariant.count)
+
+pub returns-in_err-found-clause-crowded : goal.returns-in_err-found-clause-crowded
+returns-in_err-found-clause-crowded g c e =
+    let one : (c.last_position-last.result + 1 - c.loop-place.place) ≡ suc (c.last_position-last.result + 1 - (c.loop-place.place + 1)) = omega arith in
+    let more = gone_more g.q (c.last_position-last.result + 1 - c.loop-place.place) (c.last_position-last.result + 1 - (c.loop-place.place + 1)) c.loop-place.place one in
+    let lt = c.in_err-found.ensures.crowded (ap Err (passed_on c.from_residual-in_err-found.result _ _ c.from_residual-in_err-found.ensures.1 e)) in
+    omega (arith, lt, more.1, c.loop-place.invariant.room)
+
+pub returns-in-Some-clause-answer : goal.returns-in-Some-clause-answer
+returns-in-Some-clause-answer g c =
+    let one : (c.last_position-last.result + 1 - c.loop-place.place) ≡ suc (c.last_position-last.result + 1 - (c.loop-place.place + 1)) = omega arith in
+    let a = rw c.in-Some.is at c.in_ok-found.ensures.answer in
+    a ∙ sym (c.loop-place.invariant.left ∙ found_here g.q (c.last_position-last.result + 1 - c.loop-place.place) (c.last_position-last.result + 1 - (c.loop-place.place + 1)) c.loop-place.place one _ (sym a))
+
+pub returns-in-Some-clause-count : goal.returns-in-Some-clause-count
+returns-in-Some-clause-count g c =
+    let one : (c.last_position-last.result + 1 - c.loop-place.place) ≡ suc (c.last_position-last.result + 1 - (c.loop-place.place + 1)) = omega arith in
+    let a = rw c.in-Some.is at c.in_ok-found.ensures.answer in
+    let through = gone_hit g.q (c.last_position-last.result + 1 - c.loop-place.place) (c.last_position-last.result + 1 - (c.loop-place.place + 1)) c.loop-place.place one _ (sym a) in
+    omega (arith, c.in_ok-found.ensures.count, ap returns_in through, c.loop-place.invariant.count)
+
+pub returns-in-Some-clause-bounded : goal.returns-in-Some-clause-bounded
+returns-in-Some-clause-bounded g c = let count = returns-in-Some-clause-count g c in omega (arith, count)
+
+pub loop-place-preserved : goal.loop-place-preserved
+loop-place-preserved g c =
+    let one : (c.last_position-last.result + 1 - c.loop-place.place) ≡ suc (c.last_position-last.result + 1 - (c.loop-place.place + 1)) = omega arith in
+    let a = rw c.in-None.is at c.in_ok-found.ensures.answer in
+    let counts = gone_counts g.q (c.last_position-last.result + 1 - c.loop-place.place) (c.last_position-last.result + 1 - (c.loop-place.place + 1)) c.loop-place.place one (sym a) in
+    record {
+      left = c.loop-place.invariant.left ∙ found_later g.q (c.last_position-last.result + 1 - c.loop-place.place) (c.last_position-last.result + 1 - (c.loop-place.place + 1)) c.loop-place.place one (sym a);
+      count = omega (arith, c.in_ok-found.ensures.count, counts.0, c.loop-place.invariant.count);
+      room = omega (arith, counts.1, c.loop-place.invariant.room);
+      fits = omega (arith, c.returns.ensures, c.try_position-found.ensures.fits);
+      steps = omega (arith, c.try_position-found.ensures.steps, c.loop-place.invariant.steps);
+      returns = omega (arith, c.try_position-found.ensures.returns, c.loop-place.invariant.returns);
+      paired = λ pairs. c.try_position-found.ensures.paired (c.loop-place.invariant.paired pairs);
+      last_lines = c.try_position-found.ensures.last_lines;
+    }
+
+pub returns-clause-answer : goal.returns-clause-answer
+returns-clause-answer g c = sym (c.loop-place.invariant.left ∙ search_over g.q _ _ (omega arith))
+
+pub returns-clause-count : goal.returns-clause-count
+returns-clause-count g c = omega (arith, c.loop-place.invariant.count, ap returns_in (gone_over g.q (c.last_position-last.result + 1 - c.loop-place.place) c.loop-place.place (omega arith)))
