@@ -109,8 +109,9 @@ pub fn search(
             cache,
             work,
         )?;
-        if let Some(found) = found {
-            return Ok(Some(found));
+        match found {
+            Some(found) => return Ok(Some(found)),
+            None => {}
         }
     }
     Ok(None)

@@ -45,27 +45,27 @@ pub returns-in_err-found-clause-refused : goal.returns-in_err-found-clause-refus
 returns-in_err-found-clause-refused g c e =
     let one : (c.last_position-last.result + 1 - c.loop-place.place) ≡ suc (c.last_position-last.result + 1 - (c.loop-place.place + 1)) = omega arith in
     let more = gone_more g.q (c.last_position-last.result + 1 - c.loop-place.place) (c.last_position-last.result + 1 - (c.loop-place.place + 1)) c.loop-place.place one in
-    let lt = c.in_err-found.ensures.refused (ap Err (passed_on c.from_residual-in_err-found.result _ _ c.from_residual-in_err-found.ensures.1 e)) in
+    let lt = c.in_err-found.ensures.refused (ap Err (passed_on c.from_residual.result _ _ c.from_residual.ensures.1 e)) in
     omega (arith, lt, more.0, c.returns.ensures, c.loop-place.invariant.count)
 
 pub returns-in_err-found-clause-bounded : goal.returns-in_err-found-clause-bounded
 returns-in_err-found-clause-bounded g c =
     let one : (c.last_position-last.result + 1 - c.loop-place.place) ≡ suc (c.last_position-last.result + 1 - (c.loop-place.place + 1)) = omega arith in
     let more = gone_more g.q (c.last_position-last.result + 1 - c.loop-place.place) (c.last_position-last.result + 1 - (c.loop-place.place + 1)) c.loop-place.place one in
-    omega (arith, c.try_position-found.ensures.bounded, more.0, c.loop-place.invariant.count)
+    omega (arith, c.try_position.ensures.bounded, more.0, c.loop-place.invariant.count)
 
 pub returns-in_err-found-clause-crowded : goal.returns-in_err-found-clause-crowded
 returns-in_err-found-clause-crowded g c e =
     let one : (c.last_position-last.result + 1 - c.loop-place.place) ≡ suc (c.last_position-last.result + 1 - (c.loop-place.place + 1)) = omega arith in
     let more = gone_more g.q (c.last_position-last.result + 1 - c.loop-place.place) (c.last_position-last.result + 1 - (c.loop-place.place + 1)) c.loop-place.place one in
-    let lt = c.in_err-found.ensures.crowded (ap Err (passed_on c.from_residual-in_err-found.result _ _ c.from_residual-in_err-found.ensures.1 e)) in
+    let lt = c.in_err-found.ensures.crowded (ap Err (passed_on c.from_residual.result _ _ c.from_residual.ensures.1 e)) in
     omega (arith, lt, more.1, c.loop-place.invariant.room)
 
 pub returns-in-Some-clause-answer : goal.returns-in-Some-clause-answer
 returns-in-Some-clause-answer g c =
     let one : (c.last_position-last.result + 1 - c.loop-place.place) ≡ suc (c.last_position-last.result + 1 - (c.loop-place.place + 1)) = omega arith in
     let a = rw c.in-Some.is at c.in_ok-found.ensures.answer in
-    a ∙ sym (c.loop-place.invariant.left ∙ found_here g.q (c.last_position-last.result + 1 - c.loop-place.place) (c.last_position-last.result + 1 - (c.loop-place.place + 1)) c.loop-place.place one _ (sym a))
+    sym (c.loop-place.invariant.left ∙ found_here g.q (c.last_position-last.result + 1 - c.loop-place.place) (c.last_position-last.result + 1 - (c.loop-place.place + 1)) c.loop-place.place one _ (sym a))
 
 pub returns-in-Some-clause-count : goal.returns-in-Some-clause-count
 returns-in-Some-clause-count g c =
@@ -86,11 +86,11 @@ loop-place-preserved g c =
       left = c.loop-place.invariant.left ∙ found_later g.q (c.last_position-last.result + 1 - c.loop-place.place) (c.last_position-last.result + 1 - (c.loop-place.place + 1)) c.loop-place.place one (sym a);
       count = omega (arith, c.in_ok-found.ensures.count, counts.0, c.loop-place.invariant.count);
       room = omega (arith, counts.1, c.loop-place.invariant.room);
-      fits = omega (arith, c.returns.ensures, c.try_position-found.ensures.fits);
-      steps = omega (arith, c.try_position-found.ensures.steps, c.loop-place.invariant.steps);
-      returns = omega (arith, c.try_position-found.ensures.returns, c.loop-place.invariant.returns);
-      paired = λ pairs. c.try_position-found.ensures.paired (c.loop-place.invariant.paired pairs);
-      last_lines = c.try_position-found.ensures.last_lines;
+      fits = omega (arith, c.returns.ensures, c.try_position.ensures.fits);
+      steps = omega (arith, c.try_position.ensures.steps, c.loop-place.invariant.steps);
+      returns = omega (arith, c.try_position.ensures.returns, c.loop-place.invariant.returns);
+      paired = λ pairs. c.try_position.ensures.paired (c.loop-place.invariant.paired pairs);
+      last_lines = c.try_position.ensures.last_lines;
     }
 
 pub returns-clause-answer : goal.returns-clause-answer
