@@ -1,4 +1,4 @@
-use Rattle.std.proofs.Common.{◌≡◌, ℕ, ◌+◌, arith}
+use Rattle.std.proofs.Common.{arith}
 use Rattle.fancy_machine.proofs.MachineSearch.{is_asked}
 use Rattle.fancy_machine.proofs.search.attempt_at.Goals as goal
 

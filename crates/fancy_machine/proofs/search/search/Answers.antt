@@ -1,7 +1,7 @@
 use Rattle.std.proofs.Common.{◌≡◌, ℕ, suc, ◌+◌, ◌-◌, ◌∙◌, Err, sym, ap, ap₂, arith}
 use Rattle.fancy_input.specs.Requests.{positions, effective_start}
 use Rattle.fancy_engine.specs.Events.{marks_in, returns_in}
-use Rattle.fancy_engine.specs.Search.{Query, answer_from, gone_from}
+use Rattle.fancy_engine.specs.Search.{answer_from, gone_from}
 use Rattle.fancy_engine.proofs.AttemptLemmas.{found_here, found_later}
 use Rattle.fancy_engine.proofs.RunnerSearch.{search_over, positions_none}
 use Rattle.fancy_machine.specs.Asked.{all_tried}
