@@ -1,4 +1,4 @@
-use Rattle.std.proofs.Common.{◌≡◌, ◌∙◌, sym, true, false}
+use Rattle.std.proofs.Common.{◌∙◌, sym, true, false}
 use Rattle.fancy_search.specs.Cached.{IsAttemptIn, cached_groups}
 use Rattle.fancy_search.specs.Programs.{asked_of}
 use Rattle.fancy_search.proofs.ResultLemmas.{if_ok}
