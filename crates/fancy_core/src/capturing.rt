@@ -108,20 +108,8 @@ impl Regex {
         ensures refused { IfErr result (λ e. RefusesAt self.now (asked_by self.now S.bytes input) position e) }
         ensures allowed { IfOk result (λ _. AllowsAt self.now (asked_by self.now S.bytes input) position) }
     {
-        let haystack = input.haystack();
-        let mut work = Work::new();
-        let found = self.program.attempt_at(
-            haystack.as_bytes(),
-            input.request(),
-            position,
-            cache,
-            &mut work,
-        )?;
-        let Some(found) = found else {
-            return Ok(None);
-        };
-        let slots = groups_found(self.allocator(), self.captures_len(), found, cache)?;
-        Ok(Some(Captures::new(self, haystack, slots)))
+        let found = self.capture_at(input.haystack(), input.request(), position, cache)?;
+        Ok(found)
     }
 
     /// The groups of the first match in the haystack that the request asks for, or none.
@@ -143,6 +131,35 @@ impl Regex {
         let found = self
             .program
             .search(haystack.as_bytes(), request, true, cache, &mut work)?;
+        let Some(found) = found else {
+            return Ok(None);
+        };
+        let slots = groups_found(self.allocator(), self.captures_len(), found, cache)?;
+        Ok(Some(Captures::new(self, haystack, slots)))
+    }
+    /// The groups of the match that an attempt at one position of the haystack finds, or none.
+    pub(crate) fn capture_at<'r, S: Input>(
+        &'r self,
+        haystack: S,
+        request: Request,
+        position: usize,
+        cache: &mut Cache,
+    ) -> Result<Option<Captures<'r, S>>>
+        requires inside { request.range_end ≤ length (S.bytes haystack) }
+        requires suits { Suits (options_in self.now) (S.text haystack) (S.bytes haystack) }
+        requires starts { effective_start request ≤ position }
+        requires ends { position ≤ request.range_end }
+        ensures found { IfOk result (λ m. spans_if m ≡ groups_at (query self.now (S.bytes haystack) request) position) }
+        ensures within { IfOk result (λ m. IfSome m (λ c. searched_in c ≡ haystack)) }
+        ensures regex { IfOk result (λ m. IfSome m (λ c. found_by c ≡ self.now)) }
+        ensures refused { IfErr result (λ e. RefusesAt self.now (query self.now (S.bytes haystack) request) position e) }
+        ensures allowed { IfOk result (λ _. AllowsAt self.now (query self.now (S.bytes haystack) request) position) }
+    {
+        let mut work = Work::new();
+        let bytes = haystack.as_bytes();
+        let found = self
+            .program
+            .attempt_at(bytes, request, position, cache, &mut work)?;
         let Some(found) = found else {
             return Ok(None);
         };

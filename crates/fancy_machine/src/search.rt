@@ -109,8 +109,9 @@ pub fn search(
             cache,
             work,
         )?;
-        if found.is_some() {
-            return Ok(found);
+        match found {
+            Some(found) => return Ok(Some(found)),
+            None => {}
         }
     }
     Ok(None)
@@ -170,7 +171,7 @@ pub fn attempt_at(
 /// Makes one attempt at a position, where a match may begin there. No text past `range_end` is consumed, and no return is made
 /// past the limit, which bounds the count in `work`.
 fn try_position(
-    attempt: &Attempt,
+    attempts: &Attempt,
     position: usize,
     range_end: usize,
     limit: usize,
@@ -179,14 +180,14 @@ fn try_position(
     work: &mut Work,
 ) -> Result<Option<Found>, SearchRefusal>
     ghost q: { Query }
-    requires serves { Serves attempt.now q }
-    requires groups { q.sought.groups ≡ attempt.now.code.now.groups }
-    requires code { ∥ IsCodeOf q.sought.pattern attempt.now.code.now ∥₁ }
+    requires serves { Serves attempts.now q }
+    requires groups { q.sought.groups ≡ attempts.now.code.now.groups }
+    requires code { ∥ IsCodeOf q.sought.pattern attempts.now.code.now ∥₁ }
     requires range { range_end ≡ q.request.range_end }
-    requires inside { range_end ≤ length q.haystack }
-    requires ends { position ≤ range_end }
+    requires inside { q.request.range_end ≤ length q.haystack }
+    requires ends { position ≤ q.request.range_end }
     requires room { returns_of work.old ≤ limit }
-    requires last_lines { KnowsLastLines attempt.now.haystack.now last_lines.old }
+    requires last_lines { KnowsLastLines attempts.now.haystack.now last_lines.old }
     ensures answer { IfOk result (λ found. answer_with (groups_held cache.new) found ≡ attempt q position) }
     ensures count { IfOk result (λ _. returns_of work.new ≡ returns_of work.old + returns_at q position) }
     ensures refused { result ≡ Err SearchRefusal.Returns → limit < returns_of work.old + returns_at q position }
@@ -196,21 +197,22 @@ fn try_position(
     ensures returns { returns_of work.old ≤ returns_of work.new }
     ensures bounded { returns_of work.new ≤ returns_of work.old + returns_at q position }
     ensures paired { returns_of work.old ≤ steps_of work.old → returns_of work.new ≤ steps_of work.new }
-    ensures last_lines { KnowsLastLines attempt.now.haystack.now last_lines.new }
+    ensures last_lines { KnowsLastLines attempts.now.haystack.now last_lines.new }
     ensures crowded { result ≡ Err SearchRefusal.Choices → most_branches < choices_at q position }
 {
-    if !is_match_boundary(attempt.options.on_boundaries, attempt.haystack, position) {
+    if !is_match_boundary(attempts.options.on_boundaries, attempts.haystack, position) {
         return Ok(None);
     }
-    let code = attempt.code;
+    let code = attempts.code;
     let trail = &mut cache.trail;
     trail.begin(code.start, position, range_end, code.groups, MAX_BRANCHES)?;
-    if !attempt.run(trail, &mut cache.best, limit, last_lines, work)? {
-        return Ok(None);
+    let found = attempts.run(trail, &mut cache.best, limit, last_lines, work)?;
+    if found {
+        return Ok(Some(Found {
+            position,
+            start: trail.kept(),
+            end: trail.place(),
+        }));
     }
-    Ok(Some(Found {
-        position,
-        start: trail.kept(),
-        end: trail.place(),
-    }))
+    Ok(None)
 }

@@ -178,7 +178,7 @@ impl Program {
         requires inside { request.range_end ≤ length haystack.now }
         requires starts { effective_start request ≤ position }
         requires ends { position ≤ request.range_end }
-        requires room { HasRoomFor self.now request work.old }
+        requires room { HasRoomFor self.now (record request { start = position }) work.old }
         ensures answer { IfOk result
             (λ m. IsAttemptIn m cache.new (asked_of self.now haystack.now request true) position) }
         ensures ordered { IfFound result (λ f. f.start ≤ f.end) }
@@ -284,7 +284,7 @@ impl Program {
         requires ends { position ≤ request.range_end }
         requires of { p ≡ program_pattern self.now }
         requires hard { IsHardProgram self.now }
-        requires room { HasRoomFor self.now request work.old }
+        requires room { HasRoomFor self.now (record request { start = position }) work.old }
         ensures answer { IfOk result (λ m. IsAttemptIn m cache.new (asked_of self.now haystack.now request true) position) }
         ensures steps { steps_of work.old ≤ steps_of work.new }
         ensures returns { returns_of work.old ≤ returns_of work.new }
