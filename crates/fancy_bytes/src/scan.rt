@@ -70,6 +70,9 @@ impl Scan {
         ensures { MatchOption result (NoneSeenBefore self.now haystack.now from to)
             (IsNextSeen self.now haystack.now from to) }
     {
+        if from < to && self.set.contains(haystack[from]) {
+            return Some(from);
+        }
         match self.only {
             None => next_seen(&self.set, haystack, from, to),
             Some(byte) => match memchr(byte, &haystack[from..to]) {
