@@ -3,7 +3,7 @@ use Rattle.std.specs.Prelude.{ℕ}
 use Rattle.fancy_tree.specs.declared.error.Error.{Error}
 use Rattle.fancy_input.specs.declared.input.Request.{Request}
 use Rattle.fancy_engine.specs.Search.{Query}
-use Rattle.fancy_search.specs.SearchCounts.{IsHardProgram, RefusesQuery, AllowsQuery, step_bound}
+use Rattle.fancy_search.specs.SearchCounts.{IsHardProgram, RefusesQuery, AllowsQuery, RefusesAttempt, AllowsAttempt, step_bound}
 use Rattle.fancy_core.specs.declared.regex.Regex.{Regex}
 use Rattle.fancy_core.specs.Regexes.{program_in}
 
@@ -22,3 +22,11 @@ Refuses r q e = RefusesQuery (program_in r) q e
 -- A search for a hard pattern that is not refused takes no more returns than its limit allows.
 abbrev pub Allows : Regex → Query → Type 0
 Allows r q = AllowsQuery (program_in r) q
+
+-- The attempt at a position may be refused by this error: for want of memory at any time, and of a hard pattern past a limit.
+abbrev pub RefusesAt : Regex → Query → ℕ → Error → Type 0
+RefusesAt r q p e = RefusesAttempt (program_in r) q p e
+
+-- An attempt for a hard pattern that is not refused takes no more returns than its limit allows.
+abbrev pub AllowsAt : Regex → Query → ℕ → Type 0
+AllowsAt r q p = AllowsAttempt (program_in r) q p

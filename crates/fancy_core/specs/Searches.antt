@@ -5,7 +5,7 @@ use Rattle.fancy_input.specs.declared.regex_input.RegexInput.{RegexInput}
 use Rattle.fancy_input.specs.Inputs.{haystack_in, request_in}
 use Rattle.fancy_input.specs.Requests.{whole}
 use Rattle.fancy_input.specs.declared.span.Span.{Span}
-use Rattle.fancy_engine.specs.Search.{Query, search, span_of}
+use Rattle.fancy_engine.specs.Search.{Query, search, attempt, span_of}
 use Rattle.fancy_search.specs.declared.options.Options.{Options}
 use Rattle.fancy_core.specs.declared.regex.Regex.{Regex}
 use Rattle.fancy_search.specs.Groups.{spans_of}
@@ -41,6 +41,10 @@ FindsFirst span found q = option_map span found ≡ first_match q
 -- the spans of the groups of that match
 abbrev pub first_groups : Query → Option (List (Option Span))
 first_groups q = option_map (spans_of q.sought.groups) (search q)
+
+-- the spans of the groups of the match that an attempt at p finds
+abbrev pub groups_of_attempt : Query → ℕ → Option (List (Option Span))
+groups_of_attempt q p = option_map (spans_of q.sought.groups) (attempt q p)
 
 -- the matches that a request has one after the other; `text` says whether the haystack is text
 abbrev pub matches_of : Regex → Bool → List ℕ → Request → List MatchItem

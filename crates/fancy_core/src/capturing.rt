@@ -2,13 +2,13 @@
 
 ghost use Rattle.std.specs.Prelude.{◌≡◌, ◌≤◌, ◌↔◌, None, Some, IfOk, IfErr, IfSome, map, option_map, length};
 ghost use Rattle.fancy_input.specs.Inputs.{haystack_in, request_in};
-ghost use Rattle.fancy_input.specs.Requests.{whole};
+ghost use Rattle.fancy_input.specs.Requests.{whole, effective_start};
 ghost use Rattle.fancy_engine.specs.Search.{search};
 ghost use Rattle.fancy_engine.specs.Answers.{HasNone};
 ghost use Rattle.fancy_core.specs.Captures.{spans_if, searched_in, found_by};
-ghost use Rattle.fancy_core.specs.Limited.{Refuses, Allows};
+ghost use Rattle.fancy_core.specs.Limited.{Refuses, Allows, RefusesAt, AllowsAt};
 ghost use Rattle.fancy_core.specs.Regexes.{options_in, group_count_in, query};
-ghost use Rattle.fancy_core.specs.Searches.{CanSearchInput, asked_whole, asked_from, asked_by, first_groups};
+ghost use Rattle.fancy_core.specs.Searches.{CanSearchInput, asked_whole, asked_from, asked_by, first_groups, groups_of_attempt};
 ghost use Rattle.fancy_search.specs.Searching.{Suits, StartsCleanly};
 
 use crate::captures::Captures;
@@ -80,6 +80,38 @@ impl Regex {
         Ok(found)
     }
 
+    /// The groups of the match that an attempt at one position finds, or none; the position is a byte offset, from the
+    /// effective start of the input to the end of its range. No other position is tried, whether the input is anchored or not,
+    /// and `\G` holds at the effective start.
+    ///
+    /// ```text
+    /// let regex = Regex::new(alloc, "(\\Ga|b)c")?;
+    /// let input = RegexInput::new("acbc");
+    /// regex.attempt_at(input.again(), 0, &mut cache)   // 0..2, group 1 0..1
+    /// regex.attempt_at(input.again(), 1, &mut cache)   // None
+    /// regex.attempt_at(input.again(), 2, &mut cache)   // 2..4, group 1 2..3
+    /// ```
+    ///
+    /// It is refused as [`Regex::find_input`] is, for what the attempt takes.
+    pub fn attempt_at<'r, S: Input>(
+        &'r self,
+        input: RegexInput<S>,
+        position: usize,
+        cache: &mut Cache,
+    ) -> Result<Option<Captures<'r, S>>>
+        requires searched { CanSearchInput S.text S.bytes (options_in self.now) input }
+        requires starts { effective_start (request_in input) ≤ position }
+        requires ends { position ≤ (request_in input).range_end }
+        ensures found { IfOk result (λ m. spans_if m ≡ groups_of_attempt (asked_by self.now S.bytes input) position) }
+        ensures within { IfOk result (λ m. IfSome m (λ c. searched_in c ≡ haystack_in input)) }
+        ensures regex { IfOk result (λ m. IfSome m (λ c. found_by c ≡ self.now)) }
+        ensures refused { IfErr result (λ e. RefusesAt self.now (asked_by self.now S.bytes input) position e) }
+        ensures allowed { IfOk result (λ _. AllowsAt self.now (asked_by self.now S.bytes input) position) }
+    {
+        let found = self.capture_at(input.haystack(), input.request(), position, cache)?;
+        Ok(found)
+    }
+
     /// The groups of the first match in the haystack that the request asks for, or none.
     pub(crate) fn capture<'r, S: Input>(
         &'r self,
@@ -99,6 +131,35 @@ impl Regex {
         let found = self
             .program
             .search(haystack.as_bytes(), request, true, cache, &mut work)?;
+        let Some(found) = found else {
+            return Ok(None);
+        };
+        let slots = groups_found(self.allocator(), self.captures_len(), found, cache)?;
+        Ok(Some(Captures::new(self, haystack, slots)))
+    }
+    /// The groups of the match that an attempt at one position of the haystack finds, or none.
+    pub(crate) fn capture_at<'r, S: Input>(
+        &'r self,
+        haystack: S,
+        request: Request,
+        position: usize,
+        cache: &mut Cache,
+    ) -> Result<Option<Captures<'r, S>>>
+        requires inside { request.range_end ≤ length (S.bytes haystack) }
+        requires suits { Suits (options_in self.now) (S.text haystack) (S.bytes haystack) }
+        requires starts { effective_start request ≤ position }
+        requires ends { position ≤ request.range_end }
+        ensures found { IfOk result (λ m. spans_if m ≡ groups_of_attempt (query self.now (S.bytes haystack) request) position) }
+        ensures within { IfOk result (λ m. IfSome m (λ c. searched_in c ≡ haystack)) }
+        ensures regex { IfOk result (λ m. IfSome m (λ c. found_by c ≡ self.now)) }
+        ensures refused { IfErr result (λ e. RefusesAt self.now (query self.now (S.bytes haystack) request) position e) }
+        ensures allowed { IfOk result (λ _. AllowsAt self.now (query self.now (S.bytes haystack) request) position) }
+    {
+        let mut work = Work::new();
+        let bytes = haystack.as_bytes();
+        let found = self
+            .program
+            .attempt_at(bytes, request, position, cache, &mut work)?;
         let Some(found) = found else {
             return Ok(None);
         };

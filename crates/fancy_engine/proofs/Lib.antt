@@ -20,6 +20,7 @@ pub mod RunnerLemmas
 pub mod Keeps
 pub mod EasyContinues
 pub mod RunnerSearch
+pub mod AttemptLemmas
 pub mod CodeLemmas
 pub mod InstructionLemmas
 pub mod CompileLemmas

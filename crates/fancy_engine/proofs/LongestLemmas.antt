@@ -86,7 +86,8 @@ if_true : (b : Bool) (x y : Option State) → b ≡ true → (if b then x else y
 if_true true x y e = refl
 if_true false x y e = absurd (true≢false (sym e))
 
-longest_answer_at : (q : Query) (p : ℕ) (s : State) → q.sought.longest ≡ true → answer_at q p ≡ Some s → IsLongestAccepted q p s
+-- at a position too
+pub longest_answer_at : (q : Query) (p : ℕ) (s : State) → q.sought.longest ≡ true → answer_at q p ≡ Some s → IsLongestAccepted q p s
 unfolding answer_at
 longest_answer_at q p s long e =
     let f = longest_of (accepted q p) (outcomes_at q p) s (sym (if_true q.sought.longest _ _ long) ∙ e) in

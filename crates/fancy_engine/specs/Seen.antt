@@ -1,5 +1,5 @@
 -- Which bytes stand in a haystack, at one place or at any, and which stand where an outcome began.
-use Rattle.std.specs.Prelude.{◌≡◌, ℕ, ◌<◌, ◌≤◌, Bool, true, false, ◌⊎◌, List, Option, Some, None, length, slice_get, slice_index}
+use Rattle.std.specs.Prelude.{◌≡◌, ℕ, ◌+◌, ◌<◌, ◌≤◌, Bool, true, false, ◌⊎◌, List, Option, Some, None, length, slice_get, slice_index}
 use Rattle.fancy_bytes.specs.Sets.{ByteFlags, member}
 use Rattle.fancy_engine.specs.Context.{State}
 
@@ -31,8 +31,8 @@ MayNotStart (Some set) haystack p = p < length haystack → member set (slice_in
 abbrev pub NoneMayStart : Option ByteFlags → List ℕ → ℕ → ℕ → Type 0
 NoneMayStart starts haystack from to = (p : ℕ) → from ≤ p → p < to → MayNotStart starts haystack p
 
--- p is the first place, from the one on and up to the other, where a match may start
-pub record IsNextStart (starts : Option ByteFlags) (haystack : List ℕ) (from last p : ℕ) : Type 0 where
+-- p is the first place, from the one on and up to the other, where a match may start, or past both where none may
+pub record IsNextCandidate (starts : Option ByteFlags) (haystack : List ℕ) (from last p : ℕ) : Type 0 where
   pub passed : from ≤ p
-  pub within : p ≤ last
+  pub within : p ≤ last + 1
   pub none : NoneMayStart starts haystack from p

@@ -1,12 +1,12 @@
 //! Searches by the runner: their time is bounded by the product of the code's length and the text's.
 
-ghost use Rattle.std.specs.Prelude.{◌≡◌, ◌+◌, ◌-◌, ◌*◌, ◌^◌, ◌<◌, ◌≤◌, Bool, false, [], length, replicate, slice_index_or, IfOk, IfErr, OnOk, MatchOption};
+ghost use Rattle.std.specs.Prelude.{◌≡◌, ◌+◌, ◌-◌, ◌*◌, ◌^◌, ◌<◌, ◌≤◌, Bool, false, [], length, replicate, slice_index_or, IfOk, IfErr, OnOk};
 ghost use Rattle.fancy_tree.specs.Pattern.{Pattern};
 ghost use Rattle.fancy_engine.specs.Code.{instrs_of};
 ghost use Rattle.fancy_engine.specs.Attempt.{pairs_in};
 ghost use Rattle.fancy_engine.specs.Compile.{IsCodeOf, AreEasy};
 ghost use Rattle.fancy_engine.specs.Search.{search};
-ghost use Rattle.fancy_engine.specs.Seen.{NoneMayStart, IsNextStart};
+ghost use Rattle.fancy_engine.specs.Seen.{IsNextCandidate};
 ghost use Rattle.fancy_engine.specs.Queries.{query_of, unfiltered, groups_in, answer_with, most_steps};
 ghost use Rattle.fancy_engine.specs.Work.{steps_of, returns_of, HasRoom};
 
@@ -67,19 +67,23 @@ fn begin_table(table: &mut Table, attempt: &Attempt) -> Result<(), SearchRefusal
     Ok(())
 }
 
-/// The first position, from the one on and up to the last, at which a match of the code may start.
-fn next_start(code: &Code, haystack: &[u8], from: usize, last: usize) -> Option<usize>
-    requires ordered { from ≤ last }
+/// The first position, from the one on and up to the last, at which a match of the code may start; past the last where
+/// none may.
+fn next_candidate(code: &Code, haystack: &[u8], from: usize, last: usize) -> usize
+    requires ordered { from ≤ last + 1 }
     requires inside { last ≤ length haystack.now }
-    ensures { MatchOption result (NoneMayStart code.now.start_bytes haystack.now from (last + 1))
-        (IsNextStart code.now.start_bytes haystack.now from last) }
+    ensures { IsNextCandidate code.now.start_bytes haystack.now from last result }
 {
-    match &code.start_bytes {
-        None => Some(from),
-        Some(scan) => {
-            let end = (last + 1).min(haystack.len());
-            scan.next_seen(haystack, from, end)
-        }
+    let Some(scan) = &code.start_bytes else {
+        return from;
+    };
+    let end = (last + 1).min(haystack.len());
+    if from > end {
+        return from;
+    }
+    match scan.next_seen(haystack, from, end) {
+        Some(place) => place,
+        None => last + 1,
     }
 }
 
@@ -119,9 +123,10 @@ pub fn search(
         return Ok(None);
     }
     let last = request.last_position();
-    let Some(mut next) = next_start(code, haystack, first, last) else {
+    let mut place = next_candidate(code, haystack, first, last);
+    if place > last {
         return Ok(None);
-    };
+    }
     let attempt = Attempt {
         code,
         haystack,
@@ -134,23 +139,19 @@ pub fn search(
     let table = &mut cache.table;
     begin_table(table, &attempt)?;
     let mut last_lines = LastLines::new(haystack);
-    while next <= last {
-        let Some(place) = next_start(code, haystack, next, last) else {
-            return Ok(None);
-        };
-        next = place + 1;
-        if !is_match_boundary(options.on_boundaries, haystack, place) {
-            continue;
+    while place <= last {
+        if is_match_boundary(options.on_boundaries, haystack, place) {
+            threads.begin(code.start, place, code.groups, usize::MAX)?;
+            if follow(&attempt, threads, table, &mut last_lines, work)? {
+                let end = threads.place();
+                return Ok(Some(Found {
+                    position: place,
+                    start: place,
+                    end,
+                }));
+            }
         }
-        threads.begin(code.start, place, code.groups, usize::MAX)?;
-        if follow(&attempt, threads, table, &mut last_lines, work)? {
-            let end = threads.place();
-            return Ok(Some(Found {
-                position: place,
-                start: place,
-                end,
-            }));
-        }
+        place = next_candidate(code, haystack, place + 1, last);
     }
     Ok(None)
 }

@@ -1,6 +1,6 @@
 -- An attempt at a position, and the positions of a search by the machine.
 use Rattle.std.proofs.Common.{◌≡◌, ℕ, suc, ◌+◌, ◌≤◌, nat_lt, ltb-true, ltb-false, lt-ltb, le-ltb, true≢false, Bool, true, false, not, ◌&&◌, ◌||◌, ◌==◌, List, [], ◌∷◌, ◌++◌, filter, length, map, replicate, Option, Some, None, refl, sym, ap, ap₂, ◌∙◌, subst, arith}
-use Rattle.std.specs.Prelude.{if◌then◌else◌, is_some}
+use Rattle.std.specs.Prelude.{if◌then◌else◌, is_some, option_map}
 use Rattle.std.proofs.lemmas.List.{length-replicate, append-nil}
 use Rattle.std.proofs.Math.Logic.{∥∥₁_elim}
 use Rattle.std.proofs.Props.{props}
@@ -17,8 +17,9 @@ use Rattle.fancy_engine.specs.Events.{Event, mark, return, outcome, outcomes_in,
 use Rattle.fancy_engine.specs.Trace.{trace, outcomes}
 use Rattle.fancy_engine.specs.Run.{Raw, Given, run}
 use Rattle.fancy_engine.specs.Compile.{IsCodeOf, depth}
-use Rattle.fancy_engine.specs.Search.{Query, context_of, initial, trace_at, outcomes_at, is_match_boundary, accepted, first_one, further, longest_one, answer_at, before_accepted, gone_through, gone_from}
+use Rattle.fancy_engine.specs.Search.{Query, context_of, initial, trace_at, outcomes_at, is_match_boundary, accepted, first_one, further, longest_one, Answer, answer_at, attempt, before_accepted, gone_through, gone_at, gone_from, returns_at, choices_at}
 use Rattle.fancy_engine.specs.Threads.{empty_slot, slot_span, slot_from}
+use Rattle.fancy_engine.proofs.AttemptLemmas.{attempt_some, attempt_none}
 use Rattle.fancy_engine.proofs.SearchLemmas.{is-accepted, is-no_answer}
 use Rattle.fancy_engine.proofs.ThreadsLemmas.{map-replicate}
 use Rattle.fancy_engine.proofs.WholeCode.{Whole, program_gives}
@@ -194,22 +195,44 @@ module _ (q : Query) (a : Attempt) (is : IsCodeOf q.sought.pattern a.code.now) (
     unfolding gone_through
     through = ap (λ (b : Bool). if b then trace_at q p else before_accepted (accepted q p) (trace_at q p)) serves.longest
 
-    pub returns_at : returns_to (final a.options.longest (accepts a)) (trace_at q p) ≡ returns_in (gone_through q p)
-    returns_at = returns_is (accepts a) (accepted q p) (accepts_is p may) a.options.longest (trace_at q p) ∙ ap returns_in through
+    pub returns_here : returns_to (final a.options.longest (accepts a)) (trace_at q p) ≡ returns_in (gone_through q p)
+    returns_here = returns_is (accepts a) (accepted q p) (accepts_is p may) a.options.longest (trace_at q p) ∙ ap returns_in through
 
-    pub marks_at : marks_to (final a.options.longest (accepts a)) (trace_at q p) ≡ marks_in (gone_through q p)
-    marks_at = marks_is (accepts a) (accepted q p) (accepts_is p may) a.options.longest (trace_at q p) ∙ ap marks_in through
+    pub marks_here : marks_to (final a.options.longest (accepts a)) (trace_at q p) ≡ marks_in (gone_through q p)
+    marks_here = marks_is (accepts a) (accepted q p) (accepts_is p may) a.options.longest (trace_at q p) ∙ ap marks_in through
+
+-- what an attempt at p alone finds and goes through
+module _ (q : Query) (p : ℕ) where
+  pub through_here : admits q p ≡ true → gone_at q p ≡ gone_through q p
+  through_here may = ap (λ (b : Bool). if b then gone_through q p else []) may
+
+  pub nothing_here : admits q p ≡ false → gone_at q p ≡ []
+  nothing_here may = ap (λ (b : Bool). if b then gone_through q p else []) may
+
+  pub taken_here : (s : State) → answer_at q p ≡ Some s → attempt q p ≡ Some (record { position = p; state = s })
+  taken_here s h = ap (option_map (λ (t : State). answer_of t)) h where
+    answer_of : State → Answer
+    answer_of t = record { position = p; state = t }
+
+  pub missed_here : answer_at q p ≡ None → attempt q p ≡ None
+  missed_here h = ap (option_map (λ (t : State). answer_of t)) h where
+    answer_of : State → Answer
+    answer_of t = record { position = p; state = t }
 
 IsKnown-prop : (o : Option (List Raw)) → IsProp (IsKnown o)
 IsKnown-prop None = ⊥_prop
 IsKnown-prop (Some w) = Unit-prop
 
+-- the machine tests as the query does whether a match may begin at p
+pub admits_is : (q : Query) (a : Attempt) → Serves a q → (p : ℕ) → is_match_boundary a.options.on_boundaries a.haystack.now p ≡ admits q p
+admits_is q a serves p = ap₂ (λ (b : Bool) (h : List ℕ). is_match_boundary b h p) serves.on_boundaries (served_text q a serves)
+
 -- What an attempt at p finds and counts, which begins at x.
 pub record Begun (q : Query) (a : Attempt) (p : ℕ) (x : Spot) : Type 0 where
   pub known : IsKnown (after (code_in a (deep_in q)) x)
   pub answer : outcome_from a (deep_in q) x ≡ answer_at q p
-  pub returns : returns_from a (deep_in q) x ≡ returns_in (gone_through q p)
-  pub marks : marks_from a (deep_in q) x ≡ marks_in (gone_through q p)
+  pub returns : returns_from a (deep_in q) x ≡ returns_at q p
+  pub marks : marks_from a (deep_in q) x ≡ choices_at q p
 
 -- nothing is found at a position where no match may begin
 pub nothing_admitted : (q : Query) (p : ℕ) → admits q p ≡ false → answer_at q p ≡ None
@@ -228,25 +251,34 @@ module _ (q : Query) (a : Attempt) (some : ∥ IsCodeOf q.sought.pattern a.code.
   begun_from = record {
     known = ∥∥₁_elim some (IsKnown-prop _) (λ is. (begins is).0);
     answer = ∥∥₁_elim some (hlevel props) (λ is. ap (taken_outcome a.options.longest (accepts a) None) (begins is).1 ∙ answer_is q a is groups inside serves p may);
-    returns = ∥∥₁_elim some (hlevel props) (λ is. ap (returns_to (final a.options.longest (accepts a))) (begins is).1 ∙ returns_at q a is groups inside serves p may);
-    marks = ∥∥₁_elim some (hlevel props) (λ is. ap (marks_to (final a.options.longest (accepts a))) (begins is).1 ∙ marks_at q a is groups inside serves p may);
+    returns = ∥∥₁_elim some (hlevel props) (λ is. ap (returns_to (final a.options.longest (accepts a))) (begins is).1 ∙ returns_here q a is groups inside serves p may ∙ sym (ap returns_in (through_here q p may)));
+    marks = ∥∥₁_elim some (hlevel props) (λ is. ap (marks_to (final a.options.longest (accepts a))) (begins is).1 ∙ marks_here q a is groups inside serves p may ∙ sym (ap marks_in (through_here q p may)));
   }
+
+-- what the attempt at a position i is asked
+pub record IsAsked (q : Query) (a : Attempt) (range_end i : ℕ) : Type 0 where
+  pub serves : Serves a q
+  pub groups : q.sought.groups ≡ a.code.now.groups
+  pub coded : ∥ IsCodeOf q.sought.pattern a.code.now ∥₁
+  pub range : range_end ≡ q.request.range_end
+  pub inside : q.request.range_end ≤ length q.haystack
+  pub ends : i ≤ q.request.range_end
 
 -- what is asked stands in the arguments of a search
 module _ (q : Query) (p : Pattern) (code : Code) (options : SearchOptions) (haystack : List ℕ) (request : Request) (continues : Bool) (is : q ≡ query_of p code options haystack request continues) where
   pub asked_request : q.request ≡ request
   asked_request = ap (λ (r : Query). r.request) is
 
-  pub begun_at : (a : Attempt) → a.code.now ≡ code → ((p : Pattern) → Serves a (query_of p code options haystack request continues)) → ∥ IsCodeOf p code ∥₁ → request.range_end ≤ length haystack
-      → (i : ℕ) → admits q i ≡ true → (x : Spot) → x ≡ spot_of code.start request.range_end i i (replicate code.groups empty_slot) → i ≤ request.range_end → Begun q a i x
-  begun_at a same serves some inside i may x stands le =
-      subst (λ (r : Query). Begun r a i x) (sym is)
-      (begun_from (query_of p code options haystack request continues) a (subst (λ (c : Code). ∥ IsCodeOf p c ∥₁) (sym same) some) (ap (λ (c : Code). c.groups) (sym same)) inside (serves p) i
-      (subst (λ (r : Query). admits r i ≡ true) is may) x
-      (subst (λ (c : Code). x ≡ spot_of c.start request.range_end i i (replicate c.groups empty_slot)) (sym same) stands) le)
-
-  pub served : (a : Attempt) → ((p : Pattern) → Serves a (query_of p code options haystack request continues)) → Serves a q
-  served a serves = subst (Serves a) (sym is) (serves p)
+  pub is_asked : (a : Attempt) → a.code.now ≡ code → ((p : Pattern) → Serves a (query_of p code options haystack request continues)) → ∥ IsCodeOf q.sought.pattern code ∥₁
+      → request.range_end ≤ length haystack → (i : ℕ) → i ≤ request.range_end → IsAsked q a request.range_end i
+  is_asked a same serves some inside i to = record {
+    serves = subst (Serves a) (sym is) (serves p);
+    groups = ap (λ (r : Query). r.sought.groups) is ∙ ap (λ (c : Code). c.groups) (sym same);
+    coded = subst (λ (c : Code). ∥ IsCodeOf q.sought.pattern c ∥₁) (sym same) some;
+    range = sym (ap (λ (r : Request). r.range_end) asked_request);
+    inside = subst (λ (r : Query). r.request.range_end ≤ length r.haystack) (sym is) inside;
+    ends = subst (λ (r : Query). i ≤ r.request.range_end) (sym is) to;
+  }
 
 returns-append : (a b : List Event) → returns_in (a ++ b) ≡ returns_in a + returns_in b
 returns-append [] b = omega arith
@@ -260,37 +292,35 @@ marks-append (mark ∷ a) b = omega (arith, marks-append a b)
 marks-append (return ∷ a) b = marks-append a b
 marks-append (outcome s ∷ a) b = marks-append a b
 
+always : (b : Bool) (es : List Event) → (if b && true then es else []) ≡ (if b then es else [])
+always true es = refl
+always false es = refl
+
+-- the search over n positions goes through the attempt at p first
 module _ (q : Query) (n m p : ℕ) (e : n ≡ suc m) where
-  unrolled : gone_from q all_tried n p ≡ (if admits q p && true then gone_through q p else []) ++ (if is_some (answer_at q p) then [] else gone_from q all_tried m (p + 1))
+  unrolled : gone_from q all_tried n p ≡ gone_at q p ++ (if is_some (answer_at q p) then [] else gone_from q all_tried m (p + 1))
   unfolding gone_from
-  unrolled = subst (λ (j : ℕ). gone_from q all_tried j p ≡ (if admits q p && true then gone_through q p else []) ++ (if is_some (answer_at q p) then [] else gone_from q all_tried m (p + 1))) (sym e) refl
+  unrolled =
+      subst (λ (j : ℕ). gone_from q all_tried j p ≡ (if admits q p && true then gone_through q p else []) ++ (if is_some (answer_at q p) then [] else gone_from q all_tried m (p + 1))) (sym e) refl
+      ∙ ap (λ (es : List Event). es ++ (if is_some (answer_at q p) then [] else gone_from q all_tried m (p + 1))) (always (admits q p) (gone_through q p))
 
-  pub gone_skip : admits q p ≡ false → answer_at q p ≡ None → gone_from q all_tried n p ≡ gone_from q all_tried m (p + 1)
-  gone_skip may none =
-      unrolled ∙ ap₂ (λ (b : Bool) (o : Option State). (if b && true then gone_through q p else []) ++ (if is_some o then [] else gone_from q all_tried m (p + 1))) may none
+  pub gone_hit : (a : Answer) → attempt q p ≡ Some a → gone_from q all_tried n p ≡ gone_at q p
+  gone_hit a some =
+      unrolled ∙ ap (λ (o : Option State). gone_at q p ++ (if is_some o then [] else gone_from q all_tried m (p + 1))) (attempt_some q p a some).0
+      ∙ append-nil (gone_at q p)
 
-  pub gone_miss : admits q p ≡ true → answer_at q p ≡ None → gone_from q all_tried n p ≡ gone_through q p ++ gone_from q all_tried m (p + 1)
-  gone_miss may none =
-      unrolled ∙ ap₂ (λ (b : Bool) (o : Option State). (if b && true then gone_through q p else []) ++ (if is_some o then [] else gone_from q all_tried m (p + 1))) may none
-
-  pub gone_hit : (s : State) → admits q p ≡ true → answer_at q p ≡ Some s → gone_from q all_tried n p ≡ gone_through q p
-  gone_hit s may some =
-      unrolled ∙ ap₂ (λ (b : Bool) (o : Option State). (if b && true then gone_through q p else []) ++ (if is_some o then [] else gone_from q all_tried m (p + 1))) may some
-      ∙ append-nil (gone_through q p)
-
-  -- the attempt at p is among what the search goes through
-  pub gone_more : admits q p ≡ true → (returns_in (gone_through q p) ≤ returns_in (gone_from q all_tried n p)) × (marks_in (gone_through q p) ≤ marks_in (gone_from q all_tried n p))
-  gone_more may =
+  pub gone_more : (returns_at q p ≤ returns_in (gone_from q all_tried n p)) × (choices_at q p ≤ marks_in (gone_from q all_tried n p))
+  gone_more =
       let rest = if is_some (answer_at q p) then [] else gone_from q all_tried m (p + 1) in
-      let u : gone_from q all_tried n p ≡ gone_through q p ++ rest = unrolled ∙ ap (λ (b : Bool). (if b && true then gone_through q p else []) ++ rest) may in
-      (omega (arith, ap returns_in u, returns-append (gone_through q p) rest), omega (arith, ap marks_in u, marks-append (gone_through q p) rest))
+      (omega (arith, ap returns_in unrolled, returns-append (gone_at q p) rest), omega (arith, ap marks_in unrolled, marks-append (gone_at q p) rest))
 
-  pub gone_counts : admits q p ≡ true → answer_at q p ≡ None
-      → (returns_in (gone_from q all_tried n p) ≡ returns_in (gone_through q p) + returns_in (gone_from q all_tried m (p + 1)))
-      × (marks_in (gone_from q all_tried n p) ≡ marks_in (gone_through q p) + marks_in (gone_from q all_tried m (p + 1)))
-  gone_counts may none =
-      let u = gone_miss may none in
-      (ap returns_in u ∙ returns-append (gone_through q p) (gone_from q all_tried m (p + 1)), ap marks_in u ∙ marks-append (gone_through q p) (gone_from q all_tried m (p + 1)))
+  pub gone_counts : attempt q p ≡ None
+      → (returns_in (gone_from q all_tried n p) ≡ returns_at q p + returns_in (gone_from q all_tried m (p + 1)))
+      × (marks_in (gone_from q all_tried n p) ≡ choices_at q p + marks_in (gone_from q all_tried m (p + 1)))
+  gone_counts none =
+      let u : gone_from q all_tried n p ≡ gone_at q p ++ gone_from q all_tried m (p + 1) =
+      unrolled ∙ ap (λ (o : Option State). gone_at q p ++ (if is_some o then [] else gone_from q all_tried m (p + 1))) (attempt_none q p none) in
+      (ap returns_in u ∙ returns-append (gone_at q p) (gone_from q all_tried m (p + 1)), ap marks_in u ∙ marks-append (gone_at q p) (gone_from q all_tried m (p + 1)))
 
 pub gone_over : (q : Query) (n p : ℕ) → n ≡ 0 → gone_from q all_tried n p ≡ []
 unfolding gone_from

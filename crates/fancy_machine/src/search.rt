@@ -3,10 +3,12 @@
 ghost use Rattle.std.specs.Prelude.{◌≡◌, ◌+◌, ◌-◌, ◌<◌, ◌≤◌, [], Option, Some, None, Err, IfOk, length, slice_index_or};
 ghost use Rattle.fancy_tree.specs.Limits.{most_branches};
 ghost use Rattle.fancy_engine.specs.Compile.{IsCodeOf};
-ghost use Rattle.fancy_engine.specs.Search.{Query, search, returns, choices};
+ghost use Rattle.fancy_input.specs.LastLines.{KnowsLastLines};
+ghost use Rattle.fancy_input.specs.Requests.{effective_start};
+ghost use Rattle.fancy_engine.specs.Search.{Query, search, attempt, returns, choices, returns_at, choices_at};
 ghost use Rattle.fancy_engine.specs.Work.{steps_of, returns_of, HasRoom};
 ghost use Rattle.fancy_engine.specs.Queries.{query_of, answer_with};
-ghost use Rattle.fancy_machine.specs.Asked.{groups_held, all_tried};
+ghost use Rattle.fancy_machine.specs.Asked.{Serves, groups_held, all_tried};
 
 use crate::attempt::Attempt;
 use crate::best::Best;
@@ -94,32 +96,123 @@ pub fn search(
         return Ok(None);
     }
     let attempt = Attempt::new(code, haystack, request, options, continues);
-    let trail = &mut cache.trail;
-    let best = &mut cache.best;
     let limit = work.returns() + options.backtrack_limit;
     let last = request.last_position();
     let mut last_lines = LastLines::new(attempt.haystack);
     for place in first..last + 1 {
-        if !is_match_boundary(options.on_boundaries, haystack, place) {
-            continue;
-        }
-        trail.begin(
-            code.start,
+        let found = try_position(
+            &attempt,
             place,
             request.range_end,
-            code.groups,
-            MAX_BRANCHES,
+            limit,
+            &mut last_lines,
+            cache,
+            work,
         )?;
-        let found = attempt.run(trail, best, limit, &mut last_lines, work)?;
-        if found {
-            let start = trail.kept();
-            let end = trail.place();
-            return Ok(Some(Found {
-                position: place,
-                start,
-                end,
-            }));
+        match found {
+            Some(found) => return Ok(Some(found)),
+            None => {}
         }
+    }
+    Ok(None)
+}
+
+/// Makes one attempt alone, at a position from the effective start on. What is found is what [`search`] would take at this
+/// position, whatever stands at the positions before: `\G` holds at the effective start of the request.
+///
+/// What is done is added to the counts of `work`, as by [`search`].
+///
+/// # Errors
+///
+/// As those of [`search`], of this attempt alone.
+pub fn attempt_at(
+    code: &Code,
+    haystack: &[u8],
+    request: Request,
+    options: SearchOptions,
+    continues: bool,
+    position: usize,
+    cache: &mut Cache,
+    work: &mut Work,
+) -> Result<Option<Found>, SearchRefusal>
+    ghost q: { Query }
+    requires query { q ≡ query_of q.sought.pattern code.now options haystack.now request continues }
+    requires code { ∥ IsCodeOf q.sought.pattern code.now ∥₁ }
+    requires inside { request.range_end ≤ length haystack.now }
+    requires starts { effective_start request ≤ position }
+    requires ends { position ≤ request.range_end }
+    requires room { HasRoom (returns_of work.old) options.backtrack_limit }
+    ensures answer { IfOk result (λ found. answer_with (groups_held cache.new) found ≡ attempt q position) }
+    ensures count { IfOk result (λ _. returns_of work.new ≡ returns_of work.old + returns_at q position) }
+    ensures refused { result ≡ Err SearchRefusal.Returns → options.backtrack_limit < returns_at q position }
+    ensures stopped { result ≡ Err SearchRefusal.Returns
+        → returns_of work.new ≡ returns_of work.old + options.backtrack_limit }
+    ensures fits { returns_of work.new ≤ returns_of work.old + options.backtrack_limit }
+    ensures steps { steps_of work.old ≤ steps_of work.new }
+    ensures returns { returns_of work.old ≤ returns_of work.new }
+    ensures bounded { returns_of work.new ≤ returns_of work.old + returns_at q position }
+    ensures paired { returns_of work.old ≤ steps_of work.old → returns_of work.new ≤ steps_of work.new }
+    ensures crowded { result ≡ Err SearchRefusal.Choices → most_branches < choices_at q position }
+{
+    let attempt = Attempt::new(code, haystack, request, options, continues);
+    let limit = work.returns() + options.backtrack_limit;
+    let mut last_lines = LastLines::new(attempt.haystack);
+    try_position(
+        &attempt,
+        position,
+        request.range_end,
+        limit,
+        &mut last_lines,
+        cache,
+        work,
+    )
+}
+
+/// Makes one attempt at a position, where a match may begin there. No text past `range_end` is consumed, and no return is made
+/// past the limit, which bounds the count in `work`.
+fn try_position(
+    attempts: &Attempt,
+    position: usize,
+    range_end: usize,
+    limit: usize,
+    last_lines: &mut LastLines,
+    cache: &mut Cache,
+    work: &mut Work,
+) -> Result<Option<Found>, SearchRefusal>
+    ghost q: { Query }
+    requires serves { Serves attempts.now q }
+    requires groups { q.sought.groups ≡ attempts.now.code.now.groups }
+    requires code { ∥ IsCodeOf q.sought.pattern attempts.now.code.now ∥₁ }
+    requires range { range_end ≡ q.request.range_end }
+    requires inside { q.request.range_end ≤ length q.haystack }
+    requires ends { position ≤ q.request.range_end }
+    requires room { returns_of work.old ≤ limit }
+    requires last_lines { KnowsLastLines attempts.now.haystack.now last_lines.old }
+    ensures answer { IfOk result (λ found. answer_with (groups_held cache.new) found ≡ attempt q position) }
+    ensures count { IfOk result (λ _. returns_of work.new ≡ returns_of work.old + returns_at q position) }
+    ensures refused { result ≡ Err SearchRefusal.Returns → limit < returns_of work.old + returns_at q position }
+    ensures stopped { result ≡ Err SearchRefusal.Returns → returns_of work.new ≡ limit }
+    ensures fits { returns_of work.new ≤ limit }
+    ensures steps { steps_of work.old ≤ steps_of work.new }
+    ensures returns { returns_of work.old ≤ returns_of work.new }
+    ensures bounded { returns_of work.new ≤ returns_of work.old + returns_at q position }
+    ensures paired { returns_of work.old ≤ steps_of work.old → returns_of work.new ≤ steps_of work.new }
+    ensures last_lines { KnowsLastLines attempts.now.haystack.now last_lines.new }
+    ensures crowded { result ≡ Err SearchRefusal.Choices → most_branches < choices_at q position }
+{
+    if !is_match_boundary(attempts.options.on_boundaries, attempts.haystack, position) {
+        return Ok(None);
+    }
+    let code = attempts.code;
+    let trail = &mut cache.trail;
+    trail.begin(code.start, position, range_end, code.groups, MAX_BRANCHES)?;
+    let found = attempts.run(trail, &mut cache.best, limit, last_lines, work)?;
+    if found {
+        return Ok(Some(Found {
+            position,
+            start: trail.kept(),
+            end: trail.place(),
+        }));
     }
     Ok(None)
 }

@@ -10,12 +10,12 @@ use Rattle.fancy_input.specs.Places.{is_boundary}
 use Rattle.fancy_input.specs.declared.input.Request.{Request}
 use Rattle.fancy_input.specs.declared.span.Span.{Span}
 use Rattle.fancy_engine.specs.Context.{group_span}
-use Rattle.fancy_engine.specs.Search.{Query, search, span_of}
+use Rattle.fancy_engine.specs.Search.{Query, search, attempt, span_of}
 use Rattle.fancy_engine.specs.declared.found.Found.{Found}
 use Rattle.fancy_search.specs.declared.cache.Cache.{Cache}
 use Rattle.fancy_search.specs.Cached.{found_at}
 use Rattle.fancy_engine.specs.Placed.{has_keep_start_in_look_around, any_place, LiesWithin, KeepsBoundaries, by_characters, of_ascii, reads_characters}
-use Rattle.fancy_engine.proofs.FoundLemmas.{answer_within, answer_on_boundaries}
+use Rattle.fancy_engine.proofs.FoundLemmas.{answer_within, answer_on_boundaries, attempt_within, attempt_on_boundaries}
 use Rattle.fancy_search.specs.declared.program.Program.{Program}
 use Rattle.fancy_search.specs.Programs.{program_options, asked_of}
 use Rattle.fancy_search.specs.Searching.{Suits}
@@ -92,4 +92,14 @@ groups_cut r text haystack request c found cache n range suits utf8 e =
     all_cut (asked_of r haystack request c) text found cache
     (answer_within (asked_of r haystack request c) _ range (sym e))
     (λ t. answer_on_boundaries (asked_of r haystack request c) _ range (keeps_by r text haystack request c _ refl suits utf8 t) (sym e))
+    range r.starts n
+
+-- what an attempt at a position finds can be cut out too
+pub groups_cut_at : (r : Program) (text : Bool) (haystack : List ℕ) (request : Request) (c : Bool) (p : ℕ) (found : Found) (cache : Cache) (n : ℕ) →
+    request.range_end ≤ length haystack → p ≤ request.range_end → Suits (program_options r) text haystack → (text ≡ true → IsUtf8 haystack) →
+    Some (found_at found cache) ≡ attempt (asked_of r haystack request c) p → AreCut text haystack (spans_of n (found_at found cache))
+groups_cut_at r text haystack request c p found cache n range to suits utf8 e =
+    all_cut (asked_of r haystack request c) text found cache
+    (attempt_within (asked_of r haystack request c) p _ range to (sym e))
+    (λ t. attempt_on_boundaries (asked_of r haystack request c) p _ range to (sym e) (keeps_by r text haystack request c _ refl suits utf8 t))
     range r.starts n

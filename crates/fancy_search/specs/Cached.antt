@@ -2,7 +2,7 @@
 use Rattle.std.specs.Prelude.{◌≡◌, ℕ, List, Option, IsTrue}
 use Rattle.fancy_input.specs.Places.{is_boundary}
 use Rattle.fancy_input.specs.declared.span.Span.{Span}
-use Rattle.fancy_engine.specs.Search.{Query, Answer, search}
+use Rattle.fancy_engine.specs.Search.{Query, Answer, search, attempt}
 use Rattle.fancy_engine.specs.declared.found.Found.{Found}
 use Rattle.fancy_engine.specs.Queries.{groups_in, answer_with}
 use Rattle.fancy_machine.specs.Asked.{groups_held}
@@ -26,6 +26,10 @@ found_at f c = record { position = f.position; state = record { place = f.end; c
 -- what was found, with its groups, is the answer of the search
 abbrev pub IsAnswerIn : Option Found → Cache → Query → Type 0
 IsAnswerIn found c q = answer_with (cached_groups c) found ≡ search q
+
+-- what was found, with its groups, is the answer of the attempt at the position
+abbrev pub IsAttemptIn : Option Found → Cache → Query → ℕ → Type 0
+IsAttemptIn found c q p = answer_with (cached_groups c) found ≡ attempt q p
 
 -- what was found starts and ends on boundaries of characters
 abbrev pub IsCleanlyFound : List ℕ → Found → Type 0

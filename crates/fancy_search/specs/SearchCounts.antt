@@ -9,7 +9,7 @@ use Rattle.fancy_input.specs.declared.input.Request.{Request}
 use Rattle.fancy_input.specs.Requests.{effective_start}
 use Rattle.fancy_engine.specs.declared.work.Work.{Work}
 use Rattle.fancy_engine.specs.Work.{steps_of, returns_of, HasRoom}
-use Rattle.fancy_engine.specs.Search.{Query, returns, choices}
+use Rattle.fancy_engine.specs.Search.{Query, returns, choices, returns_at, choices_at}
 use Rattle.fancy_machine.specs.Asked.{all_tried}
 use Rattle.fancy_search.specs.declared.program.Program.{Program}
 use Rattle.fancy_search.specs.Programs.{program_is_easy, program_length, program_limit}
@@ -51,6 +51,21 @@ RefusesQuery r q (RuntimeError why) = IsHardProgram r × IsPastLimit why r q
 -- A search for a hard pattern that is not refused takes no more returns than its limit allows.
 abbrev pub AllowsQuery : Program → Query → Type 0
 AllowsQuery r q = IsHardProgram r → returns_taken q ≤ program_limit r
+
+abbrev pub IsPastLimitAt : Running → Program → Query → ℕ → Type 0
+IsPastLimitAt BacktrackLimitExceeded r q p = program_limit r < returns_at q p
+IsPastLimitAt StackOverflow r q p = most_branches < choices_at q p
+
+-- The attempt at a position may be refused by this error: for want of memory at any time, and of a hard pattern past a limit.
+abbrev pub RefusesAttempt : Program → Query → ℕ → Error → Type 0
+RefusesAttempt r q p Memory = Unit {0}
+RefusesAttempt r q p (ParseError at kind) = ⊥
+RefusesAttempt r q p (CompileError why) = ⊥
+RefusesAttempt r q p (RuntimeError why) = IsHardProgram r × IsPastLimitAt why r q p
+
+-- An attempt for a hard pattern that is not refused takes no more returns than its limit allows.
+abbrev pub AllowsAttempt : Program → Query → ℕ → Type 0
+AllowsAttempt r q p = IsHardProgram r → returns_at q p ≤ program_limit r
 
 -- a search was refused because it would return more often than its limit allows
 abbrev pub IsStopped : {A : Type 0} → Result A Error → Type 0

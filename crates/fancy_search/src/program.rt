@@ -6,6 +6,7 @@ ghost use Rattle.fancy_tree.specs.Names.{named_groups};
 ghost use Rattle.fancy_tree.specs.Modes.{keeps_characters};
 ghost use Rattle.fancy_tree.specs.Sizes.{nodes};
 ghost use Rattle.fancy_syntax.specs.Dialect.{IsPattern};
+ghost use Rattle.fancy_input.specs.Requests.{effective_start};
 ghost use Rattle.fancy_engine.specs.Code.{code_len, instrs_of};
 ghost use Rattle.fancy_engine.specs.Compile.{is_easy, are_easy};
 ghost use Rattle.fancy_engine.specs.Placed.{has_raw_byte, has_keep_start_in_look_around};
@@ -13,7 +14,7 @@ ghost use Rattle.fancy_engine.specs.Work.{steps_of, returns_of};
 ghost use Rattle.fancy_search.specs.Compiled.{IsCompiled, IsSpelled};
 ghost use Rattle.fancy_search.specs.Options.{meaning_in, dialect_of, is_easy_under};
 ghost use Rattle.fancy_search.specs.ProgramSize.{IsRefusedUnder, RefusesPattern, passes};
-ghost use Rattle.fancy_search.specs.Cached.{IsAnswerIn, IsCleanlyFound};
+ghost use Rattle.fancy_search.specs.Cached.{IsAnswerIn, IsAttemptIn, IsCleanlyFound};
 
 use crate::cache::{Cache, Engine};
 use crate::options::Options;
@@ -52,7 +53,7 @@ pub struct Program {
 }
 
 impl Program {
-    ghost use Rattle.fancy_search.specs.SearchCounts.{Counted, CountedUpTo, IfFound, IsHardProgram, RefusesQuery, AllowsQuery, HasRoomFor, IsStopped, AddsReturns, AddsReturnsUpTo, step_bound, returns_taken};
+    ghost use Rattle.fancy_search.specs.SearchCounts.{Counted, CountedUpTo, IfFound, IsHardProgram, RefusesQuery, AllowsQuery, RefusesAttempt, AllowsAttempt, HasRoomFor, IsStopped, AddsReturns, AddsReturnsUpTo, step_bound, returns_taken};
     ghost use Rattle.fancy_search.specs.Programs.{KeepsCharacters, program_pattern, program_options, program_groups, program_names, program_length, program_is_easy, program_limit, asked_of};
 
     /// Reads a pattern under these options, and compiles it.
@@ -162,6 +163,46 @@ impl Program {
         self.backtrack(haystack, request, continues, cache, work)
     }
 
+    /// The match that an attempt at one position finds, from the effective start of the request on, with `\G` on: it may hold
+    /// at the effective start, and not at the position. Its groups stand in `cache` then.
+    ///
+    /// It is refused as [`Program::search`] is, for what the attempt takes.
+    pub fn attempt_at(
+        &self,
+        haystack: &[u8],
+        request: Request,
+        position: usize,
+        cache: &mut Cache,
+        work: &mut Work,
+    ) -> Result<Option<Found>>
+        requires inside { request.range_end ≤ length haystack.now }
+        requires starts { effective_start request ≤ position }
+        requires ends { position ≤ request.range_end }
+        requires room { HasRoomFor self.now (record request { start = position }) work.old }
+        ensures answer { IfOk result
+            (λ m. IsAttemptIn m cache.new (asked_of self.now haystack.now request true) position) }
+        ensures ordered { IfFound result (λ f. f.start ≤ f.end) }
+        ensures inside { IfFound result (λ f. f.end ≤ request.range_end) }
+        ensures cleanly { KeepsCharacters self.now → IfFound result (IsCleanlyFound haystack.now) }
+        ensures steps { steps_of work.old ≤ steps_of work.new }
+        ensures returns { returns_of work.old ≤ returns_of work.new }
+        ensures paired { returns_of work.new ≤ steps_of work.new }
+        ensures refused { IfErr result
+            (RefusesAttempt self.now (asked_of self.now haystack.now request true) position) }
+        ensures allowed { IfOk result
+            (λ _. AllowsAttempt self.now (asked_of self.now haystack.now request true) position) }
+    {
+        if self.easy {
+            let from_position = Request {
+                start: position,
+                anchored: true,
+                ..request
+            };
+            return self.run(haystack, from_position, cache, work);
+        }
+        self.backtrack_at(haystack, request, position, cache, work)
+    }
+
     /// The search for an easy pattern, by the memoised runner. It has no `\G`.
     fn run(
         &self,
@@ -218,6 +259,44 @@ impl Program {
         let options = self.options.for_search();
         match machine::search(
             &self.code, haystack, request, options, continues, machine, work,
+        ) {
+            Ok(found) => Ok(found),
+            Err(SearchRefusal::Memory) => Err(Error::Memory),
+            Err(SearchRefusal::Returns) => Err(Error::RuntimeError(
+                RuntimeError::BacktrackLimitExceeded,
+            )),
+            Err(SearchRefusal::Choices) => Err(Error::RuntimeError(RuntimeError::StackOverflow)),
+        }
+    }
+
+    /// The attempt at one position for a hard pattern, by the backtracking machine.
+    fn backtrack_at(
+        &self,
+        haystack: &[u8],
+        request: Request,
+        position: usize,
+        cache: &mut Cache,
+        work: &mut Work,
+    ) -> Result<Option<Found>>
+        ghost p: { Pattern }
+        requires inside { request.range_end ≤ length haystack.now }
+        requires starts { effective_start request ≤ position }
+        requires ends { position ≤ request.range_end }
+        requires of { p ≡ program_pattern self.now }
+        requires hard { IsHardProgram self.now }
+        requires room { HasRoomFor self.now (record request { start = position }) work.old }
+        ensures answer { IfOk result (λ m. IsAttemptIn m cache.new (asked_of self.now haystack.now request true) position) }
+        ensures steps { steps_of work.old ≤ steps_of work.new }
+        ensures returns { returns_of work.old ≤ returns_of work.new }
+        ensures paired { returns_of work.new ≤ steps_of work.new }
+        ensures refused { IfErr result (λ e. RefusesAttempt self.now (asked_of self.now haystack.now request true) position e) }
+        ensures allowed { IfOk result (λ _. AllowsAttempt self.now (asked_of self.now haystack.now request true) position) }
+    {
+        cache.served = Engine::Machine;
+        let machine = &mut cache.machine;
+        let options = self.options.for_search();
+        match machine::attempt_at(
+            &self.code, haystack, request, options, true, position, machine, work,
         ) {
             Ok(found) => Ok(found),
             Err(SearchRefusal::Memory) => Err(Error::Memory),

@@ -9,11 +9,11 @@ use Rattle.fancy_engine.specs.Search.{search, answer_from}
 use Rattle.fancy_engine.specs.Work.{steps_of, returns_of}
 use Rattle.fancy_engine.proofs.search.search.Given as goal
 
-abbrev pub invariant-loop-next : goal.invariant-loop-next
-invariant-loop-next l = record {
+abbrev pub invariant-loop-place : goal.invariant-loop-place
+invariant-loop-place l = record {
   left : (p : Pattern) (on : Bool) → IsCodeOf p l.code → search (query_of p l.code (unfiltered l.fn.options) l.haystack l.fn.request on)
-      ≡ answer_from (query_of p l.code (unfiltered l.fn.options) l.haystack l.fn.request on) (l.last + 1 - l.next) l.next;
-  passed : l.first ≤ l.next;
+      ≡ answer_from (query_of p l.code (unfiltered l.fn.options) l.haystack l.fn.request on) (l.last + 1 - l.place) l.place;
+  passed : l.first ≤ l.place;
   failed : (p : Pattern) → IsCodeOf p l.code → AllFailedIn l.attempt (depth (length l.haystack) p + 1) l.table;
   room : length l.table ≡ pairs_in l.attempt;
   small : length l.table < 2 ^ 64;
@@ -24,5 +24,5 @@ invariant-loop-next l = record {
   last_lines : KnowsLastLines l.haystack l.last_lines;
 }
 
-abbrev pub decreases-loop-next : goal.decreases-loop-next
-decreases-loop-next l = l.last + 1 - l.next
+abbrev pub decreases-loop-place : goal.decreases-loop-place
+decreases-loop-place l = l.last + 1 - l.place

@@ -4,7 +4,6 @@ use Rattle.fancy_engine.specs.Search.{search, returns, choices, answer_from, gon
 use Rattle.fancy_input.specs.LastLines.{KnowsLastLines}
 use Rattle.fancy_engine.specs.Work.{steps_of, returns_of}
 use Rattle.fancy_machine.specs.Asked.{all_tried}
-use Rattle.fancy_machine.proofs.MachineSearch.{deep_in}
 use Rattle.fancy_machine.proofs.search.search.Given as goal
 
 abbrev pub invariant-loop-place : goal.invariant-loop-place
@@ -19,5 +18,5 @@ invariant-loop-place g l = record {
   last_lines : KnowsLastLines l.attempt.haystack.now l.last_lines;
 }
 
-abbrev pub ghost-run : goal.ghost-run
-ghost-run g a = deep_in g.q
+abbrev pub ghost-try_position : goal.ghost-try_position
+ghost-try_position g a = g.q

@@ -1,0 +1,42 @@
+use Rattle.std.proofs.Common.{◌∙◌, sym, true, false}
+use Rattle.fancy_search.specs.Cached.{IsAttemptIn, cached_groups}
+use Rattle.fancy_search.specs.Programs.{asked_of}
+use Rattle.fancy_search.proofs.ResultLemmas.{if_ok}
+use Rattle.fancy_search.proofs.SearchedLemmas.{ordered_at, inside_at, clean_at, attempted}
+use Rattle.fancy_search.proofs.program.Program.attempt_at.Goals as goal
+
+pub returns-then-self-clause-answer : goal.returns-then-self-clause-answer
+returns-then-self-clause-answer c =
+    let answer = if_ok _ (λ m. IsAttemptIn m c.run.new.cache (asked_of c.args.self.now c.args.haystack.now c.args.request true) c.args.position)
+    (λ m e. e false ∙ attempted c.args.self.now c.args.haystack.now c.args.request c.args.position (sym c.args.self.now.decided ∙ c.if-self.true) c.requires.inside c.requires.starts c.requires.ends) c.run.result c.run.ensures.answer in
+    answer
+
+pub returns-then-self-clause-ordered : goal.returns-then-self-clause-ordered
+returns-then-self-clause-ordered c =
+    let answer = if_ok _ (λ m. IsAttemptIn m c.run.new.cache (asked_of c.args.self.now c.args.haystack.now c.args.request true) c.args.position)
+    (λ m e. e false ∙ attempted c.args.self.now c.args.haystack.now c.args.request c.args.position (sym c.args.self.now.decided ∙ c.if-self.true) c.requires.inside c.requires.starts c.requires.ends) c.run.result c.run.ensures.answer in
+    if_ok _ _ (ordered_at (asked_of c.args.self.now c.args.haystack.now c.args.request true) c.args.position (cached_groups c.run.new.cache) c.requires.inside c.requires.ends c.args.self.now.starts) c.run.result answer
+
+pub returns-clause-ordered : goal.returns-clause-ordered
+returns-clause-ordered c =
+    if_ok _ _ (ordered_at (asked_of c.args.self.now c.args.haystack.now c.args.request true) c.args.position (cached_groups c.backtrack_at.new.cache) c.requires.inside c.requires.ends c.args.self.now.starts) c.backtrack_at.result c.backtrack_at.ensures.answer
+
+pub returns-then-self-clause-inside : goal.returns-then-self-clause-inside
+returns-then-self-clause-inside c =
+    let answer = if_ok _ (λ m. IsAttemptIn m c.run.new.cache (asked_of c.args.self.now c.args.haystack.now c.args.request true) c.args.position)
+    (λ m e. e false ∙ attempted c.args.self.now c.args.haystack.now c.args.request c.args.position (sym c.args.self.now.decided ∙ c.if-self.true) c.requires.inside c.requires.starts c.requires.ends) c.run.result c.run.ensures.answer in
+    if_ok _ _ (inside_at (asked_of c.args.self.now c.args.haystack.now c.args.request true) c.args.position (cached_groups c.run.new.cache) c.requires.inside c.requires.ends c.args.self.now.starts) c.run.result answer
+
+pub returns-clause-inside : goal.returns-clause-inside
+returns-clause-inside c =
+    if_ok _ _ (inside_at (asked_of c.args.self.now c.args.haystack.now c.args.request true) c.args.position (cached_groups c.backtrack_at.new.cache) c.requires.inside c.requires.ends c.args.self.now.starts) c.backtrack_at.result c.backtrack_at.ensures.answer
+
+pub returns-then-self-clause-cleanly : goal.returns-then-self-clause-cleanly
+returns-then-self-clause-cleanly c = λ on.
+    let answer = if_ok _ (λ m. IsAttemptIn m c.run.new.cache (asked_of c.args.self.now c.args.haystack.now c.args.request true) c.args.position)
+    (λ m e. e false ∙ attempted c.args.self.now c.args.haystack.now c.args.request c.args.position (sym c.args.self.now.decided ∙ c.if-self.true) c.requires.inside c.requires.starts c.requires.ends) c.run.result c.run.ensures.answer in
+    if_ok _ _ (λ m e. clean_at (asked_of c.args.self.now c.args.haystack.now c.args.request true) c.args.position (cached_groups c.run.new.cache) c.requires.inside c.requires.ends c.args.self.now.starts m on e) c.run.result answer
+
+pub returns-clause-cleanly : goal.returns-clause-cleanly
+returns-clause-cleanly c = λ on.
+    if_ok _ _ (λ m e. clean_at (asked_of c.args.self.now c.args.haystack.now c.args.request true) c.args.position (cached_groups c.backtrack_at.new.cache) c.requires.inside c.requires.ends c.args.self.now.starts m on e) c.backtrack_at.result c.backtrack_at.ensures.answer

@@ -1,0 +1,5 @@
+use Rattle.fancy_engine.specs.Queries.{query_of}
+use Rattle.fancy_search.proofs.program.Program.backtrack_at.Given as goal
+
+abbrev pub ghost-attempt_at : goal.ghost-attempt_at
+ghost-attempt_at g a = query_of g.p a.code.now a.options a.haystack.now a.request a.continues
