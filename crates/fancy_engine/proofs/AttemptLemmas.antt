@@ -1,5 +1,5 @@
 -- An attempt at one position: its place in a search, and the search that is anchored there.
-use Rattle.std.proofs.Common.{◌≡◌, ℕ, zero, suc, ◌+◌, ◌-◌, ◌≤◌, min, max, Bool, true, false, List, length, Option, Some, None, refl, sym, ap, ap₂, ◌∙◌, subst, arith}
+use Rattle.std.proofs.Common.{◌≡◌, ℕ, suc, ◌+◌, ◌≤◌, Bool, true, false, length, Option, Some, None, refl, sym, ap, ◌∙◌, subst, arith}
 use Rattle.std.specs.Prelude.{option_map}
 use Rattle.std.specs.Option.{option_or}
 use Rattle.fancy_input.specs.declared.input.Request.{Request}
@@ -8,7 +8,7 @@ use Rattle.fancy_engine.specs.declared.code.Code.{Code}
 use Rattle.fancy_engine.specs.Context.{State}
 use Rattle.fancy_engine.specs.Code.{instrs_of}
 use Rattle.fancy_engine.specs.Compile.{IsCodeOf, AreEasy}
-use Rattle.fancy_engine.specs.Search.{Sought, Query, Answer, context_of, is_match_boundary, answer_at, answer_from, attempt, search}
+use Rattle.fancy_engine.specs.Search.{Query, Answer, context_of, is_match_boundary, answer_at, answer_from, attempt, search}
 use Rattle.fancy_engine.proofs.RunnerSearch.{first_thread, attempt_answer, search_skip, search_over}
 
 abbrev taken_at : ℕ → State → Answer

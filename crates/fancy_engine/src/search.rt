@@ -1,6 +1,6 @@
 //! Searches by the runner: their time is bounded by the product of the code's length and the text's.
 
-ghost use Rattle.std.specs.Prelude.{◌≡◌, ◌+◌, ◌-◌, ◌*◌, ◌^◌, ◌<◌, ◌≤◌, Bool, false, [], length, replicate, slice_index_or, IfOk, IfErr, OnOk};
+ghost use Rattle.std.specs.Prelude.{◌≡◌, ◌+◌, ◌-◌, ◌^◌, ◌<◌, ◌≤◌, Bool, false, [], length, replicate, slice_index_or, IfOk, IfErr, OnOk};
 ghost use Rattle.fancy_tree.specs.Pattern.{Pattern};
 ghost use Rattle.fancy_engine.specs.Code.{instrs_of};
 ghost use Rattle.fancy_engine.specs.Attempt.{pairs_in};

@@ -89,6 +89,7 @@ loop-place-preserved c =
         last_lines = rw w.last_lines-is c.loop-place.invariant.last_lines;
       }
     ]
+
 pub returns-clause-answer : goal.returns-clause-answer
 returns-clause-answer c p on is = sym (c.loop-place.invariant.left p on is ∙ search_over (query_of p c.args.code.now (unfiltered c.args.options) c.args.haystack.now c.args.request on) _ _ (omega arith))
 
