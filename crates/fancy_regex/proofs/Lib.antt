@@ -4,3 +4,5 @@ pub mod ListExampleLemmas
 pub mod EndLemmas
 pub mod SetListLemmas
 pub mod SetLemmas
+pub mod SetOfOneLemmas
+pub mod SetSearchLemmas

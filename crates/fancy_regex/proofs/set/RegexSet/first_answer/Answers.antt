@@ -1,7 +1,4 @@
-use Rattle.std.proofs.Common.{◌≡◌, ℕ, ◌≤◌, false, arith}
-use Rattle.fancy_input.specs.Inputs.{request_in}
-use Rattle.fancy_input.specs.Requests.{effective_start}
-use Rattle.fancy_regex.specs.SetMembers.{any_answer_at}
+use Rattle.std.proofs.Common.{arith}
 use Rattle.fancy_regex.specs.Sets.{asked_of_set}
 use Rattle.fancy_regex.proofs.SetLemmas.{passed_more, nowhere}
 use Rattle.fancy_regex.proofs.set.RegexSet.first_answer.Goals as goal
