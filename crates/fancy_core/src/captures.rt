@@ -12,7 +12,7 @@ mod views;
 use crate::regex::Regex;
 use fancy_input::input::Haystack;
 use fancy_input::span::Span;
-pub use views::SubCaptureMatches;
+pub use views::{SubCaptureMatches, group_span};
 
 /// The groups of a match in a haystack of the form `S`, by their numbers: group 0 is the whole match, and the
 /// others go by the order in which they are opened. It borrows the regex that found it.

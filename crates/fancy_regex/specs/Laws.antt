@@ -1,5 +1,5 @@
 -- What the laws say of lists of matches, and of the pieces between them.
-use Rattle.std.specs.Prelude.{◌≡◌, ◌+◌, ◌≤◌, ℕ, suc, min, max, Bool, List, length, take}
+use Rattle.std.specs.Prelude.{◌≡◌, ◌+◌, ◌≤◌, ℕ, suc, min, max, Bool, List, [], ◌∷◌, Some, option_map, length, take}
 use Rattle.fancy_input.specs.declared.span.Span.{Span}
 use Rattle.fancy_input.specs.declared.input.Request.{Request}
 use Rattle.fancy_input.specs.declared.regex_input.RegexInput.{RegexInput}
@@ -7,7 +7,10 @@ use Rattle.fancy_input.specs.Requests.{effective_start}
 use Rattle.fancy_search.specs.MatchList.{MatchItem, FindsNone}
 use Rattle.fancy_core.specs.declared.regex.Regex.{Regex}
 use Rattle.fancy_core.specs.Pieces.{pieces, first_pieces, interleaved, texts}
-use Rattle.fancy_core.specs.Searches.{scan_of_input, last_start_of_input}
+use Rattle.fancy_core.specs.Regexes.{query}
+use Rattle.fancy_core.specs.Searches.{scan_of_input, last_start_of_input, first_groups, groups_of_attempt}
+use Rattle.fancy_engine.specs.Search.{search}
+use Rattle.fancy_regex.specs.SetMembers.{asked_alone, members_at, set_position}
 
 -- the search at the end of the matches of an input finds none
 abbrev pub EndsInNone : {S : Type 0} {g : _} → Regex → (S → Bool) → (S → List ℕ) → RegexInput S g → Type 0
@@ -36,3 +39,9 @@ CutsNone n t spans = first_pieces n t 0 spans ≡ pieces t 0 spans
 -- the limit n + 1 leaves the first n pieces as they are
 abbrev pub KeepsPieces : ℕ → List ℕ → List Span → Type 0
 KeepsPieces n t spans = take n (first_pieces (suc n) t 0 spans) ≡ take n (pieces t 0 spans)
+
+-- A set of one pattern stands where the pattern's first match has its position; there its one member has an item, with the groups of that match.
+pub record FindsAsOne (r : Regex) (haystack : List ℕ) (request : Request) : Type 0 where
+  pub stands : set_position (asked_alone r haystack request) ≡ option_map (λ f. f.position) (search (query r haystack request))
+  pub members : (p : ℕ) → set_position (asked_alone r haystack request) ≡ Some p → members_at (asked_alone r haystack request) p ≡ 0 ∷ []
+  pub groups : (p : ℕ) → set_position (asked_alone r haystack request) ≡ Some p → groups_of_attempt (query r haystack request) p ≡ first_groups (query r haystack request)

@@ -3,6 +3,10 @@ pub mod Escapes
 pub mod EscapedLiterals
 pub mod ListExamples
 pub mod Laws
+pub mod SetMembers
+pub mod Sets
+pub mod SetAnswers
+pub mod SetMatches
 pub use Rattle.fancy_tree.specs.Text
 pub use Rattle.fancy_tree.specs.Modes
 pub use Rattle.fancy_tree.specs.Pattern

@@ -7,7 +7,7 @@ ghost use Rattle.fancy_tree.specs.Text.{Text};
 ghost use Rattle.fancy_tree.specs.declared.error.Error.{Error};
 ghost use Rattle.fancy_syntax.specs.Dialect.{IsPattern, standard};
 ghost use Rattle.fancy_syntax.specs.Refusals.{IsRefused};
-ghost use Rattle.fancy_input.specs.Inputs.{request_in};
+ghost use Rattle.fancy_input.specs.Inputs.{haystack_in, request_in};
 ghost use Rattle.fancy_search.specs.declared.options.Options.{Options};
 ghost use Rattle.fancy_search.specs.Options.{dialect_of};
 ghost use Rattle.fancy_search.specs.ProgramSize.{SetsNoSize, RefusesPattern, IsRefusedUnder};
@@ -21,7 +21,7 @@ ghost use Rattle.fancy_core.specs.Replacing.{fixed_of};
 ghost use Rattle.fancy_core.specs.Splits.{match_spans};
 ghost use Rattle.fancy_regex.specs.Escapes.{escaped_pattern};
 ghost use Rattle.fancy_regex.specs.ListExamples.{WorkedLists};
-ghost use Rattle.fancy_regex.specs.Laws.{EndsInNone, FitsPlaces, Rejoins, RejoinsFirst, CountsPieces, CutsNone, KeepsPieces};
+ghost use Rattle.fancy_regex.specs.Laws.{EndsInNone, FitsPlaces, Rejoins, RejoinsFirst, CountsPieces, CutsNone, KeepsPieces, FindsAsOne};
 ghost use Rattle.fancy_regex.specs.EscapedLiterals.{IsOfEscape, IsLiterally, FindsTextFirst, FindsTextAtStart, FindsTextInText};
 
 use fancy_core::regex::Regex;
@@ -115,4 +115,10 @@ pub fn escapes_find_their_text(_text: &str, _regex: &Regex)
 /// all matches is what it appends for each.
 pub fn plain_template_is_its_expansion()
     ensures { (t : List ℕ) (seen : Seen) (x : List ℕ) → fixed_of t ≡ Some x → expansion_of t seen ≡ x }
+{}
+
+/// A set of one pattern gives first what the pattern gives: it stands at the position of the pattern's first match, or nowhere
+/// where there is none; and its one item there has the groups of that match.
+pub fn set_of_one_finds_as_its_pattern<S: Input>(_regex: &Regex, _input: &RegexInput<S>)
+    ensures { FindsAsOne _regex.now (S.bytes (haystack_in _input.now)) (request_in _input.now) }
 {}

@@ -14,6 +14,7 @@ mod builder;
 mod escapes;
 pub mod laws;
 mod options;
+mod set;
 
 pub use builder::RegexBuilder;
 pub use escapes::escape;
@@ -35,3 +36,4 @@ pub use fancy_template::groups::{GroupNames, GroupTexts};
 pub use fancy_tree::error::{CompileError, Error, ParseErrorKind, Result, RuntimeError};
 pub use fancy_tree::tree::BytesMode;
 pub use options::RegexOptionsBuilder;
+pub use set::{RegexSet, RegexSetMatch, RegexSetMatchesAt};

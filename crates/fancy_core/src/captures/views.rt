@@ -72,6 +72,14 @@ fn slot_at(slots: &[Option<Span>], number: usize) -> Option<Span>
     }
 }
 
+/// Where the group with this number stands, in byte offsets. `None` where it took no part, and for every number past the last
+/// group.
+pub fn group_span<S: Haystack>(captures: &Captures<'_, S>, number: usize) -> Option<Span>
+    ensures { result ≡ span_at (spans_in captures.now) number }
+{
+    slot_at(&captures.slots, number)
+}
+
 /// What each group of a match matched, in the order of their numbers; made by [`Captures::iter`].
 #[derive(Drop)]
 pub struct SubCaptureMatches<'c, 'r, S: Haystack> {

@@ -1,0 +1,14 @@
+use Rattle.std.proofs.Common.{arith}
+use Rattle.fancy_regex.specs.Sets.{asked_of_set}
+use Rattle.fancy_regex.proofs.SetLemmas.{passed_more, nowhere}
+use Rattle.fancy_regex.proofs.set.RegexSet.first_answer.Goals as goal
+
+pub loop-position-preserved : goal.loop-position-preserved
+loop-position-preserved g c =
+    passed_more (asked_of_set c.args.self.now g.S.Haystack.bytes c.args.input.now) c.loop-position.position c.answer_from.result c.in_default.not-Some c.answer_from.ensures.none c.loop-position.invariant
+
+pub returns-clause-none : goal.returns-clause-none
+returns-clause-none g c =
+    nowhere (asked_of_set c.args.self.now g.S.Haystack.bytes c.args.input.now)
+    (λ p from below. c.loop-position.invariant p from
+    (let count = rw c.request-request.ensures.value at c.last_position-last.ensures.count in let past = c.loop-position-test.false in omega (arith, count, past, from, below)))

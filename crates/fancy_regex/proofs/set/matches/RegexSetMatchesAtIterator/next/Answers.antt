@@ -1,0 +1,62 @@
+use Rattle.std.proofs.Common.{rules, refl, sym, subst, ◌∙◌, arith}
+use Rattle.fancy_input.specs.Inputs.{haystack_in}
+use Rattle.fancy_regex.specs.Sets.{asked_of_set}
+use Rattle.fancy_regex.specs.SetAnswers.{IsFirstAnswer}
+use Rattle.fancy_regex.proofs.SetLemmas.{item_is_inside, item_is_matched, gives_kept, none_left, if_none}
+use Rattle.fancy_regex.proofs.set.matches.RegexSetMatchesAtIterator.next.Goals as goal
+
+pub overflow_add-self : goal.overflow_add-self
+overflow_add-self g c =
+    let s = c.args.self.now in
+    let item = s.kept c.in-Some.captures (sym c.take.ensures.value ∙ c.in-Some.is) in
+    let inside = item_is_inside (asked_of_set s.set.now g.S.Haystack.bytes s.input) (haystack_in s.input) s.position s.next c.in-Some.captures item in
+    let held = s.set.now.members.ok.0 in
+    let fits = s.set.now.members.ok.1 in
+    let small = s.set.now.members.small in
+    omega (arith, inside, held, fits, small)
+
+pub new-requires : goal.new-requires
+new-requires g c =
+    let s = c.args.self.now in
+    let item = s.kept c.in-Some.captures (sym c.take.ensures.value ∙ c.in-Some.is) in
+    record { matched = item_is_matched (asked_of_set s.set.now g.S.Haystack.bytes s.input) s.position s.next _ _ item.0 }
+
+pub returns-in-Some-clause-steps : goal.returns-in-Some-clause-steps
+returns-in-Some-clause-steps g c =
+    let s = c.args.self.now in
+    let item = s.kept c.in-Some.captures (sym c.take.ensures.value ∙ c.in-Some.is) in
+    record {
+      gives = gives_kept (asked_of_set s.set.now g.S.Haystack.bytes s.input) (haystack_in s.input) s.position s.next _ c.in-Some.captures _ c.new.ensures.pattern c.new.ensures.captures item;
+      same_set = refl;
+      same_haystack = refl;
+      same_request = refl;
+      same_position = refl;
+    }
+
+pub returns-in-Some-clause-goes : goal.returns-in-Some-clause-goes
+returns-in-Some-clause-goes g c =
+    let s = c.args.self.now in
+    let item = s.kept c.in-Some.captures (sym c.take.ensures.value ∙ c.in-Some.is) in
+    let inside = item_is_inside (asked_of_set s.set.now g.S.Haystack.bytes s.input) (haystack_in s.input) s.position s.next c.in-Some.captures item in
+    record { on = λ finite. (search rules, search rules, omega (arith, inside)); keeps = search rules; rests = λ finite. tt }
+
+pub returns-in_default-answer_from-clause-steps : goal.returns-in_default-answer_from-clause-steps
+returns-in_default-answer_from-clause-steps g c =
+    let s = c.args.self.now in
+    let none = if_none _ c.answer_from.result c.in_default-answer_from.not-Some c.answer_from.ensures.none in
+    let all = c.len-self.ensures in
+    record {
+      gives = (none_left (asked_of_set s.set.now g.S.Haystack.bytes s.input) s.position s.next none, omega (arith, all));
+      same_set = refl;
+      same_haystack = refl;
+      same_request = refl;
+      same_position = refl;
+    }
+
+pub new-requires-in-Ok : goal.new-requires-in-Ok
+new-requires-in-Ok g c =
+    let s = c.args.self.now in
+    let q = asked_of_set s.set.now g.S.Haystack.bytes s.input in
+    let answer = c.in-Some-answer_from.first in
+    let first = subst (IsFirstAnswer q (haystack_in s.input) s.position s.next answer.index) c.in-Ok.is c.in-Some-answer_from.ensures.first in
+    record { matched = item_is_matched q s.position answer.index _ _ first.answers.0 }

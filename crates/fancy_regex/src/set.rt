@@ -1,0 +1,111 @@
+//! Many patterns that are searched for at once.
+
+ghost use Rattle.std.specs.Prelude.{◌≡◌, ◌==◌, ◌↔◌, IfOk, IfErr, IsTrue, length};
+ghost use Rattle.fancy_search.specs.Options.{by_default};
+ghost use Rattle.fancy_core.specs.Built.{IsReading};
+ghost use Rattle.fancy_regex.specs.Builders.{options_of};
+ghost use Rattle.fancy_regex.specs.Sets.{members_of, bytes_of_each, AreReadings, RefusesFirst, HaveOptions, CanSearchAll};
+
+mod borrowed_text;
+mod matched;
+mod matches;
+mod members;
+mod owned_text;
+
+use crate::options::RegexOptionsBuilder;
+use fancy_core::regex::Regex;
+use fancy_input::input::Input;
+use fancy_input::regex_input::RegexInput;
+use fancy_tree::error::Result;
+pub use matched::RegexSetMatch;
+pub use matches::RegexSetMatchesAt;
+use std::alloc::Global;
+
+/// Patterns that are searched for at once: a search stands at the least position where one of them matches.
+///
+/// ```text
+/// let set = RegexSet::new(alloc, &["\\d+", "\\w+"])?;
+/// set.find_input(RegexInput::new("$29"))?    // Some, at 1: pattern 0 from 1 to 3, and pattern 1 from 1 to 3
+/// ```
+#[derive(Drop)]
+pub struct RegexSet {
+    members: Vec<Regex>,
+}
+
+impl RegexSet {
+    /// Reads patterns, with the default options. It is refused as [`Regex::new`] refuses the first pattern that it refuses.
+    ///
+    /// ```text
+    /// RegexSet::new(alloc, &["a|ab", "b"])?.len()    // 2
+    /// RegexSet::new(alloc, &["a", "(?:b"])           // Err(ParseError(4, UnclosedOpenParen))
+    /// ```
+    pub fn new(alloc: Global, patterns: &[&str]) -> Result<RegexSet>
+        ensures read { IfOk result (λ s. AreReadings by_default (bytes_of_each patterns.now) (members_of s)) }
+        ensures options { IfOk result (λ s. HaveOptions by_default (members_of s)) }
+        ensures refused { IfErr result (λ e. RefusesFirst by_default (bytes_of_each patterns.now) e) }
+    {
+        RegexSet::new_with_options(alloc, patterns, &RegexOptionsBuilder::new())
+    }
+
+    /// Reads patterns, each with these options. It is refused as [`RegexOptionsBuilder::build`] refuses the first pattern that
+    /// it refuses.
+    pub fn new_with_options(
+        alloc: Global,
+        patterns: &[&str],
+        options: &RegexOptionsBuilder,
+    ) -> Result<RegexSet>
+        ensures read { IfOk result
+            (λ s. AreReadings (options_of options.now) (bytes_of_each patterns.now) (members_of s)) }
+        ensures options { IfOk result (λ s. HaveOptions (options_of options.now) (members_of s)) }
+        ensures refused { IfErr result
+            (λ e. RefusesFirst (options_of options.now) (bytes_of_each patterns.now) e) }
+    {
+        let mut members = Vec::new(alloc);
+        for pattern in patterns {
+            let member = read(alloc, *pattern, options)?;
+            members.push(member)?;
+        }
+        Ok(RegexSet { members })
+    }
+
+    /// The set of these regexes, in their order. Each keeps its own options and limits, and no memory is taken.
+    pub fn from_regexes(members: Vec<Regex>) -> RegexSet
+        ensures { members_of result ≡ members.items }
+    {
+        RegexSet { members }
+    }
+
+    /// How many patterns the set has.
+    pub fn len(&self) -> usize
+        ensures { result ≡ length (members_of self.now) }
+    {
+        self.members.len()
+    }
+
+    /// Whether the set has no pattern.
+    pub fn is_empty(&self) -> bool
+        ensures { result ≡ (length (members_of self.now) == 0) }
+    {
+        self.members.is_empty()
+    }
+
+    /// Whether each pattern of the set can search the input, as [`Regex::can_search`] says.
+    pub fn can_search<S: Input>(&self, input: &RegexInput<S>) -> bool
+        ensures { IsTrue result ↔ CanSearchAll S.text S.bytes self.now input.now }
+    {
+        for member in &self.members {
+            if !member.can_search(input) {
+                return false;
+            }
+        }
+        true
+    }
+}
+
+/// Reads a pattern of a set.
+fn read(alloc: Global, pattern: &str, options: &RegexOptionsBuilder) -> Result<Regex>
+    ensures { IsReading (options_of options.now) pattern.now result }
+{
+    let text = String::from_str(alloc, pattern)?;
+    options.build(text)
+}

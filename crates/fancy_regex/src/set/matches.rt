@@ -1,0 +1,136 @@
+//! The matches of a pattern set at the position where the first of its patterns matches.
+
+ghost use Rattle.std.specs.Prelude.{◌≡◌, ◌≤◌, ◌-◌, ◌↔◌, None, IfOk, IfErr, IfSome, length};
+ghost use Rattle.std.specs.Option.{ForSome};
+ghost use Rattle.std.specs.Iterator.{at_most};
+ghost use Rattle.fancy_input.specs.Inputs.{haystack_in, request_in};
+ghost use Rattle.fancy_input.specs.Requests.{effective_start};
+ghost use Rattle.fancy_core.specs.Captures.{spans_in, searched_in, found_by};
+ghost use Rattle.fancy_regex.specs.SetAnswers.{IsItemOf};
+ghost use Rattle.fancy_regex.specs.Sets.{members_of, asked_of_set, CanSearchAll};
+
+use crate::set::RegexSet;
+use crate::set::matched::RegexSetMatch;
+use crate::set::members::MemberAnswer;
+use fancy_core::captures::Captures;
+use fancy_input::input::{Haystack, Input};
+use fancy_input::regex_input::RegexInput;
+use fancy_search::cache::Cache;
+use fancy_tree::error::Result;
+
+/// The matches of the patterns of a set at one position, in the order of their indices; made by [`RegexSet::find_input`].
+///
+/// A pattern is searched when it is asked for. Where its attempt is refused, for want of memory or past its limits, the item is
+/// that refusal, and the next item is that of the next pattern.
+#[derive(Drop)]
+pub struct RegexSetMatchesAt<'r, S: Haystack> {
+    set: &'r RegexSet,
+    input: RegexInput<S>,
+    position: usize,
+    // the index of the member that is asked next
+    next: usize,
+    // what that member found, if it was asked already
+    found: Option<Captures<'r, S>>,
+    cache: Cache,
+    ghost searched: { CanSearchAll S.text S.bytes set.now input },
+    ghost starts: { effective_start (request_in input) ≤ position },
+    ghost ends: { position ≤ (request_in input).range_end },
+    ghost kept: { ForSome found (λ c. IsItemOf (asked_of_set set.now S.bytes input) (haystack_in input) position next c) },
+}
+
+impl RegexSet {
+    ghost use Rattle.fancy_regex.specs.SetMembers.{set_position, RefusesSet};
+    ghost use Rattle.fancy_regex.specs.SetMatches.{IsAnswerOfSet};
+
+    /// The matches at the least position, as a byte offset, at which a pattern of the set matches, or none. An anchored input
+    /// has its effective start alone tried. `\G` holds at that start alone.
+    ///
+    /// ```text
+    /// let set = RegexSet::new(alloc, &["\\d+", "\\w+"])?;
+    /// set.find_input(RegexInput::new("$29"))?    // Some, at 1: pattern 0 from 1 to 3, and pattern 1 from 1 to 3
+    /// set.find_input(RegexInput::new("$29").anchored(true))?    // None
+    /// ```
+    ///
+    /// It is refused as the first attempt is that is refused before a match was found, in the order of positions and then of
+    /// indices: for want of memory, or past the limits of that pattern.
+    pub fn find_input<S: Input>(
+        &self,
+        input: RegexInput<S>,
+    ) -> Result<Option<RegexSetMatchesAt<'_, S>>>
+        requires searched { CanSearchAll S.text S.bytes self.now input }
+        ensures none { IfOk result (λ m. (m ≡ None) ↔ (set_position (asked_of_set self.now S.bytes input) ≡ None)) }
+        ensures found { IfOk result
+            (λ m. IfSome m (IsAnswerOfSet S.bytes self.now (haystack_in input) (request_in input))) }
+        ensures refused { IfErr result (RefusesSet (asked_of_set self.now S.bytes input)) }
+    {
+        let mut cache = Cache::new(*self.members.allocator());
+        let Some((position, first)) = self.first_answer(&input, &mut cache) else {
+            return Ok(None);
+        };
+        let captures = first.answer?;
+        Ok(Some(RegexSetMatchesAt {
+            set: self,
+            input,
+            position,
+            next: first.index,
+            found: Some(captures),
+            cache,
+        }))
+    }
+}
+
+impl<'r, S: Input> RegexSetMatchesAt<'r, S> {
+    ghost use Rattle.fancy_regex.specs.SetMatches.{set_of, haystack_of_set, position_of};
+
+    /// The set whose patterns match.
+    pub fn regex_set(&self) -> &'r RegexSet
+        ensures { result.now ≡ set_of self.now }
+    {
+        self.set
+    }
+
+    /// The whole haystack.
+    pub fn haystack(&self) -> S
+        ensures { result ≡ haystack_of_set self.now }
+    {
+        self.input.haystack()
+    }
+
+    /// The position that the patterns are tried at, as a byte offset. A match may start after it, by a `\K`.
+    pub fn start(&self) -> usize
+        ensures { result ≡ position_of self.now }
+    {
+        self.position
+    }
+}
+
+impl<'r, S: Input> Iterator for RegexSetMatchesAt<'r, S> {
+    ghost use Rattle.fancy_regex.specs.SetMatches.{IsNextOfSet, set_of, next_member, pattern_of, captures_of};
+
+    type Item = Result<RegexSetMatch<'r, S>>;
+
+    ghost next_gives = { IsNextOfSet S.bytes (λ m. pattern_of m) (λ m. spans_in (captures_of m))
+        (λ m. searched_in (captures_of m)) (λ m. found_by (captures_of m)) };
+
+    ghost remaining = { λ m. at_most (length (members_of (set_of m)) - next_member m) };
+
+    fn next(&mut self) -> Option<Result<RegexSetMatch<'r, S>>> {
+        if let Some(captures) = self.found.take() {
+            let index = self.next;
+            self.next += 1;
+            return Some(Ok(RegexSetMatch::new(index, captures)));
+        }
+        let set = self.set;
+        let Some(first) = set.answer_from(self.next, &self.input, self.position, &mut self.cache)
+        else {
+            self.next = set.len();
+            return None;
+        };
+        let MemberAnswer { index, answer } = first;
+        self.next = index + 1;
+        match answer {
+            Ok(captures) => Some(Ok(RegexSetMatch::new(index, captures))),
+            Err(error) => Some(Err(error)),
+        }
+    }
+}

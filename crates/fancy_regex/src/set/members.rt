@@ -1,0 +1,102 @@
+//! What the members of a pattern set answer.
+
+ghost use Rattle.std.specs.Prelude.{◌≡◌, ◌≤◌, ◌<◌, None, false, IfNone, IfSome, length};
+ghost use Rattle.fancy_input.specs.Inputs.{haystack_in, request_in};
+ghost use Rattle.fancy_input.specs.Requests.{effective_start};
+ghost use Rattle.fancy_regex.specs.SetMembers.{has_answer_at, set_position, NoneBetween};
+ghost use Rattle.fancy_regex.specs.SetAnswers.{IsAnswerOf, IsFirstAnswer, IsFirstOfSet};
+ghost use Rattle.fancy_regex.specs.Sets.{members_of, asked_of_set, CanSearchAll};
+
+use crate::set::RegexSet;
+use fancy_core::captures::Captures;
+use fancy_input::input::{Haystack, Input};
+use fancy_input::regex_input::RegexInput;
+use fancy_search::cache::Cache;
+use fancy_tree::error::Result;
+
+/// What a member answers that finds something or is refused.
+#[derive(Drop)]
+pub(crate) struct MemberAnswer<'r, S: Haystack> {
+    /// The index of the member.
+    pub(crate) index: usize,
+    pub(crate) answer: Result<Captures<'r, S>>,
+}
+
+impl RegexSet {
+    /// The first answer at a position of the input, in the order of positions and then of indices, with its position. `None`
+    /// where no member finds anything at any position.
+    pub(crate) fn first_answer<S: Input>(
+        &self,
+        input: &RegexInput<S>,
+        cache: &mut Cache,
+    ) -> Option<(usize, MemberAnswer<'_, S>)>
+        requires searched { CanSearchAll S.text S.bytes self.now input.now }
+        ensures none { IfNone result (set_position (asked_of_set self.now S.bytes input.now) ≡ None) }
+        ensures first { IfSome result (λ a. IsFirstOfSet (asked_of_set self.now S.bytes input.now)
+            (haystack_in input.now) a.0 a.1.index a.1.answer) }
+    {
+        let request = input.request();
+        let first = request.effective_start();
+        if first > request.range_end {
+            return None;
+        }
+        // a slice is shorter than 2^63 bytes
+        let haystack = input.haystack();
+        let _bytes = haystack.as_bytes();
+        let last = request.last_position();
+        for position in first..last + 1 {
+            if let Some(answer) = self.answer_from(0, input, position, cache) {
+                return Some((position, answer));
+            }
+        }
+        None
+    }
+
+    /// The first answer at a position of the members from an index on. `None` where none of them finds anything there.
+    pub(crate) fn answer_from<S: Input>(
+        &self,
+        from: usize,
+        input: &RegexInput<S>,
+        position: usize,
+        cache: &mut Cache,
+    ) -> Option<MemberAnswer<'_, S>>
+        requires searched { CanSearchAll S.text S.bytes self.now input.now }
+        requires starts { effective_start (request_in input.now) ≤ position }
+        requires ends { position ≤ (request_in input.now).range_end }
+        ensures none { IfNone result
+            (NoneBetween (asked_of_set self.now S.bytes input.now) position from (length (members_of self.now))) }
+        ensures first { IfSome result (λ a. IsFirstAnswer (asked_of_set self.now S.bytes input.now)
+            (haystack_in input.now) position from a.index a.answer) }
+    {
+        for index in from..self.members.len() {
+            if let Some(answer) = self.answer_of(index, input, position, cache) {
+                return Some(MemberAnswer { index, answer });
+            }
+        }
+        None
+    }
+
+    /// What the member with this index answers at a position. `None` where it finds nothing there.
+    fn answer_of<S: Input>(
+        &self,
+        index: usize,
+        input: &RegexInput<S>,
+        position: usize,
+        cache: &mut Cache,
+    ) -> Option<Result<Captures<'_, S>>>
+        requires member { index < length (members_of self.now) }
+        requires searched { CanSearchAll S.text S.bytes self.now input.now }
+        requires starts { effective_start (request_in input.now) ≤ position }
+        requires ends { position ≤ (request_in input.now).range_end }
+        ensures none { IfNone result
+            (has_answer_at (asked_of_set self.now S.bytes input.now) position index ≡ false) }
+        ensures some { IfSome result (λ a. IsAnswerOf (asked_of_set self.now S.bytes input.now)
+            (haystack_in input.now) position index a) }
+    {
+        match self.members[index].attempt_at(input.again(), position, cache) {
+            Ok(None) => None,
+            Ok(Some(captures)) => Some(Ok(captures)),
+            Err(error) => Some(Err(error)),
+        }
+    }
+}
