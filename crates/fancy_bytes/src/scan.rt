@@ -64,6 +64,7 @@ impl Scan {
     }
 
     /// The first place, from the one on and before the other, where a byte of the set stands.
+    #[inline]
     pub fn next_seen(&self, haystack: &[u8], from: usize, to: usize) -> Option<usize>
         requires ordered { from ≤ to }
         requires within { to ≤ length haystack.now }
@@ -73,6 +74,17 @@ impl Scan {
         if from < to && self.set.contains(haystack[from]) {
             return Some(from);
         }
+        self.seen_ahead(haystack, from, to)
+    }
+
+    /// The same by a loop, apart from the test of the first byte: searches ask mostly where they find at once.
+    #[inline(never)]
+    fn seen_ahead(&self, haystack: &[u8], from: usize, to: usize) -> Option<usize>
+        requires ordered { from ≤ to }
+        requires within { to ≤ length haystack.now }
+        ensures { MatchOption result (NoneSeenBefore self.now haystack.now from to)
+            (IsNextSeen self.now haystack.now from to) }
+    {
         match self.only {
             None => next_seen(&self.set, haystack, from, to),
             Some(byte) => match memchr(byte, &haystack[from..to]) {

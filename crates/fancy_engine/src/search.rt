@@ -69,6 +69,7 @@ fn begin_table(table: &mut Table, attempt: &Attempt) -> Result<(), SearchRefusal
 
 /// The first position, from the one on and up to the last, at which a match of the code may start; past the last where
 /// none may.
+#[inline]
 fn next_candidate(code: &Code, haystack: &[u8], from: usize, last: usize) -> usize
     requires ordered { from ≤ last + 1 }
     requires inside { last ≤ length haystack.now }

@@ -26,6 +26,19 @@ pub fn undo(slots: &mut Vec<Slot>, log: &mut Vec<Write>, down: usize)
     }
 }
 
+/// Begins a list of slots anew with so many, none written. They are pushed one by one: most patterns have one or two, for
+/// which a call that fills memory costs more.
+#[tactic(auto, using(std::proofs::lemmas::List::replicate_more))]
+fn begin_slots(slots: &mut Vec<Slot>, count: usize) -> Result<(), AllocError>
+    ensures { OnOk result (slots.new.items ≡ replicate count empty_slot) }
+{
+    slots.clear();
+    'slots: for _ in 0..count {
+        slots.push(EMPTY)?;
+    }
+    Ok(())
+}
+
 /// The thread that is followed, and the saved branches. Each branch is seen with the slots that it was saved with;
 /// what is kept is one list of slots and a log of the writes that were done since.
 #[derive(Drop)]
@@ -86,11 +99,10 @@ impl Threads {
     {
         self.branches.clear();
         self.log.clear();
-        self.slots.clear();
         self.at = at;
         self.place = place;
         self.most = most;
-        self.slots.resize(count, EMPTY)
+        begin_slots(&mut self.slots, count)
     }
 
     /// The next instruction.

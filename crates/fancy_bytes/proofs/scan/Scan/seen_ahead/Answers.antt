@@ -2,7 +2,7 @@ use Rattle.std.proofs.Common.{◌-◌, arith, subst}
 use Rattle.std.specs.Prelude.{slice_range}
 use Rattle.memchr.specs.Find.{Nowhere, Passes, is_byte}
 use Rattle.fancy_bytes.proofs.ScanLemmas.{only_of, length_part, none_seen, next_seen}
-use Rattle.fancy_bytes.proofs.scan.Scan.next_seen.Goals as goal
+use Rattle.fancy_bytes.proofs.scan.Scan.seen_ahead.Goals as goal
 
 pub returns-in-None-memchr : goal.returns-in-None-memchr
 returns-in-None-memchr c =
