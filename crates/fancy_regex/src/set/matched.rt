@@ -1,6 +1,6 @@
 //! What a pattern of a set matched.
 
-ghost use Rattle.std.specs.Prelude.{◌≡◌, Some, IsSome, IfSome, option_map};
+ghost use Rattle.std.specs.Prelude.{◌≡◌, Some, IsSome, option_map};
 ghost use Rattle.fancy_search.specs.Groups.{span_at};
 ghost use Rattle.fancy_core.specs.Captures.{spans_in, searched_in};
 
@@ -12,7 +12,7 @@ use fancy_input::span::Span;
 ///
 /// ```text
 /// let set = RegexSet::new(alloc, &["a", "x(b)"])?;
-/// // of "xb": pattern() is 1, start() is 0, end() is 2, as_str() is "xb", get(1) is 1..2
+/// // of "xb": pattern() is 1, start() is 0, end() is 2, as_str() is "xb", get() is 0..2, captures().get(1) is 1..2
 /// ```
 #[derive(Drop)]
 pub struct RegexSetMatch<'r, S: Haystack> {
@@ -46,12 +46,15 @@ impl<'r, S: Input> RegexSetMatch<'r, S> {
         &self.captures
     }
 
-    /// What the group with this number matched, as [`Captures::get`] has it.
-    pub fn get(&self, number: usize) -> Option<S::Match>
-        ensures found { option_map S.span result ≡ span_at (spans_in (captures_of self.now)) number }
-        ensures within { IfSome result (λ m. S.within m ≡ S.bytes (searched_in (captures_of self.now))) }
+    /// The whole match.
+    pub fn get(&self) -> S::Match
+        ensures found { match_span self.now ≡ Some (S.span result) }
+        ensures within { S.within result ≡ S.bytes (searched_in (captures_of self.now)) }
     {
-        self.captures.get(number)
+        match self.captures.get(0) {
+            Some(found) => found,
+            None => unreachable!(),
+        }
     }
 
     /// Where the match starts, as a byte offset. Where a `\K` was met on the way, that is the place of the last one, else the
