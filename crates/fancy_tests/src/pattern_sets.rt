@@ -173,6 +173,6 @@ fn sets_of_patterns_and_of_regexes(rt: HostRuntime) {
     let mut matches = matches.expect(&rt, "a match");
     let found = matches.next().expect(&rt, "an item").expect(&rt, "a match");
     assert_eq!(rt; found.captures().len(), 2);
-    assert!(rt; found.get(1).is_some());
-    assert!(rt; found.get(2).is_none());
+    assert!(rt; found.captures().get(1).is_some());
+    assert!(rt; found.captures().get(2).is_none());
 }
