@@ -205,7 +205,8 @@ fn set<W: io::Write>(
 ) -> Result<bool, Fault> {
     let patterns = texts_of(alloc, patterns)?;
     let set = RegexSet::new(alloc, &patterns)?;
-    let Some(matches) = set.find_input(RegexInput::new(text))? else {
+    let input = RegexInput::new(text);
+    let Some(matches) = set.find_input(input)? else {
         return Ok(false);
     };
     for found in matches {

@@ -1,10 +1,5 @@
-use Rattle.std.proofs.Common.{ℕ, List, sym, ap, ◌∙◌}
-use Rattle.std.specs.Borrow.{Bor}
-use Rattle.fancy_input.specs.Requests.{whole}
 use Rattle.fancy_regex.proofs.SetSearchLemmas.{searches_whole}
 use Rattle.fre.proofs.commands.set.Goals as goal
 
 pub find_input-requires : goal.find_input-requires
-find_input-requires g c = record {
-  searched = searches_whole _ _ c.in_ok-set.set c.new.result c.in_ok-set.ensures.options (c.new.ensures.request ∙ ap (λ (h : Bor (List ℕ)). whole h.now) (sym c.new.ensures.haystack));
-}
+find_input-requires g c = record { searched = searches_whole _ _ c.in_ok-set.set c.new-input.result c.in_ok-set.ensures.options (rw c.new-input.ensures.haystack c.new-input.ensures.request) }
