@@ -17,7 +17,7 @@ use Rattle.fancy_core.specs.Captures.{spans_in, searched_in, found_by}
 use Rattle.fancy_core.specs.Limited.{RefusesAt, AllowsAt}
 use Rattle.fancy_core.specs.Regexes.{group_count_in, query}
 use Rattle.fancy_core.specs.Searches.{groups_of_attempt}
-use Rattle.fancy_regex.specs.SetMembers.{SetQuery, asked, has_answer_at, members_from, members_at, any_answer_at, set_position, NoneBetween, IsMemberItem, RefusesMember, RefusesSet}
+use Rattle.fancy_regex.specs.SetMembers.{SetQuery, asked, has_answer_at, members_at_from, members_at, any_answer_at, set_position, NoneBetween, IsMemberItem, RefusesMember, RefusesSet}
 use Rattle.fancy_regex.specs.SetAnswers.{IsItemOf, IsFirstOfSet}
 use Rattle.fancy_regex.specs.SetMatches.{GivesMember}
 use Rattle.fancy_regex.proofs.SetListLemmas.{nothing_kept, nothing_passes, nothing_found, kept_from, found_first, some_passes}
@@ -77,10 +77,10 @@ module _ (q : SetQuery) (p : ℕ) where
   pub none_anywhere : NoneBetween q p 0 (length q.members) → any_answer_at q p ≡ false
   none_anywhere none = nothing_passes (has_answer_at q p) 0 (length q.members - 0) (λ j from below. none j from (omega (arith, below)))
 
-  pub none_left : (i : ℕ) → NoneBetween q p i (length q.members) → members_from q p i ≡ []
+  pub none_left : (i : ℕ) → NoneBetween q p i (length q.members) → members_at_from q p i ≡ []
   none_left i none = nothing_kept (has_answer_at q p) i (length q.members - i) (λ j from below. none j from (omega (arith, from, below)))
 
-  pub passed_over : (i : ℕ) → i ≤ length q.members → NoneBetween q p 0 i → members_from q p i ≡ members_at q p
+  pub passed_over : (i : ℕ) → i ≤ length q.members → NoneBetween q p 0 i → members_at_from q p i ≡ members_at q p
   passed_over i inside none =
       sym (kept_from (has_answer_at q p) 0 (length q.members - 0) i i (length q.members - i) (omega arith) (omega (arith, inside)) (λ j from below. none j from (omega (arith, below))))
 
@@ -116,7 +116,7 @@ module _ {S : Type 0} {g : _} (q : SetQuery) (haystack : S) (p k : ℕ) where
       (λ j from below. s.passed j from (let start = s.from in omega (arith, start, below)))
       (some_anywhere q p k s.here.inside (member_finds q p k _ _ s.here.answers.0))
 
-  pub has_all_left : (captures : Captures S g) → IsFirstOfSet q haystack p k (Ok captures) → members_from q p k ≡ members_at q p
+  pub has_all_left : (captures : Captures S g) → IsFirstOfSet q haystack p k (Ok captures) → members_at_from q p k ≡ members_at q p
   has_all_left captures s = passed_over q p k (let inside = s.here.inside in omega (arith, inside)) s.here.first
 
   pub set_refused : (e : Error) → IsFirstOfSet {S = S} {g = g} q haystack p k (Err e) → RefusesSet q e

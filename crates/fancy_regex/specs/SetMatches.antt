@@ -11,12 +11,12 @@ use Rattle.fancy_core.specs.Captures.{spans_in}
 use Rattle.fancy_regex.specs.declared.set.RegexSet.{RegexSet}
 use Rattle.fancy_regex.specs.declared.set.matched.RegexSetMatch.{RegexSetMatch}
 use Rattle.fancy_regex.specs.declared.set.matches.RegexSetMatchesAt.{RegexSetMatchesAt}
-use Rattle.fancy_regex.specs.SetMembers.{SetQuery, members_from, members_at, set_position, NoneBetween, IsMemberItem, RefusesMember}
+use Rattle.fancy_regex.specs.SetMembers.{SetQuery, members_at_from, members_at, set_position, NoneBetween, IsMemberItem, RefusesMember}
 use Rattle.fancy_regex.specs.Sets.{members_of, asked_of_set}
 
 -- the index of the pattern that matched
-abbrev pub pattern_of : {S : Type 0} {g : _} → RegexSetMatch S g → ℕ
-pattern_of m = m.pattern
+abbrev pub pattern_index : {S : Type 0} {g : _} → RegexSetMatch S g → ℕ
+pattern_index m = m.pattern
 
 abbrev pub captures_of : {S : Type 0} {g : _} → RegexSetMatch S g → Captures S g
 captures_of m = m.captures
@@ -47,8 +47,8 @@ abbrev pub question_of : {S : Type 0} {g : _} → (S → List ℕ) → RegexSetM
 question_of bytes m = asked_of_set (set_of m) bytes m.input
 
 -- the indices of the members that have an item still to come, refusals aside
-abbrev pub members_left : {S : Type 0} {g : _} → (S → List ℕ) → RegexSetMatchesAt S g → List ℕ
-members_left bytes m = members_from (question_of bytes m) (position_of m) (next_member m)
+abbrev pub members_to_come : {S : Type 0} {g : _} → (S → List ℕ) → RegexSetMatchesAt S g → List ℕ
+members_to_come bytes m = members_at_from (question_of bytes m) (position_of m) (next_member m)
 
 -- `find_input` answers this iterator: it stands at the set's position, and has the items of all members there left
 pub record IsAnswerOfSet {S : Type 0} {g : _} (bytes : S → List ℕ) (set : RegexSet) (haystack : S) (request : Request) (m : RegexSetMatchesAt S g) : Type 0 where
@@ -56,7 +56,7 @@ pub record IsAnswerOfSet {S : Type 0} {g : _} (bytes : S → List ℕ) (set : Re
   pub of_haystack : haystack_of_set m ≡ haystack
   pub of_request : request_of_set m ≡ request
   pub stands : set_position (question_of bytes m) ≡ Some (position_of m)
-  pub items : members_left bytes m ≡ members_at (question_of bytes m) (position_of m)
+  pub items : members_to_come bytes m ≡ members_at (question_of bytes m) (position_of m)
 
 -- A member's item: that of the least index, from the one on that is asked next, that has an accepted outcome at the position p.
 pub record GivesMember (q : SetQuery) (p from to index : ℕ) (member : Regex) (spans : List (Option Span)) : Type 0 where
@@ -76,7 +76,7 @@ pub record GivesRefusal (q : SetQuery) (p from to : ℕ) (e : Error) : Type 0 wh
 -- One call of `next`, from s to t. An item has this index and these spans, and was found by this regex in this haystack.
 pub record IsNextOfSet {S A : Type 0} {g : _} (bytes : S → List ℕ) (index : A → ℕ) (spans : A → List (Option Span)) (searched : A → S) (found_by : A → Regex) (s : RegexSetMatchesAt S g) (r : Option (Result A Error)) (t : RegexSetMatchesAt S g) : Type 0 where
   -- none where no member is left, and then none will be asked any more
-  pub gives : MatchOption r ((members_left bytes s ≡ []) × (length (members_of (set_of t)) ≤ next_member t))
+  pub gives : MatchOption r ((members_to_come bytes s ≡ []) × (length (members_of (set_of t)) ≤ next_member t))
       (λ item. MatchResult item
       (λ x. GivesMember (question_of bytes s) (position_of s) (next_member s) (next_member t) (index x) (found_by x) (spans x) × (searched x ≡ haystack_of_set s))
       (λ e. GivesRefusal (question_of bytes s) (position_of s) (next_member s) (next_member t) e))

@@ -35,12 +35,12 @@ abbrev pub indices_from : SetQuery → ℕ → List ℕ
 indices_from q i = range_with_len i (length q.members - i)
 
 -- the indices from i on, ascending, of the members that have an accepted outcome at p
-abbrev pub members_from : SetQuery → ℕ → ℕ → List ℕ
-members_from q p i = filter (has_answer_at q p) (indices_from q i)
+abbrev pub members_at_from : SetQuery → ℕ → ℕ → List ℕ
+members_at_from q p i = filter (has_answer_at q p) (indices_from q i)
 
 -- the indices of all that have one
 abbrev pub members_at : SetQuery → ℕ → List ℕ
-members_at q p = members_from q p 0
+members_at q p = members_at_from q p 0
 
 -- some member has one at p
 abbrev pub any_answer_at : SetQuery → ℕ → Bool

@@ -22,11 +22,11 @@ pub struct RegexSetMatch<'r, S: Haystack> {
 }
 
 impl<'r, S: Input> RegexSetMatch<'r, S> {
-    ghost use Rattle.fancy_regex.specs.SetMatches.{pattern_of, captures_of, match_span};
+    ghost use Rattle.fancy_regex.specs.SetMatches.{pattern_index, captures_of, match_span};
 
     pub(crate) fn new(pattern: usize, captures: Captures<'r, S>) -> RegexSetMatch<'r, S>
         requires matched { IsSome (span_at (spans_in captures) 0) }
-        ensures pattern { pattern_of result ≡ pattern }
+        ensures pattern { pattern_index result ≡ pattern }
         ensures captures { captures_of result ≡ captures.entry }
     {
         RegexSetMatch { pattern, captures }
@@ -34,7 +34,7 @@ impl<'r, S: Input> RegexSetMatch<'r, S> {
 
     /// The index of the pattern in its set.
     pub fn pattern(&self) -> usize
-        ensures { result ≡ pattern_of self.now }
+        ensures { result ≡ pattern_index self.now }
     {
         self.pattern
     }

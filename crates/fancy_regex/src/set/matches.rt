@@ -105,11 +105,11 @@ impl<'r, S: Input> RegexSetMatchesAt<'r, S> {
 }
 
 impl<'r, S: Input> Iterator for RegexSetMatchesAt<'r, S> {
-    ghost use Rattle.fancy_regex.specs.SetMatches.{IsNextOfSet, set_of, next_member, pattern_of, captures_of};
+    ghost use Rattle.fancy_regex.specs.SetMatches.{IsNextOfSet, set_of, next_member, pattern_index, captures_of};
 
     type Item = Result<RegexSetMatch<'r, S>>;
 
-    ghost next_gives = { IsNextOfSet S.bytes (λ m. pattern_of m) (λ m. spans_in (captures_of m))
+    ghost next_gives = { IsNextOfSet S.bytes (λ m. pattern_index m) (λ m. spans_in (captures_of m))
         (λ m. searched_in (captures_of m)) (λ m. found_by (captures_of m)) };
 
     ghost remaining = { λ m. at_most (length (members_of (set_of m)) - next_member m) };
