@@ -44,8 +44,6 @@ mod overrides;
 #[cfg(test)]
 mod parsing;
 #[cfg(test)]
-mod pattern_sets;
-#[cfg(test)]
 mod readme;
 #[cfg(test)]
 mod refusals;
