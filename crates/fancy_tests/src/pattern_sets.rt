@@ -114,7 +114,7 @@ fn check_items(rt: &impl Abort, mut matches: RegexSetMatchesAt<'_, &str>, wanted
                 let found = answer.expect(rt, "a match");
                 assert_eq!(rt; found.pattern(), pattern);
                 assert_eq!(rt; (found.start(), found.end()), (start, end));
-                assert_eq!(rt; found.as_str().len(), end - start);
+                assert_eq!(rt; start.checked_add(found.as_str().len()), Some(end));
             }
         }
     }
