@@ -1,6 +1,6 @@
 //! The members of classes, by the sets that they are read as, and why classes are refused.
 
-use crate::asking::{TextListRow, check_text_lists, kind_of};
+use crate::asking::kind_of;
 use fancy_syntax::flags::Flags;
 use fancy_syntax::parse::{ParseOptions, parse_with};
 use fancy_tree::error::ParseErrorKind;
@@ -111,13 +111,6 @@ fn members(rt: HostRuntime) {
     for row in MEMBERS {
         check_members(&rt, rt.alloc(), row);
     }
-}
-
-const ENDED_CLASSES: &[TextListRow] = &[("[a-c]z", "azbzczdz", &[(0, 2), (2, 4), (4, 6)])];
-
-#[test]
-fn a_bracket_ends_a_class(rt: HostRuntime) {
-    check_text_lists(&rt, rt.alloc(), ENDED_CLASSES);
 }
 
 /// What holds at the start, a class, and why it is refused.

@@ -1,10 +1,9 @@
 //! Patterns that the backtracking machine serves: references, look-around, atomic groups and possessive repeats.
 
 use crate::asking::{
-    BYTES, BytesRow, CHARACTERS, CHARACTERS_ANYWHERE, CountedRow, FOLDED, Flaw, FlawRow, GroupsRow,
-    ONLY_NAMED, PiecesRow, SearchRow, Settings, SpanRow, TextListRow, TextRow, check_counted,
-    check_flaws, check_groups, check_pieces, check_searches, check_spans, check_text_lists,
-    check_texts, first_span, is_too_complex, regex_of, regex_with, repeated,
+    BYTES, BytesRow, CHARACTERS, CHARACTERS_ANYWHERE, CountedRow, FOLDED, Flaw, FlawRow,
+    ONLY_NAMED, SearchRow, Settings, SpanRow, TextRow, check_counted, check_flaws, check_searches,
+    check_spans, check_texts, first_span, is_too_complex, regex_of, regex_with, repeated,
 };
 use fancy_regex::{
     Error, Regex, RegexBuilder, RegexInput, RegexOptionsBuilder, Result, RuntimeError,
@@ -82,31 +81,6 @@ const REFERENCES: &[TextRow] = &[
 #[test]
 fn references_ask_for_the_text_of_a_group(rt: HostRuntime) {
     check_texts(&rt, rt.alloc(), REFERENCES);
-}
-
-const GROUPS: &[GroupsRow] = &[
-    (
-        "(\\w+) \\1",
-        "mirror mirror on the wall",
-        &[Some((0, 13)), Some((0, 6))],
-    ),
-    ("r(#*)\".*?\"\\1", "r#\"a\"#", &[Some((0, 6)), Some((1, 2))]),
-    ("(?=(a+))a*b\\1", "baaabac", &[Some((3, 6)), Some((3, 4))]),
-    ("(a)(?!\\1)", "aab", &[Some((1, 2)), Some((1, 2))]),
-    ("(?:(a)x|ab)(?=)", "ab", &[Some((0, 2)), None]),
-    ("(?:(a)|b)*(?=c)", "abac", &[Some((0, 3)), Some((2, 3))]),
-    ("(?!(a)b)a", "ac", &[Some((0, 1)), None]),
-    (
-        "(?>(a)|(b))c|(b)d",
-        "bd",
-        &[Some((0, 2)), None, None, Some((0, 1))],
-    ),
-    ("(?<=(a)b)c", "abc", &[Some((2, 3)), Some((0, 1))]),
-];
-
-#[test]
-fn groups_of_hard_patterns(rt: HostRuntime) {
-    check_groups(&rt, rt.alloc(), GROUPS);
 }
 
 const SEARCHES: &[SearchRow<&str>] = &[
@@ -232,27 +206,6 @@ const UNLIMITED: &[SpanRow<&str>] = &[(
 #[test]
 fn easy_patterns_heed_no_limit(rt: HostRuntime) {
     check_spans(&rt, rt.alloc(), UNLIMITED);
-}
-
-const SPLIT: &[PiecesRow] = &[
-    ("(1|2)\\1", "12112122", &["12", "21", ""]),
-    ("(?<=2)1(?=2)", "12112122", &["12112", "22"]),
-];
-
-#[test]
-fn hard_patterns_split(rt: HostRuntime) {
-    check_pieces(&rt, rt.alloc(), SPLIT);
-}
-
-const LISTS: &[TextListRow] = &[
-    ("(?<=a)|b", "aab", &[(1, 1), (2, 2)]),
-    ("(a)\\1|a", "aaaaa", &[(0, 2), (2, 4), (4, 5)]),
-    ("(?=b)", "abb", &[(1, 1), (2, 2)]),
-];
-
-#[test]
-fn matches_of_hard_patterns(rt: HostRuntime) {
-    check_text_lists(&rt, rt.alloc(), LISTS);
 }
 
 const FLAWS: &[FlawRow] = &[

@@ -1,20 +1,12 @@
-//! The examples of the README. The tests, and the rows of each table, are in its order.
+//! The examples of the README on searches, options and refusals. The tests, and the rows of each table, are in its order.
 
 use crate::asking::{
-    ASCII_TEXT, AllGroupsRow, BYTES, BytesRow, CHARACTERS, CheckedRow, CountedRow, EasyRow,
-    FaultRow, FirstPiecesRow, GroupsRow, LONGEST, LaterGroupsRow, MatchRow, NOT_EMPTY, NameRow,
-    NamesRow, ONLY_NAMED, OVERRIDING, PiecesRow, ReplacedRow, SearchRow, Settings, Span, SpanRow,
-    TemplateRow, TextListRow, TextsRow, Told, check_all_groups, check_answer, check_counted,
-    check_easy, check_escaped, check_expanded, check_faults, check_first_pieces, check_fixed,
-    check_groups, check_later_groups, check_matches, check_name, check_names, check_pieces,
-    check_replaced, check_searches, check_spans, check_templates, check_text_lists,
-    check_texts_of_groups, check_told, counted, first_span, is_too_complex, regex_of, regex_with,
-    span,
+    ASCII_TEXT, BYTES, BytesRow, CHARACTERS, CountedRow, EasyRow, FaultRow, LONGEST, MatchRow,
+    NOT_EMPTY, OVERRIDING, SearchRow, Settings, Span, SpanRow, check_counted, check_easy,
+    check_faults, check_matches, check_searches, check_spans, counted, first_span, is_too_complex,
+    regex_of, regex_with, span,
 };
-use fancy_regex::{
-    Captures, Expander, NoExpand, ParseErrorKind, Regex, RegexBuilder, RegexInput,
-    RegexOptionsBuilder, ReplaceFn, Replacer, Work, escape,
-};
+use fancy_regex::{ParseErrorKind, Regex, RegexBuilder, RegexInput, RegexOptionsBuilder, Work};
 use std::alloc::Global;
 use std::process::Abort;
 
@@ -140,17 +132,6 @@ fn overrides_of_an_input(rt: HostRuntime) {
     assert!(rt; first_span(&rt, &inner, input).is_none());
 }
 
-#[test]
-fn named_groups_alone_are_captured(rt: HostRuntime) {
-    let regex = regex_with(&rt, rt.alloc(), ONLY_NAMED, "(a)(?<n>b)");
-    assert!(rt; regex.can_search(&RegexInput::new("ab")));
-    let found = regex.captures("ab").expect(&rt, "a search");
-    let captures = found.expect(&rt, "a match");
-    assert_eq!(rt; captures.len(), 2);
-    assert_eq!(rt; captures.get(1).map(span), Some((1, 2)));
-    assert_eq!(rt; captures.name("n").map(span), Some((1, 2)));
-}
-
 const LIMITED: &[CountedRow] = &[
     (CHARACTERS, "(?:a|b)(?=c)", "bc", 0, None, 0),
     (
@@ -198,187 +179,6 @@ fn a_builder(rt: HostRuntime) {
 fn try_from(rt: HostRuntime) {
     let regex = Regex::try_from(owned(&rt, rt.alloc(), "a|ab")).expect(&rt, "a regex");
     assert_eq!(rt; regex.as_str(), "a|ab");
-}
-
-const PAIRS: &[GroupsRow] = &[(
-    "(a)?(b|)",
-    "ab",
-    &[Some((0, 2)), Some((0, 1)), Some((1, 2))],
-)];
-
-const NAMED_SPANS: &[NameRow] = &[
-    (
-        "(?<year>\\d{4})-(?<month>\\d\\d)",
-        "on 2026-11",
-        "year",
-        Some((3, 7)),
-    ),
-    ("(?<first>a)(b)", "xab", "first", Some((1, 2))),
-];
-
-const NAMES: &[NamesRow] = &[("(?<first>a)(b)", &[None, Some("first"), None])];
-
-const TEXTS: &[TextsRow] = &[(
-    "(?<first>a)(b)",
-    "xab",
-    &[Some("ab"), Some("a"), Some("b")],
-    &[("first", Some("a"))],
-)];
-
-const GROUPS: &[GroupsRow] = &[(
-    "(?<first>a)(b)",
-    "xab",
-    &[Some((1, 3)), Some((1, 2)), Some((2, 3))],
-)];
-
-const LATER_GROUPS: &[LaterGroupsRow] = &[(
-    "(?<first>a)(b)",
-    "abab",
-    1,
-    &[Some((2, 4)), Some((2, 3)), Some((3, 4))],
-)];
-
-#[test]
-fn groups(rt: HostRuntime) {
-    check_groups(&rt, rt.alloc(), PAIRS);
-    check_name(&rt, rt.alloc(), NAMED_SPANS);
-    check_names(&rt, rt.alloc(), NAMES);
-    check_texts_of_groups(&rt, rt.alloc(), TEXTS);
-    check_groups(&rt, rt.alloc(), GROUPS);
-    check_later_groups(&rt, rt.alloc(), LATER_GROUPS);
-}
-
-const LISTS: &[TextListRow] = &[("a|ab", "xabab", &[(1, 2), (3, 4)])];
-
-#[test]
-fn all_matches(rt: HostRuntime) {
-    check_text_lists(&rt, rt.alloc(), LISTS);
-}
-
-#[test]
-fn a_list_of_matches(rt: HostRuntime) {
-    let regex = regex_of(&rt, rt.alloc(), "a|ab");
-    let matches = regex.find_iter_input(RegexInput::new("xabab").from_pos(2));
-    assert_eq!(rt; matches.text(), "xabab");
-    assert_eq!(rt; matches.regex().as_str(), "a|ab");
-    assert_eq!(rt; matches.input().start(), 2);
-}
-
-#[test]
-fn one_match_after_the_other(rt: HostRuntime) {
-    let regex = regex_of(&rt, rt.alloc(), "a|ab");
-    let mut matches = regex.find_iter_input(RegexInput::new("xabab").from_pos(2));
-    let next = matches.next().expect(&rt, "a match");
-    assert_eq!(rt; span(next.expect(&rt, "a search")), (3, 4));
-    assert_eq!(rt; matches.input().start(), 4);
-    assert!(rt; matches.next().is_none());
-}
-
-const ALL_GROUPS: &[AllGroupsRow] = &[(
-    "(a)|b",
-    "ba",
-    &[&[Some((0, 1)), None], &[Some((1, 2)), Some((1, 2))]],
-)];
-
-#[test]
-fn groups_of_all_matches(rt: HostRuntime) {
-    check_all_groups(&rt, rt.alloc(), ALL_GROUPS);
-}
-
-#[test]
-fn groups_of_one_match_after_the_other(rt: HostRuntime) {
-    let regex = regex_of(&rt, rt.alloc(), "(a)|b");
-    let input = RegexInput::new("ba").from_pos(1);
-    let mut groups = regex.captures_iter_input(input);
-    let next = groups.next().expect(&rt, "a match");
-    let group = next.expect(&rt, "a search").get(1);
-    assert_eq!(rt; group.map(span), Some((1, 2)));
-    assert!(rt; groups.next().is_none());
-}
-
-const PIECES: &[PiecesRow] = &[
-    ("a|ab", "xabab", &["x", "b", "b"]),
-    ("\\s*,\\s*", "a , b,c", &["a", "b", "c"]),
-];
-
-const FIRST_PIECES: &[FirstPiecesRow] = &[("a|ab", "xabab", 2, &["x", "bab"])];
-
-#[test]
-fn pieces(rt: HostRuntime) {
-    check_pieces(&rt, rt.alloc(), PIECES);
-    check_first_pieces(&rt, rt.alloc(), FIRST_PIECES);
-}
-
-const REPLACED: &[ReplacedRow] = &[
-    ("(b)", "abc", 0, "${1}-$0", "ab-bc"),
-    ("bla", "blablabla", 2, "foo", "foofoobla"),
-    ("a", "aaa", 1, "x", "xaa"),
-];
-
-#[test]
-fn replacement(rt: HostRuntime) {
-    check_replaced(&rt, rt.alloc(), REPLACED);
-}
-
-#[test]
-fn literal_replacement(rt: HostRuntime) {
-    let regex = regex_of(&rt, rt.alloc(), "a|ab");
-    check_answer(&rt, regex.replace("xab", NoExpand("$0")), "x$0b");
-    check_fixed(&rt, &mut NoExpand("$0"), Some("$0"));
-    check_fixed(&rt, &mut "$0", None);
-}
-
-#[test]
-fn a_lent_function_keeps_its_state(rt: HostRuntime) {
-    let alloc = rt.alloc();
-    let regex = regex_of(&rt, alloc, "a");
-    let mut calls = 0u32;
-    let mut counting = ReplaceFn::new(|_captures: &Captures<'_, &str>| {
-        calls = calls.wrapping_add(1);
-        Ok(format!(in alloc; "{calls}")?)
-    });
-    check_answer(&rt, regex.replace_all("aba", counting.by_ref()), "1b2");
-    check_answer(&rt, regex.replace_all("aba", counting.by_ref()), "3b4");
-    check_answer(&rt, regex.try_replacen_by("aaa", 2, &mut counting), "56a");
-}
-
-const PYTHON_TEMPLATES: &[TemplateRow] = &[("\\1\\g<0>\\\\x", "bb\\x")];
-
-const TEMPLATES: &[TemplateRow] = &[
-    ("$1!", "b!"),
-    ("${1}-$0", "b-b"),
-    ("<$0>", "<b>"),
-    ("$10", ""),
-    ("a$ b", "a$ b"),
-];
-
-const CHECKS: &[CheckedRow] = &[("(b)", "$2", Told::NoNumber(2))];
-
-#[test]
-fn templates(rt: HostRuntime) {
-    check_templates(&rt, rt.alloc(), &Expander::python(), PYTHON_TEMPLATES);
-    check_templates(&rt, rt.alloc(), &Expander::default(), TEMPLATES);
-    check_expanded(&rt, rt.alloc(), TEMPLATES);
-    check_told(&rt, rt.alloc(), &Expander::default(), CHECKS);
-}
-
-#[test]
-fn replace_append(rt: HostRuntime) {
-    let regex = regex_of(&rt, rt.alloc(), "(b)");
-    let found = regex.captures("abc").expect(&rt, "a search");
-    let captures = found.expect(&rt, "a match");
-    let mut text = String::new(rt.alloc());
-    let mut template = "<$0>";
-    let answer = template.replace_append(&captures, &mut text);
-    answer.expect(&rt, "a text");
-    assert_eq!(rt; text.as_str(), "<b>");
-}
-
-#[test]
-fn escapes(rt: HostRuntime) {
-    let safe = Expander::default().escape(rt.alloc(), "5 $");
-    check_escaped(&rt, safe, "5 $", "5 $$");
-    check_escaped(&rt, escape(rt.alloc(), "1+1"), "1+1", "1\\+1");
 }
 
 #[test]

@@ -94,6 +94,18 @@ fn classes_of_one_fault(rt: HostRuntime) {
     check_kinds(&rt, rt.alloc(), FAULTY_CLASSES);
 }
 
+const NO_NAMES: &[KindRow] = &[
+    ("(?<>a)", ParseErrorKind::InvalidGroupName),
+    ("(?<a b>c)", ParseErrorKind::InvalidGroupName),
+    ("(?P<a-b>c)", ParseErrorKind::InvalidGroupName),
+    ("(?<a", ParseErrorKind::InvalidGroupName),
+];
+
+#[test]
+fn names_are_rows_of_their_characters(rt: HostRuntime) {
+    check_kinds(&rt, rt.alloc(), NO_NAMES);
+}
+
 const LEFT_OUT: &[KindRow] = &[
     ("(*FAIL)", ParseErrorKind::NotInProfile),
     ("(?~a)", ParseErrorKind::NotInProfile),

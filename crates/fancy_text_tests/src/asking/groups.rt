@@ -1,14 +1,14 @@
 //! What groups find.
 
-use crate::asking::{Span, Spanned, regex_of, span};
-use fancy_regex::{Captures, Input, Regex, RegexInput};
+use crate::asking::{Span, regex_of, searchable, span};
+use fancy_regex::{CaptureMatches, Captures, Input, Match, Regex, RegexInput};
 use std::alloc::Global;
 use std::process::Abort;
 
 /// Where a group starts and ends, if it took part.
-fn span_if<M: Spanned>(group: Option<M>) -> Option<Span> {
+fn span_if(group: Option<Match<'_>>) -> Option<Span> {
     match group {
-        Some(group) => Some(group.span()),
+        Some(group) => Some(span(group)),
         None => None,
     }
 }
@@ -27,25 +27,25 @@ fn check_group(
     );
 }
 
-/// Checks how many groups there are.
-fn check_number(rt: &impl Abort, pattern: &str, found: usize, wanted: &[Option<Span>]) {
-    assert_eq!(rt; found, wanted.len(), "{pattern}");
+/// Checks how many groups, or matches, there are.
+pub(crate) fn check_number(rt: &impl Abort, pattern: &str, found: usize, wanted: usize) {
+    assert_eq!(rt; found, wanted, "{pattern}");
 }
 
 /// Checks the spans of all groups, from group 0 on, and that there are no others.
-fn check_group_spans<M: Spanned, S: Input<Match = M>>(
+fn check_group_spans(
     rt: &impl Abort,
-    captures: &Captures<'_, S>,
+    captures: &Captures<'_, &str>,
     pattern: &str,
     wanted: &[Option<Span>],
 ) {
-    check_number(rt, pattern, captures.len(), wanted);
+    check_number(rt, pattern, captures.len(), wanted.len());
     let mut number = 0usize;
     for group in captures.iter() {
         check_group(rt, pattern, number, span_if(group), wanted);
         number = number.saturating_add(1);
     }
-    check_number(rt, pattern, number, wanted);
+    check_number(rt, pattern, number, wanted.len());
 }
 
 /// Checks that no group has this number.
@@ -69,6 +69,35 @@ fn check_each(
     check_no_group(rt, captures, usize::MAX / 2 + 1);
 }
 
+/// The groups of a match that was found.
+fn taken<'r, S: Input>(
+    rt: &impl Abort,
+    found: fancy_regex::Result<Option<Captures<'r, S>>>,
+    pattern: &str,
+) -> Captures<'r, S> {
+    found.expect(rt, pattern).expect(rt, pattern)
+}
+
+/// The groups of the first match that the input asks for, which the regex may search.
+pub(crate) fn captured<'r, 't>(
+    rt: &impl Abort,
+    regex: &'r Regex,
+    input: RegexInput<&'t str>,
+) -> Captures<'r, &'t str> {
+    let input = searchable(rt, regex, input);
+    taken(rt, regex.captures_input(input), regex.as_str())
+}
+
+/// The groups of the first match in the text, which the regex may search.
+pub(crate) fn captured_in<'r, 't>(
+    rt: &impl Abort,
+    regex: &'r Regex,
+    haystack: &'t str,
+) -> Captures<'r, &'t str> {
+    searchable(rt, regex, RegexInput::new(haystack));
+    taken(rt, regex.captures(haystack), regex.as_str())
+}
+
 /// Checks the spans of the first match's groups, from group 0 on.
 pub(crate) fn check_captured(
     rt: &impl Abort,
@@ -76,9 +105,7 @@ pub(crate) fn check_captured(
     haystack: &str,
     wanted: &[Option<Span>],
 ) {
-    assert!(rt; regex.can_search(&RegexInput::new(haystack)));
-    let found = regex.captures(haystack).expect(rt, haystack);
-    let captures = found.expect(rt, haystack);
+    let captures = captured_in(rt, regex, haystack);
     check_group_spans(rt, &captures, regex.as_str(), wanted);
     check_each(rt, &captures, regex.as_str(), wanted);
 }
@@ -86,36 +113,35 @@ pub(crate) fn check_captured(
 /// A pattern, a text, and the spans of the groups, from group 0 on.
 pub(crate) type GroupsRow = (&'static str, &'static str, &'static [Option<Span>]);
 
-fn check_groups_row(rt: &impl Abort, alloc: Global, row: &GroupsRow) {
-    let (pattern, haystack, wanted) = *row;
-    let regex = regex_of(rt, alloc, pattern);
-    assert_eq!(rt; regex.captures_len(), wanted.len(), "{pattern}");
-    check_captured(rt, &regex, haystack, wanted);
-}
-
 pub(crate) fn check_groups(rt: &impl Abort, alloc: Global, rows: &[GroupsRow]) {
-    for row in rows {
-        check_groups_row(rt, alloc, row);
+    for &(pattern, haystack, wanted) in rows {
+        let regex = regex_of(rt, alloc, pattern);
+        check_number(rt, pattern, regex.captures_len(), wanted.len());
+        check_captured(rt, &regex, haystack, wanted);
     }
 }
 
 /// A pattern, a text, where the search starts, and the spans of the groups, from group 0 on.
 pub(crate) type LaterGroupsRow = (&'static str, &'static str, usize, &'static [Option<Span>]);
 
-fn check_later_groups_row(rt: &impl Abort, alloc: Global, row: &LaterGroupsRow) {
-    let (pattern, haystack, start, wanted) = *row;
-    let regex = regex_of(rt, alloc, pattern);
-    let input = RegexInput::new(haystack).from_pos(start);
-    assert!(rt; regex.can_search(&input), "{pattern}");
-    let found = regex.captures_input(input).expect(rt, pattern);
-    check_group_spans(rt, &found.expect(rt, pattern), pattern, wanted);
-    let found = regex.captures_from_pos(haystack, start).expect(rt, pattern);
-    check_group_spans(rt, &found.expect(rt, pattern), pattern, wanted);
+/// The groups of the first match in the text from a start on, which the regex may search.
+fn captured_from<'r, 't>(
+    rt: &impl Abort,
+    regex: &'r Regex,
+    haystack: &'t str,
+    start: usize,
+) -> Captures<'r, &'t str> {
+    searchable(rt, regex, RegexInput::new(haystack).from_pos(start));
+    taken(rt, regex.captures_from_pos(haystack, start), regex.as_str())
 }
 
 pub(crate) fn check_later_groups(rt: &impl Abort, alloc: Global, rows: &[LaterGroupsRow]) {
-    for row in rows {
-        check_later_groups_row(rt, alloc, row);
+    for &(pattern, haystack, start, wanted) in rows {
+        let regex = regex_of(rt, alloc, pattern);
+        let captures = captured(rt, &regex, RegexInput::new(haystack).from_pos(start));
+        check_group_spans(rt, &captures, pattern, wanted);
+        let captures = captured_from(rt, &regex, haystack, start);
+        check_group_spans(rt, &captures, pattern, wanted);
     }
 }
 
@@ -126,64 +152,104 @@ pub(crate) type AllGroupsRow = (
     &'static [&'static [Option<Span>]],
 );
 
-fn check_all_groups_row(rt: &impl Abort, alloc: Global, row: &AllGroupsRow) {
-    let (pattern, haystack, wanted) = *row;
-    let regex = regex_of(rt, alloc, pattern);
+/// Checks the groups of the match with this number in a list.
+fn check_item(
+    rt: &impl Abort,
+    captures: fancy_regex::Result<Captures<'_, &str>>,
+    pattern: &str,
+    at: usize,
+    wanted: &[&[Option<Span>]],
+) {
+    let spans = wanted.get(at).expect(rt, pattern);
+    check_group_spans(rt, &captures.expect(rt, pattern), pattern, spans);
+}
+
+/// Checks the groups of each match of a list.
+fn check_items(
+    rt: &impl Abort,
+    items: CaptureMatches<'_, &str>,
+    pattern: &str,
+    wanted: &[&[Option<Span>]],
+) {
     let mut at = 0usize;
-    for captures in regex.captures_iter(haystack) {
-        let spans = wanted.get(at).expect(rt, pattern);
-        check_group_spans(rt, &captures.expect(rt, pattern), pattern, spans);
+    for captures in items {
+        check_item(rt, captures, pattern, at, wanted);
         at = at.wrapping_add(1);
     }
-    assert_eq!(rt; at, wanted.len(), "{pattern}");
+    check_number(rt, pattern, at, wanted.len());
 }
 
 pub(crate) fn check_all_groups(rt: &impl Abort, alloc: Global, rows: &[AllGroupsRow]) {
-    for row in rows {
-        check_all_groups_row(rt, alloc, row);
+    for &(pattern, haystack, wanted) in rows {
+        let regex = regex_of(rt, alloc, pattern);
+        check_items(rt, regex.captures_iter(haystack), pattern, wanted);
     }
+}
+
+/// Checks the span of the group with this name.
+pub(crate) fn check_named(
+    rt: &impl Abort,
+    captures: &Captures<'_, &str>,
+    name: &str,
+    wanted: Option<Span>,
+) {
+    let found = span_if(captures.name(name));
+    assert_eq!(rt; found, wanted, "{name}");
 }
 
 /// A pattern, a text, a name, and the span of its group.
 pub(crate) type NameRow = (&'static str, &'static str, &'static str, Option<Span>);
 
-fn check_name_row(rt: &impl Abort, alloc: Global, row: &NameRow) {
-    let (pattern, haystack, name, wanted) = *row;
-    let regex = regex_of(rt, alloc, pattern);
-    let found = regex.captures(haystack).expect(rt, pattern);
-    let group = found.expect(rt, pattern).name(name);
-    assert_eq!(rt; group.map(span), wanted, "{name} of {pattern}");
-}
-
 pub(crate) fn check_name(rt: &impl Abort, alloc: Global, rows: &[NameRow]) {
-    for row in rows {
-        check_name_row(rt, alloc, row);
+    for &(pattern, haystack, name, wanted) in rows {
+        let regex = regex_of(rt, alloc, pattern);
+        let captures = captured_in(rt, &regex, haystack);
+        check_named(rt, &captures, name, wanted);
     }
 }
 
 /// A pattern, and the names of its groups, from group 0 on.
 pub(crate) type NamesRow = (&'static str, &'static [Option<&'static str>]);
 
-/// Checks the names, and that the regex gives its pattern back.
-fn check_names_row(rt: &impl Abort, alloc: Global, row: &NamesRow) {
-    let (pattern, wanted) = *row;
-    let regex = regex_of(rt, alloc, pattern);
-    assert_eq!(rt; regex.captures_len(), wanted.len(), "{pattern}");
+/// Checks that a regex gives its pattern back.
+fn check_pattern(rt: &impl Abort, alloc: Global, regex: &Regex, pattern: &str) {
     assert_eq!(rt; regex.as_str(), pattern);
     let text = regex.to_string(alloc).expect(rt, pattern);
     assert_eq!(rt; text.as_str(), pattern);
-    let mut number: usize = 0;
-    for name in regex.capture_names().expect(rt, pattern) {
-        assert!(rt; number < wanted.len(), "{pattern}");
-        assert_eq!(rt; name, wanted[number], "group {number} of {pattern}");
-        number = number.wrapping_add(1);
-    }
-    assert_eq!(rt; number, wanted.len(), "{pattern}");
 }
 
+/// Checks the name at a number.
+fn check_name_at(
+    rt: &impl Abort,
+    pattern: &str,
+    number: usize,
+    name: Option<&str>,
+    wanted: &[Option<&str>],
+) {
+    assert!(rt;
+        wanted.get(number) == Some(&name),
+        "group {number} of {pattern}"
+    );
+}
+
+/// Checks the names of a regex.
+fn check_names_of(rt: &impl Abort, regex: &Regex, wanted: &[Option<&str>]) {
+    let pattern = regex.as_str();
+    let mut number = 0usize;
+    for name in regex.capture_names().expect(rt, pattern) {
+        check_name_at(rt, pattern, number, name, wanted);
+        number = number.wrapping_add(1);
+    }
+    check_number(rt, pattern, number, wanted.len());
+}
+
+/// Checks the names, and that the regex gives its pattern back.
 pub(crate) fn check_names(rt: &impl Abort, alloc: Global, rows: &[NamesRow]) {
-    for row in rows {
-        check_names_row(rt, alloc, row);
+    for &(pattern, wanted) in rows {
+        let regex = regex_of(rt, alloc, pattern);
+        check_number(rt, pattern, regex.captures_len(), wanted.len());
+        check_pattern(rt, alloc, &regex, pattern);
+        check_names_of(rt, &regex, wanted);
     }
 }
 
@@ -229,19 +295,13 @@ fn check_texts_named(rt: &impl Abort, captures: &Captures<'_, &str>, named: &[Na
     }
 }
 
-fn check_texts_of_groups_row(rt: &impl Abort, alloc: Global, row: &TextsRow) {
-    let (pattern, haystack, texts, named) = *row;
-    let regex = regex_of(rt, alloc, pattern);
-    let found = regex.captures(haystack).expect(rt, pattern);
-    let captures = found.expect(rt, pattern);
-    assert_eq!(rt; captures.input_as_bytes(), haystack.as_bytes(), "{pattern}");
-    check_texts_at(rt, &captures, texts);
-    check_texts_named(rt, &captures, named);
-}
-
 pub(crate) fn check_texts_of_groups(rt: &impl Abort, alloc: Global, rows: &[TextsRow]) {
-    for row in rows {
-        check_texts_of_groups_row(rt, alloc, row);
+    for &(pattern, haystack, texts, named) in rows {
+        let regex = regex_of(rt, alloc, pattern);
+        let captures = captured_in(rt, &regex, haystack);
+        assert!(rt; captures.input_as_bytes() == haystack.as_bytes());
+        check_texts_at(rt, &captures, texts);
+        check_texts_named(rt, &captures, named);
     }
 }
 
@@ -278,8 +338,7 @@ fn check_owned_texts_row(rt: &impl Abort, alloc: Global, row: &TextsRow) {
     let (pattern, haystack, texts, named) = *row;
     let haystack = String::from_str(alloc, haystack).expect(rt, pattern);
     let regex = regex_of(rt, alloc, pattern);
-    let found = regex.captures(&haystack).expect(rt, pattern);
-    let captures = found.expect(rt, pattern);
+    let captures = taken(rt, regex.captures(&haystack), pattern);
     check_owned_texts_at(rt, &captures, texts);
     check_owned_texts_named(rt, &captures, named);
 }

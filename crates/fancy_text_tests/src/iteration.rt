@@ -3,10 +3,11 @@
 //! The first rows of the first two tables were worked out by hand, the others by an independent model of the search.
 
 use crate::asking::{
-    AllGroupsRow, BYTES, CHARACTERS, CHARACTERS_ANYWHERE, Settings, Span, Spanned, TextListRow,
-    check_all_groups, check_text_lists, regex_of, regex_with, span,
+    AllGroupsRow, BYTES, CHARACTERS, CHARACTERS_ANYWHERE, ListRow, Settings, Span, Spanned,
+    TextListRow, captured_in, check_all_groups, check_lists, check_match_at, check_number,
+    check_text_lists, next_span, regex_of, regex_with, searchable, span_found,
 };
-use fancy_regex::{Captures, Input, Match, MatchBytes, Matches, Regex, RegexInput};
+use fancy_regex::{CaptureMatches, Captures, Input, Match, MatchBytes, Matches, Regex, RegexInput};
 use std::alloc::Global;
 use std::process::Abort;
 
@@ -34,54 +35,82 @@ fn input_of<S: Input>(rt: &impl Abort, row: &Row<S>) -> RegexInput<S> {
         .anchored(row.anchored)
 }
 
+/// Where the whole match starts and ends that was found with its groups.
+fn span_captured<M: Spanned, S: Input<Match = M>>(
+    rt: &impl Abort,
+    captures: fancy_regex::Result<Captures<'_, S>>,
+    pattern: &str,
+) -> Span {
+    let whole = captures.expect(rt, pattern).get(0);
+    whole.expect(rt, pattern).span()
+}
+
 /// Checks where the captures of an iteration start and end.
-fn check_captures<M: Spanned, S: Input<Match = M>>(rt: &impl Abort, regex: &Regex, row: &Row<S>) {
-    let input = input_of(rt, row);
-    assert!(rt; regex.can_search(&input), "{}", row.pattern);
+fn check_captures<M: Spanned, S: Input<Match = M>>(
+    rt: &impl Abort,
+    items: CaptureMatches<'_, S>,
+    pattern: &str,
+    spans: &[Span],
+) {
     let mut at = 0usize;
-    for captures in regex.captures_iter_input(input) {
-        let whole = captures.expect(rt, row.pattern).get(0);
-        let found = whole.expect(rt, row.pattern).span();
-        assert!(rt;
-            row.spans.get(at) == Some(&found),
-            "match {at} of {}",
-            row.pattern
-        );
+    for captures in items {
+        let found = span_captured(rt, captures, pattern);
+        check_match_at(rt, pattern, at, found, spans);
         at = at.wrapping_add(1);
     }
-    assert_eq!(rt; at, row.spans.len(), "{}", row.pattern);
+    check_number(rt, pattern, at, spans.len());
+}
+
+/// Checks where the search starts that is next.
+fn check_start(rt: &impl Abort, pattern: &str, at: usize, start: usize, starts: &[usize]) {
+    assert!(rt; starts.get(at) == Some(&start), "start {at} of {pattern}");
+}
+
+/// Where the next match starts and ends.
+fn next_of<M: Spanned, S: Input<Match = M>>(
+    rt: &impl Abort,
+    matches: &mut Matches<'_, S>,
+    pattern: &str,
+) -> Span {
+    span_found(rt, matches.next().expect(rt, pattern), pattern)
+}
+
+/// Checks that there is no further match.
+fn check_ended<S: Input>(rt: &impl Abort, matches: &mut Matches<'_, S>, pattern: &str) {
+    assert!(rt; matches.next().is_none(), "{pattern}");
 }
 
 /// Checks where the matches of an iteration start and end, and where it goes on after each.
-fn check_matches<M: Spanned, S: Input<Match = M>>(rt: &impl Abort, regex: &Regex, row: &Row<S>) {
-    let pattern = row.pattern;
-    let input = input_of(rt, row);
-    assert!(rt; regex.can_search(&input), "{pattern}");
-    let mut matches = regex.find_iter_input(input);
-    for at in 0..row.spans.len() {
-        let start = matches.input().start();
-        assert!(rt;
-            row.starts.get(at) == Some(&start),
-            "start {at} of {pattern}"
-        );
-        let next = matches.next().expect(rt, pattern);
-        let found = next.expect(rt, pattern).span();
-        assert!(rt;
-            row.spans.get(at) == Some(&found),
-            "match {at} of {pattern}"
-        );
+fn check_matches<M: Spanned, S: Input<Match = M>>(
+    rt: &impl Abort,
+    mut matches: Matches<'_, S>,
+    pattern: &str,
+    (spans, starts): (&[Span], &[usize]),
+) {
+    for at in 0..spans.len() {
+        check_start(rt, pattern, at, matches.input().start(), starts);
+        let found = next_of(rt, &mut matches, pattern);
+        check_match_at(rt, pattern, at, found, spans);
     }
-    let has_ended = matches.next().is_none() && matches.next().is_none();
-    assert!(rt; has_ended, "{pattern}");
-    let start = matches.input().start();
-    assert!(rt; row.starts.last() == Some(&start), "end of {pattern}");
+    check_start(rt, pattern, spans.len(), matches.input().start(), starts);
+    check_ended(rt, &mut matches, pattern);
+    check_ended(rt, &mut matches, pattern);
+    let last = starts.len().saturating_sub(1);
+    check_start(rt, pattern, last, matches.input().start(), starts);
+}
+
+fn check_row<M: Spanned, S: Input<Match = M>>(rt: &impl Abort, alloc: Global, row: &Row<S>) {
+    let regex = regex_with(rt, alloc, row.settings, row.pattern);
+    let input = searchable(rt, &regex, input_of(rt, row));
+    let wanted = (row.spans, row.starts);
+    check_matches(rt, regex.find_iter_input(input), row.pattern, wanted);
+    let input = searchable(rt, &regex, input_of(rt, row));
+    check_captures(rt, regex.captures_iter_input(input), row.pattern, row.spans);
 }
 
 fn check_rows<M: Spanned, S: Input<Match = M>>(rt: &impl Abort, alloc: Global, rows: &[Row<S>]) {
     for row in rows {
-        let regex = regex_with(rt, alloc, row.settings, row.pattern);
-        check_captures(rt, &regex, row);
-        check_matches(rt, &regex, row);
+        check_row(rt, alloc, row);
     }
 }
 
@@ -405,6 +434,31 @@ fn matches_come_one_after_another(rt: HostRuntime) {
     check_text_lists(&rt, rt.alloc(), LISTS);
 }
 
+const ENDED_CLASSES: &[TextListRow] = &[("[a-c]z", "azbzczdz", &[(0, 2), (2, 4), (4, 6)])];
+
+#[test]
+fn a_bracket_ends_a_class(rt: HostRuntime) {
+    check_text_lists(&rt, rt.alloc(), ENDED_CLASSES);
+}
+
+const ITERATIONS: &[ListRow<&[u8]>] = &[
+    (CHARACTERS, "(?m)^", b"a\n", &[(0, 0), (2, 2)]),
+    (CHARACTERS, "(?m)$", b"a\n", &[(1, 1), (2, 2)]),
+    (CHARACTERS, "(?mR)^.*$", b"a\r\nb", &[(0, 1), (3, 4)]),
+    (CHARACTERS, "(?mR)^", b"\r\n\r", &[(0, 0), (2, 2), (3, 3)]),
+    (CHARACTERS, ".", b"\xF0\x9F\x98", &[]),
+    (CHARACTERS_ANYWHERE, ".", b"\xF0\x9F\x98", &[]),
+    (BYTES, ".", b"\xF0\x9F\x98", &[(0, 1), (1, 2), (2, 3)]),
+    (CHARACTERS, "\\B", b"\x80", &[(0, 0), (1, 1)]),
+    (BYTES, "\\B", b"\x80", &[(0, 0), (1, 1)]),
+    (CHARACTERS, "\\b", b"a b", &[(0, 0), (1, 1), (2, 2), (3, 3)]),
+];
+
+#[test]
+fn iterates_over_lines_and_items(rt: HostRuntime) {
+    check_lists(&rt, rt.alloc(), ITERATIONS);
+}
+
 const GROUPS_OF_ALL_MATCHES: &[AllGroupsRow] = &[
     (
         "(a)|b",
@@ -446,72 +500,63 @@ fn collects_matches_of_bytes(rt: HostRuntime) {
     }
 }
 
+/// The sum of the ends of all matches.
+fn sum_of_ends(rt: &impl Abort, matches: Matches<'_, &[u8]>) -> usize {
+    let mut total = 0usize;
+    for found in matches {
+        total = total.wrapping_add(span_found(rt, found, "a match").1);
+    }
+    total
+}
+
 #[test]
 fn ends_of_matches_in_bytes(rt: HostRuntime) {
     let regex = regex_of(&rt, rt.alloc(), "a|");
     let bytes: &[u8] = b"bab";
-    let mut total = 0usize;
-    for found in regex.find_iter(bytes) {
-        total = total.wrapping_add(found.expect(&rt, "a match").end());
-    }
-    assert_eq!(rt; total, 5);
+    assert_eq!(rt; sum_of_ends(&rt, regex.find_iter(bytes)), 5);
 }
 
-/// Checks how many matches there are.
-fn check_count<S: Input>(rt: &impl Abort, regex: &Regex, haystack: S, wanted: usize) {
-    let input = RegexInput::new(haystack);
-    assert!(rt; regex.can_search(&input));
-    assert_eq!(rt; regex.find_iter(haystack).count(), wanted);
-    assert_eq!(rt; regex.captures_iter(haystack).count(), wanted);
+/// Checks how many matches there are, from a start on.
+fn check_count<S: Input>(rt: &impl Abort, regex: &Regex, input: RegexInput<S>, wanted: usize) {
+    let input = searchable(rt, regex, input);
+    check_number(
+        rt,
+        "a?",
+        regex.find_iter_input(input.again()).count(),
+        wanted,
+    );
+    check_number(rt, "a?", regex.captures_iter_input(input).count(), wanted);
 }
 
-/// Checks how many matches there are from a start on.
-fn check_later_count<S: Input>(
-    rt: &impl Abort,
-    regex: &Regex,
-    input: RegexInput<S>,
-    wanted: usize,
-) {
-    assert!(rt; regex.can_search(&input));
-    assert_eq!(rt; regex.find_iter_input(input.again()).count(), wanted);
-    assert_eq!(rt; regex.captures_iter_input(input).count(), wanted);
+/// Checks how many matches there are in the whole haystack.
+fn check_whole_count<S: Input>(rt: &impl Abort, regex: &Regex, haystack: S, wanted: usize) {
+    searchable(rt, regex, RegexInput::new(haystack));
+    check_number(rt, "a?", regex.find_iter(haystack).count(), wanted);
+    check_number(rt, "a?", regex.captures_iter(haystack).count(), wanted);
 }
 
 #[test]
 fn counts_matches(rt: HostRuntime) {
     let regex = regex_of(&rt, rt.alloc(), "a?");
     let bytes: &[u8] = b"baa";
-    check_count(&rt, &regex, "baa", 3);
-    check_count(&rt, &regex, bytes, 3);
-    check_later_count(&rt, &regex, RegexInput::new("baa").from_pos(1), 2);
-    check_later_count(&rt, &regex, RegexInput::new(bytes).from_pos(1), 2);
-}
-
-/// Where the next match starts and ends.
-fn next_span(rt: &impl Abort, matches: &mut Matches<'_, &str>) -> Option<Span> {
-    match matches.next() {
-        Some(found) => Some(span(found.expect(rt, "a search"))),
-        None => None,
-    }
+    check_whole_count(&rt, &regex, "baa", 3);
+    check_whole_count(&rt, &regex, bytes, 3);
+    check_count(&rt, &regex, RegexInput::new("baa").from_pos(1), 2);
+    check_count(&rt, &regex, RegexInput::new(bytes).from_pos(1), 2);
 }
 
 #[test]
 fn counts_the_matches_left(rt: HostRuntime) {
     let regex = regex_of(&rt, rt.alloc(), "a?");
     let mut matches = regex.find_iter("baa");
-    let first = matches
-        .next()
-        .expect(&rt, "a match")
-        .expect(&rt, "a search");
-    assert_eq!(rt; (first.start(), first.end()), (0, 0));
+    assert_eq!(rt; next_span(&rt, &mut matches), Some((0, 0)));
     assert_eq!(rt; matches.count(), 2);
 }
 
 #[test]
 fn counts_groups(rt: HostRuntime) {
     let regex = regex_of(&rt, rt.alloc(), "(a)|b");
-    let found = regex.captures("ba").expect(&rt, "a search");
-    assert_eq!(rt; found.expect(&rt, "a match").iter().count(), 2);
+    assert_eq!(rt; captured_in(&rt, &regex, "ba").iter().count(), 2);
 }
 
 #[test]

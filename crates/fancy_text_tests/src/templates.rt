@@ -1,8 +1,8 @@
 //! What templates expand to, which of them a regex allows, and escapes.
 
 use crate::asking::{
-    CheckedRow, TemplateRow, Told, check_escaped, check_expanded, check_templates, check_told,
-    regex_of,
+    CheckedRow, TemplateRow, Told, captured_in, check_escaped, check_expanded, check_templates,
+    check_told, regex_of,
 };
 use fancy_regex::{Expander, escape};
 use fancy_template::steps::Step;
@@ -221,8 +221,7 @@ impl io::Write for Narrow {
 /// Writes an expansion of three bytes to a writer that takes `left` of them.
 fn check_writer(rt: &impl Abort, alloc: Global, most: usize, left: usize, fails: bool) {
     let regex = regex_of(rt, alloc, "(b)");
-    let found = regex.captures("abc").expect(rt, "a search");
-    let captures = found.expect(rt, "a match");
+    let captures = captured_in(rt, &regex, "abc");
     let mut writer = Narrow {
         taken: Vec::new(alloc),
         calls: 0,
@@ -254,8 +253,7 @@ fn a_fault_ends_the_writing(rt: HostRuntime) {
 #[test]
 fn nothing_is_written_for_nothing(rt: HostRuntime) {
     let regex = regex_of(&rt, rt.alloc(), "(b)|c");
-    let found = regex.captures("c").expect(&rt, "a search");
-    let captures = found.expect(&rt, "a match");
+    let captures = captured_in(&rt, &regex, "c");
     for template in &["", "$1", "$7$x"] {
         let mut writer = Narrow {
             taken: Vec::new(rt.alloc()),
