@@ -20,5 +20,5 @@ pub(crate) use settings::{
 };
 pub(crate) use spans::{
     BytesRow, MatchRow, SearchRow, Span, SpanRow, TextRow, check_found, check_matches,
-    check_searches, check_spans, check_texts, first_span, span, span_found, span_of_bytes,
+    check_searches, check_spans, check_texts, first_span, span, span_found,
 };

@@ -9,17 +9,24 @@ use std::process::Abort;
 /// A pattern, the bytes that its matches start with (nothing where they may start anywhere), and those that it requires.
 type BytesRow = (&'static str, Option<&'static [u8]>, &'static [u8]);
 
+/// Checks what is asked of one byte of a set.
+fn check_byte(rt: &impl Abort, holds: bool, pattern: &str, at: usize) {
+    assert!(rt; holds, "byte {at} of {pattern}");
+}
+
 /// Checks that the set has these members, in this order, and no others.
 fn check_members(rt: &impl Abort, set: &ByteSet, wanted: &[u8], pattern: &str) {
     let mut at = 0usize;
     for byte in set.iter() {
-        assert!(rt; wanted.get(at) == Some(&byte), "byte {at} of {pattern}");
-        assert!(rt; set.contains(byte), "byte {at} of {pattern}");
+        check_byte(rt, wanted.get(at) == Some(&byte), pattern, at);
+        check_byte(rt, set.contains(byte), pattern, at);
         at = at.wrapping_add(1);
     }
-    assert_eq!(rt; at, wanted.len(), "{pattern}");
-    assert_eq!(rt; set.len(), at, "{pattern}");
-    assert!(rt; set.is_empty() == wanted.is_empty(), "{pattern}");
+    let counts = (at, set.len(), set.is_empty());
+    assert!(rt;
+        counts == (wanted.len(), at, wanted.is_empty()),
+        "{pattern}"
+    );
 }
 
 /// Checks the bytes that matches start with.

@@ -2,8 +2,9 @@
 
 use crate::asking::{
     BYTES, BytesRow, CHARACTERS, CHARACTERS_ANYWHERE, CountedRow, FOLDED, Flaw, FlawRow,
-    ONLY_NAMED, SearchRow, Settings, SpanRow, TextRow, check_counted, check_flaws, check_searches,
-    check_spans, check_texts, first_span, is_too_complex, regex_of, regex_with, repeated,
+    ONLY_NAMED, SearchRow, Settings, SpanRow, TextRow, check_counted, check_flaws, check_found,
+    check_searches, check_spans, check_texts, first_span, is_too_complex, regex_of, regex_with,
+    repeated,
 };
 use fancy_regex::{
     Error, Regex, RegexBuilder, RegexInput, RegexOptionsBuilder, Result, RuntimeError,
@@ -134,6 +135,13 @@ fn hard_patterns_on_bytes(rt: HostRuntime) {
 /// Letters that share their simple folding.
 const SHARED_FOLDINGS: &[&[&str]] = &[&["\u{1C4}", "\u{1C5}", "\u{1C6}"], &["k", "K", "\u{212A}"]];
 
+/// Two texts, one after the other.
+fn joined(rt: &impl Abort, alloc: Global, first: &str, other: &str) -> String {
+    let mut text = String::from_str(alloc, first).expect(rt, "no memory");
+    text.push_str(other).expect(rt, "no memory");
+    text
+}
+
 /// Checks that a letter is found again in each other form, and in no form of other letters.
 fn check_folding(
     rt: &impl Abort,
@@ -144,12 +152,11 @@ fn check_folding(
     others: &[&str],
 ) {
     for other in others {
-        let mut haystack = String::from_str(alloc, first).expect(rt, "no memory");
-        haystack.push_str(other).expect(rt, "no memory");
+        let haystack = joined(rt, alloc, first, other);
         let found = first_span(rt, regex, RegexInput::new(haystack.as_str()));
         let whole = Some((0, haystack.len()));
-        assert!(rt; (found == whole) == wanted, "{haystack}");
-        assert!(rt; found.is_some() == wanted, "{haystack}");
+        let span = if wanted { whole } else { None };
+        check_found(rt, regex.as_str(), haystack.as_str(), found, span);
     }
 }
 
@@ -261,8 +268,11 @@ fn read_by_its_builder(
 
 /// Checks that the pattern is read, or refused for the size of its code.
 fn check_size(rt: &impl Abort, read: &Result<Regex>, pattern: &str, wanted: bool) {
-    assert!(rt; is_too_complex(read) == wanted, "{pattern}");
-    assert!(rt; read.is_err() == wanted, "{pattern}");
+    let is_refused = is_too_complex(read);
+    assert!(rt;
+        is_refused == wanted && read.is_err() == wanted,
+        "{pattern}"
+    );
 }
 
 /// A pattern, how large its code may be, and whether it is refused.

@@ -2,7 +2,8 @@
 
 use crate::asking::{
     BYTES, BytesRow, CHARACTERS, CHARACTERS_ANYWHERE, KindRow, OVERRIDING, SearchRow, Settings,
-    Span, TextRow, check_kinds, check_searches, check_spans, check_texts, first_span, regex_with,
+    Span, TextRow, check_found, check_kinds, check_searches, check_spans, check_texts, first_span,
+    regex_with,
 };
 use fancy_regex::{ParseErrorKind, RegexInput};
 use std::alloc::Global;
@@ -104,9 +105,10 @@ fn check_continued(rt: &impl Abort, alloc: Global, row: &ContinuedRow) {
     let (settings, pattern, haystack, going_on, suppressed) = *row;
     let regex = regex_with(rt, alloc, settings, pattern);
     let input = RegexInput::new(haystack);
-    assert_eq!(rt; first_span(rt, &regex, input), going_on, "{pattern}");
-    let input = RegexInput::new(haystack).continue_from_previous_match_end(false);
-    assert_eq!(rt; first_span(rt, &regex, input), suppressed, "{pattern}");
+    let found = first_span(rt, &regex, input.again());
+    check_found(rt, pattern, haystack, found, going_on);
+    let found = first_span(rt, &regex, input.continue_from_previous_match_end(false));
+    check_found(rt, pattern, haystack, found, suppressed);
 }
 
 const SUPPRESSED: &[ContinuedRow] = &[

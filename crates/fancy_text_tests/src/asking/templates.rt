@@ -7,13 +7,7 @@ use std::borrow::CowStr;
 use std::process::Abort;
 
 /// Compares what was written of an expansion, if all went well, with what is wanted.
-fn check_written(
-    rt: &impl Abort,
-    is_done: bool,
-    written: &[u8],
-    template: &str,
-    wanted: &str,
-) {
+fn check_written(rt: &impl Abort, is_done: bool, written: &[u8], template: &str, wanted: &str) {
     assert!(rt; is_done && written == wanted.as_bytes(), "{template}");
 }
 
@@ -36,7 +30,10 @@ fn check_writes(
 
 /// Compares what was appended to a text of one letter, if all went well, with what is wanted.
 fn check_appended(rt: &impl Abort, is_done: bool, text: &str, template: &str, wanted: &str) {
-    assert!(rt; is_done && text.strip_prefix("é") == Some(wanted), "{template}");
+    assert!(rt;
+        is_done && text.strip_prefix("é") == Some(wanted),
+        "{template}"
+    );
 }
 
 /// A text of one letter.
