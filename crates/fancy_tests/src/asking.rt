@@ -1,6 +1,7 @@
 //! What the tests ask of a pattern: the rows of their tables, and for each kind of call one function that checks rows.
 
 mod counts;
+mod fact;
 mod nested;
 mod refusals;
 mod settings;
@@ -9,6 +10,7 @@ mod spans;
 pub(crate) use counts::{
     CountedRow, EasyRow, WorkRow, check_counted, check_easy, check_work, counted,
 };
+pub(crate) use fact::check;
 pub(crate) use nested::{read_many, read_nested, repeated};
 pub(crate) use refusals::{
     FaultRow, Flaw, FlawRow, KindRow, check_faults, check_flaws, check_kinds, fault_of,

@@ -1,7 +1,8 @@
 //! What groups a search finds.
 
 use crate::asking::{
-    GroupsRow, LaterGroupsRow, captured, check_groups, check_later_groups, regex_of, span,
+    GroupsRow, LaterGroupsRow, captured, check, check_group_spans, check_groups,
+    check_later_groups, regex_of,
 };
 use fancy_regex::RegexInput;
 
@@ -46,6 +47,6 @@ fn finds_the_groups_from_a_start(rt: HostRuntime) {
 fn the_branch_that_was_given_up_captures_nothing(rt: HostRuntime) {
     let regex = regex_of(&rt, rt.alloc(), "(a|ab)c");
     let captures = captured(&rt, &regex, RegexInput::new("xabc").range(1..4));
-    assert_eq!(rt; captures.get(1).map(span), Some((1, 3)));
-    assert!(rt; captures.get(2).is_none());
+    check_group_spans(&rt, &captures, "(a|ab)c", &[Some((1, 4)), Some((1, 3))]);
+    check(&rt, captures.get(2).is_none(), "no third group");
 }

@@ -4,10 +4,12 @@
 
 use crate::asking::{
     AllGroupsRow, BYTES, CHARACTERS, CHARACTERS_ANYWHERE, ListRow, Settings, Span, Spanned,
-    TextListRow, captured_in, check_all_groups, check_lists, check_match_at, check_number,
-    check_text_lists, next_span, regex_of, regex_with, searchable, span_found,
+    TextListRow, captured_in, check, check_all_groups, check_lists, check_match_at, check_next,
+    check_number, check_text_lists, regex_of, regex_with, searchable, span_found,
 };
-use fancy_regex::{CaptureMatches, Captures, Input, Match, MatchBytes, Matches, Regex, RegexInput};
+use fancy_regex::{
+    CaptureMatches, Captures, Error, Input, Match, MatchBytes, Matches, Regex, RegexInput,
+};
 use std::alloc::Global;
 use std::process::Abort;
 
@@ -77,7 +79,7 @@ fn next_of<M: Spanned, S: Input<Match = M>>(
 
 /// Checks that there is no further match.
 fn check_ended<S: Input>(rt: &impl Abort, matches: &mut Matches<'_, S>, pattern: &str) {
-    assert!(rt; matches.next().is_none(), "{pattern}");
+    check(rt, matches.next().is_none(), pattern);
 }
 
 /// Checks where the matches of an iteration start and end, and where it goes on after each.
@@ -480,13 +482,17 @@ fn groups_come_with_each_match(rt: HostRuntime) {
 /// A pattern, a text, and how many matches it has.
 const COLLECTED: &[(&str, &str, usize)] = &[("(a)|b", "ba", 2), ("a|", "bab", 3)];
 
+/// Whether so many items were collected.
+fn has_length<T>(all: &Result<Vec<T>, Error>, count: usize) -> bool {
+    matches!(all, Ok(all) if all.len() == count)
+}
+
 #[test]
 fn collects_matches(rt: HostRuntime) {
     for &(pattern, text, count) in COLLECTED {
         let regex = regex_of(&rt, rt.alloc(), pattern);
-        let matches = regex.find_iter(text).try_collect(rt.alloc());
-        let all: Vec<Match<'_>> = matches.expect(&rt, pattern);
-        assert_eq!(rt; all.len(), count, "{pattern}");
+        let all: Result<Vec<Match<'_>>, Error> = regex.find_iter(text).try_collect(rt.alloc());
+        check(&rt, has_length(&all, count), pattern);
     }
 }
 
@@ -494,9 +500,9 @@ fn collects_matches(rt: HostRuntime) {
 fn collects_matches_of_bytes(rt: HostRuntime) {
     for &(pattern, text, count) in COLLECTED {
         let regex = regex_of(&rt, rt.alloc(), pattern);
-        let matches = regex.find_iter(text.as_bytes()).try_collect(rt.alloc());
-        let all: Vec<MatchBytes<'_>> = matches.expect(&rt, pattern);
-        assert_eq!(rt; all.len(), count, "{pattern}");
+        let matches = regex.find_iter(text.as_bytes());
+        let all: Result<Vec<MatchBytes<'_>>, Error> = matches.try_collect(rt.alloc());
+        check(&rt, has_length(&all, count), pattern);
     }
 }
 
@@ -513,7 +519,7 @@ fn sum_of_ends(rt: &impl Abort, matches: Matches<'_, &[u8]>) -> usize {
 fn ends_of_matches_in_bytes(rt: HostRuntime) {
     let regex = regex_of(&rt, rt.alloc(), "a|");
     let bytes: &[u8] = b"bab";
-    assert_eq!(rt; sum_of_ends(&rt, regex.find_iter(bytes)), 5);
+    check_number(&rt, "a|", sum_of_ends(&rt, regex.find_iter(bytes)), 5);
 }
 
 /// Checks how many matches there are, from a start on.
@@ -549,41 +555,43 @@ fn counts_matches(rt: HostRuntime) {
 fn counts_the_matches_left(rt: HostRuntime) {
     let regex = regex_of(&rt, rt.alloc(), "a?");
     let mut matches = regex.find_iter("baa");
-    assert_eq!(rt; next_span(&rt, &mut matches), Some((0, 0)));
-    assert_eq!(rt; matches.count(), 2);
+    check_next(&rt, &mut matches, (0, 0));
+    check_number(&rt, "a?", matches.count(), 2);
 }
 
 #[test]
 fn counts_groups(rt: HostRuntime) {
     let regex = regex_of(&rt, rt.alloc(), "(a)|b");
-    assert_eq!(rt; captured_in(&rt, &regex, "ba").iter().count(), 2);
+    let captures = captured_in(&rt, &regex, "ba");
+    check_number(&rt, "(a)|b", captures.iter().count(), 2);
 }
 
 #[test]
 fn the_input_moves_on(rt: HostRuntime) {
     let regex = regex_of(&rt, rt.alloc(), "a|");
     let mut matches = regex.find_iter_input(RegexInput::new("éa").from_pos(2));
-    assert_eq!(rt; matches.input().start(), 2);
-    assert_eq!(rt; next_span(&rt, &mut matches), Some((2, 3)));
-    assert_eq!(rt; matches.input().start(), 3);
-    assert!(rt; matches.next().is_none() && matches.next().is_none());
-    assert_eq!(rt; matches.input().start(), 4);
+    check_number(&rt, "the first start", matches.input().start(), 2);
+    check_next(&rt, &mut matches, (2, 3));
+    check_number(&rt, "the second start", matches.input().start(), 3);
+    check_ended(&rt, &mut matches, "a|");
+    check_ended(&rt, &mut matches, "a|");
+    check_number(&rt, "the last start", matches.input().start(), 4);
 }
 
 #[test]
 fn the_input_passes_over_a_character(rt: HostRuntime) {
     let regex = regex_of(&rt, rt.alloc(), "a|");
     let mut matches = regex.find_iter("é");
-    assert_eq!(rt; next_span(&rt, &mut matches), Some((0, 0)));
-    assert_eq!(rt; matches.input().start(), 2);
+    check_next(&rt, &mut matches, (0, 0));
+    check_number(&rt, "the start", matches.input().start(), 2);
 }
 
 #[test]
 fn a_list_tells_its_text_and_its_regex(rt: HostRuntime) {
     let regex = regex_of(&rt, rt.alloc(), "a|");
     let matches = regex.find_iter_input(RegexInput::new("éa").from_pos(2));
-    assert_eq!(rt; matches.text(), "éa");
-    assert_eq!(rt; matches.regex().as_str(), "a|");
+    check(&rt, matches.text() == "éa", "the text");
+    check(&rt, matches.regex().as_str() == "a|", "the regex");
 }
 
 #[test]
@@ -591,8 +599,8 @@ fn captures_in_bytes_are_collected(rt: HostRuntime) {
     let regex = regex_of(&rt, rt.alloc(), "a(b)?");
     let bytes: &[u8] = b"aab";
     let matches = regex.captures_iter_input(RegexInput::new(bytes).from_pos(1));
-    let all: Vec<Captures<'_, &[u8]>> = matches.try_collect(rt.alloc()).expect(&rt, "a search");
-    assert_eq!(rt; all.len(), 1);
+    let all: Result<Vec<Captures<'_, &[u8]>>, Error> = matches.try_collect(rt.alloc());
+    check(&rt, has_length(&all, 1), "a(b)?");
 }
 
 #[test]
@@ -600,6 +608,7 @@ fn a_list_of_captures_tells_its_text_and_its_regex(rt: HostRuntime) {
     let regex = regex_of(&rt, rt.alloc(), "a(b)?");
     let bytes: &[u8] = b"aab";
     let matches = regex.captures_iter_input(RegexInput::new(bytes).from_pos(1));
-    assert!(rt; matches.text() == bytes && matches.regex().captures_len() == 2);
-    assert_eq!(rt; matches.input().start(), 1);
+    check(&rt, matches.text() == bytes, "the text");
+    check_number(&rt, "the groups", matches.regex().captures_len(), 2);
+    check_number(&rt, "the start", matches.input().start(), 1);
 }

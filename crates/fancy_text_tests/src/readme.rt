@@ -4,10 +4,10 @@
 use crate::asking::{
     AllGroupsRow, CheckedRow, FirstPiecesRow, GroupsRow, LaterGroupsRow, NameRow, NamesRow,
     ONLY_NAMED, PiecesRow, ReplacedRow, TemplateRow, TextListRow, TextsRow, Told, captured_in,
-    check_all_groups, check_answer, check_captured, check_escaped, check_expanded,
-    check_first_pieces, check_fixed, check_groups, check_later_groups, check_name, check_named,
-    check_names, check_pieces, check_replaced, check_templates, check_text_lists,
-    check_texts_of_groups, check_told, next_span, regex_of, regex_with, span,
+    check, check_all_groups, check_answer, check_captured, check_escaped, check_expanded,
+    check_first_pieces, check_fixed, check_groups, check_item, check_later_groups, check_name,
+    check_named, check_names, check_next, check_number, check_pieces, check_replaced,
+    check_templates, check_text_lists, check_texts_of_groups, check_told, regex_of, regex_with,
 };
 use fancy_regex::{Captures, Expander, NoExpand, RegexInput, ReplaceFn, Replacer, escape};
 
@@ -78,18 +78,18 @@ fn all_matches(rt: HostRuntime) {
 fn a_list_of_matches(rt: HostRuntime) {
     let regex = regex_of(&rt, rt.alloc(), "a|ab");
     let matches = regex.find_iter_input(RegexInput::new("xabab").from_pos(2));
-    assert_eq!(rt; matches.text(), "xabab");
-    assert_eq!(rt; matches.regex().as_str(), "a|ab");
-    assert_eq!(rt; matches.input().start(), 2);
+    check(&rt, matches.text() == "xabab", "the text");
+    check(&rt, matches.regex().as_str() == "a|ab", "the regex");
+    check_number(&rt, "the start", matches.input().start(), 2);
 }
 
 #[test]
 fn one_match_after_the_other(rt: HostRuntime) {
     let regex = regex_of(&rt, rt.alloc(), "a|ab");
     let mut matches = regex.find_iter_input(RegexInput::new("xabab").from_pos(2));
-    assert_eq!(rt; next_span(&rt, &mut matches), Some((3, 4)));
-    assert_eq!(rt; matches.input().start(), 4);
-    assert!(rt; matches.next().is_none());
+    check_next(&rt, &mut matches, (3, 4));
+    check_number(&rt, "the start", matches.input().start(), 4);
+    check(&rt, matches.next().is_none(), "no further match");
 }
 
 const ALL_GROUPS: &[AllGroupsRow] = &[(
@@ -109,9 +109,8 @@ fn groups_of_one_match_after_the_other(rt: HostRuntime) {
     let input = RegexInput::new("ba").from_pos(1);
     let mut groups = regex.captures_iter_input(input);
     let next = groups.next().expect(&rt, "a match");
-    let group = next.expect(&rt, "a search").get(1);
-    assert_eq!(rt; group.map(span), Some((1, 2)));
-    assert!(rt; groups.next().is_none());
+    check_item(&rt, next, "(a)|b", 0, &[&[Some((1, 2)), Some((1, 2))]]);
+    check(&rt, groups.next().is_none(), "no further match");
 }
 
 const PIECES: &[PiecesRow] = &[
@@ -187,8 +186,8 @@ fn replace_append(rt: HostRuntime) {
     let mut text = String::new(rt.alloc());
     let mut template = "<$0>";
     let answer = template.replace_append(&captures, &mut text);
-    answer.expect(&rt, "a text");
-    assert_eq!(rt; text.as_str(), "<b>");
+    check(&rt, answer.is_ok(), template);
+    check(&rt, text.as_str() == "<b>", template);
 }
 
 #[test]

@@ -1,8 +1,8 @@
 //! What templates expand to, which of them a regex allows, and escapes.
 
 use crate::asking::{
-    CheckedRow, TemplateRow, Told, captured_in, check_escaped, check_expanded, check_templates,
-    check_told, regex_of,
+    CheckedRow, TemplateRow, Told, captured_in, check, check_escaped, check_expanded,
+    check_templates, check_text, check_told, regex_of,
 };
 use fancy_regex::{Captures, Expander, escape};
 use fancy_template::steps::Step;
@@ -29,7 +29,7 @@ fn check_steps(rt: &impl Abort, alloc: Global, expander: &Expander, template: &s
         let text = shown(alloc, step).expect(rt, template);
         all.push_str(text.as_str()).expect(rt, template);
     }
-    assert_eq!(rt; all.as_str(), wanted);
+    check(rt, all.as_str() == wanted, template);
 }
 
 const DOLLAR_STEPS: &[(&str, &str)] = &[
@@ -107,7 +107,7 @@ fn captures_of_owned_text_expand(rt: HostRuntime) {
     let found = regex.captures(&haystack).expect(&rt, "a search");
     let captures = found.expect(&rt, "a match");
     let answer = Expander::default().expansion("$2[$1]$0", &captures);
-    assert_eq!(rt; answer.expect(&rt, "a text").as_str(), "[é]éa");
+    check_text(&rt, answer, "$2[$1]$0", "[é]éa");
 }
 
 const TWO_WORDS: &str = "(?P<first>\\w+)\\s+(?P<second>\\w+)";
@@ -256,9 +256,9 @@ fn check_writer(
 ) {
     let answer = Expander::default().write_expansion(&mut writer, "${1}-$0", captures);
     let wanted = "b-b".as_bytes().get(..left.min(3)).expect(rt, "no part");
-    assert!(rt; writer.taken.as_slice() == wanted, "{left}");
+    check(rt, writer.taken.as_slice() == wanted, "what was taken");
     let kind = if left < 3 { Some(fault) } else { None };
-    assert!(rt; kind_of(&answer) == kind, "{left}");
+    check(rt, kind_of(&answer) == kind, "the fault");
 }
 
 #[test]
@@ -279,7 +279,8 @@ fn a_fault_ends_the_writing(rt: HostRuntime) {
 fn check_nothing(rt: &impl Abort, alloc: Global, captures: &Captures<'_, &str>, template: &str) {
     let mut writer = narrow(alloc, 0, 0, true);
     let answer = Expander::default().write_expansion(&mut writer, template, captures);
-    assert!(rt; answer.is_ok() && writer.calls == 0, "{template}");
+    check(rt, answer.is_ok(), template);
+    check(rt, writer.calls == 0, template);
 }
 
 #[test]
@@ -296,7 +297,7 @@ fn all_is_written(rt: HostRuntime) {
     let mut out = Vec::new(rt.alloc());
     write_whole(&mut out, b"abc").expect(&rt, "a write");
     write_whole(&mut out, b"d").expect(&rt, "a write");
-    assert_eq!(rt; out.as_slice(), b"abcd".as_slice());
+    check(&rt, out.as_slice() == b"abcd".as_slice(), "abcd");
 }
 
 #[test]
@@ -304,7 +305,7 @@ fn a_text_is_not_written_past_a_fault(rt: HostRuntime) {
     for (left, fails) in [(2, true), (1, false)] {
         let mut writer = narrow(rt.alloc(), 1, left, fails);
         let answer = write_whole(&mut writer, b"abc");
-        assert!(rt; kind_of(&answer) == Some(fault_of(fails)));
-        assert!(rt; writer.taken.len() == left);
+        check(&rt, kind_of(&answer) == Some(fault_of(fails)), "the fault");
+        check(&rt, writer.taken.len() == left, "what was taken");
     }
 }

@@ -1,6 +1,6 @@
 //! What groups find.
 
-use crate::asking::{Span, regex_of, searchable, span};
+use crate::asking::{Span, check, regex_of, searchable, span};
 use fancy_regex::{CaptureMatches, Captures, Input, Match, Regex, RegexInput};
 use std::alloc::Global;
 use std::process::Abort;
@@ -29,11 +29,11 @@ fn check_group(
 
 /// Checks how many groups, or matches, there are.
 pub(crate) fn check_number(rt: &impl Abort, pattern: &str, found: usize, wanted: usize) {
-    assert_eq!(rt; found, wanted, "{pattern}");
+    assert!(rt; found == wanted, "{found} of {pattern}");
 }
 
 /// Checks the spans of all groups, from group 0 on, and that there are no others.
-fn check_group_spans(
+pub(crate) fn check_group_spans(
     rt: &impl Abort,
     captures: &Captures<'_, &str>,
     pattern: &str,
@@ -48,11 +48,6 @@ fn check_group_spans(
     check_number(rt, pattern, number, wanted.len());
 }
 
-/// Checks that no group has this number.
-fn check_no_group(rt: &impl Abort, captures: &Captures<'_, &str>, number: usize) {
-    assert!(rt; captures.get(number).is_none(), "group {number}");
-}
-
 /// Checks that [`Captures::get`] says of each group what is wanted, and nothing of others.
 fn check_each(
     rt: &impl Abort,
@@ -64,9 +59,9 @@ fn check_each(
         let found = span_if(captures.get(number));
         check_group(rt, pattern, number, found, wanted);
     }
-    check_no_group(rt, captures, wanted.len());
-    check_no_group(rt, captures, usize::MAX);
-    check_no_group(rt, captures, usize::MAX / 2 + 1);
+    check(rt, captures.get(wanted.len()).is_none(), pattern);
+    check(rt, captures.get(usize::MAX).is_none(), pattern);
+    check(rt, captures.get(usize::MAX / 2 + 1).is_none(), pattern);
 }
 
 /// The groups of a match that was found.
@@ -153,7 +148,7 @@ pub(crate) type AllGroupsRow = (
 );
 
 /// Checks the groups of the match with this number in a list.
-fn check_item(
+pub(crate) fn check_item(
     rt: &impl Abort,
     captures: fancy_regex::Result<Captures<'_, &str>>,
     pattern: &str,
@@ -194,7 +189,7 @@ pub(crate) fn check_named(
     wanted: Option<Span>,
 ) {
     let found = span_if(captures.name(name));
-    assert_eq!(rt; found, wanted, "{name}");
+    check(rt, found == wanted, name);
 }
 
 /// A pattern, a text, a name, and the span of its group.
@@ -213,9 +208,9 @@ pub(crate) type NamesRow = (&'static str, &'static [Option<&'static str>]);
 
 /// Checks that a regex gives its pattern back.
 fn check_pattern(rt: &impl Abort, alloc: Global, regex: &Regex, pattern: &str) {
-    assert_eq!(rt; regex.as_str(), pattern);
     let text = regex.to_string(alloc).expect(rt, pattern);
-    assert_eq!(rt; text.as_str(), pattern);
+    check(rt, regex.as_str() == pattern, pattern);
+    check(rt, text.as_str() == pattern, pattern);
 }
 
 /// Checks the name at a number.
@@ -280,18 +275,22 @@ fn text_named<'t>(captures: &Captures<'_, &'t str>, name: &str) -> Option<&'t st
     }
 }
 
+/// Checks the text of a group.
+fn check_text_at(rt: &impl Abort, text: Option<&str>, number: usize, texts: &[Option<&str>]) {
+    assert!(rt; texts.get(number) == Some(&text), "group {number}");
+}
+
 /// Checks the texts of groups by their numbers.
 fn check_texts_at(rt: &impl Abort, captures: &Captures<'_, &str>, texts: &[Option<&str>]) {
     for number in 0..texts.len() {
-        let text = text_at(captures, number);
-        assert!(rt; texts.get(number) == Some(&text), "group {number}");
+        check_text_at(rt, text_at(captures, number), number, texts);
     }
 }
 
 /// Checks the texts of groups by their names.
 fn check_texts_named(rt: &impl Abort, captures: &Captures<'_, &str>, named: &[NamedText]) {
     for &(name, wanted) in named {
-        assert!(rt; text_named(captures, name) == wanted, "{name}");
+        check(rt, text_named(captures, name) == wanted, name);
     }
 }
 
@@ -299,7 +298,11 @@ pub(crate) fn check_texts_of_groups(rt: &impl Abort, alloc: Global, rows: &[Text
     for &(pattern, haystack, texts, named) in rows {
         let regex = regex_of(rt, alloc, pattern);
         let captures = captured_in(rt, &regex, haystack);
-        assert!(rt; captures.input_as_bytes() == haystack.as_bytes());
+        check(
+            rt,
+            captures.input_as_bytes() == haystack.as_bytes(),
+            pattern,
+        );
         check_texts_at(rt, &captures, texts);
         check_texts_named(rt, &captures, named);
     }
@@ -323,14 +326,13 @@ fn owned_text_named<'t>(captures: &Captures<'_, &'t String>, name: &str) -> Opti
 
 fn check_owned_texts_at(rt: &impl Abort, captures: &Captures<'_, &String>, texts: &[Option<&str>]) {
     for number in 0..texts.len() {
-        let text = owned_text_at(captures, number);
-        assert!(rt; texts.get(number) == Some(&text), "group {number}");
+        check_text_at(rt, owned_text_at(captures, number), number, texts);
     }
 }
 
 fn check_owned_texts_named(rt: &impl Abort, captures: &Captures<'_, &String>, named: &[NamedText]) {
     for &(name, wanted) in named {
-        assert!(rt; owned_text_named(captures, name) == wanted, "{name}");
+        check(rt, owned_text_named(captures, name) == wanted, name);
     }
 }
 

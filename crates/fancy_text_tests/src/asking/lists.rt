@@ -1,6 +1,8 @@
 //! Matches that come one after another.
 
-use crate::asking::{Settings, Span, Spanned, check_number, regex_of, regex_with, searchable};
+use crate::asking::{
+    Settings, Span, Spanned, check, check_number, regex_of, regex_with, searchable,
+};
 use fancy_regex::{Input, Matches, RegexInput};
 use std::alloc::Global;
 use std::process::Abort;
@@ -66,8 +68,14 @@ pub(crate) fn check_text_lists(rt: &impl Abort, alloc: Global, rows: &[TextListR
     }
 }
 
+/// Checks where the next match of a list starts and ends.
+pub(crate) fn check_next(rt: &impl Abort, matches: &mut Matches<'_, &str>, wanted: Span) {
+    let found = next_span(rt, matches);
+    check(rt, found == Some(wanted), "the next match");
+}
+
 /// Where the next match of a list starts and ends.
-pub(crate) fn next_span(rt: &impl Abort, matches: &mut Matches<'_, &str>) -> Option<Span> {
+fn next_span(rt: &impl Abort, matches: &mut Matches<'_, &str>) -> Option<Span> {
     match matches.next() {
         Some(found) => Some(span_found(rt, found, "a search")),
         None => None,

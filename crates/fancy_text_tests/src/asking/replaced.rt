@@ -1,6 +1,6 @@
 //! Texts whose matches are replaced.
 
-use crate::asking::regex_of;
+use crate::asking::{check, regex_of, searchable};
 use fancy_regex::{Regex, RegexInput, Replacer};
 use std::alloc::Global;
 use std::borrow::CowStr;
@@ -13,7 +13,7 @@ pub(crate) fn check_answer(
     wanted: &str,
 ) {
     let text = answer.expect(rt, wanted);
-    assert_eq!(rt; text.as_str(), wanted);
+    check(rt, text.as_str() == wanted, wanted);
 }
 
 /// A pattern, a text, a limit, a template, and the text with the matches replaced.
@@ -35,7 +35,7 @@ fn check_form<R: Replacer + Drop>(
     requires callable { R.callable template }
 {
     let (text, limit, wanted) = asked;
-    assert!(rt; regex.can_search(&RegexInput::new(text)));
+    searchable(rt, regex, RegexInput::new(text));
     check_answer(rt, regex.replacen(text, limit, template), wanted);
 }
 
@@ -55,7 +55,7 @@ fn check_forms(rt: &impl Abort, alloc: Global, regex: &Regex, row: &ReplacedRow)
 /// Checks a row by the calls whose limit it has.
 fn check_calls(rt: &impl Abort, regex: &Regex, row: &ReplacedRow) {
     let (_, text, limit, template, wanted) = *row;
-    assert!(rt; regex.can_search(&RegexInput::new(text)));
+    searchable(rt, regex, RegexInput::new(text));
     check_answer(rt, regex.try_replacen(text, limit, template), wanted);
     if limit == 0 {
         check_answer(rt, regex.replace_all(text, template), wanted);
@@ -77,8 +77,9 @@ pub(crate) fn check_replaced(rt: &impl Abort, alloc: Global, rows: &[ReplacedRow
 /// Checks what text a replacer always gives, if it does.
 pub(crate) fn check_fixed<R: Replacer>(rt: &impl Abort, replacer: &mut R, wanted: Option<&str>) {
     let fixed = replacer.no_expansion();
-    match wanted {
-        Some(text) => assert_eq!(rt; fixed.expect(rt, text).as_str(), text),
-        None => assert!(rt; fixed.is_none()),
-    }
+    let text = match &fixed {
+        Some(text) => Some(text.as_str()),
+        None => None,
+    };
+    check(rt, text == wanted, "what is always given");
 }

@@ -1,6 +1,6 @@
 //! Templates, and texts that are escaped for them.
 
-use crate::asking::{captured_in, regex_of};
+use crate::asking::{captured_in, check, regex_of};
 use fancy_regex::{Captures, CompileError, Error, Expander, ParseErrorKind};
 use std::alloc::Global;
 use std::borrow::CowStr;
@@ -36,6 +36,17 @@ fn check_appended(rt: &impl Abort, is_done: bool, text: &str, template: &str, wa
     );
 }
 
+/// Checks what a template expands to.
+pub(crate) fn check_text(
+    rt: &impl Abort,
+    answer: fancy_regex::Result<String>,
+    template: &str,
+    wanted: &str,
+) {
+    let text = answer.expect(rt, template);
+    check(rt, text.as_str() == wanted, template);
+}
+
 /// A text of one letter.
 fn letter(rt: &impl Abort, alloc: Global) -> String {
     String::from_str(alloc, "é").expect(rt, "no memory")
@@ -50,8 +61,7 @@ fn check_forms(
     captures: &Captures<'_, &str>,
     wanted: &str,
 ) {
-    let text = expander.expansion(template, captures).expect(rt, template);
-    assert!(rt; text.as_str() == wanted, "{template}");
+    check_text(rt, expander.expansion(template, captures), template, wanted);
     let mut appended = letter(rt, alloc);
     let answer = expander.append_expansion(&mut appended, template, captures);
     check_appended(rt, answer.is_ok(), appended.as_str(), template, wanted);
@@ -131,7 +141,7 @@ fn check_told_row(rt: &impl Abort, alloc: Global, expander: &Expander, row: &Che
     let (pattern, template, wanted) = *row;
     let regex = regex_of(rt, alloc, pattern);
     let answer = expander.check(template, &regex);
-    assert!(rt; is_told(&answer, wanted), "{template}");
+    check(rt, is_told(&answer, wanted), template);
 }
 
 pub(crate) fn check_told(rt: &impl Abort, alloc: Global, expander: &Expander, rows: &[CheckedRow]) {
@@ -148,9 +158,7 @@ pub(crate) fn check_escaped(
     wanted: &str,
 ) {
     let escaped = answer.expect(rt, text);
-    assert_eq!(rt; escaped.as_str(), wanted);
-    assert!(rt;
-        matches!(escaped, CowStr::Borrowed(_)) == (text == wanted),
-        "{text}"
-    );
+    let is_same = matches!(escaped, CowStr::Borrowed(_));
+    check(rt, escaped.as_str() == wanted, text);
+    check(rt, is_same == (text == wanted), text);
 }
