@@ -8,7 +8,7 @@ mod settings;
 mod spans;
 
 pub(crate) use counts::{
-    CountedRow, EasyRow, WorkRow, check_counted, check_easy, check_work, counted,
+    CountedRow, EasyRow, WorkRow, check_counted, check_easy, check_work, counted, is_found,
 };
 pub(crate) use fact::check;
 pub(crate) use nested::{read_many, read_nested, repeated};
@@ -22,5 +22,5 @@ pub(crate) use settings::{
 };
 pub(crate) use spans::{
     BytesRow, MatchRow, SearchRow, Span, SpanRow, TextRow, check_found, check_matches,
-    check_searches, check_spans, check_texts, first_span, span, span_found,
+    check_searches, check_spans, check_texts, first_span, is_answer, is_part, span, span_found,
 };

@@ -1,6 +1,6 @@
 //! Ways to a regex: a builder that holds its pattern, and a text that becomes one.
 
-use crate::asking::{Span, check_found, fault_of, first_span};
+use crate::asking::{Span, check, check_found, fault_of, first_span};
 use fancy_regex::{ParseErrorKind, Regex, RegexBuilder, RegexInput};
 use std::alloc::Global;
 use std::process::Abort;
@@ -25,7 +25,7 @@ fn check_built(rt: &impl Abort, builder: &RegexBuilder, rows: &[Row<'_>]) {
 /// Checks the pattern that the builder holds.
 fn check_pattern(rt: &impl Abort, builder: &RegexBuilder, wanted: &str) {
     let regex = built(rt, builder);
-    assert!(rt; regex.as_str() == wanted, "{wanted}");
+    check(rt, regex.as_str() == wanted, wanted);
 }
 
 /// A builder that holds the pattern.
@@ -59,7 +59,7 @@ fn a_refused_pattern_can_be_replaced(rt: HostRuntime) {
     let mut builder = builder_of(&rt, rt.alloc(), "(?:a");
     let wanted = Some((4, ParseErrorKind::UnclosedOpenParen));
     for _ in 0..2 {
-        assert!(rt; fault_of(&builder.build()) == wanted);
+        check(&rt, fault_of(&builder.build()) == wanted, "(?:a");
     }
     builder.pattern(owned(&rt, rt.alloc(), "(?:a)"));
     check_built(&rt, &builder, &[("ba", Some((1, 2)))]);
@@ -83,7 +83,7 @@ fn overrides_where_the_builder_allows_them(rt: HostRuntime) {
 #[test]
 fn a_text_becomes_a_regex(rt: HostRuntime) {
     let regex = Regex::try_from(owned(&rt, rt.alloc(), "a|ab")).expect(&rt, "a regex");
-    assert_eq!(rt; regex.as_str(), "a|ab");
+    check(&rt, regex.as_str() == "a|ab", "a|ab");
     let found = first_span(&rt, &regex, RegexInput::new("xab"));
     check_found(&rt, "a|ab", "xab", found, Some((1, 2)));
 }
@@ -92,5 +92,5 @@ fn a_text_becomes_a_regex(rt: HostRuntime) {
 fn a_faulty_text_becomes_none(rt: HostRuntime) {
     let refused = Regex::try_from(owned(&rt, rt.alloc(), "a)"));
     let wanted = Some((1, ParseErrorKind::GeneralParseError));
-    assert_eq!(rt; fault_of(&refused), wanted);
+    check(&rt, fault_of(&refused) == wanted, "a)");
 }

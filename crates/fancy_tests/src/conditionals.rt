@@ -1,8 +1,8 @@
 //! Conditionals: a test of a group, or a pattern, that picks one of two branches.
 
 use crate::asking::{
-    CHARACTERS, Flaw, FlawRow, KindRow, ONLY_NAMED, TextRow, check_flaws, check_kinds, check_texts,
-    kind_of, read_nested,
+    CHARACTERS, Flaw, FlawRow, KindRow, ONLY_NAMED, TextRow, check, check_flaws, check_kinds,
+    check_texts, kind_of, read_nested,
 };
 use fancy_regex::ParseErrorKind;
 
@@ -138,7 +138,13 @@ fn conditionals_of_one_fault(rt: HostRuntime) {
 #[test]
 fn both_parentheses_of_a_condition_are_open_in_it(rt: HostRuntime) {
     let parts = ("(?(a)", "b", ")");
-    assert!(rt; read_nested(&rt, rt.alloc(), parts, 63).is_ok());
+    let deepest = read_nested(&rt, rt.alloc(), parts, 63);
+    check(&rt, deepest.is_ok(), "63 conditions");
     let too_deep = read_nested(&rt, rt.alloc(), parts, 64);
-    assert!(rt; kind_of(&too_deep) == Some(ParseErrorKind::RecursionExceeded));
+    let kind = kind_of(&too_deep);
+    check(
+        &rt,
+        kind == Some(ParseErrorKind::RecursionExceeded),
+        "64 conditions",
+    );
 }

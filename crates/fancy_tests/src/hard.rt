@@ -2,9 +2,9 @@
 
 use crate::asking::{
     BYTES, BytesRow, CHARACTERS, CHARACTERS_ANYWHERE, CountedRow, FOLDED, Flaw, FlawRow,
-    ONLY_NAMED, SearchRow, Settings, SpanRow, TextRow, check_counted, check_flaws, check_found,
-    check_searches, check_spans, check_texts, first_span, is_too_complex, regex_of, regex_with,
-    repeated,
+    ONLY_NAMED, SearchRow, Settings, SpanRow, TextRow, check, check_counted, check_flaws,
+    check_found, check_searches, check_spans, check_texts, first_span, is_too_complex, regex_of,
+    regex_with, repeated,
 };
 use fancy_regex::{
     Error, Regex, RegexBuilder, RegexInput, RegexOptionsBuilder, Result, RuntimeError,
@@ -191,13 +191,17 @@ fn returns_are_counted(rt: HostRuntime) {
     check_counted(&rt, rt.alloc(), COUNTED);
 }
 
+/// Whether a search is given up for too many saved branches.
+fn is_stopped<T>(found: &Result<T>) -> bool {
+    matches!(found, Err(Error::RuntimeError(RuntimeError::StackOverflow)))
+}
+
 // each turn of the star saves a branch
 #[test]
 fn too_many_branches_are_saved(rt: HostRuntime) {
     let regex = regex_of(&rt, rt.alloc(), "a*(?=c)");
     let haystack = repeated(&rt, rt.alloc(), "a", 1_000_002);
-    let found = regex.find(haystack.as_str());
-    assert!(rt; matches!(found, Err(Error::RuntimeError(RuntimeError::StackOverflow))));
+    check(&rt, is_stopped(&regex.find(haystack.as_str())), "a*(?=c)");
 }
 
 const UNLIMITED: &[SpanRow<&str>] = &[(
@@ -268,11 +272,8 @@ fn read_by_its_builder(
 
 /// Checks that the pattern is read, or refused for the size of its code.
 fn check_size(rt: &impl Abort, read: &Result<Regex>, pattern: &str, wanted: bool) {
-    let is_refused = is_too_complex(read);
-    assert!(rt;
-        is_refused == wanted && read.is_err() == wanted,
-        "{pattern}"
-    );
+    check(rt, is_too_complex(read) == wanted, pattern);
+    check(rt, read.is_err() == wanted, pattern);
 }
 
 /// A pattern, how large its code may be, and whether it is refused.

@@ -1,8 +1,8 @@
 //! What each option changes, and what is so without it.
 
 use crate::asking::{
-    BYTES, BytesRow, CHARACTERS, CHARACTERS_ANYWHERE, Settings, Span, check_found, check_spans,
-    first_span, kind_of, regex_of,
+    BYTES, BytesRow, CHARACTERS, CHARACTERS_ANYWHERE, Settings, Span, check, check_found,
+    check_spans, first_span, kind_of, regex_of,
 };
 use fancy_regex::{
     BytesMode, ParseErrorKind, Regex, RegexBuilder, RegexInput, RegexOptionsBuilder,
@@ -212,8 +212,8 @@ fn check_groups(
     builder.ignore_numbered_groups_when_named_groups_exist(!yes);
     builder.ignore_numbered_groups_when_named_groups_exist(yes);
     let read = builder.build(String::from_str(alloc, pattern).expect(rt, pattern));
-    assert!(rt; count_of(&read) == wanted.ok(), "{pattern}");
-    assert!(rt; kind_of(&read) == wanted.err(), "{pattern}");
+    check(rt, count_of(&read) == wanted.ok(), pattern);
+    check(rt, kind_of(&read) == wanted.err(), pattern);
 }
 
 const GROUPED: &[Grouped] = &[

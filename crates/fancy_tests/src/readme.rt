@@ -2,13 +2,11 @@
 
 use crate::asking::{
     ASCII_TEXT, BYTES, BytesRow, CHARACTERS, CountedRow, EasyRow, FaultRow, LONGEST, MatchRow,
-    NOT_EMPTY, OVERRIDING, SearchRow, Settings, Span, SpanRow, check_counted, check_easy,
+    NOT_EMPTY, OVERRIDING, SearchRow, Settings, Span, SpanRow, check, check_counted, check_easy,
     check_faults, check_found, check_matches, check_searches, check_spans, counted, first_span,
-    is_too_complex, regex_of, regex_with, span_found,
+    is_answer, is_found, is_part, is_too_complex, regex_of, regex_with, span_found,
 };
-use fancy_regex::{
-    MatchBytes, ParseErrorKind, Regex, RegexBuilder, RegexInput, RegexOptionsBuilder, Work,
-};
+use fancy_regex::{ParseErrorKind, Regex, RegexBuilder, RegexInput, RegexOptionsBuilder, Work};
 use std::alloc::Global;
 use std::process::Abort;
 
@@ -24,33 +22,28 @@ fn other_searches(rt: HostRuntime) {
     let regex = regex_of(&rt, rt.alloc(), "a|ab");
     let found = span_found(&rt, regex.find_from_pos("xabab", 2), "a|ab");
     check_found(&rt, "a|ab", "xabab", found, Some((3, 4)));
-    assert!(rt; matches!(regex.is_match("xyz"), Ok(false)));
-}
-
-/// Whether a match was found that is this part.
-fn is_part(found: &fancy_regex::Result<Option<MatchBytes<'_>>>, part: &[u8]) -> bool {
-    matches!(found, Ok(Some(found)) if found.as_bytes() == part)
+    check(&rt, is_answer(&regex.is_match("xyz"), false), "no match");
 }
 
 #[test]
 fn a_first_match_in_bytes(rt: HostRuntime) {
     let regex = regex_of(&rt, rt.alloc(), "a|ab");
-    assert!(rt; is_part(&regex.find(b"xab"), b"a"));
+    check(&rt, is_part(&regex.find(b"xab"), b"a"), "the part");
 }
 
 #[test]
 fn an_input(rt: HostRuntime) {
     let input = RegexInput::new("xabab").range(2..5);
-    assert_eq!(rt; input.haystack(), "xabab");
-    assert_eq!(rt; input.start(), 0);
-    let range = input.get_range();
-    assert_eq!(rt; (range.start, range.end), (2, 5));
+    check(&rt, input.haystack() == "xabab", "the haystack");
+    check(&rt, input.start() == 0, "the start");
+    check(&rt, input.get_range() == (2..5), "the range");
 }
 
 #[test]
 fn what_may_be_searched(rt: HostRuntime) {
     let regex = regex_of(&rt, rt.alloc(), "a|ab");
-    assert!(rt; !regex.can_search(&RegexInput::new("é").from_pos(1)));
+    let inside = RegexInput::new("é").from_pos(1);
+    check(&rt, !regex.can_search(&inside), "inside a character");
 }
 
 const SEARCHES: &[SearchRow<&str>] = &[
@@ -162,7 +155,7 @@ fn a_limit_of_size(rt: HostRuntime) {
     let pattern = owned(&rt, rt.alloc(), "a(?=b)");
     let mut options = RegexOptionsBuilder::new();
     let refused = options.max_prog_size(0).build(pattern);
-    assert!(rt; is_too_complex(&refused));
+    check(&rt, is_too_complex(&refused), "a(?=b)");
 }
 
 /// Checks where the first match stands in `ab`.
@@ -183,7 +176,7 @@ fn a_builder(rt: HostRuntime) {
 #[test]
 fn try_from(rt: HostRuntime) {
     let regex = Regex::try_from(owned(&rt, rt.alloc(), "a|ab")).expect(&rt, "a regex");
-    assert_eq!(rt; regex.as_str(), "a|ab");
+    check(&rt, regex.as_str() == "a|ab", "a|ab");
 }
 
 #[test]
@@ -191,8 +184,13 @@ fn work(rt: HostRuntime) {
     let regex = regex_of(&rt, rt.alloc(), "a|ab");
     let mut work = Work::new();
     let found = counted(&rt, &regex, RegexInput::new("xab"), &mut work);
-    assert!(rt; matches!(found, Ok(Some((1, 2)))));
-    assert!(rt; regex.is_easy() && work.steps() <= regex.code_len().saturating_mul(4));
+    check(&rt, is_found(&found, (1, 2)), "the span");
+    check(&rt, regex.is_easy(), "an easy pattern");
+    check(
+        &rt,
+        work.steps() <= regex.code_len().saturating_mul(4),
+        "the steps",
+    );
 }
 
 const REFUSED: &[FaultRow] = &[(

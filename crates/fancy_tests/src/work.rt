@@ -5,7 +5,10 @@
 //! the text from one position where a match can begin to the next, with each pair of an instruction and a place as one step where
 //! it is met first.
 
-use crate::asking::{Span, WorkRow, check_work, counted, first_span, regex_of, repeated};
+use crate::asking::{
+    Span, WorkRow, check, check_found, check_work, counted, first_span, is_found, regex_of,
+    repeated,
+};
 use fancy_regex::{Regex, RegexInput, Work};
 use std::alloc::Global;
 use std::process::Abort;
@@ -58,7 +61,8 @@ fn check_nothing_in_time(rt: &impl Abort, regex: &Regex, haystack: &str) {
     let found = counted(rt, regex, RegexInput::new(haystack), &mut work);
     let places = haystack.len().saturating_add(1);
     let most = regex.code_len().saturating_mul(places);
-    assert!(rt; is_nothing(&found) && work.steps() <= most, "{haystack}");
+    check(rt, is_nothing(&found), haystack);
+    check(rt, work.steps() <= most, haystack);
 }
 
 fn check_twins(rt: &impl Abort, alloc: Global, regex: &Regex) {
@@ -78,7 +82,7 @@ fn check_many(rt: &impl Abort, alloc: Global, regex: &Regex) {
 #[test]
 fn a_search_is_bounded(rt: HostRuntime) {
     let regex = regex_of(&rt, rt.alloc(), "(?:a|b|ab)*bc");
-    assert!(rt; regex.is_easy());
+    check(&rt, regex.is_easy(), "an easy pattern");
     check_twins(&rt, rt.alloc(), &regex);
     check_many(&rt, rt.alloc(), &regex);
 }
@@ -95,16 +99,17 @@ fn a_search_goes_back_to_a_branch(rt: HostRuntime) {
     let regex = regex_of(&rt, rt.alloc(), "(a|ab)c");
     let mut work = Work::new();
     let found = counted(&rt, &regex, part_to(&rt, 4), &mut work);
-    assert_eq!(rt; found.expect(&rt, "a search"), Some((1, 4)));
-    assert_eq!(rt; work.returns(), 1);
-    assert!(rt; first_span(&rt, &regex, part_to(&rt, 3)).is_none());
+    check(&rt, is_found(&found, (1, 4)), "the span");
+    check(&rt, work.returns() == 1, "the returns");
+    let found = first_span(&rt, &regex, part_to(&rt, 3));
+    check_found(&rt, "(a|ab)c", "ab", found, None);
 }
 
 #[test]
 fn code_is_short(rt: HostRuntime) {
     for (pattern, most) in [("(?:a*)*", 22), ("(a|b)+", 50), ("(?:a|b){2,4}", 78)] {
         let regex = regex_of(&rt, rt.alloc(), pattern);
-        assert!(rt; regex.code_len() <= most, "{pattern}");
+        check(&rt, regex.code_len() <= most, pattern);
     }
 }
 
@@ -114,5 +119,6 @@ fn nothing_is_done_past_the_end(rt: HostRuntime) {
     let mut work = Work::new();
     let past = RegexInput::new("a").from_pos(2);
     let found = counted(&rt, &regex, past, &mut work);
-    assert!(rt; is_nothing(&found) && work.steps() == 0);
+    check(&rt, is_nothing(&found), "nothing");
+    check(&rt, work.steps() == 0, "the steps");
 }

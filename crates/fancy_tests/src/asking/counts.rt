@@ -1,6 +1,6 @@
 //! What a search counts, and where it is given up.
 
-use crate::asking::{Settings, Span, regex_of, regex_with, searchable, span};
+use crate::asking::{Settings, Span, check, regex_of, regex_with, searchable, span};
 use fancy_regex::{Error, Match, Regex, RegexInput, RuntimeError, Work};
 use std::alloc::Global;
 use std::process::Abort;
@@ -33,6 +33,11 @@ fn answer_of(found: &fancy_regex::Result<Option<Span>>) -> Option<Option<Span>> 
     }
 }
 
+/// Whether a search found this span.
+pub(crate) fn is_found(found: &fancy_regex::Result<Option<Span>>, wanted: Span) -> bool {
+    matches!(found, Ok(Some(found)) if *found == wanted)
+}
+
 /// Whether a search was given up at its limit of returns.
 fn is_past_limit(found: &fancy_regex::Result<Option<Span>>) -> bool {
     matches!(
@@ -59,8 +64,8 @@ fn check_answer(
     wanted: Option<Option<Span>>,
     pattern: &str,
 ) {
-    assert!(rt; answer_of(found) == wanted, "{pattern}");
-    assert!(rt; is_past_limit(found) == wanted.is_none(), "{pattern}");
+    check(rt, answer_of(found) == wanted, pattern);
+    check(rt, is_past_limit(found) == wanted.is_none(), pattern);
 }
 
 fn check_counted_row(rt: &impl Abort, alloc: Global, row: &CountedRow) {
@@ -73,7 +78,7 @@ fn check_counted_row(rt: &impl Abort, alloc: Global, row: &CountedRow) {
     let mut work = Work::new();
     let found = counted(rt, &regex, RegexInput::new(haystack), &mut work);
     check_answer(rt, &found, wanted, pattern);
-    assert!(rt; work.returns() == returns, "{pattern} on {haystack}");
+    check(rt, work.returns() == returns, pattern);
 }
 
 pub(crate) fn check_counted(rt: &impl Abort, alloc: Global, rows: &[CountedRow]) {
@@ -91,8 +96,8 @@ fn check_work_row(rt: &impl Abort, alloc: Global, row: &WorkRow, work: &mut Work
     let regex = regex_of(rt, alloc, pattern);
     let found = counted(rt, &regex, RegexInput::new(haystack), work);
     check_answer(rt, &found, Some(wanted), pattern);
-    let counts = (work.steps(), work.returns());
-    assert!(rt; counts == (steps, returns), "{pattern} on {haystack}");
+    check(rt, work.steps() == steps, pattern);
+    check(rt, work.returns() == returns, pattern);
 }
 
 /// Checks what searches find and count, whatever was counted before.
@@ -108,6 +113,6 @@ pub(crate) type EasyRow = (Settings, &'static str, bool);
 pub(crate) fn check_easy(rt: &impl Abort, alloc: Global, rows: &[EasyRow]) {
     for &(settings, pattern, wanted) in rows {
         let regex = regex_with(rt, alloc, settings, pattern);
-        assert!(rt; regex.is_easy() == wanted, "{pattern}");
+        check(rt, regex.is_easy() == wanted, pattern);
     }
 }

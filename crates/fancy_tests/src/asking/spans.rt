@@ -4,7 +4,7 @@ ghost use Rattle.std.specs.Prelude.{◌≡◌};
 ghost use Rattle.fancy_search.specs.Options.{by_default};
 ghost use Rattle.fancy_core.specs.Regexes.{options_in};
 
-use crate::asking::{Settings, regex_of, regex_with, searchable};
+use crate::asking::{Settings, check, regex_of, regex_with, searchable};
 use fancy_regex::{Input, Match, MatchBytes, Regex, RegexInput};
 use std::alloc::Global;
 use std::process::Abort;
@@ -67,7 +67,17 @@ pub(crate) fn check_found(
     found: Option<Span>,
     wanted: Option<Span>,
 ) {
-    assert_eq!(rt; found, wanted, "{pattern} on {haystack}");
+    assert!(rt; found == wanted, "{pattern} on {haystack}");
+}
+
+/// Whether a match was found that is this part.
+pub(crate) fn is_part(found: &fancy_regex::Result<Option<MatchBytes<'_>>>, part: &[u8]) -> bool {
+    matches!(found, Ok(Some(found)) if found.as_bytes() == part)
+}
+
+/// Whether a search answered this.
+pub(crate) fn is_answer(answer: &fancy_regex::Result<bool>, wanted: bool) -> bool {
+    matches!(answer, Ok(answer) if *answer == wanted)
 }
 
 /// A pattern, a text, where the first match starts and ends, and its text.
@@ -77,11 +87,10 @@ pub(crate) type MatchRow = (&'static str, &'static str, Span, &'static str);
 fn check_match(rt: &impl Abort, found: Match<'_>, wanted: Span, text: &str) {
     let range = found.range();
     let part: &str = found.into();
-    assert!(rt;
-        span(found) == wanted && (range.start, range.end) == wanted,
-        "{text}"
-    );
-    assert!(rt; found.as_str() == text && part == text, "{text}");
+    check(rt, span(found) == wanted, text);
+    check(rt, (range.start, range.end) == wanted, text);
+    check(rt, found.as_str() == text, text);
+    check(rt, part == text, text);
 }
 
 /// The first match in the text, of a regex with the default options.
@@ -99,7 +108,7 @@ pub(crate) fn check_matches(rt: &impl Abort, alloc: Global, rows: &[MatchRow]) {
         let found = first_match(rt, &regex, haystack);
         check_match(rt, found, wanted, text);
         let again = first_match(rt, &regex, haystack);
-        assert!(rt; found == again, "{pattern}");
+        check(rt, found == again, pattern);
     }
 }
 
@@ -168,31 +177,18 @@ fn has_match<S: Input>(rt: &impl Abort, regex: &Regex, input: RegexInput<S>) -> 
     regex.is_match_input(input).expect(rt, regex.as_str())
 }
 
-/// Checks where the first match from a start on begins and ends, and whether there is one.
-fn check_searched(
-    rt: &impl Abort,
-    found: (Option<Span>, bool),
-    wanted: Option<Span>,
-    pattern: &str,
-    start: usize,
-) {
-    assert!(rt;
-        found == (wanted, wanted.is_some()),
-        "{pattern} from {start}"
-    );
-}
-
 fn check_search<M: Spanned, S: Input<Match = M>>(
     rt: &impl Abort,
     alloc: Global,
     row: &SearchRow<S>,
 ) {
-    let (settings, pattern, _, start, _, _, wanted) = *row;
+    let (settings, pattern, _, _, _, _, wanted) = *row;
     let regex = regex_with(rt, alloc, settings, pattern);
     let input = input_of(rt, row);
     let found = first_span(rt, &regex, input.again());
+    check(rt, found == wanted, pattern);
     let matched = has_match(rt, &regex, input);
-    check_searched(rt, (found, matched), wanted, pattern, start);
+    check(rt, matched == wanted.is_some(), pattern);
 }
 
 pub(crate) fn check_searches<M: Spanned, S: Input<Match = M>>(
