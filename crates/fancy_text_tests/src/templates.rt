@@ -219,7 +219,7 @@ impl io::Write for Narrow {
 }
 
 /// A writer that has taken nothing yet.
-fn narrow(alloc: Global, most: usize, left: usize, fails: bool) -> Narrow {
+fn writer_of(alloc: Global, most: usize, left: usize, fails: bool) -> Narrow {
     Narrow {
         taken: Vec::new(alloc),
         calls: 0,
@@ -269,15 +269,15 @@ fn a_fault_ends_the_writing(rt: HostRuntime) {
     for left in 0..5usize {
         for fails in [true, false] {
             let fault = fault_of(fails);
-            check_writer(&rt, &captures, narrow(alloc, 1, left, fails), left, fault);
-            check_writer(&rt, &captures, narrow(alloc, 9, left, fails), left, fault);
+            check_writer(&rt, &captures, writer_of(alloc, 1, left, fails), left, fault);
+            check_writer(&rt, &captures, writer_of(alloc, 9, left, fails), left, fault);
         }
     }
 }
 
 /// Checks that the template expands to nothing, and that nothing is written for it.
 fn check_nothing(rt: &impl Abort, alloc: Global, captures: &Captures<'_, &str>, template: &str) {
-    let mut writer = narrow(alloc, 0, 0, true);
+    let mut writer = writer_of(alloc, 0, 0, true);
     let answer = Expander::default().write_expansion(&mut writer, template, captures);
     check(rt, answer.is_ok(), template);
     check(rt, writer.calls == 0, template);
@@ -303,7 +303,7 @@ fn all_is_written(rt: HostRuntime) {
 #[test]
 fn a_text_is_not_written_past_a_fault(rt: HostRuntime) {
     for (left, fails) in [(2, true), (1, false)] {
-        let mut writer = narrow(rt.alloc(), 1, left, fails);
+        let mut writer = writer_of(rt.alloc(), 1, left, fails);
         let answer = write_whole(&mut writer, b"abc");
         check(&rt, kind_of(&answer) == Some(fault_of(fails)), "the fault");
         check(&rt, writer.taken.len() == left, "what was taken");
