@@ -1,6 +1,9 @@
 //! Lists and groups of filtered matches: those that are not empty, and the longest.
 
-use crate::asking::{LONGEST, ListRow, NOT_EMPTY, check_captured, check_lists, regex_with};
+use crate::asking::{
+    LONGEST, ListRow, NOT_EMPTY, captured, check_captured, check_lists, regex_with,
+};
+use fancy_regex::RegexInput;
 
 const LISTS: &[ListRow<&str>] = &[
     (
@@ -24,5 +27,6 @@ fn lists_of_filtered_matches(rt: HostRuntime) {
 fn groups_of_the_longest_match(rt: HostRuntime) {
     let regex = regex_with(&rt, rt.alloc(), LONGEST, "(a)|(ab)|(a)(b)");
     let wanted = [Some((0, 2)), None, Some((0, 2)), None, None];
-    check_captured(&rt, &regex, "ab", &wanted);
+    let captures = captured(&rt, &regex, RegexInput::new("ab"));
+    check_captured(&rt, &captures, regex.as_str(), &wanted);
 }

@@ -15,7 +15,6 @@ use std::process::Abort;
 
 /// An iteration: what is searched, where its matches start and end, and where the search starts that is next: at
 /// first, after each match, and at the end.
-#[derive(Clone, Copy)]
 struct Row<S> {
     settings: Settings,
     pattern: &'static str,

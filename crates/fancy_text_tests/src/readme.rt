@@ -3,10 +3,10 @@
 
 use crate::asking::{
     AllGroupsRow, CheckedRow, FirstPiecesRow, GroupsRow, LaterGroupsRow, NameRow, NamesRow,
-    ONLY_NAMED, PiecesRow, ReplacedRow, TemplateRow, TextListRow, TextsRow, Told, captured_in,
-    check, check_all_groups, check_answer, check_captured, check_escaped, check_expanded,
-    check_first_pieces, check_fixed, check_groups, check_item, check_later_groups, check_name,
-    check_named, check_names, check_next, check_number, check_pieces, check_replaced,
+    ONLY_NAMED, PiecesRow, ReplacedRow, TemplateRow, TextListRow, TextsRow, Told, captured,
+    captured_in, check, check_all_groups, check_answer, check_captured, check_escaped,
+    check_expanded, check_first_pieces, check_fixed, check_groups, check_item, check_later_groups,
+    check_name, check_named, check_names, check_next, check_number, check_pieces, check_replaced,
     check_templates, check_text_lists, check_texts_of_groups, check_told, regex_of, regex_with,
 };
 use fancy_regex::{Captures, Expander, NoExpand, RegexInput, ReplaceFn, Replacer, escape};
@@ -14,8 +14,8 @@ use fancy_regex::{Captures, Expander, NoExpand, RegexInput, ReplaceFn, Replacer,
 #[test]
 fn named_groups_alone_are_captured(rt: HostRuntime) {
     let regex = regex_with(&rt, rt.alloc(), ONLY_NAMED, "(a)(?<n>b)");
-    check_captured(&rt, &regex, "ab", &[Some((0, 2)), Some((1, 2))]);
-    let captures = captured_in(&rt, &regex, "ab");
+    let captures = captured(&rt, &regex, RegexInput::new("ab"));
+    check_captured(&rt, &captures, "(a)(?<n>b)", &[Some((0, 2)), Some((1, 2))]);
     check_named(&rt, &captures, "n", Some((1, 2)));
 }
 

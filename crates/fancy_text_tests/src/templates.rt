@@ -269,8 +269,20 @@ fn a_fault_ends_the_writing(rt: HostRuntime) {
     for left in 0..5usize {
         for fails in [true, false] {
             let fault = fault_of(fails);
-            check_writer(&rt, &captures, writer_of(alloc, 1, left, fails), left, fault);
-            check_writer(&rt, &captures, writer_of(alloc, 9, left, fails), left, fault);
+            check_writer(
+                &rt,
+                &captures,
+                writer_of(alloc, 1, left, fails),
+                left,
+                fault,
+            );
+            check_writer(
+                &rt,
+                &captures,
+                writer_of(alloc, 9, left, fails),
+                left,
+                fault,
+            );
         }
     }
 }

@@ -1,5 +1,9 @@
 //! What groups find.
 
+ghost use Rattle.std.specs.Prelude.{◌≡◌};
+ghost use Rattle.fancy_search.specs.Options.{by_default};
+ghost use Rattle.fancy_core.specs.Regexes.{options_in};
+
 use crate::asking::{Span, check, regex_of, searchable, span};
 use fancy_regex::{CaptureMatches, Captures, Input, Match, Regex, RegexInput};
 use std::alloc::Global;
@@ -29,7 +33,7 @@ fn check_group(
 
 /// Checks how many groups, or matches, there are.
 pub(crate) fn check_number(rt: &impl Abort, pattern: &str, found: usize, wanted: usize) {
-    assert!(rt; found == wanted, "{found} of {pattern}");
+    check(rt, found == wanted, pattern);
 }
 
 /// Checks the spans of all groups, from group 0 on, and that there are no others.
@@ -83,26 +87,26 @@ pub(crate) fn captured<'r, 't>(
     taken(rt, regex.captures_input(input), regex.as_str())
 }
 
-/// The groups of the first match in the text, which the regex may search.
+/// The groups of the first match in the text, by a regex with the default options, which may search each.
 pub(crate) fn captured_in<'r, 't>(
     rt: &impl Abort,
     regex: &'r Regex,
     haystack: &'t str,
-) -> Captures<'r, &'t str> {
-    searchable(rt, regex, RegexInput::new(haystack));
+) -> Captures<'r, &'t str>
+    requires { options_in regex.now ≡ by_default }
+{
     taken(rt, regex.captures(haystack), regex.as_str())
 }
 
-/// Checks the spans of the first match's groups, from group 0 on.
+/// Checks the spans of a match's groups, from group 0 on, by each way to them.
 pub(crate) fn check_captured(
     rt: &impl Abort,
-    regex: &Regex,
-    haystack: &str,
+    captures: &Captures<'_, &str>,
+    pattern: &str,
     wanted: &[Option<Span>],
 ) {
-    let captures = captured_in(rt, regex, haystack);
-    check_group_spans(rt, &captures, regex.as_str(), wanted);
-    check_each(rt, &captures, regex.as_str(), wanted);
+    check_group_spans(rt, captures, pattern, wanted);
+    check_each(rt, captures, pattern, wanted);
 }
 
 /// A pattern, a text, and the spans of the groups, from group 0 on.
@@ -112,21 +116,24 @@ pub(crate) fn check_groups(rt: &impl Abort, alloc: Global, rows: &[GroupsRow]) {
     for &(pattern, haystack, wanted) in rows {
         let regex = regex_of(rt, alloc, pattern);
         check_number(rt, pattern, regex.captures_len(), wanted.len());
-        check_captured(rt, &regex, haystack, wanted);
+        let captures = captured_in(rt, &regex, haystack);
+        check_captured(rt, &captures, pattern, wanted);
     }
 }
 
 /// A pattern, a text, where the search starts, and the spans of the groups, from group 0 on.
 pub(crate) type LaterGroupsRow = (&'static str, &'static str, usize, &'static [Option<Span>]);
 
-/// The groups of the first match in the text from a start on, which the regex may search.
+/// The groups of the first match in the text from a character's start on, by a regex with the default options.
 fn captured_from<'r, 't>(
     rt: &impl Abort,
     regex: &'r Regex,
     haystack: &'t str,
     start: usize,
-) -> Captures<'r, &'t str> {
-    searchable(rt, regex, RegexInput::new(haystack).from_pos(start));
+) -> Captures<'r, &'t str>
+    requires { options_in regex.now ≡ by_default }
+{
+    assert!(rt; haystack.is_char_boundary(start));
     taken(rt, regex.captures_from_pos(haystack, start), regex.as_str())
 }
 
@@ -221,10 +228,7 @@ fn check_name_at(
     name: Option<&str>,
     wanted: &[Option<&str>],
 ) {
-    assert!(rt;
-        wanted.get(number) == Some(&name),
-        "group {number} of {pattern}"
-    );
+    check(rt, wanted.get(number) == Some(&name), pattern);
 }
 
 /// Checks the names of a regex.

@@ -77,9 +77,8 @@ pub(crate) fn check_replaced(rt: &impl Abort, alloc: Global, rows: &[ReplacedRow
 /// Checks what text a replacer always gives, if it does.
 pub(crate) fn check_fixed<R: Replacer>(rt: &impl Abort, replacer: &mut R, wanted: Option<&str>) {
     let fixed = replacer.no_expansion();
-    let text = match &fixed {
-        Some(text) => Some(text.as_str()),
-        None => None,
-    };
-    check(rt, text == wanted, "what is always given");
+    match wanted {
+        Some(text) => check(rt, fixed.expect(rt, text).as_str() == text, text),
+        None => check(rt, fixed.is_none(), "no fixed text"),
+    }
 }
