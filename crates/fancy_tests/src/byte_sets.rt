@@ -10,17 +10,12 @@ use std::process::Abort;
 /// A pattern, the bytes that its matches start with (nothing where they may start anywhere), and those that it requires.
 type BytesRow = (&'static str, Option<&'static [u8]>, &'static [u8]);
 
-/// Checks what is asked of one byte of a set.
-fn check_byte(rt: &impl Abort, holds: bool, pattern: &str, at: usize) {
-    assert!(rt; holds, "byte {at} of {pattern}");
-}
-
 /// Checks that the set has these members, in this order, and no others.
 fn check_members(rt: &impl Abort, set: &ByteSet, wanted: &[u8], pattern: &str) {
     let mut at = 0usize;
     for byte in set.iter() {
-        check_byte(rt, wanted.get(at) == Some(&byte), pattern, at);
-        check_byte(rt, set.contains(byte), pattern, at);
+        check(rt, wanted.get(at) == Some(&byte), pattern);
+        check(rt, set.contains(byte), pattern);
         at = at.wrapping_add(1);
     }
     check(rt, at == wanted.len(), pattern);
