@@ -44,6 +44,8 @@ mod overrides;
 #[cfg(test)]
 mod parsing;
 #[cfg(test)]
+mod pattern_sets;
+#[cfg(test)]
 mod readme;
 #[cfg(test)]
 mod refusals;

@@ -13,7 +13,7 @@ use crate::asking::{
 };
 use fancy_regex::{
     Captures, Expander, NoExpand, ParseErrorKind, Regex, RegexBuilder, RegexInput,
-    RegexOptionsBuilder, ReplaceFn, Replacer, Work, escape,
+    RegexOptionsBuilder, RegexSet, RegexSetMatch, ReplaceFn, Replacer, Work, escape,
 };
 use std::alloc::Global;
 use std::process::Abort;
@@ -400,4 +400,33 @@ const REFUSED: &[FaultRow] = &[(
 #[test]
 fn a_refused_pattern(rt: HostRuntime) {
     check_faults(&rt, rt.alloc(), REFUSED);
+}
+
+#[test]
+fn a_pattern_set(rt: HostRuntime) {
+    let set = RegexSet::new(rt.alloc(), &["a\\Kb", "c", "ab"]).expect(&rt, "a set");
+    assert_eq!(rt; set.len(), 3);
+    let input = RegexInput::new("xab");
+    assert!(rt; set.can_search(&input));
+    let found = set.find_input(input).expect(&rt, "a search");
+    let mut matches = found.expect(&rt, "a position");
+    assert_eq!(rt; matches.start(), 1);
+    let first = matches.next().expect(&rt, "an item");
+    check_set_match(&rt, first, 0, (2, 3), "b");
+    let second = matches.next().expect(&rt, "an item");
+    check_set_match(&rt, second, 2, (1, 3), "ab");
+    assert!(rt; matches.next().is_none());
+}
+
+fn check_set_match(
+    rt: &impl Abort,
+    found: fancy_regex::Result<RegexSetMatch<'_, &str>>,
+    pattern: usize,
+    span: Span,
+    text: &str,
+) {
+    let found = found.expect(rt, "a match");
+    assert_eq!(rt; found.pattern(), pattern);
+    assert_eq!(rt; (found.start(), found.end()), span);
+    assert_eq!(rt; found.as_str(), text);
 }
