@@ -31,4 +31,4 @@ searches_whole text bytes s input same request = λ k d below.
 -- the same of an input that was just made of a haystack
 pub searches_new : {S : Type 0} {g : _} (text : S → Bool) (bytes : S → List ℕ) (s : RegexSet) (input : RegexInput S g) (haystack : S) → HaveOptions by_default (members_of s)
     → haystack_in input ≡ haystack → request_in input ≡ whole (bytes haystack) → CanSearchAll text bytes s input
-searches_new text bytes s input haystack same is request = searches_whole text bytes s input same (request ∙ ap (λ (h : S). whole (bytes h)) (sym is))
+searches_new text bytes s input haystack same is request = searches_whole text bytes s input same (request ∙ ap (λ h. whole (bytes h)) (sym is))
