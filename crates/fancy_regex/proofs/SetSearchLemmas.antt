@@ -1,5 +1,5 @@
 -- A set with the default options can search a whole haystack.
-use Rattle.std.proofs.Common.{◌≡◌, ℕ, Bool, List, slice_index_or, refl, sym, subst}
+use Rattle.std.proofs.Common.{◌≡◌, ◌∙◌, ap, ℕ, Bool, List, slice_index_or, refl, sym, subst}
 use Rattle.fancy_input.specs.declared.input.Request.{Request}
 use Rattle.fancy_input.specs.declared.regex_input.RegexInput.{RegexInput}
 use Rattle.fancy_input.specs.Inputs.{haystack_in, request_in}
@@ -27,3 +27,8 @@ searches_whole text bytes s input same request = λ k d below.
     let haystack = haystack_in input in
     subst (λ (r : Request). CanSearch (options_in (slice_index_or (members_of s) k d)) (text haystack) (bytes haystack) r) (sym request)
     (subst (λ (o : Options). CanSearch o (text haystack) (bytes haystack) (whole (bytes haystack))) (sym options) (can_search_whole (text haystack) (bytes haystack)))
+
+-- the same of an input that was just made of a haystack
+pub searches_new : {S : Type 0} {g : _} (text : S → Bool) (bytes : S → List ℕ) (s : RegexSet) (input : RegexInput S g) (haystack : S) → HaveOptions by_default (members_of s)
+    → haystack_in input ≡ haystack → request_in input ≡ whole (bytes haystack) → CanSearchAll text bytes s input
+searches_new text bytes s input haystack same is request = searches_whole text bytes s input same (request ∙ ap (λ h. whole (bytes h)) (sym is))

@@ -6,6 +6,7 @@
 //! | `captures P T` | for each group k of the first match `k start..end text`, or `k none` | 0, or 1 without a match |
 //! | `split P T` | a line for each piece of the text T between the matches of the pattern P | 0 |
 //! | `replace P T R` | the text T with all matches of P replaced by the template R | 0 |
+//! | `set T P..` | `k start..end text` for each pattern k that matches at the least position where one does | 0, or 1 without a match |
 //!
 //! A command that is refused writes one line `error: ` and what is wrong to its second writer, and its
 //! status is 2: `usage` for other words, the refusal's name for a pattern or a search, `Output` where the
@@ -13,7 +14,7 @@
 
 ghost use Rattle.std.specs.Prelude.{◌≤◌};
 
-use fancy_regex::{CompileError, Error, ParseErrorKind, Regex, RuntimeError};
+use fancy_regex::{CompileError, Error, ParseErrorKind, Regex, RegexInput, RegexSet, RuntimeError};
 use std::alloc::Global;
 use std::io;
 
@@ -124,6 +125,9 @@ fn command<W: io::Write>(alloc: Global, words: &[String], out: &mut W) -> Result
             let template = template.as_str();
             replace(alloc, pattern.as_str(), text.as_str(), template, out)
         }
+        [command, text, patterns @ ..] if command.as_str() == "set" => {
+            set(alloc, text.as_str(), patterns, out)
+        }
         _ => Err(Fault::Usage),
     }
 }
@@ -191,4 +195,33 @@ fn replace<W: io::Write>(
     let replaced = regex.replace_all(text, template)?;
     writeln!(out, "{}", replaced.as_str())?;
     Ok(true)
+}
+
+fn set<W: io::Write>(
+    alloc: Global,
+    text: &str,
+    patterns: &[String],
+    out: &mut W,
+) -> Result<bool, Fault> {
+    let patterns = texts_of(alloc, patterns)?;
+    let set = RegexSet::new(alloc, &patterns)?;
+    let input = RegexInput::new(text);
+    let Some(matches) = set.find_input(input)? else {
+        return Ok(false);
+    };
+    for found in matches {
+        let found = found?;
+        let (start, end) = (found.start(), found.end());
+        writeln!(out, "{} {start}..{end} {}", found.pattern(), found.as_str())?;
+    }
+    Ok(true)
+}
+
+/// The texts of words.
+fn texts_of(alloc: Global, words: &[String]) -> Result<Vec<&str>, Error> {
+    let mut texts = Vec::new(alloc);
+    for word in words {
+        texts.push(word.as_str())?;
+    }
+    Ok(texts)
 }

@@ -105,6 +105,27 @@ fn prints_the_replaced_text(rt: HostRuntime) -> Result<(), Fail> {
     expect_run(&rt, alloc, refused, "", "error: GeneralParseError\n", 2)
 }
 
+#[test]
+fn prints_the_matches_of_a_set(rt: HostRuntime) -> Result<(), Fail> {
+    let alloc = rt.alloc();
+    let numbers = &["set", "$29.99", "\\d+", "\\w+", "(?<=\\$)\\d+\\.\\d+"];
+    let found = "0 1..3 29\n1 1..3 29\n2 1..6 29.99\n";
+    expect_run(&rt, alloc, numbers, found, "", 0)?;
+    expect_run(
+        &rt,
+        alloc,
+        &["set", "xab", "a\\Kb", "c", "ab"],
+        "0 2..3 b\n2 1..3 ab\n",
+        "",
+        0,
+    )?;
+    expect_run(&rt, alloc, &["set", "xab", "c"], "", "", 1)?;
+    expect_run(&rt, alloc, &["set", "xab"], "", "", 1)?;
+    expect_run(&rt, alloc, &["set"], "", "error: usage\n", 2)?;
+    let refused = &["set", "x", "a", "(?:b", "c)"];
+    expect_run(&rt, alloc, refused, "", "error: UnclosedOpenParen\n", 2)
+}
+
 /// Words, and what is said of them.
 const REFUSED: &[(&[&str], &str)] = &[
     (&[], "error: usage\n"),
