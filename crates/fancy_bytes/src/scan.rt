@@ -77,7 +77,8 @@ impl Scan {
         self.seen_ahead(haystack, from, to)
     }
 
-    /// The same by a loop, apart from the test of the first byte: searches ask mostly where they find at once.
+    /// What [`Scan::next_seen`] answers, by a scan. It is a call of its own, and the test of the first byte is none, since most
+    /// searches of a list begin where a byte of the set stands.
     #[inline(never)]
     fn seen_ahead(&self, haystack: &[u8], from: usize, to: usize) -> Option<usize>
         requires ordered { from ≤ to }

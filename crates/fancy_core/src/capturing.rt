@@ -137,6 +137,7 @@ impl Regex {
         let slots = groups_found(self.allocator(), self.captures_len(), found, cache)?;
         Ok(Some(Captures::new(self, haystack, slots)))
     }
+
     /// The groups of the match that an attempt at one position of the haystack finds, or none.
     pub(crate) fn capture_at<'r, S: Input>(
         &'r self,

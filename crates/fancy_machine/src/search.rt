@@ -109,9 +109,8 @@ pub fn search(
             cache,
             work,
         )?;
-        match found {
-            Some(found) => return Ok(Some(found)),
-            None => {}
+        if let Some(found) = found {
+            return Ok(Some(found));
         }
     }
     Ok(None)

@@ -20,7 +20,7 @@ can_search_whole text haystack = record {
   range_ends = λ is. is_boundary_at_end haystack;
 }
 
-pub searches_whole : {S : Type 0} {g : _} (text : S → Bool) (bytes : S → List ℕ) (s : RegexSet) (input : RegexInput S g) → HaveOptions by_default (members_of s)
+searches_whole : {S : Type 0} {g : _} (text : S → Bool) (bytes : S → List ℕ) (s : RegexSet) (input : RegexInput S g) → HaveOptions by_default (members_of s)
     → request_in input ≡ whole (bytes (haystack_in input)) → CanSearchAll text bytes s input
 searches_whole text bytes s input same request = λ k d below.
     let options : options_in (slice_index_or (members_of s) k d) ≡ by_default = same k d below in

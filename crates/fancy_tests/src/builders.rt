@@ -1,6 +1,6 @@
 //! Ways to a regex: a builder that holds its pattern, and a text that becomes one.
 
-use crate::asking::{Span, fault_of, first_span};
+use crate::asking::{Span, check, check_found, fault_of, first_span};
 use fancy_regex::{ParseErrorKind, Regex, RegexBuilder, RegexInput};
 use std::alloc::Global;
 use std::process::Abort;
@@ -8,19 +8,29 @@ use std::process::Abort;
 /// A text, and where the first match starts and ends.
 type Row<'a> = (&'a str, Option<Span>);
 
+/// What the builder builds.
+fn built(rt: &impl Abort, builder: &RegexBuilder) -> Regex {
+    builder.build().expect(rt, "a regex")
+}
+
 /// Checks what the builder builds.
 fn check_built(rt: &impl Abort, builder: &RegexBuilder, rows: &[Row<'_>]) {
     for &(haystack, wanted) in rows {
-        let regex = builder.build().expect(rt, haystack);
+        let regex = built(rt, builder);
         let found = first_span(rt, &regex, RegexInput::new(haystack));
-        assert_eq!(rt; found, wanted, "{} on {haystack}", regex.as_str());
+        check_found(rt, regex.as_str(), haystack, found, wanted);
     }
 }
 
 /// Checks the pattern that the builder holds.
 fn check_pattern(rt: &impl Abort, builder: &RegexBuilder, wanted: &str) {
-    let regex = builder.build().expect(rt, wanted);
-    assert_eq!(rt; regex.as_str(), wanted);
+    let regex = built(rt, builder);
+    check(rt, regex.as_str() == wanted, wanted);
+}
+
+/// A builder that holds the pattern.
+fn builder_of(rt: &impl Abort, alloc: Global, pattern: &str) -> RegexBuilder {
+    RegexBuilder::new(alloc, pattern).expect(rt, pattern)
 }
 
 /// A text that a builder may take.
@@ -30,7 +40,7 @@ fn owned(rt: &impl Abort, alloc: Global, text: &str) -> String {
 
 #[test]
 fn another_pattern_keeps_the_options(rt: HostRuntime) {
-    let mut builder = RegexBuilder::new(rt.alloc(), "a b").expect(&rt, "a builder");
+    let mut builder = builder_of(&rt, rt.alloc(), "a b");
     check_built(&rt, &builder, &[("ab", None), ("a b", Some((0, 3)))]);
     builder.ignore_whitespace(true).multi_line(true);
     check_built(&rt, &builder, &[("ab", Some((0, 2)))]);
@@ -46,10 +56,10 @@ fn another_pattern_keeps_the_options(rt: HostRuntime) {
 
 #[test]
 fn a_refused_pattern_can_be_replaced(rt: HostRuntime) {
-    let mut builder = RegexBuilder::new(rt.alloc(), "(?:a").expect(&rt, "a builder");
+    let mut builder = builder_of(&rt, rt.alloc(), "(?:a");
     let wanted = Some((4, ParseErrorKind::UnclosedOpenParen));
     for _ in 0..2 {
-        assert_eq!(rt; fault_of(&builder.build()), wanted);
+        check(&rt, fault_of(&builder.build()) == wanted, "(?:a");
     }
     builder.pattern(owned(&rt, rt.alloc(), "(?:a)"));
     check_built(&rt, &builder, &[("ba", Some((1, 2)))]);
@@ -57,11 +67,11 @@ fn a_refused_pattern_can_be_replaced(rt: HostRuntime) {
 
 /// Checks a search whose input says that the text's start does not count, where the builder allows it or not.
 fn check_override(rt: &impl Abort, alloc: Global, allowed: bool, wanted: Option<Span>) {
-    let mut builder = RegexBuilder::new(alloc, "^a").expect(rt, "a builder");
+    let mut builder = builder_of(rt, alloc, "^a");
     builder.allow_input_assertion_overrides(allowed);
-    let regex = builder.build().expect(rt, "a regex");
-    let input = RegexInput::new("a").start_text(false);
-    assert_eq!(rt; first_span(rt, &regex, input), wanted);
+    let regex = built(rt, &builder);
+    let found = first_span(rt, &regex, RegexInput::new("a").start_text(false));
+    check_found(rt, "^a", "a", found, wanted);
 }
 
 #[test]
@@ -73,14 +83,14 @@ fn overrides_where_the_builder_allows_them(rt: HostRuntime) {
 #[test]
 fn a_text_becomes_a_regex(rt: HostRuntime) {
     let regex = Regex::try_from(owned(&rt, rt.alloc(), "a|ab")).expect(&rt, "a regex");
-    assert_eq!(rt; regex.as_str(), "a|ab");
+    check(&rt, regex.as_str() == "a|ab", "a|ab");
     let found = first_span(&rt, &regex, RegexInput::new("xab"));
-    assert_eq!(rt; found, Some((1, 2)));
+    check_found(&rt, "a|ab", "xab", found, Some((1, 2)));
 }
 
 #[test]
 fn a_faulty_text_becomes_none(rt: HostRuntime) {
     let refused = Regex::try_from(owned(&rt, rt.alloc(), "a)"));
     let wanted = Some((1, ParseErrorKind::GeneralParseError));
-    assert_eq!(rt; fault_of(&refused), wanted);
+    check(&rt, fault_of(&refused) == wanted, "a)");
 }

@@ -2,6 +2,7 @@
 //!
 //! The rows were worked out from the dialect's table of byte sets, by hand or by an independent model.
 
+use crate::asking::check;
 use fancy_regex::{ByteSet, BytesMode, Error, ParseErrorKind, RegexOptionsBuilder};
 use std::alloc::Global;
 use std::process::Abort;
@@ -13,18 +14,18 @@ type BytesRow = (&'static str, Option<&'static [u8]>, &'static [u8]);
 fn check_members(rt: &impl Abort, set: &ByteSet, wanted: &[u8], pattern: &str) {
     let mut at = 0usize;
     for byte in set.iter() {
-        assert!(rt; wanted.get(at) == Some(&byte), "byte {at} of {pattern}");
-        assert!(rt; set.contains(byte), "byte {at} of {pattern}");
+        check(rt, wanted.get(at) == Some(&byte), pattern);
+        check(rt, set.contains(byte), pattern);
         at = at.wrapping_add(1);
     }
-    assert_eq!(rt; at, wanted.len(), "{pattern}");
-    assert_eq!(rt; set.len(), at, "{pattern}");
-    assert!(rt; set.is_empty() == wanted.is_empty(), "{pattern}");
+    check(rt, at == wanted.len(), pattern);
+    check(rt, set.len() == at, pattern);
+    check(rt, set.is_empty() == wanted.is_empty(), pattern);
 }
 
 /// Checks the bytes that matches start with.
 fn check_start(rt: &impl Abort, found: &Option<ByteSet>, wanted: Option<&[u8]>, pattern: &str) {
-    assert!(rt; found.is_some() == wanted.is_some(), "{pattern}");
+    check(rt, found.is_some() == wanted.is_some(), pattern);
     if let Some(set) = found {
         check_members(rt, set, wanted.unwrap_or(&[]), pattern);
     }
@@ -109,7 +110,7 @@ fn check_count(rt: &impl Abort, alloc: Global, row: &CountRow) {
     let builder = RegexOptionsBuilder::new();
     let found = builder.start_bytes(alloc, pattern).expect(rt, pattern);
     let set = found.expect(rt, pattern);
-    assert_eq!(rt; set.len(), wanted, "{pattern}");
+    check(rt, set.len() == wanted, pattern);
 }
 
 #[test]
@@ -131,25 +132,21 @@ fn options_heed_the_case(rt: HostRuntime) {
     );
 }
 
-/// Whether a group is not closed.
-fn is_unclosed(error: &Error) -> bool {
+/// Whether it is refused since a group is not closed.
+fn is_unclosed<T>(found: &fancy_regex::Result<T>) -> bool {
     matches!(
-        error,
-        Error::ParseError(_, ParseErrorKind::UnclosedOpenParen)
+        found,
+        Err(Error::ParseError(_, ParseErrorKind::UnclosedOpenParen))
     )
 }
 
 #[test]
 fn what_is_no_pattern_has_no_bytes(rt: HostRuntime) {
     let builder = RegexOptionsBuilder::new();
-    let Err(start) = builder.start_bytes(rt.alloc(), "(a") else {
-        panic!(&rt; "start bytes of no pattern");
-    };
-    assert!(&rt; is_unclosed(&start));
-    let Err(required) = builder.required_bytes(rt.alloc(), "(a") else {
-        panic!(&rt; "required bytes of no pattern");
-    };
-    assert!(&rt; is_unclosed(&required));
+    let start = builder.start_bytes(rt.alloc(), "(a");
+    check(&rt, is_unclosed(&start), "start bytes");
+    let required = builder.required_bytes(rt.alloc(), "(a");
+    check(&rt, is_unclosed(&required), "required bytes");
 }
 
 #[test]

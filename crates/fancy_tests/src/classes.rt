@@ -1,9 +1,10 @@
 //! The members of classes, by the sets that they are read as, and why classes are refused.
 
-use crate::asking::{TextListRow, check_text_lists, kind_of};
+use crate::asking::{check, kind_of};
 use fancy_syntax::flags::Flags;
 use fancy_syntax::parse::{ParseOptions, parse_with};
 use fancy_tree::error::ParseErrorKind;
+use fancy_tree::set::Set;
 use fancy_tree::tree::{Meaning, Tree};
 use std::alloc::Global;
 use std::process::Abort;
@@ -36,20 +37,26 @@ const ASCII: ParseOptions = ParseOptions {
 /// What holds at the start, a class, probed characters, and the same with each that is no member shown as a dot.
 type MembersRow = (ParseOptions, &'static str, &'static str, &'static str);
 
+/// The probed characters, with a dot in place of each that is no member.
+fn shown(rt: &impl Abort, alloc: Global, set: &Set, probe: &str) -> String {
+    let mut shown = String::new(alloc);
+    for c in probe.chars() {
+        let is_member = set.contains(c as u32);
+        shown
+            .push(if is_member { c } else { '.' })
+            .expect(rt, probe);
+    }
+    shown
+}
+
 fn check_members(rt: &impl Abort, alloc: Global, row: &MembersRow) {
     let (options, pattern, probe, wanted) = *row;
     let found = parse_with(alloc, pattern, options).expect(rt, pattern);
     let Tree::Member(set) = &found.tree else {
         rt.panic(pattern)
     };
-    let mut shown = String::new(alloc);
-    for c in probe.chars() {
-        let is_member = set.contains(c as u32);
-        shown
-            .push(if is_member { c } else { '.' })
-            .expect(rt, pattern);
-    }
-    assert_eq!(rt; shown.as_str(), wanted, "{pattern}");
+    let shown = shown(rt, alloc, set, probe);
+    check(rt, shown.as_str() == wanted, pattern);
 }
 
 const MEMBERS: &[MembersRow] = &[
@@ -113,13 +120,6 @@ fn members(rt: HostRuntime) {
     }
 }
 
-const ENDED_CLASSES: &[TextListRow] = &[("[a-c]z", "azbzczdz", &[(0, 2), (2, 4), (4, 6)])];
-
-#[test]
-fn a_bracket_ends_a_class(rt: HostRuntime) {
-    check_text_lists(&rt, rt.alloc(), ENDED_CLASSES);
-}
-
 /// What holds at the start, a class, and why it is refused.
 type RefusalRow = (ParseOptions, &'static str, ParseErrorKind);
 
@@ -166,6 +166,6 @@ const REFUSALS: &[RefusalRow] = &[
 fn refusals(rt: HostRuntime) {
     for &(options, pattern, wanted) in REFUSALS {
         let found = parse_with(rt.alloc(), pattern, options);
-        assert!(rt; kind_of(&found) == Some(wanted), "{pattern}");
+        check(&rt, kind_of(&found) == Some(wanted), pattern);
     }
 }

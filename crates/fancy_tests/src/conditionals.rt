@@ -1,8 +1,8 @@
 //! Conditionals: a test of a group, or a pattern, that picks one of two branches.
 
 use crate::asking::{
-    CHARACTERS, Flaw, FlawRow, GroupsRow, KindRow, ONLY_NAMED, TextListRow, TextRow, check_flaws,
-    check_groups, check_kinds, check_text_lists, check_texts, kind_of, read_nested,
+    CHARACTERS, Flaw, FlawRow, KindRow, ONLY_NAMED, TextRow, check, check_flaws, check_kinds,
+    check_texts, kind_of, read_nested,
 };
 use fancy_regex::ParseErrorKind;
 
@@ -103,32 +103,6 @@ fn conditionals_have_sizes(rt: HostRuntime) {
     check_texts(&rt, rt.alloc(), SIZED);
 }
 
-const GROUPS: &[GroupsRow] = &[
-    ("(a)?(?(1)b|c)", "ab", &[Some((0, 2)), Some((0, 1))]),
-    ("(a)?(?(1)b|c)", "ac", &[Some((1, 2)), None]),
-    (
-        "(?((a)b)(c)|(d))",
-        "abc",
-        &[Some((0, 3)), Some((0, 1)), Some((2, 3)), None],
-    ),
-    ("(?((a)b)c|(a)d)", "ad", &[Some((0, 2)), None, Some((0, 1))]),
-];
-
-#[test]
-fn groups_of_conditionals(rt: HostRuntime) {
-    check_groups(&rt, rt.alloc(), GROUPS);
-}
-
-const LISTS: &[TextListRow] = &[
-    ("(a)?(?(1)b|c)", "abcac", &[(0, 2), (2, 3), (4, 5)]),
-    ("(?(a)b|)", "abac", &[(0, 2), (3, 3), (4, 4)]),
-];
-
-#[test]
-fn lists_of_conditionals(rt: HostRuntime) {
-    check_text_lists(&rt, rt.alloc(), LISTS);
-}
-
 const FLAWS: &[FlawRow] = &[
     (CHARACTERS, "(?(1)a)", Flaw::Number(1)),
     (CHARACTERS, "(a)(?(2)a)", Flaw::Number(2)),
@@ -164,7 +138,13 @@ fn conditionals_of_one_fault(rt: HostRuntime) {
 #[test]
 fn both_parentheses_of_a_condition_are_open_in_it(rt: HostRuntime) {
     let parts = ("(?(a)", "b", ")");
-    assert!(rt; read_nested(&rt, rt.alloc(), parts, 63).is_ok());
+    let deepest = read_nested(&rt, rt.alloc(), parts, 63);
+    check(&rt, deepest.is_ok(), "63 conditions");
     let too_deep = read_nested(&rt, rt.alloc(), parts, 64);
-    assert!(rt; kind_of(&too_deep) == Some(ParseErrorKind::RecursionExceeded));
+    let kind = kind_of(&too_deep);
+    check(
+        &rt,
+        kind == Some(ParseErrorKind::RecursionExceeded),
+        "64 conditions",
+    );
 }

@@ -1,5 +1,6 @@
 //! Parts of the engines that no public call shows by itself.
 
+use crate::asking::check;
 use fancy_engine::compile::compile;
 use fancy_machine::units::units_back;
 use fancy_tree::tree::{Meaning, RepeatKind, Tree};
@@ -7,8 +8,16 @@ use fancy_tree::tree::{Meaning, RepeatKind, Tree};
 #[test]
 fn units_stand_before_a_place(rt: HostRuntime) {
     let text = "aé".as_bytes();
-    assert!(rt; units_back(text, Meaning::Unicode, 1, 3) == Some(1));
-    assert!(rt; units_back(text, Meaning::Unicode, 3, 3) == None);
+    check(
+        &rt,
+        units_back(text, Meaning::Unicode, 1, 3) == Some(1),
+        "one back",
+    );
+    check(
+        &rt,
+        units_back(text, Meaning::Unicode, 3, 3) == None,
+        "three back",
+    );
 }
 
 // `a+`
@@ -23,7 +32,7 @@ fn a_star_shares_its_turn(rt: HostRuntime) {
         body: Box::new(alloc, Tree::Character('a')).expect(&rt, "no memory"),
     };
     let code = compile(alloc, &tree, 1, Meaning::Unicode).expect(&rt, "no memory");
-    assert_eq!(rt; code.len(), 6);
-    assert_eq!(rt; code.start, 5);
-    assert_eq!(rt; code.groups, 1);
+    check(&rt, code.len() == 6, "the length");
+    check(&rt, code.start == 5, "the start");
+    check(&rt, code.groups == 1, "the groups");
 }

@@ -1,6 +1,6 @@
 //! What errors print.
 
-use crate::asking::Flaw;
+use crate::asking::{Flaw, check};
 use fancy_regex::{CompileError, Error, ParseErrorKind, RuntimeError};
 use std::alloc::Global;
 use std::process::Abort;
@@ -8,7 +8,8 @@ use std::process::Abort;
 /// Checks that the error prints the words after its beginning.
 fn check_shown(rt: &impl Abort, alloc: Global, error: Error, beginning: &str, words: &str) {
     let shown = error.to_string(alloc).expect(rt, words);
-    assert_eq!(rt; shown.as_str().strip_prefix(beginning), Some(words));
+    let rest = shown.as_str().strip_prefix(beginning);
+    check(rt, rest == Some(words), words);
 }
 
 const KINDS: &[(ParseErrorKind, &str)] = &[

@@ -1,6 +1,6 @@
 //! That the regex of an escaped text finds the text itself.
 
-use crate::asking::{Span, first_span, regex_of};
+use crate::asking::{Span, check_found, first_span, regex_of};
 use fancy_regex::{Regex, RegexInput, escape};
 use std::alloc::Global;
 use std::process::Abort;
@@ -38,20 +38,25 @@ fn escapes_are_found_where_their_text_stands(rt: HostRuntime) {
     for &(text, haystack, at, wanted) in TEXTS {
         let regex = regex_of_text(&rt, rt.alloc(), text);
         let input = RegexInput::new(haystack).from_pos(at).anchored(true);
-        let found = first_span(&rt, &regex, input);
-        assert_eq!(rt; found, wanted, "{text} on {haystack} at {at}");
+        check_found(&rt, text, haystack, first_span(&rt, &regex, input), wanted);
     }
+}
+
+/// All characters of ASCII, in order.
+fn all_ascii(rt: &impl Abort, alloc: Global) -> String {
+    let mut text = String::new(alloc);
+    for byte in 0..128u8 {
+        text.push(char::from(byte)).expect(rt, "no memory");
+    }
+    text
 }
 
 #[test]
 fn escapes_of_all_ascii_are_found(rt: HostRuntime) {
-    let mut text = String::new(rt.alloc());
-    for byte in 0..128u8 {
-        text.push(char::from(byte)).expect(&rt, "no memory");
-    }
+    let text = all_ascii(&rt, rt.alloc());
     let regex = regex_of_text(&rt, rt.alloc(), text.as_str());
-    let input = RegexInput::new(text.as_str());
-    assert_eq!(rt; first_span(&rt, &regex, input), Some((0, 128)));
+    let found = first_span(&rt, &regex, RegexInput::new(text.as_str()));
+    check_found(&rt, "all of ASCII", "the same", found, Some((0, 128)));
 }
 
 /// A text, a haystack, up to where it is searched, and where the text is found first.
@@ -67,6 +72,6 @@ fn escapes_are_found_at_the_first_place(rt: HostRuntime) {
         let regex = regex_of_text(&rt, rt.alloc(), text);
         assert!(rt; end <= haystack.len());
         let found = first_span(&rt, &regex, RegexInput::new(haystack).range(0..end));
-        assert_eq!(rt; found, wanted, "{text} on {haystack} to {end}");
+        check_found(&rt, text, haystack, found, wanted);
     }
 }

@@ -1,9 +1,8 @@
 //! The two filters: empty matches refused, and the longest match asked for.
 
 use crate::asking::{
-    CHARACTERS, CountedRow, FaultRow, Flaw, FlawRow, LONGEST, ListRow, NOT_EMPTY, Settings,
-    SpanRow, check_captured, check_counted, check_easy, check_faults, check_flaws, check_lists,
-    check_spans, regex_with,
+    CHARACTERS, CountedRow, FaultRow, Flaw, FlawRow, LONGEST, NOT_EMPTY, Settings, SpanRow,
+    check_counted, check_easy, check_faults, check_flaws, check_spans,
 };
 
 const NOT_EMPTY_MATCHES: &[SpanRow<&str>] = &[
@@ -46,31 +45,6 @@ const BOTH: Settings = Settings {
 #[test]
 fn the_longest_match_at_the_least_position(rt: HostRuntime) {
     check_spans(&rt, rt.alloc(), LONGEST_MATCHES);
-}
-
-const LISTS: &[ListRow<&str>] = &[
-    (
-        LONGEST,
-        "a|ab",
-        "abaa ab",
-        &[(0, 2), (2, 3), (3, 4), (5, 7)],
-    ),
-    (LONGEST, "a*?", "aab", &[(0, 2), (3, 3)]),
-    (NOT_EMPTY, "a*", "aabba", &[(0, 2), (4, 5)]),
-    (NOT_EMPTY, "a??", "aba", &[(0, 1), (2, 3)]),
-];
-
-#[test]
-fn lists_of_filtered_matches(rt: HostRuntime) {
-    check_lists(&rt, rt.alloc(), LISTS);
-}
-
-// of the two that end last the one that is preferred
-#[test]
-fn groups_of_the_longest_match(rt: HostRuntime) {
-    let regex = regex_with(&rt, rt.alloc(), LONGEST, "(a)|(ab)|(a)(b)");
-    let wanted = [Some((0, 2)), None, Some((0, 2)), None, None];
-    check_captured(&rt, &regex, "ab", &wanted);
 }
 
 // `a|ab` has one return at a position with an `a`, after the first match

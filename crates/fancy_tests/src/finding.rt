@@ -1,6 +1,8 @@
 //! What searches find.
 
-use crate::asking::{MatchRow, TextRow, check_matches, check_texts, regex_of, repeated, span};
+use crate::asking::{
+    MatchRow, TextRow, check_found, check_matches, check_texts, regex_of, repeated, span_found,
+};
 
 const FIRST_MATCHES: &[TextRow] = &[
     ("a|ab", "xab", Some((1, 2))),
@@ -30,7 +32,8 @@ fn reads_a_match(rt: HostRuntime) {
 fn a_long_pattern_is_not_deep(rt: HostRuntime) {
     let long = repeated(&rt, rt.alloc(), "a", 100_000);
     let regex = regex_of(&rt, rt.alloc(), long.as_str());
-    let found = regex.find(long.as_str()).expect(&rt, "a search");
-    assert_eq!(rt; found.map(span), Some((0, 100_000)));
-    assert!(rt; regex.find("aaaa").expect(&rt, "a search").is_none());
+    let found = span_found(&rt, regex.find(long.as_str()), "a long pattern");
+    check_found(&rt, "a long pattern", "the same", found, Some((0, 100_000)));
+    let found = span_found(&rt, regex.find("aaaa"), "a long pattern");
+    check_found(&rt, "a long pattern", "aaaa", found, None);
 }

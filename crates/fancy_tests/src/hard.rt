@@ -1,10 +1,10 @@
 //! Patterns that the backtracking machine serves: references, look-around, atomic groups and possessive repeats.
 
 use crate::asking::{
-    BYTES, BytesRow, CHARACTERS, CHARACTERS_ANYWHERE, CountedRow, FOLDED, Flaw, FlawRow, GroupsRow,
-    ONLY_NAMED, PiecesRow, SearchRow, Settings, SpanRow, TextListRow, TextRow, check_counted,
-    check_flaws, check_groups, check_pieces, check_searches, check_spans, check_text_lists,
-    check_texts, first_span, is_too_complex, regex_of, regex_with, repeated,
+    BYTES, BytesRow, CHARACTERS, CHARACTERS_ANYWHERE, CountedRow, FOLDED, Flaw, FlawRow,
+    ONLY_NAMED, SearchRow, Settings, SpanRow, TextRow, check, check_counted, check_flaws,
+    check_found, check_searches, check_spans, check_texts, first_span, is_too_complex, regex_of,
+    regex_with, repeated,
 };
 use fancy_regex::{
     Error, Regex, RegexBuilder, RegexInput, RegexOptionsBuilder, Result, RuntimeError,
@@ -84,31 +84,6 @@ fn references_ask_for_the_text_of_a_group(rt: HostRuntime) {
     check_texts(&rt, rt.alloc(), REFERENCES);
 }
 
-const GROUPS: &[GroupsRow] = &[
-    (
-        "(\\w+) \\1",
-        "mirror mirror on the wall",
-        &[Some((0, 13)), Some((0, 6))],
-    ),
-    ("r(#*)\".*?\"\\1", "r#\"a\"#", &[Some((0, 6)), Some((1, 2))]),
-    ("(?=(a+))a*b\\1", "baaabac", &[Some((3, 6)), Some((3, 4))]),
-    ("(a)(?!\\1)", "aab", &[Some((1, 2)), Some((1, 2))]),
-    ("(?:(a)x|ab)(?=)", "ab", &[Some((0, 2)), None]),
-    ("(?:(a)|b)*(?=c)", "abac", &[Some((0, 3)), Some((2, 3))]),
-    ("(?!(a)b)a", "ac", &[Some((0, 1)), None]),
-    (
-        "(?>(a)|(b))c|(b)d",
-        "bd",
-        &[Some((0, 2)), None, None, Some((0, 1))],
-    ),
-    ("(?<=(a)b)c", "abc", &[Some((2, 3)), Some((0, 1))]),
-];
-
-#[test]
-fn groups_of_hard_patterns(rt: HostRuntime) {
-    check_groups(&rt, rt.alloc(), GROUPS);
-}
-
 const SEARCHES: &[SearchRow<&str>] = &[
     (CHARACTERS, "a+(?=c)", "aac", 0, (0, 2), false, Some((0, 2))),
     (CHARACTERS, "a+(?=c)", "aac", 0, (0, 1), false, None),
@@ -160,6 +135,13 @@ fn hard_patterns_on_bytes(rt: HostRuntime) {
 /// Letters that share their simple folding.
 const SHARED_FOLDINGS: &[&[&str]] = &[&["\u{1C4}", "\u{1C5}", "\u{1C6}"], &["k", "K", "\u{212A}"]];
 
+/// Two texts, one after the other.
+fn joined(rt: &impl Abort, alloc: Global, first: &str, other: &str) -> String {
+    let mut text = String::from_str(alloc, first).expect(rt, "no memory");
+    text.push_str(other).expect(rt, "no memory");
+    text
+}
+
 /// Checks that a letter is found again in each other form, and in no form of other letters.
 fn check_folding(
     rt: &impl Abort,
@@ -170,12 +152,11 @@ fn check_folding(
     others: &[&str],
 ) {
     for other in others {
-        let mut haystack = String::from_str(alloc, first).expect(rt, "no memory");
-        haystack.push_str(other).expect(rt, "no memory");
+        let haystack = joined(rt, alloc, first, other);
         let found = first_span(rt, regex, RegexInput::new(haystack.as_str()));
         let whole = Some((0, haystack.len()));
-        assert!(rt; (found == whole) == wanted, "{haystack}");
-        assert!(rt; found.is_some() == wanted, "{haystack}");
+        let span = if wanted { whole } else { None };
+        check_found(rt, regex.as_str(), haystack.as_str(), found, span);
     }
 }
 
@@ -210,13 +191,17 @@ fn returns_are_counted(rt: HostRuntime) {
     check_counted(&rt, rt.alloc(), COUNTED);
 }
 
+/// Whether a search is given up for too many saved branches.
+fn is_stopped<T>(found: &Result<T>) -> bool {
+    matches!(found, Err(Error::RuntimeError(RuntimeError::StackOverflow)))
+}
+
 // each turn of the star saves a branch
 #[test]
 fn too_many_branches_are_saved(rt: HostRuntime) {
     let regex = regex_of(&rt, rt.alloc(), "a*(?=c)");
     let haystack = repeated(&rt, rt.alloc(), "a", 1_000_002);
-    let found = regex.find(haystack.as_str());
-    assert!(rt; matches!(found, Err(Error::RuntimeError(RuntimeError::StackOverflow))));
+    check(&rt, is_stopped(&regex.find(haystack.as_str())), "a*(?=c)");
 }
 
 const UNLIMITED: &[SpanRow<&str>] = &[(
@@ -232,27 +217,6 @@ const UNLIMITED: &[SpanRow<&str>] = &[(
 #[test]
 fn easy_patterns_heed_no_limit(rt: HostRuntime) {
     check_spans(&rt, rt.alloc(), UNLIMITED);
-}
-
-const SPLIT: &[PiecesRow] = &[
-    ("(1|2)\\1", "12112122", &["12", "21", ""]),
-    ("(?<=2)1(?=2)", "12112122", &["12112", "22"]),
-];
-
-#[test]
-fn hard_patterns_split(rt: HostRuntime) {
-    check_pieces(&rt, rt.alloc(), SPLIT);
-}
-
-const LISTS: &[TextListRow] = &[
-    ("(?<=a)|b", "aab", &[(1, 1), (2, 2)]),
-    ("(a)\\1|a", "aaaaa", &[(0, 2), (2, 4), (4, 5)]),
-    ("(?=b)", "abb", &[(1, 1), (2, 2)]),
-];
-
-#[test]
-fn matches_of_hard_patterns(rt: HostRuntime) {
-    check_text_lists(&rt, rt.alloc(), LISTS);
 }
 
 const FLAWS: &[FlawRow] = &[
@@ -308,8 +272,8 @@ fn read_by_its_builder(
 
 /// Checks that the pattern is read, or refused for the size of its code.
 fn check_size(rt: &impl Abort, read: &Result<Regex>, pattern: &str, wanted: bool) {
-    assert!(rt; is_too_complex(read) == wanted, "{pattern}");
-    assert!(rt; read.is_err() == wanted, "{pattern}");
+    check(rt, is_too_complex(read) == wanted, pattern);
+    check(rt, read.is_err() == wanted, pattern);
 }
 
 /// A pattern, how large its code may be, and whether it is refused.

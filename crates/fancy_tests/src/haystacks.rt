@@ -3,6 +3,7 @@
 ghost use Rattle.std.specs.Prelude.{◌≡◌, ◌↔◌, IsTrue};
 ghost use Rattle.fancy_input.specs.Spans.{span_in, text_in, span_in_bytes, bytes_in};
 
+use crate::asking::check;
 use fancy_input::bytes::MatchBytes;
 use fancy_input::input::Input;
 use fancy_input::matches::Match;
@@ -81,35 +82,36 @@ fn boundaries_of_each_form(rt: HostRuntime) {
 fn steps_go_over_whole_characters_of_text(rt: HostRuntime) {
     let text = "aé";
     assert!(rt; text.is_char_boundary(1) && text.is_char_boundary(3));
-    assert_eq!(rt; text.prev_codepoint_ix(3), 1);
-    assert_eq!(rt; text.advance_position(1), 3);
-    assert_eq!(rt; text.advance_position(3), 4);
+    check(&rt, text.prev_codepoint_ix(3) == 1, "back from 3");
+    check(&rt, text.advance_position(1) == 3, "on from 1");
+    check(&rt, text.advance_position(3) == 4, "on from 3");
 }
 
 #[test]
 fn steps_go_over_bytes(rt: HostRuntime) {
     let bytes: &[u8] = "aé".as_bytes();
-    assert_eq!(rt; bytes.prev_codepoint_ix(3), 1);
-    assert_eq!(rt; bytes.advance_position(1), 2);
-    assert_eq!(rt; bytes.advance_position(3), 4);
+    check(&rt, bytes.prev_codepoint_ix(3) == 1, "back from 3");
+    check(&rt, bytes.advance_position(1) == 2, "on from 1");
+    check(&rt, bytes.advance_position(3) == 4, "on from 3");
     let array = &[0x80u8, 0x80];
-    assert_eq!(rt; array.prev_codepoint_ix(2), 0);
+    check(&rt, array.prev_codepoint_ix(2) == 0, "back over an array");
 }
 
 #[test]
 fn a_walk_goes_over_the_whole_haystack(rt: HostRuntime) {
     let text = "aé";
     let bytes: &[u8] = text.as_bytes();
-    assert_eq!(rt; steps(text), 2);
-    assert_eq!(rt; steps(bytes), 3);
-    assert!(rt; whole(text).as_str() == text);
-    assert!(rt; whole(bytes).as_bytes() == bytes);
+    check(&rt, steps(text) == 2, "steps over text");
+    check(&rt, steps(bytes) == 3, "steps over bytes");
+    check(&rt, whole(text).as_str() == text, "the whole text");
+    check(&rt, whole(bytes).as_bytes() == bytes, "all bytes");
 }
 
 #[test]
 fn a_new_input_asks_for_the_whole(rt: HostRuntime) {
     let input = RegexInput::new("abcabc");
-    assert!(rt; input.start() == 0 && input.get_range() == (0..6));
+    check(&rt, input.start() == 0, "the start");
+    check(&rt, input.get_range() == (0..6), "the range");
 }
 
 /// A part of a text, from a start before it.
@@ -123,10 +125,11 @@ fn part(rt: &impl Abort) -> RegexInput<&'static str> {
 #[test]
 fn a_part_is_searched_from_where_it_begins(rt: HostRuntime) {
     let input = part(&rt);
-    assert!(rt; input.start() == 1 && input.get_range() == (2..5));
-    assert_eq!(rt; input.effective_start(), 2);
+    check(&rt, input.start() == 1, "the start");
+    check(&rt, input.get_range() == (2..5), "the range");
+    check(&rt, input.effective_start() == 2, "the effective start");
     let copy = input.clone().expect(&rt, "a copy");
-    assert!(rt; copy.request() == input.request());
+    check(&rt, copy.request() == input.request(), "a copy");
 }
 
 #[test]
@@ -134,12 +137,15 @@ fn settings_change_one_at_a_time(rt: HostRuntime) {
     let input = part(&rt);
     let changed = input.again().start_text(false).end_text(false);
     let changed = changed.continue_from_previous_match_end(false);
-    assert!(rt; changed.request() != input.request());
+    check(&rt, changed.request() != input.request(), "a change");
     let request = changed.request();
-    assert!(rt; request.anchored && !request.start_text && !request.end_text && !request.continues);
+    check(&rt, request.anchored, "anchored");
+    check(&rt, !request.start_text, "the start of the text");
+    check(&rt, !request.end_text, "the end of the text");
+    check(&rt, !request.continues, "the end of a match");
     let back = changed.start_text(true).end_text(true);
     let back = back.continue_from_previous_match_end(true);
-    assert!(rt; back.request() == input.request());
+    check(&rt, back.request() == input.request(), "changed back");
 }
 
 /// Equal matches have equal texts and ends, and matches with those are equal.
@@ -161,13 +167,20 @@ fn matches_convert_and_compare(rt: HostRuntime) {
     assert!(rt; text.is_char_boundary(1) && text.is_char_boundary(3));
     let found: Match<'_> = text.make_match(1, 3);
     let range: Range<usize> = found.into();
-    assert!(rt; range == (1..3) && found.range() == (1..3));
+    check(&rt, range == (1..3), "into a range");
+    check(&rt, found.range() == (1..3), "the range");
     let part: &str = found.into();
-    assert!(rt; part == "é" && found.as_str() == "é");
-    assert!(rt; found == found.clone().expect(&rt, "a copy") && found != text.make_match(1, 1));
+    check(&rt, part == "é", "into a text");
+    check(&rt, found.as_str() == "é", "the text");
+    check(&rt, found == found.clone().expect(&rt, "a copy"), "a copy");
+    check(&rt, found != text.make_match(1, 1), "another match");
     let other = "bé";
     assert!(rt; other.is_char_boundary(1) && other.is_char_boundary(3));
-    assert!(rt; !is_same(found, other.make_match(1, 3)));
+    check(
+        &rt,
+        !is_same(found, other.make_match(1, 3)),
+        "in another text",
+    );
 }
 
 #[test]
@@ -175,12 +188,18 @@ fn matches_of_bytes_convert_and_compare(rt: HostRuntime) {
     let bytes = [97u8, 0xFF, 98];
     let found: MatchBytes<'_> = (&bytes).make_match(1, 2);
     let range: Range<usize> = found.into();
-    assert!(rt; range == (1..2) && found.range() == (1..2));
+    check(&rt, range == (1..2), "into a range");
+    check(&rt, found.range() == (1..2), "the range");
     let part: &[u8] = found.into();
-    assert!(rt; part.len() == 1 && part[0] == 0xFF && found.as_bytes() == part);
-    assert!(rt; found.start() == 1 && found.end() == 2);
+    check(&rt, part == b"\xFF".as_slice(), "into bytes");
+    check(&rt, found.as_bytes() == part, "the bytes");
+    check(&rt, found.start() == 1, "the start");
+    check(&rt, found.end() == 2, "the end");
     let slice: &[u8] = &bytes;
-    assert!(rt;
-        found == slice.make_match(1, 2) && !is_same_in_bytes(found, slice.make_match(0, 2))
+    check(&rt, found == slice.make_match(1, 2), "in a slice");
+    check(
+        &rt,
+        !is_same_in_bytes(found, slice.make_match(0, 2)),
+        "another match",
     );
 }

@@ -3,8 +3,8 @@
 //! The first rows of each table were worked out by hand, the others by an independent model of the search.
 
 use crate::asking::{
-    BYTES, CHARACTERS, CHARACTERS_ANYWHERE, SearchRow, Settings, TextRow, check_searches,
-    check_texts, regex_of, regex_with, span, span_of_bytes,
+    BYTES, CHARACTERS, CHARACTERS_ANYWHERE, SearchRow, Settings, TextRow, check, check_found,
+    check_searches, check_texts, is_answer, is_part, regex_of, regex_with, span_found,
 };
 use fancy_regex::{BytesMode, Input, RegexInput};
 use std::alloc::Global;
@@ -318,8 +318,8 @@ fn searches_owned_text(rt: HostRuntime) {
     for &(pattern, text, wanted) in IN_OWNED_TEXT {
         let regex = regex_of(&rt, rt.alloc(), pattern);
         let owned = String::from_str(rt.alloc(), text).expect(&rt, text);
-        let first = regex.find(&owned).expect(&rt, pattern);
-        assert_eq!(rt; first.map(span), wanted);
+        let found = span_found(&rt, regex.find(&owned), pattern);
+        check_found(&rt, pattern, text, found, wanted);
     }
 }
 
@@ -333,18 +333,17 @@ fn searches_text_without_an_input(rt: HostRuntime) {
 #[test]
 fn searches_an_array(rt: HostRuntime) {
     let regex = regex_of(&rt, rt.alloc(), "b");
-    let found = regex.find(b"ab").expect(&rt, "a search");
-    assert_eq!(rt; found.map(span_of_bytes), Some((1, 2)));
+    let found = span_found(&rt, regex.find(b"ab"), "b");
+    check_found(&rt, "b", "ab", found, Some((1, 2)));
 }
 
 #[test]
 fn searches_bytes_from_a_start(rt: HostRuntime) {
     let regex = regex_of(&rt, rt.alloc(), "b");
     let bytes: &[u8] = b"ab";
-    let found = regex.find_from_pos(bytes, 1).expect(&rt, "a search");
-    let matched = found.expect(&rt, "a match");
-    assert_eq!(rt; matched.as_bytes(), b"b".as_slice());
-    assert!(rt; regex.is_match(bytes).expect(&rt, "a search"));
+    let found = regex.find_from_pos(bytes, 1);
+    check(&rt, is_part(&found, b"b"), "the part");
+    check(&rt, is_answer(&regex.is_match(bytes), true), "a match");
 }
 
 /// Options, a haystack, where the search starts, and whether it may be searched from there.
@@ -354,7 +353,7 @@ fn check_starts<S: Input>(rt: &impl Abort, alloc: Global, rows: &[MayStartRow<S>
     for &(settings, haystack, start, wanted) in rows {
         let regex = regex_with(rt, alloc, settings, "a");
         let input = RegexInput::new(haystack).from_pos(start);
-        assert!(rt; regex.can_search(&input) == wanted, "from {start}");
+        check(rt, regex.can_search(&input) == wanted, "a start");
     }
 }
 
@@ -375,5 +374,5 @@ fn says_what_may_be_searched(rt: HostRuntime) {
 
 #[test]
 fn matches_stand_between_characters_by_default(rt: HostRuntime) {
-    assert!(rt; BytesMode::default() == BytesMode::Unicode);
+    check(&rt, BytesMode::default() == BytesMode::Unicode, "the mode");
 }

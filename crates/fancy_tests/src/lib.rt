@@ -1,4 +1,5 @@
-//! Tests that cross the crates, through public names. What no call of `fancy_regex` shows by itself is asked of its own crate.
+//! Tests of what patterns mean, where they are refused and what searches count, through public names. What no call of `fancy_regex`
+//! shows by itself is asked of its own crate.
 #![tactic(auto)]
 
 #[cfg(test)]
@@ -7,8 +8,6 @@ mod asking;
 mod builders;
 #[cfg(test)]
 mod byte_sets;
-#[cfg(test)]
-mod captures;
 #[cfg(test)]
 mod classes;
 #[cfg(test)]
@@ -32,11 +31,7 @@ mod haystacks;
 #[cfg(test)]
 mod inputs;
 #[cfg(test)]
-mod iteration;
-#[cfg(test)]
 mod kept;
-#[cfg(test)]
-mod names;
 #[cfg(test)]
 mod options;
 #[cfg(test)]
@@ -50,12 +45,6 @@ mod readme;
 #[cfg(test)]
 mod refusals;
 #[cfg(test)]
-mod replacement;
-#[cfg(test)]
 mod sets;
-#[cfg(test)]
-mod splitting;
-#[cfg(test)]
-mod templates;
 #[cfg(test)]
 mod work;

@@ -1,8 +1,8 @@
 //! What each option changes, and what is so without it.
 
 use crate::asking::{
-    BYTES, BytesRow, CHARACTERS, CHARACTERS_ANYWHERE, Settings, Span, check_spans, first_span,
-    kind_of, regex_of,
+    BYTES, BytesRow, CHARACTERS, CHARACTERS_ANYWHERE, Settings, Span, check, check_found,
+    check_spans, first_span, kind_of, regex_of,
 };
 use fancy_regex::{
     BytesMode, ParseErrorKind, Regex, RegexBuilder, RegexInput, RegexOptionsBuilder,
@@ -84,9 +84,9 @@ fn read_by_its_builder(
     builder.build().expect(rt, pattern)
 }
 
-fn check_found(rt: &impl Abort, regex: &Regex, haystack: &str, wanted: Option<Span>) {
+fn check_first(rt: &impl Abort, regex: &Regex, haystack: &str, wanted: Option<Span>) {
     let found = first_span(rt, regex, RegexInput::new(haystack));
-    assert_eq!(rt; found, wanted, "{}", regex.as_str());
+    check_found(rt, regex.as_str(), haystack, found, wanted);
 }
 
 /// Checks what is found where the switch is not set.
@@ -94,7 +94,7 @@ fn check_default(rt: &impl Abort, alloc: Global, row: &Row) {
     let (switch, pattern, haystack, off, on) = *row;
     let is_on = matches!(switch, Switch::UnicodeMode);
     let regex = regex_of(rt, alloc, pattern);
-    check_found(rt, &regex, haystack, if is_on { on } else { off });
+    check_first(rt, &regex, haystack, if is_on { on } else { off });
 }
 
 /// Checks what is found where the switch is off, or on.
@@ -102,9 +102,9 @@ fn check_switched(rt: &impl Abort, alloc: Global, row: &Row, yes: bool) {
     let (switch, pattern, haystack, off, on) = *row;
     let wanted = if yes { on } else { off };
     let regex = read_with(rt, alloc, pattern, switch, yes);
-    check_found(rt, &regex, haystack, wanted);
+    check_first(rt, &regex, haystack, wanted);
     let regex = read_by_its_builder(rt, alloc, pattern, switch, yes);
-    check_found(rt, &regex, haystack, wanted);
+    check_first(rt, &regex, haystack, wanted);
 }
 
 const ROWS: &[Row] = &[
@@ -174,7 +174,7 @@ fn check_mode(rt: &impl Abort, alloc: Global, row: &ModeRow) {
     let regex = builder.bytes_mode(mode).build().expect(rt, pattern);
     let haystack: &[u8] = b"\x80";
     let found = first_span(rt, &regex, RegexInput::new(haystack));
-    assert_eq!(rt; found, wanted, "{pattern}");
+    check_found(rt, pattern, "the byte 80", found, wanted);
 }
 
 #[test]
@@ -192,6 +192,14 @@ type Grouped = (
     Result<usize, ParseErrorKind>,
 );
 
+/// How many groups the pattern has that was read, if it was.
+fn count_of(read: &fancy_regex::Result<Regex>) -> Option<usize> {
+    match read {
+        Ok(regex) => Some(regex.captures_len()),
+        Err(_) => None,
+    }
+}
+
 /// Checks how many groups the pattern has, where the option is first set otherwise.
 fn check_groups(
     rt: &impl Abort,
@@ -204,10 +212,8 @@ fn check_groups(
     builder.ignore_numbered_groups_when_named_groups_exist(!yes);
     builder.ignore_numbered_groups_when_named_groups_exist(yes);
     let read = builder.build(String::from_str(alloc, pattern).expect(rt, pattern));
-    match wanted {
-        Ok(count) => assert_eq!(rt; read.expect(rt, pattern).captures_len(), count, "{pattern}"),
-        Err(kind) => assert!(rt; kind_of(&read) == Some(kind), "{pattern}"),
-    }
+    check(rt, count_of(&read) == wanted.ok(), pattern);
+    check(rt, kind_of(&read) == wanted.err(), pattern);
 }
 
 const GROUPED: &[Grouped] = &[
@@ -263,6 +269,6 @@ fn the_default_options(rt: HostRuntime) {
     let regex = RegexOptionsBuilder::default()
         .build(pattern)
         .expect(&rt, "a regex");
-    check_found(&rt, &regex, "ab", None);
-    check_found(&rt, &regex, "a b", Some((0, 3)));
+    check_first(&rt, &regex, "ab", None);
+    check_first(&rt, &regex, "a b", Some((0, 3)));
 }

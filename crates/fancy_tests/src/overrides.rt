@@ -1,6 +1,6 @@
 //! Inputs that say that the text's start, or its end, does not count as one.
 
-use crate::asking::{CHARACTERS, OVERRIDING, Settings, Span, first_span, regex_with};
+use crate::asking::{CHARACTERS, OVERRIDING, Settings, Span, check_found, first_span, regex_with};
 use fancy_regex::RegexInput;
 use std::alloc::Global;
 use std::process::Abort;
@@ -19,7 +19,8 @@ fn check_row(rt: &impl Abort, alloc: Global, settings: Settings, row: &Row, want
     let (pattern, haystack, (start, end), _, _) = *row;
     let regex = regex_with(rt, alloc, settings, pattern);
     let input = RegexInput::new(haystack).start_text(start).end_text(end);
-    assert_eq!(rt; first_span(rt, &regex, input), wanted, "{pattern}");
+    let found = first_span(rt, &regex, input);
+    check_found(rt, pattern, haystack, found, wanted);
 }
 
 const ROWS: &[Row] = &[

@@ -1,6 +1,8 @@
 //! Where patterns are refused and why, and how large they are that are read.
 
-use crate::asking::{CHARACTERS, FaultRow, ONLY_NAMED, check_faults, is_too_complex, repeated};
+use crate::asking::{
+    CHARACTERS, FaultRow, ONLY_NAMED, check, check_faults, is_too_complex, repeated,
+};
 use fancy_syntax::parse::{ParseOptions, parse, parse_with};
 use fancy_tree::error::ParseErrorKind;
 use fancy_tree::tree::Meaning;
@@ -340,7 +342,7 @@ fn check_size(rt: &impl Abort, alloc: Global, row: &SizeRow) {
     let (options, pattern, wanted) = *row;
     let found = parse_with(alloc, pattern, options).expect(rt, pattern);
     let size = (found.tree.nodes(), found.groups, found.names.len());
-    assert_eq!(rt; size, wanted, "{pattern}");
+    check(rt, size == wanted, pattern);
 }
 
 const SIZES: &[SizeRow] = &[
@@ -379,7 +381,7 @@ fn groups_that_capture_nothing_are_no_nodes(rt: HostRuntime) {
     let mut pattern = repeated(&rt, rt.alloc(), "(a)", 500_000);
     pattern.push_str("(?<n>b)").expect(&rt, "no memory");
     let found = parse(rt.alloc(), pattern.as_str());
-    assert!(rt; is_too_complex(&found));
+    check(&rt, is_too_complex(&found), "groups that capture");
     let found = parse_with(rt.alloc(), pattern.as_str(), OF_NAMED_GROUPS);
-    assert!(rt; found.is_ok());
+    check(&rt, found.is_ok(), "groups that do not");
 }

@@ -1,9 +1,9 @@
 //! Pattern sets.
 
-use crate::asking::Span;
+use crate::asking::{Span, check};
 use fancy_regex::{
-    Error, Regex, RegexInput, RegexOptionsBuilder, RegexSet, RegexSetMatchesAt, Result,
-    RuntimeError,
+    Error, Input, Regex, RegexInput, RegexOptionsBuilder, RegexSet, RegexSetMatch,
+    RegexSetMatchesAt, Result, RuntimeError,
 };
 use std::alloc::Global;
 use std::process::Abort;
@@ -90,11 +90,17 @@ const SETS: &[SetRow] = &[
     ),
 ];
 
-fn is_past_its_limit<T>(answer: &Result<T>) -> bool {
+/// Whether this is the refusal at the limit of returns.
+fn is_limit(why: &Error) -> bool {
     matches!(
-        answer,
-        Err(Error::RuntimeError(RuntimeError::BacktrackLimitExceeded))
+        why,
+        Error::RuntimeError(RuntimeError::BacktrackLimitExceeded)
     )
+}
+
+/// Whether a search was given up at its limit of returns.
+fn is_past_its_limit<T>(answer: &Result<T>) -> bool {
+    matches!(answer, Err(why) if is_limit(why))
 }
 
 /// The set of the patterns under a limit of returns, and what it searches.
@@ -104,39 +110,68 @@ fn set_of(rt: &impl Abort, alloc: Global, limit: usize, patterns: &[&str]) -> Re
     RegexSet::new_with_options(alloc, patterns, &options).expect(rt, "a set")
 }
 
+/// What the set finds in the input, which it may search.
+fn searched<'s, S: Input>(
+    rt: &impl Abort,
+    set: &'s RegexSet,
+    input: RegexInput<S>,
+) -> Result<Option<RegexSetMatchesAt<'s, S>>> {
+    assert!(rt; set.can_search(&input));
+    set.find_input(input)
+}
+
+/// What a match of a member says of itself.
+fn item_of(rt: &impl Abort, found: RegexSetMatch<'_, &str>) -> Item {
+    let (start, end) = (found.start(), found.end());
+    let text_end = start.checked_add(found.as_str().len());
+    check(rt, text_end == Some(end), "the text");
+    Some((found.pattern(), (start, end)))
+}
+
+/// What an answer of a member says.
+fn answer_of(rt: &impl Abort, answer: Result<RegexSetMatch<'_, &str>>) -> Item {
+    match answer {
+        Ok(found) => item_of(rt, found),
+        Err(why) => {
+            check(rt, is_limit(&why), "the limit");
+            None
+        }
+    }
+}
+
 /// Checks the items that are left, one by one, and that then the iterator has ended and stays so.
 fn check_items(rt: &impl Abort, mut matches: RegexSetMatchesAt<'_, &str>, wanted: &[Item]) {
     for item in wanted {
         let answer = matches.next().expect(rt, "an item");
-        match *item {
-            None => assert!(rt; is_past_its_limit(&answer)),
-            Some((pattern, (start, end))) => {
-                let found = answer.expect(rt, "a match");
-                assert_eq!(rt; found.pattern(), pattern);
-                assert_eq!(rt; (found.start(), found.end()), (start, end));
-                assert_eq!(rt; start.checked_add(found.as_str().len()), Some(end));
-            }
-        }
+        check(rt, answer_of(rt, answer) == *item, "an item");
     }
-    assert!(rt; matches.next().is_none());
-    assert!(rt; matches.next().is_none());
+    check(rt, matches.next().is_none(), "the end");
+    check(rt, matches.next().is_none(), "the end again");
+}
+
+/// Checks where a set stands, what it says of itself there, and its items.
+fn check_matches_at(
+    rt: &impl Abort,
+    matches: RegexSetMatchesAt<'_, &str>,
+    row: &SetRow,
+    position: usize,
+    items: &[Item],
+) {
+    let (_, patterns, text, _, _, _) = *row;
+    check(rt, matches.start() == position, text);
+    check(rt, matches.haystack() == text, text);
+    check(rt, matches.regex_set().len() == patterns.len(), text);
+    check_items(rt, matches, items);
 }
 
 fn check_set(rt: &impl Abort, alloc: Global, row: &SetRow) {
     let (limit, patterns, text, start, anchored, wanted) = *row;
     let set = set_of(rt, alloc, limit, patterns);
     let input = RegexInput::new(text).from_pos(start).anchored(anchored);
-    assert!(rt; set.can_search(&input));
-    let found = set.find_input(input).expect(rt, text);
-    match (found, wanted) {
-        (None, None) => {}
-        (Some(matches), Some((position, items))) => {
-            assert_eq!(rt; matches.start(), position, "{text}");
-            assert_eq!(rt; matches.haystack(), text);
-            assert_eq!(rt; matches.regex_set().len(), patterns.len());
-            check_items(rt, matches, items);
-        }
-        _ => panic!(rt; "{text}"),
+    let found = searched(rt, &set, input).expect(rt, text);
+    check(rt, found.is_some() == wanted.is_some(), text);
+    if let (Some(matches), Some((position, items))) = (found, wanted) {
+        check_matches_at(rt, matches, row, position, items);
     }
 }
 
@@ -150,29 +185,40 @@ fn sets_stand_where_a_member_matches(rt: HostRuntime) {
 #[test]
 fn a_member_that_is_refused_before_a_match_refuses_the_set(rt: HostRuntime) {
     let set = set_of(&rt, rt.alloc(), 0, &["(?:x|y)(?=z)", "y"]);
-    let input = RegexInput::new("yz");
-    assert!(rt; set.can_search(&input));
-    assert!(rt; is_past_its_limit(&set.find_input(input)));
+    let answer = searched(&rt, &set, RegexInput::new("yz"));
+    check(&rt, is_past_its_limit(&answer), "the limit");
 }
 
 #[test]
-fn sets_of_patterns_and_of_regexes(rt: HostRuntime) {
+fn sets_of_patterns(rt: HostRuntime) {
     let alloc = rt.alloc();
-    assert!(rt; set_of(&rt, alloc, AMPLE, &[]).is_empty());
+    check(&rt, set_of(&rt, alloc, AMPLE, &[]).is_empty(), "no member");
     let set = RegexSet::new(alloc, &["a", "b"]).expect(&rt, "a set");
-    assert_eq!(rt; set.len(), 2);
-    assert!(rt; RegexSet::new(alloc, &["a", "(?:b"]).is_err());
+    check(&rt, set.len() == 2, "two members");
+    let refused = RegexSet::new(alloc, &["a", "(?:b"]);
+    check(&rt, refused.is_err(), "the second is refused");
+}
+
+/// The first match of a set in the bytes.
+fn first_of<'s>(
+    rt: &impl Abort,
+    set: &'s RegexSet,
+    haystack: &'static [u8],
+) -> RegexSetMatch<'s, &'static [u8]> {
+    let found = searched(rt, set, RegexInput::new(haystack)).expect(rt, "a search");
+    let mut matches = found.expect(rt, "a position");
+    matches.next().expect(rt, "an item").expect(rt, "a match")
+}
+
+#[test]
+fn a_set_of_a_regex(rt: HostRuntime) {
+    let alloc = rt.alloc();
     let mut members = Vec::new(alloc);
-    members
-        .push(Regex::new(alloc, "(a)").expect(&rt, "a"))
-        .expect(&rt, "room");
+    let member = Regex::new(alloc, "(a)").expect(&rt, "a regex");
+    members.push(member).expect(&rt, "room");
     let set = RegexSet::from_regexes(members);
-    let input = RegexInput::new(b"xa".as_slice());
-    assert!(rt; set.can_search(&input));
-    let matches = set.find_input(input).expect(&rt, "a search");
-    let mut matches = matches.expect(&rt, "a match");
-    let found = matches.next().expect(&rt, "an item").expect(&rt, "a match");
-    assert_eq!(rt; found.captures().len(), 2);
-    assert!(rt; found.captures().get(1).is_some());
-    assert!(rt; found.captures().get(2).is_none());
+    let found = first_of(&rt, &set, b"xa");
+    check(&rt, found.captures().len() == 2, "two groups");
+    check(&rt, found.captures().get(1).is_some(), "the group");
+    check(&rt, found.captures().get(2).is_none(), "no third group");
 }

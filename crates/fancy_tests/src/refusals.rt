@@ -1,10 +1,10 @@
 //! What is refused, and why.
 
 use crate::asking::{
-    ASCII_TEXT, BYTES, BYTES_WITHOUT_UNICODE, KindRow, Settings, check_kinds, fault_of,
+    ASCII_TEXT, BYTES, BYTES_WITHOUT_UNICODE, KindRow, Settings, check, check_kinds, fault_of,
     is_too_complex, kind_of, read, read_many, read_nested,
 };
-use fancy_regex::ParseErrorKind;
+use fancy_regex::{ParseErrorKind, Regex};
 use std::alloc::Global;
 use std::process::Abort;
 
@@ -94,6 +94,18 @@ fn classes_of_one_fault(rt: HostRuntime) {
     check_kinds(&rt, rt.alloc(), FAULTY_CLASSES);
 }
 
+const NO_NAMES: &[KindRow] = &[
+    ("(?<>a)", ParseErrorKind::InvalidGroupName),
+    ("(?<a b>c)", ParseErrorKind::InvalidGroupName),
+    ("(?P<a-b>c)", ParseErrorKind::InvalidGroupName),
+    ("(?<a", ParseErrorKind::InvalidGroupName),
+];
+
+#[test]
+fn names_are_rows_of_their_characters(rt: HostRuntime) {
+    check_kinds(&rt, rt.alloc(), NO_NAMES);
+}
+
 const LEFT_OUT: &[KindRow] = &[
     ("(*FAIL)", ParseErrorKind::NotInProfile),
     ("(?~a)", ParseErrorKind::NotInProfile),
@@ -115,9 +127,10 @@ fn forms_that_are_left_out(rt: HostRuntime) {
 fn check_no_classes(rt: &impl Abort, alloc: Global, settings: Settings, patterns: &[&str]) {
     for pattern in patterns {
         let read = read(alloc, settings, *pattern);
-        assert!(rt;
+        check(
+            rt,
             kind_of(&read) == Some(ParseErrorKind::InvalidClass),
-            "{pattern}"
+            *pattern,
         );
     }
 }
@@ -168,20 +181,28 @@ const DEEP: &[((&str, &str, &str), Option<usize>)] = &[
     (("[", "a", "]"), Some(0)),
 ];
 
+/// Whether a pattern is refused for its depth, at this place where it is told.
+fn is_too_deep(read: &fancy_regex::Result<Regex>, place: Option<usize>) -> bool {
+    match fault_of(read) {
+        Some((at, ParseErrorKind::RecursionExceeded)) => place.is_none() || place == Some(at),
+        _ => false,
+    }
+}
+
 #[test]
 fn parentheses_and_brackets_nest_64_deep(rt: HostRuntime) {
     for &(parts, place) in DEEP {
         let deepest = read_nested(&rt, rt.alloc(), parts, 64);
-        assert!(rt; deepest.is_ok(), "{}", parts.0);
+        check(&rt, deepest.is_ok(), parts.0);
         let too_deep = read_nested(&rt, rt.alloc(), parts, 65);
-        let (at, kind) = fault_of(&too_deep).expect(&rt, parts.0);
-        assert!(rt; kind == ParseErrorKind::RecursionExceeded, "{}", parts.0);
-        assert!(rt; place.is_none() || place == Some(at), "{}", parts.0);
+        check(&rt, is_too_deep(&too_deep, place), parts.0);
     }
 }
 
 #[test]
 fn a_pattern_has_a_million_nodes(rt: HostRuntime) {
-    assert!(rt; read_many(&rt, rt.alloc(), 1_000_000).is_ok());
-    assert!(rt; is_too_complex(&read_many(&rt, rt.alloc(), 1_000_001)));
+    let most = read_many(&rt, rt.alloc(), 1_000_000);
+    check(&rt, most.is_ok(), "a million nodes");
+    let more = read_many(&rt, rt.alloc(), 1_000_001);
+    check(&rt, is_too_complex(&more), "one node more");
 }

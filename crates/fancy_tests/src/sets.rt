@@ -126,13 +126,18 @@ fn is_within(ranges: &[(u32, u32)], number: u32) -> bool {
         .any(|(first, last)| *first <= number && number <= *last)
 }
 
+/// Checks whether a number is a member of a set.
+fn check_member(rt: &impl Abort, set: &str, number: u32, found: bool, wanted: bool) {
+    assert!(rt; found == wanted, "{number} in {set}");
+}
+
 /// Checks on every byte whether it is within the ranges, or outside of them where these are no members.
 fn check_every_byte(rt: &impl Abort, regex: &Regex, ranges: &[(u32, u32)], members: bool) {
     for byte in 0..=255u8 {
         let haystack: &[u8] = &[byte];
         let wanted = is_within(ranges, byte as u32) == members;
         let found = first_span(rt, regex, RegexInput::new(haystack));
-        assert!(rt; found.is_some() == wanted, "{byte} in {}", regex.as_str());
+        check_member(rt, regex.as_str(), byte as u32, found.is_some(), wanted);
     }
 }
 
@@ -154,14 +159,19 @@ fn sets_of_bytes(rt: HostRuntime) {
     }
 }
 
-/// Checks that the pattern matches the bytes of this character, or does not.
-fn check_character(rt: &impl Abort, alloc: Global, regex: &Regex, c: char, wanted: bool) {
+/// The text of one character.
+fn text_of(rt: &impl Abort, alloc: Global, c: char) -> String {
     let mut text = String::new(alloc);
     text.push(c).expect(rt, "no memory");
+    text
+}
+
+/// Checks that the pattern matches the bytes of this character, or does not.
+fn check_character(rt: &impl Abort, alloc: Global, regex: &Regex, c: char, wanted: bool) {
+    let text = text_of(rt, alloc, c);
     let input = RegexInput::new(text.as_str().as_bytes());
     let found = first_span(rt, regex, input);
-    let number = c as u32;
-    assert!(rt; found.is_some() == wanted, "{number} in {}", regex.as_str());
+    check_member(rt, regex.as_str(), c as u32, found.is_some(), wanted);
 }
 
 fn check_characters(rt: &impl Abort, alloc: Global, regex: &Regex, text: &str, wanted: bool) {

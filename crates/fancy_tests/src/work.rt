@@ -1,12 +1,17 @@
-//! What searches count: the instructions that they fetch, and the saved branches that they take.
+//! What searches count: the instructions that they fetch, and the saved branches that they take; and how long code is.
 //!
 //! The counts were worked out by hand. The code of a pattern was written down in the order in which `compile` emits it, after
 //! `0 Match` and `1 Fail`; a comment above each row has the instructions that the search reaches. Then the code was followed over
 //! the text from one position where a match can begin to the next, with each pair of an instruction and a place as one step where
 //! it is met first.
 
-use crate::asking::{WorkRow, check_work};
-use fancy_regex::Work;
+use crate::asking::{
+    Span, WorkRow, check, check_found, check_work, counted, first_span, is_found, regex_of,
+    repeated,
+};
+use fancy_regex::{Regex, RegexInput, Work};
+use std::alloc::Global;
+use std::process::Abort;
 
 const EASY_SEARCHES: &[WorkRow] = &[
     // from 0 on
@@ -43,4 +48,77 @@ fn work_is_counted(rt: HostRuntime) {
     let mut work = Work::new();
     check_work(&rt, rt.alloc(), EASY_SEARCHES, &mut work);
     check_work(&rt, rt.alloc(), HARD_SEARCHES, &mut work);
+}
+
+/// Whether a search found that there is no match.
+fn is_nothing(found: &fancy_regex::Result<Option<Span>>) -> bool {
+    matches!(found, Ok(None))
+}
+
+/// Checks that the search finds nothing, in at most so many steps as are promised.
+fn check_nothing_in_time(rt: &impl Abort, regex: &Regex, haystack: &str) {
+    let mut work = Work::new();
+    let found = counted(rt, regex, RegexInput::new(haystack), &mut work);
+    let places = haystack.len().saturating_add(1);
+    let most = regex.code_len().saturating_mul(places);
+    check(rt, is_nothing(&found), haystack);
+    check(rt, work.steps() <= most, haystack);
+}
+
+fn check_twins(rt: &impl Abort, alloc: Global, regex: &Regex) {
+    let mut twins = repeated(rt, alloc, "ab", 28);
+    twins.push_str("ac").expect(rt, "no memory");
+    check_nothing_in_time(rt, regex, twins.as_str());
+}
+
+fn check_many(rt: &impl Abort, alloc: Global, regex: &Regex) {
+    let all = repeated(rt, alloc, "a", 130);
+    for count in 0..131usize {
+        let text = all.as_str().get(..count).expect(rt, "no text");
+        check_nothing_in_time(rt, regex, text);
+    }
+}
+
+#[test]
+fn a_search_is_bounded(rt: HostRuntime) {
+    let regex = regex_of(&rt, rt.alloc(), "(?:a|b|ab)*bc");
+    check(&rt, regex.is_easy(), "an easy pattern");
+    check_twins(&rt, rt.alloc(), &regex);
+    check_many(&rt, rt.alloc(), &regex);
+}
+
+/// A part of a text.
+fn part_to(rt: &impl Abort, end: usize) -> RegexInput<&'static str> {
+    let haystack = "xabc";
+    assert!(rt; 1 <= end && end <= haystack.len());
+    RegexInput::new(haystack).range(1..end)
+}
+
+#[test]
+fn a_search_goes_back_to_a_branch(rt: HostRuntime) {
+    let regex = regex_of(&rt, rt.alloc(), "(a|ab)c");
+    let mut work = Work::new();
+    let found = counted(&rt, &regex, part_to(&rt, 4), &mut work);
+    check(&rt, is_found(&found, (1, 4)), "the span");
+    check(&rt, work.returns() == 1, "the returns");
+    let found = first_span(&rt, &regex, part_to(&rt, 3));
+    check_found(&rt, "(a|ab)c", "ab", found, None);
+}
+
+#[test]
+fn code_is_short(rt: HostRuntime) {
+    for (pattern, most) in [("(?:a*)*", 22), ("(a|b)+", 50), ("(?:a|b){2,4}", 78)] {
+        let regex = regex_of(&rt, rt.alloc(), pattern);
+        check(&rt, regex.code_len() <= most, pattern);
+    }
+}
+
+#[test]
+fn nothing_is_done_past_the_end(rt: HostRuntime) {
+    let regex = regex_of(&rt, rt.alloc(), "a");
+    let mut work = Work::new();
+    let past = RegexInput::new("a").from_pos(2);
+    let found = counted(&rt, &regex, past, &mut work);
+    check(&rt, is_nothing(&found), "nothing");
+    check(&rt, work.steps() == 0, "the steps");
 }

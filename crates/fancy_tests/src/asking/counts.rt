@@ -1,7 +1,7 @@
 //! What a search counts, and where it is given up.
 
-use crate::asking::{Settings, Span, regex_of, regex_with, span};
-use fancy_regex::{Error, Regex, RegexInput, RuntimeError, Work};
+use crate::asking::{Settings, Span, check, regex_of, regex_with, searchable, span};
+use fancy_regex::{Error, Match, Regex, RegexInput, RuntimeError, Work};
 use std::alloc::Global;
 use std::process::Abort;
 
@@ -12,9 +12,15 @@ pub(crate) fn counted(
     input: RegexInput<&str>,
     work: &mut Work,
 ) -> fancy_regex::Result<Option<Span>> {
-    assert!(rt; regex.can_search(&input), "{}", regex.as_str());
-    match regex.find_input_counted(input, work) {
-        Ok(found) => Ok(found.map(span)),
+    let input = searchable(rt, regex, input);
+    spanned(regex.find_input_counted(input, work))
+}
+
+/// The span of what was found, if anything was.
+fn spanned(found: fancy_regex::Result<Option<Match<'_>>>) -> fancy_regex::Result<Option<Span>> {
+    match found {
+        Ok(Some(found)) => Ok(Some(span(found))),
+        Ok(None) => Ok(None),
         Err(why) => Err(why),
     }
 }
@@ -25,6 +31,11 @@ fn answer_of(found: &fancy_regex::Result<Option<Span>>) -> Option<Option<Span>> 
         Ok(found) => Some(*found),
         Err(_) => None,
     }
+}
+
+/// Whether a search found this span.
+pub(crate) fn is_found(found: &fancy_regex::Result<Option<Span>>, wanted: Span) -> bool {
+    matches!(found, Ok(Some(found)) if *found == wanted)
 }
 
 /// Whether a search was given up at its limit of returns.
@@ -46,6 +57,17 @@ pub(crate) type CountedRow = (
     usize,
 );
 
+/// Checks what a search answered, and how many returns it took.
+fn check_answer(
+    rt: &impl Abort,
+    found: &fancy_regex::Result<Option<Span>>,
+    wanted: Option<Option<Span>>,
+    pattern: &str,
+) {
+    check(rt, answer_of(found) == wanted, pattern);
+    check(rt, is_past_limit(found) == wanted.is_none(), pattern);
+}
+
 fn check_counted_row(rt: &impl Abort, alloc: Global, row: &CountedRow) {
     let (settings, pattern, haystack, backtrack_limit, wanted, returns) = *row;
     let settings = Settings {
@@ -55,12 +77,8 @@ fn check_counted_row(rt: &impl Abort, alloc: Global, row: &CountedRow) {
     let regex = regex_with(rt, alloc, settings, pattern);
     let mut work = Work::new();
     let found = counted(rt, &regex, RegexInput::new(haystack), &mut work);
-    assert!(rt; answer_of(&found) == wanted, "{pattern} on {haystack}");
-    assert_eq!(rt; work.returns(), returns, "{pattern} on {haystack}");
-    assert!(rt;
-        is_past_limit(&found) == wanted.is_none(),
-        "{pattern} on {haystack}"
-    );
+    check_answer(rt, &found, wanted, pattern);
+    check(rt, work.returns() == returns, pattern);
 }
 
 pub(crate) fn check_counted(rt: &impl Abort, alloc: Global, rows: &[CountedRow]) {
@@ -76,10 +94,10 @@ pub(crate) type WorkRow = (&'static str, &'static str, Option<Span>, usize, usiz
 fn check_work_row(rt: &impl Abort, alloc: Global, row: &WorkRow, work: &mut Work) {
     let (pattern, haystack, wanted, steps, returns) = *row;
     let regex = regex_of(rt, alloc, pattern);
-    let found = counted(rt, &regex, RegexInput::new(haystack), work).expect(rt, pattern);
-    assert!(rt; found == wanted, "{pattern} on {haystack}");
-    assert_eq!(rt; work.steps(), steps, "{pattern} on {haystack}");
-    assert_eq!(rt; work.returns(), returns, "{pattern} on {haystack}");
+    let found = counted(rt, &regex, RegexInput::new(haystack), work);
+    check_answer(rt, &found, Some(wanted), pattern);
+    check(rt, work.steps() == steps, pattern);
+    check(rt, work.returns() == returns, pattern);
 }
 
 /// Checks what searches find and count, whatever was counted before.
@@ -95,6 +113,6 @@ pub(crate) type EasyRow = (Settings, &'static str, bool);
 pub(crate) fn check_easy(rt: &impl Abort, alloc: Global, rows: &[EasyRow]) {
     for &(settings, pattern, wanted) in rows {
         let regex = regex_with(rt, alloc, settings, pattern);
-        assert!(rt; regex.is_easy() == wanted, "{pattern}");
+        check(rt, regex.is_easy() == wanted, pattern);
     }
 }

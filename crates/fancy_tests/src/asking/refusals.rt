@@ -1,6 +1,6 @@
 //! What is refused, and why.
 
-use crate::asking::{Settings, read};
+use crate::asking::{Settings, check, read};
 use fancy_regex::{CompileError, Error, ParseErrorKind, Regex};
 use std::alloc::Global;
 use std::process::Abort;
@@ -69,7 +69,7 @@ pub(crate) type FlawRow = (Settings, &'static str, Flaw);
 fn check_flaw(rt: &impl Abort, alloc: Global, row: &FlawRow) {
     let (settings, pattern, wanted) = *row;
     let read = read(alloc, settings, pattern);
-    assert!(rt; has_flaw(&read, wanted), "{pattern}");
+    check(rt, has_flaw(&read, wanted), pattern);
 }
 
 pub(crate) fn check_flaws(rt: &impl Abort, alloc: Global, rows: &[FlawRow]) {
@@ -84,7 +84,7 @@ pub(crate) type KindRow = (&'static str, ParseErrorKind);
 fn check_kind(rt: &impl Abort, alloc: Global, row: &KindRow) {
     let (pattern, wanted) = *row;
     let read = Regex::new(alloc, pattern);
-    assert!(rt; kind_of(&read) == Some(wanted), "{pattern}");
+    check(rt, kind_of(&read) == Some(wanted), pattern);
 }
 
 pub(crate) fn check_kinds(rt: &impl Abort, alloc: Global, rows: &[KindRow]) {
@@ -100,8 +100,8 @@ pub(crate) type FaultRow = (Settings, &'static str, Option<(usize, ParseErrorKin
 fn check_fault(rt: &impl Abort, alloc: Global, row: &FaultRow) {
     let (settings, pattern, wanted) = *row;
     let read = read(alloc, settings, pattern);
-    assert_eq!(rt; fault_of(&read), wanted, "{pattern}");
-    assert!(rt; read.is_ok() == wanted.is_none(), "{pattern}");
+    check(rt, fault_of(&read) == wanted, pattern);
+    check(rt, read.is_ok() == wanted.is_none(), pattern);
 }
 
 pub(crate) fn check_faults(rt: &impl Abort, alloc: Global, rows: &[FaultRow]) {

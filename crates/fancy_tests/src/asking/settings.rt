@@ -3,8 +3,9 @@
 ghost use Rattle.std.specs.Prelude.{◌≡◌};
 ghost use Rattle.fancy_search.specs.Options.{by_default};
 ghost use Rattle.fancy_core.specs.Regexes.{options_in};
+ghost use Rattle.fancy_core.specs.Searches.{CanSearchInput};
 
-use fancy_regex::{BytesMode, Regex, RegexOptionsBuilder};
+use fancy_regex::{BytesMode, Input, Regex, RegexInput, RegexOptionsBuilder};
 use std::alloc::Global;
 use std::process::Abort;
 
@@ -136,4 +137,16 @@ pub(crate) fn regex_with(
     pattern: &str,
 ) -> Regex {
     read(alloc, settings, pattern).expect(rt, pattern)
+}
+
+/// The input, which the regex may search.
+pub(crate) fn searchable<S: Input>(
+    rt: &impl Abort,
+    regex: &Regex,
+    input: RegexInput<S>,
+) -> RegexInput<S>
+    ensures { CanSearchInput S.text S.bytes (options_in regex.now) result }
+{
+    assert!(rt; regex.can_search(&input), "{}", regex.as_str());
+    input
 }

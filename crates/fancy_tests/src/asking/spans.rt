@@ -1,6 +1,10 @@
 //! First matches.
 
-use crate::asking::{Settings, regex_of, regex_with};
+ghost use Rattle.std.specs.Prelude.{◌≡◌};
+ghost use Rattle.fancy_search.specs.Options.{by_default};
+ghost use Rattle.fancy_core.specs.Regexes.{options_in};
+
+use crate::asking::{Settings, check, regex_of, regex_with, searchable};
 use fancy_regex::{Input, Match, MatchBytes, Regex, RegexInput};
 use std::alloc::Global;
 use std::process::Abort;
@@ -33,17 +37,47 @@ pub(crate) fn span_of_bytes(found: MatchBytes<'_>) -> Span {
     (found.start(), found.end())
 }
 
+/// Where what was found starts and ends, if anything was.
+pub(crate) fn span_found<M: Spanned>(
+    rt: &impl Abort,
+    found: fancy_regex::Result<Option<M>>,
+    pattern: &str,
+) -> Option<Span> {
+    match found.expect(rt, pattern) {
+        Some(found) => Some(found.span()),
+        None => None,
+    }
+}
+
 /// Where the first match starts and ends that the input asks for, which the regex may search.
 pub(crate) fn first_span<M: Spanned, S: Input<Match = M>>(
     rt: &impl Abort,
     regex: &Regex,
     input: RegexInput<S>,
 ) -> Option<Span> {
-    assert!(rt; regex.can_search(&input), "{}", regex.as_str());
-    match regex.find_input(input).expect(rt, regex.as_str()) {
-        Some(found) => Some(found.span()),
-        None => None,
-    }
+    let input = searchable(rt, regex, input);
+    span_found(rt, regex.find_input(input), regex.as_str())
+}
+
+/// Checks where the first match starts and ends.
+pub(crate) fn check_found(
+    rt: &impl Abort,
+    pattern: &str,
+    haystack: &str,
+    found: Option<Span>,
+    wanted: Option<Span>,
+) {
+    assert!(rt; found == wanted, "{pattern} on {haystack}");
+}
+
+/// Whether a match was found that is this part.
+pub(crate) fn is_part(found: &fancy_regex::Result<Option<MatchBytes<'_>>>, part: &[u8]) -> bool {
+    matches!(found, Ok(Some(found)) if found.as_bytes() == part)
+}
+
+/// Whether a search answered this.
+pub(crate) fn is_answer(answer: &fancy_regex::Result<bool>, wanted: bool) -> bool {
+    matches!(answer, Ok(answer) if *answer == wanted)
 }
 
 /// A pattern, a text, where the first match starts and ends, and its text.
@@ -51,23 +85,30 @@ pub(crate) type MatchRow = (&'static str, &'static str, Span, &'static str);
 
 /// Checks what a match says of itself.
 fn check_match(rt: &impl Abort, found: Match<'_>, wanted: Span, text: &str) {
-    assert_eq!(rt; span(found), wanted, "{text}");
     let range = found.range();
-    assert_eq!(rt; (range.start, range.end), wanted, "{text}");
-    assert_eq!(rt; found.as_str(), text);
     let part: &str = found.into();
-    assert_eq!(rt; part, text);
+    check(rt, span(found) == wanted, text);
+    check(rt, (range.start, range.end) == wanted, text);
+    check(rt, found.as_str() == text, text);
+    check(rt, part == text, text);
+}
+
+/// The first match in the text, of a regex with the default options.
+fn first_match<'t>(rt: &impl Abort, regex: &Regex, haystack: &'t str) -> Match<'t>
+    requires { options_in regex.now ≡ by_default }
+{
+    let found = regex.find(haystack).expect(rt, haystack);
+    found.expect(rt, haystack)
 }
 
 /// Checks what the first match says of itself, and that it is found again.
 pub(crate) fn check_matches(rt: &impl Abort, alloc: Global, rows: &[MatchRow]) {
     for &(pattern, haystack, wanted, text) in rows {
         let regex = regex_of(rt, alloc, pattern);
-        let first = regex.find(haystack).expect(rt, pattern);
-        let found = first.expect(rt, pattern);
+        let found = first_match(rt, &regex, haystack);
         check_match(rt, found, wanted, text);
-        let again = regex.find(haystack).expect(rt, pattern);
-        assert!(rt; Some(found) == again, "{pattern}");
+        let again = first_match(rt, &regex, haystack);
+        check(rt, found == again, pattern);
     }
 }
 
@@ -78,12 +119,12 @@ pub(crate) type TextRow = (&'static str, &'static str, Option<Span>);
 fn check_text(rt: &impl Abort, alloc: Global, row: &TextRow) {
     let (pattern, haystack, wanted) = *row;
     let regex = regex_of(rt, alloc, pattern);
-    let first = regex.find(haystack).expect(rt, pattern);
-    assert_eq!(rt; first.map(span), wanted, "{pattern} on {haystack}");
+    let found = span_found(rt, regex.find(haystack), pattern);
+    check_found(rt, pattern, haystack, found, wanted);
     let found = first_span(rt, &regex, RegexInput::new(haystack));
-    assert_eq!(rt; found, wanted, "{pattern} on {haystack}");
+    check_found(rt, pattern, haystack, found, wanted);
     let found = first_span(rt, &regex, RegexInput::new(haystack.as_bytes()));
-    assert_eq!(rt; found, wanted, "{pattern} on the bytes of {haystack}");
+    check_found(rt, pattern, haystack, found, wanted);
 }
 
 pub(crate) fn check_texts(rt: &impl Abort, alloc: Global, rows: &[TextRow]) {
@@ -102,7 +143,7 @@ fn check_span<M: Spanned, S: Input<Match = M>>(rt: &impl Abort, alloc: Global, r
     let (settings, pattern, haystack, wanted) = *row;
     let regex = regex_with(rt, alloc, settings, pattern);
     let found = first_span(rt, &regex, RegexInput::new(haystack));
-    assert_eq!(rt; found, wanted, "{pattern}");
+    check_found(rt, pattern, "a haystack", found, wanted);
 }
 
 pub(crate) fn check_spans<M: Spanned, S: Input<Match = M>>(
@@ -132,7 +173,7 @@ fn input_of<S: Input>(rt: &impl Abort, row: &SearchRow<S>) -> RegexInput<S> {
 
 /// Whether the input has a match, which the regex may search.
 fn has_match<S: Input>(rt: &impl Abort, regex: &Regex, input: RegexInput<S>) -> bool {
-    assert!(rt; regex.can_search(&input), "{}", regex.as_str());
+    let input = searchable(rt, regex, input);
     regex.is_match_input(input).expect(rt, regex.as_str())
 }
 
@@ -141,13 +182,13 @@ fn check_search<M: Spanned, S: Input<Match = M>>(
     alloc: Global,
     row: &SearchRow<S>,
 ) {
-    let (settings, pattern, _, start, _, _, wanted) = *row;
+    let (settings, pattern, _, _, _, _, wanted) = *row;
     let regex = regex_with(rt, alloc, settings, pattern);
     let input = input_of(rt, row);
     let found = first_span(rt, &regex, input.again());
-    assert_eq!(rt; found, wanted, "{pattern} from {start}");
+    check(rt, found == wanted, pattern);
     let matched = has_match(rt, &regex, input);
-    assert!(rt; matched == wanted.is_some(), "{pattern} from {start}");
+    check(rt, matched == wanted.is_some(), pattern);
 }
 
 pub(crate) fn check_searches<M: Spanned, S: Input<Match = M>>(

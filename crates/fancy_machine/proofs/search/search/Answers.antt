@@ -80,7 +80,7 @@ returns-in-Some-clause-bounded g c = let count = returns-in-Some-clause-count g 
 pub loop-place-preserved : goal.loop-place-preserved
 loop-place-preserved g c =
     let one : (c.last_position-last.result + 1 - c.loop-place.place) ≡ suc (c.last_position-last.result + 1 - (c.loop-place.place + 1)) = omega arith in
-    let a = rw c.in-None.is at c.in_ok-found.ensures.answer in
+    let a = rw c.in_default.is at c.in_ok-found.ensures.answer in
     let counts = gone_counts g.q (c.last_position-last.result + 1 - c.loop-place.place) (c.last_position-last.result + 1 - (c.loop-place.place + 1)) c.loop-place.place one (sym a) in
     record {
       left = c.loop-place.invariant.left ∙ found_later g.q (c.last_position-last.result + 1 - c.loop-place.place) (c.last_position-last.result + 1 - (c.loop-place.place + 1)) c.loop-place.place one (sym a);

@@ -1,13 +1,18 @@
 //! Templates, and texts that are escaped for them.
 
-use crate::asking::regex_of;
-use fancy_regex::{Captures, CompileError, Error, Expander, ParseErrorKind, Regex};
+use crate::asking::{captured_in, check, regex_of};
+use fancy_regex::{Captures, CompileError, Error, Expander, ParseErrorKind};
 use std::alloc::Global;
 use std::borrow::CowStr;
 use std::process::Abort;
 
-/// Compares what is written of an expansion with what is wanted.
-fn check_written(
+/// Compares what was written of an expansion, if all went well, with what is wanted.
+fn check_written(rt: &impl Abort, is_done: bool, written: &[u8], template: &str, wanted: &str) {
+    assert!(rt; is_done && written == wanted.as_bytes(), "{template}");
+}
+
+/// Compares what is written of an expansion, to bytes and to any writer, with what is wanted.
+fn check_writes(
     rt: &impl Abort,
     alloc: Global,
     expander: &Expander,
@@ -17,12 +22,34 @@ fn check_written(
 ) {
     let mut bytes = Vec::new(alloc);
     let answer = expander.write_expansion_vec(&mut bytes, template, captures);
-    answer.expect(rt, template);
-    assert_eq!(rt; bytes.as_slice(), wanted.as_bytes(), "{template}");
+    check_written(rt, answer.is_ok(), bytes.as_slice(), template, wanted);
     let mut written = Vec::new(alloc);
     let answer = expander.write_expansion(&mut written, template, captures);
-    answer.expect(rt, template);
-    assert_eq!(rt; written.as_slice(), wanted.as_bytes(), "{template}");
+    check_written(rt, answer.is_ok(), written.as_slice(), template, wanted);
+}
+
+/// Compares what was appended to a text of one letter, if all went well, with what is wanted.
+fn check_appended(rt: &impl Abort, is_done: bool, text: &str, template: &str, wanted: &str) {
+    assert!(rt;
+        is_done && text.strip_prefix("é") == Some(wanted),
+        "{template}"
+    );
+}
+
+/// Checks what a template expands to.
+pub(crate) fn check_text(
+    rt: &impl Abort,
+    answer: fancy_regex::Result<String>,
+    template: &str,
+    wanted: &str,
+) {
+    let text = answer.expect(rt, template);
+    check(rt, text.as_str() == wanted, template);
+}
+
+/// A text of one letter.
+fn letter(rt: &impl Abort, alloc: Global) -> String {
+    String::from_str(alloc, "é").expect(rt, "no memory")
 }
 
 /// Compares every form of expansion with what is wanted.
@@ -34,17 +61,11 @@ fn check_forms(
     captures: &Captures<'_, &str>,
     wanted: &str,
 ) {
-    let text = expander.expansion(template, captures).expect(rt, template);
-    assert_eq!(rt; text.as_str(), wanted, "{template}");
-    let mut appended = String::from_str(alloc, "é").expect(rt, template);
+    check_text(rt, expander.expansion(template, captures), template, wanted);
+    let mut appended = letter(rt, alloc);
     let answer = expander.append_expansion(&mut appended, template, captures);
-    answer.expect(rt, template);
-    assert_eq!(rt;
-        appended.as_str().strip_prefix("é"),
-        Some(wanted),
-        "{template}"
-    );
-    check_written(rt, alloc, expander, template, captures, wanted);
+    check_appended(rt, answer.is_ok(), appended.as_str(), template, wanted);
+    check_writes(rt, alloc, expander, template, captures, wanted);
 }
 
 /// Compares the expansion by the captures with what is wanted.
@@ -55,9 +76,9 @@ fn check_expand(
     captures: &Captures<'_, &str>,
     wanted: &str,
 ) {
-    let mut text = String::from_str(alloc, "x").expect(rt, template);
-    captures.expand(template, &mut text).expect(rt, template);
-    assert_eq!(rt; text.as_str().strip_prefix("x"), Some(wanted), "{template}");
+    let mut text = letter(rt, alloc);
+    let answer = captures.expand(template, &mut text);
+    check_appended(rt, answer.is_ok(), text.as_str(), template, wanted);
 }
 
 /// A template, and what it expands to where `b` is group 1 and the whole match.
@@ -71,8 +92,7 @@ pub(crate) fn check_templates(
     rows: &[TemplateRow],
 ) {
     let regex = regex_of(rt, alloc, "(b)");
-    let found = regex.captures("abc").expect(rt, "a search");
-    let captures = found.expect(rt, "a match");
+    let captures = captured_in(rt, &regex, "abc");
     for &(template, wanted) in rows {
         check_forms(rt, alloc, expander, template, &captures, wanted);
     }
@@ -81,8 +101,7 @@ pub(crate) fn check_templates(
 /// Checks the expansion by the captures.
 pub(crate) fn check_expanded(rt: &impl Abort, alloc: Global, rows: &[TemplateRow]) {
     let regex = regex_of(rt, alloc, "(b)");
-    let found = regex.captures("abc").expect(rt, "a search");
-    let captures = found.expect(rt, "a match");
+    let captures = captured_in(rt, &regex, "abc");
     for &(template, wanted) in rows {
         check_expand(rt, alloc, template, &captures, wanted);
     }
@@ -122,7 +141,7 @@ fn check_told_row(rt: &impl Abort, alloc: Global, expander: &Expander, row: &Che
     let (pattern, template, wanted) = *row;
     let regex = regex_of(rt, alloc, pattern);
     let answer = expander.check(template, &regex);
-    assert!(rt; is_told(&answer, wanted), "{template}");
+    check(rt, is_told(&answer, wanted), template);
 }
 
 pub(crate) fn check_told(rt: &impl Abort, alloc: Global, expander: &Expander, rows: &[CheckedRow]) {
@@ -139,9 +158,7 @@ pub(crate) fn check_escaped(
     wanted: &str,
 ) {
     let escaped = answer.expect(rt, text);
-    assert_eq!(rt; escaped.as_str(), wanted);
-    assert!(rt;
-        matches!(escaped, CowStr::Borrowed(_)) == (text == wanted),
-        "{text}"
-    );
+    let is_same = matches!(escaped, CowStr::Borrowed(_));
+    check(rt, escaped.as_str() == wanted, text);
+    check(rt, is_same == (text == wanted), text);
 }

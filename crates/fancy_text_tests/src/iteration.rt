@@ -3,16 +3,18 @@
 //! The first rows of the first two tables were worked out by hand, the others by an independent model of the search.
 
 use crate::asking::{
-    AllGroupsRow, BYTES, CHARACTERS, CHARACTERS_ANYWHERE, Settings, Span, Spanned, TextListRow,
-    check_all_groups, check_text_lists, regex_of, regex_with, span,
+    AllGroupsRow, BYTES, CHARACTERS, CHARACTERS_ANYWHERE, ListRow, Settings, Span, Spanned,
+    TextListRow, captured_in, check, check_all_groups, check_lists, check_match_at, check_next,
+    check_number, check_text_lists, regex_of, regex_with, searchable, span_found,
 };
-use fancy_regex::{Captures, Input, Match, MatchBytes, Matches, Regex, RegexInput};
+use fancy_regex::{
+    CaptureMatches, Captures, Error, Input, Match, MatchBytes, Matches, Regex, RegexInput,
+};
 use std::alloc::Global;
 use std::process::Abort;
 
 /// An iteration: what is searched, where its matches start and end, and where the search starts that is next: at
 /// first, after each match, and at the end.
-#[derive(Clone, Copy)]
 struct Row<S> {
     settings: Settings,
     pattern: &'static str,
@@ -34,54 +36,82 @@ fn input_of<S: Input>(rt: &impl Abort, row: &Row<S>) -> RegexInput<S> {
         .anchored(row.anchored)
 }
 
+/// Where the whole match starts and ends that was found with its groups.
+fn span_captured<M: Spanned, S: Input<Match = M>>(
+    rt: &impl Abort,
+    captures: fancy_regex::Result<Captures<'_, S>>,
+    pattern: &str,
+) -> Span {
+    let whole = captures.expect(rt, pattern).get(0);
+    whole.expect(rt, pattern).span()
+}
+
 /// Checks where the captures of an iteration start and end.
-fn check_captures<M: Spanned, S: Input<Match = M>>(rt: &impl Abort, regex: &Regex, row: &Row<S>) {
-    let input = input_of(rt, row);
-    assert!(rt; regex.can_search(&input), "{}", row.pattern);
+fn check_captures<M: Spanned, S: Input<Match = M>>(
+    rt: &impl Abort,
+    items: CaptureMatches<'_, S>,
+    pattern: &str,
+    spans: &[Span],
+) {
     let mut at = 0usize;
-    for captures in regex.captures_iter_input(input) {
-        let whole = captures.expect(rt, row.pattern).get(0);
-        let found = whole.expect(rt, row.pattern).span();
-        assert!(rt;
-            row.spans.get(at) == Some(&found),
-            "match {at} of {}",
-            row.pattern
-        );
+    for captures in items {
+        let found = span_captured(rt, captures, pattern);
+        check_match_at(rt, pattern, at, found, spans);
         at = at.wrapping_add(1);
     }
-    assert_eq!(rt; at, row.spans.len(), "{}", row.pattern);
+    check_number(rt, pattern, at, spans.len());
+}
+
+/// Checks where the search starts that is next.
+fn check_start(rt: &impl Abort, pattern: &str, at: usize, start: usize, starts: &[usize]) {
+    assert!(rt; starts.get(at) == Some(&start), "start {at} of {pattern}");
+}
+
+/// Where the next match starts and ends.
+fn next_of<M: Spanned, S: Input<Match = M>>(
+    rt: &impl Abort,
+    matches: &mut Matches<'_, S>,
+    pattern: &str,
+) -> Span {
+    span_found(rt, matches.next().expect(rt, pattern), pattern)
+}
+
+/// Checks that there is no further match.
+fn check_ended<S: Input>(rt: &impl Abort, matches: &mut Matches<'_, S>, pattern: &str) {
+    check(rt, matches.next().is_none(), pattern);
 }
 
 /// Checks where the matches of an iteration start and end, and where it goes on after each.
-fn check_matches<M: Spanned, S: Input<Match = M>>(rt: &impl Abort, regex: &Regex, row: &Row<S>) {
-    let pattern = row.pattern;
-    let input = input_of(rt, row);
-    assert!(rt; regex.can_search(&input), "{pattern}");
-    let mut matches = regex.find_iter_input(input);
-    for at in 0..row.spans.len() {
-        let start = matches.input().start();
-        assert!(rt;
-            row.starts.get(at) == Some(&start),
-            "start {at} of {pattern}"
-        );
-        let next = matches.next().expect(rt, pattern);
-        let found = next.expect(rt, pattern).span();
-        assert!(rt;
-            row.spans.get(at) == Some(&found),
-            "match {at} of {pattern}"
-        );
+fn check_matches<M: Spanned, S: Input<Match = M>>(
+    rt: &impl Abort,
+    mut matches: Matches<'_, S>,
+    pattern: &str,
+    (spans, starts): (&[Span], &[usize]),
+) {
+    for at in 0..spans.len() {
+        check_start(rt, pattern, at, matches.input().start(), starts);
+        let found = next_of(rt, &mut matches, pattern);
+        check_match_at(rt, pattern, at, found, spans);
     }
-    let has_ended = matches.next().is_none() && matches.next().is_none();
-    assert!(rt; has_ended, "{pattern}");
-    let start = matches.input().start();
-    assert!(rt; row.starts.last() == Some(&start), "end of {pattern}");
+    check_start(rt, pattern, spans.len(), matches.input().start(), starts);
+    check_ended(rt, &mut matches, pattern);
+    check_ended(rt, &mut matches, pattern);
+    let last = starts.len().saturating_sub(1);
+    check_start(rt, pattern, last, matches.input().start(), starts);
+}
+
+fn check_row<M: Spanned, S: Input<Match = M>>(rt: &impl Abort, alloc: Global, row: &Row<S>) {
+    let regex = regex_with(rt, alloc, row.settings, row.pattern);
+    let input = searchable(rt, &regex, input_of(rt, row));
+    let wanted = (row.spans, row.starts);
+    check_matches(rt, regex.find_iter_input(input), row.pattern, wanted);
+    let input = searchable(rt, &regex, input_of(rt, row));
+    check_captures(rt, regex.captures_iter_input(input), row.pattern, row.spans);
 }
 
 fn check_rows<M: Spanned, S: Input<Match = M>>(rt: &impl Abort, alloc: Global, rows: &[Row<S>]) {
     for row in rows {
-        let regex = regex_with(rt, alloc, row.settings, row.pattern);
-        check_captures(rt, &regex, row);
-        check_matches(rt, &regex, row);
+        check_row(rt, alloc, row);
     }
 }
 
@@ -405,6 +435,31 @@ fn matches_come_one_after_another(rt: HostRuntime) {
     check_text_lists(&rt, rt.alloc(), LISTS);
 }
 
+const ENDED_CLASSES: &[TextListRow] = &[("[a-c]z", "azbzczdz", &[(0, 2), (2, 4), (4, 6)])];
+
+#[test]
+fn a_bracket_ends_a_class(rt: HostRuntime) {
+    check_text_lists(&rt, rt.alloc(), ENDED_CLASSES);
+}
+
+const ITERATIONS: &[ListRow<&[u8]>] = &[
+    (CHARACTERS, "(?m)^", b"a\n", &[(0, 0), (2, 2)]),
+    (CHARACTERS, "(?m)$", b"a\n", &[(1, 1), (2, 2)]),
+    (CHARACTERS, "(?mR)^.*$", b"a\r\nb", &[(0, 1), (3, 4)]),
+    (CHARACTERS, "(?mR)^", b"\r\n\r", &[(0, 0), (2, 2), (3, 3)]),
+    (CHARACTERS, ".", b"\xF0\x9F\x98", &[]),
+    (CHARACTERS_ANYWHERE, ".", b"\xF0\x9F\x98", &[]),
+    (BYTES, ".", b"\xF0\x9F\x98", &[(0, 1), (1, 2), (2, 3)]),
+    (CHARACTERS, "\\B", b"\x80", &[(0, 0), (1, 1)]),
+    (BYTES, "\\B", b"\x80", &[(0, 0), (1, 1)]),
+    (CHARACTERS, "\\b", b"a b", &[(0, 0), (1, 1), (2, 2), (3, 3)]),
+];
+
+#[test]
+fn iterates_over_lines_and_items(rt: HostRuntime) {
+    check_lists(&rt, rt.alloc(), ITERATIONS);
+}
+
 const GROUPS_OF_ALL_MATCHES: &[AllGroupsRow] = &[
     (
         "(a)|b",
@@ -426,13 +481,17 @@ fn groups_come_with_each_match(rt: HostRuntime) {
 /// A pattern, a text, and how many matches it has.
 const COLLECTED: &[(&str, &str, usize)] = &[("(a)|b", "ba", 2), ("a|", "bab", 3)];
 
+/// Whether so many items were collected.
+fn has_length<T>(all: &Result<Vec<T>, Error>, count: usize) -> bool {
+    matches!(all, Ok(all) if all.len() == count)
+}
+
 #[test]
 fn collects_matches(rt: HostRuntime) {
     for &(pattern, text, count) in COLLECTED {
         let regex = regex_of(&rt, rt.alloc(), pattern);
-        let matches = regex.find_iter(text).try_collect(rt.alloc());
-        let all: Vec<Match<'_>> = matches.expect(&rt, pattern);
-        assert_eq!(rt; all.len(), count, "{pattern}");
+        let all: Result<Vec<Match<'_>>, Error> = regex.find_iter(text).try_collect(rt.alloc());
+        check(&rt, has_length(&all, count), pattern);
     }
 }
 
@@ -440,105 +499,104 @@ fn collects_matches(rt: HostRuntime) {
 fn collects_matches_of_bytes(rt: HostRuntime) {
     for &(pattern, text, count) in COLLECTED {
         let regex = regex_of(&rt, rt.alloc(), pattern);
-        let matches = regex.find_iter(text.as_bytes()).try_collect(rt.alloc());
-        let all: Vec<MatchBytes<'_>> = matches.expect(&rt, pattern);
-        assert_eq!(rt; all.len(), count, "{pattern}");
+        let matches = regex.find_iter(text.as_bytes());
+        let all: Result<Vec<MatchBytes<'_>>, Error> = matches.try_collect(rt.alloc());
+        check(&rt, has_length(&all, count), pattern);
     }
+}
+
+/// The sum of the ends of all matches.
+fn sum_of_ends(rt: &impl Abort, matches: Matches<'_, &[u8]>) -> usize {
+    let mut total = 0usize;
+    for found in matches {
+        total = total.wrapping_add(span_found(rt, found, "a match").1);
+    }
+    total
 }
 
 #[test]
 fn ends_of_matches_in_bytes(rt: HostRuntime) {
     let regex = regex_of(&rt, rt.alloc(), "a|");
     let bytes: &[u8] = b"bab";
-    let mut total = 0usize;
-    for found in regex.find_iter(bytes) {
-        total = total.wrapping_add(found.expect(&rt, "a match").end());
-    }
-    assert_eq!(rt; total, 5);
+    check_number(&rt, "a|", sum_of_ends(&rt, regex.find_iter(bytes)), 5);
 }
 
-/// Checks how many matches there are.
-fn check_count<S: Input>(rt: &impl Abort, regex: &Regex, haystack: S, wanted: usize) {
+/// Checks how many matches there are, from a start on.
+fn check_count<S: Input>(rt: &impl Abort, regex: &Regex, input: RegexInput<S>, wanted: usize) {
+    let input = searchable(rt, regex, input);
+    check_number(
+        rt,
+        "a?",
+        regex.find_iter_input(input.again()).count(),
+        wanted,
+    );
+    check_number(rt, "a?", regex.captures_iter_input(input).count(), wanted);
+}
+
+/// Checks how many matches there are in the whole haystack.
+fn check_whole_count<S: Input>(rt: &impl Abort, regex: &Regex, haystack: S, wanted: usize) {
     let input = RegexInput::new(haystack);
     assert!(rt; regex.can_search(&input));
-    assert_eq!(rt; regex.find_iter(haystack).count(), wanted);
-    assert_eq!(rt; regex.captures_iter(haystack).count(), wanted);
-}
-
-/// Checks how many matches there are from a start on.
-fn check_later_count<S: Input>(
-    rt: &impl Abort,
-    regex: &Regex,
-    input: RegexInput<S>,
-    wanted: usize,
-) {
-    assert!(rt; regex.can_search(&input));
-    assert_eq!(rt; regex.find_iter_input(input.again()).count(), wanted);
-    assert_eq!(rt; regex.captures_iter_input(input).count(), wanted);
+    check_number(rt, "a?", regex.find_iter(haystack).count(), wanted);
+    check_number(rt, "a?", regex.captures_iter(haystack).count(), wanted);
 }
 
 #[test]
 fn counts_matches(rt: HostRuntime) {
     let regex = regex_of(&rt, rt.alloc(), "a?");
     let bytes: &[u8] = b"baa";
-    check_count(&rt, &regex, "baa", 3);
-    check_count(&rt, &regex, bytes, 3);
-    check_later_count(&rt, &regex, RegexInput::new("baa").from_pos(1), 2);
-    check_later_count(&rt, &regex, RegexInput::new(bytes).from_pos(1), 2);
-}
-
-/// Where the next match starts and ends.
-fn next_span(rt: &impl Abort, matches: &mut Matches<'_, &str>) -> Option<Span> {
-    match matches.next() {
-        Some(found) => Some(span(found.expect(rt, "a search"))),
-        None => None,
-    }
+    check_whole_count(&rt, &regex, "baa", 3);
+    check_whole_count(&rt, &regex, bytes, 3);
+    check_count(&rt, &regex, RegexInput::new("baa").from_pos(1), 2);
+    check_count(&rt, &regex, RegexInput::new(bytes).from_pos(1), 2);
 }
 
 #[test]
 fn counts_the_matches_left(rt: HostRuntime) {
     let regex = regex_of(&rt, rt.alloc(), "a?");
     let mut matches = regex.find_iter("baa");
-    let first = matches
-        .next()
-        .expect(&rt, "a match")
-        .expect(&rt, "a search");
-    assert_eq!(rt; (first.start(), first.end()), (0, 0));
-    assert_eq!(rt; matches.count(), 2);
+    let first = matches.next().expect(&rt, "a match");
+    check(
+        &rt,
+        span_found(&rt, first, "a?") == (0, 0),
+        "the first match",
+    );
+    check_number(&rt, "a?", matches.count(), 2);
 }
 
 #[test]
 fn counts_groups(rt: HostRuntime) {
     let regex = regex_of(&rt, rt.alloc(), "(a)|b");
-    let found = regex.captures("ba").expect(&rt, "a search");
-    assert_eq!(rt; found.expect(&rt, "a match").iter().count(), 2);
+    let captures = captured_in(&rt, &regex, "ba");
+    check_number(&rt, "(a)|b", captures.iter().count(), 2);
 }
 
 #[test]
 fn the_input_moves_on(rt: HostRuntime) {
     let regex = regex_of(&rt, rt.alloc(), "a|");
     let mut matches = regex.find_iter_input(RegexInput::new("éa").from_pos(2));
-    assert_eq!(rt; matches.input().start(), 2);
-    assert_eq!(rt; next_span(&rt, &mut matches), Some((2, 3)));
-    assert_eq!(rt; matches.input().start(), 3);
-    assert!(rt; matches.next().is_none() && matches.next().is_none());
-    assert_eq!(rt; matches.input().start(), 4);
+    check_number(&rt, "the first start", matches.input().start(), 2);
+    check_next(&rt, &mut matches, (2, 3));
+    check_number(&rt, "the second start", matches.input().start(), 3);
+    check_ended(&rt, &mut matches, "a|");
+    check_ended(&rt, &mut matches, "a|");
+    check_number(&rt, "the last start", matches.input().start(), 4);
 }
 
 #[test]
 fn the_input_passes_over_a_character(rt: HostRuntime) {
     let regex = regex_of(&rt, rt.alloc(), "a|");
     let mut matches = regex.find_iter("é");
-    assert_eq!(rt; next_span(&rt, &mut matches), Some((0, 0)));
-    assert_eq!(rt; matches.input().start(), 2);
+    check_next(&rt, &mut matches, (0, 0));
+    check_number(&rt, "the start", matches.input().start(), 2);
 }
 
 #[test]
 fn a_list_tells_its_text_and_its_regex(rt: HostRuntime) {
     let regex = regex_of(&rt, rt.alloc(), "a|");
     let matches = regex.find_iter_input(RegexInput::new("éa").from_pos(2));
-    assert_eq!(rt; matches.text(), "éa");
-    assert_eq!(rt; matches.regex().as_str(), "a|");
+    check(&rt, matches.text() == "éa", "the text");
+    check(&rt, matches.regex().as_str() == "a|", "the regex");
 }
 
 #[test]
@@ -546,8 +604,8 @@ fn captures_in_bytes_are_collected(rt: HostRuntime) {
     let regex = regex_of(&rt, rt.alloc(), "a(b)?");
     let bytes: &[u8] = b"aab";
     let matches = regex.captures_iter_input(RegexInput::new(bytes).from_pos(1));
-    let all: Vec<Captures<'_, &[u8]>> = matches.try_collect(rt.alloc()).expect(&rt, "a search");
-    assert_eq!(rt; all.len(), 1);
+    let all: Result<Vec<Captures<'_, &[u8]>>, Error> = matches.try_collect(rt.alloc());
+    check(&rt, has_length(&all, 1), "a(b)?");
 }
 
 #[test]
@@ -555,6 +613,7 @@ fn a_list_of_captures_tells_its_text_and_its_regex(rt: HostRuntime) {
     let regex = regex_of(&rt, rt.alloc(), "a(b)?");
     let bytes: &[u8] = b"aab";
     let matches = regex.captures_iter_input(RegexInput::new(bytes).from_pos(1));
-    assert!(rt; matches.text() == bytes && matches.regex().captures_len() == 2);
-    assert_eq!(rt; matches.input().start(), 1);
+    check(&rt, matches.text() == bytes, "the text");
+    check_number(&rt, "the groups", matches.regex().captures_len(), 2);
+    check_number(&rt, "the start", matches.input().start(), 1);
 }

@@ -1,10 +1,10 @@
 //! What templates expand to, which of them a regex allows, and escapes.
 
 use crate::asking::{
-    CheckedRow, TemplateRow, Told, check_escaped, check_expanded, check_templates, check_told,
-    regex_of,
+    CheckedRow, TemplateRow, Told, captured_in, check, check_escaped, check_expanded,
+    check_templates, check_text, check_told, regex_of,
 };
-use fancy_regex::{Expander, escape};
+use fancy_regex::{Captures, Expander, escape};
 use fancy_template::steps::Step;
 use fancy_template::write::write_whole;
 use std::alloc::Global;
@@ -29,7 +29,7 @@ fn check_steps(rt: &impl Abort, alloc: Global, expander: &Expander, template: &s
         let text = shown(alloc, step).expect(rt, template);
         all.push_str(text.as_str()).expect(rt, template);
     }
-    assert_eq!(rt; all.as_str(), wanted);
+    check(rt, all.as_str() == wanted, template);
 }
 
 const DOLLAR_STEPS: &[(&str, &str)] = &[
@@ -107,7 +107,7 @@ fn captures_of_owned_text_expand(rt: HostRuntime) {
     let found = regex.captures(&haystack).expect(&rt, "a search");
     let captures = found.expect(&rt, "a match");
     let answer = Expander::default().expansion("$2[$1]$0", &captures);
-    assert_eq!(rt; answer.expect(&rt, "a text").as_str(), "[é]éa");
+    check_text(&rt, answer, "$2[$1]$0", "[é]éa");
 }
 
 const TWO_WORDS: &str = "(?P<first>\\w+)\\s+(?P<second>\\w+)";
@@ -218,55 +218,89 @@ impl io::Write for Narrow {
     }
 }
 
-/// Writes an expansion of three bytes to a writer that takes `left` of them.
-fn check_writer(rt: &impl Abort, alloc: Global, most: usize, left: usize, fails: bool) {
-    let regex = regex_of(rt, alloc, "(b)");
-    let found = regex.captures("abc").expect(rt, "a search");
-    let captures = found.expect(rt, "a match");
-    let mut writer = Narrow {
+/// A writer that has taken nothing yet.
+fn writer_of(alloc: Global, most: usize, left: usize, fails: bool) -> Narrow {
+    Narrow {
         taken: Vec::new(alloc),
         calls: 0,
         most,
         left,
         fails,
-    };
-    let answer = Expander::default().write_expansion(&mut writer, "${1}-$0", &captures);
-    let whole = "b-b".as_bytes();
-    let wanted = whole.get(..left.min(3)).expect(rt, "no part");
-    assert_eq!(rt; writer.taken.as_slice(), wanted, "{left}");
-    match answer {
-        Ok(()) => assert!(rt; left >= 3),
-        Err(error) if fails => assert!(rt; left < 3 && error.kind() == io::ErrorKind::BrokenPipe),
-        Err(error) => assert!(rt; left < 3 && error.kind() == io::ErrorKind::WriteZero),
     }
+}
+
+/// The kind of the fault of a write, if it has one.
+fn kind_of(answer: &io::Result<()>) -> Option<io::ErrorKind> {
+    match answer {
+        Ok(()) => None,
+        Err(error) => Some(error.kind()),
+    }
+}
+
+/// The fault of a writer that takes no more bytes.
+fn fault_of(fails: bool) -> io::ErrorKind {
+    if fails {
+        io::ErrorKind::BrokenPipe
+    } else {
+        io::ErrorKind::WriteZero
+    }
+}
+
+/// Writes an expansion of three bytes to a writer that takes `left` of them.
+fn check_writer(
+    rt: &impl Abort,
+    captures: &Captures<'_, &str>,
+    mut writer: Narrow,
+    left: usize,
+    fault: io::ErrorKind,
+) {
+    let answer = Expander::default().write_expansion(&mut writer, "${1}-$0", captures);
+    let wanted = "b-b".as_bytes().get(..left.min(3)).expect(rt, "no part");
+    check(rt, writer.taken.as_slice() == wanted, "what was taken");
+    let kind = if left < 3 { Some(fault) } else { None };
+    check(rt, kind_of(&answer) == kind, "the fault");
 }
 
 #[test]
 fn a_fault_ends_the_writing(rt: HostRuntime) {
+    let alloc = rt.alloc();
+    let regex = regex_of(&rt, alloc, "(b)");
+    let captures = captured_in(&rt, &regex, "abc");
     for left in 0..5usize {
         for fails in [true, false] {
-            check_writer(&rt, rt.alloc(), 1, left, fails);
-            check_writer(&rt, rt.alloc(), 9, left, fails);
+            let fault = fault_of(fails);
+            check_writer(
+                &rt,
+                &captures,
+                writer_of(alloc, 1, left, fails),
+                left,
+                fault,
+            );
+            check_writer(
+                &rt,
+                &captures,
+                writer_of(alloc, 9, left, fails),
+                left,
+                fault,
+            );
         }
     }
+}
+
+/// Checks that the template expands to nothing, and that nothing is written for it.
+fn check_nothing(rt: &impl Abort, alloc: Global, captures: &Captures<'_, &str>, template: &str) {
+    let mut writer = writer_of(alloc, 0, 0, true);
+    let answer = Expander::default().write_expansion(&mut writer, template, captures);
+    check(rt, answer.is_ok(), template);
+    check(rt, writer.calls == 0, template);
 }
 
 #[test]
 fn nothing_is_written_for_nothing(rt: HostRuntime) {
     let regex = regex_of(&rt, rt.alloc(), "(b)|c");
-    let found = regex.captures("c").expect(&rt, "a search");
-    let captures = found.expect(&rt, "a match");
+    let captures = captured_in(&rt, &regex, "c");
     for template in &["", "$1", "$7$x"] {
-        let mut writer = Narrow {
-            taken: Vec::new(rt.alloc()),
-            calls: 0,
-            most: 0,
-            left: 0,
-            fails: true,
-        };
-        let answer = Expander::default().write_expansion(&mut writer, *template, &captures);
-        assert!(rt; answer.is_ok(), "{template}");
-        assert_eq!(rt; writer.calls, 0, "{template}");
+        check_nothing(&rt, rt.alloc(), &captures, *template);
     }
 }
 
@@ -275,24 +309,15 @@ fn all_is_written(rt: HostRuntime) {
     let mut out = Vec::new(rt.alloc());
     write_whole(&mut out, b"abc").expect(&rt, "a write");
     write_whole(&mut out, b"d").expect(&rt, "a write");
-    assert_eq!(rt; out.as_slice(), b"abcd".as_slice());
+    check(&rt, out.as_slice() == b"abcd".as_slice(), "abcd");
 }
 
 #[test]
 fn a_text_is_not_written_past_a_fault(rt: HostRuntime) {
-    for (left, fails, kind) in [
-        (2, true, io::ErrorKind::BrokenPipe),
-        (1, false, io::ErrorKind::WriteZero),
-    ] {
-        let mut writer = Narrow {
-            taken: Vec::new(rt.alloc()),
-            calls: 0,
-            most: 1,
-            left,
-            fails,
-        };
-        let fault = write_whole(&mut writer, b"abc");
-        assert!(rt; matches!(&fault, Err(e) if e.kind() == kind));
-        assert_eq!(rt; writer.taken.len(), left);
+    for (left, fails) in [(2, true), (1, false)] {
+        let mut writer = writer_of(rt.alloc(), 1, left, fails);
+        let answer = write_whole(&mut writer, b"abc");
+        check(&rt, kind_of(&answer) == Some(fault_of(fails)), "the fault");
+        check(&rt, writer.taken.len() == left, "what was taken");
     }
 }

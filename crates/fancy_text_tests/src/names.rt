@@ -1,10 +1,8 @@
 //! Groups by their names.
 
 use crate::asking::{
-    KindRow, NameRow, NamesRow, TextsRow, check_kinds, check_name, check_names, check_owned_texts,
-    check_texts_of_groups,
+    NameRow, NamesRow, TextsRow, check_name, check_names, check_owned_texts, check_texts_of_groups,
 };
-use fancy_regex::ParseErrorKind;
 
 const SPANS_OF_NAMES: &[NameRow] = &[
     ("(?<y>1|2)-(?<y>1|2)", "1-2", "y", Some((2, 3))),
@@ -62,16 +60,4 @@ const TEXTS: &[TextsRow] = &[
 fn texts_of_groups(rt: HostRuntime) {
     check_texts_of_groups(&rt, rt.alloc(), TEXTS);
     check_owned_texts(&rt, rt.alloc(), TEXTS);
-}
-
-const NO_NAMES: &[KindRow] = &[
-    ("(?<>a)", ParseErrorKind::InvalidGroupName),
-    ("(?<a b>c)", ParseErrorKind::InvalidGroupName),
-    ("(?P<a-b>c)", ParseErrorKind::InvalidGroupName),
-    ("(?<a", ParseErrorKind::InvalidGroupName),
-];
-
-#[test]
-fn names_are_rows_of_their_characters(rt: HostRuntime) {
-    check_kinds(&rt, rt.alloc(), NO_NAMES);
 }

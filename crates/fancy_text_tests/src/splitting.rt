@@ -3,8 +3,8 @@
 //! The first rows of each table were worked out by hand, the others by an independent model of the search.
 
 use crate::asking::{
-    BYTES, CHARACTERS, CHARACTERS_ANYWHERE, FirstPiecesRow, PiecesRow, check_first_pieces,
-    check_pieces, regex_of, regex_with,
+    BYTES, CHARACTERS, CHARACTERS_ANYWHERE, FirstPiecesRow, PiecesRow, check, check_first_pieces,
+    check_number, check_pieces, regex_of, regex_with, searchable,
 };
 use fancy_regex::{RegexInput, Split, SplitN};
 use std::process::Abort;
@@ -72,22 +72,30 @@ fn splits_up_to_a_limit(rt: HostRuntime) {
     check_first_pieces(&rt, rt.alloc(), FIRST_PIECES);
 }
 
+/// Checks that the next piece is this one.
+fn check_piece(rt: &impl Abort, next: Option<fancy_regex::Result<&str>>, wanted: &str) {
+    assert!(rt;
+        matches!(next, Some(Ok(piece)) if piece == wanted),
+        "{wanted}"
+    );
+}
+
 /// Checks that these are the pieces left, and that the split then stays ended.
 fn check_the_rest(rt: &impl Abort, mut split: Split<'_, '_>, pieces: &[&str]) {
     for piece in pieces {
-        let next = split.next().expect(rt, *piece);
-        assert_eq!(rt; next.expect(rt, *piece), *piece);
+        check_piece(rt, split.next(), *piece);
     }
-    assert!(rt; split.next().is_none() && split.next().is_none());
+    check(rt, split.next().is_none(), "no further piece");
+    check(rt, split.next().is_none(), "no piece after the end");
 }
 
 /// The same of a split with a limit.
 fn check_the_first(rt: &impl Abort, mut split: SplitN<'_, '_>, pieces: &[&str]) {
     for piece in pieces {
-        let next = split.next().expect(rt, *piece);
-        assert_eq!(rt; next.expect(rt, *piece), *piece);
+        check_piece(rt, split.next(), *piece);
     }
-    assert!(rt; split.next().is_none() && split.next().is_none());
+    check(rt, split.next().is_none(), "no further piece");
+    check(rt, split.next().is_none(), "no piece after the end");
 }
 
 #[test]
@@ -102,15 +110,15 @@ fn an_ended_split_stays_ended(rt: HostRuntime) {
 #[test]
 fn pieces_are_counted(rt: HostRuntime) {
     let regex = regex_of(&rt, rt.alloc(), ",");
-    assert_eq!(rt; regex.split("1,2,3").count(), 3);
-    assert_eq!(rt; regex.splitn("1,2,3", 2).count(), 2);
+    check_number(&rt, ",", regex.split("1,2,3").count(), 3);
+    check_number(&rt, ",", regex.splitn("1,2,3", 2).count(), 2);
 }
 
 #[test]
 fn ascii_text_is_split_in_every_mode(rt: HostRuntime) {
     for settings in [CHARACTERS, CHARACTERS_ANYWHERE, BYTES] {
         let regex = regex_with(&rt, rt.alloc(), settings, "b*");
-        assert!(rt; regex.can_search(&RegexInput::new("abba")));
+        searchable(&rt, &regex, RegexInput::new("abba"));
         check_the_rest(&rt, regex.split("abba"), &["", "a", "a", ""]);
     }
 }

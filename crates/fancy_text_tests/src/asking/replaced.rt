@@ -1,7 +1,11 @@
 //! Texts whose matches are replaced.
 
-use crate::asking::regex_of;
-use fancy_regex::{Regex, RegexInput, Replacer};
+ghost use Rattle.std.specs.Prelude.{◌≡◌};
+ghost use Rattle.fancy_search.specs.Options.{by_default};
+ghost use Rattle.fancy_core.specs.Regexes.{options_in};
+
+use crate::asking::{check, regex_of};
+use fancy_regex::{Regex, Replacer};
 use std::alloc::Global;
 use std::borrow::CowStr;
 use std::process::Abort;
@@ -13,7 +17,7 @@ pub(crate) fn check_answer(
     wanted: &str,
 ) {
     let text = answer.expect(rt, wanted);
-    assert_eq!(rt; text.as_str(), wanted);
+    check(rt, text.as_str() == wanted, wanted);
 }
 
 /// A pattern, a text, a limit, a template, and the text with the matches replaced.
@@ -25,22 +29,24 @@ pub(crate) type ReplacedRow = (
     &'static str,
 );
 
-/// Checks what comes of a text with a template in this form.
+/// Checks what comes of a text with a template in this form, by a regex with the default options.
 fn check_form<R: Replacer + Drop>(
     rt: &impl Abort,
     regex: &Regex,
     asked: (&str, usize, &str),
     template: R,
 )
+    requires default { options_in regex.now ≡ by_default }
     requires callable { R.callable template }
 {
     let (text, limit, wanted) = asked;
-    assert!(rt; regex.can_search(&RegexInput::new(text)));
     check_answer(rt, regex.replacen(text, limit, template), wanted);
 }
 
 /// Checks a row on a template of each form.
-fn check_forms(rt: &impl Abort, alloc: Global, regex: &Regex, row: &ReplacedRow) {
+fn check_forms(rt: &impl Abort, alloc: Global, regex: &Regex, row: &ReplacedRow)
+    requires { options_in regex.now ≡ by_default }
+{
     let (_, text, limit, template, wanted) = *row;
     let asked = (text, limit, wanted);
     check_form(rt, regex, asked, template);
@@ -52,10 +58,11 @@ fn check_forms(rt: &impl Abort, alloc: Global, regex: &Regex, row: &ReplacedRow)
     check_form(rt, regex, asked, copied);
 }
 
-/// Checks a row by the calls whose limit it has.
-fn check_calls(rt: &impl Abort, regex: &Regex, row: &ReplacedRow) {
+/// Checks a row by the calls whose limit it has, by a regex with the default options.
+fn check_calls(rt: &impl Abort, regex: &Regex, row: &ReplacedRow)
+    requires { options_in regex.now ≡ by_default }
+{
     let (_, text, limit, template, wanted) = *row;
-    assert!(rt; regex.can_search(&RegexInput::new(text)));
     check_answer(rt, regex.try_replacen(text, limit, template), wanted);
     if limit == 0 {
         check_answer(rt, regex.replace_all(text, template), wanted);
@@ -78,7 +85,7 @@ pub(crate) fn check_replaced(rt: &impl Abort, alloc: Global, rows: &[ReplacedRow
 pub(crate) fn check_fixed<R: Replacer>(rt: &impl Abort, replacer: &mut R, wanted: Option<&str>) {
     let fixed = replacer.no_expansion();
     match wanted {
-        Some(text) => assert_eq!(rt; fixed.expect(rt, text).as_str(), text),
-        None => assert!(rt; fixed.is_none()),
+        Some(text) => check(rt, fixed.expect(rt, text).as_str() == text, text),
+        None => check(rt, fixed.is_none(), "no fixed text"),
     }
 }

@@ -1,6 +1,6 @@
 //! What comes of a text whose matches are replaced.
 
-use crate::asking::{ReplacedRow, check_answer, check_fixed, check_replaced, regex_of};
+use crate::asking::{ReplacedRow, check, check_answer, check_fixed, check_replaced, regex_of};
 use fancy_regex::{Captures, Error, NoExpand, ReplaceFn, Replacer, RuntimeError};
 use std::alloc::Global;
 use std::borrow::CowStr;
@@ -42,19 +42,27 @@ fn texts_are_replaced(rt: HostRuntime) {
     check_replaced(&rt, rt.alloc(), REPLACED);
 }
 
-/// Whether the answer is the text itself, and no copy.
-fn is_borrowed(answer: &fancy_regex::Result<CowStr<'_, Global>>, wanted: &str) -> bool {
-    matches!(answer, Ok(CowStr::Borrowed(text)) if *text == wanted)
+/// Whether the answer is lent, and no copy.
+fn is_borrowed(answer: &fancy_regex::Result<CowStr<'_, Global>>) -> bool {
+    matches!(answer, Ok(CowStr::Borrowed(_)))
+}
+
+/// Checks that the answer is the text itself.
+fn check_borrowed(rt: &impl Abort, answer: fancy_regex::Result<CowStr<'_, Global>>, wanted: &str) {
+    check(rt, is_borrowed(&answer), wanted);
+    check_answer(rt, answer, wanted);
 }
 
 #[test]
 fn a_text_without_matches_is_borrowed(rt: HostRuntime) {
     let regex = regex_of(&rt, rt.alloc(), "x");
-    assert!(rt; is_borrowed(&regex.replace_all("abc", "$0"), "abc"));
-    assert!(rt; is_borrowed(&regex.replace("abc", "y"), "abc"));
-    assert!(rt; is_borrowed(&regex.replace_all("", NoExpand("y")), ""));
+    check_borrowed(&rt, regex.replace_all("abc", "$0"), "abc");
+    check_borrowed(&rt, regex.replace("abc", "y"), "abc");
+    check_borrowed(&rt, regex.replace_all("", NoExpand("y")), "");
     let same = regex_of(&rt, rt.alloc(), "b");
-    assert!(rt; matches!(same.replace_all("abc", "b"), Ok(CowStr::Owned(_))));
+    let copied = same.replace_all("abc", "b");
+    check(&rt, !is_borrowed(&copied), "a copy");
+    check_answer(&rt, copied, "abc");
 }
 
 #[test]
@@ -114,7 +122,11 @@ fn an_error_of_a_replacer_is_the_answer(rt: HostRuntime) {
         calls = calls.wrapping_add(1);
         second_fails(alloc, calls)
     });
-    assert!(rt; is_second_error(&regex.replace_all("aaa", failing.by_ref())));
+    check(
+        &rt,
+        is_second_error(&regex.replace_all("aaa", failing.by_ref())),
+        "an error",
+    );
     // the second call was the last one, and the third goes on from there
     check_answer(&rt, regex.replace_all("aba", failing.by_ref()), "3b4");
     let mut calls = 0u32;
@@ -135,7 +147,11 @@ fn a_replacer_by_reference_goes_on(rt: HostRuntime) {
         second_fails(alloc, calls)
     });
     check_answer(&rt, regex.try_replacen_by("aaa", 1, &mut failing), "1aa");
-    assert!(rt; is_second_error(&regex.try_replacen_by("aa", 0, &mut failing)));
+    check(
+        &rt,
+        is_second_error(&regex.try_replacen_by("aa", 0, &mut failing)),
+        "an error",
+    );
     check_answer(&rt, regex.try_replacen_by("aaa", 2, &mut failing), "34a");
     let mut template = "<$0>";
     check_answer(&rt, regex.try_replacen_by("ab", 0, &mut template), "<a>b");

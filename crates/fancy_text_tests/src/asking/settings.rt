@@ -1,0 +1,101 @@
+//! The options of a row.
+
+ghost use Rattle.std.specs.Prelude.{◌≡◌};
+ghost use Rattle.fancy_search.specs.Options.{by_default};
+ghost use Rattle.fancy_core.specs.Regexes.{options_in};
+ghost use Rattle.fancy_core.specs.Searches.{CanSearchInput};
+
+use fancy_regex::{BytesMode, Input, Regex, RegexInput, RegexOptionsBuilder};
+use std::alloc::Global;
+use std::process::Abort;
+
+/// The options that a pattern is read with.
+#[derive(Clone, Copy)]
+pub(crate) struct Settings {
+    pub(crate) bytes_mode: BytesMode,
+    /// Whether groups without a name capture nothing where a group has one.
+    pub(crate) only_named: bool,
+    /// Whether empty matches are refused.
+    pub(crate) find_not_empty: bool,
+    /// Whether the longest match at a position is asked for.
+    pub(crate) leftmost_longest: bool,
+}
+
+/// Items are characters, and matches stand between characters: what holds by default.
+pub(crate) const CHARACTERS: Settings = Settings {
+    bytes_mode: BytesMode::Unicode,
+    only_named: false,
+    find_not_empty: false,
+    leftmost_longest: false,
+};
+
+/// Items are characters, and matches may stand anywhere.
+pub(crate) const CHARACTERS_ANYWHERE: Settings = Settings {
+    bytes_mode: BytesMode::UnicodeBytes,
+    ..CHARACTERS
+};
+
+/// Items are bytes.
+pub(crate) const BYTES: Settings = Settings {
+    bytes_mode: BytesMode::Ascii,
+    ..CHARACTERS
+};
+
+/// Numbered groups give way to named ones.
+pub(crate) const ONLY_NAMED: Settings = Settings {
+    only_named: true,
+    ..CHARACTERS
+};
+
+/// Empty matches are refused.
+pub(crate) const NOT_EMPTY: Settings = Settings {
+    find_not_empty: true,
+    ..CHARACTERS
+};
+
+/// The longest match at a position is asked for.
+pub(crate) const LONGEST: Settings = Settings {
+    leftmost_longest: true,
+    ..CHARACTERS
+};
+
+/// What the pattern is read as.
+fn read(alloc: Global, settings: Settings, pattern: &str) -> fancy_regex::Result<Regex> {
+    let pattern = String::from_str(alloc, pattern)?;
+    let mut builder = RegexOptionsBuilder::new();
+    builder
+        .bytes_mode(settings.bytes_mode)
+        .ignore_numbered_groups_when_named_groups_exist(settings.only_named)
+        .find_not_empty(settings.find_not_empty)
+        .leftmost_longest(settings.leftmost_longest)
+        .build(pattern)
+}
+
+/// The regex of the pattern with the default options, of which alone the tests know something.
+pub(crate) fn regex_of(rt: &impl Abort, alloc: Global, pattern: &str) -> Regex
+    ensures { options_in result ≡ by_default }
+{
+    Regex::new(alloc, pattern).expect(rt, pattern)
+}
+
+/// The regex of the pattern with these options.
+pub(crate) fn regex_with(
+    rt: &impl Abort,
+    alloc: Global,
+    settings: Settings,
+    pattern: &str,
+) -> Regex {
+    read(alloc, settings, pattern).expect(rt, pattern)
+}
+
+/// The input, which the regex may search.
+pub(crate) fn searchable<S: Input>(
+    rt: &impl Abort,
+    regex: &Regex,
+    input: RegexInput<S>,
+) -> RegexInput<S>
+    ensures { CanSearchInput S.text S.bytes (options_in regex.now) result }
+{
+    assert!(rt; regex.can_search(&input), "{}", regex.as_str());
+    input
+}

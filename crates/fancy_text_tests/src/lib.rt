@@ -1,0 +1,28 @@
+//! Tests of what is made of matches: groups, lists, pieces, replaced texts and templates, through public names. What no call of
+//! `fancy_regex` shows by itself is asked of its own crate.
+#![tactic(auto)]
+
+#[cfg(test)]
+mod asking;
+#[cfg(test)]
+mod captures;
+#[cfg(test)]
+mod conditionals;
+#[cfg(test)]
+mod filters;
+#[cfg(test)]
+mod hard;
+#[cfg(test)]
+mod iteration;
+#[cfg(test)]
+mod kept;
+#[cfg(test)]
+mod names;
+#[cfg(test)]
+mod readme;
+#[cfg(test)]
+mod replacement;
+#[cfg(test)]
+mod splitting;
+#[cfg(test)]
+mod templates;
