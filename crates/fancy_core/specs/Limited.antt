@@ -3,13 +3,17 @@ use Rattle.std.specs.Prelude.{ℕ}
 use Rattle.fancy_tree.specs.declared.error.Error.{Error}
 use Rattle.fancy_input.specs.declared.input.Request.{Request}
 use Rattle.fancy_engine.specs.Search.{Query}
-use Rattle.fancy_search.specs.SearchCounts.{IsHardProgram, RefusesQuery, AllowsQuery, RefusesAttempt, AllowsAttempt, step_bound}
+use Rattle.fancy_search.specs.SearchCounts.{IsHardProgram, TriesNothing, RefusesQuery, AllowsQuery, RefusesAttempt, AllowsAttempt, step_bound}
 use Rattle.fancy_core.specs.declared.regex.Regex.{Regex}
 use Rattle.fancy_core.specs.Regexes.{program_in}
 
 -- Whether a search for it is refused past limits: its pattern reads what it captured, or ends a way early, or one of the two filters is set.
 abbrev pub IsHard : Regex → Type 0
 IsHard r = IsHardProgram (program_in r)
+
+-- A search with the regex tries no position: under `seek` those are passed over where no match begins, as the bytes tell.
+abbrev pub TriesNone : Regex → Query → Type 0
+TriesNone r q = TriesNothing (program_in r) q
 
 -- how many steps an easy search takes at most: the length of the code for each position of the searched text, its end among them
 abbrev pub most_steps_of : Regex → Request → ℕ

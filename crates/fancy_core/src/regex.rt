@@ -40,7 +40,7 @@ impl Regex {
     ghost use Rattle.fancy_core.specs.Built.{IsReading};
     ghost use Rattle.fancy_core.specs.CaptureNames.{names_in};
     ghost use Rattle.fancy_core.specs.Regexes.{pattern_text, pattern_in, options_in, group_count_in, length_in, easy_in, returns_limit_in, query};
-    ghost use Rattle.fancy_core.specs.Limited.{IsHard, Refuses, Allows, most_steps_of};
+    ghost use Rattle.fancy_core.specs.Limited.{IsHard, Refuses, Allows, TriesNone, most_steps_of};
     ghost use Rattle.fancy_search.specs.SearchCounts.{AddsReturns, AddsReturnsUpTo, Counted, CountedUpTo, HasReturns, HasRoomFor, IsStopped, returns_taken};
     ghost use Rattle.fancy_core.specs.Searches.{CanSearchInput, FindsFirst, asked_whole, asked_from, asked_by};
 
@@ -209,7 +209,8 @@ impl Regex {
     /// ```
     ///
     /// An easy search takes at most [`Regex::code_len`] steps for each position of the searched text, its end
-    /// among them; from a start past the range's end it takes none. It is refused as [`Regex::find_input`] is; a hard
+    /// among them; from a start past the range's end it takes none, and under `RegexOptionsBuilder::seek` none where the bytes
+    /// of the searched text tell that no match begins at any position. It is refused as [`Regex::find_input`] is; a hard
     /// search never takes more returns than its limit allows.
     pub fn find_input_counted<S: Input>(
         &self,
@@ -221,11 +222,15 @@ impl Regex {
         ensures within { IfOk result (λ m. IfSome m (λ x. S.within x ≡ S.bytes (haystack_in input))) }
         ensures refused { IfErr result (λ e. Refuses self.now (asked_by self.now S.bytes input) e) }
         ensures steps { easy_in self.now ≡ true → steps_of work.new ≤ most_steps_of self.now (request_in input) }
+        ensures idle { TriesNone self.now (asked_by self.now S.bytes input) → steps_of work.new ≡ 0 }
+        ensures nothing { TriesNone self.now (asked_by self.now S.bytes input) → IfOk result (λ m. m ≡ None) }
         ensures returns { returns_of work.new ≤ steps_of work.new }
-        ensures counted { IsHard self.now → IfOk result (λ _. HasReturns work.new (asked_by self.now S.bytes input)) }
+        ensures counted { IsHard self.now → IfOk result
+            (λ _. HasReturns self.now.program work.new (asked_by self.now S.bytes input)) }
         ensures stopped { IsHard self.now → IsStopped result → returns_of work.new ≡ returns_limit_in self.now }
         ensures fits { IsHard self.now → returns_of work.new ≤ returns_limit_in self.now }
-        ensures most { IsHard self.now → returns_of work.new ≤ returns_taken (asked_by self.now S.bytes input) }
+        ensures most { IsHard self.now
+            → returns_of work.new ≤ returns_taken self.now.program (asked_by self.now S.bytes input) }
     {
         work.reset();
         let found = self.locate(input.haystack(), input.request(), work)?;
@@ -247,6 +252,8 @@ impl Regex {
         ensures refused { IfErr result (λ e. Refuses self.now (query self.now (S.bytes haystack) request) e) }
         ensures allowed { IfOk result (λ _. Allows self.now (query self.now (S.bytes haystack) request)) }
         ensures steps { steps_of work.old ≤ steps_of work.new }
+        ensures idle { TriesNone self.now (query self.now (S.bytes haystack) request) → steps_of work.new ≡ steps_of work.old }
+        ensures nothing { TriesNone self.now (query self.now (S.bytes haystack) request) → IfOk result (λ m. m ≡ None) }
         ensures bounded { easy_in self.now ≡ true → steps_of work.new ≤ steps_of work.old + most_steps_of self.now request }
         ensures returns { returns_of work.old ≤ returns_of work.new }
         ensures paired { returns_of work.new ≤ steps_of work.new }

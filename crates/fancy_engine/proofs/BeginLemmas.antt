@@ -1,5 +1,5 @@
 -- A pattern stays where it began only if it is nullable, or else one of its first bytes stands there.
-use Rattle.std.proofs.Common.{◌≡◌, ℕ, zero, suc, ◌-◌, ◌==◌, Bool, true, false, not, ◌&&◌, ◌||◌, ◌⊎◌, inl, inr, List, [], ◌∷◌, Option, Some, None, if◌then◌else◌, nat_le, All, refl, ap, subst, ◌∙◌, slice_get, is_some}
+use Rattle.std.proofs.Common.{◌≡◌, ℕ, zero, suc, ◌-◌, ◌==◌, Bool, true, false, not, ◌&&◌, ◌||◌, ◌⊎◌, inl, inr, List, [], ◌∷◌, Option, Some, None, if◌then◌else◌, nat_le, All, ◌<◌, ◌≤◌, refl, ap, subst, ◌∙◌, arith, leb-true, slice_get, is_some}
 use Rattle.std.proofs.lemmas.Bool.Decides.{eqb_tells}
 use Rattle.std.proofs.lemmas.List.Elements.{All-nil, All-cons, All-contains}
 use Rattle.fancy_tree.specs.Pattern.{Pattern, empty, character, member_of, in_any_case, raw_byte, backreference, assertion, group_test, keep_start, continue_here, group, repeat, look_ahead, look_behind, atomic, conditional, followed, or_else, last_branch}
@@ -16,16 +16,17 @@ use Rattle.fancy_engine.proofs.EventLemmas.{EachOutcome-bind, EachOutcome-guarde
 use Rattle.fancy_engine.proofs.ForwardLemmas.{EachOutcome_imp, LeadsOn-by_kind}
 use Rattle.fancy_bytes.specs.Items.{only, first_of_items}
 use Rattle.fancy_bytes.specs.Firsts.{nullable, first_bytes, has_no_turn}
-use Rattle.fancy_engine.specs.Seen.{SeesByte, BeginsBy}
+use Rattle.fancy_engine.specs.Seen.{SeesByte, SeesBefore, BeginsBy}
 use Rattle.fancy_bytes.proofs.BoolLemmas.{first_holds, second_holds, both_hold, parts_of, not_both}
+use Rattle.fancy_engine.proofs.Past.{item_beyond, byte_beyond, recall_beyond}
 use Rattle.fancy_engine.proofs.SeenLemmas.{past_item-has, item_begins, past_byte-here, backreference-past}
 
 -- each outcome of the walk begins by these
 abbrev pub Starts : (ℕ → Type 0) → Type 0 → Walk → Type 0
 Starts F N walk = (s : State) → EachOutcome (BeginsBy N F s) (walk s)
 
-pub sees_map : (haystack : List ℕ) (f g : ℕ → Bool) (p : ℕ) → ((b : ℕ) → f b ≡ true → g b ≡ true) → SeesByte haystack f p → SeesByte haystack g p
-sees_map haystack f g p to h = record { byte = h.byte; stands = h.stands; passes = to h.byte h.passes }
+pub sees_map : (haystack : List ℕ) (end : ℕ) (f g : ℕ → Bool) (p : ℕ) → ((b : ℕ) → f b ≡ true → g b ≡ true) → SeesBefore haystack end f p → SeesBefore haystack end g p
+sees_map haystack end f g p to h = (h.0, record { byte = h.1.byte; stands = h.1.stands; passes = to h.1.byte h.1.passes })
 
 begins_map : (F G : ℕ → Type 0) (M N : Type 0) (s t : State) → (M → N) → (F s.place → G s.place) → BeginsBy M F s t → BeginsBy N G s t
 begins_map F G M N s t still seen h = elim h [ inl a ↦ inl (still a.0, a.1) | inr b ↦ inr (seen b) ]
@@ -105,32 +106,48 @@ stays_without_turn : (F : ℕ → Type 0) (greedy : Bool) (limit low : ℕ) (hig
     Starts F (low ≡ 0) (repeated greedy limit low high body)
 stays_without_turn F greedy limit low high body none s = rw (none.0, none.1) (inl (refl, refl), tt)
 
+moved_within : (P : State → Type 0) (limit : ℕ) (s : State) (past : Option ℕ) → ((q : ℕ) → past ≡ Some q → q ≤ limit → P (moved_to s q)) → EachOutcome P (move limit s past)
+moved_within P limit s None to = tt
+moved_within P limit s (Some q) to = EachOutcome-only_if P (nat_le q limit) _ (λ e. (to q refl (leb-true q limit e), tt))
+
 pub moved : (P : State → Type 0) (limit : ℕ) (s : State) (past : Option ℕ) → ((q : ℕ) → past ≡ Some q → P (moved_to s q)) → EachOutcome P (move limit s past)
-moved P limit s None to = tt
-moved P limit s (Some q) to = EachOutcome-only_if P (nat_le q limit) _ (λ e. (to q refl, tt))
+moved P limit s past to = moved_within P limit s past (λ q e within. to q e)
+
+lt_of_le_ne : (p q limit : ℕ) → p ≤ q → ¬ (q ≡ p) → q ≤ limit → p < limit
+lt_of_le_ne p q limit le other within = omega (arith, le, other, within)
 
 module _ (x : Context) (limit : ℕ) where
-  -- what the byte at a place passes
+  -- what the byte at a place passes, before the limit
   abbrev pub Sees : (ℕ → Bool) → ℕ → Type 0
-  Sees f p = SeesByte x.haystack f p
+  Sees f p = SeesBefore x.haystack limit f p
 
   by_item : (N : Type 0) (test : ℕ → Bool) (s : State) → EachOutcome (BeginsBy N (Sees (first_of_items x.meaning test)) s) (move limit s (past_item x test s.place))
-  by_item N test s = moved _ limit s _ (λ q e. inr (item_begins x.meaning x.haystack test s.place (past_item-has x test s.place q e)))
+  by_item N test s = moved_within _ limit s _ (λ q e within. inr (
+    omega (arith, item_beyond x test s.place q e, within),
+    item_begins x.meaning x.haystack test s.place (past_item-has x test s.place q e),
+  ))
 
   by_byte : (N : Type 0) (byte : ℕ) (s : State) → EachOutcome (BeginsBy N (Sees (λ b. b == byte)) s) (move limit s (past_byte x byte s.place))
-  by_byte N byte s = moved _ limit s _ (λ q e. inr (record {
-    byte = byte;
-    stands = past_byte-here x byte s.place q e;
-    passes = elim (eqb_tells byte byte) [ inl h ↦ h.0 | inr h ↦ absurd (h.1 refl) ];
-  }))
+  by_byte N byte s = moved_within _ limit s _ (λ q e within. inr (
+    omega (arith, byte_beyond x byte s.place q e, within),
+    record {
+      byte = byte;
+      stands = past_byte-here x byte s.place q e;
+      passes = elim (eqb_tells byte byte) [ inl h ↦ h.0 | inr h ↦ absurd (h.1 refl) ];
+    },
+  ))
 
-  by_text_or_end : (folded : Bool) (number : ℕ) (s : State) (q : ℕ) → past_backreference x folded number s ≡ Some q → (o : Option ℕ) → slice_get x.haystack s.place ≡ o →
+  by_text_or_end : (folded : Bool) (number : ℕ) (s : State) (q : ℕ) → past_backreference x folded number s ≡ Some q → q ≤ limit → (o : Option ℕ) → slice_get x.haystack s.place ≡ o →
       BeginsBy (true ≡ true) (Sees (λ b. true)) s (moved_to s q)
-  by_text_or_end folded number s q e None is = inl (refl, backreference-past x folded number s q e is)
-  by_text_or_end folded number s q e (Some b) is = inr (record { byte = b; stands = is; passes = refl })
+  by_text_or_end folded number s q e within None is = inl (refl, backreference-past x folded number s q e is)
+  by_text_or_end folded number s q e within (Some b) is =
+      elim (eqb_tells q s.place) [
+        | inl here ↦ inl (refl, here.1)
+        | inr on ↦ inr (lt_of_le_ne s.place q limit (recall_beyond x folded number s q e) on.1 within, record { byte = b; stands = is; passes = refl })
+      ]
 
   by_text : (folded : Bool) (number : ℕ) (s : State) → EachOutcome (BeginsBy (true ≡ true) (Sees (λ b. true)) s) (move limit s (past_backreference x folded number s))
-  by_text folded number s = moved _ limit s _ (λ q e. by_text_or_end folded number s q e (slice_get x.haystack s.place) refl)
+  by_text folded number s = moved_within _ limit s _ (λ q e within. by_text_or_end folded number s q e within (slice_get x.haystack s.place) refl)
 
   stays : (f : ℕ → Bool) (s : State) → EachOutcome (BeginsBy (true ≡ true) (Sees f) s) (stay s)
   stays f s = (inl (refl, refl), tt)
@@ -154,14 +171,13 @@ module _ (x : Context) (limit : ℕ) where
       (begins-repeated (Sees f) (n ≡ true) greedy limit low high body a s)
 
   left_to : (f g : ℕ → Bool) (p : ℕ) → Sees f p → Sees (λ b. f b || g b) p
-  left_to f g p h = record { byte = h.byte; stands = h.stands; passes = first_holds (f h.byte) (g h.byte) h.passes }
+  left_to f g p h = sees_map x.haystack limit f (λ b. f b || g b) p (λ b. first_holds (f b) (g b)) h
 
   right_to : (f g : ℕ → Bool) (p : ℕ) → Sees g p → Sees (λ b. f b || g b) p
-  right_to f g p h = record { byte = h.byte; stands = h.stands; passes = second_holds (f h.byte) (g h.byte) h.passes }
+  right_to f g p h = sees_map x.haystack limit g (λ b. f b || g b) p (λ b. second_holds (f b) (g b)) h
 
   right_where : (m : Bool) (f g : ℕ → Bool) (p : ℕ) → m ≡ true → Sees g p → Sees (λ b. f b || (m && g b)) p
-  right_where m f g p n h =
-      record { byte = h.byte; stands = h.stands; passes = second_holds (f h.byte) (m && g h.byte) (both_hold m (g h.byte) n h.passes) }
+  right_where m f g p n h = sees_map x.haystack limit g (λ b. f b || (m && g b)) p (λ b e. second_holds (f b) (m && g b) (both_hold m (g b) n e)) h
 
   by_joined : (m n : Bool) (f g : ℕ → Bool) (s t u : State) → BeginsBy (m ≡ true) (Sees f) s t → BeginsBy (n ≡ true) (Sees g) t u →
       BeginsBy ((m && n) ≡ true) (Sees (λ b. f b || (m && g b))) s u
@@ -253,7 +269,7 @@ unfolding outcomes
 accepted_holds q p P h all = All-contains P (outcomes_at q p) h.state (all_outcomes P (trace_at q p) all) h.reached
 
 pub attempt_begins : (q : Query) (p : ℕ) → nullable q.sought.pattern ≡ false → HasAccepted q p →
-    SeesByte q.haystack (first_bytes q.sought.meaning q.sought.pattern) p
+    SeesBefore q.haystack q.request.range_end (first_bytes q.sought.meaning q.sought.pattern) p
 attempt_begins q p never h =
     elim (accepted_holds q p _ h (trace_begins (context_of q) q.request.range_end q.sought.pattern (initial q p))) [
       | inl a ↦ not_both (nullable q.sought.pattern) a.0 never

@@ -41,3 +41,4 @@ pub mod SeenLemmas
 pub mod BeginLemmas
 pub mod RequireLemmas
 pub mod SkipLemmas
+pub mod TriedLemmas

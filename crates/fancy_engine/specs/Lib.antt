@@ -20,6 +20,7 @@ pub mod Compile
 pub mod Answers
 pub mod Forward
 pub mod Seen
+pub mod Tried
 pub mod Placed
 pub mod Laws
 pub mod Examples

@@ -1,5 +1,5 @@
 -- Which bytes stand in a haystack, at one place or at any, and which stand where an outcome began.
-use Rattle.std.specs.Prelude.{◌≡◌, ℕ, ◌+◌, ◌<◌, ◌≤◌, Bool, true, false, ◌⊎◌, List, Option, Some, None, length, slice_get, slice_index}
+use Rattle.std.specs.Prelude.{◌≡◌, ℕ, ◌+◌, ◌<◌, ◌≤◌, Bool, true, false, ◌⊎◌, List, Option, Some, None, slice_get, slice_index}
 use Rattle.fancy_bytes.specs.Sets.{ByteFlags, member}
 use Rattle.fancy_engine.specs.Context.{State}
 
@@ -9,30 +9,40 @@ pub record SeesByte (haystack : List ℕ) (kind : ℕ → Bool) (p : ℕ) : Type
   pub stands : slice_get haystack p ≡ Some byte
   pub passes : kind byte ≡ true
 
+-- a byte of this kind stands at p, before the end
+abbrev pub SeesBefore : List ℕ → ℕ → (ℕ → Bool) → ℕ → Type 0
+SeesBefore haystack end kind p = (p < end) × SeesByte haystack kind p
+
 -- the byte stands somewhere
 pub record Stands (haystack : List ℕ) (b : ℕ) : Type 0 where
   pub place : ℕ
   pub there : slice_get haystack place ≡ Some b
 
--- no byte of this kind stands from the one place on and before the other
-abbrev pub NoneSeen : List ℕ → (ℕ → Bool) → ℕ → ℕ → Type 0
-NoneSeen haystack kind from to = (k : ℕ) → from ≤ k → k < to → ¬ SeesByte haystack kind k
+-- no byte of this kind stands before the end, from the one place on and before the other
+abbrev pub NoneSeen : List ℕ → ℕ → (ℕ → Bool) → ℕ → ℕ → Type 0
+NoneSeen haystack end kind from to = (k : ℕ) → from ≤ k → k < to → ¬ SeesBefore haystack end kind k
 
 -- The outcome t is where the walk began at s, if it may be, or a byte that it can begin with stands there.
 abbrev pub BeginsBy : Type 0 → (ℕ → Type 0) → State → State → Type 0
 BeginsBy Still Seen s t = (Still × (t.place ≡ s.place)) ⊎ Seen s.place
 
--- No match starts at p, by the set of the bytes that each match starts at. Without one it is said of no place.
-abbrev pub MayNotStart : Option ByteFlags → List ℕ → ℕ → Type 0
-MayNotStart None haystack p = ⊥
-MayNotStart (Some set) haystack p = p < length haystack → member set (slice_index haystack p) ≡ false
+-- A match may start at p, by the set of the bytes that each match starts at: one of them stands there, within the range. Without a set it may start anywhere.
+abbrev pub MayStart : Option ByteFlags → List ℕ → ℕ → ℕ → Type 0
+MayStart None haystack range_end p = Unit {0}
+MayStart (Some set) haystack range_end p = (p < range_end) × (member set (slice_index haystack p) ≡ true)
+
+-- no match starts at p, by that set
+abbrev pub MayNotStart : Option ByteFlags → List ℕ → ℕ → ℕ → Type 0
+MayNotStart None haystack range_end p = ⊥
+MayNotStart (Some set) haystack range_end p = p < range_end → member set (slice_index haystack p) ≡ false
 
 -- no match starts from the one place on and before the other
-abbrev pub NoneMayStart : Option ByteFlags → List ℕ → ℕ → ℕ → Type 0
-NoneMayStart starts haystack from to = (p : ℕ) → from ≤ p → p < to → MayNotStart starts haystack p
+abbrev pub NoneMayStart : Option ByteFlags → List ℕ → ℕ → ℕ → ℕ → Type 0
+NoneMayStart starts haystack range_end from to = (p : ℕ) → from ≤ p → p < to → MayNotStart starts haystack range_end p
 
 -- p is the first place, from the one on and up to the other, where a match may start, or past both where none may
-pub record IsNextCandidate (starts : Option ByteFlags) (haystack : List ℕ) (from last p : ℕ) : Type 0 where
+pub record IsNextCandidate (starts : Option ByteFlags) (haystack : List ℕ) (range_end from last p : ℕ) : Type 0 where
   pub passed : from ≤ p
   pub within : p ≤ last + 1
-  pub none : NoneMayStart starts haystack from p
+  pub stands : p ≤ last → MayStart starts haystack range_end p
+  pub none : NoneMayStart starts haystack range_end from p

@@ -21,6 +21,9 @@ pub struct SearchOptions {
     pub longest: bool,
     /// The most returns of a search.
     pub backtrack_limit: usize,
+    /// A search for a hard pattern passes over the positions where no match begins, as the first bytes tell, and counts nothing
+    /// there. One for an easy pattern does so in any case.
+    pub seek: bool,
 }
 
 impl SearchOptions {

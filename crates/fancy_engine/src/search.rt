@@ -6,7 +6,8 @@ ghost use Rattle.fancy_engine.specs.Code.{instrs_of};
 ghost use Rattle.fancy_engine.specs.Attempt.{pairs_in};
 ghost use Rattle.fancy_engine.specs.Compile.{IsCodeOf, AreEasy};
 ghost use Rattle.fancy_engine.specs.Search.{search};
-ghost use Rattle.fancy_engine.specs.Seen.{IsNextCandidate};
+ghost use Rattle.fancy_input.specs.Requests.{effective_start};
+ghost use Rattle.fancy_engine.specs.Seen.{IsNextCandidate, NoneMayStart};
 ghost use Rattle.fancy_engine.specs.Queries.{query_of, unfiltered, groups_in, answer_with, most_steps};
 ghost use Rattle.fancy_engine.specs.Work.{steps_of, returns_of, HasRoom};
 
@@ -68,17 +69,24 @@ fn begin_table(table: &mut Table, attempt: &Attempt) -> Result<(), SearchRefusal
 }
 
 /// The first position, from the one on and up to the last, at which a match of the code may start; past the last where
-/// none may.
+/// none may. A match that must start at some byte starts before the end of the range.
 #[inline]
-fn next_candidate(code: &Code, haystack: &[u8], from: usize, last: usize) -> usize
+pub fn next_candidate(
+    code: &Code,
+    haystack: &[u8],
+    range_end: usize,
+    from: usize,
+    last: usize,
+) -> usize
     requires ordered { from ≤ last + 1 }
-    requires inside { last ≤ length haystack.now }
-    ensures { IsNextCandidate code.now.start_bytes haystack.now from last result }
+    requires last { last ≤ range_end }
+    requires inside { range_end ≤ length haystack.now }
+    ensures { IsNextCandidate code.now.start_bytes haystack.now range_end from last result }
 {
     let Some(scan) = &code.start_bytes else {
         return from;
     };
-    let end = (last + 1).min(haystack.len());
+    let end = (last + 1).min(range_end);
     if from > end {
         return from;
     }
@@ -93,7 +101,8 @@ fn next_candidate(code: &Code, haystack: &[u8], from: usize, last: usize) -> usi
 /// same with it on and off. Of the options `on_boundaries` and `overrides` are heeded: what is found is the first
 /// match and may be empty, and returns have no limit.
 ///
-/// What is done is added to the counts of `work`, after a refusal what was done up to it. They never begin anew here.
+/// What is done is added to the counts of `work`, after a refusal what was done up to it. They never begin anew here. No
+/// step is taken where no match may start at any position.
 ///
 /// # Errors
 ///
@@ -115,6 +124,8 @@ pub fn search(
         ≡ search (query_of p code.now (unfiltered options) haystack.now request on)) }
     ensures steps { steps_of work.old ≤ steps_of work.new }
     ensures bounded { steps_of work.new ≤ steps_of work.old + most_steps code.now request }
+    ensures idle { NoneMayStart code.now.start_bytes haystack.now request.range_end (effective_start request) (request.range_end + 1)
+        → steps_of work.new ≡ steps_of work.old }
     ensures returns { returns_of work.old ≤ returns_of work.new }
     ensures paired { returns_of work.new - returns_of work.old ≤ steps_of work.new - steps_of work.old }
     ensures refused { IfErr result (λ e. e ≡ SearchRefusal.Memory) }
@@ -124,7 +135,7 @@ pub fn search(
         return Ok(None);
     }
     let last = request.last_position();
-    let mut place = next_candidate(code, haystack, first, last);
+    let mut place = next_candidate(code, haystack, request.range_end, first, last);
     if place > last {
         return Ok(None);
     }
@@ -152,7 +163,7 @@ pub fn search(
                 }));
             }
         }
-        place = next_candidate(code, haystack, place + 1, last);
+        place = next_candidate(code, haystack, request.range_end, place + 1, last);
     }
     Ok(None)
 }

@@ -8,25 +8,25 @@ use Rattle.fancy_engine.specs.Trace.{trace}
 use Rattle.fancy_engine.specs.Forward.{EachOutcome}
 use Rattle.fancy_engine.specs.Search.{Query, search, answer_from}
 use Rattle.fancy_engine.specs.Answers.{HasAccepted}
-use Rattle.fancy_engine.specs.Seen.{SeesByte, Stands, NoneSeen, BeginsBy}
+use Rattle.fancy_engine.specs.Seen.{SeesBefore, Stands, NoneSeen, BeginsBy}
 
--- An outcome stands where the pattern began only if the pattern is nullable, or else one of its first bytes is there.
+-- An outcome stands where the pattern began only if the pattern is nullable, or else one of its first bytes is there, before the limit.
 abbrev pub OutcomesBegin : Type 0
 OutcomesBegin =
     (x : Context) (limit : ℕ) (p : Pattern) (s : State) →
-    EachOutcome (BeginsBy (nullable p ≡ true) (SeesByte x.haystack (first_bytes x.meaning p)) s) (trace x limit p s)
+    EachOutcome (BeginsBy (nullable p ≡ true) (SeesBefore x.haystack limit (first_bytes x.meaning p)) s) (trace x limit p s)
 
--- a pattern that is not nullable has an accepted outcome only where one of its first bytes stands
+-- a pattern that is not nullable has an accepted outcome only where one of its first bytes stands within the range
 abbrev pub AttemptsBegin : Type 0
 AttemptsBegin =
     (q : Query) (p : ℕ) → nullable q.sought.pattern ≡ false → HasAccepted q p →
-    SeesByte q.haystack (first_bytes q.sought.meaning q.sought.pattern) p
+    SeesBefore q.haystack q.request.range_end (first_bytes q.sought.meaning q.sought.pattern) p
 
--- Where the first bytes tell, each match starts at one, and where it was tried.
+-- Where the first bytes tell, each match starts at one that stands within the range, and where it was tried.
 abbrev pub MatchesBegin : Type 0
 MatchesBegin =
     (q : Query) (p : ℕ) (h : HasAccepted q p) → has_start_bytes q.sought.pattern ≡ true →
-    (h.state.kept ≡ p) × SeesByte q.haystack (first_bytes q.sought.meaning q.sought.pattern) h.state.kept
+    (h.state.kept ≡ p) × SeesBefore q.haystack q.request.range_end (first_bytes q.sought.meaning q.sought.pattern) h.state.kept
 
 -- where a pattern has an outcome, each byte that it requires stands in the haystack
 abbrev pub OutcomesRequire : Type 0
@@ -39,11 +39,11 @@ abbrev pub AttemptsRequire : Type 0
 AttemptsRequire =
     (q : Query) (p b : ℕ) → HasAccepted q p → required_bytes q.sought.meaning q.sought.pattern b ≡ true → Stands q.haystack b
 
--- Positions where no first byte stands may be passed over.
+-- Positions where no first byte stands within the range may be passed over.
 abbrev pub SkipsLoseNothing : Type 0
 SkipsLoseNothing =
     (q : Query) (d n p : ℕ) → nullable q.sought.pattern ≡ false →
-    NoneSeen q.haystack (first_bytes q.sought.meaning q.sought.pattern) p (p + d) → answer_from q (d + n) p ≡ answer_from q n (p + d)
+    NoneSeen q.haystack q.request.range_end (first_bytes q.sought.meaning q.sought.pattern) p (p + d) → answer_from q (d + n) p ≡ answer_from q n (p + d)
 
 -- where a required byte stands nowhere, nothing is found
 abbrev pub LackingIsNone : Type 0

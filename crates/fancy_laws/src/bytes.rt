@@ -2,17 +2,18 @@
 
 ghost use Rattle.fancy_laws.specs.Bytes.{OutcomesBegin, AttemptsBegin, MatchesBegin, OutcomesRequire, AttemptsRequire, SkipsLoseNothing, LackingIsNone};
 
-/// Each outcome stands where its pattern began, which must be nullable, or one of the first bytes is there.
+/// Each outcome stands where its pattern began, which must be nullable, or one of the first bytes is there, before the limit of what may
+/// be consumed.
 pub fn outcomes_begin()
     ensures { OutcomesBegin }
 {}
 
-/// A pattern that is not nullable has an accepted outcome only where one of its first bytes stands.
+/// A pattern that is not nullable has an accepted outcome only where one of its first bytes stands, within the range.
 pub fn attempts_begin()
     ensures { AttemptsBegin }
 {}
 
-/// Where the first bytes tell, each match starts at one of them, and where it was tried.
+/// Where the first bytes tell, each match starts at one of them that stands within the range, and where it was tried.
 pub fn matches_begin()
     ensures { MatchesBegin }
 {}
@@ -27,7 +28,7 @@ pub fn attempts_require()
     ensures { AttemptsRequire }
 {}
 
-/// Positions where no first byte stands may be passed over.
+/// Positions where no first byte stands within the range may be passed over.
 pub fn skips_lose_nothing()
     ensures { SkipsLoseNothing }
 {}

@@ -6,6 +6,7 @@ pub mod LayerLemmas
 pub mod TrailStops
 pub mod ContinuesLemmas
 pub mod MachineSearch
+pub mod SeekLemmas
 pub mod BackLemmas
 pub mod RecallLemmas
 pub mod RefusalLemmas

@@ -25,7 +25,7 @@ use Rattle.fancy_engine.proofs.ThreadsLemmas.{map-replicate}
 use Rattle.fancy_engine.proofs.WholeCode.{Whole, program_gives}
 use Rattle.fancy_machine.specs.declared.attempt.Attempt.{Attempt}
 use Rattle.fancy_machine.specs.Attempt.{accepts, code_in, events_from, outcome_from, returns_from, marks_from}
-use Rattle.fancy_machine.specs.Asked.{all_tried, Serves}
+use Rattle.fancy_machine.specs.Asked.{Serves}
 use Rattle.fancy_machine.specs.Frames.{Spot}
 use Rattle.fancy_input.specs.Places.{is_boundary}
 use Rattle.fancy_machine.specs.Layers.{spot_of}
@@ -292,36 +292,58 @@ marks-append (mark ∷ a) b = omega (arith, marks-append a b)
 marks-append (return ∷ a) b = marks-append a b
 marks-append (outcome s ∷ a) b = marks-append a b
 
-always : (b : Bool) (es : List Event) → (if b && true then es else []) ≡ (if b then es else [])
-always true es = refl
-always false es = refl
+-- the events of a position that is tried, and of one that is not
+module _ (b : Bool) (es : List Event) where
+  if_tried : (t : Bool) → t ≡ true → (if b && t then es else []) ≡ (if b then es else [])
+  if_tried t e = ap (λ (c : Bool). if b && c then es else []) e ∙ by b where
+    by : (c : Bool) → (if c && true then es else []) ≡ (if c then es else [])
+    by true = refl
+    by false = refl
+
+  if_untried : (t : Bool) → t ≡ false → (if b && t then es else []) ≡ []
+  if_untried t e = ap (λ (c : Bool). if b && c then es else []) e ∙ by b where
+    by : (c : Bool) → (if c && false then es else []) ≡ []
+    by true = refl
+    by false = refl
 
 -- the search over n positions goes through the attempt at p first
-module _ (q : Query) (n m p : ℕ) (e : n ≡ suc m) where
-  unrolled : gone_from q all_tried n p ≡ gone_at q p ++ (if is_some (answer_at q p) then [] else gone_from q all_tried m (p + 1))
+module _ (q : Query) (tries : ℕ → Bool) (n m p : ℕ) (e : n ≡ suc m) where
+  one_more : gone_from q tries n p ≡ (if admits q p && tries p then gone_through q p else []) ++ (if is_some (answer_at q p) then [] else gone_from q tries m (p + 1))
   unfolding gone_from
-  unrolled =
-      subst (λ (j : ℕ). gone_from q all_tried j p ≡ (if admits q p && true then gone_through q p else []) ++ (if is_some (answer_at q p) then [] else gone_from q all_tried m (p + 1))) (sym e) refl
-      ∙ ap (λ (es : List Event). es ++ (if is_some (answer_at q p) then [] else gone_from q all_tried m (p + 1))) (always (admits q p) (gone_through q p))
+  one_more =
+      subst (λ (j : ℕ). gone_from q tries j p ≡ (if admits q p && tries p then gone_through q p else []) ++ (if is_some (answer_at q p) then [] else gone_from q tries m (p + 1))) (sym e) refl
 
-  pub gone_hit : (a : Answer) → attempt q p ≡ Some a → gone_from q all_tried n p ≡ gone_at q p
-  gone_hit a some =
-      unrolled ∙ ap (λ (o : Option State). gone_at q p ++ (if is_some o then [] else gone_from q all_tried m (p + 1))) (attempt_some q p a some).0
-      ∙ append-nil (gone_at q p)
+  -- where the attempt is not made, and would find nothing
+  pub gone_untried : tries p ≡ false → answer_at q p ≡ None → gone_from q tries n p ≡ gone_from q tries m (p + 1)
+  gone_untried untried none =
+      one_more
+      ∙ ap (λ (es : List Event). es ++ (if is_some (answer_at q p) then [] else gone_from q tries m (p + 1))) (if_untried (admits q p) (gone_through q p) (tries p) untried)
+      ∙ ap (λ (o : Option State). if is_some o then [] else gone_from q tries m (p + 1)) none
 
-  pub gone_more : (returns_at q p ≤ returns_in (gone_from q all_tried n p)) × (choices_at q p ≤ marks_in (gone_from q all_tried n p))
-  gone_more =
-      let rest = if is_some (answer_at q p) then [] else gone_from q all_tried m (p + 1) in
-      (omega (arith, ap returns_in unrolled, returns-append (gone_at q p) rest), omega (arith, ap marks_in unrolled, marks-append (gone_at q p) rest))
+  module _ (tried : tries p ≡ true) where
+    unrolled : gone_from q tries n p ≡ gone_at q p ++ (if is_some (answer_at q p) then [] else gone_from q tries m (p + 1))
+    unrolled =
+        one_more
+        ∙ ap (λ (es : List Event). es ++ (if is_some (answer_at q p) then [] else gone_from q tries m (p + 1))) (if_tried (admits q p) (gone_through q p) (tries p) tried)
 
-  pub gone_counts : attempt q p ≡ None
-      → (returns_in (gone_from q all_tried n p) ≡ returns_at q p + returns_in (gone_from q all_tried m (p + 1)))
-      × (marks_in (gone_from q all_tried n p) ≡ choices_at q p + marks_in (gone_from q all_tried m (p + 1)))
-  gone_counts none =
-      let u : gone_from q all_tried n p ≡ gone_at q p ++ gone_from q all_tried m (p + 1) =
-      unrolled ∙ ap (λ (o : Option State). gone_at q p ++ (if is_some o then [] else gone_from q all_tried m (p + 1))) (attempt_none q p none) in
-      (ap returns_in u ∙ returns-append (gone_at q p) (gone_from q all_tried m (p + 1)), ap marks_in u ∙ marks-append (gone_at q p) (gone_from q all_tried m (p + 1)))
+    pub gone_hit : (a : Answer) → attempt q p ≡ Some a → gone_from q tries n p ≡ gone_at q p
+    gone_hit a some =
+        unrolled ∙ ap (λ (o : Option State). gone_at q p ++ (if is_some o then [] else gone_from q tries m (p + 1))) (attempt_some q p a some).0
+        ∙ append-nil (gone_at q p)
 
-pub gone_over : (q : Query) (n p : ℕ) → n ≡ 0 → gone_from q all_tried n p ≡ []
+    pub gone_more : (returns_at q p ≤ returns_in (gone_from q tries n p)) × (choices_at q p ≤ marks_in (gone_from q tries n p))
+    gone_more =
+        let rest = if is_some (answer_at q p) then [] else gone_from q tries m (p + 1) in
+        (omega (arith, ap returns_in unrolled, returns-append (gone_at q p) rest), omega (arith, ap marks_in unrolled, marks-append (gone_at q p) rest))
+
+    pub gone_counts : attempt q p ≡ None
+        → (returns_in (gone_from q tries n p) ≡ returns_at q p + returns_in (gone_from q tries m (p + 1)))
+        × (marks_in (gone_from q tries n p) ≡ choices_at q p + marks_in (gone_from q tries m (p + 1)))
+    gone_counts none =
+        let u : gone_from q tries n p ≡ gone_at q p ++ gone_from q tries m (p + 1) =
+        unrolled ∙ ap (λ (o : Option State). gone_at q p ++ (if is_some o then [] else gone_from q tries m (p + 1))) (attempt_none q p none) in
+        (ap returns_in u ∙ returns-append (gone_at q p) (gone_from q tries m (p + 1)), ap marks_in u ∙ marks-append (gone_at q p) (gone_from q tries m (p + 1)))
+
+pub gone_over : (q : Query) (tries : ℕ → Bool) (n p : ℕ) → n ≡ 0 → gone_from q tries n p ≡ []
 unfolding gone_from
-gone_over q n p e = ap (λ (j : ℕ). gone_from q all_tried j p) e
+gone_over q tries n p e = ap (λ (j : ℕ). gone_from q tries j p) e

@@ -1,5 +1,5 @@
 -- What a search by the machine is asked, and what it answers.
-use Rattle.std.specs.Prelude.{◌≡◌, ℕ, Bool, true, List, Option}
+use Rattle.std.specs.Prelude.{◌≡◌, List, Option}
 use Rattle.fancy_input.specs.declared.span.Span.{Span}
 use Rattle.fancy_engine.specs.Search.{Query, context_of}
 use Rattle.fancy_machine.specs.declared.attempt.Attempt.{Attempt}
@@ -16,7 +16,3 @@ pub record Serves (a : Attempt) (q : Query) : Type 0 where
 -- where the groups stand in the match that the search before found
 abbrev pub groups_held : Cache → List (Option Span)
 groups_held cache = cache.trail.now.state.captures
-
--- every position counts
-abbrev pub all_tried : ℕ → Bool
-all_tried p = true

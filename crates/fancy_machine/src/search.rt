@@ -1,14 +1,16 @@
 //! Searches by the machine.
 
-ghost use Rattle.std.specs.Prelude.{◌≡◌, ◌+◌, ◌-◌, ◌<◌, ◌≤◌, [], Option, Some, None, Err, IfOk, length, slice_index_or};
+ghost use Rattle.std.specs.Prelude.{◌≡◌, ◌+◌, ◌-◌, ◌<◌, ◌≤◌, true, false, [], Option, Some, None, Err, IfOk, length, slice_index_or};
 ghost use Rattle.fancy_tree.specs.Limits.{most_branches};
 ghost use Rattle.fancy_engine.specs.Compile.{IsCodeOf};
 ghost use Rattle.fancy_input.specs.LastLines.{KnowsLastLines};
 ghost use Rattle.fancy_input.specs.Requests.{effective_start};
 ghost use Rattle.fancy_engine.specs.Search.{Query, search, attempt, returns, choices, returns_at, choices_at};
+ghost use Rattle.fancy_engine.specs.Seen.{IsNextCandidate};
+ghost use Rattle.fancy_engine.specs.Tried.{tried, NoneTried};
 ghost use Rattle.fancy_engine.specs.Work.{steps_of, returns_of, HasRoom};
 ghost use Rattle.fancy_engine.specs.Queries.{query_of, answer_with};
-ghost use Rattle.fancy_machine.specs.Asked.{Serves, groups_held, all_tried};
+ghost use Rattle.fancy_machine.specs.Asked.{Serves, groups_held};
 
 use crate::attempt::Attempt;
 use crate::best::Best;
@@ -17,6 +19,7 @@ use fancy_engine::code::Code;
 use fancy_engine::found::Found;
 use fancy_engine::options::{SearchOptions, is_match_boundary};
 use fancy_engine::refusal::SearchRefusal;
+use fancy_engine::search::next_candidate;
 use fancy_engine::work::Work;
 use fancy_input::input::Request;
 use fancy_input::last_lines::LastLines;
@@ -58,6 +61,9 @@ impl Cache {
 /// least position, from the effective start on, which has an accepted one; its groups then stand in `cache`. Where the
 /// longest match is asked for, all returns of that attempt count.
 ///
+/// Where the options say so, it seeks: positions at which no byte stands that a match may start with are passed over, and
+/// nothing counts there. The answer is the same, and no step is taken where no position is left.
+///
 /// What is done is added to the counts of `work`, after a refusal what was done up to it. They never begin anew here.
 /// Steps are counted as far as a `usize` goes.
 ///
@@ -80,16 +86,17 @@ pub fn search(
     requires inside { request.range_end ≤ length haystack.now }
     requires room { HasRoom (returns_of work.old) options.backtrack_limit }
     ensures answer { IfOk result (λ found. answer_with (groups_held cache.new) found ≡ search q) }
-    ensures count { IfOk result (λ _. returns_of work.new ≡ returns_of work.old + returns q all_tried) }
-    ensures refused { result ≡ Err SearchRefusal.Returns → options.backtrack_limit < returns q all_tried }
+    ensures count { IfOk result (λ _. returns_of work.new ≡ returns_of work.old + returns q (tried options.seek q)) }
+    ensures refused { result ≡ Err SearchRefusal.Returns → options.backtrack_limit < returns q (tried options.seek q) }
     ensures stopped { result ≡ Err SearchRefusal.Returns
         → returns_of work.new ≡ returns_of work.old + options.backtrack_limit }
     ensures fits { returns_of work.new ≤ returns_of work.old + options.backtrack_limit }
     ensures steps { steps_of work.old ≤ steps_of work.new }
+    ensures idle { NoneTried options.seek q → steps_of work.new ≡ steps_of work.old }
     ensures returns { returns_of work.old ≤ returns_of work.new }
-    ensures bounded { returns_of work.new ≤ returns_of work.old + returns q all_tried }
+    ensures bounded { returns_of work.new ≤ returns_of work.old + returns q (tried options.seek q) }
     ensures paired { returns_of work.old ≤ steps_of work.old → returns_of work.new ≤ steps_of work.new }
-    ensures crowded { result ≡ Err SearchRefusal.Choices → most_branches < choices q all_tried }
+    ensures crowded { result ≡ Err SearchRefusal.Choices → most_branches < choices q (tried options.seek q) }
 {
     let first = request.effective_start();
     if first > request.range_end {
@@ -97,13 +104,15 @@ pub fn search(
     }
     let attempt = Attempt::new(code, haystack, request, options, continues);
     let limit = work.returns() + options.backtrack_limit;
+    let range_end = request.range_end;
     let last = request.last_position();
     let mut last_lines = LastLines::new(attempt.haystack);
-    for place in first..last + 1 {
+    let mut place = next_tried(code, haystack, range_end, options.seek, first, last);
+    while place <= last {
         let found = try_position(
             &attempt,
             place,
-            request.range_end,
+            range_end,
             limit,
             &mut last_lines,
             cache,
@@ -112,8 +121,32 @@ pub fn search(
         if let Some(found) = found {
             return Ok(Some(found));
         }
+        place = next_tried(code, haystack, range_end, options.seek, place + 1, last);
     }
     Ok(None)
+}
+
+/// The first position, from the one on and up to the last, that a search tries, past the last where there is none: where it
+/// seeks, one where a match may start, and else the one itself.
+fn next_tried(
+    code: &Code,
+    haystack: &[u8],
+    range_end: usize,
+    seek: bool,
+    from: usize,
+    last: usize,
+) -> usize
+    requires ordered { from ≤ last + 1 }
+    requires last { last ≤ range_end }
+    requires inside { range_end ≤ length haystack.now }
+    ensures passed { from ≤ result }
+    ensures sought { seek ≡ true → IsNextCandidate code.now.start_bytes haystack.now range_end from last result }
+    ensures each { seek ≡ false → result ≡ from }
+{
+    if seek {
+        return next_candidate(code, haystack, range_end, from, last);
+    }
+    from
 }
 
 /// Makes one attempt alone, at a position from the effective start on. What is found is what [`search`] would take at this

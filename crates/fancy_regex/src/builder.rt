@@ -192,6 +192,16 @@ impl RegexBuilder {
         self
     }
 
+    /// Sets the option of [`RegexOptionsBuilder::seek`].
+    pub fn seek(&mut self, yes: bool) -> &mut Self
+        ensures same { result.ghost_name ≡ self.entry.ghost_name }
+        ensures pattern { pattern_set result.now ≡ pattern_set self.old }
+        ensures value { options_set result.now ≡ record (options_set self.old) { seek = yes } }
+    {
+        self.options.seek(yes);
+        self
+    }
+
     /// Reads the pattern with these options, as [`RegexOptionsBuilder::build`] does, and stays as it is. The regex has
     /// a copy of the text, and the allocator of the pattern.
     pub fn build(&self) -> Result<Regex>

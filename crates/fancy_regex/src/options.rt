@@ -232,6 +232,27 @@ impl RegexOptionsBuilder {
         self
     }
 
+    /// Whether a search for a hard pattern passes over the positions where no match begins, by a scan for the bytes that each
+    /// match starts with ([`RegexOptionsBuilder::start_bytes`]). Off by default.
+    ///
+    /// No answer changes. At the positions that are passed over no return counts for
+    /// [`RegexOptionsBuilder::backtrack_limit`]; where no such byte stands in the searched text, the answer is none without a
+    /// step. Where a match may start at any byte, no position is passed over. Searches for easy patterns ([`Regex::is_easy`]),
+    /// which have no such limit, pass over positions in any case.
+    ///
+    /// ```text
+    /// let mut options = RegexOptionsBuilder::new();
+    /// let regex = options.seek(true).backtrack_limit(1).build(pattern)?;    // of `(?:a|b)(?=c)`
+    /// regex.find("xxbc")?    // Some: 2..3, where the search is refused at its limit otherwise
+    /// ```
+    pub fn seek(&mut self, yes: bool) -> &mut Self
+        ensures same { result.ghost_name ≡ self.entry.ghost_name }
+        ensures value { options_of result.now ≡ record (options_of self.old) { seek = yes } }
+    {
+        self.options.seek = yes;
+        self
+    }
+
     /// Reads a pattern with these options. The allocator is the text's, which is given up also where the
     /// call refuses.
     ///

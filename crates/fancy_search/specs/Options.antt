@@ -23,6 +23,7 @@ by_default = record {
   max_prog_size = None;
   find_not_empty = false;
   leftmost_longest = false;
+  seek = false;
 }
 
 -- what an item consumes under these options
@@ -45,4 +46,5 @@ search_options o = record {
   not_empty = o.find_not_empty;
   longest = o.leftmost_longest;
   backtrack_limit = o.backtrack_limit;
+  seek = o.seek;
 }

@@ -1,5 +1,5 @@
 -- What a search may be refused for, and what it counts.
-use Rattle.std.specs.Prelude.{◌≡◌, ℕ, ◌+◌, ◌-◌, ◌*◌, ◌<◌, ◌≤◌, Result, Option, Err, IfOk, IfSome, false}
+use Rattle.std.specs.Prelude.{◌≡◌, ℕ, ◌+◌, ◌-◌, ◌*◌, ◌<◌, ◌≤◌, Bool, Result, Option, Err, IfOk, IfSome, false}
 use Rattle.fancy_tree.specs.Limits.{most_branches}
 use Rattle.fancy_tree.specs.declared.error.Error.{Error}
 use Rattle.fancy_tree.specs.declared.error.Error.TheVariants.{Memory, ParseError, CompileError, RuntimeError}
@@ -9,26 +9,34 @@ use Rattle.fancy_input.specs.declared.input.Request.{Request}
 use Rattle.fancy_input.specs.Requests.{effective_start}
 use Rattle.fancy_engine.specs.declared.work.Work.{Work}
 use Rattle.fancy_engine.specs.Work.{steps_of, returns_of, HasRoom}
+use Rattle.fancy_engine.specs.Tried.{tried, NoneTried}
 use Rattle.fancy_engine.specs.Search.{Query, returns, choices, returns_at, choices_at}
-use Rattle.fancy_machine.specs.Asked.{all_tried}
 use Rattle.fancy_search.specs.declared.program.Program.{Program}
-use Rattle.fancy_search.specs.Programs.{program_is_easy, program_length, program_limit}
+use Rattle.fancy_search.specs.Programs.{program_options, program_is_easy, program_length, program_limit}
 
 -- Whether a search for it is refused past limits: its pattern reads what it captured, or ends a way early, or one of the two filters is set.
 abbrev pub IsHardProgram : Program → Type 0
 IsHardProgram r = program_is_easy r ≡ false
 
+-- the positions that a search with the program tries: under `seek` those where a match may begin, as the first bytes tell, and else all
+abbrev pub tried_by : Program → Query → ℕ → Bool
+tried_by r q = tried (program_options r).seek q
+
+-- no position of the search is tried
+abbrev pub TriesNothing : Program → Query → Type 0
+TriesNothing r q = NoneTried (program_options r).seek q
+
 -- how many returns the search takes
-abbrev pub returns_taken : Query → ℕ
-returns_taken q = returns q all_tried
+abbrev pub returns_taken : Program → Query → ℕ
+returns_taken r q = returns q (tried_by r q)
 
 -- how many choices it opens
-abbrev pub choices_in : Query → ℕ
-choices_in q = choices q all_tried
+abbrev pub choices_in : Program → Query → ℕ
+choices_in r q = choices q (tried_by r q)
 
 abbrev pub IsPastLimit : Running → Program → Query → Type 0
-IsPastLimit BacktrackLimitExceeded r q = program_limit r < returns_taken q
-IsPastLimit StackOverflow r q = most_branches < choices_in q
+IsPastLimit BacktrackLimitExceeded r q = program_limit r < returns_taken r q
+IsPastLimit StackOverflow r q = most_branches < choices_in r q
 
 -- how many steps an easy search takes at most: the length of the code for each position of the searched text, its end among them
 abbrev pub step_bound : Program → Request → ℕ
@@ -50,7 +58,7 @@ RefusesQuery r q (RuntimeError why) = IsHardProgram r × IsPastLimit why r q
 
 -- A search for a hard pattern that is not refused takes no more returns than its limit allows.
 abbrev pub AllowsQuery : Program → Query → Type 0
-AllowsQuery r q = IsHardProgram r → returns_taken q ≤ program_limit r
+AllowsQuery r q = IsHardProgram r → returns_taken r q ≤ program_limit r
 
 abbrev pub IsPastLimitAt : Running → Program → Query → ℕ → Type 0
 IsPastLimitAt BacktrackLimitExceeded r q p = program_limit r < returns_at q p
@@ -72,8 +80,8 @@ abbrev pub IsStopped : {A : Type 0} → Result A Error → Type 0
 IsStopped result = result ≡ Err (RuntimeError BacktrackLimitExceeded)
 
 -- the count of returns is that of the search
-abbrev pub HasReturns : Work → Query → Type 0
-HasReturns w q = returns_of w ≡ returns_taken q
+abbrev pub HasReturns : Program → Work → Query → Type 0
+HasReturns r w q = returns_of w ≡ returns_taken r q
 
 -- the count of returns rose by this number
 abbrev pub AddsReturns : Work → ℕ → Work → Type 0
@@ -85,11 +93,11 @@ AddsReturnsUpTo before n after = returns_of after ≤ returns_of before + n
 
 -- the returns of a hard search that is not refused are those of what was asked
 abbrev pub Counted : {A : Type 0} → Program → Query → Result A Error → Work → Work → Type 0
-Counted p q result before after = IsHardProgram p → IfOk result (λ _. AddsReturns before (returns_taken q) after)
+Counted p q result before after = IsHardProgram p → IfOk result (λ _. AddsReturns before (returns_taken p q) after)
 
 -- a hard search returns no more often than what was asked does
 abbrev pub CountedUpTo : Program → Query → Work → Work → Type 0
-CountedUpTo p q before after = IsHardProgram p → AddsReturnsUpTo before (returns_taken q) after
+CountedUpTo p q before after = IsHardProgram p → AddsReturnsUpTo before (returns_taken p q) after
 
 -- P of what a search found, if it found anything
 abbrev pub IfFound : {A : Type 0} → Result (Option A) Error → (A → Type 0) → Type 0

@@ -36,6 +36,8 @@ pub struct Options {
     pub find_not_empty: bool,
     /// Whether a search asks for the longest match at its position, and not for the one that the pattern prefers.
     pub leftmost_longest: bool,
+    /// Whether a search for a hard pattern passes over the positions where no match begins, as the bytes of the haystack tell.
+    pub seek: bool,
 }
 
 impl Default for Options {
@@ -53,6 +55,7 @@ impl Default for Options {
             max_prog_size: None,
             find_not_empty: false,
             leftmost_longest: false,
+            seek: false,
         }
     }
 }
@@ -88,6 +91,7 @@ impl Options {
             not_empty: self.find_not_empty,
             longest: self.leftmost_longest,
             backtrack_limit: self.backtrack_limit,
+            seek: self.seek,
         }
     }
 

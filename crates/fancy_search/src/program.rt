@@ -1,6 +1,6 @@
 //! A compiled pattern: the code that is searched with, and what decides how.
 
-ghost use Rattle.std.specs.Prelude.{◌≡◌, ◌≤◌, ◌+◌, ◌*◌, Bool, IfOk, IfErr, IsTrue, chars, true, false, length};
+ghost use Rattle.std.specs.Prelude.{◌≡◌, ◌≤◌, ◌+◌, ◌*◌, Bool, None, IfOk, IfErr, IsTrue, chars, true, false, length};
 ghost use Rattle.fancy_tree.specs.Pattern.{Pattern, pattern_of};
 ghost use Rattle.fancy_tree.specs.Names.{named_groups};
 ghost use Rattle.fancy_tree.specs.Modes.{keeps_characters};
@@ -53,7 +53,7 @@ pub struct Program {
 }
 
 impl Program {
-    ghost use Rattle.fancy_search.specs.SearchCounts.{Counted, CountedUpTo, IfFound, IsHardProgram, RefusesQuery, AllowsQuery, RefusesAttempt, AllowsAttempt, HasRoomFor, IsStopped, AddsReturns, AddsReturnsUpTo, step_bound, returns_taken};
+    ghost use Rattle.fancy_search.specs.SearchCounts.{Counted, CountedUpTo, TriesNothing, IfFound, IsHardProgram, RefusesQuery, AllowsQuery, RefusesAttempt, AllowsAttempt, HasRoomFor, IsStopped, AddsReturns, AddsReturnsUpTo, step_bound, returns_taken};
     ghost use Rattle.fancy_search.specs.Programs.{KeepsCharacters, program_pattern, program_options, program_groups, program_names, program_length, program_is_easy, program_limit, asked_of};
 
     /// Reads a pattern under these options, and compiles it.
@@ -128,6 +128,9 @@ impl Program {
     /// The first match that the request asks for in the bytes of a haystack, with `\G` on or off. Its groups stand in
     /// `cache` then.
     ///
+    /// Under `seek` positions are passed over where no match begins, as the first bytes tell, and no step is taken where none is
+    /// left.
+    ///
     /// It is refused where memory runs out (`Memory`), and for a hard pattern past a limit: as
     /// `RuntimeError(BacktrackLimitExceeded)` or `RuntimeError(StackOverflow)`.
     pub fn search(
@@ -145,6 +148,10 @@ impl Program {
         ensures inside { IfFound result (λ f. f.end ≤ request.range_end) }
         ensures cleanly { KeepsCharacters self.now → IfFound result (IsCleanlyFound haystack.now) }
         ensures steps { steps_of work.old ≤ steps_of work.new }
+        ensures idle { TriesNothing self.now (asked_of self.now haystack.now request continues)
+            → steps_of work.new ≡ steps_of work.old }
+        ensures none { TriesNothing self.now (asked_of self.now haystack.now request continues)
+            → IfOk result (λ m. m ≡ None) }
         ensures bounded { program_is_easy self.now ≡ true
             → steps_of work.new ≤ steps_of work.old + step_bound self.now request }
         ensures returns { returns_of work.old ≤ returns_of work.new }
@@ -216,6 +223,8 @@ impl Program {
         requires room { HasRoomFor self.now request work.old }
         ensures answer { IfOk result (λ m. (on : Bool) → IsAnswerIn m cache.new (asked_of self.now haystack.now request on)) }
         ensures steps { steps_of work.old ≤ steps_of work.new }
+        ensures idle { (on : Bool) → TriesNothing self.now (asked_of self.now haystack.now request on)
+            → steps_of work.new ≡ steps_of work.old }
         ensures bounded { steps_of work.new ≤ steps_of work.old + step_bound self.now request }
         ensures returns { returns_of work.old ≤ returns_of work.new }
         ensures paired { returns_of work.new ≤ steps_of work.new }
@@ -246,12 +255,14 @@ impl Program {
         requires room { HasRoomFor self.now request work.old }
         ensures answer { IfOk result (λ m. IsAnswerIn m cache.new (asked_of self.now haystack.now request continues)) }
         ensures steps { steps_of work.old ≤ steps_of work.new }
+        ensures idle { TriesNothing self.now (asked_of self.now haystack.now request continues)
+            → steps_of work.new ≡ steps_of work.old }
         ensures returns { returns_of work.old ≤ returns_of work.new }
         ensures paired { returns_of work.new ≤ steps_of work.new }
-        ensures counted { IfOk result (λ _. AddsReturns work.old (returns_taken (asked_of self.now haystack.now request continues)) work.new) }
+        ensures counted { IfOk result (λ _. AddsReturns work.old (returns_taken self.now (asked_of self.now haystack.now request continues)) work.new) }
         ensures stopped { IsStopped result → AddsReturns work.old (program_limit self.now) work.new }
         ensures fits { AddsReturnsUpTo work.old (program_limit self.now) work.new }
-        ensures most { AddsReturnsUpTo work.old (returns_taken (asked_of self.now haystack.now request continues)) work.new }
+        ensures most { AddsReturnsUpTo work.old (returns_taken self.now (asked_of self.now haystack.now request continues)) work.new }
         ensures refused { IfErr result (λ e. RefusesQuery self.now (asked_of self.now haystack.now request continues) e) }
     {
         cache.served = Engine::Machine;

@@ -18,7 +18,8 @@ pub(crate) use refusals::{
 };
 pub(crate) use settings::{
     ASCII_TEXT, BYTES, BYTES_WITHOUT_UNICODE, CHARACTERS, CHARACTERS_ANYWHERE, FOLDED, LONGEST,
-    NOT_EMPTY, ONLY_NAMED, OVERRIDING, Settings, read, regex_of, regex_with, searchable,
+    NOT_EMPTY, ONLY_NAMED, OVERRIDING, SEEKING, Settings, read, regex_of, regex_with, searchable,
+    seeking,
 };
 pub(crate) use spans::{
     BytesRow, MatchRow, SearchRow, Span, SpanRow, TextRow, check_found, check_matches,

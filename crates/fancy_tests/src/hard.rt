@@ -204,6 +204,13 @@ fn too_many_branches_are_saved(rt: HostRuntime) {
     check(&rt, is_stopped(&regex.find(haystack.as_str())), "a*(?=c)");
 }
 
+const KEYWORDS: &[SpanRow<&str>] = &[(CHARACTERS, "(?:fn|let) (?=x)", "a let x", Some((2, 6)))];
+
+#[test]
+fn keywords_are_found_before_a_name(rt: HostRuntime) {
+    check_spans(&rt, rt.alloc(), KEYWORDS);
+}
+
 const UNLIMITED: &[SpanRow<&str>] = &[(
     Settings {
         backtrack_limit: 0,

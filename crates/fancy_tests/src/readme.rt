@@ -2,9 +2,9 @@
 
 use crate::asking::{
     ASCII_TEXT, BYTES, BytesRow, CHARACTERS, CountedRow, EasyRow, FaultRow, LONGEST, MatchRow,
-    NOT_EMPTY, OVERRIDING, SearchRow, Settings, Span, SpanRow, check, check_counted, check_easy,
-    check_faults, check_found, check_matches, check_searches, check_spans, counted, first_span,
-    is_answer, is_found, is_part, is_too_complex, regex_of, regex_with, span_found,
+    NOT_EMPTY, OVERRIDING, SEEKING, SearchRow, Settings, Span, SpanRow, check, check_counted,
+    check_easy, check_faults, check_found, check_matches, check_searches, check_spans, counted,
+    first_span, is_answer, is_found, is_part, is_too_complex, regex_of, regex_with, span_found,
 };
 use fancy_regex::{
     ParseErrorKind, Regex, RegexBuilder, RegexInput, RegexOptionsBuilder, RegexSet, RegexSetMatch,
@@ -143,6 +143,8 @@ const LIMITED: &[CountedRow] = &[
         Some(Some((0, 1))),
         1,
     ),
+    (SEEKING, "(?:a|b)(?=c)", "xxbc", 1, Some(Some((2, 3))), 1),
+    (CHARACTERS, "(?:a|b)(?=c)", "xxbc", 1, None, 1),
 ];
 
 const HARD: &[EasyRow] = &[(CHARACTERS, "(?:a|b)(?=c)", false)];

@@ -6,8 +6,8 @@
 //! it is met first.
 
 use crate::asking::{
-    Span, WorkRow, check, check_found, check_work, counted, first_span, is_found, regex_of,
-    repeated,
+    CHARACTERS, CountedRow, SEEKING, Span, WorkRow, check, check_counted, check_found, check_work,
+    counted, first_span, is_found, regex_of, regex_with, repeated,
 };
 use fancy_regex::{Regex, RegexInput, Work};
 use std::alloc::Global;
@@ -41,6 +41,21 @@ const HARD_SEARCHES: &[WorkRow] = &[
     // look-ahead and then the match
     ("(?:a|b)(?=c)", "bc", Some((0, 1)), 7, 1),
 ];
+
+/// What searches count whether they seek or not: the branch for `b` is gone back to at each position that is tried.
+const SOUGHT: &[CountedRow] = &[
+    (CHARACTERS, "(?:a|b)(?=c)", "xxbc", 1, None, 1),
+    (SEEKING, "(?:a|b)(?=c)", "xxbc", 1, Some(Some((2, 3))), 1),
+    (SEEKING, "(?:a|b)(?=c)", "xxbc", 0, None, 0),
+    (SEEKING, "(?:a|b)(?=c)", "xxac", 0, Some(Some((2, 3))), 0),
+    (CHARACTERS, "(?:a|b)(?=c)", "xyz", 9, Some(None), 4),
+    (SEEKING, "(?:a|b)(?=c)", "xyz", 9, Some(None), 0),
+];
+
+#[test]
+fn positions_that_are_passed_over_count_nothing(rt: HostRuntime) {
+    check_counted(&rt, rt.alloc(), SOUGHT);
+}
 
 // one count serves them all: it begins anew at each search
 #[test]
@@ -111,6 +126,24 @@ fn code_is_short(rt: HostRuntime) {
         let regex = regex_of(&rt, rt.alloc(), pattern);
         check(&rt, regex.code_len() <= most, pattern);
     }
+}
+
+/// Checks that a search that seeks finds nothing in the input, without a step.
+fn check_no_step(rt: &impl Abort, regex: &Regex, input: RegexInput<&str>) {
+    let mut work = Work::new();
+    let found = counted(rt, regex, input, &mut work);
+    check(rt, is_nothing(&found), "nothing");
+    check(rt, work.steps() == 0, "the steps");
+}
+
+#[test]
+fn a_search_that_seeks_takes_no_step_in_vain(rt: HostRuntime) {
+    let regex = regex_with(&rt, rt.alloc(), SEEKING, "(?:a|b)(?<!c)");
+    check_no_step(&rt, &regex, RegexInput::new("xyz"));
+    // the a stands past the range
+    check_no_step(&rt, &regex, RegexInput::new("xya").range(0..2));
+    let found = first_span(&rt, &regex, RegexInput::new("xya").range(0..3));
+    check_found(&rt, "(?:a|b)(?<!c)", "xya", found, Some((2, 3)));
 }
 
 #[test]

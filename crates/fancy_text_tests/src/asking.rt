@@ -23,7 +23,7 @@ pub(crate) use pieces::{FirstPiecesRow, PiecesRow, check_first_pieces, check_pie
 pub(crate) use replaced::{ReplacedRow, check_answer, check_fixed, check_replaced};
 pub(crate) use settings::{
     BYTES, CHARACTERS, CHARACTERS_ANYWHERE, LONGEST, NOT_EMPTY, ONLY_NAMED, Settings, regex_of,
-    regex_with, searchable,
+    regex_with, searchable, seeking,
 };
 pub(crate) use spans::{Span, Spanned, span};
 pub(crate) use templates::{

@@ -453,6 +453,7 @@ const ITERATIONS: &[ListRow<&[u8]>] = &[
     (CHARACTERS, "\\B", b"\x80", &[(0, 0), (1, 1)]),
     (BYTES, "\\B", b"\x80", &[(0, 0), (1, 1)]),
     (CHARACTERS, "\\b", b"a b", &[(0, 0), (1, 1), (2, 2), (3, 3)]),
+    (CHARACTERS, "a?", b"ba", &[(0, 0), (1, 2)]),
 ];
 
 #[test]

@@ -29,6 +29,8 @@ pub(crate) struct Settings {
     pub(crate) find_not_empty: bool,
     /// Whether the longest match at a position is asked for.
     pub(crate) leftmost_longest: bool,
+    /// Whether positions where no match begins are passed over.
+    pub(crate) seek: bool,
 }
 
 /// Items are characters, and matches stand between characters: what holds by default.
@@ -45,6 +47,7 @@ pub(crate) const CHARACTERS: Settings = Settings {
     backtrack_limit: 1_000_000,
     find_not_empty: false,
     leftmost_longest: false,
+    seek: false,
 };
 
 /// Items are characters, and matches may stand anywhere.
@@ -102,6 +105,20 @@ pub(crate) const LONGEST: Settings = Settings {
     ..CHARACTERS
 };
 
+/// Positions where no match begins are passed over.
+pub(crate) const SEEKING: Settings = Settings {
+    seek: true,
+    ..CHARACTERS
+};
+
+/// The same options, and positions where no match begins are passed over.
+pub(crate) fn seeking(settings: Settings) -> Settings {
+    Settings {
+        seek: true,
+        ..settings
+    }
+}
+
 /// What the pattern is read as.
 pub(crate) fn read(alloc: Global, settings: Settings, pattern: &str) -> fancy_regex::Result<Regex> {
     let pattern = String::from_str(alloc, pattern)?;
@@ -119,6 +136,7 @@ pub(crate) fn read(alloc: Global, settings: Settings, pattern: &str) -> fancy_re
         .backtrack_limit(settings.backtrack_limit)
         .find_not_empty(settings.find_not_empty)
         .leftmost_longest(settings.leftmost_longest)
+        .seek(settings.seek)
         .build(pattern)
 }
 

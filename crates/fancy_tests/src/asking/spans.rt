@@ -4,7 +4,7 @@ ghost use Rattle.std.specs.Prelude.{◌≡◌};
 ghost use Rattle.fancy_search.specs.Options.{by_default};
 ghost use Rattle.fancy_core.specs.Regexes.{options_in};
 
-use crate::asking::{Settings, check, regex_of, regex_with, searchable};
+use crate::asking::{SEEKING, Settings, check, regex_of, regex_with, searchable, seeking};
 use fancy_regex::{Input, Match, MatchBytes, Regex, RegexInput};
 use std::alloc::Global;
 use std::process::Abort;
@@ -115,7 +115,7 @@ pub(crate) fn check_matches(rt: &impl Abort, alloc: Global, rows: &[MatchRow]) {
 /// A pattern, a text, and where the first match starts and ends.
 pub(crate) type TextRow = (&'static str, &'static str, Option<Span>);
 
-/// Checks a row on its text, and on the bytes of it.
+/// Checks a row on its text, on the bytes of it, and by a search that seeks.
 fn check_text(rt: &impl Abort, alloc: Global, row: &TextRow) {
     let (pattern, haystack, wanted) = *row;
     let regex = regex_of(rt, alloc, pattern);
@@ -125,6 +125,9 @@ fn check_text(rt: &impl Abort, alloc: Global, row: &TextRow) {
     check_found(rt, pattern, haystack, found, wanted);
     let found = first_span(rt, &regex, RegexInput::new(haystack.as_bytes()));
     check_found(rt, pattern, haystack, found, wanted);
+    let seeking = regex_with(rt, alloc, SEEKING, pattern);
+    let found = first_span(rt, &seeking, RegexInput::new(haystack));
+    check_found(rt, pattern, haystack, found, wanted);
 }
 
 pub(crate) fn check_texts(rt: &impl Abort, alloc: Global, rows: &[TextRow]) {
@@ -133,7 +136,7 @@ pub(crate) fn check_texts(rt: &impl Abort, alloc: Global, rows: &[TextRow]) {
     }
 }
 
-/// Options, a pattern, a haystack, and where the first match starts and ends.
+/// Options, a pattern, a haystack, and where the first match starts and ends, whether the search seeks or not.
 pub(crate) type SpanRow<S> = (Settings, &'static str, S, Option<Span>);
 
 /// The same on bytes.
@@ -141,9 +144,11 @@ pub(crate) type BytesRow = SpanRow<&'static [u8]>;
 
 fn check_span<M: Spanned, S: Input<Match = M>>(rt: &impl Abort, alloc: Global, row: &SpanRow<S>) {
     let (settings, pattern, haystack, wanted) = *row;
-    let regex = regex_with(rt, alloc, settings, pattern);
-    let found = first_span(rt, &regex, RegexInput::new(haystack));
-    check_found(rt, pattern, "a haystack", found, wanted);
+    for settings in [settings, seeking(settings)] {
+        let regex = regex_with(rt, alloc, settings, pattern);
+        let found = first_span(rt, &regex, RegexInput::new(haystack));
+        check_found(rt, pattern, "a haystack", found, wanted);
+    }
 }
 
 pub(crate) fn check_spans<M: Spanned, S: Input<Match = M>>(
@@ -157,7 +162,7 @@ pub(crate) fn check_spans<M: Spanned, S: Input<Match = M>>(
 }
 
 /// Options, a pattern, a haystack, the start, the range, whether the search is anchored, and where the first match
-/// starts and ends.
+/// starts and ends, whether it seeks or not.
 pub(crate) type SearchRow<S> = (Settings, &'static str, S, usize, Span, bool, Option<Span>);
 
 /// What a row searches.
@@ -183,12 +188,14 @@ fn check_search<M: Spanned, S: Input<Match = M>>(
     row: &SearchRow<S>,
 ) {
     let (settings, pattern, _, _, _, _, wanted) = *row;
-    let regex = regex_with(rt, alloc, settings, pattern);
-    let input = input_of(rt, row);
-    let found = first_span(rt, &regex, input.again());
-    check(rt, found == wanted, pattern);
-    let matched = has_match(rt, &regex, input);
-    check(rt, matched == wanted.is_some(), pattern);
+    for settings in [settings, seeking(settings)] {
+        let regex = regex_with(rt, alloc, settings, pattern);
+        let input = input_of(rt, row);
+        let found = first_span(rt, &regex, input.again());
+        check(rt, found == wanted, pattern);
+        let matched = has_match(rt, &regex, input);
+        check(rt, matched == wanted.is_some(), pattern);
+    }
 }
 
 pub(crate) fn check_searches<M: Spanned, S: Input<Match = M>>(

@@ -1,7 +1,7 @@
 //! Matches that come one after another.
 
 use crate::asking::{
-    Settings, Span, Spanned, check, check_number, regex_of, regex_with, searchable,
+    Settings, Span, Spanned, check, check_number, regex_of, regex_with, searchable, seeking,
 };
 use fancy_regex::{Input, Matches, RegexInput};
 use std::alloc::Global;
@@ -42,7 +42,7 @@ fn check_matches<M: Spanned, S: Input<Match = M>>(
     check_number(rt, pattern, at, wanted.len());
 }
 
-/// Options, a pattern, a haystack, and where the matches start and end.
+/// Options, a pattern, a haystack, and where the matches start and end, whether the searches seek or not.
 pub(crate) type ListRow<S> = (Settings, &'static str, S, &'static [Span]);
 
 pub(crate) fn check_lists<M: Spanned, S: Input<Match = M>>(
@@ -51,9 +51,11 @@ pub(crate) fn check_lists<M: Spanned, S: Input<Match = M>>(
     rows: &[ListRow<S>],
 ) {
     for &(settings, pattern, haystack, wanted) in rows {
-        let regex = regex_with(rt, alloc, settings, pattern);
-        let input = searchable(rt, &regex, RegexInput::new(haystack));
-        check_matches(rt, regex.find_iter_input(input), pattern, wanted);
+        for settings in [settings, seeking(settings)] {
+            let regex = regex_with(rt, alloc, settings, pattern);
+            let input = searchable(rt, &regex, RegexInput::new(haystack));
+            check_matches(rt, regex.find_iter_input(input), pattern, wanted);
+        }
     }
 }
 

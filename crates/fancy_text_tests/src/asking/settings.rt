@@ -19,6 +19,8 @@ pub(crate) struct Settings {
     pub(crate) find_not_empty: bool,
     /// Whether the longest match at a position is asked for.
     pub(crate) leftmost_longest: bool,
+    /// Whether positions where no match begins are passed over.
+    pub(crate) seek: bool,
 }
 
 /// Items are characters, and matches stand between characters: what holds by default.
@@ -27,6 +29,7 @@ pub(crate) const CHARACTERS: Settings = Settings {
     only_named: false,
     find_not_empty: false,
     leftmost_longest: false,
+    seek: false,
 };
 
 /// Items are characters, and matches may stand anywhere.
@@ -59,6 +62,14 @@ pub(crate) const LONGEST: Settings = Settings {
     ..CHARACTERS
 };
 
+/// The same options, and positions where no match begins are passed over.
+pub(crate) fn seeking(settings: Settings) -> Settings {
+    Settings {
+        seek: true,
+        ..settings
+    }
+}
+
 /// What the pattern is read as.
 fn read(alloc: Global, settings: Settings, pattern: &str) -> fancy_regex::Result<Regex> {
     let pattern = String::from_str(alloc, pattern)?;
@@ -68,6 +79,7 @@ fn read(alloc: Global, settings: Settings, pattern: &str) -> fancy_regex::Result
         .ignore_numbered_groups_when_named_groups_exist(settings.only_named)
         .find_not_empty(settings.find_not_empty)
         .leftmost_longest(settings.leftmost_longest)
+        .seek(settings.seek)
         .build(pattern)
 }
 

@@ -9,7 +9,7 @@ use Rattle.fancy_engine.specs.TableMarks.{count_marks}
 use Rattle.fancy_engine.specs.Work.{steps_of, returns_of}
 use Rattle.fancy_engine.proofs.TableMarksLemmas.{marked_le, none_marked}
 use Rattle.fancy_engine.proofs.RunnerSearch.{deep, attempt_known, attempt_answer, search_hit, search_miss, search_skip, search_over, positions_none, unmarked_table, steps_added, room_for_pairs}
-use Rattle.fancy_engine.proofs.SkipLemmas.{starts_passed}
+use Rattle.fancy_engine.proofs.SkipLemmas.{starts_passed, starts_somewhere}
 use Rattle.fancy_engine.proofs.search.search.Goals as goal
 use Rattle.fancy_engine.proofs.search.search.Goals.{then-is_match_boundary+in_ok-begin+in_ok-follow+else-branch, else-is_match_boundary}
 
@@ -29,6 +29,8 @@ loop-place-init c = record {
       ap₂ (answer_from (query_of p c.args.code.now (unfiltered c.args.options) c.args.haystack.now c.args.request on)) (sym c.last_position-last.ensures.count ∙ ap (λ (n : ℕ). c.last_position-last.result + 1 - n) (sym c.effective_start-first.ensures)) (sym c.effective_start-first.ensures)
       ∙ starts_passed (query_of p c.args.code.now (unfiltered c.args.options) c.args.haystack.now c.args.request on) c.args.code.now.start_bytes is.starts (λ k. omega (arith, c.type_inv.haystack k)) (c.last_position-last.result + 1 - c.effective_start-first.result) (c.last_position-last.result + 1 - c.next_candidate-place.result) c.effective_start-first.result c.next_candidate-place.result c.next_candidate-place.ensures.passed (omega (arith, c.next_candidate-place.ensures.passed, c.next_candidate-place.ensures.within)) c.next_candidate-place.ensures.none;
   passed = c.next_candidate-place.ensures.passed;
+  starts = c.next_candidate-place.ensures.stands;
+  idle = λ none. refl;
   failed = λ p is q i seen hit. unmarked_table c.begin_table.new.table _ c.in_ok-begin_table.ensures.clear _ seen.1;
   room = ap length c.in_ok-begin_table.ensures.clear ∙ length-replicate _ false;
   small = omega (arith, ap length c.in_ok-begin_table.ensures.clear, length-replicate {A = Bool}, c.in_ok-begin_table.ensures.small);
@@ -64,6 +66,8 @@ loop-place-preserved c =
             ∙ search_miss (query_of p c.args.code.now (unfiltered c.args.options) c.args.haystack.now c.args.request on) (c.last_position-last.result + 1 - c.loop-place.place) (c.last_position-last.result + 1 - (c.loop-place.place + 1)) c.loop-place.place (omega (arith, c.loop-place-test.true)) (sym is_answer ∙ sym (found (attempt_known (query_of p c.args.code.now (unfiltered c.args.options) c.args.haystack.now c.args.request on) c.args.code.now is refl refl refl refl c.requires.inside (search_context c.args.haystack.now c.args.code.now.meaning c.suppressed_ends.result c.effective_start-first.result) (Some c.effective_start-first.result) (ap (λ (s : SuppressedEnds). search_context c.args.haystack.now c.args.code.now.meaning s c.effective_start-first.result) c.suppressed_ends.ensures) c.requires.easy c.loop-place.place w.begin.new.self.current w.in_ok-begin.ensures.begun (omega (arith, c.last_position-last.ensures.inside, c.loop-place-test.true))) (c.loop-place.invariant.failed p is)))
             ∙ starts_passed (query_of p c.args.code.now (unfiltered c.args.options) c.args.haystack.now c.args.request on) c.args.code.now.start_bytes is.starts (λ k. omega (arith, c.type_inv.haystack k)) (c.last_position-last.result + 1 - (c.loop-place.place + 1)) (c.last_position-last.result + 1 - c.next_candidate-place-in-loop-place.result) (c.loop-place.place + 1) c.next_candidate-place-in-loop-place.result c.next_candidate-place-in-loop-place.ensures.passed (omega (arith, c.next_candidate-place-in-loop-place.ensures.passed, c.next_candidate-place-in-loop-place.ensures.within, c.loop-place-test.true)) c.next_candidate-place-in-loop-place.ensures.none);
         passed = omega (arith, c.loop-place.invariant.passed, c.next_candidate-place-in-loop-place.ensures.passed);
+        starts = c.next_candidate-place-in-loop-place.ensures.stands;
+        idle = λ none. absurd (starts_somewhere c.args.code.now.start_bytes c.args.haystack.now c.args.request.range_end c.loop-place.place (c.loop-place.invariant.starts (omega (arith, c.loop-place-test.true))) (none c.loop-place.place (omega (arith, c.loop-place.invariant.passed, c.effective_start-first.ensures)) (omega (arith, c.loop-place-test.true, c.last_position-last.ensures.inside))));
         failed = λ p is. rw w.table-is (w.in_ok-follow.ensures.failed c.loop-place.place (deep (query_of p c.args.code.now (unfiltered c.args.options) c.args.haystack.now c.args.request true) c.args.code.now is refl refl refl refl c.requires.inside (search_context c.args.haystack.now c.args.code.now.meaning c.suppressed_ends.result c.effective_start-first.result) (Some c.effective_start-first.result) (ap (λ (s : SuppressedEnds). search_context c.args.haystack.now c.args.code.now.meaning s c.effective_start-first.result) c.suppressed_ends.ensures)) (attempt_known (query_of p c.args.code.now (unfiltered c.args.options) c.args.haystack.now c.args.request true) c.args.code.now is refl refl refl refl c.requires.inside (search_context c.args.haystack.now c.args.code.now.meaning c.suppressed_ends.result c.effective_start-first.result) (Some c.effective_start-first.result) (ap (λ (s : SuppressedEnds). search_context c.args.haystack.now c.args.code.now.meaning s c.effective_start-first.result) c.suppressed_ends.ensures) c.requires.easy c.loop-place.place w.begin.new.self.current w.in_ok-begin.ensures.begun (omega (arith, c.last_position-last.ensures.inside, c.loop-place-test.true))) (c.loop-place.invariant.failed p is) w.if-branch.false);
         room = ap length w.table-is ∙ w.follow.ensures.room ∙ c.loop-place.invariant.room;
         small = omega (arith, ap length w.table-is, w.follow.ensures.room, c.loop-place.invariant.small);
@@ -79,6 +83,8 @@ loop-place-preserved c =
             ∙ search_miss (query_of p c.args.code.now (unfiltered c.args.options) c.args.haystack.now c.args.request on) (c.last_position-last.result + 1 - c.loop-place.place) (c.last_position-last.result + 1 - (c.loop-place.place + 1)) c.loop-place.place (omega (arith, c.loop-place-test.true)) (search_skip (query_of p c.args.code.now (unfiltered c.args.options) c.args.haystack.now c.args.request on) c.loop-place.place refl (sym c.is_match_boundary.ensures ∙ w.if-is_match_boundary.false))
             ∙ starts_passed (query_of p c.args.code.now (unfiltered c.args.options) c.args.haystack.now c.args.request on) c.args.code.now.start_bytes is.starts (λ k. omega (arith, c.type_inv.haystack k)) (c.last_position-last.result + 1 - (c.loop-place.place + 1)) (c.last_position-last.result + 1 - c.next_candidate-place-in-loop-place.result) (c.loop-place.place + 1) c.next_candidate-place-in-loop-place.result c.next_candidate-place-in-loop-place.ensures.passed (omega (arith, c.next_candidate-place-in-loop-place.ensures.passed, c.next_candidate-place-in-loop-place.ensures.within, c.loop-place-test.true)) c.next_candidate-place-in-loop-place.ensures.none;
         passed = omega (arith, c.loop-place.invariant.passed, c.next_candidate-place-in-loop-place.ensures.passed);
+        starts = c.next_candidate-place-in-loop-place.ensures.stands;
+        idle = λ none. absurd (starts_somewhere c.args.code.now.start_bytes c.args.haystack.now c.args.request.range_end c.loop-place.place (c.loop-place.invariant.starts (omega (arith, c.loop-place-test.true))) (none c.loop-place.place (omega (arith, c.loop-place.invariant.passed, c.effective_start-first.ensures)) (omega (arith, c.loop-place-test.true, c.last_position-last.ensures.inside))));
         failed = λ p is. rw w.table-is (c.loop-place.invariant.failed p is);
         room = ap length w.table-is ∙ c.loop-place.invariant.room;
         small = omega (arith, ap length w.table-is, c.loop-place.invariant.small);
@@ -115,3 +121,12 @@ pub returns-clause-bounded : goal.returns-clause-bounded
 returns-clause-bounded c =
     steps_added _ _ (count_marks c.loop-place.table) c.args.request c.effective_start-first.result _ c.loop-place.invariant.ticks
     (omega (arith, c.loop-place.invariant.room, marked_le c.loop-place.table)) c.effective_start-first.ensures (omega arith)
+
+pub returns-in_err-begin-clause-idle : goal.returns-in_err-begin-clause-idle
+returns-in_err-begin-clause-idle c none = absurd (starts_somewhere c.args.code.now.start_bytes c.args.haystack.now c.args.request.range_end c.loop-place.place (c.loop-place.invariant.starts (omega (arith, c.loop-place-test.true))) (none c.loop-place.place (omega (arith, c.loop-place.invariant.passed, c.effective_start-first.ensures)) (omega (arith, c.loop-place-test.true, c.last_position-last.ensures.inside))))
+
+pub returns-in_err-follow-clause-idle : goal.returns-in_err-follow-clause-idle
+returns-in_err-follow-clause-idle c none = absurd (starts_somewhere c.args.code.now.start_bytes c.args.haystack.now c.args.request.range_end c.loop-place.place (c.loop-place.invariant.starts (omega (arith, c.loop-place-test.true))) (none c.loop-place.place (omega (arith, c.loop-place.invariant.passed, c.effective_start-first.ensures)) (omega (arith, c.loop-place-test.true, c.last_position-last.ensures.inside))))
+
+pub returns-then-branch-clause-idle : goal.returns-then-branch-clause-idle
+returns-then-branch-clause-idle c none = absurd (starts_somewhere c.args.code.now.start_bytes c.args.haystack.now c.args.request.range_end c.loop-place.place (c.loop-place.invariant.starts (omega (arith, c.loop-place-test.true))) (none c.loop-place.place (omega (arith, c.loop-place.invariant.passed, c.effective_start-first.ensures)) (omega (arith, c.loop-place-test.true, c.last_position-last.ensures.inside))))

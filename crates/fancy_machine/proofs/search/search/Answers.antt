@@ -1,11 +1,12 @@
-use Rattle.std.proofs.Common.{◌≡◌, ℕ, suc, ◌+◌, ◌-◌, ◌∙◌, Err, sym, ap, ap₂, arith}
+use Rattle.std.proofs.Common.{refl, ◌≡◌, ◌≤◌, ℕ, suc, ◌+◌, ◌-◌, ◌∙◌, Err, sym, ap, ap₂, arith}
 use Rattle.fancy_input.specs.Requests.{positions, effective_start}
 use Rattle.fancy_engine.specs.Events.{marks_in, returns_in}
 use Rattle.fancy_engine.specs.Search.{answer_from, gone_from}
 use Rattle.fancy_engine.proofs.AttemptLemmas.{found_here, found_later}
-use Rattle.fancy_engine.proofs.RunnerSearch.{search_over, positions_none}
-use Rattle.fancy_machine.specs.Asked.{all_tried}
+use Rattle.fancy_engine.proofs.RunnerSearch.{search_over, positions_none, positions_some}
+use Rattle.fancy_engine.specs.Tried.{tried}
 use Rattle.fancy_machine.proofs.MachineSearch.{asked_request, is_asked, gone_hit, gone_more, gone_counts, gone_over}
+use Rattle.fancy_machine.proofs.SeekLemmas.{goes_on, tried_somewhere}
 use Rattle.fancy_machine.proofs.RefusalLemmas.{passed_on}
 use Rattle.fancy_machine.proofs.search.search.Goals as goal
 
@@ -15,20 +16,25 @@ returns-then-first-request-clause-answer g c =
 
 pub returns-then-first-request-clause-count : goal.returns-then-first-request-clause-count
 returns-then-first-request-clause-count g c =
-    let none = ap returns_in (gone_over g.q (positions g.q.request) (effective_start g.q.request)
+    let none = ap returns_in (gone_over g.q (tried c.args.options.seek g.q) (positions g.q.request) (effective_start g.q.request)
     (ap positions (asked_request g.q g.q.sought.pattern c.args.code.now c.args.options c.args.haystack.now c.args.request c.args.continues c.requires.0) ∙ positions_none c.args.request (omega (arith, c.effective_start-first.ensures)))) in
     omega (arith, none)
 
 pub loop-place-init : goal.loop-place-init
 loop-place-init g c =
     let r = asked_request g.q g.q.sought.pattern c.args.code.now c.args.options c.args.haystack.now c.args.request c.args.continues c.requires.0 in
-    let tried : positions g.q.request ≡ c.last_position-last.result + 1 - c.effective_start-first.result = ap positions r ∙ sym c.last_position-last.ensures.count ∙ ap (λ (n : ℕ). c.last_position-last.result + 1 - n) (sym c.effective_start-first.ensures) in
+    let tries : positions g.q.request ≡ c.last_position-last.result + 1 - c.effective_start-first.result = ap positions r ∙ sym c.last_position-last.ensures.count ∙ ap (λ (n : ℕ). c.last_position-last.result + 1 - n) (sym c.effective_start-first.ensures) in
     let first : effective_start g.q.request ≡ c.effective_start-first.result = ap effective_start r ∙ sym c.effective_start-first.ensures in
-    let events = ap₂ (gone_from g.q all_tried) tried first in
+    let events = ap₂ (gone_from g.q (tried c.args.options.seek g.q)) tries first in
+    let ordered : c.effective_start-first.result ≤ c.last_position-last.result + 1 = omega (arith, c.last_position-last.ensures.count, c.effective_start-first.ensures, positions_some c.args.request (omega (arith, c.effective_start-first.ensures))) in
+    let on = goes_on g.q c.args.code.now c.args.options c.args.haystack.now c.args.request c.args.continues c.requires.0 c.requires.1.0 (λ k. omega (arith, c.type_inv.haystack k)) c.effective_start-first.result c.last_position-last.result c.next_tried-place.result ordered c.next_tried-place.ensures.sought c.next_tried-place.ensures.each in
     record {
-      left = ap₂ (answer_from g.q) tried first;
-      count = omega (arith, ap returns_in events);
-      room = omega (arith, ap marks_in events);
+      left = ap₂ (answer_from g.q) tries first ∙ on.answer;
+      count = omega (arith, ap returns_in events, on.returns);
+      room = omega (arith, ap marks_in events, on.marks);
+      tries = on.tries;
+      passed = omega (arith, c.next_tried-place.ensures.passed, c.effective_start-first.ensures);
+      idle = λ none. refl;
       fits = omega arith;
       steps = omega arith;
       returns = omega arith;
@@ -43,35 +49,35 @@ try_position-requires g c =
 
 pub returns-in_err-found-clause-refused : goal.returns-in_err-found-clause-refused
 returns-in_err-found-clause-refused g c e =
-    let one : (c.last_position-last.result + 1 - c.loop-place.place) ≡ suc (c.last_position-last.result + 1 - (c.loop-place.place + 1)) = omega arith in
-    let more = gone_more g.q (c.last_position-last.result + 1 - c.loop-place.place) (c.last_position-last.result + 1 - (c.loop-place.place + 1)) c.loop-place.place one in
+    let one : (c.last_position-last.result + 1 - c.loop-place.place) ≡ suc (c.last_position-last.result + 1 - (c.loop-place.place + 1)) = omega (arith, c.loop-place-test.true) in
+    let more = gone_more g.q (tried c.args.options.seek g.q) (c.last_position-last.result + 1 - c.loop-place.place) (c.last_position-last.result + 1 - (c.loop-place.place + 1)) c.loop-place.place one (c.loop-place.invariant.tries (omega (arith, c.loop-place-test.true))) in
     let lt = c.in_err-found.ensures.refused (ap Err (passed_on c.from_residual.result _ _ c.from_residual.ensures.1 e)) in
     omega (arith, lt, more.0, c.returns.ensures, c.loop-place.invariant.count)
 
 pub returns-in_err-found-clause-bounded : goal.returns-in_err-found-clause-bounded
 returns-in_err-found-clause-bounded g c =
-    let one : (c.last_position-last.result + 1 - c.loop-place.place) ≡ suc (c.last_position-last.result + 1 - (c.loop-place.place + 1)) = omega arith in
-    let more = gone_more g.q (c.last_position-last.result + 1 - c.loop-place.place) (c.last_position-last.result + 1 - (c.loop-place.place + 1)) c.loop-place.place one in
+    let one : (c.last_position-last.result + 1 - c.loop-place.place) ≡ suc (c.last_position-last.result + 1 - (c.loop-place.place + 1)) = omega (arith, c.loop-place-test.true) in
+    let more = gone_more g.q (tried c.args.options.seek g.q) (c.last_position-last.result + 1 - c.loop-place.place) (c.last_position-last.result + 1 - (c.loop-place.place + 1)) c.loop-place.place one (c.loop-place.invariant.tries (omega (arith, c.loop-place-test.true))) in
     omega (arith, c.try_position.ensures.bounded, more.0, c.loop-place.invariant.count)
 
 pub returns-in_err-found-clause-crowded : goal.returns-in_err-found-clause-crowded
 returns-in_err-found-clause-crowded g c e =
-    let one : (c.last_position-last.result + 1 - c.loop-place.place) ≡ suc (c.last_position-last.result + 1 - (c.loop-place.place + 1)) = omega arith in
-    let more = gone_more g.q (c.last_position-last.result + 1 - c.loop-place.place) (c.last_position-last.result + 1 - (c.loop-place.place + 1)) c.loop-place.place one in
+    let one : (c.last_position-last.result + 1 - c.loop-place.place) ≡ suc (c.last_position-last.result + 1 - (c.loop-place.place + 1)) = omega (arith, c.loop-place-test.true) in
+    let more = gone_more g.q (tried c.args.options.seek g.q) (c.last_position-last.result + 1 - c.loop-place.place) (c.last_position-last.result + 1 - (c.loop-place.place + 1)) c.loop-place.place one (c.loop-place.invariant.tries (omega (arith, c.loop-place-test.true))) in
     let lt = c.in_err-found.ensures.crowded (ap Err (passed_on c.from_residual.result _ _ c.from_residual.ensures.1 e)) in
     omega (arith, lt, more.1, c.loop-place.invariant.room)
 
 pub returns-in-Some-clause-answer : goal.returns-in-Some-clause-answer
 returns-in-Some-clause-answer g c =
-    let one : (c.last_position-last.result + 1 - c.loop-place.place) ≡ suc (c.last_position-last.result + 1 - (c.loop-place.place + 1)) = omega arith in
+    let one : (c.last_position-last.result + 1 - c.loop-place.place) ≡ suc (c.last_position-last.result + 1 - (c.loop-place.place + 1)) = omega (arith, c.loop-place-test.true) in
     let a = rw c.in-Some.is at c.in_ok-found.ensures.answer in
     sym (c.loop-place.invariant.left ∙ found_here g.q (c.last_position-last.result + 1 - c.loop-place.place) (c.last_position-last.result + 1 - (c.loop-place.place + 1)) c.loop-place.place one _ (sym a))
 
 pub returns-in-Some-clause-count : goal.returns-in-Some-clause-count
 returns-in-Some-clause-count g c =
-    let one : (c.last_position-last.result + 1 - c.loop-place.place) ≡ suc (c.last_position-last.result + 1 - (c.loop-place.place + 1)) = omega arith in
+    let one : (c.last_position-last.result + 1 - c.loop-place.place) ≡ suc (c.last_position-last.result + 1 - (c.loop-place.place + 1)) = omega (arith, c.loop-place-test.true) in
     let a = rw c.in-Some.is at c.in_ok-found.ensures.answer in
-    let through = gone_hit g.q (c.last_position-last.result + 1 - c.loop-place.place) (c.last_position-last.result + 1 - (c.loop-place.place + 1)) c.loop-place.place one _ (sym a) in
+    let through = gone_hit g.q (tried c.args.options.seek g.q) (c.last_position-last.result + 1 - c.loop-place.place) (c.last_position-last.result + 1 - (c.loop-place.place + 1)) c.loop-place.place one (c.loop-place.invariant.tries (omega (arith, c.loop-place-test.true))) _ (sym a) in
     omega (arith, c.in_ok-found.ensures.count, ap returns_in through, c.loop-place.invariant.count)
 
 pub returns-in-Some-clause-bounded : goal.returns-in-Some-clause-bounded
@@ -79,13 +85,18 @@ returns-in-Some-clause-bounded g c = let count = returns-in-Some-clause-count g 
 
 pub loop-place-preserved : goal.loop-place-preserved
 loop-place-preserved g c =
-    let one : (c.last_position-last.result + 1 - c.loop-place.place) ≡ suc (c.last_position-last.result + 1 - (c.loop-place.place + 1)) = omega arith in
+    let one : (c.last_position-last.result + 1 - c.loop-place.place) ≡ suc (c.last_position-last.result + 1 - (c.loop-place.place + 1)) = omega (arith, c.loop-place-test.true) in
     let a = rw c.in_default.is at c.in_ok-found.ensures.answer in
-    let counts = gone_counts g.q (c.last_position-last.result + 1 - c.loop-place.place) (c.last_position-last.result + 1 - (c.loop-place.place + 1)) c.loop-place.place one (sym a) in
+    let counts = gone_counts g.q (tried c.args.options.seek g.q) (c.last_position-last.result + 1 - c.loop-place.place) (c.last_position-last.result + 1 - (c.loop-place.place + 1)) c.loop-place.place one (c.loop-place.invariant.tries (omega (arith, c.loop-place-test.true))) (sym a) in
+    let ordered : c.loop-place.place + 1 ≤ c.last_position-last.result + 1 = omega (arith, c.loop-place-test.true) in
+    let on = goes_on g.q c.args.code.now c.args.options c.args.haystack.now c.args.request c.args.continues c.requires.0 c.requires.1.0 (λ k. omega (arith, c.type_inv.haystack k)) (c.loop-place.place + 1) c.last_position-last.result c.next_tried-place-in-loop-place.result ordered c.next_tried-place-in-loop-place.ensures.sought c.next_tried-place-in-loop-place.ensures.each in
     record {
-      left = c.loop-place.invariant.left ∙ found_later g.q (c.last_position-last.result + 1 - c.loop-place.place) (c.last_position-last.result + 1 - (c.loop-place.place + 1)) c.loop-place.place one (sym a);
-      count = omega (arith, c.in_ok-found.ensures.count, counts.0, c.loop-place.invariant.count);
-      room = omega (arith, counts.1, c.loop-place.invariant.room);
+      left = c.loop-place.invariant.left ∙ found_later g.q (c.last_position-last.result + 1 - c.loop-place.place) (c.last_position-last.result + 1 - (c.loop-place.place + 1)) c.loop-place.place one (sym a) ∙ on.answer;
+      count = omega (arith, c.in_ok-found.ensures.count, counts.0, c.loop-place.invariant.count, on.returns);
+      room = omega (arith, counts.1, c.loop-place.invariant.room, on.marks);
+      tries = on.tries;
+      passed = omega (arith, c.next_tried-place-in-loop-place.ensures.passed, c.loop-place.invariant.passed);
+      idle = λ none. absurd (tried_somewhere g.q c.args.options.seek c.args.request c.loop-place.place (asked_request g.q g.q.sought.pattern c.args.code.now c.args.options c.args.haystack.now c.args.request c.args.continues c.requires.0) none c.loop-place.invariant.passed (omega (arith, c.loop-place-test.true, c.last_position-last.ensures.inside)) (c.loop-place.invariant.tries (omega (arith, c.loop-place-test.true))));
       fits = omega (arith, c.returns.ensures, c.try_position.ensures.fits);
       steps = omega (arith, c.try_position.ensures.steps, c.loop-place.invariant.steps);
       returns = omega (arith, c.try_position.ensures.returns, c.loop-place.invariant.returns);
@@ -97,4 +108,10 @@ pub returns-clause-answer : goal.returns-clause-answer
 returns-clause-answer g c = sym (c.loop-place.invariant.left ∙ search_over g.q _ _ (omega arith))
 
 pub returns-clause-count : goal.returns-clause-count
-returns-clause-count g c = omega (arith, c.loop-place.invariant.count, ap returns_in (gone_over g.q (c.last_position-last.result + 1 - c.loop-place.place) c.loop-place.place (omega arith)))
+returns-clause-count g c = omega (arith, c.loop-place.invariant.count, ap returns_in (gone_over g.q (tried c.args.options.seek g.q) (c.last_position-last.result + 1 - c.loop-place.place) c.loop-place.place (omega arith)))
+
+pub returns-in_err-found-clause-idle : goal.returns-in_err-found-clause-idle
+returns-in_err-found-clause-idle g c none = absurd (tried_somewhere g.q c.args.options.seek c.args.request c.loop-place.place (asked_request g.q g.q.sought.pattern c.args.code.now c.args.options c.args.haystack.now c.args.request c.args.continues c.requires.0) none c.loop-place.invariant.passed (omega (arith, c.loop-place-test.true, c.last_position-last.ensures.inside)) (c.loop-place.invariant.tries (omega (arith, c.loop-place-test.true))))
+
+pub returns-in-Some-clause-idle : goal.returns-in-Some-clause-idle
+returns-in-Some-clause-idle g c none = absurd (tried_somewhere g.q c.args.options.seek c.args.request c.loop-place.place (asked_request g.q g.q.sought.pattern c.args.code.now c.args.options c.args.haystack.now c.args.request c.args.continues c.requires.0) none c.loop-place.invariant.passed (omega (arith, c.loop-place-test.true, c.last_position-last.ensures.inside)) (c.loop-place.invariant.tries (omega (arith, c.loop-place-test.true))))

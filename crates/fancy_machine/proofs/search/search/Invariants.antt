@@ -1,22 +1,29 @@
-use Rattle.std.proofs.Common.{◌≡◌, ◌+◌, ◌-◌, ◌≤◌}
+use Rattle.std.proofs.Common.{◌≡◌, ◌+◌, ◌-◌, ◌≤◌, true}
 use Rattle.fancy_engine.specs.Events.{marks_in, returns_in}
 use Rattle.fancy_engine.specs.Search.{search, returns, choices, answer_from, gone_from}
+use Rattle.fancy_input.specs.Requests.{effective_start}
 use Rattle.fancy_input.specs.LastLines.{KnowsLastLines}
 use Rattle.fancy_engine.specs.Work.{steps_of, returns_of}
-use Rattle.fancy_machine.specs.Asked.{all_tried}
+use Rattle.fancy_engine.specs.Tried.{tried, NoneTried}
 use Rattle.fancy_machine.proofs.search.search.Given as goal
 
 abbrev pub invariant-loop-place : goal.invariant-loop-place
 invariant-loop-place g l = record {
   left : search g.q ≡ answer_from g.q (l.last + 1 - l.place) l.place;
-  count : returns_of l.work + returns_in (gone_from g.q all_tried (l.last + 1 - l.place) l.place) ≡ returns_of l.fn.work + returns g.q all_tried;
-  room : marks_in (gone_from g.q all_tried (l.last + 1 - l.place) l.place) ≤ choices g.q all_tried;
+  count : returns_of l.work + returns_in (gone_from g.q (tried l.fn.options.seek g.q) (l.last + 1 - l.place) l.place) ≡ returns_of l.fn.work + returns g.q (tried l.fn.options.seek g.q);
+  room : marks_in (gone_from g.q (tried l.fn.options.seek g.q) (l.last + 1 - l.place) l.place) ≤ choices g.q (tried l.fn.options.seek g.q);
+  tries : l.place ≤ l.last → tried l.fn.options.seek g.q l.place ≡ true;
+  passed : effective_start l.fn.request ≤ l.place;
+  idle : NoneTried l.fn.options.seek g.q → steps_of l.work ≡ steps_of l.fn.work;
   fits : returns_of l.work ≤ returns_of l.fn.work + l.fn.options.backtrack_limit;
   steps : steps_of l.fn.work ≤ steps_of l.work;
   returns : returns_of l.fn.work ≤ returns_of l.work;
   paired : returns_of l.fn.work ≤ steps_of l.fn.work → returns_of l.work ≤ steps_of l.work;
   last_lines : KnowsLastLines l.attempt.haystack.now l.last_lines;
 }
+
+abbrev pub decreases-loop-place : goal.decreases-loop-place
+decreases-loop-place g l = l.last + 1 - l.place
 
 abbrev pub ghost-try_position : goal.ghost-try_position
 ghost-try_position g a = g.q

@@ -1,7 +1,7 @@
 use Rattle.fancy_search.specs.Cached.{cached_groups}
 use Rattle.fancy_search.specs.Programs.{asked_of}
 use Rattle.fancy_search.proofs.ResultLemmas.{if_ok}
-use Rattle.fancy_search.proofs.SearchedLemmas.{ordered_found, inside_found, clean_found}
+use Rattle.fancy_search.proofs.SearchedLemmas.{none_tried, ordered_found, inside_found, clean_found}
 use Rattle.fancy_search.proofs.program.Program.search.Goals as goal
 
 pub returns-then-self-clause-answer : goal.returns-then-self-clause-answer
@@ -30,3 +30,14 @@ returns-clause-inside c =
 pub returns-clause-cleanly : goal.returns-clause-cleanly
 returns-clause-cleanly c = λ on.
     if_ok _ _ (λ m e. clean_found (asked_of c.args.self.now c.args.haystack.now c.args.request c.args.continues) (cached_groups c.backtrack.new.cache) c.requires.inside c.args.self.now.starts m on e) c.backtrack.result c.backtrack.ensures.answer
+
+pub returns-then-self-clause-idle : goal.returns-then-self-clause-idle
+returns-then-self-clause-idle c none = c.run.ensures.idle c.args.continues none
+
+pub returns-then-self-clause-none : goal.returns-then-self-clause-none
+returns-then-self-clause-none c none =
+    if_ok _ _ (λ m e. none_tried c.args.self.now (asked_of c.args.self.now c.args.haystack.now c.args.request c.args.continues) (cached_groups c.run.new.cache) none m (e c.args.continues)) c.run.result c.run.ensures.answer
+
+pub returns-clause-none : goal.returns-clause-none
+returns-clause-none c none =
+    if_ok _ _ (none_tried c.args.self.now (asked_of c.args.self.now c.args.haystack.now c.args.request c.args.continues) (cached_groups c.backtrack.new.cache) none) c.backtrack.result c.backtrack.ensures.answer
