@@ -3,7 +3,7 @@
 ghost use Rattle.std.specs.Prelude.{◌≡◌, ◌↔◌, ℕ, ◌<◌, ◌≤◌, ◌==◌, List, Bool, length, IfSome, IsTrue, MatchOption};
 ghost use Rattle.fancy_tree.specs.Pattern.{pattern_of};
 ghost use Rattle.fancy_bytes.specs.Firsts.{AreStartBytes};
-ghost use Rattle.fancy_bytes.specs.Sets.{IsSetOf};
+ghost use Rattle.fancy_bytes.specs.Sets.{member, IsSetOf};
 ghost use Rattle.fancy_bytes.specs.Seeks.{NoneSeenBefore, IsNextSeen};
 
 use crate::byte_set::ByteSet;
@@ -61,6 +61,13 @@ impl Scan {
     {
         let only = only_member(&set);
         Scan { set, only }
+    }
+
+    /// Whether the byte is in the set.
+    pub fn contains(&self, byte: u8) -> bool
+        ensures { result ≡ member self.now byte }
+    {
+        self.set.contains(byte)
     }
 
     /// The first place, from the one on and before the other, where a byte of the set stands.

@@ -12,3 +12,4 @@ pub mod Splits
 pub mod Replacing
 pub mod ItemLimits
 pub mod Rewriting
+pub mod RegexStarts

@@ -40,6 +40,7 @@ impl Regex {
     ghost use Rattle.fancy_core.specs.Built.{IsReading};
     ghost use Rattle.fancy_core.specs.CaptureNames.{names_in};
     ghost use Rattle.fancy_core.specs.Regexes.{pattern_text, pattern_in, options_in, group_count_in, length_in, easy_in, returns_limit_in, query};
+    ghost use Rattle.fancy_core.specs.RegexStarts.{regex_may_start};
     ghost use Rattle.fancy_core.specs.Limited.{IsHard, Refuses, Allows, TriesNone, most_steps_of};
     ghost use Rattle.fancy_search.specs.SearchCounts.{AddsReturns, AddsReturnsUpTo, Counted, CountedUpTo, HasReturns, HasRoomFor, IsStopped, returns_taken};
     ghost use Rattle.fancy_core.specs.Searches.{CanSearchInput, FindsFirst, asked_whole, asked_from, asked_by};
@@ -124,6 +125,21 @@ impl Regex {
         ensures short { result ≤ 4 * nodes (pattern_in self.now) + 2 }
     {
         self.program.code_len()
+    }
+
+    /// Whether a match may start right before this byte, or with `None` at the end of the searched range. Where the answer is
+    /// `false`, no match starts there. A pattern that may hold and consume nothing, or that has a `\K`, may start anywhere.
+    ///
+    /// ```text
+    /// let regex = Regex::new(alloc, "[ab]c*")?;
+    /// regex.may_start_before(Some(b'a'))    // true
+    /// regex.may_start_before(Some(b'c'))    // false
+    /// regex.may_start_before(None)          // false: each match consumes a byte
+    /// ```
+    pub fn may_start_before(&self, next: Option<u8>) -> bool
+        ensures { result ≡ regex_may_start self.now next }
+    {
+        self.program.may_start_before(next)
     }
 
     /// Whether the input may be searched: for text, its start (if that is not past the end) and both ends of

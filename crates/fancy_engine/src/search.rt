@@ -71,13 +71,7 @@ fn begin_table(table: &mut Table, attempt: &Attempt) -> Result<(), SearchRefusal
 /// The first position, from the one on and up to the last, at which a match of the code may start; past the last where
 /// none may. A match that must start at some byte starts before the end of the range.
 #[inline]
-pub fn next_candidate(
-    code: &Code,
-    haystack: &[u8],
-    range_end: usize,
-    from: usize,
-    last: usize,
-) -> usize
+fn candidate_from(code: &Code, haystack: &[u8], range_end: usize, from: usize, last: usize) -> usize
     requires ordered { from ≤ last + 1 }
     requires last { last ≤ range_end }
     requires inside { range_end ≤ length haystack.now }
@@ -94,6 +88,24 @@ pub fn next_candidate(
         Some(place) => place,
         None => last + 1,
     }
+}
+
+/// The first position, from the one on and up to the last, at which a match of the code may start, as the search by the
+/// runner goes on; past the last where none may.
+#[inline(never)]
+pub fn next_candidate(
+    code: &Code,
+    haystack: &[u8],
+    range_end: usize,
+    from: usize,
+    last: usize,
+) -> usize
+    requires ordered { from ≤ last + 1 }
+    requires last { last ≤ range_end }
+    requires inside { range_end ≤ length haystack.now }
+    ensures { IsNextCandidate code.now.start_bytes haystack.now range_end from last result }
+{
+    candidate_from(code, haystack, range_end, from, last)
 }
 
 /// Searches a haystack for the pattern of the code. Found is the first outcome at the least position, from the
@@ -135,7 +147,7 @@ pub fn search(
         return Ok(None);
     }
     let last = request.last_position();
-    let mut place = next_candidate(code, haystack, request.range_end, first, last);
+    let mut place = candidate_from(code, haystack, request.range_end, first, last);
     if place > last {
         return Ok(None);
     }
@@ -163,7 +175,7 @@ pub fn search(
                 }));
             }
         }
-        place = next_candidate(code, haystack, request.range_end, place + 1, last);
+        place = candidate_from(code, haystack, request.range_end, place + 1, last);
     }
     Ok(None)
 }

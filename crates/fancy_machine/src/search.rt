@@ -128,6 +128,7 @@ pub fn search(
 
 /// The first position, from the one on and up to the last, that a search tries, past the last where there is none: where it
 /// seeks, one where a match may start, and else the one itself.
+#[inline]
 fn next_tried(
     code: &Code,
     haystack: &[u8],

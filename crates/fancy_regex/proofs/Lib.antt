@@ -6,3 +6,5 @@ pub mod SetListLemmas
 pub mod SetLemmas
 pub mod SetOfOneLemmas
 pub mod SetSearchLemmas
+pub mod CandidateLemmas
+pub mod SetCandidateLemmas

@@ -4,6 +4,7 @@ pub mod EscapedLiterals
 pub mod ListExamples
 pub mod Laws
 pub mod SetMembers
+pub mod Candidates
 pub mod Sets
 pub mod SetAnswers
 pub mod SetMatches
@@ -30,10 +31,12 @@ pub use Rattle.fancy_engine.specs.Search
 pub use Rattle.fancy_engine.specs.Answers
 pub use Rattle.fancy_engine.specs.Work
 pub use Rattle.fancy_search.specs.Options
+pub use Rattle.fancy_search.specs.Starts
 pub use Rattle.fancy_search.specs.Compiled
 pub use Rattle.fancy_search.specs.Programs
 pub use Rattle.fancy_search.specs.SearchCounts
 pub use Rattle.fancy_core.specs.Regexes
+pub use Rattle.fancy_core.specs.RegexStarts
 pub use Rattle.fancy_search.specs.Searching
 pub use Rattle.fancy_core.specs.Limited
 pub use Rattle.fancy_core.specs.Searches

@@ -4,15 +4,17 @@ ghost use Rattle.std.specs.Prelude.{◌≡◌, ◌==◌, ◌↔◌, IfOk, IfErr,
 ghost use Rattle.fancy_search.specs.Options.{by_default};
 ghost use Rattle.fancy_core.specs.Built.{IsReading};
 ghost use Rattle.fancy_regex.specs.Builders.{options_of};
-ghost use Rattle.fancy_regex.specs.Sets.{members_of, bytes_of_each, AreReadings, RefusesFirst, HaveOptions, CanSearchAll};
+ghost use Rattle.fancy_regex.specs.Candidates.{AreCandidatesOf};
 
 mod borrowed_text;
+mod candidates;
 mod matched;
 mod matches;
 mod members;
 mod owned_text;
 
 use crate::options::RegexOptionsBuilder;
+use crate::set::candidates::Candidates;
 use fancy_core::regex::Regex;
 use fancy_input::input::Input;
 use fancy_input::regex_input::RegexInput;
@@ -30,9 +32,13 @@ use std::alloc::Global;
 #[derive(Drop)]
 pub struct RegexSet {
     members: Vec<Regex>,
+    candidates: Candidates,
+    ghost listed: { AreCandidatesOf members.items candidates },
 }
 
 impl RegexSet {
+    ghost use Rattle.fancy_regex.specs.Sets.{members_of, bytes_of_each, AreReadings, RefusesFirst, HaveOptions, CanSearchAll};
+
     /// Reads patterns, with the default options. It is refused as [`Regex::new`] refuses the first pattern that it refuses.
     ///
     /// ```text
@@ -65,14 +71,18 @@ impl RegexSet {
             let member = read(alloc, *pattern, options)?;
             members.push(member)?;
         }
-        Ok(RegexSet { members })
+        Ok(RegexSet::from_regexes(members))
     }
 
     /// The set of these regexes, in their order. Each keeps its own options and limits, and no memory is taken.
     pub fn from_regexes(members: Vec<Regex>) -> RegexSet
         ensures { members_of result ≡ members.items }
     {
-        RegexSet { members }
+        let candidates = Candidates::new(&members);
+        RegexSet {
+            members,
+            candidates,
+        }
     }
 
     /// How many patterns the set has.

@@ -8,3 +8,4 @@ pub mod ScanLemmas
 pub mod RemainingLemmas
 pub mod IterationStepLemmas
 pub mod SpelledLemmas
+pub mod StartLemmas

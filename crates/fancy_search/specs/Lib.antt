@@ -10,3 +10,4 @@ pub mod MatchList
 pub mod Remaining
 pub mod Searchers
 pub mod ByteSets
+pub mod Starts

@@ -55,6 +55,7 @@ pub struct Program {
 impl Program {
     ghost use Rattle.fancy_search.specs.SearchCounts.{Counted, CountedUpTo, TriesNothing, IfFound, IsHardProgram, RefusesQuery, AllowsQuery, RefusesAttempt, AllowsAttempt, HasRoomFor, IsStopped, AddsReturns, AddsReturnsUpTo, step_bound, returns_taken};
     ghost use Rattle.fancy_search.specs.Programs.{KeepsCharacters, program_pattern, program_options, program_groups, program_names, program_length, program_is_easy, program_limit, asked_of};
+    ghost use Rattle.fancy_search.specs.Starts.{may_start};
 
     /// Reads a pattern under these options, and compiles it.
     ///
@@ -123,6 +124,20 @@ impl Program {
         ensures short { result ≤ 4 * nodes (program_pattern self.now) + 2 }
     {
         self.code.len()
+    }
+
+    /// Whether a match may start right before this byte, or with `None` at the end of the searched range. Where the answer is
+    /// `false`, no match starts there. A pattern that may hold and consume nothing, or that has a `\K`, may start anywhere.
+    pub fn may_start_before(&self, next: Option<u8>) -> bool
+        ensures { result ≡ may_start (meaning_in (program_options self.now)) (program_pattern self.now) next }
+    {
+        match &self.code.start_bytes {
+            None => true,
+            Some(starts) => match next {
+                None => false,
+                Some(byte) => starts.contains(byte),
+            },
+        }
     }
 
     /// The first match that the request asks for in the bytes of a haystack, with `\G` on or off. Its groups stand in

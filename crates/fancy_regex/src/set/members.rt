@@ -3,11 +3,13 @@
 ghost use Rattle.std.specs.Prelude.{◌≡◌, ◌≤◌, ◌<◌, None, false, IfNone, IfSome, length};
 ghost use Rattle.fancy_input.specs.Inputs.{haystack_in, request_in};
 ghost use Rattle.fancy_input.specs.Requests.{effective_start};
+ghost use Rattle.fancy_regex.specs.Candidates.{OthersFail};
 ghost use Rattle.fancy_regex.specs.SetMembers.{has_answer_at, set_position, NoneBetween};
 ghost use Rattle.fancy_regex.specs.SetAnswers.{IsAnswerOf, IsFirstAnswer, IsFirstOfSet};
 ghost use Rattle.fancy_regex.specs.Sets.{members_of, asked_of_set, CanSearchAll};
 
 use crate::set::RegexSet;
+use crate::set::candidates::Groups;
 use fancy_core::captures::Captures;
 use fancy_input::input::{Haystack, Input};
 use fancy_input::regex_input::RegexInput;
@@ -42,10 +44,11 @@ impl RegexSet {
         }
         // a slice is shorter than 2^63 bytes
         let haystack = input.haystack();
-        let _bytes = haystack.as_bytes();
+        let searched = &haystack.as_bytes()[..request.range_end];
         let last = request.last_position();
         for position in first..last + 1 {
-            if let Some(answer) = self.answer_from(0, input, position, cache) {
+            let groups = self.candidates.at(searched, position);
+            if let Some(answer) = self.answer_among(groups, 0, input, position, cache) {
                 return Some((position, answer));
             }
         }
@@ -68,10 +71,39 @@ impl RegexSet {
         ensures first { IfSome result (λ a. IsFirstAnswer (asked_of_set self.now S.bytes input.now)
             (haystack_in input.now) position from a.index a.answer) }
     {
-        for index in from..self.members.len() {
+        let haystack = input.haystack();
+        let request = input.request();
+        let searched = &haystack.as_bytes()[..request.range_end];
+        let groups = self.candidates.at(searched, position);
+        self.answer_among(groups, from, input, position, cache)
+    }
+
+    /// The first answer at a position of the members from an index on that are in one of these groups. `None` where none of them
+    /// finds anything there.
+    fn answer_among<S: Input>(
+        &self,
+        groups: Groups,
+        from: usize,
+        input: &RegexInput<S>,
+        position: usize,
+        cache: &mut Cache,
+    ) -> Option<MemberAnswer<'_, S>>
+        requires others { OthersFail (asked_of_set self.now S.bytes input.now) position self.now.candidates.width groups }
+        requires searched { CanSearchAll S.text S.bytes self.now input.now }
+        requires starts { effective_start (request_in input.now) ≤ position }
+        requires ends { position ≤ (request_in input.now).range_end }
+        ensures none { IfNone result
+            (NoneBetween (asked_of_set self.now S.bytes input.now) position from (length (members_of self.now))) }
+        ensures first { IfSome result (λ a. IsFirstAnswer (asked_of_set self.now S.bytes input.now)
+            (haystack_in input.now) position from a.index a.answer) }
+    {
+        let count = self.members.len();
+        let mut next = from;
+        'members: while let Some(index) = self.candidates.next_member(groups, next, count) {
             if let Some(answer) = self.answer_of(index, input, position, cache) {
                 return Some(MemberAnswer { index, answer });
             }
+            next = index + 1;
         }
         None
     }

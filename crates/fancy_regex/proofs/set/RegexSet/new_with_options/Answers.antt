@@ -34,4 +34,4 @@ loop-pattern-preserved c =
     (zip_push _ _ _ _ _ c.loop-pattern.invariant c.in_ok-member.ensures)
 
 pub returns-clause-options : goal.returns-clause-options
-returns-clause-options c = readings_have_options _ _ _ c.loop-pattern.invariant
+returns-clause-options c = rw c.from_regexes.ensures (readings_have_options _ _ _ c.loop-pattern.invariant)

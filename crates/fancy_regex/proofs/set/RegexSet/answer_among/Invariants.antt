@@ -1,0 +1,13 @@
+use Rattle.std.proofs.Common.{◌≤◌, ◌-◌}
+use Rattle.fancy_regex.specs.SetMembers.{NoneBetween}
+use Rattle.fancy_regex.specs.Sets.{asked_of_set}
+use Rattle.fancy_regex.proofs.set.RegexSet.answer_among.Given as goal
+
+abbrev pub invariant-members : goal.invariant-members
+invariant-members g l = record {
+  reached : l.from ≤ l.next;
+  none : NoneBetween (asked_of_set l.self g.S.Haystack.bytes l.input) l.position l.from l.next;
+}
+
+abbrev pub decreases-members : goal.decreases-members
+decreases-members g l = l.count - l.next
