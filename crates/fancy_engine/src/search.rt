@@ -136,7 +136,8 @@ pub fn search(
         ≡ search (query_of p code.now (unfiltered options) haystack.now request on)) }
     ensures steps { steps_of work.old ≤ steps_of work.new }
     ensures bounded { steps_of work.new ≤ steps_of work.old + most_steps code.now request }
-    ensures idle { NoneMayStart code.now.start_bytes haystack.now request.range_end (effective_start request) (request.range_end + 1)
+    ensures idle { NoneMayStart code.now.start_bytes haystack.now request.range_end
+        (effective_start request) (request.range_end + 1)
         → steps_of work.new ≡ steps_of work.old }
     ensures returns { returns_of work.old ≤ returns_of work.new }
     ensures paired { returns_of work.new - returns_of work.old ≤ steps_of work.new - steps_of work.old }
