@@ -29,7 +29,7 @@ pub fn undo(slots: &mut Vec<Slot>, log: &mut Vec<Write>, down: usize)
 /// Begins a list of slots anew with so many, none written. They are pushed one by one: most patterns have one or two, for
 /// which a call that fills memory costs more.
 #[tactic(auto, using(std::proofs::lemmas::List::replicate_more))]
-fn begin_slots(slots: &mut Vec<Slot>, count: usize) -> Result<(), AllocError>
+pub fn begin_slots(slots: &mut Vec<Slot>, count: usize) -> Result<(), AllocError>
     ensures { OnOk result (slots.new.items ≡ replicate count empty_slot) }
 {
     slots.clear();

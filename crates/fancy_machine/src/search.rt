@@ -104,10 +104,11 @@ pub fn search(
     }
     let attempt = Attempt::new(code, haystack, request, options, continues);
     let limit = work.returns() + options.backtrack_limit;
+    let seek = options.seek;
     let range_end = request.range_end;
     let last = request.last_position();
     let mut last_lines = LastLines::new(attempt.haystack);
-    let mut place = next_tried(code, haystack, range_end, options.seek, first, last);
+    let mut place = next_tried(code, haystack, range_end, seek, first, last);
     while place <= last {
         let found = try_position(
             &attempt,
@@ -121,7 +122,7 @@ pub fn search(
         if let Some(found) = found {
             return Ok(Some(found));
         }
-        place = next_tried(code, haystack, range_end, options.seek, place + 1, last);
+        place = next_tried(code, haystack, range_end, seek, place + 1, last);
     }
     Ok(None)
 }
@@ -203,6 +204,7 @@ pub fn attempt_at(
 
 /// Makes one attempt at a position, where a match may begin there. No text past `range_end` is consumed, and no return is made
 /// past the limit, which bounds the count in `work`.
+#[inline]
 fn try_position(
     attempts: &Attempt,
     position: usize,

@@ -14,7 +14,7 @@ use crate::layer::{Kind, Layer};
 use fancy_engine::refusal::SearchRefusal;
 use fancy_engine::runner::Next;
 use fancy_engine::slot::{EMPTY, Slot, Write};
-use fancy_engine::threads::undo;
+use fancy_engine::threads::{begin_slots, undo};
 use fancy_engine::work::Work;
 use fancy_input::span::Span;
 use std::alloc::{AllocError, Global};
@@ -176,13 +176,12 @@ impl Trail {
         self.layers.clear();
         self.branches = 0;
         self.log.clear();
-        self.slots.clear();
         self.at = at;
         self.limit = limit;
         self.place = place;
         self.kept = place;
         self.most = most;
-        self.slots.resize(count, EMPTY)
+        begin_slots(&mut self.slots, count)
     }
 
     /// The next instruction.
