@@ -91,6 +91,7 @@ def hflags(o):
     if s=='-': s=''
     if o.find_not_empty: s+='E'
     if o.leftmost_longest: s+='L'
+    if o.seek: s+='S'
     return s
 def line_of(pattern,o,inp,template,limit,both):
     mode={UNICODE:'u',ASCII_MODE:'a',UNICODE_BYTES:'b'}[o.bytes_mode]
@@ -142,6 +143,7 @@ def make(r,gen,og):
     ch={}
     if r.random()<.15: ch['find_not_empty']=True
     if r.random()<.15: ch['leftmost_longest']=True
+    if SEEK and r.random()<.7: ch['seek']=True
     if r.random()<.3: ch['backtrack_limit']=r.choice((0,1,2,3,4,5,6,8,10,20))
     o=replace(o,**ch)
     if r.random()<.75: pattern=gen.faulty() if r.random()<.06 else gen.mutated() if r.random()<.06 else gen.pattern()
@@ -149,7 +151,9 @@ def make(r,gen,og):
     if not needs(pattern)<=set(FEATURES) or '\0' in pattern: return None
     limit=r.choice((0,0,1,2,3,5)); template=r.choice((gen.template,og.template))()
     both=r.random()<.5
-    try: x=Regex(pattern,o)
+    try:
+        x=Regex(pattern,o)
+        if SEEK: x.required=frozenset()
     except Refused as e:
         return {'pattern':pattern,'kind':'refused','kinds':sorted(e.kinds),'exact':e.complete,'unsure':sorted(e.unsure),'line':line_of(pattern,o,Input(b''),template,limit,both)}
     inp=og.input(r,o,gen,x)
@@ -186,10 +190,12 @@ def run(a):
                 out.write(json.dumps({'bad':b,'answer':ans,**c},ensure_ascii=False)+'\n')
     print(json.dumps(n))
 
+SEEK=False
 def main():
+    global SEEK
     a=argparse.ArgumentParser()
     a.add_argument('--probe'); a.add_argument('--seed',type=int,default=1); a.add_argument('--count',type=int,default=1000)
     a.add_argument('--emit'); a.add_argument('--cases'); a.add_argument('--out',default='/tmp/w/api/bad.jsonl')
-    a=a.parse_args()
+    a.add_argument('--seek',action='store_true'); a=a.parse_args(); SEEK=a.seek
     emit(a) if a.emit else run(a)
 if __name__=='__main__': with_big_stack(main)
