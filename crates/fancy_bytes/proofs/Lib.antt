@@ -4,3 +4,4 @@ pub mod ItemLemmas
 pub mod ListLemmas
 pub mod EdgeLemmas
 pub mod ScanLemmas
+pub mod LackLemmas

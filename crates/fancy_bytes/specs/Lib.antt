@@ -5,3 +5,4 @@ pub mod Items
 pub mod Firsts
 pub mod Required
 pub mod Lists
+pub mod Lacks

@@ -2,6 +2,7 @@
 #![tactic(auto)]
 
 pub mod byte_set;
+pub mod lacking;
 pub mod members;
 pub mod required;
 pub mod scan;

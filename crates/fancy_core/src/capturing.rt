@@ -13,6 +13,7 @@ ghost use Rattle.fancy_search.specs.Searching.{Suits, StartsCleanly};
 
 use crate::captures::Captures;
 use crate::regex::Regex;
+use fancy_bytes::byte_set::ByteSet;
 use fancy_engine::work::Work;
 use fancy_input::input::{Input, Request};
 use fancy_input::regex_input::RegexInput;
@@ -127,10 +128,12 @@ impl Regex {
         ensures refused { IfErr result (λ e. Refuses self.now (query self.now (S.bytes haystack) request) e) }
         ensures allowed { IfOk result (λ _. Allows self.now (query self.now (S.bytes haystack) request)) }
     {
+        let mut standing = ByteSet::new();
         let mut work = Work::new();
+        let bytes = haystack.as_bytes();
         let found = self
             .program
-            .search(haystack.as_bytes(), request, true, cache, &mut work)?;
+            .search(bytes, request, true, &mut standing, cache, &mut work)?;
         let Some(found) = found else {
             return Ok(None);
         };

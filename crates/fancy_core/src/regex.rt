@@ -12,6 +12,7 @@ ghost use Rattle.fancy_search.specs.Options.{by_default};
 ghost use Rattle.fancy_search.specs.Programs.{program_pattern, program_options, program_groups, program_names};
 ghost use Rattle.fancy_search.specs.Searching.{Suits, StartsCleanly};
 
+use fancy_bytes::byte_set::ByteSet;
 use fancy_engine::work::Work;
 use fancy_input::input::{Haystack, Input, Request};
 use fancy_input::regex_input::RegexInput;
@@ -226,7 +227,8 @@ impl Regex {
     ///
     /// An easy search takes at most [`Regex::code_len`] steps for each position of the searched text, its end
     /// among them; from a start past the range's end it takes none, and under `RegexOptionsBuilder::seek` none where the bytes
-    /// of the searched text tell that no match begins at any position. It is refused as [`Regex::find_input`] is; a hard
+    /// of the searched text tell that no match begins at any position, or the haystack lacks a byte that each haystack with a match
+    /// has. It is refused as [`Regex::find_input`] is; a hard
     /// search never takes more returns than its limit allows.
     pub fn find_input_counted<S: Input>(
         &self,
@@ -279,9 +281,11 @@ impl Regex {
         ensures most { CountedUpTo self.now.program (query self.now (S.bytes haystack) request) work.old work.new }
     {
         let mut cache = Cache::new(self.allocator());
+        let mut standing = ByteSet::new();
+        let bytes = haystack.as_bytes();
         let found = self
             .program
-            .search(haystack.as_bytes(), request, true, &mut cache, work)?;
+            .search(bytes, request, true, &mut standing, &mut cache, work)?;
         let Some(found) = found else {
             return Ok(None);
         };
@@ -309,11 +313,13 @@ impl Regex {
     {
         let haystack = input.haystack();
         let bytes = haystack.as_bytes();
+        let asked = input.request();
         let mut cache = Cache::new(self.allocator());
+        let mut standing = ByteSet::new();
         let mut work = Work::new();
         let found = self
             .program
-            .search(bytes, input.request(), true, &mut cache, &mut work)?;
+            .search(bytes, asked, true, &mut standing, &mut cache, &mut work)?;
         Ok(found.is_some())
     }
 }

@@ -1,5 +1,5 @@
 -- What stands for a pattern set: its members, what makes them, and what they are asked.
-use Rattle.std.specs.Prelude.{◌≡◌, ℕ, Bool, All, List, Option, Some, Ok, Err, take, slice_get, map}
+use Rattle.std.specs.Prelude.{◌≡◌, ℕ, Bool, All, List, Some, Ok, Err, take, slice_get, map}
 use Rattle.std.specs.List.{AllZip}
 use Rattle.std.specs.Borrow.{Bor}
 use Rattle.fancy_tree.specs.declared.error.Error.{Error}

@@ -1,13 +1,23 @@
 -- What the runner answers is the answer of the search that a program asks for.
-use Rattle.std.proofs.Common.{◌≡◌, ◌≤◌, ◌<◌, ◌+◌, ◌∙◌, ℕ, Bool, false, List, Option, Some, None, IfSome, IsTrue, length, refl, sym, subst, slice_index, true}
+use Rattle.std.proofs.Common.{◌≡◌, ◌≤◌, ◌<◌, ◌+◌, ◌∙◌, ◌&&◌, ◌++◌, [], zero, suc, not, if◌then◌else◌, is_some, ap, ap₂, true≢false, ℕ, Bool, false, List, Option, Some, None, IfSome, IsTrue, length, refl, sym, subst, slice_index, true}
 use Rattle.std.proofs.Math.Logic.{∥∥₁_elim}
 use Rattle.std.proofs.Props.{props}
 use Rattle.fancy_tree.specs.declared.tree.Meaning.{Meaning}
 use Rattle.fancy_bytes.specs.Firsts.{AreStartBytes}
 use Rattle.fancy_engine.specs.Seen.{NoneMayStart}
 use Rattle.fancy_engine.proofs.TriedLemmas.{none_found, none_may_start, not_seeking}
-use Rattle.fancy_search.specs.SearchCounts.{TriesNothing}
-use Rattle.fancy_engine.specs.Search.{Query, Answer, search, attempt}
+use Rattle.fancy_engine.specs.Tried.{tried, NoneTried}
+use Rattle.fancy_bytes.specs.Items.{includes}
+use Rattle.fancy_bytes.specs.Lacks.{includes_all}
+use Rattle.fancy_search.specs.Options.{meaning_in}
+use Rattle.fancy_bytes.specs.Required.{required_bytes}
+use Rattle.fancy_bytes.proofs.BoolLemmas.{some_found, parts_of, and_never}
+use Rattle.fancy_bytes.proofs.LackLemmas.{stands_included, lacks_one}
+use Rattle.fancy_engine.proofs.SkipLemmas.{lacking_is_none}
+use Rattle.fancy_engine.specs.Events.{Event, returns_in}
+use Rattle.fancy_input.specs.Requests.{positions}
+use Rattle.fancy_search.specs.SearchCounts.{TriesNothing, lacks_required, is_hopeless, tried_by, returns_taken}
+use Rattle.fancy_engine.specs.Search.{Query, Answer, search, attempt, answer_at, is_match_boundary, gone_through, gone_from, returns}
 use Rattle.fancy_engine.specs.Queries.{answer_with}
 use Rattle.fancy_engine.specs.declared.found.Found.{Found}
 use Rattle.fancy_search.specs.Cached.{IsCleanlyFound}
@@ -18,7 +28,7 @@ use Rattle.fancy_input.specs.Requests.{effective_start}
 use Rattle.fancy_engine.proofs.AttemptLemmas.{anchored_at, anchored_easy}
 use Rattle.fancy_engine.proofs.ClassifyLemmas.{easy_code}
 use Rattle.fancy_search.specs.declared.program.Program.{Program}
-use Rattle.fancy_search.specs.Programs.{program_options, program_is_easy, asked_of}
+use Rattle.fancy_search.specs.Programs.{program_options, program_pattern, program_is_easy, asked_of}
 use Rattle.fancy_search.proofs.ProgramSizeLemmas.{parts_of_easy}
 use Rattle.fancy_engine.proofs.FoundLemmas.{answer_within, attempt_within}
 
@@ -53,13 +63,76 @@ module _ (q : Query) (p : ℕ) (groups : List (Option Span)) (range : q.request.
   clean_at None on e = tt
   clean_at (Some f) on e = let a = (attempt_within q p _ range to (sym e)).accepted in (a.keeps on, a.ends on)
 
+abbrev no_events : List Event
+no_events = []
+
+either_empty : (b : Bool) → (if b then no_events else no_events) ≡ []
+either_empty true = refl
+either_empty false = refl
+
+-- where a required byte is lacking, nothing is found
+pub lacking_none : (q : Query) → lacks_required q ≡ true → search q ≡ None
+lacking_none q e =
+    let f = some_found 256 (λ b. required_bytes q.sought.meaning q.sought.pattern b && not (includes q.haystack b)) e in
+    let told = parts_of (required_bytes q.sought.meaning q.sought.pattern f.0) (not (includes q.haystack f.0)) f.2 in
+    lacking_is_none q f.0 told.0 (λ s. true≢false (sym told.1 ∙ ap not (stands_included q.haystack f.0 s.place s.there)))
+
+-- what the look for the required bytes tells
+pub lacking_as_told : (r : Program) (haystack : List ℕ) (request : Request) (on : Bool) → not (includes_all haystack r.required) ≡ lacks_required (asked_of r haystack request on)
+lacking_as_told r haystack request on = lacks_one (required_bytes (meaning_in (program_options r)) (program_pattern r)) haystack r.required r.needed
+
+both_are : (a b : Bool) → a ≡ true → b ≡ true → (a && b) ≡ true
+both_are true b e f = f
+both_are false b e f = absurd (true≢false (sym e))
+
+-- a pattern that does not seek is never hopeless
+pub not_hopeless : (r : Program) (q : Query) → (program_options r).seek ≡ false → is_hopeless r q ≡ false
+not_hopeless r q e = ap (λ (b : Bool). b && lacks_required q) e
+
+-- nor one whose required bytes stand
+pub stands_all : (r : Program) (q : Query) → lacks_required q ≡ false → is_hopeless r q ≡ false
+stands_all r q e = ap (λ (b : Bool). (program_options r).seek && b) e ∙ and_never (program_options r).seek
+
+pub hopeless : (r : Program) (q : Query) → (program_options r).seek ≡ true → lacks_required q ≡ true → is_hopeless r q ≡ true
+hopeless r q e f = both_are (program_options r).seek (lacks_required q) e f
+
+denied : (b c : Bool) → (b ≡ true → c ≡ true) → c ≡ false → b ≡ false
+denied true c to e = absurd (true≢false (sym (to refl) ∙ e))
+denied false c to e = refl
+
+pub unlooked : (r : Program) (looks : Bool) → ((program_options r).seek ≡ true → looks ≡ true) → looks ≡ false → (program_options r).seek ≡ false
+unlooked r looks to e = denied (program_options r).seek looks to e
+
+-- a search that is not hopeless tries the positions where a match may begin
+pub tried_all : (r : Program) (q : Query) → is_hopeless r q ≡ false → tried_by r q ≡ tried (program_options r).seek q
+tried_all r q e = ap (λ (b : Bool). λ (p : ℕ). not b && tried (program_options r).seek q p) e
+
+pub none_tried_in : (r : Program) (q : Query) → is_hopeless r q ≡ false → TriesNothing r q → NoneTried (program_options r).seek q
+unfolding TriesNothing
+none_tried_in r q e none p from to = ap (λ (b : Bool). not b && tried (program_options r).seek q p) (sym e) ∙ none p from to
+
+-- and one that is tries none
+pub tried_none : (r : Program) (q : Query) → is_hopeless r q ≡ true → tried_by r q ≡ (λ p. false)
+tried_none r q e = ap (λ (b : Bool). λ (p : ℕ). not b && tried (program_options r).seek q p) e
+
+gone_none : (q : Query) (n p : ℕ) → gone_from q (λ k. false) n p ≡ []
+unfolding gone_from
+gone_none q zero p = refl
+gone_none q (suc n) p =
+    ap₂ (λ (b : Bool) (es : List Event). (if b then gone_through q p else []) ++ (if is_some (answer_at q p) then [] else es))
+    (and_never (is_match_boundary q.sought.on_boundaries q.haystack p)) (gone_none q n (p + 1))
+    ∙ either_empty (is_some (answer_at q p))
+
+pub no_returns : (r : Program) (q : Query) → is_hopeless r q ≡ true → returns_taken r q ≡ 0
+no_returns r q e = ap (returns q) (tried_none r q e) ∙ ap returns_in (gone_none q (positions q.request) (effective_start q.request))
+
 -- an answer of a search that tries no position is none
-pub none_tried : (r : Program) (q : Query) (groups : List (Option Span)) → TriesNothing r q → (m : Option Found) → answer_with groups m ≡ search q → m ≡ None
-none_tried r q groups none None e = refl
-none_tried r q groups none (Some f) e = let no : Some _ ≡ None = e ∙ none_found (program_options r).seek q none in cc
+pub none_tried : (r : Program) (q : Query) (groups : List (Option Span)) → is_hopeless r q ≡ false → TriesNothing r q → (m : Option Found) → answer_with groups m ≡ search q → m ≡ None
+none_tried r q groups hopeful none None e = refl
+none_tried r q groups hopeful none (Some f) e = let no : Some _ ≡ None = e ∙ none_found (program_options r).seek q (none_tried_in r q hopeful none) in cc
 
 -- where an easy program tries no position, no match may start at any
-pub nowhere : (r : Program) (haystack : List ℕ) (request : Request) (on : Bool) (before after : ℕ) → ((k : ℕ) → slice_index haystack k < 256) → TriesNothing r (asked_of r haystack request on)
+pub nowhere : (r : Program) (haystack : List ℕ) (request : Request) (on : Bool) (before after : ℕ) → ((k : ℕ) → slice_index haystack k < 256) → NoneTried (program_options r).seek (asked_of r haystack request on)
     → (NoneMayStart r.code.start_bytes haystack request.range_end (effective_start request) (request.range_end + 1) → after ≡ before) → after ≡ before
 nowhere r haystack request on before after bytes none idle =
     ∥∥₁_elim r.compiled (hlevel props) (λ compiled.

@@ -1,5 +1,7 @@
 -- What a search may be refused for, and what it counts.
-use Rattle.std.specs.Prelude.{◌≡◌, ℕ, ◌+◌, ◌-◌, ◌*◌, ◌<◌, ◌≤◌, Bool, Result, Option, Err, IfOk, IfSome, false}
+use Rattle.std.specs.Prelude.{◌≡◌, ℕ, ◌+◌, ◌-◌, ◌*◌, ◌<◌, ◌≤◌, Bool, not, ◌&&◌, Result, Option, Err, IfOk, IfSome, false}
+use Rattle.fancy_bytes.specs.Lacks.{lacks_some}
+use Rattle.fancy_bytes.specs.Required.{required_bytes}
 use Rattle.fancy_tree.specs.Limits.{most_branches}
 use Rattle.fancy_tree.specs.declared.error.Error.{Error}
 use Rattle.fancy_tree.specs.declared.error.Error.TheVariants.{Memory, ParseError, CompileError, RuntimeError}
@@ -9,7 +11,7 @@ use Rattle.fancy_input.specs.declared.input.Request.{Request}
 use Rattle.fancy_input.specs.Requests.{effective_start}
 use Rattle.fancy_engine.specs.declared.work.Work.{Work}
 use Rattle.fancy_engine.specs.Work.{steps_of, returns_of, HasRoom}
-use Rattle.fancy_engine.specs.Tried.{tried, NoneTried}
+use Rattle.fancy_engine.specs.Tried.{tried}
 use Rattle.fancy_engine.specs.Search.{Query, returns, choices, returns_at, choices_at}
 use Rattle.fancy_search.specs.declared.program.Program.{Program}
 use Rattle.fancy_search.specs.Programs.{program_options, program_is_easy, program_length, program_limit}
@@ -18,13 +20,21 @@ use Rattle.fancy_search.specs.Programs.{program_options, program_is_easy, progra
 abbrev pub IsHardProgram : Program → Type 0
 IsHardProgram r = program_is_easy r ≡ false
 
--- the positions that a search with the program tries: under `seek` those where a match may begin, as the first bytes tell, and else all
+-- a byte that the pattern requires stands nowhere in the haystack
+abbrev pub lacks_required : Query → Bool
+lacks_required q = lacks_some (required_bytes q.sought.meaning q.sought.pattern) q.haystack
+
+-- the search is for a pattern that seeks, and the haystack lacks a byte that the pattern requires
+abbrev pub is_hopeless : Program → Query → Bool
+is_hopeless r q = (program_options r).seek && lacks_required q
+
+-- The positions that a search with the program tries. Under `seek` they are those where a match may begin, as the first bytes tell, and none where the haystack lacks a required byte; else all.
 abbrev pub tried_by : Program → Query → ℕ → Bool
-tried_by r q = tried (program_options r).seek q
+tried_by r q p = not (is_hopeless r q) && tried (program_options r).seek q p
 
 -- no position of the search is tried
-abbrev pub TriesNothing : Program → Query → Type 0
-TriesNothing r q = NoneTried (program_options r).seek q
+unfoldable pub TriesNothing : Program → Query → Type 0
+TriesNothing r q = (p : ℕ) → effective_start q.request ≤ p → p ≤ q.request.range_end → tried_by r q p ≡ false
 
 -- how many returns the search takes
 abbrev pub returns_taken : Program → Query → ℕ

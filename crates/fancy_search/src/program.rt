@@ -11,6 +11,9 @@ ghost use Rattle.fancy_engine.specs.Code.{code_len, instrs_of};
 ghost use Rattle.fancy_engine.specs.Compile.{is_easy, are_easy};
 ghost use Rattle.fancy_engine.specs.Placed.{has_raw_byte, has_keep_start_in_look_around};
 ghost use Rattle.fancy_engine.specs.Work.{steps_of, returns_of};
+ghost use Rattle.fancy_engine.specs.Tried.{NoneTried};
+ghost use Rattle.fancy_engine.specs.Search.{search};
+ghost use Rattle.fancy_bytes.specs.Lacks.{AllStand, AreRequired};
 ghost use Rattle.fancy_search.specs.Compiled.{IsCompiled, IsSpelled};
 ghost use Rattle.fancy_search.specs.Options.{meaning_in, dialect_of, is_easy_under};
 ghost use Rattle.fancy_search.specs.ProgramSize.{IsRefusedUnder, RefusesPattern, passes};
@@ -18,6 +21,8 @@ ghost use Rattle.fancy_search.specs.Cached.{IsAnswerIn, IsAttemptIn, IsCleanlyFo
 
 use crate::cache::{Cache, Engine};
 use crate::options::Options;
+use fancy_bytes::byte_set::ByteSet;
+use fancy_bytes::lacking::RequiredBytes;
 use fancy_engine::code::Code;
 use fancy_engine::compile::compile;
 use fancy_engine::found::Found;
@@ -43,17 +48,20 @@ pub struct Program {
     code: Code,
     names: Vec<GroupName>,
     easy: bool,
+    /// The bytes that every haystack with a match has.
+    required: RequiredBytes,
     pub ghost compiled: { ∥ IsCompiled (pattern_of tree) code (named_groups names.items) ∥₁ },
     ghost meant: { code.meaning ≡ meaning_in options },
     ghost short: { code_len code ≤ 4 * nodes (pattern_of tree) + 2 },
     ghost decided: { easy ≡ is_easy_under options (pattern_of tree) },
     ghost light: { is_easy (pattern_of tree) ≡ true → are_easy (instrs_of code) ≡ true },
     ghost starts: { has_keep_start_in_look_around (pattern_of tree) ≡ false },
+    ghost needed: { AreRequired (meaning_in options) (pattern_of tree) required },
     ghost whole: { keeps_characters options.bytes_mode ≡ true → has_raw_byte (pattern_of tree) ≡ false },
 }
 
 impl Program {
-    ghost use Rattle.fancy_search.specs.SearchCounts.{Counted, CountedUpTo, TriesNothing, IfFound, IsHardProgram, RefusesQuery, AllowsQuery, RefusesAttempt, AllowsAttempt, HasRoomFor, IsStopped, AddsReturns, AddsReturnsUpTo, step_bound, returns_taken};
+    ghost use Rattle.fancy_search.specs.SearchCounts.{Counted, CountedUpTo, TriesNothing, is_hopeless, IfFound, IsHardProgram, RefusesQuery, AllowsQuery, RefusesAttempt, AllowsAttempt, HasRoomFor, IsStopped, AddsReturns, AddsReturnsUpTo, step_bound, returns_taken};
     ghost use Rattle.fancy_search.specs.Programs.{KeepsCharacters, program_pattern, program_options, program_groups, program_names, program_length, program_is_easy, program_limit, asked_of};
     ghost use Rattle.fancy_search.specs.Starts.{may_start};
 
@@ -80,12 +88,14 @@ impl Program {
         if options.forbids(easy, code.len()) {
             return Err(Error::CompileError(CompileError::PatternTooComplex));
         }
+        let required = RequiredBytes::new(alloc, &tree, options.meaning())?;
         Ok(Program {
             options,
             tree,
             code,
             names,
             easy,
+            required,
         })
     }
 
@@ -144,7 +154,9 @@ impl Program {
     /// `cache` then.
     ///
     /// Under `seek` positions are passed over where no match begins, as the first bytes tell, and no step is taken where none is
-    /// left.
+    /// left, or where the haystack lacks a byte that every haystack with a match has. The bytes in `standing` are known to stand
+    /// in the haystack, and those that were looked for and found are added to them, so that the searches of a list look for each
+    /// once.
     ///
     /// It is refused where memory runs out (`Memory`), and for a hard pattern past a limit: as
     /// `RuntimeError(BacktrackLimitExceeded)` or `RuntimeError(StackOverflow)`.
@@ -153,11 +165,14 @@ impl Program {
         haystack: &[u8],
         request: Request,
         continues: bool,
+        standing: &mut ByteSet,
         cache: &mut Cache,
         work: &mut Work,
     ) -> Result<Option<Found>>
         requires inside { request.range_end ≤ length haystack.now }
         requires room { HasRoomFor self.now request work.old }
+        requires standing { AllStand standing.old haystack.now }
+        ensures standing { AllStand standing.new haystack.now }
         ensures answer { IfOk result (λ m. IsAnswerIn m cache.new (asked_of self.now haystack.now request continues)) }
         ensures ordered { IfFound result (λ f. f.start ≤ f.end) }
         ensures inside { IfFound result (λ f. f.end ≤ request.range_end) }
@@ -179,10 +194,40 @@ impl Program {
         ensures refused { IfErr result (RefusesQuery self.now (asked_of self.now haystack.now request continues)) }
         ensures allowed { IfOk result (λ _. AllowsQuery self.now (asked_of self.now haystack.now request continues)) }
     {
+        if self.is_hopeless(haystack, request, standing) {
+            return Ok(None);
+        }
         if self.easy {
             return self.run(haystack, request, cache, work);
         }
         self.backtrack(haystack, request, continues, cache, work)
+    }
+
+    /// Whether a byte that the pattern requires was looked for, and does not stand in the haystack: then nothing is found. The bytes
+    /// in `standing` are known to stand there, and those that were found are added.
+    fn is_hopeless(&self, haystack: &[u8], request: Request, standing: &mut ByteSet) -> bool
+        requires standing { AllStand standing.old haystack.now }
+        ensures standing { AllStand standing.new haystack.now }
+        ensures none { result ≡ true → (on : Bool) → search (asked_of self.now haystack.now request on) ≡ None }
+        ensures seeks { result ≡ false → (on : Bool) → is_hopeless self.now (asked_of self.now haystack.now request on) ≡ false }
+        ensures hard { IsHardProgram self.now → result ≡ true
+            → (on : Bool) → is_hopeless self.now (asked_of self.now haystack.now request on) ≡ true }
+    {
+        let start = request.effective_start();
+        self.looks_for_required(haystack, request)
+            && self.required.are_lacking(haystack, start, standing)
+    }
+
+    /// Whether a search begins with a look for the bytes that the pattern requires: where it seeks, and for an easy pattern also
+    /// where all of the haystack is searched.
+    fn looks_for_required(&self, haystack: &[u8], request: Request) -> bool
+        ensures seeks { (program_options self.now).seek ≡ true → result ≡ true }
+        ensures unasked { IsHardProgram self.now → result ≡ (program_options self.now).seek }
+    {
+        let searches_all = !request.anchored
+            && request.effective_start() == 0
+            && request.range_end == haystack.len();
+        self.options.seek || (self.easy && searches_all)
     }
 
     /// The match that an attempt at one position finds, from the effective start of the request on, with `\G` on: it may hold
@@ -238,7 +283,7 @@ impl Program {
         requires room { HasRoomFor self.now request work.old }
         ensures answer { IfOk result (λ m. (on : Bool) → IsAnswerIn m cache.new (asked_of self.now haystack.now request on)) }
         ensures steps { steps_of work.old ≤ steps_of work.new }
-        ensures idle { (on : Bool) → TriesNothing self.now (asked_of self.now haystack.now request on)
+        ensures idle { (on : Bool) → NoneTried (program_options self.now).seek (asked_of self.now haystack.now request on)
             → steps_of work.new ≡ steps_of work.old }
         ensures bounded { steps_of work.new ≤ steps_of work.old + step_bound self.now request }
         ensures returns { returns_of work.old ≤ returns_of work.new }
@@ -267,10 +312,11 @@ impl Program {
         requires inside { request.range_end ≤ length haystack.now }
         requires of { p ≡ program_pattern self.now }
         requires hard { IsHardProgram self.now }
+        requires hopeful { is_hopeless self.now (asked_of self.now haystack.now request continues) ≡ false }
         requires room { HasRoomFor self.now request work.old }
         ensures answer { IfOk result (λ m. IsAnswerIn m cache.new (asked_of self.now haystack.now request continues)) }
         ensures steps { steps_of work.old ≤ steps_of work.new }
-        ensures idle { TriesNothing self.now (asked_of self.now haystack.now request continues)
+        ensures idle { NoneTried (program_options self.now).seek (asked_of self.now haystack.now request continues)
             → steps_of work.new ≡ steps_of work.old }
         ensures returns { returns_of work.old ≤ returns_of work.new }
         ensures paired { returns_of work.new ≤ steps_of work.new }

@@ -4,11 +4,13 @@ ghost use Rattle.std.specs.Prelude.{◌≡◌, ◌≤◌, ◌<◌, ◌+◌, ◌^
 ghost use Rattle.fancy_input.specs.Inputs.{haystack_in, request_in};
 ghost use Rattle.fancy_input.specs.Places.{is_boundary};
 ghost use Rattle.fancy_search.specs.Programs.{program_options};
+ghost use Rattle.fancy_bytes.specs.Lacks.{AllStand};
 ghost use Rattle.fancy_search.specs.Searching.{Suits};
 ghost use Rattle.fancy_search.specs.Remaining.{item_in, EndsUnlessOk, IfItem, IfRefusal};
 
 use crate::cache::Cache;
 use crate::program::Program;
+use fancy_bytes::byte_set::ByteSet;
 use fancy_engine::found::Found;
 use fancy_engine::work::Work;
 use fancy_input::input::{Haystack, Input, Request};
@@ -40,9 +42,12 @@ pub struct Searcher<S: Haystack> {
     // whether an empty match at the start is passed over
     skips_empty: bool,
     ended: bool,
+    // bytes that were looked for in the haystack, and found
+    standing: ByteSet,
     pub ghost ordered: { request.range_start ≤ request.range_end },
     pub ghost inside: { request.range_end ≤ length (S.bytes haystack) },
     pub ghost short: { length (S.bytes haystack) < 2 ^ 63 },
+    pub ghost stands: { AllStand standing (S.bytes haystack) },
 }
 
 impl<S: Input> Searcher<S> {
@@ -65,6 +70,7 @@ impl<S: Input> Searcher<S> {
             continues: true,
             skips_empty: false,
             ended: false,
+            standing: ByteSet::new(),
         }
     }
 
@@ -90,73 +96,79 @@ impl<S: Input> Searcher<S> {
             .continue_from_previous_match_end(request.continues)
     }
 
-    /// The same iteration with its next search from `start`.
-    fn at(&self, start: usize, continues: bool, skips_empty: bool) -> Searcher<S>
-        ensures haystack { result.haystack ≡ self.now.haystack }
-        ensures request { result.request ≡ record self.now.request { start = start } }
-        ensures continues { result.continues ≡ continues }
-        ensures skips_empty { result.skips_empty ≡ skips_empty }
-        ensures ended { result.ended ≡ false }
+    /// Has the next search start at `start`.
+    fn go_to(&mut self, start: usize, continues: bool, skips_empty: bool)
+        ensures haystack { self.new.haystack ≡ self.old.haystack }
+        ensures request { self.new.request ≡ record self.old.request { start = start } }
+        ensures continues { self.new.continues ≡ continues }
+        ensures skips_empty { self.new.skips_empty ≡ skips_empty }
+        ensures ended { self.new.ended ≡ self.old.ended }
     {
-        let mut request = self.request;
-        request.start = start;
-        Searcher {
-            haystack: self.haystack,
-            request,
-            continues,
-            skips_empty,
-            ended: false,
-        }
+        self.request.start = start;
+        self.continues = continues;
+        self.skips_empty = skips_empty;
     }
 
-    /// The iteration from the place after `end`, where an empty match stands.
-    fn past(&self, end: usize, continues: bool) -> Searcher<S>
-        requires inside { end ≤ length (S.bytes self.now.haystack) }
-        requires place { S.text self.now.haystack ≡ true → IsTrue (is_boundary (S.bytes self.now.haystack) end) }
-        ensures haystack { result.haystack ≡ self.now.haystack }
-        ensures request { result.request ≡ record self.now.request { start = place_after S.text S.bytes self.now end } }
-        ensures continues { result.continues ≡ continues }
-        ensures skips_empty { result.skips_empty ≡ false }
-        ensures ended { result.ended ≡ false }
-        ensures later { end < result.request.start }
+    /// Has the next search start at the place after `end`, where an empty match stands.
+    fn go_past(&mut self, end: usize, continues: bool)
+        requires inside { end ≤ length (S.bytes self.old.haystack) }
+        requires place { S.text self.old.haystack ≡ true → IsTrue (is_boundary (S.bytes self.old.haystack) end) }
+        ensures haystack { self.new.haystack ≡ self.old.haystack }
+        ensures request { self.new.request ≡ record self.old.request { start = place_after S.text S.bytes self.old end } }
+        ensures continues { self.new.continues ≡ continues }
+        ensures skips_empty { self.new.skips_empty ≡ false }
+        ensures ended { self.new.ended ≡ self.old.ended }
+        ensures later { end < self.new.request.start }
     {
         let next = self.haystack.advance_position(end);
-        self.at(next, continues, false)
+        self.go_to(next, continues, false);
     }
 
-    /// The iteration that goes on after an item.
-    fn after(&self, item: FoundItem) -> Searcher<S>
-        requires span { IsCutOut S.text S.bytes self.now item }
-        ensures haystack { result.haystack ≡ self.now.haystack }
-        ensures request { result.request ≡ record self.now.request { start = result.request.start } }
-        ensures continues { result.continues ≡ not (nat_eq item.found.start item.found.end && nat_eq item.from item.found.end) }
-        ensures skips_empty { result.skips_empty ≡ not (nat_eq item.found.start item.found.end) }
-        ensures ended { result.ended ≡ false }
-        ensures moved { item.found.end ≤ result.request.start }
-        ensures stands { result.request.start ≡ start_after S.text S.bytes self.now item }
+    /// Goes on after an item.
+    fn go_after(&mut self, item: FoundItem)
+        requires span { IsCutOut S.text S.bytes self.old item }
+        ensures haystack { self.new.haystack ≡ self.old.haystack }
+        ensures request { self.new.request ≡ record self.old.request { start = self.new.request.start } }
+        ensures continues { self.new.continues ≡ not (nat_eq item.found.start item.found.end && nat_eq item.from item.found.end) }
+        ensures skips_empty { self.new.skips_empty ≡ not (nat_eq item.found.start item.found.end) }
+        ensures ended { self.new.ended ≡ self.old.ended }
+        ensures moved { item.found.end ≤ self.new.request.start }
+        ensures stands { self.new.request.start ≡ start_after S.text S.bytes self.old item }
     {
         let found = item.found;
         if found.start == found.end {
-            self.past(found.end, item.from != found.end)
+            self.go_past(found.end, item.from != found.end);
         } else {
-            self.at(found.end, true, true)
+            self.go_to(found.end, true, true);
         }
     }
 
     /// The answer of the next search.
     #[tactic(auto, unfolding(crate::specs::MatchList::answer))]
-    fn answer(&self, program: &Program, cache: &mut Cache) -> Result<Option<FoundItem>>
-        requires suits { Suits (program_options program.now) (S.text self.now.haystack) (S.bytes self.now.haystack) }
-        ensures value { IfOk result (λ o. option_map (item_in cache.new) o ≡ answer_next S.text S.bytes program.now self.now) }
-        ensures placed { IfOk result (λ o. IfSome o (λ i. IsCutOut S.text S.bytes self.now i)) }
-        ensures after { IfOk result (λ o. IfSome o (λ i. self.now.request.start ≤ i.found.start)) }
-        ensures groups { IfOk result (λ o. IfSome o (λ i. HasGroupsOf S.text S.bytes self.now i cache.new)) }
-        ensures refused { IfErr result (λ e. RefusesAnswer S.bytes program.now self.now e) }
+    fn answer(&mut self, program: &Program, cache: &mut Cache) -> Result<Option<FoundItem>>
+        requires suits { Suits (program_options program.now) (S.text self.old.haystack) (S.bytes self.old.haystack) }
+        ensures value { IfOk result (λ o. option_map (item_in cache.new) o ≡ answer_next S.text S.bytes program.now self.old) }
+        ensures placed { IfOk result (λ o. IfSome o (λ i. IsCutOut S.text S.bytes self.old i)) }
+        ensures after { IfOk result (λ o. IfSome o (λ i. self.old.request.start ≤ i.found.start)) }
+        ensures groups { IfOk result (λ o. IfSome o (λ i. HasGroupsOf S.text S.bytes self.old i cache.new)) }
+        ensures haystack { self.new.haystack ≡ self.old.haystack }
+        ensures request { self.new.request ≡ self.old.request }
+        ensures continues { self.new.continues ≡ self.old.continues }
+        ensures skips_empty { self.new.skips_empty ≡ self.old.skips_empty }
+        ensures ended { self.new.ended ≡ self.old.ended }
+        ensures refused { IfErr result (λ e. RefusesAnswer S.bytes program.now self.old e) }
     {
         let from = self.request.effective_start();
         let mut work = Work::new();
         let bytes = self.haystack.as_bytes();
-        let found = program.search(bytes, self.request, self.continues, cache, &mut work)?;
+        let found = program.search(
+            bytes,
+            self.request,
+            self.continues,
+            &mut self.standing,
+            cache,
+            &mut work,
+        )?;
         let Some(found) = found else {
             return Ok(None);
         };
@@ -188,7 +200,7 @@ impl<S: Input> Searcher<S> {
         let start = self.request.start;
         let found = item.found;
         if self.skips_empty && found.start == found.end && found.end == start {
-            *self = self.past(found.end, false);
+            self.go_past(found.end, false);
             return self.answer(program, cache);
         }
         Ok(Some(item))
@@ -217,7 +229,7 @@ impl<S: Input> Searcher<S> {
         }
         match self.upcoming(program, cache) {
             Ok(Some(item)) => {
-                *self = self.after(item);
+                self.go_after(item);
                 Some(Ok(item))
             }
             Ok(None) => {

@@ -48,6 +48,7 @@ invariant_of-result c = record {
   decided = c.is_easy-easy.ensures;
   light = c.in_ok-code.ensures.easy;
   starts = kept_accepted (c.in_ok-tree.ensures.accepted.0);
+  needed = rw (sym c.meaning-2.ensures) c.in_ok-required.ensures;
   whole = λ e. bytes_accepted (ap (λ (o : DialectOptions). o.keeps_characters) c.parse_options.ensures ∙ e) (c.in_ok-tree.ensures.accepted.0);
 }
 

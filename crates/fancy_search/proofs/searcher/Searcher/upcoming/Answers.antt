@@ -1,4 +1,4 @@
-use Rattle.std.proofs.Common.{rules, refl}
+use Rattle.std.proofs.Common.{rules, refl, sym, ◌∙◌}
 use Rattle.fancy_search.specs.Remaining.{item_in}
 use Rattle.fancy_search.proofs.ResultLemmas.{if_err}
 use Rattle.fancy_search.proofs.IterationStepLemmas.{passes, refuses_passed}
@@ -6,11 +6,11 @@ use Rattle.fancy_search.proofs.searcher.Searcher.upcoming.Goals as goal
 
 pub returns-then-found-start-clause-value : goal.returns-then-found-start-clause-value
 returns-then-found-start-clause-value g c =
-    let e = passes g.S.Haystack.text g.S.Haystack.bytes c.args.program.now c.args.self.now.haystack c.past.result.haystack c.args.self.now.request c.past.result.request c.args.self.now.skips_empty c.args.self.now.continues c.past.result.continues (item_in c.answer.new.cache c.in-Some.item) c.in-Some.item.found.start c.in-Some.item.found.end c.past.ensures.haystack (search rules) c.if-self.true refl refl (search rules) (search rules) c.past.ensures.request c.past.ensures.continues in
+    let e = passes g.S.Haystack.text g.S.Haystack.bytes c.args.program.now c.args.self.now.haystack c.go_past.new.self.haystack c.args.self.now.request c.go_past.new.self.request c.args.self.now.skips_empty c.args.self.now.continues c.go_past.new.self.continues (item_in c.answer.new.cache c.in-Some.item) c.in-Some.item.found.start c.in-Some.item.found.end (c.go_past.ensures.haystack ∙ c.answer.ensures.haystack) (search rules) (sym c.answer.ensures.skips_empty ∙ c.if-self.true) refl refl (search rules) (search rules) (rw (c.answer.ensures.haystack, c.answer.ensures.request) at c.go_past.ensures.request) c.go_past.ensures.continues in
     rw (← e) c.answer-then-found-start.ensures.value
 
 pub returns-then-found-start-clause-refused : goal.returns-then-found-start-clause-refused
 returns-then-found-start-clause-refused g c =
     if_err _ _
-    (refuses_passed g.S.Haystack.text g.S.Haystack.bytes c.args.program.now c.args.self.now.haystack c.past.result.haystack c.args.self.now.request c.past.result.request c.args.self.now.skips_empty c.args.self.now.continues c.past.result.continues (item_in c.answer.new.cache c.in-Some.item) c.in-Some.item.found.start c.in-Some.item.found.end c.past.ensures.haystack (search rules) c.if-self.true refl refl (search rules) (search rules) c.past.ensures.request c.past.ensures.continues)
+    (refuses_passed g.S.Haystack.text g.S.Haystack.bytes c.args.program.now c.args.self.now.haystack c.go_past.new.self.haystack c.args.self.now.request c.go_past.new.self.request c.args.self.now.skips_empty c.args.self.now.continues c.go_past.new.self.continues (item_in c.answer.new.cache c.in-Some.item) c.in-Some.item.found.start c.in-Some.item.found.end (c.go_past.ensures.haystack ∙ c.answer.ensures.haystack) (search rules) (sym c.answer.ensures.skips_empty ∙ c.if-self.true) refl refl (search rules) (search rules) (rw (c.answer.ensures.haystack, c.answer.ensures.request) at c.go_past.ensures.request) c.go_past.ensures.continues)
     c.answer-then-found-start.result c.answer-then-found-start.ensures.refused

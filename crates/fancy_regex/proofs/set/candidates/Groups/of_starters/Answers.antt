@@ -1,8 +1,6 @@
-use Rattle.std.proofs.Common.{◌≡◌, ◌∙◌, ℕ, refl, sym, subst, arith}
+use Rattle.std.proofs.Common.{◌∙◌, refl, sym}
 use Rattle.std.proofs.lemmas.Option.{slice_get_read}
-use Rattle.fancy_regex.specs.declared.set.candidates.Groups.{Groups}
-use Rattle.fancy_regex.specs.Candidates.{HoldOnly}
-use Rattle.fancy_regex.proofs.CandidateLemmas.{HoldFirst, one_passed, one_taken, only_taken, hold_all}
+use Rattle.fancy_regex.proofs.CandidateLemmas.{one_passed, one_taken, only_taken, hold_all}
 use Rattle.fancy_regex.proofs.set.candidates.Groups.of_starters.Goals as goal
 use Rattle.fancy_regex.proofs.set.candidates.Groups.of_starters.Goals.{then-may_start_before, else-may_start_before}
 
