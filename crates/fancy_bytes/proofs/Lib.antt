@@ -5,3 +5,4 @@ pub mod ListLemmas
 pub mod EdgeLemmas
 pub mod ScanLemmas
 pub mod LackLemmas
+pub mod OpeningLemmas

@@ -3,6 +3,7 @@
 
 pub mod byte_set;
 pub mod lacking;
+pub mod literal;
 pub mod members;
 pub mod required;
 pub mod scan;

@@ -16,7 +16,7 @@ use Rattle.fancy_engine.proofs.EventLemmas.{EachOutcome-bind, EachOutcome-guarde
 use Rattle.fancy_engine.proofs.ForwardLemmas.{EachOutcome_imp, LeadsOn-by_kind}
 use Rattle.fancy_bytes.specs.Items.{only, first_of_items}
 use Rattle.fancy_bytes.specs.Firsts.{nullable, first_bytes, has_no_turn}
-use Rattle.fancy_engine.specs.Seen.{SeesByte, SeesBefore, BeginsBy}
+use Rattle.fancy_engine.specs.Seen.{SeesBefore, BeginsBy}
 use Rattle.fancy_bytes.proofs.BoolLemmas.{first_holds, second_holds, both_hold, parts_of, not_both}
 use Rattle.fancy_engine.proofs.Past.{item_beyond, byte_beyond, recall_beyond}
 use Rattle.fancy_engine.proofs.SeenLemmas.{past_item-has, item_begins, past_byte-here, backreference-past}
@@ -106,7 +106,7 @@ stays_without_turn : (F : ℕ → Type 0) (greedy : Bool) (limit low : ℕ) (hig
     Starts F (low ≡ 0) (repeated greedy limit low high body)
 stays_without_turn F greedy limit low high body none s = rw (none.0, none.1) (inl (refl, refl), tt)
 
-moved_within : (P : State → Type 0) (limit : ℕ) (s : State) (past : Option ℕ) → ((q : ℕ) → past ≡ Some q → q ≤ limit → P (moved_to s q)) → EachOutcome P (move limit s past)
+pub moved_within : (P : State → Type 0) (limit : ℕ) (s : State) (past : Option ℕ) → ((q : ℕ) → past ≡ Some q → q ≤ limit → P (moved_to s q)) → EachOutcome P (move limit s past)
 moved_within P limit s None to = tt
 moved_within P limit s (Some q) to = EachOutcome-only_if P (nat_le q limit) _ (λ e. (to q refl (leb-true q limit e), tt))
 

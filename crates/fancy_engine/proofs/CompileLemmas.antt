@@ -1,8 +1,9 @@
 -- What one more piece of code makes of what was emitted before.
-use Rattle.std.proofs.Common.{◌≡◌, ℕ, ◌+◌, ◌^◌, ◌<◌, ◌≤◌, Bool, true, false, ◌&&◌, List, [], ◌∷◌, length, map, drop, get_or, sum_by, Option, Some, None, Vec, Global, refl, sym, ap, ◌∙◌, subst, arith, add-one, ◌⊎◌, inl, inr}
+use Rattle.std.proofs.Common.{◌≡◌, ℕ, ◌+◌, ◌^◌, ◌<◌, ◌≤◌, Bool, true, false, ◌&&◌, List, [], ◌∷◌, length, map, drop, get_or, sum_by, Option, Some, None, IfSome, Vec, Global, refl, sym, ap, ◌∙◌, subst, arith, add-one, ◌⊎◌, inl, inr}
 use Rattle.std.specs.Prelude.{slice_set}
 use Rattle.std.proofs.lemmas.List.{length-map, get_or-map}
 use Rattle.std.proofs.lemmas.List.Sums.{sum_by-cons, get_or-le-sum_by}
+use Rattle.fancy_bytes.specs.Openings.{opening}
 use Rattle.fancy_tree.specs.declared.tree.Meaning.{Meaning}
 use Rattle.fancy_tree.specs.declared.tree.Tree.{Tree}
 use Rattle.fancy_tree.specs.declared.tree.Tree.TheVariants.{Member, InAnyCase, Concat, Alternation}
@@ -256,3 +257,7 @@ pub set_emitted : (m : Meaning) (t : Tree) (set : Set) → (t ≡ Member set) �
     → Emitted m (member_of (edges_of set)) from code next entry → Emitted m (pattern_of t) from code next entry
 set_emitted m t set (inl e) from code next entry h = subst (λ (p : Pattern). Emitted m p from code next entry) (sym (ap pattern_of e ∙ pattern-Member set)) h
 set_emitted m t set (inr e) from code next entry h = subst (λ (p : Pattern). Emitted m p from code next entry) (sym (ap pattern_of e ∙ pattern-InAnyCase set)) h
+
+-- the code keeps the text that its pattern opens with
+pub opens_with : (m n : Meaning) (p : Pattern) (kept given : Option (List ℕ)) → kept ≡ given → n ≡ m → IfSome given (λ text. text ≡ opening m p) → IfSome kept (λ text. text ≡ opening n p)
+opens_with m n p kept given is same told = rw (is, same) told

@@ -42,3 +42,4 @@ pub mod BeginLemmas
 pub mod RequireLemmas
 pub mod SkipLemmas
 pub mod TriedLemmas
+pub mod OpenLemmas

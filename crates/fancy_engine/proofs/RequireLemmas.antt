@@ -22,17 +22,17 @@ abbrev pub Implies : Type 0 → List Event → Type 0
 Implies Q es = EachOutcome (λ t. Q) es
 
 module _ (Q : Type 0) where
-  by_start : (es : List Event) (next : Walk) → Implies Q es → Implies Q (bind es next)
+  pub by_start : (es : List Event) (next : Walk) → Implies Q es → Implies Q (bind es next)
   by_start es next h = EachOutcome-bind (λ t. Q) (λ t. Q) es next h (λ t q. EachOutcome_all (λ t. Q) (next t) (λ u. q))
 
-  by_rest : (es : List Event) (next : Walk) → ((t : State) → Implies Q (next t)) → Implies Q (bind es next)
+  pub by_rest : (es : List Event) (next : Walk) → ((t : State) → Implies Q (next t)) → Implies Q (bind es next)
   by_rest es next h = EachOutcome-bind (λ t. Unit {0}) (λ t. Q) es next (EachOutcome_all (λ t. Unit {0}) es (λ t. tt)) (λ t u. h t)
 
   by_copies : (n : ℕ) (body rest : Walk) (s : State) → nat_le 1 n ≡ true → Implies Q (body s) → Implies Q (copies n body rest s)
   by_copies zero body rest s e h = absurd (true≢false (sym e))
   by_copies (suc n) body rest s e h = by_start (body s) (copies n body rest) h
 
-  by_repeated : (greedy : Bool) (limit low : ℕ) (high : Option ℕ) (body : Walk) (s : State) → nat_le 1 low ≡ true → Implies Q (body s) →
+  pub by_repeated : (greedy : Bool) (limit low : ℕ) (high : Option ℕ) (body : Walk) (s : State) → nat_le 1 low ≡ true → Implies Q (body s) →
       Implies Q (repeated greedy limit low high body s)
   by_repeated greedy limit low None body s e h = by_copies low body (star greedy limit body) s e h
   by_repeated greedy limit low (Some high) body s e h = by_copies low body (optionals greedy (high - low) body) s e h

@@ -1,10 +1,11 @@
 -- What it is for instructions to be those of a pattern.
-use Rattle.std.specs.Prelude.{◌≡◌, ℕ, zero, suc, ◌+◌, ◌-◌, ◌<◌, ◌≤◌, Bool, true, false, ◌&&◌, List, [], ◌∷◌, Option, Some, None, length, slice_get, slice_index}
+use Rattle.std.specs.Prelude.{◌≡◌, ℕ, zero, suc, ◌+◌, ◌-◌, ◌<◌, ◌≤◌, Bool, true, false, ◌&&◌, List, [], ◌∷◌, Option, Some, None, IfSome, length, slice_get, slice_index}
 use Rattle.fancy_tree.specs.declared.tree.RepeatKind.{RepeatKind}
 use Rattle.fancy_tree.specs.declared.tree.RepeatKind.TheVariants.{Greedy, Lazy, Possessive}
 use Rattle.fancy_tree.specs.GroupNumbers.{Numbered}
 use Rattle.fancy_tree.specs.Pattern.{Pattern, empty, character, member_of, in_any_case, raw_byte, backreference, assertion, group_test, keep_start, continue_here, group, repeat, look_ahead, look_behind, atomic, conditional, followed, or_else, last_branch}
 use Rattle.fancy_bytes.specs.Firsts.{AreStartBytes}
+use Rattle.fancy_bytes.specs.Openings.{opening}
 use Rattle.fancy_engine.specs.declared.code.Code.{Code}
 use Rattle.fancy_engine.specs.declared.code.Entry.{Entry}
 use Rattle.fancy_engine.specs.Instructions.{Instruction}
@@ -279,6 +280,7 @@ pub record IsCodeOf (p : Pattern) (code : Code) : Type 0 where
   pub failing : Has (instrs_of code) 1 i.Fail
   pub numbered : Numbered 0 code.groups p
   pub starts : AreStartBytes code.meaning p code.start_bytes
+  pub opens : IfSome code.literal (λ text. text ≡ opening code.meaning p)
 
 -- An instruction that reads neither captures nor where groups began, and that ends no way early.
 abbrev pub IsEasyInstr : Instruction → Type 0

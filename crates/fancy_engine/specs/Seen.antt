@@ -1,5 +1,6 @@
 -- Which bytes stand in a haystack, at one place or at any, and which stand where an outcome began.
 use Rattle.std.specs.Prelude.{◌≡◌, ℕ, ◌+◌, ◌<◌, ◌≤◌, Bool, true, false, ◌⊎◌, List, Option, Some, None, slice_get, slice_index}
+use Rattle.fancy_bytes.specs.Openings.{StandsBefore}
 use Rattle.fancy_bytes.specs.Sets.{ByteFlags, member}
 use Rattle.fancy_engine.specs.Context.{State}
 
@@ -46,3 +47,15 @@ pub record IsNextCandidate (starts : Option ByteFlags) (haystack : List ℕ) (ra
   pub within : p ≤ last + 1
   pub stands : p ≤ last → MayStart starts haystack range_end p
   pub none : NoneMayStart starts haystack range_end from p
+
+-- the text that each match begins with does not stand at p; without one, nothing is told
+abbrev pub LacksOpening : Option (List ℕ) → List ℕ → ℕ → ℕ → Type 0
+LacksOpening None haystack range_end p = ⊥
+LacksOpening (Some text) haystack range_end p = ¬ StandsBefore haystack range_end text p
+
+-- p is a place, from the one on and up to the other, at which a search may go on, since no match starts before it; or it is past both. Where no match starts by its first byte, it is past both.
+pub record IsNextOpening (starts : Option ByteFlags) (text : Option (List ℕ)) (haystack : List ℕ) (range_end from last p : ℕ) : Type 0 where
+  pub passed : from ≤ p
+  pub within : p ≤ last + 1
+  pub some : p ≤ last → ¬ NoneMayStart starts haystack range_end from (last + 1)
+  pub none : (k : ℕ) → from ≤ k → k < p → MayNotStart starts haystack range_end k ⊎ LacksOpening text haystack range_end k

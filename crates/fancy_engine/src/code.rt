@@ -4,6 +4,7 @@ ghost use Rattle.std.specs.Prelude.{◌≡◌, ◌<◌, ℕ, IsTrue, length};
 ghost use Rattle.fancy_engine.specs.Instructions.{are_known, edges_in, with_sets};
 
 use crate::work::Work;
+use fancy_bytes::literal::Literal;
 use fancy_bytes::scan::Scan;
 use fancy_tree::char_set::CharSet;
 use fancy_tree::tree::{Assertion, Meaning};
@@ -86,6 +87,8 @@ pub struct Code {
     pub meaning: Meaning,
     /// The bytes that a match starts with. `None` where it may start anywhere.
     pub start_bytes: Option<Scan>,
+    /// The text of two bytes or more that each match begins with, where it was tried. `None` where there is no such text.
+    pub literal: Option<Literal>,
     ghost known: { IsTrue (are_known (length sets.items) instrs.items) },
 }
 
@@ -102,6 +105,7 @@ impl Code {
         groups: usize,
         meaning: Meaning,
         start_bytes: Option<Scan>,
+        literal: Option<Literal>,
     ) -> Code
         requires known { IsTrue (are_known (length sets.items) instrs.items) }
         ensures instrs { instrs_of result ≡ with_sets sets.items instrs.items }
@@ -109,6 +113,7 @@ impl Code {
         ensures groups { result.groups ≡ groups }
         ensures meaning { result.meaning ≡ meaning }
         ensures start_bytes { result.start_bytes ≡ start_bytes }
+        ensures literal { result.literal ≡ literal }
     {
         Code {
             instrs,
@@ -117,6 +122,7 @@ impl Code {
             groups,
             meaning,
             start_bytes,
+            literal,
         }
     }
 

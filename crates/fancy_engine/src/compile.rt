@@ -12,6 +12,7 @@ ghost use Rattle.fancy_engine.specs.Compile.{Keeps, Emitted, CopiesEmitted, Opti
 
 use crate::code::{Code, Entry, FAIL, Instr, MATCH};
 use crate::emitter::Emitter;
+use fancy_bytes::literal::opening_literal;
 use fancy_bytes::scan::start_scan;
 use fancy_tree::char_set::CharSet;
 use fancy_tree::measure::are_empty;
@@ -550,5 +551,6 @@ pub fn compile(
     };
     let entry = emit(&mut code, meaning, tree, stop)?;
     let start_bytes = start_scan(tree, meaning);
-    Ok(code.into_code(entry.moved, groups, meaning, start_bytes))
+    let literal = opening_literal(alloc, tree, meaning)?;
+    Ok(code.into_code(entry.moved, groups, meaning, start_bytes, literal))
 }

@@ -6,6 +6,7 @@ ghost use Rattle.fancy_tree.specs.Members.{edges_of};
 ghost use Rattle.fancy_engine.specs.Instructions.{are_known, is_known, edges_at};
 
 use crate::code::{Code, Entry, Instr};
+use fancy_bytes::literal::Literal;
 use fancy_bytes::scan::Scan;
 use fancy_tree::char_set::CharSet;
 use fancy_tree::set::Set;
@@ -172,13 +173,23 @@ impl Emitter {
         groups: usize,
         meaning: Meaning,
         start_bytes: Option<Scan>,
+        literal: Option<Literal>,
     ) -> Code
         ensures instrs { instrs_of result ≡ emitted self }
         ensures start { result.start ≡ start }
         ensures groups { result.groups ≡ groups }
         ensures meaning { result.meaning ≡ meaning }
         ensures start_bytes { result.start_bytes ≡ start_bytes }
+        ensures literal { result.literal ≡ literal }
     {
-        Code::new(self.instrs, self.sets, start, groups, meaning, start_bytes)
+        Code::new(
+            self.instrs,
+            self.sets,
+            start,
+            groups,
+            meaning,
+            start_bytes,
+            literal,
+        )
     }
 }

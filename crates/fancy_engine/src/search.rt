@@ -7,7 +7,7 @@ ghost use Rattle.fancy_engine.specs.Attempt.{pairs_in};
 ghost use Rattle.fancy_engine.specs.Compile.{IsCodeOf, AreEasy};
 ghost use Rattle.fancy_engine.specs.Search.{search};
 ghost use Rattle.fancy_input.specs.Requests.{effective_start};
-ghost use Rattle.fancy_engine.specs.Seen.{IsNextCandidate, NoneMayStart};
+ghost use Rattle.fancy_engine.specs.Seen.{IsNextCandidate, IsNextOpening, NoneMayStart};
 ghost use Rattle.fancy_engine.specs.Queries.{query_of, unfiltered, groups_in, answer_with, most_steps};
 ghost use Rattle.fancy_engine.specs.Work.{steps_of, returns_of, HasRoom};
 
@@ -108,6 +108,28 @@ pub fn next_candidate(
     candidate_from(code, haystack, range_end, from, last)
 }
 
+/// The first position, from the one on and up to the last, at which the search by the runner goes on, past the last where there is
+/// none: where a match may start, and the text stands that each match begins with.
+#[inline]
+fn next_opening(code: &Code, haystack: &[u8], range_end: usize, from: usize, last: usize) -> usize
+    requires ordered { from ≤ last + 1 }
+    requires last { last ≤ range_end }
+    requires inside { range_end ≤ length haystack.now }
+    ensures { IsNextOpening code.now.start_bytes code.now.literal haystack.now range_end from last result }
+{
+    let place = candidate_from(code, haystack, range_end, from, last);
+    let Some(literal) = &code.literal else {
+        return place;
+    };
+    if place >= last {
+        return place;
+    }
+    match literal.next_seen(haystack, place, range_end) {
+        Some(found) => found.min(last + 1),
+        None => last + 1,
+    }
+}
+
 /// Searches a haystack for the pattern of the code. Found is the first outcome at the least position, from the
 /// effective start on, which has one; its groups then stand in `cache`. Easy code has no `\G`, so the answer is the
 /// same with it on and off. Of the options `on_boundaries` and `overrides` are heeded: what is found is the first
@@ -148,7 +170,7 @@ pub fn search(
         return Ok(None);
     }
     let last = request.last_position();
-    let mut place = candidate_from(code, haystack, request.range_end, first, last);
+    let mut place = next_opening(code, haystack, request.range_end, first, last);
     if place > last {
         return Ok(None);
     }
@@ -176,7 +198,7 @@ pub fn search(
                 }));
             }
         }
-        place = candidate_from(code, haystack, request.range_end, place + 1, last);
+        place = next_opening(code, haystack, request.range_end, place + 1, last);
     }
     Ok(None)
 }

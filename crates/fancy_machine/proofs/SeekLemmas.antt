@@ -1,5 +1,5 @@
 -- A search that seeks: what it passes over is of no matter.
-use Rattle.std.proofs.Common.{◌≡◌, ℕ, zero, suc, ◌+◌, ◌-◌, ◌<◌, ◌≤◌, Bool, true, false, List, Option, None, length, refl, sym, ap, ap₂, ◌∙◌, subst, arith, le_refl, slice_index, true≢false}
+use Rattle.std.proofs.Common.{◌≡◌, ℕ, zero, suc, ◌+◌, ◌-◌, ◌<◌, ◌≤◌, Bool, true, false, List, None, refl, sym, ap, ap₂, ◌∙◌, subst, arith, le_refl, slice_index, true≢false}
 use Rattle.std.proofs.Math.Logic.{∥∥₁_elim}
 use Rattle.std.proofs.Props.{props}
 use Rattle.fancy_input.specs.declared.input.Request.{Request}

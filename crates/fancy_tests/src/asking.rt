@@ -3,25 +3,27 @@
 mod counts;
 mod fact;
 mod nested;
-mod refusals;
+mod overrides;
+mod pattern_sets;
 mod settings;
 mod spans;
+mod verdicts;
 
-pub(crate) use counts::{
-    CountedRow, EasyRow, WorkRow, check_counted, check_easy, check_work, counted, is_found,
-};
+pub(crate) use counts::{CountRow, check_count, check_counts, counted};
 pub(crate) use fact::check;
-pub(crate) use nested::{read_many, read_nested, repeated};
-pub(crate) use refusals::{
-    FaultRow, Flaw, FlawRow, KindRow, check_faults, check_flaws, check_kinds, fault_of,
-    is_too_complex, kind_of,
-};
+pub(crate) use nested::{nested, repeated};
+pub(crate) use overrides::{OverrideRow, check_overrides};
+pub(crate) use pattern_sets::{AMPLE, SetRow, check_matches_at, check_sets, searched, set_of};
 pub(crate) use settings::{
     ASCII_TEXT, BYTES, BYTES_WITHOUT_UNICODE, CHARACTERS, CHARACTERS_ANYWHERE, FOLDED, LONGEST,
-    NOT_EMPTY, ONLY_NAMED, OVERRIDING, SEEKING, Settings, read, regex_of, regex_with, searchable,
-    seeking,
+    NOT_EMPTY, ONLY_NAMED, OVERRIDING, SEEKING, Settings, options_of, owned, read, regex_of,
+    regex_with, searchable,
 };
 pub(crate) use spans::{
-    BytesRow, MatchRow, SearchRow, Span, SpanRow, TextRow, check_found, check_matches,
-    check_searches, check_spans, check_texts, first_span, is_answer, is_part, span, span_found,
+    BytesRow, SearchRow, Span, SpanRow, TextRow, check_find, check_input, check_match,
+    check_may_search, check_part, check_read, check_searches, check_spans, check_texts, first_span,
+    span_found,
+};
+pub(crate) use verdicts::{
+    KindRow, Verdict, VerdictRow, check_kinds, check_verdict, check_verdicts, is_given_up,
 };

@@ -1,6 +1,6 @@
 //! The members of classes, by the sets that they are read as, and why classes are refused.
 
-use crate::asking::{check, kind_of};
+use crate::asking::{Verdict, check, check_verdict};
 use fancy_syntax::flags::Flags;
 use fancy_syntax::parse::{ParseOptions, parse_with};
 use fancy_tree::error::ParseErrorKind;
@@ -49,6 +49,7 @@ fn shown(rt: &impl Abort, alloc: Global, set: &Set, probe: &str) -> String {
     shown
 }
 
+/// Checks the members of a class.
 fn check_members(rt: &impl Abort, alloc: Global, row: &MembersRow) {
     let (options, pattern, probe, wanted) = *row;
     let found = parse_with(alloc, pattern, options).expect(rt, pattern);
@@ -113,13 +114,6 @@ const MEMBERS: &[MembersRow] = &[
     (ASCII, "[\\w]", "aé", "a."),
 ];
 
-#[test]
-fn members(rt: HostRuntime) {
-    for row in MEMBERS {
-        check_members(&rt, rt.alloc(), row);
-    }
-}
-
 /// What holds at the start, a class, and why it is refused.
 type RefusalRow = (ParseOptions, &'static str, ParseErrorKind);
 
@@ -163,9 +157,12 @@ const REFUSALS: &[RefusalRow] = &[
 ];
 
 #[test]
-fn refusals(rt: HostRuntime) {
+fn classes_have_members_or_are_refused(rt: HostRuntime) {
+    for row in MEMBERS {
+        check_members(&rt, rt.alloc(), row);
+    }
     for &(options, pattern, wanted) in REFUSALS {
         let found = parse_with(rt.alloc(), pattern, options);
-        check(&rt, kind_of(&found) == Some(wanted), pattern);
+        check_verdict(&rt, &found, Verdict::Kind(wanted), pattern);
     }
 }

@@ -1,12 +1,13 @@
 //! Conditionals: a test of a group, or a pattern, that picks one of two branches.
 
 use crate::asking::{
-    CHARACTERS, Flaw, FlawRow, KindRow, ONLY_NAMED, TextRow, check, check_flaws, check_kinds,
-    check_texts, kind_of, read_nested,
+    CHARACTERS, KindRow, ONLY_NAMED, TextRow, Verdict, VerdictRow, check_kinds, check_texts,
+    check_verdicts,
 };
 use fancy_regex::ParseErrorKind;
 
-const TESTS_OF_GROUPS: &[TextRow] = &[
+const MATCHES: &[TextRow] = &[
+    // a test of a group picks a branch
     ("(a)?(?(1)b|c)", "ab", Some((0, 2))),
     ("(a)?(?(1)b|c)", "c", Some((0, 1))),
     ("(a)?(?(1)b|c)", "ac", Some((1, 2))),
@@ -23,14 +24,7 @@ const TESTS_OF_GROUPS: &[TextRow] = &[
     ("(?(1)b|c)(a)", "ba", None),
     ("(a)?(?(1))b", "ab", Some((0, 2))),
     ("(a)?(?(1))b", "b", None),
-];
-
-#[test]
-fn a_test_of_a_group_picks_a_branch(rt: HostRuntime) {
-    check_texts(&rt, rt.alloc(), TESTS_OF_GROUPS);
-}
-
-const CONDITIONS: &[TextRow] = &[
+    // a pattern may be the condition
     ("(?(a)b|c)", "ab", Some((0, 2))),
     ("(?(a)b|c)", "c", Some((0, 1))),
     ("(?(a)b|c)", "ac", Some((1, 2))),
@@ -53,14 +47,7 @@ const CONDITIONS: &[TextRow] = &[
     ("(?(<x y>)a|b)", "b", Some((0, 1))),
     ("(?('a)b)", "'ab", Some((0, 3))),
     ("(?( 1)a|b)", " 1a", Some((0, 3))),
-];
-
-#[test]
-fn a_pattern_may_be_the_condition(rt: HostRuntime) {
-    check_texts(&rt, rt.alloc(), CONDITIONS);
-}
-
-const BRANCHES: &[TextRow] = &[
+    // a branch may be empty
     ("(?(a)b)", "c", Some((0, 0))),
     ("(?(a)b|)", "c", Some((0, 0))),
     ("(?(a)|c)b", "ab", Some((0, 2))),
@@ -71,53 +58,30 @@ const BRANCHES: &[TextRow] = &[
     ("(?(a)(?:))", "ba", Some((1, 2))),
     ("(?(a)||)", "ba", Some((0, 0))),
     ("(?((a)|b))\\1", "aa", Some((0, 2))),
-];
-
-#[test]
-fn a_branch_may_be_empty(rt: HostRuntime) {
-    check_texts(&rt, rt.alloc(), BRANCHES);
-}
-
-const FLAGS: &[TextRow] = &[
+    // flags end with their condition
     ("(?((?i)a)b|c)", "Ab", Some((0, 2))),
     ("(?((?i)a)b|c)", "AB", None),
     ("(?(x)(?i)a|b)", "B", Some((0, 1))),
     ("(?(x)(?i)a|b)c", "BC", None),
     ("(?x)(?(a) b | c )", "ab", Some((0, 2))),
-];
-
-#[test]
-fn flags_end_with_their_condition(rt: HostRuntime) {
-    check_texts(&rt, rt.alloc(), FLAGS);
-}
-
-const SIZED: &[TextRow] = &[
+    // conditionals have sizes
     ("(?<=(?(a)b|cd))e", "abe", Some((2, 3))),
     ("(?<=(?(a)b|cd))e", "cde", Some((2, 3))),
     ("(?<=(?(a)b|cd))e", "bde", None),
     ("(?<=(?(a)))b", "ab", Some((1, 2))),
 ];
 
-#[test]
-fn conditionals_have_sizes(rt: HostRuntime) {
-    check_texts(&rt, rt.alloc(), SIZED);
-}
-
-const FLAWS: &[FlawRow] = &[
-    (CHARACTERS, "(?(1)a)", Flaw::Number(1)),
-    (CHARACTERS, "(a)(?(2)a)", Flaw::Number(2)),
-    (CHARACTERS, "(?(<n>)a)", Flaw::Name("n")),
-    (CHARACTERS, "(?('n')a)", Flaw::Name("n")),
-    (CHARACTERS, "(a)(?(<1>)b)", Flaw::Name("1")),
-    (ONLY_NAMED, "(?<n>a)(?(1)b)", Flaw::ByNameAlone),
-    (CHARACTERS, "(?<=(?(a)b|c))d", Flaw::LookBehind),
-    (CHARACTERS, "(?<=(?(a)b))d", Flaw::LookBehind),
+/// Tests of groups that are not there, and look-behind of no one size.
+const FLAWS: &[VerdictRow] = &[
+    (CHARACTERS, "(?(1)a)", Verdict::Number(1)),
+    (CHARACTERS, "(a)(?(2)a)", Verdict::Number(2)),
+    (CHARACTERS, "(?(<n>)a)", Verdict::Name("n")),
+    (CHARACTERS, "(?('n')a)", Verdict::Name("n")),
+    (CHARACTERS, "(a)(?(<1>)b)", Verdict::Name("1")),
+    (ONLY_NAMED, "(?<n>a)(?(1)b)", Verdict::ByNameAlone),
+    (CHARACTERS, "(?<=(?(a)b|c))d", Verdict::LookBehind),
+    (CHARACTERS, "(?<=(?(a)b))d", Verdict::LookBehind),
 ];
-
-#[test]
-fn tests_of_groups_that_are_not_there(rt: HostRuntime) {
-    check_flaws(&rt, rt.alloc(), FLAWS);
-}
 
 const FAULTS: &[KindRow] = &[
     ("(?(DEFINE)a)", ParseErrorKind::NotInProfile),
@@ -130,21 +94,8 @@ const FAULTS: &[KindRow] = &[
 ];
 
 #[test]
-fn conditionals_of_one_fault(rt: HostRuntime) {
+fn conditionals_pick_a_branch_or_are_refused(rt: HostRuntime) {
+    check_texts(&rt, rt.alloc(), MATCHES);
+    check_verdicts(&rt, rt.alloc(), FLAWS);
     check_kinds(&rt, rt.alloc(), FAULTS);
-}
-
-// in the innermost condition two parentheses are open besides those of the bodies round it
-#[test]
-fn both_parentheses_of_a_condition_are_open_in_it(rt: HostRuntime) {
-    let parts = ("(?(a)", "b", ")");
-    let deepest = read_nested(&rt, rt.alloc(), parts, 63);
-    check(&rt, deepest.is_ok(), "63 conditions");
-    let too_deep = read_nested(&rt, rt.alloc(), parts, 64);
-    let kind = kind_of(&too_deep);
-    check(
-        &rt,
-        kind == Some(ParseErrorKind::RecursionExceeded),
-        "64 conditions",
-    );
 }

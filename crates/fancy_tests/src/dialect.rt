@@ -2,11 +2,11 @@
 
 use crate::asking::{
     BYTES, BYTES_WITHOUT_UNICODE, BytesRow, CHARACTERS, CHARACTERS_ANYWHERE, SearchRow, TextRow,
-    check, check_searches, check_spans, check_texts, is_too_complex,
+    Verdict, VerdictRow, check_searches, check_spans, check_texts, check_verdicts,
 };
-use fancy_regex::Regex;
 
-const COUNTED_REPEATS: &[TextRow] = &[
+const TEXTS: &[TextRow] = &[
+    // repeats are counted
     ("a{2,3}?", "aaaa", Some((0, 2))),
     ("a{2,3}", "aaaa", Some((0, 3))),
     ("a{2}", "aaaa", Some((0, 2))),
@@ -19,28 +19,7 @@ const COUNTED_REPEATS: &[TextRow] = &[
     ("a{,}", "a{,}", Some((0, 4))),
     ("a{2 }", "a{2 }", Some((0, 5))),
     ("(?:a|b){2,4}", "xababab", Some((1, 5))),
-];
-
-#[test]
-fn repeats_are_counted(rt: HostRuntime) {
-    check_texts(&rt, rt.alloc(), COUNTED_REPEATS);
-}
-
-#[test]
-fn repeats_are_written_out(rt: HostRuntime) {
-    let longest = Regex::new(rt.alloc(), "a{999999}");
-    check(&rt, longest.is_ok(), "a{999999}");
-    for pattern in [
-        "a{1000000}",
-        "(?:(?:a{4294967295}){4294967295}){2}",
-        "(){4294967295}",
-    ] {
-        let read = Regex::new(rt.alloc(), pattern);
-        check(&rt, is_too_complex(&read), pattern);
-    }
-}
-
-const FLAGS: &[TextRow] = &[
+    // flags hold to the end of their group
     ("(?i:a)b", "AB", None),
     ("(?i:a)b", "Ab", Some((0, 2))),
     ("a(?i)b|c", "C", Some((0, 1))),
@@ -55,14 +34,7 @@ const FLAGS: &[TextRow] = &[
     ("(?x)a{2 }", "a{2}", Some((0, 4))),
     ("a(?#b)c", "ac", Some((0, 2))),
     ("a(?#b)*", "aa", Some((0, 2))),
-];
-
-#[test]
-fn flags_hold_to_the_end_of_their_group(rt: HostRuntime) {
-    check_texts(&rt, rt.alloc(), FLAGS);
-}
-
-const EITHER_CASE: &[TextRow] = &[
+    // letters stand for either case
     ("(?i)k", "\u{212A}", Some((0, 3))),
     ("(?i)\u{212A}", "k", Some((0, 1))),
     ("(?i)s", "\u{17F}", Some((0, 2))),
@@ -71,23 +43,7 @@ const EITHER_CASE: &[TextRow] = &[
     ("(?i)é", "É", Some((0, 2))),
     ("(?i)\\x6B", "K", Some((0, 1))),
     ("(?i)1", "2", None),
-];
-
-const EITHER_CASE_IN_BYTES: &[BytesRow] = &[
-    (BYTES, "(?i)k", b"K", Some((0, 1))),
-    (BYTES, "(?i)k", b"\xE2\x84\xAA", None),
-    (BYTES, "(?i)é", b"\xC3\x89", None),
-    (BYTES, "(?i)\\xE9", b"\xC9", None),
-    (CHARACTERS_ANYWHERE, "(?i)\\xE9", b"\xC3\x89", None),
-];
-
-#[test]
-fn letters_stand_for_either_case(rt: HostRuntime) {
-    check_texts(&rt, rt.alloc(), EITHER_CASE);
-    check_spans(&rt, rt.alloc(), EITHER_CASE_IN_BYTES);
-}
-
-const LINES: &[TextRow] = &[
+    // assertions read lines
     ("a\\Z", "a\n\n", Some((0, 1))),
     ("a\\Z", "a\n\r\n", None),
     ("(?R)a\\Z", "a\n\r\n", Some((0, 1))),
@@ -104,14 +60,7 @@ const LINES: &[TextRow] = &[
     ("^b", "a\nb", None),
     ("(?m)^b", "a\nb", Some((2, 3))),
     ("(?m)\\Ab", "a\nb", None),
-];
-
-#[test]
-fn assertions_read_lines(rt: HostRuntime) {
-    check_texts(&rt, rt.alloc(), LINES);
-}
-
-const WORDS: &[TextRow] = &[
+    // assertions read words
     ("\\bcat\\b", "a cat", Some((2, 5))),
     ("\\bé", "aé é", Some((4, 6))),
     ("\\B", "ab", Some((1, 1))),
@@ -126,37 +75,7 @@ const WORDS: &[TextRow] = &[
     ("\\b?b", "ab", Some((1, 2))),
     ("\\b*a", "a", Some((0, 1))),
     ("\\b{st}a", "a", None),
-];
-
-const WORDS_IN_BYTES: &[BytesRow] = &[
-    (CHARACTERS, "é\\b", b"\xC3\xA9", Some((0, 2))),
-    (BYTES, "é\\b", b"\xC3\xA9", None),
-    (CHARACTERS, "\\ba", b"\xA9a", Some((1, 2))),
-    (CHARACTERS_ANYWHERE, "\\xC3\\B", b"\xC3\xA9", Some((0, 1))),
-];
-
-#[test]
-fn assertions_read_words(rt: HostRuntime) {
-    check_texts(&rt, rt.alloc(), WORDS);
-    check_spans(&rt, rt.alloc(), WORDS_IN_BYTES);
-}
-
-const BEYOND_THE_RANGE: &[SearchRow<&str>] = &[
-    (CHARACTERS, "$", "ab", 0, (0, 1), false, None),
-    (CHARACTERS, "$", "ab", 0, (0, 2), false, Some((2, 2))),
-    (CHARACTERS, "\\bb", "ab", 0, (1, 2), false, None),
-    (CHARACTERS, "\\Bb", "ab", 0, (1, 2), false, Some((1, 2))),
-    (CHARACTERS, "^b", "ab", 0, (1, 2), false, None),
-    (CHARACTERS, "a\\b", "ab", 0, (0, 1), false, None),
-    (CHARACTERS, "a", "a", 2, (0, 1), false, None),
-];
-
-#[test]
-fn assertions_read_beyond_the_range(rt: HostRuntime) {
-    check_searches(&rt, rt.alloc(), BEYOND_THE_RANGE);
-}
-
-const ESCAPES: &[TextRow] = &[
+    // escapes stand for characters
     (
         "\\a\\e\\f\\n\\r\\t\\v",
         "\u{7}\u{1B}\u{C}\n\r\t\u{B}",
@@ -177,12 +96,19 @@ const ESCAPES: &[TextRow] = &[
     ("\\N", "\r", Some((0, 1))),
 ];
 
-#[test]
-fn escapes_stand_for_characters(rt: HostRuntime) {
-    check_texts(&rt, rt.alloc(), ESCAPES);
-}
-
-const NUMBERED_BYTES: &[BytesRow] = &[
+const IN_BYTES: &[BytesRow] = &[
+    // letters stand for either case
+    (BYTES, "(?i)k", b"K", Some((0, 1))),
+    (BYTES, "(?i)k", b"\xE2\x84\xAA", None),
+    (BYTES, "(?i)é", b"\xC3\x89", None),
+    (BYTES, "(?i)\\xE9", b"\xC9", None),
+    (CHARACTERS_ANYWHERE, "(?i)\\xE9", b"\xC3\x89", None),
+    // assertions read words
+    (CHARACTERS, "é\\b", b"\xC3\xA9", Some((0, 2))),
+    (BYTES, "é\\b", b"\xC3\xA9", None),
+    (CHARACTERS, "\\ba", b"\xA9a", Some((1, 2))),
+    (CHARACTERS_ANYWHERE, "\\xC3\\B", b"\xC3\xA9", Some((0, 1))),
+    // numbers stand for bytes
     (CHARACTERS, "\\xE9", b"\xE9", None),
     (BYTES, "\\xE9", b"\xE9", Some((0, 1))),
     (BYTES, "\\xE9", b"\xC3\xA9", None),
@@ -193,14 +119,7 @@ const NUMBERED_BYTES: &[BytesRow] = &[
     (BYTES, "\\u00E9", b"\xC3\xA9", Some((0, 2))),
     (BYTES, "é{2}", b"\xC3\xA9\xC3\xA9", Some((0, 4))),
     (BYTES, "\\x7F", b"\x7F", Some((0, 1))),
-];
-
-#[test]
-fn numbers_stand_for_bytes(rt: HostRuntime) {
-    check_spans(&rt, rt.alloc(), NUMBERED_BYTES);
-}
-
-const ANY_ITEM: &[BytesRow] = &[
+    // any item is a character or a byte
     (BYTES, ".+", b"\x80\x81\x82", Some((0, 3))),
     (CHARACTERS, ".+", b"\x80\x81\x82", None),
     (CHARACTERS, ".", b"\xC0\x80", None),
@@ -217,7 +136,33 @@ const ANY_ITEM: &[BytesRow] = &[
     (CHARACTERS, ".", b"\xF0\x9F\x98\x80", Some((0, 4))),
 ];
 
+/// Assertions read beyond the range.
+const BEYOND_THE_RANGE: &[SearchRow<&str>] = &[
+    (CHARACTERS, "$", "ab", 0, (0, 1), false, None),
+    (CHARACTERS, "$", "ab", 0, (0, 2), false, Some((2, 2))),
+    (CHARACTERS, "\\bb", "ab", 0, (1, 2), false, None),
+    (CHARACTERS, "\\Bb", "ab", 0, (1, 2), false, Some((1, 2))),
+    (CHARACTERS, "^b", "ab", 0, (1, 2), false, None),
+    (CHARACTERS, "a\\b", "ab", 0, (0, 1), false, None),
+    (CHARACTERS, "a", "a", 2, (0, 1), false, None),
+];
+
+/// Repeats are written out.
+const SIZES: &[VerdictRow] = &[
+    (CHARACTERS, "a{999999}", Verdict::Accepted),
+    (CHARACTERS, "a{1000000}", Verdict::TooComplex),
+    (
+        CHARACTERS,
+        "(?:(?:a{4294967295}){4294967295}){2}",
+        Verdict::TooComplex,
+    ),
+    (CHARACTERS, "(){4294967295}", Verdict::TooComplex),
+];
+
 #[test]
-fn any_item_is_a_character_or_a_byte(rt: HostRuntime) {
-    check_spans(&rt, rt.alloc(), ANY_ITEM);
+fn forms_have_their_meaning(rt: HostRuntime) {
+    check_texts(&rt, rt.alloc(), TEXTS);
+    check_spans(&rt, rt.alloc(), IN_BYTES);
+    check_searches(&rt, rt.alloc(), BEYOND_THE_RANGE);
+    check_verdicts(&rt, rt.alloc(), SIZES);
 }

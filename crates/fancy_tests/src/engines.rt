@@ -6,7 +6,9 @@ use fancy_machine::units::units_back;
 use fancy_tree::tree::{Meaning, RepeatKind, Tree};
 
 #[test]
-fn units_stand_before_a_place(rt: HostRuntime) {
+#[tactic(auto, using(fancy_tree::proofs::PatternLemmas::pattern_equations), unfolding(fancy_tree::specs::Sizes::nodes))]
+fn parts_of_the_engines(rt: HostRuntime) {
+    // units stand before a place
     let text = "aé".as_bytes();
     check(
         &rt,
@@ -18,12 +20,7 @@ fn units_stand_before_a_place(rt: HostRuntime) {
         units_back(text, Meaning::Unicode, 3, 3) == None,
         "three back",
     );
-}
-
-// `a+`
-#[test]
-#[tactic(auto, using(fancy_tree::proofs::PatternLemmas::pattern_equations), unfolding(fancy_tree::specs::Sizes::nodes))]
-fn a_star_shares_its_turn(rt: HostRuntime) {
+    // a star shares its turn, as in `a+`
     let alloc = rt.alloc();
     let tree = Tree::Repeat {
         low: 1,

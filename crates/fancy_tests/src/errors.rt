@@ -1,6 +1,6 @@
 //! What errors print.
 
-use crate::asking::{Flaw, check};
+use crate::asking::{check, owned};
 use fancy_regex::{CompileError, Error, ParseErrorKind, RuntimeError};
 use std::alloc::Global;
 use std::process::Abort;
@@ -54,74 +54,44 @@ const KINDS: &[(ParseErrorKind, &str)] = &[
 ];
 
 #[test]
-fn texts_of_kinds(rt: HostRuntime) {
+fn errors_have_their_texts(rt: HostRuntime) {
+    let alloc = rt.alloc();
+    let beginning = "parsing error at position 3: ";
     for &(kind, words) in KINDS {
-        let error = Error::ParseError(3, kind);
-        check_shown(
-            &rt,
-            rt.alloc(),
-            error,
-            "parsing error at position 3: ",
-            words,
-        );
+        check_shown(&rt, alloc, Error::ParseError(3, kind), beginning, words);
     }
-}
-
-/// The error of a flaw.
-fn error_of(rt: &impl Abort, alloc: Global, flaw: Flaw) -> CompileError {
-    match flaw {
-        Flaw::Number(number) => CompileError::InvalidBackref(number),
-        Flaw::Name(name) => {
-            let name = String::from_str(alloc, name).expect(rt, "no memory");
-            CompileError::InvalidGroupNameBackref(name)
-        }
-        Flaw::ByNameAlone => CompileError::NamedBackrefOnly,
-        Flaw::LookBehind => CompileError::LookBehindNotConst,
-        Flaw::NeverMatches => CompileError::PatternCanNeverMatch,
-        Flaw::TooComplex => CompileError::PatternTooComplex,
-    }
-}
-
-const FLAWS: &[(Flaw, &str)] = &[
-    (Flaw::Number(2), "no group has the number 2"),
-    (Flaw::Name("n"), "no group has the name n"),
-    (
-        Flaw::ByNameAlone,
-        "groups are referred to by name alone here",
-    ),
-    (Flaw::LookBehind, "look-behind of no constant size"),
-    (Flaw::NeverMatches, "pattern that can never match"),
-    (
-        Flaw::TooComplex,
-        "pattern with more than 1000000 nodes, or too much code",
-    ),
-];
-
-#[test]
-fn texts_of_compile_errors(rt: HostRuntime) {
-    for &(flaw, words) in FLAWS {
-        let error = Error::CompileError(error_of(&rt, rt.alloc(), flaw));
-        check_shown(&rt, rt.alloc(), error, "error compiling regex: ", words);
-    }
-}
-
-const REFUSED_SEARCHES: &[(RuntimeError, &str)] = &[
-    (
-        RuntimeError::BacktrackLimitExceeded,
+    let beginning = "error compiling regex: ";
+    let name = owned(&rt, alloc, "n");
+    let error = Error::CompileError(CompileError::InvalidGroupNameBackref(name));
+    check_shown(&rt, alloc, error, beginning, "no group has the name n");
+    let error = Error::CompileError(CompileError::InvalidBackref(2));
+    check_shown(&rt, alloc, error, beginning, "no group has the number 2");
+    let error = Error::CompileError(CompileError::NamedBackrefOnly);
+    let words = "groups are referred to by name alone here";
+    check_shown(&rt, alloc, error, beginning, words);
+    let error = Error::CompileError(CompileError::LookBehindNotConst);
+    check_shown(
+        &rt,
+        alloc,
+        error,
+        beginning,
+        "look-behind of no constant size",
+    );
+    let error = Error::CompileError(CompileError::PatternCanNeverMatch);
+    check_shown(&rt, alloc, error, beginning, "pattern that can never match");
+    let error = Error::CompileError(CompileError::PatternTooComplex);
+    let words = "pattern with more than 1000000 nodes, or too much code";
+    check_shown(&rt, alloc, error, beginning, words);
+    let beginning = "error executing regex: ";
+    let error = Error::RuntimeError(RuntimeError::BacktrackLimitExceeded);
+    check_shown(
+        &rt,
+        alloc,
+        error,
+        beginning,
         "limit for backtracking exceeded",
-    ),
-    (RuntimeError::StackOverflow, "too many saved branches"),
-];
-
-#[test]
-fn texts_of_refused_searches(rt: HostRuntime) {
-    for &(why, words) in REFUSED_SEARCHES {
-        let error = Error::RuntimeError(why);
-        check_shown(&rt, rt.alloc(), error, "error executing regex: ", words);
-    }
-}
-
-#[test]
-fn the_text_of_want_of_memory(rt: HostRuntime) {
-    check_shown(&rt, rt.alloc(), Error::Memory, "out of memory", "");
+    );
+    let error = Error::RuntimeError(RuntimeError::StackOverflow);
+    check_shown(&rt, alloc, error, beginning, "too many saved branches");
+    check_shown(&rt, alloc, Error::Memory, "out of memory", "");
 }

@@ -1,14 +1,20 @@
 //! That the regex of an escaped text finds the text itself.
 
-use crate::asking::{Span, check_found, first_span, regex_of};
+use crate::asking::{Span, check_read};
 use fancy_regex::{Regex, RegexInput, escape};
 use std::alloc::Global;
 use std::process::Abort;
 
-/// The regex of the escaped text.
-fn regex_of_text(rt: &impl Abort, alloc: Global, text: &str) -> Regex {
+/// Checks where the regex of the escaped text finds its first match.
+fn check_escaped(
+    rt: &impl Abort,
+    alloc: Global,
+    text: &str,
+    input: RegexInput<&str>,
+    wanted: Option<Span>,
+) {
     let escaped = escape(alloc, text).expect(rt, text);
-    regex_of(rt, alloc, escaped.as_str())
+    check_read(rt, Regex::new(alloc, escaped.as_str()), input, wanted);
 }
 
 /// A text, a haystack, where the search is anchored, and where the text is found.
@@ -33,45 +39,22 @@ const TEXTS: &[Row] = &[
     ("", "b", 1, Some((1, 1))),
 ];
 
+/// All characters of ASCII, in order.
+const ALL_ASCII: &str =
+    "\0\u{1}\u{2}\u{3}\u{4}\u{5}\u{6}\u{7}\u{8}\t\n\u{B}\u{C}\r\u{E}\u{F}\u{10}\u{11}\u{12}\u{13}\u{14}\u{15}\u{16}\u{17}\u{18}\u{19}\u{1A}\u{1B}\u{1C}\u{1D}\u{1E}\u{1F} !\"#$%&'()*+,-./0123456789:;<=>?@ABCDEFGHIJKLMNOPQRSTUVWXYZ[\\]^_`abcdefghijklmnopqrstuvwxyz{|}~\u{7F}";
+
 #[test]
 fn escapes_are_found_where_their_text_stands(rt: HostRuntime) {
     for &(text, haystack, at, wanted) in TEXTS {
-        let regex = regex_of_text(&rt, rt.alloc(), text);
         let input = RegexInput::new(haystack).from_pos(at).anchored(true);
-        check_found(&rt, text, haystack, first_span(&rt, &regex, input), wanted);
+        check_escaped(&rt, rt.alloc(), text, input, wanted);
     }
-}
-
-/// All characters of ASCII, in order.
-fn all_ascii(rt: &impl Abort, alloc: Global) -> String {
-    let mut text = String::new(alloc);
-    for byte in 0..128u8 {
-        text.push(char::from(byte)).expect(rt, "no memory");
-    }
-    text
-}
-
-#[test]
-fn escapes_of_all_ascii_are_found(rt: HostRuntime) {
-    let text = all_ascii(&rt, rt.alloc());
-    let regex = regex_of_text(&rt, rt.alloc(), text.as_str());
-    let found = first_span(&rt, &regex, RegexInput::new(text.as_str()));
-    check_found(&rt, "all of ASCII", "the same", found, Some((0, 128)));
-}
-
-/// A text, a haystack, up to where it is searched, and where the text is found first.
-const FIRST_PLACES: &[Row] = &[
-    ("a.b", "a-b a.b a.b", 11, Some((4, 7))),
-    ("a.b", "a-b", 3, None),
-    ("a.b", "a.b", 2, None),
-];
-
-#[test]
-fn escapes_are_found_at_the_first_place(rt: HostRuntime) {
-    for &(text, haystack, end, wanted) in FIRST_PLACES {
-        let regex = regex_of_text(&rt, rt.alloc(), text);
-        assert!(rt; end <= haystack.len());
-        let found = first_span(&rt, &regex, RegexInput::new(haystack).range(0..end));
-        check_found(&rt, text, haystack, found, wanted);
-    }
+    let input = RegexInput::new(ALL_ASCII);
+    check_escaped(&rt, rt.alloc(), ALL_ASCII, input, Some((0, 128)));
+    // they are found at the first place
+    let input = RegexInput::new("a-b a.b a.b");
+    check_escaped(&rt, rt.alloc(), "a.b", input, Some((4, 7)));
+    check_escaped(&rt, rt.alloc(), "a.b", RegexInput::new("a-b"), None);
+    let input = RegexInput::new("a.b").range(0..2);
+    check_escaped(&rt, rt.alloc(), "a.b", input, None);
 }

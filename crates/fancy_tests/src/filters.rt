@@ -1,11 +1,18 @@
 //! The two filters: empty matches refused, and the longest match asked for.
 
 use crate::asking::{
-    CHARACTERS, CountedRow, FaultRow, Flaw, FlawRow, LONGEST, NOT_EMPTY, Settings, SpanRow,
-    check_counted, check_easy, check_faults, check_flaws, check_spans,
+    CHARACTERS, CountRow, LONGEST, NOT_EMPTY, Settings, SpanRow, Verdict, VerdictRow, check,
+    check_counts, check_spans, check_verdicts, regex_with,
 };
 
-const NOT_EMPTY_MATCHES: &[SpanRow<&str>] = &[
+/// Both filters.
+const BOTH: Settings = Settings {
+    find_not_empty: true,
+    ..LONGEST
+};
+
+const MATCHES: &[SpanRow<&str>] = &[
+    // empty matches are passed over
     (CHARACTERS, "a*", "baa", Some((0, 0))),
     (NOT_EMPTY, "a*", "baa", Some((1, 3))),
     (NOT_EMPTY, "a*", "b", None),
@@ -14,14 +21,7 @@ const NOT_EMPTY_MATCHES: &[SpanRow<&str>] = &[
     (NOT_EMPTY, "(?=a)|b", "ab", Some((1, 2))),
     (NOT_EMPTY, "(?>|a)", "a", None),
     (NOT_EMPTY, "a|b", "b", Some((0, 1))),
-];
-
-#[test]
-fn empty_matches_are_passed_over(rt: HostRuntime) {
-    check_spans(&rt, rt.alloc(), NOT_EMPTY_MATCHES);
-}
-
-const LONGEST_MATCHES: &[SpanRow<&str>] = &[
+    // the longest match at the least position
     (CHARACTERS, "a|ab", "xab", Some((1, 2))),
     (LONGEST, "a|ab", "xab", Some((1, 3))),
     (LONGEST, "a|b|ab", "ab", Some((0, 2))),
@@ -36,56 +36,36 @@ const LONGEST_MATCHES: &[SpanRow<&str>] = &[
     (BOTH, "a*?", "baa", Some((1, 3))),
 ];
 
-/// Both filters.
-const BOTH: Settings = Settings {
-    find_not_empty: true,
-    ..LONGEST
-};
-
-#[test]
-fn the_longest_match_at_the_least_position(rt: HostRuntime) {
-    check_spans(&rt, rt.alloc(), LONGEST_MATCHES);
-}
-
 // `a|ab` has one return at a position with an `a`, after the first match
-const COUNTED: &[CountedRow] = &[
-    (LONGEST, "a|ab", "ab", 1, Some(Some((0, 2))), 1),
-    (LONGEST, "a|ab", "ab", 0, None, 0),
+const COUNTED: &[CountRow] = &[
+    (LONGEST, "a|ab", "ab", 1, Some(Some((0, 2))), None, 1),
+    (LONGEST, "a|ab", "ab", 0, None, None, 0),
+];
+
+const VERDICTS: &[VerdictRow] = &[
+    // patterns that can never match
+    (NOT_EMPTY, "", Verdict::NeverMatches),
+    (NOT_EMPTY, "(?=a)", Verdict::NeverMatches),
+    (NOT_EMPTY, "(?:^|$)", Verdict::NeverMatches),
+    (NOT_EMPTY, "(a{0})", Verdict::NeverMatches),
+    (NOT_EMPTY, "(?<=a)\\b", Verdict::NeverMatches),
+    // patterns that can match
+    (LONGEST, "", Verdict::Accepted),
+    (LONGEST, "(?=a)", Verdict::Accepted),
+    (LONGEST, "(?:^|$)", Verdict::Accepted),
+    (LONGEST, "(a{0})", Verdict::Accepted),
+    (LONGEST, "(?<=a)\\b", Verdict::Accepted),
+    (NOT_EMPTY, "a?", Verdict::Accepted),
+    (NOT_EMPTY, "()|a", Verdict::Accepted),
+    (NOT_EMPTY, "a{0,1}", Verdict::Accepted),
+    (NOT_EMPTY, "(?=a)|b", Verdict::Accepted),
 ];
 
 #[test]
-fn returns_after_the_first_match_count(rt: HostRuntime) {
-    check_counted(&rt, rt.alloc(), COUNTED);
-    check_easy(&rt, rt.alloc(), &[(LONGEST, "a|ab", false)]);
-}
-
-const NEVER: &[FlawRow] = &[
-    (NOT_EMPTY, "", Flaw::NeverMatches),
-    (NOT_EMPTY, "(?=a)", Flaw::NeverMatches),
-    (NOT_EMPTY, "(?:^|$)", Flaw::NeverMatches),
-    (NOT_EMPTY, "(a{0})", Flaw::NeverMatches),
-    (NOT_EMPTY, "(?<=a)\\b", Flaw::NeverMatches),
-];
-
-#[test]
-fn patterns_that_can_never_match(rt: HostRuntime) {
-    check_flaws(&rt, rt.alloc(), NEVER);
-}
-
-/// What is accepted.
-const ACCEPTED: &[FaultRow] = &[
-    (LONGEST, "", None),
-    (LONGEST, "(?=a)", None),
-    (LONGEST, "(?:^|$)", None),
-    (LONGEST, "(a{0})", None),
-    (LONGEST, "(?<=a)\\b", None),
-    (NOT_EMPTY, "a?", None),
-    (NOT_EMPTY, "()|a", None),
-    (NOT_EMPTY, "a{0,1}", None),
-    (NOT_EMPTY, "(?=a)|b", None),
-];
-
-#[test]
-fn patterns_that_can_match(rt: HostRuntime) {
-    check_faults(&rt, rt.alloc(), ACCEPTED);
+fn filters_choose_among_matches(rt: HostRuntime) {
+    check_spans(&rt, rt.alloc(), MATCHES);
+    check_counts(&rt, rt.alloc(), COUNTED);
+    check_verdicts(&rt, rt.alloc(), VERDICTS);
+    let regex = regex_with(&rt, rt.alloc(), LONGEST, "a|ab");
+    check(&rt, !regex.is_easy(), "a hard pattern");
 }

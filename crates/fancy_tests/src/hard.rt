@@ -1,18 +1,15 @@
 //! Patterns that the backtracking machine serves: references, look-around, atomic groups and possessive repeats.
 
 use crate::asking::{
-    BYTES, BytesRow, CHARACTERS, CHARACTERS_ANYWHERE, CountedRow, FOLDED, Flaw, FlawRow,
-    ONLY_NAMED, SearchRow, Settings, SpanRow, TextRow, check, check_counted, check_flaws,
-    check_found, check_searches, check_spans, check_texts, first_span, is_too_complex, regex_of,
-    regex_with, repeated,
+    BYTES, BytesRow, CHARACTERS, CHARACTERS_ANYWHERE, CountRow, FOLDED, ONLY_NAMED, SearchRow,
+    Settings, SpanRow, TextRow, Verdict, VerdictRow, check, check_counts, check_searches,
+    check_spans, check_texts, check_verdict, check_verdicts, is_given_up, owned, regex_of,
+    repeated,
 };
-use fancy_regex::{
-    Error, Regex, RegexBuilder, RegexInput, RegexOptionsBuilder, Result, RuntimeError,
-};
-use std::alloc::Global;
-use std::process::Abort;
+use fancy_regex::{RegexBuilder, RegexOptionsBuilder, RuntimeError};
 
-const ATOMIC_PARTS: &[TextRow] = &[
+const TEXTS: &[TextRow] = &[
+    // atomic parts have one outcome
     ("(?>a|ab)c", "abc", None),
     ("(?>ab|a)c", "abc", Some((0, 3))),
     ("a++a", "aaa", None),
@@ -21,14 +18,7 @@ const ATOMIC_PARTS: &[TextRow] = &[
     ("a{2}+a", "aaa", Some((0, 3))),
     ("a{1,2}+a", "aa", None),
     ("(?>)a", "a", Some((0, 1))),
-];
-
-#[test]
-fn atomic_parts_have_one_outcome(rt: HostRuntime) {
-    check_texts(&rt, rt.alloc(), ATOMIC_PARTS);
-}
-
-const LOOK_AROUND: &[TextRow] = &[
+    // look-around consumes nothing
     ("a+(?=c)", "aac", Some((0, 2))),
     ("b(?=c)", "aabc", Some((2, 3))),
     ("b(?!c)", "bcbd", Some((2, 3))),
@@ -45,14 +35,7 @@ const LOOK_AROUND: &[TextRow] = &[
     ("(?<=)a", "a", Some((0, 1))),
     ("(?<=a(?=b))b", "ab", Some((1, 2))),
     ("(?<!(?<=a)b)c", "abc", None),
-];
-
-#[test]
-fn look_around_consumes_nothing(rt: HostRuntime) {
-    check_texts(&rt, rt.alloc(), LOOK_AROUND);
-}
-
-const REFERENCES: &[TextRow] = &[
+    // references ask for the text of a group
     ("(a)\\1", "aa", Some((0, 2))),
     ("(a)\\1", "ab", None),
     ("(?<n>a)\\k<n>", "aa", Some((0, 2))),
@@ -79,11 +62,7 @@ const REFERENCES: &[TextRow] = &[
     ),
 ];
 
-#[test]
-fn references_ask_for_the_text_of_a_group(rt: HostRuntime) {
-    check_texts(&rt, rt.alloc(), REFERENCES);
-}
-
+/// Look-around reads past the range.
 const SEARCHES: &[SearchRow<&str>] = &[
     (CHARACTERS, "a+(?=c)", "aac", 0, (0, 2), false, Some((0, 2))),
     (CHARACTERS, "a+(?=c)", "aac", 0, (0, 1), false, None),
@@ -94,11 +73,6 @@ const SEARCHES: &[SearchRow<&str>] = &[
     (CHARACTERS, "(a)\\1", "aaa", 2, (0, 3), false, None),
     (CHARACTERS, "(a)\\1", "aab", 0, (0, 1), false, None),
 ];
-
-#[test]
-fn look_around_reads_past_the_range(rt: HostRuntime) {
-    check_searches(&rt, rt.alloc(), SEARCHES);
-}
 
 const IN_BYTES: &[BytesRow] = &[
     (BYTES, "(?<=\\xE9)a", b"\xE9a", Some((1, 2))),
@@ -127,73 +101,127 @@ const IN_BYTES: &[BytesRow] = &[
     (CHARACTERS_ANYWHERE, "(?<=a)\\B", b"a\x80", None),
 ];
 
-#[test]
-fn hard_patterns_on_bytes(rt: HostRuntime) {
-    check_spans(&rt, rt.alloc(), IN_BYTES);
-}
+/// Two of the letters that are asked for share their simple folding with two others each.
+const FOLDED_LETTERS: &str = "(\u{1C5}|k)\\1";
 
-/// Letters that share their simple folding.
-const SHARED_FOLDINGS: &[&[&str]] = &[&["\u{1C4}", "\u{1C5}", "\u{1C6}"], &["k", "K", "\u{212A}"]];
+const UNDER_OPTIONS: &[SpanRow<&str>] = &[
+    // keywords are found before a name
+    (CHARACTERS, "(?:fn|let) (?=x)", "a let x", Some((2, 6))),
+    // easy patterns heed no limit
+    (
+        Settings {
+            backtrack_limit: 0,
+            ..CHARACTERS
+        },
+        "(?:a|b)*c",
+        "abc",
+        Some((0, 3)),
+    ),
+    // references fold letters: a letter is found again in each other form, and in no form of other letters
+    (FOLDED, FOLDED_LETTERS, "\u{1C4}\u{1C4}", Some((0, 4))),
+    (FOLDED, FOLDED_LETTERS, "\u{1C4}\u{1C5}", Some((0, 4))),
+    (FOLDED, FOLDED_LETTERS, "\u{1C4}\u{1C6}", Some((0, 4))),
+    (FOLDED, FOLDED_LETTERS, "\u{1C4}k", None),
+    (FOLDED, FOLDED_LETTERS, "\u{1C4}K", None),
+    (FOLDED, FOLDED_LETTERS, "\u{1C4}\u{212A}", None),
+    (FOLDED, FOLDED_LETTERS, "\u{1C5}\u{1C4}", Some((0, 4))),
+    (FOLDED, FOLDED_LETTERS, "\u{1C5}\u{1C5}", Some((0, 4))),
+    (FOLDED, FOLDED_LETTERS, "\u{1C5}\u{1C6}", Some((0, 4))),
+    (FOLDED, FOLDED_LETTERS, "\u{1C5}k", None),
+    (FOLDED, FOLDED_LETTERS, "\u{1C5}K", None),
+    (FOLDED, FOLDED_LETTERS, "\u{1C5}\u{212A}", None),
+    (FOLDED, FOLDED_LETTERS, "\u{1C6}\u{1C4}", Some((0, 4))),
+    (FOLDED, FOLDED_LETTERS, "\u{1C6}\u{1C5}", Some((0, 4))),
+    (FOLDED, FOLDED_LETTERS, "\u{1C6}\u{1C6}", Some((0, 4))),
+    (FOLDED, FOLDED_LETTERS, "\u{1C6}k", None),
+    (FOLDED, FOLDED_LETTERS, "\u{1C6}K", None),
+    (FOLDED, FOLDED_LETTERS, "\u{1C6}\u{212A}", None),
+    (FOLDED, FOLDED_LETTERS, "k\u{1C4}", None),
+    (FOLDED, FOLDED_LETTERS, "k\u{1C5}", None),
+    (FOLDED, FOLDED_LETTERS, "k\u{1C6}", None),
+    (FOLDED, FOLDED_LETTERS, "kk", Some((0, 2))),
+    (FOLDED, FOLDED_LETTERS, "kK", Some((0, 2))),
+    (FOLDED, FOLDED_LETTERS, "k\u{212A}", Some((0, 4))),
+    (FOLDED, FOLDED_LETTERS, "K\u{1C4}", None),
+    (FOLDED, FOLDED_LETTERS, "K\u{1C5}", None),
+    (FOLDED, FOLDED_LETTERS, "K\u{1C6}", None),
+    (FOLDED, FOLDED_LETTERS, "Kk", Some((0, 2))),
+    (FOLDED, FOLDED_LETTERS, "KK", Some((0, 2))),
+    (FOLDED, FOLDED_LETTERS, "K\u{212A}", Some((0, 4))),
+    (FOLDED, FOLDED_LETTERS, "\u{212A}\u{1C4}", None),
+    (FOLDED, FOLDED_LETTERS, "\u{212A}\u{1C5}", None),
+    (FOLDED, FOLDED_LETTERS, "\u{212A}\u{1C6}", None),
+    (FOLDED, FOLDED_LETTERS, "\u{212A}k", Some((0, 4))),
+    (FOLDED, FOLDED_LETTERS, "\u{212A}K", Some((0, 4))),
+    (FOLDED, FOLDED_LETTERS, "\u{212A}\u{212A}", Some((0, 6))),
+];
 
-/// Two texts, one after the other.
-fn joined(rt: &impl Abort, alloc: Global, first: &str, other: &str) -> String {
-    let mut text = String::from_str(alloc, first).expect(rt, "no memory");
-    text.push_str(other).expect(rt, "no memory");
-    text
-}
+const COUNTED: &[CountRow] = &[
+    (
+        CHARACTERS,
+        "(?:a|b)(?=c)",
+        "bc",
+        1,
+        Some(Some((0, 1))),
+        None,
+        1,
+    ),
+    (CHARACTERS, "(?:a|b)(?=c)", "bc", 0, None, None, 0),
+    (CHARACTERS, "(?:a|b)(?=c)", "xxbc", 1, None, None, 1),
+    (
+        CHARACTERS,
+        "(?:a|b)(?=c)",
+        "xxbc",
+        3,
+        Some(Some((2, 3))),
+        None,
+        3,
+    ),
+    (CHARACTERS, "b(?=c)", "aabc", 0, Some(Some((2, 3))), None, 0),
+    (CHARACTERS, "b(?!c)", "bcbd", 1, Some(Some((2, 3))), None, 1),
+    (CHARACTERS, "(?=a)b", "ab", 0, Some(None), None, 0),
+    (CHARACTERS, "(?>a|b)c", "bc", 1, Some(Some((0, 2))), None, 1),
+    (CHARACTERS, "(?>a|b)c", "bc", 0, None, None, 0),
+];
 
-/// Checks that a letter is found again in each other form, and in no form of other letters.
-fn check_folding(
-    rt: &impl Abort,
-    alloc: Global,
-    regex: &Regex,
-    first: &str,
-    wanted: bool,
-    others: &[&str],
-) {
-    for other in others {
-        let haystack = joined(rt, alloc, first, other);
-        let found = first_span(rt, regex, RegexInput::new(haystack.as_str()));
-        let whole = Some((0, haystack.len()));
-        let span = if wanted { whole } else { None };
-        check_found(rt, regex.as_str(), haystack.as_str(), found, span);
-    }
-}
-
-#[test]
-fn references_fold_letters(rt: HostRuntime) {
-    let alloc = rt.alloc();
-    let regex = regex_with(&rt, alloc, FOLDED, "(\u{1C5}|k)\\1");
-    for letters in SHARED_FOLDINGS {
-        for letter in *letters {
-            for others in SHARED_FOLDINGS {
-                let wanted = others.contains(letter);
-                check_folding(&rt, alloc, &regex, letter, wanted, others);
-            }
-        }
-    }
-}
-
-const COUNTED: &[CountedRow] = &[
-    (CHARACTERS, "(?:a|b)(?=c)", "bc", 1, Some(Some((0, 1))), 1),
-    (CHARACTERS, "(?:a|b)(?=c)", "bc", 0, None, 0),
-    (CHARACTERS, "(?:a|b)(?=c)", "xxbc", 1, None, 1),
-    (CHARACTERS, "(?:a|b)(?=c)", "xxbc", 3, Some(Some((2, 3))), 3),
-    (CHARACTERS, "b(?=c)", "aabc", 0, Some(Some((2, 3))), 0),
-    (CHARACTERS, "b(?!c)", "bcbd", 1, Some(Some((2, 3))), 1),
-    (CHARACTERS, "(?=a)b", "ab", 0, Some(None), 0),
-    (CHARACTERS, "(?>a|b)c", "bc", 1, Some(Some((0, 2))), 1),
-    (CHARACTERS, "(?>a|b)c", "bc", 0, None, 0),
+/// References to nothing, and look-behind without a size.
+const FLAWS: &[VerdictRow] = &[
+    (CHARACTERS, "(a)\\2", Verdict::Number(2)),
+    (CHARACTERS, "\\1", Verdict::Number(1)),
+    (CHARACTERS, "\\4294967295", Verdict::Number(4_294_967_295)),
+    (CHARACTERS, "\\k<0>(a)", Verdict::Number(0)),
+    (CHARACTERS, "(a)\\k<-0>", Verdict::Number(0)),
+    (CHARACTERS, "(a)\\k<-2>", Verdict::Number(2)),
+    (CHARACTERS, "\\k<-1>(a)", Verdict::Number(1)),
+    (
+        CHARACTERS,
+        "(a)\\k<4294967296>",
+        Verdict::Number(4_294_967_295),
+    ),
+    (CHARACTERS, "\\k<n>", Verdict::Name("n")),
+    (CHARACTERS, "(?<m>a)(?P=n)", Verdict::Name("n")),
+    (CHARACTERS, "(a)(?P=1)", Verdict::Name("1")),
+    (ONLY_NAMED, "(a)(?<n>b)\\1", Verdict::ByNameAlone),
+    (ONLY_NAMED, "(?<n>b)\\k<1>", Verdict::ByNameAlone),
+    (CHARACTERS, "(?<=a+)b", Verdict::LookBehind),
+    (CHARACTERS, "(?<!(?:a|bc)d)e", Verdict::LookBehind),
+    (CHARACTERS, "(a)(?<=\\1)b", Verdict::LookBehind),
+    (CHARACTERS, "(?=(?<=a*))b", Verdict::LookBehind),
+    (
+        CHARACTERS,
+        "(?<=(?:(?:a{4294967295}){4294967295}){2})b",
+        Verdict::TooComplex,
+    ),
 ];
 
 #[test]
-fn returns_are_counted(rt: HostRuntime) {
-    check_counted(&rt, rt.alloc(), COUNTED);
-}
-
-/// Whether a search is given up for too many saved branches.
-fn is_stopped<T>(found: &Result<T>) -> bool {
-    matches!(found, Err(Error::RuntimeError(RuntimeError::StackOverflow)))
+fn hard_patterns_have_their_meaning(rt: HostRuntime) {
+    check_texts(&rt, rt.alloc(), TEXTS);
+    check_searches(&rt, rt.alloc(), SEARCHES);
+    check_spans(&rt, rt.alloc(), IN_BYTES);
+    check_spans(&rt, rt.alloc(), UNDER_OPTIONS);
+    check_counts(&rt, rt.alloc(), COUNTED);
+    check_verdicts(&rt, rt.alloc(), FLAWS);
 }
 
 // each turn of the star saves a branch
@@ -201,105 +229,28 @@ fn is_stopped<T>(found: &Result<T>) -> bool {
 fn too_many_branches_are_saved(rt: HostRuntime) {
     let regex = regex_of(&rt, rt.alloc(), "a*(?=c)");
     let haystack = repeated(&rt, rt.alloc(), "a", 1_000_002);
-    check(&rt, is_stopped(&regex.find(haystack.as_str())), "a*(?=c)");
+    let found = regex.find(haystack.as_str());
+    let is_stopped = is_given_up(&found, RuntimeError::StackOverflow);
+    check(&rt, is_stopped, "a*(?=c)");
 }
 
-const KEYWORDS: &[SpanRow<&str>] = &[(CHARACTERS, "(?:fn|let) (?=x)", "a let x", Some((2, 6)))];
-
-#[test]
-fn keywords_are_found_before_a_name(rt: HostRuntime) {
-    check_spans(&rt, rt.alloc(), KEYWORDS);
-}
-
-const UNLIMITED: &[SpanRow<&str>] = &[(
-    Settings {
-        backtrack_limit: 0,
-        ..CHARACTERS
-    },
-    "(?:a|b)*c",
-    "abc",
-    Some((0, 3)),
-)];
-
-#[test]
-fn easy_patterns_heed_no_limit(rt: HostRuntime) {
-    check_spans(&rt, rt.alloc(), UNLIMITED);
-}
-
-const FLAWS: &[FlawRow] = &[
-    (CHARACTERS, "(a)\\2", Flaw::Number(2)),
-    (CHARACTERS, "\\1", Flaw::Number(1)),
-    (CHARACTERS, "\\4294967295", Flaw::Number(4_294_967_295)),
-    (CHARACTERS, "\\k<0>(a)", Flaw::Number(0)),
-    (CHARACTERS, "(a)\\k<-0>", Flaw::Number(0)),
-    (CHARACTERS, "(a)\\k<-2>", Flaw::Number(2)),
-    (CHARACTERS, "\\k<-1>(a)", Flaw::Number(1)),
-    (
-        CHARACTERS,
-        "(a)\\k<4294967296>",
-        Flaw::Number(4_294_967_295),
-    ),
-    (CHARACTERS, "\\k<n>", Flaw::Name("n")),
-    (CHARACTERS, "(?<m>a)(?P=n)", Flaw::Name("n")),
-    (CHARACTERS, "(a)(?P=1)", Flaw::Name("1")),
-    (ONLY_NAMED, "(a)(?<n>b)\\1", Flaw::ByNameAlone),
-    (ONLY_NAMED, "(?<n>b)\\k<1>", Flaw::ByNameAlone),
-    (CHARACTERS, "(?<=a+)b", Flaw::LookBehind),
-    (CHARACTERS, "(?<!(?:a|bc)d)e", Flaw::LookBehind),
-    (CHARACTERS, "(a)(?<=\\1)b", Flaw::LookBehind),
-    (CHARACTERS, "(?=(?<=a*))b", Flaw::LookBehind),
-    (
-        CHARACTERS,
-        "(?<=(?:(?:a{4294967295}){4294967295}){2})b",
-        Flaw::TooComplex,
-    ),
-];
-
-#[test]
-fn references_to_nothing_and_look_behind_without_a_size(rt: HostRuntime) {
-    check_flaws(&rt, rt.alloc(), FLAWS);
-}
-
-/// What is read of the pattern where its code may have this size.
-fn read_within(rt: &impl Abort, alloc: Global, pattern: &str, size: usize) -> Result<Regex> {
-    let text = String::from_str(alloc, pattern).expect(rt, pattern);
-    RegexOptionsBuilder::new().max_prog_size(size).build(text)
-}
-
-/// The same, by a builder that holds the pattern.
-fn read_by_its_builder(
-    rt: &impl Abort,
-    alloc: Global,
-    pattern: &str,
-    size: usize,
-) -> Result<Regex> {
-    let mut builder = RegexBuilder::new(alloc, pattern).expect(rt, pattern);
-    builder.max_prog_size(size).build()
-}
-
-/// Checks that the pattern is read, or refused for the size of its code.
-fn check_size(rt: &impl Abort, read: &Result<Regex>, pattern: &str, wanted: bool) {
-    check(rt, is_too_complex(read) == wanted, pattern);
-    check(rt, read.is_err() == wanted, pattern);
-}
-
-/// A pattern, how large its code may be, and whether it is refused.
-type SizeRow = (&'static str, usize, bool);
-
-// `a(?=b)` has 3 nodes
-const SIZES: &[SizeRow] = &[
-    ("a(?=b)", 0, true),
-    ("a(?=b)", 32, false),
-    ("a", 0, false),
-    ("(?:a|b)*c", 0, false),
+/// A pattern, how large its code may be, and what becomes of it. `a(?=b)` has 3 nodes.
+const SIZES: &[(&str, usize, Verdict)] = &[
+    ("a(?=b)", 0, Verdict::TooComplex),
+    ("a(?=b)", 32, Verdict::Accepted),
+    ("a", 0, Verdict::Accepted),
+    ("(?:a|b)*c", 0, Verdict::Accepted),
 ];
 
 #[test]
 fn the_size_of_hard_code_is_limited(rt: HostRuntime) {
     for &(pattern, size, wanted) in SIZES {
-        let read = read_within(&rt, rt.alloc(), pattern, size);
-        check_size(&rt, &read, pattern, wanted);
-        let read = read_by_its_builder(&rt, rt.alloc(), pattern, size);
-        check_size(&rt, &read, pattern, wanted);
+        let mut options = RegexOptionsBuilder::new();
+        options.max_prog_size(size);
+        let read = options.build(owned(&rt, rt.alloc(), pattern));
+        check_verdict(&rt, &read, wanted, pattern);
+        let mut builder = RegexBuilder::new(rt.alloc(), pattern).expect(&rt, pattern);
+        let read = builder.max_prog_size(size).build();
+        check_verdict(&rt, &read, wanted, pattern);
     }
 }

@@ -3,7 +3,7 @@
 ghost use Rattle.std.specs.Prelude.{◌≡◌, ◌↔◌, IsTrue};
 ghost use Rattle.fancy_input.specs.Spans.{span_in, text_in, span_in_bytes, bytes_in};
 
-use crate::asking::check;
+use crate::asking::{check, owned};
 use fancy_input::bytes::MatchBytes;
 use fancy_input::input::Input;
 use fancy_input::matches::Match;
@@ -11,27 +11,46 @@ use fancy_input::regex_input::RegexInput;
 use std::ops::Range;
 use std::process::Abort;
 
-/// What a form says of itself: its length, whether it is empty, ASCII and text.
-fn facts<S: Input>(haystack: S) -> (usize, bool, bool, bool) {
+/// The length of a haystack, and whether it is empty, ASCII and text.
+type Facts = (usize, bool, bool, bool);
+
+/// Checks what a form says of itself, and which of the places 0 to 4 are boundaries.
+fn check_form<S: Input>(rt: &impl Abort, haystack: S, wanted: Facts, boundaries: [bool; 5]) {
     let input = RegexInput::new(haystack);
     let seen = input.haystack();
-    (seen.len(), seen.is_empty(), seen.is_ascii(), seen.is_text())
-}
-
-/// Checks the length, and whether the haystack is empty, ASCII and text.
-fn check_facts<S: Input>(rt: &impl Abort, haystack: S, wanted: (usize, bool, bool, bool)) {
-    assert!(rt; facts(haystack) == wanted);
+    let facts = (seen.len(), seen.is_empty(), seen.is_ascii(), seen.is_text());
+    check(rt, facts == wanted, "the facts of a form");
+    let input = RegexInput::from(haystack);
+    let seen = input.haystack();
+    let found = [
+        seen.is_char_boundary(0),
+        seen.is_char_boundary(1),
+        seen.is_char_boundary(2),
+        seen.is_char_boundary(3),
+        seen.is_char_boundary(4),
+    ];
+    check(rt, found == boundaries, "the boundaries of a form");
 }
 
 #[test]
-fn four_forms_state_their_facts(rt: HostRuntime) {
+fn four_forms_have_facts_and_boundaries(rt: HostRuntime) {
     let text = "aé";
-    let owned = String::from_str(rt.alloc(), text).expect(&rt, text);
-    check_facts(&rt, text, (3, false, false, true));
-    check_facts(&rt, &owned, (3, false, false, true));
-    check_facts(&rt, text.as_bytes(), (3, false, false, false));
-    check_facts(&rt, &[97u8, 98], (2, false, true, false));
-    check_facts(&rt, "", (0, true, true, true));
+    let owned = owned(&rt, rt.alloc(), text);
+    let facts = (3, false, false, true);
+    check_form(&rt, text, facts, [true, true, false, true, false]);
+    check_form(&rt, &owned, facts, [true, true, false, true, false]);
+    let facts = (3, false, false, false);
+    check_form(&rt, text.as_bytes(), facts, [true, true, false, true, true]);
+    check_form(
+        &rt,
+        &[97u8, 0xC3, 0xA9],
+        facts,
+        [true, true, false, true, true],
+    );
+    let facts = (2, false, true, false);
+    check_form(&rt, &[97u8, 98], facts, [true, true, true, true, true]);
+    let facts = (0, true, true, true);
+    check_form(&rt, "", facts, [true, false, false, false, false]);
 }
 
 /// How many places a walk from the start to the end goes over.
@@ -45,88 +64,35 @@ fn steps<S: Input>(haystack: S) -> usize {
     count
 }
 
-/// The match of the whole haystack.
-fn whole<S: Input>(haystack: S) -> S::Match {
-    haystack.make_match(0, haystack.len())
-}
-
-/// Which of the places 0 to 4 are boundaries.
-fn boundaries<S: Input>(haystack: S) -> [bool; 5] {
-    let input = RegexInput::from(haystack);
-    let seen = input.haystack();
-    [
-        seen.is_char_boundary(0),
-        seen.is_char_boundary(1),
-        seen.is_char_boundary(2),
-        seen.is_char_boundary(3),
-        seen.is_char_boundary(4),
-    ]
-}
-
-/// Checks which of the places 0 to 4 are boundaries.
-fn check_boundaries<S: Input>(rt: &impl Abort, haystack: S, wanted: [bool; 5]) {
-    assert!(rt; boundaries(haystack) == wanted);
-}
-
 #[test]
-fn boundaries_of_each_form(rt: HostRuntime) {
-    let text = "aé";
-    let owned = String::from_str(rt.alloc(), text).expect(&rt, text);
-    check_boundaries(&rt, text, [true, true, false, true, false]);
-    check_boundaries(&rt, &owned, [true, true, false, true, false]);
-    check_boundaries(&rt, text.as_bytes(), [true, true, false, true, true]);
-    check_boundaries(&rt, &[97u8, 0xC3, 0xA9], [true, true, false, true, true]);
-}
-
-#[test]
-fn steps_go_over_whole_characters_of_text(rt: HostRuntime) {
+fn steps_go_over_characters_or_bytes(rt: HostRuntime) {
     let text = "aé";
     assert!(rt; text.is_char_boundary(1) && text.is_char_boundary(3));
     check(&rt, text.prev_codepoint_ix(3) == 1, "back from 3");
     check(&rt, text.advance_position(1) == 3, "on from 1");
     check(&rt, text.advance_position(3) == 4, "on from 3");
-}
-
-#[test]
-fn steps_go_over_bytes(rt: HostRuntime) {
-    let bytes: &[u8] = "aé".as_bytes();
-    check(&rt, bytes.prev_codepoint_ix(3) == 1, "back from 3");
-    check(&rt, bytes.advance_position(1) == 2, "on from 1");
-    check(&rt, bytes.advance_position(3) == 4, "on from 3");
+    check(&rt, steps(text) == 2, "steps over text");
+    let whole = text.make_match(0, text.len());
+    check(&rt, whole.as_str() == text, "the whole text");
+    let bytes: &[u8] = text.as_bytes();
+    check(&rt, bytes.prev_codepoint_ix(3) == 1, "back over bytes");
+    check(&rt, bytes.advance_position(1) == 2, "on over bytes");
+    check(&rt, bytes.advance_position(3) == 4, "on past the end");
+    check(&rt, steps(bytes) == 3, "steps over bytes");
+    let whole = bytes.make_match(0, bytes.len());
+    check(&rt, whole.as_bytes() == bytes, "all bytes");
     let array = &[0x80u8, 0x80];
     check(&rt, array.prev_codepoint_ix(2) == 0, "back over an array");
 }
 
 #[test]
-fn a_walk_goes_over_the_whole_haystack(rt: HostRuntime) {
-    let text = "aé";
-    let bytes: &[u8] = text.as_bytes();
-    check(&rt, steps(text) == 2, "steps over text");
-    check(&rt, steps(bytes) == 3, "steps over bytes");
-    check(&rt, whole(text).as_str() == text, "the whole text");
-    check(&rt, whole(bytes).as_bytes() == bytes, "all bytes");
-}
-
-#[test]
-fn a_new_input_asks_for_the_whole(rt: HostRuntime) {
+fn an_input_asks_for_the_whole_or_a_part(rt: HostRuntime) {
     let input = RegexInput::new("abcabc");
     check(&rt, input.start() == 0, "the start");
     check(&rt, input.get_range() == (0..6), "the range");
-}
-
-/// A part of a text, from a start before it.
-fn part(rt: &impl Abort) -> RegexInput<&'static str> {
-    let haystack = "abcabc";
-    assert!(rt; 5 <= haystack.len());
-    let input = RegexInput::new(haystack).range(2..5);
-    input.from_pos(1).anchored(true)
-}
-
-#[test]
-fn a_part_is_searched_from_where_it_begins(rt: HostRuntime) {
-    let input = part(&rt);
-    check(&rt, input.start() == 1, "the start");
-    check(&rt, input.get_range() == (2..5), "the range");
+    let input = input.range(2..5).from_pos(1).anchored(true);
+    check(&rt, input.start() == 1, "the start of a part");
+    check(&rt, input.get_range() == (2..5), "the range of a part");
     check(&rt, input.effective_start() == 2, "the effective start");
     let copy = input.clone().expect(&rt, "a copy");
     check(&rt, copy.request() == input.request(), "a copy");
@@ -134,7 +100,10 @@ fn a_part_is_searched_from_where_it_begins(rt: HostRuntime) {
 
 #[test]
 fn settings_change_one_at_a_time(rt: HostRuntime) {
-    let input = part(&rt);
+    let input = RegexInput::new("abcabc")
+        .range(2..5)
+        .from_pos(1)
+        .anchored(true);
     let changed = input.again().start_text(false).end_text(false);
     let changed = changed.continue_from_previous_match_end(false);
     check(&rt, changed.request() != input.request(), "a change");

@@ -1,14 +1,13 @@
 //! Searches of text and of bytes, within ranges, from starts, and anchored.
 //!
-//! The first rows of each table were worked out by hand, the others by an independent model of the search.
+//! The first rows of `IN_TEXT` and `IN_BYTES` were worked out by hand, the others of them by an independent model of the search.
 
 use crate::asking::{
-    BYTES, CHARACTERS, CHARACTERS_ANYWHERE, SearchRow, Settings, TextRow, check, check_found,
-    check_searches, check_texts, is_answer, is_part, regex_of, regex_with, span_found,
+    BYTES, CHARACTERS, CHARACTERS_ANYWHERE, OverrideRow, SearchRow, Settings, TextRow, check,
+    check_find, check_match, check_may_search, check_overrides, check_part, check_searches,
+    check_texts, owned, regex_of, repeated,
 };
-use fancy_regex::{BytesMode, Input, RegexInput};
-use std::alloc::Global;
-use std::process::Abort;
+use fancy_regex::{BytesMode, RegexInput};
 
 const IN_TEXT: &[SearchRow<&str>] = &[
     (CHARACTERS, "abc", "zabc", 0, (0, 4), false, Some((1, 4))),
@@ -125,11 +124,6 @@ const IN_TEXT: &[SearchRow<&str>] = &[
         Some((1, 1)),
     ),
 ];
-
-#[test]
-fn searches_text(rt: HostRuntime) {
-    check_searches(&rt, rt.alloc(), IN_TEXT);
-}
 
 const IN_BYTES: &[SearchRow<&[u8]>] = &[
     (CHARACTERS, "a", b"a\x80", 0, (0, 2), false, None),
@@ -306,73 +300,141 @@ const IN_BYTES: &[SearchRow<&[u8]>] = &[
     (BYTES, "c?", b"\x80a", 1, (1, 2), false, Some((1, 1))),
 ];
 
+/// Searches of texts without an input.
+const IN_SHORT_TEXT: &[TextRow] = &[
+    ("a|ab", "xab", Some((1, 2))),
+    ("(?:ab|a)(?:b|)c", "abc", Some((0, 3))),
+    ("a??b", "ab", Some((0, 2))),
+    ("(?:a|ab)?", "b", Some((0, 0))),
+    ("", "b", Some((0, 0))),
+    ("c", "xab", None),
+    ("a{x", "a{x", Some((0, 3))),
+    ("\\(\\ ]}", "-( ]}", Some((1, 5))),
+    ("é|x", "aéx", Some((1, 3))),
+    ("b", "ab", Some((1, 2))),
+];
+
+/// Inputs that say that the text's start or its end does not count as one, or that the search goes on from no match.
+const OVERRIDES: &[OverrideRow] = &[
+    ("^a", "a", (false, true, true), Some((0, 1)), None),
+    ("\\Aa", "a", (false, true, true), Some((0, 1)), None),
+    ("a$", "a", (true, false, true), Some((0, 1)), None),
+    ("a\\z", "a", (true, false, true), Some((0, 1)), None),
+    ("^a", "a", (true, false, true), Some((0, 1)), Some((0, 1))),
+    ("a$", "a", (false, true, true), Some((0, 1)), Some((0, 1))),
+    ("^a$", "a", (true, true, true), Some((0, 1)), Some((0, 1))),
+    ("^a$", "a", (false, true, true), Some((0, 1)), None),
+    ("^a$", "a", (true, false, true), Some((0, 1)), None),
+    (
+        "(?m)^a",
+        "a",
+        (false, false, true),
+        Some((0, 1)),
+        Some((0, 1)),
+    ),
+    (
+        "(?m)a$",
+        "a",
+        (false, false, true),
+        Some((0, 1)),
+        Some((0, 1)),
+    ),
+    (
+        "(?mR)^a$",
+        "a",
+        (false, false, true),
+        Some((0, 1)),
+        Some((0, 1)),
+    ),
+    (
+        "a\\Z",
+        "a",
+        (false, false, true),
+        Some((0, 1)),
+        Some((0, 1)),
+    ),
+    (
+        "(?R)a\\Z",
+        "a",
+        (false, false, true),
+        Some((0, 1)),
+        Some((0, 1)),
+    ),
+    ("^", "", (false, false, true), Some((0, 0)), None),
+    (
+        "^|b",
+        "ab",
+        (false, false, true),
+        Some((0, 0)),
+        Some((1, 2)),
+    ),
+    // an input that goes on from a match, or says that it does not
+    ("\\Gx", "x", (true, true, true), Some((0, 1)), Some((0, 1))),
+    ("\\Gx", "x", (true, true, false), Some((0, 1)), None),
+    (
+        "\\Gx|y",
+        "xy",
+        (true, true, true),
+        Some((0, 1)),
+        Some((0, 1)),
+    ),
+    (
+        "\\Gx|y",
+        "xy",
+        (true, true, false),
+        Some((0, 1)),
+        Some((1, 2)),
+    ),
+    ("^x", "x", (true, true, true), Some((0, 1)), Some((0, 1))),
+    ("^x", "x", (true, true, false), Some((0, 1)), Some((0, 1))),
+];
+
 #[test]
-fn searches_bytes(rt: HostRuntime) {
+fn searches_text_and_bytes(rt: HostRuntime) {
+    check_searches(&rt, rt.alloc(), IN_TEXT);
     check_searches(&rt, rt.alloc(), IN_BYTES);
-}
-
-const IN_OWNED_TEXT: &[TextRow] = &[("b", "ab", Some((1, 2)))];
-
-#[test]
-fn searches_owned_text(rt: HostRuntime) {
-    for &(pattern, text, wanted) in IN_OWNED_TEXT {
-        let regex = regex_of(&rt, rt.alloc(), pattern);
-        let owned = String::from_str(rt.alloc(), text).expect(&rt, text);
-        let found = span_found(&rt, regex.find(&owned), pattern);
-        check_found(&rt, pattern, text, found, wanted);
-    }
-}
-
-const SHORT_TEXT: &[TextRow] = &[("b", "ab", Some((1, 2)))];
-
-#[test]
-fn searches_text_without_an_input(rt: HostRuntime) {
-    check_texts(&rt, rt.alloc(), SHORT_TEXT);
+    check_texts(&rt, rt.alloc(), IN_SHORT_TEXT);
+    check_match(&rt, rt.alloc(), ("é", "aéb"), (1, 3), "é");
+    check_overrides(&rt, rt.alloc(), OVERRIDES);
 }
 
 #[test]
-fn searches_an_array(rt: HostRuntime) {
-    let regex = regex_of(&rt, rt.alloc(), "b");
-    let found = span_found(&rt, regex.find(b"ab"), "b");
-    check_found(&rt, "b", "ab", found, Some((1, 2)));
+fn a_long_pattern_is_not_deep(rt: HostRuntime) {
+    let long = repeated(&rt, rt.alloc(), "a", 100_000);
+    let found = Some((0, 100_000));
+    check_find(&rt, rt.alloc(), long.as_str(), long.as_str(), found);
+    check_find(&rt, rt.alloc(), long.as_str(), "aaaa", None);
 }
 
 #[test]
-fn searches_bytes_from_a_start(rt: HostRuntime) {
-    let regex = regex_of(&rt, rt.alloc(), "b");
+fn searches_each_form(rt: HostRuntime) {
+    let text = owned(&rt, rt.alloc(), "ab");
+    check_find(&rt, rt.alloc(), "b", &text, Some((1, 2)));
+    check_find(&rt, rt.alloc(), "b", b"ab", Some((1, 2)));
     let bytes: &[u8] = b"ab";
-    let found = regex.find_from_pos(bytes, 1);
-    check(&rt, is_part(&found, b"b"), "the part");
-    check(&rt, is_answer(&regex.is_match(bytes), true), "a match");
+    let regex = regex_of(&rt, rt.alloc(), "b");
+    check_part(&rt, regex.find_from_pos(bytes, 1), b"b");
+    let matched = regex.is_match(bytes).expect(&rt, "b");
+    check(&rt, matched, "a match");
 }
 
-/// Options, a haystack, where the search starts, and whether it may be searched from there.
-type MayStartRow<S> = (Settings, S, usize, bool);
-
-fn check_starts<S: Input>(rt: &impl Abort, alloc: Global, rows: &[MayStartRow<S>]) {
-    for &(settings, haystack, start, wanted) in rows {
-        let regex = regex_with(rt, alloc, settings, "a");
-        let input = RegexInput::new(haystack).from_pos(start);
-        check(rt, regex.can_search(&input) == wanted, "a start");
-    }
-}
-
-const STARTS_IN_TEXT: &[MayStartRow<&str>] = &[
+/// Options, a text, where the search starts, and whether it may be searched from there.
+const STARTS: &[(Settings, &str, usize, bool)] = &[
     (CHARACTERS, "é", 1, false),
     (CHARACTERS, "é", 3, true),
     (BYTES, "é", 0, false),
     (BYTES, "e", 0, true),
 ];
 
-const STARTS_IN_BYTES: &[MayStartRow<&[u8]>] = &[(BYTES, b"\xC3\xA9", 1, true)];
-
 #[test]
 fn says_what_may_be_searched(rt: HostRuntime) {
-    check_starts(&rt, rt.alloc(), STARTS_IN_TEXT);
-    check_starts(&rt, rt.alloc(), STARTS_IN_BYTES);
-}
-
-#[test]
-fn matches_stand_between_characters_by_default(rt: HostRuntime) {
+    for &(settings, haystack, start, wanted) in STARTS {
+        let input = RegexInput::new(haystack).from_pos(start);
+        check_may_search(&rt, rt.alloc(), (settings, "a"), input, wanted);
+    }
+    let bytes: &[u8] = b"\xC3\xA9";
+    let inside = RegexInput::new(bytes).from_pos(1);
+    check_may_search(&rt, rt.alloc(), (BYTES, "a"), inside, true);
+    // matches stand between characters by default
     check(&rt, BytesMode::default() == BytesMode::Unicode, "the mode");
 }

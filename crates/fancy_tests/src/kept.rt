@@ -1,13 +1,10 @@
 //! `\K`, which moves the start of what is found, and `\G`, which holds where the search starts.
 
 use crate::asking::{
-    BYTES, BytesRow, CHARACTERS, CHARACTERS_ANYWHERE, KindRow, OVERRIDING, SearchRow, Settings,
-    Span, TextRow, check_found, check_kinds, check_searches, check_spans, check_texts, first_span,
-    regex_with,
+    BYTES, BytesRow, CHARACTERS, CHARACTERS_ANYWHERE, KindRow, SearchRow, TextRow, check_kinds,
+    check_searches, check_spans, check_texts,
 };
-use fancy_regex::{ParseErrorKind, RegexInput};
-use std::alloc::Global;
-use std::process::Abort;
+use fancy_regex::ParseErrorKind;
 
 const KEPT_STARTS: &[TextRow] = &[
     ("a\\Kb", "ab", Some((1, 2))),
@@ -33,11 +30,6 @@ const KEPT_STARTS: &[TextRow] = &[
     ("(?(a\\K)b|c)", "ab", Some((1, 2))),
     ("(a\\K)?(?(1)b|c)", "ab", Some((1, 2))),
 ];
-
-#[test]
-fn a_match_starts_where_it_was_kept(rt: HostRuntime) {
-    check_texts(&rt, rt.alloc(), KEPT_STARTS);
-}
 
 const SEARCHES: &[SearchRow<&str>] = &[
     // the position is where the pattern began, the start where it was kept
@@ -74,11 +66,6 @@ const SEARCHES: &[SearchRow<&str>] = &[
     (CHARACTERS, "y|\\Gx", "zx", 0, (0, 2), false, None),
 ];
 
-#[test]
-fn searches_from_a_place(rt: HostRuntime) {
-    check_searches(&rt, rt.alloc(), SEARCHES);
-}
-
 const IN_BYTES: &[BytesRow] = &[
     (BYTES, "\\xFF\\K.", b"\xFF\xC3", Some((1, 2))),
     (BYTES, "\\G.", b"\xFFa", Some((0, 1))),
@@ -86,65 +73,23 @@ const IN_BYTES: &[BytesRow] = &[
     (CHARACTERS_ANYWHERE, "\\xFF\\K", b"a\xFF", Some((2, 2))),
 ];
 
-#[test]
-fn bytes_are_kept_too(rt: HostRuntime) {
-    check_spans(&rt, rt.alloc(), IN_BYTES);
-}
-
-/// Options, a pattern, a text, and where the first match starts and ends: of an input as it is made, and of one that says
-/// that it does not go on from a match.
-type ContinuedRow = (
-    Settings,
-    &'static str,
-    &'static str,
-    Option<Span>,
-    Option<Span>,
-);
-
-fn check_continued(rt: &impl Abort, alloc: Global, row: &ContinuedRow) {
-    let (settings, pattern, haystack, going_on, suppressed) = *row;
-    let regex = regex_with(rt, alloc, settings, pattern);
-    let input = RegexInput::new(haystack);
-    let found = first_span(rt, &regex, input.again());
-    check_found(rt, pattern, haystack, found, going_on);
-    let found = first_span(rt, &regex, input.continue_from_previous_match_end(false));
-    check_found(rt, pattern, haystack, found, suppressed);
-}
-
-const SUPPRESSED: &[ContinuedRow] = &[
-    (CHARACTERS, "\\Gx", "x", Some((0, 1)), Some((0, 1))),
-    (OVERRIDING, "\\Gx", "x", Some((0, 1)), None),
-    (OVERRIDING, "\\Gx|y", "xy", Some((0, 1)), Some((1, 2))),
-    (OVERRIDING, "^x", "x", Some((0, 1)), Some((0, 1))),
-];
-
-#[test]
-fn an_input_may_not_go_on_from_a_match(rt: HostRuntime) {
-    for row in SUPPRESSED {
-        check_continued(&rt, rt.alloc(), row);
-    }
-}
-
-const IN_LOOK_AROUND: &[KindRow] = &[
+const REFUSED: &[KindRow] = &[
+    // no start is kept in look-around
     ("(?=a\\K)", ParseErrorKind::NotInProfile),
     ("(?!\\K)a", ParseErrorKind::NotInProfile),
     ("(?<=\\Ka)b", ParseErrorKind::NotInProfile),
     ("(?<!(?:a\\K))b", ParseErrorKind::NotInProfile),
     ("(?=(?>a(\\K)))b", ParseErrorKind::NotInProfile),
     ("(?((?=\\K))a)", ParseErrorKind::NotInProfile),
-];
-
-#[test]
-fn no_start_is_kept_in_look_around(rt: HostRuntime) {
-    check_kinds(&rt, rt.alloc(), IN_LOOK_AROUND);
-}
-
-const IN_CLASSES: &[KindRow] = &[
+    // classes have no such members
     ("[\\K]", ParseErrorKind::InvalidEscape),
     ("[\\G]", ParseErrorKind::InvalidEscape),
 ];
 
 #[test]
-fn classes_have_no_such_members(rt: HostRuntime) {
-    check_kinds(&rt, rt.alloc(), IN_CLASSES);
+fn a_match_starts_where_it_was_kept(rt: HostRuntime) {
+    check_texts(&rt, rt.alloc(), KEPT_STARTS);
+    check_searches(&rt, rt.alloc(), SEARCHES);
+    check_spans(&rt, rt.alloc(), IN_BYTES);
+    check_kinds(&rt, rt.alloc(), REFUSED);
 }

@@ -23,8 +23,6 @@ mod escapes;
 #[cfg(test)]
 mod filters;
 #[cfg(test)]
-mod finding;
-#[cfg(test)]
 mod hard;
 #[cfg(test)]
 mod haystacks;
@@ -34,8 +32,6 @@ mod inputs;
 mod kept;
 #[cfg(test)]
 mod options;
-#[cfg(test)]
-mod overrides;
 #[cfg(test)]
 mod parsing;
 #[cfg(test)]

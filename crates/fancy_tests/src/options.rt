@@ -1,11 +1,11 @@
 //! What each option changes, and what is so without it.
 
 use crate::asking::{
-    BYTES, BytesRow, CHARACTERS, CHARACTERS_ANYWHERE, Settings, Span, check, check_found,
-    check_spans, first_span, kind_of, regex_of,
+    BYTES, BytesRow, CHARACTERS, CHARACTERS_ANYWHERE, Settings, Span, check, check_read,
+    check_spans, owned,
 };
 use fancy_regex::{
-    BytesMode, ParseErrorKind, Regex, RegexBuilder, RegexInput, RegexOptionsBuilder,
+    BytesMode, Error, ParseErrorKind, Regex, RegexBuilder, RegexInput, RegexOptionsBuilder,
 };
 use std::alloc::Global;
 use std::process::Abort;
@@ -61,50 +61,19 @@ fn set_beside_the_pattern(builder: &mut RegexBuilder, switch: Switch, yes: bool)
     };
 }
 
-/// What the pattern is read as with this option alone.
-fn read_with(rt: &impl Abort, alloc: Global, pattern: &str, switch: Switch, yes: bool) -> Regex {
-    let mut builder = RegexOptionsBuilder::new();
-    set(&mut builder, switch, !yes);
-    set(&mut builder, switch, yes);
-    let text = String::from_str(alloc, pattern).expect(rt, pattern);
-    builder.build(text).expect(rt, pattern)
-}
-
-/// The same, by a builder that holds the pattern.
-fn read_by_its_builder(
-    rt: &impl Abort,
-    alloc: Global,
-    pattern: &str,
-    switch: Switch,
-    yes: bool,
-) -> Regex {
-    let mut builder = RegexBuilder::new(alloc, pattern).expect(rt, pattern);
-    set_beside_the_pattern(&mut builder, switch, !yes);
-    set_beside_the_pattern(&mut builder, switch, yes);
-    builder.build().expect(rt, pattern)
-}
-
-fn check_first(rt: &impl Abort, regex: &Regex, haystack: &str, wanted: Option<Span>) {
-    let found = first_span(rt, regex, RegexInput::new(haystack));
-    check_found(rt, regex.as_str(), haystack, found, wanted);
-}
-
-/// Checks what is found where the switch is not set.
-fn check_default(rt: &impl Abort, alloc: Global, row: &Row) {
-    let (switch, pattern, haystack, off, on) = *row;
-    let is_on = matches!(switch, Switch::UnicodeMode);
-    let regex = regex_of(rt, alloc, pattern);
-    check_first(rt, &regex, haystack, if is_on { on } else { off });
-}
-
-/// Checks what is found where the switch is off, or on.
+/// Checks what is found where the switch is off, or on, by both builders.
 fn check_switched(rt: &impl Abort, alloc: Global, row: &Row, yes: bool) {
     let (switch, pattern, haystack, off, on) = *row;
     let wanted = if yes { on } else { off };
-    let regex = read_with(rt, alloc, pattern, switch, yes);
-    check_first(rt, &regex, haystack, wanted);
-    let regex = read_by_its_builder(rt, alloc, pattern, switch, yes);
-    check_first(rt, &regex, haystack, wanted);
+    let mut options = RegexOptionsBuilder::new();
+    set(&mut options, switch, !yes);
+    set(&mut options, switch, yes);
+    let read = options.build(owned(rt, alloc, pattern));
+    check_read(rt, read, RegexInput::new(haystack), wanted);
+    let mut builder = RegexBuilder::new(alloc, pattern).expect(rt, pattern);
+    set_beside_the_pattern(&mut builder, switch, !yes);
+    set_beside_the_pattern(&mut builder, switch, yes);
+    check_read(rt, builder.build(), RegexInput::new(haystack), wanted);
 }
 
 const ROWS: &[Row] = &[
@@ -139,10 +108,19 @@ const ROWS: &[Row] = &[
 #[test]
 fn each_switch_changes_answers(rt: HostRuntime) {
     for row in ROWS {
-        check_default(&rt, rt.alloc(), row);
+        let (switch, pattern, haystack, off, on) = *row;
+        let is_on = matches!(switch, Switch::UnicodeMode);
+        let wanted = if is_on { on } else { off };
+        let input = RegexInput::new(haystack);
+        check_read(&rt, Regex::new(rt.alloc(), pattern), input, wanted);
         check_switched(&rt, rt.alloc(), row, false);
         check_switched(&rt, rt.alloc(), row, true);
     }
+    let options = RegexOptionsBuilder::default();
+    let read = options.build(owned(&rt, rt.alloc(), "a b"));
+    check_read(&rt, read, RegexInput::new("ab"), None);
+    let read = options.build(owned(&rt, rt.alloc(), "a b"));
+    check_read(&rt, read, RegexInput::new("a b"), Some((0, 3)));
 }
 
 const MODES: &[BytesRow] = &[
@@ -152,71 +130,73 @@ const MODES: &[BytesRow] = &[
     (CHARACTERS, "\\x80", b"\x80", None),
     (BYTES, "\\x80", b"\x80", Some((0, 1))),
     (CHARACTERS_ANYWHERE, "\\x80", b"\x80", Some((0, 1))),
+    // setters chain
+    (
+        Settings {
+            bytes_mode: BytesMode::Ascii,
+            unicode_mode: false,
+            case_insensitive: true,
+            multi_line: true,
+            ignore_whitespace: true,
+            dot_matches_new_line: true,
+            crlf: true,
+            overrides: true,
+            ..CHARACTERS
+        },
+        "^ a . $",
+        b"b\rA\xFF\r\n",
+        Some((2, 4)),
+    ),
 ];
 
-#[test]
-fn the_mode_changes_answers(rt: HostRuntime) {
-    check_spans(&rt, rt.alloc(), MODES);
-}
-
-/// The mode, a pattern, and where the first match of the byte 80 starts and ends.
-type ModeRow = (BytesMode, &'static str, Option<Span>);
-
-const MODES_OF_BUILDERS: &[ModeRow] = &[
+/// The mode of a builder with a pattern, the pattern, and where the first match of the byte 80 starts and ends.
+const MODES_OF_BUILDERS: &[(BytesMode, &str, Option<Span>)] = &[
     (BytesMode::Unicode, "\\x80", None),
     (BytesMode::Ascii, "\\x80", Some((0, 1))),
     (BytesMode::UnicodeBytes, ".", None),
 ];
 
-fn check_mode(rt: &impl Abort, alloc: Global, row: &ModeRow) {
-    let (mode, pattern, wanted) = *row;
-    let mut builder = RegexBuilder::new(alloc, pattern).expect(rt, pattern);
-    let regex = builder.bytes_mode(mode).build().expect(rt, pattern);
-    let haystack: &[u8] = b"\x80";
-    let found = first_span(rt, &regex, RegexInput::new(haystack));
-    check_found(rt, pattern, "the byte 80", found, wanted);
-}
+/// Whether a builder with a pattern allows inputs to say that the text's start does not count, and where `^a` then matches
+/// in `a`.
+const OVERRIDES_OF_BUILDERS: &[(bool, Option<Span>)] = &[(false, Some((0, 1))), (true, None)];
 
 #[test]
-fn the_mode_of_a_builder_with_a_pattern_changes_answers(rt: HostRuntime) {
-    for row in MODES_OF_BUILDERS {
-        check_mode(&rt, rt.alloc(), row);
+fn modes_and_overrides_change_answers(rt: HostRuntime) {
+    check_spans(&rt, rt.alloc(), MODES);
+    for &(mode, pattern, wanted) in MODES_OF_BUILDERS {
+        let mut builder = RegexBuilder::new(rt.alloc(), pattern).expect(&rt, pattern);
+        let haystack: &[u8] = b"\x80";
+        let read = builder.bytes_mode(mode).build();
+        check_read(&rt, read, RegexInput::new(haystack), wanted);
+    }
+    for &(allowed, wanted) in OVERRIDES_OF_BUILDERS {
+        let mut builder = RegexBuilder::new(rt.alloc(), "^a").expect(&rt, "^a");
+        let read = builder.allow_input_assertion_overrides(allowed).build();
+        let input = RegexInput::new("a").start_text(false);
+        check_read(&rt, read, input, wanted);
     }
 }
 
-/// A pattern, and how many groups it has with [`RegexOptionsBuilder::ignore_numbered_groups_when_named_groups_exist`]
-/// off and on; or why it is refused.
-type Grouped = (
-    &'static str,
-    Result<usize, ParseErrorKind>,
-    Result<usize, ParseErrorKind>,
-);
+/// How many groups a pattern has, or why it is refused.
+type Count = Result<usize, ParseErrorKind>;
 
-/// How many groups the pattern has that was read, if it was.
-fn count_of(read: &fancy_regex::Result<Regex>) -> Option<usize> {
-    match read {
-        Ok(regex) => Some(regex.captures_len()),
-        Err(_) => None,
-    }
-}
-
-/// Checks how many groups the pattern has, where the option is first set otherwise.
-fn check_groups(
-    rt: &impl Abort,
-    alloc: Global,
-    pattern: &str,
-    yes: bool,
-    wanted: Result<usize, ParseErrorKind>,
-) {
+/// Checks how many groups the pattern has with [`RegexOptionsBuilder::ignore_numbered_groups_when_named_groups_exist`] off
+/// or on, where the option is first set otherwise.
+fn check_groups(rt: &impl Abort, alloc: Global, pattern: &str, yes: bool, wanted: Count) {
     let mut builder = RegexOptionsBuilder::new();
     builder.ignore_numbered_groups_when_named_groups_exist(!yes);
     builder.ignore_numbered_groups_when_named_groups_exist(yes);
-    let read = builder.build(String::from_str(alloc, pattern).expect(rt, pattern));
-    check(rt, count_of(&read) == wanted.ok(), pattern);
-    check(rt, kind_of(&read) == wanted.err(), pattern);
+    let read = builder.build(owned(rt, alloc, pattern));
+    let found = match &read {
+        Ok(regex) => Ok(regex.captures_len()),
+        Err(Error::ParseError(_, kind)) => Err(*kind),
+        Err(_) => rt.panic(pattern),
+    };
+    check(rt, found == wanted, pattern);
 }
 
-const GROUPED: &[Grouped] = &[
+/// A pattern, and how many groups it has with the option off and on.
+const GROUPED: &[(&str, Count, Count)] = &[
     ("(a)(?<n>b)", Ok(3), Ok(2)),
     ("(?<n>(a)(b))", Ok(4), Ok(2)),
     ("(a)", Ok(2), Ok(2)),
@@ -239,36 +219,4 @@ fn numbered_groups_give_way_to_named_ones(rt: HostRuntime) {
         check_groups(&rt, rt.alloc(), pattern, false, off);
         check_groups(&rt, rt.alloc(), pattern, true, on);
     }
-}
-
-const TOGETHER: &[BytesRow] = &[(
-    Settings {
-        bytes_mode: BytesMode::Ascii,
-        unicode_mode: false,
-        case_insensitive: true,
-        multi_line: true,
-        ignore_whitespace: true,
-        dot_matches_new_line: true,
-        crlf: true,
-        overrides: true,
-        ..CHARACTERS
-    },
-    "^ a . $",
-    b"b\rA\xFF\r\n",
-    Some((2, 4)),
-)];
-
-#[test]
-fn setters_chain(rt: HostRuntime) {
-    check_spans(&rt, rt.alloc(), TOGETHER);
-}
-
-#[test]
-fn the_default_options(rt: HostRuntime) {
-    let pattern = String::from_str(rt.alloc(), "a b").expect(&rt, "a text");
-    let regex = RegexOptionsBuilder::default()
-        .build(pattern)
-        .expect(&rt, "a regex");
-    check_first(&rt, &regex, "ab", None);
-    check_first(&rt, &regex, "a b", Some((0, 3)));
 }

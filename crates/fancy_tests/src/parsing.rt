@@ -1,322 +1,400 @@
 //! Where patterns are refused and why, and how large they are that are read.
 
 use crate::asking::{
-    CHARACTERS, FaultRow, ONLY_NAMED, check, check_faults, is_too_complex, repeated,
+    CHARACTERS, ONLY_NAMED, Verdict, VerdictRow, check, check_verdict, check_verdicts, repeated,
 };
 use fancy_syntax::parse::{ParseOptions, parse, parse_with};
 use fancy_tree::error::ParseErrorKind;
 use fancy_tree::tree::Meaning;
-use std::alloc::Global;
-use std::process::Abort;
 
-const FAULTS: &[FaultRow] = &[
-    (CHARACTERS, "", None),
-    (CHARACTERS, "a|(?:b|)??\\*\\ {x}]{,2", None),
+const FAULTS: &[VerdictRow] = &[
+    (CHARACTERS, "", Verdict::Accepted),
+    (CHARACTERS, "a|(?:b|)??\\*\\ {x}]{,2", Verdict::Accepted),
     (
         CHARACTERS,
         "?a",
-        Some((0, ParseErrorKind::TargetNotRepeatable)),
+        Verdict::Fault(0, ParseErrorKind::TargetNotRepeatable),
     ),
     (
         CHARACTERS,
         "{2}",
-        Some((0, ParseErrorKind::TargetNotRepeatable)),
+        Verdict::Fault(0, ParseErrorKind::TargetNotRepeatable),
     ),
     (
         CHARACTERS,
         "(?:(?:))?",
-        Some((8, ParseErrorKind::TargetNotRepeatable)),
+        Verdict::Fault(8, ParseErrorKind::TargetNotRepeatable),
     ),
     (
         CHARACTERS,
         "(?:)*",
-        Some((4, ParseErrorKind::TargetNotRepeatable)),
+        Verdict::Fault(4, ParseErrorKind::TargetNotRepeatable),
     ),
     (
         CHARACTERS,
         "a???",
-        Some((3, ParseErrorKind::TargetNotRepeatable)),
+        Verdict::Fault(3, ParseErrorKind::TargetNotRepeatable),
     ),
     (
         CHARACTERS,
         "a?{,2}",
-        Some((2, ParseErrorKind::TargetNotRepeatable)),
+        Verdict::Fault(2, ParseErrorKind::TargetNotRepeatable),
     ),
     (
         CHARACTERS,
         "a\\",
-        Some((1, ParseErrorKind::TrailingBackslash)),
+        Verdict::Fault(1, ParseErrorKind::TrailingBackslash),
     ),
-    (CHARACTERS, "(a)(b*?)+()*", None),
-    (CHARACTERS, "(?=a)(?!a)(?>a)", None),
-    (CHARACTERS, "(*a)", Some((0, ParseErrorKind::NotInProfile))),
+    (CHARACTERS, "(a)(b*?)+()*", Verdict::Accepted),
+    (CHARACTERS, "(?=a)(?!a)(?>a)", Verdict::Accepted),
+    (
+        CHARACTERS,
+        "(*a)",
+        Verdict::Fault(0, ParseErrorKind::NotInProfile),
+    ),
     (
         CHARACTERS,
         "(",
-        Some((1, ParseErrorKind::UnclosedOpenParen)),
+        Verdict::Fault(1, ParseErrorKind::UnclosedOpenParen),
     ),
     (
         CHARACTERS,
         "(+a)",
-        Some((1, ParseErrorKind::TargetNotRepeatable)),
+        Verdict::Fault(1, ParseErrorKind::TargetNotRepeatable),
     ),
-    (CHARACTERS, "a?+b*+c++d{2}+", None),
+    (CHARACTERS, "a?+b*+c++d{2}+", Verdict::Accepted),
     (
         CHARACTERS,
         "a+++",
-        Some((3, ParseErrorKind::TargetNotRepeatable)),
+        Verdict::Fault(3, ParseErrorKind::TargetNotRepeatable),
     ),
     (
         CHARACTERS,
         "a**",
-        Some((2, ParseErrorKind::TargetNotRepeatable)),
+        Verdict::Fault(2, ParseErrorKind::TargetNotRepeatable),
     ),
     (
         CHARACTERS,
         "a+?+",
-        Some((3, ParseErrorKind::TargetNotRepeatable)),
+        Verdict::Fault(3, ParseErrorKind::TargetNotRepeatable),
     ),
-    (CHARACTERS, "a{2}(?:b){2,}?c{,3}d{1,1000}", None),
+    (
+        CHARACTERS,
+        "a{2}(?:b){2,}?c{,3}d{1,1000}",
+        Verdict::Accepted,
+    ),
     (
         CHARACTERS,
         "a{2}{3}",
-        Some((4, ParseErrorKind::TargetNotRepeatable)),
+        Verdict::Fault(4, ParseErrorKind::TargetNotRepeatable),
     ),
     (
         CHARACTERS,
         "a{2,1}",
-        Some((1, ParseErrorKind::InvalidRepeat)),
+        Verdict::Fault(1, ParseErrorKind::InvalidRepeat),
     ),
     (
         CHARACTERS,
         "a{4294967296}",
-        Some((1, ParseErrorKind::InvalidRepeat)),
+        Verdict::Fault(1, ParseErrorKind::InvalidRepeat),
     ),
     (
         CHARACTERS,
         "a{99999999999999999999,}",
-        Some((1, ParseErrorKind::InvalidRepeat)),
+        Verdict::Fault(1, ParseErrorKind::InvalidRepeat),
     ),
-    (CHARACTERS, "a{}{,}{1 }", None),
-    (CHARACTERS, "(?#a)b(?#c)*(?#d)|(?#(?#)", None),
+    (CHARACTERS, "a{}{,}{1 }", Verdict::Accepted),
+    (CHARACTERS, "(?#a)b(?#c)*(?#d)|(?#(?#)", Verdict::Accepted),
     (
         CHARACTERS,
         "(?x) a # b\n c(?-x: )(?s-x-)",
-        Some((20, ParseErrorKind::UnknownFlag)),
+        Verdict::Fault(20, ParseErrorKind::UnknownFlag),
     ),
-    (CHARACTERS, "(?x) a # b\n +(?-x: )(?smRx)(?m) |# c", None),
-    (CHARACTERS, "(?x:a b)(?ux-R: )", None),
-    (CHARACTERS, "(?)", Some((0, ParseErrorKind::UnknownFlag))),
-    (CHARACTERS, "(?-)", Some((0, ParseErrorKind::UnknownFlag))),
+    (
+        CHARACTERS,
+        "(?x) a # b\n +(?-x: )(?smRx)(?m) |# c",
+        Verdict::Accepted,
+    ),
+    (CHARACTERS, "(?x:a b)(?ux-R: )", Verdict::Accepted),
+    (
+        CHARACTERS,
+        "(?)",
+        Verdict::Fault(0, ParseErrorKind::UnknownFlag),
+    ),
+    (
+        CHARACTERS,
+        "(?-)",
+        Verdict::Fault(0, ParseErrorKind::UnknownFlag),
+    ),
     (
         CHARACTERS,
         "(?m-:a)",
-        Some((0, ParseErrorKind::UnknownFlag)),
+        Verdict::Fault(0, ParseErrorKind::UnknownFlag),
     ),
-    (CHARACTERS, "(?z)", Some((0, ParseErrorKind::UnknownFlag))),
-    (CHARACTERS, "(?Pa)", Some((0, ParseErrorKind::UnknownFlag))),
-    (CHARACTERS, "(?i)a(?-i:B)", None),
-    (CHARACTERS, "(?P<a>b)(?<é²_1>)(?<1>a)(?<a>)*", None),
+    (
+        CHARACTERS,
+        "(?z)",
+        Verdict::Fault(0, ParseErrorKind::UnknownFlag),
+    ),
+    (
+        CHARACTERS,
+        "(?Pa)",
+        Verdict::Fault(0, ParseErrorKind::UnknownFlag),
+    ),
+    (CHARACTERS, "(?i)a(?-i:B)", Verdict::Accepted),
+    (
+        CHARACTERS,
+        "(?P<a>b)(?<é²_1>)(?<1>a)(?<a>)*",
+        Verdict::Accepted,
+    ),
     (
         CHARACTERS,
         "(?<>a)",
-        Some((0, ParseErrorKind::InvalidGroupName)),
+        Verdict::Fault(0, ParseErrorKind::InvalidGroupName),
     ),
     (
         CHARACTERS,
         "(?<a b>c)",
-        Some((0, ParseErrorKind::InvalidGroupName)),
+        Verdict::Fault(0, ParseErrorKind::InvalidGroupName),
     ),
     (
         CHARACTERS,
         "a(?P<=b)",
-        Some((1, ParseErrorKind::InvalidGroupName)),
+        Verdict::Fault(1, ParseErrorKind::InvalidGroupName),
     ),
-    (CHARACTERS, "(?<=a)(?<!a|bc)(?<=)", None),
+    (CHARACTERS, "(?<=a)(?<!a|bc)(?<=)", Verdict::Accepted),
     (
         CHARACTERS,
         "(?=a",
-        Some((4, ParseErrorKind::UnclosedOpenParen)),
+        Verdict::Fault(4, ParseErrorKind::UnclosedOpenParen),
     ),
     (
         CHARACTERS,
         "(?=a\\K)",
-        Some((4, ParseErrorKind::NotInProfile)),
+        Verdict::Fault(4, ParseErrorKind::NotInProfile),
     ),
-    (CHARACTERS, "(?-1)", Some((0, ParseErrorKind::NotInProfile))),
+    (
+        CHARACTERS,
+        "(?-1)",
+        Verdict::Fault(0, ParseErrorKind::NotInProfile),
+    ),
     (
         CHARACTERS,
         "(?-u)",
-        Some((0, ParseErrorKind::ChangingUnicodeModeUnsupported)),
+        Verdict::Fault(0, ParseErrorKind::ChangingUnicodeModeUnsupported),
     ),
     (
         CHARACTERS,
         "(?m",
-        Some((0, ParseErrorKind::UnclosedOpenParen)),
+        Verdict::Fault(0, ParseErrorKind::UnclosedOpenParen),
     ),
-    (CHARACTERS, "(?uz)", Some((0, ParseErrorKind::UnknownFlag))),
+    (
+        CHARACTERS,
+        "(?uz)",
+        Verdict::Fault(0, ParseErrorKind::UnknownFlag),
+    ),
     (
         CHARACTERS,
         "(?m)*",
-        Some((4, ParseErrorKind::TargetNotRepeatable)),
+        Verdict::Fault(4, ParseErrorKind::TargetNotRepeatable),
     ),
     (
         CHARACTERS,
         "(?:(?m))*",
-        Some((8, ParseErrorKind::TargetNotRepeatable)),
+        Verdict::Fault(8, ParseErrorKind::TargetNotRepeatable),
     ),
     (
         CHARACTERS,
         "(?x)a+ +",
-        Some((7, ParseErrorKind::TargetNotRepeatable)),
+        Verdict::Fault(7, ParseErrorKind::TargetNotRepeatable),
     ),
-    (CHARACTERS, "(?x)a{1 }", None),
-    (CHARACTERS, "^a$\\A\\z\\Z\\n\\e(?mR)^*$", None),
-    (CHARACTERS, "\\q", Some((0, ParseErrorKind::InvalidEscape))),
-    (CHARACTERS, "\\0", Some((0, ParseErrorKind::InvalidEscape))),
-    (CHARACTERS, "\\k", Some((0, ParseErrorKind::InvalidEscape))),
+    (CHARACTERS, "(?x)a{1 }", Verdict::Accepted),
+    (CHARACTERS, "^a$\\A\\z\\Z\\n\\e(?mR)^*$", Verdict::Accepted),
+    (
+        CHARACTERS,
+        "\\q",
+        Verdict::Fault(0, ParseErrorKind::InvalidEscape),
+    ),
+    (
+        CHARACTERS,
+        "\\0",
+        Verdict::Fault(0, ParseErrorKind::InvalidEscape),
+    ),
+    (
+        CHARACTERS,
+        "\\k",
+        Verdict::Fault(0, ParseErrorKind::InvalidEscape),
+    ),
     (
         CHARACTERS,
         "\\k<+1>",
-        Some((0, ParseErrorKind::NotInProfile)),
+        Verdict::Fault(0, ParseErrorKind::NotInProfile),
     ),
     (
         CHARACTERS,
         "(?<n>a)\\k<n+1>",
-        Some((7, ParseErrorKind::NotInProfile)),
+        Verdict::Fault(7, ParseErrorKind::NotInProfile),
     ),
     (
         CHARACTERS,
         "(a)\\4294967296",
-        Some((3, ParseErrorKind::InvalidEscape)),
+        Verdict::Fault(3, ParseErrorKind::InvalidEscape),
     ),
     (
         CHARACTERS,
         "(?#a",
-        Some((0, ParseErrorKind::UnclosedOpenParen)),
+        Verdict::Fault(0, ParseErrorKind::UnclosedOpenParen),
     ),
     (
         CHARACTERS,
         "a(?#b)+(?#c)+",
-        Some((12, ParseErrorKind::TargetNotRepeatable)),
+        Verdict::Fault(12, ParseErrorKind::TargetNotRepeatable),
     ),
     (
         CHARACTERS,
         "(?#a)+",
-        Some((5, ParseErrorKind::TargetNotRepeatable)),
+        Verdict::Fault(5, ParseErrorKind::TargetNotRepeatable),
     ),
     (
         CHARACTERS,
         "(?:(?#a))*",
-        Some((9, ParseErrorKind::TargetNotRepeatable)),
+        Verdict::Fault(9, ParseErrorKind::TargetNotRepeatable),
     ),
-    (CHARACTERS, "[a-z&&[^aeiou]]+\\d*\\S\\pL\\P{Greek}", None),
-    (CHARACTERS, "[]a][a-][--a][a---b][a&&b]", None),
+    (
+        CHARACTERS,
+        "[a-z&&[^aeiou]]+\\d*\\S\\pL\\P{Greek}",
+        Verdict::Accepted,
+    ),
+    (CHARACTERS, "[]a][a-][--a][a---b][a&&b]", Verdict::Accepted),
     (
         CHARACTERS,
         "a[b-a]",
-        Some((1, ParseErrorKind::InvalidClass)),
+        Verdict::Fault(1, ParseErrorKind::InvalidClass),
     ),
-    (CHARACTERS, "[a", Some((0, ParseErrorKind::InvalidClass))),
-    (CHARACTERS, "[]", Some((0, ParseErrorKind::InvalidClass))),
-    (CHARACTERS, "[^]", Some((0, ParseErrorKind::InvalidClass))),
+    (
+        CHARACTERS,
+        "[a",
+        Verdict::Fault(0, ParseErrorKind::InvalidClass),
+    ),
+    (
+        CHARACTERS,
+        "[]",
+        Verdict::Fault(0, ParseErrorKind::InvalidClass),
+    ),
+    (
+        CHARACTERS,
+        "[^]",
+        Verdict::Fault(0, ParseErrorKind::InvalidClass),
+    ),
     (
         CHARACTERS,
         "[a-\\d]",
-        Some((0, ParseErrorKind::InvalidClass)),
+        Verdict::Fault(0, ParseErrorKind::InvalidClass),
     ),
-    (CHARACTERS, "(??a)", Some((0, ParseErrorKind::UnknownFlag))),
+    (
+        CHARACTERS,
+        "(??a)",
+        Verdict::Fault(0, ParseErrorKind::UnknownFlag),
+    ),
     (
         CHARACTERS,
         "[[:nope:]]",
-        Some((0, ParseErrorKind::InvalidClass)),
+        Verdict::Fault(0, ParseErrorKind::InvalidClass),
     ),
     (
         CHARACTERS,
         "\\p{Nope}",
-        Some((0, ParseErrorKind::InvalidClass)),
+        Verdict::Fault(0, ParseErrorKind::InvalidClass),
     ),
     (
         CHARACTERS,
         "\\p{a=b}",
-        Some((0, ParseErrorKind::NotInProfile)),
+        Verdict::Fault(0, ParseErrorKind::NotInProfile),
     ),
-    (CHARACTERS, "\\xZ", Some((0, ParseErrorKind::InvalidHex))),
+    (
+        CHARACTERS,
+        "\\xZ",
+        Verdict::Fault(0, ParseErrorKind::InvalidHex),
+    ),
     (
         CHARACTERS,
         "\\x{123456789}",
-        Some((0, ParseErrorKind::InvalidHex)),
+        Verdict::Fault(0, ParseErrorKind::InvalidHex),
     ),
     (
         CHARACTERS,
         "\\x{110000}",
-        Some((0, ParseErrorKind::InvalidCodepointValue)),
+        Verdict::Fault(0, ParseErrorKind::InvalidCodepointValue),
     ),
-    (CHARACTERS, "\\xE9\\u00e9\\U000000E9\\x{e9}", None),
+    (
+        CHARACTERS,
+        "\\xE9\\u00e9\\U000000E9\\x{e9}",
+        Verdict::Accepted,
+    ),
     (
         CHARACTERS,
         "\\b\\B\\<\\>\\b{start}\\b{end}\\b{start-half}\\b{end-half}",
-        None,
+        Verdict::Accepted,
     ),
-    (CHARACTERS, ".\\O\\N(?s:.)", None),
-    (CHARACTERS, "\\R", Some((0, ParseErrorKind::NotInProfile))),
+    (CHARACTERS, ".\\O\\N(?s:.)", Verdict::Accepted),
+    (
+        CHARACTERS,
+        "\\R",
+        Verdict::Fault(0, ParseErrorKind::NotInProfile),
+    ),
     (
         CHARACTERS,
         "a)",
-        Some((1, ParseErrorKind::GeneralParseError)),
+        Verdict::Fault(1, ParseErrorKind::GeneralParseError),
     ),
     (
         CHARACTERS,
         "é)",
-        Some((2, ParseErrorKind::GeneralParseError)),
+        Verdict::Fault(2, ParseErrorKind::GeneralParseError),
     ),
     (
         CHARACTERS,
         "(?:a",
-        Some((4, ParseErrorKind::UnclosedOpenParen)),
+        Verdict::Fault(4, ParseErrorKind::UnclosedOpenParen),
     ),
-];
-
-/// Faults where a group with a name keeps those without from capturing.
-const FAULTS_BESIDE_NAMES: &[FaultRow] = &[
-    (ONLY_NAMED, "()*", None),
-    (ONLY_NAMED, "(|)*(()())*(?<n>)*", None),
+    // where a group with a name keeps those without from capturing
+    (ONLY_NAMED, "()*", Verdict::Accepted),
+    (ONLY_NAMED, "(|)*(()())*(?<n>)*", Verdict::Accepted),
     (
         ONLY_NAMED,
         "()*(?<n>a)",
-        Some((2, ParseErrorKind::TargetNotRepeatable)),
+        Verdict::Fault(2, ParseErrorKind::TargetNotRepeatable),
     ),
     (
         ONLY_NAMED,
         "(?<n>a)()*",
-        Some((9, ParseErrorKind::TargetNotRepeatable)),
+        Verdict::Fault(9, ParseErrorKind::TargetNotRepeatable),
     ),
     (
         ONLY_NAMED,
         "(?P<n>()*)",
-        Some((8, ParseErrorKind::TargetNotRepeatable)),
+        Verdict::Fault(8, ParseErrorKind::TargetNotRepeatable),
     ),
     (
         ONLY_NAMED,
         "((?i))*(?<n>a)",
-        Some((6, ParseErrorKind::TargetNotRepeatable)),
+        Verdict::Fault(6, ParseErrorKind::TargetNotRepeatable),
     ),
     (
         ONLY_NAMED,
         "(a(?<n>b)",
-        Some((9, ParseErrorKind::UnclosedOpenParen)),
+        Verdict::Fault(9, ParseErrorKind::UnclosedOpenParen),
     ),
     (
         ONLY_NAMED,
         "(?<n>a)(*b)",
-        Some((7, ParseErrorKind::NotInProfile)),
+        Verdict::Fault(7, ParseErrorKind::NotInProfile),
     ),
 ];
 
 #[test]
-fn places_and_kinds(rt: HostRuntime) {
-    check_faults(&rt, rt.alloc(), FAULTS);
-    check_faults(&rt, rt.alloc(), FAULTS_BESIDE_NAMES);
+fn faults_have_a_place_and_a_kind(rt: HostRuntime) {
+    check_verdicts(&rt, rt.alloc(), FAULTS);
 }
 
 const OF_BYTES: ParseOptions = ParseOptions {
@@ -337,13 +415,6 @@ const OF_NAMED_GROUPS: ParseOptions = ParseOptions {
 
 /// What holds at the start, a pattern, and how many nodes, groups and names it has.
 type SizeRow = (ParseOptions, &'static str, (usize, usize, usize));
-
-fn check_size(rt: &impl Abort, alloc: Global, row: &SizeRow) {
-    let (options, pattern, wanted) = *row;
-    let found = parse_with(alloc, pattern, options).expect(rt, pattern);
-    let size = (found.tree.nodes(), found.groups, found.names.len());
-    check(rt, size == wanted, pattern);
-}
 
 const SIZES: &[SizeRow] = &[
     (ParseOptions::STANDARD, "(?:a|b)?c", (7, 1, 0)),
@@ -370,9 +441,11 @@ const SIZES: &[SizeRow] = &[
 ];
 
 #[test]
-fn sizes(rt: HostRuntime) {
-    for row in SIZES {
-        check_size(&rt, rt.alloc(), row);
+fn patterns_have_a_size(rt: HostRuntime) {
+    for &(options, pattern, wanted) in SIZES {
+        let found = parse_with(rt.alloc(), pattern, options).expect(&rt, pattern);
+        let size = (found.tree.nodes(), found.groups, found.names.len());
+        check(&rt, size == wanted, pattern);
     }
 }
 
@@ -381,7 +454,7 @@ fn groups_that_capture_nothing_are_no_nodes(rt: HostRuntime) {
     let mut pattern = repeated(&rt, rt.alloc(), "(a)", 500_000);
     pattern.push_str("(?<n>b)").expect(&rt, "no memory");
     let found = parse(rt.alloc(), pattern.as_str());
-    check(&rt, is_too_complex(&found), "groups that capture");
+    check_verdict(&rt, &found, Verdict::TooComplex, "groups that capture");
     let found = parse_with(rt.alloc(), pattern.as_str(), OF_NAMED_GROUPS);
-    check(&rt, found.is_ok(), "groups that do not");
+    check_verdict(&rt, &found, Verdict::Accepted, "groups that do not");
 }

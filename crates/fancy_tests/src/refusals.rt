@@ -1,14 +1,13 @@
 //! What is refused, and why.
 
 use crate::asking::{
-    ASCII_TEXT, BYTES, BYTES_WITHOUT_UNICODE, KindRow, Settings, check, check_kinds, fault_of,
-    is_too_complex, kind_of, read, read_many, read_nested,
+    ASCII_TEXT, BYTES, BYTES_WITHOUT_UNICODE, KindRow, Verdict, VerdictRow, check_kinds,
+    check_verdict, check_verdicts, nested, repeated,
 };
 use fancy_regex::{ParseErrorKind, Regex};
-use std::alloc::Global;
-use std::process::Abort;
 
-const FAULTY_PATTERNS: &[KindRow] = &[
+const FAULTS: &[KindRow] = &[
+    // patterns
     ("a)", ParseErrorKind::GeneralParseError),
     ("(?:a", ParseErrorKind::UnclosedOpenParen),
     ("(a", ParseErrorKind::UnclosedOpenParen),
@@ -21,14 +20,7 @@ const FAULTY_PATTERNS: &[KindRow] = &[
     ("(?P!a)", ParseErrorKind::UnknownFlag),
     ("(?-u)", ParseErrorKind::ChangingUnicodeModeUnsupported),
     ("(?<>a)", ParseErrorKind::InvalidGroupName),
-];
-
-#[test]
-fn patterns_of_one_fault(rt: HostRuntime) {
-    check_kinds(&rt, rt.alloc(), FAULTY_PATTERNS);
-}
-
-const FAULTY_REPEATS: &[KindRow] = &[
+    // repeats
     ("?a", ParseErrorKind::TargetNotRepeatable),
     ("{2}", ParseErrorKind::TargetNotRepeatable),
     ("(?:)?", ParseErrorKind::TargetNotRepeatable),
@@ -40,14 +32,7 @@ const FAULTY_REPEATS: &[KindRow] = &[
     ("x{3,1}", ParseErrorKind::InvalidRepeat),
     ("a{4294967296}", ParseErrorKind::InvalidRepeat),
     ("a{,4294967296}", ParseErrorKind::InvalidRepeat),
-];
-
-#[test]
-fn repeats_of_one_fault(rt: HostRuntime) {
-    check_kinds(&rt, rt.alloc(), FAULTY_REPEATS);
-}
-
-const FAULTY_ESCAPES: &[KindRow] = &[
+    // escapes
     ("a\\", ParseErrorKind::TrailingBackslash),
     ("\\q", ParseErrorKind::InvalidEscape),
     ("\\0", ParseErrorKind::InvalidEscape),
@@ -64,14 +49,7 @@ const FAULTY_ESCAPES: &[KindRow] = &[
     ("\\R", ParseErrorKind::NotInProfile),
     ("\\X", ParseErrorKind::NotInProfile),
     ("\\g", ParseErrorKind::NotInProfile),
-];
-
-#[test]
-fn escapes_of_one_fault(rt: HostRuntime) {
-    check_kinds(&rt, rt.alloc(), FAULTY_ESCAPES);
-}
-
-const FAULTY_CLASSES: &[KindRow] = &[
+    // classes
     ("[b-a]", ParseErrorKind::InvalidClass),
     ("[a", ParseErrorKind::InvalidClass),
     ("[]", ParseErrorKind::InvalidClass),
@@ -87,26 +65,12 @@ const FAULTY_CLASSES: &[KindRow] = &[
     ("\\p{sc=Greek}", ParseErrorKind::NotInProfile),
     ("[\\q]", ParseErrorKind::InvalidEscape),
     ("[\\xZ]", ParseErrorKind::InvalidHex),
-];
-
-#[test]
-fn classes_of_one_fault(rt: HostRuntime) {
-    check_kinds(&rt, rt.alloc(), FAULTY_CLASSES);
-}
-
-const NO_NAMES: &[KindRow] = &[
+    // names are rows of their characters
     ("(?<>a)", ParseErrorKind::InvalidGroupName),
     ("(?<a b>c)", ParseErrorKind::InvalidGroupName),
     ("(?P<a-b>c)", ParseErrorKind::InvalidGroupName),
     ("(?<a", ParseErrorKind::InvalidGroupName),
-];
-
-#[test]
-fn names_are_rows_of_their_characters(rt: HostRuntime) {
-    check_kinds(&rt, rt.alloc(), NO_NAMES);
-}
-
-const LEFT_OUT: &[KindRow] = &[
+    // forms that are left out
     ("(*FAIL)", ParseErrorKind::NotInProfile),
     ("(?~a)", ParseErrorKind::NotInProfile),
     ("(?&n)", ParseErrorKind::NotInProfile),
@@ -118,91 +82,88 @@ const LEFT_OUT: &[KindRow] = &[
     ("(?(?=a)b)", ParseErrorKind::NotInProfile),
 ];
 
-#[test]
-fn forms_that_are_left_out(rt: HostRuntime) {
-    check_kinds(&rt, rt.alloc(), LEFT_OUT);
-}
+const NO_CLASS: Verdict = Verdict::Kind(ParseErrorKind::InvalidClass);
 
-/// Checks that the patterns are refused as classes that these options do not have.
-fn check_no_classes(rt: &impl Abort, alloc: Global, settings: Settings, patterns: &[&str]) {
-    for pattern in patterns {
-        let read = read(alloc, settings, *pattern);
-        check(
-            rt,
-            kind_of(&read) == Some(ParseErrorKind::InvalidClass),
-            *pattern,
-        );
-    }
-}
-
-const NO_SETS_OF_ASCII_TEXT: &[&str] = &[
-    ".",
-    "\\O",
-    "\\N",
-    "\\W",
-    "\\D",
-    "\\S",
-    "\\H",
-    "[^a]",
-    "[[:^alpha:]]",
-    "[a[^b]]",
-    "[\\D]",
-    "[é]",
-    "[a-é]",
-    "[\\xE9]",
-    "\\p{L}",
-    "\\P{L}",
-    "[\\p{L}]",
-];
-
-const NO_SETS_OF_BYTES: &[&str] = &[
-    "\\p{L}",
-    "\\PL",
-    "[\\p{L}]",
-    "[é]",
-    "[a-é]",
-    "[\\x{E9}]",
-    "[\\u00E9]",
+/// Sets that a mode does not have.
+const NO_SETS: &[VerdictRow] = &[
+    (ASCII_TEXT, ".", NO_CLASS),
+    (ASCII_TEXT, "\\O", NO_CLASS),
+    (ASCII_TEXT, "\\N", NO_CLASS),
+    (ASCII_TEXT, "\\W", NO_CLASS),
+    (ASCII_TEXT, "\\D", NO_CLASS),
+    (ASCII_TEXT, "\\S", NO_CLASS),
+    (ASCII_TEXT, "\\H", NO_CLASS),
+    (ASCII_TEXT, "[^a]", NO_CLASS),
+    (ASCII_TEXT, "[[:^alpha:]]", NO_CLASS),
+    (ASCII_TEXT, "[a[^b]]", NO_CLASS),
+    (ASCII_TEXT, "[\\D]", NO_CLASS),
+    (ASCII_TEXT, "[é]", NO_CLASS),
+    (ASCII_TEXT, "[a-é]", NO_CLASS),
+    (ASCII_TEXT, "[\\xE9]", NO_CLASS),
+    (ASCII_TEXT, "\\p{L}", NO_CLASS),
+    (ASCII_TEXT, "\\P{L}", NO_CLASS),
+    (ASCII_TEXT, "[\\p{L}]", NO_CLASS),
+    (BYTES, "\\p{L}", NO_CLASS),
+    (BYTES, "\\PL", NO_CLASS),
+    (BYTES, "[\\p{L}]", NO_CLASS),
+    (BYTES, "[é]", NO_CLASS),
+    (BYTES, "[a-é]", NO_CLASS),
+    (BYTES, "[\\x{E9}]", NO_CLASS),
+    (BYTES, "[\\u00E9]", NO_CLASS),
+    (BYTES_WITHOUT_UNICODE, "\\p{L}", NO_CLASS),
+    (BYTES_WITHOUT_UNICODE, "\\PL", NO_CLASS),
+    (BYTES_WITHOUT_UNICODE, "[\\p{L}]", NO_CLASS),
+    (BYTES_WITHOUT_UNICODE, "[é]", NO_CLASS),
+    (BYTES_WITHOUT_UNICODE, "[a-é]", NO_CLASS),
+    (BYTES_WITHOUT_UNICODE, "[\\x{E9}]", NO_CLASS),
+    (BYTES_WITHOUT_UNICODE, "[\\u00E9]", NO_CLASS),
 ];
 
 #[test]
-fn sets_that_a_mode_does_not_have(rt: HostRuntime) {
-    check_no_classes(&rt, rt.alloc(), ASCII_TEXT, NO_SETS_OF_ASCII_TEXT);
-    check_no_classes(&rt, rt.alloc(), BYTES, NO_SETS_OF_BYTES);
-    check_no_classes(&rt, rt.alloc(), BYTES_WITHOUT_UNICODE, NO_SETS_OF_BYTES);
+fn faulty_patterns_are_refused(rt: HostRuntime) {
+    check_kinds(&rt, rt.alloc(), FAULTS);
+    check_verdicts(&rt, rt.alloc(), NO_SETS);
 }
 
-/// What opens, stands within and closes, and the place of the refusal, where it is told.
-const DEEP: &[((&str, &str, &str), Option<usize>)] = &[
-    (("(?:", "a", ")"), None),
-    (("(?:", "", ")"), Some(195)),
-    (("(", "a", ")"), None),
-    (("(?i:", "a", ")"), None),
-    (("[", "a", "]"), Some(0)),
+const TOO_DEEP: Verdict = Verdict::Kind(ParseErrorKind::RecursionExceeded);
+
+/// What opens, stands within and closes, how deep it may be, and the verdict on it where it is one deeper.
+const DEEP: &[((&str, &str, &str), usize, Verdict)] = &[
+    (("(?:", "a", ")"), 64, TOO_DEEP),
+    (
+        ("(?:", "", ")"),
+        64,
+        Verdict::Fault(195, ParseErrorKind::RecursionExceeded),
+    ),
+    (("(", "a", ")"), 64, TOO_DEEP),
+    (("(?i:", "a", ")"), 64, TOO_DEEP),
+    (
+        ("[", "a", "]"),
+        64,
+        Verdict::Fault(0, ParseErrorKind::RecursionExceeded),
+    ),
+    // in the innermost condition two parentheses are open besides those of the bodies round it
+    (("(?(a)", "b", ")"), 63, TOO_DEEP),
 ];
-
-/// Whether a pattern is refused for its depth, at this place where it is told.
-fn is_too_deep(read: &fancy_regex::Result<Regex>, place: Option<usize>) -> bool {
-    match fault_of(read) {
-        Some((at, ParseErrorKind::RecursionExceeded)) => place.is_none() || place == Some(at),
-        _ => false,
-    }
-}
 
 #[test]
 fn parentheses_and_brackets_nest_64_deep(rt: HostRuntime) {
-    for &(parts, place) in DEEP {
-        let deepest = read_nested(&rt, rt.alloc(), parts, 64);
-        check(&rt, deepest.is_ok(), parts.0);
-        let too_deep = read_nested(&rt, rt.alloc(), parts, 65);
-        check(&rt, is_too_deep(&too_deep, place), parts.0);
+    for &(parts, depth, verdict) in DEEP {
+        let deepest = nested(&rt, rt.alloc(), parts, depth);
+        let read = Regex::new(rt.alloc(), deepest.as_str());
+        check_verdict(&rt, &read, Verdict::Accepted, parts.0);
+        let too_deep = nested(&rt, rt.alloc(), parts, depth.saturating_add(1));
+        let read = Regex::new(rt.alloc(), too_deep.as_str());
+        check_verdict(&rt, &read, verdict, parts.0);
     }
 }
 
 #[test]
 fn a_pattern_has_a_million_nodes(rt: HostRuntime) {
-    let most = read_many(&rt, rt.alloc(), 1_000_000);
-    check(&rt, most.is_ok(), "a million nodes");
-    let more = read_many(&rt, rt.alloc(), 1_000_001);
-    check(&rt, is_too_complex(&more), "one node more");
+    let most = repeated(&rt, rt.alloc(), "a", 1_000_000);
+    let read = Regex::new(rt.alloc(), most.as_str());
+    check_verdict(&rt, &read, Verdict::Accepted, "a million nodes");
+    let more = repeated(&rt, rt.alloc(), "a", 1_000_001);
+    let read = Regex::new(rt.alloc(), more.as_str());
+    check_verdict(&rt, &read, Verdict::TooComplex, "one node more");
 }

@@ -2,13 +2,14 @@
 
 use crate::asking::{
     ASCII_TEXT, BYTES, BYTES_WITHOUT_UNICODE, BytesRow, CHARACTERS, CHARACTERS_ANYWHERE, Settings,
-    TextRow, check_spans, check_texts, first_span, regex_with,
+    TextRow, check, check_spans, check_texts, first_span, regex_with,
 };
 use fancy_regex::{Regex, RegexInput};
 use std::alloc::Global;
 use std::process::Abort;
 
-const OPERATORS: &[TextRow] = &[
+const TEXTS: &[TextRow] = &[
+    // classes have operators
     ("[a-z&&[^aeiou]]+", "aebcd", Some((2, 5))),
     ("[a-c--b]+", "abc", Some((0, 1))),
     ("[[:alpha:]&&[^b]]+", "abc", Some((0, 1))),
@@ -22,14 +23,7 @@ const OPERATORS: &[TextRow] = &[
     ("[[a-c]x[^a-y]]+", "bxzy", Some((0, 3))),
     ("[[[a]]]", "a", Some((0, 1))),
     ("(?m:^)(\\d+)", "1 test 123\n2 foo", Some((0, 1))),
-];
-
-#[test]
-fn classes_have_operators(rt: HostRuntime) {
-    check_texts(&rt, rt.alloc(), OPERATORS);
-}
-
-const HYPHENS_AND_BRACKETS: &[TextRow] = &[
+    // hyphens and brackets have their places
     ("[]a]", "]", Some((0, 1))),
     ("[]a]", "a", Some((0, 1))),
     ("[^]a]", "]", None),
@@ -44,14 +38,7 @@ const HYPHENS_AND_BRACKETS: &[TextRow] = &[
     ("[a-c]", "c", Some((0, 1))),
     ("[a-c]", "d", None),
     ("[é-ü]", "ö", Some((0, 2))),
-];
-
-#[test]
-fn hyphens_and_brackets_have_their_places(rt: HostRuntime) {
-    check_texts(&rt, rt.alloc(), HYPHENS_AND_BRACKETS);
-}
-
-const WIDENED_SETS: &[TextRow] = &[
+    // sets are widened
     ("(?i)[^k]", "K", None),
     ("(?i)[^k]", "\u{212A}", None),
     ("(?i)[k]", "\u{212A}", Some((0, 3))),
@@ -67,10 +54,21 @@ const WIDENED_SETS: &[TextRow] = &[
     ("\\p{Greek}", "α", Some((0, 2))),
 ];
 
-#[test]
-fn sets_are_widened(rt: HostRuntime) {
-    check_texts(&rt, rt.alloc(), WIDENED_SETS);
-}
+/// Items of sets are characters or bytes.
+const ITEMS: &[BytesRow] = &[
+    (CHARACTERS, "[^a]", b"\xC0\x80", None),
+    (CHARACTERS, "[^a]", b"\xED\xA0\x80", None),
+    (CHARACTERS_ANYWHERE, "\\W", b"\xED\xA0\x80", None),
+    (CHARACTERS_ANYWHERE, "[\\xE9]", b"\xE9", None),
+    (CHARACTERS_ANYWHERE, "[\\xE9]", b"\xC3\xA9", Some((0, 2))),
+    (BYTES, "[\\xE9]", b"\xE9", Some((0, 1))),
+    (BYTES, "[\\x80-\\xFF]+", b"\xC3\xA9a", Some((0, 2))),
+    (BYTES, "[^a]", b"\xC3", Some((0, 1))),
+    (BYTES, "(?i)[k]", b"K", Some((0, 1))),
+    (BYTES, "(?i)[^k]", b"K", None),
+    (ASCII_TEXT, "[a-z]+", b"\xC3\xA9ab", Some((2, 4))),
+    (ASCII_TEXT, "(?i)[k]", b"\xE2\x84\xAAK", Some((3, 4))),
+];
 
 /// A set, its complement, and the ranges of its members.
 type SetRow = (&'static str, &'static str, &'static [(u32, u32)]);
@@ -121,14 +119,12 @@ const LETTERED_SETS: &[SetRow] = &[
 ];
 
 fn is_within(ranges: &[(u32, u32)], number: u32) -> bool {
-    ranges
-        .iter()
-        .any(|(first, last)| *first <= number && number <= *last)
-}
-
-/// Checks whether a number is a member of a set.
-fn check_member(rt: &impl Abort, set: &str, number: u32, found: bool, wanted: bool) {
-    assert!(rt; found == wanted, "{number} in {set}");
+    for &(first, last) in ranges {
+        if first <= number && number <= last {
+            return true;
+        }
+    }
+    false
 }
 
 /// Checks on every byte whether it is within the ranges, or outside of them where these are no members.
@@ -137,7 +133,7 @@ fn check_every_byte(rt: &impl Abort, regex: &Regex, ranges: &[(u32, u32)], membe
         let haystack: &[u8] = &[byte];
         let wanted = is_within(ranges, byte as u32) == members;
         let found = first_span(rt, regex, RegexInput::new(haystack));
-        check_member(rt, regex.as_str(), byte as u32, found.is_some(), wanted);
+        check(rt, found.is_some() == wanted, regex.as_str());
     }
 }
 
@@ -151,27 +147,13 @@ fn check_sets_of_bytes(rt: &impl Abort, alloc: Global, settings: Settings, rows:
     }
 }
 
-#[test]
-fn sets_of_bytes(rt: HostRuntime) {
-    for settings in [BYTES, BYTES_WITHOUT_UNICODE] {
-        check_sets_of_bytes(&rt, rt.alloc(), settings, POSIX_SETS);
-        check_sets_of_bytes(&rt, rt.alloc(), settings, LETTERED_SETS);
-    }
-}
-
-/// The text of one character.
-fn text_of(rt: &impl Abort, alloc: Global, c: char) -> String {
-    let mut text = String::new(alloc);
-    text.push(c).expect(rt, "no memory");
-    text
-}
-
 /// Checks that the pattern matches the bytes of this character, or does not.
 fn check_character(rt: &impl Abort, alloc: Global, regex: &Regex, c: char, wanted: bool) {
-    let text = text_of(rt, alloc, c);
+    let mut text = String::new(alloc);
+    text.push(c).expect(rt, "no memory");
     let input = RegexInput::new(text.as_str().as_bytes());
     let found = first_span(rt, regex, input);
-    check_member(rt, regex.as_str(), c as u32, found.is_some(), wanted);
+    check(rt, found.is_some() == wanted, text.as_str());
 }
 
 fn check_characters(rt: &impl Abort, alloc: Global, regex: &Regex, text: &str, wanted: bool) {
@@ -199,7 +181,11 @@ fn check_in_ascii(rt: &impl Abort, alloc: Global, settings: Settings, rows: &[Se
 }
 
 #[test]
-fn sets_of_ascii(rt: HostRuntime) {
+fn sets_of_bytes_and_of_ascii(rt: HostRuntime) {
+    check_sets_of_bytes(&rt, rt.alloc(), BYTES, POSIX_SETS);
+    check_sets_of_bytes(&rt, rt.alloc(), BYTES, LETTERED_SETS);
+    check_sets_of_bytes(&rt, rt.alloc(), BYTES_WITHOUT_UNICODE, POSIX_SETS);
+    check_sets_of_bytes(&rt, rt.alloc(), BYTES_WITHOUT_UNICODE, LETTERED_SETS);
     check_in_ascii(&rt, rt.alloc(), ASCII_TEXT, POSIX_SETS);
     check_in_ascii(&rt, rt.alloc(), ASCII_TEXT, LETTERED_SETS);
     check_in_ascii(&rt, rt.alloc(), CHARACTERS, POSIX_SETS);
@@ -209,21 +195,7 @@ fn sets_of_ascii(rt: HostRuntime) {
 /// A set, its complement, characters that are members, and characters that are none.
 type EdgeRow = (&'static str, &'static str, &'static str, &'static str);
 
-/// Checks a set and its complement on the characters of a text.
-fn check_edges(
-    rt: &impl Abort,
-    alloc: Global,
-    (set, complement): (&str, &str),
-    text: &str,
-    wanted: bool,
-) {
-    for settings in [CHARACTERS, CHARACTERS_ANYWHERE] {
-        let members = regex_with(rt, alloc, settings, set);
-        check_characters(rt, alloc, &members, text, wanted);
-        let others = regex_with(rt, alloc, settings, complement);
-        check_characters(rt, alloc, &others, text, !wanted);
-    }
-}
+const ABOVE_ASCII: &str = "\u{80}é\u{212A}\u{D7FF}\u{E000}\u{10FFFF}";
 
 const EDGES: &[EdgeRow] = &[
     (
@@ -257,40 +229,40 @@ const EDGES: &[EdgeRow] = &[
         "\u{200B}\u{200E}\u{203E}\u{2041}\u{2460}\u{D7FF}\u{E000}\u{1F600}\u{10FFFF}",
     ),
     ("\\h", "\\H", "09AFaf", "/:@G`g\u{660}\u{FF21}\u{10FFFF}"),
+    // complements have all of Unicode
+    ("[[:^alnum:]]", "[[:alnum:]]", ABOVE_ASCII, ""),
+    ("[[:^alpha:]]", "[[:alpha:]]", ABOVE_ASCII, ""),
+    ("[[:^ascii:]]", "[[:ascii:]]", ABOVE_ASCII, ""),
+    ("[[:^blank:]]", "[[:blank:]]", ABOVE_ASCII, ""),
+    ("[[:^cntrl:]]", "[[:cntrl:]]", ABOVE_ASCII, ""),
+    ("[[:^digit:]]", "[[:digit:]]", ABOVE_ASCII, ""),
+    ("[[:^graph:]]", "[[:graph:]]", ABOVE_ASCII, ""),
+    ("[[:^lower:]]", "[[:lower:]]", ABOVE_ASCII, ""),
+    ("[[:^print:]]", "[[:print:]]", ABOVE_ASCII, ""),
+    ("[[:^punct:]]", "[[:punct:]]", ABOVE_ASCII, ""),
+    ("[[:^space:]]", "[[:space:]]", ABOVE_ASCII, ""),
+    ("[[:^upper:]]", "[[:upper:]]", ABOVE_ASCII, ""),
+    ("[[:^word:]]", "[[:word:]]", ABOVE_ASCII, ""),
+    ("[[:^xdigit:]]", "[[:xdigit:]]", ABOVE_ASCII, ""),
 ];
 
-#[test]
-fn sets_of_unicode(rt: HostRuntime) {
-    for &(set, complement, members, others) in EDGES {
-        check_edges(&rt, rt.alloc(), (set, complement), members, true);
-        check_edges(&rt, rt.alloc(), (set, complement), others, false);
-    }
+/// Checks a set and its complement.
+fn check_edges(rt: &impl Abort, alloc: Global, settings: Settings, row: &EdgeRow) {
+    let (set, complement, members, others) = *row;
+    let regex = regex_with(rt, alloc, settings, set);
+    check_characters(rt, alloc, &regex, members, true);
+    check_characters(rt, alloc, &regex, others, false);
+    let regex = regex_with(rt, alloc, settings, complement);
+    check_characters(rt, alloc, &regex, members, false);
+    check_characters(rt, alloc, &regex, others, true);
 }
 
 #[test]
-fn complements_have_all_of_unicode(rt: HostRuntime) {
-    let text = "\u{80}é\u{212A}\u{D7FF}\u{E000}\u{10FFFF}";
-    for &(set, complement, _) in POSIX_SETS {
-        check_edges(&rt, rt.alloc(), (complement, set), text, true);
-    }
-}
-
-const ITEMS: &[BytesRow] = &[
-    (CHARACTERS, "[^a]", b"\xC0\x80", None),
-    (CHARACTERS, "[^a]", b"\xED\xA0\x80", None),
-    (CHARACTERS_ANYWHERE, "\\W", b"\xED\xA0\x80", None),
-    (CHARACTERS_ANYWHERE, "[\\xE9]", b"\xE9", None),
-    (CHARACTERS_ANYWHERE, "[\\xE9]", b"\xC3\xA9", Some((0, 2))),
-    (BYTES, "[\\xE9]", b"\xE9", Some((0, 1))),
-    (BYTES, "[\\x80-\\xFF]+", b"\xC3\xA9a", Some((0, 2))),
-    (BYTES, "[^a]", b"\xC3", Some((0, 1))),
-    (BYTES, "(?i)[k]", b"K", Some((0, 1))),
-    (BYTES, "(?i)[^k]", b"K", None),
-    (ASCII_TEXT, "[a-z]+", b"\xC3\xA9ab", Some((2, 4))),
-    (ASCII_TEXT, "(?i)[k]", b"\xE2\x84\xAAK", Some((3, 4))),
-];
-
-#[test]
-fn items_of_sets_are_characters_or_bytes(rt: HostRuntime) {
+fn sets_have_members(rt: HostRuntime) {
+    check_texts(&rt, rt.alloc(), TEXTS);
     check_spans(&rt, rt.alloc(), ITEMS);
+    for row in EDGES {
+        check_edges(&rt, rt.alloc(), CHARACTERS, row);
+        check_edges(&rt, rt.alloc(), CHARACTERS_ANYWHERE, row);
+    }
 }

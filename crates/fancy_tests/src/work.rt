@@ -6,152 +6,274 @@
 //! it is met first.
 
 use crate::asking::{
-    CHARACTERS, CountedRow, SEEKING, Span, WorkRow, check, check_counted, check_found, check_work,
-    counted, first_span, is_found, regex_of, regex_with, repeated,
+    CHARACTERS, CountRow, SEEKING, SearchRow, check, check_count, check_counts, check_searches,
+    counted, nested, regex_of, regex_with,
 };
 use fancy_regex::{Regex, RegexInput, Work};
-use std::alloc::Global;
 use std::process::Abort;
 
-const EASY_SEARCHES: &[WorkRow] = &[
+const COUNTS: &[CountRow] = &[
+    // easy searches
     // from 0 on
-    ("", "b", Some((0, 0)), 1, 0),
+    (
+        CHARACTERS,
+        "",
+        "b",
+        1_000_000,
+        Some(Some((0, 0))),
+        Some(1),
+        0,
+    ),
     // 2 Character(a, 0); from 2 on
-    ("a", "a", Some((0, 1)), 2, 0),
+    (
+        CHARACTERS,
+        "a",
+        "a",
+        1_000_000,
+        Some(Some((0, 1))),
+        Some(2),
+        0,
+    ),
     // no position has a byte that a match can begin with
-    ("a", "xyz", None, 0, 0),
+    (CHARACTERS, "a", "xyz", 1_000_000, Some(None), Some(0), 0),
     // 2 Character(b, 0), 3 Character(a, 2), 4 Character(a, 0), 5 Split(4, 3); from 5 on, at place 1 alone
-    ("a|ab", "xab", Some((1, 2)), 3, 0),
+    (
+        CHARACTERS,
+        "a|ab",
+        "xab",
+        1_000_000,
+        Some(Some((1, 2))),
+        Some(3),
+        0,
+    ),
     // 2 Character(c, 0), 3 Close(1, 2), 5 Character(b, 3), 6 Character(a, 5), 7 Character(a, 3), 8 Split(7, 6), 10 Open(1, 8);
     // from 10 on
-    ("(a|ab)c", "abc", Some((0, 3)), 10, 1),
+    (
+        CHARACTERS,
+        "(a|ab)c",
+        "abc",
+        1_000_000,
+        Some(Some((0, 3))),
+        Some(10),
+        1,
+    ),
     // 2 Split(3, 0), 3 Character(a, 2); from 2 on
-    ("a*", "aab", Some((0, 2)), 7, 1),
+    (
+        CHARACTERS,
+        "a*",
+        "aab",
+        1_000_000,
+        Some(Some((0, 2))),
+        Some(7),
+        1,
+    ),
     // 2 Character(b, 0), 3 Split(2, 4), 4 Character(a, 3); from 3 on
-    ("a*?b", "aab", Some((0, 3)), 9, 2),
+    (
+        CHARACTERS,
+        "a*?b",
+        "aab",
+        1_000_000,
+        Some(Some((0, 3))),
+        Some(9),
+        2,
+    ),
     // 2 Character(b, 0), 3 Character(a, 2), 4 Character(a, 2), 5 Split(4, 3); from 5 on at place 0 alone, and 2 is met twice at
     // place 1
-    ("(?:a|a)b", "ac", None, 4, 1),
-    // 2 Character(b, 0), 3 Split(4, 2), 4 Character(a, 3); from 3 on, and the first position meets each pair that there is
-    ("a*b", "aaa", None, 12, 4),
-];
-
-const HARD_SEARCHES: &[WorkRow] = &[
+    (
+        CHARACTERS,
+        "(?:a|a)b",
+        "acb",
+        1_000_000,
+        Some(None),
+        Some(4),
+        1,
+    ),
+    // a text that lacks a byte that each match has
+    (
+        CHARACTERS,
+        "(?:a|a)b",
+        "ac",
+        1_000_000,
+        Some(None),
+        Some(0),
+        0,
+    ),
+    (CHARACTERS, "a*b", "aaa", 1_000_000, Some(None), Some(0), 0),
+    // 2 Character(b, 0), 3 Character(a, 2); from 3 on, where the whole text of a match stands alone
+    (
+        CHARACTERS,
+        "ab",
+        "aaab",
+        1_000_000,
+        Some(Some((2, 4))),
+        Some(3),
+        0,
+    ),
+    (CHARACTERS, "ab", "ba", 1_000_000, Some(None), Some(0), 0),
+    // hard searches
     // 2 Character(c, 0), 3 Look(false, 2, 0), 5 Character(b, 3), 6 Character(a, 3), 7 Split(6, 5); from 7 on, and 0 ends the
     // look-ahead and then the match
-    ("(?:a|b)(?=c)", "bc", Some((0, 1)), 7, 1),
+    (
+        CHARACTERS,
+        "(?:a|b)(?=c)",
+        "bc",
+        1_000_000,
+        Some(Some((0, 1))),
+        Some(7),
+        1,
+    ),
+    // what searches count whether they seek or not: the branch for `b` is gone back to at each position that is tried
+    (CHARACTERS, "(?:a|b)(?=c)", "xxbc", 1, None, None, 1),
+    (
+        SEEKING,
+        "(?:a|b)(?=c)",
+        "xxbc",
+        1,
+        Some(Some((2, 3))),
+        None,
+        1,
+    ),
+    (SEEKING, "(?:a|b)(?=c)", "xxbc", 0, None, None, 0),
+    (
+        SEEKING,
+        "(?:a|b)(?=c)",
+        "xxac",
+        0,
+        Some(Some((2, 3))),
+        None,
+        0,
+    ),
+    (CHARACTERS, "(?:a|b)(?=c)", "xyz", 9, Some(None), None, 4),
+    (SEEKING, "(?:a|b)(?=c)", "xyz", 9, Some(None), None, 0),
+    // nor anything in a text that lacks a byte that each match has
+    (SEEKING, "(?:a|b)(?=c)", "ab", 0, Some(None), Some(0), 0),
+    // a search that seeks takes no step in vain
+    (
+        SEEKING,
+        "(?:a|b)(?<!c)",
+        "xyz",
+        1_000_000,
+        Some(None),
+        Some(0),
+        0,
+    ),
 ];
 
-/// What searches count whether they seek or not: the branch for `b` is gone back to at each position that is tried.
-const SOUGHT: &[CountedRow] = &[
-    (CHARACTERS, "(?:a|b)(?=c)", "xxbc", 1, None, 1),
-    (SEEKING, "(?:a|b)(?=c)", "xxbc", 1, Some(Some((2, 3))), 1),
-    (SEEKING, "(?:a|b)(?=c)", "xxbc", 0, None, 0),
-    (SEEKING, "(?:a|b)(?=c)", "xxac", 0, Some(Some((2, 3))), 0),
-    (CHARACTERS, "(?:a|b)(?=c)", "xyz", 9, Some(None), 4),
-    (SEEKING, "(?:a|b)(?=c)", "xyz", 9, Some(None), 0),
+/// Searches of parts whose work is told too.
+const PARTS: &[SearchRow<&str>] = &[
+    (CHARACTERS, "(a|ab)c", "xabc", 0, (1, 3), false, None),
+    (
+        SEEKING,
+        "(?:a|b)(?<!c)",
+        "xya",
+        0,
+        (0, 3),
+        false,
+        Some((2, 3)),
+    ),
+    // what each match has may stand outside of the range
+    (SEEKING, "(?<=x)a", "xa", 0, (1, 2), false, Some((1, 2))),
+    // the text that each match begins with
+    (CHARACTERS, "ab", "xabab", 0, (2, 5), false, Some((3, 5))),
+    (CHARACTERS, "ab", "xab", 0, (0, 2), false, None),
+    (CHARACTERS, "ab", "aab", 0, (0, 3), true, None),
+    (CHARACTERS, "ab", "aab", 1, (0, 3), true, Some((1, 3))),
+    (CHARACTERS, "éa", "èéa", 0, (0, 5), false, Some((2, 5))),
+    (
+        CHARACTERS,
+        "(ab)+c|x",
+        "ababx",
+        0,
+        (0, 5),
+        false,
+        Some((4, 5)),
+    ),
+    (
+        CHARACTERS,
+        "\\b(?:ab){2}c",
+        "abab ababc",
+        0,
+        (0, 10),
+        false,
+        Some((5, 10)),
+    ),
 ];
 
-#[test]
-fn positions_that_are_passed_over_count_nothing(rt: HostRuntime) {
-    check_counted(&rt, rt.alloc(), SOUGHT);
-}
-
-// one count serves them all: it begins anew at each search
 #[test]
 fn work_is_counted(rt: HostRuntime) {
+    check_counts(&rt, rt.alloc(), COUNTS);
+    check_searches(&rt, rt.alloc(), PARTS);
     let mut work = Work::new();
-    check_work(&rt, rt.alloc(), EASY_SEARCHES, &mut work);
-    check_work(&rt, rt.alloc(), HARD_SEARCHES, &mut work);
+    // a search goes back to a branch
+    let input = RegexInput::new("xabc").range(1..4);
+    let counts = (Some(Some((1, 4))), None, 1);
+    check_count(
+        &rt,
+        rt.alloc(),
+        (CHARACTERS, "(a|ab)c"),
+        input,
+        &mut work,
+        counts,
+    );
+    // 2 Character(b, 0), 3 Split(4, 2), 4 Character(a, 3); from 3 on, and the first position meets each pair that there is; the b
+    // stands past the range
+    let input = RegexInput::new("aaab").range(0..3);
+    let counts = (Some(None), Some(12), 4);
+    check_count(
+        &rt,
+        rt.alloc(),
+        (CHARACTERS, "a*b"),
+        input,
+        &mut work,
+        counts,
+    );
+    let nothing = (Some(None), Some(0), 0);
+    // the a stands past the range
+    let input = RegexInput::new("xya").range(0..2);
+    check_count(
+        &rt,
+        rt.alloc(),
+        (SEEKING, "(?:a|b)(?<!c)"),
+        input,
+        &mut work,
+        nothing,
+    );
+    // nothing is done past the end
+    let input = RegexInput::new("a").from_pos(2);
+    check_count(
+        &rt,
+        rt.alloc(),
+        (CHARACTERS, "a"),
+        input,
+        &mut work,
+        nothing,
+    );
 }
 
-/// Whether a search found that there is no match.
-fn is_nothing(found: &fancy_regex::Result<Option<Span>>) -> bool {
-    matches!(found, Ok(None))
-}
-
-/// Checks that the search finds nothing, in at most so many steps as are promised.
-fn check_nothing_in_time(rt: &impl Abort, regex: &Regex, haystack: &str) {
+/// Checks that the search finds nothing, in at most so many steps for each place.
+fn check_nothing_in_time(rt: &impl Abort, regex: &Regex, haystack: &str, steps: usize) {
     let mut work = Work::new();
     let found = counted(rt, regex, RegexInput::new(haystack), &mut work);
     let places = haystack.len().saturating_add(1);
-    let most = regex.code_len().saturating_mul(places);
-    check(rt, is_nothing(&found), haystack);
+    let most = steps.saturating_mul(places);
+    check(rt, found == Some(None), haystack);
     check(rt, work.steps() <= most, haystack);
-}
-
-fn check_twins(rt: &impl Abort, alloc: Global, regex: &Regex) {
-    let mut twins = repeated(rt, alloc, "ab", 28);
-    twins.push_str("ac").expect(rt, "no memory");
-    check_nothing_in_time(rt, regex, twins.as_str());
-}
-
-fn check_many(rt: &impl Abort, alloc: Global, regex: &Regex) {
-    let all = repeated(rt, alloc, "a", 130);
-    for count in 0..131usize {
-        let text = all.as_str().get(..count).expect(rt, "no text");
-        check_nothing_in_time(rt, regex, text);
-    }
 }
 
 #[test]
 fn a_search_is_bounded(rt: HostRuntime) {
     let regex = regex_of(&rt, rt.alloc(), "(?:a|b|ab)*bc");
+    let sought = regex_with(&rt, rt.alloc(), SEEKING, "(?:a|b|ab)*bc");
     check(&rt, regex.is_easy(), "an easy pattern");
-    check_twins(&rt, rt.alloc(), &regex);
-    check_many(&rt, rt.alloc(), &regex);
-}
-
-/// A part of a text.
-fn part_to(rt: &impl Abort, end: usize) -> RegexInput<&'static str> {
-    let haystack = "xabc";
-    assert!(rt; 1 <= end && end <= haystack.len());
-    RegexInput::new(haystack).range(1..end)
-}
-
-#[test]
-fn a_search_goes_back_to_a_branch(rt: HostRuntime) {
-    let regex = regex_of(&rt, rt.alloc(), "(a|ab)c");
-    let mut work = Work::new();
-    let found = counted(&rt, &regex, part_to(&rt, 4), &mut work);
-    check(&rt, is_found(&found, (1, 4)), "the span");
-    check(&rt, work.returns() == 1, "the returns");
-    let found = first_span(&rt, &regex, part_to(&rt, 3));
-    check_found(&rt, "(a|ab)c", "ab", found, None);
-}
-
-#[test]
-fn code_is_short(rt: HostRuntime) {
-    for (pattern, most) in [("(?:a*)*", 22), ("(a|b)+", 50), ("(?:a|b){2,4}", 78)] {
-        let regex = regex_of(&rt, rt.alloc(), pattern);
-        check(&rt, regex.code_len() <= most, pattern);
+    let most = regex.code_len();
+    let twins = nested(&rt, rt.alloc(), ("ab", "ac", ""), 28);
+    check_nothing_in_time(&rt, &regex, twins.as_str(), most);
+    let all = nested(&rt, rt.alloc(), ("a", "cb", ""), 130);
+    for count in 0..131usize {
+        let text = all.as_str().get(..count).expect(&rt, "no text");
+        check_nothing_in_time(&rt, &regex, text, most);
+        check_nothing_in_time(&rt, &sought, text, 0);
+        let text = all.as_str().get(count..).expect(&rt, "no text");
+        check_nothing_in_time(&rt, &regex, text, most);
     }
-}
-
-/// Checks that a search that seeks finds nothing in the input, without a step.
-fn check_no_step(rt: &impl Abort, regex: &Regex, input: RegexInput<&str>) {
-    let mut work = Work::new();
-    let found = counted(rt, regex, input, &mut work);
-    check(rt, is_nothing(&found), "nothing");
-    check(rt, work.steps() == 0, "the steps");
-}
-
-#[test]
-fn a_search_that_seeks_takes_no_step_in_vain(rt: HostRuntime) {
-    let regex = regex_with(&rt, rt.alloc(), SEEKING, "(?:a|b)(?<!c)");
-    check_no_step(&rt, &regex, RegexInput::new("xyz"));
-    // the a stands past the range
-    check_no_step(&rt, &regex, RegexInput::new("xya").range(0..2));
-    let found = first_span(&rt, &regex, RegexInput::new("xya").range(0..3));
-    check_found(&rt, "(?:a|b)(?<!c)", "xya", found, Some((2, 3)));
-}
-
-#[test]
-fn nothing_is_done_past_the_end(rt: HostRuntime) {
-    let regex = regex_of(&rt, rt.alloc(), "a");
-    let mut work = Work::new();
-    let past = RegexInput::new("a").from_pos(2);
-    let found = counted(&rt, &regex, past, &mut work);
-    check(&rt, is_nothing(&found), "nothing");
-    check(&rt, work.steps() == 0, "the steps");
 }

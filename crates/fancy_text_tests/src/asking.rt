@@ -11,22 +11,18 @@ mod templates;
 
 pub(crate) use fact::check;
 pub(crate) use groups::{
-    AllGroupsRow, GroupsRow, LaterGroupsRow, NameRow, NamesRow, TextsRow, captured, captured_in,
-    check_all_groups, check_captured, check_group_spans, check_groups, check_item,
-    check_later_groups, check_name, check_named, check_names, check_number, check_owned_texts,
-    check_texts_of_groups,
+    AllGroupsRow, Group, GroupsRow, LaterGroupsRow, NamesRow, PartsRow, check_all_groups,
+    check_captured, check_groups, check_input, check_later_groups, check_names, check_owned_parts,
+    check_parts, part_of, taken,
 };
-pub(crate) use lists::{
-    ListRow, TextListRow, check_lists, check_match_at, check_next, check_text_lists, span_found,
-};
-pub(crate) use pieces::{FirstPiecesRow, PiecesRow, check_first_pieces, check_pieces};
+pub(crate) use lists::{Row, TEXT, TextListRow, WHOLE_BYTES, check_rows, check_text_lists};
+pub(crate) use pieces::{FirstPiecesRow, PiecesRow, check_cut, check_first_pieces, check_pieces};
 pub(crate) use replaced::{ReplacedRow, check_answer, check_fixed, check_replaced};
 pub(crate) use settings::{
     BYTES, CHARACTERS, CHARACTERS_ANYWHERE, LONGEST, NOT_EMPTY, ONLY_NAMED, Settings, regex_of,
-    regex_with, searchable, seeking,
+    regex_with, searchable,
 };
-pub(crate) use spans::{Span, Spanned, span};
+pub(crate) use spans::{Span, Spanned};
 pub(crate) use templates::{
-    CheckedRow, TemplateRow, Told, check_escaped, check_expanded, check_templates, check_text,
-    check_told,
+    CheckedRow, TemplateRow, Told, check_expanded, check_templates, check_told,
 };

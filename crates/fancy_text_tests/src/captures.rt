@@ -1,8 +1,9 @@
-//! What groups a search finds.
+//! What groups a search finds, by their numbers and names.
 
+use crate::asking::Group::{Named, Numbered};
 use crate::asking::{
-    GroupsRow, LaterGroupsRow, captured, check, check_group_spans, check_groups,
-    check_later_groups, regex_of,
+    GroupsRow, LONGEST, LaterGroupsRow, NamesRow, PartsRow, check_groups, check_input,
+    check_later_groups, check_names, check_owned_parts, check_parts, regex_of, regex_with,
 };
 use fancy_regex::RegexInput;
 
@@ -22,14 +23,10 @@ const GROUPS: &[GroupsRow] = &[
         &[Some((0, 2)), Some((0, 1)), Some((1, 2))],
     ),
     ("(a)|b", "b", &[Some((0, 1)), None]),
+    ("(a)|b", "ba", &[Some((0, 1)), None]),
     ("((?:a|)x*?)*", "ax", &[Some((0, 2)), Some((1, 2))]),
     ("(a){0}b", "b", &[Some((0, 1)), None]),
 ];
-
-#[test]
-fn finds_the_groups(rt: HostRuntime) {
-    check_groups(&rt, rt.alloc(), GROUPS);
-}
 
 const LATER_GROUPS: &[LaterGroupsRow] = &[(
     "(?m:^)(\\d+)",
@@ -38,15 +35,89 @@ const LATER_GROUPS: &[LaterGroupsRow] = &[(
     &[Some((11, 12)), Some((11, 12))],
 )];
 
+// the last group of a name is meant
+const PARTS_OF_NAMES: &[PartsRow] = &[
+    (
+        "(?<y>1|2)-(?<y>1|2)",
+        "1-2",
+        &[
+            (Named("y"), Some(((2, 3), "2"))),
+            (Named("z"), None),
+            (Named(""), None),
+        ],
+    ),
+    ("(?<y>a)|(?<y>b)", "a", &[(Named("y"), None)]),
+    (
+        "(?<y>\\d+)-(?<y>\\d+)",
+        "1-2",
+        &[(Named("y"), Some(((2, 3), "2")))],
+    ),
+    ("(?<1>a)", "ba", &[(Named("1"), Some(((1, 2), "a")))]),
+];
+
+const PARTS: &[PartsRow] = &[
+    (
+        "(?P<first>deep|e) (?P<second>fried)(x)?",
+        "deep fried",
+        &[
+            (Numbered(0), Some(((0, 10), "deep fried"))),
+            (Numbered(1), Some(((0, 4), "deep"))),
+            (Numbered(2), Some(((5, 10), "fried"))),
+            (Numbered(3), None),
+            (Numbered(4), None),
+            (Named("first"), Some(((0, 4), "deep"))),
+            (Named("second"), Some(((5, 10), "fried"))),
+            (Named("third"), None),
+        ],
+    ),
+    (
+        "(?P<first>\\w+)\\s+(?P<second>\\w+)(?P<third>!)?",
+        "deep fried",
+        &[
+            (Numbered(0), Some(((0, 10), "deep fried"))),
+            (Numbered(1), Some(((0, 4), "deep"))),
+            (Numbered(2), Some(((5, 10), "fried"))),
+            (Numbered(3), None),
+            (Numbered(4), None),
+            (Named("first"), Some(((0, 4), "deep"))),
+            (Named("second"), Some(((5, 10), "fried"))),
+            (Named("third"), None),
+            (Named("fourth"), None),
+        ],
+    ),
+];
+
+// names stand at their numbers
+const NAMES: &[NamesRow] = &[
+    ("(?<y>\\d+)-(?<y>\\d+)", &[None, Some("y"), Some("y")]),
+    ("(?<y>1|2)-(?<y>1|2)", &[None, Some("y"), Some("y")]),
+    ("(a)(?:b)(?<c>d)()", &[None, None, Some("c"), None]),
+    ("((?P<é_1>a)|b)c", &[None, None, Some("é_1")]),
+    ("(?<a>(?<b>x))(?m)", &[None, Some("a"), Some("b")]),
+    ("é", &[None]),
+];
+
 #[test]
-fn finds_the_groups_from_a_start(rt: HostRuntime) {
+fn finds_the_groups(rt: HostRuntime) {
+    check_groups(&rt, rt.alloc(), GROUPS);
     check_later_groups(&rt, rt.alloc(), LATER_GROUPS);
+    check_parts(&rt, rt.alloc(), PARTS_OF_NAMES);
+    check_parts(&rt, rt.alloc(), PARTS);
+    check_owned_parts(&rt, rt.alloc(), PARTS);
+    check_names(&rt, rt.alloc(), NAMES);
 }
 
 #[test]
 fn the_branch_that_was_given_up_captures_nothing(rt: HostRuntime) {
     let regex = regex_of(&rt, rt.alloc(), "(a|ab)c");
-    let captures = captured(&rt, &regex, RegexInput::new("xabc").range(1..4));
-    check_group_spans(&rt, &captures, "(a|ab)c", &[Some((1, 4)), Some((1, 3))]);
-    check(&rt, captures.get(2).is_none(), "no third group");
+    let input = RegexInput::new("xabc").range(1..4);
+    check_input(&rt, &regex, input, &[Some((1, 4)), Some((1, 3))]);
+}
+
+// of the two that end last the one that is preferred
+#[test]
+fn groups_of_the_longest_match(rt: HostRuntime) {
+    let regex = regex_with(&rt, rt.alloc(), LONGEST, "(a)|(ab)|(a)(b)");
+    let wanted = [Some((0, 2)), None, Some((0, 2)), None, None];
+    check_input(&rt, &regex, RegexInput::new("ab"), &wanted);
 }

@@ -7,17 +7,9 @@ mod asking;
 #[cfg(test)]
 mod captures;
 #[cfg(test)]
-mod conditionals;
-#[cfg(test)]
-mod filters;
-#[cfg(test)]
 mod hard;
 #[cfg(test)]
 mod iteration;
-#[cfg(test)]
-mod kept;
-#[cfg(test)]
-mod names;
 #[cfg(test)]
 mod readme;
 #[cfg(test)]

@@ -4,7 +4,6 @@ use crate::asking::{ReplacedRow, check, check_answer, check_fixed, check_replace
 use fancy_regex::{Captures, Error, NoExpand, ReplaceFn, Replacer, RuntimeError};
 use std::alloc::Global;
 use std::borrow::CowStr;
-use std::process::Abort;
 
 const REPLACED: &[ReplacedRow] = &[
     ("aa", "aaaa aaa aa a", 0, "xx", "xxxx xxa xx a"),
@@ -40,33 +39,7 @@ const REPLACED: &[ReplacedRow] = &[
 #[test]
 fn texts_are_replaced(rt: HostRuntime) {
     check_replaced(&rt, rt.alloc(), REPLACED);
-}
-
-/// Whether the answer is lent, and no copy.
-fn is_borrowed(answer: &fancy_regex::Result<CowStr<'_, Global>>) -> bool {
-    matches!(answer, Ok(CowStr::Borrowed(_)))
-}
-
-/// Checks that the answer is the text itself.
-fn check_borrowed(rt: &impl Abort, answer: fancy_regex::Result<CowStr<'_, Global>>, wanted: &str) {
-    check(rt, is_borrowed(&answer), wanted);
-    check_answer(rt, answer, wanted);
-}
-
-#[test]
-fn a_text_without_matches_is_borrowed(rt: HostRuntime) {
-    let regex = regex_of(&rt, rt.alloc(), "x");
-    check_borrowed(&rt, regex.replace_all("abc", "$0"), "abc");
-    check_borrowed(&rt, regex.replace("abc", "y"), "abc");
-    check_borrowed(&rt, regex.replace_all("", NoExpand("y")), "");
-    let same = regex_of(&rt, rt.alloc(), "b");
-    let copied = same.replace_all("abc", "b");
-    check(&rt, !is_borrowed(&copied), "a copy");
-    check_answer(&rt, copied, "abc");
-}
-
-#[test]
-fn literal_texts_are_not_expanded(rt: HostRuntime) {
+    // literal texts are not expanded
     let regex = regex_of(&rt, rt.alloc(), "([^,\\s]+),\\s+(\\S+)");
     let replaced = regex.replace_all("Springsteen, Bruce", NoExpand("$2 $last"));
     check_answer(&rt, replaced, "$2 $last");
@@ -75,26 +48,18 @@ fn literal_texts_are_not_expanded(rt: HostRuntime) {
     check_fixed(&rt, &mut "2", Some("2"));
 }
 
-/// The text of the second group, a space, and that of the first.
-fn swapped(alloc: Global, captures: &Captures<'_, &str>) -> fancy_regex::Result<String> {
-    let mut text = String::new(alloc);
-    if let Some(group) = captures.get(2) {
-        text.push_str(group.as_str())?;
-    }
-    text.push(' ')?;
-    if let Some(group) = captures.get(1) {
-        text.push_str(group.as_str())?;
-    }
-    Ok(text)
-}
-
 #[test]
-fn functions_replace(rt: HostRuntime) {
-    let alloc = rt.alloc();
-    let regex = regex_of(&rt, alloc, "([^,\\s]+),\\s+(\\S+)");
-    let swap = ReplaceFn::new(|captures: &Captures<'_, &str>| swapped(alloc, captures));
-    let replaced = regex.replace("Springsteen, Bruce", swap);
-    check_answer(&rt, replaced, "Bruce Springsteen");
+fn a_text_without_matches_is_borrowed(rt: HostRuntime) {
+    let regex = regex_of(&rt, rt.alloc(), "x");
+    let is_lent = check_answer(&rt, regex.replace_all("abc", "$0"), "abc");
+    check(&rt, is_lent, "a lent text");
+    let is_lent = check_answer(&rt, regex.replace("abc", "y"), "abc");
+    check(&rt, is_lent, "a lent text");
+    let is_lent = check_answer(&rt, regex.replace_all("", NoExpand("y")), "");
+    check(&rt, is_lent, "a lent text");
+    let same = regex_of(&rt, rt.alloc(), "b");
+    let is_lent = check_answer(&rt, same.replace_all("abc", "b"), "abc");
+    check(&rt, !is_lent, "a copy");
 }
 
 /// The number of the call, but an error at the second one.
@@ -157,4 +122,24 @@ fn a_replacer_by_reference_goes_on(rt: HostRuntime) {
     check_answer(&rt, regex.try_replacen_by("ab", 0, &mut template), "<a>b");
     let mut fixed = NoExpand("$0");
     check_answer(&rt, regex.try_replacen_by("ab", 0, &mut fixed), "$0b");
+}
+
+#[test]
+fn functions_replace(rt: HostRuntime) {
+    let alloc = rt.alloc();
+    let regex = regex_of(&rt, alloc, "([^,\\s]+),\\s+(\\S+)");
+    // the text of the second group, a space, and that of the first
+    let swap = ReplaceFn::new(|captures: &Captures<'_, &str>| {
+        let mut text = String::new(alloc);
+        if let Some(group) = captures.get(2) {
+            text.push_str(group.as_str())?;
+        }
+        text.push(' ')?;
+        if let Some(group) = captures.get(1) {
+            text.push_str(group.as_str())?;
+        }
+        Ok(text)
+    });
+    let replaced = regex.replace("Springsteen, Bruce", swap);
+    check_answer(&rt, replaced, "Bruce Springsteen");
 }

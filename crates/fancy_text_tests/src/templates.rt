@@ -1,72 +1,95 @@
 //! What templates expand to, which of them a regex allows, and escapes.
 
 use crate::asking::{
-    CheckedRow, TemplateRow, Told, captured_in, check, check_escaped, check_expanded,
-    check_templates, check_text, check_told, regex_of,
+    CheckedRow, TemplateRow, Told, check, check_answer, check_expanded, check_templates,
+    check_told, regex_of, taken,
 };
-use fancy_regex::{Captures, Expander, escape};
+use fancy_regex::{Expander, escape};
 use fancy_template::steps::Step;
+use fancy_template::steps::Step::{Literal, Name, Number};
 use fancy_template::write::write_whole;
 use std::alloc::Global;
 use std::io;
+use std::io::ErrorKind;
+use std::io::ErrorKind::{BrokenPipe, WriteZero};
 use std::process::Abort;
 
-/// One step, shown as `'c'`, `<name>`, `number` or `!`.
-fn shown(alloc: Global, step: Step<'_>) -> fancy_regex::Result<String> {
-    let text = match step {
-        Step::Literal(c) => format!(in alloc; "'{c}'")?,
-        Step::Name(name) => format!(in alloc; "<{name}>")?,
-        Step::Number(number) => format!(in alloc; "{number}")?,
-        Step::Error => format!(in alloc; "!")?,
-    };
-    Ok(text)
-}
+/// A template, and its steps.
+type StepsRow = (&'static str, &'static [Step<'static>]);
 
-/// Checks the steps of a template, shown one after another.
-fn check_steps(rt: &impl Abort, alloc: Global, expander: &Expander, template: &str, wanted: &str) {
-    let mut all = String::new(alloc);
-    for step in expander.steps(template) {
-        let text = shown(alloc, step).expect(rt, template);
-        all.push_str(text.as_str()).expect(rt, template);
+fn check_steps(rt: &impl Abort, alloc: Global, expander: &Expander, rows: &[StepsRow]) {
+    for &(template, wanted) in rows {
+        let steps: Vec<Step<'_>> = expander.steps(template).collect(alloc).expect(rt, template);
+        check(rt, steps.as_slice() == wanted, template);
     }
-    check(rt, all.as_str() == wanted, template);
 }
 
-const DOLLAR_STEPS: &[(&str, &str)] = &[
-    ("$1a", "<1a>"),
-    ("$10", "<10>"),
-    ("${1}a", "<1>'a'"),
-    ("$$1", "'$''1'"),
-    ("${1", "!'$''{''1'"),
-    ("${}", "!'$''{''}'"),
-    ("$-", "!'$''-'"),
-    ("$", "!'$'"),
-    ("x$é_2.", "'x'<é_2>'.'"),
-    ("$²", "<²>"),
+const DOLLAR_STEPS: &[StepsRow] = &[
+    ("$1a", &[Name("1a")]),
+    ("$10", &[Name("10")]),
+    ("${1}a", &[Name("1"), Literal('a')]),
+    ("$$1", &[Literal('$'), Literal('1')]),
+    (
+        "${1",
+        &[Step::Error, Literal('$'), Literal('{'), Literal('1')],
+    ),
+    (
+        "${}",
+        &[Step::Error, Literal('$'), Literal('{'), Literal('}')],
+    ),
+    ("$-", &[Step::Error, Literal('$'), Literal('-')]),
+    ("$", &[Step::Error, Literal('$')]),
+    ("x$é_2.", &[Literal('x'), Name("é_2"), Literal('.')]),
+    ("$²", &[Name("²")]),
 ];
 
-const PYTHON_STEPS: &[(&str, &str)] = &[
-    ("\\10", "10"),
-    ("\\1\\g<0>\\\\x", "1<0>'\\''x'"),
-    ("\\a", "!'\\''a'"),
-    ("\\g<a", "!'\\''g''<''a'"),
-    ("\\18446744073709551615", "18446744073709551615"),
-    ("\\0001x", "1'x'"),
+const PYTHON_STEPS: &[StepsRow] = &[
+    ("\\10", &[Number(10)]),
+    (
+        "\\1\\g<0>\\\\x",
+        &[Number(1), Name("0"), Literal('\\'), Literal('x')],
+    ),
+    ("\\a", &[Step::Error, Literal('\\'), Literal('a')]),
+    (
+        "\\g<a",
+        &[
+            Step::Error,
+            Literal('\\'),
+            Literal('g'),
+            Literal('<'),
+            Literal('a'),
+        ],
+    ),
+    ("\\18446744073709551615", &[Number(18446744073709551615)]),
+    ("\\0001x", &[Number(1), Literal('x')]),
     (
         "\\18446744073709551616",
-        "!'\\''1''8''4''4''6''7''4''4''0''7''3''7''0''9''5''5''1''6''1''6'",
+        &[
+            Step::Error,
+            Literal('\\'),
+            Literal('1'),
+            Literal('8'),
+            Literal('4'),
+            Literal('4'),
+            Literal('6'),
+            Literal('7'),
+            Literal('4'),
+            Literal('4'),
+            Literal('0'),
+            Literal('7'),
+            Literal('3'),
+            Literal('7'),
+            Literal('0'),
+            Literal('9'),
+            Literal('5'),
+            Literal('5'),
+            Literal('1'),
+            Literal('6'),
+            Literal('1'),
+            Literal('6'),
+        ],
     ),
 ];
-
-#[test]
-fn templates_have_steps(rt: HostRuntime) {
-    for &(template, wanted) in DOLLAR_STEPS {
-        check_steps(&rt, rt.alloc(), &Expander::default(), template, wanted);
-    }
-    for &(template, wanted) in PYTHON_STEPS {
-        check_steps(&rt, rt.alloc(), &Expander::python(), template, wanted);
-    }
-}
 
 const DOLLAR_TEMPLATES: &[TemplateRow] = &[
     ("", ""),
@@ -92,23 +115,6 @@ const PYTHON_TEMPLATES: &[TemplateRow] = &[
     ("\\g<1", "\\g<1"),
     ("$1\\x", "$1\\x"),
 ];
-
-#[test]
-fn templates_expand(rt: HostRuntime) {
-    check_templates(&rt, rt.alloc(), &Expander::default(), DOLLAR_TEMPLATES);
-    check_templates(&rt, rt.alloc(), &Expander::python(), PYTHON_TEMPLATES);
-    check_expanded(&rt, rt.alloc(), DOLLAR_TEMPLATES);
-}
-
-#[test]
-fn captures_of_owned_text_expand(rt: HostRuntime) {
-    let haystack = String::from_str(rt.alloc(), "éab").expect(&rt, "a text");
-    let regex = regex_of(&rt, rt.alloc(), "(é)(x)?a");
-    let found = regex.captures(&haystack).expect(&rt, "a search");
-    let captures = found.expect(&rt, "a match");
-    let answer = Expander::default().expansion("$2[$1]$0", &captures);
-    check_text(&rt, answer, "$2[$1]$0", "[é]éa");
-}
 
 const TWO_WORDS: &str = "(?P<first>\\w+)\\s+(?P<second>\\w+)";
 
@@ -143,9 +149,23 @@ const PYTHON_CHECKS: &[CheckedRow] = &[
 ];
 
 #[test]
-fn the_first_faulty_step_is_told(rt: HostRuntime) {
-    check_told(&rt, rt.alloc(), &Expander::default(), DOLLAR_CHECKS);
-    check_told(&rt, rt.alloc(), &Expander::python(), PYTHON_CHECKS);
+fn templates_are_read(rt: HostRuntime) {
+    let dollar = Expander::default();
+    let python = Expander::python();
+    check_steps(&rt, rt.alloc(), &dollar, DOLLAR_STEPS);
+    check_steps(&rt, rt.alloc(), &python, PYTHON_STEPS);
+    check_templates(&rt, rt.alloc(), &dollar, DOLLAR_TEMPLATES);
+    check_templates(&rt, rt.alloc(), &python, PYTHON_TEMPLATES);
+    check_expanded(&rt, rt.alloc(), DOLLAR_TEMPLATES);
+    check_told(&rt, rt.alloc(), &dollar, DOLLAR_CHECKS);
+    check_told(&rt, rt.alloc(), &python, PYTHON_CHECKS);
+    // captures of owned text expand
+    let haystack = String::from_str(rt.alloc(), "éab").expect(&rt, "a text");
+    let regex = regex_of(&rt, rt.alloc(), "(é)(x)?a");
+    let captures = taken(&rt, regex.captures(&haystack), "a search");
+    let answer = dollar.expansion("$2[$1]$0", &captures);
+    let text = answer.expect(&rt, "an expansion");
+    check(&rt, text.as_str() == "[é]éa", "an expansion");
 }
 
 /// Texts, and what stands for them in a pattern.
@@ -180,13 +200,18 @@ const ESCAPED_FOR_PYTHON: &[(&str, &str)] = &[
 fn texts_are_escaped(rt: HostRuntime) {
     let alloc = rt.alloc();
     for &(text, wanted) in ESCAPED_PATTERNS {
-        check_escaped(&rt, escape(alloc, text), text, wanted);
+        let is_lent = check_answer(&rt, escape(alloc, text), wanted);
+        check(&rt, is_lent == (text == wanted), text);
     }
     for &(text, wanted) in ESCAPED_FOR_DOLLAR {
-        check_escaped(&rt, Expander::default().escape(alloc, text), text, wanted);
+        let escaped = Expander::default().escape(alloc, text);
+        let is_lent = check_answer(&rt, escaped, wanted);
+        check(&rt, is_lent == (text == wanted), text);
     }
     for &(text, wanted) in ESCAPED_FOR_PYTHON {
-        check_escaped(&rt, Expander::python().escape(alloc, text), text, wanted);
+        let escaped = Expander::python().escape(alloc, text);
+        let is_lent = check_answer(&rt, escaped, wanted);
+        check(&rt, is_lent == (text == wanted), text);
     }
 }
 
@@ -205,7 +230,7 @@ impl io::Write for Narrow {
         self.calls = self.calls.wrapping_add(1);
         let count = buf.len().min(self.most).min(self.left);
         if count == 0 && self.fails {
-            return Err(io::Error::from(io::ErrorKind::BrokenPipe));
+            return Err(io::Error::from(BrokenPipe));
         }
         let (front, _) = buf.split_at(count);
         self.taken.extend_from_slice(front)?;
@@ -218,106 +243,95 @@ impl io::Write for Narrow {
     }
 }
 
-/// A writer that has taken nothing yet.
-fn writer_of(alloc: Global, most: usize, left: usize, fails: bool) -> Narrow {
-    Narrow {
-        taken: Vec::new(alloc),
-        calls: 0,
-        most,
-        left,
-        fails,
-    }
-}
-
 /// The kind of the fault of a write, if it has one.
-fn kind_of(answer: &io::Result<()>) -> Option<io::ErrorKind> {
+fn kind_of(answer: &io::Result<()>) -> Option<ErrorKind> {
     match answer {
         Ok(()) => None,
         Err(error) => Some(error.kind()),
     }
 }
 
-/// The fault of a writer that takes no more bytes.
-fn fault_of(fails: bool) -> io::ErrorKind {
-    if fails {
-        io::ErrorKind::BrokenPipe
-    } else {
-        io::ErrorKind::WriteZero
-    }
-}
+/// A template, how many bytes a writer takes in a call and in all, whether it then fails, what it takes, and the fault.
+type WrittenRow = (
+    &'static str,
+    usize,
+    usize,
+    bool,
+    &'static str,
+    Option<ErrorKind>,
+);
 
-/// Writes an expansion of three bytes to a writer that takes `left` of them.
-fn check_writer(
-    rt: &impl Abort,
-    captures: &Captures<'_, &str>,
-    mut writer: Narrow,
-    left: usize,
-    fault: io::ErrorKind,
-) {
-    let answer = Expander::default().write_expansion(&mut writer, "${1}-$0", captures);
-    let wanted = "b-b".as_bytes().get(..left.min(3)).expect(rt, "no part");
-    check(rt, writer.taken.as_slice() == wanted, "what was taken");
-    let kind = if left < 3 { Some(fault) } else { None };
-    check(rt, kind_of(&answer) == kind, "the fault");
+/// Where `b` is group 1 and the whole match.
+const WRITTEN: &[WrittenRow] = &[
+    ("${1}-$0", 1, 0, true, "", Some(BrokenPipe)),
+    ("${1}-$0", 1, 1, true, "b", Some(BrokenPipe)),
+    ("${1}-$0", 1, 2, true, "b-", Some(BrokenPipe)),
+    ("${1}-$0", 1, 3, true, "b-b", None),
+    ("${1}-$0", 1, 4, true, "b-b", None),
+    ("${1}-$0", 9, 0, true, "", Some(BrokenPipe)),
+    ("${1}-$0", 9, 1, true, "b", Some(BrokenPipe)),
+    ("${1}-$0", 9, 2, true, "b-", Some(BrokenPipe)),
+    ("${1}-$0", 9, 3, true, "b-b", None),
+    ("${1}-$0", 9, 4, true, "b-b", None),
+    ("${1}-$0", 1, 0, false, "", Some(WriteZero)),
+    ("${1}-$0", 1, 1, false, "b", Some(WriteZero)),
+    ("${1}-$0", 1, 2, false, "b-", Some(WriteZero)),
+    ("${1}-$0", 1, 3, false, "b-b", None),
+    ("${1}-$0", 1, 4, false, "b-b", None),
+    ("${1}-$0", 9, 0, false, "", Some(WriteZero)),
+    ("${1}-$0", 9, 1, false, "b", Some(WriteZero)),
+    ("${1}-$0", 9, 2, false, "b-", Some(WriteZero)),
+    ("${1}-$0", 9, 3, false, "b-b", None),
+    ("${1}-$0", 9, 4, false, "b-b", None),
+];
+
+/// Where group 1 took no part, and no group has the other names.
+const NOT_WRITTEN: &[WrittenRow] = &[
+    ("", 0, 0, true, "", None),
+    ("$1", 0, 0, true, "", None),
+    ("$7$x", 0, 0, true, "", None),
+];
+
+/// Checks what is written of expansions to narrow writers, which are called where there is something to write. The pattern is
+/// found in the text.
+fn check_writes(rt: &impl Abort, alloc: Global, pattern: &str, text: &str, rows: &[WrittenRow]) {
+    let regex = regex_of(rt, alloc, pattern);
+    let captures = taken(rt, regex.captures(text), pattern);
+    for &(template, most, left, fails, wanted, fault) in rows {
+        let mut writer = Narrow {
+            taken: Vec::new(alloc),
+            calls: 0,
+            most,
+            left,
+            fails,
+        };
+        let answer = Expander::default().write_expansion(&mut writer, template, &captures);
+        check(rt, writer.taken.as_slice() == wanted.as_bytes(), template);
+        check(rt, kind_of(&answer) == fault, template);
+        let is_something = !wanted.is_empty() | fault.is_some();
+        check(rt, (writer.calls != 0) == is_something, template);
+    }
 }
 
 #[test]
 fn a_fault_ends_the_writing(rt: HostRuntime) {
     let alloc = rt.alloc();
-    let regex = regex_of(&rt, alloc, "(b)");
-    let captures = captured_in(&rt, &regex, "abc");
-    for left in 0..5usize {
-        for fails in [true, false] {
-            let fault = fault_of(fails);
-            check_writer(
-                &rt,
-                &captures,
-                writer_of(alloc, 1, left, fails),
-                left,
-                fault,
-            );
-            check_writer(
-                &rt,
-                &captures,
-                writer_of(alloc, 9, left, fails),
-                left,
-                fault,
-            );
-        }
-    }
-}
-
-/// Checks that the template expands to nothing, and that nothing is written for it.
-fn check_nothing(rt: &impl Abort, alloc: Global, captures: &Captures<'_, &str>, template: &str) {
-    let mut writer = writer_of(alloc, 0, 0, true);
-    let answer = Expander::default().write_expansion(&mut writer, template, captures);
-    check(rt, answer.is_ok(), template);
-    check(rt, writer.calls == 0, template);
-}
-
-#[test]
-fn nothing_is_written_for_nothing(rt: HostRuntime) {
-    let regex = regex_of(&rt, rt.alloc(), "(b)|c");
-    let captures = captured_in(&rt, &regex, "c");
-    for template in &["", "$1", "$7$x"] {
-        check_nothing(&rt, rt.alloc(), &captures, *template);
-    }
-}
-
-#[test]
-fn all_is_written(rt: HostRuntime) {
-    let mut out = Vec::new(rt.alloc());
+    check_writes(&rt, alloc, "(b)", "abc", WRITTEN);
+    check_writes(&rt, alloc, "(b)|c", "c", NOT_WRITTEN);
+    let mut out = Vec::new(alloc);
     write_whole(&mut out, b"abc").expect(&rt, "a write");
     write_whole(&mut out, b"d").expect(&rt, "a write");
     check(&rt, out.as_slice() == b"abcd".as_slice(), "abcd");
-}
-
-#[test]
-fn a_text_is_not_written_past_a_fault(rt: HostRuntime) {
-    for (left, fails) in [(2, true), (1, false)] {
-        let mut writer = writer_of(rt.alloc(), 1, left, fails);
+    for (left, fails, fault) in [(2, true, BrokenPipe), (1, false, WriteZero)] {
+        let mut writer = Narrow {
+            taken: Vec::new(alloc),
+            calls: 0,
+            most: 1,
+            left,
+            fails,
+        };
         let answer = write_whole(&mut writer, b"abc");
-        check(&rt, kind_of(&answer) == Some(fault_of(fails)), "the fault");
+        check(&rt, kind_of(&answer) == Some(fault), "the fault");
         check(&rt, writer.taken.len() == left, "what was taken");
     }
 }

@@ -1,6 +1,5 @@
 //! Long and deep patterns.
 
-use fancy_regex::Regex;
 use std::alloc::Global;
 use std::process::Abort;
 
@@ -9,25 +8,16 @@ pub(crate) fn repeated(rt: &impl Abort, alloc: Global, text: &str, count: usize)
     text.repeat(alloc, count).expect(rt, text)
 }
 
-/// What is read of so many `a`.
-pub(crate) fn read_many(
-    rt: &impl Abort,
-    alloc: Global,
-    count: usize,
-) -> fancy_regex::Result<Regex> {
-    Regex::new(alloc, repeated(rt, alloc, "a", count).as_str())
-}
-
-/// What is read of a text within so many parentheses or brackets.
-pub(crate) fn read_nested(
+/// A text within so many parentheses or brackets.
+pub(crate) fn nested(
     rt: &impl Abort,
     alloc: Global,
     (opening, body, closing): (&str, &str, &str),
     depth: usize,
-) -> fancy_regex::Result<Regex> {
-    let mut pattern = repeated(rt, alloc, opening, depth);
-    pattern.push_str(body).expect(rt, body);
+) -> String {
+    let mut text = repeated(rt, alloc, opening, depth);
+    text.push_str(body).expect(rt, body);
     let closings = repeated(rt, alloc, closing, depth);
-    pattern.push_str(closings.as_str()).expect(rt, closing);
-    Regex::new(alloc, pattern.as_str())
+    text.push_str(closings.as_str()).expect(rt, closing);
+    text
 }

@@ -111,17 +111,13 @@ pub(crate) const SEEKING: Settings = Settings {
     ..CHARACTERS
 };
 
-/// The same options, and positions where no match begins are passed over.
-pub(crate) fn seeking(settings: Settings) -> Settings {
-    Settings {
-        seek: true,
-        ..settings
-    }
+/// A text that a builder may take.
+pub(crate) fn owned(rt: &impl Abort, alloc: Global, text: &str) -> String {
+    String::from_str(alloc, text).expect(rt, text)
 }
 
-/// What the pattern is read as.
-pub(crate) fn read(alloc: Global, settings: Settings, pattern: &str) -> fancy_regex::Result<Regex> {
-    let pattern = String::from_str(alloc, pattern)?;
+/// A builder with these options.
+pub(crate) fn options_of(settings: Settings) -> RegexOptionsBuilder {
     let mut builder = RegexOptionsBuilder::new();
     builder
         .bytes_mode(settings.bytes_mode)
@@ -136,8 +132,14 @@ pub(crate) fn read(alloc: Global, settings: Settings, pattern: &str) -> fancy_re
         .backtrack_limit(settings.backtrack_limit)
         .find_not_empty(settings.find_not_empty)
         .leftmost_longest(settings.leftmost_longest)
-        .seek(settings.seek)
-        .build(pattern)
+        .seek(settings.seek);
+    builder
+}
+
+/// What the pattern is read as.
+pub(crate) fn read(alloc: Global, settings: Settings, pattern: &str) -> fancy_regex::Result<Regex> {
+    let pattern = String::from_str(alloc, pattern)?;
+    options_of(settings).build(pattern)
 }
 
 /// The regex of the pattern with the default options, of which alone the tests know something.

@@ -1,85 +1,176 @@
 //! Matches that come one after another.
 
-use crate::asking::{
-    Settings, Span, Spanned, check, check_number, regex_of, regex_with, searchable, seeking,
-};
-use fancy_regex::{Input, Matches, RegexInput};
+use crate::asking::{CHARACTERS, Settings, Span, Spanned, check, regex_of, regex_with, searchable};
+use fancy_regex::{CaptureMatches, Captures, Input, Matches, Regex, RegexInput, Result};
 use std::alloc::Global;
 use std::process::Abort;
 
-/// Checks where a match of a list starts and ends.
-pub(crate) fn check_match_at(
-    rt: &impl Abort,
-    pattern: &str,
-    at: usize,
-    found: Span,
-    wanted: &[Span],
-) {
-    assert!(rt; wanted.get(at) == Some(&found), "match {at} of {pattern}");
-}
+/// Where the matches of a list start and end, and where the search starts that is next: at first, after each match, and at
+/// the end; no starts where they are not known.
+type Wanted<'a> = (&'a [Span], &'a [usize]);
 
-/// Where a match that was found starts and ends.
-pub(crate) fn span_found<M: Spanned>(
-    rt: &impl Abort,
-    found: fancy_regex::Result<M>,
-    pattern: &str,
-) -> Span {
-    found.expect(rt, pattern).span()
-}
-
-/// Checks where the matches start and end.
+/// Checks where the matches start and end, and where the list goes on after each, where that is known.
 fn check_matches<M: Spanned, S: Input<Match = M>>(
     rt: &impl Abort,
-    matches: Matches<'_, S>,
+    mut matches: Matches<'_, S>,
     pattern: &str,
-    wanted: &[Span],
+    (spans, starts): Wanted<'_>,
 ) {
+    let is_unknown = starts.is_empty();
     let mut at = 0usize;
-    for found in matches {
-        check_match_at(rt, pattern, at, span_found(rt, found, pattern), wanted);
+    for wanted in spans {
+        let start = matches.input().start();
+        check(rt, is_unknown | (starts.get(at) == Some(&start)), pattern);
+        let found = matches.next().expect(rt, pattern).expect(rt, pattern);
+        check(rt, found.span() == *wanted, pattern);
         at = at.wrapping_add(1);
     }
-    check_number(rt, pattern, at, wanted.len());
+    let start = matches.input().start();
+    check(rt, is_unknown | (starts.get(at) == Some(&start)), pattern);
+    check(rt, matches.next().is_none(), pattern);
+    check(rt, matches.next().is_none(), pattern);
+    let start = matches.input().start();
+    check(rt, is_unknown | (starts.last() == Some(&start)), pattern);
 }
 
-/// Options, a pattern, a haystack, and where the matches start and end, whether the searches seek or not.
-pub(crate) type ListRow<S> = (Settings, &'static str, S, &'static [Span]);
+/// Checks where the matches start and end that come with their groups.
+fn check_captures<M: Spanned, S: Input<Match = M>>(
+    rt: &impl Abort,
+    mut items: CaptureMatches<'_, S>,
+    pattern: &str,
+    spans: &[Span],
+) {
+    for wanted in spans {
+        let captures = items.next().expect(rt, pattern).expect(rt, pattern);
+        let whole = captures.get(0).expect(rt, pattern);
+        check(rt, whole.span() == *wanted, pattern);
+    }
+    check(rt, items.next().is_none(), pattern);
+}
 
-pub(crate) fn check_lists<M: Spanned, S: Input<Match = M>>(
+/// Checks the lists of an input, which the regex may search, and what they tell of it.
+fn check_input_lists<M: Spanned, S: Input<Match = M>>(
     rt: &impl Abort,
     alloc: Global,
-    rows: &[ListRow<S>],
+    regex: &Regex,
+    input: RegexInput<S>,
+    (spans, starts): Wanted<'_>,
 ) {
-    for &(settings, pattern, haystack, wanted) in rows {
-        for settings in [settings, seeking(settings)] {
-            let regex = regex_with(rt, alloc, settings, pattern);
-            let input = searchable(rt, &regex, RegexInput::new(haystack));
-            check_matches(rt, regex.find_iter_input(input), pattern, wanted);
+    let pattern = regex.as_str();
+    let input = searchable(rt, regex, input);
+    let matches = regex.find_iter_input(input.again());
+    let haystack = input.haystack();
+    let bytes = haystack.as_bytes();
+    check(rt, matches.text().as_bytes() == bytes, pattern);
+    check(rt, matches.regex().as_str() == pattern, pattern);
+    check_matches(rt, matches, pattern, (spans, starts));
+    let items = regex.captures_iter_input(input.again());
+    check(rt, items.text().as_bytes() == bytes, pattern);
+    check(rt, items.regex().as_str() == pattern, pattern);
+    check(rt, items.input().start() == input.start(), pattern);
+    check_captures(rt, items, pattern, spans);
+    let mut matches = regex.find_iter_input(input.again());
+    check(rt, matches.next().is_some() != spans.is_empty(), pattern);
+    let count = matches.count();
+    check(rt, count == spans.len().saturating_sub(1), pattern);
+    let count = regex.find_iter_input(input.again()).count();
+    check(rt, count == spans.len(), pattern);
+    let count = regex.captures_iter_input(input.again()).count();
+    check(rt, count == spans.len(), pattern);
+    let items = regex.captures_iter_input(input);
+    let all: Result<Vec<Captures<'_, S>>> = items.try_collect(alloc);
+    check(rt, all.expect(rt, pattern).len() == spans.len(), pattern);
+}
+
+/// An iteration: what is searched, where its matches start and end, and where the search starts that is next: at
+/// first, after each match, and at the end; no starts where they are not known.
+pub(crate) struct Row<S> {
+    pub(crate) settings: Settings,
+    pub(crate) pattern: &'static str,
+    pub(crate) haystack: S,
+    pub(crate) from: usize,
+    /// The range, which ends with the haystack where it would end later.
+    pub(crate) range: Span,
+    pub(crate) anchored: bool,
+    pub(crate) spans: &'static [Span],
+    pub(crate) starts: &'static [usize],
+}
+
+/// A whole text.
+pub(crate) const TEXT: Row<&str> = Row {
+    settings: CHARACTERS,
+    pattern: "",
+    haystack: "",
+    from: 0,
+    range: (0, usize::MAX),
+    anchored: false,
+    spans: &[],
+    starts: &[],
+};
+
+/// Whole bytes.
+pub(crate) const WHOLE_BYTES: Row<&[u8]> = Row {
+    settings: CHARACTERS,
+    pattern: "",
+    haystack: b"",
+    from: 0,
+    range: (0, usize::MAX),
+    anchored: false,
+    spans: &[],
+    starts: &[],
+};
+
+/// Checks the rows, whether the searches seek or not.
+pub(crate) fn check_rows<M: Spanned, S: Input<Match = M>>(
+    rt: &impl Abort,
+    alloc: Global,
+    rows: &[Row<S>],
+) {
+    for row in rows {
+        let end = row.range.1.min(row.haystack.len());
+        assert!(rt; row.range.0 <= end);
+        let input = RegexInput::new(row.haystack)
+            .from_pos(row.from)
+            .range(row.range.0..end)
+            .anchored(row.anchored);
+        for seek in [false, true] {
+            let settings = Settings {
+                seek,
+                ..row.settings
+            };
+            let regex = regex_with(rt, alloc, settings, row.pattern);
+            check_input_lists(rt, alloc, &regex, input.again(), (row.spans, row.starts));
         }
     }
 }
 
-/// A pattern, a text, and where the matches start and end.
+/// Checks the lists of a whole haystack, which the regex may search: where the matches start and end, one after another, and
+/// how many there are that are counted and collected.
+fn check_whole<M: Spanned, S: Input<Match = M>>(
+    rt: &impl Abort,
+    alloc: Global,
+    regex: &Regex,
+    haystack: S,
+    spans: &[Span],
+) {
+    let pattern = regex.as_str();
+    assert!(rt; regex.can_search(&RegexInput::new(haystack)), "{pattern}");
+    check_matches(rt, regex.find_iter(haystack), pattern, (spans, &[]));
+    let count = regex.find_iter(haystack).count();
+    check(rt, count == spans.len(), pattern);
+    let count = regex.captures_iter(haystack).count();
+    check(rt, count == spans.len(), pattern);
+    let all: Result<Vec<M>> = regex.find_iter(haystack).try_collect(alloc);
+    check(rt, all.expect(rt, pattern).len() == spans.len(), pattern);
+}
+
+/// A pattern, a text, and where the matches start and end, also in the bytes of the text.
 pub(crate) type TextListRow = (&'static str, &'static str, &'static [Span]);
 
 pub(crate) fn check_text_lists(rt: &impl Abort, alloc: Global, rows: &[TextListRow]) {
-    for &(pattern, haystack, wanted) in rows {
+    for &(pattern, text, spans) in rows {
         let regex = regex_of(rt, alloc, pattern);
-        check_matches(rt, regex.find_iter(haystack), pattern, wanted);
-        check_number(rt, pattern, regex.find_iter(haystack).count(), wanted.len());
-    }
-}
-
-/// Checks where the next match of a list starts and ends.
-pub(crate) fn check_next(rt: &impl Abort, matches: &mut Matches<'_, &str>, wanted: Span) {
-    let found = next_span(rt, matches);
-    check(rt, found == Some(wanted), "the next match");
-}
-
-/// Where the next match of a list starts and ends.
-fn next_span(rt: &impl Abort, matches: &mut Matches<'_, &str>) -> Option<Span> {
-    match matches.next() {
-        Some(found) => Some(span_found(rt, found, "a search")),
-        None => None,
+        check_whole(rt, alloc, &regex, text, spans);
+        check_whole(rt, alloc, &regex, text.as_bytes(), spans);
     }
 }

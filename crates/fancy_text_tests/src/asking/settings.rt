@@ -62,27 +62,6 @@ pub(crate) const LONGEST: Settings = Settings {
     ..CHARACTERS
 };
 
-/// The same options, and positions where no match begins are passed over.
-pub(crate) fn seeking(settings: Settings) -> Settings {
-    Settings {
-        seek: true,
-        ..settings
-    }
-}
-
-/// What the pattern is read as.
-fn read(alloc: Global, settings: Settings, pattern: &str) -> fancy_regex::Result<Regex> {
-    let pattern = String::from_str(alloc, pattern)?;
-    let mut builder = RegexOptionsBuilder::new();
-    builder
-        .bytes_mode(settings.bytes_mode)
-        .ignore_numbered_groups_when_named_groups_exist(settings.only_named)
-        .find_not_empty(settings.find_not_empty)
-        .leftmost_longest(settings.leftmost_longest)
-        .seek(settings.seek)
-        .build(pattern)
-}
-
 /// The regex of the pattern with the default options, of which alone the tests know something.
 pub(crate) fn regex_of(rt: &impl Abort, alloc: Global, pattern: &str) -> Regex
     ensures { options_in result ≡ by_default }
@@ -97,7 +76,16 @@ pub(crate) fn regex_with(
     settings: Settings,
     pattern: &str,
 ) -> Regex {
-    read(alloc, settings, pattern).expect(rt, pattern)
+    let text = String::from_str(alloc, pattern).expect(rt, pattern);
+    let mut builder = RegexOptionsBuilder::new();
+    let answer = builder
+        .bytes_mode(settings.bytes_mode)
+        .ignore_numbered_groups_when_named_groups_exist(settings.only_named)
+        .find_not_empty(settings.find_not_empty)
+        .leftmost_longest(settings.leftmost_longest)
+        .seek(settings.seek)
+        .build(text);
+    answer.expect(rt, pattern)
 }
 
 /// The input, which the regex may search.

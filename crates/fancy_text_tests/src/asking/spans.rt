@@ -12,20 +12,12 @@ pub(crate) trait Spanned: Copy {
 
 impl<'t> Spanned for Match<'t> {
     fn span(self) -> Span {
-        span(self)
+        (self.start(), self.end())
     }
 }
 
 impl<'t> Spanned for MatchBytes<'t> {
     fn span(self) -> Span {
-        span_of_bytes(self)
+        (self.start(), self.end())
     }
-}
-
-pub(crate) fn span(found: Match<'_>) -> Span {
-    (found.start(), found.end())
-}
-
-pub(crate) fn span_of_bytes(found: MatchBytes<'_>) -> Span {
-    (found.start(), found.end())
 }

@@ -9,7 +9,7 @@ use Rattle.fancy_engine.specs.TableMarks.{count_marks}
 use Rattle.fancy_engine.specs.Work.{steps_of, returns_of}
 use Rattle.fancy_engine.proofs.TableMarksLemmas.{marked_le, none_marked}
 use Rattle.fancy_engine.proofs.RunnerSearch.{deep, attempt_known, attempt_answer, search_hit, search_miss, search_skip, search_over, positions_none, unmarked_table, steps_added, room_for_pairs}
-use Rattle.fancy_engine.proofs.SkipLemmas.{starts_passed, starts_somewhere}
+use Rattle.fancy_engine.proofs.OpenLemmas.{openings_passed}
 use Rattle.fancy_engine.proofs.search.search.Goals as goal
 use Rattle.fancy_engine.proofs.search.search.Goals.{then-is_match_boundary+in_ok-begin+in_ok-follow+else-branch, else-is_match_boundary}
 
@@ -20,16 +20,16 @@ returns-then-first-request-clause-answer c p on is =
 pub returns-then-place-last-clause-answer : goal.returns-then-place-last-clause-answer
 returns-then-place-last-clause-answer c p on is =
     sym (ap₂ (answer_from (query_of p c.args.code.now (unfiltered c.args.options) c.args.haystack.now c.args.request on)) (sym c.last_position-last.ensures.count ∙ ap (λ (n : ℕ). c.last_position-last.result + 1 - n) (sym c.effective_start-first.ensures)) (sym c.effective_start-first.ensures)
-    ∙ starts_passed (query_of p c.args.code.now (unfiltered c.args.options) c.args.haystack.now c.args.request on) c.args.code.now.start_bytes is.starts (λ k. omega (arith, c.type_inv.haystack k)) (c.last_position-last.result + 1 - c.effective_start-first.result) (0) c.effective_start-first.result c.candidate_from-place.result c.candidate_from-place.ensures.passed (omega (arith, c.candidate_from-place.ensures.within, c.candidate_from-place.ensures.passed)) c.candidate_from-place.ensures.none
+    ∙ openings_passed (query_of p c.args.code.now (unfiltered c.args.options) c.args.haystack.now c.args.request on) c.args.code.now.start_bytes is.starts (λ k. omega (arith, c.type_inv.haystack k)) c.args.code.now.literal is.opens (c.last_position-last.result + 1 - c.effective_start-first.result) (0) c.effective_start-first.result c.next_opening-place.result c.next_opening-place.ensures.passed (omega (arith, c.next_opening-place.ensures.within, c.next_opening-place.ensures.passed)) c.next_opening-place.ensures.none
     ∙ search_over (query_of p c.args.code.now (unfiltered c.args.options) c.args.haystack.now c.args.request on) 0 _ refl)
 
 pub loop-place-init : goal.loop-place-init
 loop-place-init c = record {
   left = λ p on is.
       ap₂ (answer_from (query_of p c.args.code.now (unfiltered c.args.options) c.args.haystack.now c.args.request on)) (sym c.last_position-last.ensures.count ∙ ap (λ (n : ℕ). c.last_position-last.result + 1 - n) (sym c.effective_start-first.ensures)) (sym c.effective_start-first.ensures)
-      ∙ starts_passed (query_of p c.args.code.now (unfiltered c.args.options) c.args.haystack.now c.args.request on) c.args.code.now.start_bytes is.starts (λ k. omega (arith, c.type_inv.haystack k)) (c.last_position-last.result + 1 - c.effective_start-first.result) (c.last_position-last.result + 1 - c.candidate_from-place.result) c.effective_start-first.result c.candidate_from-place.result c.candidate_from-place.ensures.passed (omega (arith, c.candidate_from-place.ensures.passed, c.candidate_from-place.ensures.within)) c.candidate_from-place.ensures.none;
-  passed = c.candidate_from-place.ensures.passed;
-  starts = c.candidate_from-place.ensures.stands;
+      ∙ openings_passed (query_of p c.args.code.now (unfiltered c.args.options) c.args.haystack.now c.args.request on) c.args.code.now.start_bytes is.starts (λ k. omega (arith, c.type_inv.haystack k)) c.args.code.now.literal is.opens (c.last_position-last.result + 1 - c.effective_start-first.result) (c.last_position-last.result + 1 - c.next_opening-place.result) c.effective_start-first.result c.next_opening-place.result c.next_opening-place.ensures.passed (omega (arith, c.next_opening-place.ensures.passed, c.next_opening-place.ensures.within)) c.next_opening-place.ensures.none;
+  passed = c.next_opening-place.ensures.passed;
+  starts = λ le none. c.next_opening-place.ensures.some le (λ k low high. none k (omega (arith, low, c.effective_start-first.ensures)) (omega (arith, high, c.last_position-last.ensures.inside)));
   idle = λ none. refl;
   failed = λ p is q i seen hit. unmarked_table c.begin_table.new.table _ c.in_ok-begin_table.ensures.clear _ seen.1;
   room = ap length c.in_ok-begin_table.ensures.clear ∙ length-replicate _ false;
@@ -64,10 +64,10 @@ loop-place-preserved c =
             let found = rw w.if-branch.false at (w.in_ok-follow.ensures.answer c.loop-place.place (deep (query_of p c.args.code.now (unfiltered c.args.options) c.args.haystack.now c.args.request on) c.args.code.now is refl refl refl refl c.requires.inside (search_context c.args.haystack.now c.args.code.now.meaning c.suppressed_ends.result c.effective_start-first.result) (Some c.effective_start-first.result) (ap (λ (s : SuppressedEnds). search_context c.args.haystack.now c.args.code.now.meaning s c.effective_start-first.result) c.suppressed_ends.ensures))) in
             c.loop-place.invariant.left p on is
             ∙ search_miss (query_of p c.args.code.now (unfiltered c.args.options) c.args.haystack.now c.args.request on) (c.last_position-last.result + 1 - c.loop-place.place) (c.last_position-last.result + 1 - (c.loop-place.place + 1)) c.loop-place.place (omega (arith, c.loop-place-test.true)) (sym is_answer ∙ sym (found (attempt_known (query_of p c.args.code.now (unfiltered c.args.options) c.args.haystack.now c.args.request on) c.args.code.now is refl refl refl refl c.requires.inside (search_context c.args.haystack.now c.args.code.now.meaning c.suppressed_ends.result c.effective_start-first.result) (Some c.effective_start-first.result) (ap (λ (s : SuppressedEnds). search_context c.args.haystack.now c.args.code.now.meaning s c.effective_start-first.result) c.suppressed_ends.ensures) c.requires.easy c.loop-place.place w.begin.new.self.current w.in_ok-begin.ensures.begun (omega (arith, c.last_position-last.ensures.inside, c.loop-place-test.true))) (c.loop-place.invariant.failed p is)))
-            ∙ starts_passed (query_of p c.args.code.now (unfiltered c.args.options) c.args.haystack.now c.args.request on) c.args.code.now.start_bytes is.starts (λ k. omega (arith, c.type_inv.haystack k)) (c.last_position-last.result + 1 - (c.loop-place.place + 1)) (c.last_position-last.result + 1 - c.candidate_from-place-in-loop-place.result) (c.loop-place.place + 1) c.candidate_from-place-in-loop-place.result c.candidate_from-place-in-loop-place.ensures.passed (omega (arith, c.candidate_from-place-in-loop-place.ensures.passed, c.candidate_from-place-in-loop-place.ensures.within, c.loop-place-test.true)) c.candidate_from-place-in-loop-place.ensures.none);
-        passed = omega (arith, c.loop-place.invariant.passed, c.candidate_from-place-in-loop-place.ensures.passed);
-        starts = c.candidate_from-place-in-loop-place.ensures.stands;
-        idle = λ none. absurd (starts_somewhere c.args.code.now.start_bytes c.args.haystack.now c.args.request.range_end c.loop-place.place (c.loop-place.invariant.starts (omega (arith, c.loop-place-test.true))) (none c.loop-place.place (omega (arith, c.loop-place.invariant.passed, c.effective_start-first.ensures)) (omega (arith, c.loop-place-test.true, c.last_position-last.ensures.inside))));
+            ∙ openings_passed (query_of p c.args.code.now (unfiltered c.args.options) c.args.haystack.now c.args.request on) c.args.code.now.start_bytes is.starts (λ k. omega (arith, c.type_inv.haystack k)) c.args.code.now.literal is.opens (c.last_position-last.result + 1 - (c.loop-place.place + 1)) (c.last_position-last.result + 1 - c.next_opening-place-in-loop-place.result) (c.loop-place.place + 1) c.next_opening-place-in-loop-place.result c.next_opening-place-in-loop-place.ensures.passed (omega (arith, c.next_opening-place-in-loop-place.ensures.passed, c.next_opening-place-in-loop-place.ensures.within, c.loop-place-test.true)) c.next_opening-place-in-loop-place.ensures.none);
+        passed = omega (arith, c.loop-place.invariant.passed, c.next_opening-place-in-loop-place.ensures.passed);
+        starts = λ le none. c.loop-place.invariant.starts (omega (arith, c.loop-place-test.true)) none;
+        idle = λ none. absurd (c.loop-place.invariant.starts (omega (arith, c.loop-place-test.true)) none);
         failed = λ p is. rw w.table-is (w.in_ok-follow.ensures.failed c.loop-place.place (deep (query_of p c.args.code.now (unfiltered c.args.options) c.args.haystack.now c.args.request true) c.args.code.now is refl refl refl refl c.requires.inside (search_context c.args.haystack.now c.args.code.now.meaning c.suppressed_ends.result c.effective_start-first.result) (Some c.effective_start-first.result) (ap (λ (s : SuppressedEnds). search_context c.args.haystack.now c.args.code.now.meaning s c.effective_start-first.result) c.suppressed_ends.ensures)) (attempt_known (query_of p c.args.code.now (unfiltered c.args.options) c.args.haystack.now c.args.request true) c.args.code.now is refl refl refl refl c.requires.inside (search_context c.args.haystack.now c.args.code.now.meaning c.suppressed_ends.result c.effective_start-first.result) (Some c.effective_start-first.result) (ap (λ (s : SuppressedEnds). search_context c.args.haystack.now c.args.code.now.meaning s c.effective_start-first.result) c.suppressed_ends.ensures) c.requires.easy c.loop-place.place w.begin.new.self.current w.in_ok-begin.ensures.begun (omega (arith, c.last_position-last.ensures.inside, c.loop-place-test.true))) (c.loop-place.invariant.failed p is) w.if-branch.false);
         room = ap length w.table-is ∙ w.follow.ensures.room ∙ c.loop-place.invariant.room;
         small = omega (arith, ap length w.table-is, w.follow.ensures.room, c.loop-place.invariant.small);
@@ -81,10 +81,10 @@ loop-place-preserved c =
         left = λ p on is.
             c.loop-place.invariant.left p on is
             ∙ search_miss (query_of p c.args.code.now (unfiltered c.args.options) c.args.haystack.now c.args.request on) (c.last_position-last.result + 1 - c.loop-place.place) (c.last_position-last.result + 1 - (c.loop-place.place + 1)) c.loop-place.place (omega (arith, c.loop-place-test.true)) (search_skip (query_of p c.args.code.now (unfiltered c.args.options) c.args.haystack.now c.args.request on) c.loop-place.place refl (sym c.is_match_boundary.ensures ∙ w.if-is_match_boundary.false))
-            ∙ starts_passed (query_of p c.args.code.now (unfiltered c.args.options) c.args.haystack.now c.args.request on) c.args.code.now.start_bytes is.starts (λ k. omega (arith, c.type_inv.haystack k)) (c.last_position-last.result + 1 - (c.loop-place.place + 1)) (c.last_position-last.result + 1 - c.candidate_from-place-in-loop-place.result) (c.loop-place.place + 1) c.candidate_from-place-in-loop-place.result c.candidate_from-place-in-loop-place.ensures.passed (omega (arith, c.candidate_from-place-in-loop-place.ensures.passed, c.candidate_from-place-in-loop-place.ensures.within, c.loop-place-test.true)) c.candidate_from-place-in-loop-place.ensures.none;
-        passed = omega (arith, c.loop-place.invariant.passed, c.candidate_from-place-in-loop-place.ensures.passed);
-        starts = c.candidate_from-place-in-loop-place.ensures.stands;
-        idle = λ none. absurd (starts_somewhere c.args.code.now.start_bytes c.args.haystack.now c.args.request.range_end c.loop-place.place (c.loop-place.invariant.starts (omega (arith, c.loop-place-test.true))) (none c.loop-place.place (omega (arith, c.loop-place.invariant.passed, c.effective_start-first.ensures)) (omega (arith, c.loop-place-test.true, c.last_position-last.ensures.inside))));
+            ∙ openings_passed (query_of p c.args.code.now (unfiltered c.args.options) c.args.haystack.now c.args.request on) c.args.code.now.start_bytes is.starts (λ k. omega (arith, c.type_inv.haystack k)) c.args.code.now.literal is.opens (c.last_position-last.result + 1 - (c.loop-place.place + 1)) (c.last_position-last.result + 1 - c.next_opening-place-in-loop-place.result) (c.loop-place.place + 1) c.next_opening-place-in-loop-place.result c.next_opening-place-in-loop-place.ensures.passed (omega (arith, c.next_opening-place-in-loop-place.ensures.passed, c.next_opening-place-in-loop-place.ensures.within, c.loop-place-test.true)) c.next_opening-place-in-loop-place.ensures.none;
+        passed = omega (arith, c.loop-place.invariant.passed, c.next_opening-place-in-loop-place.ensures.passed);
+        starts = λ le none. c.loop-place.invariant.starts (omega (arith, c.loop-place-test.true)) none;
+        idle = λ none. absurd (c.loop-place.invariant.starts (omega (arith, c.loop-place-test.true)) none);
         failed = λ p is. rw w.table-is (c.loop-place.invariant.failed p is);
         room = ap length w.table-is ∙ c.loop-place.invariant.room;
         small = omega (arith, ap length w.table-is, c.loop-place.invariant.small);
@@ -123,10 +123,10 @@ returns-clause-bounded c =
     (omega (arith, c.loop-place.invariant.room, marked_le c.loop-place.table)) c.effective_start-first.ensures (omega arith)
 
 pub returns-in_err-begin-clause-idle : goal.returns-in_err-begin-clause-idle
-returns-in_err-begin-clause-idle c none = absurd (starts_somewhere c.args.code.now.start_bytes c.args.haystack.now c.args.request.range_end c.loop-place.place (c.loop-place.invariant.starts (omega (arith, c.loop-place-test.true))) (none c.loop-place.place (omega (arith, c.loop-place.invariant.passed, c.effective_start-first.ensures)) (omega (arith, c.loop-place-test.true, c.last_position-last.ensures.inside))))
+returns-in_err-begin-clause-idle c none = absurd (c.loop-place.invariant.starts (omega (arith, c.loop-place-test.true)) none)
 
 pub returns-in_err-follow-clause-idle : goal.returns-in_err-follow-clause-idle
-returns-in_err-follow-clause-idle c none = absurd (starts_somewhere c.args.code.now.start_bytes c.args.haystack.now c.args.request.range_end c.loop-place.place (c.loop-place.invariant.starts (omega (arith, c.loop-place-test.true))) (none c.loop-place.place (omega (arith, c.loop-place.invariant.passed, c.effective_start-first.ensures)) (omega (arith, c.loop-place-test.true, c.last_position-last.ensures.inside))))
+returns-in_err-follow-clause-idle c none = absurd (c.loop-place.invariant.starts (omega (arith, c.loop-place-test.true)) none)
 
 pub returns-then-branch-clause-idle : goal.returns-then-branch-clause-idle
-returns-then-branch-clause-idle c none = absurd (starts_somewhere c.args.code.now.start_bytes c.args.haystack.now c.args.request.range_end c.loop-place.place (c.loop-place.invariant.starts (omega (arith, c.loop-place-test.true))) (none c.loop-place.place (omega (arith, c.loop-place.invariant.passed, c.effective_start-first.ensures)) (omega (arith, c.loop-place-test.true, c.last_position-last.ensures.inside))))
+returns-then-branch-clause-idle c none = absurd (c.loop-place.invariant.starts (omega (arith, c.loop-place-test.true)) none)

@@ -6,7 +6,7 @@ use Rattle.fancy_engine.specs.Compile.{IsCodeOf, depth}
 use Rattle.fancy_engine.specs.Queries.{query_of, unfiltered}
 use Rattle.fancy_input.specs.LastLines.{KnowsLastLines}
 use Rattle.fancy_input.specs.Requests.{effective_start}
-use Rattle.fancy_engine.specs.Seen.{MayStart, NoneMayStart}
+use Rattle.fancy_engine.specs.Seen.{NoneMayStart}
 use Rattle.fancy_engine.specs.Search.{search, answer_from}
 use Rattle.fancy_engine.specs.Work.{steps_of, returns_of}
 use Rattle.fancy_engine.proofs.search.search.Given as goal
@@ -16,7 +16,7 @@ invariant-loop-place l = record {
   left : (p : Pattern) (on : Bool) → IsCodeOf p l.code → search (query_of p l.code (unfiltered l.fn.options) l.haystack l.fn.request on)
       ≡ answer_from (query_of p l.code (unfiltered l.fn.options) l.haystack l.fn.request on) (l.last + 1 - l.place) l.place;
   passed : l.first ≤ l.place;
-  starts : l.place ≤ l.last → MayStart l.code.start_bytes l.haystack l.fn.request.range_end l.place;
+  starts : l.place ≤ l.last → ¬ NoneMayStart l.code.start_bytes l.haystack l.fn.request.range_end (effective_start l.fn.request) (l.fn.request.range_end + 1);
   idle : NoneMayStart l.code.start_bytes l.haystack l.fn.request.range_end (effective_start l.fn.request) (l.fn.request.range_end + 1) → steps_of l.work ≡ steps_of l.fn.work;
   failed : (p : Pattern) → IsCodeOf p l.code → AllFailedIn l.attempt (depth (length l.haystack) p + 1) l.table;
   room : length l.table ≡ pairs_in l.attempt;

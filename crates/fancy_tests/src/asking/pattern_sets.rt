@@ -1,0 +1,93 @@
+//! Pattern sets.
+
+use crate::asking::{Span, check};
+use fancy_regex::{
+    Error, Input, RegexInput, RegexOptionsBuilder, RegexSet, RegexSetMatchesAt, Result,
+    RuntimeError,
+};
+use std::alloc::Global;
+use std::process::Abort;
+
+/// The index of a pattern and where its match stands, or none where it is refused past its limit of returns.
+pub(crate) type Item = Option<(usize, Span)>;
+
+/// A limit of returns, patterns, a text, the start, whether the search is anchored, and where the set stands, with its items.
+pub(crate) type SetRow = (
+    usize,
+    &'static [&'static str],
+    &'static str,
+    usize,
+    bool,
+    Option<(usize, &'static [Item])>,
+);
+
+/// More returns than any row takes.
+pub(crate) const AMPLE: usize = 1_000;
+
+/// The set of the patterns under a limit of returns.
+pub(crate) fn set_of(rt: &impl Abort, alloc: Global, limit: usize, patterns: &[&str]) -> RegexSet {
+    let mut options = RegexOptionsBuilder::new();
+    options.backtrack_limit(limit);
+    RegexSet::new_with_options(alloc, patterns, &options).expect(rt, "a set")
+}
+
+/// What the set finds in the input, which it may search.
+pub(crate) fn searched<'s, S: Input>(
+    rt: &impl Abort,
+    set: &'s RegexSet,
+    input: RegexInput<S>,
+) -> Result<Option<RegexSetMatchesAt<'s, S>>> {
+    assert!(rt; set.can_search(&input));
+    set.find_input(input)
+}
+
+/// What the next answer of a member says of itself, if there is one.
+fn next_item(rt: &impl Abort, matches: &mut RegexSetMatchesAt<'_, &str>) -> Option<Item> {
+    let haystack = matches.haystack();
+    match matches.next() {
+        Some(Ok(found)) => {
+            let (start, end) = (found.start(), found.end());
+            let part = haystack.get(start..end);
+            check(rt, part == Some(found.as_str()), haystack);
+            Some(Some((found.pattern(), (start, end))))
+        }
+        Some(Err(Error::RuntimeError(RuntimeError::BacktrackLimitExceeded))) => Some(None),
+        Some(Err(_)) => rt.panic(haystack),
+        None => None,
+    }
+}
+
+/// Checks where a set stands, what it says of itself there, and its items, one by one; and that then the iterator has ended
+/// and stays so.
+pub(crate) fn check_matches_at(
+    rt: &impl Abort,
+    mut matches: RegexSetMatchesAt<'_, &str>,
+    (members, text): (usize, &str),
+    position: usize,
+    items: &[Item],
+) {
+    check(rt, matches.start() == position, text);
+    check(rt, matches.haystack() == text, text);
+    check(rt, matches.regex_set().len() == members, text);
+    for item in items {
+        let found = next_item(rt, &mut matches);
+        check(rt, found == Some(*item), text);
+    }
+    let found = next_item(rt, &mut matches);
+    check(rt, found.is_none(), "the end");
+    let found = next_item(rt, &mut matches);
+    check(rt, found.is_none(), "the end again");
+}
+
+/// Checks where sets stand, and the items of each.
+pub(crate) fn check_sets(rt: &impl Abort, alloc: Global, rows: &[SetRow]) {
+    for &(limit, patterns, text, start, anchored, wanted) in rows {
+        let set = set_of(rt, alloc, limit, patterns);
+        let input = RegexInput::new(text).from_pos(start).anchored(anchored);
+        let found = searched(rt, &set, input).expect(rt, text);
+        check(rt, found.is_some() == wanted.is_some(), text);
+        if let (Some(matches), Some((position, items))) = (found, wanted) {
+            check_matches_at(rt, matches, (patterns.len(), text), position, items);
+        }
+    }
+}

@@ -1,0 +1,87 @@
+//! What is accepted, what is refused and why, and what is given up.
+
+use crate::asking::{Settings, check, read};
+use fancy_regex::{CompileError, Error, ParseErrorKind, Regex, RuntimeError};
+use std::alloc::Global;
+use std::process::Abort;
+
+/// What becomes of a pattern.
+#[derive(Clone, Copy)]
+pub(crate) enum Verdict {
+    /// It is not refused.
+    Accepted,
+    /// The pattern has a fault of this kind at this place.
+    Fault(usize, ParseErrorKind),
+    /// The pattern has a fault of this kind, wherever it is.
+    Kind(ParseErrorKind),
+    /// No group has the number.
+    Number(usize),
+    /// No group has the name.
+    Name(&'static str),
+    /// A reference by number where only named groups capture.
+    ByNameAlone,
+    /// A look-behind of no constant size.
+    LookBehind,
+    /// A pattern of size 0, where empty matches are refused.
+    NeverMatches,
+    /// Too many nodes, or too much code.
+    TooComplex,
+}
+
+/// Whether this is why a pattern that can be read is not accepted.
+fn is_flaw(why: &CompileError, wanted: Verdict) -> bool {
+    match (why, wanted) {
+        (CompileError::InvalidBackref(number), Verdict::Number(wanted)) => *number == wanted,
+        (CompileError::InvalidGroupNameBackref(name), Verdict::Name(wanted)) => name.as_str()
+            == wanted,
+        (CompileError::NamedBackrefOnly, Verdict::ByNameAlone) => true,
+        (CompileError::LookBehindNotConst, Verdict::LookBehind) => true,
+        (CompileError::PatternCanNeverMatch, Verdict::NeverMatches) => true,
+        (CompileError::PatternTooComplex, Verdict::TooComplex) => true,
+        _ => false,
+    }
+}
+
+/// Checks what became of a pattern.
+pub(crate) fn check_verdict<T>(
+    rt: &impl Abort,
+    answer: &fancy_regex::Result<T>,
+    wanted: Verdict,
+    words: &str,
+) {
+    let holds = match (answer, wanted) {
+        (Ok(_), Verdict::Accepted) => true,
+        (Err(Error::ParseError(at, kind)), Verdict::Fault(place, wanted)) => *at == place
+            && *kind == wanted,
+        (Err(Error::ParseError(_, kind)), Verdict::Kind(wanted)) => *kind == wanted,
+        (Err(Error::CompileError(why)), _) => is_flaw(why, wanted),
+        _ => false,
+    };
+    check(rt, holds, words);
+}
+
+/// Whether a search is given up for this reason.
+pub(crate) fn is_given_up<T>(answer: &fancy_regex::Result<T>, reason: RuntimeError) -> bool {
+    matches!(answer, Err(Error::RuntimeError(why)) if *why == reason)
+}
+
+/// A pattern, and the kind of its fault.
+pub(crate) type KindRow = (&'static str, ParseErrorKind);
+
+/// Checks why patterns are refused that are read with the default options.
+pub(crate) fn check_kinds(rt: &impl Abort, alloc: Global, rows: &[KindRow]) {
+    for &(pattern, kind) in rows {
+        let read = Regex::new(alloc, pattern);
+        check_verdict(rt, &read, Verdict::Kind(kind), pattern);
+    }
+}
+
+/// Options, a pattern, and what becomes of it.
+pub(crate) type VerdictRow = (Settings, &'static str, Verdict);
+
+pub(crate) fn check_verdicts(rt: &impl Abort, alloc: Global, rows: &[VerdictRow]) {
+    for &(settings, pattern, wanted) in rows {
+        let read = read(alloc, settings, pattern);
+        check_verdict(rt, &read, wanted, pattern);
+    }
+}
