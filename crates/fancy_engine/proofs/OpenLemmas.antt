@@ -263,11 +263,13 @@ module _ (starts : Option ByteFlags) (text : Option (List ℕ)) (haystack : List
   either p lacks k low high true e = inl (next.none k low (lt_holds k place e))
   either p lacks k low high false e = inr (lacks k (not_lt k place e) high)
 
-  -- and with one where that stands
-  pub by_text : (p : ℕ) → place ≤ last → place ≤ p → p ≤ last + 1 → ((k : ℕ) → place ≤ k → k < p → LacksOpening text haystack range_end k) → IsNextOpening starts text haystack range_end from last p
-  by_text p some later within lacks = record {
+  -- and with one where that stands, if there is a place that the first byte allows
+  pub by_text : (p : ℕ) → place ≤ p → p ≤ last + 1 → ((k : ℕ) → place ≤ k → k < p → LacksOpening text haystack range_end k) → IsNextOpening starts text haystack range_end from last p
+  by_text p later within lacks = record {
     passed = omega (arith, next.passed, later);
     within = within;
-    some = λ le none. starts_somewhere starts haystack range_end place (next.stands some) (none place next.passed (omega (arith, some)));
+    some = λ le none.
+        let to : place ≤ last = omega (arith, le, later) in
+        starts_somewhere starts haystack range_end place (next.stands to) (none place next.passed (omega (arith, to)));
     none = λ k low high. either p lacks k low high (nat_lt k place) refl;
   }

@@ -7,6 +7,7 @@ ghost use Rattle.fancy_engine.specs.Attempt.{pairs_in};
 ghost use Rattle.fancy_engine.specs.Compile.{IsCodeOf, AreEasy};
 ghost use Rattle.fancy_engine.specs.Search.{search};
 ghost use Rattle.fancy_input.specs.Requests.{effective_start};
+ghost use Rattle.fancy_bytes.specs.Openings.{NoneStandsBefore};
 ghost use Rattle.fancy_engine.specs.Seen.{IsNextCandidate, IsNextOpening, NoneMayStart};
 ghost use Rattle.fancy_engine.specs.Queries.{query_of, unfiltered, groups_in, answer_with, most_steps};
 ghost use Rattle.fancy_engine.specs.Work.{steps_of, returns_of, HasRoom};
@@ -19,6 +20,7 @@ use crate::runner::{Attempt, follow};
 use crate::table::Table;
 use crate::threads::Threads;
 use crate::work::Work;
+use fancy_bytes::literal::Literal;
 use fancy_input::input::Request;
 use fancy_input::last_lines::LastLines;
 use fancy_input::span::Span;
@@ -118,9 +120,29 @@ fn next_opening(code: &Code, haystack: &[u8], range_end: usize, from: usize, las
     ensures { IsNextOpening code.now.start_bytes code.now.literal haystack.now range_end from last result }
 {
     let place = candidate_from(code, haystack, range_end, from, last);
-    let Some(literal) = &code.literal else {
-        return place;
-    };
+    match &code.literal {
+        None => place,
+        Some(literal) => literal_from(literal, haystack, range_end, place, last),
+    }
+}
+
+/// The first position, from one up to the last, where the text stands, past the last where there is none. A position past the last, or
+/// the last itself, is the answer as it is.
+#[inline(never)]
+fn literal_from(
+    literal: &Literal,
+    haystack: &[u8],
+    range_end: usize,
+    place: usize,
+    last: usize,
+) -> usize
+    requires within { place ≤ last + 1 }
+    requires last { last ≤ range_end }
+    requires inside { range_end ≤ length haystack.now }
+    ensures passed { place ≤ result }
+    ensures within { result ≤ last + 1 }
+    ensures none { NoneStandsBefore haystack.now range_end literal.now place result }
+{
     if place >= last {
         return place;
     }

@@ -205,6 +205,7 @@ impl Program {
 
     /// Whether a byte that the pattern requires was looked for, and does not stand in the haystack: then nothing is found. The bytes
     /// in `standing` are known to stand there, and those that were found are added.
+    #[inline]
     fn is_hopeless(&self, haystack: &[u8], request: Request, standing: &mut ByteSet) -> bool
         requires standing { AllStand standing.old haystack.now }
         ensures standing { AllStand standing.new haystack.now }
@@ -220,6 +221,7 @@ impl Program {
 
     /// Whether a search begins with a look for the bytes that the pattern requires: where it seeks, and for an easy pattern also
     /// where all of the haystack is searched.
+    #[inline]
     fn looks_for_required(&self, haystack: &[u8], request: Request) -> bool
         ensures seeks { (program_options self.now).seek ≡ true → result ≡ true }
         ensures unasked { IsHardProgram self.now → result ≡ (program_options self.now).seek }
