@@ -1,6 +1,6 @@
 -- What the options of a program choose.
 use Rattle.std.specs.Prelude.{Bool, true, false, None, not, ◌&&◌}
-use Rattle.fancy_tree.specs.Limits.{most_returns}
+use Rattle.fancy_tree.specs.Limits.{most_branches, most_returns}
 use Rattle.fancy_tree.specs.declared.tree.Meaning.{Meaning}
 use Rattle.fancy_tree.specs.declared.tree.BytesMode.TheVariants.{Unicode}
 use Rattle.fancy_tree.specs.Modes as modes
@@ -20,6 +20,7 @@ by_default = record {
   ignore_numbered_groups_when_named_groups_exist = false;
   allow_input_assertion_overrides = false;
   backtrack_limit = most_returns;
+  stack_limit = most_branches;
   max_prog_size = None;
   find_not_empty = false;
   leftmost_longest = false;
@@ -46,5 +47,6 @@ search_options o = record {
   not_empty = o.find_not_empty;
   longest = o.leftmost_longest;
   backtrack_limit = o.backtrack_limit;
+  stack_limit = o.stack_limit;
   seek = o.seek;
 }

@@ -39,6 +39,10 @@ program_is_easy p = is_easy_under (program_options p) (program_pattern p)
 abbrev pub program_limit : Program → ℕ
 program_limit p = p.options.backtrack_limit
 
+-- how many branches a search for it may have saved at one time
+abbrev pub program_stack_limit : Program → ℕ
+program_stack_limit p = p.options.stack_limit
+
 -- its matches stand on whole characters
 abbrev pub KeepsCharacters : Program → Type 0
 KeepsCharacters p = IsTrue (keeps_characters (program_options p).bytes_mode)

@@ -2,11 +2,10 @@
 use Rattle.std.specs.Prelude.{◌≡◌, ℕ, ◌+◌, ◌-◌, ◌*◌, ◌<◌, ◌≤◌, Bool, not, ◌&&◌, Result, Option, Err, IfOk, IfSome, false}
 use Rattle.fancy_bytes.specs.Lacks.{lacks_some}
 use Rattle.fancy_bytes.specs.Required.{required_bytes}
-use Rattle.fancy_tree.specs.Limits.{most_branches}
 use Rattle.fancy_tree.specs.declared.error.Error.{Error}
 use Rattle.fancy_tree.specs.declared.error.Error.TheVariants.{Memory, ParseError, CompileError, RuntimeError}
 use Rattle.fancy_tree.specs.declared.error.RuntimeError.{RuntimeError as Running}
-use Rattle.fancy_tree.specs.declared.error.RuntimeError.TheVariants.{BacktrackLimitExceeded, StackOverflow}
+use Rattle.fancy_tree.specs.declared.error.RuntimeError.TheVariants.{BacktrackLimitExceeded, StackOverflow, Unmatched}
 use Rattle.fancy_input.specs.declared.input.Request.{Request}
 use Rattle.fancy_input.specs.Requests.{effective_start}
 use Rattle.fancy_engine.specs.declared.work.Work.{Work}
@@ -14,7 +13,7 @@ use Rattle.fancy_engine.specs.Work.{steps_of, returns_of, HasRoom}
 use Rattle.fancy_engine.specs.Tried.{tried}
 use Rattle.fancy_engine.specs.Search.{Query, returns, choices, returns_at, choices_at}
 use Rattle.fancy_search.specs.declared.program.Program.{Program}
-use Rattle.fancy_search.specs.Programs.{program_options, program_is_easy, program_length, program_limit}
+use Rattle.fancy_search.specs.Programs.{program_options, program_is_easy, program_length, program_limit, program_stack_limit}
 
 -- Whether a search for it is refused past limits: its pattern reads what it captured, or ends a way early, or one of the two filters is set.
 abbrev pub IsHardProgram : Program → Type 0
@@ -46,7 +45,8 @@ choices_in r q = choices q (tried_by r q)
 
 abbrev pub IsPastLimit : Running → Program → Query → Type 0
 IsPastLimit BacktrackLimitExceeded r q = program_limit r < returns_taken r q
-IsPastLimit StackOverflow r q = most_branches < choices_in r q
+IsPastLimit StackOverflow r q = program_stack_limit r < choices_in r q
+IsPastLimit (Unmatched place) r q = ⊥
 
 -- how many steps an easy search takes at most: the length of the code for each position of the searched text, its end among them
 abbrev pub step_bound : Program → Request → ℕ
@@ -72,7 +72,8 @@ AllowsQuery r q = IsHardProgram r → returns_taken r q ≤ program_limit r
 
 abbrev pub IsPastLimitAt : Running → Program → Query → ℕ → Type 0
 IsPastLimitAt BacktrackLimitExceeded r q p = program_limit r < returns_at q p
-IsPastLimitAt StackOverflow r q p = most_branches < choices_at q p
+IsPastLimitAt StackOverflow r q p = program_stack_limit r < choices_at q p
+IsPastLimitAt (Unmatched place) r q p = ⊥
 
 -- The attempt at a position may be refused by this error: for want of memory at any time, and of a hard pattern past a limit.
 abbrev pub RefusesAttempt : Program → Query → ℕ → Error → Type 0
