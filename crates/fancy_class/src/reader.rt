@@ -15,7 +15,7 @@ use fancy_tree::error::ParseErrorKind;
 use fancy_tree::set::Set;
 
 /// How many brackets may be open at one place.
-const DEEPEST: u32 = 64;
+const DEEPEST: u32 = 128;
 
 impl<'a> Cursor<'a> {
     /// Reads the class that stands here.

@@ -51,7 +51,7 @@ impl Regex {
     /// It is refused where the text is no pattern of the dialect, and where memory runs out (`Memory`):
     ///
     /// - `ParseError` where the text does not spell a pattern, with the place of the fault as a byte offset into it;
-    /// - `CompileError(PatternTooComplex)` where the pattern has more than 1,000,000 nodes, with counted repeats written
+    /// - `CompileError(PatternTooComplex)` where the pattern has more than 4,000,000 nodes, with counted repeats written
     ///   out;
     /// - `CompileError(InvalidBackref)` for a reference to a number that no group has, and
     ///   `CompileError(InvalidGroupNameBackref)` for one to a name that no group has;
@@ -199,8 +199,9 @@ impl Regex {
     ///
     /// It is refused where memory runs out (`Memory`), and for a hard pattern (one that is not [`Regex::is_easy`]) past a
     /// limit: `RuntimeError(BacktrackLimitExceeded)` where the search takes more returns than
-    /// `RegexOptionsBuilder::backtrack_limit` allows, and `RuntimeError(StackOverflow)` where more than 1,000,000 branches
-    /// are saved at one time, which only a search that opens more choices than that can come to.
+    /// `RegexOptionsBuilder::backtrack_limit` allows, and `RuntimeError(StackOverflow)` where more branches
+    /// are saved at one time than `RegexOptionsBuilder::stack_limit` allows, which only a search that opens more choices than
+    /// that can come to.
     pub fn find_input<S: Input>(&self, input: RegexInput<S>) -> Result<Option<S::Match>>
         requires searched { CanSearchInput S.text S.bytes (options_in self.now) input }
         ensures found { IfOk result (λ m. FindsFirst S.span m (asked_by self.now S.bytes input)) }

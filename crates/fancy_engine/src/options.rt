@@ -21,6 +21,8 @@ pub struct SearchOptions {
     pub longest: bool,
     /// The most returns of a search.
     pub backtrack_limit: usize,
+    /// The most branches that a search has saved at one time.
+    pub stack_limit: usize,
     /// A search for a hard pattern passes over the positions where no match begins, as the first bytes tell, and counts nothing
     /// there. One for an easy pattern does so in any case.
     pub seek: bool,

@@ -57,6 +57,7 @@ impl<'a> Attempt<'a> {
         continues: bool,
     ) -> Attempt<'a>
         ensures code { result.code.now ≡ code.now }
+        ensures options { result.options ≡ options }
         ensures serves { (p : Pattern) → Serves result (query_of p code.now options haystack.now request continues) }
     {
         Attempt {

@@ -1,7 +1,6 @@
 //! Searches by the machine.
 
 ghost use Rattle.std.specs.Prelude.{◌≡◌, ◌+◌, ◌-◌, ◌<◌, ◌≤◌, true, false, [], Option, Some, None, Err, IfOk, length, slice_index_or};
-ghost use Rattle.fancy_tree.specs.Limits.{most_branches};
 ghost use Rattle.fancy_engine.specs.Compile.{IsCodeOf};
 ghost use Rattle.fancy_input.specs.LastLines.{KnowsLastLines};
 ghost use Rattle.fancy_input.specs.Requests.{effective_start};
@@ -25,9 +24,6 @@ use fancy_input::input::Request;
 use fancy_input::last_lines::LastLines;
 use fancy_input::span::Span;
 use std::alloc::Global;
-
-/// The most branches that are saved at once.
-const MAX_BRANCHES: usize = 1_000_000;
 
 /// What searches work in, reused from one to the next, with the groups of the last match.
 #[derive(Drop)]
@@ -70,7 +66,7 @@ impl Cache {
 /// # Errors
 ///
 /// `SearchRefusal::Memory` where memory runs out, `SearchRefusal::Returns` where the search takes more returns than the options
-/// allow, and `SearchRefusal::Choices` where it would save more than 1,000,000 branches at once.
+/// allow, and `SearchRefusal::Choices` where it would save more branches at once than they allow.
 pub fn search(
     code: &Code,
     haystack: &[u8],
@@ -96,7 +92,7 @@ pub fn search(
     ensures returns { returns_of work.old ≤ returns_of work.new }
     ensures bounded { returns_of work.new ≤ returns_of work.old + returns q (tried options.seek q) }
     ensures paired { returns_of work.old ≤ steps_of work.old → returns_of work.new ≤ steps_of work.new }
-    ensures crowded { result ≡ Err SearchRefusal.Choices → most_branches < choices q (tried options.seek q) }
+    ensures crowded { result ≡ Err SearchRefusal.Choices → options.stack_limit < choices q (tried options.seek q) }
 {
     let first = request.effective_start();
     if first > request.range_end {
@@ -186,7 +182,7 @@ pub fn attempt_at(
     ensures returns { returns_of work.old ≤ returns_of work.new }
     ensures bounded { returns_of work.new ≤ returns_of work.old + returns_at q position }
     ensures paired { returns_of work.old ≤ steps_of work.old → returns_of work.new ≤ steps_of work.new }
-    ensures crowded { result ≡ Err SearchRefusal.Choices → most_branches < choices_at q position }
+    ensures crowded { result ≡ Err SearchRefusal.Choices → options.stack_limit < choices_at q position }
 {
     let attempt = Attempt::new(code, haystack, request, options, continues);
     let limit = work.returns() + options.backtrack_limit;
@@ -233,14 +229,15 @@ fn try_position(
     ensures bounded { returns_of work.new ≤ returns_of work.old + returns_at q position }
     ensures paired { returns_of work.old ≤ steps_of work.old → returns_of work.new ≤ steps_of work.new }
     ensures last_lines { KnowsLastLines attempts.now.haystack.now last_lines.new }
-    ensures crowded { result ≡ Err SearchRefusal.Choices → most_branches < choices_at q position }
+    ensures crowded { result ≡ Err SearchRefusal.Choices → attempts.now.options.stack_limit < choices_at q position }
 {
     if !is_match_boundary(attempts.options.on_boundaries, attempts.haystack, position) {
         return Ok(None);
     }
     let code = attempts.code;
     let trail = &mut cache.trail;
-    trail.begin(code.start, position, range_end, code.groups, MAX_BRANCHES)?;
+    let most = attempts.options.stack_limit;
+    trail.begin(code.start, position, range_end, code.groups, most)?;
     let found = attempts.run(trail, &mut cache.best, limit, last_lines, work)?;
     if found {
         return Ok(Some(Found {

@@ -162,6 +162,16 @@ impl RegexBuilder {
         self
     }
 
+    /// Sets the option of [`RegexOptionsBuilder::stack_limit`].
+    pub fn stack_limit(&mut self, limit: usize) -> &mut Self
+        ensures same { result.ghost_name ≡ self.entry.ghost_name }
+        ensures pattern { pattern_set result.now ≡ pattern_set self.old }
+        ensures value { options_set result.now ≡ record (options_set self.old) { stack_limit = limit } }
+    {
+        self.options.stack_limit(limit);
+        self
+    }
+
     /// Sets the option of [`RegexOptionsBuilder::max_prog_size`].
     pub fn max_prog_size(&mut self, size: usize) -> &mut Self
         ensures same { result.ghost_name ≡ self.entry.ghost_name }

@@ -87,7 +87,7 @@ pub fn limits_cut_pieces_off()
     ensures before { (n : ℕ) (t : List ℕ) (spans : List Span) → KeepsPieces n t spans }
 {}
 
-/// What `escape` makes of a text is a pattern where the text has at most 1,000,000 characters: these characters, one after
+/// What `escape` makes of a text is a pattern where the text has at most 4,000,000 characters: these characters, one after
 /// the other, and no other pattern.
 pub fn escapes_spell_their_text(_text: &str)
     ensures { (p : Pattern) → IsPattern standard (escaped_pattern (chars _text.now)) p ↔ IsLiterally p _text.now }

@@ -30,7 +30,7 @@ pub struct RegexOptionsBuilder {
 }
 
 impl RegexOptionsBuilder {
-    /// A builder with the default options: `BytesMode::Unicode`, the Unicode mode on, at most 1,000,000 returns, and every other
+    /// A builder with the default options: `BytesMode::Unicode`, the Unicode mode on, at most 1,000,000 returns and as many saved branches, and every other
     /// switch off.
     pub fn new() -> RegexOptionsBuilder
         ensures { options_of result ≡ by_default }
@@ -173,6 +173,25 @@ impl RegexOptionsBuilder {
         ensures value { options_of result.now ≡ record (options_of self.old) { backtrack_limit = limit } }
     {
         self.options.backtrack_limit = limit;
+        self
+    }
+
+    /// How many branches a search for a hard pattern may have saved at one time, before it is refused as
+    /// `RuntimeError(StackOverflow)`. 1,000,000 by default.
+    ///
+    /// A branch is saved at each choice, for its later side, until the search returns to it or drops it. So this bounds the
+    /// memory that such a search takes, as [`RegexOptionsBuilder::backtrack_limit`] bounds its time. Patterns that are easy
+    /// ([`Regex::is_easy`]) do not heed it.
+    ///
+    /// ```text
+    /// let regex = RegexOptionsBuilder::new().stack_limit(0).build(pattern)?;    // of `(?:a|b)(?=c)`
+    /// regex.find("bc")    // Err(RuntimeError(StackOverflow)): the second branch is saved while the first is tried
+    /// ```
+    pub fn stack_limit(&mut self, limit: usize) -> &mut Self
+        ensures same { result.ghost_name ≡ self.entry.ghost_name }
+        ensures value { options_of result.now ≡ record (options_of self.old) { stack_limit = limit } }
+    {
+        self.options.stack_limit = limit;
         self
     }
 

@@ -15,6 +15,9 @@ use fancy_tree::tree::{BytesMode, Meaning, Tree};
 /// How many returns a search may take where nothing else is set.
 const BACKTRACK_LIMIT: usize = 1_000_000;
 
+/// How many branches a search may have saved at one time where nothing else is set.
+const STACK_LIMIT: usize = 1_000_000;
+
 /// The options of a program: how its pattern is read, and how it is searched.
 #[derive(Clone, Copy, PartialEq, Eq)]
 pub struct Options {
@@ -30,6 +33,8 @@ pub struct Options {
     pub allow_input_assertion_overrides: bool,
     /// How many returns to an earlier choice a search for a hard pattern may take.
     pub backtrack_limit: usize,
+    /// How many branches a search for a hard pattern may have saved at one time.
+    pub stack_limit: usize,
     /// How many instructions a hard pattern's code may have, if that is limited.
     pub max_prog_size: Option<usize>,
     /// Whether empty matches are refused.
@@ -43,7 +48,8 @@ pub struct Options {
 impl Default for Options {
     ghost is_default = { λ o. o ≡ by_default };
 
-    /// `BytesMode::Unicode`, the Unicode mode on, at most 1,000,000 returns, and every other switch off.
+    /// `BytesMode::Unicode`, the Unicode mode on, at most 1,000,000 returns and as many saved branches, and every
+    /// other switch off.
     fn default() -> Options {
         Options {
             bytes_mode: BytesMode::Unicode,
@@ -52,6 +58,7 @@ impl Default for Options {
             ignore_numbered_groups_when_named_groups_exist: false,
             allow_input_assertion_overrides: false,
             backtrack_limit: BACKTRACK_LIMIT,
+            stack_limit: STACK_LIMIT,
             max_prog_size: None,
             find_not_empty: false,
             leftmost_longest: false,
@@ -91,6 +98,7 @@ impl Options {
             not_empty: self.find_not_empty,
             longest: self.leftmost_longest,
             backtrack_limit: self.backtrack_limit,
+            stack_limit: self.stack_limit,
             seek: self.seek,
         }
     }

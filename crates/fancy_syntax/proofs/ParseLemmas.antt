@@ -3,7 +3,7 @@ use Rattle.std.proofs.Common.{◌≡◌, ◌<◌, ◌≤◌, ◌+◌, ◌-◌, �
 use Rattle.std.proofs.Math.ListN as math
 use Rattle.std.proofs.lemmas.List.{length-map}
 use Rattle.std.proofs.lemmas.List.Elements.{All-map}
-use Rattle.fancy_tree.specs.Limits.{most_nodes}
+use Rattle.fancy_tree.specs.Limits.{most_nodes, most_parentheses}
 use Rattle.fancy_tree.specs.declared.error.CompileError.TheVariants.{InvalidBackref, InvalidGroupNameBackref, NamedBackrefOnly, LookBehindNotConst, PatternCanNeverMatch, PatternTooComplex}
 use Rattle.fancy_tree.specs.declared.error.Error.{Error}
 use Rattle.fancy_tree.specs.declared.error.Error.TheVariants.{Memory, ParseError, CompileError, RuntimeError}
@@ -34,13 +34,13 @@ pub begun : (s : Scope) {names : List GroupName} {wanted : List Found_target} {t
     → ◌≡◌ {A = Place} (start (record s { names = named_groups names; wanted = targets_of wanted }) text) (start s text)
 begun s {names} {wanted} {text} h f e g = ap₂ (λ (l : List (Text × ℕ)) (m : List Target). start (record s { names = l; wanted = m }) text) (ap named_groups e ∙ sym h) (ap targets_of g ∙ sym f)
 
-pub no_reading : {s : Scope} {text : Text} {p : Place} (e : Error) → p ≡ start s text → MemoryOr e (HasNoReading (Alternation 64) p) → MemoryOr e (HasNoSpelling (Spells s text))
+pub no_reading : {s : Scope} {text : Text} {p : Place} (e : Error) → p ≡ start s text → MemoryOr e (HasNoReading (Alternation most_parentheses) p) → MemoryOr e (HasNoSpelling (Spells s text))
 no_reading e is none = MemoryOr-weaker e (λ h t end x. no_whole_reading is h t _ (spelling_read x)) none
 
-pub no_pattern : {s : Scope} {text : Text} {p q : Place} {found : Pattern} → p ≡ start s text → IsTheReading (Alternation 64) p found q → (q.text ≡ [] → ⊥) → HasNoSpelling (Spells s text)
+pub no_pattern : {s : Scope} {text : Text} {p q : Place} {found : Pattern} → p ≡ start s text → IsTheReading (Alternation most_parentheses) p found q → (q.text ≡ [] → ⊥) → HasNoSpelling (Spells s text)
 no_pattern is h left t end x = not_whole is h left t _ (spelling_read x)
 
-pub spelled : {s : Scope} {text : Text} {p q : Place} {found : Pattern} → p ≡ start s text → IsTheReading (Alternation 64) p found q → q.text ≡ [] → Spells s text found q.scope
+pub spelled : {s : Scope} {text : Text} {p q : Place} {found : Pattern} → p ≡ start s text → IsTheReading (Alternation most_parentheses) p found q → q.text ≡ [] → Spells s text found q.scope
 spelled is h all = reading_spelled (whole_reading is h all)
 
 -- what is not spelled is refused

@@ -8,6 +8,7 @@ use Rattle.fancy_tree.specs.declared.tree.RepeatKind.TheVariants.{Greedy, Lazy, 
 use Rattle.fancy_syntax.specs.declared.groups.Grouping.{Grouping}
 use Rattle.fancy_tree.specs.Pattern.{Pattern, backreference, repeat, in_branches}
 use Rattle.fancy_tree.specs.Sizes.{is_empty}
+use Rattle.fancy_tree.specs.Limits.{most_parentheses}
 use Rattle.fancy_tree.specs.Text.{Text, ◌∈◌}
 use Rattle.fancy_class.specs.Words.{is_at_any, is_at, begins}
 use Rattle.fancy_syntax.specs.Counts.{is_count, begins_count}
@@ -762,7 +763,7 @@ pub spelling_read : {s : Scope} {text : Text} {p : Pattern} {end : Scope} → d.
 spelling_read {s} {text} {p} {end} x = record {
   branches = x.branches;
   is = x.is;
-  reads = subst (λ l. g.BranchesReading 64 (start s l) x.branches (start end [])) (append-nil text) (read_branches x.spelled refl refl);
+  reads = subst (λ l. g.BranchesReading most_parentheses (start s l) x.branches (start end [])) (append-nil text) (read_branches x.spelled refl refl);
   all = refl;
 }
 
@@ -773,5 +774,5 @@ reading_spelled {s} {text} {p} {end} x =
     record {
       branches = x.branches;
       is = x.is;
-      spelled = subst (λ l. d.Branches 64 s l [] x.branches end.scope) same (subst (λ l. d.Branches 64 s y.0 l x.branches end.scope) x.all y.2);
+      spelled = subst (λ l. d.Branches most_parentheses s l [] x.branches end.scope) same (subst (λ l. d.Branches most_parentheses s y.0 l x.branches end.scope) x.all y.2);
     }

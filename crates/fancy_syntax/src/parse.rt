@@ -21,10 +21,10 @@ use fancy_tree::tree::{Meaning, Tree};
 use std::alloc::Global;
 
 /// How many parentheses may be open at one place.
-const MAX_DEPTH: u32 = 64;
+const MAX_DEPTH: u32 = 128;
 
 /// How many nodes a pattern may have, with counted repeats written out.
-const MAX_NODES: usize = 1_000_000;
+const MAX_NODES: usize = 4_000_000;
 
 /// What holds at the start of a pattern.
 #[derive(Clone, Copy, PartialEq, Eq)]
@@ -91,11 +91,11 @@ pub struct Parsed {
 /// - the flags `i m s x u R`, as `(?ms-x)` up to the end of the enclosing group, over later branches too, or as
 ///   `(?ms-x:..)` for a group.
 ///
-/// At most 64 parentheses are open at one place, among them those of flags, of `(?P=n)` and both of `(?(`, but not those of
-/// comments; and at most 64 brackets of classes.
+/// At most 128 parentheses are open at one place, among them those of flags, of `(?P=n)` and both of `(?(`, but not those of
+/// comments; and at most 128 brackets of classes.
 ///
 /// A text that is no pattern is refused by an [`Error::ParseError`], whose place is a byte offset into it, of 0
-/// to the length of `pattern`; one of more than 1,000,000 nodes by [`CompileError::PatternTooComplex`]. A reference to, or a test
+/// to the length of `pattern`; one of more than 4,000,000 nodes by [`CompileError::PatternTooComplex`]. A reference to, or a test
 /// of, a group that the pattern does not have is refused by [`CompileError::InvalidBackref`] with its number, or by
 /// [`CompileError::InvalidGroupNameBackref`] with its name; a number above 4,294,967,295 stands as that. A look-behind
 /// whose body has no one size, and is no alternative of branches that each have one, is refused by

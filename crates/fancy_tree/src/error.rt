@@ -25,7 +25,7 @@ pub enum ParseErrorKind {
     /// A quantifier on nothing that can be repeated, as in `?a` or `a???`.
     #[error("nothing to repeat before the quantifier")]
     TargetNotRepeatable,
-    /// More than 64 open parentheses, or brackets of one class.
+    /// More than 128 open parentheses, or brackets of one class.
     #[error("parentheses or brackets are nested too deep")]
     RecursionExceeded,
     /// A backslash at the end, as in `a\`.
@@ -75,12 +75,12 @@ pub enum CompileError {
     /// A pattern that matches only empty texts, where empty matches are refused.
     #[error("pattern that can never match")]
     PatternCanNeverMatch,
-    /// A pattern of more than 1,000,000 nodes, or with more code than its options allow.
-    #[error("pattern with more than 1000000 nodes, or too much code")]
+    /// A pattern of more than 4,000,000 nodes, or with more code than its options allow.
+    #[error("pattern with more than 4000000 nodes, or too much code")]
     PatternTooComplex,
 }
 
-/// Why a search was given up.
+/// Why a search was given up, or a list of tokens ended before its text did.
 #[derive(Debug, Drop, Clone, Copy, PartialEq, Eq, Error)]
 pub enum RuntimeError {
     /// A hard search would go back more often than its limit allows.
@@ -89,6 +89,9 @@ pub enum RuntimeError {
     /// A hard search would save more branches than its limit allows.
     #[error("too many saved branches")]
     StackOverflow,
+    /// No pattern of a set gives a token at this place, a byte offset into the text, which a list of tokens ends at.
+    #[error("no token at position {0}")]
+    Unmatched(usize),
 }
 
 /// Every refusal of the library.

@@ -86,6 +86,7 @@ fn runtime_name(kind: &RuntimeError) -> &'static str {
     match kind {
         RuntimeError::BacktrackLimitExceeded => "BacktrackLimitExceeded",
         RuntimeError::StackOverflow => "StackOverflow",
+        RuntimeError::Unmatched(_) => "Unmatched",
     }
 }
 

@@ -65,7 +65,7 @@ returns-in_err-found-clause-crowded g c e =
     let one : (c.last_position-last.result + 1 - c.loop-place.place) ≡ suc (c.last_position-last.result + 1 - (c.loop-place.place + 1)) = omega (arith, c.loop-place-test.true) in
     let more = gone_more g.q (tried c.args.options.seek g.q) (c.last_position-last.result + 1 - c.loop-place.place) (c.last_position-last.result + 1 - (c.loop-place.place + 1)) c.loop-place.place one (c.loop-place.invariant.tries (omega (arith, c.loop-place-test.true))) in
     let lt = c.in_err-found.ensures.crowded (ap Err (passed_on c.from_residual.result _ _ c.from_residual.ensures.1 e)) in
-    omega (arith, lt, more.1, c.loop-place.invariant.room)
+    omega (arith, lt, more.1, c.loop-place.invariant.room, ap (λ o. o.stack_limit) c.new-attempt.ensures.options)
 
 pub returns-in-Some-clause-answer : goal.returns-in-Some-clause-answer
 returns-in-Some-clause-answer g c =
