@@ -5,15 +5,19 @@ ghost use Rattle.fancy_input.specs.Inputs.{haystack_in, request_in};
 ghost use Rattle.fancy_input.specs.Requests.{whole, effective_start};
 ghost use Rattle.fancy_engine.specs.Search.{search};
 ghost use Rattle.fancy_engine.specs.Answers.{HasNone};
-ghost use Rattle.fancy_core.specs.Captures.{spans_if, searched_in, found_by};
+ghost use Rattle.fancy_core.specs.Captures.{spans_if, spans_in, searched_in, found_by};
 ghost use Rattle.fancy_core.specs.Limited.{Refuses, Allows, RefusesAt, AllowsAt};
 ghost use Rattle.fancy_core.specs.Regexes.{options_in, group_count_in, query};
 ghost use Rattle.fancy_core.specs.Searches.{CanSearchInput, asked_whole, asked_from, asked_by, first_groups, groups_of_attempt};
+ghost use Rattle.fancy_search.specs.Cached.{IsAttemptIn, found_at};
+ghost use Rattle.fancy_search.specs.Groups.{AreCut, spans_of};
 ghost use Rattle.fancy_search.specs.Searching.{Suits, StartsCleanly};
+ghost use Rattle.fancy_tree.specs.declared.error.Error.TheVariants.{Memory};
 
 use crate::captures::Captures;
 use crate::regex::Regex;
 use fancy_bytes::byte_set::ByteSet;
+use fancy_engine::found::Found;
 use fancy_engine::work::Work;
 use fancy_input::input::{Input, Request};
 use fancy_input::regex_input::RegexInput;
@@ -159,15 +163,55 @@ impl Regex {
         ensures refused { IfErr result (λ e. RefusesAt self.now (query self.now (S.bytes haystack) request) position e) }
         ensures allowed { IfOk result (λ _. AllowsAt self.now (query self.now (S.bytes haystack) request) position) }
     {
-        let mut work = Work::new();
         let bytes = haystack.as_bytes();
-        let found = self
-            .program
-            .attempt_at(bytes, request, position, cache, &mut work)?;
-        let Some(found) = found else {
+        let Some(found) = self.find_at(bytes, request, position, cache)? else {
             return Ok(None);
         };
+        let captures = self.captures_found(haystack, found, cache)?;
+        Ok(Some(captures))
+    }
+
+    /// The match that an attempt at one position finds in the bytes of a haystack, or none, without its groups: those stand in
+    /// `cache` then, and [`Regex::captures_found`] takes them from there. The position is a byte offset, as in
+    /// [`Regex::attempt_at`].
+    ///
+    /// It is refused as [`Regex::find_input`] is, for what the attempt takes.
+    pub fn find_at(
+        &self,
+        haystack: &[u8],
+        request: Request,
+        position: usize,
+        cache: &mut Cache,
+    ) -> Result<Option<Found>>
+        requires inside { request.range_end ≤ length haystack.now }
+        requires starts { effective_start request ≤ position }
+        requires ends { position ≤ request.range_end }
+        ensures found { IfOk result (λ m. IsAttemptIn m cache.new (query self.now haystack.now request) position) }
+        ensures refused { IfErr result (λ e. RefusesAt self.now (query self.now haystack.now request) position e) }
+        ensures allowed { IfOk result (λ _. AllowsAt self.now (query self.now haystack.now request) position) }
+    {
+        let mut work = Work::new();
+        self.program
+            .attempt_at(haystack, request, position, cache, &mut work)
+    }
+
+    /// The groups of a match in the haystack that [`Regex::find_at`] found, as it left them in `cache`.
+    ///
+    /// It is refused where memory runs out (`Memory`).
+    pub fn captures_found<'r, S: Input>(
+        &'r self,
+        haystack: S,
+        found: Found,
+        cache: &Cache,
+    ) -> Result<Captures<'r, S>>
+        requires cut { AreCut (S.text haystack) (S.bytes haystack)
+            (spans_of (group_count_in self.now) (found_at found cache.now)) }
+        ensures groups { IfOk result (λ c. spans_in c ≡ spans_of (group_count_in self.now) (found_at found cache.now)) }
+        ensures within { IfOk result (λ c. searched_in c ≡ haystack) }
+        ensures regex { IfOk result (λ c. found_by c ≡ self.now) }
+        ensures refused { IfErr result (λ e. e ≡ Memory) }
+    {
         let slots = groups_found(self.allocator(), self.captures_len(), found, cache)?;
-        Ok(Some(Captures::new(self, haystack, slots)))
+        Ok(Captures::new(self, haystack, slots))
     }
 }
