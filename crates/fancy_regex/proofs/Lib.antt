@@ -8,3 +8,7 @@ pub mod SetOfOneLemmas
 pub mod SetSearchLemmas
 pub mod CandidateLemmas
 pub mod SetCandidateLemmas
+pub mod TokenPickLemmas
+pub mod TokenLemmas
+pub mod TokenSearchLemmas
+pub mod TokenGivenLemmas

@@ -40,7 +40,7 @@ whole_of_groups : (n : ℕ) (o : Option Answer) (spans : List (Option Span)) →
 whole_of_groups n None spans h e = absurd (cc)
 whole_of_groups n (Some f) spans h e = let same : spans ≡ spans_of n f = cc in rw same (group_zero n f h)
 
-some_group : (r : Regex) → 1 ≤ group_count_in r
+pub some_group : (r : Regex) → 1 ≤ group_count_in r
 some_group r = ∥∥₁_elim r.program.compiled (hlevel props) (λ h. h.has_group_zero)
 
 -- what holds of none holds where there is none

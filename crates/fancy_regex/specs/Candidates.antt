@@ -47,6 +47,10 @@ groups_before c (Some byte) = slice_index_or c.by_byte byte c.at_end
 abbrev pub AreCandidatesOf : List Regex → Candidates → Type 0
 AreCandidatesOf members c = (next : Option ℕ) → IfSome next (λ b. b < 256) → HoldAll c.width members next (groups_before c next)
 
+-- it has no group without a member that may start there
+abbrev pub HoldNoOthers : List Regex → Candidates → Type 0
+HoldNoOthers members c = (next : Option ℕ) → IfSome next (λ b. b < 256) → HoldOnly c.width members next (groups_before c next)
+
 -- no member with an index from the one on and below the other is in one of the groups
 abbrev pub NoMemberBetween : ℕ → Groups → ℕ → ℕ → Type 0
 NoMemberBetween width groups from to = (k : ℕ) → from ≤ k → k < to → has_group groups (k / width) ≡ false

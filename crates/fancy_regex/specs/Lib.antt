@@ -8,6 +8,9 @@ pub mod Candidates
 pub mod Sets
 pub mod SetAnswers
 pub mod SetMatches
+pub mod Tokens
+pub mod TokenLists
+pub mod LongestMatches
 pub use Rattle.fancy_tree.specs.Text
 pub use Rattle.fancy_tree.specs.Modes
 pub use Rattle.fancy_tree.specs.Pattern

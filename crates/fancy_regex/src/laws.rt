@@ -1,4 +1,5 @@
-//! Laws of regexes: of the names of groups, of the lists over matches, of escaped texts, and of templates that replace.
+//! Laws of regexes: of the names of groups, of the lists over matches, of escaped texts, of templates that replace, and of the
+//! tokens that a set cuts a text into.
 
 ghost use Rattle.std.specs.Prelude.{◌≡◌, ◌<◌, ◌↔◌, ℕ, List, Some, length, chars};
 ghost use Rattle.fancy_input.specs.declared.span.Span.{Span};
@@ -22,6 +23,8 @@ ghost use Rattle.fancy_core.specs.Splits.{match_spans};
 ghost use Rattle.fancy_regex.specs.Escapes.{escaped_pattern};
 ghost use Rattle.fancy_regex.specs.ListExamples.{WorkedLists};
 ghost use Rattle.fancy_regex.specs.Laws.{EndsInNone, FitsPlaces, Rejoins, RejoinsFirst, CountsPieces, CutsNone, KeepsPieces, FindsAsOne};
+ghost use Rattle.fancy_regex.specs.SetMembers.{SetQuery};
+ghost use Rattle.fancy_regex.specs.Tokens.{CutsIntoTokens};
 ghost use Rattle.fancy_regex.specs.EscapedLiterals.{IsOfEscape, IsLiterally, FindsTextFirst, FindsTextAtStart, FindsTextInText};
 
 use fancy_core::regex::Regex;
@@ -121,4 +124,11 @@ pub fn plain_template_is_its_expansion()
 /// where there is none; and its one item there has the groups of that match.
 pub fn set_of_one_finds_as_its_pattern<S: Input>(_regex: &Regex, _input: &RegexInput<S>)
     ensures { FindsAsOne _regex.now (S.bytes (haystack_in _input.now)) (request_in _input.now) }
+{}
+
+/// What a pattern set cuts a text into, from any place on: each token is the longest of those that the patterns offer where the one
+/// before ends, and of these the first; the texts of all of them, joined, are the text up to where they end; and there no pattern
+/// offers one, or the range ends.
+pub fn tokens_cut_the_text()
+    ensures { (q : SetQuery) (p : ℕ) → CutsIntoTokens q p }
 {}

@@ -15,6 +15,7 @@ mod escapes;
 pub mod laws;
 mod options;
 mod set;
+mod tokens;
 
 pub use builder::RegexBuilder;
 pub use escapes::escape;
@@ -37,3 +38,4 @@ pub use fancy_tree::error::{CompileError, Error, ParseErrorKind, Result, Runtime
 pub use fancy_tree::tree::BytesMode;
 pub use options::RegexOptionsBuilder;
 pub use set::{RegexSet, RegexSetMatch, RegexSetMatchesAt};
+pub use tokens::{Token, Tokens};

@@ -31,8 +31,8 @@ use std::alloc::Global;
 /// ```
 #[derive(Drop)]
 pub struct RegexSet {
-    members: Vec<Regex>,
-    candidates: Candidates,
+    pub(crate) members: Vec<Regex>,
+    pub(crate) candidates: Candidates,
     ghost listed: { AreCandidatesOf members.items candidates },
 }
 

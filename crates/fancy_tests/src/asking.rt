@@ -7,6 +7,7 @@ mod overrides;
 mod pattern_sets;
 mod settings;
 mod spans;
+mod tokens;
 mod verdicts;
 
 pub(crate) use counts::{CountRow, check_count, check_counts, counted};
@@ -16,14 +17,15 @@ pub(crate) use overrides::{OverrideRow, check_overrides};
 pub(crate) use pattern_sets::{AMPLE, SetRow, check_matches_at, check_sets, searched, set_of};
 pub(crate) use settings::{
     ASCII_TEXT, BYTES, BYTES_WITHOUT_UNICODE, CHARACTERS, CHARACTERS_ANYWHERE, FOLDED, LONGEST,
-    NOT_EMPTY, ONLY_NAMED, OVERRIDING, SEEKING, Settings, options_of, owned, read, regex_of,
-    regex_with, searchable,
+    NONE_SAVED, NOT_EMPTY, ONE_SAVED, ONLY_NAMED, OVERRIDING, SEEKING, Settings, options_of, owned,
+    read, regex_of, regex_with, searchable,
 };
 pub(crate) use spans::{
     BytesRow, SearchRow, Span, SpanRow, TextRow, check_find, check_input, check_match,
     check_may_search, check_part, check_read, check_searches, check_spans, check_texts, first_span,
     span_found,
 };
+pub(crate) use tokens::{TokenRow, TokensEnd, check_tokens, check_tokens_of};
 pub(crate) use verdicts::{
     KindRow, Verdict, VerdictRow, check_kinds, check_verdict, check_verdicts, is_given_up,
 };

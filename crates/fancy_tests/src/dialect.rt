@@ -149,8 +149,8 @@ const BEYOND_THE_RANGE: &[SearchRow<&str>] = &[
 
 /// Repeats are written out.
 const SIZES: &[VerdictRow] = &[
-    (CHARACTERS, "a{999999}", Verdict::Accepted),
-    (CHARACTERS, "a{1000000}", Verdict::TooComplex),
+    (CHARACTERS, "a{3999999}", Verdict::Accepted),
+    (CHARACTERS, "a{4000000}", Verdict::TooComplex),
     (
         CHARACTERS,
         "(?:(?:a{4294967295}){4294967295}){2}",

@@ -80,7 +80,7 @@ fn errors_have_their_texts(rt: HostRuntime) {
     let error = Error::CompileError(CompileError::PatternCanNeverMatch);
     check_shown(&rt, alloc, error, beginning, "pattern that can never match");
     let error = Error::CompileError(CompileError::PatternTooComplex);
-    let words = "pattern with more than 1000000 nodes, or too much code";
+    let words = "pattern with more than 4000000 nodes, or too much code";
     check_shown(&rt, alloc, error, beginning, words);
     let beginning = "error executing regex: ";
     let error = Error::RuntimeError(RuntimeError::BacktrackLimitExceeded);
@@ -93,5 +93,7 @@ fn errors_have_their_texts(rt: HostRuntime) {
     );
     let error = Error::RuntimeError(RuntimeError::StackOverflow);
     check_shown(&rt, alloc, error, beginning, "too many saved branches");
+    let error = Error::RuntimeError(RuntimeError::Unmatched(2));
+    check_shown(&rt, alloc, error, beginning, "no token at position 2");
     check_shown(&rt, alloc, Error::Memory, "out of memory", "");
 }

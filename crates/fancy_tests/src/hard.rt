@@ -1,12 +1,12 @@
 //! Patterns that the backtracking machine serves: references, look-around, atomic groups and possessive repeats.
 
 use crate::asking::{
-    BYTES, BytesRow, CHARACTERS, CHARACTERS_ANYWHERE, CountRow, FOLDED, ONLY_NAMED, SearchRow,
-    Settings, SpanRow, TextRow, Verdict, VerdictRow, check, check_counts, check_searches,
-    check_spans, check_texts, check_verdict, check_verdicts, is_given_up, owned, regex_of,
-    repeated,
+    BYTES, BytesRow, CHARACTERS, CHARACTERS_ANYWHERE, CountRow, FOLDED, NONE_SAVED, ONE_SAVED,
+    ONLY_NAMED, SearchRow, Settings, SpanRow, TextRow, Verdict, VerdictRow, check, check_counts,
+    check_searches, check_spans, check_texts, check_verdict, check_verdicts, is_given_up, owned,
+    regex_of, regex_with, repeated, searchable,
 };
-use fancy_regex::{RegexBuilder, RegexOptionsBuilder, RuntimeError};
+use fancy_regex::{RegexBuilder, RegexInput, RegexOptionsBuilder, RuntimeError};
 
 const TEXTS: &[TextRow] = &[
     // atomic parts have one outcome
@@ -220,9 +220,19 @@ fn hard_patterns_have_their_meaning(rt: HostRuntime) {
     check_searches(&rt, rt.alloc(), SEARCHES);
     check_spans(&rt, rt.alloc(), IN_BYTES);
     check_spans(&rt, rt.alloc(), UNDER_OPTIONS);
+    check_spans(&rt, rt.alloc(), FEW_SAVED);
     check_counts(&rt, rt.alloc(), COUNTED);
     check_verdicts(&rt, rt.alloc(), FLAWS);
 }
+
+/// Searches that save few branches or none.
+const FEW_SAVED: &[SpanRow<&str>] = &[
+    (ONE_SAVED, "(?:a|b)(?=c)", "bc", Some((0, 1))),
+    // no choice is opened
+    (NONE_SAVED, "b(?=c)", "aabc", Some((2, 3))),
+    // easy patterns do not heed the limit
+    (NONE_SAVED, "a*", "aa", Some((0, 2))),
+];
 
 // each turn of the star saves a branch
 #[test]
@@ -232,6 +242,12 @@ fn too_many_branches_are_saved(rt: HostRuntime) {
     let found = regex.find(haystack.as_str());
     let is_stopped = is_given_up(&found, RuntimeError::StackOverflow);
     check(&rt, is_stopped, "a*(?=c)");
+    // the second branch is saved while the first is tried
+    let regex = regex_with(&rt, rt.alloc(), NONE_SAVED, "(?:a|b)(?=c)");
+    let input = searchable(&rt, &regex, RegexInput::new("bc"));
+    let found = regex.find_input(input);
+    let is_stopped = is_given_up(&found, RuntimeError::StackOverflow);
+    check(&rt, is_stopped, "(?:a|b)(?=c)");
 }
 
 /// A pattern, how large its code may be, and what becomes of it. `a(?=b)` has 3 nodes.

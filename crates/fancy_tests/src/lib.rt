@@ -43,4 +43,6 @@ mod refusals;
 #[cfg(test)]
 mod sets;
 #[cfg(test)]
+mod tokens;
+#[cfg(test)]
 mod work;

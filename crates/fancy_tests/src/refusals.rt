@@ -129,25 +129,25 @@ const TOO_DEEP: Verdict = Verdict::Kind(ParseErrorKind::RecursionExceeded);
 
 /// What opens, stands within and closes, how deep it may be, and the verdict on it where it is one deeper.
 const DEEP: &[((&str, &str, &str), usize, Verdict)] = &[
-    (("(?:", "a", ")"), 64, TOO_DEEP),
+    (("(?:", "a", ")"), 128, TOO_DEEP),
     (
         ("(?:", "", ")"),
-        64,
-        Verdict::Fault(195, ParseErrorKind::RecursionExceeded),
+        128,
+        Verdict::Fault(387, ParseErrorKind::RecursionExceeded),
     ),
-    (("(", "a", ")"), 64, TOO_DEEP),
-    (("(?i:", "a", ")"), 64, TOO_DEEP),
+    (("(", "a", ")"), 128, TOO_DEEP),
+    (("(?i:", "a", ")"), 128, TOO_DEEP),
     (
         ("[", "a", "]"),
-        64,
+        128,
         Verdict::Fault(0, ParseErrorKind::RecursionExceeded),
     ),
     // in the innermost condition two parentheses are open besides those of the bodies round it
-    (("(?(a)", "b", ")"), 63, TOO_DEEP),
+    (("(?(a)", "b", ")"), 127, TOO_DEEP),
 ];
 
 #[test]
-fn parentheses_and_brackets_nest_64_deep(rt: HostRuntime) {
+fn parentheses_and_brackets_nest_128_deep(rt: HostRuntime) {
     for &(parts, depth, verdict) in DEEP {
         let deepest = nested(&rt, rt.alloc(), parts, depth);
         let read = Regex::new(rt.alloc(), deepest.as_str());
@@ -159,11 +159,11 @@ fn parentheses_and_brackets_nest_64_deep(rt: HostRuntime) {
 }
 
 #[test]
-fn a_pattern_has_a_million_nodes(rt: HostRuntime) {
-    let most = repeated(&rt, rt.alloc(), "a", 1_000_000);
+fn a_pattern_has_four_million_nodes(rt: HostRuntime) {
+    let most = repeated(&rt, rt.alloc(), "a", 4_000_000);
     let read = Regex::new(rt.alloc(), most.as_str());
-    check_verdict(&rt, &read, Verdict::Accepted, "a million nodes");
-    let more = repeated(&rt, rt.alloc(), "a", 1_000_001);
+    check_verdict(&rt, &read, Verdict::Accepted, "four million nodes");
+    let more = repeated(&rt, rt.alloc(), "a", 4_000_001);
     let read = Regex::new(rt.alloc(), more.as_str());
     check_verdict(&rt, &read, Verdict::TooComplex, "one node more");
 }

@@ -260,6 +260,13 @@ fn check_nothing_in_time(rt: &impl Abort, regex: &Regex, haystack: &str, steps: 
     check(rt, work.steps() <= most, haystack);
 }
 
+// one position is tried, on the empty text
+#[test]
+fn a_search_for_a_large_pattern_is_bounded(rt: HostRuntime) {
+    let regex = regex_of(&rt, rt.alloc(), "a{3999999}");
+    check_nothing_in_time(&rt, &regex, "", regex.code_len());
+}
+
 #[test]
 fn a_search_is_bounded(rt: HostRuntime) {
     let regex = regex_of(&rt, rt.alloc(), "(?:a|b|ab)*bc");

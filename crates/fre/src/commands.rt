@@ -7,6 +7,7 @@
 //! | `split P T` | a line for each piece of the text T between the matches of the pattern P | 0 |
 //! | `replace P T R` | the text T with all matches of P replaced by the template R | 0 |
 //! | `set T P..` | `k start..end text` for each pattern k that matches at the least position where one does | 0, or 1 without a match |
+//! | `tokens T P..` | `k start..end text` for each token of the text T, of the pattern k; then `unmatched p`, where there is none at p | 0, or 1 after `unmatched` |
 //!
 //! A command that is refused writes one line `error: ` and what is wrong to its second writer, and its
 //! status is 2: `usage` for other words, the refusal's name for a pattern or a search, `Output` where the
@@ -129,6 +130,9 @@ fn command<W: io::Write>(alloc: Global, words: &[String], out: &mut W) -> Result
         [command, text, patterns @ ..] if command.as_str() == "set" => {
             set(alloc, text.as_str(), patterns, out)
         }
+        [command, text, patterns @ ..] if command.as_str() == "tokens" => {
+            tokens(alloc, text.as_str(), patterns, out)
+        }
         _ => Err(Fault::Usage),
     }
 }
@@ -214,6 +218,30 @@ fn set<W: io::Write>(
         let found = found?;
         let (start, end) = (found.start(), found.end());
         writeln!(out, "{} {start}..{end} {}", found.pattern(), found.as_str())?;
+    }
+    Ok(true)
+}
+
+fn tokens<W: io::Write>(
+    alloc: Global,
+    text: &str,
+    patterns: &[String],
+    out: &mut W,
+) -> Result<bool, Fault> {
+    let patterns = texts_of(alloc, patterns)?;
+    let set = RegexSet::new(alloc, &patterns)?;
+    let input = RegexInput::new(text);
+    for token in set.tokens(input) {
+        let token = match token {
+            Ok(token) => token,
+            Err(Error::RuntimeError(RuntimeError::Unmatched(place))) => {
+                writeln!(out, "unmatched {place}")?;
+                return Ok(false);
+            }
+            Err(error) => return Err(Fault::Refused(error)),
+        };
+        let (start, end) = (token.start(), token.end());
+        writeln!(out, "{} {start}..{end} {}", token.pattern(), token.as_str())?;
     }
     Ok(true)
 }

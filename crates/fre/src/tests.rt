@@ -126,6 +126,20 @@ fn prints_the_matches_of_a_set(rt: HostRuntime) -> Result<(), Fail> {
     expect_run(&rt, alloc, refused, "", "error: UnclosedOpenParen\n", 2)
 }
 
+#[test]
+fn prints_the_tokens(rt: HostRuntime) -> Result<(), Fail> {
+    let alloc = rt.alloc();
+    let words = &["tokens", "if iffy", "if", "[a-z]+", " +"];
+    let printed = "0 0..2 if\n2 2..3  \n1 3..7 iffy\n";
+    expect_run(&rt, alloc, words, printed, "", 0)?;
+    let printed = "0 0..2 if\nunmatched 2\n";
+    expect_run(&rt, alloc, &["tokens", "if!", "if"], printed, "", 1)?;
+    expect_run(&rt, alloc, &["tokens", ""], "", "", 0)?;
+    expect_run(&rt, alloc, &["tokens"], "", "error: usage\n", 2)?;
+    let refused = &["tokens", "x", "(?:b"];
+    expect_run(&rt, alloc, refused, "", "error: UnclosedOpenParen\n", 2)
+}
+
 /// Words, and what is said of them.
 const REFUSED: &[(&[&str], &str)] = &[
     (&[], "error: usage\n"),

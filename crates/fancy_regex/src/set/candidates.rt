@@ -85,11 +85,13 @@ pub(crate) struct Candidates {
 }
 
 impl Candidates {
-    ghost use Rattle.fancy_regex.specs.Candidates.{groups_before, AreCandidatesOf, NoMemberBetween, IsNextMember};
+    ghost use Rattle.fancy_regex.specs.Candidates.{groups_before, AreCandidatesOf, HoldNoOthers, NoMemberBetween, IsNextMember};
 
     /// Of these members, at most 128 of which have a group of their own.
     pub(crate) fn new(members: &[Regex]) -> Candidates
-        ensures { AreCandidatesOf members.now result }
+        ensures all { AreCandidatesOf members.now result }
+        ensures only { HoldNoOthers members.now result }
+        ensures alone { length members.now ≤ 128 → result.width ≡ 1 }
     {
         let width = members.len().saturating_sub(1) / 128 + 1;
         let at_end = Groups::of_starters(members, width, None);

@@ -25,6 +25,8 @@ pub(crate) struct Settings {
     pub(crate) only_named: bool,
     /// How many returns a search for a hard pattern may take.
     pub(crate) backtrack_limit: usize,
+    /// How many branches such a search may have saved at one time.
+    pub(crate) stack_limit: usize,
     /// Whether empty matches are refused.
     pub(crate) find_not_empty: bool,
     /// Whether the longest match at a position is asked for.
@@ -45,6 +47,7 @@ pub(crate) const CHARACTERS: Settings = Settings {
     overrides: false,
     only_named: false,
     backtrack_limit: 1_000_000,
+    stack_limit: 1_000_000,
     find_not_empty: false,
     leftmost_longest: false,
     seek: false,
@@ -105,6 +108,18 @@ pub(crate) const LONGEST: Settings = Settings {
     ..CHARACTERS
 };
 
+/// One branch may be saved at a time.
+pub(crate) const ONE_SAVED: Settings = Settings {
+    stack_limit: 1,
+    ..CHARACTERS
+};
+
+/// No branch may be saved.
+pub(crate) const NONE_SAVED: Settings = Settings {
+    stack_limit: 0,
+    ..CHARACTERS
+};
+
 /// Positions where no match begins are passed over.
 pub(crate) const SEEKING: Settings = Settings {
     seek: true,
@@ -130,6 +145,7 @@ pub(crate) fn options_of(settings: Settings) -> RegexOptionsBuilder {
         .allow_input_assertion_overrides(settings.overrides)
         .ignore_numbered_groups_when_named_groups_exist(settings.only_named)
         .backtrack_limit(settings.backtrack_limit)
+        .stack_limit(settings.stack_limit)
         .find_not_empty(settings.find_not_empty)
         .leftmost_longest(settings.leftmost_longest)
         .seek(settings.seek);

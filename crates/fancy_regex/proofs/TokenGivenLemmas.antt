@@ -1,0 +1,67 @@
+-- What the longest match at a place says of the token there.
+use Rattle.std.proofs.Common.{◌≡◌, ℕ, zero, suc, ◌<◌, ◌≤◌, Bool, false, List, [], ◌∷◌, Option, Some, option_map, if◌then◌else◌, slice_get, length, refl, sym, ap, subst, ◌∙◌, arith}
+use Rattle.std.specs.Option.{option_and_then}
+use Rattle.fancy_tree.specs.declared.error.Error.{Error}
+use Rattle.fancy_tree.specs.declared.error.Error.TheVariants.{Memory}
+use Rattle.fancy_input.specs.declared.span.Span.{Span}
+use Rattle.fancy_input.specs.Spans.{from_to}
+use Rattle.fancy_engine.specs.Search.{Answer, attempt, span_of}
+use Rattle.fancy_search.specs.Groups.{span_at, spans_of}
+use Rattle.fancy_core.specs.declared.regex.Regex.{Regex}
+use Rattle.fancy_core.specs.Limited.{AllowsAt}
+use Rattle.fancy_core.specs.Regexes.{group_count_in}
+use Rattle.fancy_regex.specs.SetMembers.{SetQuery, asked, IsMemberItem}
+use Rattle.fancy_regex.specs.Tokens.{placed_at, found_by_member, token_at, tokens_from, KeepLimits, KeepsLimitAt}
+use Rattle.fancy_regex.specs.TokenLists.{IsRefusedByMember}
+use Rattle.fancy_regex.proofs.SetLemmas.{some_group}
+use Rattle.fancy_regex.proofs.TokenLemmas.{first_and_rest}
+
+-- group 0 of what was found
+zero_group : (n : ℕ) (a : Answer) → 1 ≤ n → span_at (spans_of n a) 0 ≡ Some (span_of a)
+zero_group zero a h = absurd (omega (arith, h))
+zero_group (suc n) a h = refl
+
+pub whole_span : (r : Regex) (a : Answer) (spans : List (Option Span)) (p : ℕ) → spans ≡ spans_of (group_count_in r) a → a.state.kept ≡ p → span_at spans 0 ≡ Some (from_to p a.state.place)
+whole_span r a spans p groups starts =
+    ap (λ (x : List (Option Span)). span_at x 0) groups
+    ∙ zero_group (group_count_in r) a (some_group r)
+    ∙ ap (λ (x : ℕ). Some (from_to x a.state.place)) starts
+
+module _ (q : SetQuery) (p : ℕ) where
+  pub found_by_that : (k : ℕ) (r : Regex) (a : Answer) → slice_get q.members k ≡ Some r → found_by_member q p k ≡ Some a → Some a ≡ attempt (asked (placed_at q p) r) p
+  found_by_that k r a is finds = sym finds ∙ ap (option_and_then (λ (x : Regex). attempt (asked (placed_at q p) x) p)) is
+
+  pub found_as_attempted : (k : ℕ) (r : Regex) → slice_get q.members k ≡ Some r → found_by_member q p k ≡ attempt (asked (placed_at q p) r) p
+  found_as_attempted k r is = ap (option_and_then (λ (x : Regex). attempt (asked (placed_at q p) x) p)) is
+
+  pub limit_kept : (k : ℕ) (r : Regex) → slice_get q.members k ≡ Some r → AllowsAt r (asked (placed_at q p) r) p → KeepsLimitAt q p k
+  limit_kept k r is allowed other here =
+      let e : Some r ≡ Some other = sym is ∙ here in
+      let same : r ≡ other = cc in
+      subst (λ (x : Regex). AllowsAt x (asked (placed_at q p) x) p) same allowed
+
+  pub item_of_found : (k : ℕ) (r found_by : Regex) (a : Answer) (spans : List (Option Span)) → slice_get q.members k ≡ Some r → found_by_member q p k ≡ Some a → found_by ≡ r
+      → spans ≡ spans_of (group_count_in r) a → KeepsLimitAt q p k → IsMemberItem (placed_at q p) p k found_by spans
+  item_of_found k r found_by a spans is finds same groups allowed = rw (same, groups) (record {
+    is = ∣ is ∣₁;
+    groups = ap (option_map (spans_of (group_count_in r))) (found_by_that k r a is finds);
+    allowed = allowed r is;
+  })
+
+  pub limits_below : (n m : ℕ) → m ≤ n → KeepLimits q p n → KeepLimits q p m
+  limits_below n m le keep k r below is may = keep k r (omega (arith, le, below)) is may
+
+  pub out_of_memory_at : (k : ℕ) (r : Regex) (e : Error) → slice_get q.members k ≡ Some r → e ≡ Memory → k < length q.members → KeepLimits q p (length q.members) → IsRefusedByMember q p e
+  out_of_memory_at k r e is same inside keep = rw same (record {
+    index = k;
+    refuses = record { member = r; is = is; refuses = tt };
+    limits = limits_below (length q.members) k (omega (arith, inside)) keep;
+  })
+
+-- what is left of a list that has not ended, where there is a token
+pub goes_on_with : (q : SetQuery) (p pattern end other : ℕ) (ended : Bool) → ended ≡ false → token_at q p ≡ Some (record { pattern = pattern; start = p; end = end }) → other ≡ end
+    → (if ended then [] else tokens_from q p) ≡ record { pattern = pattern; start = p; end = other } ∷ (if ended then [] else tokens_from q other)
+goes_on_with q p pattern end other ended on is same = rw (on, same) (first_and_rest q p _ is)
+
+pub end_is : (span : Option Span) (p end other : ℕ) → span ≡ Some (from_to p end) → option_map (λ (s : Span). s.end) span ≡ Some other → other ≡ end
+end_is span p end other is e = let same : Some end ≡ Some other = ap (option_map (λ (s : Span). s.end)) (sym is) ∙ e in cc

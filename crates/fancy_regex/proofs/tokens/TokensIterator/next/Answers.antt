@@ -1,0 +1,27 @@
+use Rattle.std.proofs.Common.{refl, arith}
+use Rattle.fancy_regex.specs.Sets.{asked_of_set}
+use Rattle.fancy_regex.proofs.TokenGivenLemmas.{goes_on_with, end_is}
+use Rattle.fancy_regex.proofs.tokens.TokensIterator.next.Goals as goal
+
+pub returns-in-Ok-clause-steps : goal.returns-in-Ok-clause-steps
+returns-in-Ok-clause-steps g c =
+    let s = c.args.self.now in
+    let q = asked_of_set s.set.now g.S.Haystack.bytes s.input in
+    let given = c.in-Ok.ensures.given in
+    let end = end_is _ s.place given.end c.end-self.result given.span c.end-self.ensures in
+    let moves = given.moves in
+    record {
+      gives = (
+        record {
+          moves = omega (arith, moves, end);
+          first = goes_on_with q s.place _ given.end c.end-self.result s.ended c.if-self.false given.is end;
+          groups = given.item;
+          limits = c.in-Ok.ensures.limits;
+        },
+        given.within,
+        c.if-self.false,
+      );
+      same_set = refl;
+      same_haystack = refl;
+      same_request = refl;
+    }

@@ -1,0 +1,107 @@
+-- What stands for a token, and for the iterator over the tokens of an input.
+use Rattle.std.specs.Prelude.{◌≡◌, ◌≤◌, ◌<◌, ◌+◌, ◌-◌, ◌⊎◌, ℕ, zero, Bool, true, false, List, [], ◌∷◌, length, Option, None, Result, MatchOption, MatchResult, if◌then◌else◌}
+use Rattle.fancy_tree.specs.declared.error.Error.{Error}
+use Rattle.fancy_tree.specs.declared.error.Error.TheVariants.{RuntimeError}
+use Rattle.fancy_tree.specs.declared.error.RuntimeError.TheVariants.{Unmatched}
+use Rattle.fancy_input.specs.declared.input.Request.{Request}
+use Rattle.fancy_input.specs.declared.span.Span.{Span}
+use Rattle.fancy_input.specs.Inputs.{haystack_in, request_in}
+use Rattle.fancy_input.specs.Requests.{effective_start}
+use Rattle.fancy_core.specs.declared.captures.Captures.{Captures}
+use Rattle.fancy_core.specs.declared.regex.Regex.{Regex}
+use Rattle.fancy_regex.specs.declared.set.RegexSet.{RegexSet}
+use Rattle.fancy_regex.specs.declared.tokens.Tokens.{Tokens}
+use Rattle.fancy_regex.specs.declared.tokens.token.Token.{Token}
+use Rattle.fancy_regex.specs.SetMatches.{pattern_index, captures_of, match_span}
+use Rattle.fancy_regex.specs.SetMembers.{SetQuery, IsMemberItem, RefusesMember}
+use Rattle.fancy_regex.specs.Sets.{asked_of_set}
+use Rattle.fancy_regex.specs.Tokens.{TokenItem, placed_at, token_at, tokens_from, KeepLimits}
+
+-- the index of the pattern that the token is of
+abbrev pub token_pattern : {S : Type 0} {g : _} → Token S g → ℕ
+token_pattern t = pattern_index t.found
+
+abbrev pub token_captures : {S : Type 0} {g : _} → Token S g → Captures S g
+token_captures t = captures_of t.found
+
+-- where the token starts and ends
+abbrev pub token_span : {S : Type 0} {g : _} → Token S g → Option Span
+token_span t = match_span t.found
+
+abbrev pub token_set : {S : Type 0} {g : _} → Tokens S g → RegexSet
+token_set t = t.set.now
+
+abbrev pub token_haystack : {S : Type 0} {g : _} → Tokens S g → S
+token_haystack t = haystack_in t.input
+
+abbrev pub token_request : {S : Type 0} {g : _} → Tokens S g → Request
+token_request t = request_in t.input
+
+-- where the next token starts; where the list has ended, where it ended
+abbrev pub token_place : {S : Type 0} {g : _} → Tokens S g → ℕ
+token_place t = t.place
+
+abbrev pub has_ended_tokens : {S : Type 0} {g : _} → Tokens S g → Bool
+has_ended_tokens t = t.ended
+
+-- what its members are asked, at each place anew
+abbrev pub token_query : {S : Type 0} {g : _} → (S → List ℕ) → Tokens S g → SetQuery
+token_query bytes t = asked_of_set (token_set t) bytes t.input
+
+-- the tokens that are left, refusals aside
+abbrev pub tokens_left : {S : Type 0} {g : _} → (S → List ℕ) → Tokens S g → List TokenItem
+tokens_left bytes t = if has_ended_tokens t then [] else tokens_from (token_query bytes t) (token_place t)
+
+-- how many items can still come: each token has a byte at least, and a refusal is the last
+abbrev pub token_turns : {S : Type 0} {g : _} → Tokens S g → ℕ
+token_turns t = if has_ended_tokens t then zero else (token_request t).range_end + 1 - token_place t
+
+-- the tokens of an input, from its effective start on
+pub record AreTokensOf {S : Type 0} {g : _} (bytes : S → List ℕ) (set : RegexSet) (haystack : S) (request : Request) (t : Tokens S g) : Type 0 where
+  pub of_set : token_set t ≡ set
+  pub of_haystack : token_haystack t ≡ haystack
+  pub of_request : token_request t ≡ request
+  pub begins : token_place t ≡ effective_start request
+  pub goes_on : has_ended_tokens t ≡ false
+
+-- A token, of the pattern with this index, between the places before and after the call: the first of those that were left. All members were asked, and each kept within its limit.
+pub record GivesToken (q : SetQuery) (from to pattern : ℕ) (found_by : Regex) (spans : List (Option Span)) (left rest : List TokenItem) : Type 0 where
+  pub moves : from < to
+  pub first : left ≡ record { pattern = pattern; start = from; end = to } ∷ rest
+  pub groups : IsMemberItem (placed_at q from) from pattern found_by spans
+  pub limits : KeepLimits q from (length q.members)
+
+-- no member gives a token at the place, though all were asked, and the range goes on
+pub record IsUnmatched (q : SetQuery) (p : ℕ) (e : Error) : Type 0 where
+  pub names : e ≡ RuntimeError (Unmatched p)
+  pub none : token_at q p ≡ None
+  pub limits : KeepLimits q p (length q.members)
+
+-- the first member that is refused at the place is refused by this error, whatever others found there
+pub record IsRefusedByMember (q : SetQuery) (p : ℕ) (e : Error) : Type 0 where
+  pub index : ℕ
+  pub refuses : RefusesMember (placed_at q p) p index e
+  pub limits : KeepLimits q p index
+
+-- A refusal, at a place before the range's end: no token is there, or a member is refused. No other token comes, and the place stays.
+pub record RefusesToken (q : SetQuery) (from to : ℕ) (ended : Bool) (e : Error) : Type 0 where
+  pub inside : from < q.request.range_end
+  pub why : IsUnmatched q from e ⊎ IsRefusedByMember q from e
+  pub stays : to ≡ from
+  pub ends : ended ≡ true
+
+-- The end: the list had ended, or the place is the range's end or past it. The place stays.
+pub record EndsTokens (q : SetQuery) (had_ended : Bool) (from to : ℕ) (ended : Bool) : Type 0 where
+  pub why : (had_ended ≡ true) ⊎ (q.request.range_end ≤ from)
+  pub stays : to ≡ from
+  pub ends : ended ≡ true
+
+-- One call of `next`, from s to t. A token has this index and these spans, and was found by this regex in this haystack.
+pub record IsNextToken {S A : Type 0} {g : _} (bytes : S → List ℕ) (pattern : A → ℕ) (spans : A → List (Option Span)) (searched : A → S) (found_by : A → Regex) (s : Tokens S g) (r : Option (Result A Error)) (t : Tokens S g) : Type 0 where
+  pub gives : MatchOption r (EndsTokens (token_query bytes s) (has_ended_tokens s) (token_place s) (token_place t) (has_ended_tokens t))
+      (λ item. MatchResult item
+      (λ x. GivesToken (token_query bytes s) (token_place s) (token_place t) (pattern x) (found_by x) (spans x) (tokens_left bytes s) (tokens_left bytes t) × (searched x ≡ token_haystack s) × (has_ended_tokens t ≡ false))
+      (λ e. RefusesToken (token_query bytes s) (token_place s) (token_place t) (has_ended_tokens t) e × (has_ended_tokens s ≡ false)))
+  pub same_set : token_set t ≡ token_set s
+  pub same_haystack : token_haystack t ≡ token_haystack s
+  pub same_request : token_request t ≡ token_request s

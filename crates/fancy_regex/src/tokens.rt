@@ -1,0 +1,128 @@
+//! The tokens that a pattern set cuts a text into.
+
+ghost use Rattle.std.specs.Prelude.{◌≡◌, ◌≤◌};
+ghost use Rattle.std.specs.Iterator.{at_most};
+ghost use Rattle.fancy_input.specs.Inputs.{haystack_in, request_in};
+ghost use Rattle.fancy_core.specs.Captures.{spans_in, searched_in, found_by};
+ghost use Rattle.fancy_regex.specs.Sets.{CanSearchAll};
+
+mod borrowed_text;
+mod longest;
+mod owned_text;
+mod token;
+
+use crate::set::RegexSet;
+use fancy_input::input::{Haystack, Input};
+use fancy_input::regex_input::RegexInput;
+use fancy_search::cache::Cache;
+use fancy_tree::error::Result;
+pub use token::Token;
+
+/// The tokens of an input, one after another; made by [`RegexSet::tokens`].
+///
+/// The list ends without an error at the range's end. Before it, a place at which no pattern gives a token gives
+/// `RuntimeError(Unmatched(place))`, and a pattern that is refused gives its refusal; either ends the list. A list that has ended
+/// stays ended, and [`Tokens::place`] tells where it ended.
+#[derive(Drop)]
+pub struct Tokens<'r, S: Haystack> {
+    set: &'r RegexSet,
+    input: RegexInput<S>,
+    // where the next token starts, as a byte offset
+    place: usize,
+    ended: bool,
+    // what the patterns are tried in, and what the longest match so far was found in
+    cache: Cache,
+    longest: Cache,
+    ghost searched: { CanSearchAll S.text S.bytes set.now input },
+    ghost starts: { (request_in input).range_start ≤ place },
+}
+
+impl RegexSet {
+    ghost use Rattle.fancy_regex.specs.TokenLists.{AreTokensOf};
+
+    /// Cuts the input into tokens, from its effective start on: at each place the longest match that starts there, the next one
+    /// where that ends.
+    ///
+    /// At a place each pattern is tried as a search of the input anchored there. What it finds may be the token if it starts at the place, and
+    /// not after it by a `\K`, and is not empty. Of several the longest is taken, and of those that are as long the one with the
+    /// lowest index. Each pattern offers one match, the one that it prefers: `a|ab` offers `a`, also where `ab` stands. The range of
+    /// the input and what it suppresses hold at each place, and `\G` holds there too; whether it is anchored has no effect. No memory is taken
+    /// until a token is asked for.
+    ///
+    /// ```text
+    /// let set = RegexSet::new(alloc, &["if", "[a-z]+", "[0-9]+", " +"])?;
+    /// set.tokens(RegexInput::new("if iffy 42"))    // 0 from 0 to 2, 3 to 3, 1 to 7, 3 to 8, 2 to 10
+    /// set.tokens(RegexInput::new("if!"))           // 0 from 0 to 2, then Err(RuntimeError(Unmatched(2)))
+    /// ```
+    pub fn tokens<S: Input>(&self, input: RegexInput<S>) -> Tokens<'_, S>
+        requires searched { CanSearchAll S.text S.bytes self.now input }
+        ensures { AreTokensOf S.bytes self.now (haystack_in input) (request_in input) result }
+    {
+        let alloc = *self.members.allocator();
+        let place = input.request().effective_start();
+        Tokens {
+            set: self,
+            input,
+            place,
+            ended: false,
+            cache: Cache::new(alloc),
+            longest: Cache::new(alloc),
+        }
+    }
+}
+
+impl<'r, S: Input> Tokens<'r, S> {
+    ghost use Rattle.fancy_regex.specs.TokenLists.{token_set, token_haystack, token_place};
+
+    /// The set whose patterns give the tokens.
+    pub fn regex_set(&self) -> &'r RegexSet
+        ensures { result.now ≡ token_set self.now }
+    {
+        self.set
+    }
+
+    /// The whole haystack.
+    pub fn haystack(&self) -> S
+        ensures { result ≡ token_haystack self.now }
+    {
+        self.input.haystack()
+    }
+
+    /// Where the next token starts, as a byte offset: at first the effective start of the input, then where the token before
+    /// ends. Where the list has ended, this is where it ended.
+    pub fn place(&self) -> usize
+        ensures { result ≡ token_place self.now }
+    {
+        self.place
+    }
+}
+
+impl<'r, S: Input> Iterator for Tokens<'r, S> {
+    ghost use Rattle.fancy_regex.specs.TokenLists.{IsNextToken, token_turns, token_pattern, token_captures};
+
+    type Item = Result<Token<'r, S>>;
+
+    ghost next_gives = { IsNextToken S.bytes (λ t. token_pattern t) (λ t. spans_in (token_captures t))
+        (λ t. searched_in (token_captures t)) (λ t. found_by (token_captures t)) };
+
+    ghost remaining = { λ t. at_most (token_turns t) };
+
+    fn next(&mut self) -> Option<Result<Token<'r, S>>> {
+        let request = self.input.request();
+        if self.ended || self.place >= request.range_end {
+            self.ended = true;
+            return None;
+        }
+        let set = self.set;
+        match set.token_at(&self.input, self.place, &mut self.cache, &mut self.longest) {
+            Ok(token) => {
+                self.place = token.end();
+                Some(Ok(token))
+            }
+            Err(error) => {
+                self.ended = true;
+                Some(Err(error))
+            }
+        }
+    }
+}

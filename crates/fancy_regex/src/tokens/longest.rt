@@ -1,0 +1,131 @@
+//! The longest match of the patterns of a set at one place.
+
+ghost use Rattle.std.specs.Prelude.{◌≡◌, ◌≤◌, ◌<◌, ◌+◌, ◌⊎◌, IfOk, IfErr, Some, length, slice_get};
+ghost use Rattle.fancy_input.specs.Inputs.{haystack_in, request_in};
+ghost use Rattle.fancy_engine.specs.Queries.{answer_with};
+ghost use Rattle.fancy_search.specs.Cached.{cached_groups};
+ghost use Rattle.fancy_regex.specs.LongestMatches.{asked_in_bytes, end_so_far, IsLongestIfAny, IsTokenGiven};
+ghost use Rattle.fancy_regex.specs.SetMembers.{SetQuery};
+ghost use Rattle.fancy_regex.specs.Sets.{members_of, asked_of_set, CanSearchAll};
+ghost use Rattle.fancy_regex.specs.TokenLists.{IsUnmatched, IsRefusedByMember};
+ghost use Rattle.fancy_regex.specs.Tokens.{found_by_member, KeepLimits, KeepsLimitAt};
+
+use crate::set::{RegexSet, RegexSetMatch};
+use crate::tokens::token::Token;
+use fancy_engine::found::Found;
+use fancy_input::input::{Input, Request};
+use fancy_input::regex_input::RegexInput;
+use fancy_search::cache::Cache;
+use fancy_tree::error::{Error, Result, RuntimeError};
+use std::mem;
+
+/// The longest match at a place: the index of its pattern, and what that found. Its groups are in the cache that it was found in.
+#[derive(Clone, Copy)]
+pub(crate) struct Longest {
+    pub(crate) index: usize,
+    pub(crate) found: Found,
+}
+
+impl RegexSet {
+    /// The token at a place before the end of the input's range. The patterns are tried in the first cache, and the longest match so far
+    /// keeps its groups in the second.
+    pub(crate) fn token_at<S: Input>(
+        &self,
+        input: &RegexInput<S>,
+        place: usize,
+        cache: &mut Cache,
+        longest: &mut Cache,
+    ) -> Result<Token<'_, S>>
+        requires searched { CanSearchAll S.text S.bytes self.now input.now }
+        requires starts { (request_in input.now).range_start ≤ place }
+        requires ends { place < (request_in input.now).range_end }
+        ensures given { IfOk result
+            (IsTokenGiven (asked_of_set self.now S.bytes input.now) (haystack_in input.now) place) }
+        ensures limits { IfOk result
+            (λ _. KeepLimits (asked_of_set self.now S.bytes input.now) place (length (members_of self.now))) }
+        ensures refused { IfErr result (λ e. IsUnmatched (asked_of_set self.now S.bytes input.now) place e
+            ⊎ IsRefusedByMember (asked_of_set self.now S.bytes input.now) place e) }
+    {
+        let haystack = input.haystack();
+        let bytes = haystack.as_bytes();
+        let found = self.longest_at(bytes, input.request(), place, cache, longest)?;
+        let Some(found) = found else {
+            return Err(Error::RuntimeError(RuntimeError::Unmatched(place)));
+        };
+        let member = &self.members[found.index];
+        let captures = member.captures_found(haystack, found.found, longest)?;
+        Ok(Token {
+            found: RegexSetMatch::new(found.index, captures),
+        })
+    }
+
+    /// The longest match at a place that starts there and is not empty, the first of those that are as long. `None` where no
+    /// pattern has one. Its groups are in `longest` then.
+    fn longest_at(
+        &self,
+        haystack: &[u8],
+        request: Request,
+        place: usize,
+        cache: &mut Cache,
+        longest: &mut Cache,
+    ) -> Result<Option<Longest>>
+        requires inside { request.range_end ≤ length haystack.now }
+        requires starts { request.range_start ≤ place }
+        requires ends { place < request.range_end }
+        ensures longest { IfOk result (λ l. IsLongestIfAny (asked_in_bytes self.now haystack.now request) place
+            (length (members_of self.now)) l longest.new) }
+        ensures limits { IfOk result
+            (λ _. KeepLimits (asked_in_bytes self.now haystack.now request) place (length (members_of self.now))) }
+        ensures refused { IfErr result (IsRefusedByMember (asked_in_bytes self.now haystack.now request) place) }
+    {
+        let here = Request {
+            start: place,
+            anchored: true,
+            ..request
+        };
+        let groups = self.candidates.at(&haystack[..request.range_end], place);
+        let count = self.members.len();
+        let mut best = None;
+        let mut next = 0;
+        'members: while let Some(index) = self.candidates.next_member(groups, next, count) {
+            let found = self.members[index].find_at(haystack, here, place, cache)?;
+            best = longer(index, found, place, best, cache, longest);
+            next = index + 1;
+        }
+        Ok(best)
+    }
+}
+
+/// The longer of what a pattern found at a place and what was the longest so far, which is kept where both are as long. What does
+/// not start at the place, or is empty, is passed over. The caches are swapped where the longest is another one now, so that its groups stay.
+fn longer(
+    index: usize,
+    found: Option<Found>,
+    place: usize,
+    best: Option<Longest>,
+    cache: &mut Cache,
+    longest: &mut Cache,
+) -> Option<Longest>
+    ensures { (q : SetQuery) → IsLongestIfAny q place index best longest.old
+        → answer_with (cached_groups cache.old) found ≡ found_by_member q place index → KeepsLimitAt q place index
+        → IsLongestIfAny q place (index + 1) result longest.new }
+{
+    let Some(found) = found else {
+        return best;
+    };
+    if found.start != place || found.end <= end_so_far(place, best) {
+        return best;
+    }
+    mem::swap(cache, longest);
+    Some(Longest { index, found })
+}
+
+/// Where the longest match so far ends, and the place where there is none.
+fn end_so_far(place: usize, best: Option<Longest>) -> usize
+    ensures { result ≡ end_so_far place best }
+{
+    match best {
+        Some(best) => best.found.end,
+        None => place,
+    }
+}

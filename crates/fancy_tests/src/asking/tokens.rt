@@ -1,0 +1,91 @@
+//! Tokens of a pattern set.
+
+use crate::asking::{Span, check, set_of};
+use fancy_regex::{Error, RegexInput, RegexSet, Result, RuntimeError, Token, Tokens};
+use std::alloc::Global;
+use std::process::Abort;
+
+/// How a list of tokens ends.
+#[derive(Clone, Copy, PartialEq, Eq)]
+pub(crate) enum TokensEnd {
+    /// At the end of the range.
+    OfRange,
+    /// No pattern gives a token there.
+    Unmatched,
+    /// A pattern is given up at its limit of returns.
+    GivenUp,
+}
+
+/// A limit of returns, patterns, a text, the start, the tokens, where they end, and how.
+pub(crate) type TokenRow = (
+    usize,
+    &'static [&'static str],
+    &'static str,
+    usize,
+    &'static [(usize, Span)],
+    usize,
+    TokensEnd,
+);
+
+/// The index of a token's pattern and where the token stands.
+fn seen_in(rt: &impl Abort, token: &Token<'_, &str>, text: &str) -> (usize, Span) {
+    let (start, end) = (token.start(), token.end());
+    let part = text.get(start..end);
+    check(rt, part == Some(token.as_str()), text);
+    (token.pattern(), (start, end))
+}
+
+/// How the list ends that gives this after its last token.
+fn ending(rt: &impl Abort, last: Option<Result<Token<'_, &str>>>, place: usize) -> TokensEnd {
+    match last {
+        None => TokensEnd::OfRange,
+        Some(Err(Error::RuntimeError(RuntimeError::Unmatched(at)))) => {
+            check(rt, at == place, "the place of the refusal");
+            TokensEnd::Unmatched
+        }
+        Some(Err(Error::RuntimeError(RuntimeError::BacktrackLimitExceeded))) => TokensEnd::GivenUp,
+        Some(_) => rt.panic("a token or another refusal"),
+    }
+}
+
+/// Checks the tokens of a list one by one, where they end and how, and that the list stays ended.
+pub(crate) fn check_tokens_of(
+    rt: &impl Abort,
+    mut tokens: Tokens<'_, &str>,
+    wanted: &[(usize, Span)],
+    (place, end): (usize, TokensEnd),
+) {
+    let text = tokens.haystack();
+    for one in wanted {
+        let token = tokens.next().expect(rt, text).expect(rt, text);
+        check(rt, seen_in(rt, &token, text) == *one, text);
+        check(rt, tokens.place() == token.end(), text);
+    }
+    let last = tokens.next();
+    check(rt, ending(rt, last, place) == end, text);
+    check(rt, tokens.place() == place, text);
+    check(rt, tokens.next().is_none(), text);
+    check(rt, tokens.place() == place, text);
+}
+
+/// The tokens of the input, which the set may search.
+fn tokens_of<'s>(
+    rt: &impl Abort,
+    set: &'s RegexSet,
+    input: RegexInput<&'s str>,
+) -> Tokens<'s, &'s str> {
+    assert!(rt; set.can_search(&input));
+    set.tokens(input)
+}
+
+/// Checks lists of tokens; whether the input is anchored has no effect.
+pub(crate) fn check_tokens(rt: &impl Abort, alloc: Global, rows: &[TokenRow]) {
+    for &(limit, patterns, text, start, wanted, place, end) in rows {
+        let set = set_of(rt, alloc, limit, patterns);
+        for anchored in [false, true] {
+            let input = RegexInput::new(text).from_pos(start).anchored(anchored);
+            let tokens = tokens_of(rt, &set, input);
+            check_tokens_of(rt, tokens, wanted, (place, end));
+        }
+    }
+}
