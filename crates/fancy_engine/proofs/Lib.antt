@@ -1,5 +1,7 @@
-pub mod TableMarksLemmas
+pub mod SumLemmas
 pub mod TableLemmas
+pub mod MarkingLemmas
+pub mod WorkLemmas
 pub mod ThreadsLemmas
 pub mod ReadingLemmas
 pub mod WordCharacters

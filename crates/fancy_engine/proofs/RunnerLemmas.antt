@@ -1,20 +1,19 @@
--- The runner, which follows each pair of an instruction and a place once.
-use Rattle.std.proofs.Common.{◌≡◌, ℕ, ◌+◌, ◌-◌, ◌*◌, ◌<◌, ◌≤◌, ◌⊎◌, Bool, true, false, List, [], ◌∷◌, ◌++◌, length, Option, Some, None, refl, sym, ap, ap₂, ◌∙◌, subst, inl, inr, arith, set, append_assoc}
+-- The runner, which follows each pair of an instruction with a mark and a place once.
+use Rattle.std.proofs.Common.{◌≡◌, ℕ, ◌+◌, ◌-◌, ◌<◌, ◌≤◌, ◌⊎◌, Bool, true, false, List, [], ◌∷◌, ◌++◌, Option, Some, None, refl, sym, ap, ap₂, ◌∙◌, subst, inl, inr, arith, append_assoc}
 use Rattle.std.proofs.lemmas.List.{append-nil}
-use Rattle.std.specs.Prelude.{if◌then◌else◌, slice_index_or, ◌||◌, is_some}
+use Rattle.std.specs.Prelude.{if◌then◌else◌, ◌||◌, is_some}
 use Rattle.std.specs.Option.{option_or}
-use Rattle.std.proofs.lemmas.Nat.{same_from_place}
 use Rattle.std.proofs.lemmas.Bool.{or_cases, false_from_ne_true, true≢false}
 use Rattle.fancy_engine.specs.Instructions.{Instruction}
 use Rattle.fancy_engine.specs.declared.runner.Next.TheVariants.{On}
 use Rattle.fancy_engine.specs.Context.{Context, State}
 use Rattle.fancy_engine.specs.Events.{Event, mark, return, outcome, either}
+use Rattle.fancy_engine.specs.Marking.{Marks}
 use Rattle.fancy_engine.specs.Threads.{Thread, starts_of, state_of}
-use Rattle.fancy_engine.specs.Runner.{events_of, size_of, Known, AllKnown, thread_run, pending, Stepped, Stacked, first_accepted, ends_well, AllWithin, IsPair, WasVisited, pair_run, rank, Hits, HitsBelow, Covers, AllFailed, Resting, Running}
+use Rattle.fancy_engine.specs.Runner.{events_of, size_of, Known, AllKnown, thread_run, pending, Stepped, Stacked, first_accepted, ends_well, AllWithin, WasVisited, pair_run, rank, Hits, HitsBelow, Covers, AllFailed, Resting, Running}
 use Rattle.fancy_engine.specs.Compile.{AreEasy}
 use Rattle.fancy_engine.proofs.EasyCode.{run_both}
 use Rattle.fancy_engine.proofs.Hits.{both_size, both_hits}
-use Rattle.fancy_engine.proofs.TableMarksLemmas.{member-set}
 
 -- each thread stands within what is searched after a step
 pub within_on : (first last : ℕ) (t u : Thread) (ts us : List Thread) → AllWithin first last (t ∷ ts) → Stacked On t ts us → t.place ≤ u.place → u.place ≤ last
@@ -70,10 +69,10 @@ module _ (good : ℕ → Bool) (cx : Context) (base limit : ℕ) (code : List In
   RankAt t = rank cx limit code deep t.at t.place
 
   -- the table has one more pair
-  abbrev pub Adds : List Bool → List Bool → ℕ → ℕ → Type 0
+  abbrev pub Adds : Marks → Marks → ℕ → ℕ → Type 0
   Adds table table' q i = (p j : ℕ) → WasVisited good cx base limit code deep table' p j → WasVisited good cx base limit code deep table p j ⊎ ((p ≡ q) × (j ≡ i))
 
-  covers_next : (table table' : List Bool) (t : Thread) (ts next : List Thread) → Adds table table' t.at t.place → Covers good cx base limit code deep table (t ∷ ts)
+  covers_next : (table table' : Marks) (t : Thread) (ts next : List Thread) → Adds table table' t.at t.place → Covers good cx base limit code deep table (t ∷ ts)
       → ((r : ℕ) → RankAt t < r + 1 → HitsAt t → Below r next)
       → ((r : ℕ) → RankAt t < r → Below r ts → Below r next)
       → Covers good cx base limit code deep table' next
@@ -90,12 +89,12 @@ module _ (good : ℕ → Bool) (cx : Context) (base limit : ℕ) (code : List In
             top (rank cx limit code deep p j) (omega arith) (subst (λ x. Hits good cx base limit code deep t.at x) same.1 (subst (λ x. Hits good cx base limit code deep x j) same.0 hit))
       ]
 
-  pub same_table : (table : List Bool) (q i : ℕ) → Adds table table q i
+  pub same_table : (table : Marks) (q i : ℕ) → Adds table table q i
   same_table table q i p j seen = inl seen
 
   module _ (kept : ℕ) (goal : Option State) where
     -- a thread without an accepted outcome is dropped
-    rest_of : (table table' : List Bool) (t : Thread) (ts : List Thread) → Running good cx base limit code deep kept goal table t ts → Adds table table' t.at t.place
+    rest_of : (table table' : Marks) (t : Thread) (ts : List Thread) → Running good cx base limit code deep kept goal table t ts → Adds table table' t.at t.place
         → is_some (first_accepted (ends_well good) (events_of (thread_run cx limit code deep kept t))) ≡ false → Resting good cx base limit code deep kept goal table' ts
     rest_of table table' t ts r adds none =
         let never : HitsAt t → ⊥ = λ h. true≢false (sym h ∙ sym (hits_is kept t) ∙ none) in
@@ -106,30 +105,30 @@ module _ (good : ℕ → Bool) (cx : Context) (base limit : ℕ) (code : List In
         }
 
     -- a pair that was visited before has no accepted outcome
-    pub run_seen : (table : List Bool) (t : Thread) (ts : List Thread) → Running good cx base limit code deep kept goal table t ts
+    pub run_seen : (table : Marks) (t : Thread) (ts : List Thread) → Running good cx base limit code deep kept goal table t ts
         → WasVisited good cx base limit code deep table t.at t.place → Resting good cx base limit code deep kept goal table ts
     run_seen table t ts r seen =
         rest_of table table t ts r (same_table table t.at t.place)
         (false_from_ne_true _ (λ e. let h = r.covers t.at t.place seen (sym (hits_is kept t) ∙ e) in let lt : RankAt t < RankAt t = h.0 in absurd (omega arith)))
 
-    pub run_dead : (table table' : List Bool) (t : Thread) (ts : List Thread) → Running good cx base limit code deep kept goal table t ts → Adds table table' t.at t.place
+    pub run_dead : (table table' : Marks) (t : Thread) (ts : List Thread) → Running good cx base limit code deep kept goal table t ts → Adds table table' t.at t.place
         → events_of (thread_run cx limit code deep kept t) ≡ [] → Resting good cx base limit code deep kept goal table' ts
     run_dead table table' t ts r adds e = rest_of table table' t ts r adds (ap (λ (x : List Event). is_some (first_accepted (ends_well good) x)) e)
 
-    pub run_bad : (table table' : List Bool) (t : Thread) (ts : List Thread) → Running good cx base limit code deep kept goal table t ts → Adds table table' t.at t.place
+    pub run_bad : (table table' : Marks) (t : Thread) (ts : List Thread) → Running good cx base limit code deep kept goal table t ts → Adds table table' t.at t.place
         → events_of (thread_run cx limit code deep kept t) ≡ outcome (state_of kept t) ∷ [] → good t.place ≡ false → Resting good cx base limit code deep kept goal table' ts
     run_bad table table' t ts r adds e bad =
         rest_of table table' t ts r adds
         (ap (λ (x : List Event). is_some (first_accepted (ends_well good) x)) e ∙ ap (λ (c : Bool). is_some (if c then Some (state_of kept t) else None)) bad)
 
-    pub run_good : (table : List Bool) (t : Thread) (ts : List Thread) → Running good cx base limit code deep kept goal table t ts
+    pub run_good : (table : Marks) (t : Thread) (ts : List Thread) → Running good cx base limit code deep kept goal table t ts
         → events_of (thread_run cx limit code deep kept t) ≡ outcome (state_of kept t) ∷ [] → good t.place ≡ true → Some (state_of kept t) ≡ goal
     run_good table t ts r e fine =
         let p = pending cx limit code deep kept ts in
         sym (ap (λ (x : List Event). first_accepted (ends_well good) (x ++ p)) e
         ∙ ap (λ (c : Bool). if c then Some (state_of kept t) else (first_accepted (ends_well good) p)) fine) ∙ r.answer
 
-    pub run_on : (table table' : List Bool) (t u : Thread) (ts us : List Thread) → Running good cx base limit code deep kept goal table t ts → Adds table table' t.at t.place
+    pub run_on : (table table' : Marks) (t u : Thread) (ts us : List Thread) → Running good cx base limit code deep kept goal table t ts → Adds table table' t.at t.place
         → Stepped cx limit code deep kept On t ts u us → Running good cx base limit code deep kept goal table' u us
     run_on table table' t u ts us r adds stepped =
         elim stepped [
@@ -172,13 +171,13 @@ module _ (good : ℕ → Bool) (cx : Context) (base limit : ℕ) (code : List In
               }
         ]
 
-    pub rest_done : (table : List Bool) → Resting good cx base limit code deep kept goal table [] → (None ≡ goal) × AllFailed good cx base limit code deep table
+    pub rest_done : (table : Marks) → Resting good cx base limit code deep kept goal table [] → (None ≡ goal) × AllFailed good cx base limit code deep table
     rest_done table r = (r.answer, λ q i seen hit. r.covers q i seen hit)
 
-    pub rest_back : (table : List Bool) (b : Thread) (ts : List Thread) → Resting good cx base limit code deep kept goal table (b ∷ ts) → Running good cx base limit code deep kept goal table b ts
+    pub rest_back : (table : Marks) (b : Thread) (ts : List Thread) → Resting good cx base limit code deep kept goal table (b ∷ ts) → Running good cx base limit code deep kept goal table b ts
     rest_back table b ts r = record { known = r.all.0; all = r.all.1; answer = r.answer; covers = r.covers }
 
-  pub run_first : (kept : ℕ) (table : List Bool) (t : Thread) → Known cx limit code deep kept t → AllFailed good cx base limit code deep table
+  pub run_first : (kept : ℕ) (table : Marks) (t : Thread) → Known cx limit code deep kept t → AllFailed good cx base limit code deep table
       → Running good cx base limit code deep kept (first_accepted (ends_well good) (events_of (thread_run cx limit code deep kept t))) table t []
   run_first kept table t known failed =
       record {
@@ -188,14 +187,10 @@ module _ (good : ℕ → Bool) (cx : Context) (base limit : ℕ) (code : List In
         covers = λ q i seen hit. absurd (failed q i seen hit);
       }
 
-  -- two pairs with the same bit are the same
-  pub adds_pair : (table after : List Bool) (q i : ℕ) → IsPair good cx base limit code deep q i
-      → after ≡ set table ((i - base) * length code + q) true → Adds table after q i
-  adds_pair table after q i pair e p j h =
-      elim (member-set table _ _ (subst (λ (x : List Bool). slice_index_or x ((j - base) * length code + p) false ≡ true) e h.1)) [
+  -- one more mark, by its row
+  pub adds_mark : (table after : Marks) (q i : ℕ) → base ≤ i → ((p row : ℕ) → after p row ≡ true → (table p row ≡ true) ⊎ ((p ≡ q) × (row ≡ i - base))) → Adds table after q i
+  adds_mark table after q i low adds p j h =
+      elim (adds p (j - base) h.1) [
         | inl old ↦ inl (h.0, old)
-        | inr place ↦
-            let same = same_from_place (j - base) p (i - base) q (length code) h.0.0 pair.0 place in
-            let at : j ≡ i = omega (arith, h.0.1, pair.1, same.0) in
-            inr (same.1, at)
+        | inr new ↦ inr (new.0, omega (arith, h.0.1, low, new.1))
       ]

@@ -1,5 +1,5 @@
 -- An attempt at a position, and the positions of a search.
-use Rattle.std.proofs.Common.{◌≡◌, ℕ, zero, suc, ◌+◌, ◌-◌, ◌*◌, ◌^◌, ◌<◌, ◌≤◌, min, Bool, true, false, not, ◌&&◌, ◌||◌, List, ◌==◌, filter, length, Option, Some, None, refl, sym, ap, ◌∙◌, subst, arith, replicate}
+use Rattle.std.proofs.Common.{◌≡◌, ℕ, zero, suc, ◌+◌, ◌-◌, ◌*◌, ◌<◌, ◌≤◌, min, Bool, true, false, not, ◌&&◌, ◌||◌, List, ◌==◌, filter, length, Option, Some, None, refl, sym, ap, ◌∙◌, subst, arith, replicate}
 use Rattle.std.proofs.lemmas.List.{length-replicate}
 use Rattle.std.proofs.lemmas.Bool.{true≢false}
 use Rattle.std.specs.Prelude.{slice_index_or, option_map, if◌then◌else◌}
@@ -133,28 +133,11 @@ positions_some r le = one_position r.anchored (r.range_end + 1 - effective_start
 pub unmarked_table : (table : List Bool) (n : ℕ) → table ≡ replicate n false → (k : ℕ) → slice_index_or table k false ≡ true → ⊥
 unmarked_table table n e k h = unmarked n k (subst (λ (bits : List Bool). slice_index_or bits k false ≡ true) e h)
 
-swapped : (k n : ℕ) → n * k ≡ k * n
-swapped k n = omega arith
-
-times_swapped : (s k n : ℕ) → s ≤ k * n → s ≤ n * k
-times_swapped s k n h = omega arith
-
--- one step a pair
-pub steps_bound : (s : ℕ) (r : Request) (first n : ℕ) → s ≤ (r.range_end - first + 1) * n → first ≡ effective_start r → first ≤ r.range_end
-    → s ≤ n * (r.range_end + 1 - effective_start r)
-steps_bound s r first n h e le =
-    let same : r.range_end - first + 1 ≡ r.range_end + 1 - effective_start r = omega (arith, e) in
-    subst (λ (k : ℕ). s ≤ n * k) same (times_swapped s (r.range_end - first + 1) n h)
-
--- one step a pair is added to what was counted before
-pub steps_added : (before after marks : ℕ) (r : Request) (first n : ℕ) → after ≡ before + marks → marks ≤ (r.range_end - first + 1) * n → first ≡ effective_start r → first ≤ r.range_end
+-- no more steps are added than there are pairs of an instruction and a place
+pub steps_within : (before after : ℕ) (r : Request) (first n : ℕ) → after ≤ before + (r.range_end - first + 1) * n → first ≡ effective_start r → first ≤ r.range_end
     → after ≤ before + n * (r.range_end + 1 - effective_start r)
-steps_added before after marks r first n is h e le = let few = steps_bound marks r first n h e le in omega (arith, is, few)
-
--- there is room to count a step for each pair
-pub room_for_pairs : (s : ℕ) (r : Request) (first n : ℕ) → (n * (r.range_end + 1 - effective_start r) < 2 ^ 64 → s + n * (r.range_end + 1 - effective_start r) < 2 ^ 64)
-    → (r.range_end - first + 1) * n < 2 ^ 64 → first ≡ effective_start r → first ≤ r.range_end → s + (r.range_end - first + 1) * n < 2 ^ 64
-room_for_pairs s r first n room small e le =
+steps_within before after r first n h e le =
     let same : r.range_end - first + 1 ≡ r.range_end + 1 - effective_start r = omega (arith, e) in
-    let all : n * (r.range_end + 1 - effective_start r) ≡ (r.range_end - first + 1) * n = ap (λ (k : ℕ). n * k) (sym same) ∙ swapped (r.range_end - first + 1) n in
-    subst (λ (m : ℕ). s + m < 2 ^ 64) all (room (subst (λ (m : ℕ). m < 2 ^ 64) (sym all) small))
+    subst (λ (k : ℕ). after ≤ before + n * k) same (swapped (r.range_end - first + 1) h) where
+      swapped : (k : ℕ) → after ≤ before + k * n → after ≤ before + n * k
+      swapped k h = omega arith

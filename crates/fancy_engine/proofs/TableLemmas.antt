@@ -1,17 +1,14 @@
 -- Words of 64 bits as a list of bits.
-use Rattle.std.proofs.Common.{◌≡◌, ℕ, zero, suc, ◌+◌, ◌*◌, ◌/◌, ◌%◌, ◌^◌, ◌<◌, Bool, true, false, not, eqb, List, [], ◌∷◌, ◌++◌, length, replicate, get_or, set, refl, sym, ◌∙◌, ap, inl, inr, arith, ext_get_or, length-set, get_or-set_same, get_or-set_other, eq-eqb, ne_eqb, w64}
+use Rattle.std.proofs.Common.{◌≡◌, ℕ, zero, suc, ◌*◌, ◌/◌, ◌%◌, ◌^◌, ◌<◌, ◌⊎◌, Bool, true, false, not, eqb, List, [], ◌∷◌, ◌++◌, length, replicate, get_or, set, refl, sym, ◌∙◌, ap, inl, inr, arith, ext_get_or, length-set, get_or-set_same, get_or-set_other, eq-eqb, ne_eqb, w64}
 use Rattle.std.proofs.lemmas.List.{length-replicate, get_or-replicate}
 use Rattle.std.proofs.lemmas.List.FromFn.{length-map-range_with_len, get_or-map-range_with_len}
-use Rattle.std.proofs.lemmas.Bool.{cases_eq}
+use Rattle.std.proofs.lemmas.Bool.{cases_eq, not-false}
 use Rattle.std.proofs.lemmas.Nat.{one_shl, pow_pos}
 use Rattle.std.proofs.lemmas.Nat.Bits.{bit_at_set_same, bit_at_set_other, bit_at-zero, and_pow}
-use Rattle.std.specs.Prelude.{bit_and, bit_or}
+use Rattle.std.specs.Prelude.{bit_and, bit_or, slice_index_or}
 use Rattle.std.specs.Int.{bit_at}
-use Rattle.std.specs.Bool.{MatchBool}
 use Rattle.std.proofs.lemmas.List.{get_or_read}
 use Rattle.fancy_engine.specs.Table.{bit_of, bits_of}
-use Rattle.fancy_engine.specs.TableMarks.{count_marks}
-use Rattle.fancy_engine.proofs.TableMarksLemmas.{count_marks-set}
 
 pub length-bits_of : (words : List ℕ) (n : ℕ) → length (bits_of words n) ≡ n
 unfolding bits_of
@@ -95,11 +92,25 @@ bits_of-set words m n word within word_in read =
           ∙ sym (get_or-set_other (bits_of words m) n k true false other)
     ]))
 
+-- a mark that was made before
+set_made : (bs : List Bool) (n : ℕ) → n < length bs → get_or bs n false ≡ true → set bs n true ≡ bs
+set_made [] n h e = refl
+set_made (b ∷ bs) zero h e = ap (λ (c : Bool). c ∷ bs) (sym e)
+set_made (b ∷ bs) (suc n) h e = ap (λ (cs : List Bool). b ∷ cs) (set_made bs n (omega arith) e)
+
+-- a mark in the table after one more was made
+pub member-set : (bs : List Bool) (m n : ℕ) → slice_index_or (set bs n true) m false ≡ true → (slice_index_or bs m false ≡ true) ⊎ (m ≡ n)
+member-set [] m n h = inl h
+member-set (b ∷ bs) zero zero h = inr refl
+member-set (b ∷ bs) zero (suc n) h = inl h
+member-set (b ∷ bs) (suc m) zero h = inl h
+member-set (b ∷ bs) (suc m) (suc n) h = elim (member-set bs m n h) [ inl x ↦ inl x | inr e ↦ inr (ap suc e) ]
+
 -- what a mark ensures
 pub record Marking (flags after : List Bool) (k : ℕ) (fresh : Bool) : Type 0 where
   pub new : fresh ≡ not (get_or flags k false)
   pub is : after ≡ set flags k true
-  pub counted : MatchBool fresh (count_marks after ≡ count_marks flags + 1) (after ≡ flags)
+  pub same : fresh ≡ false → after ≡ flags
 
 -- a mark in words that were padded first
 pub marking : (words more : List ℕ) (m pad n word : ℕ) (flags : List Bool) → bits_of words m ≡ flags → n < length flags
@@ -119,5 +130,5 @@ marking words more m pad n word flags is within padded word_in found =
     record {
       new = new;
       is = after;
-      counted = rw (new, after) (count_marks-set flags n within);
+      same = λ old. after ∙ set_made flags n within (not-false _ (sym new ∙ old));
     }

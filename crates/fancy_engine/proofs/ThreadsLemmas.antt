@@ -1,17 +1,13 @@
 -- The log of writes.
-use Rattle.std.proofs.Common.{◌≡◌, ◌≢◌, ℕ, zero, suc, ◌≤◌, List, [], ◌∷◌, ◌++◌, length, map, take, drop, set, get_or, replicate, refl, sym, ap, ap₂, ◌∙◌, subst, arith, append_assoc}
+use Rattle.std.proofs.Common.{◌≡◌, ℕ, zero, suc, ◌≤◌, List, [], ◌∷◌, ◌++◌, length, map, take, drop, set, get_or, replicate, refl, sym, ap, ap₂, ◌∙◌, subst, arith, append_assoc}
 use Rattle.std.proofs.lemmas.List.{set-set, set-get_or, drop-append-le, drop_at, take_at, drop_all, take-append-drop, length-take-le, reverse-append, map-set}
-use Rattle.std.specs.Prelude.{Option, Some, Err, slice_index, reverse}
+use Rattle.std.specs.Prelude.{Option, Some, slice_index, reverse}
 use Rattle.fancy_input.specs.declared.span.Span.{Span}
 use Rattle.fancy_input.specs.Spans.{from_to}
 use Rattle.fancy_engine.specs.declared.slot.Slot.{Slot}
 use Rattle.fancy_engine.specs.declared.slot.Write.{Write}
 use Rattle.fancy_engine.specs.declared.slot.Branch.{Branch}
-use Rattle.fancy_engine.specs.Work.{returns_of}
-use Rattle.fancy_engine.specs.declared.work.Work.{Work}
-use Rattle.fancy_engine.specs.declared.refusal.SearchRefusal.{SearchRefusal}
-use Rattle.fancy_engine.specs.declared.refusal.SearchRefusal.TheVariants.{Memory, Returns, Choices}
-use Rattle.fancy_engine.specs.Threads.{Thread, ThreadStack, Backed, undone, saved_of, Ordered, empty_slot, slot_span, slot_from}
+use Rattle.fancy_engine.specs.Threads.{Thread, undone, saved_of, Ordered, empty_slot, slot_span, slot_from}
 
 -- the later writes are undone first
 pub undone-append : (slots : List Slot) (xs ys : List Write) → undone slots (xs ++ ys) ≡ undone (undone slots ys) xs
@@ -109,13 +105,3 @@ pub close_spans : (slots : List Slot) (g p : ℕ) (slot : Slot) → slot ≡ get
 close_spans slots g p slot e =
     map-set slot_span slots g (record { from = slot.from; span = Some (from_to slot.from p) })
     ∙ ap (λ (f : ℕ). set (map slot_span slots) g (Some (from_to f p))) (ap slot_from e ∙ sym (get_or_mapped slot_from slots g empty_slot))
-
-pub some_long : {A : Type 0} (xs : List A) → xs ≢ [] → 1 ≤ length xs
-some_long [] ne = absurd (ne refl)
-some_long (x ∷ xs) ne = omega arith
-
-pub backed_err : (e : SearchRefusal) (limit : ℕ) (old new : ThreadStack) (before after : Work) → Backed (Err e) limit old new before after
-    → (old.saved ≢ []) × (returns_of before ≡ limit) × (after ≡ before)
-backed_err Memory limit old new before after b = absurd b
-backed_err Choices limit old new before after b = absurd b
-backed_err Returns limit old new before after b = b

@@ -3,7 +3,7 @@ use Rattle.std.specs.Prelude.{ℕ, ◌+◌, ◌-◌, ◌*◌, Bool, List, Option
 use Rattle.fancy_engine.specs.Instructions.{Instruction}
 use Rattle.fancy_engine.specs.declared.runner.Attempt.{Attempt}
 use Rattle.fancy_engine.specs.declared.runner.Next.{Next}
-use Rattle.fancy_engine.specs.Code.{instrs_of, code_len}
+use Rattle.fancy_engine.specs.Code.{instrs_of, width_of, marks_of, left_of, burden}
 use Rattle.fancy_engine.specs.Context.{Context, State}
 use Rattle.fancy_engine.specs.Reading.{search_context}
 use Rattle.fancy_engine.specs.Search.{is_match_boundary}
@@ -18,17 +18,29 @@ module _ (a : Attempt) where
   abbrev pub instrs_in : List Instruction
   instrs_in = instrs_of a.code.now
 
-  -- how many pairs of an instruction and a place there are
-  abbrev pub pairs_in : ℕ
-  pairs_in = (a.last - a.first + 1) * code_len a.code.now
+  -- how many places are searched
+  abbrev pub places_in : ℕ
+  places_in = a.last - a.first + 1
+
+  -- how many marks there are
+  abbrev pub bits_in : ℕ
+  bits_in = places_in * width_of a.code.now
+
+  -- what the marks are worth that were not made
+  abbrev pub left_in : List Bool → ℕ
+  left_in table = left_of a.code.now places_in table
+
+  -- as many steps may still be ahead of these threads
+  abbrev pub ahead_in : List Bool → List Thread → ℕ
+  ahead_in table threads = burden a.code.now threads + left_in table
 
   -- a match may begin or end at a place
   abbrev pub may_end_in : ℕ → Bool
   may_end_in = is_match_boundary a.on_boundaries a.haystack.now
 
-  -- no visited pair gives an accepted outcome
+  -- no marked pair gives an accepted outcome
   abbrev pub AllFailedIn : ℕ → List Bool → Type 0
-  AllFailedIn deep table = AllFailed may_end_in context_in a.first a.last instrs_in deep table
+  AllFailedIn deep table = AllFailed may_end_in context_in a.first a.last instrs_in deep (marks_of a.code.now table)
 
   -- what the thread that is followed gives is known
   abbrev pub KnownIn : ℕ → ℕ → ThreadStack → Type 0
@@ -44,12 +56,12 @@ module _ (a : Attempt) where
 
   -- what the runner still has before it
   abbrev pub RunningIn : ℕ → ℕ → Option State → List Bool → ThreadStack → Type 0
-  RunningIn kept deep goal table ts = Running may_end_in context_in a.first a.last instrs_in deep kept goal table ts.current ts.saved
+  RunningIn kept deep goal table ts = Running may_end_in context_in a.first a.last instrs_in deep kept goal (marks_of a.code.now table) ts.current ts.saved
 
   -- the same once the saved branches are all that is left
   abbrev pub RestingIn : ℕ → ℕ → Option State → List Bool → List Thread → Type 0
-  RestingIn kept deep goal table saved = Resting may_end_in context_in a.first a.last instrs_in deep kept goal table saved
+  RestingIn kept deep goal table saved = Resting may_end_in context_in a.first a.last instrs_in deep kept goal (marks_of a.code.now table) saved
 
   -- the same after a visit
   abbrev pub VisitedIn : ℕ → ℕ → Next → Option State → List Bool → ThreadStack → Type 0
-  VisitedIn kept deep next goal table ts = Visited may_end_in context_in a.first a.last instrs_in deep kept next goal table ts.current ts.saved
+  VisitedIn kept deep next goal table ts = Visited may_end_in context_in a.first a.last instrs_in deep kept next goal (marks_of a.code.now table) ts.current ts.saved

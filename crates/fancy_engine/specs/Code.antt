@@ -1,8 +1,10 @@
 -- The instructions of a code.
-use Rattle.std.specs.Prelude.{ℕ, List, length}
+use Rattle.std.specs.Prelude.{ℕ, ◌+◌, Bool, List, [], ◌∷◌, Option, length, slice_index_or}
 use Rattle.fancy_engine.specs.declared.code.Code.{Code}
 use Rattle.fancy_engine.specs.declared.code.Instr.{Instr}
 use Rattle.fancy_engine.specs.Instructions.{Instruction, edges_at, with_set, with_sets}
+use Rattle.fancy_engine.specs.Marking.{Marks, number_in, due_in, cost_in, marks, left_in}
+use Rattle.fancy_engine.specs.Threads.{Thread}
 
 -- each with the edges of its set
 abbrev pub instrs_of : Code → List Instruction
@@ -21,3 +23,36 @@ sets_len c = length c.sets.items
 -- the edges of the set with this number
 abbrev pub set_edges : Code → ℕ → List ℕ
 set_edges c n = edges_at c.sets.items n
+
+-- the number of an instruction's mark, among those of a place
+abbrev pub number_of : Code → ℕ → Option ℕ
+number_of c q = number_in c.marking.numbers.items q
+
+-- how many marks a place has
+abbrev pub width_of : Code → ℕ
+width_of c = c.marking.width
+
+-- the steps that an instruction stands for: its own, and those after it up to the next marks
+abbrev pub weight_of : Code → ℕ → ℕ
+weight_of c q = slice_index_or c.marking.weights.items q 0
+
+-- what is due where a thread goes on at q
+abbrev pub due_of : Code → ℕ → ℕ
+due_of c q = due_in c.marking.numbers.items c.marking.weights.items q
+
+-- what is due where an instruction leads on
+abbrev pub cost_of : Code → Instruction → ℕ
+cost_of c i = cost_in c.marking.numbers.items c.marking.weights.items i
+
+-- the pairs that were marked in a table
+abbrev pub marks_of : Code → List Bool → Marks
+marks_of c table = marks c.marking.numbers.items c.marking.width table
+
+-- what the marks are worth that were not made, in a table of so many places
+abbrev pub left_of : Code → ℕ → List Bool → ℕ
+left_of c rows table = left_in c.marking.numbers.items c.marking.weights.items c.marking.width (code_len c) rows table
+
+-- what is due for the threads that are still to be followed
+abbrev pub burden : Code → List Thread → ℕ
+burden c [] = 0
+burden c (t ∷ ts) = due_of c t.at + burden c ts

@@ -6,10 +6,10 @@ pub mod Search
 pub mod Literals
 pub mod Work
 pub mod Instructions
+pub mod Marking
 pub mod Code
 pub mod Emitted
 pub mod Run
-pub mod TableMarks
 pub mod Table
 pub mod Threads
 pub mod Reading

@@ -1,11 +1,12 @@
--- What the runner keeps true, which follows each pair of an instruction and a place at most once.
-use Rattle.std.specs.Prelude.{◌≡◌, ℕ, ◌+◌, ◌-◌, ◌*◌, ◌<◌, ◌≤◌, ◌⊎◌, Bool, true, false, List, [], ◌∷◌, ◌++◌, length, Option, Some, None, if◌then◌else◌, slice_index_or, is_some}
+-- What the runner keeps true, which follows each pair of an instruction with a mark and a place at most once.
+use Rattle.std.specs.Prelude.{◌≡◌, ℕ, ◌+◌, ◌-◌, ◌<◌, ◌≤◌, ◌⊎◌, Bool, true, false, List, [], ◌∷◌, ◌++◌, length, Option, Some, None, if◌then◌else◌, is_some}
 use Rattle.fancy_engine.specs.Instructions.{Instruction}
 use Rattle.fancy_engine.specs.declared.runner.Next.{Next}
 use Rattle.fancy_engine.specs.declared.runner.Next.TheVariants.{On, Dead, Found}
 use Rattle.fancy_engine.specs.Context.{Context, State}
 use Rattle.fancy_engine.specs.Events.{Event, mark, return, outcome, either}
 use Rattle.fancy_engine.specs.Run.{Raw, run, erase}
+use Rattle.fancy_engine.specs.Marking.{Marks}
 use Rattle.fancy_engine.specs.Threads.{Thread, state_of, starts_of}
 
 -- the first outcome that the test accepts
@@ -51,11 +52,23 @@ abbrev pub AllWithin : ℕ → ℕ → List Thread → Type 0
 AllWithin first last [] = Unit {0}
 AllWithin first last (t ∷ ts) = (first ≤ t.place) × (t.place ≤ last) × AllWithin first last ts
 
--- what a visit may leave: one more branch, where it marked a pair
+-- the threads that are still to be followed
+abbrev pub threads_after : Next → Thread → List Thread → List Thread
+threads_after On t ts = t ∷ ts
+threads_after Dead t ts = ts
+threads_after Found t ts = ts
+
+-- what a step may leave due, for the branches that are saved and for the thread that goes on
+abbrev pub Spends : Next → ℕ → ℕ → ℕ → ℕ → Type 0
+Spends On cost before after due = after + due ≤ cost + before
+Spends Dead cost before after due = after ≤ before
+Spends Found cost before after due = after ≤ before
+
+-- what a visit may leave ahead: one more branch, where that is less than before
 abbrev pub Progresses : Next → ℕ → ℕ → ℕ → ℕ → Type 0
-Progresses On before after len now = (before < after) × (now ≤ len + 1)
-Progresses Dead before after len now = (before ≤ after) × (now ≡ len)
-Progresses Found before after len now = Unit {0}
+Progresses On before after len now = (after < before) × (now ≤ len + 1)
+Progresses Dead before after len now = (after ≤ before) × (now ≡ len)
+Progresses Found before after len now = after ≤ before
 
 module _ (x : Context) (limit : ℕ) (code : List Instruction) (deep : ℕ) where
   -- what a thread has before it, where the match will have begun at `kept`
@@ -102,9 +115,9 @@ module _ (good : ℕ → Bool) (x : Context) (base limit : ℕ) (code : List Ins
   abbrev pub IsPair : ℕ → ℕ → Type 0
   IsPair q i = (q < length code) × (base ≤ i) × (i ≤ limit)
 
-  -- the pair was visited
-  abbrev pub WasVisited : List Bool → ℕ → ℕ → Type 0
-  WasVisited table q i = IsPair q i × (slice_index_or table ((i - base) * length code + q) false ≡ true)
+  -- the pair was marked
+  abbrev pub WasVisited : Marks → ℕ → ℕ → Type 0
+  WasVisited table q i = IsPair q i × (table q (i - base) ≡ true)
 
   -- an accepted outcome comes from the pair, whatever the groups are
   abbrev pub Hits : ℕ → ℕ → Type 0
@@ -115,29 +128,29 @@ module _ (good : ℕ → Bool) (x : Context) (base limit : ℕ) (code : List Ins
   HitsBelow r [] = ⊥
   HitsBelow r (t ∷ ts) = (rank x limit code deep t.at t.place < r) × (Hits t.at t.place ⊎ HitsBelow r ts)
 
-  -- a visited pair that hits is answered for by a thread that is still to be followed
-  abbrev pub Covers : List Bool → List Thread → Type 0
+  -- a marked pair that hits is answered for by a thread that is still to be followed
+  abbrev pub Covers : Marks → List Thread → Type 0
   Covers table ts = (q i : ℕ) → WasVisited table q i → Hits q i → HitsBelow (rank x limit code deep q i) ts
 
-  -- no visited pair hits
-  abbrev pub AllFailed : List Bool → Type 0
+  -- no marked pair hits
+  abbrev pub AllFailed : Marks → Type 0
   AllFailed table = (q i : ℕ) → WasVisited table q i → Hits q i → ⊥
 
   -- what the runner has before it once the saved branches are all that is left
-  pub record Resting (kept : ℕ) (goal : Option State) (table : List Bool) (ts : List Thread) : Type 0 where
+  pub record Resting (kept : ℕ) (goal : Option State) (table : Marks) (ts : List Thread) : Type 0 where
     pub all : AllKnown x limit code deep kept ts
     pub answer : first_accepted (ends_well good) (pending x limit code deep kept ts) ≡ goal
     pub covers : Covers table ts
 
   -- what the runner still has before it
-  pub record Running (kept : ℕ) (goal : Option State) (table : List Bool) (t : Thread) (ts : List Thread) : Type 0 where
+  pub record Running (kept : ℕ) (goal : Option State) (table : Marks) (t : Thread) (ts : List Thread) : Type 0 where
     pub known : Known x limit code deep kept t
     pub all : AllKnown x limit code deep kept ts
     pub answer : first_accepted (ends_well good) (events_of (thread_run x limit code deep kept t) ++ pending x limit code deep kept ts) ≡ goal
     pub covers : Covers table (t ∷ ts)
 
   -- the same after a visit
-  abbrev pub Visited : ℕ → Next → Option State → List Bool → Thread → List Thread → Type 0
+  abbrev pub Visited : ℕ → Next → Option State → Marks → Thread → List Thread → Type 0
   Visited kept On goal table t ts = Running kept goal table t ts
   Visited kept Dead goal table t ts = Resting kept goal table ts
   Visited kept Found goal table t ts = Some (state_of kept t) ≡ goal

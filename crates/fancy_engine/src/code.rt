@@ -2,7 +2,9 @@
 
 ghost use Rattle.std.specs.Prelude.{◌≡◌, ◌<◌, ℕ, IsTrue, length};
 ghost use Rattle.fancy_engine.specs.Instructions.{are_known, edges_in, with_sets};
+ghost use Rattle.fancy_engine.specs.Marking.{IsPaid};
 
+use crate::marking::Marking;
 use crate::work::Work;
 use fancy_bytes::literal::Literal;
 use fancy_bytes::scan::Scan;
@@ -79,6 +81,7 @@ pub struct Entry {
 pub struct Code {
     instrs: Vec<Instr>,
     sets: Vec<CharSet>,
+    marking: Marking,
     /// The number of the first instruction.
     pub start: usize,
     /// The groups of the pattern, with group 0.
@@ -90,17 +93,19 @@ pub struct Code {
     /// The text of two bytes or more that each match begins with, where it was tried. `None` where there is no such text.
     pub literal: Option<Literal>,
     ghost known: { IsTrue (are_known (length sets.items) instrs.items) },
+    ghost paid: { IsPaid (with_sets sets.items instrs.items) marking.numbers.items marking.weights.items start },
 }
 
 impl Code {
-    ghost use Rattle.fancy_engine.specs.Code.{instrs_of, code_len, instr_in, sets_len, set_edges};
+    ghost use Rattle.fancy_engine.specs.Code.{instrs_of, code_len, instr_in, sets_len, set_edges, number_of, width_of};
     ghost use Rattle.fancy_engine.specs.Run.{instr_at};
-    ghost use Rattle.fancy_engine.specs.Work.{steps_of, stepped};
+    ghost use Rattle.fancy_engine.specs.Work.{stepped_within};
 
     /// These instructions with these sets, which begin at `start`.
     pub(crate) fn new(
         instrs: Vec<Instr>,
         sets: Vec<CharSet>,
+        marking: Marking,
         start: usize,
         groups: usize,
         meaning: Meaning,
@@ -108,6 +113,7 @@ impl Code {
         literal: Option<Literal>,
     ) -> Code
         requires known { IsTrue (are_known (length sets.items) instrs.items) }
+        requires paid { IsPaid (with_sets sets.items instrs.items) marking.numbers.items marking.weights.items start }
         ensures instrs { instrs_of result ≡ with_sets sets.items instrs.items }
         ensures start { result.start ≡ start }
         ensures groups { result.groups ≡ groups }
@@ -118,6 +124,7 @@ impl Code {
         Code {
             instrs,
             sets,
+            marking,
             start,
             groups,
             meaning,
@@ -126,15 +133,14 @@ impl Code {
         }
     }
 
-    /// The instruction with this number. Each call counts as one step.
+    /// The instruction with this number. Each call counts as one step, as far as the number of steps goes.
     pub fn fetch(&self, at: usize, work: &mut Work) -> &Instr
         requires within { at < code_len self.now }
-        requires room { steps_of work.old < usize.MAX }
         ensures instr { instr_in self.now result.now ≡ instr_at (instrs_of self.now) at }
         ensures known { (number next : ℕ) → result.now ≡ Instr.Member number next → number < sets_len self.now }
-        ensures work { work.new ≡ stepped work.old }
+        ensures work { work.new ≡ stepped_within work.old }
     {
-        work.count_step();
+        work.count_step_within();
         self.instr(at)
     }
 
@@ -153,6 +159,20 @@ impl Code {
         ensures { edges_in result.now ≡ set_edges self.now number }
     {
         &self.sets[number]
+    }
+
+    /// The number of the instruction's mark, among those of a place; `None` where it has none.
+    pub(crate) fn mark_number(&self, at: usize) -> Option<usize>
+        ensures { result ≡ number_of self.now at }
+    {
+        self.marking.number(at)
+    }
+
+    /// How many marks a place has.
+    pub(crate) fn marks(&self) -> usize
+        ensures { result ≡ width_of self.now }
+    {
+        self.marking.width()
     }
 
     /// How many instructions there are.

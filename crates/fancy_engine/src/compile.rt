@@ -552,5 +552,6 @@ pub fn compile(
     let entry = emit(&mut code, meaning, tree, stop)?;
     let start_bytes = start_scan(tree, meaning);
     let literal = opening_literal(alloc, tree, meaning)?;
-    Ok(code.into_code(entry.moved, groups, meaning, start_bytes, literal))
+    let code = code.into_code(entry.moved, groups, meaning, start_bytes, literal)?;
+    Ok(code)
 }

@@ -6,6 +6,7 @@ ghost use Rattle.fancy_tree.specs.Members.{edges_of};
 ghost use Rattle.fancy_engine.specs.Instructions.{are_known, is_known, edges_at};
 
 use crate::code::{Code, Entry, Instr};
+use crate::marking::Marking;
 use fancy_bytes::literal::Literal;
 use fancy_bytes::scan::Scan;
 use fancy_tree::char_set::CharSet;
@@ -174,22 +175,24 @@ impl Emitter {
         meaning: Meaning,
         start_bytes: Option<Scan>,
         literal: Option<Literal>,
-    ) -> Code
-        ensures instrs { instrs_of result ≡ emitted self }
-        ensures start { result.start ≡ start }
-        ensures groups { result.groups ≡ groups }
-        ensures meaning { result.meaning ≡ meaning }
-        ensures start_bytes { result.start_bytes ≡ start_bytes }
-        ensures literal { result.literal ≡ literal }
+    ) -> Result<Code, AllocError>
+        ensures instrs { IfOk result (λ code. instrs_of code ≡ emitted self) }
+        ensures start { IfOk result (λ code. code.start ≡ start) }
+        ensures groups { IfOk result (λ code. code.groups ≡ groups) }
+        ensures meaning { IfOk result (λ code. code.meaning ≡ meaning) }
+        ensures start_bytes { IfOk result (λ code. code.start_bytes ≡ start_bytes) }
+        ensures literal { IfOk result (λ code. code.literal ≡ literal) }
     {
-        Code::new(
+        let marking = Marking::new(self.allocator(), &self.instrs, start)?;
+        Ok(Code::new(
             self.instrs,
             self.sets,
+            marking,
             start,
             groups,
             meaning,
             start_bytes,
             literal,
-        )
+        ))
     }
 }

@@ -7,6 +7,7 @@ pub mod compile;
 mod emitter;
 pub mod found;
 pub mod laws;
+mod marking;
 pub mod options;
 pub mod reading;
 pub mod refusal;

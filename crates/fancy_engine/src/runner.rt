@@ -1,24 +1,22 @@
-//! The runner, which follows each pair of an instruction and a place at most once.
+//! The runner, which follows each pair of an instruction with a mark and a place at most once.
 
-ghost use Rattle.std.specs.Prelude.{◌≡◌, ◌+◌, ◌-◌, ◌*◌, ◌^◌, ◌<◌, ◌≤◌, ◌≢◌, [], ◌∷◌, ℕ, List, Option, Bool, Err, true, false, length, IfOk, OnOk, IfSome, option_map, slice_index, slice_set, if◌then◌else◌, ◌==◌};
+ghost use Rattle.std.specs.Prelude.{◌≡◌, ◌+◌, ◌-◌, ◌^◌, ◌<◌, ◌≤◌, ◌≢◌, ◌⊎◌, [], ◌∷◌, ℕ, List, Option, Bool, true, false, length, IfOk, OnOk, IfSome, option_map, slice_index, slice_set, if◌then◌else◌, ◌==◌};
 ghost use Rattle.fancy_tree.specs.Sets.{has};
 ghost use Rattle.fancy_engine.specs.Context.{State, with_capture, past_item, past_byte};
-ghost use Rattle.fancy_engine.specs.Code.{code_len};
+ghost use Rattle.fancy_engine.specs.Code.{code_len, weight_of, due_of, cost_of, marks_of, burden};
 ghost use Rattle.fancy_engine.specs.Instructions.{edges_in};
 ghost use Rattle.fancy_engine.specs.Run.{instr_at};
 ghost use Rattle.fancy_engine.specs.Compile.{IsEasyInstr, AreEasy};
-ghost use Rattle.fancy_engine.specs.Work.{steps_of, returns_of, stepped};
+ghost use Rattle.fancy_engine.specs.Work.{steps_of, returns_of, stepped_within};
 ghost use Rattle.fancy_engine.specs.Reading.{search_context};
 ghost use Rattle.fancy_input.specs.LastLines.{KnowsLastLines};
 ghost use Rattle.fancy_engine.specs.Threads.{state_of, starts_of};
-ghost use Rattle.fancy_engine.specs.Runner.{found_state, Stacked, Moved, AllWithin, Progresses};
-ghost use Rattle.fancy_engine.specs.Attempt.{instrs_in, pairs_in, KnownIn, AllFailedIn, first_accepted_in, SteppedIn, RunningIn, VisitedIn};
-ghost use Rattle.fancy_engine.specs.TableMarks.{count_marks};
+ghost use Rattle.fancy_engine.specs.Runner.{found_state, Stacked, Moved, AllWithin, Spends, Progresses, threads_after};
+ghost use Rattle.fancy_engine.specs.Attempt.{instrs_in, places_in, bits_in, left_in, ahead_in, KnownIn, AllFailedIn, first_accepted_in, SteppedIn, RunningIn, VisitedIn};
 
 use crate::code::{Code, Instr};
 use crate::options::is_match_boundary;
 use crate::reading::{SuppressedEnds, holds_at, read_at};
-use crate::refusal::SearchRefusal;
 use crate::slot::Slot;
 use crate::table::Table;
 use crate::threads::Threads;
@@ -109,11 +107,11 @@ pub fn past_raw_byte(haystack: &[u8], byte: u8, place: usize) -> Option<usize>
 fn advance(threads: &mut Threads, next: usize, place: Option<usize>, limit: usize) -> Next
     requires { IfSome place (λ p. threads.old.current.place ≤ p) }
     ensures moved { Moved result limit place next threads.old.current threads.new.current }
+    ensures goes { result ≡ Next.On → threads.new.current.at ≡ next }
     ensures forth { threads.old.current.place ≤ threads.new.current.place }
     ensures within { threads.old.current.place ≤ limit → threads.new.current.place ≤ limit }
     ensures found { result ≢ Next.Found }
     ensures saved { threads.new.saved ≡ threads.old.saved }
-    ensures most { threads.new.most ≡ threads.old.most }
 {
     match place {
         Some(place) if place <= limit => {
@@ -132,7 +130,6 @@ fn open_group(threads: &mut Threads, group: usize, next: usize) -> Result<(), Al
     ensures starts { OnOk result (starts_of threads.new.current
         ≡ slice_set (starts_of threads.old.current) group threads.old.current.place) }
     ensures saved { threads.new.saved ≡ threads.old.saved }
-    ensures most { threads.new.most ≡ threads.old.most }
 {
     let slot = threads.slot(group);
     let place = threads.place();
@@ -155,7 +152,6 @@ fn close_group(threads: &mut Threads, group: usize, next: usize) -> Result<(), A
         ≡ with_capture (state_of kept threads.old.current) group (slice_index (starts_of threads.old.current) group)) }
     ensures starts { OnOk result (starts_of threads.new.current ≡ starts_of threads.old.current) }
     ensures saved { threads.new.saved ≡ threads.old.saved }
-    ensures most { threads.new.most ≡ threads.old.most }
 {
     let slot = threads.slot(group);
     let span = Span {
@@ -179,22 +175,21 @@ fn step(
     threads: &mut Threads,
     last_lines: &mut LastLines,
     work: &mut Work,
-) -> Result<Next, SearchRefusal>
+) -> Result<Next, AllocError>
     requires inside { attempt.now.last ≤ length attempt.now.haystack.now }
     requires here { threads.old.current.at < code_len attempt.now.code.now }
     requires easy { IsEasyInstr (instr_at (instrs_in attempt.now) threads.old.current.at) }
-    requires room { steps_of work.old < usize.MAX }
     requires last_lines { KnowsLastLines attempt.now.haystack.now last_lines.old }
     ensures stepped { IfOk result (λ next. (kept deep : ℕ) → KnownIn attempt.now kept deep threads.old
         → SteppedIn attempt.now kept deep next threads.old threads.new) }
-    ensures refused { result ≢ Err SearchRefusal.Returns }
-    ensures full { result ≡ Err SearchRefusal.Choices → length threads.old.saved ≡ threads.old.most }
     ensures forth { IfOk result (λ _. threads.old.current.place ≤ threads.new.current.place) }
     ensures within { IfOk result (λ _. threads.old.current.place ≤ attempt.now.last
         → threads.new.current.place ≤ attempt.now.last) }
     ensures stacked { IfOk result (λ next. Stacked next threads.old.current threads.old.saved threads.new.saved) }
-    ensures most { threads.new.most ≡ threads.old.most }
-    ensures work { work.new ≡ stepped work.old }
+    ensures spends { IfOk result (λ next. Spends next (cost_of attempt.now.code.now (instr_at (instrs_in attempt.now) threads.old.current.at))
+        (burden attempt.now.code.now threads.old.saved) (burden attempt.now.code.now threads.new.saved)
+        (due_of attempt.now.code.now threads.new.current.at)) }
+    ensures work { work.new ≡ stepped_within work.old }
     ensures last_lines { KnowsLastLines attempt.now.haystack.now last_lines.new }
 {
     let code = attempt.code;
@@ -247,48 +242,66 @@ fn step(
     }
 }
 
-/// Follows a pair, if it is new. A pair that was met before has nothing to give, whatever the captures.
+/// Whether a pair is to be followed: its instruction has no mark, or that was not made at this place. It is made then.
+fn is_new(attempt: &Attempt, at: usize, place: usize, table: &mut Table) -> bool
+    requires here { at < code_len attempt.now.code.now }
+    requires low { attempt.now.first ≤ place }
+    requires high { place ≤ attempt.now.last }
+    requires room { bits_in attempt.now ≤ length table.old }
+    requires small { length table.old < 2 ^ 64 }
+    ensures seen { result ≡ false → marks_of attempt.now.code.now table.old at (place - attempt.now.first) ≡ true }
+    ensures same { result ≡ false → table.new ≡ table.old }
+    ensures adds { (q row : ℕ) → marks_of attempt.now.code.now table.new q row ≡ true
+        → (marks_of attempt.now.code.now table.old q row ≡ true) ⊎ ((q ≡ at) × (row ≡ place - attempt.now.first)) }
+    ensures left { result ≡ true → left_in attempt.now table.new + weight_of attempt.now.code.now at
+        ≤ left_in attempt.now table.old + due_of attempt.now.code.now at }
+    ensures room { length table.new ≡ length table.old }
+{
+    let Some(number) = attempt.code.mark_number(at) else {
+        return true;
+    };
+    table.mark((place - attempt.first) * attempt.code.marks() + number)
+}
+
+/// Follows a pair, if it is new. A pair that was marked before has nothing to give, whatever the captures.
 fn visit(
     attempt: &Attempt,
     threads: &mut Threads,
     table: &mut Table,
     last_lines: &mut LastLines,
     work: &mut Work,
-) -> Result<Next, SearchRefusal>
+) -> Result<Next, AllocError>
     requires inside { attempt.now.last ≤ length attempt.now.haystack.now }
     requires easy { AreEasy (instrs_in attempt.now) }
     requires within { AllWithin attempt.now.first attempt.now.last (threads.old.current ∷ threads.old.saved) }
-    requires room { pairs_in attempt.now ≤ length table.old }
+    requires room { bits_in attempt.now ≤ length table.old }
     requires small { length table.old < 2 ^ 64 }
-    requires ticks { steps_of work.old + (length table.old - count_marks table.old) < 2 ^ 64 }
-    requires few { length threads.old.saved ≤ steps_of work.old }
-    requires free { threads.old.most ≡ usize.MAX }
     requires last_lines { KnowsLastLines attempt.now.haystack.now last_lines.old }
     ensures visited { IfOk result (λ next. (kept deep : ℕ) (goal : Option State)
         → RunningIn attempt.now kept deep goal table.old threads.old
         → VisitedIn attempt.now kept deep next goal table.new threads.new) }
-    ensures progress { IfOk result (λ next. Progresses next (count_marks table.old) (count_marks table.new)
+    ensures progress { IfOk result (λ next. Progresses next (ahead_in attempt.now table.old (threads.old.current ∷ threads.old.saved))
+        (ahead_in attempt.now table.new (threads_after next threads.new.current threads.new.saved))
         (length threads.old.saved) (length threads.new.saved)) }
     ensures within { IfOk result (λ _. AllWithin attempt.now.first attempt.now.last
         (threads.new.current ∷ threads.new.saved)) }
     ensures room { length table.new ≡ length table.old }
-    ensures ticks { steps_of work.new + count_marks table.old ≡ steps_of work.old + count_marks table.new }
+    ensures spent { IfOk result (λ next. steps_of work.new
+        + ahead_in attempt.now table.new (threads_after next threads.new.current threads.new.saved)
+        ≤ steps_of work.old + ahead_in attempt.now table.old (threads.old.current ∷ threads.old.saved)) }
+    ensures bounded { steps_of work.new
+        ≤ steps_of work.old + ahead_in attempt.now table.old (threads.old.current ∷ threads.old.saved) }
     ensures steps { steps_of work.old ≤ steps_of work.new }
     ensures returns { returns_of work.new ≡ returns_of work.old }
-    ensures tally { IfOk result
-        (λ _. length threads.new.saved + steps_of work.old ≤ length threads.old.saved + steps_of work.new) }
-    ensures free { threads.new.most ≡ threads.old.most }
-    ensures refused { result ≢ Err SearchRefusal.Returns }
-    ensures full { result ≢ Err SearchRefusal.Choices }
+    ensures tally { IfOk result (λ _. steps_of work.new < usize.MAX
+        → length threads.new.saved + steps_of work.old ≤ length threads.old.saved + steps_of work.new) }
     ensures last_lines { KnowsLastLines attempt.now.haystack.now last_lines.new }
 {
     let at = threads.at();
-    let count = attempt.code.len();
-    if at >= count {
+    if at >= attempt.code.len() {
         return Ok(Next::Dead);
     }
-    let pair = (threads.place() - attempt.first) * count + at;
-    if !table.mark(pair) {
+    if !is_new(attempt, at, threads.place(), table) {
         return Ok(Next::Dead);
     }
     match step(attempt, threads, last_lines, work)? {
@@ -305,24 +318,22 @@ fn visit(
 }
 
 /// The first accepted outcome of one attempt: it is where the thread that is followed then stands. The table is kept
-/// from the attempts before, of which none found anything. Each pair that is new is one step, also up to a refusal.
+/// from the attempts before, of which none found anything. There are at most as many steps, also up to a refusal, as are due
+/// at the start and as the marks are worth that are made.
 pub fn follow(
     attempt: &Attempt,
     threads: &mut Threads,
     table: &mut Table,
     last_lines: &mut LastLines,
     work: &mut Work,
-) -> Result<bool, SearchRefusal>
+) -> Result<bool, AllocError>
     requires inside { attempt.now.last ≤ length attempt.now.haystack.now }
     requires easy { AreEasy (instrs_in attempt.now) }
     requires low { attempt.now.first ≤ threads.old.current.place }
     requires high { threads.old.current.place ≤ attempt.now.last }
     requires fresh { threads.old.saved ≡ [] }
-    requires room { pairs_in attempt.now ≤ length table.old }
+    requires room { bits_in attempt.now ≤ length table.old }
     requires small { length table.old < 2 ^ 64 }
-    requires ticks { steps_of work.old + (length table.old - count_marks table.old) < 2 ^ 64 }
-    requires returns { returns_of work.old ≤ steps_of work.old }
-    requires free { threads.old.most ≡ usize.MAX }
     requires last_lines { KnowsLastLines attempt.now.haystack.now last_lines.old }
     ensures answer { IfOk result (λ found. (kept deep : ℕ) → KnownIn attempt.now kept deep threads.old
         → AllFailedIn attempt.now deep table.old
@@ -330,20 +341,20 @@ pub fn follow(
     ensures failed { IfOk result (λ found. (kept deep : ℕ) → KnownIn attempt.now kept deep threads.old
         → AllFailedIn attempt.now deep table.old → found ≡ false → AllFailedIn attempt.now deep table.new) }
     ensures room { length table.new ≡ length table.old }
-    ensures ticks { steps_of work.new + count_marks table.old ≡ steps_of work.old + count_marks table.new }
+    ensures spent { IfOk result (λ _. steps_of work.new + left_in attempt.now table.new
+        ≤ steps_of work.old + (due_of attempt.now.code.now threads.old.current.at + left_in attempt.now table.old)) }
+    ensures bounded { steps_of work.new
+        ≤ steps_of work.old + (due_of attempt.now.code.now threads.old.current.at + left_in attempt.now table.old) }
     ensures steps { steps_of work.old ≤ steps_of work.new }
     ensures returns { returns_of work.old ≤ returns_of work.new }
     ensures paired { returns_of work.new - returns_of work.old ≤ steps_of work.new - steps_of work.old }
-    ensures free { IfOk result (λ _. threads.new.most ≡ threads.old.most) }
-    ensures refused { result ≢ Err SearchRefusal.Returns }
-    ensures full { result ≢ Err SearchRefusal.Choices }
     ensures last_lines { KnowsLastLines attempt.now.haystack.now last_lines.new }
 {
     'pairs: loop {
         match visit(attempt, threads, table, last_lines, work)? {
             Next::On => {}
             Next::Dead => {
-                if !threads.back(usize::MAX, work)? {
+                if !threads.back(work) {
                     return Ok(false);
                 }
             }

@@ -3,7 +3,7 @@
 ghost use Rattle.std.specs.Prelude.{◌≡◌, ◌+◌, ◌-◌, ◌^◌, ◌<◌, ◌≤◌, Bool, false, [], length, replicate, slice_index_or, IfOk, IfErr, OnOk};
 ghost use Rattle.fancy_tree.specs.Pattern.{Pattern};
 ghost use Rattle.fancy_engine.specs.Code.{instrs_of};
-ghost use Rattle.fancy_engine.specs.Attempt.{pairs_in};
+ghost use Rattle.fancy_engine.specs.Attempt.{bits_in};
 ghost use Rattle.fancy_engine.specs.Compile.{IsCodeOf, AreEasy};
 ghost use Rattle.fancy_engine.specs.Search.{search};
 ghost use Rattle.fancy_input.specs.Requests.{effective_start};
@@ -53,20 +53,19 @@ impl Cache {
     }
 }
 
-/// Begins the table anew, with a bit for each pair of an instruction and a place that is searched. Where so many pairs
-/// are no `usize`, memory is refused.
+/// Begins the table anew, with the marks of each place that is searched. Where so many are no `usize`, memory is refused.
 fn begin_table(table: &mut Table, attempt: &Attempt) -> Result<(), SearchRefusal>
     requires ordered { attempt.now.first ≤ attempt.now.last }
     requires small { attempt.now.last < usize.MAX }
-    ensures clear { OnOk result (table.new ≡ replicate (pairs_in attempt.now) false) }
-    ensures small { OnOk result (pairs_in attempt.now < 2 ^ 64) }
+    ensures clear { OnOk result (table.new ≡ replicate (bits_in attempt.now) false) }
+    ensures small { OnOk result (bits_in attempt.now < 2 ^ 64) }
     ensures refused { IfErr result (λ e. e ≡ SearchRefusal.Memory) }
 {
     let places = attempt.last - attempt.first + 1;
-    let Some(pairs) = places.checked_mul(attempt.code.len()) else {
+    let Some(bits) = places.checked_mul(attempt.code.marks()) else {
         return Err(SearchRefusal::Memory);
     };
-    table.reset(pairs)?;
+    table.reset(bits)?;
     Ok(())
 }
 
@@ -210,7 +209,7 @@ pub fn search(
     let mut last_lines = LastLines::new(haystack);
     while place <= last {
         if is_match_boundary(options.on_boundaries, haystack, place) {
-            threads.begin(code.start, place, code.groups, usize::MAX)?;
+            threads.begin(code.start, place, code.groups)?;
             if follow(&attempt, threads, table, &mut last_lines, work)? {
                 let end = threads.place();
                 return Ok(Some(Found {

@@ -1,8 +1,6 @@
 //! The table of visited pairs.
 
 ghost use Rattle.std.specs.Prelude.{◌≡◌, ◌+◌, ◌-◌, ◌*◌, ◌<◌, ◌≤◌, ◌^◌, ◌++◌, [], List, Bool, true, false, not, length, replicate, OnOk, IfOk, slice_index_or, slice_set, vec_len, vec_capacity};
-ghost use Rattle.std.specs.Bool.{MatchBool};
-ghost use Rattle.fancy_engine.specs.TableMarks.{count_marks};
 ghost use Rattle.fancy_engine.specs.Table.{bits_of};
 
 use std::alloc::{AllocError, Global};
@@ -61,7 +59,7 @@ impl Table {
         requires { n < length self.old }
         ensures new { result ≡ not (slice_index_or self.old n false) }
         ensures after { self.new ≡ slice_set self.old n true }
-        ensures counted { MatchBool result (count_marks self.new ≡ count_marks self.old + 1) (self.new ≡ self.old) }
+        ensures same { result ≡ false → self.new ≡ self.old }
     {
         fill(&mut self.words, n / 64 + 1);
         let word = self.words[n / 64];

@@ -2,9 +2,7 @@
 
 ghost use Rattle.std.specs.Prelude.{◌≡◌, ◌≢◌, ◌+◌, ◌-◌, ◌<◌, ◌≤◌, ◌^◌, [], ◌∷◌, ◌++◌, List, Err, Option, length, take, drop, replicate, OnOk, IfOk, vec_len, slice_index, slice_index_or, slice_set};
 ghost use Rattle.fancy_engine.specs.Threads.{undone, empty_slot, Backed};
-ghost use Rattle.fancy_engine.specs.Work.{returns_of};
 
-use crate::refusal::SearchRefusal;
 use crate::slot::{Branch, EMPTY, Slot, Write};
 use crate::work::Work;
 use std::alloc::{AllocError, Global};
@@ -48,11 +46,10 @@ pub struct Threads {
     slots: Vec<Slot>,
     branches: Vec<Branch>,
     log: Vec<Write>,
-    most: usize,
 }
 
 impl Model for Threads {
-    ghost use Rattle.std.specs.Prelude.{◌≤◌, reverse, length, vec_len};
+    ghost use Rattle.std.specs.Prelude.{reverse, length};
     ghost use Rattle.fancy_engine.specs.Threads.{ThreadStack, saved_of, Ordered};
 
     ghost Value = { ThreadStack };
@@ -60,10 +57,9 @@ impl Model for Threads {
     ghost view = { λ w. record {
       current = record { at = w.at; place = w.place; slots = w.slots.items };
       saved = saved_of w.log.items w.slots.items (reverse w.branches.items);
-      most = w.most;
     } };
 
-    ghost invariant = { λ w. (vec_len w.branches ≤ w.most) × Ordered (length w.log.items) (reverse w.branches.items) };
+    ghost invariant = { λ w. Ordered (length w.log.items) (reverse w.branches.items) };
 }
 
 impl Threads {
@@ -71,7 +67,6 @@ impl Threads {
     pub fn new(alloc: Global) -> Threads
         ensures current { result.current ≡ record { at = 0; place = 0; slots = [] } }
         ensures saved { result.saved ≡ [] }
-        ensures most { result.most ≡ 0 }
     {
         Threads {
             at: 0,
@@ -79,29 +74,19 @@ impl Threads {
             slots: Vec::new(alloc),
             branches: Vec::new(alloc),
             log: Vec::new(alloc),
-            most: 0,
         }
     }
 
-    /// Begins anew with so many slots, none written, and lets at most so many branches be saved. The memory
-    /// that it has is kept.
-    pub fn begin(
-        &mut self,
-        at: usize,
-        place: usize,
-        count: usize,
-        most: usize,
-    ) -> Result<(), AllocError>
+    /// Begins anew with so many slots, none written. The memory that it has is kept.
+    pub fn begin(&mut self, at: usize, place: usize, count: usize) -> Result<(), AllocError>
         ensures begun { OnOk result (self.new.current
             ≡ record { at = at; place = place; slots = replicate count empty_slot }) }
         ensures saved { self.new.saved ≡ [] }
-        ensures most { self.new.most ≡ most }
     {
         self.branches.clear();
         self.log.clear();
         self.at = at;
         self.place = place;
-        self.most = most;
         begin_slots(&mut self.slots, count)
     }
 
@@ -133,7 +118,6 @@ impl Threads {
     pub fn go(&mut self, next: usize)
         ensures current { self.new.current ≡ record self.old.current { at = next } }
         ensures saved { self.new.saved ≡ self.old.saved }
-        ensures most { self.new.most ≡ self.old.most }
     {
         self.at = next;
     }
@@ -142,23 +126,16 @@ impl Threads {
     pub fn go_to(&mut self, next: usize, place: usize)
         ensures current { self.new.current ≡ record self.old.current { at = next; place = place } }
         ensures saved { self.new.saved ≡ self.old.saved }
-        ensures most { self.new.most ≡ self.old.most }
     {
         self.at = next;
         self.place = place;
     }
 
     /// Saves a branch at another instruction.
-    pub fn save(&mut self, at: usize) -> Result<(), SearchRefusal>
+    pub fn save(&mut self, at: usize) -> Result<(), AllocError>
         ensures current { self.new.current ≡ self.old.current }
         ensures saved { OnOk result (self.new.saved ≡ (record self.old.current { at = at }) ∷ self.old.saved) }
-        ensures refused { result ≢ Err SearchRefusal.Returns }
-        ensures full { result ≡ Err SearchRefusal.Choices → length self.old.saved ≡ self.old.most }
-        ensures most { self.new.most ≡ self.old.most }
     {
-        if self.branches.len() >= self.most {
-            return Err(SearchRefusal::Choices);
-        }
         let branch = Branch {
             at,
             place: self.place,
@@ -173,7 +150,6 @@ impl Threads {
         ensures current { OnOk result (self.new.current
             ≡ record self.old.current { slots = slice_set self.old.current.slots number slot }) }
         ensures saved { self.new.saved ≡ self.old.saved }
-        ensures most { self.new.most ≡ self.old.most }
     {
         if number >= self.slots.len() {
             return Ok(());
@@ -191,24 +167,18 @@ impl Threads {
         Ok(())
     }
 
-    /// Takes the branch that was saved last, which is one return, and goes back to what was written then.
-    pub fn back(&mut self, limit: usize, work: &mut Work) -> Result<bool, SearchRefusal>
-        requires { returns_of work.old ≤ limit }
-        ensures { Backed result limit self.old self.new work.old work.new }
+    /// Takes the branch that was saved last, which is one return, and goes back to what was written then. Returns whether there
+    /// was one.
+    pub fn back(&mut self, work: &mut Work) -> bool
+        ensures { Backed result self.old self.new work.old work.new }
     {
-        if self.branches.is_empty() {
-            return Ok(false);
-        }
-        if work.returns() >= limit {
-            return Err(SearchRefusal::Returns);
-        }
         let Some(branch) = self.branches.pop() else {
-            return Ok(false);
+            return false;
         };
-        work.count_return();
+        work.count_return_within();
         self.at = branch.at;
         self.place = branch.place;
         undo(&mut self.slots, &mut self.log, branch.log);
-        Ok(true)
+        true
     }
 }

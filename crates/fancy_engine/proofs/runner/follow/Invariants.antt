@@ -1,9 +1,9 @@
-use Rattle.std.proofs.Common.{ℕ, ◌≡◌, ◌+◌, ◌-◌, ◌*◌, ◌≤◌, ◌∷◌, length}
-use Rattle.fancy_engine.specs.Attempt.{KnownIn, AllFailedIn, RunningIn, first_accepted_in}
+use Rattle.std.proofs.Common.{ℕ, ◌≡◌, ◌+◌, ◌-◌, ◌*◌, ◌^◌, ◌<◌, ◌≤◌, ◌∷◌, length}
+use Rattle.fancy_engine.specs.Attempt.{KnownIn, AllFailedIn, RunningIn, first_accepted_in, left_in, ahead_in}
+use Rattle.fancy_engine.specs.Code.{due_of}
 use Rattle.fancy_engine.specs.Work.{steps_of, returns_of}
 use Rattle.fancy_input.specs.LastLines.{KnowsLastLines}
 use Rattle.fancy_engine.specs.Runner.{AllWithin}
-use Rattle.fancy_engine.specs.TableMarks.{count_marks}
 use Rattle.fancy_engine.proofs.runner.follow.Given as goal
 
 abbrev pub invariant-pairs : goal.invariant-pairs
@@ -12,13 +12,14 @@ invariant-pairs l = record {
       → RunningIn l.attempt kept deep (first_accepted_in l.attempt kept deep l.fn.threads) l.table l.threads;
   within : AllWithin l.attempt.first l.attempt.last (l.threads.current ∷ l.threads.saved);
   room : length l.table ≡ length l.fn.table;
-  ticks : steps_of l.work + count_marks l.fn.table ≡ steps_of l.fn.work + count_marks l.table;
+  spent : steps_of l.work + ahead_in l.attempt l.table (l.threads.current ∷ l.threads.saved)
+      ≤ steps_of l.fn.work + (due_of l.attempt.code.now l.fn.threads.current.at + left_in l.attempt l.fn.table);
   steps : steps_of l.fn.work ≤ steps_of l.work;
   returns : returns_of l.fn.work ≤ returns_of l.work;
-  paired : returns_of l.work + length l.threads.saved + steps_of l.fn.work ≤ returns_of l.fn.work + steps_of l.work;
-  free : l.threads.most ≡ l.fn.threads.most;
+  paired : returns_of l.work - returns_of l.fn.work ≤ steps_of l.work - steps_of l.fn.work;
+  tally : steps_of l.work < 2 ^ 64 - 1 → returns_of l.work + length l.threads.saved + steps_of l.fn.work ≤ returns_of l.fn.work + steps_of l.work;
   last_lines : KnowsLastLines l.attempt.haystack.now l.last_lines;
 }
 
 abbrev pub decreases-pairs : goal.decreases-pairs
-decreases-pairs l = 2 * (length l.table - count_marks l.table) + length l.threads.saved
+decreases-pairs l = 2 * ahead_in l.attempt l.table (l.threads.current ∷ l.threads.saved) + length l.threads.saved

@@ -1,37 +1,31 @@
-use Rattle.std.proofs.Common.{◌≡◌, length, Bool, true, false, Some, sym, ap, ◌∙◌, subst, arith, length-set}
-use Rattle.std.proofs.lemmas.Bool.{not-false}
-use Rattle.std.proofs.lemmas.Result.{err_from_is_err_and}
+use Rattle.std.proofs.Common.{◌≡◌, true, false, Some, sym, ap, ◌∙◌, subst}
 use Rattle.fancy_engine.specs.Threads.{Thread, state_of}
+use Rattle.fancy_engine.specs.Code.{marks_of}
 use Rattle.fancy_engine.specs.Attempt.{context_in, instrs_in, may_end_in}
 use Rattle.fancy_engine.proofs.RunnerSteps.{failed, past_end}
-use Rattle.fancy_engine.proofs.TableMarksLemmas.{marked_le}
-use Rattle.fancy_engine.proofs.RunnerLemmas.{run_seen, run_dead, run_good, run_bad, run_on, same_table, adds_pair}
+use Rattle.fancy_engine.proofs.RunnerLemmas.{run_seen, run_dead, run_good, run_bad, run_on, same_table, adds_mark}
 use Rattle.fancy_engine.proofs.runner.visit.Goals as goal
 
-pub returns-then-at-count-clause-visited : goal.returns-then-at-count-clause-visited
-returns-then-at-count-clause-visited c kept deep goal r =
-    run_dead (may_end_in c.args.attempt.now) (context_in c.args.attempt.now) c.args.attempt.now.first c.args.attempt.now.last (instrs_in c.args.attempt.now) c.requires.easy deep kept goal _ _ c.args.threads.now.current _ r (same_table (may_end_in c.args.attempt.now) (context_in c.args.attempt.now) c.args.attempt.now.first c.args.attempt.now.last (instrs_in c.args.attempt.now) c.requires.easy deep c.args.table.now _ _)
-    (failed (context_in c.args.attempt.now) c.args.attempt.now.last (instrs_in c.args.attempt.now) deep kept c.args.threads.now.current r.known (past_end (instrs_in c.args.attempt.now) c.args.threads.now.current.at (rw (c.at-at.ensures, c.len-count.ensures) at c.if-at-count.true)))
+pub returns-then-at-len-clause-visited : goal.returns-then-at-len-clause-visited
+returns-then-at-len-clause-visited c kept deep goal r =
+    run_dead (may_end_in c.args.attempt.now) (context_in c.args.attempt.now) c.args.attempt.now.first c.args.attempt.now.last (instrs_in c.args.attempt.now) c.requires.easy deep kept goal _ _ c.args.threads.now.current _ r (same_table (may_end_in c.args.attempt.now) (context_in c.args.attempt.now) c.args.attempt.now.first c.args.attempt.now.last (instrs_in c.args.attempt.now) c.requires.easy deep (marks_of c.args.attempt.now.code.now c.args.table.now) _ _)
+    (failed (context_in c.args.attempt.now) c.args.attempt.now.last (instrs_in c.args.attempt.now) deep kept c.args.threads.now.current r.known (past_end (instrs_in c.args.attempt.now) c.args.threads.now.current.at (rw (c.at-at.ensures, c.len.ensures) at c.if-at-len.true)))
 
-pub returns-then-not-mark-clause-visited : goal.returns-then-not-mark-clause-visited
-returns-then-not-mark-clause-visited c kept deep goal r =
-    rw c.if-not-mark.ensures.counted
+pub returns-then-not-is_new-clause-visited : goal.returns-then-not-is_new-clause-visited
+returns-then-not-is_new-clause-visited c kept deep goal r =
+    rw (c.is_new.ensures.same c.if-not-is_new.true)
     (run_seen (may_end_in c.args.attempt.now) (context_in c.args.attempt.now) c.args.attempt.now.first c.args.attempt.now.last (instrs_in c.args.attempt.now) c.requires.easy deep kept goal _ c.args.threads.now.current _ r
-    ((rw (c.at-at.ensures, c.len-count.ensures) at c.if-at-count.false, c.requires.within.0, c.requires.within.1), not-false _ (sym (rw (c.at-at.ensures, c.place.ensures, c.len-count.ensures) at c.if-not-mark.ensures.new))))
-
-pub step-requires-clause-room : goal.step-requires-clause-room
-step-requires-clause-room c =
-    omega (arith, c.requires.ticks, marked_le c.mark.new.self, c.if-not-mark.ensures.counted, ap length c.mark.ensures.after, length-set {A = Bool})
+    ((rw (c.at-at.ensures, c.len.ensures) at c.if-at-len.false, c.requires.within.0, c.requires.within.1), rw (c.at-at.ensures, c.place.ensures) at (c.is_new.ensures.seen c.if-not-is_new.true)))
 
 pub returns-in-On-clause-visited : goal.returns-in-On-clause-visited
 returns-in-On-clause-visited c kept deep goal r =
-    run_on (may_end_in c.args.attempt.now) (context_in c.args.attempt.now) c.args.attempt.now.first c.args.attempt.now.last (instrs_in c.args.attempt.now) c.requires.easy deep kept goal _ _ c.args.threads.now.current c.step.new.threads.current _ _ r (adds_pair (may_end_in c.args.attempt.now) (context_in c.args.attempt.now) c.args.attempt.now.first c.args.attempt.now.last (instrs_in c.args.attempt.now) c.requires.easy deep _ _ c.args.threads.now.current.at c.args.threads.now.current.place (rw (c.at-at.ensures, c.len-count.ensures) at c.if-at-count.false, c.requires.within.0, c.requires.within.1) (rw (c.at-at.ensures, c.place.ensures, c.len-count.ensures) at c.mark.ensures.after))
+    run_on (may_end_in c.args.attempt.now) (context_in c.args.attempt.now) c.args.attempt.now.first c.args.attempt.now.last (instrs_in c.args.attempt.now) c.requires.easy deep kept goal _ _ c.args.threads.now.current c.step.new.threads.current _ _ r (adds_mark (may_end_in c.args.attempt.now) (context_in c.args.attempt.now) c.args.attempt.now.first c.args.attempt.now.last (instrs_in c.args.attempt.now) c.requires.easy deep _ _ c.args.threads.now.current.at c.args.threads.now.current.place c.requires.within.0 (rw (c.at-at.ensures, c.place.ensures) at c.is_new.ensures.adds))
     (rw c.in-On.is at (c.in_ok-step.ensures.stepped kept deep r.known))
 
 pub returns-in-Dead-clause-visited : goal.returns-in-Dead-clause-visited
 returns-in-Dead-clause-visited c kept deep goal r =
     let h = rw c.in-Dead.is at (c.in_ok-step.ensures.stepped kept deep r.known) in
-    rw h.1 (run_dead (may_end_in c.args.attempt.now) (context_in c.args.attempt.now) c.args.attempt.now.first c.args.attempt.now.last (instrs_in c.args.attempt.now) c.requires.easy deep kept goal _ _ c.args.threads.now.current _ r (adds_pair (may_end_in c.args.attempt.now) (context_in c.args.attempt.now) c.args.attempt.now.first c.args.attempt.now.last (instrs_in c.args.attempt.now) c.requires.easy deep _ _ c.args.threads.now.current.at c.args.threads.now.current.place (rw (c.at-at.ensures, c.len-count.ensures) at c.if-at-count.false, c.requires.within.0, c.requires.within.1) (rw (c.at-at.ensures, c.place.ensures, c.len-count.ensures) at c.mark.ensures.after)) h.0)
+    rw h.1 (run_dead (may_end_in c.args.attempt.now) (context_in c.args.attempt.now) c.args.attempt.now.first c.args.attempt.now.last (instrs_in c.args.attempt.now) c.requires.easy deep kept goal _ _ c.args.threads.now.current _ r (adds_mark (may_end_in c.args.attempt.now) (context_in c.args.attempt.now) c.args.attempt.now.first c.args.attempt.now.last (instrs_in c.args.attempt.now) c.requires.easy deep _ _ c.args.threads.now.current.at c.args.threads.now.current.place c.requires.within.0 (rw (c.at-at.ensures, c.place.ensures) at c.is_new.ensures.adds)) h.0)
 
 pub returns-then-is_match_boundary-clause-visited : goal.returns-then-is_match_boundary-clause-visited
 returns-then-is_match_boundary-clause-visited c kept deep goal r =
@@ -44,12 +38,7 @@ pub returns-else-is_match_boundary-clause-visited : goal.returns-else-is_match_b
 returns-else-is_match_boundary-clause-visited c kept deep goal r =
     let h = rw c.in-Found.is at (c.in_ok-step.ensures.stepped kept deep r.known) in
     let bad = subst (λ (x : Thread). may_end_in c.args.attempt.now x.place ≡ false) h.1 (rw c.place-in-Found.ensures at (sym c.if-is_match_boundary.ensures)) in
-    rw h.2 (run_bad (may_end_in c.args.attempt.now) (context_in c.args.attempt.now) c.args.attempt.now.first c.args.attempt.now.last (instrs_in c.args.attempt.now) c.requires.easy deep kept goal _ _ c.args.threads.now.current _ r (adds_pair (may_end_in c.args.attempt.now) (context_in c.args.attempt.now) c.args.attempt.now.first c.args.attempt.now.last (instrs_in c.args.attempt.now) c.requires.easy deep _ _ c.args.threads.now.current.at c.args.threads.now.current.place (rw (c.at-at.ensures, c.len-count.ensures) at c.if-at-count.false, c.requires.within.0, c.requires.within.1) (rw (c.at-at.ensures, c.place.ensures, c.len-count.ensures) at c.mark.ensures.after)) h.0 bad)
+    rw h.2 (run_bad (may_end_in c.args.attempt.now) (context_in c.args.attempt.now) c.args.attempt.now.first c.args.attempt.now.last (instrs_in c.args.attempt.now) c.requires.easy deep kept goal _ _ c.args.threads.now.current _ r (adds_mark (may_end_in c.args.attempt.now) (context_in c.args.attempt.now) c.args.attempt.now.first c.args.attempt.now.last (instrs_in c.args.attempt.now) c.requires.easy deep _ _ c.args.threads.now.current.at c.args.threads.now.current.place c.requires.within.0 (rw (c.at-at.ensures, c.place.ensures) at c.is_new.ensures.adds)) h.0 bad)
 
-pub returns-in_err-step-clause-full : goal.returns-in_err-step-clause-full
-returns-in_err-step-clause-full c e =
-    let gave = err_from_is_err_and c.from_residual.result c.from_residual.ensures.1 in
-    let is = gave.1 in
-    let same = gave.2 in
-    let f = c.in_err-step.ensures.full cc in
-    omega (arith, f, c.requires.free, c.requires.few, c.requires.ticks, marked_le c.mark.new.self, c.if-not-mark.ensures.counted, ap length c.mark.ensures.after, length-set {A = Bool})
+pub step-requires-clause-easy : goal.step-requires-clause-easy
+step-requires-clause-easy c = c.requires.easy c.args.threads.now.current.at

@@ -1,14 +1,14 @@
 use Rattle.std.proofs.Common.{◌+◌, ◌-◌, ℕ, Bool, true, false, Some, length, sym, refl, ap, ap₂, ◌∙◌, arith}
 use Rattle.std.proofs.lemmas.List.{length-replicate}
 use Rattle.fancy_engine.specs.declared.reading.SuppressedEnds.{SuppressedEnds}
-use Rattle.fancy_engine.specs.Code.{code_len}
+use Rattle.fancy_engine.specs.Threads.{Thread}
+use Rattle.fancy_engine.specs.Code.{instrs_of, code_len, due_of, left_of}
 use Rattle.fancy_engine.specs.Queries.{query_of, unfiltered}
 use Rattle.fancy_engine.specs.Reading.{search_context}
 use Rattle.fancy_engine.specs.Search.{answer_from}
-use Rattle.fancy_engine.specs.TableMarks.{count_marks}
 use Rattle.fancy_engine.specs.Work.{steps_of, returns_of}
-use Rattle.fancy_engine.proofs.TableMarksLemmas.{marked_le, none_marked}
-use Rattle.fancy_engine.proofs.RunnerSearch.{deep, attempt_known, attempt_answer, search_hit, search_miss, search_skip, search_over, positions_none, unmarked_table, steps_added, room_for_pairs}
+use Rattle.fancy_engine.proofs.MarkingLemmas.{marks_none, first_ticks, later_starts}
+use Rattle.fancy_engine.proofs.RunnerSearch.{deep, attempt_known, attempt_answer, search_hit, search_miss, search_skip, search_over, positions_none, unmarked_table, steps_within}
 use Rattle.fancy_engine.proofs.OpenLemmas.{openings_passed}
 use Rattle.fancy_engine.proofs.search.search.Goals as goal
 use Rattle.fancy_engine.proofs.search.search.Goals.{then-is_match_boundary+in_ok-begin+in_ok-follow+else-branch, else-is_match_boundary}
@@ -31,16 +31,12 @@ loop-place-init c = record {
   passed = c.next_opening-place.ensures.passed;
   starts = λ le none. c.next_opening-place.ensures.some le (λ k low high. none k (omega (arith, low, c.effective_start-first.ensures)) (omega (arith, high, c.last_position-last.ensures.inside)));
   idle = λ none. refl;
-  failed = λ p is q i seen hit. unmarked_table c.begin_table.new.table _ c.in_ok-begin_table.ensures.clear _ seen.1;
+  failed = λ p is q i seen hit. marks_none c.args.code.now.marking.numbers.items c.args.code.now.marking.weights.items c.args.code.now.marking.width c.begin_table.new.table (unmarked_table c.begin_table.new.table _ c.in_ok-begin_table.ensures.clear) q (i - c.effective_start-first.result) seen.1;
   room = ap length c.in_ok-begin_table.ensures.clear ∙ length-replicate _ false;
   small = omega (arith, ap length c.in_ok-begin_table.ensures.clear, length-replicate {A = Bool}, c.in_ok-begin_table.ensures.small);
-  fits = omega (
-    arith,
-    ap length c.in_ok-begin_table.ensures.clear,
-    length-replicate {A = Bool},
-    room_for_pairs (steps_of c.args.work.now) c.args.request c.effective_start-first.result (code_len c.args.code.now) c.requires.room c.in_ok-begin_table.ensures.small c.effective_start-first.ensures (omega arith),
-  );
-  ticks = omega (arith, none_marked c.begin_table.new.table _ c.in_ok-begin_table.ensures.clear);
+  steps = omega arith;
+  spent = (let first = first_ticks (instrs_of c.args.code.now) c.args.code.now.marking.numbers.items c.args.code.now.marking.weights.items c.args.code.now.marking.width c.args.code.now.start (c.args.request.range_end - c.effective_start-first.result + 1) (c.last_position-last.result + 1 - c.next_opening-place.result) c.begin_table.new.table c.args.code.now.paid (omega (arith, c.last_position-last.ensures.inside, c.next_opening-place.ensures.passed)) in
+      omega (arith, first));
   returns = omega arith;
   paired = omega arith;
   last_lines = c.new-last_lines.ensures;
@@ -71,10 +67,12 @@ loop-place-preserved c =
         failed = λ p is. rw w.table-is (w.in_ok-follow.ensures.failed c.loop-place.place (deep (query_of p c.args.code.now (unfiltered c.args.options) c.args.haystack.now c.args.request true) c.args.code.now is refl refl refl refl c.requires.inside (search_context c.args.haystack.now c.args.code.now.meaning c.suppressed_ends.result c.effective_start-first.result) (Some c.effective_start-first.result) (ap (λ (s : SuppressedEnds). search_context c.args.haystack.now c.args.code.now.meaning s c.effective_start-first.result) c.suppressed_ends.ensures)) (attempt_known (query_of p c.args.code.now (unfiltered c.args.options) c.args.haystack.now c.args.request true) c.args.code.now is refl refl refl refl c.requires.inside (search_context c.args.haystack.now c.args.code.now.meaning c.suppressed_ends.result c.effective_start-first.result) (Some c.effective_start-first.result) (ap (λ (s : SuppressedEnds). search_context c.args.haystack.now c.args.code.now.meaning s c.effective_start-first.result) c.suppressed_ends.ensures) c.requires.easy c.loop-place.place w.begin.new.self.current w.in_ok-begin.ensures.begun (omega (arith, c.last_position-last.ensures.inside, c.loop-place-test.true))) (c.loop-place.invariant.failed p is) w.if-branch.false);
         room = ap length w.table-is ∙ w.follow.ensures.room ∙ c.loop-place.invariant.room;
         small = omega (arith, ap length w.table-is, w.follow.ensures.room, c.loop-place.invariant.small);
-        fits = omega (arith, ap length w.table-is, w.follow.ensures.room, c.loop-place.invariant.fits);
-        ticks = omega (arith, ap count_marks w.table-is, ap steps_of w.work-is, w.follow.ensures.ticks, c.loop-place.invariant.ticks);
+        steps = omega (arith, ap steps_of w.work-is, w.follow.ensures.steps, c.loop-place.invariant.steps);
+        spent = (let at = ap (λ (t : Thread). due_of c.args.code.now t.at) w.in_ok-begin.ensures.begun in
+            let fewer = later_starts (c.last_position-last.result + 1 - c.loop-place.place) (c.last_position-last.result + 1 - c.next_opening-place-in-loop-place.result) (due_of c.args.code.now c.args.code.now.start) (omega (arith, c.next_opening-place-in-loop-place.ensures.passed, c.loop-place-test.true)) in
+            omega (arith, ap (left_of c.args.code.now (c.args.request.range_end - c.effective_start-first.result + 1)) w.table-is, ap steps_of w.work-is, w.in_ok-follow.ensures.spent, at, fewer, c.loop-place.invariant.spent));
         returns = omega (arith, ap returns_of w.work-is, w.follow.ensures.returns, c.loop-place.invariant.returns);
-        paired = omega (arith, ap returns_of w.work-is, ap steps_of w.work-is, w.follow.ensures.paired, w.follow.ensures.steps, w.follow.ensures.returns, c.loop-place.invariant.paired);
+        paired = omega (arith, ap returns_of w.work-is, ap steps_of w.work-is, w.follow.ensures.paired, w.follow.ensures.steps, w.follow.ensures.returns, c.loop-place.invariant.steps, c.loop-place.invariant.returns, c.loop-place.invariant.paired);
         last_lines = rw w.last_lines-is w.follow.ensures.last_lines;
       }
       | else-is_match_boundary w ↦ record {
@@ -88,8 +86,9 @@ loop-place-preserved c =
         failed = λ p is. rw w.table-is (c.loop-place.invariant.failed p is);
         room = ap length w.table-is ∙ c.loop-place.invariant.room;
         small = omega (arith, ap length w.table-is, c.loop-place.invariant.small);
-        fits = omega (arith, ap length w.table-is, c.loop-place.invariant.fits);
-        ticks = omega (arith, ap count_marks w.table-is, ap steps_of w.work-is, c.loop-place.invariant.ticks);
+        steps = omega (arith, ap steps_of w.work-is, c.loop-place.invariant.steps);
+        spent = (let fewer = later_starts (c.last_position-last.result + 1 - c.loop-place.place) (c.last_position-last.result + 1 - c.next_opening-place-in-loop-place.result) (due_of c.args.code.now c.args.code.now.start) (omega (arith, c.next_opening-place-in-loop-place.ensures.passed, c.loop-place-test.true)) in
+            omega (arith, ap (left_of c.args.code.now (c.args.request.range_end - c.effective_start-first.result + 1)) w.table-is, ap steps_of w.work-is, fewer, c.loop-place.invariant.spent));
         returns = omega (arith, ap returns_of w.work-is, c.loop-place.invariant.returns);
         paired = omega (arith, ap returns_of w.work-is, ap steps_of w.work-is, c.loop-place.invariant.paired);
         last_lines = rw w.last_lines-is c.loop-place.invariant.last_lines;
@@ -101,26 +100,23 @@ returns-clause-answer c p on is = sym (c.loop-place.invariant.left p on is ∙ s
 
 pub returns-in_err-begin-clause-bounded : goal.returns-in_err-begin-clause-bounded
 returns-in_err-begin-clause-bounded c =
-    steps_added _ _ (count_marks c.loop-place.table) c.args.request c.effective_start-first.result _ c.loop-place.invariant.ticks
-    (omega (arith, c.loop-place.invariant.room, marked_le c.loop-place.table)) c.effective_start-first.ensures (omega arith)
-
-pub follow-requires-clause-ticks : goal.follow-requires-clause-ticks
-follow-requires-clause-ticks c = omega (arith, c.loop-place.invariant.ticks, c.loop-place.invariant.fits, marked_le c.loop-place.table)
+    steps_within (steps_of c.args.work.now) (steps_of c.loop-place.work) c.args.request c.effective_start-first.result (code_len c.args.code.now) (omega (arith, c.loop-place.invariant.spent)) c.effective_start-first.ensures (omega arith)
 
 pub returns-in_err-follow-clause-bounded : goal.returns-in_err-follow-clause-bounded
 returns-in_err-follow-clause-bounded c =
-    steps_added _ _ (count_marks c.follow.new.table) c.args.request c.effective_start-first.result _ (omega (arith, c.follow.ensures.ticks, c.loop-place.invariant.ticks))
-    (omega (arith, c.follow.ensures.room, c.loop-place.invariant.room, marked_le c.follow.new.table)) c.effective_start-first.ensures (omega arith)
+    let at = ap (λ (t : Thread). due_of c.args.code.now t.at) c.in_ok-begin.ensures.begun in
+    let fewer = later_starts (c.last_position-last.result + 1 - c.loop-place.place) (c.last_position-last.result + 1 - (c.loop-place.place + 1)) (due_of c.args.code.now c.args.code.now.start) (omega (arith, c.loop-place-test.true)) in
+    steps_within (steps_of c.args.work.now) (steps_of c.follow.new.work) c.args.request c.effective_start-first.result (code_len c.args.code.now) (omega (arith, c.follow.ensures.bounded, at, fewer, c.loop-place.invariant.spent)) c.effective_start-first.ensures (omega arith)
 
 pub returns-then-branch-clause-bounded : goal.returns-then-branch-clause-bounded
 returns-then-branch-clause-bounded c =
-    steps_added _ _ (count_marks c.follow.new.table) c.args.request c.effective_start-first.result _ (omega (arith, c.follow.ensures.ticks, c.loop-place.invariant.ticks))
-    (omega (arith, c.follow.ensures.room, c.loop-place.invariant.room, marked_le c.follow.new.table)) c.effective_start-first.ensures (omega arith)
+    let at = ap (λ (t : Thread). due_of c.args.code.now t.at) c.in_ok-begin.ensures.begun in
+    let fewer = later_starts (c.last_position-last.result + 1 - c.loop-place.place) (c.last_position-last.result + 1 - (c.loop-place.place + 1)) (due_of c.args.code.now c.args.code.now.start) (omega (arith, c.loop-place-test.true)) in
+    steps_within (steps_of c.args.work.now) (steps_of c.follow.new.work) c.args.request c.effective_start-first.result (code_len c.args.code.now) (omega (arith, c.follow.ensures.bounded, at, fewer, c.loop-place.invariant.spent)) c.effective_start-first.ensures (omega arith)
 
 pub returns-clause-bounded : goal.returns-clause-bounded
 returns-clause-bounded c =
-    steps_added _ _ (count_marks c.loop-place.table) c.args.request c.effective_start-first.result _ c.loop-place.invariant.ticks
-    (omega (arith, c.loop-place.invariant.room, marked_le c.loop-place.table)) c.effective_start-first.ensures (omega arith)
+    steps_within (steps_of c.args.work.now) (steps_of c.loop-place.work) c.args.request c.effective_start-first.result (code_len c.args.code.now) (omega (arith, c.loop-place.invariant.spent)) c.effective_start-first.ensures (omega arith)
 
 pub returns-in_err-begin-clause-idle : goal.returns-in_err-begin-clause-idle
 returns-in_err-begin-clause-idle c none = absurd (c.loop-place.invariant.starts (omega (arith, c.loop-place-test.true)) none)

@@ -1,7 +1,7 @@
-use Rattle.std.proofs.Common.{◌≡◌, ◌+◌, ◌-◌, ◌<◌, ◌≤◌, ◌^◌, Bool, length}
+use Rattle.std.proofs.Common.{◌≡◌, ◌+◌, ◌-◌, ◌*◌, ◌<◌, ◌≤◌, ◌^◌, Bool, length}
 use Rattle.fancy_tree.specs.Pattern.{Pattern}
-use Rattle.fancy_engine.specs.Attempt.{AllFailedIn, pairs_in}
-use Rattle.fancy_engine.specs.TableMarks.{count_marks}
+use Rattle.fancy_engine.specs.Attempt.{AllFailedIn, places_in, bits_in, left_in}
+use Rattle.fancy_engine.specs.Code.{code_len, due_of}
 use Rattle.fancy_engine.specs.Compile.{IsCodeOf, depth}
 use Rattle.fancy_engine.specs.Queries.{query_of, unfiltered}
 use Rattle.fancy_input.specs.LastLines.{KnowsLastLines}
@@ -19,12 +19,13 @@ invariant-loop-place l = record {
   starts : l.place ≤ l.last → ¬ NoneMayStart l.code.start_bytes l.haystack l.fn.request.range_end (effective_start l.fn.request) (l.fn.request.range_end + 1);
   idle : NoneMayStart l.code.start_bytes l.haystack l.fn.request.range_end (effective_start l.fn.request) (l.fn.request.range_end + 1) → steps_of l.work ≡ steps_of l.fn.work;
   failed : (p : Pattern) → IsCodeOf p l.code → AllFailedIn l.attempt (depth (length l.haystack) p + 1) l.table;
-  room : length l.table ≡ pairs_in l.attempt;
+  room : length l.table ≡ bits_in l.attempt;
   small : length l.table < 2 ^ 64;
-  fits : steps_of l.fn.work + length l.table < 2 ^ 64;
-  ticks : steps_of l.work ≡ steps_of l.fn.work + count_marks l.table;
+  steps : steps_of l.fn.work ≤ steps_of l.work;
+  spent : steps_of l.work + left_in l.attempt l.table + (l.last + 1 - l.place) * due_of l.code l.code.start
+      ≤ steps_of l.fn.work + places_in l.attempt * code_len l.code;
   returns : returns_of l.fn.work ≤ returns_of l.work;
-  paired : returns_of l.work + steps_of l.fn.work ≤ returns_of l.fn.work + steps_of l.work;
+  paired : returns_of l.work - returns_of l.fn.work ≤ steps_of l.work - steps_of l.fn.work;
   last_lines : KnowsLastLines l.haystack l.last_lines;
 }
 
