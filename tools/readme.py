@@ -14,9 +14,14 @@ from pathlib import Path
 
 ROOT = Path(__file__).resolve().parent.parent
 PAGES = [ROOT / "README.md", ROOT / "crates/fancy_regex/CALLING.md"]
-TESTS = [ROOT / "crates/fancy_tests/src/readme.rt", ROOT / "crates/fancy_text_tests/src/readme.rt"]
+TESTS = [ROOT / "crates/fancy_tests/src", ROOT / "crates/fancy_text_tests/src"]
 PROGRAM = ROOT / "crates/dates"
-SOURCES = TESTS + [ROOT / "crates/fancy_tests/src/calling.rt"] + sorted(PROGRAM.glob("src/*.rt"))
+SOURCES = [
+    *[folder / "examples.rt" for folder in TESTS],
+    TESTS[0] / "calling.rt",
+    TESTS[0] / "readme.rt",
+    *sorted(PROGRAM.glob("src/*.rt")),
+]
 
 BLOCK = re.compile(r"^```(\w+)\n(.*?)^```$", re.M | re.S)
 FUNCTION = re.compile(r"^(?:///[^\n]*\n|#\[[^\n]*\]\n)*(?:pub )?fn (\w+)\b.*?^}\n", re.M | re.S)

@@ -23,6 +23,8 @@ mod errors;
 #[cfg(test)]
 mod escapes;
 #[cfg(test)]
+mod examples;
+#[cfg(test)]
 mod filters;
 #[cfg(test)]
 mod hard;
