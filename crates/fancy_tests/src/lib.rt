@@ -9,6 +9,8 @@ mod builders;
 #[cfg(test)]
 mod byte_sets;
 #[cfg(test)]
+mod calling;
+#[cfg(test)]
 mod classes;
 #[cfg(test)]
 mod conditionals;
@@ -20,6 +22,8 @@ mod engines;
 mod errors;
 #[cfg(test)]
 mod escapes;
+#[cfg(test)]
+mod examples;
 #[cfg(test)]
 mod filters;
 #[cfg(test)]

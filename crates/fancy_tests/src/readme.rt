@@ -1,4 +1,4 @@
-//! The examples of the README on searches, options and refusals. The rows of each table are in its order.
+//! Each call that the README names, on searches, options and refusals; and the rows of its table of patterns.
 
 use crate::asking::{
     ASCII_TEXT, BYTES, BytesRow, CHARACTERS, CountRow, LONGEST, NOT_EMPTY, OverrideRow, SEEKING,

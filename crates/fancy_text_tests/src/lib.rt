@@ -7,6 +7,8 @@ mod asking;
 #[cfg(test)]
 mod captures;
 #[cfg(test)]
+mod examples;
+#[cfg(test)]
 mod hard;
 #[cfg(test)]
 mod iteration;

@@ -1,5 +1,4 @@
-//! The examples of the README on groups, lists, pieces, replacement and templates. The tests, and the rows of each table,
-//! are in its order.
+//! Each call that the README names, on groups, lists, pieces, replacement and templates.
 
 use crate::asking::Group::{Named, Numbered};
 use crate::asking::{

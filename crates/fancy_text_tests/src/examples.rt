@@ -1,0 +1,80 @@
+//! The functions that the README shows, on groups, lists, pieces, replacement and templates. `tools/readme.py` compares them with it.
+
+use crate::asking::{check, check_answer};
+use fancy_regex::{Captures, Expander, Regex, ReplaceFn, Replacer, Result};
+use std::alloc::Global;
+use std::borrow::CowStr;
+
+/// The year and the month of the first date in the text.
+fn year_and_month<'t>(alloc: Global, text: &'t str) -> Result<Option<(&'t str, &'t str)>> {
+    let date = Regex::new(alloc, "(?<year>\\d{4})-(?<month>\\d\\d)")?;
+    let Some(captures) = date.captures(text)? else {
+        return Ok(None);
+    };
+    match (captures.name("year"), captures.get(2)) {
+        (Some(year), Some(month)) => Ok(Some((year.as_str(), month.as_str()))),
+        _ => Ok(None),
+    }
+}
+
+/// The numbers in the text, in order.
+fn numbers<'t>(alloc: Global, text: &'t str) -> Result<Vec<&'t str>> {
+    let number = Regex::new(alloc, "\\d+")?;
+    let mut numbers = Vec::new(alloc);
+    for found in number.find_iter(text) {
+        numbers.push(found?.as_str())?;
+    }
+    Ok(numbers)
+}
+
+/// The fields of the line, without the blanks around its commas.
+fn fields<'t>(alloc: Global, line: &'t str) -> Result<Vec<&'t str>> {
+    let comma = Regex::new(alloc, "\\s*,\\s*")?;
+    comma.split(line).try_collect(alloc)
+}
+
+/// The text with the day first in each date.
+fn day_first<'t>(alloc: Global, text: &'t str) -> Result<CowStr<'t, Global>> {
+    let date = Regex::new(alloc, "(\\d{4})-(\\d\\d)-(\\d\\d)")?;
+    date.replace_all(text, "$3.$2.$1")
+}
+
+/// The text with a number before each line, from 1 on.
+fn with_line_numbers<'t>(alloc: Global, text: &'t str) -> Result<CowStr<'t, Global>> {
+    let line = Regex::new(alloc, "(?m)^")?;
+    let mut count = 0u32;
+    let mut numbering = ReplaceFn::new(|_captures: &Captures<'_, &str>| {
+        count = count.wrapping_add(1);
+        Ok(format!(in alloc; "{count} ")?)
+    });
+    line.replace_all(text, numbering.by_ref())
+}
+
+/// Fails where the template names a group that a date does not have.
+fn check_template(alloc: Global, template: &str) -> Result<()> {
+    let date = Regex::new(alloc, "(?<year>\\d{4})-(?<month>\\d\\d)")?;
+    Expander::default().check(template, &date)
+}
+
+#[test]
+fn examples(rt: HostRuntime) {
+    let alloc = rt.alloc();
+    let found = year_and_month(alloc, "on 2026-11").expect(&rt, "a date");
+    check(&rt, found == Some(("2026", "11")), "a date");
+    let found = numbers(alloc, "3 and 14").expect(&rt, "numbers");
+    check(&rt, found.as_slice() == ["3", "14"].as_slice(), "numbers");
+    let found = fields(alloc, "a , b,c").expect(&rt, "fields");
+    check(
+        &rt,
+        found.as_slice() == ["a", "b", "c"].as_slice(),
+        "fields",
+    );
+    check_answer(&rt, day_first(alloc, "on 2026-11-24"), "on 24.11.2026");
+    check_answer(&rt, with_line_numbers(alloc, "a\nb"), "1 a\n2 b");
+    check(
+        &rt,
+        check_template(alloc, "${month}.$year").is_ok(),
+        "a template",
+    );
+    check(&rt, check_template(alloc, "$day").is_err(), "another");
+}
