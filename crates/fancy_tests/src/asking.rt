@@ -25,7 +25,7 @@ pub(crate) use spans::{
     check_may_search, check_part, check_read, check_searches, check_spans, check_texts, first_span,
     span_found,
 };
-pub(crate) use tokens::{TokenRow, TokensEnd, check_tokens, check_tokens_of};
+pub(crate) use tokens::{TokenRow, TokensEnd, check_tokens};
 pub(crate) use verdicts::{
     KindRow, Verdict, VerdictRow, check_kinds, check_verdict, check_verdicts, is_given_up,
 };

@@ -1,6 +1,6 @@
 //! The functions that the README shows, on searches, options and refusals. `tools/readme.py` compares them with it.
 
-use crate::asking::check;
+use crate::asking::{check, is_given_up};
 use fancy_regex::{
     BytesMode, Error, Regex, RegexInput, RegexOptionsBuilder, RegexSet, Result, RuntimeError,
 };
@@ -87,6 +87,32 @@ fn first_token(alloc: Global, text: &str) -> Result<Option<(usize, usize)>> {
     }
 }
 
+/// The tokens of a line of a small language, each with its kind and its text. The kinds are keywords 0, names 1, numbers 2,
+/// strings 3, operators 4, brackets and separators 5, comments 6 and blanks 7.
+fn tokens_of_line<'t>(alloc: Global, line: &'t str) -> Result<Vec<(usize, &'t str)>> {
+    let kinds = [
+        "let|if|else|while",
+        "[A-Za-z_]\\w*",
+        "\\d+(?:\\.\\d+)?",
+        "\"(?:[^\"\\\\]|\\\\.)*\"",
+        "[-+*/<>=!]=?",
+        "[(){};,]",
+        "//.*",
+        "\\s+",
+    ];
+    let lexer = RegexSet::new(alloc, &kinds)?;
+    let input = RegexInput::new(line);
+    let mut tokens = Vec::new(alloc);
+    if !lexer.can_search(&input) {
+        return Ok(tokens);
+    }
+    for token in lexer.tokens(input) {
+        let token = token?;
+        tokens.push((token.pattern(), token.as_str()))?;
+    }
+    Ok(tokens)
+}
+
 #[test]
 fn examples(rt: HostRuntime) {
     let alloc = rt.alloc();
@@ -106,4 +132,30 @@ fn examples(rt: HostRuntime) {
     check(&rt, place == Some(4), "a fault");
     let token = first_token(alloc, "42 is").expect(&rt, "a token");
     check(&rt, token == Some((1, 2)), "a token");
+}
+
+/// The tokens of a line.
+const TOKENS: &[(usize, &str)] = &[
+    (0, "let"),
+    (7, " "),
+    (1, "x"),
+    (7, " "),
+    (4, "="),
+    (7, " "),
+    (2, "2.5"),
+    (5, ";"),
+    (7, " "),
+    (6, "// half"),
+];
+
+#[test]
+fn a_lexer(rt: HostRuntime) {
+    let tokens = tokens_of_line(rt.alloc(), "let x = 2.5; // half").expect(&rt, "a line");
+    check(&rt, tokens.len() == TOKENS.len(), "how many tokens");
+    for (&(kind, text), &(wanted_kind, wanted_text)) in tokens.iter().zip(TOKENS) {
+        check(&rt, kind == wanted_kind && text == wanted_text, text);
+    }
+    let refused = tokens_of_line(rt.alloc(), "x ? y");
+    let is_unmatched = is_given_up(&refused, RuntimeError::Unmatched(2));
+    check(&rt, is_unmatched, "no token at 2");
 }

@@ -2,10 +2,9 @@
 
 use crate::asking::{
     ASCII_TEXT, BYTES, BytesRow, CHARACTERS, CountRow, LONGEST, NOT_EMPTY, OverrideRow, SEEKING,
-    SearchRow, Settings, SpanRow, TokensEnd, Verdict, VerdictRow, check, check_counts, check_match,
+    SearchRow, Settings, SpanRow, Verdict, VerdictRow, check, check_counts, check_match,
     check_matches_at, check_may_search, check_overrides, check_part, check_read, check_searches,
-    check_spans, check_tokens_of, check_verdict, check_verdicts, counted, owned, regex_of,
-    searched, span_found,
+    check_spans, check_verdict, check_verdicts, counted, owned, regex_of, searched, span_found,
 };
 use fancy_regex::{
     ParseErrorKind, Regex, RegexBuilder, RegexInput, RegexOptionsBuilder, RegexSet, Work,
@@ -165,46 +164,4 @@ fn pattern_sets(rt: HostRuntime) {
     let matches = found.expect(&rt, "a position");
     let items = &[Some((0, (2, 3))), Some((2, (1, 3)))];
     check_matches_at(&rt, matches, (3, "xab"), 1, items);
-}
-
-/// The kinds of token of a small language, in the order of their indices.
-const LANGUAGE: &[&str] = &[
-    "let|if|else|while",
-    "[A-Za-z_]\\w*",
-    "\\d+(?:\\.\\d+)?",
-    "\"(?:[^\"\\\\]|\\\\.)*\"",
-    "[-+*/<>=!]=?",
-    "[(){};,]",
-    "//.*",
-    "\\s+",
-];
-
-#[test]
-fn a_lexer(rt: HostRuntime) {
-    let set = RegexSet::new(rt.alloc(), LANGUAGE).expect(&rt, "a set");
-    let line = "let rate = 2.5; // per \"cent\"";
-    let tokens = set.tokens(RegexInput::new(line));
-    let wanted = &[
-        (0, (0, 3)),
-        (7, (3, 4)),
-        (1, (4, 8)),
-        (7, (8, 9)),
-        (4, (9, 10)),
-        (7, (10, 11)),
-        (2, (11, 14)),
-        (5, (14, 15)),
-        (7, (15, 16)),
-        (6, (16, 29)),
-    ];
-    check_tokens_of(&rt, tokens, wanted, (29, TokensEnd::OfRange));
-    let tokens = set.tokens(RegexInput::new("x = 1 ? 2"));
-    let wanted = &[
-        (1, (0, 1)),
-        (7, (1, 2)),
-        (4, (2, 3)),
-        (7, (3, 4)),
-        (2, (4, 5)),
-        (7, (5, 6)),
-    ];
-    check_tokens_of(&rt, tokens, wanted, (6, TokensEnd::Unmatched));
 }

@@ -49,7 +49,7 @@ fn ending(rt: &impl Abort, last: Option<Result<Token<'_, &str>>>, place: usize) 
 }
 
 /// Checks the tokens of a list one by one, where they end and how, and that the list stays ended.
-pub(crate) fn check_tokens_of(
+fn check_tokens_of(
     rt: &impl Abort,
     mut tokens: Tokens<'_, &str>,
     wanted: &[(usize, Span)],
