@@ -9,7 +9,7 @@ use crate::asking::{
     check_replaced, check_rows, check_templates, check_text_lists, check_told, part_of, regex_of,
     regex_with, searchable, taken,
 };
-use fancy_regex::{Captures, Expander, NoExpand, RegexInput, ReplaceFn, Replacer, escape};
+use fancy_regex::{Expander, NoExpand, RegexInput, escape};
 
 const GROUPS: &[GroupsRow] = &[
     (
@@ -141,18 +141,4 @@ fn literal_texts(rt: HostRuntime) {
     check(&rt, !check_answer(&rt, safe, "5 $$"), "a copy");
     let safe = escape(rt.alloc(), "1+1");
     check(&rt, !check_answer(&rt, safe, "1\\+1"), "a copy");
-}
-
-#[test]
-fn a_lent_function_keeps_its_state(rt: HostRuntime) {
-    let alloc = rt.alloc();
-    let regex = regex_of(&rt, alloc, "a");
-    let mut calls = 0u32;
-    let mut counting = ReplaceFn::new(|_captures: &Captures<'_, &str>| {
-        calls = calls.wrapping_add(1);
-        Ok(format!(in alloc; "{calls}")?)
-    });
-    check_answer(&rt, regex.replace_all("aba", counting.by_ref()), "1b2");
-    check_answer(&rt, regex.replace_all("aba", counting.by_ref()), "3b4");
-    check_answer(&rt, regex.try_replacen_by("aaa", 2, &mut counting), "56a");
 }
