@@ -15,7 +15,7 @@ fn check_shown(rt: &impl Abort, alloc: Global, error: Error, beginning: &str, wo
 const KINDS: &[(ParseErrorKind, &str)] = &[
     (
         ParseErrorKind::GeneralParseError,
-        "closing parenthesis without opening parenthesis",
+        "unmatched parenthesis, or an incomplete reference in a template",
     ),
     (
         ParseErrorKind::UnclosedOpenParen,
@@ -52,6 +52,35 @@ const KINDS: &[(ParseErrorKind, &str)] = &[
         "form that is not in the dialect",
     ),
 ];
+
+/// Errors, and the names of their kinds.
+const NAMES: &[(Error, &str)] = &[
+    (Error::Memory, "Memory"),
+    (
+        Error::ParseError(4, ParseErrorKind::UnclosedOpenParen),
+        "UnclosedOpenParen",
+    ),
+    (
+        Error::CompileError(CompileError::InvalidBackref(2)),
+        "InvalidBackref",
+    ),
+    (
+        Error::CompileError(CompileError::PatternTooComplex),
+        "PatternTooComplex",
+    ),
+    (
+        Error::RuntimeError(RuntimeError::StackOverflow),
+        "StackOverflow",
+    ),
+    (Error::RuntimeError(RuntimeError::Unmatched(2)), "Unmatched"),
+];
+
+#[test]
+fn errors_have_names(rt: HostRuntime) {
+    for (error, name) in NAMES {
+        check(&rt, error.name() == *name, *name);
+    }
+}
 
 #[test]
 fn errors_have_their_texts(rt: HostRuntime) {

@@ -13,8 +13,8 @@ use thiserror::Error;
 /// Why the text of a pattern could not be read.
 #[derive(Debug, Drop, Clone, Copy, PartialEq, Eq, Error)]
 pub enum ParseErrorKind {
-    /// A `)` without its `(`, as in `a)`.
-    #[error("closing parenthesis without opening parenthesis")]
+    /// A `)` without its `(`, as in `a)`; in a template a mark that begins nothing, as in `a$`.
+    #[error("unmatched parenthesis, or an incomplete reference in a template")]
     GeneralParseError,
     /// A group that is not closed, as in `(?:a`.
     #[error("opening parenthesis without closing parenthesis")]
@@ -113,6 +113,66 @@ pub enum Error {
 
 /// What the calls of the library answer.
 pub type Result<T> = std::result::Result<T, Error>;
+
+impl ParseErrorKind {
+    /// The name of the kind, as it is written in a program: `"InvalidRepeat"`.
+    pub fn name(self) -> &'static str {
+        match self {
+            ParseErrorKind::GeneralParseError => "GeneralParseError",
+            ParseErrorKind::UnclosedOpenParen => "UnclosedOpenParen",
+            ParseErrorKind::InvalidRepeat => "InvalidRepeat",
+            ParseErrorKind::TargetNotRepeatable => "TargetNotRepeatable",
+            ParseErrorKind::RecursionExceeded => "RecursionExceeded",
+            ParseErrorKind::TrailingBackslash => "TrailingBackslash",
+            ParseErrorKind::InvalidEscape => "InvalidEscape",
+            ParseErrorKind::InvalidHex => "InvalidHex",
+            ParseErrorKind::InvalidCodepointValue => "InvalidCodepointValue",
+            ParseErrorKind::InvalidClass => "InvalidClass",
+            ParseErrorKind::UnknownFlag => "UnknownFlag",
+            ParseErrorKind::InvalidGroupName => "InvalidGroupName",
+            ParseErrorKind::ChangingUnicodeModeUnsupported => "ChangingUnicodeModeUnsupported",
+            ParseErrorKind::NotInProfile => "NotInProfile",
+        }
+    }
+}
+
+impl CompileError {
+    /// The name of the kind, as it is written in a program: `"InvalidBackref"`, without its number.
+    pub fn name(&self) -> &'static str {
+        match self {
+            CompileError::InvalidBackref(_) => "InvalidBackref",
+            CompileError::InvalidGroupNameBackref(_) => "InvalidGroupNameBackref",
+            CompileError::NamedBackrefOnly => "NamedBackrefOnly",
+            CompileError::LookBehindNotConst => "LookBehindNotConst",
+            CompileError::PatternCanNeverMatch => "PatternCanNeverMatch",
+            CompileError::PatternTooComplex => "PatternTooComplex",
+        }
+    }
+}
+
+impl RuntimeError {
+    /// The name of the kind, as it is written in a program: `"StackOverflow"`.
+    pub fn name(self) -> &'static str {
+        match self {
+            RuntimeError::BacktrackLimitExceeded => "BacktrackLimitExceeded",
+            RuntimeError::StackOverflow => "StackOverflow",
+            RuntimeError::Unmatched(_) => "Unmatched",
+        }
+    }
+}
+
+impl Error {
+    /// The name of the kind inside, as it is written in a program: `"Memory"`, or for `ParseError(4, UnclosedOpenParen)`
+    /// `"UnclosedOpenParen"`. The text of the error says more, and where.
+    pub fn name(&self) -> &'static str {
+        match self {
+            Error::Memory => "Memory",
+            Error::ParseError(_, kind) => kind.name(),
+            Error::CompileError(kind) => kind.name(),
+            Error::RuntimeError(kind) => kind.name(),
+        }
+    }
+}
 
 impl From<AllocError> for Error {
     ghost from_gives = { λ _ e. e ≡ Memory };

@@ -15,7 +15,7 @@
 
 ghost use Rattle.std.specs.Prelude.{◌≤◌};
 
-use fancy_regex::{CompileError, Error, ParseErrorKind, Regex, RegexInput, RegexSet, RuntimeError};
+use fancy_regex::{Error, Regex, RegexInput, RegexSet, RuntimeError};
 use std::alloc::Global;
 use std::io;
 
@@ -45,49 +45,8 @@ impl Fault {
         match self {
             Fault::Usage => "usage",
             Fault::Output => "Output",
-            Fault::Refused(Error::Memory) => "Memory",
-            Fault::Refused(Error::ParseError(_, kind)) => parse_name(kind),
-            Fault::Refused(Error::CompileError(kind)) => compile_name(kind),
-            Fault::Refused(Error::RuntimeError(kind)) => runtime_name(kind),
+            Fault::Refused(error) => error.name(),
         }
-    }
-}
-
-fn parse_name(kind: &ParseErrorKind) -> &'static str {
-    match kind {
-        ParseErrorKind::GeneralParseError => "GeneralParseError",
-        ParseErrorKind::UnclosedOpenParen => "UnclosedOpenParen",
-        ParseErrorKind::InvalidRepeat => "InvalidRepeat",
-        ParseErrorKind::TargetNotRepeatable => "TargetNotRepeatable",
-        ParseErrorKind::RecursionExceeded => "RecursionExceeded",
-        ParseErrorKind::TrailingBackslash => "TrailingBackslash",
-        ParseErrorKind::InvalidEscape => "InvalidEscape",
-        ParseErrorKind::InvalidHex => "InvalidHex",
-        ParseErrorKind::InvalidCodepointValue => "InvalidCodepointValue",
-        ParseErrorKind::InvalidClass => "InvalidClass",
-        ParseErrorKind::UnknownFlag => "UnknownFlag",
-        ParseErrorKind::InvalidGroupName => "InvalidGroupName",
-        ParseErrorKind::ChangingUnicodeModeUnsupported => "ChangingUnicodeModeUnsupported",
-        ParseErrorKind::NotInProfile => "NotInProfile",
-    }
-}
-
-fn compile_name(kind: &CompileError) -> &'static str {
-    match kind {
-        CompileError::InvalidBackref(_) => "InvalidBackref",
-        CompileError::InvalidGroupNameBackref(_) => "InvalidGroupNameBackref",
-        CompileError::NamedBackrefOnly => "NamedBackrefOnly",
-        CompileError::LookBehindNotConst => "LookBehindNotConst",
-        CompileError::PatternCanNeverMatch => "PatternCanNeverMatch",
-        CompileError::PatternTooComplex => "PatternTooComplex",
-    }
-}
-
-fn runtime_name(kind: &RuntimeError) -> &'static str {
-    match kind {
-        RuntimeError::BacktrackLimitExceeded => "BacktrackLimitExceeded",
-        RuntimeError::StackOverflow => "StackOverflow",
-        RuntimeError::Unmatched(_) => "Unmatched",
     }
 }
 
