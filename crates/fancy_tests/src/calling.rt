@@ -8,7 +8,7 @@ ghost use Rattle.fancy_core.specs.Searches.{asked_whole};
 ghost use Rattle.fancy_core.specs.GroupTexts.{bytes_of_str};
 
 use crate::asking::check;
-use fancy_regex::{Regex, Result};
+use fancy_regex::{Regex, RegexInput, Result};
 use std::alloc::Global;
 
 /// Whether the line has a match. Its caller shows that the regex may search the line.
@@ -33,10 +33,31 @@ fn has_constant_date(alloc: Global) -> Result<bool> {
     date.is_match(LINE)
 }
 
+/// The same, with a name for the line.
+fn has_named_date(alloc: Global) -> Result<bool> {
+    let date = Regex::new(alloc, "\\d{4}-\\d\\d")?;
+    let line: &str = LINE;
+    date.is_match(line)
+}
+
+/// The same, where the regex is asked first.
+fn has_asked_date(alloc: Global) -> Result<bool> {
+    let date = Regex::new(alloc, "\\d{4}-\\d\\d")?;
+    let input = RegexInput::new(LINE);
+    if !date.can_search(&input) {
+        return Ok(false);
+    }
+    date.is_match_input(input)
+}
+
 #[test]
 fn callers(rt: HostRuntime) {
     let dated = has_date(rt.alloc(), "on 2026-11-24").expect(&rt, "a date");
     check(&rt, dated, "a date");
     let dated = has_constant_date(rt.alloc()).expect(&rt, "a date");
+    check(&rt, dated, "the same");
+    let dated = has_named_date(rt.alloc()).expect(&rt, "a date");
+    check(&rt, dated, "the same");
+    let dated = has_asked_date(rt.alloc()).expect(&rt, "a date");
     check(&rt, dated, "the same");
 }
