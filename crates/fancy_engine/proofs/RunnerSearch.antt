@@ -7,6 +7,7 @@ use Rattle.std.specs.Option.{option_or}
 use Rattle.fancy_input.specs.declared.input.Request.{Request}
 use Rattle.fancy_input.specs.Requests.{effective_start, positions}
 use Rattle.fancy_engine.specs.declared.code.Code.{Code}
+use Rattle.fancy_engine.specs.declared.slot.Slot.{Slot}
 use Rattle.fancy_input.specs.declared.span.Span.{Span}
 use Rattle.fancy_engine.specs.Context.{Context, State}
 use Rattle.fancy_engine.specs.Trace.{trace, outcomes}
@@ -14,7 +15,7 @@ use Rattle.fancy_engine.specs.Code.{instrs_of}
 use Rattle.fancy_engine.specs.Run.{Raw, Given}
 use Rattle.fancy_engine.specs.Compile.{IsCodeOf, AreEasy, depth}
 use Rattle.fancy_engine.specs.Search.{Query, context_of, initial, trace_at, outcomes_at, is_match_boundary, accepted, first_one, longest_one, answer_at, answer_from}
-use Rattle.fancy_engine.specs.Threads.{Thread, empty_slot, slot_span, slot_from, state_of, starts_of}
+use Rattle.fancy_engine.specs.Threads.{Thread, thread_of, empty_slot, slot_span, slot_from, state_of, starts_of}
 use Rattle.fancy_engine.specs.Runner.{IsKnown, Known, thread_run, events_of, first_accepted, ends_well}
 use Rattle.fancy_engine.proofs.EasyContinues.{continued_at, run_elsewhere}
 use Rattle.fancy_engine.proofs.ThreadsLemmas.{map-replicate}
@@ -32,6 +33,9 @@ accepted_is false b c d n e f g = absurd (true≢false (sym e))
 abbrev pub first_thread : Code → ℕ → Thread
 first_thread code p = record { at = code.start; place = p; slots = replicate code.groups empty_slot }
 
+pub begun : (code : Code) (p : ℕ) (slots : List Slot) → slots ≡ replicate code.groups empty_slot → thread_of (record { at = code.start; place = p }) slots ≡ first_thread code p
+begun code p slots e = ap (λ (l : List Slot). thread_of (record { at = code.start; place = p }) l) e
+
 module _ (q : Query) (code : Code) (is : IsCodeOf q.sought.pattern code) (groups : q.sought.groups ≡ code.groups) (meant : q.sought.meaning ≡ code.meaning)
     (only : q.sought.not_empty ≡ false) (first : q.sought.longest ≡ false) (inside : q.request.range_end ≤ length q.haystack)
     (x : Context) (here : Option ℕ) (same : x ≡ continued_at (context_of q) here) where
@@ -39,8 +43,8 @@ module _ (q : Query) (code : Code) (is : IsCodeOf q.sought.pattern code) (groups
   abbrev pub deep : ℕ
   deep = depth (length q.haystack) q.sought.pattern + 1
 
-  begun : (p : ℕ) → state_of p (first_thread code p) ≡ initial q p
-  begun p =
+  initially : (p : ℕ) → state_of p (first_thread code p) ≡ initial q p
+  initially p =
       let f : List (Option Span) → State = λ l. record { place = p; captures = l; kept = p } in
       ap f (map-replicate slot_span code.groups empty_slot ∙ ap (λ (n : ℕ). replicate n None) (sym groups))
 
@@ -52,7 +56,7 @@ module _ (q : Query) (code : Code) (is : IsCodeOf q.sought.pattern code) (groups
   gives p le =
       let g = program_gives (context_of q) q.request.range_end q.sought.pattern code is meant inside (state_of p (first_thread code p)) (starts_of (first_thread code p)) le
       (ap length (starts p) ∙ length-replicate code.groups 0) in
-      (g.0, g.1, g.2 ∙ ap (λ (s : State). trace (context_of q) q.request.range_end q.sought.pattern s) (begun p), g.3)
+      (g.0, g.1, g.2 ∙ ap (λ (s : State). trace (context_of q) q.request.range_end q.sought.pattern s) (initially p), g.3)
 
   -- the code gives the same wherever `\G` holds
   elsewhere : AreEasy (instrs_of code) → (p : ℕ) → thread_run (continued_at (context_of q) here) q.request.range_end (instrs_of code) deep p (first_thread code p)

@@ -1,5 +1,5 @@
 -- What the runner keeps true, which follows each pair of an instruction with a mark and a place at most once.
-use Rattle.std.specs.Prelude.{◌≡◌, ℕ, ◌+◌, ◌-◌, ◌<◌, ◌≤◌, ◌⊎◌, Bool, true, false, List, [], ◌∷◌, ◌++◌, length, Option, Some, None, if◌then◌else◌, is_some}
+use Rattle.std.specs.Prelude.{◌≡◌, ℕ, ◌+◌, ◌-◌, ◌<◌, ◌≤◌, ◌⊎◌, Bool, true, List, [], ◌∷◌, ◌++◌, length, map, Option, Some, None, if◌then◌else◌, is_some}
 use Rattle.fancy_engine.specs.Instructions.{Instruction}
 use Rattle.fancy_engine.specs.declared.runner.Next.{Next}
 use Rattle.fancy_engine.specs.declared.runner.Next.TheVariants.{On, Dead, Found}
@@ -7,7 +7,8 @@ use Rattle.fancy_engine.specs.Context.{Context, State}
 use Rattle.fancy_engine.specs.Events.{Event, mark, return, outcome, either}
 use Rattle.fancy_engine.specs.Run.{Raw, run, erase}
 use Rattle.fancy_engine.specs.Marking.{Marks}
-use Rattle.fancy_engine.specs.Threads.{Thread, state_of, starts_of}
+use Rattle.fancy_engine.specs.Threads.{Thread, state_of, starts_of, slot_span}
+use Rattle.fancy_engine.specs.declared.slot.Slot.{Slot}
 
 -- the first outcome that the test accepts
 abbrev pub first_accepted : (State → Bool) → List Event → Option State
@@ -156,6 +157,6 @@ module _ (good : ℕ → Bool) (x : Context) (base limit : ℕ) (code : List Ins
   Visited kept Found goal table t ts = Some (state_of kept t) ≡ goal
 
 -- the state that a search stands at, if it found one
-abbrev pub found_state : ℕ → Bool → Thread → Option State
-found_state kept false t = None
-found_state kept true t = Some (state_of kept t)
+abbrev pub found_state : ℕ → Option ℕ → List Slot → Option State
+found_state kept None slots = None
+found_state kept (Some place) slots = Some (record { place = place; captures = map slot_span slots; kept = kept })

@@ -1,8 +1,9 @@
 //! The runner, which follows each pair of an instruction with a mark and a place at most once.
 
-ghost use Rattle.std.specs.Prelude.{◌≡◌, ◌+◌, ◌-◌, ◌^◌, ◌<◌, ◌≤◌, ◌≢◌, ◌⊎◌, [], ◌∷◌, ℕ, List, Option, Bool, true, false, length, IfOk, OnOk, IfSome, option_map, slice_index, slice_set, if◌then◌else◌, ◌==◌};
+ghost use Rattle.std.specs.Prelude.{◌≡◌, ◌+◌, ◌-◌, ◌^◌, ◌<◌, ◌≤◌, ◌≢◌, ◌⊎◌, [], ◌∷◌, ℕ, List, Option, Some, None, Bool, true, false, map, length, IfOk, OnOk, IfSome, option_map, slice_index, slice_set, if◌then◌else◌, ◌==◌};
 ghost use Rattle.fancy_tree.specs.Sets.{has};
-ghost use Rattle.fancy_engine.specs.Context.{State, with_capture, past_item, past_byte};
+ghost use Rattle.fancy_engine.specs.Context.{State, past_item, past_byte};
+ghost use Rattle.fancy_input.specs.Spans.{from_to};
 ghost use Rattle.fancy_engine.specs.Code.{code_len, weight_of, due_of, cost_of, marks_of, burden};
 ghost use Rattle.fancy_engine.specs.Instructions.{edges_in};
 ghost use Rattle.fancy_engine.specs.Run.{instr_at};
@@ -10,14 +11,14 @@ ghost use Rattle.fancy_engine.specs.Compile.{IsEasyInstr, AreEasy};
 ghost use Rattle.fancy_engine.specs.Work.{steps_of, returns_of, stepped_within};
 ghost use Rattle.fancy_engine.specs.Reading.{search_context};
 ghost use Rattle.fancy_input.specs.LastLines.{KnowsLastLines};
-ghost use Rattle.fancy_engine.specs.Threads.{state_of, starts_of};
+ghost use Rattle.fancy_engine.specs.Threads.{slot_from, slot_span, thread_of, stack_of};
 ghost use Rattle.fancy_engine.specs.Runner.{found_state, Stacked, Moved, AllWithin, Spends, Progresses, threads_after};
 ghost use Rattle.fancy_engine.specs.Attempt.{instrs_in, places_in, bits_in, left_in, ahead_in, KnownIn, AllFailedIn, first_accepted_in, SteppedIn, RunningIn, VisitedIn};
 
 use crate::code::{Code, Instr};
 use crate::options::is_match_boundary;
 use crate::reading::{SuppressedEnds, holds_at, read_at};
-use crate::slot::Slot;
+use crate::slot::{Pair, Slot};
 use crate::table::Table;
 use crate::threads::Threads;
 use crate::work::Work;
@@ -104,35 +105,30 @@ pub fn past_raw_byte(haystack: &[u8], byte: u8, place: usize) -> Option<usize>
 }
 
 /// Goes on at a place, if there is one by the limit.
-fn advance(threads: &mut Threads, next: usize, place: Option<usize>, limit: usize) -> Next
-    requires { IfSome place (λ p. threads.old.current.place ≤ p) }
-    ensures moved { Moved result limit place next threads.old.current threads.new.current }
-    ensures goes { result ≡ Next.On → threads.new.current.at ≡ next }
-    ensures forth { threads.old.current.place ≤ threads.new.current.place }
-    ensures within { threads.old.current.place ≤ limit → threads.new.current.place ≤ limit }
+fn advance(pair: &mut Pair, next: usize, place: Option<usize>, limit: usize) -> Next
+    requires { IfSome place (λ p. pair.old.place ≤ p) }
+    ensures moved { (slots : List Slot) → Moved result limit place next (thread_of pair.old slots) (thread_of pair.new slots) }
+    ensures goes { result ≡ Next.On → pair.new.at ≡ next }
+    ensures forth { pair.old.place ≤ pair.new.place }
+    ensures within { pair.old.place ≤ limit → pair.new.place ≤ limit }
     ensures found { result ≢ Next.Found }
-    ensures saved { threads.new.saved ≡ threads.old.saved }
 {
     match place {
         Some(place) if place <= limit => {
-            threads.go_to(next, place);
+            *pair = Pair { at: next, place };
             Next::On
         }
         _ => Next::Dead,
     }
 }
 
-/// A group begins.
-fn open_group(threads: &mut Threads, group: usize, next: usize) -> Result<(), AllocError>
-    ensures at { OnOk result (threads.new.current.at ≡ next) }
-    ensures place { OnOk result (threads.new.current.place ≡ threads.old.current.place) }
-    ensures state { OnOk result ((kept : ℕ) → state_of kept threads.new.current ≡ state_of kept threads.old.current) }
-    ensures starts { OnOk result (starts_of threads.new.current
-        ≡ slice_set (starts_of threads.old.current) group threads.old.current.place) }
+/// A group begins at a place.
+fn open_group(threads: &mut Threads, group: usize, place: usize) -> Result<(), AllocError>
+    ensures spans { OnOk result (map slot_span threads.new.slots ≡ map slot_span threads.old.slots) }
+    ensures starts { OnOk result (map slot_from threads.new.slots ≡ slice_set (map slot_from threads.old.slots) group place) }
     ensures saved { threads.new.saved ≡ threads.old.saved }
 {
     let slot = threads.slot(group);
-    let place = threads.place();
     threads.write_slot(
         group,
         Slot {
@@ -140,23 +136,20 @@ fn open_group(threads: &mut Threads, group: usize, next: usize) -> Result<(), Al
             span: slot.span,
         },
     )?;
-    threads.go(next);
     Ok(())
 }
 
-/// A group ends.
-fn close_group(threads: &mut Threads, group: usize, next: usize) -> Result<(), AllocError>
-    ensures at { OnOk result (threads.new.current.at ≡ next) }
-    ensures place { OnOk result (threads.new.current.place ≡ threads.old.current.place) }
-    ensures state { OnOk result ((kept : ℕ) → state_of kept threads.new.current
-        ≡ with_capture (state_of kept threads.old.current) group (slice_index (starts_of threads.old.current) group)) }
-    ensures starts { OnOk result (starts_of threads.new.current ≡ starts_of threads.old.current) }
+/// A group ends at a place.
+fn close_group(threads: &mut Threads, group: usize, place: usize) -> Result<(), AllocError>
+    ensures spans { OnOk result (map slot_span threads.new.slots ≡ slice_set (map slot_span threads.old.slots) group
+        (Some (from_to (slice_index (map slot_from threads.old.slots) group) place))) }
+    ensures starts { OnOk result (map slot_from threads.new.slots ≡ map slot_from threads.old.slots) }
     ensures saved { threads.new.saved ≡ threads.old.saved }
 {
     let slot = threads.slot(group);
     let span = Span {
         start: slot.from,
-        end: threads.place(),
+        end: place,
     };
     threads.write_slot(
         group,
@@ -165,50 +158,49 @@ fn close_group(threads: &mut Threads, group: usize, next: usize) -> Result<(), A
             span: Some(span),
         },
     )?;
-    threads.go(next);
     Ok(())
 }
 
 /// Follows one instruction, which is fetched once.
 fn step(
     attempt: &Attempt,
+    pair: &mut Pair,
     threads: &mut Threads,
     last_lines: &mut LastLines,
     work: &mut Work,
 ) -> Result<Next, AllocError>
     requires inside { attempt.now.last ≤ length attempt.now.haystack.now }
-    requires here { threads.old.current.at < code_len attempt.now.code.now }
-    requires easy { IsEasyInstr (instr_at (instrs_in attempt.now) threads.old.current.at) }
+    requires here { pair.old.at < code_len attempt.now.code.now }
+    requires easy { IsEasyInstr (instr_at (instrs_in attempt.now) pair.old.at) }
     requires last_lines { KnowsLastLines attempt.now.haystack.now last_lines.old }
-    ensures stepped { IfOk result (λ next. (kept deep : ℕ) → KnownIn attempt.now kept deep threads.old
-        → SteppedIn attempt.now kept deep next threads.old threads.new) }
-    ensures forth { IfOk result (λ _. threads.old.current.place ≤ threads.new.current.place) }
-    ensures within { IfOk result (λ _. threads.old.current.place ≤ attempt.now.last
-        → threads.new.current.place ≤ attempt.now.last) }
-    ensures stacked { IfOk result (λ next. Stacked next threads.old.current threads.old.saved threads.new.saved) }
-    ensures spends { IfOk result (λ next. Spends next (cost_of attempt.now.code.now (instr_at (instrs_in attempt.now) threads.old.current.at))
+    ensures stepped { IfOk result (λ next. (kept deep : ℕ) → KnownIn attempt.now kept deep (stack_of pair.old threads.old)
+        → SteppedIn attempt.now kept deep next (stack_of pair.old threads.old) (stack_of pair.new threads.new)) }
+    ensures forth { IfOk result (λ _. pair.old.place ≤ pair.new.place) }
+    ensures within { IfOk result (λ _. pair.old.place ≤ attempt.now.last → pair.new.place ≤ attempt.now.last) }
+    ensures stacked { IfOk result (λ next. Stacked next (thread_of pair.old threads.old.slots) threads.old.saved threads.new.saved) }
+    ensures spends { IfOk result (λ next. Spends next (cost_of attempt.now.code.now (instr_at (instrs_in attempt.now) pair.old.at))
         (burden attempt.now.code.now threads.old.saved) (burden attempt.now.code.now threads.new.saved)
-        (due_of attempt.now.code.now threads.new.current.at)) }
+        (due_of attempt.now.code.now pair.new.at)) }
     ensures work { work.new ≡ stepped_within work.old }
     ensures last_lines { KnowsLastLines attempt.now.haystack.now last_lines.new }
 {
     let code = attempt.code;
     let haystack = attempt.haystack;
-    let place = threads.place();
-    match code.fetch(threads.at(), work) {
+    let place = pair.place;
+    match code.fetch(pair.at, work) {
         Instr::Match => Ok(Next::Found),
         Instr::Fail => Ok(Next::Dead),
         Instr::Character(character, next) => {
             let past = past_character(haystack, code.meaning, *character, place);
-            Ok(advance(threads, *next, past, attempt.last))
+            Ok(advance(pair, *next, past, attempt.last))
         }
         Instr::Member(set, next) => {
             let past = past_member(haystack, code.meaning, code.set(*set), place);
-            Ok(advance(threads, *next, past, attempt.last))
+            Ok(advance(pair, *next, past, attempt.last))
         }
         Instr::RawByte(byte, next) => {
             let past = past_raw_byte(haystack, *byte, place);
-            Ok(advance(threads, *next, past, attempt.last))
+            Ok(advance(pair, *next, past, attempt.last))
         }
         Instr::Assert(assertion, next) => {
             if holds_at(
@@ -219,23 +211,25 @@ fn step(
                 place,
                 last_lines,
             ) {
-                threads.go(*next);
+                pair.at = *next;
                 Ok(Next::On)
             } else {
                 Ok(Next::Dead)
             }
         }
         Instr::Split(first, second) => {
-            threads.save(*second)?;
-            threads.go(*first);
+            threads.save(Pair { at: *second, place })?;
+            pair.at = *first;
             Ok(Next::On)
         }
         Instr::Open(group, next) => {
-            open_group(threads, *group, *next)?;
+            open_group(threads, *group, place)?;
+            pair.at = *next;
             Ok(Next::On)
         }
         Instr::Close(group, next) => {
-            close_group(threads, *group, *next)?;
+            close_group(threads, *group, place)?;
+            pair.at = *next;
             Ok(Next::On)
         }
         _ => unreachable!(),
@@ -243,29 +237,30 @@ fn step(
 }
 
 /// Whether a pair is to be followed: its instruction has no mark, or that was not made at this place. It is made then.
-fn is_new(attempt: &Attempt, at: usize, place: usize, table: &mut Table) -> bool
-    requires here { at < code_len attempt.now.code.now }
-    requires low { attempt.now.first ≤ place }
-    requires high { place ≤ attempt.now.last }
+fn is_new(attempt: &Attempt, pair: Pair, table: &mut Table) -> bool
+    requires here { pair.at < code_len attempt.now.code.now }
+    requires low { attempt.now.first ≤ pair.place }
+    requires high { pair.place ≤ attempt.now.last }
     requires room { bits_in attempt.now ≤ length table.old }
     requires small { length table.old < 2 ^ 64 }
-    ensures seen { result ≡ false → marks_of attempt.now.code.now table.old at (place - attempt.now.first) ≡ true }
+    ensures seen { result ≡ false → marks_of attempt.now.code.now table.old pair.at (pair.place - attempt.now.first) ≡ true }
     ensures same { result ≡ false → table.new ≡ table.old }
     ensures adds { (q row : ℕ) → marks_of attempt.now.code.now table.new q row ≡ true
-        → (marks_of attempt.now.code.now table.old q row ≡ true) ⊎ ((q ≡ at) × (row ≡ place - attempt.now.first)) }
-    ensures left { result ≡ true → left_in attempt.now table.new + weight_of attempt.now.code.now at
-        ≤ left_in attempt.now table.old + due_of attempt.now.code.now at }
+        → (marks_of attempt.now.code.now table.old q row ≡ true) ⊎ ((q ≡ pair.at) × (row ≡ pair.place - attempt.now.first)) }
+    ensures left { result ≡ true → left_in attempt.now table.new + weight_of attempt.now.code.now pair.at
+        ≤ left_in attempt.now table.old + due_of attempt.now.code.now pair.at }
     ensures room { length table.new ≡ length table.old }
 {
-    let Some(number) = attempt.code.mark_number(at) else {
+    let Some(number) = attempt.code.mark_number(pair.at) else {
         return true;
     };
-    table.mark((place - attempt.first) * attempt.code.marks() + number)
+    table.mark((pair.place - attempt.first) * attempt.code.marks() + number)
 }
 
 /// Follows a pair, if it is new. A pair that was marked before has nothing to give, whatever the captures.
 fn visit(
     attempt: &Attempt,
+    pair: &mut Pair,
     threads: &mut Threads,
     table: &mut Table,
     last_lines: &mut LastLines,
@@ -273,42 +268,44 @@ fn visit(
 ) -> Result<Next, AllocError>
     requires inside { attempt.now.last ≤ length attempt.now.haystack.now }
     requires easy { AreEasy (instrs_in attempt.now) }
-    requires within { AllWithin attempt.now.first attempt.now.last (threads.old.current ∷ threads.old.saved) }
+    requires within { AllWithin attempt.now.first attempt.now.last (thread_of pair.old threads.old.slots ∷ threads.old.saved) }
     requires room { bits_in attempt.now ≤ length table.old }
     requires small { length table.old < 2 ^ 64 }
     requires last_lines { KnowsLastLines attempt.now.haystack.now last_lines.old }
     ensures visited { IfOk result (λ next. (kept deep : ℕ) (goal : Option State)
-        → RunningIn attempt.now kept deep goal table.old threads.old
-        → VisitedIn attempt.now kept deep next goal table.new threads.new) }
-    ensures progress { IfOk result (λ next. Progresses next (ahead_in attempt.now table.old (threads.old.current ∷ threads.old.saved))
-        (ahead_in attempt.now table.new (threads_after next threads.new.current threads.new.saved))
+        → RunningIn attempt.now kept deep goal table.old (stack_of pair.old threads.old)
+        → VisitedIn attempt.now kept deep next goal table.new (stack_of pair.new threads.new)) }
+    ensures progress { IfOk result (λ next. Progresses next (ahead_in attempt.now table.old (thread_of pair.old threads.old.slots ∷ threads.old.saved))
+        (ahead_in attempt.now table.new (threads_after next (thread_of pair.new threads.new.slots) threads.new.saved))
         (length threads.old.saved) (length threads.new.saved)) }
     ensures within { IfOk result (λ _. AllWithin attempt.now.first attempt.now.last
-        (threads.new.current ∷ threads.new.saved)) }
+        (thread_of pair.new threads.new.slots ∷ threads.new.saved)) }
     ensures room { length table.new ≡ length table.old }
     ensures spent { IfOk result (λ next. steps_of work.new
-        + ahead_in attempt.now table.new (threads_after next threads.new.current threads.new.saved)
-        ≤ steps_of work.old + ahead_in attempt.now table.old (threads.old.current ∷ threads.old.saved)) }
+        + ahead_in attempt.now table.new (threads_after next (thread_of pair.new threads.new.slots) threads.new.saved)
+        ≤ steps_of work.old + ahead_in attempt.now table.old (thread_of pair.old threads.old.slots ∷ threads.old.saved)) }
     ensures bounded { steps_of work.new
-        ≤ steps_of work.old + ahead_in attempt.now table.old (threads.old.current ∷ threads.old.saved) }
+        ≤ steps_of work.old + ahead_in attempt.now table.old (thread_of pair.old threads.old.slots ∷ threads.old.saved) }
     ensures steps { steps_of work.old ≤ steps_of work.new }
     ensures returns { returns_of work.new ≡ returns_of work.old }
+    ensures ticks { pair.old.at < code_len attempt.now.code.now
+        → marks_of attempt.now.code.now table.old pair.old.at (pair.old.place - attempt.now.first) ≡ false
+        → work.new ≡ stepped_within work.old }
     ensures tally { IfOk result (λ _. steps_of work.new < usize.MAX
         → length threads.new.saved + steps_of work.old ≤ length threads.old.saved + steps_of work.new) }
     ensures last_lines { KnowsLastLines attempt.now.haystack.now last_lines.new }
 {
-    let at = threads.at();
-    if at >= attempt.code.len() {
+    if pair.at >= attempt.code.len() {
         return Ok(Next::Dead);
     }
-    if !is_new(attempt, at, threads.place(), table) {
+    if !is_new(attempt, *pair, table) {
         return Ok(Next::Dead);
     }
-    match step(attempt, threads, last_lines, work)? {
+    match step(attempt, pair, threads, last_lines, work)? {
         Next::On => Ok(Next::On),
         Next::Dead => Ok(Next::Dead),
         Next::Found => {
-            if is_match_boundary(attempt.on_boundaries, attempt.haystack, threads.place()) {
+            if is_match_boundary(attempt.on_boundaries, attempt.haystack, pair.place) {
                 Ok(Next::Found)
             } else {
                 Ok(Next::Dead)
@@ -317,48 +314,49 @@ fn visit(
     }
 }
 
-/// The first accepted outcome of one attempt: it is where the thread that is followed then stands. The table is kept
-/// from the attempts before, of which none found anything. There are at most as many steps, also up to a refusal, as are due
+/// The place of the first accepted outcome of one attempt, which begins at `start`; its slots then stand in `threads`. The table is
+/// kept from the attempts before, of which none found anything. There are at most as many steps, also up to a refusal, as are due
 /// at the start and as the marks are worth that are made.
 pub fn follow(
     attempt: &Attempt,
+    start: Pair,
     threads: &mut Threads,
     table: &mut Table,
     last_lines: &mut LastLines,
     work: &mut Work,
-) -> Result<bool, AllocError>
+) -> Result<Option<usize>, AllocError>
     requires inside { attempt.now.last ≤ length attempt.now.haystack.now }
     requires easy { AreEasy (instrs_in attempt.now) }
-    requires low { attempt.now.first ≤ threads.old.current.place }
-    requires high { threads.old.current.place ≤ attempt.now.last }
+    requires low { attempt.now.first ≤ start.place }
+    requires high { start.place ≤ attempt.now.last }
     requires fresh { threads.old.saved ≡ [] }
     requires room { bits_in attempt.now ≤ length table.old }
     requires small { length table.old < 2 ^ 64 }
     requires last_lines { KnowsLastLines attempt.now.haystack.now last_lines.old }
-    ensures answer { IfOk result (λ found. (kept deep : ℕ) → KnownIn attempt.now kept deep threads.old
+    ensures answer { IfOk result (λ end. (kept deep : ℕ) → KnownIn attempt.now kept deep (stack_of start threads.old)
         → AllFailedIn attempt.now deep table.old
-        → found_state kept found threads.new.current ≡ first_accepted_in attempt.now kept deep threads.old) }
-    ensures failed { IfOk result (λ found. (kept deep : ℕ) → KnownIn attempt.now kept deep threads.old
-        → AllFailedIn attempt.now deep table.old → found ≡ false → AllFailedIn attempt.now deep table.new) }
+        → found_state kept end threads.new.slots ≡ first_accepted_in attempt.now kept deep (stack_of start threads.old)) }
+    ensures failed { IfOk result (λ end. (kept deep : ℕ) → KnownIn attempt.now kept deep (stack_of start threads.old)
+        → AllFailedIn attempt.now deep table.old → end ≡ None → AllFailedIn attempt.now deep table.new) }
     ensures room { length table.new ≡ length table.old }
     ensures spent { IfOk result (λ _. steps_of work.new + left_in attempt.now table.new
-        ≤ steps_of work.old + (due_of attempt.now.code.now threads.old.current.at + left_in attempt.now table.old)) }
+        ≤ steps_of work.old + (due_of attempt.now.code.now start.at + left_in attempt.now table.old)) }
     ensures bounded { steps_of work.new
-        ≤ steps_of work.old + (due_of attempt.now.code.now threads.old.current.at + left_in attempt.now table.old) }
+        ≤ steps_of work.old + (due_of attempt.now.code.now start.at + left_in attempt.now table.old) }
     ensures steps { steps_of work.old ≤ steps_of work.new }
     ensures returns { returns_of work.old ≤ returns_of work.new }
     ensures paired { returns_of work.new - returns_of work.old ≤ steps_of work.new - steps_of work.old }
     ensures last_lines { KnowsLastLines attempt.now.haystack.now last_lines.new }
 {
+    let mut pair = start;
     'pairs: loop {
-        match visit(attempt, threads, table, last_lines, work)? {
+        match visit(attempt, &mut pair, threads, table, last_lines, work)? {
             Next::On => {}
-            Next::Dead => {
-                if !threads.back(work) {
-                    return Ok(false);
-                }
-            }
-            Next::Found => return Ok(true),
+            Next::Dead => match threads.back(work) {
+                Some(branch) => pair = branch,
+                None => return Ok(None),
+            },
+            Next::Found => return Ok(Some(pair.place)),
         }
     }
 }

@@ -17,6 +17,7 @@ use crate::found::Found;
 use crate::options::{SearchOptions, is_match_boundary};
 use crate::refusal::SearchRefusal;
 use crate::runner::{Attempt, follow};
+use crate::slot::Pair;
 use crate::table::Table;
 use crate::threads::Threads;
 use crate::work::Work;
@@ -209,14 +210,20 @@ pub fn search(
     let mut last_lines = LastLines::new(haystack);
     while place <= last {
         if is_match_boundary(options.on_boundaries, haystack, place) {
-            threads.begin(code.start, place, code.groups)?;
-            if follow(&attempt, threads, table, &mut last_lines, work)? {
-                let end = threads.place();
-                return Ok(Some(Found {
-                    position: place,
-                    start: place,
-                    end,
-                }));
+            threads.begin(code.groups)?;
+            let start = Pair {
+                at: code.start,
+                place,
+            };
+            match follow(&attempt, start, threads, table, &mut last_lines, work)? {
+                Some(end) => {
+                    return Ok(Some(Found {
+                        position: place,
+                        start: place,
+                        end,
+                    }));
+                }
+                None => {}
             }
         }
         place = next_opening(code, haystack, request.range_end, place + 1, last);

@@ -1,9 +1,9 @@
-//! The thread that a search follows, and the branches that it saved, over one list of slots.
+//! The slots of the thread that a search follows, and the branches that it saved, over one list of slots.
 
 ghost use Rattle.std.specs.Prelude.{◌≡◌, ◌≢◌, ◌+◌, ◌-◌, ◌<◌, ◌≤◌, ◌^◌, [], ◌∷◌, ◌++◌, List, Err, Option, length, take, drop, replicate, OnOk, IfOk, vec_len, slice_index, slice_index_or, slice_set};
-ghost use Rattle.fancy_engine.specs.Threads.{undone, empty_slot, Backed};
+ghost use Rattle.fancy_engine.specs.Threads.{undone, empty_slot, thread_of, Backed};
 
-use crate::slot::{Branch, EMPTY, Slot, Write};
+use crate::slot::{Branch, EMPTY, Pair, Slot, Write};
 use crate::work::Work;
 use std::alloc::{AllocError, Global};
 use std::marker::Model;
@@ -37,12 +37,11 @@ pub fn begin_slots(slots: &mut Vec<Slot>, count: usize) -> Result<(), AllocError
     Ok(())
 }
 
-/// The thread that is followed, and the saved branches. Each branch is seen with the slots that it was saved with;
-/// what is kept is one list of slots and a log of the writes that were done since.
+/// The slots of the thread that is followed, and the saved branches. Each branch is seen with the slots that it was saved
+/// with; what is kept is one list of slots and a log of the writes that were done since. Where the thread stands is told
+/// beside it.
 #[derive(Drop)]
 pub struct Threads {
-    at: usize,
-    place: usize,
     slots: Vec<Slot>,
     branches: Vec<Branch>,
     log: Vec<Write>,
@@ -50,12 +49,12 @@ pub struct Threads {
 
 impl Model for Threads {
     ghost use Rattle.std.specs.Prelude.{reverse, length};
-    ghost use Rattle.fancy_engine.specs.Threads.{ThreadStack, saved_of, Ordered};
+    ghost use Rattle.fancy_engine.specs.Threads.{HeldThreads, saved_of, Ordered};
 
-    ghost Value = { ThreadStack };
+    ghost Value = { HeldThreads };
 
     ghost view = { λ w. record {
-      current = record { at = w.at; place = w.place; slots = w.slots.items };
+      slots = w.slots.items;
       saved = saved_of w.log.items w.slots.items (reverse w.branches.items);
     } };
 
@@ -63,14 +62,12 @@ impl Model for Threads {
 }
 
 impl Threads {
-    /// No thread and no branch.
+    /// No slot and no branch.
     pub fn new(alloc: Global) -> Threads
-        ensures current { result.current ≡ record { at = 0; place = 0; slots = [] } }
+        ensures slots { result.slots ≡ [] }
         ensures saved { result.saved ≡ [] }
     {
         Threads {
-            at: 0,
-            place: 0,
             slots: Vec::new(alloc),
             branches: Vec::new(alloc),
             log: Vec::new(alloc),
@@ -78,35 +75,18 @@ impl Threads {
     }
 
     /// Begins anew with so many slots, none written. The memory that it has is kept.
-    pub fn begin(&mut self, at: usize, place: usize, count: usize) -> Result<(), AllocError>
-        ensures begun { OnOk result (self.new.current
-            ≡ record { at = at; place = place; slots = replicate count empty_slot }) }
+    pub fn begin(&mut self, count: usize) -> Result<(), AllocError>
+        ensures slots { OnOk result (self.new.slots ≡ replicate count empty_slot) }
         ensures saved { self.new.saved ≡ [] }
     {
         self.branches.clear();
         self.log.clear();
-        self.at = at;
-        self.place = place;
         begin_slots(&mut self.slots, count)
-    }
-
-    /// The next instruction.
-    pub fn at(&self) -> usize
-        ensures { result ≡ self.now.current.at }
-    {
-        self.at
-    }
-
-    /// The place.
-    pub fn place(&self) -> usize
-        ensures { result ≡ self.now.current.place }
-    {
-        self.place
     }
 
     /// What is known of a group.
     pub fn slot(&self, number: usize) -> Slot
-        ensures { result ≡ slice_index_or self.now.current.slots number empty_slot }
+        ensures { result ≡ slice_index_or self.now.slots number empty_slot }
     {
         match self.slots.get(number) {
             Some(slot) => *slot,
@@ -114,31 +94,14 @@ impl Threads {
         }
     }
 
-    /// Goes on at another instruction.
-    pub fn go(&mut self, next: usize)
-        ensures current { self.new.current ≡ record self.old.current { at = next } }
-        ensures saved { self.new.saved ≡ self.old.saved }
-    {
-        self.at = next;
-    }
-
-    /// Goes on at another instruction and place.
-    pub fn go_to(&mut self, next: usize, place: usize)
-        ensures current { self.new.current ≡ record self.old.current { at = next; place = place } }
-        ensures saved { self.new.saved ≡ self.old.saved }
-    {
-        self.at = next;
-        self.place = place;
-    }
-
-    /// Saves a branch at another instruction.
-    pub fn save(&mut self, at: usize) -> Result<(), AllocError>
-        ensures current { self.new.current ≡ self.old.current }
-        ensures saved { OnOk result (self.new.saved ≡ (record self.old.current { at = at }) ∷ self.old.saved) }
+    /// Saves a branch at another pair.
+    pub fn save(&mut self, pair: Pair) -> Result<(), AllocError>
+        ensures slots { self.new.slots ≡ self.old.slots }
+        ensures saved { OnOk result (self.new.saved ≡ thread_of pair self.old.slots ∷ self.old.saved) }
     {
         let branch = Branch {
-            at,
-            place: self.place,
+            at: pair.at,
+            place: pair.place,
             log: self.log.len(),
         };
         self.branches.push(branch)?;
@@ -147,8 +110,7 @@ impl Threads {
 
     /// Writes a slot, and logs the write if a branch is saved.
     pub fn write_slot(&mut self, number: usize, slot: Slot) -> Result<(), AllocError>
-        ensures current { OnOk result (self.new.current
-            ≡ record self.old.current { slots = slice_set self.old.current.slots number slot }) }
+        ensures slots { OnOk result (self.new.slots ≡ slice_set self.old.slots number slot) }
         ensures saved { self.new.saved ≡ self.old.saved }
     {
         if number >= self.slots.len() {
@@ -167,18 +129,19 @@ impl Threads {
         Ok(())
     }
 
-    /// Takes the branch that was saved last, which is one return, and goes back to what was written then. Returns whether there
-    /// was one.
-    pub fn back(&mut self, work: &mut Work) -> bool
+    /// Takes the branch that was saved last, which is one return, and goes back to what was written then. Returns where the
+    /// branch stands, if there was one.
+    pub fn back(&mut self, work: &mut Work) -> Option<Pair>
         ensures { Backed result self.old self.new work.old work.new }
     {
         let Some(branch) = self.branches.pop() else {
-            return false;
+            return None;
         };
         work.count_return_within();
-        self.at = branch.at;
-        self.place = branch.place;
         undo(&mut self.slots, &mut self.log, branch.log);
-        true
+        Some(Pair {
+            at: branch.at,
+            place: branch.place,
+        })
     }
 }

@@ -1,5 +1,5 @@
 use Rattle.std.proofs.Common.{◌≡◌, ◌+◌, ◌-◌, ◌^◌, ◌<◌, ◌∷◌, inl, inr, length, List, ap, ◌∙◌, subst, arith}
-use Rattle.fancy_engine.specs.Threads.{Thread}
+use Rattle.fancy_engine.specs.Threads.{Thread, thread_of, stack_of}
 use Rattle.fancy_engine.specs.Attempt.{context_in, instrs_in, may_end_in, first_accepted_in, RestingIn}
 use Rattle.fancy_engine.specs.Runner.{AllWithin}
 use Rattle.fancy_engine.specs.Code.{marks_of}
@@ -18,7 +18,7 @@ pub pairs-preserved-in-On : goal.pairs-preserved-in-On
 pairs-preserved-in-On c =
     let spent = rw c.in-On.is at c.in_ok-visit.ensures.spent in
     record {
-      running = λ kept deep known failed. rw c.in-On.is at (c.in_ok-visit.ensures.visited kept deep (first_accepted_in c.args.attempt.now kept deep c.args.threads.now) (c.pairs.invariant.running kept deep known failed));
+      running = λ kept deep known failed. rw c.in-On.is at (c.in_ok-visit.ensures.visited kept deep (first_accepted_in c.args.attempt.now kept deep (stack_of c.args.start c.args.threads.now)) (c.pairs.invariant.running kept deep known failed));
       within = c.in_ok-visit.ensures.within;
       room = c.visit.ensures.room ∙ c.pairs.invariant.room;
       spent = omega (arith, spent, c.pairs.invariant.spent);
@@ -29,40 +29,40 @@ pairs-preserved-in-On c =
       last_lines = c.visit.ensures.last_lines;
     }
 
-pub returns-then-not-back-clause-answer : goal.returns-then-not-back-clause-answer
-returns-then-not-back-clause-answer c kept deep known failed =
-    let rest = rw c.in-Dead.is at (c.in_ok-visit.ensures.visited kept deep (first_accepted_in c.args.attempt.now kept deep c.args.threads.now) (c.pairs.invariant.running kept deep known failed)) in
-    let b = rw c.if-not-back.true at c.back.ensures in
-    (rest_done (may_end_in c.args.attempt.now) (context_in c.args.attempt.now) c.args.attempt.now.first c.args.attempt.now.last (instrs_in c.args.attempt.now) c.requires.easy deep kept (first_accepted_in c.args.attempt.now kept deep c.args.threads.now) (marks_of c.args.attempt.now.code.now c.visit.new.table)
-    (subst (λ (x : List Thread). RestingIn c.args.attempt.now kept deep (first_accepted_in c.args.attempt.now kept deep c.args.threads.now) c.visit.new.table x) b.0 rest)).0
+pub returns-in-None-clause-answer : goal.returns-in-None-clause-answer
+returns-in-None-clause-answer c kept deep known failed =
+    let rest = rw c.in-Dead.is at (c.in_ok-visit.ensures.visited kept deep (first_accepted_in c.args.attempt.now kept deep (stack_of c.args.start c.args.threads.now)) (c.pairs.invariant.running kept deep known failed)) in
+    let b = c.in-None.ensures in
+    (rest_done (may_end_in c.args.attempt.now) (context_in c.args.attempt.now) c.args.attempt.now.first c.args.attempt.now.last (instrs_in c.args.attempt.now) c.requires.easy deep kept (first_accepted_in c.args.attempt.now kept deep (stack_of c.args.start c.args.threads.now)) (marks_of c.args.attempt.now.code.now c.visit.new.table)
+    (subst (λ (x : List Thread). RestingIn c.args.attempt.now kept deep (first_accepted_in c.args.attempt.now kept deep (stack_of c.args.start c.args.threads.now)) c.visit.new.table x) b.0 rest)).0
 
-pub returns-then-not-back-clause-failed : goal.returns-then-not-back-clause-failed
-returns-then-not-back-clause-failed c kept deep known failed _ =
-    let rest = rw c.in-Dead.is at (c.in_ok-visit.ensures.visited kept deep (first_accepted_in c.args.attempt.now kept deep c.args.threads.now) (c.pairs.invariant.running kept deep known failed)) in
-    let b = rw c.if-not-back.true at c.back.ensures in
-    (rest_done (may_end_in c.args.attempt.now) (context_in c.args.attempt.now) c.args.attempt.now.first c.args.attempt.now.last (instrs_in c.args.attempt.now) c.requires.easy deep kept (first_accepted_in c.args.attempt.now kept deep c.args.threads.now) (marks_of c.args.attempt.now.code.now c.visit.new.table)
-    (subst (λ (x : List Thread). RestingIn c.args.attempt.now kept deep (first_accepted_in c.args.attempt.now kept deep c.args.threads.now) c.visit.new.table x) b.0 rest)).1
+pub returns-in-None-clause-failed : goal.returns-in-None-clause-failed
+returns-in-None-clause-failed c kept deep known failed _ =
+    let rest = rw c.in-Dead.is at (c.in_ok-visit.ensures.visited kept deep (first_accepted_in c.args.attempt.now kept deep (stack_of c.args.start c.args.threads.now)) (c.pairs.invariant.running kept deep known failed)) in
+    let b = c.in-None.ensures in
+    (rest_done (may_end_in c.args.attempt.now) (context_in c.args.attempt.now) c.args.attempt.now.first c.args.attempt.now.last (instrs_in c.args.attempt.now) c.requires.easy deep kept (first_accepted_in c.args.attempt.now kept deep (stack_of c.args.start c.args.threads.now)) (marks_of c.args.attempt.now.code.now c.visit.new.table)
+    (subst (λ (x : List Thread). RestingIn c.args.attempt.now kept deep (first_accepted_in c.args.attempt.now kept deep (stack_of c.args.start c.args.threads.now)) c.visit.new.table x) b.0 rest)).1
 
 pub pairs-smaller : goal.pairs-smaller
 pairs-smaller c =
-    let b = rw c.if-not-back.false at c.back.ensures in
+    let b = c.in-Some.ensures in
     let few : length c.visit.new.threads.saved ≡ length c.back.new.self.saved + 1 = ap length b.0 ∙ omega arith in
     let progress = rw (c.in-Dead.is, b.0) at c.in_ok-visit.ensures.progress in
     omega (arith, few, progress.0, progress.1)
 
 pub pairs-preserved : goal.pairs-preserved
 pairs-preserved c =
-    let b = rw c.if-not-back.false at c.back.ensures in
+    let b = c.in-Some.ensures in
     let one = one_return c.visit.new.work c.back.new.work b.1 in
     let few : length c.visit.new.threads.saved ≡ length c.back.new.self.saved + 1 = ap length b.0 ∙ omega arith in
     let spent = rw (c.in-Dead.is, b.0) at c.in_ok-visit.ensures.spent in
-    let within : AllWithin c.args.attempt.now.first c.args.attempt.now.last (c.back.new.self.current ∷ c.back.new.self.saved) =
+    let within : AllWithin c.args.attempt.now.first c.args.attempt.now.last ((thread_of c.in-Some.branch c.back.new.self.slots) ∷ c.back.new.self.saved) =
     subst (λ (x : List Thread). AllWithin c.args.attempt.now.first c.args.attempt.now.last x) b.0 c.in_ok-visit.ensures.within.2 in
     record {
       running = λ kept deep known failed.
-          (let rest = rw c.in-Dead.is at (c.in_ok-visit.ensures.visited kept deep (first_accepted_in c.args.attempt.now kept deep c.args.threads.now) (c.pairs.invariant.running kept deep known failed)) in
-          rest_back (may_end_in c.args.attempt.now) (context_in c.args.attempt.now) c.args.attempt.now.first c.args.attempt.now.last (instrs_in c.args.attempt.now) c.requires.easy deep kept (first_accepted_in c.args.attempt.now kept deep c.args.threads.now) (marks_of c.args.attempt.now.code.now c.visit.new.table) c.back.new.self.current c.back.new.self.saved
-          (subst (λ (x : List Thread). RestingIn c.args.attempt.now kept deep (first_accepted_in c.args.attempt.now kept deep c.args.threads.now) c.visit.new.table x) b.0 rest));
+          (let rest = rw c.in-Dead.is at (c.in_ok-visit.ensures.visited kept deep (first_accepted_in c.args.attempt.now kept deep (stack_of c.args.start c.args.threads.now)) (c.pairs.invariant.running kept deep known failed)) in
+          rest_back (may_end_in c.args.attempt.now) (context_in c.args.attempt.now) c.args.attempt.now.first c.args.attempt.now.last (instrs_in c.args.attempt.now) c.requires.easy deep kept (first_accepted_in c.args.attempt.now kept deep (stack_of c.args.start c.args.threads.now)) (marks_of c.args.attempt.now.code.now c.visit.new.table) (thread_of c.in-Some.branch c.back.new.self.slots) c.back.new.self.saved
+          (subst (λ (x : List Thread). RestingIn c.args.attempt.now kept deep (first_accepted_in c.args.attempt.now kept deep (stack_of c.args.start c.args.threads.now)) c.visit.new.table x) b.0 rest));
       within = within;
       room = c.visit.ensures.room ∙ c.pairs.invariant.room;
       spent = omega (arith, spent, one.steps, c.pairs.invariant.spent);
@@ -81,4 +81,4 @@ pairs-preserved c =
     }
 
 pub returns-in-Found-clause-answer : goal.returns-in-Found-clause-answer
-returns-in-Found-clause-answer c kept deep known failed = rw c.in-Found.is at (c.in_ok-visit.ensures.visited kept deep (first_accepted_in c.args.attempt.now kept deep c.args.threads.now) (c.pairs.invariant.running kept deep known failed))
+returns-in-Found-clause-answer c kept deep known failed = rw c.in-Found.is at (c.in_ok-visit.ensures.visited kept deep (first_accepted_in c.args.attempt.now kept deep (stack_of c.args.start c.args.threads.now)) (c.pairs.invariant.running kept deep known failed))
