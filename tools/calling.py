@@ -28,6 +28,9 @@ QUOTED = [
     ("fancy_regex/src/escapes.rt", "", ["escape"]),
     ("fancy_regex/src/set.rt", "RegexSet", ["new", "can_search"]),
     ("fancy_regex/src/set/matches.rt", "RegexSet", ["find_input"]),
+    ("fancy_regex/src/tokens.rt", "RegexSet", ["tokens"]),
+    ("fancy_regex/src/tokens.rt", "Tokens", ["place"]),
+    ("fancy_regex/src/laws.rt", "", ["tokens_cut_the_text"]),
 ]
 
 CLAUSE = re.compile(r"^\s+(requires|ensures)\*? *(\w+)? *\{(.*)\}$", re.S)
@@ -43,7 +46,7 @@ def quote(source, owner, name):
     """The signature and the clauses of a public function."""
     lines = source.split("\n")
     start = next(at for at, line in enumerate(lines) if re.match(rf"\s*pub fn {name}\b", line))
-    end = next(at for at in range(start, len(lines)) if re.match(r"\s*\{$", lines[at]))
+    end = next(at for at in range(start, len(lines)) if re.match(r"\s*\{\}?$", lines[at]))
     signature, clauses = [], []
     for line in lines[start:end]:
         if re.match(r"\s+(requires|ensures)\b", line):
