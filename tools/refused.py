@@ -2,10 +2,11 @@
 call meets no refusal: alone, and with all requests behind it. An answer is the right one, or ends with `Memory` and is right up to it, or
 is counted as a third one. Then makes the calls that take no memory with every request refused.
 
-    python3 tools/refused.py [--third]
+    python3 tools/refused.py [--only calls|fre] [--third]
 
-With `--third`, a row of which the expected answer is wrong stands among the rows, and a third answer must be counted for it.
+With `--third`, one row is asked alone of which the expected answer is wrong: a third answer must be counted for each of its runs.
 """
+import argparse
 import os
 import subprocess
 import sys
@@ -15,6 +16,7 @@ import asking
 import table
 
 MEMORY = '!out of memory'
+MODES = ((False, 'one request'), (True, 'a request and all behind it'))
 
 
 def is_cut(call, wanted, got):
@@ -141,30 +143,50 @@ def try_fre(library, rest, count):
                 count.wrong(words, at, (done.returncode, out, complaints))
 
 
+def all_calls(library, wrong_row):
+    """The calls of the table; answers how many third answers there were."""
+    rows, without = list(table.with_memory()), list(table.without_memory())
+    print('%d rows of calls that take memory, %d of calls that take none' % (len(rows), len(without)), flush=True)
+    if wrong_row:
+        rows = [('find', '-', '(a)b', 'bab', 0, '', ['true', '0..1'])]
+    third = 0
+    for rest, name in MODES:
+        count = Count()
+        try_calls(rows, library, rest, count)
+        count.tell('calls with %s refused' % name)
+        third += count.third
+    print('requests of a row: %d at most, %d in all' % (max(count.most.values()), sum(count.most.values())))
+    count = Count()
+    try_without(without, library, count)
+    count.tell('calls that take no memory')
+    return third + count.third
+
+
+def all_commands(library):
+    """The commands of `fre`; answers how many third answers there were."""
+    print('%d commands of fre' % len(table.FRE), flush=True)
+    third = 0
+    for rest, name in MODES:
+        count = Count()
+        try_fre(library, rest, count)
+        count.tell('fre with %s refused' % name)
+        third += count.third
+    return third
+
+
 def main():
-    rows = list(table.with_memory())
-    if '--third' in sys.argv:
-        rows.append(('find', '-', 'a', 'ba', 0, '', ['true', '0..1']))
+    words = argparse.ArgumentParser()
+    words.add_argument('--only', choices=('calls', 'fre'))
+    words.add_argument('--third', action='store_true')
+    words = words.parse_args()
     third = 0
     with tempfile.TemporaryDirectory() as folder:
         library = os.path.join(folder, 'refuse.so')
         subprocess.run(['cc', '-shared', '-fPIC', '-O1', '-Wall', '-o', library, os.path.join(asking.HERE, 'refuse.c'), '-ldl'], check=True)
-        print('%d calls with memory, %d without, %d commands of fre' % (len(rows), len(list(table.without_memory())), len(table.FRE)))
-        for rest, name in ((False, 'one request'), (True, 'a request and all behind it')):
-            count = Count()
-            try_calls(rows, library, rest, count)
-            count.tell('calls with %s refused' % name)
-            third += count.third
-        print('requests of a call: %d at most, %d in all' % (max(count.most.values()), sum(count.most.values())))
-        count = Count()
-        try_without(list(table.without_memory()), library, count)
-        count.tell('calls that take no memory')
-        third += count.third
-        for rest, name in ((False, 'one request'), (True, 'a request and all behind it')):
-            count = Count()
-            try_fre(library, rest, count)
-            count.tell('fre with %s refused' % name)
-            third += count.third
+        if words.only != 'fre':
+            third += all_calls(library, words.third)
+        if words.only != 'calls':
+            third += all_commands(library)
     print('%d third answers' % third)
     sys.exit(third > 0)
 

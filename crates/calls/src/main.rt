@@ -4,9 +4,9 @@
 //! A line has six words, split by blanks: the call, letters of options, a pattern, a text, a number, a template. Pattern, text
 //! and template are in hexadecimal, and `-` is the empty one; for a set the pattern is several ones, split by commas. What the
 //! number means, the call says. The answer is a line `>A<B`, where A and B are what the call answers at first and once more:
-//! items with a `|` behind each, a refusal among them as `!` and its text. All that is before the `>` stands when it is written, and
-//! so do `A` at the `<` and `B` at the end, so that who reads along can tell when a call begins and ends. A line without
-//! a `>` has no answer, as where its pattern is refused; an item `?cannot` says that the regex must not search the input.
+//! items with a `|` behind each, a refusal among them as `!` and its text. The output is flushed at the `>`, at the `<` and at the
+//! end of the line, so that who reads along can tell when the first call begins and ends. A line without a `>` has no answer, as
+//! where its pattern is refused; an item `?cannot` says that the regex must not search the input.
 #![tactic(auto)]
 
 mod builds;
