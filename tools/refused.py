@@ -1,5 +1,5 @@
 """Makes each call of tools/table.py, and each command of `fre` there, with the Nth request for memory refused, for N from 1 on until a
-call meets no refusal: alone, and with all requests behind it. An answer is the right one, or ends with `Memory` and is right up to it, or
+call meets no refusal: alone, and with all requests after it. An answer is the right one, or ends with `Memory` and is right up to it, or
 is counted as a third one. Then makes the calls that take no memory with every request refused.
 
     python3 tools/refused.py [--only calls|fre] [--third]
@@ -16,7 +16,7 @@ import asking
 import table
 
 MEMORY = '!out of memory'
-MODES = ((False, 'one request'), (True, 'a request and all behind it'))
+MODES = ((False, 'one request'), (True, 'a request and all after it'))
 
 
 def is_cut(call, wanted, got):

@@ -95,7 +95,7 @@ def texts():
     yield 'replace_by', '-', r'([^,\s]+),\s+(\S+)', NAMED, 0, '', [x('<Bruce>')] * 2
     yield 'check', '-', NAMES, '', 0, '$first', ['fits', 'fits']
     yield 'check', '-', NAMES, '', 0, '$1', [BY_NAME]
-    yield 'check', '-', NAMES, '', 0, 'a$', ['!parsing error at position 0: closing parenthesis without opening parenthesis']
+    yield 'check', '-', NAMES, '', 0, 'a$', ['!parsing error at position 0: unmatched parenthesis, or an incomplete reference in a template']
     yield 'check', '-', '(?<n>a)', '', 0, '${m}', ['!error compiling regex: no group has the name m']
     yield 'expand', '-', NAMES, 'deep fried', 0, '${first}_$second', expanded('deep_fried')
     yield 'expand', '-', '(b)', 'abc', 0, '${1', expanded('${1')
