@@ -451,7 +451,7 @@ fn patterns_have_a_size(rt: HostRuntime) {
 
 #[test]
 fn groups_that_capture_nothing_are_no_nodes(rt: HostRuntime) {
-    let mut pattern = repeated(&rt, rt.alloc(), "(a)", 500_000);
+    let mut pattern = repeated(&rt, rt.alloc(), "(a)", 2_000_000);
     pattern.push_str("(?<n>b)").expect(&rt, "no memory");
     let found = parse(rt.alloc(), pattern.as_str());
     check_verdict(&rt, &found, Verdict::TooComplex, "groups that capture");
