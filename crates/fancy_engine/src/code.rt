@@ -93,6 +93,7 @@ pub struct Code {
     /// The text of two bytes or more that each match begins with, where it was tried. `None` where there is no such text.
     pub literal: Option<Literal>,
     ghost known: { IsTrue (are_known (length sets.items) instrs.items) },
+    ghost marked: { length marking.numbers.items ≡ length instrs.items },
     ghost paid: { IsPaid (with_sets sets.items instrs.items) marking.numbers.items marking.weights.items start },
 }
 
@@ -113,6 +114,7 @@ impl Code {
         literal: Option<Literal>,
     ) -> Code
         requires known { IsTrue (are_known (length sets.items) instrs.items) }
+        requires marked { length marking.numbers.items ≡ length instrs.items }
         requires paid { IsPaid (with_sets sets.items instrs.items) marking.numbers.items marking.weights.items start }
         ensures instrs { instrs_of result ≡ with_sets sets.items instrs.items }
         ensures start { result.start ≡ start }
@@ -163,6 +165,7 @@ impl Code {
 
     /// The number of the instruction's mark, among those of a place; `None` where it has none.
     pub(crate) fn mark_number(&self, at: usize) -> Option<usize>
+        requires { at < code_len self.now }
         ensures { result ≡ number_of self.now at }
     {
         self.marking.number(at)

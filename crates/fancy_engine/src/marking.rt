@@ -5,7 +5,7 @@
 //! those after it up to the next marks. `is_paid` tests that the weights of a place's marks are no more than there are instructions.
 //! Where it says no, each instruction gets a mark.
 
-ghost use Rattle.std.specs.Prelude.{◌≡◌, ◌<◌, ℕ, List, Option, Some, None, true, IfOk, IfSome, replicate, vec_len, slice_index_or};
+ghost use Rattle.std.specs.Prelude.{◌≡◌, ◌<◌, ℕ, List, Option, Some, None, true, IfOk, IfSome, length, replicate, vec_len, slice_index_or};
 ghost use Rattle.fancy_tree.specs.declared.char_set.CharSet.{CharSet};
 ghost use Rattle.fancy_engine.specs.Instructions.{with_set, with_sets};
 ghost use Rattle.fancy_engine.specs.Marking.{number_in, due_in, worth_in, cost_in, IsPaid, IsNumbered};
@@ -28,7 +28,8 @@ pub(crate) struct Marking {
 impl Marking {
     /// The marks of these instructions, which begin at `start`.
     pub(crate) fn new(alloc: Global, instrs: &[Instr], start: usize) -> Result<Marking, AllocError>
-        ensures { IfOk result (λ marking. (sets : List CharSet)
+        ensures long { IfOk result (λ marking. length marking.numbers.items ≡ length instrs.now) }
+        ensures paid { IfOk result (λ marking. (sets : List CharSet)
             → IsPaid (with_sets sets instrs.now) marking.numbers.items marking.weights.items start) }
     {
         let joins = joins_of(alloc, instrs, start)?;
@@ -47,7 +48,8 @@ impl Marking {
 
     /// A mark for each instruction.
     fn of_all(alloc: Global, instrs: &[Instr]) -> Result<Marking, AllocError>
-        ensures { IfOk result (λ marking. (sets : List CharSet) (start : ℕ)
+        ensures long { IfOk result (λ marking. length marking.numbers.items ≡ length instrs.now) }
+        ensures paid { IfOk result (λ marking. (sets : List CharSet) (start : ℕ)
             → IsPaid (with_sets sets instrs.now) marking.numbers.items marking.weights.items start) }
     {
         let width = instrs.len();
@@ -62,12 +64,10 @@ impl Marking {
 
     /// The number of an instruction's mark, among those of a place; `None` where it has none.
     pub(crate) fn number(&self, at: usize) -> Option<usize>
+        requires { at < length self.now.numbers.items }
         ensures { result ≡ number_in self.now.numbers.items at }
     {
-        match self.numbers.get(at) {
-            Some(number) => *number,
-            None => None,
-        }
+        self.numbers[at]
     }
 
     /// How many marks a place has.
@@ -122,10 +122,14 @@ fn cost(numbers: &[Option<usize>], weights: &[usize], instr: &Instr) -> Option<u
     }
 }
 
-/// Whether the weights pay for all steps.
+/// Whether each instruction has a number or none, and the weights pay for all steps.
 fn is_paid(instrs: &[Instr], numbers: &[Option<usize>], weights: &[usize], start: usize) -> bool
-    ensures { (sets : List CharSet) → result ≡ true → IsPaid (with_sets sets instrs.now) numbers.now weights.now start }
+    ensures long { result ≡ true → length numbers.now ≡ length instrs.now }
+    ensures paid { (sets : List CharSet) → result ≡ true → IsPaid (with_sets sets instrs.now) numbers.now weights.now start }
 {
+    if numbers.len() != instrs.len() {
+        return false;
+    }
     let mut total: usize = 0;
     for at in 0..instrs.len() {
         let Some(cost) = cost(numbers, weights, &instrs[at]) else {

@@ -45,11 +45,13 @@ pub struct Threads {
     slots: Vec<Slot>,
     branches: Vec<Branch>,
     log: Vec<Write>,
+    // whether a slot was written since they were begun
+    written: bool,
 }
 
 impl Model for Threads {
-    ghost use Rattle.std.specs.Prelude.{reverse, length};
-    ghost use Rattle.fancy_engine.specs.Threads.{HeldThreads, saved_of, Ordered};
+    ghost use Rattle.std.specs.Prelude.{◌≡◌, false, [], reverse, length, replicate};
+    ghost use Rattle.fancy_engine.specs.Threads.{HeldThreads, saved_of, empty_slot, Ordered};
 
     ghost Value = { HeldThreads };
 
@@ -58,7 +60,8 @@ impl Model for Threads {
       saved = saved_of w.log.items w.slots.items (reverse w.branches.items);
     } };
 
-    ghost invariant = { λ w. Ordered (length w.log.items) (reverse w.branches.items) };
+    ghost invariant = { λ w. Ordered (length w.log.items) (reverse w.branches.items)
+        × (w.written ≡ false → (w.slots.items ≡ replicate (length w.slots.items) empty_slot) × (w.log.items ≡ [])) };
 }
 
 impl Threads {
@@ -71,17 +74,23 @@ impl Threads {
             slots: Vec::new(alloc),
             branches: Vec::new(alloc),
             log: Vec::new(alloc),
+            written: false,
         }
     }
 
-    /// Begins anew with so many slots, none written. The memory that it has is kept.
+    /// Begins anew with so many slots, none written. The memory that it has is kept, and so are slots that nothing was written to.
     pub fn begin(&mut self, count: usize) -> Result<(), AllocError>
         ensures slots { OnOk result (self.new.slots ≡ replicate count empty_slot) }
         ensures saved { self.new.saved ≡ [] }
     {
         self.branches.clear();
         self.log.clear();
-        begin_slots(&mut self.slots, count)
+        if self.written || self.slots.len() != count {
+            self.written = true;
+            begin_slots(&mut self.slots, count)?;
+            self.written = false;
+        }
+        Ok(())
     }
 
     /// What is known of a group.
@@ -116,6 +125,7 @@ impl Threads {
         if number >= self.slots.len() {
             return Ok(());
         }
+        self.written = true;
         if self.branches.is_empty() {
             self.slots[number] = slot;
             return Ok(());

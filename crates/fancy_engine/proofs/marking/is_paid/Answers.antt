@@ -15,7 +15,7 @@ loop-at-preserved c =
       total = omega (arith, c.in-Some-checked_add.ensures, c.worth.ensures, c.loop-at.invariant.total, sum_more (worth_in c.args.numbers.now c.args.weights.now) c.loop-at.at);
     }
 
-pub returns-in-Some-checked_add-2 : goal.returns-in-Some-checked_add-2
-returns-in-Some-checked_add-2 c sets fits =
+pub returns-in-Some-checked_add-2-clause-paid : goal.returns-in-Some-checked_add-2-clause-paid
+returns-in-Some-checked_add-2-clause-paid c sets fits =
     paid_by c.args.numbers.now c.args.weights.now sets c.args.instrs.now c.args.start c.loop-at.at c.loop-at.total c.in-Some-checked_add-2.all (search rules) (c.loop-at.invariant.pays sets) c.loop-at.invariant.total
     (omega (arith, c.in-Some-checked_add-2.ensures, c.due.ensures)) (search rules)

@@ -13,8 +13,8 @@ invariant_of-result c =
           (λ q ge. none_past numbers q (omega (arith, ge, c.in_ok-numbers.ensures.many, c.in_ok-numbers.numbers.ok.0)));
     }
 
-pub returns : goal.returns
-returns c sets start =
+pub returns-clause-paid : goal.returns-clause-paid
+returns-clause-paid c sets start =
     let numbers = c.in_ok-numbers.numbers.items in
     let count : length (with_sets sets c.args.instrs.now) ≡ length c.args.instrs.now = length-map c.args.instrs.now (with_set sets) in
     subst (λ (ws : List ℕ). IsPaid (with_sets sets c.args.instrs.now) numbers ws start) (sym (c.in_ok-weights.ensures ∙ ap (λ (n : ℕ). replicate n 1) (sym count)))
