@@ -56,12 +56,15 @@ module _ (a : Attempt) where
 
   -- what the runner still has before it
   abbrev pub RunningIn : ℕ → ℕ → Option State → List Bool → ThreadStack → Type 0
-  RunningIn kept deep goal table ts = Running may_end_in context_in a.first a.last instrs_in deep kept goal (marks_of a.code.now table) ts.current ts.saved
+  RunningIn kept deep goal table ts =
+      Running may_end_in context_in a.first a.last instrs_in deep kept goal (marks_of a.code.now table) ts.current ts.saved
 
   -- the same once the saved branches are all that is left
   abbrev pub RestingIn : ℕ → ℕ → Option State → List Bool → List Thread → Type 0
-  RestingIn kept deep goal table saved = Resting may_end_in context_in a.first a.last instrs_in deep kept goal (marks_of a.code.now table) saved
+  RestingIn kept deep goal table saved =
+      Resting may_end_in context_in a.first a.last instrs_in deep kept goal (marks_of a.code.now table) saved
 
   -- the same after a visit
   abbrev pub VisitedIn : ℕ → ℕ → Next → Option State → List Bool → ThreadStack → Type 0
-  VisitedIn kept deep next goal table ts = Visited may_end_in context_in a.first a.last instrs_in deep kept next goal (marks_of a.code.now table) ts.current ts.saved
+  VisitedIn kept deep next goal table ts =
+      Visited may_end_in context_in a.first a.last instrs_in deep kept next goal (marks_of a.code.now table) ts.current ts.saved

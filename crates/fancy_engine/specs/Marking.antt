@@ -46,7 +46,8 @@ abbrev pub sum_to : (ℕ → ℕ) → ℕ → ℕ
 sum_to f zero = 0
 sum_to f (suc n) = sum_to f n + f n
 
--- An instruction's weight pays for its step and for what is due after it, and the marks of a place together with the start are worth no more than there are instructions.
+-- An instruction's weight pays for its step and for what is due after it. The marks of a place and the start are worth no more than there
+-- are instructions.
 pub record IsPaid (code : List Instruction) (numbers : List (Option ℕ)) (weights : List ℕ) (start : ℕ) : Type 0 where
   pub pays : (q : ℕ) → q < length code → cost_in numbers weights (slice_index_or code q Fail) < slice_index_or weights q 0
   pub total : sum_to (worth_in numbers weights) (length code) + due_in numbers weights start ≤ length code

@@ -1,9 +1,9 @@
-//! Which instructions have a mark at each place that is searched: those to which two ways lead. A thread comes to the others at most as
-//! often as to the one that leads there, so these need none.
+//! Which instructions have a mark at each place that is searched: those to which two ways lead. A thread comes to the
+//! others at most as often as to the one that leads there, so these need none.
 //!
 //! That this is enough is tested when code is made. The weights are the steps that an instruction stands for: its own, and
-//! those after it up to the next marks. `is_paid` tests that the weights of a place's marks are no more than there are instructions.
-//! Where it says no, each instruction gets a mark.
+//! those after it up to the next marks. `is_paid` tests that the weights of a place's marks are no more than there are
+//! instructions. Where it says no, each instruction gets a mark.
 
 ghost use Rattle.std.specs.Prelude.{◌≡◌, ◌<◌, ℕ, List, Option, Some, None, true, IfOk, IfSome, length, replicate, vec_len, slice_index_or};
 ghost use Rattle.fancy_tree.specs.declared.char_set.CharSet.{CharSet};
@@ -211,8 +211,8 @@ fn joins_of(alloc: Global, instrs: &[Instr], start: usize) -> Result<Vec<bool>, 
     Ok(joins)
 }
 
-/// Makes a join of an instruction to which an earlier one leads that is none, so that the weights of the others can be
-/// told one after the other.
+/// Makes a join of an instruction to which an earlier one leads that is none, so that the weights of the others can be told
+/// one after the other.
 fn order(instrs: &[Instr], joins: &mut Vec<bool>) {
     for at in 0..instrs.len() {
         let (first, second) = targets(&instrs[at]);
@@ -247,8 +247,8 @@ fn numbers_of(alloc: Global, chosen: &[bool]) -> Result<(Vec<Option<usize>>, usi
     Ok((numbers, width))
 }
 
-/// The weights, as far as they are a `usize`: first those of the instructions without a mark, of which each leads to earlier
-/// ones and to marks, then the others.
+/// The weights, as far as they are a `usize`: first those of the instructions without a mark, of which each leads to
+/// earlier ones and to marks, then the others.
 fn weights_of(
     alloc: Global,
     instrs: &[Instr],
@@ -256,12 +256,16 @@ fn weights_of(
 ) -> Result<Vec<usize>, AllocError> {
     let mut weights = Vec::new(alloc);
     for at in 0..instrs.len() {
-        let weight = weight(numbers, &weights, &instrs[at]);
+        let weight = if has_number(numbers, at) {
+            0
+        } else {
+            weight(numbers, &weights, &instrs[at])
+        };
         weights.push(weight)?;
     }
     for at in 0..instrs.len() {
-        let weight = weight(numbers, &weights, &instrs[at]);
         if at < weights.len() && has_number(numbers, at) {
+            let weight = weight(numbers, &weights, &instrs[at]);
             weights[at] = weight;
         }
     }

@@ -177,8 +177,10 @@ fn step(
         → SteppedIn attempt.now kept deep next (stack_of pair.old threads.old) (stack_of pair.new threads.new)) }
     ensures forth { IfOk result (λ _. pair.old.place ≤ pair.new.place) }
     ensures within { IfOk result (λ _. pair.old.place ≤ attempt.now.last → pair.new.place ≤ attempt.now.last) }
-    ensures stacked { IfOk result (λ next. Stacked next (thread_of pair.old threads.old.slots) threads.old.saved threads.new.saved) }
-    ensures spends { IfOk result (λ next. Spends next (cost_of attempt.now.code.now (instr_at (instrs_in attempt.now) pair.old.at))
+    ensures stacked { IfOk result (λ next. Stacked next (thread_of pair.old threads.old.slots)
+        threads.old.saved threads.new.saved) }
+    ensures spends { IfOk result (λ next. Spends next
+        (cost_of attempt.now.code.now (instr_at (instrs_in attempt.now) pair.old.at))
         (burden attempt.now.code.now threads.old.saved) (burden attempt.now.code.now threads.new.saved)
         (due_of attempt.now.code.now pair.new.at)) }
     ensures work { work.new ≡ stepped_within work.old }
@@ -275,7 +277,8 @@ fn visit(
     ensures visited { IfOk result (λ next. (kept deep : ℕ) (goal : Option State)
         → RunningIn attempt.now kept deep goal table.old (stack_of pair.old threads.old)
         → VisitedIn attempt.now kept deep next goal table.new (stack_of pair.new threads.new)) }
-    ensures progress { IfOk result (λ next. Progresses next (ahead_in attempt.now table.old (thread_of pair.old threads.old.slots ∷ threads.old.saved))
+    ensures progress { IfOk result (λ next. Progresses next
+        (ahead_in attempt.now table.old (thread_of pair.old threads.old.slots ∷ threads.old.saved))
         (ahead_in attempt.now table.new (threads_after next (thread_of pair.new threads.new.slots) threads.new.saved))
         (length threads.old.saved) (length threads.new.saved)) }
     ensures within { IfOk result (λ _. AllWithin attempt.now.first attempt.now.last
@@ -314,9 +317,9 @@ fn visit(
     }
 }
 
-/// The place of the first accepted outcome of one attempt, which begins at `start`; its slots then stand in `threads`. The table is
-/// kept from the attempts before, of which none found anything. There are at most as many steps, also up to a refusal, as are due
-/// at the start and as the marks are worth that are made.
+/// The place of the first accepted outcome of one attempt, which begins at `start`; its slots then stand in `threads`. The
+/// table is kept from the attempts before, of which none found anything. There are at most as many steps, also up to a
+/// refusal, as are due at the start and as the marks are worth that are made.
 pub fn follow(
     attempt: &Attempt,
     start: Pair,

@@ -78,7 +78,8 @@ impl Threads {
         }
     }
 
-    /// Begins anew with so many slots, none written. The memory that it has is kept, and so are slots that nothing was written to.
+    /// Begins anew with so many slots, none written. The memory that it has is kept, and so are slots that nothing was
+    /// written to.
     pub fn begin(&mut self, count: usize) -> Result<(), AllocError>
         ensures slots { OnOk result (self.new.slots ≡ replicate count empty_slot) }
         ensures saved { self.new.saved ≡ [] }
@@ -139,8 +140,8 @@ impl Threads {
         Ok(())
     }
 
-    /// Takes the branch that was saved last, which is one return, and goes back to what was written then. Returns where the
-    /// branch stands, if there was one.
+    /// Takes the branch that was saved last, which is one return, and goes back to what was written then. Returns where
+    /// the branch stands, if there was one.
     pub fn back(&mut self, work: &mut Work) -> Option<Pair>
         ensures { Backed result self.old self.new work.old work.new }
     {
