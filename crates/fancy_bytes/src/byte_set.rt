@@ -36,7 +36,11 @@ fn has_bit(words: &[u64; 4], byte: u8) -> bool
     (words[i / 64] >> (i % 64)) & 1 == 1
 }
 
-/// A set of bytes.
+/// A set of bytes, as `RegexOptionsBuilder::start_bytes` gives it.
+///
+/// ```text
+/// RegexOptionsBuilder::new().start_bytes(alloc, "fn|let|impl")?    // Some, of the bytes f, i, l: len() is 3
+/// ```
 #[derive(Drop)]
 pub struct ByteSet {
     words: [u64; 4],

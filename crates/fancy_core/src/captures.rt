@@ -18,7 +18,8 @@ pub use views::{SubCaptureMatches, group_span};
 /// others go by the order in which they are opened. It borrows the regex that found it.
 ///
 /// ```text
-/// let captures = Regex::new(alloc, "(a)|b")?.captures("b")?;  // Some
+/// let regex = Regex::new(alloc, "(a)|b")?;
+/// let captures = regex.captures("b")?;  // Some
 /// captures.get(0)  // 0..1
 /// captures.get(1)  // None: the group took no part
 /// captures.get(2)  // None: there is no such group

@@ -50,6 +50,10 @@ impl Regex {
     /// is none.
     ///
     /// It is refused as [`Regex::find_input`] is.
+    ///
+    /// ```text
+    /// Regex::new(alloc, "(a)b")?.captures_from_pos("abab", 1)    // Some: 2..4, group 1 2..3
+    /// ```
     pub fn captures_from_pos<'r, S: Input>(
         &'r self,
         haystack: S,
@@ -69,6 +73,11 @@ impl Regex {
     }
 
     /// The groups of the first match that the input asks for, or none. It is refused as [`Regex::find_input`] is.
+    ///
+    /// ```text
+    /// let input = RegexInput::new("abab").from_pos(1);
+    /// Regex::new(alloc, "(a)b")?.captures_input(input)    // Some: 2..4, group 1 2..3
+    /// ```
     pub fn captures_input<'r, S: Input>(
         &'r self,
         input: RegexInput<S>,

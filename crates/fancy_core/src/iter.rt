@@ -24,8 +24,8 @@ use fancy_tree::error::Result;
 /// empty match at the very end of the match before is passed over. So `a*` finds in `"baa"` the spans 0 to 0 and
 /// 1 to 3, and nothing at 3.
 ///
-/// The first `next` takes memory, which the later searches reuse. Where memory runs out an item is
-/// `Error::Memory`, and nothing comes after it.
+/// The first `next` takes memory, which the later searches reuse. An item is an error where a search is refused, for want of
+/// memory or past a limit, as [`Regex::find_input`] is; the list ends after it. Made by [`Regex::find_iter`].
 #[derive(Drop)]
 pub struct Matches<'r, S: Haystack> {
     regex: &'r Regex,
@@ -60,6 +60,11 @@ impl Regex {
     }
 
     /// The matches that the input asks for.
+    ///
+    /// ```text
+    /// let input = RegexInput::new("xabab").from_pos(2);
+    /// Regex::new(alloc, "a|ab")?.find_iter_input(input)    // 3..4
+    /// ```
     #[tactic(auto, using(fancy_search::proofs::ScanLemmas::few_turns))]
     pub fn find_iter_input<S: Input>(&self, input: RegexInput<S>) -> Matches<'_, S>
         requires searched { CanSearchInput S.text S.bytes (options_in self.now) input }
@@ -88,7 +93,7 @@ impl<'r, S: Input> Matches<'r, S> {
         self.regex
     }
 
-    /// The whole haystack.
+    /// The whole haystack, also where a part of it is searched.
     pub fn text(&self) -> S
         ensures { result ≡ haystack_of self.now }
     {
@@ -99,6 +104,13 @@ impl<'r, S: Input> Matches<'r, S> {
     ///
     /// After an error its start is one past the end of the range. Where the list has ended it is the input of the search that
     /// found nothing.
+    ///
+    /// ```text
+    /// let mut matches = regex.find_iter("xabab");    // of a|ab
+    /// matches.input().start()    // 0
+    /// matches.next()             // Some: 1..2
+    /// matches.input().start()    // 2
+    /// ```
     pub fn input(&self) -> RegexInput<S>
         ensures haystack { haystack_in result ≡ haystack_of self.now }
         ensures request { request_in result ≡ next_request self.now }

@@ -29,6 +29,11 @@ use std::fmt;
 /// A search answers with a match from the least byte offset from which the pattern matches: of those from there the one
 /// that the pattern prefers, or under `RegexOptionsBuilder::leftmost_longest` the longest. Where a `\K` was met on the
 /// way, the match starts at the place of the last one.
+///
+/// ```text
+/// Regex::new(alloc, "a|ab")?.find("xab")    // Some: 1..2, as the first branch is preferred
+/// Regex::new(alloc, "a\\Kb")?.find("xab")   // Some: 2..3, though it was tried from 1 on
+/// ```
 #[derive(Drop)]
 pub struct Regex {
     pattern: String,
@@ -86,6 +91,10 @@ impl Regex {
     }
 
     /// The text of the pattern.
+    ///
+    /// ```text
+    /// Regex::new(alloc, "a|ab")?.as_str()    // "a|ab"
+    /// ```
     pub fn as_str(&self) -> &str
         ensures { result.now ≡ pattern_text self.now }
     {
@@ -104,6 +113,10 @@ impl Regex {
     }
 
     /// How many groups the pattern has, with group 0, the whole match.
+    ///
+    /// ```text
+    /// Regex::new(alloc, "(a)(?:b)(?<n>c)")?.captures_len()    // 3: group 0, group 1, and group 2, which is `n`
+    /// ```
     pub fn captures_len(&self) -> usize
         ensures { result ≡ group_count_in self.now }
     {
@@ -113,6 +126,11 @@ impl Regex {
     /// Whether a search takes at most [`Regex::code_len`] times the searched length plus one steps, whatever the
     /// haystack. No pattern is easy under `RegexOptionsBuilder::find_not_empty` or
     /// `RegexOptionsBuilder::leftmost_longest`.
+    ///
+    /// ```text
+    /// Regex::new(alloc, "a|ab")?.is_easy()         // true
+    /// Regex::new(alloc, "(?:a|b)(?=c)")?.is_easy()    // false: it has look-around
+    /// ```
     pub fn is_easy(&self) -> bool
         ensures { result ≡ easy_in self.now }
     {
@@ -121,6 +139,10 @@ impl Regex {
 
     /// How many instructions the pattern's code has: at most 4 for each node of the pattern with its counted repeats
     /// written out, and 2 more.
+    ///
+    /// ```text
+    /// Regex::new(alloc, "a{100}")?.code_len()    // at most 406: the pattern has 101 nodes
+    /// ```
     pub fn code_len(&self) -> usize
         ensures value { result ≡ length_in self.now }
         ensures short { result ≤ 4 * nodes (pattern_in self.now) + 2 }
@@ -146,6 +168,13 @@ impl Regex {
     /// Whether the input may be searched: for text, its start (if that is not past the end) and both ends of
     /// its range are character boundaries, and where matches may stand anywhere
     /// (`BytesMode::Ascii` and `BytesMode::UnicodeBytes`) text is ASCII.
+    ///
+    /// ```text
+    /// let regex = Regex::new(alloc, "a|ab")?;
+    /// regex.can_search(&RegexInput::new("é"))                // true
+    /// regex.can_search(&RegexInput::new("é").from_pos(1))    // false: the start is inside a character
+    /// regex.can_search(&RegexInput::new("é").from_pos(9))    // true: past the end there is nothing to find
+    /// ```
     pub fn can_search<S: Input>(&self, input: &RegexInput<S>) -> bool
         ensures { IsTrue result ↔ CanSearchInput S.text S.bytes (options_in self.now) input.now }
     {
@@ -181,6 +210,12 @@ impl Regex {
     /// The first match from the byte offset `start` on, which may be any number: past the end there is none.
     ///
     /// It is refused as [`Regex::find_input`] is.
+    ///
+    /// ```text
+    /// let regex = Regex::new(alloc, "a|ab")?;
+    /// regex.find_from_pos("xabab", 2)    // Some: 3..4
+    /// regex.find_from_pos("xabab", 9)    // None: the start is past the end
+    /// ```
     pub fn find_from_pos<S: Input>(&self, haystack: S, start: usize) -> Result<Option<S::Match>>
         requires suits { Suits (options_in self.now) (S.text haystack) (S.bytes haystack) }
         requires starts { StartsCleanly (S.text haystack) (S.bytes haystack) start }
@@ -202,6 +237,13 @@ impl Regex {
     /// `RegexOptionsBuilder::backtrack_limit` allows, and `RuntimeError(StackOverflow)` where more branches
     /// are saved at one time than `RegexOptionsBuilder::stack_limit` allows, which only a search that opens more choices than
     /// that can come to.
+    ///
+    /// ```text
+    /// let regex = Regex::new(alloc, "abc")?;
+    /// regex.find_input(RegexInput::new("zabc").from_pos(1).anchored(true))    // Some: 1..4
+    /// regex.find_input(RegexInput::new("zabc").anchored(true))                // None
+    /// regex.find_input(RegexInput::new("zabc").range(0..3))                   // None: the match would end past the range
+    /// ```
     pub fn find_input<S: Input>(&self, input: RegexInput<S>) -> Result<Option<S::Match>>
         requires searched { CanSearchInput S.text S.bytes (options_in self.now) input }
         ensures found { IfOk result (λ m. FindsFirst S.span m (asked_by self.now S.bytes input)) }
@@ -294,6 +336,11 @@ impl Regex {
     }
 
     /// Whether the pattern matches anywhere in the haystack. It is refused as [`Regex::find_input`] is.
+    ///
+    /// ```text
+    /// Regex::new(alloc, "a|ab")?.is_match("xab")    // true
+    /// Regex::new(alloc, "a|ab")?.is_match("xyz")    // false
+    /// ```
     pub fn is_match<S: Input>(&self, haystack: S) -> Result<bool>
         requires suits { Suits (options_in self.now) (S.text haystack) (S.bytes haystack) }
         ensures found { IfOk result (λ b. b ≡ is_some (search (asked_whole self.now S.bytes haystack))) }
@@ -306,6 +353,12 @@ impl Regex {
     }
 
     /// Whether [`Regex::find_input`] finds anything, anchored or not. It is refused as that is.
+    ///
+    /// ```text
+    /// let regex = Regex::new(alloc, "a|ab")?;
+    /// regex.is_match_input(RegexInput::new("xab"))                   // true
+    /// regex.is_match_input(RegexInput::new("xab").anchored(true))    // false
+    /// ```
     pub fn is_match_input<S: Input>(&self, input: RegexInput<S>) -> Result<bool>
         requires searched { CanSearchInput S.text S.bytes (options_in self.now) input }
         ensures found { IfOk result (λ b. b ≡ is_some (search (asked_by self.now S.bytes input))) }

@@ -19,6 +19,7 @@ impl Regex {
     /// ```text
     /// // (?P<first>\w+)\s+(?P<second>\w+)
     /// regex.replace("deep fried", "${first}_$second")  // "deep_fried"
+    /// regex.replace("deep fried", "$1a")               // "": no group has the name 1a, and `${1}a` is meant
     /// ```
     pub fn replace<'t, R: Replacer + Drop>(
         &self,
@@ -82,6 +83,13 @@ impl Regex {
     /// Where nothing matches it is the text itself, borrowed. The replacer is asked for its one text for all
     /// matches before the first search; where it has none, it is called for each match in order. No search and no call
     /// is made once the limit is reached. The first error of a search or of a call of the replacer is the answer.
+    ///
+    /// ```text
+    /// let regex = Regex::new(alloc, "a")?;
+    /// regex.try_replacen("aaa", 1, "x")    // "xaa"
+    /// regex.try_replacen("aaa", 0, "x")    // "xxx"
+    /// regex.try_replacen("bbb", 0, "x")    // "bbb", borrowed
+    /// ```
     pub fn try_replacen<'t, R: Replacer + Drop>(
         &self,
         text: &'t str,

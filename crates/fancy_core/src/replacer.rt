@@ -25,6 +25,12 @@ use std::borrow::CowStr;
 /// is a text that is taken as it stands, [`ReplaceFn`] calls a function, and [`Replacer::by_ref`] lends a replacer.
 ///
 /// Where a replacer has one text for all matches, that is what each call appends.
+///
+/// ```text
+/// // on [ab]
+/// regex.replace_all("a-b", "$0$0")            // "aa-bb"
+/// regex.replace_all("a-b", NoExpand("$0"))    // "$0-$0"
+/// ```
 pub trait Replacer {
     // The text for all matches, if there is one.
     ghost fixed: { Self → Option (List ℕ) };
@@ -49,6 +55,8 @@ pub trait Replacer {
         ensures again { callable self.new };
 
     /// The text for all matches, if there is one. It is asked for once, before the first search.
+    ///
+    /// Of the templates `"x"` is such a text, and `"$1"` and `"$$"` are none.
     fn fixed_text(&self) -> Option<&str>
         ensures { option_map (λ t. t.now) result ≡ fixed self.now };
 

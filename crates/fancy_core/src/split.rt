@@ -20,10 +20,10 @@ pub use limited::SplitN;
 /// The pieces of a text between the matches in it, in order.
 ///
 /// A piece goes from the end of the last match, at first from the start of the text, to the start of the next match.
-/// After the last match the rest comes. So there is one piece more than there are matches, and pieces may be empty.
+/// The last piece is the rest after the last match. So there is one piece more than there are matches, and pieces may be empty.
 ///
-/// The first `next` takes memory, which the later searches reuse. Where memory runs out an item is `Error::Memory`, and
-/// after it the rest from the end of the last match still comes.
+/// The first `next` takes memory, which the later searches reuse. An item is an error where a search is refused, as
+/// [`Regex::find_input`] is; the item after it is the rest from the end of the last match on. Made by [`Regex::split`].
 #[derive(Drop)]
 pub struct Split<'r, 't> {
     regex: &'r Regex,

@@ -72,7 +72,9 @@ pub const FAIL: usize = 1;
 /// Where to go on: once something was consumed since the innermost star's turn began, and before that.
 #[derive(Clone, Copy, PartialEq, Eq, Debug)]
 pub struct Entry {
+    /// The number of the instruction to go on at where something was consumed since the innermost star's turn began.
     pub moved: usize,
+    /// The number of the instruction to go on at where nothing was.
     pub still: usize,
 }
 

@@ -27,6 +27,11 @@ pub struct RegexBuilder {
 impl RegexBuilder {
     /// A builder with a copy of this text as its pattern, and the options of [`RegexOptionsBuilder::new`]. It is
     /// refused only where memory runs out: the text is not read yet.
+    ///
+    /// ```text
+    /// let builder = RegexBuilder::new(alloc, "(?:a")?;
+    /// builder.build()    // Err(ParseError(4, UnclosedOpenParen))
+    /// ```
     pub fn new(alloc: Global, pattern: &str) -> Result<RegexBuilder>
         ensures pattern { IfOk result (λ b. pattern_set b ≡ pattern.now) }
         ensures options { IfOk result (λ b. options_set b ≡ by_default) }
@@ -39,6 +44,12 @@ impl RegexBuilder {
     }
 
     /// Puts this pattern in the place of the one before, which is given up. The options stay, and no memory is taken.
+    ///
+    /// ```text
+    /// let mut builder = RegexBuilder::new(alloc, "a b")?;
+    /// builder.ignore_whitespace(true).build()?.find("ab")    // Some: 0..2
+    /// builder.pattern(other).build()?.find("ab")             // of `b #`: Some: 1..2, as the option stays
+    /// ```
     pub fn pattern(&mut self, pattern: String) -> &mut Self
         ensures same { result.ghost_name ≡ self.entry.ghost_name }
         ensures pattern { pattern_set result.now ≡ string_bytes pattern }
@@ -214,6 +225,12 @@ impl RegexBuilder {
 
     /// Reads the pattern with these options, as [`RegexOptionsBuilder::build`] does, and stays as it is. The regex has
     /// a copy of the text, and the allocator of the pattern.
+    ///
+    /// ```text
+    /// let mut builder = RegexBuilder::new(alloc, "a")?;
+    /// builder.build()?.is_match("A")                           // false
+    /// builder.case_insensitive(true).build()?.is_match("A")    // true
+    /// ```
     pub fn build(&self) -> Result<Regex>
         ensures { IsReading (options_set self.now) (pattern_set self.now) result }
     {

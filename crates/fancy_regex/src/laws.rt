@@ -126,9 +126,9 @@ pub fn set_of_one_finds_as_its_pattern<S: Input>(_regex: &Regex, _input: &RegexI
     ensures { FindsAsOne _regex.now (S.bytes (haystack_in _input.now)) (request_in _input.now) }
 {}
 
-/// What a pattern set cuts a text into, from any place on: each token is the longest of those that the patterns offer where the one
-/// before ends, and of these the first; the texts of all of them, joined, are the text up to where they end; and there no pattern
-/// offers one, or the range ends.
+/// What a pattern set cuts a text into, from any place on: each token is the longest of those that the patterns offer where the
+/// one before ends, and of these the first; the texts of all of them, joined, are the text up to where they end; and there no
+/// pattern offers one, or the range ends.
 pub fn tokens_cut_the_text()
     ensures { (q : SetQuery) (p : ℕ) → CutsIntoTokens q p }
 {}

@@ -7,7 +7,13 @@
 //! let found = regex.find("xab")?;  // the bytes 1..2
 //! ```
 //!
-//! All offsets are byte offsets into the haystack. Whatever is refused has a name: see [`Error`].
+//! [`Regex`] finds, captures, splits and replaces; [`RegexOptionsBuilder`] and [`RegexBuilder`] build one with options, and
+//! [`RegexInput`] says where to search. [`RegexSet`] asks several patterns at once, and cuts a text into tokens. [`Expander`]
+//! expands and checks templates, [`escape`] makes a pattern of a text, and [`laws`] has what is proved of all of them together.
+//!
+//! All offsets are byte offsets into the haystack. Whatever is refused has a name: see [`Error`]. Each search has a condition,
+//! which [`Regex::can_search`] tests. The README of the repository has a whole program and examples by task; CALLING.md in this
+//! crate's folder says what a caller with contracts needs.
 #![tactic(auto)]
 
 mod builder;

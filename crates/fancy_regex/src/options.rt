@@ -30,8 +30,12 @@ pub struct RegexOptionsBuilder {
 }
 
 impl RegexOptionsBuilder {
-    /// A builder with the default options: `BytesMode::Unicode`, the Unicode mode on, at most 1,000,000 returns and as many saved branches, and every other
-    /// switch off.
+    /// A builder with the default options: `BytesMode::Unicode`, the Unicode mode on, at most 1,000,000 returns and as many
+    /// saved branches, no limit for code, and every other switch off.
+    ///
+    /// ```text
+    /// RegexOptionsBuilder::new().build(pattern)    // what Regex::try_from(pattern) answers
+    /// ```
     pub fn new() -> RegexOptionsBuilder
         ensures { options_of result ≡ by_default }
     {
@@ -41,6 +45,11 @@ impl RegexOptionsBuilder {
     }
 
     /// How bytes are read. `BytesMode::Unicode` by default.
+    ///
+    /// ```text
+    /// let mut options = RegexOptionsBuilder::new();
+    /// options.bytes_mode(BytesMode::Ascii).build(pattern)?.find(b"a\xE9\xFF")    // of `\xE9.`: Some: 1..3
+    /// ```
     pub fn bytes_mode(&mut self, mode: BytesMode) -> &mut Self
         ensures same { result.ghost_name ≡ self.entry.ghost_name }
         ensures value { options_of result.now ≡ record (options_of self.old) { bytes_mode = mode } }
@@ -53,6 +62,12 @@ impl RegexOptionsBuilder {
     ///
     /// Where it is off, `BytesMode::UnicodeBytes` reads bytes, and in `BytesMode::Unicode` classes have ASCII
     /// characters alone: `.` and complements are refused there.
+    ///
+    /// ```text
+    /// // of `\d`, on the Arabic digit four and the digit 4, "\u{664}4"
+    /// options.unicode_mode(true).build(pattern)?.find(text)     // Some: 0..2
+    /// options.unicode_mode(false).build(pattern)?.find(text)    // Some: 2..3
+    /// ```
     pub fn unicode_mode(&mut self, yes: bool) -> &mut Self
         ensures same { result.ghost_name ≡ self.entry.ghost_name }
         ensures value { options_of result.now ≡ record (options_of self.old) { unicode_mode = yes } }
@@ -63,6 +78,10 @@ impl RegexOptionsBuilder {
 
     /// Whether flag `i` holds at the pattern's start: characters stand also for those that share their simple
     /// folding. Off by default.
+    ///
+    /// ```text
+    /// options.case_insensitive(true).build(pattern)?.find("a Cat")    // of `cat`: Some: 2..5
+    /// ```
     pub fn case_insensitive(&mut self, yes: bool) -> &mut Self
         ensures same { result.ghost_name ≡ self.entry.ghost_name }
         ensures value { options_of result.now ≡ with_flags (options_of self.old) (λ f. record f { ignore_case = yes }) }
@@ -72,6 +91,10 @@ impl RegexOptionsBuilder {
     }
 
     /// Whether flag `m` holds at the pattern's start: `^` and `$` hold at lines. Off by default.
+    ///
+    /// ```text
+    /// options.multi_line(true).build(pattern)?.find("a\nb\n")    // of `^b$`: Some: 2..3, and None otherwise
+    /// ```
     pub fn multi_line(&mut self, yes: bool) -> &mut Self
         ensures same { result.ghost_name ≡ self.entry.ghost_name }
         ensures value { options_of result.now ≡ with_flags (options_of self.old) (λ f. record f { multi_line = yes }) }
@@ -81,6 +104,10 @@ impl RegexOptionsBuilder {
     }
 
     /// Whether flag `s` holds at the pattern's start: `.` takes line feeds too. Off by default.
+    ///
+    /// ```text
+    /// options.dot_matches_new_line(true).build(pattern)?.find("a\nb")    // of `a.b`: Some: 0..3, and None otherwise
+    /// ```
     pub fn dot_matches_new_line(&mut self, yes: bool) -> &mut Self
         ensures same { result.ghost_name ≡ self.entry.ghost_name }
         ensures value { options_of result.now ≡ with_flags (options_of self.old) (λ f. record f { dot_all = yes }) }
@@ -90,6 +117,10 @@ impl RegexOptionsBuilder {
     }
 
     /// Whether flag `x` holds at the pattern's start: blanks, and lines after `#`, are skipped. Off by default.
+    ///
+    /// ```text
+    /// options.ignore_whitespace(true).build(pattern)?.find("ab")    // of `a b # c`: Some: 0..2
+    /// ```
     pub fn ignore_whitespace(&mut self, yes: bool) -> &mut Self
         ensures same { result.ghost_name ≡ self.entry.ghost_name }
         ensures value { options_of result.now
@@ -109,6 +140,10 @@ impl RegexOptionsBuilder {
     }
 
     /// Whether flag `R` holds at the pattern's start: a carriage return ends a line too. Off by default.
+    ///
+    /// ```text
+    /// options.crlf(true).build(pattern)?.find("b\r\n")    // of `b\Z`: Some: 0..1, and None otherwise
+    /// ```
     pub fn crlf(&mut self, yes: bool) -> &mut Self
         ensures same { result.ghost_name ≡ self.entry.ghost_name }
         ensures value { options_of result.now ≡ with_flags (options_of self.old) (λ f. record f { crlf = yes }) }
@@ -281,6 +316,11 @@ impl RegexOptionsBuilder {
     /// [`RegexOptionsBuilder::find_not_empty`] as `CompileError(PatternCanNeverMatch)`, for a pattern that always consumes 0
     /// units; and where [`RegexOptionsBuilder::max_prog_size`] is set as `CompileError(PatternTooComplex)`, for a hard
     /// pattern with longer code.
+    ///
+    /// ```text
+    /// let pattern = String::from_str(alloc, "a|ab")?;
+    /// RegexOptionsBuilder::new().leftmost_longest(true).build(pattern)?.find("xab")    // Some: 1..3
+    /// ```
     pub fn build(&self, pattern: String) -> Result<Regex>
         ensures { IsReading (options_of self.now) (string_bytes pattern) result }
     {

@@ -55,6 +55,12 @@ impl RegexSet {
 
     /// Reads patterns, each with these options. It is refused as [`RegexOptionsBuilder::build`] refuses the first pattern that
     /// it refuses.
+    ///
+    /// ```text
+    /// let mut options = RegexOptionsBuilder::new();
+    /// let set = RegexSet::new_with_options(alloc, &["a", "B"], options.case_insensitive(true))?;
+    /// set.find_input(RegexInput::new("xb"))    // Some, at 1: pattern 1 from 1 to 2
+    /// ```
     pub fn new_with_options(
         alloc: Global,
         patterns: &[&str],
@@ -75,6 +81,13 @@ impl RegexSet {
     }
 
     /// The set of these regexes, in their order. Each keeps its own options and limits, and no memory is taken.
+    ///
+    /// ```text
+    /// let mut members = Vec::new(alloc);
+    /// members.push(RegexOptionsBuilder::new().case_insensitive(true).build(pattern)?)?;    // of `a`
+    /// members.push(Regex::new(alloc, "b")?)?;
+    /// RegexSet::from_regexes(members).find_input(RegexInput::new("BA"))?    // Some, at 1: pattern 0 from 1 to 2
+    /// ```
     pub fn from_regexes(members: Vec<Regex>) -> RegexSet
         ensures { members_of result ≡ members.items }
     {
@@ -92,7 +105,7 @@ impl RegexSet {
         self.members.len()
     }
 
-    /// Whether the set has no pattern.
+    /// Whether the set has no pattern. A search of such a set finds nothing.
     pub fn is_empty(&self) -> bool
         ensures { result ≡ (length (members_of self.now) == 0) }
     {
@@ -100,6 +113,11 @@ impl RegexSet {
     }
 
     /// Whether each pattern of the set can search the input, as [`Regex::can_search`] says.
+    ///
+    /// ```text
+    /// let set = RegexSet::new(alloc, &["a", "b"])?;
+    /// set.can_search(&RegexInput::new("é").from_pos(1))    // false: the start is inside a character
+    /// ```
     pub fn can_search<S: Input>(&self, input: &RegexInput<S>) -> bool
         ensures { IsTrue result ↔ CanSearchAll S.text S.bytes self.now input.now }
     {

@@ -43,11 +43,11 @@ impl RegexSet {
     /// Cuts the input into tokens, from its effective start on: at each place the longest match that starts there, the next one
     /// where that ends.
     ///
-    /// At a place each pattern is tried as a search of the input anchored there. What it finds may be the token if it starts at the place, and
-    /// not after it by a `\K`, and is not empty. Of several the longest is taken, and of those that are as long the one with the
-    /// lowest index. Each pattern offers one match, the one that it prefers: `a|ab` offers `a`, also where `ab` stands. The range of
-    /// the input and what it suppresses hold at each place, and `\G` holds there too; whether it is anchored has no effect. No memory is taken
-    /// until a token is asked for.
+    /// At a place each pattern is tried as a search of the input anchored there. What it finds may be the token if it starts at
+    /// the place, and not after it by a `\K`, and is not empty. Of several the longest is taken, and of those that are as long
+    /// the one with the lowest index. Each pattern offers one match, the one that it prefers: `a|ab` offers `a`, also before a
+    /// `b`. The range of the input and what it suppresses hold at each place, and `\G` holds there too; whether it is anchored
+    /// has no effect. No memory is taken until a token is asked for.
     ///
     /// ```text
     /// let set = RegexSet::new(alloc, &["if", "[a-z]+", "[0-9]+", " +"])?;
@@ -81,7 +81,7 @@ impl<'r, S: Input> Tokens<'r, S> {
         self.set
     }
 
-    /// The whole haystack.
+    /// The whole haystack, also where a part of it is cut into tokens.
     pub fn haystack(&self) -> S
         ensures { result ≡ token_haystack self.now }
     {
@@ -89,7 +89,7 @@ impl<'r, S: Input> Tokens<'r, S> {
     }
 
     /// Where the next token starts, as a byte offset: at first the effective start of the input, then where the token before
-    /// ends. Where the list has ended, this is where it ended.
+    /// ends. Where the list has ended, this is where it ended: 2, for the text `"if!"` of which no pattern takes the `!`.
     pub fn place(&self) -> usize
         ensures { result ≡ token_place self.now }
     {

@@ -17,6 +17,17 @@ use std::borrow::CowStr;
 ///
 /// The default one takes `$1`, `$name` and `${name}`, and `$$` for the character itself; the one for Python's
 /// templates takes `\1`, `\g<name>` and `\\`.
+///
+/// A name without delimiters goes as far as letters, numbers and `_` do: `$1a` is the group with the name `1a`, and `${1}a` is
+/// group 1 and an `a`. A name whose group took no part, or that no group has, is read as a number; where it is none, it gives
+/// nothing.
+///
+/// ```text
+/// // the captures of (b) on "abc"
+/// Expander::default().expansion("<${1}a>", &captures)    // "<ba>"
+/// Expander::default().expansion("<$1a>", &captures)      // "<>"
+/// Expander::default().expansion("${1", &captures)        // "${1": the mark begins nothing, and stays
+/// ```
 #[derive(Clone, Copy)]
 pub struct Expander {
     pub(crate) mark: char,
@@ -67,6 +78,11 @@ impl Default for Expander {
 
 impl Expander {
     /// The expander for templates as Python writes them.
+    ///
+    /// ```text
+    /// // the captures of (b) on "abc"
+    /// Expander::python().expansion("\\1\\g<0>\\\\x", &captures)    // "bb\x"
+    /// ```
     pub fn python() -> Expander
         ensures { syntax_of result ≡ python_syntax }
     {
@@ -78,6 +94,10 @@ impl Expander {
     }
 
     /// The steps that a template is cut into, one by one.
+    ///
+    /// ```text
+    /// Expander::default().steps("a$1$$")    // Literal('a'), Name("1"), Literal('$')
+    /// ```
     pub fn steps<'a>(&self, template: &'a str) -> Steps<'a>
         ensures { steps_left result ≡ steps (syntax_of self.now) (chars template.now) }
     {

@@ -46,6 +46,11 @@ impl Expander {
     }
 
     /// Appends what a template expands to. A refusal leaves `dst` as it was.
+    ///
+    /// ```text
+    /// // the captures of (b) on "abc", and a text "x"
+    /// Expander::default().append_expansion(&mut text, "${1}-$0", &captures)    // the text is "xb-b"
+    /// ```
     pub fn append_expansion<'t, C: GroupTexts<'t>>(
         &self,
         dst: &mut String,
@@ -87,8 +92,13 @@ impl Expander {
     /// Writes what a template expands to, and takes no memory.
     ///
     /// A write that is refused ends it with the writer's error, and one that takes no byte with `ErrorKind::WriteZero`;
-    /// which of them it is stands in no clause. What the writer has taken by then is a beginning of the expansion, and
-    /// not all of it. No empty text is written.
+    /// no clause says which of them it is. What the writer has taken by then is a beginning of the expansion, and
+    /// not all of it. No write is tried again, and no empty text is written.
+    ///
+    /// ```text
+    /// // the captures of (b) on "abc"
+    /// Expander::default().write_expansion(&mut writer, "[$1]", &captures)    // the writer has taken "[b]"
+    /// ```
     pub fn write_expansion<'t, W: io::Write, C: GroupTexts<'t>>(
         &self,
         writer: &mut W,
@@ -106,6 +116,11 @@ impl Expander {
     }
 
     /// Appends the bytes of what a template expands to. A refusal leaves `dst` as it was.
+    ///
+    /// ```text
+    /// // the captures of (b) on "abc", and the bytes b"x"
+    /// Expander::default().write_expansion_vec(&mut bytes, "$1!", &captures)    // the bytes are b"xb!"
+    /// ```
     pub fn write_expansion_vec<'t, C: GroupTexts<'t>>(
         &self,
         dst: &mut Vec<u8>,

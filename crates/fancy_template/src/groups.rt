@@ -7,7 +7,7 @@ ghost use Rattle.fancy_template.specs.Expansions.{Captured};
 use std::alloc::Global;
 
 /// The texts of the groups of a match, as [`Expander::expansion`](crate::expander::Expander::expansion) asks for them. They are
-/// lent out of the text that was searched.
+/// lent out of the text that was searched. The captures of a match in text have them.
 pub trait GroupTexts<'t> {
     // What the groups matched, by their names and by their numbers.
     ghost captured: { Self → Captured };
@@ -29,7 +29,8 @@ pub trait GroupTexts<'t> {
     fn allocator(&self) -> Global;
 }
 
-/// The groups that a template may name, as [`Expander::check`](crate::expander::Expander::check) asks for them.
+/// The groups that a template may name, as [`Expander::check`](crate::expander::Expander::check) asks for them. A regex has
+/// them.
 pub trait GroupNames {
     // How many there are, and their names.
     ghost groups: { Self → TemplateGroups };

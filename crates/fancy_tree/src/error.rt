@@ -52,7 +52,7 @@ pub enum ParseErrorKind {
     /// A flag `u` that states what does not hold, as `(?-u)`.
     #[error("changing the Unicode mode is not supported")]
     ChangingUnicodeModeUnsupported,
-    /// A form of other dialects that this one leaves out, as `\R`.
+    /// A form of other dialects that this one leaves out, as `\R`, or `\K` inside a look-around, as in `(?=a\K)`.
     #[error("form that is not in the dialect")]
     NotInProfile,
 }
@@ -95,12 +95,17 @@ pub enum RuntimeError {
 }
 
 /// Every refusal of the library.
+///
+/// ```text
+/// Regex::new(alloc, "(?:a")       // Err(ParseError(4, UnclosedOpenParen))
+/// Regex::new(alloc, "(a)\\2")     // Err(CompileError(InvalidBackref(2)))
+/// ```
 #[derive(Debug, Drop, Error)]
 pub enum Error {
     /// A growth was refused, or a table's size does not fit.
     #[error("out of memory")]
     Memory,
-    /// The pattern cannot be read; the place is a byte offset into it.
+    /// The pattern cannot be read; the place is a byte offset into it. A template that cannot be read has the place 0.
     #[error("parsing error at position {0}: {1}")]
     ParseError(usize, ParseErrorKind),
     /// The pattern can be read, but is not accepted.
@@ -111,7 +116,7 @@ pub enum Error {
     RuntimeError(RuntimeError),
 }
 
-/// What the calls of the library answer.
+/// What the calls of the library return: a value, or the [`Error`] that refuses it.
 pub type Result<T> = std::result::Result<T, Error>;
 
 impl ParseErrorKind {

@@ -12,7 +12,8 @@ impl<'r, S: Input> Captures<'r, S> {
     /// group has the name. Group 0, the whole match, never has a name (the law `fancy_regex::laws::names_stand_on_groups`).
     ///
     /// ```text
-    /// let captures = Regex::new(alloc, "(?<a>x)(?<a>y)")?.captures("xy")?;  // Some
+    /// let regex = Regex::new(alloc, "(?<a>x)(?<a>y)")?;
+    /// let captures = regex.captures("xy")?;  // Some
     /// captures.name("a")  // 1..2
     /// captures.name("b")  // None
     /// ```

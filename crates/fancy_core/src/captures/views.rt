@@ -25,6 +25,10 @@ impl<'r, S: Input> Captures<'r, S> {
     }
 
     /// How many groups the pattern has, with group 0, also those that took no part.
+    ///
+    /// ```text
+    /// Regex::new(alloc, "(a)|b")?.captures("b")?    // Some, whose len() is 2: group 1 counts
+    /// ```
     pub fn len(&self) -> usize
         ensures { result ≡ length (spans_in self.now) }
     {
@@ -33,6 +37,13 @@ impl<'r, S: Input> Captures<'r, S> {
 
     /// What the group with this number matched. `None` where it took no part, and for every number past the last
     /// group.
+    ///
+    /// ```text
+    /// // the captures of (a)|b on "xb"
+    /// captures.get(0)             // Some: 1..2, as byte offsets into the haystack
+    /// captures.get(1)             // None: the group took no part
+    /// captures.get(usize::MAX)    // None: there is no such group
+    /// ```
     pub fn get(&self, number: usize) -> Option<S::Match>
         ensures found { option_map S.span result ≡ span_at (spans_in self.now) number }
         ensures within { IfSome result (λ m. S.within m ≡ S.bytes (searched_in self.now)) }
@@ -43,7 +54,12 @@ impl<'r, S: Input> Captures<'r, S> {
         }
     }
 
-    /// The bytes of the whole haystack.
+    /// The bytes of the whole haystack, also where a part of it was searched.
+    ///
+    /// ```text
+    /// let input = RegexInput::new("xab").from_pos(1);
+    /// Regex::new(alloc, "a")?.captures_input(input)?    // Some, whose input_as_bytes() is b"xab"
+    /// ```
     pub fn input_as_bytes(&self) -> &[u8]
         ensures { result.now ≡ S.bytes (searched_in self.now) }
     {
@@ -51,6 +67,11 @@ impl<'r, S: Input> Captures<'r, S> {
     }
 
     /// What each group matched, in the order of their numbers.
+    ///
+    /// ```text
+    /// // the captures of (a)|b on "b"
+    /// captures.iter()    // Some: 0..1, and then None for group 1
+    /// ```
     pub fn iter<'c>(&'c self) -> SubCaptureMatches<'c, 'r, S>
         ensures { sub_captures_left result ≡ spans_in self.now }
     {

@@ -19,8 +19,8 @@ use fancy_tree::error::{Error, Result};
 
 /// The matches of an input with their groups, one after another.
 ///
-/// They are those of [`Matches`], in the same order. An item is `Error::Memory` where memory runs out, also for the
-/// groups, and nothing comes after it.
+/// They are those of [`Matches`], in the same order. An item is an error where a search is refused or memory runs out for the
+/// groups, and the list ends after it. Made by [`Regex::captures_iter`].
 #[derive(Drop)]
 pub struct CaptureMatches<'r, S: Haystack> {
     matches: Matches<'r, S>,
@@ -50,6 +50,11 @@ impl Regex {
     }
 
     /// The matches that the input asks for, with their groups.
+    ///
+    /// ```text
+    /// let input = RegexInput::new("ba").from_pos(1);
+    /// Regex::new(alloc, "(a)|b")?.captures_iter_input(input)    // 1..2, group 1 1..2
+    /// ```
     pub fn captures_iter_input<S: Input>(&self, input: RegexInput<S>) -> CaptureMatches<'_, S>
         requires searched { CanSearchInput S.text S.bytes (options_in self.now) input }
         ensures matches { groups_left S.text S.bytes result ≡ groups_of_input self.now S.text S.bytes input }
@@ -76,7 +81,7 @@ impl<'r, S: Input> CaptureMatches<'r, S> {
         self.matches.regex()
     }
 
-    /// The whole haystack.
+    /// The whole haystack, also where a part of it is searched.
     pub fn text(&self) -> S
         ensures { result ≡ haystack_of (matches_in self.now) }
     {

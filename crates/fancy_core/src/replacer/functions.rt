@@ -12,10 +12,12 @@ use fancy_tree::error::Result;
 /// A function that gives the text for each match. It may keep a state from call to call.
 ///
 /// ```text
-/// ReplaceFn::new(|captures: &Captures<'_, &str>| {
-///     calls = calls + 1;
+/// let mut calls = 0u32;
+/// let mut count = ReplaceFn::new(|_captures: &Captures<'_, &str>| {
+///     calls = calls.wrapping_add(1);
 ///     Ok(format!(in alloc; "{calls}")?)
-/// })
+/// });
+/// Regex::new(alloc, "a|b")?.replace_all("xab", count.by_ref())    // "x12"
 /// ```
 pub struct ReplaceFn<F>(F);
 
@@ -26,7 +28,8 @@ impl<F: Drop> Drop for ReplaceFn<F> {
 }
 
 impl<F: FnMut(&Captures<'_, &str>) -> Result<String>> ReplaceFn<F> {
-    /// The function as a replacer. It may always be called.
+    /// The function as a replacer. It may always be called: so it counts by `wrapping_add`, as a sum by `+` might not fit.
+    /// An error that it returns is the answer of the replacement.
     pub fn new(function: F) -> ReplaceFn<F>
         requires { F.IsAlwaysCallable function }
         ensures { result.0 ≡ function }

@@ -8,6 +8,12 @@ use fancy_tree::error::Result;
 
 /// A replacer that lends another one, made by [`Replacer::by_ref`]. Each call is a call of that other one, which keeps the
 /// state that the call leaves.
+///
+/// ```text
+/// // a replacer that counts its calls, on a|b
+/// regex.replace_all("xab", count.by_ref())    // "x12"
+/// regex.replace("bxa", count.by_ref())        // "3xa": it goes on from there
+/// ```
 pub struct ReplacerRef<'a, R: Replacer>(pub &'a mut R);
 
 impl<'a, R: Replacer> Drop for ReplacerRef<'a, R> {

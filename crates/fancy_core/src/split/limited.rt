@@ -13,7 +13,7 @@ use fancy_tree::error::Result;
 /// The pieces of a text between the matches in it, as [`Split`] has them, up to a limit.
 ///
 /// The last piece that the limit allows is the rest, and no search is made for it. An item that is an error uses one of
-/// the limit.
+/// the limit. Made by [`Regex::splitn`].
 #[derive(Drop)]
 pub struct SplitN<'r, 't> {
     split: Split<'r, 't>,
@@ -29,6 +29,7 @@ impl Regex {
     ///
     /// ```text
     /// Regex::new(alloc, ",")?.splitn("1,2,3", 2)  // "1", "2,3"
+    /// Regex::new(alloc, ",")?.splitn("1,2,3", 1)  // "1,2,3"
     /// ```
     pub fn splitn<'r, 't>(&'r self, text: &'t str, limit: usize) -> SplitN<'r, 't>
         requires suits { Suits (options_in self.now) true text.now }

@@ -10,6 +10,10 @@ use std::ops::Range;
 
 impl<S: Input> RegexInput<S> {
     /// The whole haystack from its start, not anchored, with nothing suppressed.
+    ///
+    /// ```text
+    /// RegexInput::new("xabab").get_range()    // 0..5
+    /// ```
     pub fn new(haystack: S) -> RegexInput<S>
         ensures haystack { haystack_in result ≡ haystack }
         ensures request { request_in result ≡ whole (S.bytes haystack) }
@@ -26,7 +30,7 @@ impl<S: Input> RegexInput<S> {
         RegexInput { haystack, request }
     }
 
-    /// The haystack.
+    /// The whole haystack, also where a part of it is to be searched.
     pub fn haystack(&self) -> S
         ensures { result ≡ haystack_in self.now }
     {
@@ -59,7 +63,11 @@ impl<S: Input> RegexInput<S> {
         self.request
     }
 
-    /// The first position that is tried: the greater of `start` and the start of the range.
+    /// The first position that is tried, in bytes: the greater of `start` and the start of the range.
+    ///
+    /// ```text
+    /// RegexInput::new("xabab").from_pos(1).range(2..5).effective_start()    // 2
+    /// ```
     pub fn effective_start(&self) -> usize
         ensures { result ≡ effective_start (request_in self.now) }
     {
@@ -68,6 +76,10 @@ impl<S: Input> RegexInput<S> {
 
     /// Has the search start at `start`, in bytes, which may be any number: from past the end of the range
     /// nothing is found.
+    ///
+    /// ```text
+    /// Regex::new(alloc, "a|ab")?.find_input(RegexInput::new("xabab").from_pos(2))    // Some: 3..4
+    /// ```
     pub fn from_pos(mut self, start: usize) -> RegexInput<S>
         ensures haystack { haystack_in result ≡ haystack_in self }
         ensures request { request_in result ≡ record (request_in self) { start = start } }
@@ -78,7 +90,14 @@ impl<S: Input> RegexInput<S> {
 
     /// Has matches begin and end in `range`, in bytes, which is within the haystack.
     ///
-    /// An empty match may stand at the end of the range. The ends need not be boundaries of characters.
+    /// An empty match may be at the end of the range. The ends need not be boundaries of characters here; a search of text asks
+    /// for that (`Regex::can_search`).
+    ///
+    /// ```text
+    /// let input = RegexInput::new("xabab").range(2..5);
+    /// Regex::new(alloc, "a|ab")?.find_input(input)    // Some: 3..4
+    /// Regex::new(alloc, "^ab")?.find_input(input)     // None: `^` holds at 0, the start of the text, and not at 2
+    /// ```
     pub fn range(mut self, range: Range<usize>) -> RegexInput<S>
         requires ordered { range.start ≤ range.end }
         requires inside { range.end ≤ length (S.bytes (haystack_in self)) }
@@ -93,6 +112,11 @@ impl<S: Input> RegexInput<S> {
 
     /// With `false` nothing is the start of the text: `^` and `\A` do not hold there, in a search by a regex that
     /// was built with `allow_input_assertion_overrides`. `true`, which holds at first, takes that back.
+    ///
+    /// ```text
+    /// // ^a$, built with allow_input_assertion_overrides(true); without that, Some: 0..1
+    /// regex.find_input(RegexInput::new("a").start_text(false))    // None
+    /// ```
     pub fn start_text(mut self, yes: bool) -> RegexInput<S>
         ensures haystack { haystack_in result ≡ haystack_in self }
         ensures request { request_in result ≡ record (request_in self) { start_text = yes } }
@@ -103,6 +127,11 @@ impl<S: Input> RegexInput<S> {
 
     /// With `false` nothing is the end of the text: `$` and `\z` do not hold there, in a search by a regex that
     /// was built with `allow_input_assertion_overrides`. `true`, which holds at first, takes that back.
+    ///
+    /// ```text
+    /// // ^a$, built with allow_input_assertion_overrides(true); without that, Some: 0..1
+    /// regex.find_input(RegexInput::new("a").end_text(false))    // None
+    /// ```
     pub fn end_text(mut self, yes: bool) -> RegexInput<S>
         ensures haystack { haystack_in result ≡ haystack_in self }
         ensures request { request_in result ≡ record (request_in self) { end_text = yes } }
@@ -111,8 +140,13 @@ impl<S: Input> RegexInput<S> {
         self
     }
 
-    /// With `false` no match came before: `\G` holds nowhere, in a search by a regex that was built with
+    /// With `false` there was no match before: `\G` holds nowhere, in a search by a regex that was built with
     /// `allow_input_assertion_overrides`. `true`, which holds at first, takes that back.
+    ///
+    /// ```text
+    /// // \Ga, built with allow_input_assertion_overrides(true)
+    /// regex.find_input(RegexInput::new("a").continue_from_previous_match_end(false))    // None
+    /// ```
     pub fn continue_from_previous_match_end(mut self, yes: bool) -> RegexInput<S>
         ensures haystack { haystack_in result ≡ haystack_in self }
         ensures request { request_in result ≡ record (request_in self) { continues = yes } }
@@ -122,6 +156,12 @@ impl<S: Input> RegexInput<S> {
     }
 
     /// With `true` one position alone is tried, the greater of `start` and the start of the range.
+    ///
+    /// ```text
+    /// let regex = Regex::new(alloc, "a|ab")?;
+    /// regex.find_input(RegexInput::new("xab").anchored(true))                // None
+    /// regex.find_input(RegexInput::new("xab").from_pos(1).anchored(true))    // Some: 1..2
+    /// ```
     pub fn anchored(mut self, yes: bool) -> RegexInput<S>
         ensures haystack { haystack_in result ≡ haystack_in self }
         ensures request { request_in result ≡ record (request_in self) { anchored = yes } }

@@ -22,6 +22,13 @@ use fancy_tree::error::Result;
 ///
 /// A pattern is searched when it is asked for. Where its attempt is refused, for want of memory or past its limits, the item is
 /// that refusal, and the next item is that of the next pattern.
+///
+/// ```text
+/// // the set of `a` and `(?:(a|aa)+)\1` under backtrack_limit(0), on "aa"
+/// matches.next()    // Some(Ok): pattern 0 from 0 to 1
+/// matches.next()    // Some(Err(RuntimeError(BacktrackLimitExceeded)))
+/// matches.next()    // None
+/// ```
 #[derive(Drop)]
 pub struct RegexSetMatchesAt<'r, S: Haystack> {
     set: &'r RegexSet,
@@ -89,14 +96,15 @@ impl<'r, S: Input> RegexSetMatchesAt<'r, S> {
         self.set
     }
 
-    /// The whole haystack.
+    /// The whole haystack, also where a part of it is searched.
     pub fn haystack(&self) -> S
         ensures { result ≡ haystack_of_set self.now }
     {
         self.input.haystack()
     }
 
-    /// The position that the patterns are tried at, as a byte offset. A match may start after it, by a `\K`.
+    /// The position that the patterns are tried at, as a byte offset. A match may start after it, by a `\K`: of `a\K` on
+    /// `"xa"` the position is 1, and the match starts at 2.
     pub fn start(&self) -> usize
         ensures { result ≡ position_of self.now }
     {

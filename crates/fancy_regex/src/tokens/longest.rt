@@ -27,8 +27,8 @@ pub(crate) struct Longest {
 }
 
 impl RegexSet {
-    /// The token at a place before the end of the input's range. The patterns are tried in the first cache, and the longest match so far
-    /// keeps its groups in the second.
+    /// The token at a place before the end of the input's range. The patterns are tried in the first cache, and the longest
+    /// match so far keeps its groups in the second.
     pub(crate) fn token_at<S: Input>(
         &self,
         input: &RegexInput<S>,
@@ -96,8 +96,9 @@ impl RegexSet {
     }
 }
 
-/// The longer of what a pattern found at a place and what was the longest so far, which is kept where both are as long. What does
-/// not start at the place, or is empty, is passed over. The caches are swapped where the longest is another one now, so that its groups stay.
+/// The longer of what a pattern found at a place and what was the longest so far, which is kept where both are as long. What
+/// does not start at the place, or is empty, is passed over. The caches are swapped where the longest is another one now, so
+/// that its groups stay.
 fn longer(
     index: usize,
     found: Option<Found>,
