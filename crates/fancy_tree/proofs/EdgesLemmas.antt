@@ -33,7 +33,7 @@ get_or-push_last (x ∷ xs) e d = get_or-push_last xs e d
 le_true : (a b : ℕ) → a ≤ b → nat_le a b ≡ true
 le_true a b h = grind (arith, nat_tests)
 
-le_false : (a b : ℕ) → b < a → nat_le a b ≡ false
+pub le_false : (a b : ℕ) → b < a → nat_le a b ≡ false
 le_false a b h = grind (arith, nat_tests)
 
 pub is_odd-suc : (n : ℕ) → is_odd (suc n) ≡ not (is_odd n)
@@ -151,6 +151,18 @@ nearest_above {op} {a} {b} {out} {i} {j} {low} {n} m near =
     elim near.one [
       | inl x ↦ let y = m.left.after i (omega arith) x.0 in let z = x.1 in omega arith
       | inr x ↦ let y = m.right.after j (omega arith) x.0 in let z = x.1 in omega arith
+    ]
+
+pub one_more : (es new : List ℕ) (e : ℕ) → new ≡ es ++ e ∷ [] → length new ≡ length es + 1
+one_more es new e is = ap length is ∙ length-append es (e ∷ [])
+
+-- the walk goes past the nearest edge
+pub fewer_left : {op : Bool → Bool → Bool} {a b out : List ℕ} {i j low n i2 j2 : ℕ} → Merged op a b out i j low → IsNearest a i b j n → i ≤ i2 → j ≤ j2 →
+    (i < length a → slice_index a i ≡ n → i < i2) → (j < length b → slice_index b j ≡ n → j < j2) → (length a - i2) + (length b - j2) < (length a - i) + (length b - j)
+fewer_left {op} {a} {b} {out} {i} {j} {low} {n} {i2} {j2} m near f g p q =
+    elim near.one [
+      | inl x ↦ let y = p x.0 x.1 in let z = x.0 in omega arith
+      | inr x ↦ let y = q x.0 x.1 in let z = x.0 in omega arith
     ]
 
 module _ {op : Bool → Bool → Bool} {a b out new : List ℕ} {i j low i2 j2 n : ℕ} (m : Merged op a b out i j low) (p : low ≤ n) (top : n ≤ 0x11_0000) (near : IsNearest a i b j n) (l : Cut a i2 (n + 1)) (r : Cut b j2 (n + 1)) where
@@ -352,7 +364,7 @@ pub listed_start : (es : List ℕ) (out : List (ℕ × ℕ)) → out ≡ [] → 
 unfolding is_odd has
 listed_start es out is = record { count = omega arith; even = refl; agree = λ c. ap (λ l. in_ranges l c) is ∙ in_ranges-nil c }
 
-or_differ : (b x y : Bool) → (x ≡ true → b ≡ false) → (y ≡ true → x ≡ true) → (b || (x && not y)) ≡ differ b (differ x y)
+pub or_differ : (b x y : Bool) → (x ≡ true → b ≡ false) → (y ≡ true → x ≡ true) → (b || (x && not y)) ≡ differ b (differ x y)
 or_differ b true true f g = rw (f refl) refl
 or_differ b true false f g = rw (f refl) refl
 or_differ b false true f g = absurd (false_true (g refl))
@@ -362,17 +374,17 @@ or_differ b false true f g = absurd (false_true (g refl))
 or_differ true false false f g = refl
 or_differ false false false f g = refl
 
-has-one : (x c : ℕ) → has (x ∷ []) c ≡ nat_le x c
+pub has-one : (x c : ℕ) → has (x ∷ []) c ≡ nat_le x c
 unfolding has
 has-one x c = differ-false (nat_le x c)
 
 range_is : (x y c : ℕ) → x < y → in_range (x, y - 1) c ≡ (nat_le x c && not (nat_le y c))
 range_is x y c h = grind (arith, nat_tests)
 
-differ_twice : (a b c : Bool) → differ (differ a b) c ≡ differ a (differ b c)
+pub differ_twice : (a b c : Bool) → differ (differ a b) c ≡ differ a (differ b c)
 differ_twice a b c = sym (differ_assoc a b c)
 
-le_trans_true : (x y c : ℕ) → x < y → nat_le y c ≡ true → nat_le x c ≡ true
+pub le_trans_true : (x y c : ℕ) → x < y → nat_le y c ≡ true → nat_le x c ≡ true
 le_trans_true x y c h t = le_true x c (let z = leb-true y c t in omega arith)
 
 -- past the first edges of an even number no member is left
@@ -383,7 +395,7 @@ none_left es i c rise lt even le =
     (λ k hk. let a = rise k i hk lt in let b : slice_index (take i es) k ≡ slice_index es k = get_or-take i es k 0 hk in omega arith)
     (λ k le2 lt2. absurd (omega (arith, length-take-le i es (omega arith)))) ∙ even
 
-even_two : (i : ℕ) → is_odd i ≡ false → is_odd (i + 2) ≡ false
+pub even_two : (i : ℕ) → is_odd i ≡ false → is_odd (i + 2) ≡ false
 even_two i h = ap is_odd (two_more i) ∙ (is_odd-suc (suc i) ∙ (ap not (is_odd-suc i) ∙ (not_not (is_odd i) ∙ h)))
   where
     two_more : (n : ℕ) → n + 2 ≡ suc (suc n)

@@ -9,6 +9,7 @@ pub mod RefersLemmas
 pub mod RefersFacts
 pub mod NameLemmas
 pub mod EdgesLemmas
+pub mod JoiningLemmas
 pub mod SetLemmas
 pub mod CharSetLemmas
 pub mod PropertyLetters

@@ -1,5 +1,5 @@
 -- Where the functions stand that walk over the edges of sets, and over pairs.
-use Rattle.std.specs.Prelude.{◌≡◌, ℕ, ◌<◌, ◌≤◌, ◌⊎◌, List, length, slice_index, slice_index_or}
+use Rattle.std.specs.Prelude.{if◌then◌else◌, ◌≡◌, ℕ, ◌<◌, ◌≤◌, ◌⊎◌, Bool, true, ◌&&◌, nat_le, nat_lt, List, [], ◌∷◌, length, slice_index, slice_index_or}
 
 -- the first i edges are below the number, and the others are not
 pub record Cut (es : List ℕ) (i n : ℕ) : Type 0 where
@@ -25,3 +25,12 @@ first_of q = q.0
 -- the second part as a range of one number
 abbrev pub second_alone : ℕ × ℕ → ℕ × ℕ
 second_alone q = (q.1, q.1)
+
+-- the number is in a part that goes from its begin to before its end
+abbrev pub in_part : ℕ → ℕ → ℕ → Bool
+in_part begin end c = nat_le begin c && nat_lt c end
+
+-- each range that has numbers begins no earlier than the number and than those before it
+unfoldable pub begin_in_order : ℕ → List (ℕ × ℕ) → Bool
+begin_in_order low [] = true
+begin_in_order low (r ∷ rs) = if nat_le r.0 r.1 then nat_le low r.0 && begin_in_order r.0 rs else begin_in_order low rs

@@ -3,6 +3,7 @@
 
 pub mod char_set;
 pub mod error;
+mod joining;
 mod look_behind;
 pub mod measure;
 pub mod name;

@@ -5,6 +5,7 @@ ghost use Rattle.unicode.specs.Rows.{in_ranges};
 ghost use Rattle.fancy_tree.specs.Sets.{has, is_odd, in_range, AreRising, AreEdges};
 ghost use Rattle.fancy_tree.specs.SetViews.{Cut, IsNearest};
 
+use crate::joining::{are_in_order, joined_edges};
 use crate::operation::Operation;
 use std::alloc::{AllocError, Global};
 
@@ -65,6 +66,15 @@ pub(crate) fn skip_edge(edges: &[u32], i: usize, at: u32) -> usize
     }
 }
 
+/// Gives back the room that is not used, where that is more than half of it.
+fn trim(edges: &mut Vec<u32>)
+    ensures { edges.new.items ≡ edges.old.items }
+{
+    if edges.len() < edges.capacity() / 2 {
+        edges.shrink_to_fit();
+    }
+}
+
 impl Set {
     ghost use Rattle.fancy_tree.specs.Members.{edges_of, members, applied};
     ghost use Rattle.fancy_tree.specs.Widening.{in_pairs};
@@ -122,13 +132,13 @@ impl Set {
         edges_to(&self.edges, c) % 2 == 1
     }
 
-    /// The numbers that the operation keeps. One walk over the edges of both sets.
+    /// The numbers that the operation keeps. One walk over the edges of both sets, for which the room is asked at once.
     pub fn combine(&self, how: Operation, other: &Set) -> Result<Set, AllocError>
         ensures { IfOk result (λ s. (c : ℕ) → members s c ≡ applied how (members self.now c) (members other.now c)) }
     {
         let a: &[u32] = &self.edges;
         let b: &[u32] = &other.edges;
-        let mut edges = Vec::new(*self.edges.allocator());
+        let mut edges = Vec::with_capacity(*self.edges.allocator(), a.len() + b.len())?;
         let mut i = 0;
         let mut j = 0;
         while let Some(at) = next_edge(a, i, b, j) {
@@ -136,25 +146,24 @@ impl Set {
             j = skip_edge(b, j, at);
             let turns = how.keeps(i % 2 == 1, j % 2 == 1) != (edges.len() % 2 == 1);
             if turns {
-                edges.push(at)?;
+                edges.push_reserved(at);
             }
         }
+        trim(&mut edges);
         Ok(Set { edges })
     }
 
-    /// The numbers up to `LAST` in any of the ranges, which hold both their ends and come in any order.
+    /// The numbers up to `LAST` in any of the ranges, which hold both their ends and may be in any order. Ranges that are in order
+    /// take one walk and one request for memory; others are halved, and the sets of both halves united.
     pub fn from_ranges(alloc: Global, ranges: &[(u32, u32)]) -> Result<Set, AllocError>
         ensures { IfOk result (λ s. (c : ℕ) → members s c ≡ (nat_le c LAST && in_ranges ranges.now c)) }
     {
-        let len = ranges.len();
-        if len == 0 {
-            return Ok(Set::empty(alloc));
+        if are_in_order(ranges) {
+            return Ok(Set {
+                edges: joined_edges(alloc, ranges)?,
+            });
         }
-        if len == 1 {
-            let (first, last) = ranges[0];
-            return Set::range(alloc, first, last.min(LAST));
-        }
-        let (left, right) = ranges.split_at(len / 2);
+        let (left, right) = ranges.split_at(ranges.len() / 2);
         let left = Set::from_ranges(alloc, left)?;
         let right = Set::from_ranges(alloc, right)?;
         left.combine(Operation::Union, &right)
