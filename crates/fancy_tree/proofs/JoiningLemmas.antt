@@ -9,11 +9,13 @@ use Rattle.fancy_tree.proofs.EdgesLemmas.{has_count, has-append, has-one, or_dif
 
 -- ---- the order
 
-pub order-some : (low : ℕ) (r : ℕ × ℕ) (rs : List (ℕ × ℕ)) → nat_le r.0 r.1 ≡ true → begin_in_order low (r ∷ rs) ≡ (nat_le low r.0 && begin_in_order r.0 rs)
+pub order-some : (low : ℕ) (r : ℕ × ℕ) (rs : List (ℕ × ℕ)) → nat_le r.0 r.1 ≡ true →
+    begin_in_order low (r ∷ rs) ≡ (nat_le low r.0 && begin_in_order r.0 rs)
 unfolding begin_in_order
 order-some low r rs t = rw t refl
 
-pub order-none : (low : ℕ) (r : ℕ × ℕ) (rs : List (ℕ × ℕ)) → nat_le r.0 r.1 ≡ false → begin_in_order low (r ∷ rs) ≡ begin_in_order low rs
+pub order-none : (low : ℕ) (r : ℕ × ℕ) (rs : List (ℕ × ℕ)) → nat_le r.0 r.1 ≡ false →
+    begin_in_order low (r ∷ rs) ≡ begin_in_order low rs
 unfolding begin_in_order
 order-none low r rs f = rw f refl
 
@@ -35,9 +37,11 @@ order_lower low high (r ∷ rs) le h =
     ]
 
 order_begins : (low : ℕ) (r : ℕ × ℕ) (rs : List (ℕ × ℕ)) → r.0 ≤ r.1 → begin_in_order low (r ∷ rs) ≡ true → low ≤ r.0
-order_begins low r rs le h = leb-true low r.0 (and_parts (nat_le low r.0) _ (sym (order-some low r rs (le_true r.0 r.1 le)) ∙ h)).0
+order_begins low r rs le h = leb-true low r.0 (and_parts (nat_le low r.0) _ (sym (order-some low r rs (le_true r.0 r.1 le))
+    ∙ h)).0
 
-order_after : (low : ℕ) (r : ℕ × ℕ) (rs : List (ℕ × ℕ)) → r.0 ≤ r.1 → begin_in_order low (r ∷ rs) ≡ true → begin_in_order r.0 rs ≡ true
+order_after : (low : ℕ) (r : ℕ × ℕ) (rs : List (ℕ × ℕ)) → r.0 ≤ r.1 → begin_in_order low (r ∷ rs) ≡ true →
+    begin_in_order r.0 rs ≡ true
 order_after low r rs le h = (and_parts (nat_le low r.0) _ (sym (order-some low r rs (le_true r.0 r.1 le)) ∙ h)).1
 
 order_rest : (low : ℕ) (r : ℕ × ℕ) (rs : List (ℕ × ℕ)) → begin_in_order low (r ∷ rs) ≡ true → begin_in_order low rs ≡ true
@@ -54,30 +58,42 @@ nil_in low = refl
 -- the first range and the others
 pub front : (rs : List (ℕ × ℕ)) → 1 ≤ length rs → rs ≡ slice_index_or rs 0 (0, 0) ∷ take (length rs - 1) (drop 1 rs)
 front [] h = absurd (omega arith)
-front (r ∷ rs) h = let e : length (r ∷ rs) - 1 ≡ length rs = omega arith in rw e (ap (λ l. r ∷ l) (sym (take_all (length rs) rs (omega arith))))
+front (r ∷ rs) h = let e : length (r ∷ rs) - 1 ≡ length rs = omega arith in
+    rw e (ap (λ l. r ∷ l) (sym (take_all (length rs) rs (omega arith))))
 
-pub order_goes_on : (low : ℕ) (all : List (ℕ × ℕ)) {r : ℕ × ℕ} {rs rest : List (ℕ × ℕ)} → begin_in_order low rest ≡ begin_in_order 0 all → rest ≡ r ∷ rs → r.0 ≤ r.1 → low ≤ r.0 → begin_in_order r.0 rs ≡ begin_in_order 0 all
-order_goes_on low all {r} {rs} {rest} h is le up = sym (order-some low r rs (le_true r.0 r.1 le) ∙ ap (λ b. b && begin_in_order r.0 rs) (le_true low r.0 up)) ∙ (sym (ap (begin_in_order low) is) ∙ h)
+pub order_goes_on : (low : ℕ) (all : List (ℕ × ℕ)) {r : ℕ × ℕ} {rs rest : List (ℕ × ℕ)} →
+    begin_in_order low rest ≡ begin_in_order 0 all → rest ≡ r ∷ rs → r.0 ≤ r.1 → low ≤ r.0 →
+    begin_in_order r.0 rs ≡ begin_in_order 0 all
+order_goes_on low all {r} {rs} {rest} h is le up = sym (order-some low r rs (le_true r.0 r.1 le)
+    ∙ ap (λ b. b && begin_in_order r.0 rs) (le_true low r.0 up)) ∙ (sym (ap (begin_in_order low) is) ∙ h)
 
-pub order_passes : (low : ℕ) (all : List (ℕ × ℕ)) {r : ℕ × ℕ} {rs rest : List (ℕ × ℕ)} → begin_in_order low rest ≡ begin_in_order 0 all → rest ≡ r ∷ rs → r.1 < r.0 → begin_in_order low rs ≡ begin_in_order 0 all
-order_passes low all {r} {rs} {rest} h is lt = sym (order-none low r rs (le_false r.0 r.1 lt)) ∙ (sym (ap (begin_in_order low) is) ∙ h)
+pub order_passes : (low : ℕ) (all : List (ℕ × ℕ)) {r : ℕ × ℕ} {rs rest : List (ℕ × ℕ)} →
+    begin_in_order low rest ≡ begin_in_order 0 all → rest ≡ r ∷ rs → r.1 < r.0 → begin_in_order low rs ≡ begin_in_order 0 all
+order_passes low all {r} {rs} {rest} h is lt = sym (order-none low r rs (le_false r.0 r.1 lt))
+    ∙ (sym (ap (begin_in_order low) is) ∙ h)
 
-pub order_breaks : (low : ℕ) (all : List (ℕ × ℕ)) {r : ℕ × ℕ} {rs rest : List (ℕ × ℕ)} → begin_in_order low rest ≡ begin_in_order 0 all → rest ≡ r ∷ rs → r.0 ≤ r.1 → r.0 < low → false ≡ begin_in_order 0 all
-order_breaks low all {r} {rs} {rest} h is le lt = sym (order-some low r rs (le_true r.0 r.1 le) ∙ ap (λ b. b && begin_in_order r.0 rs) (le_false low r.0 lt)) ∙ (sym (ap (begin_in_order low) is) ∙ h)
+pub order_breaks : (low : ℕ) (all : List (ℕ × ℕ)) {r : ℕ × ℕ} {rs rest : List (ℕ × ℕ)} →
+    begin_in_order low rest ≡ begin_in_order 0 all → rest ≡ r ∷ rs → r.0 ≤ r.1 → r.0 < low → false ≡ begin_in_order 0 all
+order_breaks low all {r} {rs} {rest} h is le lt = sym (order-some low r rs (le_true r.0 r.1 le)
+    ∙ ap (λ b. b && begin_in_order r.0 rs) (le_false low r.0 lt)) ∙ (sym (ap (begin_in_order low) is) ∙ h)
 
-pub order_ends : (low : ℕ) (all rest : List (ℕ × ℕ)) → begin_in_order low rest ≡ begin_in_order 0 all → length rest < 1 → true ≡ begin_in_order 0 all
+pub order_ends : (low : ℕ) (all rest : List (ℕ × ℕ)) → begin_in_order low rest ≡ begin_in_order 0 all → length rest < 1 →
+    true ≡ begin_in_order 0 all
 order_ends low all [] h none = sym (nil_in low) ∙ h
 order_ends low all (r ∷ rs) h none = absurd (omega arith)
 
 -- ---- one more part
 
-pub part_edges : (es mid new : List ℕ) (begin end : ℕ) → AreEdges es → Cut es (length es) begin → begin < end → end ≤ 0x11_0000 → mid ≡ es ++ begin ∷ [] → new ≡ mid ++ end ∷ [] → AreEdges new
+pub part_edges : (es mid new : List ℕ) (begin end : ℕ) → AreEdges es → Cut es (length es) begin → begin < end → end ≤ 0x11_0000 →
+    mid ≡ es ++ begin ∷ [] → new ≡ mid ++ end ∷ [] → AreEdges new
 part_edges es mid new begin end a cut lt top m n =
     let cm = cut_push es mid begin begin cut (omega arith) m in
     let cn = cut_push mid new (begin + 1) end cm (omega arith) n in
-    let len : length new ≡ length es + 2 = ap length n ∙ (length-append mid (end ∷ []) ∙ (ap (λ l. length l + 1) m ∙ (ap (λ k. k + 1) (length-append es (begin ∷ [])) ∙ omega arith))) in
+    let len : length new ≡ length es + 2 = ap length n ∙ (length-append mid (end ∷ [])
+    ∙ (ap (λ l. length l + 1) m ∙ (ap (λ k. k + 1) (length-append es (begin ∷ [])) ∙ omega arith))) in
     record {
-      rising = rising_push mid new (begin + 1) end cm (omega arith) n (rising_push es mid begin begin cut (omega arith) m a.rising);
+      rising = rising_push mid new (begin + 1) end cm (omega arith) n
+          (rising_push es mid begin begin cut (omega arith) m a.rising);
       closed = ap is_odd len ∙ even_two (length es) a.closed;
       within = λ k h. let z = cn.before k h in omega arith;
     }
@@ -85,13 +101,16 @@ part_edges es mid new begin end a cut lt top m n =
 part_is : (begin end c : ℕ) → in_part begin end c ≡ (nat_le begin c && not (nat_le end c))
 part_is begin end c = grind (arith, nat_tests)
 
-pub part_has : (es mid new : List ℕ) (begin end c : ℕ) → AreEdges es → Cut es (length es) begin → begin < end → mid ≡ es ++ begin ∷ [] → new ≡ mid ++ end ∷ [] →
+pub part_has : (es mid new : List ℕ) (begin end c : ℕ) → AreEdges es → Cut es (length es) begin → begin < end →
+    mid ≡ es ++ begin ∷ [] → new ≡ mid ++ end ∷ [] →
     has new c ≡ (has es c || in_part begin end c)
 part_has es mid new begin end c a cut lt m n =
-    ap (λ l. has l c) n ∙ (has-append mid (end ∷ []) c ∙ (ap₂ differ (ap (λ l. has l c) m ∙ (has-append es (begin ∷ []) c ∙ ap (differ (has es c)) (has-one begin c))) (has-one end c)
+    ap (λ l. has l c) n ∙ (has-append mid (end ∷ []) c ∙ (ap₂ differ (ap (λ l. has l c) m
+    ∙ (has-append es (begin ∷ []) c ∙ ap (differ (has es c)) (has-one begin c))) (has-one end c)
     ∙ (differ_twice (has es c) (nat_le begin c) (nat_le end c)
     ∙ (sym (or_differ (has es c) (nat_le begin c) (nat_le end c)
-    (λ t. let le = leb-true begin c t in has_count es (length es) c (omega arith) (λ k h. let z = cut.before k h in omega arith) (λ k h l. absurd (omega arith)) ∙ a.closed)
+    (λ t. let le = leb-true begin c t in has_count es (length es) c (omega arith) (λ k h. let z = cut.before k h in
+    omega arith) (λ k h l. absurd (omega arith)) ∙ a.closed)
     (le_trans_true begin end c lt)) ∙ ap (λ b. has es c || b) (sym (part_is begin end c))))))
 
 pub no_part : (b : Bool) (begin end c : ℕ) → end ≤ begin → b ≡ (b || in_part begin end c)
@@ -109,12 +128,18 @@ pub record Joined (all : List (ℕ × ℕ)) (es : List ℕ) (begin end : ℕ) (r
   pub order : begin ≤ end
   pub within : end ≤ 0x11_0000
   pub rises : begin_in_order begin rest ≡ true
-  pub agree : (c : ℕ) → ((has es c || in_part begin end c) || (nat_le c 0x10_FFFF && in_ranges rest c)) ≡ (nat_le c 0x10_FFFF && in_ranges all c)
+  pub agree : (c : ℕ) → ((has es c || in_part begin end c) || (nat_le c 0x10_FFFF && in_ranges rest c)) ≡
+      (nat_le c 0x10_FFFF && in_ranges all c)
 
 pub joined_start : (all : List (ℕ × ℕ)) (es : List ℕ) → es ≡ [] → begin_in_order 0 all ≡ true → Joined all es 0 0 all
 joined_start all es is h = record {
   edges = no_edges es is;
-  below = record { count = omega arith; before = λ k lt. let e : length es ≡ 0 = ap length is in absurd (omega arith); after = λ k le lt. omega arith };
+  below = record {
+    count = omega arith;
+    before = λ k lt. let e : length es ≡ 0 = ap length is in
+        absurd (omega arith);
+    after = λ k le lt. omega arith;
+  };
   order = omega arith;
   within = omega arith;
   rises = h;
@@ -157,27 +182,34 @@ in_longer : (begin end past first last c : ℕ) → past ≡ min 0x10_FFFF last 
     in_part begin (max end past) c ≡ (in_part begin end c || (nat_le c 0x10_FFFF && in_range (first, last) c))
 in_longer begin end past first last c is le in_it order = grind (arith, nat_tests)
 
-in_same : (begin end past first last c : ℕ) → past ≡ min 0x10_FFFF last + 1 → first ≤ end → last < first → in_part begin (max end past) c ≡ (in_part begin end c || (nat_le c 0x10_FFFF && in_range (first, last) c))
+in_same : (begin end past first last c : ℕ) → past ≡ min 0x10_FFFF last + 1 → first ≤ end → last < first →
+    in_part begin (max end past) c ≡ (in_part begin end c || (nat_le c 0x10_FFFF && in_range (first, last) c))
 in_same begin end past first last c is in_it none = grind (arith, nat_tests)
 
-in_opened : (past first last c : ℕ) → past ≡ min 0x10_FFFF last + 1 → in_part first past c ≡ (nat_le c 0x10_FFFF && in_range (first, last) c)
+in_opened : (past first last c : ℕ) → past ≡ min 0x10_FFFF last + 1 →
+    in_part first past c ≡ (nat_le c 0x10_FFFF && in_range (first, last) c)
 in_opened past first last c is = grind (arith, nat_tests)
 
-in_none : (past first last c : ℕ) → past ≡ min 0x10_FFFF last + 1 → past ≤ first → (nat_le c 0x10_FFFF && in_range (first, last) c) ≡ false
+in_none : (past first last c : ℕ) → past ≡ min 0x10_FFFF last + 1 → past ≤ first →
+    (nat_le c 0x10_FFFF && in_range (first, last) c) ≡ false
 in_none past first last c is le = grind (arith, nat_tests)
 
 in_ranges-next : (r : ℕ × ℕ) (rs : List (ℕ × ℕ)) (c : ℕ) → in_ranges (r ∷ rs) c ≡ (in_range (r.0, r.1) c || in_ranges rs c)
 unfolding in_ranges
 in_ranges-next r rs c = refl
 
-module _ {all : List (ℕ × ℕ)} {es : List ℕ} {begin end past : ℕ} {r : ℕ × ℕ} {rs rest : List (ℕ × ℕ)} (j : Joined all es begin end rest) (next : rest ≡ r ∷ rs) (is : past ≡ min 0x10_FFFF r.1 + 1) where
+module _ {all : List (ℕ × ℕ)} {es : List ℕ} {begin end past : ℕ} {r : ℕ × ℕ} {rs rest : List (ℕ × ℕ)}
+    (j : Joined all es begin end rest) (next : rest ≡ r ∷ rs) (is : past ≡ min 0x10_FFFF r.1 + 1) where
   rises : begin_in_order begin (r ∷ rs) ≡ true
   rises = sym (ap (begin_in_order begin) next) ∙ j.rises
 
-  agrees : (c : ℕ) → ((has es c || in_part begin end c) || (nat_le c 0x10_FFFF && (in_range (r.0, r.1) c || in_ranges rs c))) ≡ (nat_le c 0x10_FFFF && in_ranges all c)
-  agrees c = ap (λ b. (has es c || in_part begin end c) || (nat_le c 0x10_FFFF && b)) (sym (ap (λ l. in_ranges l c) next ∙ in_ranges-next r rs c)) ∙ j.agree c
+  agrees : (c : ℕ) → ((has es c || in_part begin end c) || (nat_le c 0x10_FFFF && (in_range (r.0, r.1) c || in_ranges rs c))) ≡
+      (nat_le c 0x10_FFFF && in_ranges all c)
+  agrees c = ap (λ b. (has es c || in_part begin end c) || (nat_le c 0x10_FFFF && b)) (sym (ap (λ l. in_ranges l c) next
+      ∙ in_ranges-next r rs c)) ∙ j.agree c
 
-  longer_part : r.0 ≤ end → (c : ℕ) → in_part begin (max end past) c ≡ (in_part begin end c || (nat_le c 0x10_FFFF && in_range (r.0, r.1) c))
+  longer_part : r.0 ≤ end → (c : ℕ) → in_part begin (max end past) c ≡
+      (in_part begin end c || (nat_le c 0x10_FFFF && in_range (r.0, r.1) c))
   longer_part in_it c =
       elim (cases_lt r.1 r.0) [
         | inl lt ↦ in_same begin end past r.0 r.1 c is in_it lt
@@ -191,17 +223,20 @@ module _ {all : List (ℕ × ℕ)} {es : List ℕ} {begin end past : ℕ} {r : �
     order = let o = j.order in omega arith;
     within = let w = j.within in omega arith;
     rises = order_rest begin r rs rises;
-    agree = λ c. longer (has es c) (in_part begin end c) (in_part begin n c) (nat_le c 0x10_FFFF) (in_range (r.0, r.1) c) (in_ranges rs c) (ap (λ m. in_part begin m c) e ∙ longer_part in_it c) ∙ agrees c;
+    agree = λ c. longer (has es c) (in_part begin end c) (in_part begin n c) (nat_le c 0x10_FFFF) (in_range (r.0, r.1) c)
+        (in_ranges rs c) (ap (λ m. in_part begin m c) e ∙ longer_part in_it c) ∙ agrees c;
   }
 
-  pub joined_opened : (new : List ℕ) → end < r.0 → r.0 < past → AreEdges new → Cut new (length new) (end + 1) → ((c : ℕ) → has new c ≡ (has es c || in_part begin end c)) → Joined all new r.0 past rs
+  pub joined_opened : (new : List ℕ) → end < r.0 → r.0 < past → AreEdges new → Cut new (length new) (end + 1) →
+      ((c : ℕ) → has new c ≡ (has es c || in_part begin end c)) → Joined all new r.0 past rs
   joined_opened new after some a cut h = record {
     edges = a;
     below = cut_all r.0 cut (omega arith);
     order = omega arith;
     within = omega arith;
     rises = order_after begin r rs (omega arith) rises;
-    agree = λ c. opened (has es c) (in_part begin end c) (has new c) (in_part r.0 past c) (nat_le c 0x10_FFFF) (in_range (r.0, r.1) c) (in_ranges rs c) (h c) (in_opened past r.0 r.1 c is) ∙ agrees c;
+    agree = λ c. opened (has es c) (in_part begin end c) (has new c) (in_part r.0 past c) (nat_le c 0x10_FFFF)
+        (in_range (r.0, r.1) c) (in_ranges rs c) (h c) (in_opened past r.0 r.1 c is) ∙ agrees c;
   }
 
   pub joined_passed : past ≤ r.0 → Joined all es begin end rs
@@ -211,12 +246,16 @@ module _ {all : List (ℕ × ℕ)} {es : List ℕ} {begin end past : ℕ} {r : �
     order = j.order;
     within = j.within;
     rises = order_rest begin r rs rises;
-    agree = λ c. passed (has es c || in_part begin end c) (nat_le c 0x10_FFFF) (in_range (r.0, r.1) c) (in_ranges rs c) (in_none past r.0 r.1 c is none) ∙ agrees c;
+    agree = λ c. passed (has es c || in_part begin end c) (nat_le c 0x10_FFFF) (in_range (r.0, r.1) c) (in_ranges rs c)
+        (in_none past r.0 r.1 c is none) ∙ agrees c;
   }
 
-pub joined_all : (all : List (ℕ × ℕ)) (es : List ℕ) (begin end : ℕ) (rest : List (ℕ × ℕ)) (c : ℕ) (b : Bool) → Joined all es begin end rest → length rest < 1 → b ≡ (has es c || in_part begin end c) → b ≡ (nat_le c 0x10_FFFF && in_ranges all c)
+pub joined_all : (all : List (ℕ × ℕ)) (es : List ℕ) (begin end : ℕ) (rest : List (ℕ × ℕ)) (c : ℕ) (b : Bool) →
+    Joined all es begin end rest → length rest < 1 → b ≡ (has es c || in_part begin end c) →
+    b ≡ (nat_le c 0x10_FFFF && in_ranges all c)
 joined_all all es begin end (r ∷ rs) c b j none h = absurd (omega arith)
-joined_all all es begin end [] c b j none h = h ∙ (sym (or-false _) ∙ (ap (λ x. (has es c || in_part begin end c) || x) (sym nothing) ∙ j.agree c))
+joined_all all es begin end [] c b j none h = h ∙ (sym (or-false _)
+    ∙ (ap (λ x. (has es c || in_part begin end c) || x) (sym nothing) ∙ j.agree c))
   where
     nothing : (nat_le c 0x10_FFFF && in_ranges [] c) ≡ false
     nothing = ap (λ b. nat_le c 0x10_FFFF && b) (in_ranges-nil c) ∙ and-false (nat_le c 0x10_FFFF)

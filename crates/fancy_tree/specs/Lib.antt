@@ -13,3 +13,4 @@ pub mod Widening
 pub mod Named
 pub mod Properties
 pub mod CharSet
+pub mod Errors

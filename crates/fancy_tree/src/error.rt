@@ -120,8 +120,12 @@ pub enum Error {
 pub type Result<T> = std::result::Result<T, Error>;
 
 impl ParseErrorKind {
+    ghost use Rattle.fancy_tree.specs.Errors.{parse_error_name};
+
     /// The name of the kind, as it is written in a program: `"InvalidRepeat"`.
-    pub fn name(self) -> &'static str {
+    pub fn name(self) -> &'static str
+        ensures { result.now ≡ parse_error_name self }
+    {
         match self {
             ParseErrorKind::GeneralParseError => "GeneralParseError",
             ParseErrorKind::UnclosedOpenParen => "UnclosedOpenParen",
@@ -142,8 +146,12 @@ impl ParseErrorKind {
 }
 
 impl CompileError {
+    ghost use Rattle.fancy_tree.specs.Errors.{compile_error_name};
+
     /// The name of the kind, as it is written in a program: `"InvalidBackref"`, without its number.
-    pub fn name(&self) -> &'static str {
+    pub fn name(&self) -> &'static str
+        ensures { result.now ≡ compile_error_name self.now }
+    {
         match self {
             CompileError::InvalidBackref(_) => "InvalidBackref",
             CompileError::InvalidGroupNameBackref(_) => "InvalidGroupNameBackref",
@@ -156,8 +164,12 @@ impl CompileError {
 }
 
 impl RuntimeError {
+    ghost use Rattle.fancy_tree.specs.Errors.{runtime_error_name};
+
     /// The name of the kind, as it is written in a program: `"StackOverflow"`.
-    pub fn name(self) -> &'static str {
+    pub fn name(self) -> &'static str
+        ensures { result.now ≡ runtime_error_name self }
+    {
         match self {
             RuntimeError::BacktrackLimitExceeded => "BacktrackLimitExceeded",
             RuntimeError::StackOverflow => "StackOverflow",
@@ -167,9 +179,13 @@ impl RuntimeError {
 }
 
 impl Error {
+    ghost use Rattle.fancy_tree.specs.Errors.{error_name};
+
     /// The name of the kind inside, as it is written in a program: `"Memory"`, or for `ParseError(4, UnclosedOpenParen)`
     /// `"UnclosedOpenParen"`. The text of the error says more, and where.
-    pub fn name(&self) -> &'static str {
+    pub fn name(&self) -> &'static str
+        ensures { result.now ≡ error_name self.now }
+    {
         match self {
             Error::Memory => "Memory",
             Error::ParseError(_, kind) => kind.name(),

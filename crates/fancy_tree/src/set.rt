@@ -153,8 +153,8 @@ impl Set {
         Ok(Set { edges })
     }
 
-    /// The numbers up to `LAST` in any of the ranges, which hold both their ends and may be in any order. Ranges that are in order
-    /// take one walk and one request for memory; others are halved, and the sets of both halves united.
+    /// The numbers up to `LAST` in any of the ranges, which hold both their ends and may be in any order. Ranges that are in
+    /// order take one walk and one request for memory; others are halved, and the sets of both halves united.
     pub fn from_ranges(alloc: Global, ranges: &[(u32, u32)]) -> Result<Set, AllocError>
         ensures { IfOk result (λ s. (c : ℕ) → members s c ≡ (nat_le c LAST && in_ranges ranges.now c)) }
     {

@@ -2,10 +2,12 @@ use Rattle.fancy_tree.proofs.JoiningLemmas.{front, order_goes_on, order_passes, 
 use Rattle.fancy_tree.proofs.joining.are_in_order.Goals as goal
 
 pub returns-then-first-low : goal.returns-then-first-low
-returns-then-first-low c = order_breaks _ _ c.loop-rest.invariant (front _ c.in-len1-up.len_at_least) c.if-first-last.true c.if-first-low.true
+returns-then-first-low c = order_breaks _ _ c.loop-rest.invariant (front _ c.in-len1-up.len_at_least) c.if-first-last.true
+    c.if-first-low.true
 
 pub loop-rest-preserved-else-first-low : goal.loop-rest-preserved-else-first-low
-loop-rest-preserved-else-first-low c = order_goes_on _ _ c.loop-rest.invariant (front _ c.in-len1-up.len_at_least) c.if-first-last.true c.if-first-low.false
+loop-rest-preserved-else-first-low c = order_goes_on _ _ c.loop-rest.invariant (front _ c.in-len1-up.len_at_least)
+    c.if-first-last.true c.if-first-low.false
 
 pub loop-rest-preserved : goal.loop-rest-preserved
 loop-rest-preserved c = order_passes _ _ c.loop-rest.invariant (front _ c.in-len1-up.len_at_least) c.if-first-last.false
