@@ -180,7 +180,7 @@ impl Regex {
         Ok(Some(captures))
     }
 
-    /// The match that an attempt at one position finds in the bytes of a haystack, or none, without its groups: those stand in
+    /// The match that an attempt at one position finds in the bytes of a haystack, or none, without its groups: those are in
     /// `cache` then, and [`Regex::captures_found`] takes them from there. The position is a byte offset, as in
     /// [`Regex::attempt_at`].
     ///

@@ -3,7 +3,7 @@
 ghost use Rattle.std.specs.Prelude.{◌≡◌};
 ghost use Rattle.fancy_core.specs.ItemLimits.{limit_of, is_reached, one_fewer};
 
-/// How many matches may be replaced: 0 stands for no limit.
+/// How many matches may be replaced: 0 means no limit.
 pub(crate) fn limit_of(limit: usize) -> Option<usize>
     ensures { result ≡ limit_of limit }
 {

@@ -19,8 +19,8 @@ pub struct CaptureNames<'r> {
 }
 
 impl Regex {
-    /// The name of each group, or `None` for a group without one, in the order of their numbers. The first item stands
-    /// for group 0, the whole match, which has no name.
+    /// The name of each group, or `None` for a group without one, in the order of their numbers. The first item is that
+    /// of group 0, the whole match, which has no name.
     ///
     /// ```text
     /// Regex::new(alloc, "(?<a>x)(y)")?.capture_names()?  // None, Some("a"), None

@@ -166,7 +166,7 @@ impl Regex {
     }
 
     /// Whether the input may be searched: for text, its start (if that is not past the end) and both ends of
-    /// its range are character boundaries, and where matches may stand anywhere
+    /// its range are character boundaries, and where matches may be anywhere
     /// (`BytesMode::Ascii` and `BytesMode::UnicodeBytes`) text is ASCII.
     ///
     /// ```text
@@ -236,7 +236,7 @@ impl Regex {
     /// limit: `RuntimeError(BacktrackLimitExceeded)` where the search takes more returns than
     /// `RegexOptionsBuilder::backtrack_limit` allows, and `RuntimeError(StackOverflow)` where more branches
     /// are saved at one time than `RegexOptionsBuilder::stack_limit` allows, which only a search that opens more choices than
-    /// that can come to.
+    /// that can do.
     ///
     /// ```text
     /// let regex = Regex::new(alloc, "abc")?;

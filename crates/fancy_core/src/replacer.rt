@@ -22,7 +22,7 @@ use std::borrow::CowStr;
 /// Gives the text that a match is replaced by.
 ///
 /// A `&str`, `&String`, `String`, `CowStr` or `&CowStr` is a template, which [`Captures::expand`] expands. [`NoExpand`]
-/// is a text that is taken as it stands, [`ReplaceFn`] calls a function, and [`Replacer::by_ref`] lends a replacer.
+/// is a text that is taken as it is, [`ReplaceFn`] calls a function, and [`Replacer::by_ref`] lends a replacer.
 ///
 /// Where a replacer has one text for all matches, that is what each call appends.
 ///

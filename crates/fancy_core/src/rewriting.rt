@@ -28,7 +28,7 @@ use std::borrow::CowStr;
 
 /// A text whose matches are being replaced, from left to right.
 ///
-/// Each match is asked for by `next_match`, which writes the part before it. What stands in its place is pushed then.
+/// Each match is asked for by `next_match`, which writes the part before it. What replaces the match is pushed then.
 #[derive(Drop)]
 pub(crate) struct Rewriting<'r, 't> {
     regex: &'r Regex,

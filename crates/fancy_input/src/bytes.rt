@@ -7,7 +7,7 @@ mod views;
 /// A match in bytes: the bytes, and where the match starts and ends in them.
 ///
 /// `end` is the offset after the last byte, so an empty match has two equal ends. Two matches are equal if
-/// the bytes that they stand in and both ends are.
+/// the bytes that they are in and both ends are.
 #[derive(Clone, Copy, PartialEq, Eq)]
 pub struct MatchBytes<'t> {
     bytes: &'t [u8],

@@ -64,7 +64,7 @@ pub trait Haystack: Copy {
 /// A haystack that can be searched: `&str`, `&String`, `&[u8]` or `&[u8; N]`.
 ///
 /// The first two are text, whose places are the boundaries of characters. The others are bytes; a place of
-/// theirs is any offset at which no byte of `0x80..0xC0` stands, and each one from their length on.
+/// theirs is any offset that has no byte of `0x80..0xC0`, and each one from their length on.
 ///
 /// ```text
 /// "aé".len()                   // 3
@@ -77,7 +77,7 @@ pub trait Haystack: Copy {
 /// b"a\xC3\xA9".advance_position(1)     // 2
 /// ```
 pub trait Input: Haystack {
-    /// What stands for a match in a haystack of this form.
+    /// What a match in a haystack of this form is.
     type Match: Copy;
 
     // The haystack of a match, and its two ends.

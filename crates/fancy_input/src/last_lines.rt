@@ -5,7 +5,7 @@ ghost use Rattle.fancy_input.specs.Lines.{are_line_feeds, are_line_ends};
 ghost use Rattle.fancy_input.specs.LastLines.{ends_only, Told, KnowsLastLines};
 
 /// The place after the line end at a place: a line feed, or where a carriage return ends lines too, perhaps one
-/// before it. `None` where something else stands there.
+/// before it. `None` where something else is there.
 fn past_line_end(haystack: &[u8], crlf: bool, place: usize) -> Option<usize>
     requires { place < length haystack.now }
     ensures past { IfSome result (λ past. ends_only crlf (drop place haystack.now) ≡ ends_only crlf (drop past haystack.now)) }

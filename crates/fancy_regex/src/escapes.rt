@@ -1,4 +1,4 @@
-//! Patterns that stand for a text as it is.
+//! Patterns that mean a text as it is.
 
 ghost use Rattle.std.specs.Prelude.{◌≡◌, ◌↔◌, ◌++◌, false, chars, IfOk, IfErr, OnOk, string_bytes, encode_utf8_all, flat_map};
 ghost use Rattle.std.specs.Cow.{cow_str_bytes, IsBorrowedStr};
@@ -10,11 +10,11 @@ use std::borrow::CowStr;
 
 /// The text with an escape for each character that means something in a pattern.
 ///
-/// Where none of `\ . + * ? ( ) | [ ] { } ^ $ #` stands in it, the text is given back as it is. Else each of
+/// Where it has none of `\ . + * ? ( ) | [ ] { } ^ $ #`, the text is given back as it is. Else each of
 /// these gets a backslash, and line feeds, tabs and carriage returns become `\n`, `\t` and `\r`.
 ///
 /// With the default options the regex of it finds the text itself and nothing else (the law
-/// [`crate::laws::escapes_find_their_text`]). Under flag `x` a text with blanks does not stand for itself.
+/// [`crate::laws::escapes_find_their_text`]). Under flag `x` the regex of a text with blanks does not find that.
 ///
 /// ```text
 /// escape(alloc, "@foo")   // borrowed

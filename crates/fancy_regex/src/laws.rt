@@ -31,7 +31,7 @@ use fancy_core::regex::Regex;
 use fancy_input::input::Input;
 use fancy_input::regex_input::RegexInput;
 
-/// A regex stands for the pattern that its text spells under its options; the number of its groups and their names are those
+/// A regex means the pattern that its text spells under its options; the number of its groups and their names are those
 /// that the text has. So whoever is lent a regex can reason about what it finds.
 pub fn regex_is_of_its_text(_regex: &Regex)
     ensures { ∥ IsOfItsText _regex.now ∥₁ }
@@ -45,7 +45,7 @@ pub fn without_a_size_memory_alone_refuses()
         → IsRefused e (dialect_of o) t }
 {}
 
-/// A name stands on a group of the pattern, which is never group 0, the whole match; or on none.
+/// A name is that of a group of the pattern, which is never group 0, the whole match; or on none.
 #[tactic(auto, using(fancy_core::proofs::NumberedLemmas::stands_on_group))]
 pub fn names_stand_on_groups(_regex: &Regex, _name: &str)
     ensures { StandsOnGroup _regex.now (chars _name.now) }
@@ -96,11 +96,11 @@ pub fn escapes_spell_their_text(_text: &str)
     ensures { (p : Pattern) → IsPattern standard (escaped_pattern (chars _text.now)) p ↔ IsLiterally p _text.now }
 {}
 
-/// The regex of what `escape` makes of a text finds the text, and nothing else: at the least place where it stands within
+/// The regex of what `escape` makes of a text finds the text, and nothing else: at the least place where it is within
 /// the range and cuts no character of the haystack at its ends.
 ///
 /// An anchored search finds it at the effective start or nowhere, and where the haystack is text, it finds it there wherever
-/// it stands there within the range.
+/// it is there within the range.
 ///
 /// ```text
 /// // of `a.b`, with the escape `a\.b`
@@ -120,7 +120,7 @@ pub fn plain_template_is_its_expansion()
     ensures { (t : List ℕ) (seen : Seen) (x : List ℕ) → fixed_of t ≡ Some x → expansion_of t seen ≡ x }
 {}
 
-/// A set of one pattern gives first what the pattern gives: it stands at the position of the pattern's first match, or nowhere
+/// A set of one pattern gives first what the pattern gives: it finds the position of the pattern's first match, or none
 /// where there is none; and its one item there has the groups of that match.
 pub fn set_of_one_finds_as_its_pattern<S: Input>(_regex: &Regex, _input: &RegexInput<S>)
     ensures { FindsAsOne _regex.now (S.bytes (haystack_in _input.now)) (request_in _input.now) }

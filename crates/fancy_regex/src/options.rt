@@ -76,7 +76,7 @@ impl RegexOptionsBuilder {
         self
     }
 
-    /// Whether flag `i` holds at the pattern's start: characters stand also for those that share their simple
+    /// Whether flag `i` holds at the pattern's start: a character matches also those that share its simple
     /// folding. Off by default.
     ///
     /// ```text
@@ -171,7 +171,7 @@ impl RegexOptionsBuilder {
         self
     }
 
-    /// Whether an input may say that the text's start, or its end, does not count as one, and that no match came before.
+    /// Whether an input may say that the text's start, or its end, does not count as one, and that there was no match before.
     /// Off by default.
     ///
     /// Where it is on, `^` and `\A` find no start in an input with `start_text(false)`, `$` and `\z` no end in one
@@ -290,8 +290,8 @@ impl RegexOptionsBuilder {
     /// match starts with ([`RegexOptionsBuilder::start_bytes`]). Off by default.
     ///
     /// No answer changes. At the positions that are passed over no return counts for
-    /// [`RegexOptionsBuilder::backtrack_limit`]; where no such byte stands in the searched text, the answer is none without a
-    /// step. Where a match may start at any byte, no position is passed over. Searches for easy patterns ([`Regex::is_easy`]),
+    /// [`RegexOptionsBuilder::backtrack_limit`]; where the searched text has no such byte, or the haystack lacks one of
+    /// [`RegexOptionsBuilder::required_bytes`], the answer is none without a step. Where a match may start at any byte, no position is passed over. Searches for easy patterns ([`Regex::is_easy`]),
     /// which have no such limit, pass over positions in any case.
     ///
     /// ```text

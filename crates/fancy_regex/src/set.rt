@@ -23,7 +23,7 @@ pub use matched::RegexSetMatch;
 pub use matches::RegexSetMatchesAt;
 use std::alloc::Global;
 
-/// Patterns that are searched for at once: a search stands at the least position where one of them matches.
+/// Patterns that are searched for at once: a search finds the least position where one of them matches.
 ///
 /// ```text
 /// let set = RegexSet::new(alloc, &["\\d+", "\\w+"])?;

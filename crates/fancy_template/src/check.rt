@@ -19,7 +19,7 @@ impl Expander {
     ///   `CompileError::InvalidGroupNameBackref`.
     /// - Number 0, the whole match, passes. Another number is `CompileError::NamedBackrefOnly` where groups have
     ///   names, and `CompileError::InvalidBackref` where the regex has no such group.
-    /// - A substitution character after which no form stands is `ParseErrorKind::GeneralParseError`, with the
+    /// - A substitution character that begins no form is `ParseErrorKind::GeneralParseError`, with the
     ///   place 0.
     ///
     /// ```text

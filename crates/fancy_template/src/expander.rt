@@ -13,7 +13,7 @@ use fancy_tree::error::{Error, Result};
 use std::alloc::{AllocError, Global};
 use std::borrow::CowStr;
 
-/// Expands templates: texts in which a substitution character stands before the name or the number of a group.
+/// Expands templates: texts in which a substitution character is before the name or the number of a group.
 ///
 /// The default one takes `$1`, `$name` and `${name}`, and `$$` for the character itself; the one for Python's
 /// templates takes `\1`, `\g<name>` and `\\`.
@@ -35,7 +35,7 @@ pub struct Expander {
     pub(crate) undelimited: bool,
 }
 
-/// What stands before and after the name of a group.
+/// What is before and after the name of a group.
 #[derive(Clone, Copy)]
 pub(crate) enum Delimiters {
     /// `{` and `}`.
@@ -129,7 +129,7 @@ impl Expander {
     }
 }
 
-/// Whether the character stands in the text.
+/// Whether the text has the character.
 pub fn includes(text: &str, mark: char) -> bool
     ensures { result ≡ has_mark mark (chars text.now) }
 {

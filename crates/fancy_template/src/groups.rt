@@ -43,7 +43,7 @@ pub trait GroupNames {
     fn has_names(&self) -> bool
         ensures { result ≡ (groups self.now).has_names };
 
-    /// The number of the group that this name stands for.
+    /// The number of the group that has this name.
     fn group_named(&self, name: &str) -> Option<usize>
         ensures { result ≡ (groups self.now).group_named (chars name.now) };
 

@@ -1,4 +1,4 @@
-//! Templates: texts in which a mark stands before the name or the number of a group; what they expand to, and which groups
+//! Templates: texts in which a mark is before the name or the number of a group; what they expand to, and which groups
 //! they may name.
 #![tactic(auto)]
 

@@ -19,7 +19,7 @@ pub(crate) enum CharKind {
 }
 
 impl CharKind {
-    /// Whether a character may stand in such a row.
+    /// Whether such a row may have the character.
     pub(crate) fn includes(self, c: char) -> bool
         ensures { result ≡ test_of self c }
     {

@@ -11,13 +11,13 @@ use crate::scan::{CharKind, after_char, after_word, split_first, split_row};
 /// What a template is cut into.
 #[derive(Clone, Copy, PartialEq, Eq)]
 pub enum Step<'a> {
-    /// A character that stands for itself.
+    /// A character that gives itself.
     Literal(char),
     /// The group with this name; without such a group, the one whose decimal number this is.
     Name(&'a str),
     /// The group with this number.
     Number(usize),
-    /// A substitution character after which no form stands. The next step is that character.
+    /// A substitution character that begins no form. The next step is that character.
     Error,
 }
 
@@ -66,7 +66,7 @@ impl<'a> Iterator for Steps<'a> {
     }
 }
 
-/// The form that stands at the front of a text after a substitution character, and what follows it.
+/// The form at the front of a text after a substitution character, and what follows it.
 fn read_form<'a>(expander: &Expander, text: &'a str) -> Option<(Step<'a>, &'a str)>
     ensures { option_map step_read result ≡ option_map (form_in (chars text.now)) (form (syntax_of expander.now) (chars text.now)) }
 {
@@ -113,7 +113,7 @@ fn read_undelimited<'a>(expander: &Expander, text: &'a str) -> Option<(Step<'a>,
     Some((Step::Name(name), rest))
 }
 
-/// A number: all digits that stand there.
+/// A number: all digits that are there.
 fn read_number(text: &str) -> Option<(Step<'_>, &str)>
     ensures { option_map step_read result ≡ option_map (form_in (chars text.now)) (number_form (chars text.now)) }
 {

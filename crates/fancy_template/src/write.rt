@@ -11,7 +11,7 @@ use std::io::ErrorKind;
 /// A write that is refused ends it with the writer's error, and one that takes no byte with `ErrorKind::WriteZero`.
 /// What the writer has taken by then is a beginning of the text, and not all of it. No write is tried again.
 ///
-/// Which error it is stands in no clause: `io::Write` says of a refused write only that it took nothing.
+/// No clause says which error it is: `io::Write` says of a refused write only that it took nothing.
 pub fn write_whole<W: io::Write>(writer: &mut W, text: &[u8]) -> io::Result<()>
     ensures ok { OnOk result (Writes W.contents writer.old text.now writer.new) }
     ensures err { OnErr result (WritesPart W.contents writer.old text.now writer.new) }

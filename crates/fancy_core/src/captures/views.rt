@@ -93,7 +93,7 @@ fn slot_at(slots: &[Option<Span>], number: usize) -> Option<Span>
     }
 }
 
-/// Where the group with this number stands, in byte offsets. `None` where it took no part, and for every number past the last
+/// Where the group with this number is, in byte offsets. `None` where it took no part, and for every number past the last
 /// group.
 pub fn group_span<S: Haystack>(captures: &Captures<'_, S>, number: usize) -> Option<Span>
     ensures { result ≡ span_at (spans_in captures.now) number }

@@ -1,4 +1,4 @@
-//! A text that is taken as it stands.
+//! A text that is taken as it is.
 
 ghost use Rattle.std.specs.Prelude.{◌≡◌, Some};
 ghost use Rattle.std.proofs.Common.{rules};
@@ -8,7 +8,7 @@ use crate::captures::Captures;
 use crate::replacer::Replacer;
 use fancy_tree::error::Result;
 
-/// A text that is taken as it stands, also where it has substitution characters.
+/// A text that is taken as it is, also where it has substitution characters.
 ///
 /// ```text
 /// regex.replace(text, NoExpand("$2 $last"))  // the match becomes "$2 $last"

@@ -113,7 +113,7 @@ fn append_expanded(template: &str, captures: &Captures<'_, &str>, dst: &mut Stri
     captures.expand(template, dst)
 }
 
-/// The template, where no `$` stands in it: it expands to itself then.
+/// The template, where it has no `$`: it expands to itself then.
 fn without_marks(template: &str) -> Option<&str>
     ensures { option_map (λ t. t.now) result ≡ fixed_of template.now }
 {
