@@ -1,3 +1,4 @@
+pub mod ReadingLemmas
 pub mod ResultLemmas
 pub mod SearchedLemmas
 pub mod ProgramSizeLemmas

@@ -1,4 +1,6 @@
 pub mod Options
+pub mod PatternCode
+pub mod Readings
 pub mod Compiled
 pub mod Programs
 pub mod Searching

@@ -2,7 +2,7 @@
 use Rattle.std.specs.Prelude.{ℕ, Bool, List, IsTrue}
 use Rattle.fancy_tree.specs.Modes.{keeps_characters}
 use Rattle.fancy_tree.specs.Names.{named_groups}
-use Rattle.fancy_tree.specs.Pattern.{Pattern, pattern_of}
+use Rattle.fancy_tree.specs.Pattern.{Pattern}
 use Rattle.fancy_tree.specs.Text.{Text}
 use Rattle.fancy_input.specs.declared.input.Request.{Request}
 use Rattle.fancy_engine.specs.Code.{code_len}
@@ -11,9 +11,9 @@ use Rattle.fancy_search.specs.declared.options.Options.{Options}
 use Rattle.fancy_search.specs.declared.program.Program.{Program}
 use Rattle.fancy_search.specs.Options.{meaning_in, is_easy_under}
 
--- its pattern
+-- the pattern that its text spells
 abbrev pub program_pattern : Program → Pattern
-program_pattern p = pattern_of p.tree
+program_pattern p = p.reading.0
 
 -- the options that it was built with
 abbrev pub program_options : Program → Options

@@ -1,7 +1,7 @@
 //! A compiled pattern: the code that is searched with, and what decides how.
 
-ghost use Rattle.std.specs.Prelude.{◌≡◌, ◌≤◌, ◌+◌, ◌*◌, Bool, None, IfOk, IfErr, IsTrue, chars, true, false, length};
-ghost use Rattle.fancy_tree.specs.Pattern.{Pattern, pattern_of};
+ghost use Rattle.std.specs.Prelude.{◌≡◌, ◌≤◌, ◌+◌, ◌*◌, Bool, None, IfOk, IfErr, IsTrue, chars, true, false, length, string_bytes};
+ghost use Rattle.fancy_tree.specs.Pattern.{Pattern};
 ghost use Rattle.fancy_tree.specs.Names.{named_groups};
 ghost use Rattle.fancy_tree.specs.Modes.{keeps_characters};
 ghost use Rattle.fancy_tree.specs.Sizes.{nodes};
@@ -14,6 +14,7 @@ ghost use Rattle.fancy_engine.specs.Work.{steps_of, returns_of};
 ghost use Rattle.fancy_engine.specs.Tried.{NoneTried};
 ghost use Rattle.fancy_engine.specs.Search.{search};
 ghost use Rattle.fancy_bytes.specs.Lacks.{AllStand, AreRequired};
+ghost use Rattle.fancy_search.specs.Readings.{Reading, one_reading};
 ghost use Rattle.fancy_search.specs.Compiled.{IsCompiled, IsSpelled};
 ghost use Rattle.fancy_search.specs.Options.{meaning_in, dialect_of, is_easy_under};
 ghost use Rattle.fancy_search.specs.ProgramSize.{IsRefusedUnder, RefusesPattern, passes};
@@ -34,7 +35,6 @@ use fancy_machine::search as machine;
 use fancy_syntax::parse::{Parsed, parse_with};
 use fancy_tree::error::{CompileError, Error, Result, RuntimeError};
 use fancy_tree::name::GroupName;
-use fancy_tree::tree::Tree;
 use std::alloc::Global;
 
 /// A pattern that was read and compiled under options.
@@ -44,20 +44,21 @@ use std::alloc::Global;
 #[derive(Drop)]
 pub struct Program {
     options: Options,
-    tree: Tree,
+    text: String,
     code: Code,
     names: Vec<GroupName>,
     easy: bool,
     /// The bytes that every haystack with a match has.
     required: RequiredBytes,
-    pub ghost compiled: { ∥ IsCompiled (pattern_of tree) code (named_groups names.items) ∥₁ },
+    pub ghost reading: { Reading options (string_bytes text) } by { one_reading options (string_bytes text) },
+    pub ghost compiled: { ∥ IsCompiled reading.0 code (named_groups names.items) ∥₁ },
     ghost meant: { code.meaning ≡ meaning_in options },
-    ghost short: { code_len code ≤ 4 * nodes (pattern_of tree) + 2 },
-    ghost decided: { easy ≡ is_easy_under options (pattern_of tree) },
-    ghost light: { is_easy (pattern_of tree) ≡ true → are_easy (instrs_of code) ≡ true },
-    ghost starts: { has_keep_start_in_look_around (pattern_of tree) ≡ false },
-    ghost needed: { AreRequired (meaning_in options) (pattern_of tree) required },
-    ghost whole: { keeps_characters options.bytes_mode ≡ true → has_raw_byte (pattern_of tree) ≡ false },
+    ghost short: { code_len code ≤ 4 * nodes reading.0 + 2 },
+    ghost decided: { easy ≡ is_easy_under options reading.0 },
+    ghost light: { is_easy reading.0 ≡ true → are_easy (instrs_of code) ≡ true },
+    ghost starts: { has_keep_start_in_look_around reading.0 ≡ false },
+    ghost needed: { AreRequired (meaning_in options) reading.0 required },
+    ghost whole: { keeps_characters options.bytes_mode ≡ true → has_raw_byte reading.0 ≡ false },
 }
 
 impl Program {
@@ -89,9 +90,10 @@ impl Program {
             return Err(Error::CompileError(CompileError::PatternTooComplex));
         }
         let required = RequiredBytes::new(alloc, &tree, options.meaning())?;
+        let text = String::from_str(alloc, pattern)?;
         Ok(Program {
             options,
-            tree,
+            text,
             code,
             names,
             easy,

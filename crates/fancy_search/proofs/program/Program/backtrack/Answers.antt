@@ -1,27 +1,26 @@
 use Rattle.std.proofs.Common.{◌≡◌, ◌+◌, ℕ, refl, sym, ap, ◌∙◌}
 use Rattle.std.proofs.Math.Logic.{∥∥₁_elim, ∥∥₁_prop}
 use Rattle.fancy_engine.specs.Compile.{IsCodeOf}
-use Rattle.fancy_tree.specs.Pattern.{pattern_of}
 use Rattle.fancy_engine.specs.Search.{returns}
 use Rattle.fancy_engine.specs.Work.{returns_of}
-use Rattle.fancy_search.specs.Programs.{asked_of}
+use Rattle.fancy_search.specs.Programs.{asked_of, program_pattern}
 use Rattle.fancy_search.proofs.SearchedLemmas.{tried_all}
 use Rattle.fancy_search.proofs.program.Program.backtrack.Goals as goal
 
 pub search-requires : goal.search-requires
 search-requires g c =
-    let of : g.p ≡ pattern_of c.args.self.now.tree = c.requires.1.0 in
-    let coded : ∥ IsCodeOf (pattern_of c.args.self.now.tree) c.args.self.now.code ∥₁ = ∥∥₁_elim c.args.self.now.compiled ∥∥₁_prop (λ compiled. ∣ compiled.coded ∣₁) in
+    let of : g.p ≡ program_pattern c.args.self.now = c.requires.1.0 in
+    let coded : ∥ IsCodeOf (program_pattern c.args.self.now) c.args.self.now.code ∥₁ = ∥∥₁_elim c.args.self.now.compiled ∥∥₁_prop (λ compiled. ∣ compiled.coded ∣₁) in
     (refl, (rw of coded, (c.requires.0, rw c.for_search-options.ensures c.requires.1.1.1.1.1)))
 
 pub returns-in-Ok-clause-answer : goal.returns-in-Ok-clause-answer
 returns-in-Ok-clause-answer g c =
-    let of : g.p ≡ pattern_of c.args.self.now.tree = c.requires.1.0 in
-    rw (of, c.args.self.now.meant, c.for_search-options.ensures) at c.in-Ok.ensures.answer
+    let of : g.p ≡ program_pattern c.args.self.now = c.requires.1.0 in
+    rw (c.args.self.now.meant, c.for_search-options.ensures, of) at c.in-Ok.ensures.answer
 
 pub returns-in-Ok-clause-counted : goal.returns-in-Ok-clause-counted
 returns-in-Ok-clause-counted g c =
-    let of : g.p ≡ pattern_of c.args.self.now.tree = c.requires.1.0 in
+    let of : g.p ≡ program_pattern c.args.self.now = c.requires.1.0 in
     let q = asked_of c.args.self.now c.args.haystack.now c.args.request c.args.continues in
-    let count = rw (of, c.args.self.now.meant, c.for_search-options.ensures) at c.in-Ok.ensures.count in
+    let count = rw (c.args.self.now.meant, c.for_search-options.ensures, of) at c.in-Ok.ensures.count in
     count ∙ ap (λ (n : ℕ). returns_of c.args.work.now + n) (ap (returns q) (sym (tried_all c.args.self.now q c.requires.1.1.1.0)))

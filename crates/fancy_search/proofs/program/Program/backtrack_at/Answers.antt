@@ -1,16 +1,16 @@
 use Rattle.std.proofs.Common.{◌≡◌, refl}
 use Rattle.std.proofs.Math.Logic.{∥∥₁_elim, ∥∥₁_prop}
 use Rattle.fancy_engine.specs.Compile.{IsCodeOf}
-use Rattle.fancy_tree.specs.Pattern.{pattern_of}
+use Rattle.fancy_search.specs.Programs.{program_pattern}
 use Rattle.fancy_search.proofs.program.Program.backtrack_at.Goals as goal
 
 pub attempt_at-requires : goal.attempt_at-requires
 attempt_at-requires g c =
-    let of : g.p ≡ pattern_of c.args.self.now.tree = c.requires.1.1.1.0 in
-    let coded : ∥ IsCodeOf (pattern_of c.args.self.now.tree) c.args.self.now.code ∥₁ = ∥∥₁_elim c.args.self.now.compiled ∥∥₁_prop (λ compiled. ∣ compiled.coded ∣₁) in
+    let of : g.p ≡ program_pattern c.args.self.now = c.requires.1.1.1.0 in
+    let coded : ∥ IsCodeOf (program_pattern c.args.self.now) c.args.self.now.code ∥₁ = ∥∥₁_elim c.args.self.now.compiled ∥∥₁_prop (λ compiled. ∣ compiled.coded ∣₁) in
     (refl, (rw of coded, (c.requires.0, (c.requires.1.0, (c.requires.1.1.0, rw c.for_search-options.ensures c.requires.1.1.1.1.1.1)))))
 
 pub returns-in-Ok-clause-answer : goal.returns-in-Ok-clause-answer
 returns-in-Ok-clause-answer g c =
-    let of : g.p ≡ pattern_of c.args.self.now.tree = c.requires.1.1.1.0 in
-    rw (of, c.args.self.now.meant, c.for_search-options.ensures) at c.in-Ok.ensures.answer
+    let of : g.p ≡ program_pattern c.args.self.now = c.requires.1.1.1.0 in
+    rw (c.args.self.now.meant, c.for_search-options.ensures, of) at c.in-Ok.ensures.answer

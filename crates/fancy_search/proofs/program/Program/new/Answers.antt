@@ -1,5 +1,9 @@
 use Rattle.std.proofs.Common.{refl, sym, ◌∙◌, ◌+◌, ap, subst, inl, inr, arith}
 use Rattle.fancy_syntax.specs.Dialect.{DialectOptions}
+use Rattle.fancy_tree.specs.Names.{named_groups}
+use Rattle.fancy_search.specs.Compiled.{IsSpelled}
+use Rattle.fancy_search.specs.Options.{is_easy_under}
+use Rattle.fancy_search.proofs.ReadingLemmas.{spelled_in, read_as}
 use Rattle.std.proofs.lemmas.Result.{err_from_is_err_and}
 use Rattle.fancy_tree.specs.Pattern.{pattern_of}
 use Rattle.fancy_syntax.specs.Views as views
@@ -38,6 +42,7 @@ compile-requires-clause-numbered c =
 
 pub invariant_of-result : goal.invariant_of-result
 invariant_of-result c = record {
+  reading = (pattern_of c.in_ok-tree.field-0.tree, ∣ spelled_in c.args.options c.in_ok-text.ensures.ok (rw c.parse_options.ensures at c.in_ok-tree.ensures.accepted.0) ∣₁);
   compiled = ∣ record {
     coded = c.in_ok-code.ensures.code;
     has_group_zero = omega (arith, c.in_ok-tree.ensures.accepted.1, c.in_ok-code.ensures.groups);
@@ -66,13 +71,27 @@ returns-then-forbids c =
       succeeds = λ p x. too_long c.args.options _ _ _ _ x h hard (c.in_ok-code.ensures.short) why.1;
     }
 
-pub returns : goal.returns
-returns c = record {
-  options = refl;
-  spelled =
-      let h = rw c.parse_options.ensures at c.in_ok-tree.ensures.accepted in
-      record { spelled = h.0; counted = h.1 ∙ sym c.in_ok-code.ensures.groups; named = sym h.2 };
-  sized = λ hard. second_fails _ _ (c.is_easy-easy.ensures ∙ hard) (rw c.len.ensures at (sym c.if-forbids.ensures));
-  refused = tt;
-  succeeds = λ p h. tt;
-}
+pub returns-clause-options : goal.returns-clause-options
+returns-clause-options c = refl
+
+pub returns-clause-spelled : goal.returns-clause-spelled
+returns-clause-spelled c =
+    let h = rw c.parse_options.ensures at c.in_ok-tree.ensures.accepted in
+    let is = read_as c.args.options c.result-1.given.0 c.in_ok-text.ensures.ok h.0 in
+    subst (λ q. IsSpelled c.args.options c.args.pattern.now q c.in_ok-code.code.groups (named_groups c.in_ok-tree.field-0.names.items)) is (record {
+      spelled = h.0;
+      counted = h.1 ∙ sym c.in_ok-code.ensures.groups;
+      named = sym h.2;
+    })
+
+pub returns-clause-sized : goal.returns-clause-sized
+returns-clause-sized c = λ hard.
+    let h = rw c.parse_options.ensures at c.in_ok-tree.ensures.accepted.0 in
+    let is = read_as c.args.options c.result-1.given.0 c.in_ok-text.ensures.ok h in
+    second_fails _ _ (c.is_easy-easy.ensures ∙ (ap (is_easy_under c.args.options) is ∙ hard)) (rw c.len.ensures at (sym c.if-forbids.ensures))
+
+pub returns-clause-refused : goal.returns-clause-refused
+returns-clause-refused c = tt
+
+pub returns-clause-succeeds : goal.returns-clause-succeeds
+returns-clause-succeeds c = λ p h. tt
