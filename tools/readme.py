@@ -18,7 +18,7 @@ TESTS = [ROOT / "crates/fancy_tests/src", ROOT / "crates/fancy_text_tests/src"]
 PROGRAM = ROOT / "crates/dates"
 SOURCES = [
     *[folder / "examples.rt" for folder in TESTS],
-    TESTS[0] / "calling.rt",
+    ROOT / "crates/callers/src/lib.rt",
     TESTS[0] / "readme.rt",
     *sorted(PROGRAM.glob("src/*.rt")),
 ]

@@ -15,6 +15,7 @@ pub use Rattle.fancy_tree.specs.Text
 pub use Rattle.fancy_tree.specs.Modes
 pub use Rattle.fancy_tree.specs.Pattern
 pub use Rattle.fancy_tree.specs.Sizes
+pub use Rattle.fancy_tree.specs.GroupNumbers
 pub use Rattle.fancy_class.specs.Words
 pub use Rattle.fancy_syntax.specs.Dialect
 pub use Rattle.fancy_syntax.specs.Refusals
@@ -33,6 +34,11 @@ pub use Rattle.fancy_engine.specs.Context
 pub use Rattle.fancy_engine.specs.Search
 pub use Rattle.fancy_engine.specs.Answers
 pub use Rattle.fancy_engine.specs.Work
+pub use Rattle.fancy_engine.specs.Laws as MeaningLaws
+pub use Rattle.fancy_engine.specs.Examples
+pub use Rattle.fancy_bytes.specs.Sets as ByteMembers
+pub use Rattle.fancy_bytes.specs.Iterations as ByteIterations
+pub use Rattle.fancy_laws.specs.Bytes as ByteLaws
 pub use Rattle.fancy_search.specs.Options
 pub use Rattle.fancy_search.specs.Starts
 pub use Rattle.fancy_search.specs.Compiled
@@ -44,6 +50,8 @@ pub use Rattle.fancy_search.specs.Searching
 pub use Rattle.fancy_core.specs.Limited
 pub use Rattle.fancy_core.specs.Searches
 pub use Rattle.fancy_search.specs.ProgramSize
+pub use Rattle.fancy_search.specs.ByteSets
+pub use Rattle.fancy_search.specs.Cached
 pub use Rattle.fancy_core.specs.Built
 pub use Rattle.fancy_search.specs.Groups
 pub use Rattle.fancy_core.specs.Captures

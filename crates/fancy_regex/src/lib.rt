@@ -9,7 +9,8 @@
 //!
 //! [`Regex`] finds, captures, splits and replaces; [`RegexOptionsBuilder`] and [`RegexBuilder`] build one with options, and
 //! [`RegexInput`] says where to search. [`RegexSet`] asks several patterns at once, and cuts a text into tokens. [`Expander`]
-//! expands and checks templates, [`escape`] makes a pattern of a text, and [`laws`] has what is proved of all of them together.
+//! expands and checks templates, and [`escape`] makes a pattern of a text. [`laws`] has the laws of regexes, `dialect_laws`,
+//! `meaning_laws`, `byte_laws` and `template_laws` those of what they are made of.
 //!
 //! All offsets are byte offsets into the haystack. Whatever is refused has a name: see [`Error`]. Each search has a condition,
 //! which [`Regex::can_search`] tests. The README of the repository has a whole program and examples by task; CALLING.md in this
@@ -33,15 +34,25 @@ pub use fancy_core::names::CaptureNames;
 pub use fancy_core::regex::Regex;
 pub use fancy_core::replacer::{NoExpand, ReplaceFn, Replacer, ReplacerRef};
 pub use fancy_core::split::{Split, SplitN};
+pub use fancy_engine::found::Found;
+pub use fancy_engine::laws as meaning_laws;
 pub use fancy_engine::work::Work;
 pub use fancy_input::bytes::MatchBytes;
-pub use fancy_input::input::{Haystack, Input};
+pub use fancy_input::input::{Haystack, Input, Request};
 pub use fancy_input::matches::Match;
 pub use fancy_input::regex_input::RegexInput;
+pub use fancy_input::span::Span;
+pub use fancy_laws::bytes as byte_laws;
+pub use fancy_search::cache::Cache;
+pub use fancy_search::options::Options;
+pub use fancy_syntax::flags::Flags;
+pub use fancy_syntax::laws as dialect_laws;
 pub use fancy_template::expander::Expander;
 pub use fancy_template::groups::{GroupNames, GroupTexts};
+pub use fancy_template::laws as template_laws;
+pub use fancy_template::steps::{Step, Steps};
 pub use fancy_tree::error::{CompileError, Error, ParseErrorKind, Result, RuntimeError};
-pub use fancy_tree::tree::BytesMode;
+pub use fancy_tree::tree::{BytesMode, Meaning};
 pub use options::RegexOptionsBuilder;
 pub use set::{RegexSet, RegexSetMatch, RegexSetMatchesAt};
 pub use tokens::{Token, Tokens};
