@@ -1,7 +1,8 @@
 -- Lemmas on replacing matches one after the other.
 use Rattle.std.proofs.Common.{arith, ℕ, zero, suc, ◌-◌, ◌<◌, ◌≡◌, Bool, true, false, List, [], ◌∷◌, ◌++◌, Option, None, Some, Result, Ok, Err, IfOk, length, map, slice_range, refl, sym, ◌∙◌, ap, subst, append-nil, append_assoc, inl, inr}
-use Rattle.std.specs.Prelude.{MatchBool, ◌↔◌, ◌⊎◌}
-use Rattle.std.proofs.lemmas.List.{map-append}
+use Rattle.std.specs.Prelude.{MatchBool, ◌↔◌, ◌⊎◌, ◌==◌}
+use Rattle.std.proofs.lemmas.Bool.Decides.{nat_tests}
+use Rattle.std.proofs.lemmas.List.{map-append, length-append}
 use Rattle.fancy_tree.specs.declared.error.Error.{Error}
 use Rattle.fancy_tree.specs.declared.error.Error.TheVariants.{Memory}
 use Rattle.fancy_input.specs.declared.span.Span.{Span}
@@ -9,8 +10,8 @@ use Rattle.fancy_core.specs.declared.regex.Regex.{Regex}
 use Rattle.fancy_core.specs.GroupTexts.{Seen}
 use Rattle.fancy_search.specs.MatchList.{MatchItem, span_of_item, start_of, stop_of}
 use Rattle.fancy_core.specs.Pieces.{pieces, interleaved, limited}
-use Rattle.fancy_core.specs.Replacing.{Answers, IsReplaced, IsRefusedFrom, IsRefusedAfter, IsRefusedBetweenCalls, IsRefusedByReplacer, end_of, replaced, text_with_each, seen_of}
-use Rattle.fancy_core.specs.ItemLimits.{up_to, is_reached, one_fewer}
+use Rattle.fancy_core.specs.Replacing.{Answers, IsReplaced, AllowsOneMore, IsRefusedFrom, IsRefusedAfter, IsRefusedBetweenCalls, IsRefusedByReplacer, all_matches, first_matches, end_of, replaced, text_with_each, seen_of}
+use Rattle.fancy_core.specs.ItemLimits.{up_to, limit_of, is_reached, one_fewer}
 use Rattle.fancy_core.proofs.PieceLemmas.{whole_of}
 
 -- after one item more the last of them ends
@@ -32,16 +33,43 @@ limited_none zero xs e = e
 limited_none (suc n) [] e = refl
 limited_none (suc n) (x ∷ xs) e = absurd (cc)
 
--- How far a replacement has come in these matches in t. The state `first` answered to those that are done and left the state `now`. Whatever answers to those that are left come, with the answers so far they make up `out` and then the rest from `at` on.
-pub record Goes {R : Type 0} (gave : R → Seen → List ℕ → R → Type 0) (regex : Regex) (t : List ℕ) (all : List MatchItem) (first now : R) (out : List ℕ) (at : ℕ) (found : Bool) (todo : List MatchItem) : Type 0 where
+pub or_else : (P Q W : Type 0) → (Q → W) → P ⊎ Q → P ⊎ W
+or_else P Q W f (inl p) = inl p
+or_else P Q W f (inr q) = inr (f q)
+
+-- how many more may be replaced after so many
+abbrev pub fewer_by : ℕ → Option ℕ → Option ℕ
+fewer_by n None = None
+fewer_by n (Some m) = Some (m - n)
+
+fewer_by_none : (left : Option ℕ) → left ≡ fewer_by 0 left
+fewer_by_none None = refl
+fewer_by_none (Some m) = let q : m - 0 ≡ m = omega arith in rw q refl
+
+fewer_by_more : (n : ℕ) (left : Option ℕ) → one_fewer (fewer_by n left) ≡ fewer_by (suc n) left
+fewer_by_more n None = refl
+fewer_by_more n (Some m) = let q : (m - n) - 1 ≡ m - suc n = omega arith in rw q refl
+
+-- where the limit is not reached, one more may be replaced
+leaves_room : (limit : ℕ) (left : Option ℕ) (done : List MatchItem) → left ≡ fewer_by (length done) (limit_of limit) → is_reached left ≡ false → AllowsOneMore limit done
+leaves_room zero left done e r = inl refl
+leaves_room (suc n) left done e r =
+    let some : ((suc n - length done) == 0) ≡ false = rw e at r in
+    inr (grind (arith, nat_tests))
+
+-- How far a replacement has come in the matches in t that the limit takes. The state `first` answered to those that are done and
+-- left the state `now`. Whatever answers to those that are left come, with the answers so far they make up `out` and then the rest
+-- from `at` on. As many may still be replaced as are `left`.
+pub record Goes {R : Type 0} (gave : R → Seen → List ℕ → R → Type 0) (regex : Regex) (t : List ℕ) (limit : ℕ) (first now : R) (out : List ℕ) (at : ℕ) (found : Bool) (left : Option ℕ) (todo : List MatchItem) : Type 0 where
   pub done : List MatchItem
-  pub order : all ≡ done ++ todo
+  pub order : first_matches regex t limit ≡ done ++ todo
   pub answers : List (List ℕ)
   pub given : Answers gave first (map (seen_of regex t) done) answers now
-  pub joined : (more : List (List ℕ)) → replaced t all (answers ++ more) ≡ out ++ interleaved (pieces t at (map span_of_item todo)) more
+  pub joined : (more : List (List ℕ)) → replaced t (first_matches regex t limit) (answers ++ more) ≡ out ++ interleaved (pieces t at (map span_of_item todo)) more
   pub ended : at ≡ end_of done
   pub none : found ≡ false → done ≡ []
   pub some : found ≡ true → done ≡ [] → ⊥
+  pub counted : left ≡ fewer_by (length done) (limit_of limit)
 
 regroup : (a b c d : List ℕ) → a ++ (b ++ (c ++ d)) ≡ ((a ++ b) ++ c) ++ d
 regroup a b c d = simp append_assoc
@@ -60,8 +88,8 @@ module _ {R : Type 0} (gave : R → Seen → List ℕ → R → Type 0) where
   answers_to_none first now (a ∷ answers) h = absurd h
 
   module _ (regex : Regex) (t : List ℕ) where
-    pub goes_first : (all todo : List MatchItem) (r : R) (out : List ℕ) (at : ℕ) (found : Bool) → todo ≡ all → out ≡ [] → at ≡ 0 → found ≡ false → Goes gave regex t all r r out at found todo
-    goes_first all todo r out at found e f g h = rw (e, f, g, h) (record {
+    pub goes_first : (limit : ℕ) (todo : List MatchItem) (r : R) (out : List ℕ) (at : ℕ) (found : Bool) (left : Option ℕ) → todo ≡ first_matches regex t limit → out ≡ [] → at ≡ 0 → found ≡ false → left ≡ limit_of limit → Goes gave regex t limit r r out at found left todo
+    goes_first limit todo r out at found left e f g h l = rw (e, f, g, h, l) (record {
       done = [];
       order = refl;
       answers = [];
@@ -70,11 +98,12 @@ module _ {R : Type 0} (gave : R → Seen → List ℕ → R → Type 0) where
       ended = refl;
       none = λ _. refl;
       some = λ (w : false ≡ true) _. absurd (cc);
+      counted = fewer_by_none (limit_of limit);
     })
 
-    pub goes_on : (all : List MatchItem) (first now next : R) (out more : List ℕ) (at end : ℕ) (found found_one : Bool) (x : MatchItem) (todo rest : List MatchItem) (seen : Seen) (a : List ℕ) → todo ≡ x ∷ rest → seen ≡ seen_of regex t x → gave now seen a next → more ≡ (out ++ slice_range t at (start_of x)) ++ a → end ≡ stop_of x → found_one ≡ true
-        → Goes gave regex t all first now out at found todo → Goes gave regex t all first next more end found_one rest
-    goes_on all first now next out more at end found found_one x todo rest seen a e s g m f i h = record {
+    pub goes_on : (limit : ℕ) (first now next : R) (out more : List ℕ) (at end : ℕ) (found found_one : Bool) (left left_now : Option ℕ) (x : MatchItem) (todo rest : List MatchItem) (seen : Seen) (a : List ℕ) → todo ≡ x ∷ rest → seen ≡ seen_of regex t x → gave now seen a next → more ≡ (out ++ slice_range t at (start_of x)) ++ a → end ≡ stop_of x → found_one ≡ true → left_now ≡ one_fewer left
+        → Goes gave regex t limit first now out at found left todo → Goes gave regex t limit first next more end found_one left_now rest
+    goes_on limit first now next out more at end found found_one left left_now x todo rest seen a e s g m f i l h = record {
       done = h.done ++ (x ∷ []);
       order = h.order ∙ (ap (λ (z : List MatchItem). h.done ++ z) e ∙ sym (append_assoc h.done (x ∷ []) rest));
       answers = h.answers ++ (a ∷ []);
@@ -82,6 +111,7 @@ module _ {R : Type 0} (gave : R → Seen → List ℕ → R → Type 0) where
           let step : gave now (seen_of regex t x) a next = subst (λ (z : Seen). gave now z a next) s g in
           rw (map-append (seen_of regex t) h.done (x ∷ [])) (answers_more first now next (seen_of regex t x) a (map (seen_of regex t) h.done) h.answers h.given step);
       joined = λ others.
+          let all = first_matches regex t limit in
           let tail : List ℕ = interleaved (pieces t (stop_of x) (map span_of_item rest)) others in
           let before : replaced t all (h.answers ++ (a ∷ others)) ≡ out ++ interleaved (pieces t at (map span_of_item (x ∷ rest))) (a ∷ others) = subst (λ (z : List MatchItem). replaced t all (h.answers ++ (a ∷ others)) ≡ out ++ interleaved (pieces t at (map span_of_item z)) (a ∷ others)) e (h.joined (a ∷ others)) in
           let joined : replaced t all (h.answers ++ (a ∷ others)) ≡ more ++ tail = before ∙ (regroup out (slice_range t at (start_of x)) a tail ∙ ap (λ (z : List ℕ). z ++ tail) (sym m)) in
@@ -89,48 +119,56 @@ module _ {R : Type 0} (gave : R → Seen → List ℕ → R → Type 0) where
       ended = f ∙ sym (end_of_more x h.done);
       none = λ (w : found_one ≡ false). absurd (cc);
       some = λ _ (w : h.done ++ (x ∷ []) ≡ []). no_end h.done x w;
+      counted =
+          let one_more : length (h.done ++ (x ∷ [])) ≡ suc (length h.done) = omega (arith, length-append h.done (x ∷ [])) in
+          l ∙ (ap one_fewer h.counted ∙ (fewer_by_more (length h.done) (limit_of limit) ∙ ap (λ (z : ℕ). fewer_by z (limit_of limit)) (sym one_more)));
     }
 
     -- where no match is left, nothing was written any more
-    pub goes_over : (all : List MatchItem) (first now : R) (out out_now : List ℕ) (at at_now : ℕ) (found found_now : Bool) (todo : List MatchItem) → todo ≡ [] → out_now ≡ out → at_now ≡ at → found_now ≡ found → Goes gave regex t all first now out at found todo → Goes gave regex t all first now out_now at_now found_now []
-    goes_over all first now out out_now at at_now found found_now todo d e f g h = rw (e, f, g) (subst (λ (z : List MatchItem). Goes gave regex t all first now out at found z) d h)
+    pub goes_over : (limit : ℕ) (first now : R) (out out_now : List ℕ) (at at_now : ℕ) (found found_now : Bool) (left : Option ℕ) (todo : List MatchItem) → todo ≡ [] → out_now ≡ out → at_now ≡ at → found_now ≡ found → Goes gave regex t limit first now out at found left todo → Goes gave regex t limit first now out_now at_now found_now left []
+    goes_over limit first now out out_now at at_now found found_now left todo d e f g h = rw (e, f, g) (subst (λ (z : List MatchItem). Goes gave regex t limit first now out at found left z) d h)
 
-    done_is_all : (all : List MatchItem) (first now : R) (out : List ℕ) (at : ℕ) (found : Bool) (h : Goes gave regex t all first now out at found []) → all ≡ h.done
-    done_is_all all first now out at found h = h.order ∙ append-nil h.done
+    done_is_all : (limit : ℕ) (first now : R) (out : List ℕ) (at : ℕ) (found : Bool) (left : Option ℕ) (h : Goes gave regex t limit first now out at found left []) → first_matches regex t limit ≡ h.done
+    done_is_all limit first now out at found left h = h.order ∙ append-nil h.done
 
-    pub goes_last : (all : List MatchItem) (first now : R) (out result : List ℕ) (at : ℕ) (found : Bool) → MatchBool found (result ≡ out ++ slice_range t at (length t)) (result ≡ t) → Goes gave regex t all first now out at found [] → IsReplaced None gave first now regex t all result
-    goes_last all first now out result at true w h =
-        let over : all ≡ h.done = done_is_all all first now out at true h in
+    pub goes_last : (limit : ℕ) (first now : R) (out result : List ℕ) (at : ℕ) (found : Bool) (left : Option ℕ) → MatchBool found (result ≡ out ++ slice_range t at (length t)) (result ≡ t) → Goes gave regex t limit first now out at found left [] → IsReplaced None gave first now regex t (first_matches regex t limit) result
+    goes_last limit first now out result at true left w h =
+        let all = first_matches regex t limit in
+        let over : all ≡ h.done = done_is_all limit first now out at true left h in
         record {
           answers = h.answers;
           given = subst (λ (z : List MatchItem). Answers gave first (map (seen_of regex t) z) h.answers now) (sym over) h.given;
           joined = w ∙ (ap (λ (z : List ℕ). out ++ z) (sym (append-nil (slice_range t at (length t)))) ∙ (sym (h.joined []) ∙ ap (replaced t all) (append-nil h.answers)));
         }
-    goes_last all first now out result at false w h =
-        let over : all ≡ [] = done_is_all all first now out at false h ∙ h.none refl in
+    goes_last limit first now out result at false left w h =
+        let over : first_matches regex t limit ≡ [] = done_is_all limit first now out at false left h ∙ h.none refl in
         let kept : first ≡ now = answers_to_none first now h.answers (subst (λ (z : List MatchItem). Answers gave first (map (seen_of regex t) z) h.answers now) (h.none refl) h.given) in
         rw (over, w) (record { answers = []; given = kept; joined = sym (append-nil _ ∙ whole_of t) })
 
-    -- a refusal between the calls
-    pub goes_stopped : (all : List MatchItem) (first now : R) (out : List ℕ) (at : ℕ) (found : Bool) (todo : List MatchItem) (error : Error) → (error ≡ Memory) ⊎ IsRefusedFrom regex t at todo error → Goes gave regex t all first now out at found todo → IsRefusedBetweenCalls None gave first now regex t all error
-    goes_stopped all first now out at found todo error w h = record {
+    -- a refusal between the calls, by a search only where the limit is not reached
+    pub goes_stopped : (limit : ℕ) (first now : R) (out : List ℕ) (at : ℕ) (found : Bool) (left : Option ℕ) (todo : List MatchItem) (error : Error) → (error ≡ Memory) ⊎ ((is_reached left ≡ false) × IsRefusedFrom regex t at todo error) → Goes gave regex t limit first now out at found left todo → IsRefusedBetweenCalls None gave first now regex t limit error
+    goes_stopped limit first now out at found left todo error w h = record {
       done = h.done;
-      after = record { later = todo; order = h.order; refused = subst (λ (z : ℕ). (error ≡ Memory) ⊎ IsRefusedFrom regex t z todo error) h.ended w };
+      after = record {
+        later = todo;
+        order = h.order;
+        refused = or_else (error ≡ Memory) _ _ (λ s. (leaves_room limit left h.done h.counted s.0, subst (λ (z : ℕ). IsRefusedFrom regex t z todo error) h.ended s.1)) w;
+      };
       answers = h.answers;
       given = h.given;
     }
 
     -- where no match is left, one was found exactly where there are any
-    pub goes_found : (n : ℕ) (matches : List MatchItem) (first now : R) (out : List ℕ) (at : ℕ) (found : Bool) → Goes gave regex t (limited n matches) first now out at found [] → (found ≡ false) ↔ (matches ≡ [])
-    goes_found n matches first now out at true h =
-        (λ (w : true ≡ false). absurd (cc), λ (w : matches ≡ []). absurd (h.some refl (sym (done_is_all (limited n matches) first now out at true h) ∙ (ap (limited n) w ∙ limited_nil n))))
-    goes_found n matches first now out at false h =
-        (λ _. limited_none n matches (done_is_all (limited n matches) first now out at false h ∙ h.none refl), λ _. refl)
+    pub goes_found : (limit : ℕ) (first now : R) (out : List ℕ) (at : ℕ) (found : Bool) (left : Option ℕ) → Goes gave regex t limit first now out at found left [] → (found ≡ false) ↔ (all_matches regex t ≡ [])
+    goes_found limit first now out at true left h =
+        (λ (w : true ≡ false). absurd (cc), λ (w : all_matches regex t ≡ []). absurd (h.some refl (sym (done_is_all limit first now out at true left h) ∙ (ap (limited limit) w ∙ limited_nil limit))))
+    goes_found limit first now out at false left h =
+        (λ _. limited_none limit (all_matches regex t) (done_is_all limit first now out at false left h ∙ h.none refl), λ _. refl)
 
     -- a call that refuses, of a replacer with no one text for all matches
-    pub goes_refused : (refuses : R → Seen → Error → R → Type 0) (all : List MatchItem) (first now last : R) (out : List ℕ) (at : ℕ) (found : Bool) (x : MatchItem) (todo rest : List MatchItem) (seen : Seen) (error : Error) → todo ≡ x ∷ rest → seen ≡ seen_of regex t x → refuses now seen error last
-        → Goes gave regex t all first now out at found todo → IsRefusedByReplacer None gave refuses first last regex t all error
-    goes_refused refuses all first now last out at found x todo rest seen error e s r h = record {
+    pub goes_refused : (refuses : R → Seen → Error → R → Type 0) (limit : ℕ) (first now last : R) (out : List ℕ) (at : ℕ) (found : Bool) (left : Option ℕ) (x : MatchItem) (todo rest : List MatchItem) (seen : Seen) (error : Error) → todo ≡ x ∷ rest → seen ≡ seen_of regex t x → refuses now seen error last
+        → Goes gave regex t limit first now out at found left todo → IsRefusedByReplacer None gave refuses first last regex t (first_matches regex t limit) error
+    goes_refused refuses limit first now last out at found left x todo rest seen error e s r h = record {
       unfixed = refl;
       done = h.done;
       next = x;
@@ -173,19 +211,19 @@ same_fills x last regex t all result w =
 pub filled_replaces : {R : Type 0} (gave : R → Seen → List ℕ → R → Type 0) (first : R) (fixed : Option (List ℕ)) (x : List ℕ) (regex : Regex) (t : List ℕ) (all : List MatchItem) (result : List ℕ) → fixed ≡ Some x → result ≡ text_with_each t all x → IsReplaced fixed gave first first regex t all result
 filled_replaces gave first fixed x regex t all result e f = rw e (record { answers = map (λ _. x) all; given = (sym (each_same (seen_of regex t) x all), refl); joined = f })
 
-pub fixed_stays : {R : Type 0} (gave : R → Seen → List ℕ → R → Type 0) (first : R) (fixed : Option (List ℕ)) (x : List ℕ) (regex : Regex) (t : List ℕ) (all : List MatchItem) (error : Error) → fixed ≡ Some x → (done : List MatchItem) × IsRefusedAfter regex t all done error → IsRefusedBetweenCalls fixed gave first first regex t all error
-fixed_stays gave first fixed x regex t all error e w = rw e (record { done = w.0; after = w.1; answers = map (λ _. x) (map (seen_of regex t) w.0); given = (refl, refl) })
+pub fixed_stays : {R : Type 0} (gave : R → Seen → List ℕ → R → Type 0) (first : R) (fixed : Option (List ℕ)) (x : List ℕ) (regex : Regex) (t : List ℕ) (limit : ℕ) (error : Error) → fixed ≡ Some x → (done : List MatchItem) × IsRefusedAfter regex t limit done error → IsRefusedBetweenCalls fixed gave first first regex t limit error
+fixed_stays gave first fixed x regex t limit error e w = rw e (record { done = w.0; after = w.1; answers = map (λ _. x) (map (seen_of regex t) w.0); given = (refl, refl) })
 
 -- what was refused after the items that a text filled
-pub fills_stopped : (x last : List ℕ) (regex : Regex) (t : List ℕ) (all : List MatchItem) (error : Error) → IsRefusedBetweenCalls None SaysItself x last regex t all error → (done : List MatchItem) × IsRefusedAfter regex t all done error
-fills_stopped x last regex t all error w = (w.done, w.after)
+pub fills_stopped : (x last : List ℕ) (regex : Regex) (t : List ℕ) (limit : ℕ) (error : Error) → IsRefusedBetweenCalls None SaysItself x last regex t limit error → (done : List MatchItem) × IsRefusedAfter regex t limit done error
+fills_stopped x last regex t limit error w = (w.done, w.after)
 
 pub one_done : {A : Type 0} (xs rest : List A) (x : A) → xs ≡ x ∷ rest → length rest < length xs
 one_done xs rest x e = rw e (omega arith)
 
 -- how a search is refused depends on the regex and the text
-pub refused_same : (a b : Regex) (t u : List ℕ) (at : ℕ) (items : List MatchItem) (e : Error) → a ≡ b → t ≡ u → (e ≡ Memory) ⊎ IsRefusedFrom a t at items e → (e ≡ Memory) ⊎ IsRefusedFrom b u at items e
-refused_same a b t u at items e p q h = rw (← p, ← q) h
+pub refused_same : (a b : Regex) (t u : List ℕ) (at : ℕ) (left : Option ℕ) (items : List MatchItem) (e : Error) → a ≡ b → t ≡ u → (e ≡ Memory) ⊎ ((is_reached left ≡ false) × IsRefusedFrom a t at items e) → (e ≡ Memory) ⊎ ((is_reached left ≡ false) × IsRefusedFrom b u at items e)
+refused_same a b t u at left items e p q h = rw (← p, ← q) h
 
 -- what a replacer sees depends on the regex, the text and the match
 pub seen_same : (a b : Regex) (t u : List ℕ) (x : MatchItem) → a ≡ b → t ≡ u → seen_of a t x ≡ seen_of b u x
@@ -209,7 +247,3 @@ or_both A B C D f g (inr b) = inr (g b)
 pub borrowed_is : {A : Type 0} {E : Type 0} (r : Result A E) (P : A → Type 0) (Q W : Type 0) → IfOk r (λ a. P a ↔ Q) → Q ↔ W → IfOk r (λ a. P a ↔ W)
 borrowed_is (Ok a) P Q W h k = (λ p. k.0 (h.0 p), λ w. h.1 (k.1 w))
 borrowed_is (Err e) P Q W h k = tt
-
-pub or_else : (P Q W : Type 0) → (Q → W) → P ⊎ Q → P ⊎ W
-or_else P Q W f (inl p) = inl p
-or_else P Q W f (inr q) = inr (f q)

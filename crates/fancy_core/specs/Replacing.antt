@@ -1,6 +1,6 @@
 -- What matches are replaced by, and what that makes of a text.
 use Prim.Native.Char.{code}
-use Rattle.std.specs.Prelude.{◌≡◌, ◌≤◌, ◌⊎◌, ℕ, Bool, List, [], ◌∷◌, ◌++◌, Option, None, Some, Result, IfOk, IfErr, chars, encode_utf8_all, map, true, if◌then◌else◌}
+use Rattle.std.specs.Prelude.{◌≡◌, ◌≤◌, ◌<◌, ◌⊎◌, ℕ, Bool, List, [], ◌∷◌, ◌++◌, length, Option, None, Some, Result, IfOk, IfErr, chars, encode_utf8_all, map, true, if◌then◌else◌}
 use Rattle.std.specs.Cow.{cow_str_bytes}
 use Rattle.std.specs.declared.borrow.CowStr.{CowStr}
 use Rattle.fancy_tree.specs.declared.error.Error.{Error}
@@ -76,15 +76,20 @@ pub record IsRefusedFrom (regex : Regex) (t : List ℕ) (from : ℕ) (items : Li
   pub before : StartFrom start items
   pub refused : Refuses regex (query_in_turn regex t (record (whole t) { start = start }) on) error
 
--- A replacement of these items was refused after those that come first, `done`, and by no call of the replacer: for want of memory, or by the search for the others.
-pub record IsRefusedAfter (regex : Regex) (t : List ℕ) (items done : List MatchItem) (error : Error) : Type 0 where
-  pub later : List MatchItem
-  pub order : items ≡ done ++ later
-  pub refused : (error ≡ Memory) ⊎ IsRefusedFrom regex t (end_of done) later error
+-- There is no limit, or these are fewer than it allows: one more may be replaced.
+abbrev pub AllowsOneMore : ℕ → List MatchItem → Type 0
+AllowsOneMore limit done = (limit ≡ 0) ⊎ (length done < limit)
 
--- A replacement of these items was refused after some of them.
-abbrev pub IsRefusedAfterSome : Regex → List ℕ → List MatchItem → Error → Type 0
-IsRefusedAfterSome regex t items error = (done : List MatchItem) × IsRefusedAfter regex t items done error
+-- A replacement was refused after those of its matches that come first, `done`, and by no call of the replacer: for want of
+-- memory, or by the search for the others. Once the limit is reached nothing is searched.
+pub record IsRefusedAfter (regex : Regex) (t : List ℕ) (limit : ℕ) (done : List MatchItem) (error : Error) : Type 0 where
+  pub later : List MatchItem
+  pub order : first_matches regex t limit ≡ done ++ later
+  pub refused : (error ≡ Memory) ⊎ (AllowsOneMore limit done × IsRefusedFrom regex t (end_of done) later error)
+
+-- A replacement was refused after some of its matches.
+abbrev pub IsRefusedAfterSome : Regex → List ℕ → ℕ → Error → Type 0
+IsRefusedAfterSome regex t limit error = (done : List MatchItem) × IsRefusedAfter regex t limit done error
 
 -- These items of the text were replaced, and this is what came of it. The answers took the replacer from its first state to its last.
 pub record IsReplaced {R : Type 0} (fixed : Option (List ℕ)) (gave : R → Seen → List ℕ → R → Type 0) (first last : R) (regex : Regex) (t : List ℕ) (items : List MatchItem) (result : List ℕ) : Type 0 where
@@ -92,10 +97,11 @@ pub record IsReplaced {R : Type 0} (fixed : Option (List ℕ)) (gave : R → See
   pub given : AnswersOf fixed gave first (map (seen_of regex t) items) answers last
   pub joined : result ≡ replaced t items answers
 
--- A replacement of these items was refused between the replacer's calls. The answers to the items that come before took it from its first state to its last.
-pub record IsRefusedBetweenCalls {R : Type 0} (fixed : Option (List ℕ)) (gave : R → Seen → List ℕ → R → Type 0) (first last : R) (regex : Regex) (t : List ℕ) (items : List MatchItem) (error : Error) : Type 0 where
+-- A replacement was refused between the replacer's calls. The answers to the matches that come before took it from its first
+-- state to its last.
+pub record IsRefusedBetweenCalls {R : Type 0} (fixed : Option (List ℕ)) (gave : R → Seen → List ℕ → R → Type 0) (first last : R) (regex : Regex) (t : List ℕ) (limit : ℕ) (error : Error) : Type 0 where
   pub done : List MatchItem
-  pub after : IsRefusedAfter regex t items done error
+  pub after : IsRefusedAfter regex t limit done error
   pub answers : List (List ℕ)
   pub given : AnswersOf fixed gave first (map (seen_of regex t) done) answers last
 
@@ -124,7 +130,7 @@ ReplacesBy {R} fixed gave regex t limit first result =
 -- One of the matches that the limit takes was not replaced, for this error: between the replacer's calls, or by a call.
 abbrev pub IsRefusedReplacing : {R : Type 0} → (R → Option (List ℕ)) → (R → Seen → List ℕ → R → Type 0) → (R → Seen → Error → R → Type 0) → Regex → List ℕ → ℕ → R → R → Error → Type 0
 IsRefusedReplacing fixed gave refuses regex t limit first last error =
-    IsRefusedBetweenCalls (fixed first) gave first last regex t (first_matches regex t limit) error
+    IsRefusedBetweenCalls (fixed first) gave first last regex t limit error
     ⊎ IsRefusedByReplacer (fixed first) gave refuses first last regex t (first_matches regex t limit) error
 
 -- The error that a replacement answers is such a refusal, which took the replacer from its first state to its last.

@@ -1,5 +1,5 @@
 -- What stands for a text on its way to having its matches replaced.
-use Rattle.std.specs.Prelude.{◌≡◌, ◌++◌, ◌∷◌, List, ℕ, length, slice_range, string_bytes}
+use Rattle.std.specs.Prelude.{◌≡◌, ◌++◌, ◌∷◌, false, List, ℕ, length, slice_range, string_bytes}
 use Rattle.fancy_tree.specs.declared.error.Error.{Error}
 use Rattle.fancy_core.specs.declared.regex.Regex.{Regex}
 use Rattle.fancy_core.specs.declared.rewriting.Rewriting.{Rewriting}
@@ -7,7 +7,7 @@ use Rattle.fancy_search.specs.declared.searcher.FoundItem.{FoundItem}
 use Rattle.fancy_core.specs.GroupTexts.{Seen}
 use Rattle.fancy_core.specs.Regexes.{program_in}
 use Rattle.fancy_search.specs.Remaining.{item_in}
-use Rattle.fancy_core.specs.ItemLimits.{up_to}
+use Rattle.fancy_core.specs.ItemLimits.{up_to, is_reached}
 use Rattle.fancy_search.specs.MatchList.{MatchItem}
 use Rattle.fancy_core.specs.Replacing.{seen_of, IsRefusedFrom}
 use Rattle.fancy_search.specs.Searchers.{left_of}
@@ -42,14 +42,15 @@ WritesTo end s t = string_bytes t.out ≡ written_to end s
 abbrev pub TakesFirst : Rewriting → FoundItem → Rewriting → Type 0
 TakesFirst s i t = todo_of s ≡ item_in t.cache i ∷ todo_of t
 
--- the search for the next match may be refused by this error
+-- the search for the next match may be refused by this error; once the limit is reached there is no such search
 abbrev pub RefusesSearch : Rewriting → Error → Type 0
-RefusesSearch w e = IsRefusedFrom (rewriting_regex w) (rewriting_text w) w.last (todo_of w) e
+RefusesSearch w e = (is_reached w.left ≡ false) × IsRefusedFrom (rewriting_regex w) (rewriting_text w) w.last (todo_of w) e
 
 -- nothing changed but what was written
 pub record Stays (s t : Rewriting) : Type 0 where
   pub regex : rewriting_regex t ≡ rewriting_regex s
   pub text : rewriting_text t ≡ rewriting_text s
   pub todo : todo_of t ≡ todo_of s
+  pub left : t.left ≡ s.left
   pub last : t.last ≡ s.last
   pub found : t.found ≡ s.found

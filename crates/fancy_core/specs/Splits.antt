@@ -77,13 +77,22 @@ pieces_allowed s = s.limit
 abbrev pub has_ended_splitn : SplitN → Bool
 has_ended_splitn s = (pieces_allowed s == 0) || (progress (split_in s)).ended
 
+-- One call of `next`, from s to t, gives the rest, or nothing where that was given, and never a refusal. Nothing is searched
+-- for it: the matches that were left are left still, and so is the search that finds none.
+pub record IsRest {A : Type 0} (bytes : A → List ℕ) (s : Split) (r : Option (Result A Error)) (t : Split) : Type 0 where
+  pub gives : MatchOption r ((progress s).ended ≡ true)
+      (λ item. MatchResult item (λ x. ((progress s).ended ≡ false) × (bytes x ≡ rest_of (progress s))) (λ e. ⊥))
+  pub stays : progress t ≡ record (progress s) { ended = true }
+  pub unsearched : searches t ≡ searches s
+
 -- One call of `next`, from s to t. A piece has the bytes `bytes`.
 pub record IsNextOfFirst {A : Type 0} (bytes : A → List ℕ) (s : SplitN) (r : Option (Result A Error)) (t : SplitN) : Type 0 where
   -- the first of the pieces that are left, or a refusal, after which the rest from the last end is left
   pub gives : GivesPiece (λ x e. split_refuses_next (split_in x) e) bytes (λ x. first_pieces_left (pieces_allowed x) (progress (split_in x))) (λ x. first_pieces_left (pieces_allowed x - 1) (record (progress (split_in x)) { spans = [] })) s r t
   pub counts : pieces_allowed t ≡ pieces_allowed s - 1
-  -- the last piece that may come is the rest, and is not searched for
   pub moves : 1 < pieces_allowed s → MovesOn (split_in s) r (split_in t)
+  -- the last piece that may come is the rest
+  pub rests : pieces_allowed s ≡ 1 → IsRest bytes (split_in s) r (split_in t)
   pub refuses : MatchOption r ⊤ (λ item. MatchResult item (λ _. ⊤) (λ _. (1 < pieces_allowed s) × (searches (split_in s) ≡ true) × (searches (split_in t) ≡ false)))
   -- after the end nothing comes
   pub ends : MatchOption r (has_ended_splitn t ≡ true) (λ _. has_ended_splitn s ≡ false)

@@ -147,7 +147,7 @@ impl Regex {
         ensures borrowed { IfOk result (λ t. IsBorrowedStr t ↔ (all_matches self.now text.now ≡ [])) }
         ensures kept { IfOk result (λ t. IsBorrowedStr t → cow_str_bytes t ≡ text.now) }
         ensures text { IfOk result (λ t. cow_str_bytes t ≡ text_with_each text.now (first_matches self.now text.now limit) fixed.now) }
-        ensures refused { IfErr result (λ e. IsRefusedAfterSome self.now text.now (first_matches self.now text.now limit) e) }
+        ensures refused { IfErr result (λ e. IsRefusedAfterSome self.now text.now limit e) }
     {
         let mut rewriting = Rewriting::new(self, text, limit);
         'matches: while let Some(_) = rewriting.next_match()? {

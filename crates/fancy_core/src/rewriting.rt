@@ -7,7 +7,7 @@ ghost use Rattle.fancy_input.specs.Requests.{whole};
 ghost use Rattle.fancy_template.specs.Appended.{AddsSome, AddsText};
 ghost use Rattle.fancy_core.specs.GroupTexts.{bytes_of_str, seen_in};
 ghost use Rattle.fancy_search.specs.Remaining.{item_in, HasGroups};
-ghost use Rattle.fancy_core.specs.ItemLimits.{is_reached};
+ghost use Rattle.fancy_core.specs.ItemLimits.{limit_of, is_reached, one_fewer};
 ghost use Rattle.fancy_search.specs.MatchList.{start_of, stop_of};
 ghost use Rattle.fancy_core.specs.Regexes.{options_in};
 ghost use Rattle.fancy_core.specs.Replacing.{first_matches};
@@ -58,6 +58,7 @@ impl<'r, 't> Rewriting<'r, 't> {
         ensures regex { rewriting_regex result ≡ regex.now }
         ensures text { rewriting_text result ≡ text.now }
         ensures todo { todo_of result ≡ first_matches regex.now text.now limit }
+        ensures left { result.left ≡ limit_of limit }
         ensures out { string_bytes result.out ≡ [] }
         ensures last { result.last ≡ 0 }
         ensures found { result.found ≡ false }
@@ -80,6 +81,7 @@ impl<'r, 't> Rewriting<'r, 't> {
             (λ o. MatchOption o (self.new.out ≡ self.old.out) (λ i. WritesTo i.found.start self.old self.new)) }
         ensures last { IfOk result (λ o. MatchOption o (self.new.last ≡ self.old.last)
             (λ i. self.new.last ≡ stop_of (item_in self.new.cache i))) }
+        ensures left { IfOk result (λ o. IfSome o (λ _. self.new.left ≡ one_fewer self.old.left)) }
         ensures found { IfOk result
             (λ o. MatchOption o (self.new.found ≡ self.old.found) (λ _. self.new.found ≡ true)) }
         ensures regex { rewriting_regex self.new ≡ rewriting_regex self.old }

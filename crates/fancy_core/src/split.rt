@@ -67,7 +67,7 @@ impl Regex {
 
 impl<'r, 't> Split<'r, 't> {
     ghost use Rattle.fancy_core.specs.Pieces.{rest_of};
-    ghost use Rattle.fancy_core.specs.Splits.{progress, split_regex};
+    ghost use Rattle.fancy_core.specs.Splits.{progress, searches, split_regex};
 
     /// The part of the text from the end of the last match to `end`, in bytes.
     fn part(&self, end: usize) -> &'t str
@@ -83,6 +83,7 @@ impl<'r, 't> Split<'r, 't> {
     fn rest(&mut self) -> &'t str
         ensures piece { result.now ≡ rest_of (progress self.old) }
         ensures progress { progress self.new ≡ record (progress self.old) { ended = true } }
+        ensures searches { searches self.new ≡ searches self.old }
         ensures regex { split_regex self.new ≡ split_regex self.old }
     {
         self.ended = true;

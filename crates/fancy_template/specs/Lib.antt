@@ -5,3 +5,4 @@ pub mod Expanders
 pub mod Expanded
 pub mod Checks
 pub mod Appended
+pub mod Writers

@@ -2,6 +2,7 @@
 
 ghost use Rattle.std.specs.Prelude.{◌≡◌, ℕ, List, chars, string_bytes, option_map, IfOk, IfErr, OnOk, OnErr};
 ghost use Rattle.fancy_template.specs.Appended.{AddsText, AddsItems, Writes, WritesPart};
+ghost use Rattle.fancy_template.specs.Writers.{IsFault};
 ghost use Rattle.fancy_template.specs.Expansions.{expanded, text_of_group};
 ghost use Rattle.fancy_template.specs.Expanders.{step_of};
 ghost use Rattle.fancy_template.specs.Expanded.{bytes_of};
@@ -10,7 +11,7 @@ use crate::expander::Expander;
 use crate::groups::GroupTexts;
 use crate::scan::as_number;
 use crate::steps::Step;
-use crate::write::write_whole;
+use crate::write::{Writer, write_whole};
 use fancy_tree::error::{Error, Result};
 use std::alloc::AllocError;
 use std::io;
@@ -91,15 +92,15 @@ impl Expander {
 
     /// Writes what a template expands to, and takes no memory.
     ///
-    /// A write that is refused ends it with the writer's error, and one that takes no byte with `ErrorKind::WriteZero`;
-    /// no clause says which of them it is. What the writer has taken by then is a beginning of the expansion, and
-    /// not all of it. No write is tried again, and no empty text is written.
+    /// A write that is refused ends it with the writer's error, and one that takes no byte with `ErrorKind::WriteZero`.
+    /// What the writer has taken by then is a beginning of the expansion, and not all of it. No write is tried again, and
+    /// no empty text is written. Each `io::Write` is a [`Writer`].
     ///
     /// ```text
     /// // the captures of (b) on "abc"
     /// Expander::default().write_expansion(&mut writer, "[$1]", &captures)    // the writer has taken "[b]"
     /// ```
-    pub fn write_expansion<'t, W: io::Write, C: GroupTexts<'t>>(
+    pub fn write_expansion<'t, W: Writer, C: GroupTexts<'t>>(
         &self,
         writer: &mut W,
         template: &str,
@@ -108,6 +109,7 @@ impl Expander {
         requires of_text { C.readable captures.now }
         ensures ok { WritesAll W.contents writer.old writer.new result self.now C.captured captures.now template.now }
         ensures err { WritesSome W.contents writer.old writer.new result self.now C.captured captures.now template.now }
+        ensures fault { IfErr result (λ fault. IsFault W.answers fault writer.new) }
     {
         for step in self.steps(template) {
             write_expanded(writer, expand_step(step, captures))?;
@@ -178,9 +180,10 @@ fn push_expanded(dst: &mut String, expanded: Expanded<'_>) -> std::result::Resul
     }
 }
 
-fn write_expanded<W: io::Write>(writer: &mut W, expanded: Expanded<'_>) -> io::Result<()>
+fn write_expanded<W: Writer>(writer: &mut W, expanded: Expanded<'_>) -> io::Result<()>
     ensures ok { OnOk result (Writes W.contents writer.old (bytes_of expanded.entry) writer.new) }
     ensures err { OnErr result (WritesPart W.contents writer.old (bytes_of expanded.entry) writer.new) }
+    ensures fault { IfErr result (λ fault. IsFault W.answers fault writer.new) }
 {
     match expanded {
         Expanded::Character(c) => write_whole(writer, c.encode_utf8(&mut [0; 4]).as_bytes()),

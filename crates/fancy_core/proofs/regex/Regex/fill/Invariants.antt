@@ -1,6 +1,4 @@
 use Rattle.std.proofs.Common.{length, ◌≡◌, string_bytes}
-use Rattle.fancy_core.specs.Pieces.{limited}
-use Rattle.fancy_core.specs.Replacing.{all_matches}
 use Rattle.fancy_core.specs.Rewriting.{rewriting_regex, rewriting_text, todo_of}
 use Rattle.fancy_core.proofs.ReplaceLemmas.{Goes, SaysItself}
 use Rattle.fancy_core.proofs.regex.Regex.fill.Given as goal
@@ -9,7 +7,7 @@ abbrev pub invariant-matches : goal.invariant-matches
 invariant-matches l = record {
   regex : rewriting_regex l.rewriting ≡ l.self;
   text : rewriting_text l.rewriting ≡ l.text;
-  goes : Goes SaysItself l.self l.text (limited l.limit (all_matches l.self l.text)) l.fixed l.fixed (string_bytes l.rewriting.out) l.rewriting.last l.rewriting.found (todo_of l.rewriting);
+  goes : Goes SaysItself l.self l.text l.limit l.fixed l.fixed (string_bytes l.rewriting.out) l.rewriting.last l.rewriting.found l.rewriting.left (todo_of l.rewriting);
 }
 
 abbrev pub decreases-matches : goal.decreases-matches

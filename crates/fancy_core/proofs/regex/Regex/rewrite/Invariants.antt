@@ -1,6 +1,4 @@
 use Rattle.std.proofs.Common.{length, ◌≡◌, string_bytes}
-use Rattle.fancy_core.specs.Pieces.{limited}
-use Rattle.fancy_core.specs.Replacing.{all_matches}
 use Rattle.fancy_core.specs.Rewriting.{rewriting_regex, rewriting_text, todo_of}
 use Rattle.fancy_core.proofs.ReplaceLemmas.{Goes}
 use Rattle.fancy_core.proofs.regex.Regex.rewrite.Given as goal
@@ -10,7 +8,7 @@ invariant-matches g l = record {
   callable : g.R.Replacer.callable l.replacer;
   regex : rewriting_regex l.rewriting ≡ l.self;
   text : rewriting_text l.rewriting ≡ l.text;
-  goes : Goes g.R.Replacer.appends l.self l.text (limited l.limit (all_matches l.self l.text)) l.fn.replacer l.replacer (string_bytes l.rewriting.out) l.rewriting.last l.rewriting.found (todo_of l.rewriting);
+  goes : Goes g.R.Replacer.appends l.self l.text l.limit l.fn.replacer l.replacer (string_bytes l.rewriting.out) l.rewriting.last l.rewriting.found l.rewriting.left (todo_of l.rewriting);
 }
 
 abbrev pub decreases-matches : goal.decreases-matches

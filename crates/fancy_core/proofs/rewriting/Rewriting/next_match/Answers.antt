@@ -12,4 +12,4 @@ returns-in-Some-Err-clause-refused c =
     let steps = rw c.in-Some-Err.field-0-is at c.in-Some-Err.ensures.steps in
     let going = c.in-Some-Err.ensures.open in
     let before = c.args.self.now in
-    inr (search_refused (rewriting_regex before) (rewriting_text before) before.searcher.request before.searcher.continues before.searcher.skips_empty before.searcher.ended before.last before.left c.in-Some-Err.error before.of_text going (before.before going) steps.0)
+    inr (sym c.is_reached.ensures ∙ c.if-is_reached.false, search_refused (rewriting_regex before) (rewriting_text before) before.searcher.request before.searcher.continues before.searcher.skips_empty before.searcher.ended before.last before.left c.in-Some-Err.error before.of_text going (before.before going) steps.0)

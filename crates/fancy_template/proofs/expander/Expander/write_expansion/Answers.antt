@@ -18,7 +18,12 @@ returns-in_err-write_expanded-clause-err g c =
     let q = err_from_is_err_and c.from_residual.result c.from_residual.ensures.1 in
     rw q.1 (written_part _ _ _ _ _ _ _ _ _ (rw c.in-Some.is at c.next.ensures.steps) c.expand_step.ensures c.in_err-write_expanded.ensures.err c.loop-step.invariant)
 
+pub returns-in_err-write_expanded-clause-fault : goal.returns-in_err-write_expanded-clause-fault
+returns-in_err-write_expanded-clause-fault g c =
+    let q = err_from_is_err_and c.from_residual.result c.from_residual.ensures.1 in
+    rw q.1 (rw q.2 c.in_err-write_expanded.ensures.fault)
+
 pub returns-clause-ok : goal.returns-clause-ok
 returns-clause-ok g c =
     let over = rw c.in-None.is at c.next.ensures.steps in
-    given_all _ _ (λ (done : List ℕ). Appends (g.W.Write.contents c.args.writer.now) (g.W.Write.contents c.loop-step.writer) done) _ over.0 c.loop-step.invariant
+    given_all _ _ (λ (done : List ℕ). Appends (g.W.Writer.contents c.args.writer.now) (g.W.Writer.contents c.loop-step.writer) done) _ over.0 c.loop-step.invariant

@@ -8,4 +8,4 @@ use Rattle.fancy_template.proofs.expander.Expander.write_expansion.Given as goal
 abbrev pub invariant-loop-step : goal.invariant-loop-step
 invariant-loop-step g l =
     let k = g.C.GroupTexts.captured l.captures in
-    Given k (expansion (syntax_of l.self) k (chars l.template)) (λ (done : List ℕ). Appends (g.W.Write.contents l.fn.writer) (g.W.Write.contents l.writer) done) (steps_left l.step-iterator)
+    Given k (expansion (syntax_of l.self) k (chars l.template)) (λ (done : List ℕ). Appends (g.W.Writer.contents l.fn.writer) (g.W.Writer.contents l.writer) done) (steps_left l.step-iterator)
