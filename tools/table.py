@@ -162,8 +162,8 @@ def tokens():
 
 def without_memory():
     """Calls that take no memory."""
-    yield 'tell', '-', 'a|ab', 'xab', 0, '', [*built(1, True, 'a|ab'), 'false', 'false', x('xab'), '0']
-    yield 'tell', '-', r'(\w+) \1', MIRRORS, 0, '', [*built(2, False, r'(\w+) \1'), 'true', 'false', x(MIRRORS), '0']
+    yield 'tell', '-', 'a|ab', 'xab', 0, 'b', [*built(1, True, 'a|ab'), 'false', 'false', x('xab'), '0', x('b')]
+    yield 'tell', '-', r'(\w+) \1', MIRRORS, 0, '$1', [*built(2, False, r'(\w+) \1'), 'true', 'false', x(MIRRORS), '0', 'none']
     yield 'tell_set', '-', (r'\d+', r'(a)\1'), 'x12', 1, '', ['false', '2', '3', '1']
     yield 'tell_set', '-', (), 'x12', 2, '', ['true', '0', '3', '2']
     yield 'read', '-', '(?<n>a)(b)?', 'xab', 0, '', ['3 groups', '1..2', 'none', '1..3,1..2,2..3,', x('xab')]

@@ -4,7 +4,7 @@ use crate::cases::{Ask, Asked};
 use crate::fields::{write_bytes, write_refusal};
 use crate::items::{Item, write_all, write_item};
 use crate::templates::{check, replace, replace_by};
-use fancy_regex::{Captures, Regex, RegexInput, Work};
+use fancy_regex::{Regex, RegexInput, Replacer, Work};
 use std::io;
 
 impl Ask for Regex {
@@ -117,7 +117,8 @@ fn splitn<W: io::Write>(regex: &Regex, asked: Asked<'_>, out: &mut W) {
     write_all(regex.splitn(asked.text, asked.number), out);
 }
 
-/// What a regex tells without a search, options that are set, and iterators that are made and not asked: none of it takes memory.
+/// What a regex tells without a search, options that are set, iterators that are made and not asked, and the one text of a
+/// template: none of it takes memory.
 fn tell<W: io::Write>(regex: &Regex, asked: Asked<'_>, out: &mut W) {
     let input = RegexInput::new(asked.text).anchored(true).start_text(false);
     if !regex.can_search(&input) {
@@ -136,4 +137,6 @@ fn tell<W: io::Write>(regex: &Regex, asked: Asked<'_>, out: &mut W) {
     write_bytes(items.text().as_bytes(), out);
     let matches = regex.find_iter(asked.text);
     let _ = write!(out, "|{}|", matches.input().start());
+    let mut template = asked.template;
+    write_item(Ok(template.no_expansion()), out);
 }
