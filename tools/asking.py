@@ -7,14 +7,15 @@ CALLS = os.environ.get('CALLS', os.path.join(HERE, '../crates/calls/out/calls'))
 FRE = os.environ.get('FRE', os.path.join(HERE, '../crates/fre/out/fre'))
 
 
-def word(text):
-    return text.encode().hex() or '-'
-
-
 def line(call, options, pattern, text, number=0, template=''):
     """The line that asks for a call. A set has several patterns."""
     patterns = [pattern] if isinstance(pattern, str) else pattern
-    return ' '.join((call, options, ','.join(map(word, patterns)), word(text), str(number), word(template)))
+    return ' '.join((call, options, str(number), ','.join(one.encode().hex() for one in (text, template, *patterns))))
+
+
+def texts(line):
+    """The text, the template and the patterns of a line."""
+    return [bytes.fromhex(one).decode() for one in line.split(' ')[3].split(',')]
 
 
 def items(answer):

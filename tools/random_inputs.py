@@ -3,7 +3,8 @@
 Checked of each case: every call ends, its answer is a right form or a named refusal and the same once more; spans lie in the text, on boundaries of
 characters and in order; the groups' list has the matches of the list without groups; pieces and matches rejoin to the text, limited
 pieces are the first ones and the rest; replacement by a plain text is what the pieces say; counts are within their bounds; a byte that a
-pattern requires stands in each text with a match; an escaped text finds, and expands to, itself.
+pattern requires stands in each text with a match; tokens lie one after another, up to where their list has ended; an escaped text finds,
+and expands to, itself.
 
     python3 tools/random_inputs.py [--seed N] [--cases M]
 """
@@ -25,7 +26,7 @@ OPENINGS = ['(', '(', '(?:', '(?i:', '(?s:', '(?=', '(?!', '(?<=', '(?<!', '(?>'
 REPEATS = ['*', '+', '?', '*?', '+?', '??', '*+', '?+', '{1,2}', '{2}', '{0,3}?']
 PLAIN = list('aabb12 \n,') + ['é', 'K', 'α', '\r\n']
 MARKS = list('$\\{}<>g01') + ['$1', '${n}', '$n', r'\g<n>', r'\1', '$$', 'x', 'é', '${']
-REFUSALS = re.compile('!(parsing error at position [0-9]+: [a-z A-Z]+|error compiling regex: .*|error executing regex: [a-z ]+)$', re.S)
+REFUSALS = re.compile('!(parsing error at position [0-9]+: [a-z A-Z,]+|error compiling regex: .*|error executing regex: [a-z ]+( [0-9]+)?)$', re.S)
 SPAN = re.compile(r'([0-9]+)\.\.([0-9]+)$')
 
 
@@ -89,7 +90,8 @@ class Case:
         def one(call, number=0, pattern=self.pattern, text=self.text):
             return call, asking.line(call, self.options, pattern, text, number, self.template)
         return [one('matches'), one('capture_matches'), one('find_from', self.start), one('captures', self.start), one('split'), one('splitn', self.limit),
-                one('replace'), one('check'), one('bytes'), one('escape'), one('expand'), one('in_set', self.start, (self.pattern, self.other))]
+                one('replace'), one('check'), one('bytes'), one('escape'), one('expand'), one('in_set', self.start, (self.pattern, self.other)),
+                one('tokens', self.start, (self.pattern, self.other))]
 
 
 class Fault(Exception):
@@ -127,7 +129,7 @@ def listed(case, items, groups_too):
     spans, last = [], 0
     for number, item in enumerate(items):
         if item.startswith('!'):
-            hold(number + 1 == len(items), 'an item behind a refusal')
+            hold(number + 1 == len(items), 'an item after a refusal')
             return spans, True
         here = groups(case, item)[0] if groups_too else span(case, item, last)
         hold(here is not None and here[0] >= last, 'order of matches')
@@ -139,7 +141,7 @@ def listed(case, items, groups_too):
 
 def check_one(case, call, items):
     """Checks the items of one call; `matches` comes first."""
-    refused = items[-1:] and items[-1].startswith('!')
+    refused = any(item.startswith('!') for item in items)
     if call == 'matches':
         case.spans = listed(case, items, False)
     elif call == 'capture_matches':
@@ -149,9 +151,10 @@ def check_one(case, call, items):
         hold(items[1:4] == [items[1]] * 3 and items[0] == str(found is not None).lower(), 'the calls that find')
         hold(items[4] == 'within true', 'bounds')
     elif call == 'captures' and not refused:
-        hold(len(items) in (0, 2) and items[:1] == items[1:], 'the calls that capture')
+        hold(len(items) == 3 and items[1] == items[2], 'the calls that capture')
+        hold(span(case, items[0].split(',')[0]) == (case.spans[0] + [None])[0], 'the first of the list')
         for item in items:
-            hold(groups(case, item)[0] is not None, 'group 0')
+            hold(item == 'none' or groups(case, item)[0] is not None, 'group 0')
     elif call in ('split', 'splitn'):
         check_pieces(case, call, items)
     elif call == 'replace' and not refused:
@@ -166,6 +169,8 @@ def check_one(case, call, items):
         hold(texts[1:] == [b't' + texts[0]] * 4, 'the forms of expansion')
     elif call == 'in_set' and items and items[0].startswith('at '):
         check_set(case, items)
+    elif call == 'tokens':
+        check_tokens(case, items)
 
 
 def check_pieces(case, call, items):
@@ -190,8 +195,9 @@ def check_replaced(case, texts):
         parts += [case.bytes[last:start], case.template.encode()]
         last = end
     hold(texts[2] == b''.join(parts) + case.bytes[last:], 'a plain replacement')
+    hold(case.limit > 0 or texts[0] == texts[3], 'a replacement of all')
     if not spans:
-        hold(texts[0] == texts[1] == case.bytes, 'a replacement of nothing')
+        hold(texts[0] == texts[1] == texts[3] == case.bytes, 'a replacement of nothing')
 
 
 def check_set(case, items):
@@ -204,6 +210,23 @@ def check_set(case, items):
             hold(before < int(number) < 2, 'order of members')
             before = int(number)
             span(case, ends, place)
+
+
+def check_tokens(case, items):
+    """Tokens lie one after another, from the start to where the list has ended."""
+    place = case.start
+    for at, item in enumerate(items[:-1]):
+        if item.startswith('!'):
+            hold(at + 2 == len(items), 'a token after a refusal')
+            hold('no token' not in item or item.endswith(' %d' % place), 'the place of a refusal')
+            break
+        number, ends = item.split()
+        hold(number in ('0', '1') and span(case, ends, place)[0] == place, 'where a token starts')
+        hold(span(case, ends)[1] > place, 'an empty token')
+        place = span(case, ends)[1]
+    else:
+        hold(place == len(case.bytes), 'the end of tokens')
+    hold(items[-1] == 'at %d' % place, 'where tokens have ended')
 
 
 def check_line(case, call, line, count):
@@ -268,8 +291,7 @@ def tell(count, what, line, answer):
     count['faults'] += 1
     if count['faults'] <= 20:
         words = line.split(' ')
-        print('FAULT', what, words[0], words[1], *(repr(bytes.fromhex(word).decode()) for word in words[2].replace('-', '').split(',')),
-              repr(bytes.fromhex(words[3].replace('-', '')).decode()), words[4], words[5], 'answer', answer, flush=True)
+        print('FAULT', what, *words[:3], *map(repr, asking.texts(line)), 'answer', answer, flush=True)
 
 
 def main():

@@ -1,9 +1,9 @@
 /* Refuses requests for memory, in a program that it is loaded before (LD_PRELOAD).
  *
- * REFUSE_AT=N   refuses the Nth request of each call, and REFUSE_REST=1 also those behind it in the same call
+ * REFUSE_AT=N   refuses the Nth request of each call, and REFUSE_REST=1 also those after it in the same call
  * REFUSE_ALL=1  makes one call of the whole run
  *
- * A call begins where the program writes to its standard output what ends with `>`, and ends where it writes what ends with `<`. Behind
+ * A call begins where the program writes to its standard output what ends with `>`, and ends where it writes what ends with `<`. After
  * each call, and at the end of the run where that is the call, two numbers are written to standard error: the call's requests, and
  * how many of them were refused. */
 #define _GNU_SOURCE

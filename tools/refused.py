@@ -1,6 +1,6 @@
 """Makes each call of tools/table.py, and each command of `fre` there, with the Nth request for memory refused, for N from 1 on until a
-call meets no refusal: alone, and with all requests after it. An answer is the right one, or ends with `Memory` and is right up to it, or
-is counted as a third one. Then makes the calls that take no memory with every request refused.
+call meets no refusal: alone, and with all requests after it. An answer is the right one, or `Memory` with what the call promises to leave,
+or is counted as a third one. Then makes the calls that take no memory with every request refused.
 
     python3 tools/refused.py [--only calls|fre] [--third]
 
@@ -16,17 +16,33 @@ import asking
 import table
 
 MEMORY = '!out of memory'
+KEPT = MEMORY + ' left ' + table.x('t')
 MODES = ((False, 'one request'), (True, 'a request and all after it'))
 
 
-def is_cut(call, wanted, got):
-    """Whether an answer is the right one up to a refusal, and then ends."""
-    if got[-1:] != [MEMORY]:
-        return False
-    before = got[:-1]
-    if call == 'expand' and before[-1:] == ['x74'] and before[:-1] == wanted[:len(before) - 1]:
-        return len(before) > 1
-    return before == wanted[:len(before)]
+def is_refused_here(row, at, item, wanted):
+    """Whether an item of calls that do not depend on each other is right or a refusal, which leaves a target as it was."""
+    kept = row[0] == 'expand' and at > 0 and item == KEPT
+    return item == wanted or item == MEMORY or kept
+
+
+def is_each(row, wanted, got, alone):
+    """Whether each call is right or refused: one, where one request is refused."""
+    wrong = [item for item, right in zip(got, wanted) if item != right]
+    return len(got) == len(wanted) and (len(wrong) == 1 or not alone) and all(
+        is_refused_here(row, at, *items) for at, items in enumerate(zip(got, wanted)))
+
+
+def is_cut(wanted, got):
+    """Whether a list is right up to a refusal, and then ends."""
+    return got[-1:] == [MEMORY] and got[:-1] == wanted[:len(got) - 1]
+
+
+def is_cut_tokens(row, wanted, got):
+    """Whether a list of tokens is right up to a refusal, and then has ended at the place of the token that was asked for."""
+    count = len(got) - 2
+    place = got[count - 1].split('..')[1] if count > 0 else str(row[4])
+    return count < len(wanted) - 1 and got == wanted[:count] + [MEMORY, 'at ' + place]
 
 
 def is_split(row, wanted, got):
@@ -49,13 +65,17 @@ def is_in_set(wanted, got, alone):
 
 def is_refused(row, wanted, got, alone):
     """Whether an answer is what the row may give where memory is refused."""
-    if MEMORY not in got:
+    if MEMORY not in got and KEPT not in got:
         return False
     if row[0] in ('split', 'splitn'):
         return is_split(row, wanted, got)
     if row[0] == 'in_set':
         return is_in_set(wanted, got, alone)
-    return is_cut(row[0], wanted, got)
+    if row[0] == 'tokens':
+        return is_cut_tokens(row, wanted, got)
+    if row[0] in ('matches', 'capture_matches', 'names'):
+        return is_cut(wanted, got)
+    return is_each(row, wanted, got, alone)
 
 
 class Count:

@@ -17,11 +17,11 @@ def rows():
     """What a row is, the call, the pattern, the text, and the items of its answer."""
     for size in (1000, 10000, 100000, 1000000):
         yield '%d characters' % size, 'find', 'a' * size, 'a' * 100, ['false', 'none']
-        yield '%d characters behind a look-ahead' % size, 'find', '(?=a)' + 'a' * size, 'a' * 100, ['false', 'none']
+        yield '%d characters after a look-ahead' % size, 'find', '(?=a)' + 'a' * size, 'a' * 100, ['false', 'none']
     for size in (1000, 10000, 100000):
         words = ['%05d' % number for number in range(size)]
         yield '%d branches' % size, 'find', '|'.join(words), words[-1], ['true', '0..5']
-        yield '%d branches behind a look-ahead' % size, 'find', '(?=0|9)(?:' + '|'.join(words) + ')', words[-1], ['true', '0..5']
+        yield '%d branches after a look-ahead' % size, 'find', '(?=0|9)(?:' + '|'.join(words) + ')', words[-1], ['true', '0..5']
         yield '%d branches, cut' % size, 'split', '|'.join(words), 'x' + words[-1], ['x78', 'x']
     for depth in (16, 64, 128):
         yield '%d nested alternations' % depth, 'find', '(?:a|' * depth + 'b' + ')' * depth, 'b', ['true', '0..1']

@@ -1,7 +1,7 @@
 """The calls that tools/refused.py makes, with what they answer: worked rows, written by hand.
 
 A row is a call of crates/calls, letters of options (see `options_of` there), a pattern or for a set several ones, a text, a number, a
-template, and the items of the answer. Behind them, for `split` and `splitn`, stand the ends of the matches between the pieces.
+template, and the items of the answer. After them, for `split` and `splitn`, are the ends of the matches between the pieces.
 """
 
 LIMIT = '!error executing regex: limit for backtracking exceeded'
@@ -25,7 +25,11 @@ def found_from(span):
 
 
 def built(groups, easy, pattern, times=1):
-    return ['%d groups, easy %s' % (groups, str(easy).lower()), x(pattern)] * times
+    return ['%d groups, easy %s, %s' % (groups, str(easy).lower(), x(pattern))] * times
+
+
+def unmatched(place):
+    return '!error executing regex: no token at position %d' % place
 
 
 def expanded(text):
@@ -48,16 +52,18 @@ def searches():
                 (r'(?m:^)(\d+)', '1 test 123\n2 foo', 7, '11..12'), ('a', 'a', 2, 'none'), (r'(\w+) \1', MIRRORS, 0, '0..13'),
                 ('(?:a|b|ab)*bc', 'ab' * 28 + 'ac', 0, 'none')):
             yield 'find_from', options, pattern, text, start, '', found_from(span)
-    yield 'find', '0', '(?:a|b)(?=c)', 'bc', 0, '', [LIMIT]
+    yield 'find', '0', '(?:a|b)(?=c)', 'bc', 0, '', [LIMIT] * 2
     yield 'find', 'E', 'a*', 'baa', 0, '', found('1..3')
     yield 'find', 'L', 'a|ab', 'abaa ab', 0, '', found('0..2')
     for pattern, text, groups in (
             (r'(\w+) \1', MIRRORS, '0..13,0..6,'), ('(a*)*', 'b', '0..0,none,'), ('(a*)+', 'b', '0..0,0..0,'),
             (r'r(#*)".*?"\1', 'r#"a"#', '0..6,1..2,'), (r'(?=(a+))a*b\1', 'baaabac', '3..6,3..4,'), (NAMES, 'deep fried', '0..10,0..4,5..10,'),
             ('(a){0}b', 'b', '0..1,none,')):
-        yield 'captures', '-', pattern, text, 0, '', [groups, groups]
-    yield 'names', '-', NAMES, '', 0, '', ['none', 'first', 'second']
-    yield 'names', '-', '(?<first>a)(b)', '', 0, '', ['none', 'first', 'none']
+        yield 'captures', '-', pattern, text, 0, '', [groups] * 3
+    yield 'captures', '-', r'(a)(?=\1)|(b)', 'baa', 1, '', ['0..1,none,0..1,', '1..2,1..2,none,', '1..2,1..2,none,']
+    yield 'captures', '-', r'(a)\1', 'ab', 0, '', ['none'] * 3
+    yield 'names', '-', NAMES, '', 0, '', ['none', x('first'), x('second')]
+    yield 'names', '-', '(?<first>a)(b)', '', 0, '', ['none', x('first'), 'none']
 
 
 def lists():
@@ -81,22 +87,22 @@ def lists():
 
 def texts():
     for pattern, text, limit, template, wanted in (
-            ('aa', 'aaaa aaa aa a', 0, 'xx', ('xxxx xxa xx a', 'xxaa aaa aa a', 'xxxx xxa xx a')),
-            ('bla', 'blablabla', 2, 'foo', ('foofoobla', 'fooblabla', 'foofoobla')),
-            (NAMES, 'deep fried', 0, '${first}_$second', ('deep_fried', 'deep_fried', '${first}_$second')),
-            (NAMES, 'deep fried', 0, '$1a', ('', '', '$1a')),
-            (r'([^,\s]+),\s+(\S+)', NAMED, 0, '$2 $1', ('Bruce Springsteen', 'Bruce Springsteen', '$2 $1')),
-            (r'([^,\s]+),\s+(\S+)', NAMED, 0, '$2 $last', ('Bruce ', 'Bruce ', '$2 $last')),
-            (r'(\w+) \1', MIRRORS, 0, 'a $1', ('a mirror on the wall', 'a mirror on the wall', 'a $1 on the wall')),
-            ('x', 'abc', 0, '$0', ('abc', 'abc', 'abc'))):
+            ('aa', 'aaaa aaa aa a', 0, 'xx', ('xxxx xxa xx a', 'xxaa aaa aa a', 'xxxx xxa xx a', 'xxxx xxa xx a')),
+            ('bla', 'blablabla', 2, 'foo', ('foofoobla', 'fooblabla', 'foofoobla', 'foofoofoo')),
+            (NAMES, 'deep fried', 0, '${first}_$second', ('deep_fried', 'deep_fried', '${first}_$second', 'deep_fried')),
+            (NAMES, 'deep fried', 0, '$1a', ('', '', '$1a', '')),
+            (r'([^,\s]+),\s+(\S+)', NAMED, 0, '$2 $1', ('Bruce Springsteen', 'Bruce Springsteen', '$2 $1', 'Bruce Springsteen')),
+            (r'([^,\s]+),\s+(\S+)', NAMED, 0, '$2 $last', ('Bruce ', 'Bruce ', '$2 $last', 'Bruce ')),
+            (r'(\w+) \1', MIRRORS, 0, 'a $1', ('a mirror on the wall', 'a mirror on the wall', 'a $1 on the wall', 'a mirror on the wall')),
+            ('x', 'abc', 0, '$0', ('abc', 'abc', 'abc', 'abc'))):
         yield 'replace', '-', pattern, text, limit, template, list(map(x, wanted))
-    yield 'replace_by', '-', '(b)', 'abcb', 1, '', [x('a<b>c<b>'), x('a<b>cb')]
+    yield 'replace_by', '-', '(b)', 'abcb', 1, '', [x('a<b>cb'), x('a<b>c<b>')]
     yield 'replace_by', '-', r'(\w+) \1', MIRRORS, 0, '', [x('<mirror> on the wall')] * 2
     yield 'replace_by', '-', r'([^,\s]+),\s+(\S+)', NAMED, 0, '', [x('<Bruce>')] * 2
     yield 'check', '-', NAMES, '', 0, '$first', ['fits', 'fits']
-    yield 'check', '-', NAMES, '', 0, '$1', [BY_NAME]
-    yield 'check', '-', NAMES, '', 0, 'a$', ['!parsing error at position 0: unmatched parenthesis, or an incomplete reference in a template']
-    yield 'check', '-', '(?<n>a)', '', 0, '${m}', ['!error compiling regex: no group has the name m']
+    yield 'check', '-', NAMES, '', 0, '$1', [BY_NAME, 'fits']
+    yield 'check', '-', NAMES, '', 0, 'a$', ['!parsing error at position 0: unmatched parenthesis, or an incomplete reference in a template', 'fits']
+    yield 'check', '-', '(?<n>a)', '', 0, r'${m}\g<k>', ['!error compiling regex: no group has the name %s' % name for name in 'mk']
     yield 'expand', '-', NAMES, 'deep fried', 0, '${first}_$second', expanded('deep_fried')
     yield 'expand', '-', '(b)', 'abc', 0, '${1', expanded('${1')
     yield 'expand', '-', '(b)', 'abc', 0, '${1}-$0$$, and more than what was there', expanded('b-b$, and more than what was there')
@@ -119,32 +125,49 @@ def builds():
             ('(a', 'parsing error at position 2: opening parenthesis without closing parenthesis'),
             (r'\k<n>', 'error compiling regex: no group has the name n'),
             (r'(a)\2', 'error compiling regex: no group has the number 2'), ('(?<=a+)b', 'error compiling regex: look-behind of no constant size')):
-        yield 'build', '-', pattern, '', 0, '', ['!' + refusal]
+        yield 'build', '-', pattern, '', 0, '', ['!' + refusal] * 3
     yield 'build_again', '-', 'a|ab', r'(?<n>\d)\1', 0, '', built(1, True, 'a|ab') + built(2, False, r'(?<n>\d)\1')
     for pattern, first, required in (
-            ('fn|let|impl', '3 bytes 66 69 6c', '0 bytes'), ('a?', 'any', '0 bytes'), ('a?b', '2 bytes 61 62', '1 bytes 62'),
+            ('fn|let|impl', '3 bytes 66 69 6c', '0 bytes'), ('a?', 'none', '0 bytes'), ('a?b', '2 bytes 61 62', '1 bytes 62'),
             ('(?i)é', '1 bytes c3', '1 bytes c3')):
         yield 'bytes', '-', pattern, '', 0, '', [first, required]
 
 
 def sets():
     numbers = (r'\d+', r'\w+', r'(?<=\$)\d+\.\d+')
-    yield 'set', '-', numbers, '', 0, '', ['3', '3']
-    yield 'set', '-', ('a', '(?:b'), '', 0, '', ['!parsing error at position 4: opening parenthesis without closing parenthesis']
+    yield 'set', '-', numbers, '', 0, '', ['3 patterns'] * 2
+    yield 'set', '-', ('a', '(?:b'), '', 0, '', ['!parsing error at position 4: opening parenthesis without closing parenthesis'] * 2
     yield 'in_set', '-', numbers, '$29.99', 0, '', ['at 1', '0 1..3', '1 1..3', '2 1..6']
     yield 'in_set', '-', ('(?<=foo)bar',), 'barfoobar', 0, '', ['at 6', '0 6..9']
     yield 'in_set', '-', (r'a\Kb', 'c', 'ab'), 'xab', 0, '', ['at 1', '0 2..3', '2 1..3']
     yield 'in_set', '0', ('a', r'(?:(a|aa)+)\1'), 'aa', 0, '', ['at 0', '0 0..1', LIMIT]
     yield 'in_set', '-', (r'\Gx',), 'yx', 1, '', ['at 1', '0 1..2']
-    yield 'in_set', '-', ('c', r'(d)\1'), 'xab', 0, '', []
+    yield 'in_set', '-', ('c', r'(d)\1'), 'xab', 0, '', ['none']
+
+
+def tokens():
+    words = ('if', '[a-z]+', '[0-9]+', ' +')
+    for patterns, text, found in (
+            (words, 'if iffy 42', ['0 0..2', '3 2..3', '1 3..7', '3 7..8', '2 8..10', 'at 10']),
+            (words, 'if!', ['0 0..2', unmatched(2), 'at 2']), (words, '', ['at 0']),
+            (('a*',), 'aab', ['0 0..2', unmatched(2), 'at 2']), (('a|ab',), 'ab', ['0 0..1', unmatched(1), 'at 1']),
+            ((r'a\Kb',), 'ab', [unmatched(0), 'at 0']), ((), 'a', [unmatched(0), 'at 0']),
+            ((r'(\w)\1', '[a-z]', ' '), 'aab cc', ['0 0..2', '1 2..3', '2 3..4', '0 4..6', 'at 6']),
+            (('a(?=b)', 'b+', '(?<=b)c'), 'abbc', ['0 0..1', '1 1..3', '2 3..4', 'at 4'])):
+        yield 'tokens', '-', patterns, text, 0, '', found
+    yield 'tokens', '0', ('y', '(?:x|y)(?=z)'), 'yz', 0, '', [LIMIT, 'at 0']
+    yield 'tokens', '0', ('y', '(?:x|y)(?=z)'), 'yyyz', 0, '', [LIMIT, 'at 0']
+    yield 'tokens', '-', words, '42if', 2, '', ['0 2..4', 'at 4']
 
 
 def without_memory():
     """Calls that take no memory."""
-    yield 'tell', '-', 'a|ab', 'xab', 0, '', [x('a|ab'), '1 groups', 'false', 'false', x('xab'), '0', x('xab')]
-    yield 'tell', '-', r'(\w+) \1', MIRRORS, 0, '', [x(r'(\w+) \1'), '2 groups', 'true', 'false', x(MIRRORS), '0', x(MIRRORS)]
-    yield 'read', '-', '(?<n>a)(b)?', 'xab', 0, '', ['3 groups', '1..3,1..2,2..3,', '1..2', 'none', x('xab')]
-    yield 'read', '-', r'(\w+) \1', MIRRORS, 0, '', ['2 groups', '0..13,0..6,', 'none', 'none', x(MIRRORS)]
+    yield 'tell', '-', 'a|ab', 'xab', 0, 'b', [*built(1, True, 'a|ab'), 'false', 'false', x('xab'), '0', x('b')]
+    yield 'tell', '-', r'(\w+) \1', MIRRORS, 0, '$1', [*built(2, False, r'(\w+) \1'), 'true', 'false', x(MIRRORS), '0', 'none']
+    yield 'tell_set', '-', (r'\d+', r'(a)\1'), 'x12', 1, '', ['false', '2', '3', '1']
+    yield 'tell_set', '-', (), 'x12', 2, '', ['true', '0', '3', '2']
+    yield 'read', '-', '(?<n>a)(b)?', 'xab', 0, '', ['3 groups', '1..2', 'none', '1..3,1..2,2..3,', x('xab')]
+    yield 'read', '-', r'(\w+) \1', MIRRORS, 0, '', ['2 groups', 'none', 'none', '0..13,0..6,', x(MIRRORS)]
     yield 'write', '-', NAMES, 'deep fried', 0, '${first}_$second', ['deep_fried']
     yield 'write', '-', '(b)', 'abc', 0, '${1', ['${1']
     yield 'splitn', '-', ',', '1,2', 1, '', [x('1,2')], ()
@@ -153,7 +176,7 @@ def without_memory():
 
 
 def with_memory():
-    for rows in (searches, lists, texts, builds, sets):
+    for rows in (searches, lists, texts, builds, sets, tokens):
         yield from rows()
 
 
@@ -165,4 +188,6 @@ FRE = (
     (('replace', NAMES, 'deep fried', '${first}_$second'), 'deep_fried\n', 0),
     (('replace', 'aa', 'aaaa aaa aa a', 'xx'), 'xxxx xxa xx a\n', 0),
     (('set', '$29.99', r'\d+', r'\w+', r'(?<=\$)\d+\.\d+'), '0 1..3 29\n1 1..3 29\n2 1..6 29.99\n', 0),
+    (('tokens', 'if 4', 'if', '[a-z]+', '[0-9]+', ' +'), '0 0..2 if\n3 2..3  \n2 3..4 4\n', 0),
+    (('tokens', 'aab', r'(a)\1', 'b'), '0 0..2 aa\n1 2..3 b\n', 0), (('tokens', 'if!', 'if'), '0 0..2 if\nunmatched 2\n', 1),
 )

@@ -1,87 +1,82 @@
-//! Calls that take no regex.
+//! What is made of patterns, and the calls that make it.
 
-use crate::cases::Asked;
-use crate::fields::write_bytes;
-use fancy_regex::{ByteSet, Expander, Regex, RegexBuilder, Result, escape};
-use std::alloc::Global;
-use std::borrow::CowStr;
+use crate::cases::{Ask, Asked};
+use crate::items::write_item;
+use fancy_regex::{Expander, Regex, RegexBuilder, RegexSet, Result, escape};
 use std::io;
 
-/// Makes the calls.
-pub(crate) fn ask<W: io::Write>(asked: Asked<'_>, out: &mut W) -> Result<()> {
-    match asked.call {
-        "build" => build(asked, out),
-        "build_again" => build_again(asked, out),
-        "bytes" => bytes(asked, out),
-        _ => escaped(asked, out),
+/// What the calls that take no regex are made of.
+#[derive(Drop)]
+pub(crate) struct Nothing;
+
+impl Ask for Nothing {
+    fn ask<W: io::Write>(&self, asked: Asked<'_>, out: &mut W) {
+        match asked.call {
+            "build" => build(asked, out),
+            "build_again" => build_again(asked, out),
+            "bytes" => bytes(asked, out),
+            "escape" => escaped(asked, out),
+            _ => sets(asked, out),
+        }
     }
 }
 
-/// Writes what is known of a regex without a search.
-fn describe<W: io::Write>(built: Result<Regex>, out: &mut W) -> Result<()> {
-    let regex = built?;
-    let _ = write!(
-        out,
-        "{} groups, easy {}|",
-        regex.captures_len(),
-        regex.is_easy()
-    );
-    write_bytes(regex.as_str().as_bytes(), out);
-    Ok(())
+/// The pattern of the line as a regex, under the options of the line.
+pub(crate) fn regex_of(asked: Asked<'_>) -> Result<Regex> {
+    let pattern = String::from_str(asked.alloc, asked.pattern())?;
+    asked.options().build(pattern)
 }
 
-/// Reads the pattern by each call that takes it as a text: by those of the default options, and under the options of the line.
-fn build<W: io::Write>(asked: Asked<'_>, out: &mut W) -> Result<()> {
-    describe(Regex::new(asked.alloc, asked.pattern), out)?;
-    let text = String::from_str(asked.alloc, asked.pattern)?;
-    describe(Regex::try_from(text), out)?;
-    let text = String::from_str(asked.alloc, asked.pattern)?;
-    describe(asked.options.build(text), out)
+/// The patterns of the line as a set, under the options of the line.
+pub(crate) fn set_of(asked: Asked<'_>) -> Result<RegexSet> {
+    RegexSet::new_with_options(asked.alloc, asked.patterns, &asked.options())
 }
 
-/// Reads the pattern by a builder that holds it, and then the text of the line in its place.
-fn build_again<W: io::Write>(asked: Asked<'_>, out: &mut W) -> Result<()> {
-    let mut builder = RegexBuilder::new(asked.alloc, asked.pattern)?;
-    describe(builder.build(), out)?;
+fn by_text(asked: Asked<'_>) -> Result<Regex> {
+    let pattern = String::from_str(asked.alloc, asked.pattern())?;
+    Regex::try_from(pattern)
+}
+
+/// Reads the pattern by each call that takes it: by those of the default options, and under the options of the line.
+fn build<W: io::Write>(asked: Asked<'_>, out: &mut W) {
+    write_item(Regex::new(asked.alloc, asked.pattern()), out);
+    write_item(by_text(asked), out);
+    write_item(regex_of(asked), out);
+}
+
+fn by_builder(asked: Asked<'_>) -> Result<Regex> {
+    let builder = RegexBuilder::new(asked.alloc, asked.pattern())?;
+    builder.build()
+}
+
+/// The text of the line as the pattern of a builder, in the place of the line's pattern.
+fn by_builder_again(asked: Asked<'_>) -> Result<Regex> {
     let text = String::from_str(asked.alloc, asked.text)?;
-    describe(builder.pattern(text).build(), out)
+    let mut builder = RegexBuilder::new(asked.alloc, asked.pattern())?;
+    builder.pattern(text).build()
 }
 
-fn write_set<W: io::Write>(set: &ByteSet, out: &mut W) {
-    let _ = write!(out, "{} bytes", set.len());
-    for byte in set.iter() {
-        let _ = write!(out, " {byte:02x}");
-    }
-    let _ = write!(out, "|");
+fn build_again<W: io::Write>(asked: Asked<'_>, out: &mut W) {
+    write_item(by_builder(asked), out);
+    write_item(by_builder_again(asked), out);
 }
 
 /// The bytes that matches start with, and those that every haystack with a match has.
-fn bytes<W: io::Write>(asked: Asked<'_>, out: &mut W) -> Result<()> {
-    match asked.options.start_bytes(asked.alloc, asked.pattern)? {
-        Some(set) => write_set(&set, out),
-        None => {
-            let _ = write!(out, "any|");
-        }
-    }
-    let set = asked.options.required_bytes(asked.alloc, asked.pattern)?;
-    write_set(&set, out);
-    Ok(())
-}
-
-/// Writes a text that a call gives.
-pub(crate) fn write_text<W: io::Write>(
-    text: Result<CowStr<'_, Global>>,
-    out: &mut W,
-) -> Result<()> {
-    write_bytes(text?.as_str().as_bytes(), out);
-    Ok(())
+fn bytes<W: io::Write>(asked: Asked<'_>, out: &mut W) {
+    let options = asked.options();
+    write_item(options.start_bytes(asked.alloc, asked.pattern()), out);
+    write_item(options.required_bytes(asked.alloc, asked.pattern()), out);
 }
 
 /// The text of the line as a pattern for itself, and as a template for itself in both forms.
-fn escaped<W: io::Write>(asked: Asked<'_>, out: &mut W) -> Result<()> {
-    write_text(escape(asked.alloc, asked.text), out)?;
-    let text = Expander::default().escape(asked.alloc, asked.text);
-    write_text(text, out)?;
-    let text = Expander::python().escape(asked.alloc, asked.text);
-    write_text(text, out)
+fn escaped<W: io::Write>(asked: Asked<'_>, out: &mut W) {
+    write_item(escape(asked.alloc, asked.text), out);
+    write_item(Expander::default().escape(asked.alloc, asked.text), out);
+    write_item(Expander::python().escape(asked.alloc, asked.text), out);
+}
+
+/// Reads the patterns as a set, with the default options and under those of the line.
+fn sets<W: io::Write>(asked: Asked<'_>, out: &mut W) {
+    write_item(RegexSet::new(asked.alloc, asked.patterns), out);
+    write_item(set_of(asked), out);
 }

@@ -1,31 +1,55 @@
 //! The words of a line, and what is made ready before the calls.
 
-use crate::fields::{begin, cannot, end, text_of, told, write_refusal};
-use crate::{builds, lists, searches, sets, templates};
-use fancy_regex::{BytesMode, Captures, Regex, RegexInput, RegexOptionsBuilder, Result};
+use crate::builds::{Nothing, regex_of, set_of};
+use crate::fields::{begin, end, lent, texts_of};
+use crate::sets::from_regexes;
+use fancy_regex::{BytesMode, RegexInput, RegexOptionsBuilder, Result};
 use std::alloc::Global;
 use std::io;
-
-/// The words of a line: the call, letters of options, a pattern, a text, a number, a template.
-type Words<'a> = [&'a str; 6];
 
 /// The words of a line, read.
 #[derive(Clone, Copy)]
 pub(crate) struct Asked<'a> {
     pub(crate) alloc: Global,
     pub(crate) call: &'a str,
-    pub(crate) options: &'a RegexOptionsBuilder,
-    pub(crate) pattern: &'a str,
-    pub(crate) text: &'a str,
+    pub(crate) letters: &'a str,
     pub(crate) number: usize,
+    pub(crate) text: &'a str,
     pub(crate) template: &'a str,
+    pub(crate) patterns: &'a [&'a str],
+}
+
+impl<'a> Asked<'a> {
+    /// The first pattern, and the empty one where there is none.
+    pub(crate) fn pattern(&self) -> &'a str {
+        match self.patterns {
+            [first, ..] => *first,
+            [] => "",
+        }
+    }
+
+    /// The options of the line.
+    pub(crate) fn options(&self) -> RegexOptionsBuilder {
+        options_of(self.letters)
+    }
+
+    /// The text from the byte offset of the line on.
+    pub(crate) fn input(&self) -> RegexInput<&'a str> {
+        RegexInput::new(self.text).from_pos(self.number)
+    }
+}
+
+/// What calls are made of.
+pub(crate) trait Ask {
+    /// Makes the calls of the line, and writes what each answers.
+    fn ask<W: io::Write>(&self, asked: Asked<'_>, out: &mut W);
 }
 
 /// The words of a line; those that it has not are empty.
-fn words_of<'a>(line: &'a str) -> Words<'a> {
-    let mut words = [""; 6];
+fn words_of(line: &str) -> [&str; 4] {
+    let mut words = [""; 4];
     let mut left = line.split(' ');
-    for i in 0..6 {
+    for i in 0..4 {
         if let Some(word) = left.next() {
             words[i] = word;
         }
@@ -65,120 +89,60 @@ fn mode_of(letters: &str) -> BytesMode {
     BytesMode::Unicode
 }
 
-/// Answers a line.
+/// Answers a line. A refusal before the calls is the answer.
 pub(crate) fn answer<W: io::Write>(alloc: Global, line: &str, out: &mut W) -> Result<()> {
-    let words = words_of(line);
-    let text = text_of(alloc, words[3])?;
-    let template = text_of(alloc, words[5])?;
-    let options = options_of(words[1]);
+    let [call, letters, number, texts] = words_of(line);
+    let texts = texts_of(alloc, texts)?;
+    let texts = lent(alloc, &texts)?;
+    let [text, template, patterns @ ..] = texts.as_slice() else {
+        return Ok(());
+    };
     let asked = Asked {
         alloc,
-        call: words[0],
-        options: &options,
-        pattern: words[2],
-        text: text.as_str(),
-        number: words[4].parse::<usize>().unwrap_or(0),
-        template: template.as_str(),
+        call,
+        letters,
+        number: number.parse::<usize>().unwrap_or(0),
+        text: *text,
+        template: *template,
+        patterns,
     };
     answer_read(asked, out)
 }
 
-/// Answers a line whose words are read, but for its pattern.
+/// Answers a line that is read, by what its calls are made of.
 fn answer_read<W: io::Write>(asked: Asked<'_>, out: &mut W) -> Result<()> {
     match asked.call {
-        "set" | "set_of_regexes" | "in_set" => sets::answer(asked, out),
-        _ => answer_one(asked, out),
+        "build" | "build_again" | "bytes" | "escape" | "set" => twice(Ok(Nothing), asked, out),
+        "in_set" | "tokens" | "tell_set" => twice(set_of(asked), asked, out),
+        "set_of_regexes" => from_regexes(asked, out),
+        "expand" | "read" | "write" => answer_by_captures(asked, out),
+        _ => twice(regex_of(asked), asked, out),
     }
 }
 
-/// Answers a line of one pattern.
-fn answer_one<W: io::Write>(asked: Asked<'_>, out: &mut W) -> Result<()> {
-    let pattern = text_of(asked.alloc, asked.pattern)?;
-    let asked = Asked {
-        pattern: pattern.as_str(),
-        ..asked
-    };
-    answer_pattern(asked, out)
-}
-
-fn answer_pattern<W: io::Write>(asked: Asked<'_>, out: &mut W) -> Result<()> {
-    match asked.call {
-        "build" | "build_again" | "bytes" | "escape" => {
-            begin(out);
-            told(builds::ask(asked, out), out);
-            end(out);
-            builds::ask(asked, out)
-        }
-        _ => answer_by_regex(asked, out),
-    }
-}
-
-/// Answers a line whose pattern is read before the calls.
-fn answer_by_regex<W: io::Write>(asked: Asked<'_>, out: &mut W) -> Result<()> {
-    let pattern = String::from_str(asked.alloc, asked.pattern)?;
-    match asked.options.build(pattern) {
-        Ok(regex) => answer_built(asked, &regex, out),
-        Err(error) => {
-            write_refusal(&error, out);
-            Ok(())
-        }
-    }
-}
-
-fn answer_built<W: io::Write>(asked: Asked<'_>, regex: &Regex, out: &mut W) -> Result<()> {
-    match asked.call {
-        "expand" | "read" | "write" => answer_by_captures(asked, regex, out),
-        _ => {
-            begin(out);
-            told(ask_regex(asked, regex, out), out);
-            end(out);
-            ask_regex(asked, regex, out)
-        }
-    }
-}
-
-/// Makes the calls of a regex.
-fn ask_regex<W: io::Write>(asked: Asked<'_>, regex: &Regex, out: &mut W) -> Result<()> {
-    match asked.call {
-        "find" => searches::find(asked, regex, out),
-        "find_from" => searches::find_from(asked, regex, out),
-        "captures" => searches::capture(asked, regex, out),
-        "names" => searches::names(regex, out),
-        "tell" => searches::tell(asked, regex, out),
-        "matches" => lists::matches(asked, regex, out),
-        "capture_matches" => lists::capture_matches(asked, regex, out),
-        "split" => lists::split(asked, regex, out),
-        "splitn" => lists::splitn(asked, regex, out),
-        "replace" => templates::replace(asked, regex, out),
-        "replace_by" => templates::replace_by(asked, regex, out),
-        _ => templates::check(asked, regex, out),
-    }
-}
-
-/// Answers a line whose first match is found before the calls; without one there is no answer.
-fn answer_by_captures<W: io::Write>(asked: Asked<'_>, regex: &Regex, out: &mut W) -> Result<()> {
-    let input = RegexInput::new(asked.text);
-    if !regex.can_search(&input) {
-        return cannot(out);
-    }
-    if let Some(captures) = regex.captures_input(input)? {
-        begin(out);
-        told(ask_captures(asked, &captures, out), out);
-        end(out);
-        told(ask_captures(asked, &captures, out), out);
-    }
+/// Makes the calls twice.
+fn twice<A: Ask + Drop, W: io::Write>(
+    made: Result<A>,
+    asked: Asked<'_>,
+    out: &mut W,
+) -> Result<()> {
+    let subject = made?;
+    begin(out);
+    subject.ask(asked, out);
+    end(out);
+    subject.ask(asked, out);
     Ok(())
 }
 
-/// Makes the calls of the groups of a match.
-fn ask_captures<W: io::Write>(
-    asked: Asked<'_>,
-    captures: &Captures<'_, &str>,
-    out: &mut W,
-) -> Result<()> {
-    match asked.call {
-        "expand" => templates::expand(asked, captures, out),
-        "write" => templates::write(asked, captures, out),
-        _ => searches::read(captures, out),
+/// Answers a line whose first match is found before the calls; without one there is no answer.
+fn answer_by_captures<W: io::Write>(asked: Asked<'_>, out: &mut W) -> Result<()> {
+    let regex = regex_of(asked)?;
+    let input = RegexInput::new(asked.text);
+    if !regex.can_search(&input) {
+        return Ok(());
+    }
+    match regex.captures_input(input)? {
+        Some(captures) => twice(Ok(captures), asked, out),
+        None => Ok(()),
     }
 }

@@ -1,4 +1,4 @@
-//! Words in hexadecimal, and the items of an answer.
+//! Texts in hexadecimal, and the marks of an answer.
 //!
 //! A writer that fails is heeded no further: what is read of it is compared, and is then too short.
 
@@ -14,8 +14,8 @@ fn digit(byte: u8) -> u8 {
     }
 }
 
-/// The text that a word gives in hexadecimal; `-`, and what is no text, is the empty one.
-pub(crate) fn text_of(alloc: Global, word: &str) -> Result<String> {
+/// The text that is given in hexadecimal; what is no text is the empty one.
+fn text_of(alloc: Global, word: &str) -> Result<String> {
     let mut bytes = Vec::new(alloc);
     for pair in word.as_bytes().chunks(2) {
         if let [high, low] = pair {
@@ -28,31 +28,35 @@ pub(crate) fn text_of(alloc: Global, word: &str) -> Result<String> {
     }
 }
 
-/// Writes an item: an `x`, and these bytes in hexadecimal.
+/// The texts that a word gives, split by commas.
+pub(crate) fn texts_of(alloc: Global, word: &str) -> Result<Vec<String>> {
+    let mut texts = Vec::new(alloc);
+    for part in word.split(',') {
+        texts.push(text_of(alloc, part)?)?;
+    }
+    Ok(texts)
+}
+
+/// The same texts, lent.
+pub(crate) fn lent(alloc: Global, texts: &[String]) -> Result<Vec<&str>> {
+    let mut all = Vec::new(alloc);
+    for text in texts {
+        all.push(text.as_str())?;
+    }
+    Ok(all)
+}
+
+/// Writes an `x`, and these bytes in hexadecimal.
 pub(crate) fn write_bytes<W: io::Write>(bytes: &[u8], out: &mut W) {
     let _ = write!(out, "x");
     for byte in bytes {
         let _ = write!(out, "{:02x}", *byte);
     }
-    let _ = write!(out, "|");
 }
 
 /// Writes an item: a `!`, and the text of the refusal.
 pub(crate) fn write_refusal<W: io::Write>(error: &Error, out: &mut W) {
     let _ = write!(out, "!{error}|");
-}
-
-/// Writes the refusal of a call, if there is one.
-pub(crate) fn told<W: io::Write>(answer: Result<()>, out: &mut W) {
-    if let Err(error) = answer {
-        write_refusal(&error, out);
-    }
-}
-
-/// Writes that an input cannot be searched.
-pub(crate) fn cannot<W: io::Write>(out: &mut W) -> Result<()> {
-    let _ = write!(out, "?cannot|");
-    Ok(())
 }
 
 /// Writes that the calls of the line begin.

@@ -1,48 +1,43 @@
-//! Single searches.
+//! Calls of a regex.
 
-use crate::cases::Asked;
-use crate::fields::{cannot, write_bytes};
-use fancy_regex::{Captures, Match, Regex, RegexInput, Result, Work};
+use crate::cases::{Ask, Asked};
+use crate::fields::{write_bytes, write_refusal};
+use crate::items::{Item, write_all, write_item};
+use crate::templates::{check, replace, replace_by};
+use fancy_regex::{Regex, RegexInput, Replacer, Work};
 use std::io;
 
-pub(crate) fn write_found<W: io::Write>(found: Option<Match<'_>>, out: &mut W) {
-    let _ = match found {
-        Some(found) => write!(out, "{}..{}|", found.start(), found.end()),
-        None => write!(out, "none|"),
-    };
+impl Ask for Regex {
+    fn ask<W: io::Write>(&self, asked: Asked<'_>, out: &mut W) {
+        match asked.call {
+            "find" => find(self, asked, out),
+            "find_from" => find_from(self, asked, out),
+            "captures" => capture(self, asked, out),
+            "names" => names(self, out),
+            "matches" => matches(self, asked, out),
+            "capture_matches" => capture_matches(self, asked, out),
+            "split" => split(self, asked, out),
+            "splitn" => splitn(self, asked, out),
+            "replace" => replace(self, asked, out),
+            "replace_by" => replace_by(self, asked, out),
+            "check" => check(self, asked, out),
+            _ => tell(self, asked, out),
+        }
+    }
 }
 
-/// Writes an item: the groups, with a comma behind each.
-pub(crate) fn write_groups<W: io::Write>(captures: &Captures<'_, &str>, out: &mut W) {
-    for group in captures.iter() {
-        let _ = match group {
-            Some(group) => write!(out, "{}..{},", group.start(), group.end()),
-            None => write!(out, "none,"),
-        };
-    }
-    let _ = write!(out, "|");
-}
-
-/// Writes the groups that a search found, if it found any.
-fn write_captured<W: io::Write>(
-    found: Result<Option<Captures<'_, &str>>>,
-    out: &mut W,
-) -> Result<()> {
-    if let Some(captures) = found? {
-        write_groups(&captures, out);
-    }
-    Ok(())
+/// Writes that an input cannot be searched.
+pub(crate) fn cannot<W: io::Write>(out: &mut W) {
+    let _ = write!(out, "?cannot|");
 }
 
 /// The first match in the whole text, by each call that takes a text.
-pub(crate) fn find<W: io::Write>(asked: Asked<'_>, regex: &Regex, out: &mut W) -> Result<()> {
+fn find<W: io::Write>(regex: &Regex, asked: Asked<'_>, out: &mut W) {
     if !regex.can_search(&RegexInput::new(asked.text)) {
         return cannot(out);
     }
-    let is_found = regex.is_match(asked.text)?;
-    let _ = write!(out, "{is_found}|");
-    write_found(regex.find(asked.text)?, out);
-    Ok(())
+    write_item(regex.is_match(asked.text), out);
+    write_item(regex.find(asked.text), out);
 }
 
 /// Whether the counts are within the bounds of a regex that searches so many bytes.
@@ -52,69 +47,96 @@ fn is_within(regex: &Regex, work: &Work, length: usize) -> bool {
 }
 
 /// The first match from the byte offset of the line on, by the calls that take an input, with its counts.
-pub(crate) fn find_from<W: io::Write>(asked: Asked<'_>, regex: &Regex, out: &mut W) -> Result<()> {
-    let input = RegexInput::new(asked.text).from_pos(asked.number);
+fn find_from<W: io::Write>(regex: &Regex, asked: Asked<'_>, out: &mut W) {
+    let input = asked.input();
     if !regex.can_search(&input) {
         return cannot(out);
     }
-    let is_found = regex.is_match_input(input.again())?;
-    let _ = write!(out, "{is_found}|");
-    write_found(regex.find_input(input.again())?, out);
-    write_found(regex.find_from_pos(asked.text, asked.number)?, out);
+    write_item(regex.is_match_input(input.again()), out);
+    write_item(regex.find_input(input.again()), out);
+    write_item(regex.find_from_pos(asked.text, asked.number), out);
     let mut work = Work::new();
-    write_found(regex.find_input_counted(input, &mut work)?, out);
+    write_item(regex.find_input_counted(input, &mut work), out);
     let _ = write!(out, "within {}|", is_within(regex, &work, asked.text.len()));
-    Ok(())
 }
 
-/// The groups of the first match from the byte offset of the line on.
-pub(crate) fn capture<W: io::Write>(asked: Asked<'_>, regex: &Regex, out: &mut W) -> Result<()> {
-    let input = RegexInput::new(asked.text).from_pos(asked.number);
+/// The groups of the first match in the whole text, and of the first from the byte offset of the line on.
+fn capture<W: io::Write>(regex: &Regex, asked: Asked<'_>, out: &mut W) {
+    let input = asked.input();
     if !regex.can_search(&input) {
         return cannot(out);
     }
-    let found = regex.captures_from_pos(asked.text, asked.number);
-    write_captured(found, out)?;
-    write_captured(regex.captures_input(input), out)
+    write_item(regex.captures(asked.text), out);
+    write_item(regex.captures_from_pos(asked.text, asked.number), out);
+    write_item(regex.captures_input(input), out);
 }
 
 /// The names of the groups.
-pub(crate) fn names<W: io::Write>(regex: &Regex, out: &mut W) -> Result<()> {
-    for name in regex.capture_names()? {
-        let _ = write!(out, "{}|", name.unwrap_or("none"));
+fn names<W: io::Write>(regex: &Regex, out: &mut W) {
+    match regex.capture_names() {
+        Ok(names) => {
+            for name in names {
+                write_item(Ok(name), out);
+            }
+        }
+        Err(error) => write_refusal(&error, out),
     }
-    Ok(())
 }
 
-/// What a regex tells without a search, and iterators that are made and not asked: none of it takes memory.
-pub(crate) fn tell<W: io::Write>(asked: Asked<'_>, regex: &Regex, out: &mut W) -> Result<()> {
+/// The matches from the byte offset of the line on.
+fn matches<W: io::Write>(regex: &Regex, asked: Asked<'_>, out: &mut W) {
+    let input = asked.input();
+    if !regex.can_search(&input) {
+        return cannot(out);
+    }
+    write_all(regex.find_iter_input(input), out);
+}
+
+/// The matches from the byte offset of the line on, with their groups.
+fn capture_matches<W: io::Write>(regex: &Regex, asked: Asked<'_>, out: &mut W) {
+    let input = asked.input();
+    if !regex.can_search(&input) {
+        return cannot(out);
+    }
+    write_all(regex.captures_iter_input(input), out);
+}
+
+/// The pieces of the text.
+fn split<W: io::Write>(regex: &Regex, asked: Asked<'_>, out: &mut W) {
+    if !regex.can_search(&RegexInput::new(asked.text)) {
+        return cannot(out);
+    }
+    write_all(regex.split(asked.text), out);
+}
+
+/// So many pieces of the text as the line says.
+fn splitn<W: io::Write>(regex: &Regex, asked: Asked<'_>, out: &mut W) {
+    if !regex.can_search(&RegexInput::new(asked.text)) {
+        return cannot(out);
+    }
+    write_all(regex.splitn(asked.text, asked.number), out);
+}
+
+/// What a regex tells without a search, options that are set, iterators that are made and not asked, and the one text of a
+/// template: none of it takes memory.
+fn tell<W: io::Write>(regex: &Regex, asked: Asked<'_>, out: &mut W) {
     let input = RegexInput::new(asked.text).anchored(true).start_text(false);
     if !regex.can_search(&input) {
         return cannot(out);
     }
-    write_bytes(regex.as_str().as_bytes(), out);
+    let _ = asked.options();
+    regex.tell(out);
     let next = asked.text.as_bytes().first().copied();
     let _ = write!(
         out,
-        "{} groups|{}|{}|",
-        regex.captures_len(),
+        "|{}|{}|",
         regex.may_start_before(next),
         regex.may_start_before(None)
     );
     let items = regex.captures_iter_input(input.again());
     write_bytes(items.text().as_bytes(), out);
-    let matches = regex.find_iter_input(input);
-    let _ = write!(out, "{}|", matches.input().start());
-    write_bytes(matches.text().as_bytes(), out);
-    Ok(())
-}
-
-/// What is read of the groups of a match: no reader takes memory.
-pub(crate) fn read<W: io::Write>(captures: &Captures<'_, &str>, out: &mut W) -> Result<()> {
-    let _ = write!(out, "{} groups|", captures.len());
-    write_groups(captures, out);
-    write_found(captures.name("n"), out);
-    write_found(captures.get(captures.len()), out);
-    write_bytes(captures.input_as_bytes(), out);
-    Ok(())
+    let matches = regex.find_iter(asked.text);
+    let _ = write!(out, "|{}|", matches.input().start());
+    let mut template = asked.template;
+    write_item(Ok(template.no_expansion()), out);
 }

@@ -1,22 +1,36 @@
 //! Templates, and texts whose matches are replaced.
 
-use crate::builds::write_text;
-use crate::cases::Asked;
-use crate::fields::{cannot, write_bytes};
-use fancy_regex::{Captures, Expander, NoExpand, Regex, RegexInput, ReplaceFn, Replacer, Result};
+use crate::cases::{Ask, Asked};
+use crate::fields::{write_bytes, write_refusal};
+use crate::items::{Item, write_item};
+use crate::searches::cannot;
+use fancy_regex::{
+    Captures, Error, Expander, NoExpand, Regex, RegexInput, ReplaceFn, Replacer, Result,
+};
 use std::alloc::Global;
 use std::io;
 
-/// The text with the first matches replaced, so many as the line says, by the template, and by it as a plain text.
-pub(crate) fn replace<W: io::Write>(asked: Asked<'_>, regex: &Regex, out: &mut W) -> Result<()> {
+impl Ask for Captures<'_, &str> {
+    fn ask<W: io::Write>(&self, asked: Asked<'_>, out: &mut W) {
+        match asked.call {
+            "expand" => expand(self, asked, out),
+            "write" => write(self, asked, out),
+            _ => read(self, out),
+        }
+    }
+}
+
+/// The text with matches replaced by the template: the first ones, so many as the line says, the first, and all; and so many by
+/// it as a plain text.
+pub(crate) fn replace<W: io::Write>(regex: &Regex, asked: Asked<'_>, out: &mut W) {
     if !regex.can_search(&RegexInput::new(asked.text)) {
         return cannot(out);
     }
-    let text = regex.replacen(asked.text, asked.number, asked.template);
-    write_text(text, out)?;
-    write_text(regex.replace(asked.text, asked.template), out)?;
-    let plain = NoExpand(asked.template);
-    write_text(regex.try_replacen(asked.text, asked.number, plain), out)
+    let (text, limit, template) = (asked.text, asked.number, asked.template);
+    write_item(regex.replacen(text, limit, template), out);
+    write_item(regex.replace(text, template), out);
+    write_item(regex.try_replacen(text, limit, NoExpand(template)), out);
+    write_item(regex.replace_all(text, template), out);
 }
 
 /// The text of the last group between `<` and `>`, or the two alone where it took no part.
@@ -30,26 +44,24 @@ fn marked(alloc: Global, captures: &Captures<'_, &str>) -> Result<String> {
     Ok(text)
 }
 
-/// The text with all matches replaced by a function, given and lent.
-pub(crate) fn replace_by<W: io::Write>(asked: Asked<'_>, regex: &Regex, out: &mut W) -> Result<()> {
+/// The text with matches replaced by a function: so many as the line says, where it is lent, and then all.
+pub(crate) fn replace_by<W: io::Write>(regex: &Regex, asked: Asked<'_>, out: &mut W) {
     if !regex.can_search(&RegexInput::new(asked.text)) {
         return cannot(out);
     }
     let alloc = asked.alloc;
-    let given = ReplaceFn::new(|captures: &Captures<'_, &str>| marked(alloc, captures));
-    write_text(regex.replace_all(asked.text, given), out)?;
-    let mut lent = ReplaceFn::new(|captures: &Captures<'_, &str>| marked(alloc, captures));
-    let text = regex.try_replacen_by(asked.text, asked.number, &mut lent);
-    write_text(text, out)
+    let mut mark = ReplaceFn::new(|captures: &Captures<'_, &str>| marked(alloc, captures));
+    write_item(
+        regex.try_replacen_by(asked.text, asked.number, &mut mark),
+        out,
+    );
+    write_item(regex.replace_all(asked.text, mark), out);
 }
 
 /// Whether the template, in both forms, refers to groups that there are.
-pub(crate) fn check<W: io::Write>(asked: Asked<'_>, regex: &Regex, out: &mut W) -> Result<()> {
-    Expander::default().check(asked.template, regex)?;
-    let _ = write!(out, "fits|");
-    Expander::python().check(asked.template, regex)?;
-    let _ = write!(out, "fits|");
-    Ok(())
+pub(crate) fn check<W: io::Write>(regex: &Regex, asked: Asked<'_>, out: &mut W) {
+    write_item(Expander::default().check(asked.template, regex), out);
+    write_item(Expander::python().check(asked.template, regex), out);
 }
 
 /// Python's expander where the number of the line is 1, and else the default one.
@@ -60,74 +72,74 @@ fn expander_of(asked: Asked<'_>) -> Expander {
     }
 }
 
-/// What the template expands to, alone and behind a `t`, by each call that takes memory for it.
-pub(crate) fn expand<W: io::Write>(
-    asked: Asked<'_>,
-    captures: &Captures<'_, &str>,
-    out: &mut W,
-) -> Result<()> {
-    let expander = expander_of(asked);
-    let text = expander.expansion(asked.template, captures)?;
-    write_bytes(text.as_str().as_bytes(), out);
-    append(asked, captures, out)?;
-    append_by_captures(asked, captures, out)?;
-    append_by_template(asked, captures, out)?;
-    write_to_bytes(asked, captures, out)
+/// A call that appends what a template expands to.
+#[derive(Clone, Copy)]
+enum Appends {
+    Expander,
+    Captures,
+    Template,
+}
+
+/// What the template expands to, alone and after a `t`, by each call that takes memory for it.
+fn expand<W: io::Write>(captures: &Captures<'_, &str>, asked: Asked<'_>, out: &mut W) {
+    write_item(expander_of(asked).expansion(asked.template, captures), out);
+    append(captures, asked, Appends::Expander, out);
+    append(captures, asked, Appends::Captures, out);
+    append(captures, asked, Appends::Template, out);
+    append_bytes(captures, asked, out);
+}
+
+/// Writes what a target has after a call: with the refusal before it, if there is one.
+fn write_target<W: io::Write>(answer: Result<()>, target: &[u8], out: &mut W) {
+    if let Err(error) = answer {
+        let _ = write!(out, "!{error} left ");
+    }
+    write_bytes(target, out);
+    let _ = write!(out, "|");
 }
 
 fn append<W: io::Write>(
-    asked: Asked<'_>,
     captures: &Captures<'_, &str>,
-    out: &mut W,
-) -> Result<()> {
-    let mut target = String::from_str(asked.alloc, "t")?;
-    let answer = expander_of(asked).append_expansion(&mut target, asked.template, captures);
-    write_bytes(target.as_str().as_bytes(), out);
-    answer
-}
-
-fn append_by_captures<W: io::Write>(
     asked: Asked<'_>,
-    captures: &Captures<'_, &str>,
+    appends: Appends,
     out: &mut W,
-) -> Result<()> {
-    let mut target = String::from_str(asked.alloc, "t")?;
-    let answer = captures.expand(asked.template, &mut target);
-    write_bytes(target.as_str().as_bytes(), out);
-    answer
-}
-
-fn append_by_template<W: io::Write>(
-    asked: Asked<'_>,
-    captures: &Captures<'_, &str>,
-    out: &mut W,
-) -> Result<()> {
-    let mut target = String::from_str(asked.alloc, "t")?;
+) {
+    let Ok(mut target) = String::from_str(asked.alloc, "t") else {
+        return write_refusal(&Error::Memory, out);
+    };
     let mut template = asked.template;
-    let answer = template.replace_append(captures, &mut target);
-    write_bytes(target.as_str().as_bytes(), out);
-    answer
+    let answer = match appends {
+        Appends::Expander => {
+            expander_of(asked).append_expansion(&mut target, asked.template, captures)
+        }
+        Appends::Captures => captures.expand(asked.template, &mut target),
+        Appends::Template => template.replace_append(captures, &mut target),
+    };
+    write_target(answer, target.as_str().as_bytes(), out);
 }
 
-fn write_to_bytes<W: io::Write>(
-    asked: Asked<'_>,
-    captures: &Captures<'_, &str>,
-    out: &mut W,
-) -> Result<()> {
+fn append_bytes<W: io::Write>(captures: &Captures<'_, &str>, asked: Asked<'_>, out: &mut W) {
     let mut target = Vec::new(asked.alloc);
-    target.push(b't')?;
+    let Ok(()) = target.push(b't') else {
+        return write_refusal(&Error::Memory, out);
+    };
     let answer = expander_of(asked).write_expansion_vec(&mut target, asked.template, captures);
-    write_bytes(&target, out);
-    answer
+    write_target(answer, &target, out);
 }
 
 /// Writes as it stands what the template expands to, for which no memory is taken.
-pub(crate) fn write<W: io::Write>(
-    asked: Asked<'_>,
-    captures: &Captures<'_, &str>,
-    out: &mut W,
-) -> Result<()> {
+fn write<W: io::Write>(captures: &Captures<'_, &str>, asked: Asked<'_>, out: &mut W) {
     let _ = Expander::default().write_expansion(out, asked.template, captures);
     let _ = write!(out, "|");
-    Ok(())
+}
+
+/// What is read of the groups of a match: no reader takes memory.
+fn read<W: io::Write>(captures: &Captures<'_, &str>, out: &mut W) {
+    let _ = write!(out, "{} groups|", captures.len());
+    write_item(Ok(captures.name("n")), out);
+    write_item(Ok(captures.get(captures.len())), out);
+    captures.tell(out);
+    let _ = write!(out, "|");
+    write_bytes(captures.input_as_bytes(), out);
+    let _ = write!(out, "|");
 }
