@@ -11,7 +11,7 @@ ghost use Rattle.fancy_input.specs.Requests.{effective_start};
 ghost use Rattle.fancy_bytes.specs.Openings.{NoneStandsBefore};
 ghost use Rattle.fancy_engine.specs.Seen.{IsNextCandidate, IsNextOpening, NoneMayStart};
 ghost use Rattle.fancy_engine.specs.Queries.{query_of, unfiltered, groups_in, answer_with, most_steps};
-ghost use Rattle.fancy_engine.specs.Work.{steps_of, returns_of, HasRoom};
+ghost use Rattle.fancy_engine.specs.Work.{steps_of, returns_of};
 
 use crate::code::Code;
 use crate::found::Found;
@@ -188,6 +188,12 @@ fn literal_from(
 /// same with it on and off. Of the options `on_boundaries` and `overrides` are heeded: what is found is the first
 /// match and may be empty, and returns have no limit.
 ///
+/// Without `kept` the table in `cache` begins anew, at the effective start. In a list of searches of one haystack by one code
+/// up to one end, each of which starts at the end of the match before or later, `kept` is where the table begins that the
+/// first of them began, as a byte offset. What they marked past the end of the last match is not followed again, since it
+/// fails whatever the groups are. All searches of a list together then take no more steps than one alone may take, and the
+/// code's length for each of them.
+///
 /// What is done is added to the counts of `work`, after a refusal what was done up to it. They never begin anew here. No
 /// step is taken where no match may start at any position.
 ///
@@ -195,44 +201,6 @@ fn literal_from(
 ///
 /// `SearchRefusal::Memory` where memory runs out, and no other.
 pub fn search(
-    code: &Code,
-    haystack: &[u8],
-    request: Request,
-    options: SearchOptions,
-    cache: &mut Cache,
-    work: &mut Work,
-) -> Result<Option<Found>, SearchRefusal>
-    requires inside { request.range_end ≤ length haystack.now }
-    requires easy { AreEasy (instrs_of code.now) }
-    requires room { HasRoom (steps_of work.old) (most_steps code.now request) }
-    requires paired { returns_of work.old ≤ steps_of work.old }
-    ensures answer { IfOk result (λ found. (p : Pattern) (on : Bool) → IsCodeOf p code.now
-        → answer_with (groups_in cache.new) found
-        ≡ search (query_of p code.now (unfiltered options) haystack.now request on)) }
-    ensures steps { steps_of work.old ≤ steps_of work.new }
-    ensures bounded { steps_of work.new ≤ steps_of work.old + most_steps code.now request }
-    ensures idle { NoneMayStart code.now.start_bytes haystack.now request.range_end
-        (effective_start request) (request.range_end + 1)
-        → steps_of work.new ≡ steps_of work.old }
-    ensures returns { returns_of work.old ≤ returns_of work.new }
-    ensures paired { returns_of work.new - returns_of work.old ≤ steps_of work.new - steps_of work.old }
-    ensures refused { IfErr result (λ e. e ≡ SearchRefusal.Memory) }
-{
-    search_next(code, haystack, request, options, None, cache, work)
-}
-
-/// A search of a list of searches, of one haystack by one code up to one end, as [`search`] is a search alone. Each starts at
-/// the end of the match before, or later.
-///
-/// `kept` is where the table begins that `cache` has from the searches before, as a byte offset: the effective start of the
-/// first of them. What they marked past the end of the last match is not followed again, since it fails whatever the groups
-/// are. All searches of a list together then take no more steps than [`search`] alone may take, and the code's length for each
-/// search. Without `kept` the table begins anew, at the effective start.
-///
-/// # Errors
-///
-/// `SearchRefusal::Memory` where memory runs out, and no other.
-pub fn search_next(
     code: &Code,
     haystack: &[u8],
     request: Request,

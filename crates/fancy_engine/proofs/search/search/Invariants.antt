@@ -11,7 +11,7 @@ use Rattle.fancy_input.specs.Requests.{effective_start}
 use Rattle.fancy_engine.specs.Seen.{NoneMayStart}
 use Rattle.fancy_engine.specs.Search.{search, answer_from}
 use Rattle.fancy_engine.specs.Work.{steps_of, returns_of}
-use Rattle.fancy_engine.proofs.search.search_next.Given as goal
+use Rattle.fancy_engine.proofs.search.search.Given as goal
 
 abbrev pub invariant-loop-place : goal.invariant-loop-place
 invariant-loop-place l = record {

@@ -12,8 +12,8 @@ use Rattle.fancy_engine.proofs.MarkingLemmas.{later_starts}
 use Rattle.fancy_engine.proofs.KeptTableLemmas.{failed_later, kept_begins, kept_room, kept_small, kept_failed, kept_after, ahead_first, ahead_kept, ahead_after}
 use Rattle.fancy_engine.proofs.RunnerSearch.{deep, attempt_known, attempt_answer, search_hit, search_miss, search_skip, search_over, positions_none, begun}
 use Rattle.fancy_engine.proofs.OpenLemmas.{openings_passed}
-use Rattle.fancy_engine.proofs.search.search_next.Goals as goal
-use Rattle.fancy_engine.proofs.search.search_next.Goals.{then-is_match_boundary+in_ok-begin+in_ok-end+in-None, else-is_match_boundary}
+use Rattle.fancy_engine.proofs.search.search.Goals as goal
+use Rattle.fancy_engine.proofs.search.search.Goals.{then-is_match_boundary+in_ok-begin+in_ok-end+in-None, else-is_match_boundary}
 
 pub returns-then-first-request-clause-answer : goal.returns-then-first-request-clause-answer
 returns-then-first-request-clause-answer c p on is =
