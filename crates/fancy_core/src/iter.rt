@@ -6,6 +6,7 @@ ghost use Rattle.fancy_input.specs.Inputs.{haystack_in, request_in};
 ghost use Rattle.fancy_input.specs.Requests.{whole};
 ghost use Rattle.fancy_core.specs.Regexes.{options_in};
 ghost use Rattle.fancy_core.specs.Searches.{CanSearchInput, matches_in_whole, matches_of_input, last_start_in_whole, last_start_of_input};
+ghost use Rattle.fancy_search.specs.KeptTables.{Keeps};
 ghost use Rattle.fancy_search.specs.Searching.{Suits};
 
 mod captures;
@@ -32,6 +33,7 @@ pub struct Matches<'r, S: Haystack> {
     searcher: Searcher<S>,
     cache: Cache,
     ghost suits: { Suits (options_in regex.now) (S.text searcher.haystack) (S.bytes searcher.haystack) },
+    ghost kept: { Keeps S.bytes regex.now.program searcher cache },
 }
 
 impl Regex {

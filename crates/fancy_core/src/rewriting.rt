@@ -1,6 +1,7 @@
 //! A text while its matches are replaced, one after another.
 
 ghost use Rattle.std.specs.Prelude.{◌≡◌, ◌≤◌, ◌↔◌, ◌⊎◌, ◌++◌, ◌∷◌, [], true, false, length, slice_range, string_bytes, IsTrue, IfOk, IfErr, IfSome, OnOk, MatchBool, MatchOption, List, ℕ};
+ghost use Rattle.std.specs.Borrow.{Bor};
 ghost use Rattle.std.specs.Cow.{cow_str_bytes, IsBorrowedStr};
 ghost use Rattle.fancy_input.specs.Places.{is_boundary};
 ghost use Rattle.fancy_input.specs.Requests.{whole};
@@ -11,6 +12,7 @@ ghost use Rattle.fancy_core.specs.ItemLimits.{limit_of, is_reached, one_fewer};
 ghost use Rattle.fancy_search.specs.MatchList.{start_of, stop_of};
 ghost use Rattle.fancy_core.specs.Regexes.{options_in};
 ghost use Rattle.fancy_core.specs.Replacing.{first_matches};
+ghost use Rattle.fancy_search.specs.KeptTables.{Keeps};
 ghost use Rattle.fancy_search.specs.Searching.{Suits};
 
 use crate::captures::Captures;
@@ -43,6 +45,7 @@ pub(crate) struct Rewriting<'r, 't> {
     // whether there was one
     found: bool,
     ghost suits: { Suits (options_in regex.now) true searcher.haystack.now },
+    ghost kept: { Keeps (λ (h : Bor (List ℕ)). h.now) regex.now.program searcher cache },
     ghost inside: { last ≤ length searcher.haystack.now },
     ghost cleanly: { IsTrue (is_boundary searcher.haystack.now last) },
     ghost before: { searcher.ended ≡ false → last ≤ searcher.request.start },

@@ -5,6 +5,7 @@ ghost use Rattle.std.specs.Borrow.{Bor};
 ghost use Rattle.std.specs.Iterator.{at_most};
 ghost use Rattle.fancy_input.specs.Places.{is_boundary};
 ghost use Rattle.fancy_core.specs.Regexes.{options_in};
+ghost use Rattle.fancy_search.specs.KeptTables.{Keeps};
 ghost use Rattle.fancy_search.specs.Searching.{Suits};
 
 mod limited;
@@ -34,6 +35,7 @@ pub struct Split<'r, 't> {
     // whether the rest was given
     ended: bool,
     ghost suits: { Suits (options_in regex.now) true searcher.haystack.now },
+    ghost kept: { Keeps (λ (h : Bor (List ℕ)). h.now) regex.now.program searcher cache },
     ghost inside: { last ≤ length searcher.haystack.now },
     ghost cleanly: { IsTrue (is_boundary searcher.haystack.now last) },
     ghost before: { searcher.ended ≡ false → last ≤ searcher.request.start },

@@ -22,6 +22,7 @@ pub mod RunnerLemmas
 pub mod Keeps
 pub mod EasyContinues
 pub mod RunnerSearch
+pub mod KeptTableLemmas
 pub mod AttemptLemmas
 pub mod CodeLemmas
 pub mod InstructionLemmas

@@ -12,8 +12,9 @@ use Rattle.fancy_engine.specs.declared.code.Instr.{Instr}
 use Rattle.fancy_engine.specs.declared.code.Instr.TheVariants as coded
 use Rattle.fancy_engine.specs.Instructions.{Instruction, with_set, with_sets, Match, Fail, Character, Member, RawByte, Assert, Split, Open, Close, Enter, Commit, Look, Deny, Test, Back, Recall, Keep, Continue, Taken}
 use Rattle.fancy_engine.specs.Marking.{number_in, worth_in, due_in, cost_in, sum_to, marks, owed, left_in, IsPaid, IsNumbered}
+use Rattle.fancy_engine.specs.Table.{IsCleared}
 use Rattle.fancy_engine.proofs.TableLemmas.{member-set}
-use Rattle.fancy_engine.proofs.SumLemmas.{sum_le, sum_less, sum_most}
+use Rattle.fancy_engine.proofs.SumLemmas.{sum_le, sum_less, sum_one, sum_most}
 
 pub either_side : (q n : ℕ) → (q < n) ⊎ (n ≤ q)
 either_side zero zero = inr (omega arith)
@@ -107,6 +108,54 @@ module _ (numbers : List (Option ℕ)) (weights : List ℕ) (width : ℕ) where
     at : (o : Option ℕ) → option_to o false (λ m. slice_index_or table (r * width + m) false) ≡ true → ⊥
     at None h = true≢false (sym h)
     at (Some m) h = none (r * width + m) h
+
+-- a table in which the marks of one row were taken away
+module _ (numbers : List (Option ℕ)) (weights : List ℕ) (width : ℕ) (numbered : IsNumbered numbers width) (row : ℕ) (old new : List Bool) (is : IsCleared old new (row * width) width) where
+  bit_cleared : (m : ℕ) → m < width → slice_index_or new (row * width + m) false ≡ false
+  bit_cleared m lt = is.none (row * width + m) (omega arith) (omega (arith, lt))
+
+  -- a bit of another row is not among those of this one
+  bit_apart : (r m : ℕ) → m < width → (r ≡ row → ⊥) → (r * width + m < row * width) ⊎ (row * width + width ≤ r * width + m)
+  bit_apart r m lt apart =
+      elim (either_side (r * width + m) (row * width)) [
+        | inl before ↦ inl before
+        | inr from ↦
+            elim (either_side (r * width + m) (row * width + width)) [
+              | inl inside ↦
+                  let k : ℕ = r * width + m - row * width in
+                  let place : r * width + m ≡ row * width + k = omega (arith, from) in
+                  absurd (apart (same_from_place r m row k width lt (omega (arith, inside, from)) place).0)
+              | inr past ↦ inr past
+            ]
+      ]
+
+  marks_elsewhere : (p r : ℕ) → (r ≡ row → ⊥) → marks numbers width new p r ≡ marks numbers width old p r
+  marks_elsewhere p r apart = at (number_in numbers p) refl where
+    at : (o : Option ℕ) → number_in numbers p ≡ o
+        → option_to o false (λ k. slice_index_or new (r * width + k) false) ≡ option_to o false (λ k. slice_index_or old (r * width + k) false)
+    at None e = refl
+    at (Some m) e = is.same (r * width + m) (bit_apart r m (numbered.below p m e) apart)
+
+  marks_gone : (p : ℕ) → marks numbers width new p row ≡ false
+  marks_gone p = at (number_in numbers p) refl where
+    at : (o : Option ℕ) → number_in numbers p ≡ o → option_to o false (λ k. slice_index_or new (row * width + k) false) ≡ false
+    at None e = refl
+    at (Some m) e = bit_cleared m (numbered.below p m e)
+
+  -- a mark that is left was there before, in another row
+  pub marks_left : (p r : ℕ) → marks numbers width new p r ≡ true → (marks numbers width old p r ≡ true) × (r ≡ row → ⊥)
+  marks_left p r h =
+      let apart : r ≡ row → ⊥ = λ e. true≢false (sym h ∙ ap (marks numbers width new p) e ∙ marks_gone p) in
+      (sym (marks_elsewhere p r apart) ∙ h, apart)
+
+  -- what was taken away is worth no more than the marks of a place
+  pub left_more : (count rows : ℕ) → left_in numbers weights width count rows new ≤ left_in numbers weights width count rows old + sum_to (worth_in numbers weights) count
+  left_more count rows =
+      sum_one _ _ (sum_to (worth_in numbers weights) count) row rows
+      (λ r apart. sum_le _ _ count (λ p. if_same (marks numbers width new p r) (marks numbers width old p r) (worth_in numbers weights p) (marks_elsewhere p r apart)))
+      (omega (arith, sum_le _ _ count (λ p. if_most (marks numbers width new p row) (worth_in numbers weights p)))) where
+        if_same : (a b : Bool) (w : ℕ) → a ≡ b → (if a then 0 else w) ≤ (if b then 0 else w)
+        if_same a b w e = if_less a b w (λ h. e ∙ h)
 
 -- a bit of a row is a bit of the table
 pub bit_inside : (row rows k width n : ℕ) → row < rows → k < width → rows * width ≤ n → row * width + k < n
@@ -247,13 +296,19 @@ numbered_more xs w is = record {
   same : (k : ℕ) → Some w ≡ Some k → w ≡ k
   same k e = ap {B = ℕ} (λ (o : Option ℕ). option_to o 0 (λ x. x)) e
 
-times_le : (a b w : ℕ) → a ≤ b → a * w ≤ b * w
+pub times_le : (a b w : ℕ) → a ≤ b → a * w ≤ b * w
 times_le a b w h =
     let split : b ≡ a + (b - a) = omega arith in
     let times : b * w ≡ (a + (b - a)) * w = ap (λ (n : ℕ). n * w) split in
     less a (b - a) w (b * w) times where
       less : (a rest w all : ℕ) → all ≡ (a + rest) * w → a * w ≤ all
       less a rest w all e = omega arith
+
+-- a row lies within the table
+pub row_inside : (row rows width : ℕ) → row < rows → row * width + width ≤ rows * width
+row_inside row rows width lt = omega (arith, times_le (row + 1) rows width (omega arith), one_row row width) where
+  one_row : (row width : ℕ) → (row + 1) * width ≡ row * width + width
+  one_row row width = omega arith
 
 times_most : (a w v : ℕ) → w ≤ v → a * w ≤ a * v
 times_most a w v h = omega (arith, times_le w v a h)

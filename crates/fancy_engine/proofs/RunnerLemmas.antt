@@ -10,7 +10,7 @@ use Rattle.fancy_engine.specs.Context.{Context, State}
 use Rattle.fancy_engine.specs.Events.{Event, mark, return, outcome, either}
 use Rattle.fancy_engine.specs.Marking.{Marks}
 use Rattle.fancy_engine.specs.Threads.{Thread, starts_of, state_of}
-use Rattle.fancy_engine.specs.Runner.{events_of, size_of, Known, AllKnown, thread_run, pending, Stepped, Stacked, first_accepted, ends_well, AllWithin, WasVisited, pair_run, rank, Hits, HitsBelow, Covers, AllFailed, Resting, Running}
+use Rattle.fancy_engine.specs.Runner.{events_of, size_of, Known, AllKnown, thread_run, pending, Stepped, Stacked, first_accepted, ends_well, AllWithin, WasVisited, pair_run, rank, Hits, HitsBelow, Covers, AllFailed, FailedPast, Resting, Running}
 use Rattle.fancy_engine.specs.Compile.{AreEasy}
 use Rattle.fancy_engine.proofs.EasyCode.{run_both}
 use Rattle.fancy_engine.proofs.Hits.{both_size, both_hits}
@@ -25,6 +25,11 @@ within_on first last t u ts us w stacked forth end =
           subst (λ (x : List Thread). AllWithin first last (u ∷ x)) (sym more.2)
           (omega (arith, w.0), end, (omega (arith, w.0, more.1), omega (arith, w.1, more.1), w.2))
     ]
+
+-- threads that stand from a place on stand from an earlier one on
+pub within_lower : (base low last : ℕ) (ts : List Thread) → base ≤ low → AllWithin low last ts → AllWithin base last ts
+within_lower base low last [] le w = tt
+within_lower base low last (t ∷ ts) le w = (omega (arith, le, w.0), w.1, within_lower base low last ts le w.2)
 
 -- the first accepted outcome of two parts
 first_or : (ok : State → Bool) (a b : List Event) → first_accepted ok (a ++ b) ≡ option_or (first_accepted ok a) (first_accepted ok b)
@@ -48,7 +53,7 @@ none_or (Some x) b e = absurd (true≢false e)
 choice_some : (ok : State → Bool) (a b : List Event) → is_some (first_accepted ok (either a b)) ≡ is_some (first_accepted ok a) || is_some (first_accepted ok b)
 choice_some ok a b = ap is_some (first_or ok a (return ∷ b)) ∙ some_or (first_accepted ok a) (first_accepted ok b)
 
-module _ (good : ℕ → Bool) (cx : Context) (base limit : ℕ) (code : List Instruction) (easy : AreEasy code) (deep : ℕ) where
+module _ (good : ℕ → Bool) (cx : Context) (low limit : ℕ) (code : List Instruction) (easy : AreEasy code) (deep : ℕ) where
   -- a thread is as good as its pair
   rank_is : (kept : ℕ) (t : Thread) → size_of (thread_run cx limit code deep kept t) ≡ rank cx limit code deep t.at t.place
   rank_is kept t = both_size _ _ (run_both cx limit code easy deep t.at (state_of kept t) (record { place = t.place; captures = []; kept = 0 }) (starts_of t) [] refl)
@@ -60,33 +65,33 @@ module _ (good : ℕ → Bool) (cx : Context) (base limit : ℕ) (code : List In
       (run_both cx limit code easy deep t.at (state_of kept t) (record { place = t.place; captures = []; kept = 0 }) (starts_of t) [] refl)
 
   abbrev HitsAt : Thread → Type 0
-  HitsAt t = Hits good cx base limit code deep t.at t.place
+  HitsAt t = Hits good cx low limit code deep t.at t.place
 
-  abbrev Below : ℕ → List Thread → Type 0
-  Below r ts = HitsBelow good cx base limit code deep r ts
+  abbrev Below : ℕ → ℕ → List Thread → Type 0
+  Below r i ts = HitsBelow good cx low limit code deep r i ts
 
   abbrev RankAt : Thread → ℕ
   RankAt t = rank cx limit code deep t.at t.place
 
   -- the table has one more pair
   abbrev pub Adds : Marks → Marks → ℕ → ℕ → Type 0
-  Adds table table' q i = (p j : ℕ) → WasVisited good cx base limit code deep table' p j → WasVisited good cx base limit code deep table p j ⊎ ((p ≡ q) × (j ≡ i))
+  Adds table table' q i = (p j : ℕ) → WasVisited good cx low limit code deep table' p j → WasVisited good cx low limit code deep table p j ⊎ ((p ≡ q) × (j ≡ i))
 
-  covers_next : (table table' : Marks) (t : Thread) (ts next : List Thread) → Adds table table' t.at t.place → Covers good cx base limit code deep table (t ∷ ts)
-      → ((r : ℕ) → RankAt t < r + 1 → HitsAt t → Below r next)
-      → ((r : ℕ) → RankAt t < r → Below r ts → Below r next)
-      → Covers good cx base limit code deep table' next
+  covers_next : (table table' : Marks) (t : Thread) (ts next : List Thread) → Adds table table' t.at t.place → Covers good cx low limit code deep table (t ∷ ts)
+      → ((r i : ℕ) → RankAt t < r + 1 → i ≤ t.place → HitsAt t → Below r i next)
+      → ((r i : ℕ) → RankAt t < r → i ≤ t.place → Below r i ts → Below r i next)
+      → Covers good cx low limit code deep table' next
   covers_next table table' t ts next adds covers top below p j seen hit =
       elim (adds p j seen) [
         | inl old ↦
             let h = covers p j old hit in
-            elim h.1 [
-              | inl here ↦ let lt : RankAt t < rank cx limit code deep p j = h.0 in top (rank cx limit code deep p j) (omega arith) here
-              | inr under ↦ below (rank cx limit code deep p j) h.0 under
+            elim h.2 [
+              | inl here ↦ let lt : RankAt t < rank cx limit code deep p j = h.0 in top (rank cx limit code deep p j) j (omega arith) h.1 here
+              | inr under ↦ below (rank cx limit code deep p j) j h.0 h.1 under
             ]
         | inr same ↦
             let e : rank cx limit code deep p j ≡ RankAt t = ap₂ (rank cx limit code deep) same.0 same.1 in
-            top (rank cx limit code deep p j) (omega arith) (subst (λ x. Hits good cx base limit code deep t.at x) same.1 (subst (λ x. Hits good cx base limit code deep x j) same.0 hit))
+            top (rank cx limit code deep p j) j (omega arith) (omega (arith, same.1)) (subst (λ x. Hits good cx low limit code deep t.at x) same.1 (subst (λ x. Hits good cx low limit code deep x j) same.0 hit))
       ]
 
   pub same_table : (table : Marks) (q i : ℕ) → Adds table table q i
@@ -94,43 +99,52 @@ module _ (good : ℕ → Bool) (cx : Context) (base limit : ℕ) (code : List In
 
   module _ (kept : ℕ) (goal : Option State) where
     -- a thread without an accepted outcome is dropped
-    rest_of : (table table' : Marks) (t : Thread) (ts : List Thread) → Running good cx base limit code deep kept goal table t ts → Adds table table' t.at t.place
-        → is_some (first_accepted (ends_well good) (events_of (thread_run cx limit code deep kept t))) ≡ false → Resting good cx base limit code deep kept goal table' ts
+    rest_of : (table table' : Marks) (t : Thread) (ts : List Thread) → Running good cx low limit code deep kept goal table t ts → Adds table table' t.at t.place
+        → is_some (first_accepted (ends_well good) (events_of (thread_run cx limit code deep kept t))) ≡ false → Resting good cx low limit code deep kept goal table' ts
     rest_of table table' t ts r adds none =
         let never : HitsAt t → ⊥ = λ h. true≢false (sym h ∙ sym (hits_is kept t) ∙ none) in
         record {
           all = r.all;
           answer = sym (first_or (ends_well good) (events_of (thread_run cx limit code deep kept t)) (pending cx limit code deep kept ts) ∙ none_or _ _ none) ∙ r.answer;
-          covers = covers_next table table' t ts ts adds r.covers (λ n lt h. absurd (never h)) (λ n lt h. h);
+          covers = covers_next table table' t ts ts adds r.covers (λ n i lt at h. absurd (never h)) (λ n i lt at h. h);
         }
 
     -- a pair that was visited before has no accepted outcome
-    pub run_seen : (table : Marks) (t : Thread) (ts : List Thread) → Running good cx base limit code deep kept goal table t ts
-        → WasVisited good cx base limit code deep table t.at t.place → Resting good cx base limit code deep kept goal table ts
+    pub run_seen : (table : Marks) (t : Thread) (ts : List Thread) → Running good cx low limit code deep kept goal table t ts
+        → WasVisited good cx low limit code deep table t.at t.place → Resting good cx low limit code deep kept goal table ts
     run_seen table t ts r seen =
         rest_of table table t ts r (same_table table t.at t.place)
         (false_from_ne_true _ (λ e. let h = r.covers t.at t.place seen (sym (hits_is kept t) ∙ e) in let lt : RankAt t < RankAt t = h.0 in absurd (omega arith)))
 
-    pub run_dead : (table table' : Marks) (t : Thread) (ts : List Thread) → Running good cx base limit code deep kept goal table t ts → Adds table table' t.at t.place
-        → events_of (thread_run cx limit code deep kept t) ≡ [] → Resting good cx base limit code deep kept goal table' ts
+    pub run_dead : (table table' : Marks) (t : Thread) (ts : List Thread) → Running good cx low limit code deep kept goal table t ts → Adds table table' t.at t.place
+        → events_of (thread_run cx limit code deep kept t) ≡ [] → Resting good cx low limit code deep kept goal table' ts
     run_dead table table' t ts r adds e = rest_of table table' t ts r adds (ap (λ (x : List Event). is_some (first_accepted (ends_well good) x)) e)
 
-    pub run_bad : (table table' : Marks) (t : Thread) (ts : List Thread) → Running good cx base limit code deep kept goal table t ts → Adds table table' t.at t.place
-        → events_of (thread_run cx limit code deep kept t) ≡ outcome (state_of kept t) ∷ [] → good t.place ≡ false → Resting good cx base limit code deep kept goal table' ts
+    pub run_bad : (table table' : Marks) (t : Thread) (ts : List Thread) → Running good cx low limit code deep kept goal table t ts → Adds table table' t.at t.place
+        → events_of (thread_run cx limit code deep kept t) ≡ outcome (state_of kept t) ∷ [] → good t.place ≡ false → Resting good cx low limit code deep kept goal table' ts
     run_bad table table' t ts r adds e bad =
         rest_of table table' t ts r adds
         (ap (λ (x : List Event). is_some (first_accepted (ends_well good) x)) e ∙ ap (λ (c : Bool). is_some (if c then Some (state_of kept t) else None)) bad)
 
-    pub run_good : (table : Marks) (t : Thread) (ts : List Thread) → Running good cx base limit code deep kept goal table t ts
+    -- where an outcome is accepted, the marked pairs past it have failed
+    pub past_found : (table table' : Marks) (t : Thread) (ts : List Thread) → Running good cx low limit code deep kept goal table t ts → Adds table table' t.at t.place
+        → FailedPast good cx low limit code deep t.place table'
+    past_found table table' t ts r adds p j seen past hit =
+        elim (adds p j seen) [
+          | inl old ↦ let h = r.covers p j old hit in absurd (omega (arith, past, h.1))
+          | inr same ↦ absurd (omega (arith, past, same.1))
+        ]
+
+    pub run_good : (table : Marks) (t : Thread) (ts : List Thread) → Running good cx low limit code deep kept goal table t ts
         → events_of (thread_run cx limit code deep kept t) ≡ outcome (state_of kept t) ∷ [] → good t.place ≡ true → Some (state_of kept t) ≡ goal
     run_good table t ts r e fine =
         let p = pending cx limit code deep kept ts in
         sym (ap (λ (x : List Event). first_accepted (ends_well good) (x ++ p)) e
         ∙ ap (λ (c : Bool). if c then Some (state_of kept t) else (first_accepted (ends_well good) p)) fine) ∙ r.answer
 
-    pub run_on : (table table' : Marks) (t u : Thread) (ts us : List Thread) → Running good cx base limit code deep kept goal table t ts → Adds table table' t.at t.place
-        → Stepped cx limit code deep kept On t ts u us → Running good cx base limit code deep kept goal table' u us
-    run_on table table' t u ts us r adds stepped =
+    pub run_on : (table table' : Marks) (t u : Thread) (ts us : List Thread) → Running good cx low limit code deep kept goal table t ts → Adds table table' t.at t.place
+        → Stepped cx limit code deep kept On t ts u us → t.place ≤ u.place → Running good cx low limit code deep kept goal table' u us
+    run_on table table' t u ts us r adds stepped forth =
         elim stepped [
           | inl went ↦
               let e : events_of (thread_run cx limit code deep kept t) ++ pending cx limit code deep kept ts ≡ events_of (thread_run cx limit code deep kept u) ++ pending cx limit code deep kept us =
@@ -141,8 +155,9 @@ module _ (good : ℕ → Bool) (cx : Context) (base limit : ℕ) (code : List In
                 known = went.0.0;
                 all = subst (AllKnown cx limit code deep kept) (sym went.1) r.all;
                 answer = ap (first_accepted (ends_well good)) (sym e) ∙ r.answer;
-                covers = subst (λ (x : List Thread). Covers good cx base limit code deep table' (u ∷ x)) (sym went.1)
-                    (covers_next table table' t ts (u ∷ ts) adds r.covers (λ n lt h. (omega (arith, lower), inl (hit h))) (λ n lt h. (omega (arith, lower), inr h)));
+                covers = subst (λ (x : List Thread). Covers good cx low limit code deep table' (u ∷ x)) (sym went.1)
+                    (covers_next table table' t ts (u ∷ ts) adds r.covers
+                    (λ n i lt at h. (omega (arith, lower), omega (arith, at, forth), inl (hit h))) (λ n i lt at h. (omega (arith, lower), omega (arith, at, forth), inr h)));
               }
           | inr parted ↦
               let b = parted.0 in
@@ -164,21 +179,21 @@ module _ (good : ℕ → Bool) (cx : Context) (base limit : ℕ) (code : List In
                 known = parted.1.0;
                 all = subst (AllKnown cx limit code deep kept) (sym parted.2) (parted.1.1, r.all);
                 answer = sym e ∙ r.answer;
-                covers = subst (λ (x : List Thread). Covers good cx base limit code deep table' (u ∷ x)) (sym parted.2)
+                covers = subst (λ (x : List Thread). Covers good cx low limit code deep table' (u ∷ x)) (sym parted.2)
                     (covers_next table table' t ts (u ∷ b ∷ ts) adds r.covers
-                    (λ n lt h. (omega (arith, low_u), elim (hit h) [ inl x ↦ inl x | inr x ↦ inr (omega (arith, low_b), inl x) ]))
-                    (λ n lt h. (omega (arith, low_u), inr (omega (arith, low_b), inr h))));
+                    (λ n i lt at h. (omega (arith, low_u), omega (arith, at, forth), elim (hit h) [ inl x ↦ inl x | inr x ↦ inr (omega (arith, low_b), omega (arith, at, parted.1.4), inl x) ]))
+                    (λ n i lt at h. (omega (arith, low_u), omega (arith, at, forth), inr (omega (arith, low_b), omega (arith, at, parted.1.4), inr h))));
               }
         ]
 
-    pub rest_done : (table : Marks) → Resting good cx base limit code deep kept goal table [] → (None ≡ goal) × AllFailed good cx base limit code deep table
+    pub rest_done : (table : Marks) → Resting good cx low limit code deep kept goal table [] → (None ≡ goal) × AllFailed good cx low limit code deep table
     rest_done table r = (r.answer, λ q i seen hit. r.covers q i seen hit)
 
-    pub rest_back : (table : Marks) (b : Thread) (ts : List Thread) → Resting good cx base limit code deep kept goal table (b ∷ ts) → Running good cx base limit code deep kept goal table b ts
+    pub rest_back : (table : Marks) (b : Thread) (ts : List Thread) → Resting good cx low limit code deep kept goal table (b ∷ ts) → Running good cx low limit code deep kept goal table b ts
     rest_back table b ts r = record { known = r.all.0; all = r.all.1; answer = r.answer; covers = r.covers }
 
-  pub run_first : (kept : ℕ) (table : Marks) (t : Thread) → Known cx limit code deep kept t → AllFailed good cx base limit code deep table
-      → Running good cx base limit code deep kept (first_accepted (ends_well good) (events_of (thread_run cx limit code deep kept t))) table t []
+  pub run_first : (kept : ℕ) (table : Marks) (t : Thread) → Known cx limit code deep kept t → AllFailed good cx low limit code deep table
+      → Running good cx low limit code deep kept (first_accepted (ends_well good) (events_of (thread_run cx limit code deep kept t))) table t []
   run_first kept table t known failed =
       record {
         known = known;
@@ -187,10 +202,12 @@ module _ (good : ℕ → Bool) (cx : Context) (base limit : ℕ) (code : List In
         covers = λ q i seen hit. absurd (failed q i seen hit);
       }
 
-  -- one more mark, by its row
-  pub adds_mark : (table after : Marks) (q i : ℕ) → base ≤ i → ((p row : ℕ) → after p row ≡ true → (table p row ≡ true) ⊎ ((p ≡ q) × (row ≡ i - base))) → Adds table after q i
-  adds_mark table after q i low adds p j h =
+  -- one more mark, by its row in a table that begins at `base`
+  pub adds_mark : (base : ℕ) (table after : ℕ → ℕ → Bool) (q i : ℕ) → base ≤ low → base ≤ i
+      → ((p row : ℕ) → after p row ≡ true → (table p row ≡ true) ⊎ ((p ≡ q) × (row ≡ i - base)))
+      → Adds (λ p j. table p (j - base)) (λ p j. after p (j - base)) q i
+  adds_mark base table after q i begins here adds p j h =
       elim (adds p (j - base) h.1) [
         | inl old ↦ inl (h.0, old)
-        | inr new ↦ inr (new.0, omega (arith, h.0.1, low, new.1))
+        | inr new ↦ inr (new.0, omega (arith, h.0.1, begins, here, new.1))
       ]

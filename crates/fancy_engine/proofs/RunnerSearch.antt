@@ -136,12 +136,3 @@ positions_some r le = one_position r.anchored (r.range_end + 1 - effective_start
 
 pub unmarked_table : (table : List Bool) (n : ℕ) → table ≡ replicate n false → (k : ℕ) → slice_index_or table k false ≡ true → ⊥
 unmarked_table table n e k h = unmarked n k (subst (λ (bits : List Bool). slice_index_or bits k false ≡ true) e h)
-
--- no more steps are added than there are pairs of an instruction and a place
-pub steps_within : (before after : ℕ) (r : Request) (first n : ℕ) → after ≤ before + (r.range_end - first + 1) * n → first ≡ effective_start r → first ≤ r.range_end
-    → after ≤ before + n * (r.range_end + 1 - effective_start r)
-steps_within before after r first n h e le =
-    let same : r.range_end - first + 1 ≡ r.range_end + 1 - effective_start r = omega (arith, e) in
-    subst (λ (k : ℕ). after ≤ before + n * k) same (swapped (r.range_end - first + 1) h) where
-      swapped : (k : ℕ) → after ≤ before + k * n → after ≤ before + n * k
-      swapped k h = omega arith

@@ -5,22 +5,23 @@ use Rattle.fancy_engine.specs.declared.runner.Attempt.{Attempt}
 use Rattle.fancy_engine.specs.declared.runner.Next.{Next}
 use Rattle.fancy_engine.specs.Code.{instrs_of, width_of, marks_of, left_of, burden}
 use Rattle.fancy_engine.specs.Context.{Context, State}
+use Rattle.fancy_engine.specs.Marking.{Marks}
 use Rattle.fancy_engine.specs.Reading.{search_context}
 use Rattle.fancy_engine.specs.Search.{is_match_boundary}
 use Rattle.fancy_engine.specs.Threads.{Thread, ThreadStack}
-use Rattle.fancy_engine.specs.Runner.{thread_run, events_of, first_accepted, ends_well, Known, Stepped, AllFailed, Resting, Running, Visited}
+use Rattle.fancy_engine.specs.Runner.{thread_run, events_of, first_accepted, ends_well, Known, Stepped, AllFailed, FailedPast, Resting, Running, Visited}
 
 module _ (a : Attempt) where
-  -- what the code sees; easy code has no `\G`, which would hold at the first position
+  -- what the code sees; easy code has no `\G`, which would hold where the table begins
   abbrev pub context_in : Context
-  context_in = search_context a.haystack.now a.code.now.meaning a.suppressed a.first
+  context_in = search_context a.haystack.now a.code.now.meaning a.suppressed a.base
 
   abbrev pub instrs_in : List Instruction
   instrs_in = instrs_of a.code.now
 
-  -- how many places are searched
+  -- how many places the table has marks for
   abbrev pub places_in : ℕ
-  places_in = a.last - a.first + 1
+  places_in = a.last - a.base + 1
 
   -- how many marks there are
   abbrev pub bits_in : ℕ
@@ -38,9 +39,17 @@ module _ (a : Attempt) where
   abbrev pub may_end_in : ℕ → Bool
   may_end_in = is_match_boundary a.on_boundaries a.haystack.now
 
-  -- no marked pair gives an accepted outcome
-  abbrev pub AllFailedIn : ℕ → List Bool → Type 0
-  AllFailedIn deep table = AllFailed may_end_in context_in a.first a.last instrs_in deep (marks_of a.code.now table)
+  -- the pairs that were marked in a table
+  abbrev pub marks_in : List Bool → Marks
+  marks_in table q i = marks_of a.code.now table q (i - a.base)
+
+  -- no pair that was marked at a place from `low` on gives an accepted outcome
+  abbrev pub AllFailedIn : ℕ → ℕ → List Bool → Type 0
+  AllFailedIn low deep table = AllFailed may_end_in context_in low a.last instrs_in deep (marks_in table)
+
+  -- of these pairs, none past the place does
+  abbrev pub FailedPastIn : ℕ → ℕ → ℕ → List Bool → Type 0
+  FailedPastIn low deep place table = FailedPast may_end_in context_in low a.last instrs_in deep place (marks_in table)
 
   -- what the thread that is followed gives is known
   abbrev pub KnownIn : ℕ → ℕ → ThreadStack → Type 0
@@ -55,16 +64,16 @@ module _ (a : Attempt) where
   SteppedIn kept deep next old new = Stepped context_in a.last instrs_in deep kept next old.current old.saved new.current new.saved
 
   -- what the runner still has before it
-  abbrev pub RunningIn : ℕ → ℕ → Option State → List Bool → ThreadStack → Type 0
-  RunningIn kept deep goal table ts =
-      Running may_end_in context_in a.first a.last instrs_in deep kept goal (marks_of a.code.now table) ts.current ts.saved
+  abbrev pub RunningIn : ℕ → ℕ → ℕ → Option State → List Bool → ThreadStack → Type 0
+  RunningIn low kept deep goal table ts =
+      Running may_end_in context_in low a.last instrs_in deep kept goal (marks_in table) ts.current ts.saved
 
   -- the same once the saved branches are all that is left
-  abbrev pub RestingIn : ℕ → ℕ → Option State → List Bool → List Thread → Type 0
-  RestingIn kept deep goal table saved =
-      Resting may_end_in context_in a.first a.last instrs_in deep kept goal (marks_of a.code.now table) saved
+  abbrev pub RestingIn : ℕ → ℕ → ℕ → Option State → List Bool → List Thread → Type 0
+  RestingIn low kept deep goal table saved =
+      Resting may_end_in context_in low a.last instrs_in deep kept goal (marks_in table) saved
 
   -- the same after a visit
-  abbrev pub VisitedIn : ℕ → ℕ → Next → Option State → List Bool → ThreadStack → Type 0
-  VisitedIn kept deep next goal table ts =
-      Visited may_end_in context_in a.first a.last instrs_in deep kept next goal (marks_of a.code.now table) ts.current ts.saved
+  abbrev pub VisitedIn : ℕ → ℕ → ℕ → Next → Option State → List Bool → ThreadStack → Type 0
+  VisitedIn low kept deep next goal table ts =
+      Visited may_end_in context_in low a.last instrs_in deep kept next goal (marks_in table) ts.current ts.saved

@@ -3,7 +3,7 @@ use Rattle.std.specs.Prelude.{ℕ, ◌+◌, Bool, List, [], ◌∷◌, Option, l
 use Rattle.fancy_engine.specs.declared.code.Code.{Code}
 use Rattle.fancy_engine.specs.declared.code.Instr.{Instr}
 use Rattle.fancy_engine.specs.Instructions.{Instruction, edges_at, with_set, with_sets}
-use Rattle.fancy_engine.specs.Marking.{Marks, number_in, due_in, cost_in, marks, left_in}
+use Rattle.fancy_engine.specs.Marking.{Marks, number_in, due_in, worth_in, cost_in, sum_to, marks, left_in}
 use Rattle.fancy_engine.specs.Threads.{Thread}
 
 -- each with the edges of its set
@@ -51,6 +51,10 @@ marks_of c table = marks c.marking.numbers.items c.marking.width table
 -- what the marks are worth that were not made, in a table of so many places
 abbrev pub left_of : Code → ℕ → List Bool → ℕ
 left_of c rows table = left_in c.marking.numbers.items c.marking.weights.items c.marking.width (code_len c) rows table
+
+-- what the marks of a place are worth
+abbrev pub worth_of : Code → ℕ
+worth_of c = sum_to (worth_in c.marking.numbers.items c.marking.weights.items) (code_len c)
 
 -- what is due for the threads that are still to be followed
 abbrev pub burden : Code → List Thread → ℕ

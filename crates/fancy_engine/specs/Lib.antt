@@ -17,6 +17,7 @@ pub mod Runner
 pub mod Attempt
 pub mod Queries
 pub mod Compile
+pub mod KeptTable
 pub mod Answers
 pub mod Forward
 pub mod Seen

@@ -3,7 +3,7 @@ use Rattle.std.specs.Prelude.{ℕ, zero, suc, ◌≡◌, ◌+◌, ◌*◌, ◌<�
 use Rattle.fancy_engine.specs.Instructions.{Instruction, Match, Fail, Character, Member, RawByte, Assert, Split, Open, Close, Enter, Commit, Look, Deny, Test, Back, Recall, Keep, Continue, Taken}
 use Rattle.fancy_engine.specs.Context.{option_to}
 
--- at an instruction and a place, counted from the first one that is searched, whether the pair was marked
+-- at an instruction and a place whether the pair was marked
 abbrev pub Marks : Type 0
 Marks = ℕ → ℕ → Bool
 

@@ -1,5 +1,5 @@
 -- What the runner keeps true, which follows each pair of an instruction with a mark and a place at most once.
-use Rattle.std.specs.Prelude.{◌≡◌, ℕ, ◌+◌, ◌-◌, ◌<◌, ◌≤◌, ◌⊎◌, Bool, true, List, [], ◌∷◌, ◌++◌, length, map, Option, Some, None, if◌then◌else◌, is_some}
+use Rattle.std.specs.Prelude.{◌≡◌, ℕ, ◌+◌, ◌<◌, ◌≤◌, ◌⊎◌, Bool, true, List, [], ◌∷◌, ◌++◌, length, map, Option, Some, None, if◌then◌else◌, is_some}
 use Rattle.fancy_engine.specs.Instructions.{Instruction}
 use Rattle.fancy_engine.specs.declared.runner.Next.{Next}
 use Rattle.fancy_engine.specs.declared.runner.Next.TheVariants.{On, Dead, Found}
@@ -111,31 +111,35 @@ module _ (x : Context) (limit : ℕ) (code : List Instruction) (deep : ℕ) wher
   abbrev pub rank : ℕ → ℕ → ℕ
   rank q i = size_of (pair_run q i)
 
--- `good` tests the place of an outcome; positions and places are counted from `base`
-module _ (good : ℕ → Bool) (x : Context) (base limit : ℕ) (code : List Instruction) (deep : ℕ) where
+-- `good` tests the place of an outcome; pairs at places before `low` are left out
+module _ (good : ℕ → Bool) (x : Context) (low limit : ℕ) (code : List Instruction) (deep : ℕ) where
   abbrev pub IsPair : ℕ → ℕ → Type 0
-  IsPair q i = (q < length code) × (base ≤ i) × (i ≤ limit)
+  IsPair q i = (q < length code) × (low ≤ i) × (i ≤ limit)
 
   -- the pair was marked
   abbrev pub WasVisited : Marks → ℕ → ℕ → Type 0
-  WasVisited table q i = IsPair q i × (table q (i - base) ≡ true)
+  WasVisited table q i = IsPair q i × (table q i ≡ true)
 
   -- an accepted outcome comes from the pair, whatever the groups are
   abbrev pub Hits : ℕ → ℕ → Type 0
   Hits q i = is_some (first_accepted (ends_well good) (events_of (pair_run x limit code deep q i))) ≡ true
 
-  -- some thread of these hits, and it and those before it rank below r
-  abbrev pub HitsBelow : ℕ → List Thread → Type 0
-  HitsBelow r [] = ⊥
-  HitsBelow r (t ∷ ts) = (rank x limit code deep t.at t.place < r) × (Hits t.at t.place ⊎ HitsBelow r ts)
+  -- some thread of these hits, and it and those before it rank below r and stand at i or past it
+  abbrev pub HitsBelow : ℕ → ℕ → List Thread → Type 0
+  HitsBelow r i [] = ⊥
+  HitsBelow r i (t ∷ ts) = (rank x limit code deep t.at t.place < r) × (i ≤ t.place) × (Hits t.at t.place ⊎ HitsBelow r i ts)
 
-  -- a marked pair that hits is answered for by a thread that is still to be followed
+  -- a marked pair that hits is answered for by a thread that is still to be followed, at the place of the pair or past it
   abbrev pub Covers : Marks → List Thread → Type 0
-  Covers table ts = (q i : ℕ) → WasVisited table q i → Hits q i → HitsBelow (rank x limit code deep q i) ts
+  Covers table ts = (q i : ℕ) → WasVisited table q i → Hits q i → HitsBelow (rank x limit code deep q i) i ts
 
   -- no marked pair hits
   abbrev pub AllFailed : Marks → Type 0
   AllFailed table = (q i : ℕ) → WasVisited table q i → Hits q i → ⊥
+
+  -- no marked pair past the place hits
+  abbrev pub FailedPast : ℕ → Marks → Type 0
+  FailedPast place table = (q i : ℕ) → WasVisited table q i → place < i → Hits q i → ⊥
 
   -- what the runner has before it once the saved branches are all that is left
   pub record Resting (kept : ℕ) (goal : Option State) (table : Marks) (ts : List Thread) : Type 0 where
@@ -150,11 +154,11 @@ module _ (good : ℕ → Bool) (x : Context) (base limit : ℕ) (code : List Ins
     pub answer : first_accepted (ends_well good) (events_of (thread_run x limit code deep kept t) ++ pending x limit code deep kept ts) ≡ goal
     pub covers : Covers table (t ∷ ts)
 
-  -- the same after a visit
+  -- the same after a visit; where it found an outcome, what was marked past that has failed
   abbrev pub Visited : ℕ → Next → Option State → Marks → Thread → List Thread → Type 0
   Visited kept On goal table t ts = Running kept goal table t ts
   Visited kept Dead goal table t ts = Resting kept goal table ts
-  Visited kept Found goal table t ts = Some (state_of kept t) ≡ goal
+  Visited kept Found goal table t ts = (Some (state_of kept t) ≡ goal) × FailedPast t.place table
 
 -- the state that a search stands at, if it found one
 abbrev pub found_state : ℕ → Option ℕ → List Slot → Option State

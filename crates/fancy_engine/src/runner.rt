@@ -13,7 +13,7 @@ ghost use Rattle.fancy_engine.specs.Reading.{search_context};
 ghost use Rattle.fancy_input.specs.LastLines.{KnowsLastLines};
 ghost use Rattle.fancy_engine.specs.Threads.{slot_from, slot_span, thread_of, stack_of};
 ghost use Rattle.fancy_engine.specs.Runner.{found_state, Stacked, Moved, AllWithin, Spends, Progresses, threads_after};
-ghost use Rattle.fancy_engine.specs.Attempt.{instrs_in, places_in, bits_in, left_in, ahead_in, KnownIn, AllFailedIn, first_accepted_in, SteppedIn, RunningIn, VisitedIn};
+ghost use Rattle.fancy_engine.specs.Attempt.{instrs_in, bits_in, left_in, ahead_in, marks_in, KnownIn, AllFailedIn, FailedPastIn, first_accepted_in, SteppedIn, RunningIn, VisitedIn};
 
 use crate::code::{Code, Instr};
 use crate::options::is_match_boundary;
@@ -47,8 +47,8 @@ pub struct Attempt<'a> {
     pub code: &'a Code,
     /// The haystack.
     pub haystack: &'a [u8],
-    /// The first position that is tried.
-    pub first: usize,
+    /// The first place that the table has marks for.
+    pub base: usize,
     /// Consumed text ends here at the latest.
     pub last: usize,
     /// Matches begin and end on character boundaries alone.
@@ -241,14 +241,14 @@ fn step(
 /// Whether a pair is to be followed: its instruction has no mark, or that was not made at this place. It is made then.
 fn is_new(attempt: &Attempt, pair: Pair, table: &mut Table) -> bool
     requires here { pair.at < code_len attempt.now.code.now }
-    requires low { attempt.now.first ≤ pair.place }
+    requires low { attempt.now.base ≤ pair.place }
     requires high { pair.place ≤ attempt.now.last }
     requires room { bits_in attempt.now ≤ length table.old }
     requires small { length table.old < 2 ^ 64 }
-    ensures seen { result ≡ false → marks_of attempt.now.code.now table.old pair.at (pair.place - attempt.now.first) ≡ true }
+    ensures seen { result ≡ false → marks_in attempt.now table.old pair.at pair.place ≡ true }
     ensures same { result ≡ false → table.new ≡ table.old }
     ensures adds { (q row : ℕ) → marks_of attempt.now.code.now table.new q row ≡ true
-        → (marks_of attempt.now.code.now table.old q row ≡ true) ⊎ ((q ≡ pair.at) × (row ≡ pair.place - attempt.now.first)) }
+        → (marks_of attempt.now.code.now table.old q row ≡ true) ⊎ ((q ≡ pair.at) × (row ≡ pair.place - attempt.now.base)) }
     ensures left { result ≡ true → left_in attempt.now table.new + weight_of attempt.now.code.now pair.at
         ≤ left_in attempt.now table.old + due_of attempt.now.code.now pair.at }
     ensures room { length table.new ≡ length table.old }
@@ -256,7 +256,7 @@ fn is_new(attempt: &Attempt, pair: Pair, table: &mut Table) -> bool
     let Some(number) = attempt.code.mark_number(pair.at) else {
         return true;
     };
-    table.mark((pair.place - attempt.first) * attempt.code.marks() + number)
+    table.mark((pair.place - attempt.base) * attempt.code.marks() + number)
 }
 
 /// Follows a pair, if it is new. A pair that was marked before has nothing to give, whatever the captures.
@@ -270,19 +270,21 @@ fn visit(
 ) -> Result<Next, AllocError>
     requires inside { attempt.now.last ≤ length attempt.now.haystack.now }
     requires easy { AreEasy (instrs_in attempt.now) }
-    requires within { AllWithin attempt.now.first attempt.now.last (thread_of pair.old threads.old.slots ∷ threads.old.saved) }
+    requires within { AllWithin attempt.now.base attempt.now.last (thread_of pair.old threads.old.slots ∷ threads.old.saved) }
     requires room { bits_in attempt.now ≤ length table.old }
     requires small { length table.old < 2 ^ 64 }
     requires last_lines { KnowsLastLines attempt.now.haystack.now last_lines.old }
-    ensures visited { IfOk result (λ next. (kept deep : ℕ) (goal : Option State)
-        → RunningIn attempt.now kept deep goal table.old (stack_of pair.old threads.old)
-        → VisitedIn attempt.now kept deep next goal table.new (stack_of pair.new threads.new)) }
+    ensures visited { IfOk result (λ next. (low kept deep : ℕ) (goal : Option State) → attempt.now.base ≤ low
+        → AllWithin low attempt.now.last (thread_of pair.old threads.old.slots ∷ threads.old.saved)
+        → RunningIn attempt.now low kept deep goal table.old (stack_of pair.old threads.old)
+        → VisitedIn attempt.now low kept deep next goal table.new (stack_of pair.new threads.new)) }
     ensures progress { IfOk result (λ next. Progresses next
         (ahead_in attempt.now table.old (thread_of pair.old threads.old.slots ∷ threads.old.saved))
         (ahead_in attempt.now table.new (threads_after next (thread_of pair.new threads.new.slots) threads.new.saved))
         (length threads.old.saved) (length threads.new.saved)) }
-    ensures within { IfOk result (λ _. AllWithin attempt.now.first attempt.now.last
-        (thread_of pair.new threads.new.slots ∷ threads.new.saved)) }
+    ensures within { IfOk result (λ _. (low : ℕ)
+        → AllWithin low attempt.now.last (thread_of pair.old threads.old.slots ∷ threads.old.saved)
+        → AllWithin low attempt.now.last (thread_of pair.new threads.new.slots ∷ threads.new.saved)) }
     ensures room { length table.new ≡ length table.old }
     ensures spent { IfOk result (λ next. steps_of work.new
         + ahead_in attempt.now table.new (threads_after next (thread_of pair.new threads.new.slots) threads.new.saved)
@@ -292,7 +294,7 @@ fn visit(
     ensures steps { steps_of work.old ≤ steps_of work.new }
     ensures returns { returns_of work.new ≡ returns_of work.old }
     ensures ticks { pair.old.at < code_len attempt.now.code.now
-        → marks_of attempt.now.code.now table.old pair.old.at (pair.old.place - attempt.now.first) ≡ false
+        → marks_in attempt.now table.old pair.old.at pair.old.place ≡ false
         → work.new ≡ stepped_within work.old }
     ensures tally { IfOk result (λ _. steps_of work.new < usize.MAX
         → length threads.new.saved + steps_of work.old ≤ length threads.old.saved + steps_of work.new) }
@@ -318,8 +320,9 @@ fn visit(
 }
 
 /// The place of the first accepted outcome of one attempt, which begins at `start`; its slots then stand in `threads`. The
-/// table is kept from the attempts before, of which none found anything. There are at most as many steps, also up to a
-/// refusal, as are due at the start and as the marks are worth that are made.
+/// table is kept from the attempts before: what they marked from the start's place on gives nothing. Where an outcome is
+/// found, what is marked past it gives nothing, whatever the groups, so that a later search can keep that. There are at most
+/// as many steps, also up to a refusal, as are due at the start and as the marks are worth that are made.
 pub fn follow(
     attempt: &Attempt,
     start: Pair,
@@ -330,17 +333,23 @@ pub fn follow(
 ) -> Result<Option<usize>, AllocError>
     requires inside { attempt.now.last ≤ length attempt.now.haystack.now }
     requires easy { AreEasy (instrs_in attempt.now) }
-    requires low { attempt.now.first ≤ start.place }
+    requires low { attempt.now.base ≤ start.place }
     requires high { start.place ≤ attempt.now.last }
     requires fresh { threads.old.saved ≡ [] }
     requires room { bits_in attempt.now ≤ length table.old }
     requires small { length table.old < 2 ^ 64 }
     requires last_lines { KnowsLastLines attempt.now.haystack.now last_lines.old }
     ensures answer { IfOk result (λ end. (kept deep : ℕ) → KnownIn attempt.now kept deep (stack_of start threads.old)
-        → AllFailedIn attempt.now deep table.old
+        → AllFailedIn attempt.now start.place deep table.old
         → found_state kept end threads.new.slots ≡ first_accepted_in attempt.now kept deep (stack_of start threads.old)) }
     ensures failed { IfOk result (λ end. (kept deep : ℕ) → KnownIn attempt.now kept deep (stack_of start threads.old)
-        → AllFailedIn attempt.now deep table.old → end ≡ None → AllFailedIn attempt.now deep table.new) }
+        → AllFailedIn attempt.now start.place deep table.old → end ≡ None
+        → AllFailedIn attempt.now start.place deep table.new) }
+    ensures past { IfOk result (λ end. IfSome end (λ place. (kept deep : ℕ)
+        → KnownIn attempt.now kept deep (stack_of start threads.old) → AllFailedIn attempt.now start.place deep table.old
+        → FailedPastIn attempt.now start.place deep place table.new)) }
+    ensures forth { IfOk result (λ end. IfSome end (λ place. start.place ≤ place)) }
+    ensures within { IfOk result (λ end. IfSome end (λ place. place ≤ attempt.now.last)) }
     ensures room { length table.new ≡ length table.old }
     ensures spent { IfOk result (λ _. steps_of work.new + left_in attempt.now table.new
         ≤ steps_of work.old + (due_of attempt.now.code.now start.at + left_in attempt.now table.old)) }

@@ -1,16 +1,17 @@
 //! Searches by the runner: their time is bounded by the product of the code's length and the text's.
 
-ghost use Rattle.std.specs.Prelude.{◌≡◌, ◌+◌, ◌-◌, ◌^◌, ◌<◌, ◌≤◌, Bool, false, [], length, replicate, slice_index_or, IfOk, IfErr, OnOk};
+ghost use Rattle.std.specs.Prelude.{◌≡◌, ◌+◌, ◌-◌, ◌^◌, ◌<◌, ◌≤◌, ℕ, Bool, true, false, [], None, length, replicate, slice_index_or, IfOk, IfErr, IfSome, OnOk};
 ghost use Rattle.fancy_tree.specs.Pattern.{Pattern};
-ghost use Rattle.fancy_engine.specs.Code.{instrs_of};
-ghost use Rattle.fancy_engine.specs.Attempt.{bits_in};
+ghost use Rattle.fancy_engine.specs.Code.{instrs_of, code_len, worth_of};
+ghost use Rattle.fancy_engine.specs.Attempt.{bits_in, left_in, AllFailedIn};
+ghost use Rattle.fancy_engine.specs.KeptTable.{IsKept, table_in, table_base, steps_ahead, steps_before};
 ghost use Rattle.fancy_engine.specs.Compile.{IsCodeOf, AreEasy};
 ghost use Rattle.fancy_engine.specs.Search.{search};
 ghost use Rattle.fancy_input.specs.Requests.{effective_start};
 ghost use Rattle.fancy_bytes.specs.Openings.{NoneStandsBefore};
 ghost use Rattle.fancy_engine.specs.Seen.{IsNextCandidate, IsNextOpening, NoneMayStart};
 ghost use Rattle.fancy_engine.specs.Queries.{query_of, unfiltered, groups_in, answer_with, most_steps};
-ghost use Rattle.fancy_engine.specs.Work.{steps_of, returns_of, HasRoom};
+ghost use Rattle.fancy_engine.specs.Work.{steps_of, returns_of};
 
 use crate::code::Code;
 use crate::found::Found;
@@ -54,19 +55,49 @@ impl Cache {
     }
 }
 
-/// Begins the table anew, with the marks of each place that is searched. Where so many are no `usize`, memory is refused.
+/// Begins the table anew, with the marks of each place from its base on. Where so many are no `usize`, memory is refused.
 fn begin_table(table: &mut Table, attempt: &Attempt) -> Result<(), SearchRefusal>
-    requires ordered { attempt.now.first ≤ attempt.now.last }
+    requires ordered { attempt.now.base ≤ attempt.now.last }
     requires small { attempt.now.last < usize.MAX }
     ensures clear { OnOk result (table.new ≡ replicate (bits_in attempt.now) false) }
     ensures small { OnOk result (bits_in attempt.now < 2 ^ 64) }
     ensures refused { IfErr result (λ e. e ≡ SearchRefusal.Memory) }
 {
-    let places = attempt.last - attempt.first + 1;
+    let places = attempt.last - attempt.base + 1;
     let Some(bits) = places.checked_mul(attempt.code.marks()) else {
         return Err(SearchRefusal::Memory);
     };
     table.reset(bits)?;
+    Ok(())
+}
+
+/// Makes the table ready for a search that starts at `first`: one that is kept loses the marks of that place, which lie on the way to
+/// the match before, and else the table begins anew.
+fn ready_table(
+    table: &mut Table,
+    attempt: &Attempt,
+    first: usize,
+    is_kept: bool,
+) -> Result<(), SearchRefusal>
+    requires begins { attempt.now.base ≤ first }
+    requires ordered { first ≤ attempt.now.last }
+    requires small { attempt.now.last < usize.MAX }
+    requires room { is_kept ≡ true → length table.old ≡ bits_in attempt.now }
+    requires short { is_kept ≡ true → length table.old < 2 ^ 64 }
+    ensures failed { OnOk result ((deep : ℕ) → (is_kept ≡ true → AllFailedIn attempt.now (first + 1) deep table.old)
+        → AllFailedIn attempt.now first deep table.new) }
+    ensures left { is_kept ≡ true
+        → OnOk result (left_in attempt.now table.new ≤ left_in attempt.now table.old + worth_of attempt.now.code.now) }
+    ensures room { OnOk result (length table.new ≡ bits_in attempt.now) }
+    ensures small { OnOk result (length table.new < 2 ^ 64) }
+    ensures refused { IfErr result (λ e. e ≡ SearchRefusal.Memory) }
+{
+    if !is_kept {
+        begin_table(table, attempt)?;
+        return Ok(());
+    }
+    let marks = attempt.code.marks();
+    table.clear((first - attempt.base) * marks, marks);
     Ok(())
 }
 
@@ -157,6 +188,12 @@ fn literal_from(
 /// same with it on and off. Of the options `on_boundaries` and `overrides` are heeded: what is found is the first
 /// match and may be empty, and returns have no limit.
 ///
+/// Without `kept` the table in `cache` begins anew, at the effective start. In a list of searches of one haystack by one code
+/// up to one end, each of which starts at the end of the match before or later, `kept` is where the table begins that the
+/// first of them began, as a byte offset. What they marked past the end of the last match is not followed again, since it
+/// fails whatever the groups are. All searches of a list together then take no more steps than one alone may take, and the
+/// code's length for each of them.
+///
 /// What is done is added to the counts of `work`, after a refusal what was done up to it. They never begin anew here. No
 /// step is taken where no match may start at any position.
 ///
@@ -168,18 +205,27 @@ pub fn search(
     haystack: &[u8],
     request: Request,
     options: SearchOptions,
+    kept: Option<usize>,
     cache: &mut Cache,
     work: &mut Work,
 ) -> Result<Option<Found>, SearchRefusal>
     requires inside { request.range_end ≤ length haystack.now }
     requires easy { AreEasy (instrs_of code.now) }
-    requires room { HasRoom (steps_of work.old) (most_steps code.now request) }
-    requires paired { returns_of work.old ≤ steps_of work.old }
+    requires kept { IfSome kept (λ base. IsKept code.now haystack.now request options
+        base (effective_start request) (table_in cache.old)) }
     ensures answer { IfOk result (λ found. (p : Pattern) (on : Bool) → IsCodeOf p code.now
         → answer_with (groups_in cache.new) found
         ≡ search (query_of p code.now (unfiltered options) haystack.now request on)) }
+    ensures kept { IfOk result (λ found. IfSome found (λ f. IsKept code.now haystack.now request options
+        (table_base kept request) f.end (table_in cache.new))) }
+    ensures ordered { IfOk result (λ found. IfSome found (λ f. effective_start request ≤ f.end)) }
     ensures steps { steps_of work.old ≤ steps_of work.new }
-    ensures bounded { steps_of work.new ≤ steps_of work.old + most_steps code.now request }
+    ensures fresh { kept ≡ None → steps_of work.new ≤ steps_of work.old + most_steps code.now request }
+    ensures bounded { steps_of work.new
+        ≤ steps_of work.old + (steps_before kept code.now request (table_in cache.old) + code_len code.now) }
+    ensures spent { IfOk result (λ found. IfSome found (λ f. steps_of work.new
+        + steps_ahead code.now request (table_base kept request) f.end (table_in cache.new)
+        ≤ steps_of work.old + (steps_before kept code.now request (table_in cache.old) + code_len code.now))) }
     ensures idle { NoneMayStart code.now.start_bytes haystack.now request.range_end
         (effective_start request) (request.range_end + 1)
         → steps_of work.new ≡ steps_of work.old }
@@ -196,17 +242,18 @@ pub fn search(
     if place > last {
         return Ok(None);
     }
+    let base = kept.unwrap_or(first);
     let attempt = Attempt {
         code,
         haystack,
-        first,
+        base,
         last: request.range_end,
         on_boundaries: options.on_boundaries,
         suppressed: options.suppressed_ends(request),
     };
     let threads = &mut cache.threads;
     let table = &mut cache.table;
-    begin_table(table, &attempt)?;
+    ready_table(table, &attempt, first, kept.is_some())?;
     let mut last_lines = LastLines::new(haystack);
     while place <= last {
         if is_match_boundary(options.on_boundaries, haystack, place) {

@@ -1,7 +1,7 @@
 //! The table of visited pairs.
 
 ghost use Rattle.std.specs.Prelude.{◌≡◌, ◌+◌, ◌-◌, ◌*◌, ◌<◌, ◌≤◌, ◌^◌, ◌++◌, [], List, Bool, true, false, not, length, replicate, OnOk, IfOk, slice_index_or, slice_set, vec_len, vec_capacity};
-ghost use Rattle.fancy_engine.specs.Table.{bits_of};
+ghost use Rattle.fancy_engine.specs.Table.{bits_of, IsCleared};
 
 use std::alloc::{AllocError, Global};
 use std::marker::Model;
@@ -66,5 +66,28 @@ impl Table {
         let bit = 1u64 << (n % 64);
         self.words[n / 64] = word | bit;
         word & bit == 0
+    }
+
+    /// Takes the mark of a pair away, if it has one. It takes no memory.
+    fn unmark(&mut self, n: usize)
+        requires { n < length self.old }
+        ensures { self.new ≡ slice_set self.old n false }
+    {
+        let at = n / 64;
+        if at < self.words.len() {
+            let word = self.words[at];
+            self.words[at] = word & !(1u64 << (n % 64));
+        }
+    }
+
+    /// Takes the marks of so many pairs away, from the one with this number on. It takes no memory.
+    pub fn clear(&mut self, from: usize, count: usize)
+        requires within { from + count ≤ length self.old }
+        requires small { length self.old < 2 ^ 64 }
+        ensures { IsCleared self.old self.new from count }
+    {
+        'pairs: for k in 0..count {
+            self.unmark(from + k);
+        }
     }
 }

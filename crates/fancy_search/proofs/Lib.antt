@@ -10,3 +10,4 @@ pub mod RemainingLemmas
 pub mod IterationStepLemmas
 pub mod SpelledLemmas
 pub mod StartLemmas
+pub mod KeptTablesLemmas

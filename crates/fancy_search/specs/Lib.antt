@@ -13,3 +13,4 @@ pub mod Remaining
 pub mod Searchers
 pub mod ByteSets
 pub mod Starts
+pub mod KeptTables

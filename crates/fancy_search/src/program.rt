@@ -1,6 +1,7 @@
 //! A compiled pattern: the code that is searched with, and what decides how.
 
-ghost use Rattle.std.specs.Prelude.{◌≡◌, ◌≤◌, ◌+◌, ◌*◌, Bool, None, IfOk, IfErr, IsTrue, chars, true, false, length, string_bytes};
+ghost use Rattle.std.specs.Prelude.{◌≡◌, ◌≤◌, ◌+◌, ◌*◌, Bool, None, Some, IfOk, IfErr, IfSome, IsTrue, chars, true, false, length, string_bytes};
+ghost use Rattle.std.specs.Option.{unwrap_or};
 ghost use Rattle.fancy_tree.specs.Pattern.{Pattern};
 ghost use Rattle.fancy_tree.specs.Names.{named_groups};
 ghost use Rattle.fancy_tree.specs.Modes.{keeps_characters};
@@ -10,6 +11,7 @@ ghost use Rattle.fancy_input.specs.Requests.{effective_start};
 ghost use Rattle.fancy_engine.specs.Code.{code_len, instrs_of};
 ghost use Rattle.fancy_engine.specs.Compile.{is_easy, are_easy};
 ghost use Rattle.fancy_engine.specs.Placed.{has_raw_byte, has_keep_start_in_look_around};
+ghost use Rattle.fancy_engine.specs.KeptTable.{table_base};
 ghost use Rattle.fancy_engine.specs.Work.{steps_of, returns_of};
 ghost use Rattle.fancy_engine.specs.Tried.{NoneTried};
 ghost use Rattle.fancy_engine.specs.Search.{search};
@@ -65,6 +67,7 @@ impl Program {
     ghost use Rattle.fancy_search.specs.SearchCounts.{Counted, CountedUpTo, TriesNothing, is_hopeless, IfFound, IsHardProgram, RefusesQuery, AllowsQuery, RefusesAttempt, AllowsAttempt, HasRoomFor, IsStopped, AddsReturns, AddsReturnsUpTo, step_bound, returns_taken};
     ghost use Rattle.fancy_search.specs.Programs.{KeepsCharacters, program_pattern, program_options, program_groups, program_names, program_length, program_is_easy, program_limit, asked_of};
     ghost use Rattle.fancy_search.specs.Starts.{may_start};
+    ghost use Rattle.fancy_search.specs.KeptTables.{KeepsTable};
 
     /// Reads a pattern under these options, and compiles it.
     ///
@@ -196,13 +199,73 @@ impl Program {
         ensures refused { IfErr result (RefusesQuery self.now (asked_of self.now haystack.now request continues)) }
         ensures allowed { IfOk result (λ _. AllowsQuery self.now (asked_of self.now haystack.now request continues)) }
     {
+        self.search_next(haystack, request, continues, None, standing, cache, work)
+    }
+
+    /// A search of a list, as [`Program::search`] is a search alone: of one haystack up to one end, each from the end of the match
+    /// before, or later.
+    ///
+    /// `kept` is where the table begins that searches before left in `cache`, as a byte offset. For an easy pattern what they
+    /// marked is not followed again. Without it no search before is heeded.
+    pub fn search_next(
+        &self,
+        haystack: &[u8],
+        request: Request,
+        continues: bool,
+        kept: Option<usize>,
+        standing: &mut ByteSet,
+        cache: &mut Cache,
+        work: &mut Work,
+    ) -> Result<Option<Found>>
+        requires inside { request.range_end ≤ length haystack.now }
+        requires room { HasRoomFor self.now request work.old }
+        requires standing { AllStand standing.old haystack.now }
+        requires kept { IfSome kept
+            (λ base. KeepsTable self.now haystack.now request base (effective_start request) cache.old) }
+        ensures standing { AllStand standing.new haystack.now }
+        ensures answer { IfOk result (λ m. IsAnswerIn m cache.new (asked_of self.now haystack.now request continues)) }
+        ensures ordered { IfFound result (λ f. f.start ≤ f.end) }
+        ensures inside { IfFound result (λ f. f.end ≤ request.range_end) }
+        ensures cleanly { KeepsCharacters self.now → IfFound result (IsCleanlyFound haystack.now) }
+        ensures steps { steps_of work.old ≤ steps_of work.new }
+        ensures idle { TriesNothing self.now (asked_of self.now haystack.now request continues)
+            → steps_of work.new ≡ steps_of work.old }
+        ensures none { TriesNothing self.now (asked_of self.now haystack.now request continues)
+            → IfOk result (λ m. m ≡ None) }
+        ensures kept { program_is_easy self.now ≡ true → IfFound result
+            (λ f. KeepsTable self.now haystack.now request (table_base kept request) f.end cache.new) }
+        ensures fresh { program_is_easy self.now ≡ true → kept ≡ None
+            → steps_of work.new ≤ steps_of work.old + step_bound self.now request }
+        ensures returns { returns_of work.old ≤ returns_of work.new }
+        ensures paired { returns_of work.new ≤ steps_of work.new }
+        ensures counted { Counted self.now (asked_of self.now haystack.now request continues) result work.old work.new }
+        ensures stopped { IsHardProgram self.now → IsStopped result
+            → AddsReturns work.old (program_limit self.now) work.new }
+        ensures fits { IsHardProgram self.now → AddsReturnsUpTo work.old (program_limit self.now) work.new }
+        ensures most { CountedUpTo self.now (asked_of self.now haystack.now request continues) work.old work.new }
+        ensures refused { IfErr result (RefusesQuery self.now (asked_of self.now haystack.now request continues)) }
+        ensures allowed { IfOk result (λ _. AllowsQuery self.now (asked_of self.now haystack.now request continues)) }
+    {
         if self.is_hopeless(haystack, request, standing) {
             return Ok(None);
         }
         if self.easy {
-            return self.run(haystack, request, cache, work);
+            return self.run(haystack, request, kept, cache, work);
         }
         self.backtrack(haystack, request, continues, cache, work)
+    }
+
+    /// Where the table begins that a search of a list leaves for the next one, if it does: where the one begins that it kept, or
+    /// at the effective start from which it searched.
+    pub(crate) fn keeps_from(&self, kept: Option<usize>, from: usize) -> Option<usize>
+        ensures easy { program_is_easy self.now ≡ true → result ≡ Some (unwrap_or kept from) }
+        ensures hard { program_is_easy self.now ≡ false → result ≡ None }
+    {
+        if self.easy {
+            Some(kept.unwrap_or(from))
+        } else {
+            None
+        }
     }
 
     /// Whether a byte that the pattern requires was looked for, and does not stand in the haystack: then nothing is found. The bytes
@@ -269,27 +332,32 @@ impl Program {
                 anchored: true,
                 ..request
             };
-            return self.run(haystack, from_position, cache, work);
+            return self.run(haystack, from_position, None, cache, work);
         }
         self.backtrack_at(haystack, request, position, cache, work)
     }
 
-    /// The search for an easy pattern, by the memoised runner. It has no `\G`.
+    /// The search for an easy pattern, by the memoised runner. It has no `\G`. `kept` is where a table begins that searches before left.
     fn run(
         &self,
         haystack: &[u8],
         request: Request,
+        kept: Option<usize>,
         cache: &mut Cache,
         work: &mut Work,
     ) -> Result<Option<Found>>
         requires inside { request.range_end ≤ length haystack.now }
         requires easy { program_is_easy self.now ≡ true }
         requires room { HasRoomFor self.now request work.old }
+        requires kept { IfSome kept
+            (λ base. KeepsTable self.now haystack.now request base (effective_start request) cache.old) }
         ensures answer { IfOk result (λ m. (on : Bool) → IsAnswerIn m cache.new (asked_of self.now haystack.now request on)) }
         ensures steps { steps_of work.old ≤ steps_of work.new }
         ensures idle { (on : Bool) → NoneTried (program_options self.now).seek (asked_of self.now haystack.now request on)
             → steps_of work.new ≡ steps_of work.old }
-        ensures bounded { steps_of work.new ≤ steps_of work.old + step_bound self.now request }
+        ensures kept { IfOk result (λ m. IfSome m
+            (λ f. KeepsTable self.now haystack.now request (table_base kept request) f.end cache.new)) }
+        ensures fresh { kept ≡ None → steps_of work.new ≤ steps_of work.old + step_bound self.now request }
         ensures returns { returns_of work.old ≤ returns_of work.new }
         ensures paired { returns_of work.new ≤ steps_of work.new }
         ensures refused { IfErr result (λ e. e ≡ Error.Memory) }
@@ -297,7 +365,7 @@ impl Program {
         cache.served = Engine::Runner;
         let runner = &mut cache.runner;
         let options = self.options.for_search();
-        match runner::search(&self.code, haystack, request, options, runner, work) {
+        match runner::search(&self.code, haystack, request, options, kept, runner, work) {
             Ok(found) => Ok(found),
             Err(_) => Err(Error::Memory),
         }

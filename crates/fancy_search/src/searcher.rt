@@ -1,8 +1,9 @@
 //! Where an iteration over matches stands, and its next match.
 
-ghost use Rattle.std.specs.Prelude.{◌≡◌, ◌≤◌, ◌<◌, ◌+◌, ◌^◌, ◌&&◌, not, nat_eq, true, false, option_map, length, IsTrue, IfOk, IfErr, IfSome, IfNone, MatchOption, ⊤};
+ghost use Rattle.std.specs.Prelude.{◌≡◌, ◌≤◌, ◌<◌, ◌+◌, ◌^◌, ◌&&◌, not, nat_eq, true, false, None, option_map, length, IsTrue, IfOk, IfErr, IfSome, IfNone, MatchOption, ⊤};
 ghost use Rattle.fancy_input.specs.Inputs.{haystack_in, request_in};
 ghost use Rattle.fancy_input.specs.Places.{is_boundary};
+ghost use Rattle.fancy_input.specs.Requests.{effective_start};
 ghost use Rattle.fancy_search.specs.Programs.{program_options};
 ghost use Rattle.fancy_bytes.specs.Lacks.{AllStand};
 ghost use Rattle.fancy_search.specs.Searching.{Suits};
@@ -42,6 +43,8 @@ pub struct Searcher<S: Haystack> {
     // whether an empty match at the start is passed over
     skips_empty: bool,
     ended: bool,
+    // where the table begins that the searches before left in the cache, if it can be kept
+    kept: Option<usize>,
     // bytes that were looked for in the haystack, and found
     standing: ByteSet,
     pub ghost ordered: { request.range_start ≤ request.range_end },
@@ -51,6 +54,7 @@ pub struct Searcher<S: Haystack> {
 }
 
 impl<S: Input> Searcher<S> {
+    ghost use Rattle.fancy_search.specs.KeptTables.{KeepsFrom, Keeps};
     ghost use Rattle.fancy_search.specs.Searchers.{IsCutOut, HasGroupsOf, GivesItem, KeepsEnd, answer_next, item_next, start_next, end_of_items, place_after, start_after, RefusesAnswer, RefusesItem};
 
     /// The iteration of `input`.
@@ -60,6 +64,7 @@ impl<S: Input> Searcher<S> {
         ensures continues { result.continues ≡ true }
         ensures skips_empty { result.skips_empty ≡ false }
         ensures ended { result.ended ≡ false }
+        ensures kept { result.kept ≡ None }
     {
         let haystack = input.haystack();
         // a slice is shorter than 2^63 bytes
@@ -70,6 +75,7 @@ impl<S: Input> Searcher<S> {
             continues: true,
             skips_empty: false,
             ended: false,
+            kept: None,
             standing: ByteSet::new(),
         }
     }
@@ -103,6 +109,7 @@ impl<S: Input> Searcher<S> {
         ensures continues { self.new.continues ≡ continues }
         ensures skips_empty { self.new.skips_empty ≡ skips_empty }
         ensures ended { self.new.ended ≡ self.old.ended }
+        ensures kept { self.new.kept ≡ self.old.kept }
     {
         self.request.start = start;
         self.continues = continues;
@@ -118,6 +125,7 @@ impl<S: Input> Searcher<S> {
         ensures continues { self.new.continues ≡ continues }
         ensures skips_empty { self.new.skips_empty ≡ false }
         ensures ended { self.new.ended ≡ self.old.ended }
+        ensures kept { self.new.kept ≡ self.old.kept }
         ensures later { end < self.new.request.start }
     {
         let next = self.haystack.advance_position(end);
@@ -132,6 +140,7 @@ impl<S: Input> Searcher<S> {
         ensures continues { self.new.continues ≡ not (nat_eq item.found.start item.found.end && nat_eq item.from item.found.end) }
         ensures skips_empty { self.new.skips_empty ≡ not (nat_eq item.found.start item.found.end) }
         ensures ended { self.new.ended ≡ self.old.ended }
+        ensures kept { self.new.kept ≡ self.old.kept }
         ensures moved { item.found.end ≤ self.new.request.start }
         ensures stands { self.new.request.start ≡ start_after S.text S.bytes self.old item }
     {
@@ -147,10 +156,12 @@ impl<S: Input> Searcher<S> {
     #[tactic(auto, unfolding(crate::specs::MatchList::answer))]
     fn answer(&mut self, program: &Program, cache: &mut Cache) -> Result<Option<FoundItem>>
         requires suits { Suits (program_options program.now) (S.text self.old.haystack) (S.bytes self.old.haystack) }
+        requires kept { KeepsFrom S.bytes program.now self.old cache.old (effective_start self.old.request) }
         ensures value { IfOk result (λ o. option_map (item_in cache.new) o ≡ answer_next S.text S.bytes program.now self.old) }
         ensures placed { IfOk result (λ o. IfSome o (λ i. IsCutOut S.text S.bytes self.old i)) }
         ensures after { IfOk result (λ o. IfSome o (λ i. self.old.request.start ≤ i.found.start)) }
         ensures groups { IfOk result (λ o. IfSome o (λ i. HasGroupsOf S.text S.bytes self.old i cache.new)) }
+        ensures kept { IfOk result (λ o. IfSome o (λ i. KeepsFrom S.bytes program.now self.new cache.new i.found.end)) }
         ensures haystack { self.new.haystack ≡ self.old.haystack }
         ensures request { self.new.request ≡ self.old.request }
         ensures continues { self.new.continues ≡ self.old.continues }
@@ -161,10 +172,11 @@ impl<S: Input> Searcher<S> {
         let from = self.request.effective_start();
         let mut work = Work::new();
         let bytes = self.haystack.as_bytes();
-        let found = program.search(
+        let found = program.search_next(
             bytes,
             self.request,
             self.continues,
+            self.kept,
             &mut self.standing,
             cache,
             &mut work,
@@ -172,6 +184,7 @@ impl<S: Input> Searcher<S> {
         let Some(found) = found else {
             return Ok(None);
         };
+        self.kept = program.keeps_from(self.kept, from);
         Ok(Some(FoundItem {
             found,
             from,
@@ -184,11 +197,13 @@ impl<S: Input> Searcher<S> {
     fn upcoming(&mut self, program: &Program, cache: &mut Cache) -> Result<Option<FoundItem>>
         requires open { self.old.ended ≡ false }
         requires suits { Suits (program_options program.now) (S.text self.old.haystack) (S.bytes self.old.haystack) }
+        requires kept { KeepsFrom S.bytes program.now self.old cache.old (effective_start self.old.request) }
         ensures value { IfOk result (λ o. option_map (item_in cache.new) o ≡ item_next S.text S.bytes program.now self.old) }
         ensures start { IfOk result (λ _. self.new.request.start ≡ start_next S.text S.bytes program.now self.old) }
         ensures placed { IfOk result (λ o. IfSome o (λ i. IsCutOut S.text S.bytes self.old i)) }
         ensures after { IfOk result (λ o. IfSome o (λ i. self.old.request.start ≤ i.found.start)) }
         ensures groups { IfOk result (λ o. IfSome o (λ i. HasGroupsOf S.text S.bytes self.old i cache.new)) }
+        ensures kept { IfOk result (λ o. IfSome o (λ i. KeepsFrom S.bytes program.now self.new cache.new i.found.end)) }
         ensures haystack { self.new.haystack ≡ self.old.haystack }
         ensures request { self.new.request ≡ record self.old.request { start = self.new.request.start } }
         ensures ended { self.new.ended ≡ false }
@@ -210,6 +225,8 @@ impl<S: Input> Searcher<S> {
     #[tactic(auto, using(crate::proofs::ScanLemmas::scan_sound, crate::proofs::RemainingLemmas::next_left, crate::proofs::RemainingLemmas::none_left, crate::proofs::RemainingLemmas::none_end))]
     pub fn next_item(&mut self, program: &Program, cache: &mut Cache) -> Option<Result<FoundItem>>
         requires suits { Suits (program_options program.now) (S.text self.old.haystack) (S.bytes self.old.haystack) }
+        requires kept { Keeps S.bytes program.now self.old cache.old }
+        ensures kept { Keeps S.bytes program.now self.new cache.new }
         ensures steps { GivesItem S.text S.bytes program.now cache.new self.old result self.new }
         ensures keeps_end { IfItem result (λ _. KeepsEnd S.text S.bytes program.now self.old self.new) }
         ensures rests { IfNone result (self.new.request.start ≡ end_of_items S.text S.bytes program.now self.old) }

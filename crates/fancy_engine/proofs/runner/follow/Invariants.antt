@@ -9,9 +9,9 @@ use Rattle.fancy_engine.proofs.runner.follow.Given as goal
 
 abbrev pub invariant-pairs : goal.invariant-pairs
 invariant-pairs l = record {
-  running : (kept deep : ℕ) → KnownIn l.attempt kept deep (stack_of l.fn.start l.fn.threads) → AllFailedIn l.attempt deep l.fn.table
-      → RunningIn l.attempt kept deep (first_accepted_in l.attempt kept deep (stack_of l.fn.start l.fn.threads)) l.table (stack_of l.pair l.threads);
-  within : AllWithin l.attempt.first l.attempt.last (thread_of l.pair l.threads.slots ∷ l.threads.saved);
+  running : (kept deep : ℕ) → KnownIn l.attempt kept deep (stack_of l.fn.start l.fn.threads) → AllFailedIn l.attempt l.fn.start.place deep l.fn.table
+      → RunningIn l.attempt l.fn.start.place kept deep (first_accepted_in l.attempt kept deep (stack_of l.fn.start l.fn.threads)) l.table (stack_of l.pair l.threads);
+  within : AllWithin l.fn.start.place l.attempt.last (thread_of l.pair l.threads.slots ∷ l.threads.saved);
   room : length l.table ≡ length l.fn.table;
   spent : steps_of l.work + ahead_in l.attempt l.table (thread_of l.pair l.threads.slots ∷ l.threads.saved)
       ≤ steps_of l.fn.work + (due_of l.attempt.code.now l.fn.start.at + left_in l.attempt l.fn.table);

@@ -9,13 +9,13 @@ returns-clause-adds c =
     let marking = c.args.attempt.now.code.now.marking in
     let has : number_of c.args.attempt.now.code.now c.args.pair.at ≡ Some c.in-Some.number = sym c.mark_number.ensures ∙ c.in-Some.is in
     rw (c.mark.ensures.after, c.marks.ensures)
-    (marks_new marking.numbers.items marking.weights.items marking.width c.args.table.now c.args.pair.at c.in-Some.number (c.args.pair.place - c.args.attempt.now.first) has marking.numbered.below marking.numbered.apart)
+    (marks_new marking.numbers.items marking.weights.items marking.width c.args.table.now c.args.pair.at c.in-Some.number (c.args.pair.place - c.args.attempt.now.base) has marking.numbered.below marking.numbered.apart)
 
 pub returns-clause-left : goal.returns-clause-left
 returns-clause-left c new =
     let marking = c.args.attempt.now.code.now.marking in
-    let row : ℕ = c.args.pair.place - c.args.attempt.now.first in
-    let rows : ℕ = c.args.attempt.now.last - c.args.attempt.now.first + 1 in
+    let row : ℕ = c.args.pair.place - c.args.attempt.now.base in
+    let rows : ℕ = c.args.attempt.now.last - c.args.attempt.now.base + 1 in
     let has : number_of c.args.attempt.now.code.now c.args.pair.at ≡ Some c.in-Some.number = sym c.mark_number.ensures ∙ c.in-Some.is in
     let row_in : row < rows = omega (arith, c.requires.low, c.requires.high) in
     rw (c.mark.ensures.after, c.marks.ensures)
@@ -28,8 +28,8 @@ returns-clause-left c new =
 pub mark-requires : goal.mark-requires
 mark-requires c =
     let marking = c.args.attempt.now.code.now.marking in
-    let row : ℕ = c.args.pair.place - c.args.attempt.now.first in
-    let rows : ℕ = c.args.attempt.now.last - c.args.attempt.now.first + 1 in
+    let row : ℕ = c.args.pair.place - c.args.attempt.now.base in
+    let rows : ℕ = c.args.attempt.now.last - c.args.attempt.now.base + 1 in
     let has : number_of c.args.attempt.now.code.now c.args.pair.at ≡ Some c.in-Some.number = sym c.mark_number.ensures ∙ c.in-Some.is in
     let row_in : row < rows = omega (arith, c.requires.low, c.requires.high) in
     rw c.marks.ensures (bit_inside row rows c.in-Some.number marking.width _ row_in (marking.numbered.below _ _ has) c.requires.room)

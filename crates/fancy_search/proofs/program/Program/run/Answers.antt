@@ -18,3 +18,9 @@ returns-in-Ok-clause-idle c on none = nowhere c.args.self.now c.args.haystack.no
 
 pub returns-in-Err-clause-idle : goal.returns-in-Err-clause-idle
 returns-in-Err-clause-idle c on none = nowhere c.args.self.now c.args.haystack.now c.args.request on _ _ (λ k. omega (arith, c.type_inv.haystack k)) none c.search.ensures.idle
+
+pub returns-in-Ok-clause-paired : goal.returns-in-Ok-clause-paired
+returns-in-Ok-clause-paired c = omega (arith, c.search.ensures.paired, c.search.ensures.steps, c.search.ensures.returns, c.requires.room.2)
+
+pub returns-in-Err-clause-paired : goal.returns-in-Err-clause-paired
+returns-in-Err-clause-paired c = omega (arith, c.search.ensures.paired, c.search.ensures.steps, c.search.ensures.returns, c.requires.room.2)

@@ -3,7 +3,7 @@ use Rattle.fancy_search.specs.Cached.{cached_groups}
 use Rattle.fancy_search.specs.Programs.{asked_of}
 use Rattle.fancy_search.proofs.ResultLemmas.{if_ok}
 use Rattle.fancy_search.proofs.SearchedLemmas.{none_tried, none_tried_in, no_returns, ordered_found, inside_found, clean_found}
-use Rattle.fancy_search.proofs.program.Program.search.Goals as goal
+use Rattle.fancy_search.proofs.program.Program.search_next.Goals as goal
 
 pub returns-then-self-clause-answer : goal.returns-then-self-clause-answer
 returns-then-self-clause-answer c = if_ok _ _ (λ m e. e c.args.continues) c.run.result c.run.ensures.answer

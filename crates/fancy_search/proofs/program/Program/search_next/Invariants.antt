@@ -1,5 +1,5 @@
 use Rattle.fancy_search.specs.Programs.{program_pattern}
-use Rattle.fancy_search.proofs.program.Program.search.Given as goal
+use Rattle.fancy_search.proofs.program.Program.search_next.Given as goal
 
 abbrev pub ghost-backtrack : goal.ghost-backtrack
 ghost-backtrack a = program_pattern a.self.now
