@@ -48,7 +48,7 @@ fn is_within(regex: &Regex, work: &Work, length: usize) -> bool {
 
 /// The first match from the byte offset of the line on, by the calls that take an input, with its counts.
 fn find_from<W: io::Write>(regex: &Regex, asked: Asked<'_>, out: &mut W) {
-    let input = asked.input();
+    let input = RegexInput::new(asked.text).from_pos(asked.number);
     if !regex.can_search(&input) {
         return cannot(out);
     }
@@ -62,7 +62,7 @@ fn find_from<W: io::Write>(regex: &Regex, asked: Asked<'_>, out: &mut W) {
 
 /// The groups of the first match in the whole text, and of the first from the byte offset of the line on.
 fn capture<W: io::Write>(regex: &Regex, asked: Asked<'_>, out: &mut W) {
-    let input = asked.input();
+    let input = RegexInput::new(asked.text).from_pos(asked.number);
     if !regex.can_search(&input) {
         return cannot(out);
     }

@@ -19,7 +19,7 @@ pub fn groups_found(
 ) -> std::result::Result<Vec<Option<Span>>, AllocError>
     ensures { IfOk result (λ slots. slots.items ≡ spans_of count (found_at found cache.now)) }
 {
-    let mut slots = Vec::new(alloc);
+    let mut slots = Vec::with_capacity(alloc, count)?;
     for number in 0..count {
         slots.push(group_found(number, found, cache))?;
     }

@@ -139,7 +139,7 @@ pub fn includes(text: &str, mark: char) -> bool
 fn with_doubled(alloc: Global, text: &str, mark: char) -> std::result::Result<String, AllocError>
     ensures { IfOk result (λ s. string_bytes s ≡ encode_utf8_all (escaped_template mark (chars text.now))) }
 {
-    let mut doubled = String::new(alloc);
+    let mut doubled = String::with_capacity(alloc, text.len())?;
     for c in text.chars() {
         push_doubled(&mut doubled, c, mark)?;
     }
