@@ -27,34 +27,12 @@ pub fn required_bytes(tree: &Tree, meaning: Meaning) -> ByteSet
         Tree::Character(c) => bytes_of_character(*c, meaning),
         Tree::Member(set) => bytes_of_one(set.edges(), meaning),
         Tree::InAnyCase(set) => bytes_of_all(set.edges(), meaning),
-        Tree::RawByte(byte) => {
-            let mut set = ByteSet::new();
-            set.insert(*byte);
-            set
-        }
+        Tree::RawByte(byte) => byte_alone(*byte),
         Tree::Group { body, .. } => required_bytes(body, meaning),
         Tree::Atomic(body) => required_bytes(body, meaning),
-        Tree::Repeat { low, body, .. } => {
-            if *low >= 1 {
-                required_bytes(body, meaning)
-            } else {
-                ByteSet::new()
-            }
-        }
-        Tree::LookAhead { negated, body } => {
-            if *negated {
-                ByteSet::new()
-            } else {
-                required_bytes(body, meaning)
-            }
-        }
-        Tree::LookBehind { negated, body } => {
-            if *negated {
-                ByteSet::new()
-            } else {
-                required_bytes(body, meaning)
-            }
-        }
+        Tree::Repeat { low, body, .. } => required_where(*low >= 1, body, meaning),
+        Tree::LookAhead { negated, body } => required_where(!*negated, body, meaning),
+        Tree::LookBehind { negated, body } => required_where(!*negated, body, meaning),
         Tree::Conditional {
             condition,
             on_match,
@@ -72,6 +50,18 @@ pub fn required_bytes(tree: &Tree, meaning: Meaning) -> ByteSet
         }
         Tree::Concat(parts) => required_in_row(parts, meaning),
         Tree::Alternation(branches) => required_in_each(branches, meaning),
+    }
+}
+
+/// What the pattern requires where it has to hold, and else nothing.
+#[cycle(required)]
+fn required_where(holds: bool, tree: &Tree, meaning: Meaning) -> ByteSet
+    ensures { IsSetOf (λ b. holds && required_bytes meaning (pattern_of tree.now) b) result }
+{
+    if holds {
+        required_bytes(tree, meaning)
+    } else {
+        ByteSet::new()
     }
 }
 
@@ -100,6 +90,15 @@ fn required_in_each(trees: &[Tree], meaning: Meaning) -> ByteSet
         let more = required_bytes(&trees[i], meaning);
         set = set.intersection(&more);
     }
+    set
+}
+
+/// The set of one byte.
+fn byte_alone(byte: u8) -> ByteSet
+    ensures { IsSetOf (λ b. b == byte) result }
+{
+    let mut set = ByteSet::new();
+    set.insert(byte);
     set
 }
 

@@ -10,7 +10,7 @@ mod spans;
 mod tokens;
 mod verdicts;
 
-pub(crate) use counts::{CountRow, check_count, check_counts, counted};
+pub(crate) use counts::{CountRow, PartCountRow, check_counts, check_part_counts, counted};
 pub(crate) use fact::check;
 pub(crate) use nested::{nested, repeated};
 pub(crate) use overrides::{OverrideRow, check_overrides};

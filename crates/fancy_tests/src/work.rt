@@ -6,8 +6,8 @@
 //! it is met first.
 
 use crate::asking::{
-    CHARACTERS, CountRow, SEEKING, SearchRow, check, check_count, check_counts, check_searches,
-    counted, nested, regex_of, regex_with,
+    CHARACTERS, CountRow, PartCountRow, SEEKING, SearchRow, check, check_counts, check_part_counts,
+    check_searches, counted, nested, regex_of, regex_with,
 };
 use fancy_regex::{Regex, RegexInput, Work};
 use std::process::Abort;
@@ -199,55 +199,45 @@ const PARTS: &[SearchRow<&str>] = &[
     ),
 ];
 
+/// What searches of parts count.
+const PART_COUNTS: &[PartCountRow] = &[
+    // a search goes back to a branch
+    (
+        CHARACTERS,
+        "(a|ab)c",
+        "xabc",
+        0,
+        (1, 4),
+        (Some(Some((1, 4))), None, 1),
+    ),
+    // 2 Character(b, 0), 3 Split(4, 2), 4 Character(a, 3); from 3 on, and the first position meets each pair that there is; the b
+    // stands past the range
+    (
+        CHARACTERS,
+        "a*b",
+        "aaab",
+        0,
+        (0, 3),
+        (Some(None), Some(12), 4),
+    ),
+    // the a stands past the range
+    (
+        SEEKING,
+        "(?:a|b)(?<!c)",
+        "xya",
+        0,
+        (0, 2),
+        (Some(None), Some(0), 0),
+    ),
+    // nothing is done past the end
+    (CHARACTERS, "a", "a", 2, (0, 1), (Some(None), Some(0), 0)),
+];
+
 #[test]
 fn work_is_counted(rt: HostRuntime) {
     check_counts(&rt, rt.alloc(), COUNTS);
     check_searches(&rt, rt.alloc(), PARTS);
-    let mut work = Work::new();
-    // a search goes back to a branch
-    let input = RegexInput::new("xabc").range(1..4);
-    let counts = (Some(Some((1, 4))), None, 1);
-    check_count(
-        &rt,
-        rt.alloc(),
-        (CHARACTERS, "(a|ab)c"),
-        input,
-        &mut work,
-        counts,
-    );
-    // 2 Character(b, 0), 3 Split(4, 2), 4 Character(a, 3); from 3 on, and the first position meets each pair that there is; the b
-    // stands past the range
-    let input = RegexInput::new("aaab").range(0..3);
-    let counts = (Some(None), Some(12), 4);
-    check_count(
-        &rt,
-        rt.alloc(),
-        (CHARACTERS, "a*b"),
-        input,
-        &mut work,
-        counts,
-    );
-    let nothing = (Some(None), Some(0), 0);
-    // the a stands past the range
-    let input = RegexInput::new("xya").range(0..2);
-    check_count(
-        &rt,
-        rt.alloc(),
-        (SEEKING, "(?:a|b)(?<!c)"),
-        input,
-        &mut work,
-        nothing,
-    );
-    // nothing is done past the end
-    let input = RegexInput::new("a").from_pos(2);
-    check_count(
-        &rt,
-        rt.alloc(),
-        (CHARACTERS, "a"),
-        input,
-        &mut work,
-        nothing,
-    );
+    check_part_counts(&rt, rt.alloc(), PART_COUNTS);
 }
 
 /// Checks that the search finds nothing, in at most so many steps for each place.

@@ -1,11 +1,7 @@
-//! Searches texts from the command line.
+//! Searches texts from the command line: the commands are those of `fre_commands`.
 #![tactic(auto)]
 
-mod commands;
-#[cfg(test)]
-mod tests;
-
-use commands::run;
+use fre_commands::run;
 use std::alloc::Global;
 use std::io::Write;
 use std::process::ExitCode;

@@ -27,7 +27,7 @@ pub(crate) fn counted(
 pub(crate) type Counts = (Option<Option<Span>>, Option<usize>, usize);
 
 /// Checks what a search finds and counts, whatever was counted before.
-pub(crate) fn check_count(
+fn check_count(
     rt: &impl Abort,
     alloc: Global,
     (settings, pattern): (Settings, &str),
@@ -63,6 +63,21 @@ pub(crate) fn check_counts(rt: &impl Abort, alloc: Global, rows: &[CountRow]) {
         };
         let input = RegexInput::new(haystack);
         let counts = (wanted, steps, returns);
+        check_count(rt, alloc, (settings, pattern), input, &mut work, counts);
+    }
+}
+
+/// Options, a pattern, a text, the start, the range, and what the search counts.
+pub(crate) type PartCountRow = (Settings, &'static str, &'static str, usize, Span, Counts);
+
+/// Checks what searches of parts find and count, each after those before it.
+pub(crate) fn check_part_counts(rt: &impl Abort, alloc: Global, rows: &[PartCountRow]) {
+    let mut work = Work::new();
+    for &(settings, pattern, haystack, start, range, counts) in rows {
+        assert!(rt; range.0 <= range.1 && range.1 <= haystack.len());
+        let input = RegexInput::new(haystack)
+            .from_pos(start)
+            .range(range.0..range.1);
         check_count(rt, alloc, (settings, pattern), input, &mut work, counts);
     }
 }

@@ -1,56 +1,18 @@
-//! The commands of the program.
-//!
-//! | Words | Output | Status |
-//! |---|---|---|
-//! | `find P T` | `start..end text` of the first match of the pattern P in the text T | 0, or 1 without a match |
-//! | `captures P T` | for each group k of the first match `k start..end text`, or `k none` | 0, or 1 without a match |
-//! | `split P T` | a line for each piece of the text T between the matches of the pattern P | 0 |
-//! | `replace P T R` | the text T with all matches of P replaced by the template R | 0 |
-//! | `set T P..` | `k start..end text` for each pattern k that matches at the least position where one does | 0, or 1 without a match |
-//! | `tokens T P..` | `k start..end text` for each token of the text T, of the pattern k; then `unmatched p`, where there is none at p | 0, or 1 after `unmatched` |
-//!
-//! A command that is refused writes one line `error: ` and what is wrong to its second writer, and its
-//! status is 2: `usage` for other words, the refusal's name for a pattern or a search, `Output` where the
-//! first writer fails. Faults are found in this order. A fault of the second writer is ignored.
+//! What each command does.
 
 ghost use Rattle.std.specs.Prelude.{◌≤◌};
 
-use fancy_regex::{Error, Regex, RegexInput, RegexSet, RuntimeError};
+use crate::fault::Fault;
+use crate::lines::{write_group, write_line, write_numbered, write_span, write_unmatched};
+use fancy_regex::{
+    Captures, Error, Match, Regex, RegexInput, RegexSet, RegexSetMatchesAt, RuntimeError, Split,
+    Token, Tokens,
+};
 use std::alloc::Global;
+use std::borrow::CowStr;
 use std::io;
 
-/// Why a command ended early.
-#[derive(Drop)]
-enum Fault {
-    Usage,
-    Output,
-    Refused(Error),
-}
-
-impl From<Error> for Fault {
-    fn from(error: Error) -> Fault {
-        Fault::Refused(error)
-    }
-}
-
-impl From<io::Error> for Fault {
-    fn from(_error: io::Error) -> Fault {
-        Fault::Output
-    }
-}
-
-impl Fault {
-    /// What stands after `error: `.
-    fn name(&self) -> &'static str {
-        match self {
-            Fault::Usage => "usage",
-            Fault::Output => "Output",
-            Fault::Refused(error) => error.name(),
-        }
-    }
-}
-
-/// Runs the command that `words`, those after the program's name, spell, and answers the program's status:
+/// Runs the command that `words`, those after the program's name, spell, and returns the program's status:
 /// 0 where something was found or split, 1 where nothing was found, 2 where the command was refused.
 pub fn run<W: io::Write, X: io::Write>(
     alloc: Global,
@@ -102,12 +64,20 @@ fn find<W: io::Write>(
     text: &str,
     out: &mut W,
 ) -> Result<bool, Fault> {
-    let regex = Regex::new(alloc, pattern)?;
-    let Some(found) = regex.find(text)? else {
+    let Some(found) = first_match(alloc, pattern, text)? else {
         return Ok(false);
     };
-    writeln!(out, "{}..{} {}", found.start(), found.end(), found.as_str())?;
+    write_span((found.start(), found.end()), found.as_str(), out)?;
     Ok(true)
+}
+
+fn first_match<'t>(
+    alloc: Global,
+    pattern: &str,
+    text: &'t str,
+) -> Result<Option<Match<'t>>, Error> {
+    let regex = Regex::new(alloc, pattern)?;
+    regex.find(text)
 }
 
 fn captures<W: io::Write>(
@@ -117,20 +87,20 @@ fn captures<W: io::Write>(
     out: &mut W,
 ) -> Result<bool, Fault> {
     let regex = Regex::new(alloc, pattern)?;
-    let Some(captures) = regex.captures(text)? else {
+    let captures = regex.captures(text)?;
+    write_captures(captures, out)
+}
+
+/// Writes a line for each group, if there is a match.
+fn write_captures<W: io::Write>(
+    captures: Option<Captures<'_, &str>>,
+    out: &mut W,
+) -> Result<bool, Fault> {
+    let Some(captures) = captures else {
         return Ok(false);
     };
     for number in 0..captures.len() {
-        match captures.get(number) {
-            Some(group) => writeln!(
-                out,
-                "{number} {}..{} {}",
-                group.start(),
-                group.end(),
-                group.as_str()
-            )?,
-            None => writeln!(out, "{number} none")?,
-        }
+        write_group(number, captures.get(number), out)?;
     }
     Ok(true)
 }
@@ -142,8 +112,13 @@ fn split<W: io::Write>(
     out: &mut W,
 ) -> Result<bool, Fault> {
     let regex = Regex::new(alloc, pattern)?;
-    for piece in regex.split(text) {
-        writeln!(out, "{}", piece?)?;
+    write_pieces(regex.split(text), out)
+}
+
+/// Writes a line for each piece.
+fn write_pieces<W: io::Write>(pieces: Split<'_, '_>, out: &mut W) -> Result<bool, Fault> {
+    for piece in pieces {
+        write_line(piece?, out)?;
     }
     Ok(true)
 }
@@ -155,10 +130,19 @@ fn replace<W: io::Write>(
     template: &str,
     out: &mut W,
 ) -> Result<bool, Fault> {
-    let regex = Regex::new(alloc, pattern)?;
-    let replaced = regex.replace_all(text, template)?;
-    writeln!(out, "{}", replaced.as_str())?;
+    let replaced = replaced(alloc, pattern, text, template)?;
+    write_line(replaced.as_str(), out)?;
     Ok(true)
+}
+
+fn replaced<'t>(
+    alloc: Global,
+    pattern: &str,
+    text: &'t str,
+    template: &str,
+) -> Result<CowStr<'t>, Error> {
+    let regex = Regex::new(alloc, pattern)?;
+    regex.replace_all(text, template)
 }
 
 fn set<W: io::Write>(
@@ -170,13 +154,22 @@ fn set<W: io::Write>(
     let patterns = texts_of(alloc, patterns)?;
     let set = RegexSet::new(alloc, &patterns)?;
     let input = RegexInput::new(text);
-    let Some(matches) = set.find_input(input)? else {
+    let matches = set.find_input(input)?;
+    write_matches(matches, out)
+}
+
+/// Writes a line for each pattern that matches, if one does.
+fn write_matches<W: io::Write>(
+    matches: Option<RegexSetMatchesAt<'_, &str>>,
+    out: &mut W,
+) -> Result<bool, Fault> {
+    let Some(matches) = matches else {
         return Ok(false);
     };
     for found in matches {
         let found = found?;
-        let (start, end) = (found.start(), found.end());
-        writeln!(out, "{} {start}..{end} {}", found.pattern(), found.as_str())?;
+        let span = (found.start(), found.end());
+        write_numbered(found.pattern(), span, found.as_str(), out)?;
     }
     Ok(true)
 }
@@ -190,19 +183,27 @@ fn tokens<W: io::Write>(
     let patterns = texts_of(alloc, patterns)?;
     let set = RegexSet::new(alloc, &patterns)?;
     let input = RegexInput::new(text);
-    for token in set.tokens(input) {
-        let token = match token {
-            Ok(token) => token,
+    write_tokens(set.tokens(input), out)
+}
+
+/// Writes a line for each token, and one for the place where no pattern gives one, if there is such a place.
+fn write_tokens<W: io::Write>(tokens: Tokens<'_, &str>, out: &mut W) -> Result<bool, Fault> {
+    for token in tokens {
+        match token {
+            Ok(token) => write_token(&token, out)?,
             Err(Error::RuntimeError(RuntimeError::Unmatched(place))) => {
-                writeln!(out, "unmatched {place}")?;
+                write_unmatched(place, out)?;
                 return Ok(false);
             }
             Err(error) => return Err(Fault::Refused(error)),
-        };
-        let (start, end) = (token.start(), token.end());
-        writeln!(out, "{} {start}..{end} {}", token.pattern(), token.as_str())?;
+        }
     }
     Ok(true)
+}
+
+fn write_token<W: io::Write>(token: &Token<'_, &str>, out: &mut W) -> io::Result<()> {
+    let span = (token.start(), token.end());
+    write_numbered(token.pattern(), span, token.as_str(), out)
 }
 
 /// The texts of words.
