@@ -122,10 +122,6 @@ const IN_BYTES: &[BytesRow] = &[
     // any item is a character or a byte
     (BYTES, ".+", b"\x80\x81\x82", Some((0, 3))),
     (CHARACTERS, ".+", b"\x80\x81\x82", None),
-    (CHARACTERS, ".", b"\xC0\x80", None),
-    (CHARACTERS, ".", b"\xED\xA0\x80", None),
-    (CHARACTERS_ANYWHERE, ".", b"\xC0\x80", None),
-    (CHARACTERS_ANYWHERE, ".", b"\xED\xA0\x80", None),
     (BYTES, ".", b"\n", None),
     (BYTES, "(?s).", b"\n", Some((0, 1))),
     (BYTES, "(?R).", b"\r", None),
@@ -138,12 +134,9 @@ const IN_BYTES: &[BytesRow] = &[
 
 /// Assertions read beyond the range.
 const BEYOND_THE_RANGE: &[SearchRow<&str>] = &[
-    (CHARACTERS, "$", "ab", 0, (0, 1), false, None),
     (CHARACTERS, "$", "ab", 0, (0, 2), false, Some((2, 2))),
-    (CHARACTERS, "\\bb", "ab", 0, (1, 2), false, None),
     (CHARACTERS, "\\Bb", "ab", 0, (1, 2), false, Some((1, 2))),
     (CHARACTERS, "^b", "ab", 0, (1, 2), false, None),
-    (CHARACTERS, "a\\b", "ab", 0, (0, 1), false, None),
     (CHARACTERS, "a", "a", 2, (0, 1), false, None),
 ];
 

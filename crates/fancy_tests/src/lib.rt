@@ -35,6 +35,8 @@ mod inputs;
 #[cfg(test)]
 mod kept;
 #[cfg(test)]
+mod odd;
+#[cfg(test)]
 mod options;
 #[cfg(test)]
 mod parsing;

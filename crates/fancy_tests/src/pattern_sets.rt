@@ -52,6 +52,14 @@ const SETS: &[SetRow] = &[
     (AMPLE, &[], "a", 0, false, None),
     (AMPLE, &["x", "a"], "a", 2, false, None),
     (
+        AMPLE,
+        &["", "a*", "$", "(?=)", "\\G"],
+        "a",
+        usize::MAX,
+        false,
+        None,
+    ),
+    (
         0,
         &["a", "(?:(a|aa)+)\\1"],
         "aa",

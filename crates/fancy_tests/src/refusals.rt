@@ -149,9 +149,11 @@ const DEEP: &[((&str, &str, &str), usize, Verdict)] = &[
 #[test]
 fn parentheses_and_brackets_nest_128_deep(rt: HostRuntime) {
     for &(parts, depth, verdict) in DEEP {
-        let deepest = nested(&rt, rt.alloc(), parts, depth);
-        let read = Regex::new(rt.alloc(), deepest.as_str());
-        check_verdict(&rt, &read, Verdict::Accepted, parts.0);
+        for less in [0usize, 1] {
+            let deep = nested(&rt, rt.alloc(), parts, depth.saturating_sub(less));
+            let read = Regex::new(rt.alloc(), deep.as_str());
+            check_verdict(&rt, &read, Verdict::Accepted, parts.0);
+        }
         let too_deep = nested(&rt, rt.alloc(), parts, depth.saturating_add(1));
         let read = Regex::new(rt.alloc(), too_deep.as_str());
         check_verdict(&rt, &read, verdict, parts.0);

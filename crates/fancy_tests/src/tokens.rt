@@ -42,6 +42,15 @@ const TOKENS: &[TokenRow] = &[
     ),
     (AMPLE, WORDS, "if", 2, &[], 2, TokensEnd::OfRange),
     (AMPLE, WORDS, "if", 5, &[], 5, TokensEnd::OfRange),
+    (
+        AMPLE,
+        WORDS,
+        "if",
+        usize::MAX,
+        &[],
+        usize::MAX,
+        TokensEnd::OfRange,
+    ),
     // an empty match is no token
     (
         AMPLE,

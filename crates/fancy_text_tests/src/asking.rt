@@ -1,5 +1,6 @@
 //! What the tests ask of a pattern and a text: the rows of their tables, and for each kind of call one function that checks rows.
 
+mod broken;
 mod fact;
 mod groups;
 mod lists;
@@ -9,6 +10,10 @@ mod settings;
 mod spans;
 mod templates;
 
+pub(crate) use broken::{
+    BrokenFirstRow, BrokenListRow, BrokenPiecesRow, BrokenReplacedRow, check_broken_first,
+    check_broken_lists, check_broken_pieces, check_broken_replaced,
+};
 pub(crate) use fact::check;
 pub(crate) use groups::{
     AllGroupsRow, Group, GroupsRow, LaterGroupsRow, NamesRow, PartsRow, check_all_groups,

@@ -397,39 +397,6 @@ const ITERATIONS: &[Row<&[u8]>] = &[
         ..WHOLE_BYTES
     },
     Row {
-        pattern: ".",
-        haystack: b"\xF0\x9F\x98",
-        spans: &[],
-        ..WHOLE_BYTES
-    },
-    Row {
-        settings: CHARACTERS_ANYWHERE,
-        pattern: ".",
-        haystack: b"\xF0\x9F\x98",
-        spans: &[],
-        ..WHOLE_BYTES
-    },
-    Row {
-        settings: BYTES,
-        pattern: ".",
-        haystack: b"\xF0\x9F\x98",
-        spans: &[(0, 1), (1, 2), (2, 3)],
-        ..WHOLE_BYTES
-    },
-    Row {
-        pattern: "\\B",
-        haystack: b"\x80",
-        spans: &[(0, 0), (1, 1)],
-        ..WHOLE_BYTES
-    },
-    Row {
-        settings: BYTES,
-        pattern: "\\B",
-        haystack: b"\x80",
-        spans: &[(0, 0), (1, 1)],
-        ..WHOLE_BYTES
-    },
-    Row {
         pattern: "\\b",
         haystack: b"a b",
         spans: &[(0, 0), (1, 1), (2, 2), (3, 3)],

@@ -1,5 +1,8 @@
 //! What comes of a text whose matches are replaced.
 
+ghost use Rattle.std.specs.Prelude.{None, ⊤};
+ghost use Rattle.std.proofs.Common.{rules};
+
 use crate::asking::{ReplacedRow, check, check_answer, check_fixed, check_replaced, regex_of};
 use fancy_regex::{Captures, Error, NoExpand, ReplaceFn, Replacer, RuntimeError};
 use std::alloc::Global;
@@ -100,6 +103,50 @@ fn an_error_of_a_replacer_is_the_answer(rt: HostRuntime) {
         second_fails(alloc, calls)
     });
     check_answer(&rt, regex.replacen("aaa", 1, once), "1aa");
+}
+
+/// A replacer that is no function: a hyphen for each match, but an error at its second call.
+#[derive(Drop)]
+struct Hyphens {
+    calls: u32,
+}
+
+impl Replacer for Hyphens {
+    ghost fixed = { λ _. None };
+
+    ghost appends = { λ _ _ _ _. ⊤ };
+
+    ghost refuses = { λ _ _ _ _. ⊤ };
+
+    ghost same = { λ s t c x y f a. Prim.search rules };
+
+    fn replace_append(
+        &mut self,
+        _captures: &Captures<'_, &str>,
+        dst: &mut String,
+    ) -> fancy_regex::Result<()> {
+        self.calls = self.calls.wrapping_add(1);
+        if self.calls == 2 {
+            return Err(Error::RuntimeError(RuntimeError::BacktrackLimitExceeded));
+        }
+        dst.push_str("-")?;
+        Ok(())
+    }
+
+    fn fixed_text(&self) -> Option<&str> {
+        None
+    }
+}
+
+#[test]
+fn an_error_of_any_replacer_is_the_answer(rt: HostRuntime) {
+    let regex = regex_of(&rt, rt.alloc(), "a");
+    let mut hyphens = Hyphens { calls: 0 };
+    let answer = regex.replace_all("aaa", hyphens.by_ref());
+    check(&rt, is_second_error(&answer), "an error");
+    check_answer(&rt, regex.replace_all("aba", hyphens), "-b-");
+    let once = regex.replacen("aaa", 1, Hyphens { calls: 0 });
+    check_answer(&rt, once, "-aa");
 }
 
 #[test]

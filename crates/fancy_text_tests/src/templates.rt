@@ -11,7 +11,7 @@ use fancy_template::write::write_whole;
 use std::alloc::Global;
 use std::io;
 use std::io::ErrorKind;
-use std::io::ErrorKind::{BrokenPipe, WriteZero};
+use std::io::ErrorKind::{BrokenPipe, Interrupted, WriteZero};
 use std::process::Abort;
 
 /// A template, and its steps.
@@ -100,7 +100,11 @@ const DOLLAR_TEMPLATES: &[TemplateRow] = &[
     ("$10", ""),
     ("$1a", ""),
     ("a$ b", "a$ b"),
+    ("${18446744073709551615}", ""),
     ("${18446744073709551616}", ""),
+    ("${18446744073709551617}", ""),
+    ("$18446744073709551617", ""),
+    ("${000000000000000000000001}", "b"),
     ("${1}-$0", "b-b"),
     ("$1é$", "$"),
     ("${1}é$", "bé$"),
@@ -110,7 +114,11 @@ const DOLLAR_TEMPLATES: &[TemplateRow] = &[
 
 const PYTHON_TEMPLATES: &[TemplateRow] = &[
     ("\\1\\g<0>\\\\x", "bb\\x"),
+    ("\\18446744073709551615", ""),
     ("\\18446744073709551616", "\\18446744073709551616"),
+    ("\\18446744073709551617", "\\18446744073709551617"),
+    ("\\g<18446744073709551617>", ""),
+    ("\\000000000000000000000001", "b"),
     ("\\10", ""),
     ("\\g<1", "\\g<1"),
     ("$1\\x", "$1\\x"),
@@ -136,6 +144,16 @@ const DOLLAR_CHECKS: &[CheckedRow] = &[
         "${18446744073709551616}",
         Told::NoName("18446744073709551616"),
     ),
+    (
+        "(b)",
+        "$18446744073709551617",
+        Told::NoName("18446744073709551617"),
+    ),
+    (
+        "(b)",
+        "${18446744073709551615}",
+        Told::NoNumber(18446744073709551615),
+    ),
     ("(b)", "$é", Told::NoName("é")),
     (TWO_WORDS, "$1", Told::NamesAlone),
     (TWO_WORDS, "a$", Told::NoForm),
@@ -146,6 +164,16 @@ const DOLLAR_CHECKS: &[CheckedRow] = &[
 const PYTHON_CHECKS: &[CheckedRow] = &[
     ("(b)", "\\1\\g<0>\\\\x", Told::Fits),
     ("(b)", "\\18446744073709551616", Told::NoForm),
+    (
+        "(b)",
+        "\\18446744073709551615",
+        Told::NoNumber(18446744073709551615),
+    ),
+    (
+        "(b)",
+        "\\g<18446744073709551616>",
+        Told::NoName("18446744073709551616"),
+    ),
 ];
 
 #[test]
@@ -215,22 +243,26 @@ fn texts_are_escaped(rt: HostRuntime) {
     }
 }
 
-/// A writer that takes `most` bytes in a call and `left` in all, and then fails or takes none.
+/// A writer that takes `most` bytes in a call and `left` in all, and then fails with the fault, or takes none where there is
+/// no fault.
 #[derive(Drop)]
 struct Narrow {
     taken: Vec<u8>,
     calls: usize,
     most: usize,
     left: usize,
-    fails: bool,
+    fault: Option<ErrorKind>,
 }
 
 impl io::Write for Narrow {
     fn write(&mut self, buf: &[u8]) -> io::Result<usize> {
         self.calls = self.calls.wrapping_add(1);
         let count = buf.len().min(self.most).min(self.left);
-        if count == 0 && self.fails {
-            return Err(io::Error::from(BrokenPipe));
+        if count == 0 {
+            return match self.fault {
+                Some(kind) => Err(io::Error::from(kind)),
+                None => Ok(0),
+            };
         }
         let (front, _) = buf.split_at(count);
         self.taken.extend_from_slice(front)?;
@@ -251,45 +283,56 @@ fn kind_of(answer: &io::Result<()>) -> Option<ErrorKind> {
     }
 }
 
-/// A template, how many bytes a writer takes in a call and in all, whether it then fails, what it takes, and the fault.
+/// A template, how many bytes a writer takes in a call and in all, its fault then, what it takes, and the fault of the answer.
 type WrittenRow = (
     &'static str,
     usize,
     usize,
-    bool,
-    &'static str,
+    Option<ErrorKind>,
+    &'static [u8],
     Option<ErrorKind>,
 );
 
+const BREAKS: Option<ErrorKind> = Some(BrokenPipe);
+
 /// Where `b` is group 1 and the whole match.
 const WRITTEN: &[WrittenRow] = &[
-    ("${1}-$0", 1, 0, true, "", Some(BrokenPipe)),
-    ("${1}-$0", 1, 1, true, "b", Some(BrokenPipe)),
-    ("${1}-$0", 1, 2, true, "b-", Some(BrokenPipe)),
-    ("${1}-$0", 1, 3, true, "b-b", None),
-    ("${1}-$0", 1, 4, true, "b-b", None),
-    ("${1}-$0", 9, 0, true, "", Some(BrokenPipe)),
-    ("${1}-$0", 9, 1, true, "b", Some(BrokenPipe)),
-    ("${1}-$0", 9, 2, true, "b-", Some(BrokenPipe)),
-    ("${1}-$0", 9, 3, true, "b-b", None),
-    ("${1}-$0", 9, 4, true, "b-b", None),
-    ("${1}-$0", 1, 0, false, "", Some(WriteZero)),
-    ("${1}-$0", 1, 1, false, "b", Some(WriteZero)),
-    ("${1}-$0", 1, 2, false, "b-", Some(WriteZero)),
-    ("${1}-$0", 1, 3, false, "b-b", None),
-    ("${1}-$0", 1, 4, false, "b-b", None),
-    ("${1}-$0", 9, 0, false, "", Some(WriteZero)),
-    ("${1}-$0", 9, 1, false, "b", Some(WriteZero)),
-    ("${1}-$0", 9, 2, false, "b-", Some(WriteZero)),
-    ("${1}-$0", 9, 3, false, "b-b", None),
-    ("${1}-$0", 9, 4, false, "b-b", None),
+    ("${1}-$0", 1, 0, BREAKS, b"", Some(BrokenPipe)),
+    ("${1}-$0", 1, 1, BREAKS, b"b", Some(BrokenPipe)),
+    ("${1}-$0", 1, 2, BREAKS, b"b-", Some(BrokenPipe)),
+    ("${1}-$0", 1, 3, BREAKS, b"b-b", None),
+    ("${1}-$0", 1, 4, BREAKS, b"b-b", None),
+    ("${1}-$0", 9, 0, BREAKS, b"", Some(BrokenPipe)),
+    ("${1}-$0", 9, 1, BREAKS, b"b", Some(BrokenPipe)),
+    ("${1}-$0", 9, 2, BREAKS, b"b-", Some(BrokenPipe)),
+    ("${1}-$0", 9, 3, BREAKS, b"b-b", None),
+    ("${1}-$0", 9, 4, BREAKS, b"b-b", None),
+    ("${1}-$0", 1, 0, None, b"", Some(WriteZero)),
+    ("${1}-$0", 1, 1, None, b"b", Some(WriteZero)),
+    ("${1}-$0", 1, 2, None, b"b-", Some(WriteZero)),
+    ("${1}-$0", 1, 3, None, b"b-b", None),
+    ("${1}-$0", 1, 4, None, b"b-b", None),
+    ("${1}-$0", 9, 0, None, b"", Some(WriteZero)),
+    ("${1}-$0", 9, 1, None, b"b", Some(WriteZero)),
+    ("${1}-$0", 9, 2, None, b"b-", Some(WriteZero)),
+    ("${1}-$0", 9, 3, None, b"b-b", None),
+    ("${1}-$0", 9, 4, None, b"b-b", None),
+    // a write that was interrupted is not tried again
+    ("${1}-$0", 9, 0, Some(Interrupted), b"", Some(Interrupted)),
+    ("${1}-$0", 1, 2, Some(Interrupted), b"b-", Some(Interrupted)),
+    // a fault within a character
+    ("${0}é", 9, 2, BREAKS, b"b\xC3", Some(BrokenPipe)),
+    ("${0}é", 1, 2, None, b"b\xC3", Some(WriteZero)),
+    ("${0}é", 1, 3, None, b"b\xC3\xA9", None),
 ];
 
 /// Where group 1 took no part, and no group has the other names.
 const NOT_WRITTEN: &[WrittenRow] = &[
-    ("", 0, 0, true, "", None),
-    ("$1", 0, 0, true, "", None),
-    ("$7$x", 0, 0, true, "", None),
+    ("", 0, 0, BREAKS, b"", None),
+    ("", 0, 0, None, b"", None),
+    ("$1", 0, 0, BREAKS, b"", None),
+    ("$1", 0, 0, None, b"", None),
+    ("$7$x", 0, 0, BREAKS, b"", None),
 ];
 
 /// Checks what is written of expansions to narrow writers, which are called where there is something to write. The pattern is
@@ -297,18 +340,18 @@ const NOT_WRITTEN: &[WrittenRow] = &[
 fn check_writes(rt: &impl Abort, alloc: Global, pattern: &str, text: &str, rows: &[WrittenRow]) {
     let regex = regex_of(rt, alloc, pattern);
     let captures = taken(rt, regex.captures(text), pattern);
-    for &(template, most, left, fails, wanted, fault) in rows {
+    for &(template, most, left, fault, wanted, answered) in rows {
         let mut writer = Narrow {
             taken: Vec::new(alloc),
             calls: 0,
             most,
             left,
-            fails,
+            fault,
         };
         let answer = Expander::default().write_expansion(&mut writer, template, &captures);
-        check(rt, writer.taken.as_slice() == wanted.as_bytes(), template);
-        check(rt, kind_of(&answer) == fault, template);
-        let is_something = !wanted.is_empty() | fault.is_some();
+        check(rt, writer.taken.as_slice() == wanted, template);
+        check(rt, kind_of(&answer) == answered, template);
+        let is_something = !wanted.is_empty() | answered.is_some();
         check(rt, (writer.calls != 0) == is_something, template);
     }
 }
@@ -322,16 +365,16 @@ fn a_fault_ends_the_writing(rt: HostRuntime) {
     write_whole(&mut out, b"abc").expect(&rt, "a write");
     write_whole(&mut out, b"d").expect(&rt, "a write");
     check(&rt, out.as_slice() == b"abcd".as_slice(), "abcd");
-    for (left, fails, fault) in [(2, true, BrokenPipe), (1, false, WriteZero)] {
+    for (left, fault, answered) in [(2, BREAKS, BrokenPipe), (1, None, WriteZero)] {
         let mut writer = Narrow {
             taken: Vec::new(alloc),
             calls: 0,
             most: 1,
             left,
-            fails,
+            fault,
         };
         let answer = write_whole(&mut writer, b"abc");
-        check(&rt, kind_of(&answer) == Some(fault), "the fault");
+        check(&rt, kind_of(&answer) == Some(answered), "the fault");
         check(&rt, writer.taken.len() == left, "what was taken");
     }
 }

@@ -15,6 +15,8 @@ pub(crate) struct Settings {
     pub(crate) bytes_mode: BytesMode,
     /// Whether groups without a name capture nothing where a group has one.
     pub(crate) only_named: bool,
+    /// How many returns a search for a hard pattern may take.
+    pub(crate) backtrack_limit: usize,
     /// Whether empty matches are refused.
     pub(crate) find_not_empty: bool,
     /// Whether the longest match at a position is asked for.
@@ -27,6 +29,7 @@ pub(crate) struct Settings {
 pub(crate) const CHARACTERS: Settings = Settings {
     bytes_mode: BytesMode::Unicode,
     only_named: false,
+    backtrack_limit: 1_000_000,
     find_not_empty: false,
     leftmost_longest: false,
     seek: false,
@@ -81,6 +84,7 @@ pub(crate) fn regex_with(
     let answer = builder
         .bytes_mode(settings.bytes_mode)
         .ignore_numbered_groups_when_named_groups_exist(settings.only_named)
+        .backtrack_limit(settings.backtrack_limit)
         .find_not_empty(settings.find_not_empty)
         .leftmost_longest(settings.leftmost_longest)
         .seek(settings.seek)
