@@ -27,7 +27,9 @@ marks_from code base table q i = marks_of code table q (i - base)
 abbrev pub table_base : Option ℕ → Request → ℕ
 table_base kept request = unwrap_or kept (effective_start request)
 
--- The table begins at `base` and goes up to the range's end. No pair that is marked past `place` gives an accepted outcome, whatever the groups and wherever `\G` holds. So a search that starts at `place` or later need not follow these again. Of the request its end and the ends that it suppresses are heeded, which are the same for all searches of a list.
+-- The table begins at `base` and goes up to the range's end. No pair that is marked past `place` gives an accepted outcome, whatever
+-- the groups. So a search that starts at `place` or later need not follow these again. Of the request its end and the ends that it
+-- suppresses are heeded, which are the same for all searches of a list. `\G`, which easy code does not read, is taken to hold at `base`.
 pub record IsKept (code : Code) (haystack : List ℕ) (request : Request) (options : SearchOptions) (base place : ℕ) (table : List Bool) : Type 0 where
   pub begins : base ≤ place
   pub room : length table ≡ (request.range_end - base + 1) * width_of code
@@ -36,7 +38,8 @@ pub record IsKept (code : Code) (haystack : List ℕ) (request : Request) (optio
       → AllFailed (is_match_boundary options.on_boundaries haystack) (search_context haystack code.meaning (suppressed_ends options.overrides request) base)
       (place + 1) request.range_end (instrs_of code) (depth (length haystack) p + 1) (marks_from code base table)
 
--- so many steps are ahead of the searches from `place` on that keep the table: what its marks are worth that were not made, and a start at each position
+-- so many steps are ahead of the searches from `place` on that keep the table: what its marks are worth that were not made, and a
+-- start at each position
 abbrev pub steps_ahead : Code → Request → ℕ → ℕ → List Bool → ℕ
 steps_ahead code request base place table = left_of code (request.range_end - base + 1) table + (request.range_end + 1 - place) * due_of code code.start
 

@@ -49,7 +49,7 @@ impl Table {
         ensures { OnOk result (self.new ≡ replicate pairs false) }
     {
         self.words.clear();
-        self.words.reserve(pairs / 64 + 1)?;
+        self.words.reserve(pairs.div_ceil(64))?;
         self.pairs = pairs;
         Ok(())
     }

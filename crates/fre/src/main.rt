@@ -17,13 +17,22 @@ fn words(rt: &(impl Env + Alloc<A = Global>)) -> io::Result<Vec<String>> {
     Ok(words)
 }
 
+/// The name of what kept the words from being read: want of memory, or a word that is not UTF-8, which no command takes.
+fn name_of(fault: &io::Error) -> &'static str {
+    match fault.kind() {
+        io::ErrorKind::OutOfMemory => "Memory",
+        _ => "usage",
+    }
+}
+
 fn main(rt: HostRuntime) -> ExitCode {
     let mut out = io::writer(&rt);
     let mut err = rt.stderr();
     let status = match words(&rt) {
         Ok(words) => run(rt.alloc(), &words, &mut out, &mut err),
-        Err(_) => {
-            let _ = writeln!(err, "error: Memory");
+        Err(fault) => {
+            let name = name_of(&fault);
+            let _ = writeln!(err, "error: {name}");
             2
         }
     };
