@@ -1,4 +1,4 @@
-"""The calls that tools/refused.py makes, with what they answer: worked rows, written by hand.
+"""The calls that tools/refused.py makes, with what they answer: rows that were worked out and written by hand.
 
 A row is a call of crates/calls, letters of options (see `options_of` there), a pattern or for a set several ones, a text, a number, a
 template, and the items of the answer. After them, for `split` and `splitn`, are the ends of the matches between the pieces.

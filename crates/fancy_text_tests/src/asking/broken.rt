@@ -1,23 +1,26 @@
 //! Lists, pieces and replaced texts in whose middle a search is given up.
 
-use crate::asking::{
-    CHARACTERS, Settings, Span, Spanned, check, check_answer, regex_with, searchable,
-};
+ghost use Rattle.std.specs.Prelude.{◌≡◌};
+ghost use Rattle.fancy_search.specs.Options.{by_default};
+ghost use Rattle.fancy_core.specs.Regexes.{options_in};
+
+use crate::asking::{Span, Spanned, check, check_answer};
 use fancy_regex::{
-    CaptureMatches, Captures, Error, Match, Matches, Regex, RegexInput, Result, RuntimeError,
-    Split, SplitN,
+    CaptureMatches, Captures, Error, Match, Matches, Regex, RegexOptionsBuilder, Result,
+    RuntimeError, Split, SplitN,
 };
 use std::alloc::Global;
 use std::borrow::CowStr;
 use std::process::Abort;
 
-/// The regex of the pattern whose searches may take so many returns.
-fn limited(rt: &impl Abort, alloc: Global, pattern: &str, backtrack_limit: usize) -> Regex {
-    let settings = Settings {
-        backtrack_limit,
-        ..CHARACTERS
-    };
-    regex_with(rt, alloc, settings, pattern)
+/// The regex of the pattern whose searches may take so many returns. All else is as by default.
+fn limited(rt: &impl Abort, alloc: Global, pattern: &str, backtrack_limit: usize) -> Regex
+    ensures { options_in result ≡ record by_default { backtrack_limit = backtrack_limit } }
+{
+    let text = String::from_str(alloc, pattern).expect(rt, pattern);
+    let mut builder = RegexOptionsBuilder::new();
+    let answer = builder.backtrack_limit(backtrack_limit).build(text);
+    answer.expect(rt, pattern)
 }
 
 /// Checks that a search is given up at its limit of returns.
@@ -87,7 +90,6 @@ pub(crate) type BrokenListRow = (usize, &'static str, &'static str, &'static [It
 pub(crate) fn check_broken_lists(rt: &impl Abort, alloc: Global, rows: &[BrokenListRow]) {
     for &(returns, pattern, text, wanted) in rows {
         let regex = limited(rt, alloc, pattern, returns);
-        searchable(rt, &regex, RegexInput::new(text));
         let is_given_up = wanted.last() == Some(&None);
         check_matches(rt, regex.find_iter(text), wanted, is_given_up);
         check_groups_of_matches(rt, regex.captures_iter(text), wanted);
@@ -133,7 +135,6 @@ pub(crate) type BrokenPiecesRow = (usize, &'static str, &'static str, &'static [
 pub(crate) fn check_broken_pieces(rt: &impl Abort, alloc: Global, rows: &[BrokenPiecesRow]) {
     for &(returns, pattern, text, wanted) in rows {
         let regex = limited(rt, alloc, pattern, returns);
-        searchable(rt, &regex, RegexInput::new(text));
         check_split(rt, regex.split(text), wanted);
         check_splitn(rt, regex.splitn(text, wanted.len()), wanted);
         check_splitn(rt, regex.splitn(text, usize::MAX), wanted);
@@ -147,7 +148,6 @@ pub(crate) type BrokenFirstRow = (usize, &'static str, &'static str, usize, &'st
 pub(crate) fn check_broken_first(rt: &impl Abort, alloc: Global, rows: &[BrokenFirstRow]) {
     for &(returns, pattern, text, limit, wanted) in rows {
         let regex = limited(rt, alloc, pattern, returns);
-        searchable(rt, &regex, RegexInput::new(text));
         check_splitn(rt, regex.splitn(text, limit), wanted);
     }
 }
@@ -176,7 +176,6 @@ fn check_broken_answer(rt: &impl Abort, answer: Result<CowStr<'_, Global>>, want
 pub(crate) fn check_broken_replaced(rt: &impl Abort, alloc: Global, rows: &[BrokenReplacedRow]) {
     for &(returns, pattern, text, limit, template, wanted) in rows {
         let regex = limited(rt, alloc, pattern, returns);
-        searchable(rt, &regex, RegexInput::new(text));
         check_broken_answer(rt, regex.replacen(text, limit, template), wanted);
         if limit == 0 {
             check_broken_answer(rt, regex.replace_all(text, template), wanted);
