@@ -14,7 +14,8 @@ use std::borrow::CowStr;
 /// these gets a backslash, and line feeds, tabs and carriage returns become `\n`, `\t` and `\r`.
 ///
 /// With the default options the regex of it finds the text itself and nothing else (the law
-/// [`crate::laws::escapes_find_their_text`]). Under flag `x` the regex of a text with blanks does not find that.
+/// [`crate::laws::escapes_find_their_text`]). Under flag `x` a space in the text is passed over, so the regex does not find
+/// the text.
 ///
 /// ```text
 /// escape(alloc, "@foo")   // borrowed

@@ -51,6 +51,7 @@ pub use fancy_template::expander::Expander;
 pub use fancy_template::groups::{GroupNames, GroupTexts};
 pub use fancy_template::laws as template_laws;
 pub use fancy_template::steps::{Step, Steps};
+pub use fancy_template::write::Writer;
 pub use fancy_tree::error::{CompileError, Error, ParseErrorKind, Result, RuntimeError};
 pub use fancy_tree::tree::{BytesMode, Meaning};
 pub use options::RegexOptionsBuilder;

@@ -291,8 +291,9 @@ impl RegexOptionsBuilder {
     ///
     /// No answer changes. At the positions that are passed over no return counts for
     /// [`RegexOptionsBuilder::backtrack_limit`]; where the searched text has no such byte, or the haystack lacks one of
-    /// [`RegexOptionsBuilder::required_bytes`], the answer is none without a step. Where a match may start at any byte, no position is passed over. Searches for easy patterns ([`Regex::is_easy`]),
-    /// which have no such limit, pass over positions in any case.
+    /// [`RegexOptionsBuilder::required_bytes`], the answer is none without a step. Where a match may start at any byte, no
+    /// position is passed over. Searches for easy patterns ([`Regex::is_easy`]), which have no such limit, pass over positions
+    /// in any case.
     ///
     /// ```text
     /// let mut options = RegexOptionsBuilder::new();
@@ -348,8 +349,8 @@ impl RegexOptionsBuilder {
 
     /// The bytes that every haystack has in which a pattern matches somewhere under these options.
     ///
-    /// They are told from the pattern alone, so there may be more that each such haystack has: of a set of several characters none
-    /// are told. The pattern is refused as [`RegexOptionsBuilder::build`] refuses it, but for
+    /// They are told from the pattern alone, so there may be more that each such haystack has: of a set of several characters
+    /// none are told. The pattern is refused as [`RegexOptionsBuilder::build`] refuses it, but for
     /// [`RegexOptionsBuilder::max_prog_size`], which has no effect here, as no code is made.
     ///
     /// ```text
