@@ -9,8 +9,6 @@ mod builders;
 #[cfg(test)]
 mod byte_sets;
 #[cfg(test)]
-mod calling;
-#[cfg(test)]
 mod classes;
 #[cfg(test)]
 mod conditionals;

@@ -1,13 +1,14 @@
 //! The callers that the page on callers shows, run.
 
-use crate::asking::{check, regex_of};
+use crate::asking::check;
 use callers::{LINE, has_date, match_of_constant, pattern_of_word};
+use fancy_regex::Regex;
 
 #[test]
 fn callers_find(rt: HostRuntime) {
     let dated = has_date(rt.alloc(), LINE).expect(&rt, LINE);
     check(&rt, dated, LINE);
-    let regex = regex_of(&rt, rt.alloc(), "\\d+");
+    let regex = Regex::new(rt.alloc(), "\\d+").expect(&rt, LINE);
     let found = match_of_constant(&regex).expect(&rt, LINE);
     check(&rt, found == Some(true), LINE);
 }

@@ -33,7 +33,7 @@ impl io::Write for Broken {
 }
 
 /// Checks a fact, which the words name.
-fn check(rt: &impl Abort, fact: bool, words: &str) {
+pub(crate) fn check(rt: &impl Abort, fact: bool, words: &str) {
     assert!(rt; fact, "{words}");
 }
 
