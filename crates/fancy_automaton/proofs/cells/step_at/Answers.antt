@@ -1,0 +1,32 @@
+use Rattle.std.proofs.Common.{◌≡◌, sym, arith, length, subst, All}
+use Rattle.fancy_automaton.proofs.CellLemmas.{cell_pushed, cells_more, grown, keeps_cells}
+use Rattle.fancy_automaton.specs.Cells.{IsCellOf}
+use Rattle.fancy_automaton.proofs.cells.step_at.Goals as goal
+
+pub returns-clause-all : goal.returns-clause-all
+returns-clause-all c =
+    cells_more c.args.code.now c.args.cells.now.rows.items c.computed.new.rows.items c.args.cells.now.cells.items c.push.new.self.items c.args.row c.args.reading c.in_ok-cell.cell
+    c.in_ok-cell.ensures.kept c.requires.all c.in_ok-push.ensures.items c.in_ok-cell.ensures.from c.in_ok-cell.ensures.on c.in_ok-cell.ensures.cell
+
+pub returns-clause-cell : goal.returns-clause-cell
+returns-clause-cell c =
+    let n : c.len-k.result ≡ length c.args.cells.now.cells.items = omega arith in
+    cell_pushed c.args.cells.now.cells.items c.push.new.self.items c.len-k.result c.args.row c.args.reading c.in_ok-cell.cell c.in_ok-push.ensures.items n c.in_ok-cell.ensures.from c.in_ok-cell.ensures.on
+
+pub returns-clause-grown : goal.returns-clause-grown
+returns-clause-grown c = grown c.args.cells.now.cells.items c.push.new.self.items c.in_ok-cell.cell c.in_ok-push.ensures.items
+
+pub returns-in_err-cell-clause-all : goal.returns-in_err-cell-clause-all
+returns-in_err-cell-clause-all c =
+    keeps_cells c.args.code.now c.args.cells.now.rows.items c.computed.new.rows.items c.args.cells.now.cells.items c.computed.ensures.kept c.requires.all
+
+pub returns-in_err-push-clause-all : goal.returns-in_err-push-clause-all
+returns-in_err-push-clause-all c =
+    let same : c.push.new.self.items ≡ c.args.cells.now.cells.items = c.in_err-push.ensures.items in
+    subst (All (IsCellOf c.args.code.now c.computed.new.rows.items)) (sym same)
+    (keeps_cells c.args.code.now c.args.cells.now.rows.items c.computed.new.rows.items c.args.cells.now.cells.items c.computed.ensures.kept c.requires.all)
+
+pub returns-in_err-hint-clause-all : goal.returns-in_err-hint-clause-all
+returns-in_err-hint-clause-all c =
+    cells_more c.args.code.now c.args.cells.now.rows.items c.computed.new.rows.items c.args.cells.now.cells.items c.push.new.self.items c.args.row c.args.reading c.in_ok-cell.cell
+    c.computed.ensures.kept c.requires.all c.in_ok-push.ensures.items c.in_ok-cell.ensures.from c.in_ok-cell.ensures.on c.in_ok-cell.ensures.cell
