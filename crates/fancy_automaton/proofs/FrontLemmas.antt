@@ -1,6 +1,6 @@
 -- How far a search over remembered steps has come, step by step.
-use Rattle.std.proofs.Common.{◌≡◌, ℕ, ◌+◌, ◌∷◌, ◌++◌, [], List, Option, Some, None, ◌≤◌, ◌<◌, refl, sym, ap, ap₂, ◌∙◌, subst, length, get_or, true, false, option_map, map}
-use Rattle.std.specs.Prelude.{slice_get}
+use Rattle.std.proofs.Common.{◌≡◌, ℕ, ◌+◌, ◌∷◌, ◌++◌, [], List, Option, Some, None, ◌≤◌, ◌<◌, refl, sym, ap, ap₂, ◌∙◌, subst, arith, length, get_or, true, false, true≢false, option_map, map}
+use Rattle.std.specs.Prelude.{slice_get, is_some}
 use Rattle.std.proofs.lemmas.Option.{slice_get-get_or}
 use Rattle.std.specs.Option.{option_or}
 use Rattle.std.specs.Global.{Vec}
@@ -12,17 +12,21 @@ use Rattle.fancy_engine.specs.Reading.{unit_read}
 use Rattle.fancy_automaton.specs.declared.cells.Cell.{Cell}
 use Rattle.fancy_automaton.specs.declared.cells.Cells.{Cells}
 use Rattle.fancy_automaton.specs.declared.front.Front.{Front}
+use Rattle.fancy_automaton.specs.declared.trail.Beginning.{Beginning}
+use Rattle.fancy_automaton.specs.declared.trail.Beginning.TheVariants.{Known, Traced}
 use Rattle.fancy_automaton.specs.declared.trail.Hit.{Hit}
+use Rattle.fancy_automaton.specs.declared.trail.Trail.{Trail}
 use Rattle.fancy_automaton.specs.declared.trail.Visit.{Visit}
 use Rattle.fancy_automaton.specs.Cells.{IsFor, KeepsRows, KeepsCells, HasRow, HasCell, ways_at, row_if}
 use Rattle.fancy_automaton.specs.Front.{IsFront, ways_of, starts_of, found_of}
 use Rattle.fancy_automaton.specs.Futures.{ArePlain, unit_by, place_after}
 use Rattle.fancy_automaton.specs.Search.{Steady, begun_if, found_or}
 use Rattle.fancy_automaton.specs.Steps.{IsStep, at_of, start_in, span_by}
-use Rattle.fancy_automaton.specs.Trail.{starts_after, found_at, hit_or, and_start, AllVisited, HitIn}
+use Rattle.fancy_automaton.specs.Trail.{starts_after, starts_in, began_by, found_at, found_in_trail, hit_or, known_hit, and_start, AllVisited, IsBeginning, HitIn}
 use Rattle.fancy_automaton.specs.Ways.{match_end}
 use Rattle.fancy_automaton.proofs.CellLemmas.{row_ways, row_holds, row_later, row_here, cell_is, get_within}
 use Rattle.fancy_automaton.proofs.GoingLemmas.{going_first, going_step, going_same, going_past, going_bad, not_read}
+use Rattle.fancy_automaton.proofs.SearchLemmas.{no_items}
 use Rattle.fancy_automaton.proofs.TrailLemmas.{told_by, starts_visited, visited_keep, visited_more, hit_in}
 
 -- the row of a place is one that is remembered
@@ -114,3 +118,70 @@ front_bad a cells f place resume within same bad is = record {
   visits = is.visits;
   hits = is.hits;
 }
+
+known_found : (cells : List Cell) (base : List ℕ) (visits : List Visit) (found : Option Span) → found_at cells base visits (option_map known_hit found) ≡ found
+known_found cells base visits None = refl
+known_found cells base visits (Some s) = refl
+
+pub known_in : (visits : List Visit) (found : Option Span) → HitIn visits (option_map known_hit found)
+known_in visits None = tt
+known_in visits (Some s) = tt
+
+-- where the ways began, and the match, is known without the trail
+pub front_settled : (a : Attempt) (cells : Cells) (f later : Front) (place resume : ℕ) → later.next ≡ f.next → later.begun ≡ f.begun
+    → later.trail.base.items ≡ starts_of cells f → later.trail.visits.items ≡ [] → later.hit ≡ option_map known_hit (found_of cells f)
+    → IsFront a cells f place resume → IsFront a cells later place resume
+front_settled a cells f later place resume next begun base visits hit is =
+    let ways : ways_of cells f ≡ ways_of cells later = ap (ways_at cells.rows.items) (sym next) in
+    let starts : starts_of cells f ≡ starts_of cells later = sym base ∙ sym (ap (starts_after cells.cells.items later.trail.base.items) visits) in
+    let found : found_of cells f ≡ found_of cells later =
+    sym (known_found cells.cells.items later.trail.base.items later.trail.visits.items (found_of cells f)) ∙ sym (ap (found_at cells.cells.items later.trail.base.items later.trail.visits.items) hit) in
+    record {
+      all = is.all;
+      waits = subst (λ (ws : List ℕ). HasRow cells.rows.items later.next ws) ways (subst (λ (r : ℕ). HasRow cells.rows.items r (ways_of cells f)) (sym next) is.waits);
+      opens = subst (λ (ws : List ℕ). HasRow cells.rows.items later.begun (ws ++ a.code.now.start ∷ [])) ways (subst (λ (r : ℕ). HasRow cells.rows.items r (ways_of cells f ++ a.code.now.start ∷ [])) (sym begun) is.opens);
+      going = going_same a _ _ _ _ _ _ place resume resume ways starts found refl is.going;
+      visits = subst (AllVisited cells.cells.items) (sym visits) tt;
+      hits = subst (HitIn later.trail.visits.items) (sym hit) (known_in later.trail.visits.items (found_of cells f));
+    }
+
+known_anyway : (cells later : List Cell) (base : List ℕ) (hit : Option Hit) → HitIn [] hit → found_at cells base [] hit ≡ found_at later base [] hit
+known_anyway cells later base None is = refl
+known_anyway cells later base (Some h) is = ap (λ (s : ℕ). Some (record { start = s; end = h.end })) (by h.beginning is) where
+  by : (b : Beginning) → IsBeginning [] b → began_by cells base [] b ≡ began_by later base [] b
+  by (Known p) is = refl
+  by (Traced visit way) is = absurd (omega (arith, is))
+
+-- the same ways wait in rows of their own
+pub front_restarted : (a : Attempt) (cells later : Cells) (f g : Front) (place resume : ℕ) → f.trail.visits.items ≡ [] → IsFor later a.code.now
+    → HasRow later.rows.items g.next (ways_of cells f) → HasRow later.rows.items g.begun (ways_of cells f ++ a.code.now.start ∷ [])
+    → g.trail ≡ f.trail → g.hit ≡ f.hit → IsFront a cells f place resume → IsFront a later g place resume
+front_restarted a cells later f g place resume none all waits opens trail hit is =
+    let ways : ways_of later g ≡ ways_of cells f = row_ways later.rows.items g.next (ways_of cells f) waits in
+    let starts : starts_of cells f ≡ starts_of later g =
+    ap (starts_after cells.cells.items f.trail.base.items) none ∙ sym (ap (starts_after later.cells.items f.trail.base.items) none) ∙ ap (starts_in later.cells.items) (sym trail) in
+    let found : found_of cells f ≡ found_of later g =
+    ap (λ (vs : List Visit). found_at cells.cells.items f.trail.base.items vs f.hit) none
+    ∙ known_anyway cells.cells.items later.cells.items f.trail.base.items f.hit (subst (λ (vs : List Visit). HitIn vs f.hit) none is.hits)
+    ∙ sym (ap (λ (vs : List Visit). found_at later.cells.items f.trail.base.items vs f.hit) none)
+    ∙ ap₂ (λ (t : Trail) (h : Option Hit). found_in_trail later.cells.items t h) (sym trail) (sym hit) in
+    record {
+      all = all;
+      waits = row_holds later.rows.items g.next (ways_of cells f) waits;
+      opens = subst (λ (ws : List ℕ). HasRow later.rows.items g.begun (ws ++ a.code.now.start ∷ [])) (sym ways) opens;
+      going = going_same a _ _ _ _ _ _ place resume resume (sym ways) starts found refl is.going;
+      visits = subst (λ (t : Trail). AllVisited later.cells.items t.visits.items) (sym trail) (subst (AllVisited later.cells.items) (sym none) tt);
+      hits = subst (λ (t : Trail). HitIn t.visits.items g.hit) (sym trail) (subst (HitIn f.trail.visits.items) (sym hit) is.hits);
+    }
+
+-- no way waits, and nothing was found
+pub front_idle : (a : Attempt) (cells : Cells) (f g : Front) (place resume : ℕ) → ways_of cells f ≡ [] → f.hit ≡ None → g.next ≡ f.next → g.begun ≡ f.begun → g.hit ≡ f.hit
+    → g.trail.base.items ≡ [] → g.trail.visits.items ≡ [] → IsFront a cells f place resume → IsFront a cells g place resume
+front_idle a cells f g place resume idle nothing next begun hit base visits is =
+    let none : starts_of cells f ≡ [] = no_items (starts_of cells f) (is.going.even ∙ ap length idle) in
+    front_settled a cells f g place resume next begun (base ∙ sym none) visits
+    (hit ∙ nothing ∙ sym (ap (λ (h : Option Hit). option_map known_hit (found_at cells.cells.items f.trail.base.items f.trail.visits.items h)) nothing)) is
+
+pub not_some : (hit : Option Hit) → is_some hit ≡ false → hit ≡ None
+not_some None e = refl
+not_some (Some h) e = absurd (true≢false e)

@@ -1,5 +1,5 @@
 -- What an automaton remembers: rows of waiting instructions, and steps between them.
-use Rattle.std.specs.Prelude.{◌≡◌, ℕ, List, [], ◌∷◌, ◌++◌, Option, None, Some, All, map, option_map, slice_get}
+use Rattle.std.specs.Prelude.{◌≡◌, ◌+◌, ◌≤◌, ℕ, length, List, [], ◌∷◌, ◌++◌, Option, None, Some, All, map, option_map, slice_get}
 use Rattle.std.specs.Global.{Vec}
 use Rattle.fancy_input.specs.declared.span.Span.{Span}
 use Rattle.fancy_engine.specs.declared.code.Code.{Code}
@@ -58,3 +58,25 @@ HasCell a k row reading = (c : Cell) × (slice_get a.cells.items k ≡ Some c) �
 abbrev pub row_if : Option Span → ℕ → ℕ → ℕ
 row_if None next begun = begun
 row_if (Some s) next begun = next
+
+-- how many rows, steps and hints are kept at most
+abbrev pub most_rows : ℕ
+most_rows = 256
+
+abbrev pub most_cells : ℕ
+most_cells = 2048
+
+abbrev pub most_hints : ℕ
+most_hints = 65_536
+
+-- no more is remembered than that
+pub record IsWithin (a : Cells) : Type 0 where
+  pub rows : length a.rows.items ≤ most_rows
+  pub cells : length a.cells.items ≤ most_cells
+  pub hints : length a.hints.items ≤ most_hints
+
+-- and one more step with its two rows is not too much
+pub record HasPlace (a : Cells) : Type 0 where
+  pub rows : length a.rows.items + 2 ≤ most_rows
+  pub cells : length a.cells.items + 1 ≤ most_cells
+  pub hints : length a.hints.items ≤ most_hints

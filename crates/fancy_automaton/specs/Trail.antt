@@ -69,6 +69,10 @@ abbrev pub hit_or : Option Hit → Option ℕ → ℕ → ℕ → Option Hit
 hit_or hit None visit place = hit
 hit_or hit (Some way) visit place = Some (record { beginning = beginning.Traced visit way; end = place })
 
+-- a match that begins and ends there
+abbrev pub known_hit : Span → Hit
+known_hit s = record { beginning = beginning.Known s.start; end = s.end }
+
 -- the visit that a beginning names is one of the trail
 abbrev pub IsBeginning : List Visit → Beginning → Type 0
 IsBeginning visits (beginning.Known p) = Unit {0}
@@ -83,3 +87,7 @@ HitIn visits (Some h) = IsBeginning visits h.beginning
 abbrev pub AllVisited : List Cell → List Visit → Type 0
 AllVisited cells [] = Unit {0}
 AllVisited cells (v ∷ vs) = ((c : Cell) × (slice_get cells v.cell ≡ Some c)) × AllVisited cells vs
+
+-- how many steps a trail has at most
+abbrev pub most_visits : ℕ
+most_visits = 4096

@@ -3,8 +3,9 @@
 ghost use Rattle.std.specs.Prelude.{◌≡◌, ◌+◌, ◌++◌, ◌∷◌, [], ◌<◌, ◌≤◌, ℕ, true, IfOk, IfSome, map, length, option_map};
 ghost use Rattle.fancy_engine.specs.Code.{instrs_of, code_len};
 ghost use Rattle.fancy_engine.specs.Work.{steps_of, returns_of};
+ghost use Rattle.fancy_engine.specs.declared.code.Code.{Code};
 ghost use Rattle.fancy_automaton.specs.Steps.{from_of, at_of};
-ghost use Rattle.fancy_automaton.specs.Cells.{KeepsRows, KeepsCells, HasRow, HasCell, IsFor, IsCell};
+ghost use Rattle.fancy_automaton.specs.Cells.{KeepsRows, KeepsCells, HasRow, HasCell, HasPlace, IsFor, IsCell, IsWithin, most_rows, most_hints, ways_at};
 
 use crate::step::step_from;
 use crate::way::Way;
@@ -30,6 +31,13 @@ pub struct Cell {
     pub matched: Option<usize>,
 }
 
+/// The most rows that are kept. The hints of a row take 2 KB, so those of all rows 512 KB at most; searches of ordinary patterns make
+/// fewer than a hundred rows.
+pub const ROWS: usize = 256;
+
+/// The most steps that are kept, of some 150 bytes each, so 300 KB. Searches of ordinary patterns make some hundred.
+pub const CELLS: usize = 2048;
+
 /// Rows of waiting instructions, and steps between them. A row has each instruction in order of preference. Where a step is
 /// kept is a mere hint: what it leads to is tested.
 #[derive(Drop)]
@@ -45,10 +53,13 @@ pub struct Cells {
 }
 
 impl Cells {
+    ghost use Rattle.std.specs.Prelude.{false};
+
     /// Nothing is remembered.
     pub fn new(alloc: Global) -> Cells
         ensures rows { result.rows.items ≡ [] }
         ensures cells { result.cells.items ≡ [] }
+        ensures within { IsWithin result }
     {
         Cells {
             alloc,
@@ -56,6 +67,37 @@ impl Cells {
             cells: Vec::new(alloc),
             hints: Vec::new(alloc),
         }
+    }
+
+    /// Whether one more step may be one too many.
+    pub fn is_full(&self) -> bool
+        requires { IsWithin self.now }
+        ensures { result ≡ false → HasPlace self.now }
+    {
+        self.rows.len() > ROWS - 2 || self.cells.len() >= CELLS
+    }
+
+    /// Forgets all. The memory that it has is kept.
+    pub fn clear(&mut self)
+        ensures rows { self.new.rows.items ≡ [] }
+        ensures cells { self.new.cells.items ≡ [] }
+        ensures place { HasPlace self.new }
+    {
+        self.rows.clear();
+        self.cells.clear();
+        self.hints.clear();
+    }
+
+    /// Forgets all where one more step may be one too many.
+    pub fn make_place(&mut self)
+        requires { IsWithin self.old }
+        ensures all { (code : Code) → IsFor self.old code → IsFor self.new code }
+        ensures place { HasPlace self.new }
+    {
+        if !self.is_full() {
+            return;
+        }
+        self.clear();
     }
 }
 
@@ -70,6 +112,7 @@ fn are_same(a: &[usize], b: &[usize]) -> bool
 fn intern(rows: &mut Vec<Vec<usize>>, ways: Vec<usize>) -> Result<usize, AllocError>
     ensures kept { KeepsRows rows.old.items rows.new.items }
     ensures row { IfOk result (λ r. HasRow rows.new.items r ways.items) }
+    ensures more { length rows.new.items ≤ length rows.old.items + 1 }
 {
     for r in 0..rows.len() {
         if are_same(&rows[r], &ways) {
@@ -122,6 +165,7 @@ pub fn target_of(
     ensures kept { KeepsRows rows.old.items rows.new.items }
     ensures leads { IfOk result (λ t. HasRow rows.new.items t.next (map at_of next.now)) }
     ensures opens { IfOk result (λ t. HasRow rows.new.items t.begun (map at_of next.now ++ start ∷ [])) }
+    ensures more { length rows.new.items ≤ length rows.old.items + 2 }
 {
     let ways = instructions(alloc, next)?;
     let mut more = instructions(alloc, next)?;
@@ -142,6 +186,7 @@ fn computed(
 ) -> Result<Cell, AllocError>
     requires row { row < length rows.old.items }
     ensures kept { KeepsRows rows.old.items rows.new.items }
+    ensures more { length rows.new.items ≤ length rows.old.items + 2 }
     ensures from { IfOk result (λ c. c.row ≡ row) }
     ensures on { IfOk result (λ c. c.reading ≡ reading) }
     ensures cell { IfOk result (λ c. IsCell code.now rows.new.items row reading c.next c.begun c.came.items c.matched) }
@@ -181,9 +226,10 @@ fn column(reading: Option<Reading>) -> usize
 }
 
 /// The hint for a row and what is read, which may be false.
-fn hinted(hints: &[usize], row: usize, reading: Option<Reading>) -> Option<usize> {
-    let at = row.checked_mul(256)?.checked_add(column(reading))?;
-    hints.get(at).copied()
+fn hinted(hints: &[usize], row: usize, reading: Option<Reading>) -> Option<usize>
+    requires { row < most_rows }
+{
+    hints.get(row * 256 + column(reading)).copied()
 }
 
 /// Leaves a hint for a row and what is read.
@@ -192,16 +238,11 @@ fn hint(
     row: usize,
     reading: Option<Reading>,
     cell: usize,
-) -> Result<(), AllocError> {
-    let Some(base) = row.checked_mul(256) else {
-        return Ok(());
-    };
-    let Some(at) = base.checked_add(column(reading)) else {
-        return Ok(());
-    };
-    if at >= usize::MAX {
-        return Ok(());
-    }
+) -> Result<(), AllocError>
+    requires { row < most_rows }
+    ensures { length hints.old.items ≤ most_hints → length hints.new.items ≤ most_hints }
+{
+    let at = row * 256 + column(reading);
     if hints.len() <= at {
         hints.resize(at + 1, usize::MAX)?;
     }
@@ -224,6 +265,7 @@ fn is_same_reading(a: Option<Reading>, b: Option<Reading>) -> bool
 
 /// The number of the step from a row on what is read, if a hint leads to it.
 fn remembered(cells: &Cells, row: usize, reading: Option<Reading>) -> Option<usize>
+    requires { row < most_rows }
     ensures { IfSome result (λ k. HasCell cells.now k row reading) }
 {
     let k = hinted(&cells.hints, row, reading)?;
@@ -249,7 +291,9 @@ pub fn step_at(
     work: &mut Work,
 ) -> Result<usize, AllocError>
     requires row { row < length cells.old.rows.items }
+    requires place { HasPlace cells.old }
     requires all { IsFor cells.old code.now }
+    ensures within { IsWithin cells.new }
     ensures all { IsFor cells.new code.now }
     ensures kept { KeepsRows cells.old.rows.items cells.new.rows.items }
     ensures grown { KeepsCells cells.old.cells.items cells.new.cells.items }
@@ -266,4 +310,31 @@ pub fn step_at(
     cells.cells.push(cell)?;
     hint(&mut cells.hints, row, reading, k)?;
     Ok(k)
+}
+
+/// The instructions of a row, once more.
+fn copied(alloc: Global, ways: &[usize]) -> Result<Vec<usize>, AllocError>
+    ensures { IfOk result (λ copy. copy.items ≡ ways.now) }
+{
+    ways.to_vec(alloc)
+}
+
+/// Forgets all rows and steps but the row with this number, which is two rows then: its own, and that with one more way, which
+/// begins at `start`.
+pub fn restart(cells: &mut Cells, start: usize, row: usize) -> Result<Target, AllocError>
+    requires row { row < length cells.old.rows.items }
+    requires within { IsWithin cells.old }
+    ensures all { (code : Code) → IsFor cells.old code → IsFor cells.new code }
+    ensures waits { IfOk result (λ t. HasRow cells.new.rows.items t.next (ways_at cells.old.rows.items row)) }
+    ensures opens { IfOk result (λ t. HasRow cells.new.rows.items t.begun (ways_at cells.old.rows.items row ++ start ∷ [])) }
+    ensures within { IsWithin cells.new }
+    ensures place { IfOk result (λ _. HasPlace cells.new) }
+{
+    let ways = copied(cells.alloc, &cells.rows[row])?;
+    let mut more = copied(cells.alloc, &ways)?;
+    more.push(start)?;
+    cells.clear();
+    let next = intern(&mut cells.rows, ways)?;
+    let begun = intern(&mut cells.rows, more)?;
+    Ok(Target { next, begun })
 }

@@ -5,13 +5,15 @@ ghost use Rattle.fancy_engine.specs.Attempt.{context_in, instrs_in, may_end_in};
 ghost use Rattle.fancy_engine.specs.Code.{code_len};
 ghost use Rattle.fancy_engine.specs.Reading.{unit_read};
 ghost use Rattle.fancy_engine.specs.Work.{steps_of, returns_of};
-ghost use Rattle.fancy_automaton.specs.Cells.{IsFor};
+ghost use Rattle.fancy_engine.specs.declared.runner.Attempt.{Attempt};
+ghost use Rattle.fancy_automaton.specs.Cells.{HasPlace, IsFor, IsWithin};
+ghost use Rattle.fancy_automaton.specs.Trail.{HitIn, most_visits};
 ghost use Rattle.fancy_automaton.specs.Front.{IsFront, ways_of};
 ghost use Rattle.fancy_automaton.specs.Futures.{ArePlain, unit_by, place_after};
 ghost use Rattle.fancy_automaton.specs.Search.{Steady};
 
-use crate::cells::{Cells, step_at, target_of};
-use crate::trail::{Hit, Trail, Visit, hit_by, row_at, start_at};
+use crate::cells::{Cells, restart, step_at, target_of};
+use crate::trail::{Hit, Trail, VISITS, Visit, hit_by, row_at, settled, start_at, starts_in};
 use fancy_engine::code::Code;
 use fancy_engine::reading::{Reading, read_at};
 use fancy_engine::runner::Attempt;
@@ -37,7 +39,9 @@ impl Front {
 
     /// Before the first place: no way waits, and nothing was found.
     pub fn new(code: &Code, cells: &mut Cells) -> Result<Front, AllocError>
+        requires within { IsWithin cells.old }
         requires all { IsFor cells.old code.now }
+        ensures within { IsWithin cells.new }
         ensures all { IsFor cells.new code.now }
         ensures waits { IfOk result (λ f. HasRow cells.new.rows.items f.next []) }
         ensures opens { IfOk result (λ f. HasRow cells.new.rows.items f.begun (code.now.start ∷ [])) }
@@ -45,6 +49,7 @@ impl Front {
         ensures visits { IfOk result (λ f. f.trail.visits.items ≡ []) }
         ensures hit { IfOk result (λ f. f.hit ≡ None) }
     {
+        cells.make_place();
         let origin = target_of(cells.alloc, &mut cells.rows, code.start, &[])?;
         Ok(Front {
             next: origin.next,
@@ -69,9 +74,77 @@ impl Front {
         true
     }
 
-    /// Takes the step at a place, where a way begins unless something was found. The answer is the place where the ways wait then,
-    /// a byte offset.
-    pub fn advance(
+    /// Forgets the trail: where the ways began that wait, and the match that was found, is read from it first.
+    fn settle(&mut self, cells: &Cells) -> Result<(), AllocError>
+        requires hits { HitIn self.old.trail.visits.items self.old.hit }
+        ensures row { self.new.next ≡ self.old.next }
+        ensures visits { OnOk result (self.new.trail.visits.items ≡ []) }
+        ensures front { OnOk result ((a : Attempt) (place resume : ℕ)
+            → IsFront a cells.now self.old place resume → IsFront a cells.now self.new place resume) }
+    {
+        let starts = starts_in(cells.alloc, &cells.cells, &self.trail)?;
+        self.hit = settled(&cells.cells, &self.trail, self.hit);
+        self.trail.base = starts;
+        self.trail.visits.clear();
+        Ok(())
+    }
+
+    /// Forgets a trail that is as long as it may be.
+    fn shorten(&mut self, cells: &Cells) -> Result<(), AllocError>
+        requires hits { HitIn self.old.trail.visits.items self.old.hit }
+        ensures visits { OnOk result (length self.new.trail.visits.items < most_visits) }
+        ensures front { OnOk result ((a : Attempt) (place resume : ℕ)
+            → IsFront a cells.now self.old place resume → IsFront a cells.now self.new place resume) }
+    {
+        if self.trail.visits.len() < VISITS {
+            return Ok(());
+        }
+        self.settle(cells)
+    }
+
+    /// Forgets all but the row of the ways that wait, where one more step may be one too many.
+    fn make_place(&mut self, code: &Code, cells: &mut Cells) -> Result<(), AllocError>
+        requires row { self.old.next < length cells.old.rows.items }
+        requires hits { HitIn self.old.trail.visits.items self.old.hit }
+        requires within { IsWithin cells.old }
+        requires all { IsFor cells.old code.now }
+        ensures all { IsFor cells.new code.now }
+        ensures within { IsWithin cells.new }
+        ensures place { OnOk result (HasPlace cells.new) }
+        ensures visits { OnOk result (length self.old.trail.visits.items < most_visits
+            → length self.new.trail.visits.items < most_visits) }
+        ensures front { OnOk result ((a : Attempt) (place resume : ℕ) → a.code.now ≡ code.now
+            → IsFront a cells.old self.old place resume → IsFront a cells.new self.new place resume) }
+    {
+        if !cells.is_full() {
+            return Ok(());
+        }
+        self.settle(cells)?;
+        let target = restart(cells, code.start, self.next)?;
+        self.next = target.next;
+        self.begun = target.begun;
+        Ok(())
+    }
+
+    /// Forgets the trail where nothing was found and no way waits: no step of it is asked any more.
+    fn forget_idle(&mut self, cells: &Cells)
+        requires row { self.old.next < length cells.now.rows.items }
+        ensures visits { length self.new.trail.visits.items ≤ length self.old.trail.visits.items }
+        ensures front { (a : Attempt) (place resume : ℕ)
+            → IsFront a cells.now self.old place resume → IsFront a cells.now self.new place resume }
+    {
+        if self.hit.is_some() {
+            return;
+        }
+        if cells.rows[self.next].len() > 0 {
+            return;
+        }
+        self.trail.clear();
+    }
+
+    /// Takes the step at a place, where a way begins unless something was found. The answer is the place where the ways wait
+    /// then, a byte offset.
+    fn step(
         &mut self,
         attempt: &Attempt,
         cells: &mut Cells,
@@ -83,8 +156,12 @@ impl Front {
         requires plain { ArePlain (instrs_in attempt.now) }
         requires steady { Steady attempt.now }
         requires good { may_end_in attempt.now place ≡ true }
+        requires place { HasPlace cells.old }
+        requires visits { length self.old.trail.visits.items < most_visits }
         requires front { IsFront attempt.now cells.old self.old place place }
         ensures front { IfOk result (λ resume. IsFront attempt.now cells.new self.new (place + 1) resume) }
+        ensures visits { IfOk result (λ _. length self.new.trail.visits.items ≤ most_visits) }
+        ensures within { IsWithin cells.new }
         ensures all { IsFor cells.new attempt.now.code.now }
         ensures steps { steps_of work.old ≤ steps_of work.new }
         ensures bounded { steps_of work.new ≤ steps_of work.old + code_len attempt.now.code.now }
@@ -100,6 +177,37 @@ impl Front {
         self.begun = cell.begun;
         self.trail.visits.push(Visit { cell: k, start })?;
         Ok(place_after(place, reading, attempt.last))
+    }
+
+    /// Takes the step at a place, with room for it made before, and what is not asked any more forgotten after it. The answer is
+    /// the place where the ways wait then, a byte offset.
+    pub fn advance(
+        &mut self,
+        attempt: &Attempt,
+        cells: &mut Cells,
+        place: usize,
+        work: &mut Work,
+    ) -> Result<usize, AllocError>
+        requires within { place ≤ attempt.now.last }
+        requires inside { attempt.now.last ≤ length attempt.now.haystack.now }
+        requires plain { ArePlain (instrs_in attempt.now) }
+        requires steady { Steady attempt.now }
+        requires good { may_end_in attempt.now place ≡ true }
+        requires kept { IsWithin cells.old }
+        requires front { IsFront attempt.now cells.old self.old place place }
+        ensures front { IfOk result (λ resume. IsFront attempt.now cells.new self.new (place + 1) resume) }
+        ensures visits { IfOk result (λ _. length self.new.trail.visits.items ≤ most_visits) }
+        ensures kept { IsWithin cells.new }
+        ensures all { IsFor cells.new attempt.now.code.now }
+        ensures steps { steps_of work.old ≤ steps_of work.new }
+        ensures bounded { steps_of work.new ≤ steps_of work.old + code_len attempt.now.code.now }
+        ensures returns { returns_of work.new ≡ returns_of work.old }
+    {
+        self.shorten(cells)?;
+        self.make_place(attempt.code, cells)?;
+        let resume = self.step(attempt, cells, place, work)?;
+        self.forget_idle(cells);
+        Ok(resume)
     }
 }
 

@@ -9,7 +9,7 @@ ghost use Rattle.fancy_engine.specs.Compile.{IsCodeOf};
 ghost use Rattle.fancy_engine.specs.Queries.{query_of, unfiltered, most_steps};
 ghost use Rattle.fancy_engine.specs.Search.{search};
 ghost use Rattle.fancy_engine.specs.Work.{steps_of, returns_of};
-ghost use Rattle.fancy_automaton.specs.Cells.{IsFor};
+ghost use Rattle.fancy_automaton.specs.Cells.{IsFor, IsWithin};
 ghost use Rattle.fancy_automaton.specs.Futures.{ArePlain};
 ghost use Rattle.fancy_automaton.specs.Search.{BegunIn, KeepsPlaces, Steady, at_position, ends_in, found_in, leftmost_in};
 
@@ -36,10 +36,12 @@ fn find_span(
     requires ordered { attempt.now.first ≤ attempt.now.last }
     requires plain { ArePlain (instrs_in attempt.now) }
     requires steady { Steady attempt.now }
+    requires kept { IsWithin cells.old }
     requires all { IsFor cells.old attempt.now.code.now }
     ensures answer { IfOk result (λ found. (deep : ℕ) → BegunIn attempt.now deep
         → option_map ends_in found
         ≡ leftmost_in attempt.now deep (attempt.now.last + 1 - attempt.now.first) attempt.now.first) }
+    ensures kept { IsWithin cells.new }
     ensures all { IsFor cells.new attempt.now.code.now }
     ensures steps { steps_of work.old ≤ steps_of work.new }
     ensures bounded { steps_of work.new
@@ -67,8 +69,8 @@ fn find_span(
 /// Searches a haystack for the pattern of plain code: at which position the match is found that the runner's search finds, and
 /// where it ends, in byte offsets. A search is not anchored, and reads from boundary to boundary (`KeepsPlaces`).
 ///
-/// Steps are remembered in `cells`, which begins empty and serves any number of searches for one code. Each place of the range
-/// is read at most once, and fetches each instruction at most once; so no more steps are added to `work` than the code is
+/// Steps are remembered in `cells`, which begins empty and serves any number of searches for one code. It is cleared where it is
+/// full, as often as that is; no answer changes by that. Each place of the range is read at most once, and fetches each instruction at most once; so no more steps are added to `work` than the code is
 /// long, times the searched length plus one. No return is added.
 ///
 /// # Errors
@@ -86,9 +88,11 @@ pub fn find(
     requires plain { ArePlain (instrs_of code.now) }
     requires free { request.anchored ≡ false }
     requires reads { KeepsPlaces haystack.now code.now.meaning options.on_boundaries }
+    requires kept { IsWithin cells.old }
     requires all { IsFor cells.old code.now }
     ensures answer { IfOk result (λ found. (p : Pattern) (on : Bool) → IsCodeOf p code.now
         → found ≡ option_map found_in (search (query_of p code.now (unfiltered options) haystack.now request on))) }
+    ensures kept { IsWithin cells.new }
     ensures all { IsFor cells.new code.now }
     ensures steps { steps_of work.old ≤ steps_of work.new }
     ensures bounded { steps_of work.new ≤ steps_of work.old + most_steps code.now request }

@@ -1,13 +1,16 @@
 //! The steps that a search took: where a match began is read from them once it is found.
 
-ghost use Rattle.std.specs.Prelude.{◌≡◌, ◌<◌, ◌≤◌, ℕ, List, [], length, slice_get, slice_index};
-ghost use Rattle.fancy_automaton.specs.Trail.{came_at, starts_before, began_at, start_or, and_start, began_by, found_in_trail, hit_or, IsBeginning, HitIn};
+ghost use Rattle.std.specs.Prelude.{◌≡◌, ◌<◌, ◌≤◌, ℕ, List, [], IfOk, length, option_map, slice_get, slice_index};
+ghost use Rattle.fancy_automaton.specs.Trail.{came_at, starts_before, began_at, start_or, and_start, began_by, found_in_trail, hit_or, known_hit, starts_in, IsBeginning, HitIn};
 ghost use Rattle.fancy_automaton.specs.Cells.{row_if};
 ghost use Rattle.fancy_automaton.specs.Search.{begun_if};
 
 use crate::cells::Cell;
 use fancy_input::span::Span;
-use std::alloc::Global;
+use std::alloc::{AllocError, Global};
+
+/// The most steps of a trail, of 24 bytes each, so 100 KB.
+pub const VISITS: usize = 4096;
 
 /// A step that a search took.
 #[derive(Clone, Copy, PartialEq, Eq, Debug)]
@@ -37,6 +40,15 @@ impl Trail {
             base: Vec::new(alloc),
             visits: Vec::new(alloc),
         }
+    }
+
+    /// Forgets the steps, where no way waits after them. The memory that it has is kept.
+    pub fn clear(&mut self)
+        ensures base { self.new.base.items ≡ [] }
+        ensures visits { self.new.visits.items ≡ [] }
+    {
+        self.base.clear();
+        self.visits.clear();
     }
 }
 
@@ -193,4 +205,30 @@ pub fn span_of(cells: &[Cell], trail: &Trail, hit: Option<Hit>) -> Option<Span>
             end: hit.end,
         }),
     }
+}
+
+/// The same match, where it is known where it began: no step is needed to tell it.
+pub fn settled(cells: &[Cell], trail: &Trail, hit: Option<Hit>) -> Option<Hit>
+    requires { HitIn trail.now.visits.items hit }
+    ensures { result ≡ option_map known_hit (found_in_trail cells.now trail.now hit) }
+{
+    match span_of(cells, trail, hit) {
+        None => None,
+        Some(span) => Some(Hit {
+            beginning: Beginning::Known(span.start),
+            end: span.end,
+        }),
+    }
+}
+
+/// Where each way began that waits after a trail, in byte offsets.
+pub fn starts_in(alloc: Global, cells: &[Cell], trail: &Trail) -> Result<Vec<usize>, AllocError>
+    ensures { IfOk result (λ starts. starts.items ≡ starts_in cells.now trail.now) }
+{
+    let visits = trail.visits.len();
+    let mut starts = Vec::new(alloc);
+    for way in 0..waiting_after(cells, trail, visits) {
+        starts.push(start_after(cells, trail, visits, way))?;
+    }
+    Ok(starts)
 }
