@@ -68,6 +68,9 @@ cell_end : (cells : List Cell) (c : Cell) → slice_get (cells ++ c ∷ []) (len
 cell_end [] c = refl
 cell_end (x ∷ cells) c = cell_end cells c
 
+pub cell_last : (cells : List Cell) (c : Cell) (k : ℕ) → k ≡ length cells → slice_get (cells ++ c ∷ []) k ≡ Some c
+cell_last cells c k n = ap (slice_get (cells ++ c ∷ [])) n ∙ cell_end cells c
+
 pub cell_pushed : (cells later : List Cell) (k row : ℕ) (reading : Option Reading) (c : Cell) → later ≡ cells ++ c ∷ [] → k ≡ length cells → c.row ≡ row → c.reading ≡ reading
     → (x : Cell) × (slice_get later k ≡ Some x) × (x.row ≡ row) × (x.reading ≡ reading)
 cell_pushed cells later k row reading c e n r b = (c, ap (λ (x : List Cell). slice_get x k) e ∙ ap (slice_get (cells ++ c ∷ [])) n ∙ cell_end cells c, r, b)

@@ -5,6 +5,7 @@ ghost use Rattle.fancy_engine.specs.Code.{instrs_of, code_len};
 ghost use Rattle.fancy_engine.specs.Work.{steps_of, returns_of};
 ghost use Rattle.fancy_engine.specs.declared.code.Code.{Code};
 ghost use Rattle.fancy_automaton.specs.Steps.{from_of, at_of};
+ghost use Rattle.fancy_automaton.specs.Trail.{came_at};
 ghost use Rattle.fancy_automaton.specs.Cells.{KeepsRows, KeepsCells, HasRow, HasCell, HasPlace, IsFor, IsCell, IsWithin, most_rows, most_hints, ways_at};
 
 use crate::step::step_from;
@@ -282,7 +283,8 @@ fn remembered(cells: &Cells, row: usize, reading: Option<Reading>) -> Option<usi
     Some(k)
 }
 
-/// The number of the step from a row on what is read: one that is remembered, or else it is computed.
+/// The number of the step from a row on what is read: one that is remembered, or else it is computed. What is computed is
+/// counted in `work`: each way that it leads to costs a step at least.
 pub fn step_at(
     code: &Code,
     cells: &mut Cells,
@@ -300,6 +302,9 @@ pub fn step_at(
     ensures cell { IfOk result (λ k. HasCell cells.new k row reading) }
     ensures steps { steps_of work.old ≤ steps_of work.new }
     ensures bounded { steps_of work.new ≤ steps_of work.old + code_len code.now }
+    ensures counted { IfOk result (λ k. length cells.old.cells.items < length cells.new.cells.items
+        → steps_of work.new < usize.MAX
+        → length (came_at cells.new.cells.items k) + steps_of work.old ≤ steps_of work.new) }
     ensures returns { returns_of work.new ≡ returns_of work.old }
 {
     if let Some(k) = remembered(cells, row, reading) {

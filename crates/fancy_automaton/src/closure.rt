@@ -106,10 +106,11 @@ pub fn close(
         → AllKnown beyond next.new.items × (option_or (first_end later next.new.items) (match_end found here)
         ≡ first_end ends (reverse stack.old.items))) }
     ensures halts { reading ≡ None → next.new.items ≡ [] }
-    ensures width { length next.new.items ≤ code_len code.now }
+    ensures width { length next.new.items ≤ marked marks.new }
+    ensures room { marked marks.new ≤ code_len code.now }
     ensures steps { steps_of work.old ≤ steps_of work.new }
     ensures bounded { steps_of work.new ≤ steps_of work.old + code_len code.now }
-    ensures counted { steps_of work.new < usize.MAX → length next.new.items + steps_of work.old ≤ steps_of work.new }
+    ensures counted { steps_of work.new < usize.MAX → steps_of work.new ≡ steps_of work.old + marked marks.new }
     ensures returns { returns_of work.new ≡ returns_of work.old }
 {
     'ways: while let Some(way) = stack.pop() {

@@ -34,7 +34,7 @@ pub struct Front {
 }
 
 impl Front {
-    ghost use Rattle.std.specs.Prelude.{None, ◌∷◌, ◌++◌};
+    ghost use Rattle.std.specs.Prelude.{None, false, ◌∷◌, ◌++◌};
     ghost use Rattle.fancy_automaton.specs.Cells.{HasRow};
 
     /// Before the first place: no way waits, and nothing was found.
@@ -59,6 +59,14 @@ impl Front {
         })
     }
 
+    /// Whether some way waits.
+    fn has_waiting(&self, cells: &Cells) -> bool
+        requires { self.now.next < length cells.now.rows.items }
+        ensures { result ≡ false → ways_of cells.now self.now ≡ [] }
+    {
+        cells.rows[self.next].len() > 0
+    }
+
     /// Whether the search is over before the last place: something was found, and no way waits.
     pub fn is_over(&self, cells: &Cells) -> bool
         requires row { self.now.next < length cells.now.rows.items }
@@ -68,10 +76,7 @@ impl Front {
         if self.hit.is_none() {
             return false;
         }
-        if cells.rows[self.next].len() > 0 {
-            return false;
-        }
-        true
+        !self.has_waiting(cells)
     }
 
     /// Forgets the trail: where the ways began that wait, and the match that was found, is read from it first.
@@ -136,7 +141,7 @@ impl Front {
         if self.hit.is_some() {
             return;
         }
-        if cells.rows[self.next].len() > 0 {
+        if self.has_waiting(cells) {
             return;
         }
         self.trail.clear();

@@ -60,14 +60,14 @@ returns-then-branch-clause-halts c e = c.visit.ensures.halts e (c.ways.invariant
 pub returns-clause-halts : goal.returns-clause-halts
 returns-clause-halts c e = c.ways.invariant.halts e
 
-pub returns-in_err-visit-clause-width : goal.returns-in_err-visit-clause-width
-returns-in_err-visit-clause-width c = omega (arith, c.visit.ensures.width, c.ways.invariant.width, c.visit.ensures.room, c.ways.invariant.room, marked_le c.visit.new.marks)
+pub returns-in_err-visit-clause-room : goal.returns-in_err-visit-clause-room
+returns-in_err-visit-clause-room c = omega (arith, c.visit.ensures.room, c.ways.invariant.room, marked_le c.visit.new.marks)
 
-pub returns-then-branch-clause-width : goal.returns-then-branch-clause-width
-returns-then-branch-clause-width c = omega (arith, c.visit.ensures.width, c.ways.invariant.width, c.visit.ensures.room, c.ways.invariant.room, marked_le c.visit.new.marks)
+pub returns-then-branch-clause-room : goal.returns-then-branch-clause-room
+returns-then-branch-clause-room c = omega (arith, c.visit.ensures.room, c.ways.invariant.room, marked_le c.visit.new.marks)
 
-pub returns-clause-width : goal.returns-clause-width
-returns-clause-width c = omega (arith, c.ways.invariant.width, c.ways.invariant.room, marked_le c.ways.marks)
+pub returns-clause-room : goal.returns-clause-room
+returns-clause-room c = omega (arith, c.ways.invariant.room, marked_le c.ways.marks)
 
 pub returns-in_err-visit-clause-bounded : goal.returns-in_err-visit-clause-bounded
 returns-in_err-visit-clause-bounded c = omega (arith, c.visit.ensures.bounded, c.ways.invariant.bounded, c.visit.ensures.room, c.ways.invariant.room, marked_le c.visit.new.marks)
@@ -79,12 +79,7 @@ pub returns-clause-bounded : goal.returns-clause-bounded
 returns-clause-bounded c = omega (arith, c.ways.invariant.bounded, c.ways.invariant.room, marked_le c.ways.marks)
 
 pub returns-in_err-visit-clause-counted : goal.returns-in_err-visit-clause-counted
-returns-in_err-visit-clause-counted c lt =
-    omega (arith, c.visit.ensures.counted lt, c.ways.invariant.counted (omega (arith, lt, c.visit.ensures.steps)), c.visit.ensures.width, c.ways.invariant.width)
+returns-in_err-visit-clause-counted c lt = omega (arith, c.visit.ensures.counted lt, c.ways.invariant.counted (omega (arith, lt, c.visit.ensures.steps)))
 
 pub returns-then-branch-clause-counted : goal.returns-then-branch-clause-counted
-returns-then-branch-clause-counted c lt =
-    omega (arith, c.visit.ensures.counted lt, c.ways.invariant.counted (omega (arith, lt, c.visit.ensures.steps)), c.visit.ensures.width, c.ways.invariant.width)
-
-pub returns-clause-counted : goal.returns-clause-counted
-returns-clause-counted c lt = omega (arith, c.ways.invariant.counted lt, c.ways.invariant.width)
+returns-then-branch-clause-counted c lt = omega (arith, c.visit.ensures.counted lt, c.ways.invariant.counted (omega (arith, lt, c.visit.ensures.steps)))
