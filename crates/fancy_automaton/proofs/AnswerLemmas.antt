@@ -1,6 +1,6 @@
 -- What the ways find is the answer of the search.
-use Rattle.std.proofs.Common.{◌≡◌, ℕ, zero, suc, ◌+◌, ◌≤◌, Bool, true, false, List, [], ◌∷◌, length, Option, Some, None, refl, sym, ap, ap₂, ◌∙◌, subst, arith}
-use Rattle.std.specs.Prelude.{option_map, is_some, if◌then◌else◌}
+use Rattle.std.proofs.Common.{◌≡◌, ℕ, zero, suc, ◌+◌, ◌<◌, ◌≤◌, Bool, true, false, List, [], ◌∷◌, length, Option, Some, None, refl, sym, ap, ap₂, ◌∙◌, subst, arith}
+use Rattle.std.specs.Prelude.{slice_index, option_map, is_some, if◌then◌else◌}
 use Rattle.std.specs.Option.{option_or}
 use Rattle.fancy_input.specs.declared.span.Span.{Span}
 use Rattle.fancy_engine.specs.declared.code.Code.{Code}
@@ -14,6 +14,10 @@ use Rattle.fancy_engine.specs.Threads.{state_of, starts_of}
 use Rattle.fancy_engine.proofs.EasyCode.{Alike, BothAlike, run_both}
 use Rattle.fancy_engine.proofs.EasyContinues.{continued_at}
 use Rattle.fancy_engine.proofs.Keeps.{known_keeps}
+use Rattle.fancy_engine.specs.Seen.{MayNotStart}
+use Rattle.fancy_engine.proofs.SkipLemmas.{none_starts}
+use Rattle.fancy_bytes.specs.Firsts.{AreStartBytes}
+use Rattle.fancy_tree.specs.declared.tree.Meaning.{Meaning}
 use Rattle.fancy_engine.proofs.RunnerSearch.{first_thread, deep, attempt_known, attempt_answer, search_hit, search_miss, search_skip, search_over}
 use Rattle.fancy_automaton.specs.Ways.{tagged}
 use Rattle.fancy_automaton.specs.Futures.{place_of, end_at, leftmost}
@@ -121,6 +125,13 @@ module _ (q : Query) (code : Code) (is : IsCodeOf q.sought.pattern code) (groups
   end_is p le may =
       sym (both_place (ends_well Good) (λ s r e. ap Good e) _ _ (alike p))
       ∙ ap (option_map place_of) (answer_is p le may)
+
+  -- nothing is found where no match may start
+  pub starts_none : ((k : ℕ) → slice_index q.haystack k < 256) → (p : ℕ) → p ≤ q.request.range_end → Good p ≡ true
+      → MayNotStart code.start_bytes q.haystack q.request.range_end p → end_at Good x q.request.range_end (instrs_of code) Deep p code.start ≡ None
+  starts_none bytes p le may never =
+      end_is p le may
+      ∙ ap (option_map place_of) (none_starts q code.start_bytes (subst (λ (m : Meaning). AreStartBytes m q.sought.pattern code.start_bytes) (sym meant) is.starts) bytes p never)
 
   -- a match starts at its position
   kept_is : (p : ℕ) (s : State) → p ≤ q.request.range_end → Good p ≡ true → answer_at q p ≡ Some s → s.kept ≡ p

@@ -1,5 +1,5 @@
 -- How far a search over remembered steps has come, step by step.
-use Rattle.std.proofs.Common.{◌≡◌, ℕ, ◌+◌, ◌∷◌, ◌++◌, [], List, Option, Some, None, ◌≤◌, ◌<◌, refl, sym, ap, ap₂, ◌∙◌, subst, arith, length, get_or, true, false, true≢false, option_map, map}
+use Rattle.std.proofs.Common.{◌≡◌, ℕ, ◌+◌, ◌∷◌, ◌++◌, [], List, Option, Some, None, ◌≤◌, inr, refl, sym, ap, ap₂, ◌∙◌, subst, arith, length, get_or, true, false, true≢false, option_map, map}
 use Rattle.std.specs.Prelude.{slice_get, is_some}
 use Rattle.std.proofs.lemmas.Option.{slice_get-get_or}
 use Rattle.std.specs.Option.{option_or}
@@ -9,6 +9,7 @@ use Rattle.fancy_engine.specs.declared.reading.Reading.{Reading}
 use Rattle.fancy_engine.specs.declared.runner.Attempt.{Attempt}
 use Rattle.fancy_engine.specs.Attempt.{context_in, instrs_in, may_end_in}
 use Rattle.fancy_engine.specs.Reading.{unit_read}
+use Rattle.fancy_engine.specs.Seen.{NoneMayStart}
 use Rattle.fancy_automaton.specs.declared.cells.Cell.{Cell}
 use Rattle.fancy_automaton.specs.declared.cells.Cells.{Cells}
 use Rattle.fancy_automaton.specs.declared.front.Front.{Front}
@@ -20,12 +21,12 @@ use Rattle.fancy_automaton.specs.declared.trail.Visit.{Visit}
 use Rattle.fancy_automaton.specs.Cells.{IsFor, KeepsRows, KeepsCells, HasRow, HasCell, ways_at, row_if}
 use Rattle.fancy_automaton.specs.Front.{IsFront, ways_of, starts_of, found_of}
 use Rattle.fancy_automaton.specs.Futures.{ArePlain, unit_by, place_after}
-use Rattle.fancy_automaton.specs.Search.{Steady, begun_if, found_or}
+use Rattle.fancy_automaton.specs.Search.{Steady, Going, begun_if, found_or}
 use Rattle.fancy_automaton.specs.Steps.{IsStep, at_of, start_in, span_by}
 use Rattle.fancy_automaton.specs.Trail.{starts_after, starts_in, began_by, found_at, found_in_trail, hit_or, known_hit, and_start, AllVisited, IsBeginning, HitIn}
 use Rattle.fancy_automaton.specs.Ways.{match_end}
 use Rattle.fancy_automaton.proofs.CellLemmas.{row_ways, row_holds, row_later, row_here, cell_is, get_within}
-use Rattle.fancy_automaton.proofs.GoingLemmas.{going_first, going_step, going_same, going_past, going_bad, not_read}
+use Rattle.fancy_automaton.proofs.GoingLemmas.{going_first, going_step, going_same, going_on, going_idle, going_bad, not_read}
 use Rattle.fancy_automaton.proofs.SearchLemmas.{no_items}
 use Rattle.fancy_automaton.proofs.TrailLemmas.{told_by, starts_visited, visited_keep, visited_more, hit_in}
 
@@ -96,28 +97,26 @@ front_first a cells f all waits opens base visits hit =
       hits = subst (HitIn f.trail.visits.items) (sym hit) tt;
     }
 
--- a place inside of what was read
-pub front_past : (a : Attempt) (cells : Cells) (f : Front) (place resume : ℕ) → place ≤ a.last → place < resume → IsFront a cells f place resume → IsFront a cells f (place + 1) resume
-front_past a cells f place resume within lt is = record {
-  all = is.all;
-  waits = is.waits;
-  opens = is.opens;
-  going = going_past a _ _ _ place resume within lt is.going;
-  visits = is.visits;
-  hits = is.hits;
-}
+module _ (a : Attempt) (cells : Cells) (f : Front) where
+  -- the same, where more is known of where the ways wait
+  front_by : (place place' resume resume' : ℕ) → IsFront a cells f place resume → Going a (ways_of cells f) (starts_of cells f) (found_of cells f) place' resume'
+      → IsFront a cells f place' resume'
+  front_by place place' resume resume' is going = record { all = is.all; waits = is.waits; opens = is.opens; going = going; visits = is.visits; hits = is.hits }
 
--- a place where no match may begin or end
-pub front_bad : (a : Attempt) (cells : Cells) (f : Front) (place resume : ℕ) → place ≤ a.last → place ≡ resume → may_end_in a place ≡ false → IsFront a cells f place resume
-    → IsFront a cells f (place + 1) (place + 1)
-front_bad a cells f place resume within same bad is = record {
-  all = is.all;
-  waits = is.waits;
-  opens = is.opens;
-  going = going_bad a _ _ _ place resume within same bad is.going;
-  visits = is.visits;
-  hits = is.hits;
-}
+  -- on to the place where the ways wait
+  pub front_on : (place resume : ℕ) → resume ≤ a.last + 1 → IsFront a cells f place resume → IsFront a cells f resume resume
+  front_on place resume within is = front_by place resume resume resume is (going_on a _ _ _ place resume within is.going)
+
+  -- a place where no match may begin or end
+  pub front_bad : (place : ℕ) → place ≤ a.last → may_end_in a place ≡ false → IsFront a cells f place place → IsFront a cells f (place + 1) (place + 1)
+  front_bad place within bad is = front_by place (place + 1) place (place + 1) is (going_bad a _ _ _ place within bad is.going)
+
+  -- where no way waits, places are passed over where no match may start
+  pub front_skips : (place resume : ℕ) → ways_of cells f ≡ [] → place ≤ resume → resume ≤ a.last + 1
+      → NoneMayStart a.code.now.start_bytes a.haystack.now a.last place resume → IsFront a cells f place place → IsFront a cells f resume resume
+  front_skips place resume idle ahead within none is =
+      front_by place resume place resume is
+      (going_idle a _ _ _ place resume ahead within (no_items (starts_of cells f) (is.going.even ∙ ap length idle)) (λ k low high. inr (none k low high)) is.going)
 
 known_found : (cells : List Cell) (base : List ℕ) (visits : List Visit) (found : Option Span) → found_at cells base visits (option_map known_hit found) ≡ found
 known_found cells base visits None = refl

@@ -1,5 +1,5 @@
 -- How far a search has come, place by place.
-use Rattle.std.proofs.Common.{◌≡◌, ℕ, ◌+◌, ◌-◌, ◌*◌, ◌<◌, ◌≤◌, ◌⊎◌, inl, inr, Bool, true, false, List, [], Option, Some, None, refl, sym, ap, ◌∙◌, subst, arith, length, map, true≢false}
+use Rattle.std.proofs.Common.{◌≡◌, ℕ, zero, suc, ◌+◌, ◌-◌, ◌*◌, ◌<◌, ◌≤◌, ◌⊎◌, inl, inr, Bool, true, false, List, [], Option, Some, None, refl, sym, ap, ◌∙◌, subst, arith, length, map, true≢false}
 use Rattle.std.specs.Prelude.{nat_le, if◌then◌else◌, option_map, is_some}
 use Rattle.std.specs.Option.{option_or}
 use Rattle.std.proofs.Math.Nat.{mul-le-mul_left}
@@ -12,10 +12,10 @@ use Rattle.fancy_engine.specs.Context.{Unit_at, unit_at, unit_in}
 use Rattle.fancy_engine.specs.Reading.{unit_read}
 use Rattle.fancy_automaton.specs.declared.way.Way.{Way}
 use Rattle.fancy_automaton.specs.Ways.{match_end}
-use Rattle.fancy_automaton.specs.Futures.{ArePlain, cut, unit_by, place_after}
+use Rattle.fancy_automaton.specs.Futures.{ArePlain, end_at, start_end, cut, unit_by, place_after}
 use Rattle.fancy_automaton.specs.Steps.{IsStep, span_by, at_of, start_in}
-use Rattle.fancy_automaton.specs.Search.{BegunIn, UnderIn, leftmost_in, ends_in, found_or, begun_if, Steady, Going}
-use Rattle.fancy_automaton.proofs.SearchLemmas.{under_bad, under_moved, under_none, under_begun_if, under_step, left_over, no_items, same_length}
+use Rattle.fancy_automaton.specs.Search.{BegunIn, Passes, UnderIn, leftmost_in, ends_in, found_or, begun_if, Steady, Going}
+use Rattle.fancy_automaton.proofs.SearchLemmas.{under_passed, under_moved, under_none, under_begun_if, under_step, left_over, no_items, same_length}
 
 found_none : (found : Option Span) → found_or found None ≡ option_map ends_in found
 found_none None = refl
@@ -49,40 +49,67 @@ module _ (a : Attempt) where
       (subst (λ (ss : List ℕ). Goes ways ss found' place resume') s
       (subst (λ (o : Option Span). Goes ways starts o place resume') f (subst (λ (p : ℕ). Goes ways starts found place p) e g)))
 
-  -- a place inside of what was read
-  pub going_past : (ways starts : List ℕ) (found : Option Span) (place resume : ℕ) → place ≤ a.last → place < resume
+  -- nothing is found where no match may begin
+  passed_none : (deep k : ℕ) → BegunIn a deep → k ≤ a.last → Passes a k → start_end (may_end_in a) (context_in a) a.last (instrs_in a) deep a.code.now.start k ≡ None
+  passed_none deep k begun within (inl bad) =
+      ap (λ (b : Bool). if b then (end_at (may_end_in a) (context_in a) a.last (instrs_in a) deep k a.code.now.start) else None) bad
+  passed_none deep k begun within (inr never) = by (may_end_in a k) refl where
+    by : (b : Bool) → may_end_in a k ≡ b → (if b then (end_at (may_end_in a) (context_in a) a.last (instrs_in a) deep k a.code.now.start) else None) ≡ None
+    by true may = begun.starts k within may never
+    by false may = refl
+
+  -- a place where nothing begins
+  going_past : (ways starts : List ℕ) (found : Option Span) (place resume : ℕ) → place ≤ a.last → place < resume
       → Goes ways starts found place resume → Goes ways starts found (place + 1) resume
   going_past ways starts found place resume within lt g = record {
     under = λ deep begun.
-        under_bad (may_end_in a) (context_in a) a.last (instrs_in a) deep a.code.now.start _ found ways starts place resume (a.last + 1 - place) (a.last + 1 - (place + 1)) (omega arith)
-        (g.inside place (omega arith) lt) (g.under deep begun);
+        under_passed (may_end_in a) (context_in a) a.last (instrs_in a) deep a.code.now.start _ found ways starts place resume (a.last + 1 - place) (a.last + 1 - (place + 1)) (omega arith)
+        (passed_none deep place begun within (g.inside place (omega arith) lt)) (g.under deep begun);
     even = g.even;
     ahead = omega arith;
     inside = λ k low high. g.inside k (omega (arith, low)) high;
     rests = g.rests;
   }
 
+  going_far : (ways starts : List ℕ) (found : Option Span) (d place resume : ℕ) → resume ≡ place + d → resume ≤ a.last + 1
+      → Goes ways starts found place resume → Goes ways starts found resume resume
+  going_far ways starts found zero place resume e within g = let same : place ≡ resume = omega (arith, e) in subst (λ (p : ℕ). Goes ways starts found p resume) same g
+  going_far ways starts found (suc d) place resume e within g =
+      going_far ways starts found d (place + 1) resume (omega (arith, e)) within (going_past ways starts found place resume (omega (arith, e, within)) (omega (arith, e)) g)
+
+  -- on to the place where the ways wait
+  pub going_on : (ways starts : List ℕ) (found : Option Span) (place resume : ℕ) → resume ≤ a.last + 1
+      → Goes ways starts found place resume → Goes ways starts found resume resume
+  going_on ways starts found place resume within g =
+      let ahead : place ≤ resume = g.ahead in
+      going_far ways starts found (resume - place) place resume (omega (arith, ahead)) within g
+
+  -- where no way waits, the places may be passed over where no match may begin
+  pub going_idle : (ways starts : List ℕ) (found : Option Span) (place resume : ℕ) → place ≤ resume → resume ≤ a.last + 1 → starts ≡ []
+      → ((k : ℕ) → place ≤ k → k < resume → Passes a k) → Goes ways starts found place place → Goes ways starts found resume resume
+  going_idle ways starts found place resume ahead within none passes g =
+      going_on ways starts found place resume within (record {
+        under = λ deep begun.
+            under_moved (may_end_in a) (context_in a) a.last (instrs_in a) deep a.code.now.start _ ways starts place resume _ (no_items ways (sym g.even ∙ ap length none)) (g.under deep begun);
+        even = g.even;
+        ahead = ahead;
+        inside = passes;
+        rests = inr none;
+      })
+
   -- no way waits where no match may end
-  going_none : (ways starts : List ℕ) (found : Option Span) (place resume : ℕ) → place ≡ resume → may_end_in a place ≡ false → Goes ways starts found place resume → starts ≡ []
-  going_none ways starts found place resume same bad g =
+  going_none : (ways starts : List ℕ) (found : Option Span) (place : ℕ) → may_end_in a place ≡ false → Goes ways starts found place place → starts ≡ []
+  going_none ways starts found place bad g =
       elim g.rests [
-        | inl here ↦ absurd (true≢false (sym here.0 ∙ ap (may_end_in a) (sym same) ∙ bad))
+        | inl here ↦ absurd (true≢false (sym here.0 ∙ bad))
         | inr none ↦ none
       ]
 
-  pub going_bad : (ways starts : List ℕ) (found : Option Span) (place resume : ℕ) → place ≤ a.last → place ≡ resume → may_end_in a place ≡ false
-      → Goes ways starts found place resume → Goes ways starts found (place + 1) (place + 1)
-  going_bad ways starts found place resume within same bad g =
-      let none = going_none ways starts found place resume same bad g in
-      record {
-        under = λ deep begun.
-            under_moved (may_end_in a) (context_in a) a.last (instrs_in a) deep a.code.now.start _ ways starts resume (place + 1) _ (no_items ways (sym g.even ∙ ap length none))
-            (under_bad (may_end_in a) (context_in a) a.last (instrs_in a) deep a.code.now.start _ found ways starts place resume (a.last + 1 - place) (a.last + 1 - (place + 1)) (omega arith) bad (g.under deep begun));
-        even = g.even;
-        ahead = omega arith;
-        inside = λ k low high. absurd (omega (arith, low, high));
-        rests = inr none;
-      }
+  pub going_bad : (ways starts : List ℕ) (found : Option Span) (place : ℕ) → place ≤ a.last → may_end_in a place ≡ false
+      → Goes ways starts found place place → Goes ways starts found (place + 1) (place + 1)
+  going_bad ways starts found place within bad g =
+      going_idle ways starts found place (place + 1) (omega arith) (omega (arith, within)) (going_none ways starts found place bad g)
+      (λ k low high. let same : place ≡ k = omega (arith, low, high) in inl (sym (ap (may_end_in a) same) ∙ bad)) g
 
   -- where what is read leads
   abbrev Reaches : ℕ → Option Unit_at → Type 0
@@ -118,14 +145,14 @@ module _ (a : Attempt) where
       let r = subst (Reaches place) (sym is) (reaches_cut steady place within fine (unit_in a.code.now.meaning a.haystack.now place) refl) in
       record {
         under = λ deep begun.
-            (let now = under_begun_if (may_end_in a) (context_in a) a.last (instrs_in a) deep a.code.now.start _ found ways starts place (a.last + 1 - place) (a.last + 1 - (place + 1)) (omega arith) fine within begun (g.under deep begun) in
+            (let now = under_begun_if (may_end_in a) (context_in a) a.last (instrs_in a) deep a.code.now.start _ found ways starts place (a.last + 1 - place) (a.last + 1 - (place + 1)) (omega arith) fine within begun.known (g.under deep begun) in
             let rest = leftmost_in a deep (a.last + 1 - (place + 1)) (place + 1) in
             let after_it = under_step (may_end_in a) (context_in a) a.last (instrs_in a) deep a.code.now.start _ plain (begun_if found ways a.code.now.start) (begun_if found starts place) place u next matched (found_or found rest) fine
             read step now in
             subst (λ (o : Option (ℕ × ℕ)). UnderIn a deep (map at_of next) (map (start_in (begun_if found starts place)) next) (place_after place u) o) (sym (told rest)) after_it);
         even = same_length next (begun_if found starts place);
         ahead = r.0;
-        inside = r.1;
+        inside = λ k low high. inl (r.1 k low high);
         rests = elim r.2 [
           | inl well ↦ inl well
           | inr none ↦ inr (ap (map (start_in (begun_if found starts place))) (halts none))
@@ -133,16 +160,16 @@ module _ (a : Attempt) where
       }
 
   -- after the last place
-  pub going_end : (ways starts : List ℕ) (found : Option Span) (place resume deep : ℕ) → place ≡ a.last + 1 → BegunIn a deep
-      → Goes ways starts found place resume → option_map ends_in found ≡ leftmost_in a deep (a.last + 1 - a.first) a.first
-  going_end ways starts found place resume deep over begun g =
+  pub going_end : (ways starts : List ℕ) (found : Option Span) (place deep : ℕ) → a.last < place → place ≤ a.last + 1 → BegunIn a deep
+      → Goes ways starts found place place → option_map ends_in found ≡ leftmost_in a deep (a.last + 1 - a.first) a.first
+  going_end ways starts found place deep over within begun g =
       let none : starts ≡ [] = elim g.rests [
-        | inl here ↦ absurd (let le : place ≤ resume = g.ahead in let most : resume ≤ a.last = here.1 in omega arith)
+        | inl here ↦ absurd (let most : place ≤ a.last = here.1 in omega (arith, most, over))
         | inr none ↦ none
       ] in
       sym (found_none found)
-      ∙ ap (found_or found) (sym (left_over (may_end_in a) (context_in a) a.last (instrs_in a) deep a.code.now.start (a.last + 1 - place) place (omega arith)))
-      ∙ under_none (may_end_in a) (context_in a) a.last (instrs_in a) deep a.code.now.start _ ways starts resume _ (no_items ways (sym g.even ∙ ap length none)) (g.under deep begun)
+      ∙ ap (found_or found) (sym (left_over (may_end_in a) (context_in a) a.last (instrs_in a) deep a.code.now.start (a.last + 1 - place) place (omega (arith, over))))
+      ∙ under_none (may_end_in a) (context_in a) a.last (instrs_in a) deep a.code.now.start _ ways starts place _ (no_items ways (sym g.even ∙ ap length none)) (g.under deep begun)
 
   -- something was found, and no way waits
   pub going_over : (ways starts : List ℕ) (found : Option Span) (place resume deep : ℕ) → ways ≡ [] → is_some found ≡ true → BegunIn a deep
@@ -154,20 +181,20 @@ module _ (a : Attempt) where
 one_place : (c n m : ℕ) → m ≡ n + 1 → c * m ≡ c * n + c
 one_place c n m e = ap (λ (k : ℕ). c * k) e ∙ omega arith
 
--- the steps of one place further
-pub steps_more : (c first place s before after : ℕ) → first ≤ place → before ≤ s + c * (place - first) → after ≤ before + c → after ≤ s + c * (place + 1 - first)
-steps_more c first place s before after le b more =
-    let e : place + 1 - first ≡ place - first + 1 = omega arith in
-    let m : c * (place + 1 - first) ≡ c * (place - first) + c = one_place c (place - first) (place + 1 - first) e in
-    omega (arith, m)
+-- the steps of one place, and those after it
+pub steps_more : (c first place next s before after : ℕ) → first ≤ place → place < next → before ≤ s + c * (place - first) → after ≤ before + c → after ≤ s + c * (next - first)
+steps_more c first place next s before after le lt b more =
+    let m : c * (place + 1 - first) ≡ c * (place - first) + c = one_place c (place - first) (place + 1 - first) (omega (arith, le)) in
+    let up : c * (place + 1 - first) ≤ c * (next - first) = mul-le-mul_left c (omega (arith, lt)) in
+    omega (arith, m, up, b, more)
+
+-- places that are passed over add to the bound
+pub steps_up : (c first place next s before : ℕ) → place ≤ next → before ≤ s + c * (place - first) → before ≤ s + c * (next - first)
+steps_up c first place next s before le b =
+    let up : c * (place - first) ≤ c * (next - first) = mul-le-mul_left c (omega (arith, le)) in
+    omega (arith, up, b)
 
 -- nothing is read where there is no reading
 pub not_read : (r : Option Reading) → option_map unit_read r ≡ None → r ≡ None
 not_read None e = refl
 not_read (Some x) e = cc
-
--- the places that are left add to the bound
-pub steps_up : (c first place last s before : ℕ) → first ≤ place → place ≤ last + 1 → before ≤ s + c * (place - first) → before ≤ s + c * (last + 1 - first)
-steps_up c first place last s before le within b =
-    let up : c * (place - first) ≤ c * (last + 1 - first) = mul-le-mul_left c (omega arith) in
-    omega (arith, up)

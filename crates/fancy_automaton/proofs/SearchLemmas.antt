@@ -1,5 +1,5 @@
 -- A search by all ways at once, place by place.
-use Rattle.std.proofs.Common.{◌≡◌, ℕ, suc, ◌+◌, ◌≤◌, Bool, true, false, List, [], ◌∷◌, ◌++◌, Option, Some, None, refl, sym, ap, ◌∙◌, subst, arith, length, map, length-append}
+use Rattle.std.proofs.Common.{◌≡◌, ℕ, suc, ◌+◌, ◌≤◌, Bool, true, List, [], ◌∷◌, ◌++◌, Option, Some, None, refl, sym, ap, ◌∙◌, subst, arith, length, map, length-append}
 use Rattle.std.specs.Prelude.{if◌then◌else◌}
 use Rattle.std.specs.Option.{option_or}
 use Rattle.fancy_engine.specs.Instructions.{Instruction}
@@ -8,7 +8,7 @@ use Rattle.fancy_engine.specs.Runner.{rank}
 use Rattle.fancy_input.specs.declared.span.Span.{Span}
 use Rattle.fancy_automaton.specs.declared.way.Way.{Way}
 use Rattle.fancy_automaton.specs.Ways.{tagged, first_end, match_end, AllKnown}
-use Rattle.fancy_automaton.specs.Futures.{ArePlain, end_at, known_at, unit_by, place_after, leftmost}
+use Rattle.fancy_automaton.specs.Futures.{ArePlain, end_at, known_at, unit_by, place_after, leftmost, start_end}
 use Rattle.fancy_automaton.specs.Steps.{waiting, IsStep, span_by, first_span, at_of, start_in}
 use Rattle.fancy_automaton.specs.Search.{Begun, Under, begun_if, found_or}
 use Rattle.fancy_automaton.proofs.FutureLemmas.{solves}
@@ -27,10 +27,9 @@ module _ (good : ℕ → Bool) (x : Context) (limit : ℕ) (code : List Instruct
   abbrev Left : ℕ → ℕ → Option (ℕ × ℕ)
   Left n p = leftmost good x limit code deep start n p
 
-  -- nothing begins at a place where no match may begin
-  pub left_bad : (n m p : ℕ) → n ≡ suc m → good p ≡ false → Left n p ≡ Left m (p + 1)
-  left_bad n m p e bad =
-      ap (λ (k : ℕ). Left k p) e ∙ ap (λ (b : Bool). option_or (tagged p (if b then (end_at good x limit code deep p start) else None)) (Left m (p + 1))) bad
+  -- nothing begins where nothing is found
+  left_none : (n m p : ℕ) → n ≡ suc m → start_end good x limit code deep start p ≡ None → Left n p ≡ Left m (p + 1)
+  left_none n m p e none = ap (λ (k : ℕ). Left k p) e ∙ ap (λ (o : Option ℕ). option_or (tagged p o) (Left m (p + 1))) none
 
   left_good : (n m p : ℕ) → n ≡ suc m → good p ≡ true → Left n p ≡ option_or (tagged p (end_at good x limit code deep p start)) (Left m (p + 1))
   left_good n m p e fine =
@@ -81,9 +80,9 @@ module _ (good : ℕ → Bool) (x : Context) (limit : ℕ) (code : List Instruct
     under_begun_if None ways starts place n m e fine inside begun u = under_begun ways starts place n m e fine inside begun u
     under_begun_if (Some f) ways starts place n m e fine inside begun u = u
 
-    pub under_bad : (found : Option Span) (ways starts : List ℕ) (place resume n m : ℕ) → n ≡ suc m → good place ≡ false
+    pub under_passed : (found : Option Span) (ways starts : List ℕ) (place resume n m : ℕ) → n ≡ suc m → start_end good x limit code deep start place ≡ None
         → Holds ways starts resume (found_or found (Left n place)) → Holds ways starts resume (found_or found (Left m (place + 1)))
-    under_bad found ways starts place resume n m e bad u = under_rest ways starts resume _ _ (ap (found_or found) (left_bad n m place e bad)) u
+    under_passed found ways starts place resume n m e none u = under_rest ways starts resume _ _ (ap (found_or found) (left_none n m place e none)) u
 
     -- a step
     pub under_step : ArePlain code → (ways starts : List ℕ) (place : ℕ) (u : Option Unit_at) (next : List Way) (matched : Option ℕ) (rest : Option (ℕ × ℕ)) → good place ≡ true

@@ -10,6 +10,7 @@ use Rattle.fancy_engine.specs.declared.found.Found.{Found}
 use Rattle.fancy_engine.specs.declared.runner.Attempt.{Attempt}
 use Rattle.fancy_engine.specs.Attempt.{context_in, instrs_in, may_end_in}
 use Rattle.fancy_engine.specs.Search.{Answer}
+use Rattle.fancy_engine.specs.Seen.{MayNotStart}
 use Rattle.fancy_automaton.specs.Ways.{AllKnown}
 use Rattle.fancy_automaton.specs.Futures.{end_at, known_at, leftmost}
 use Rattle.fancy_automaton.specs.Steps.{waiting, first_span}
@@ -39,10 +40,16 @@ abbrev pub begun_if : Option Span → List ℕ → ℕ → List ℕ
 begun_if None xs y = xs ++ y ∷ []
 begun_if (Some s) xs y = xs
 
+-- no match may begin there, by the bytes that matches start at, or since matches begin elsewhere
+abbrev pub Passes : Attempt → ℕ → Type 0
+Passes a k = (may_end_in a k ≡ false) ⊎ MayNotStart a.code.now.start_bytes a.haystack.now a.last k
+
 module _ (a : Attempt) (deep : ℕ) where
-  -- the same for a search within bounds
-  abbrev pub BegunIn : Type 0
-  BegunIn = Begun (may_end_in a) (context_in a) a.last (instrs_in a) deep a.code.now.start
+  -- what the code gives from each start is known, and nothing where no match may begin
+  pub record BegunIn : Type 0 where
+    pub known : Begun (may_end_in a) (context_in a) a.last (instrs_in a) deep a.code.now.start
+    pub starts : (k : ℕ) → k ≤ a.last → may_end_in a k ≡ true → MayNotStart a.code.now.start_bytes a.haystack.now a.last k
+        → end_at (may_end_in a) (context_in a) a.last (instrs_in a) deep k a.code.now.start ≡ None
 
   abbrev pub leftmost_in : ℕ → ℕ → Option (ℕ × ℕ)
   leftmost_in n p = leftmost (may_end_in a) (context_in a) a.last (instrs_in a) deep a.code.now.start n p
@@ -63,7 +70,7 @@ module _ (a : Attempt) where
     pub under : (deep : ℕ) → BegunIn a deep → UnderIn a deep ways starts resume (found_or found (leftmost_in a deep (a.last + 1 - place) place))
     pub even : length starts ≡ length ways
     pub ahead : place ≤ resume
-    pub inside : (k : ℕ) → place ≤ k → k < resume → may_end_in a k ≡ false
+    pub inside : (k : ℕ) → place ≤ k → k < resume → Passes a k
     pub rests : ((may_end_in a resume ≡ true) × (resume ≤ a.last)) ⊎ (starts ≡ [])
 
 -- A search that reads from boundary to boundary: over text by characters, or over bytes one by one.

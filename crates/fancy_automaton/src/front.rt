@@ -15,8 +15,10 @@ ghost use Rattle.fancy_automaton.specs.Search.{Steady};
 use crate::cells::{Cells, restart, step_at, target_of};
 use crate::trail::{Hit, Trail, VISITS, Visit, hit_by, row_at, settled, start_at, starts_in};
 use fancy_engine::code::Code;
+use fancy_engine::options::is_match_boundary;
 use fancy_engine::reading::{Reading, read_at};
 use fancy_engine::runner::Attempt;
+use fancy_engine::search::next_candidate;
 use fancy_engine::work::Work;
 use std::alloc::AllocError;
 
@@ -165,6 +167,7 @@ impl Front {
         requires visits { length self.old.trail.visits.items < most_visits }
         requires front { IsFront attempt.now cells.old self.old place place }
         ensures front { IfOk result (λ resume. IsFront attempt.now cells.new self.new (place + 1) resume) }
+        ensures ends { IfOk result (λ resume. resume ≤ attempt.now.last + 1) }
         ensures visits { IfOk result (λ _. length self.new.trail.visits.items ≤ most_visits) }
         ensures within { IsWithin cells.new }
         ensures all { IsFor cells.new attempt.now.code.now }
@@ -186,7 +189,7 @@ impl Front {
 
     /// Takes the step at a place, with room for it made before, and what is not asked any more forgotten after it. The answer is
     /// the place where the ways wait then, a byte offset.
-    pub fn advance(
+    fn advance(
         &mut self,
         attempt: &Attempt,
         cells: &mut Cells,
@@ -201,6 +204,7 @@ impl Front {
         requires kept { IsWithin cells.old }
         requires front { IsFront attempt.now cells.old self.old place place }
         ensures front { IfOk result (λ resume. IsFront attempt.now cells.new self.new (place + 1) resume) }
+        ensures ends { IfOk result (λ resume. resume ≤ attempt.now.last + 1) }
         ensures visits { IfOk result (λ _. length self.new.trail.visits.items ≤ most_visits) }
         ensures kept { IsWithin cells.new }
         ensures all { IsFor cells.new attempt.now.code.now }
@@ -213,6 +217,58 @@ impl Front {
         let resume = self.step(attempt, cells, place, work)?;
         self.forget_idle(cells);
         Ok(resume)
+    }
+
+    /// Goes past a place. The answer is the next place that is to be passed, a byte offset.
+    pub fn pass(
+        &mut self,
+        attempt: &Attempt,
+        cells: &mut Cells,
+        place: usize,
+        work: &mut Work,
+    ) -> Result<usize, AllocError>
+        requires within { place ≤ attempt.now.last }
+        requires inside { attempt.now.last ≤ length attempt.now.haystack.now }
+        requires plain { ArePlain (instrs_in attempt.now) }
+        requires steady { Steady attempt.now }
+        requires kept { IsWithin cells.old }
+        requires front { IsFront attempt.now cells.old self.old place place }
+        ensures front { IfOk result (λ next. IsFront attempt.now cells.new self.new next next) }
+        ensures forth { IfOk result (λ next. place < next) }
+        ensures ends { IfOk result (λ next. next ≤ attempt.now.last + 1) }
+        ensures kept { IsWithin cells.new }
+        ensures all { IsFor cells.new attempt.now.code.now }
+        ensures steps { steps_of work.old ≤ steps_of work.new }
+        ensures bounded { steps_of work.new ≤ steps_of work.old + code_len attempt.now.code.now }
+        ensures returns { returns_of work.new ≡ returns_of work.old }
+    {
+        if !is_match_boundary(attempt.on_boundaries, attempt.haystack, place) {
+            return Ok(place + 1);
+        }
+        let resume = self.advance(attempt, cells, place, work)?;
+        Ok(resume)
+    }
+
+    /// The next place that is to be passed, from one on: where no way waits, one where a match may start by its first byte, or
+    /// past the last place where none may.
+    pub fn seek(&self, attempt: &Attempt, cells: &Cells, place: usize) -> usize
+        requires within { place ≤ attempt.now.last + 1 }
+        requires inside { attempt.now.last ≤ length attempt.now.haystack.now }
+        requires front { IsFront attempt.now cells.now self.now place place }
+        ensures front { IsFront attempt.now cells.now self.now result result }
+        ensures forth { place ≤ result }
+        ensures ends { result ≤ attempt.now.last + 1 }
+    {
+        if self.has_waiting(cells) {
+            return place;
+        }
+        next_candidate(
+            attempt.code,
+            attempt.haystack,
+            attempt.last,
+            place,
+            attempt.last,
+        )
     }
 }
 
@@ -237,7 +293,9 @@ fn reading_at(attempt: &Attempt, place: usize) -> Option<Reading>
 fn place_after(place: usize, reading: Option<Reading>, limit: usize) -> usize
     requires more { place < usize.MAX }
     requires fits { IfSome reading (λ r. place + r.width ≤ limit) }
-    ensures { result ≡ place_after place (option_map unit_read reading) }
+    requires within { place ≤ limit }
+    ensures after { result ≡ place_after place (option_map unit_read reading) }
+    ensures ends { result ≤ limit + 1 }
 {
     match reading {
         None => place + 1,

@@ -18,7 +18,7 @@ use crate::front::Front;
 use crate::trail::span_of;
 use fancy_engine::code::Code;
 use fancy_engine::found::Found;
-use fancy_engine::options::{SearchOptions, is_match_boundary};
+use fancy_engine::options::SearchOptions;
 use fancy_engine::refusal::SearchRefusal;
 use fancy_engine::runner::Attempt;
 use fancy_engine::work::Work;
@@ -49,21 +49,17 @@ fn find_span(
     ensures returns { returns_of work.new ≡ returns_of work.old }
 {
     let mut front = Front::new(attempt.code, cells)?;
-    let mut resume = attempt.first;
-    for place in attempt.first..attempt.last + 1 {
+    let mut place = attempt.first;
+    'places: loop {
         if front.is_over(cells) {
             return Ok(span_of(&cells.cells, &front.trail, front.hit));
         }
-        if place != resume {
-            continue;
+        place = front.seek(attempt, cells, place);
+        if place > attempt.last {
+            return Ok(span_of(&cells.cells, &front.trail, front.hit));
         }
-        if !is_match_boundary(attempt.on_boundaries, attempt.haystack, place) {
-            resume = place + 1;
-            continue;
-        }
-        resume = front.advance(attempt, cells, place, work)?;
+        place = front.pass(attempt, cells, place, work)?;
     }
-    Ok(span_of(&cells.cells, &front.trail, front.hit))
 }
 
 /// Searches a haystack for the pattern of plain code: at which position the match is found that the runner's search finds, and

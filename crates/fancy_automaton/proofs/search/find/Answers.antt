@@ -9,7 +9,7 @@ use Rattle.fancy_engine.specs.declared.reading.SuppressedEnds.{SuppressedEnds}
 use Rattle.fancy_engine.specs.declared.runner.Attempt.{Attempt}
 use Rattle.fancy_engine.proofs.RunnerSearch.{positions_none, search_over}
 use Rattle.fancy_automaton.specs.Search.{ends_in, ends_of, found_in}
-use Rattle.fancy_automaton.proofs.AnswerLemmas.{AtPosition, Deep, begun, found_by_ends, keeps_position, leftmost_is}
+use Rattle.fancy_automaton.proofs.AnswerLemmas.{AtPosition, Deep, begun, found_by_ends, keeps_position, leftmost_is, starts_none}
 use Rattle.fancy_automaton.proofs.FutureLemmas.{plain_easy}
 use Rattle.fancy_automaton.proofs.SteadyLemmas.{steady}
 use Rattle.fancy_automaton.proofs.search.find.Goals as goal
@@ -37,7 +37,10 @@ returns-clause-answer c p on is =
     ∙ ap (λ (k : ℕ). c.args.request.range_end + 1 - k) (sym c.effective_start-first.ensures) in
     let all : answer_from q n first ≡ search q = ap₂ (answer_from q) (sym tried) c.effective_start-first.ensures in
     let ends : option_map ends_in c.in_ok-found.found ≡ option_map ends_of (search q) =
-    c.in_ok-found.ensures.answer (Deep q c.args.code.now is refl refl refl refl c.requires.inside x (Some first) same easy) (begun q c.args.code.now is refl refl refl refl c.requires.inside x (Some first) same easy)
+    c.in_ok-found.ensures.answer (Deep q c.args.code.now is refl refl refl refl c.requires.inside x (Some first) same easy) (record {
+      known = begun q c.args.code.now is refl refl refl refl c.requires.inside x (Some first) same easy;
+      starts = starts_none q c.args.code.now is refl refl refl refl c.requires.inside x (Some first) same easy (λ k. omega (arith, c.type_inv.haystack k));
+    })
     ∙ leftmost_is q c.args.code.now is refl refl refl refl c.requires.inside x (Some first) same easy n first (omega arith)
     ∙ ap (option_map ends_of) all in
     c.found_by.ensures

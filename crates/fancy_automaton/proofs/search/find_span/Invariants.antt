@@ -5,11 +5,16 @@ use Rattle.fancy_automaton.specs.Cells.{IsWithin}
 use Rattle.fancy_automaton.specs.Front.{IsFront}
 use Rattle.fancy_automaton.proofs.search.find_span.Given as goal
 
-abbrev pub invariant-loop-place : goal.invariant-loop-place
-invariant-loop-place l = record {
+abbrev pub invariant-places : goal.invariant-places
+invariant-places l = record {
   kept : IsWithin l.cells;
-  front : IsFront l.attempt l.cells l.front l.place l.resume;
+  front : IsFront l.attempt l.cells l.front l.place l.place;
+  passed : l.attempt.first ≤ l.place;
+  within : l.place ≤ l.attempt.last + 1;
   steps : steps_of l.fn.work ≤ steps_of l.work;
   bounded : steps_of l.work ≤ steps_of l.fn.work + code_len l.attempt.code.now * (l.place - l.attempt.first);
   returns : returns_of l.work ≡ returns_of l.fn.work;
 }
+
+abbrev pub decreases-places : goal.decreases-places
+decreases-places l = l.attempt.last + 1 - l.place

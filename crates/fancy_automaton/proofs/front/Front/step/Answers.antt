@@ -15,4 +15,4 @@ returns-clause-front c =
     (c.start_at-start.ensures c.args.cells.now.cells.items f.trail)
     c.in_ok-push.ensures.items
     (c.hit_by-self.ensures ∙ ap (λ n. hit_or f.hit cell.matched n c.args.place) size)
-    c.place_after.ensures
+    c.place_after.ensures.after
