@@ -259,16 +259,16 @@ impl Front {
         ensures forth { place ≤ result }
         ensures ends { result ≤ attempt.now.last + 1 }
     {
-        if self.has_waiting(cells) {
-            return place;
+        if !self.has_waiting(cells) {
+            return next_candidate(
+                attempt.code,
+                attempt.haystack,
+                attempt.last,
+                place,
+                attempt.last,
+            );
         }
-        next_candidate(
-            attempt.code,
-            attempt.haystack,
-            attempt.last,
-            place,
-            attempt.last,
-        )
+        place
     }
 }
 
