@@ -1,6 +1,7 @@
 pub mod MarkLemmas
 pub mod ClosingLemmas
 pub mod FutureLemmas
+pub mod PlainLemmas
 pub mod StepLemmas
 pub mod SearchLemmas
 pub mod AnswerLemmas

@@ -1,5 +1,5 @@
 -- What the code gives from an instruction and a place: where the first accepted outcome ends.
-use Rattle.std.specs.Prelude.{ℕ, zero, suc, ◌+◌, Bool, List, Option, None, Some, option_map, is_some, nat_le, if◌then◌else◌}
+use Rattle.std.specs.Prelude.{ℕ, zero, suc, ◌+◌, Bool, List, Option, None, Some, option_map, is_some, nat_le, if◌then◌else◌, true, false}
 use Rattle.std.specs.Option.{option_or}
 use Rattle.fancy_engine.specs.Instructions.{Instruction, Match, Fail, Character, Member, RawByte, Assert, Split, Open, Close, Enter, Commit, Look, Deny, Test, Back, Recall, Keep, Continue, Taken}
 use Rattle.fancy_engine.specs.Context.{Context, State, Unit_at, unit_at}
@@ -28,6 +28,28 @@ IsPlainInstr (Recall folded number moved still) = ⊥
 IsPlainInstr (Keep next) = ⊥
 IsPlainInstr (Continue next) = ⊥
 IsPlainInstr (Taken number next) = ⊥
+
+-- the same as a truth value
+abbrev pub is_plain_instr : Instruction → Bool
+is_plain_instr Match = true
+is_plain_instr Fail = true
+is_plain_instr (Character c next) = true
+is_plain_instr (Member edges next) = true
+is_plain_instr (RawByte byte next) = false
+is_plain_instr (Assert a next) = false
+is_plain_instr (Split a b) = true
+is_plain_instr (Open group next) = true
+is_plain_instr (Close group next) = true
+is_plain_instr (Enter body) = false
+is_plain_instr (Commit next) = false
+is_plain_instr (Look behind body next) = false
+is_plain_instr (Deny behind body next) = false
+is_plain_instr (Test body other) = false
+is_plain_instr (Back n next) = false
+is_plain_instr (Recall folded number moved still) = false
+is_plain_instr (Keep next) = false
+is_plain_instr (Continue next) = false
+is_plain_instr (Taken number next) = false
 
 -- each instruction of the code is such
 abbrev pub ArePlain : List Instruction → Type 0

@@ -4,6 +4,7 @@ ghost use Rattle.std.specs.Prelude.{◌≡◌, ◌+◌, ◌<◌, ◌≤◌, ℕ,
 ghost use Rattle.fancy_engine.specs.Attempt.{context_in, instrs_in, may_end_in};
 ghost use Rattle.fancy_engine.specs.Code.{code_len};
 ghost use Rattle.fancy_engine.specs.Reading.{unit_read};
+ghost use Rattle.fancy_engine.specs.Seen.{MayStart};
 ghost use Rattle.fancy_engine.specs.Work.{steps_of, returns_of};
 ghost use Rattle.fancy_engine.specs.declared.runner.Attempt.{Attempt};
 ghost use Rattle.fancy_automaton.specs.Cells.{HasPlace, IsFor, IsWithin};
@@ -36,7 +37,7 @@ pub struct Front {
 }
 
 impl Front {
-    ghost use Rattle.std.specs.Prelude.{None, false, ◌∷◌, ◌++◌};
+    ghost use Rattle.std.specs.Prelude.{None, false, ◌∷◌, ◌++◌, ◌≢◌};
     ghost use Rattle.fancy_automaton.specs.Cells.{HasRow};
 
     /// Before the first place: no way waits, and nothing was found.
@@ -64,7 +65,8 @@ impl Front {
     /// Whether some way waits.
     fn has_waiting(&self, cells: &Cells) -> bool
         requires { self.now.next < length cells.now.rows.items }
-        ensures { result ≡ false → ways_of cells.now self.now ≡ [] }
+        ensures none { result ≡ false → ways_of cells.now self.now ≡ [] }
+        ensures some { result ≡ true → ways_of cells.now self.now ≢ [] }
     {
         cells.rows[self.next].len() > 0
     }
@@ -256,6 +258,8 @@ impl Front {
         requires inside { attempt.now.last ≤ length attempt.now.haystack.now }
         requires front { IsFront attempt.now cells.now self.now place place }
         ensures front { IsFront attempt.now cells.now self.now result result }
+        ensures stands { ways_of cells.now self.now ≡ [] → result ≤ attempt.now.last
+            → MayStart attempt.now.code.now.start_bytes attempt.now.haystack.now attempt.now.last result }
         ensures forth { place ≤ result }
         ensures ends { result ≤ attempt.now.last + 1 }
     {

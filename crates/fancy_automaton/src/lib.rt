@@ -4,6 +4,7 @@
 pub mod cells;
 pub mod closure;
 pub mod front;
+pub mod plain;
 pub mod search;
 pub mod step;
 pub mod trail;

@@ -8,6 +8,7 @@ ghost use Rattle.fancy_engine.specs.Code.{instrs_of, code_len};
 ghost use Rattle.fancy_engine.specs.Compile.{IsCodeOf};
 ghost use Rattle.fancy_engine.specs.Queries.{query_of, unfiltered, most_steps};
 ghost use Rattle.fancy_engine.specs.Search.{search};
+ghost use Rattle.fancy_engine.specs.Seen.{NoneMayStart};
 ghost use Rattle.fancy_engine.specs.Work.{steps_of, returns_of};
 ghost use Rattle.fancy_automaton.specs.Cells.{IsFor, IsWithin};
 ghost use Rattle.fancy_automaton.specs.Futures.{ArePlain};
@@ -46,6 +47,9 @@ fn find_span(
     ensures steps { steps_of work.old ≤ steps_of work.new }
     ensures bounded { steps_of work.new
         ≤ steps_of work.old + code_len attempt.now.code.now * (attempt.now.last + 1 - attempt.now.first) }
+    ensures idle { NoneMayStart attempt.now.code.now.start_bytes attempt.now.haystack.now attempt.now.last
+        attempt.now.first (attempt.now.last + 1)
+        → steps_of work.new ≡ steps_of work.old }
     ensures returns { returns_of work.new ≡ returns_of work.old }
 {
     let mut front = Front::new(attempt.code, cells)?;
@@ -67,7 +71,7 @@ fn find_span(
 ///
 /// Steps are remembered in `cells`, which begins empty and serves any number of searches for one code. It is cleared where it is
 /// full, as often as that is; no answer changes by that. Each place of the range is read at most once, and fetches each instruction at most once; so no more steps are added to `work` than the code is
-/// long, times the searched length plus one. No return is added.
+/// long, times the searched length plus one, and none where no match may start at any place. No return is added.
 ///
 /// # Errors
 ///
@@ -92,6 +96,9 @@ pub fn find(
     ensures all { IsFor cells.new code.now }
     ensures steps { steps_of work.old ≤ steps_of work.new }
     ensures bounded { steps_of work.new ≤ steps_of work.old + most_steps code.now request }
+    ensures idle { NoneMayStart code.now.start_bytes haystack.now request.range_end
+        (effective_start request) (request.range_end + 1)
+        → steps_of work.new ≡ steps_of work.old }
     ensures returns { returns_of work.new ≡ returns_of work.old }
     ensures refused { IfErr result (λ e. e ≡ SearchRefusal.Memory) }
 {

@@ -5,6 +5,7 @@ use Rattle.fancy_engine.specs.Code.{instrs_of}
 use Rattle.fancy_engine.specs.Queries.{query_of, unfiltered}
 use Rattle.fancy_engine.specs.Reading.{search_context}
 use Rattle.fancy_engine.specs.Search.{answer_from, search}
+use Rattle.fancy_engine.specs.Seen.{NoneMayStart}
 use Rattle.fancy_engine.specs.declared.reading.SuppressedEnds.{SuppressedEnds}
 use Rattle.fancy_engine.specs.declared.runner.Attempt.{Attempt}
 use Rattle.fancy_engine.proofs.RunnerSearch.{positions_none, search_over}
@@ -46,3 +47,11 @@ returns-clause-answer c p on is =
     c.found_by.ensures
     ∙ found_by_ends c.in_ok-found.found (search q)
     (subst AtPosition all (keeps_position q c.args.code.now is refl refl refl refl c.requires.inside x (Some first) same easy n first (omega arith))) ends
+
+pub returns-clause-idle : goal.returns-clause-idle
+returns-clause-idle c none =
+    c.find_span.ensures.idle (subst (λ (k : ℕ). NoneMayStart c.args.code.now.start_bytes c.args.haystack.now c.args.request.range_end k (c.args.request.range_end + 1)) (sym c.effective_start-first.ensures) none)
+
+pub returns-in_err-found-clause-idle : goal.returns-in_err-found-clause-idle
+returns-in_err-found-clause-idle c none =
+    c.find_span.ensures.idle (subst (λ (k : ℕ). NoneMayStart c.args.code.now.start_bytes c.args.haystack.now c.args.request.range_end k (c.args.request.range_end + 1)) (sym c.effective_start-first.ensures) none)

@@ -1,10 +1,11 @@
-use Rattle.std.proofs.Common.{◌+◌, ◌∙◌, List, ap, arith, option_map, refl}
+use Rattle.std.proofs.Common.{◌+◌, ◌∙◌, [], List, ap, arith, option_map, refl}
 use Rattle.fancy_automaton.specs.declared.cells.Cell.{Cell}
 use Rattle.fancy_automaton.specs.Search.{ends_in}
 use Rattle.fancy_automaton.specs.Trail.{found_in_trail}
 use Rattle.fancy_engine.specs.Code.{code_len}
 use Rattle.fancy_engine.specs.Work.{steps_of}
-use Rattle.fancy_automaton.proofs.CellLemmas.{row_within}
+use Rattle.fancy_automaton.proofs.CellLemmas.{row_ways, row_within}
+use Rattle.fancy_engine.proofs.SkipLemmas.{starts_somewhere}
 use Rattle.fancy_automaton.proofs.FrontLemmas.{front_first}
 use Rattle.fancy_automaton.proofs.GoingLemmas.{going_end, steps_more, steps_up}
 use Rattle.fancy_automaton.proofs.search.find_span.Goals as goal
@@ -18,6 +19,7 @@ places-init c = record {
   within = omega arith;
   steps = omega arith;
   bounded = omega arith;
+  idle = λ none. (row_ways c.new.new.cells.rows.items c.in_ok-front.front.next [] c.in_ok-front.ensures.waits, refl);
   returns = refl;
 }
 
@@ -50,5 +52,18 @@ places-preserved c = record {
       (omega (arith, c.places.invariant.passed, c.seek-place.ensures.forth)) c.in_ok-place.ensures.forth
       (steps_up (code_len c.args.attempt.now.code.now) c.args.attempt.now.first c.places.place c.seek-place.result (steps_of c.args.work.now) (steps_of c.places.work) c.seek-place.ensures.forth c.places.invariant.bounded)
       c.pass.ensures.bounded;
+  idle = λ none. absurd (starts_somewhere c.args.attempt.now.code.now.start_bytes c.args.attempt.now.haystack.now c.args.attempt.now.last c.seek-place.result
+      (c.seek-place.ensures.stands (c.places.invariant.idle none).0 (omega (arith, c.if-place-attempt.false))) (none c.seek-place.result (omega (arith, c.places.invariant.passed, c.seek-place.ensures.forth)) (omega (arith, c.if-place-attempt.false))));
   returns = c.pass.ensures.returns ∙ c.places.invariant.returns;
 }
+
+pub returns-then-is_over-clause-idle : goal.returns-then-is_over-clause-idle
+returns-then-is_over-clause-idle c none = (c.places.invariant.idle none).1
+
+pub returns-then-place-attempt-clause-idle : goal.returns-then-place-attempt-clause-idle
+returns-then-place-attempt-clause-idle c none = (c.places.invariant.idle none).1
+
+pub returns-in_err-place-clause-idle : goal.returns-in_err-place-clause-idle
+returns-in_err-place-clause-idle c none =
+    absurd (starts_somewhere c.args.attempt.now.code.now.start_bytes c.args.attempt.now.haystack.now c.args.attempt.now.last c.seek-place.result
+    (c.seek-place.ensures.stands (c.places.invariant.idle none).0 (omega (arith, c.if-place-attempt.false))) (none c.seek-place.result (omega (arith, c.places.invariant.passed, c.seek-place.ensures.forth)) (omega (arith, c.if-place-attempt.false))))
