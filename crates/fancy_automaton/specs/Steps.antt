@@ -17,7 +17,8 @@ at_of w = w.at
 abbrev pub from_of : Way → ℕ
 from_of w = w.from
 
--- What a step means, with no haystack in sight: from these instructions, where `u` is read, the ways go on as `next` says, and one ended with an outcome if `matched` has the number of the way that it came from.
+-- What a step means, with no haystack in sight: from these instructions, where `u` is read, the ways go on as `next` says, and one
+-- ended with an outcome if `matched` has the number of the way that it came from.
 abbrev pub IsStep : List Instruction → List ℕ → Option Unit_at → List Way → Option ℕ → Type 0
 IsStep code ways u next matched =
     (here : ℕ) (ends later : Ends) (known beyond : ℕ → Bool) (rank : ℕ → ℕ) → Solves code u here ends later known beyond rank

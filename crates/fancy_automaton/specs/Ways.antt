@@ -13,7 +13,8 @@ use Rattle.fancy_automaton.specs.declared.way.Effect.TheVariants as does
 abbrev pub reads_if : Bool → ℕ → Effect
 reads_if b next = if b then does.Reads next else does.Fails
 
--- What an instruction does where this is read. The tests of a place, the reading of a single byte and the instructions of hard patterns are none of an automaton's.
+-- What an instruction does where this is read. The tests of a place, the reading of a single byte and the instructions of hard
+-- patterns are none of an automaton's.
 abbrev pub effect_of : Option Unit_at → Instruction → Effect
 effect_of u Match = does.Ends
 effect_of u Fail = does.Fails

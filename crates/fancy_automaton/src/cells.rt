@@ -32,15 +32,15 @@ pub struct Cell {
     pub matched: Option<usize>,
 }
 
-/// The most rows that are kept. The hints of a row take 2 KB, so those of all rows 512 KB at most; searches of ordinary patterns make
-/// fewer than a hundred rows.
+/// The most rows that are kept. The hints of a row take 2 KB, so those of all rows 512 KB at most; searches of ordinary
+/// patterns make fewer than a hundred rows.
 pub const ROWS: usize = 256;
 
 /// The most steps that are kept, of some 150 bytes each, so 300 KB. Searches of ordinary patterns make some hundred.
 pub const CELLS: usize = 2048;
 
-/// Rows of waiting instructions, and steps between them. A row has each instruction in order of preference. Where a step is
-/// kept is a mere hint: what it leads to is tested.
+/// Rows of waiting instructions, and steps between them. A row has each instruction in order of preference. Where a step
+/// is kept is a mere hint: what it leads to is tested.
 #[derive(Drop)]
 pub struct Cells {
     /// Where the memory comes from.
@@ -283,8 +283,8 @@ fn remembered(cells: &Cells, row: usize, reading: Option<Reading>) -> Option<usi
     Some(k)
 }
 
-/// The number of the step from a row on what is read: one that is remembered, or else it is computed. What is computed is
-/// counted in `work`: each way that it leads to costs a step at least.
+/// The number of the step from a row on what is read: one that is remembered, or else it is computed. What is computed
+/// is counted in `work`: each way that it leads to costs a step at least.
 pub fn step_at(
     code: &Code,
     cells: &mut Cells,
@@ -324,14 +324,15 @@ fn copied(alloc: Global, ways: &[usize]) -> Result<Vec<usize>, AllocError>
     ways.to_vec(alloc)
 }
 
-/// Forgets all rows and steps but the row with this number, which is two rows then: its own, and that with one more way, which
-/// begins at `start`.
+/// Forgets all rows and steps but the row with this number, which is two rows then: its own, and that with one more way,
+/// which begins at `start`.
 pub fn restart(cells: &mut Cells, start: usize, row: usize) -> Result<Target, AllocError>
     requires row { row < length cells.old.rows.items }
     requires within { IsWithin cells.old }
     ensures all { (code : Code) → IsFor cells.old code → IsFor cells.new code }
     ensures waits { IfOk result (λ t. HasRow cells.new.rows.items t.next (ways_at cells.old.rows.items row)) }
-    ensures opens { IfOk result (λ t. HasRow cells.new.rows.items t.begun (ways_at cells.old.rows.items row ++ start ∷ [])) }
+    ensures opens { IfOk result (λ t. HasRow cells.new.rows.items t.begun
+        (ways_at cells.old.rows.items row ++ start ∷ [])) }
     ensures within { IsWithin cells.new }
     ensures place { IfOk result (λ _. HasPlace cells.new) }
 {

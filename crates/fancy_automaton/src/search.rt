@@ -66,12 +66,13 @@ fn find_span(
     }
 }
 
-/// Searches a haystack for the pattern of plain code: at which position the match is found that the runner's search finds, and
-/// where it ends, in byte offsets. A search is not anchored, and reads from boundary to boundary (`KeepsPlaces`).
+/// Searches a haystack for the pattern of plain code: at which position the match is found that the runner's search finds,
+/// and where it ends, in byte offsets. A search is not anchored, and reads from boundary to boundary (`KeepsPlaces`).
 ///
-/// Steps are remembered in `cells`, which begins empty and serves any number of searches for one code. It is cleared where it is
-/// full, as often as that is; no answer changes by that. Each place of the range is read at most once, and fetches each instruction at most once; so no more steps are added to `work` than the code is
-/// long, times the searched length plus one, and none where no match may start at any place. No return is added.
+/// Steps are remembered in `cells`, which begins empty and serves any number of searches for one code. It is cleared where
+/// it is full, as often as that is; no answer changes by that. Each place of the range is read at most once, and fetches
+/// each instruction at most once. So no more steps are added to `work` than the code is long, times the searched length
+/// plus one, and none where no match may start at any place. No return is added.
 ///
 /// # Errors
 ///

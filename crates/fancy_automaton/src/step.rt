@@ -37,8 +37,8 @@ fn load(alloc: Global, ways: &[usize]) -> Result<Vec<Way>, AllocError>
     Ok(stack)
 }
 
-/// Computes the step from these waiting instructions, in order of preference, on what is read. It fetches each instruction of
-/// the code at most once.
+/// Computes the step from these waiting instructions, in order of preference, on what is read. It fetches each instruction
+/// of the code at most once.
 pub fn step_from(
     alloc: Global,
     code: &Code,
@@ -46,7 +46,8 @@ pub fn step_from(
     reading: Option<Reading>,
     work: &mut Work,
 ) -> Result<Step, AllocError>
-    ensures step { IfOk result (λ s. IsStep (instrs_of code.now) ways.now (option_map unit_read reading) s.next.items s.matched) }
+    ensures step { IfOk result (λ s. IsStep (instrs_of code.now) ways.now (option_map unit_read reading)
+        s.next.items s.matched) }
     ensures halts { IfOk result (λ s. reading ≡ None → s.next.items ≡ []) }
     ensures width { IfOk result (λ s. length s.next.items ≤ code_len code.now) }
     ensures steps { steps_of work.old ≤ steps_of work.new }
