@@ -2,7 +2,7 @@
 //! library, neither in their code nor in their contracts.
 #![tactic(auto)]
 
-ghost use Rattle.std.specs.Prelude.{◌≡◌, IfErr, IfOk, is_some, true};
+ghost use Rattle.std.specs.Prelude.{◌≡◌, IfErr, IfOk, IfSome, None, is_some, true};
 ghost use Rattle.fancy_regex.specs.GroupTexts.{bytes_of_str};
 ghost use Rattle.fancy_regex.specs.MatchList.{InOrder};
 ghost use Rattle.fancy_regex.specs.Regexes.{options_in};
@@ -31,7 +31,11 @@ pub fn has_date(alloc: Global, line: &str) -> Result<bool> {
 }
 
 /// Whether the line has a match, with any regex; `None` where the regex may not search the line.
-pub fn match_if_searchable(regex: &Regex, line: &str) -> Result<Option<bool>> {
+pub fn match_if_searchable(regex: &Regex, line: &str) -> Result<Option<bool>>
+    ensures found { IfOk result
+        (λ o. IfSome o (λ b. b ≡ is_some (search (asked_whole regex.now bytes_of_str line.entry)))) }
+    ensures none { IfOk result (λ o. o ≡ None → Suits (options_in regex.now) true line.now → ⊥) }
+{
     if !regex.can_search(&RegexInput::new(line)) {
         return Ok(None);
     }
