@@ -5,6 +5,7 @@ use Rattle.fancy_input.specs.Requests.{effective_start}
 use Rattle.fancy_input.specs.declared.input.Request.{Request}
 use Rattle.fancy_engine.specs.declared.code.Code.{Code}
 use Rattle.fancy_engine.specs.declared.options.SearchOptions.{SearchOptions}
+use Rattle.fancy_engine.specs.declared.search.Cache.{Cache as Runner}
 use Rattle.fancy_engine.specs.KeptTable.{IsKept}
 use Rattle.fancy_search.specs.declared.cache.Cache.{Cache}
 use Rattle.fancy_search.specs.declared.program.Program.{Program}
@@ -28,14 +29,15 @@ nothing≢steps e = true≢false (ap is_nothing e)
 table≢steps : (base : ℕ) → ¬ (Table base ≡ Steps)
 table≢steps base e = true≢false (sym (ap is_steps e))
 
--- a table that is kept for a place is kept for a later one
-pub kept_later : (code : Code) (haystack : List ℕ) (request : Request) (options : SearchOptions) (base place later start : ℕ) (table : List Bool) → place ≤ later
-    → IsKept code haystack request options base place table → IsKept code haystack (record request { start = start }) options base later table
-kept_later code haystack request options base place later start table le is = record {
+-- what is kept for a place is kept for a later one
+pub kept_later : (code : Code) (haystack : List ℕ) (request : Request) (options : SearchOptions) (base place later start : ℕ) (cache : Runner) → place ≤ later
+    → IsKept code haystack request options base place cache → IsKept code haystack (record request { start = start }) options base later cache
+kept_later code haystack request options base place later start cache le is = record {
   begins = omega (arith, le, is.begins);
   room = is.room;
   small = is.small;
   failed = λ p of q i seen hit. is.failed p of q i ((seen.0.0, omega (arith, le, seen.0.1), seen.0.2), seen.1) hit;
+  last_lines = is.last_lines;
 }
 
 module _ (program : Program) (haystack : List ℕ) (cache : Cache) where

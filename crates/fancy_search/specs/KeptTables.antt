@@ -1,9 +1,10 @@
--- What is kept through a list of searches: the table of the runner, or the steps that the automaton remembers.
+-- What is kept through a list of searches: the table of the runner and what it read of the line ends that close the haystack, or
+-- the steps that the automaton remembers.
 use Rattle.std.specs.Prelude.{◌≡◌, ℕ, false, List, Option, Some, None}
 use Rattle.std.specs.Option.{ForSome}
 use Rattle.fancy_input.specs.Requests.{effective_start}
 use Rattle.fancy_input.specs.declared.input.Request.{Request}
-use Rattle.fancy_engine.specs.KeptTable.{IsKept, table_in}
+use Rattle.fancy_engine.specs.KeptTable.{IsKept}
 use Rattle.fancy_automaton.specs.Cells.{IsFor, IsWithin}
 use Rattle.fancy_search.specs.declared.cache.Cache.{Cache}
 use Rattle.fancy_search.specs.declared.cache.Kept.{Kept}
@@ -12,9 +13,10 @@ use Rattle.fancy_search.specs.declared.program.Program.{Program}
 use Rattle.fancy_search.specs.declared.searcher.Searcher.{Searcher}
 use Rattle.fancy_search.specs.Options.{search_options}
 
--- The table in the cache begins at `base`, and what it holds is known of searches with the program that start at `place` or later.
+-- The table in the cache begins at `base`, and what it holds is known of searches with the program that start at `place` or later. What
+-- was read of the last lines is true of the haystack.
 abbrev pub KeepsTable : Program → List ℕ → Request → ℕ → ℕ → Cache → Type 0
-KeepsTable program haystack request base place cache = IsKept program.code haystack request (search_options program.options) base place (table_in cache.runner)
+KeepsTable program haystack request base place cache = IsKept program.code haystack request (search_options program.options) base place cache.runner
 
 abbrev pub table_kept : Kept → Option ℕ
 table_kept Nothing = None
