@@ -1,9 +1,11 @@
 -- What is kept from one search of a list to the next.
-use Rattle.std.proofs.Common.{◌≡◌, ¬, ℕ, ◌≤◌, Bool, true, false, List, sym, ap, ◌∙◌, subst, arith, true≢false}
+use Rattle.std.proofs.Common.{◌≡◌, ℕ, ◌≤◌, Bool, true, false, List, Option, Some, None, IfSome, refl, sym, ap, ◌∙◌, subst, arith, true≢false}
+use Rattle.std.specs.Option.{ForSome}
 use Rattle.std.proofs.lemmas.Option.{none-some, same_Some}
 use Rattle.fancy_input.specs.Requests.{effective_start}
 use Rattle.fancy_input.specs.declared.input.Request.{Request}
 use Rattle.fancy_engine.specs.declared.code.Code.{Code}
+use Rattle.fancy_engine.specs.declared.found.Found.{Found}
 use Rattle.fancy_engine.specs.declared.options.SearchOptions.{SearchOptions}
 use Rattle.fancy_engine.specs.declared.search.Cache.{Cache as Runner}
 use Rattle.fancy_engine.specs.KeptTable.{IsKept}
@@ -13,20 +15,20 @@ use Rattle.fancy_search.specs.declared.cache.Kept.{Kept}
 use Rattle.fancy_search.specs.declared.cache.Kept.TheVariants.{Nothing, Table, Steps}
 use Rattle.fancy_search.specs.KeptTables.{KeepsTable, KeepsSteps, IsKeptIn}
 
-is_nothing : Kept → Bool
+abbrev is_nothing : Kept → Bool
 is_nothing Nothing = true
 is_nothing (Table base) = false
 is_nothing Steps = false
 
-is_steps : Kept → Bool
+abbrev is_steps : Kept → Bool
 is_steps Nothing = false
 is_steps (Table base) = false
 is_steps Steps = true
 
-nothing≢steps : ¬ (Nothing ≡ Steps)
+nothing≢steps : Nothing ≡ Steps → ⊥
 nothing≢steps e = true≢false (ap is_nothing e)
 
-table≢steps : (base : ℕ) → ¬ (Table base ≡ Steps)
+table≢steps : (base : ℕ) → Table base ≡ Steps → ⊥
 table≢steps base e = true≢false (sym (ap is_steps e))
 
 -- what is kept for a place is kept for a later one
@@ -48,11 +50,21 @@ module _ (program : Program) (haystack : List ℕ) (cache : Cache) where
 
   -- a table is kept
   pub keeps_table : (request : Request) (base place : ℕ) → KeepsTable program haystack request base place cache → IsKeptIn program haystack request (Table base) place cache
-  keeps_table request base place is = ((λ b e. subst (λ (n : ℕ). KeepsTable program haystack request n place cache) (same_Some b base e) is), (λ e. absurd (table≢steps base e)))
+  keeps_table request base place is = ((λ b e. subst (λ (n : ℕ). KeepsTable program haystack request n place cache) (same_Some base b e) is), (λ e. absurd (table≢steps base e)))
 
   -- steps are kept
   pub keeps_steps : (request : Request) (place : ℕ) → KeepsSteps program cache → IsKeptIn program haystack request Steps place cache
   keeps_steps request place is = ((λ base e. absurd (none-some base e)), (λ e. is))
+
+  -- either is kept for the search after a match, if there is one
+  pub found_table : (request : Request) (base : ℕ) (m : Option Found) → IfSome m (λ f. KeepsTable program haystack request base f.end cache)
+      → IfSome m (λ f. IsKeptIn program haystack request (Table base) f.end cache)
+  found_table request base None is = tt
+  found_table request base (Some f) is = keeps_table request base f.end is
+
+  pub found_steps : (request : Request) (m : Option Found) → KeepsSteps program cache → IfSome m (λ f. IsKeptIn program haystack request Steps f.end cache)
+  found_steps request None is = tt
+  found_steps request (Some f) is = keeps_steps request f.end is
 
   -- what is kept for a place is kept for a search that starts there or later
   pub keeps_on : (before after : Request) (kept kept' : Kept) (place : ℕ) → after ≡ record before { start = after.start } → kept' ≡ kept → place ≤ after.start
@@ -74,3 +86,8 @@ keeps_moved {S} bytes program cache haystack haystack' before after kept kept' p
 -- a request of which another start is told
 pub starts_at : (before after : Request) (start : ℕ) → after ≡ record before { start = start } → after ≡ record before { start = after.start }
 starts_at before after start e = e ∙ ap (λ (s : ℕ). record before { start = s }) (sym (ap (λ (r : Request). r.start) e))
+
+-- what holds of a table that is kept, if one is
+pub if_some : (o : Option ℕ) (Is : ℕ → Type 0) → ForSome o Is → IfSome o Is
+if_some None Is is = tt
+if_some (Some b) Is is = is b refl

@@ -7,6 +7,7 @@ ghost use Rattle.fancy_engine.specs.declared.code.Code.{Code};
 use fancy_automaton::cells::Cells;
 use fancy_engine::found::Found;
 use fancy_engine::search as runner;
+use fancy_input::input::Request;
 use fancy_input::span::Span;
 use fancy_machine::search as machine;
 use std::alloc::Global;
@@ -55,6 +56,10 @@ impl Kept {
     }
 }
 
+/// The fewest bytes that a search alone, or the first of a list, goes over where the automaton serves it: its steps are computed
+/// then, which takes longer than to run through a short text.
+const SHORT: usize = 256;
+
 /// A list leaves the automaton once its searches have read so many bytes past the ends of their matches, where each byte that
 /// they came on by makes up for [`MADE_UP`].
 const READ_PAST: usize = 1024;
@@ -102,9 +107,17 @@ impl Cache {
         }
     }
 
-    /// Whether the automaton is fit to go on with a list: its searches did not read much more than the list came on by.
-    pub(crate) fn follows(&self) -> bool {
-        self.read_past <= READ_PAST
+    /// Whether a search is worth the automaton's steps: its text is not short, or the steps of searches before are kept, which did
+    /// not read much more than their list came on by.
+    pub(crate) fn is_worth_steps(&self, request: Request, kept: Kept) -> bool {
+        match kept {
+            Kept::Nothing => {
+                let searched = request.range_end.saturating_sub(request.effective_start());
+                searched >= SHORT
+            }
+            Kept::Steps => self.read_past <= READ_PAST,
+            Kept::Table(_) => false,
+        }
     }
 
     /// Makes the automaton's steps ready: those of the searches before, where they are kept, and else none.
@@ -120,10 +133,13 @@ impl Cache {
         self.read_past = 0;
     }
 
-    /// Notes how far the automaton read for a match of a search that began at `first`, a byte offset.
-    pub(crate) fn note_reached(&mut self, found: Found, first: usize)
+    /// Notes how far the automaton read past what it found, in a search that began at `first`, a byte offset.
+    pub(crate) fn note_reached(&mut self, found: Option<Found>, first: usize)
         ensures { self.new ≡ record self.old { read_past = self.new.read_past } }
     {
+        let Some(found) = found else {
+            return;
+        };
         let past = self.cells.reached().saturating_sub(found.end);
         let forth = found.end.saturating_sub(first);
         let read = self.read_past.saturating_add(past);

@@ -18,6 +18,7 @@ ghost use Rattle.fancy_automaton.specs.Futures.{ArePlain};
 ghost use Rattle.fancy_automaton.specs.Search.{KeepsPlaces};
 ghost use Rattle.fancy_bytes.specs.Lacks.{AllStand, AreRequired};
 ghost use Rattle.fancy_search.specs.Readings.{Reading, one_reading};
+ghost use Rattle.fancy_search.specs.Followed.{FollowsEach};
 ghost use Rattle.fancy_search.specs.Compiled.{IsCompiled, IsSpelled};
 ghost use Rattle.fancy_search.specs.Options.{meaning_in, dialect_of, is_easy_under};
 ghost use Rattle.fancy_search.specs.ProgramSize.{IsRefusedUnder, RefusesPattern, passes};
@@ -25,8 +26,7 @@ ghost use Rattle.fancy_search.specs.Cached.{IsAnswerIn, IsAttemptIn, IsCleanlyFo
 
 use crate::cache::{Cache, Engine, Kept};
 use crate::options::Options;
-use crate::wide::opens_wide;
-use fancy_automaton::plain::is_plain;
+use crate::wide::is_worth_following;
 use fancy_automaton::search as automaton;
 use fancy_bytes::byte_set::ByteSet;
 use fancy_bytes::lacking::RequiredBytes;
@@ -43,10 +43,6 @@ use fancy_tree::error::{CompileError, Error, Result, RuntimeError};
 use fancy_tree::name::GroupName;
 use fancy_tree::tree::Meaning;
 use std::alloc::Global;
-
-/// The fewest bytes that a search alone, or the first of a list, goes over where the automaton serves it: its steps are computed
-/// then, which takes longer than to run through a short text.
-const SHORT: usize = 256;
 
 /// A pattern that was read and compiled under options.
 ///
@@ -69,7 +65,7 @@ pub struct Program {
     ghost meant: { code.meaning ≡ meaning_in options },
     ghost short: { code_len code ≤ 4 * nodes reading.0 + 2 },
     ghost decided: { easy ≡ is_easy_under options reading.0 },
-    ghost followed: { plain ≡ true → ArePlain (instrs_of code) },
+    ghost followed: { plain ≡ true → FollowsEach code },
     ghost light: { is_easy reading.0 ≡ true → are_easy (instrs_of code) ≡ true },
     ghost starts: { has_keep_start_in_look_around reading.0 ≡ false },
     ghost needed: { AreRequired (meaning_in options) reading.0 required },
@@ -106,7 +102,7 @@ impl Program {
         if options.forbids(easy, code.len()) {
             return Err(Error::CompileError(CompileError::PatternTooComplex));
         }
-        let plain = opens_wide(&code) && is_plain(&code);
+        let plain = is_worth_following(&code);
         let required = RequiredBytes::new(alloc, &tree, options.meaning())?;
         let text = String::from_str(alloc, pattern)?;
         Ok(Program {
@@ -310,41 +306,44 @@ impl Program {
         self.run(haystack, request, base, cache, work)
     }
 
-    /// Whether the automaton follows the code in a haystack of this form: text by characters, or bytes one by one.
-    fn can_follow(&self, text: bool) -> bool
-        ensures plain { result ≡ true → ArePlain (instrs_of self.now.code) }
-        ensures places { result ≡ true → (haystack : List ℕ) → (text ≡ true → IsUtf8 haystack)
+    /// Whether a search of a haystack of this form goes from boundary to boundary: text by characters, or bytes one by one.
+    fn keeps_places(&self, text: bool) -> bool
+        ensures { result ≡ true → (haystack : List ℕ) → (text ≡ true → IsUtf8 haystack)
             → KeepsPlaces haystack self.now.code.meaning (search_options self.now.options).on_boundaries }
     {
         let on_boundaries = self.options.bytes_mode.keeps_characters();
-        if !self.plain {
-            return false;
-        }
         match self.code.meaning {
             Meaning::Bytes => !on_boundaries,
             _ => text && on_boundaries,
         }
     }
 
-    /// Whether the automaton serves a search: where it follows the code, it is not anchored, and its text is not short, or the steps
-    /// of searches before are kept, which read little past their matches.
+    /// Whether the automaton follows the code in a haystack of this form.
+    fn can_follow(&self, text: bool) -> bool
+        ensures plain { result ≡ true → ArePlain (instrs_of self.now.code) }
+        ensures places { result ≡ true → (haystack : List ℕ) → (text ≡ true → IsUtf8 haystack)
+            → KeepsPlaces haystack self.now.code.meaning (search_options self.now.options).on_boundaries }
+    {
+        if !self.plain {
+            return false;
+        }
+        self.keeps_places(text)
+    }
+
+    /// Whether the automaton serves a search: where it follows the code, the search is not anchored, and it is worth its steps.
     fn is_followed(&self, text: bool, request: Request, kept: Kept, cache: &Cache) -> bool
         ensures plain { result ≡ true → ArePlain (instrs_of self.now.code) }
         ensures places { result ≡ true → (haystack : List ℕ) → (text ≡ true → IsUtf8 haystack)
             → KeepsPlaces haystack self.now.code.meaning (search_options self.now.options).on_boundaries }
         ensures free { result ≡ true → request.anchored ≡ false }
     {
-        if request.anchored || !self.can_follow(text) {
+        if request.anchored {
             return false;
         }
-        match kept {
-            Kept::Nothing => {
-                let searched = request.range_end.saturating_sub(request.effective_start());
-                searched >= SHORT
-            }
-            Kept::Steps => cache.follows(),
-            Kept::Table(_) => false,
+        if !cache.is_worth_steps(request, kept) {
+            return false;
         }
+        self.can_follow(text)
     }
 
     /// The search for an easy pattern, by the automaton.
@@ -378,13 +377,13 @@ impl Program {
         cache.served = Engine::Automaton(self.code.groups);
         let options = self.options.for_search();
         let cells = &mut cache.cells;
-        let Ok(found) = automaton::find(&self.code, haystack, request, options, cells, work) else {
-            return Err(Error::Memory);
-        };
-        if let Some(found) = found {
-            cache.note_reached(found, request.effective_start());
+        match automaton::find(&self.code, haystack, request, options, cells, work) {
+            Ok(found) => {
+                cache.note_reached(found, request.effective_start());
+                Ok(found)
+            }
+            Err(_) => Err(Error::Memory),
         }
-        Ok(found)
     }
 
     /// Whether a byte that the pattern requires was looked for, and does not stand in the haystack: then nothing is found. The bytes

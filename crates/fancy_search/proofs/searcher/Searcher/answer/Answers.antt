@@ -1,4 +1,5 @@
-use Rattle.std.proofs.Common.{ℕ, List, subst}
+use Rattle.std.proofs.Common.{ℕ, List, sym, subst}
+use Rattle.fancy_input.specs.Requests.{effective_start}
 use Rattle.fancy_search.specs.KeptTables.{IsKeptIn}
 use Rattle.fancy_search.proofs.ScanLemmas.{answered_after, answered_groups}
 use Rattle.fancy_search.proofs.searcher.Searcher.answer.Goals as goal
@@ -15,3 +16,8 @@ pub returns-clause-kept : goal.returns-clause-kept
 returns-clause-kept g c =
     subst (λ (haystack : List ℕ). IsKeptIn c.args.program.now haystack c.args.self.now.request c.search_next.new.kept c.in-Some.found.end c.search_next.new.cache) c.as_bytes-bytes.ensures.bytes
     (rw c.in-Some.is at c.in_ok-found.ensures.kept)
+
+pub search_next-requires-clause-kept : goal.search_next-requires-clause-kept
+search_next-requires-clause-kept g c =
+    subst (λ (haystack : List ℕ). IsKeptIn c.args.program.now haystack c.args.self.now.request c.args.self.now.kept (effective_start c.args.self.now.request) c.args.cache.now) (sym c.as_bytes-bytes.ensures.bytes)
+    c.requires.kept
