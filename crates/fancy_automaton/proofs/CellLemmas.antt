@@ -1,5 +1,5 @@
 -- Rows and the steps between them.
-use Rattle.std.proofs.Common.{◌≡◌, ℕ, zero, suc, ◌<◌, List, [], ◌∷◌, ◌++◌, Option, Some, None, refl, sym, ap, ◌∙◌, subst, arith, length, map, get_or, All}
+use Rattle.std.proofs.Common.{◌≡◌, ℕ, zero, suc, ◌+◌, ◌<◌, List, [], ◌∷◌, ◌++◌, Option, Some, None, refl, sym, ap, ◌∙◌, subst, arith, length, map, take, get_or, All}
 use Rattle.std.specs.Prelude.{slice_get, option_map, slice_index}
 use Rattle.fancy_engine.specs.declared.reading.Reading.{Reading}
 use Rattle.fancy_input.specs.declared.span.Span.{Span}
@@ -139,3 +139,50 @@ get_left (z ∷ xs) y x (suc k) e = get_left xs y x k e
 -- one more step, and the others stay
 pub grown : (cells later : List Cell) (c : Cell) → later ≡ cells ++ c ∷ [] → (k : ℕ) (x : Cell) → slice_get cells k ≡ Some x → slice_get later k ≡ Some x
 grown cells later c e k x h = ap (λ (xs : List Cell). slice_get xs k) e ∙ get_left cells c x k h
+
+-- the row that a number below theirs names
+pub row_of : (rows : List (Vec ℕ)) (r : ℕ) → r < length rows → HasRow rows r (ways_at rows r)
+row_of [] r lt = absurd (omega (arith, lt))
+row_of (v ∷ rows) zero lt = (v, refl, refl)
+row_of (v ∷ rows) (suc r) lt = row_of rows r (omega (arith, lt))
+
+-- a row has the instructions that it has
+pub row_items : (rows : List (Vec ℕ)) (r : ℕ) (v : Vec ℕ) (ways : List ℕ) → HasRow rows r ways → v ≡ get_or rows r v → v.items ≡ ways
+row_items rows r v ways h e =
+    let lt = get_within rows r h.0 h.1 in
+    let both : Some v ≡ Some h.0 = ap Some e ∙ sym (slice_get-get_or rows r v lt) ∙ h.1 in
+    let same : v ≡ h.0 = cc in
+    ap (λ (x : Vec ℕ). x.items) same ∙ h.2
+
+pub same_row : (rows : List (Vec ℕ)) (r : ℕ) (a b : List ℕ) → HasRow rows r a → HasRow rows r b → a ≡ b
+same_row rows r a b h g = sym (row_ways rows r a h) ∙ row_ways rows r b g
+
+-- a list by its last item
+pub last_split : (xs : List ℕ) (n x d : ℕ) → n + 1 ≡ length xs → get_or xs n d ≡ x → xs ≡ take n xs ++ x ∷ []
+last_split [] n x d e g = absurd (omega (arith, e))
+last_split (y ∷ []) zero x d e g = ap (λ (k : ℕ). k ∷ []) g
+last_split (y ∷ z ∷ ys) zero x d e g = absurd (omega (arith, e))
+last_split (y ∷ ys) (suc n) x d e g = ap (λ (l : List ℕ). y ∷ l) (last_split ys n x d (omega (arith, e)) g)
+
+pub length-map : {A B : Type 0} (f : A → B) (xs : List A) → length (map f xs) ≡ length xs
+length-map f [] = refl
+length-map f (x ∷ xs) = ap suc (length-map f xs)
+
+-- what is remembered of the first instruction alone
+pub record IsAlone (code : Code) (rows : List (Vec ℕ)) (reading : Option Reading) (d : Cell) : Type 0 where
+  pub after : List Way
+  pub leads : HasRow rows d.next (map at_of after)
+  pub step : IsStep (instrs_of code) (code.start ∷ []) (option_map unit_read reading) after d.matched
+  pub halts : reading ≡ None → after ≡ []
+
+pub alone_is : (code : Code) (rows : List (Vec ℕ)) (cells : List Cell) (k alone : ℕ) (reading : Option Reading) (d : Cell) → All (IsCellOf code rows) cells
+    → ((x : Cell) × (slice_get cells k ≡ Some x) × (x.row ≡ alone) × (x.reading ≡ reading)) → d ≡ get_or cells k d → HasRow rows alone (code.start ∷ [])
+    → IsAlone code rows reading d
+alone_is code rows cells k alone reading d all h e one =
+    let is = cell_is code rows cells k alone reading d all h e in
+    record {
+      after = is.after;
+      leads = is.leads;
+      step = subst (λ (ws : List ℕ). IsStep (instrs_of code) ws (option_map unit_read reading) is.after d.matched) (same_row rows alone is.ways (code.start ∷ []) is.source one) is.step;
+      halts = is.halts;
+    }

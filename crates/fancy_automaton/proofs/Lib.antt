@@ -3,6 +3,7 @@ pub mod ClosingLemmas
 pub mod FutureLemmas
 pub mod PlainLemmas
 pub mod StepLemmas
+pub mod JoinLemmas
 pub mod SearchLemmas
 pub mod UntouchedLemmas
 pub mod AnswerLemmas

@@ -48,35 +48,30 @@ IsCellOf code rows c = IsCell code rows c.row c.reading c.next c.begun c.came.it
 
 -- all that is remembered is true of the code
 abbrev pub IsFor : Cells → Code → Type 0
-IsFor a code = All (IsCellOf code a.rows.items) a.cells.items
+IsFor a code = All (IsCellOf code a.rows.lists.items) a.cells.items
 
 -- the step with this number is from this row on what is read
-abbrev pub HasCell : Cells → ℕ → ℕ → Option Reading → Type 0
-HasCell a k row reading = (c : Cell) × (slice_get a.cells.items k ≡ Some c) × (c.row ≡ row) × (c.reading ≡ reading)
+abbrev pub HasCell : List Cell → ℕ → ℕ → Option Reading → Type 0
+HasCell cells k row reading = (c : Cell) × (slice_get cells k ≡ Some c) × (c.row ≡ row) × (c.reading ≡ reading)
 
 -- the row of a place: where nothing was found, one more way begins there
 abbrev pub row_if : Option Span → ℕ → ℕ → ℕ
 row_if None next begun = begun
 row_if (Some s) next begun = next
 
--- how many rows, steps and hints are kept at most
+-- how many rows and steps are kept at most
 abbrev pub most_rows : ℕ
-most_rows = 256
+most_rows = 32_768
 
 abbrev pub most_cells : ℕ
-most_cells = 2048
-
-abbrev pub most_hints : ℕ
-most_hints = 65_536
+most_cells = 16_384
 
 -- no more is remembered than that
 pub record IsWithin (a : Cells) : Type 0 where
-  pub rows : length a.rows.items ≤ most_rows
+  pub rows : length a.rows.lists.items ≤ most_rows
   pub cells : length a.cells.items ≤ most_cells
-  pub hints : length a.hints.items ≤ most_hints
 
 -- and one more step with its two rows is not too much
 pub record HasPlace (a : Cells) : Type 0 where
-  pub rows : length a.rows.items + 2 ≤ most_rows
+  pub rows : length a.rows.lists.items + 2 ≤ most_rows
   pub cells : length a.cells.items + 1 ≤ most_cells
-  pub hints : length a.hints.items ≤ most_hints

@@ -15,7 +15,7 @@ use fancy_engine::work::Work;
 use std::alloc::AllocError;
 
 /// Marks an instruction, and says whether it had no mark.
-fn is_first(marks: &mut Table, at: usize) -> bool
+pub fn is_first(marks: &mut Table, at: usize) -> bool
     requires { at < length marks.old }
     ensures adds { (q : ℕ) → slice_index_or marks.new q false ≡ true → (slice_index_or marks.old q false ≡ true) ⊎ (q ≡ at) }
     ensures seen { result ≡ false → slice_index_or marks.old at false ≡ true }

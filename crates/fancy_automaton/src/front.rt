@@ -14,7 +14,8 @@ ghost use Rattle.fancy_automaton.specs.Front.{IsFront, ways_of, found_of};
 ghost use Rattle.fancy_automaton.specs.Futures.{ArePlain, unit_by, place_after};
 ghost use Rattle.fancy_automaton.specs.Search.{Steady};
 
-use crate::cells::{Cells, restart, step_at, target_of};
+use crate::cells::{Cells, remembered, restart, step_at};
+use crate::rows::target_of;
 use crate::trail::{
     Hit, Trail, VISITS, Visit, hit_by, row_at, settled, span_of, start_at, starts_in,
 };
@@ -50,14 +51,15 @@ impl Front {
         requires all { IsFor cells.old code.now }
         ensures within { IsWithin cells.new }
         ensures all { IsFor cells.new code.now }
-        ensures waits { IfOk result (λ f. HasRow cells.new.rows.items f.next []) }
-        ensures opens { IfOk result (λ f. HasRow cells.new.rows.items f.begun (code.now.start ∷ [])) }
+        ensures waits { IfOk result (λ f. HasRow cells.new.rows.lists.items f.next []) }
+        ensures opens { IfOk result (λ f. HasRow cells.new.rows.lists.items f.begun (code.now.start ∷ [])) }
         ensures base { IfOk result (λ f. f.trail.base.items ≡ []) }
         ensures visits { IfOk result (λ f. f.trail.visits.items ≡ []) }
         ensures hit { IfOk result (λ f. f.hit ≡ None) }
     {
         cells.make_place();
         let origin = target_of(cells.alloc, &mut cells.rows, code.start, &[])?;
+        cells.alone = origin.begun;
         Ok(Front {
             next: origin.next,
             begun: origin.begun,
@@ -68,16 +70,16 @@ impl Front {
 
     /// Whether some way waits.
     fn has_waiting(&self, cells: &Cells) -> bool
-        requires { self.now.next < length cells.now.rows.items }
+        requires { self.now.next < length cells.now.rows.lists.items }
         ensures none { result ≡ false → ways_of cells.now self.now ≡ [] }
         ensures some { result ≡ true → ways_of cells.now self.now ≢ [] }
     {
-        cells.rows[self.next].len() > 0
+        cells.rows.lists[self.next].len() > 0
     }
 
     /// Whether the search is over before the last place: something was found, and no way waits.
     pub fn is_over(&self, cells: &Cells) -> bool
-        requires row { self.now.next < length cells.now.rows.items }
+        requires row { self.now.next < length cells.now.rows.lists.items }
         ensures found { result ≡ true → is_some self.now.hit ≡ true }
         ensures over { result ≡ true → ways_of cells.now self.now ≡ [] }
     {
@@ -128,7 +130,7 @@ impl Front {
 
     /// Forgets all but the row of the ways that wait, where one more step may be one too many.
     fn make_place(&mut self, code: &Code, cells: &mut Cells) -> Result<(), AllocError>
-        requires row { self.old.next < length cells.old.rows.items }
+        requires row { self.old.next < length cells.old.rows.lists.items }
         requires hits { HitIn self.old.trail.visits.items self.old.hit }
         requires within { IsWithin cells.old }
         requires all { IsFor cells.old code.now }
@@ -152,7 +154,7 @@ impl Front {
 
     /// Forgets the trail where nothing was found and no way waits: no step of it is asked any more.
     fn forget_idle(&mut self, cells: &Cells)
-        requires row { self.old.next < length cells.now.rows.items }
+        requires row { self.old.next < length cells.now.rows.lists.items }
         ensures visits { length self.new.trail.visits.items ≤ length self.old.trail.visits.items }
         ensures front { (a : Attempt) (place resume : ℕ)
             → IsFront a cells.now self.old place resume → IsFront a cells.now self.new place resume }
@@ -236,6 +238,66 @@ impl Front {
         Ok(resume)
     }
 
+    /// Takes the step at a place if it is remembered, and the trail has room for it. The answer is the place where the ways wait then,
+    /// a byte offset; it is the same place where no step was taken.
+    #[inline]
+    fn glide(&mut self, attempt: &Attempt, cells: &Cells, place: usize) -> Result<usize, AllocError>
+        requires within { place ≤ attempt.now.last }
+        requires inside { attempt.now.last ≤ length attempt.now.haystack.now }
+        requires plain { ArePlain (instrs_in attempt.now) }
+        requires steady { Steady attempt.now }
+        requires good { may_end_in attempt.now place ≡ true }
+        requires front { IsFront attempt.now cells.now self.old place place }
+        ensures front { IfOk result (λ next. IsFront attempt.now cells.now self.new next next) }
+        ensures forth { IfOk result (λ next. place ≤ next) }
+        ensures ends { IfOk result (λ next. next ≤ attempt.now.last + 1) }
+        ensures visits { length self.old.trail.visits.items ≤ most_visits
+            → length self.new.trail.visits.items ≤ most_visits }
+    {
+        if self.trail.visits.len() >= VISITS {
+            return Ok(place);
+        }
+        let row = row_at(self.hit, self.next, self.begun);
+        let start = start_at(self.hit, place);
+        let reading = reading_at(attempt, place);
+        let Some(k) = remembered(cells, row, reading) else {
+            return Ok(place);
+        };
+        let cell = &cells.cells[k];
+        self.hit = hit_by(self.hit, cell.matched, self.trail.visits.len(), place);
+        self.next = cell.next;
+        self.begun = cell.begun;
+        self.trail.visits.push(Visit { cell: k, start })?;
+        Ok(place_after(place, reading, attempt.last))
+    }
+
+    /// Takes steps that are remembered, as long as some way waits. The answer is the place where the ways wait then, a byte offset.
+    /// What is read leads from a place where a match may begin and end to the next, so no place is tested on the way.
+    fn skim(&mut self, attempt: &Attempt, cells: &Cells, place: usize) -> Result<usize, AllocError>
+        requires within { place ≤ attempt.now.last }
+        requires inside { attempt.now.last ≤ length attempt.now.haystack.now }
+        requires plain { ArePlain (instrs_in attempt.now) }
+        requires steady { Steady attempt.now }
+        requires good { may_end_in attempt.now place ≡ true }
+        requires front { IsFront attempt.now cells.now self.old place place }
+        ensures front { IfOk result (λ next. IsFront attempt.now cells.now self.new next next) }
+        ensures forth { IfOk result (λ next. place ≤ next) }
+        ensures ends { IfOk result (λ next. next ≤ attempt.now.last + 1) }
+    {
+        let mut at = place;
+        'places: loop {
+            let next = self.glide(attempt, cells, at)?;
+            if next == at {
+                return Ok(at);
+            }
+            at = next;
+            if !self.has_waiting(cells) {
+                self.forget_idle(cells);
+                return Ok(at);
+            }
+        }
+    }
+
     /// Goes past a place. The answer is the next place that is to be passed, a byte offset.
     pub fn pass(
         &mut self,
@@ -261,6 +323,10 @@ impl Front {
     {
         if !is_match_boundary(attempt.on_boundaries, attempt.haystack, place) {
             return Ok(place + 1);
+        }
+        let skimmed = self.skim(attempt, cells, place)?;
+        if skimmed > place {
+            return Ok(skimmed);
         }
         let resume = self.advance(attempt, cells, place, work)?;
         Ok(resume)
@@ -292,6 +358,7 @@ impl Front {
 }
 
 /// What is read at a place, if it ends within what is searched.
+#[inline]
 fn reading_at(attempt: &Attempt, place: usize) -> Option<Reading>
     ensures reading { option_map unit_read result ≡ unit_by (context_in attempt.now) attempt.now.last place }
     ensures fits { IfSome result (λ r. place + r.width ≤ attempt.now.last) }

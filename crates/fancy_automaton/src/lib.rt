@@ -16,7 +16,10 @@
 pub mod cells;
 pub mod closure;
 pub mod front;
+pub mod hints;
+pub mod join;
 pub mod plain;
+pub mod rows;
 pub mod search;
 pub mod step;
 pub mod trail;

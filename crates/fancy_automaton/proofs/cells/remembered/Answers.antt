@@ -1,8 +1,12 @@
-use Rattle.std.proofs.Common.{◌<◌, arith, length, refl}
-use Rattle.fancy_automaton.proofs.CellLemmas.{has_cell}
+use Rattle.std.proofs.Common.{List, subst}
+use Rattle.std.specs.Prelude.{IfSome}
+use Rattle.fancy_automaton.specs.declared.cells.Cell.{Cell}
+use Rattle.fancy_automaton.specs.Cells.{HasCell}
 use Rattle.fancy_automaton.proofs.cells.remembered.Goals as goal
 
-pub returns : goal.returns
-returns c =
-    let lt : c.in_ok-k.k < length c.args.cells.now.cells.items = omega arith in
-    has_cell c.args.cells.now.cells.items c.in_ok-k.k c.args.row c.args.reading c.index-cell.result.now c.index-cell.result.now lt c.index-cell.ensures (omega arith) (c.if-not-is_same_reading.ensures refl)
+pub returns-in-Some : goal.returns-in-Some
+returns-in-Some c = subst (λ (cs : List Cell). HasCell cs c.in-Some.k c.args.row c.args.reading) c.deref.ensures.value c.in-Some.ensures
+
+pub returns-in-None : goal.returns-in-None
+returns-in-None c =
+    subst (λ (cs : List Cell). IfSome c.tested_cell-in-None.result (λ k. HasCell cs k c.args.row c.args.reading)) c.deref-in-None.ensures.value c.tested_cell-in-None.ensures

@@ -19,12 +19,12 @@ places-init c = record {
   within = omega arith;
   steps = omega arith;
   bounded = omega arith;
-  idle = λ none. (row_ways c.new.new.cells.rows.items c.in_ok-front.front.next [] c.in_ok-front.ensures.waits, refl);
+  idle = λ none. (row_ways c.new.new.cells.rows.lists.items c.in_ok-front.front.next [] c.in_ok-front.ensures.waits, refl);
   returns = refl;
 }
 
 pub is_over-requires : goal.is_over-requires
-is_over-requires c = record { row = row_within c.places.cells.rows.items c.places.front.next _ c.places.invariant.front.waits }
+is_over-requires c = record { row = row_within c.places.cells.rows.lists.items c.places.front.next _ c.places.invariant.front.waits }
 
 pub returns-then-is_over-clause-bounded : goal.returns-then-is_over-clause-bounded
 returns-then-is_over-clause-bounded c =

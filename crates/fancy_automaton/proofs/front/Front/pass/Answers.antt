@@ -1,4 +1,5 @@
-use Rattle.std.proofs.Common.{sym, arith}
+use Rattle.std.proofs.Common.{◌≡◌, ℕ, sym, subst, arith}
+use Rattle.fancy_automaton.specs.Front.{IsFront}
 use Rattle.fancy_automaton.proofs.FrontLemmas.{front_bad, front_on}
 use Rattle.fancy_automaton.proofs.front.Front.pass.Goals as goal
 
@@ -12,3 +13,8 @@ returns-clause-front c =
 
 pub returns-clause-forth : goal.returns-clause-forth
 returns-clause-forth c = omega (arith, c.in_ok-resume.ensures.front.going.ahead)
+
+pub advance-requires-clause-front : goal.advance-requires-clause-front
+advance-requires-clause-front c =
+    let same : c.in_ok-skimmed.skimmed ≡ c.args.place = omega (arith, c.in_ok-skimmed.ensures.forth, c.if-skimmed-place.false) in
+    subst (λ (p : ℕ). IsFront c.args.attempt.now c.args.cells.now c.skim.new.self p p) same c.in_ok-skimmed.ensures.front

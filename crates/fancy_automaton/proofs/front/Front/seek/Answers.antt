@@ -3,7 +3,7 @@ use Rattle.fancy_automaton.proofs.FrontLemmas.{front_skips}
 use Rattle.fancy_automaton.proofs.front.Front.seek.Goals as goal
 
 pub has_waiting-requires : goal.has_waiting-requires
-has_waiting-requires c = row_within c.args.cells.now.rows.items c.args.self.now.next _ c.requires.front.waits
+has_waiting-requires c = row_within c.args.cells.now.rows.lists.items c.args.self.now.next _ c.requires.front.waits
 
 pub returns-then-not-has_waiting-clause-front : goal.returns-then-not-has_waiting-clause-front
 returns-then-not-has_waiting-clause-front c =
