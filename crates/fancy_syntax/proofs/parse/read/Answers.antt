@@ -1,3 +1,5 @@
+use Rattle.std.proofs.Common.{arith}
+use Rattle.std.proofs.lemmas.Grind.{common_steps}
 use Rattle.std.proofs.lemmas.Result.{err_from_is_err_and}
 use Rattle.fancy_syntax.specs.Views.{dialect_options}
 use Rattle.fancy_syntax.proofs.ParserLemmas.{MemoryOr-weaker}
@@ -21,3 +23,6 @@ pub returns-then-not-is_empty-clause-refused :
 returns-then-not-is_empty-clause-refused c =
     refused_again (dialect_options c.args.options) c.args.characters.now c.in_ok-capturing.capturing c.in_ok-capturing.ensures.value c.if-options.true _ c.in_ok-capturing.capturing.names.ok.0 c.if-not-is_empty.ensures
     c.read_whole-then-not-is_empty.result c.read_whole-then-not-is_empty.ensures.refused
+
+pub returns-clause-value : goal.returns-clause-value
+returns-clause-value c = grind (arith, common_steps)
