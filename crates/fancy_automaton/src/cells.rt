@@ -164,7 +164,8 @@ fn computed(
     ensures more { length rows.new.lists.items ≤ length rows.old.lists.items + 2 }
     ensures from { IfOk result (λ c. c.row ≡ row) }
     ensures on { IfOk result (λ c. c.reading ≡ reading) }
-    ensures cell { IfOk result (λ c. IsCell code.now rows.new.lists.items row reading c.next c.begun c.came.items c.matched) }
+    ensures cell { IfOk result (λ c. IsCell code.now rows.new.lists.items row reading c.next c.begun c.came.items
+        c.matched) }
     ensures ways { IfOk result (λ c. length c.came.items ≡ length step.next.items) }
 {
     let came = origins(alloc, &step.next)?;
@@ -418,7 +419,8 @@ pub fn restart(cells: &mut Cells, start: usize, row: usize) -> Result<Target, Al
     requires row { row < length cells.old.rows.lists.items }
     requires within { IsWithin cells.old }
     ensures all { (code : Code) → IsFor cells.old code → IsFor cells.new code }
-    ensures waits { IfOk result (λ t. HasRow cells.new.rows.lists.items t.next (ways_at cells.old.rows.lists.items row)) }
+    ensures waits { IfOk result (λ t. HasRow cells.new.rows.lists.items t.next
+        (ways_at cells.old.rows.lists.items row)) }
     ensures opens { IfOk result (λ t. HasRow cells.new.rows.lists.items t.begun
         (ways_at cells.old.rows.lists.items row ++ start ∷ [])) }
     ensures within { IsWithin cells.new }

@@ -83,6 +83,19 @@ pub fn hit_by(hit: Option<Hit>, matched: Option<usize>, visit: usize, place: usi
     }
 }
 
+/// The same, where what is found stays if the visit found nothing.
+#[inline]
+pub fn note_hit(hit: &mut Option<Hit>, matched: Option<usize>, visit: usize, place: usize)
+    ensures { hit.new ≡ hit_or hit.old matched visit place }
+{
+    match matched {
+        None => {}
+        Some(_) => {
+            *hit = hit_by(*hit, matched, visit, place);
+        }
+    }
+}
+
 /// The row of a place: where nothing was found, one more way begins there.
 pub fn row_at(hit: Option<Hit>, next: usize, begun: usize) -> usize
     ensures { (cells : List Cell) (trail : Trail) → result ≡ row_if (found_in_trail cells trail hit) next begun }
