@@ -1,5 +1,6 @@
 -- What a search by the machine is asked, and what it answers.
 use Rattle.std.specs.Prelude.{◌≡◌, List, Option}
+use Rattle.fancy_input.specs.declared.last_lines.LastLines.{LastLines}
 use Rattle.fancy_input.specs.declared.span.Span.{Span}
 use Rattle.fancy_engine.specs.Search.{Query, context_of}
 use Rattle.fancy_machine.specs.declared.attempt.Attempt.{Attempt}
@@ -16,3 +17,7 @@ pub record Serves (a : Attempt) (q : Query) : Type 0 where
 -- where the groups stand in the match that the search before found
 abbrev pub groups_held : Cache → List (Option Span)
 groups_held cache = cache.trail.now.state.captures
+
+-- what the search before read of the line ends that close the haystack
+abbrev pub lines_held : Cache → LastLines
+lines_held cache = cache.last_lines

@@ -1,6 +1,6 @@
 //! Searches by the machine.
 
-ghost use Rattle.std.specs.Prelude.{◌≡◌, ◌+◌, ◌-◌, ◌<◌, ◌≤◌, true, false, [], Option, Some, None, Err, IfOk, length, slice_index_or};
+ghost use Rattle.std.specs.Prelude.{◌≡◌, ◌+◌, ◌-◌, ◌<◌, ◌≤◌, true, false, [], Option, Some, None, Err, IfOk, IfSome, length, slice_index_or};
 ghost use Rattle.fancy_engine.specs.Compile.{IsCodeOf};
 ghost use Rattle.fancy_input.specs.LastLines.{KnowsLastLines};
 ghost use Rattle.fancy_input.specs.Requests.{effective_start};
@@ -9,7 +9,7 @@ ghost use Rattle.fancy_engine.specs.Seen.{IsNextCandidate};
 ghost use Rattle.fancy_engine.specs.Tried.{tried, NoneTried};
 ghost use Rattle.fancy_engine.specs.Work.{steps_of, returns_of, HasRoom};
 ghost use Rattle.fancy_engine.specs.Queries.{query_of, answer_with};
-ghost use Rattle.fancy_machine.specs.Asked.{Serves, groups_held};
+ghost use Rattle.fancy_machine.specs.Asked.{Serves, groups_held, lines_held};
 
 use crate::attempt::Attempt;
 use crate::best::Best;
@@ -18,7 +18,7 @@ use fancy_engine::code::Code;
 use fancy_engine::found::Found;
 use fancy_engine::options::{SearchOptions, is_match_boundary};
 use fancy_engine::refusal::SearchRefusal;
-use fancy_engine::search::next_candidate;
+use fancy_engine::search::{next_candidate, ready_last_lines};
 use fancy_engine::work::Work;
 use fancy_input::input::Request;
 use fancy_input::last_lines::LastLines;
@@ -31,6 +31,8 @@ pub struct Cache {
     trail: Trail,
     /// The best outcome of an attempt so far, where the longest is asked for.
     best: Best,
+    /// What was read of the line ends that close the haystack of the last search.
+    last_lines: LastLines,
 }
 
 impl Cache {
@@ -41,6 +43,7 @@ impl Cache {
         Cache {
             trail: Trail::new(alloc),
             best: Best::new(alloc),
+            last_lines: LastLines::new(b""),
         }
     }
 
@@ -60,6 +63,9 @@ impl Cache {
 /// Where the options say so, it seeks: positions at which no byte stands that a match may start with are passed over, and
 /// nothing counts there. The answer is the same, and no step is taken where no position is left.
 ///
+/// Where `is_kept` says so, `cache` holds what the search before read of the line ends that close the same haystack, and they are
+/// not read again.
+///
 /// What is done is added to the counts of `work`, after a refusal what was done up to it. They never begin anew here.
 /// Steps are counted as far as a `usize` goes.
 ///
@@ -73,6 +79,7 @@ pub fn search(
     request: Request,
     options: SearchOptions,
     continues: bool,
+    is_kept: bool,
     cache: &mut Cache,
     work: &mut Work,
 ) -> Result<Option<Found>, SearchRefusal>
@@ -81,7 +88,9 @@ pub fn search(
     requires code { ∥ IsCodeOf q.sought.pattern code.now ∥₁ }
     requires inside { request.range_end ≤ length haystack.now }
     requires room { HasRoom (returns_of work.old) options.backtrack_limit }
+    requires kept { is_kept ≡ true → KnowsLastLines haystack.now (lines_held cache.old) }
     ensures answer { IfOk result (λ found. answer_with (groups_held cache.new) found ≡ search q) }
+    ensures kept { IfOk result (λ found. IfSome found (λ _. KnowsLastLines haystack.now (lines_held cache.new))) }
     ensures count { IfOk result (λ _. returns_of work.new ≡ returns_of work.old + returns q (tried options.seek q)) }
     ensures refused { result ≡ Err SearchRefusal.Returns → options.backtrack_limit < returns q (tried options.seek q) }
     ensures stopped { result ≡ Err SearchRefusal.Returns
@@ -103,18 +112,10 @@ pub fn search(
     let seek = options.seek;
     let range_end = request.range_end;
     let last = request.last_position();
-    let mut last_lines = LastLines::new(attempt.haystack);
+    ready_last_lines(&mut cache.last_lines, attempt.haystack, is_kept);
     let mut place = next_tried(code, haystack, range_end, seek, first, last);
     while place <= last {
-        let found = try_position(
-            &attempt,
-            place,
-            range_end,
-            limit,
-            &mut last_lines,
-            cache,
-            work,
-        )?;
+        let found = try_position(&attempt, place, range_end, limit, cache, work)?;
         if let Some(found) = found {
             return Ok(Some(found));
         }
@@ -186,16 +187,8 @@ pub fn attempt_at(
 {
     let attempt = Attempt::new(code, haystack, request, options, continues);
     let limit = work.returns() + options.backtrack_limit;
-    let mut last_lines = LastLines::new(attempt.haystack);
-    try_position(
-        &attempt,
-        position,
-        request.range_end,
-        limit,
-        &mut last_lines,
-        cache,
-        work,
-    )
+    ready_last_lines(&mut cache.last_lines, attempt.haystack, false);
+    try_position(&attempt, position, request.range_end, limit, cache, work)
 }
 
 /// Makes one attempt at a position, where a match may begin there. No text past `range_end` is consumed, and no return is made
@@ -206,7 +199,6 @@ fn try_position(
     position: usize,
     range_end: usize,
     limit: usize,
-    last_lines: &mut LastLines,
     cache: &mut Cache,
     work: &mut Work,
 ) -> Result<Option<Found>, SearchRefusal>
@@ -218,7 +210,7 @@ fn try_position(
     requires inside { q.request.range_end ≤ length q.haystack }
     requires ends { position ≤ q.request.range_end }
     requires room { returns_of work.old ≤ limit }
-    requires last_lines { KnowsLastLines attempts.now.haystack.now last_lines.old }
+    requires last_lines { KnowsLastLines attempts.now.haystack.now (lines_held cache.old) }
     ensures answer { IfOk result (λ found. answer_with (groups_held cache.new) found ≡ attempt q position) }
     ensures count { IfOk result (λ _. returns_of work.new ≡ returns_of work.old + returns_at q position) }
     ensures refused { result ≡ Err SearchRefusal.Returns → limit < returns_of work.old + returns_at q position }
@@ -228,7 +220,7 @@ fn try_position(
     ensures returns { returns_of work.old ≤ returns_of work.new }
     ensures bounded { returns_of work.new ≤ returns_of work.old + returns_at q position }
     ensures paired { returns_of work.old ≤ steps_of work.old → returns_of work.new ≤ steps_of work.new }
-    ensures last_lines { KnowsLastLines attempts.now.haystack.now last_lines.new }
+    ensures last_lines { KnowsLastLines attempts.now.haystack.now (lines_held cache.new) }
     ensures crowded { result ≡ Err SearchRefusal.Choices → attempts.now.options.stack_limit < choices_at q position }
 {
     if !is_match_boundary(attempts.options.on_boundaries, attempts.haystack, position) {
@@ -238,7 +230,7 @@ fn try_position(
     let trail = &mut cache.trail;
     let most = attempts.options.stack_limit;
     trail.begin(code.start, position, range_end, code.groups, most)?;
-    let found = attempts.run(trail, &mut cache.best, limit, last_lines, work)?;
+    let found = attempts.run(trail, &mut cache.best, limit, &mut cache.last_lines, work)?;
     if found {
         return Ok(Some(Found {
             position,

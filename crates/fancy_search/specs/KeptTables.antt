@@ -1,14 +1,16 @@
--- What is kept through a list of searches: the table of the runner and what it read of the line ends that close the haystack, or
--- the steps that the automaton remembers.
+-- What is kept through a list of searches: the table of the runner and what it read of the line ends that close the haystack, the
+-- steps that the automaton remembers, or what the machine read of these line ends.
 use Rattle.std.specs.Prelude.{◌≡◌, ℕ, false, List, Option, Some, None}
 use Rattle.std.specs.Option.{ForSome}
+use Rattle.fancy_input.specs.LastLines.{KnowsLastLines}
 use Rattle.fancy_input.specs.Requests.{effective_start}
 use Rattle.fancy_input.specs.declared.input.Request.{Request}
 use Rattle.fancy_engine.specs.KeptTable.{IsKept}
 use Rattle.fancy_automaton.specs.Cells.{IsFor, IsWithin}
+use Rattle.fancy_machine.specs.Asked.{lines_held}
 use Rattle.fancy_search.specs.declared.cache.Cache.{Cache}
 use Rattle.fancy_search.specs.declared.cache.Kept.{Kept}
-use Rattle.fancy_search.specs.declared.cache.Kept.TheVariants.{Nothing, Table, Steps}
+use Rattle.fancy_search.specs.declared.cache.Kept.TheVariants.{Nothing, Table, Steps, Lines}
 use Rattle.fancy_search.specs.declared.program.Program.{Program}
 use Rattle.fancy_search.specs.declared.searcher.Searcher.{Searcher}
 use Rattle.fancy_search.specs.Options.{search_options}
@@ -22,15 +24,21 @@ abbrev pub table_kept : Kept → Option ℕ
 table_kept Nothing = None
 table_kept (Table base) = Some base
 table_kept Steps = None
+table_kept Lines = None
 
 -- The steps that the automaton remembers are of the program's code.
 abbrev pub KeepsSteps : Program → Cache → Type 0
 KeepsSteps program cache = IsFor cache.cells program.code × IsWithin cache.cells
 
+-- What the machine read of the last lines is true of the haystack.
+abbrev pub KeepsLines : List ℕ → Cache → Type 0
+KeepsLines haystack cache = KnowsLastLines haystack (lines_held cache.machine)
+
 -- what is kept in the cache, if anything is, is for searches with the program that start at `place` or later
 abbrev pub IsKeptIn : Program → List ℕ → Request → Kept → ℕ → Cache → Type 0
 IsKeptIn program haystack request kept place cache =
     ForSome (table_kept kept) (λ base. KeepsTable program haystack request base place cache) × (kept ≡ Steps → KeepsSteps program cache)
+    × (kept ≡ Lines → KeepsLines haystack cache)
 
 -- what the iteration keeps is for searches that start at `place` or later
 abbrev pub KeepsFrom : {S : Type 0} {g : _} → (S → List ℕ) → Program → Searcher S g → Cache → ℕ → Type 0

@@ -33,6 +33,8 @@ pub enum Kept {
     Table(usize),
     /// The steps that the automaton remembers.
     Steps,
+    /// What the machine read of the line ends that close the haystack.
+    Lines,
 }
 
 impl Kept {
@@ -53,6 +55,13 @@ impl Kept {
         ensures { result ≡ true → self ≡ Kept.Steps }
     {
         matches!(self, Kept::Steps)
+    }
+
+    /// Whether it is kept what the machine read.
+    pub(crate) fn is_lines(self) -> bool
+        ensures { result ≡ true → self ≡ Kept.Lines }
+    {
+        matches!(self, Kept::Lines)
     }
 }
 
@@ -116,7 +125,7 @@ impl Cache {
                 searched >= SHORT
             }
             Kept::Steps => self.read_past <= READ_PAST,
-            Kept::Table(_) => false,
+            Kept::Table(_) | Kept::Lines => false,
         }
     }
 

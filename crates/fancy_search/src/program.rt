@@ -76,7 +76,7 @@ impl Program {
     ghost use Rattle.fancy_search.specs.SearchCounts.{Counted, CountedUpTo, TriesNothing, is_hopeless, IfFound, IsHardProgram, RefusesQuery, AllowsQuery, RefusesAttempt, AllowsAttempt, HasRoomFor, IsStopped, AddsReturns, AddsReturnsUpTo, step_bound, returns_taken};
     ghost use Rattle.fancy_search.specs.Programs.{KeepsCharacters, program_pattern, program_options, program_groups, program_names, program_length, program_is_easy, program_limit, asked_of};
     ghost use Rattle.fancy_search.specs.Starts.{may_start};
-    ghost use Rattle.fancy_search.specs.KeptTables.{KeepsTable, KeepsSteps, IsKeptIn};
+    ghost use Rattle.fancy_search.specs.KeptTables.{KeepsTable, KeepsSteps, KeepsLines, IsKeptIn};
     ghost use Rattle.fancy_search.specs.Options.{search_options};
 
     /// Reads a pattern under these options, and compiles it.
@@ -269,8 +269,9 @@ impl Program {
         if self.easy {
             return self.search_easy(haystack, text, request, kept, cache, work);
         }
-        *kept = Kept::Nothing;
-        self.backtrack(haystack, request, continues, cache, work)
+        let is_kept = kept.is_lines();
+        *kept = Kept::Lines;
+        self.backtrack(haystack, request, continues, is_kept, cache, work)
     }
 
     /// The search for an easy pattern, by the automaton where that is worth its steps, and else by the runner. It has no `\G`.
@@ -489,12 +490,13 @@ impl Program {
         }
     }
 
-    /// The search for a hard pattern, by the backtracking machine.
+    /// The search for a hard pattern, by the backtracking machine. `is_kept` says that the search before was of the same haystack.
     fn backtrack(
         &self,
         haystack: &[u8],
         request: Request,
         continues: bool,
+        is_kept: bool,
         cache: &mut Cache,
         work: &mut Work,
     ) -> Result<Option<Found>>
@@ -504,7 +506,9 @@ impl Program {
         requires hard { IsHardProgram self.now }
         requires hopeful { is_hopeless self.now (asked_of self.now haystack.now request continues) ≡ false }
         requires room { HasRoomFor self.now request work.old }
+        requires kept { is_kept ≡ true → KeepsLines haystack.now cache.old }
         ensures answer { IfOk result (λ m. IsAnswerIn m cache.new (asked_of self.now haystack.now request continues)) }
+        ensures kept { IfOk result (λ m. IfSome m (λ _. KeepsLines haystack.now cache.new)) }
         ensures steps { steps_of work.old ≤ steps_of work.new }
         ensures idle { NoneTried (program_options self.now).seek (asked_of self.now haystack.now request continues)
             → steps_of work.new ≡ steps_of work.old }
@@ -520,7 +524,7 @@ impl Program {
         let machine = &mut cache.machine;
         let options = self.options.for_search();
         match machine::search(
-            &self.code, haystack, request, options, continues, machine, work,
+            &self.code, haystack, request, options, continues, is_kept, machine, work,
         ) {
             Ok(found) => Ok(found),
             Err(SearchRefusal::Memory) => Err(Error::Memory),

@@ -143,6 +143,8 @@ fn check_count(rt: &impl Abort, alloc: Global, pattern: &str, text: &str, count:
 fn lists_read_the_last_lines_once(rt: HostRuntime) {
     let feeds = repeated(&rt, rt.alloc(), "\n", 131_072);
     check_all(&rt, rt.alloc(), "\\n\\Z|\\n", feeds.as_str(), 131_072);
+    let hard = "(?=\\n)(?:\\n\\Z|\\n)";
+    check_count(&rt, rt.alloc(), hard, feeds.as_str(), 131_072);
     // on both sides of another character
     let mut halves = repeated(&rt, rt.alloc(), "\n", 131_072);
     halves.push_str("a").expect(&rt, "a");

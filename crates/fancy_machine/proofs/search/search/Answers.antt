@@ -1,4 +1,5 @@
-use Rattle.std.proofs.Common.{refl, ◌≡◌, ◌≤◌, ℕ, suc, ◌+◌, ◌-◌, ◌∙◌, Err, sym, ap, ap₂, arith}
+use Rattle.std.proofs.Common.{refl, ◌≡◌, ◌≤◌, ℕ, suc, ◌+◌, ◌-◌, ◌∙◌, Err, List, sym, ap, ap₂, subst, arith}
+use Rattle.fancy_input.specs.LastLines.{KnowsLastLines}
 use Rattle.fancy_input.specs.Requests.{positions, effective_start}
 use Rattle.fancy_engine.specs.Events.{marks_in, returns_in}
 use Rattle.fancy_engine.specs.Search.{answer_from, gone_from}
@@ -39,8 +40,14 @@ loop-place-init g c =
       steps = omega arith;
       returns = omega arith;
       paired = λ pairs. pairs;
-      last_lines = c.new-last_lines.ensures;
+      last_lines = c.ready_last_lines.ensures;
     }
+
+pub ready_last_lines-requires : goal.ready_last_lines-requires
+ready_last_lines-requires g c kept = subst (λ (h : List ℕ). KnowsLastLines h c.args.cache.now.last_lines) (sym c.new-attempt.ensures.haystack) (c.requires.1.1.1.1 kept)
+
+pub returns-in-Some-clause-kept : goal.returns-in-Some-clause-kept
+returns-in-Some-clause-kept g c = subst (λ (h : List ℕ). KnowsLastLines h c.try_position.new.cache.last_lines) c.new-attempt.ensures.haystack c.try_position.ensures.last_lines
 
 pub try_position-requires : goal.try_position-requires
 try_position-requires g c =

@@ -19,7 +19,7 @@ invariant-loop-place g l = record {
   steps : steps_of l.fn.work ≤ steps_of l.work;
   returns : returns_of l.fn.work ≤ returns_of l.work;
   paired : returns_of l.fn.work ≤ steps_of l.fn.work → returns_of l.work ≤ steps_of l.work;
-  last_lines : KnowsLastLines l.attempt.haystack.now l.last_lines;
+  last_lines : KnowsLastLines l.attempt.haystack.now l.cache.last_lines;
 }
 
 abbrev pub decreases-loop-place : goal.decreases-loop-place

@@ -1,6 +1,7 @@
 use Rattle.std.proofs.Common.{sym, refl, ◌∙◌, arith}
 use Rattle.fancy_search.specs.Cached.{cached_groups}
 use Rattle.fancy_search.specs.Programs.{asked_of}
+use Rattle.fancy_search.proofs.KeptTablesLemmas.{found_lines}
 use Rattle.fancy_search.proofs.ResultLemmas.{if_ok}
 use Rattle.fancy_search.proofs.SearchedLemmas.{none_tried, none_tried_in, no_returns, ordered_found, inside_found, clean_found}
 use Rattle.fancy_search.proofs.program.Program.search_next.Goals as goal
@@ -64,7 +65,11 @@ returns-then-is_hopeless-clause-allowed c hard =
 
 pub backtrack-requires : goal.backtrack-requires
 backtrack-requires c =
-    (c.requires.inside, (refl, (sym c.args.self.now.decided ∙ c.if-self.false, (c.is_hopeless.ensures.seeks c.if-is_hopeless.false c.args.continues, c.requires.room))))
+    (c.requires.inside, (refl, (sym c.args.self.now.decided ∙ c.if-self.false, (c.is_hopeless.ensures.seeks c.if-is_hopeless.false c.args.continues, (c.requires.room, λ kept. c.requires.kept.2 (c.is_lines-is_kept.ensures kept))))))
+
+pub returns-clause-kept : goal.returns-clause-kept
+returns-clause-kept c =
+    if_ok _ _ (found_lines c.args.self.now c.args.haystack.now c.backtrack.new.cache c.args.request) c.backtrack.result c.backtrack.ensures.kept
 
 pub returns-clause-idle : goal.returns-clause-idle
 returns-clause-idle c none =
