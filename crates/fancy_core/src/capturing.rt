@@ -146,7 +146,7 @@ impl Regex {
         let bytes = haystack.as_bytes();
         let found = self
             .program
-            .search(bytes, request, true, &mut standing, cache, &mut work)?;
+            .search(bytes, haystack.is_text(), request, true, &mut standing, cache, &mut work)?;
         let Some(found) = found else {
             return Ok(None);
         };

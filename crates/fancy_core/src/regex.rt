@@ -328,7 +328,7 @@ impl Regex {
         let bytes = haystack.as_bytes();
         let found = self
             .program
-            .search(bytes, request, true, &mut standing, &mut cache, work)?;
+            .search(bytes, haystack.is_text(), request, true, &mut standing, &mut cache, work)?;
         let Some(found) = found else {
             return Ok(None);
         };
@@ -373,7 +373,7 @@ impl Regex {
         let mut work = Work::new();
         let found = self
             .program
-            .search(bytes, asked, true, &mut standing, &mut cache, &mut work)?;
+            .search(bytes, haystack.is_text(), asked, true, &mut standing, &mut cache, &mut work)?;
         Ok(found.is_some())
     }
 }

@@ -1,9 +1,10 @@
--- A table that is kept through a list of searches.
+-- A table, and what was read of the last lines, that are kept through a list of searches.
 use Rattle.std.proofs.Common.{◌≡◌, ℕ, ◌+◌, ◌-◌, ◌*◌, ◌^◌, ◌<◌, ◌≤◌, Bool, true, List, Option, Some, None, length, refl, sym, ap, ◌∙◌, subst, arith}
 use Rattle.std.specs.Prelude.{IfSome, is_some}
 use Rattle.std.specs.Option.{unwrap_or}
 use Rattle.std.proofs.lemmas.Bool.{true≢false}
 use Rattle.fancy_tree.specs.Pattern.{Pattern}
+use Rattle.fancy_input.specs.LastLines.{KnowsLastLines}
 use Rattle.fancy_input.specs.Requests.{effective_start}
 use Rattle.fancy_input.specs.declared.input.Request.{Request}
 use Rattle.fancy_engine.specs.Instructions.{Instruction}
@@ -12,13 +13,14 @@ use Rattle.fancy_engine.specs.Marking.{Marks}
 use Rattle.fancy_engine.specs.declared.code.Code.{Code}
 use Rattle.fancy_engine.specs.declared.options.SearchOptions.{SearchOptions}
 use Rattle.fancy_engine.specs.declared.reading.SuppressedEnds.{SuppressedEnds}
+use Rattle.fancy_engine.specs.declared.search.Cache.{Cache}
 use Rattle.fancy_engine.specs.Code.{instrs_of, code_len, width_of, due_of, worth_of, left_of}
 use Rattle.fancy_engine.specs.Compile.{IsCodeOf, depth}
 use Rattle.fancy_engine.specs.Queries.{most_steps}
 use Rattle.fancy_engine.specs.Reading.{search_context, suppressed_ends}
 use Rattle.fancy_engine.specs.Runner.{AllFailed, FailedPast}
 use Rattle.fancy_engine.specs.Search.{is_match_boundary}
-use Rattle.fancy_engine.specs.KeptTable.{marks_from, table_base, IsKept, steps_ahead, steps_before}
+use Rattle.fancy_engine.specs.KeptTable.{table_in, marks_from, table_base, IsKept, steps_ahead, steps_before}
 use Rattle.fancy_engine.proofs.MarkingLemmas.{first_ticks, times_le}
 
 -- what has failed from a place on has failed from a later one on
@@ -28,44 +30,50 @@ failed_later good x low later limit code deep table le failed q i seen hit = fai
 
 module _ (code : Code) (haystack : List ℕ) (request : Request) (options : SearchOptions) (first base : ℕ) (suppressed : SuppressedEnds)
     (begins : first ≡ effective_start request) (ends : suppressed ≡ suppressed_ends options.overrides request) where
-  -- what a search is told of a table that is kept
-  abbrev Told : Option ℕ → List Bool → Type 0
-  Told kept table = IfSome kept (λ base. IsKept code haystack request options base (effective_start request) table)
+  -- what a search is told of a cache that is kept
+  abbrev Told : Option ℕ → Cache → Type 0
+  Told kept cache = IfSome kept (λ base. IsKept code haystack request options base (effective_start request) cache)
 
-  pub kept_begins : (kept : Option ℕ) (table : List Bool) → Told kept table → base ≡ unwrap_or kept first → base ≤ first
-  kept_begins None table told is = omega (arith, is)
-  kept_begins (Some b) table told is = omega (arith, is, told.begins, begins)
+  pub kept_begins : (kept : Option ℕ) (cache : Cache) → Told kept cache → base ≡ unwrap_or kept first → base ≤ first
+  kept_begins None cache told is = omega (arith, is)
+  kept_begins (Some b) cache told is = omega (arith, is, told.begins, begins)
 
-  pub kept_room : (kept : Option ℕ) (table : List Bool) → Told kept table → base ≡ unwrap_or kept first → is_some kept ≡ true
-      → length table ≡ (request.range_end - base + 1) * width_of code
-  kept_room None table told is some = absurd (true≢false (sym some))
-  kept_room (Some b) table told is some = rw is told.room
+  pub kept_room : (kept : Option ℕ) (cache : Cache) → Told kept cache → base ≡ unwrap_or kept first → is_some kept ≡ true
+      → length (table_in cache) ≡ (request.range_end - base + 1) * width_of code
+  kept_room None cache told is some = absurd (true≢false (sym some))
+  kept_room (Some b) cache told is some = rw is told.room
 
-  pub kept_small : (kept : Option ℕ) (table : List Bool) → Told kept table → is_some kept ≡ true → length table < 2 ^ 64
-  kept_small None table told some = absurd (true≢false (sym some))
-  kept_small (Some b) table told some = told.small
+  pub kept_small : (kept : Option ℕ) (cache : Cache) → Told kept cache → is_some kept ≡ true → length (table_in cache) < 2 ^ 64
+  kept_small None cache told some = absurd (true≢false (sym some))
+  kept_small (Some b) cache told some = told.small
 
-  pub kept_failed : (kept : Option ℕ) (table : List Bool) → Told kept table → base ≡ unwrap_or kept first → is_some kept ≡ true → (p : Pattern) → IsCodeOf p code
+  pub kept_last_lines : (kept : Option ℕ) (cache : Cache) → Told kept cache → is_some kept ≡ true → KnowsLastLines haystack cache.last_lines
+  kept_last_lines None cache told some = absurd (true≢false (sym some))
+  kept_last_lines (Some b) cache told some = told.last_lines
+
+  pub kept_failed : (kept : Option ℕ) (cache : Cache) → Told kept cache → base ≡ unwrap_or kept first → is_some kept ≡ true → (p : Pattern) → IsCodeOf p code
       → AllFailed (is_match_boundary options.on_boundaries haystack) (search_context haystack code.meaning suppressed base) (first + 1) request.range_end (instrs_of code)
-      (depth (length haystack) p + 1) (marks_from code base table)
-  kept_failed None table told is some p of = absurd (true≢false (sym some))
-  kept_failed (Some b) table told is some p of = rw (is, ends, begins) (told.failed p of)
+      (depth (length haystack) p + 1) (marks_from code base (table_in cache))
+  kept_failed None cache told is some p of = absurd (true≢false (sym some))
+  kept_failed (Some b) cache told is some p of = rw (is, ends, begins) (told.failed p of)
 
-  -- a search that found something leaves a table that can be kept
-  pub kept_after : (kept : Option ℕ) (place end : ℕ) (table : List Bool) → base ≡ unwrap_or kept first → base ≤ place → place ≤ end
-      → length table ≡ (request.range_end - base + 1) * width_of code → length table < 2 ^ 64
+  -- a search that found something leaves a cache that can be kept
+  pub kept_after : (kept : Option ℕ) (place end : ℕ) (cache : Cache) → base ≡ unwrap_or kept first → base ≤ place → place ≤ end
+      → length (table_in cache) ≡ (request.range_end - base + 1) * width_of code → length (table_in cache) < 2 ^ 64
       → ((p : Pattern) → IsCodeOf p code
       → FailedPast (is_match_boundary options.on_boundaries haystack) (search_context haystack code.meaning suppressed base) place request.range_end (instrs_of code)
-      (depth (length haystack) p + 1) end (marks_from code base table))
-      → IsKept code haystack request options (table_base kept request) end table
-  kept_after kept place end table is low forth room small failed =
+      (depth (length haystack) p + 1) end (marks_from code base (table_in cache)))
+      → KnowsLastLines haystack cache.last_lines
+      → IsKept code haystack request options (table_base kept request) end cache
+  kept_after kept place end cache is low forth room small failed last_lines =
       rw (sym begins, sym is) (record {
         begins = omega (arith, low, forth);
         room = room;
         small = small;
         failed = λ p of.
-            subst (λ (s : SuppressedEnds). AllFailed (is_match_boundary options.on_boundaries haystack) (search_context haystack code.meaning s base) (end + 1) request.range_end (instrs_of code) (depth (length haystack) p + 1) (marks_from code base table)) ends
+            subst (λ (s : SuppressedEnds). AllFailed (is_match_boundary options.on_boundaries haystack) (search_context haystack code.meaning s base) (end + 1) request.range_end (instrs_of code) (depth (length haystack) p + 1) (marks_from code base (table_in cache))) ends
             (λ q i seen hit. failed p of q i ((seen.0.0, omega (arith, seen.0.1, forth), seen.0.2), seen.1) (omega (arith, seen.0.1)) hit);
+        last_lines = last_lines;
       })
 
   worth_paid : worth_of code + due_of code code.start ≤ code_len code

@@ -9,8 +9,9 @@ use Rattle.fancy_engine.specs.declared.runner.Next.TheVariants.{On, Dead, Found}
 use Rattle.fancy_engine.specs.Context.{Context, State, moved_to, with_capture, holds}
 use Rattle.fancy_engine.specs.Events.{Event, mark, return, outcome, either}
 use Rattle.fancy_engine.specs.Run.{Raw, Note, Stop, choice_opened, returned, fetched, before, join, onward, instr_at, act, run, erase}
-use Rattle.fancy_engine.specs.Threads.{Thread, state_of, starts_of}
-use Rattle.fancy_engine.specs.Runner.{events_of, size_of, IsKnown, Moved, Known, thread_run, Went, Parted, Stepped}
+use Rattle.fancy_engine.specs.declared.slot.Pair.{Pair}
+use Rattle.fancy_engine.specs.Threads.{Thread, thread_of, state_of, starts_of}
+use Rattle.fancy_engine.specs.Runner.{events_of, size_of, IsKnown, Moved, Tested, Known, thread_run, Went, Parted, Stepped}
 use Rattle.fancy_engine.proofs.RunMore.{known_act}
 
 erase_append : (a b : List Raw) → erase (a ++ b) ≡ erase a ++ erase b
@@ -101,6 +102,19 @@ module _ (x : Context) (limit : ℕ) (code : List Instruction) (deep kept : ℕ)
   pub refuted : (a : Assertion) (next : ℕ) → instr_at code t.at ≡ Assert a next → holds x a t.place ≡ false → events_of (thread_run x limit code deep kept t) ≡ []
   refuted a next e none =
       ap events_of (acts (Assert a next) e ∙ ap (λ (b : Bool). before (Note fetched) (if b then (run x limit code deep next (state_of kept t) (starts_of t)) else (Some []))) none)
+
+  -- a test of the place held, or not
+  pub tested : (next : Next) (held : Bool) (a : Assertion) (q : ℕ) (new : Pair) (ts : List Thread) → instr_at code t.at ≡ Assert a q → held ≡ holds x a t.place
+      → Tested next held q (record { at = t.at; place = t.place }) new → Stepped x limit code deep kept next t ts (thread_of new t.slots) ts
+  tested On true a q new ts e h m =
+      inl (
+        asserted a q (thread_of new t.slots) e (sym h) (ap (λ (p : Pair). p.at) m) (ap (λ (p : Pair). state_of kept (thread_of p t.slots)) m) refl,
+        refl,
+      )
+  tested On false a q new ts e h m = absurd m
+  tested Dead true a q new ts e h m = absurd m
+  tested Dead false a q new ts e h m = (refuted a q e (sym h), refl)
+  tested Found held a q new ts e h m = absurd m
 
   pub opened : (g next : ℕ) (u : Thread) → instr_at code t.at ≡ Open g next
       → u.at ≡ next → state_of kept u ≡ state_of kept t → starts_of u ≡ slice_set (starts_of t) g t.place → Went x limit code deep kept t u

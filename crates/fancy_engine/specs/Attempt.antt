@@ -1,5 +1,5 @@
 -- What the runner says of an attempt, with its code, its haystack and its bounds.
-use Rattle.std.specs.Prelude.{ℕ, ◌+◌, ◌-◌, ◌*◌, Bool, List, Option}
+use Rattle.std.specs.Prelude.{ℕ, ◌+◌, ◌-◌, ◌*◌, Bool, List, ◌∷◌, Option}
 use Rattle.fancy_engine.specs.Instructions.{Instruction}
 use Rattle.fancy_engine.specs.declared.runner.Attempt.{Attempt}
 use Rattle.fancy_engine.specs.declared.runner.Next.{Next}
@@ -8,8 +8,9 @@ use Rattle.fancy_engine.specs.Context.{Context, State}
 use Rattle.fancy_engine.specs.Marking.{Marks}
 use Rattle.fancy_engine.specs.Reading.{search_context}
 use Rattle.fancy_engine.specs.Search.{is_match_boundary}
-use Rattle.fancy_engine.specs.Threads.{Thread, ThreadStack}
-use Rattle.fancy_engine.specs.Runner.{thread_run, events_of, first_accepted, ends_well, Known, Stepped, AllFailed, FailedPast, Resting, Running, Visited}
+use Rattle.fancy_engine.specs.declared.slot.Pair.{Pair}
+use Rattle.fancy_engine.specs.Threads.{Thread, ThreadStack, HeldThreads, KeptThreads, held_of, stack_of}
+use Rattle.fancy_engine.specs.Runner.{threads_after, thread_run, events_of, first_accepted, ends_well, Known, Stepped, AllFailed, FailedPast, Resting, Running, Visited}
 
 module _ (a : Attempt) where
   -- what the code sees; easy code has no `\G`, which would hold where the table begins
@@ -18,6 +19,30 @@ module _ (a : Attempt) where
 
   abbrev pub instrs_in : List Instruction
   instrs_in = instrs_of a.code.now
+
+  -- the threads that are meant by what is kept of them
+  abbrev pub held_in : KeptThreads → HeldThreads
+  held_in kept = held_of instrs_in kept
+
+  -- the same, of which the one that is followed stands at a pair
+  abbrev pub stack_in : Pair → KeptThreads → ThreadStack
+  stack_in pair kept = stack_of pair (held_in kept)
+
+  -- the thread that is followed
+  abbrev pub current_in : Pair → KeptThreads → Thread
+  current_in pair kept = (stack_in pair kept).current
+
+  -- those that were saved
+  abbrev pub saved_in : KeptThreads → List Thread
+  saved_in kept = (held_in kept).saved
+
+  -- all threads, the one that is followed first
+  abbrev pub threads_in : Pair → KeptThreads → List Thread
+  threads_in pair kept = current_in pair kept ∷ saved_in kept
+
+  -- those that are still to be followed after a step or a visit
+  abbrev pub threads_left_in : Next → Pair → KeptThreads → List Thread
+  threads_left_in next pair kept = threads_after next (current_in pair kept) (saved_in kept)
 
   -- how many places the table has marks for
   abbrev pub places_in : ℕ

@@ -1,7 +1,8 @@
--- What a table holds that is kept from one search to the next of a list: the same code in the same haystack, up to the same end.
+-- What a cache holds that is kept from one search to the next of a list: the same code in the same haystack, up to the same end.
 use Rattle.std.specs.Prelude.{◌≡◌, ℕ, ◌+◌, ◌-◌, ◌*◌, ◌^◌, ◌<◌, ◌≤◌, Bool, List, Option, Some, None, length}
 use Rattle.std.specs.Option.{unwrap_or}
 use Rattle.fancy_tree.specs.Pattern.{Pattern}
+use Rattle.fancy_input.specs.LastLines.{KnowsLastLines}
 use Rattle.fancy_input.specs.Requests.{effective_start}
 use Rattle.fancy_input.specs.declared.input.Request.{Request}
 use Rattle.fancy_engine.specs.declared.code.Code.{Code}
@@ -30,13 +31,15 @@ table_base kept request = unwrap_or kept (effective_start request)
 -- The table begins at `base` and goes up to the range's end. No pair that is marked past `place` gives an accepted outcome, whatever
 -- the groups. So a search that starts at `place` or later need not follow these again. Of the request its end and the ends that it
 -- suppresses are heeded, which are the same for all searches of a list. `\G`, which easy code does not read, is taken to hold at `base`.
-pub record IsKept (code : Code) (haystack : List ℕ) (request : Request) (options : SearchOptions) (base place : ℕ) (table : List Bool) : Type 0 where
+-- What was read of the line ends that close the haystack is true of it, so a later search need not read them again.
+pub record IsKept (code : Code) (haystack : List ℕ) (request : Request) (options : SearchOptions) (base place : ℕ) (cache : Cache) : Type 0 where
   pub begins : base ≤ place
-  pub room : length table ≡ (request.range_end - base + 1) * width_of code
-  pub small : length table < 2 ^ 64
+  pub room : length (table_in cache) ≡ (request.range_end - base + 1) * width_of code
+  pub small : length (table_in cache) < 2 ^ 64
   pub failed : (p : Pattern) → IsCodeOf p code
       → AllFailed (is_match_boundary options.on_boundaries haystack) (search_context haystack code.meaning (suppressed_ends options.overrides request) base)
-      (place + 1) request.range_end (instrs_of code) (depth (length haystack) p + 1) (marks_from code base table)
+      (place + 1) request.range_end (instrs_of code) (depth (length haystack) p + 1) (marks_from code base (table_in cache))
+  pub last_lines : KnowsLastLines haystack cache.last_lines
 
 -- so many steps are ahead of the searches from `place` on that keep the table: what its marks are worth that were not made, and a
 -- start at each position

@@ -1,5 +1,5 @@
 -- What the runner keeps true, which follows each pair of an instruction with a mark and a place at most once.
-use Rattle.std.specs.Prelude.{◌≡◌, ℕ, ◌+◌, ◌<◌, ◌≤◌, ◌⊎◌, Bool, true, List, [], ◌∷◌, ◌++◌, length, map, Option, Some, None, if◌then◌else◌, is_some}
+use Rattle.std.specs.Prelude.{◌≡◌, ℕ, ◌+◌, ◌<◌, ◌≤◌, ◌⊎◌, Bool, true, false, List, [], ◌∷◌, ◌++◌, length, map, Option, Some, None, if◌then◌else◌, is_some}
 use Rattle.fancy_engine.specs.Instructions.{Instruction}
 use Rattle.fancy_engine.specs.declared.runner.Next.{Next}
 use Rattle.fancy_engine.specs.declared.runner.Next.TheVariants.{On, Dead, Found}
@@ -9,6 +9,7 @@ use Rattle.fancy_engine.specs.Run.{Raw, run, erase}
 use Rattle.fancy_engine.specs.Marking.{Marks}
 use Rattle.fancy_engine.specs.Threads.{Thread, state_of, starts_of, slot_span}
 use Rattle.fancy_engine.specs.declared.slot.Slot.{Slot}
+use Rattle.fancy_engine.specs.declared.slot.Pair.{Pair}
 
 -- the first outcome that the test accepts
 abbrev pub first_accepted : (State → Bool) → List Event → Option State
@@ -47,6 +48,14 @@ Moved On limit (Some p) next t u = (p ≤ limit) × (u ≡ record t { at = next;
 Moved Dead limit None next t u = u ≡ t
 Moved Dead limit (Some p) next t u = (limit < p) × (u ≡ t)
 Moved Found limit o next t u = ⊥
+
+-- what a test of the place does, where it holds and where it does not
+abbrev pub Tested : Next → Bool → ℕ → Pair → Pair → Type 0
+Tested On true next old new = new ≡ record { at = next; place = old.place }
+Tested On false next old new = ⊥
+Tested Dead true next old new = ⊥
+Tested Dead false next old new = new ≡ old
+Tested Found held next old new = ⊥
 
 -- each thread stands at a place that is searched
 abbrev pub AllWithin : ℕ → ℕ → List Thread → Type 0

@@ -1,9 +1,8 @@
 //! The runner, which follows each pair of an instruction with a mark and a place at most once.
 
-ghost use Rattle.std.specs.Prelude.{◌≡◌, ◌+◌, ◌-◌, ◌^◌, ◌<◌, ◌≤◌, ◌≢◌, ◌⊎◌, [], ◌∷◌, ℕ, List, Option, Some, None, Bool, true, false, map, length, IfOk, OnOk, IfSome, option_map, slice_index, slice_set, if◌then◌else◌, ◌==◌};
+ghost use Rattle.std.specs.Prelude.{◌≡◌, ◌+◌, ◌-◌, ◌^◌, ◌<◌, ◌≤◌, ◌≢◌, ◌⊎◌, [], ◌∷◌, ℕ, List, Option, Some, None, Bool, true, false, length, IfOk, IfSome, ◌==◌};
 ghost use Rattle.fancy_tree.specs.Sets.{has};
-ghost use Rattle.fancy_engine.specs.Context.{State, past_item, past_byte};
-ghost use Rattle.fancy_input.specs.Spans.{from_to};
+ghost use Rattle.fancy_engine.specs.Context.{State, past_item, past_byte, holds};
 ghost use Rattle.fancy_engine.specs.Code.{code_len, weight_of, due_of, cost_of, marks_of, burden};
 ghost use Rattle.fancy_engine.specs.Instructions.{edges_in};
 ghost use Rattle.fancy_engine.specs.Run.{instr_at};
@@ -11,21 +10,21 @@ ghost use Rattle.fancy_engine.specs.Compile.{IsEasyInstr, AreEasy};
 ghost use Rattle.fancy_engine.specs.Work.{steps_of, returns_of, stepped_within};
 ghost use Rattle.fancy_engine.specs.Reading.{search_context};
 ghost use Rattle.fancy_input.specs.LastLines.{KnowsLastLines};
-ghost use Rattle.fancy_engine.specs.Threads.{slot_from, slot_span, thread_of, stack_of};
-ghost use Rattle.fancy_engine.specs.Runner.{found_state, Stacked, Moved, AllWithin, Spends, Progresses, threads_after};
-ghost use Rattle.fancy_engine.specs.Attempt.{instrs_in, bits_in, left_in, ahead_in, marks_in, KnownIn, AllFailedIn, FailedPastIn, first_accepted_in, SteppedIn, RunningIn, VisitedIn};
+ghost use Rattle.fancy_engine.specs.declared.slot.Slot.{Slot};
+ghost use Rattle.fancy_engine.specs.Threads.{thread_of, begun_at, AreFresh};
+ghost use Rattle.fancy_engine.specs.Runner.{found_state, Stacked, Moved, Tested, AllWithin, Spends, Progresses};
+ghost use Rattle.fancy_engine.specs.Attempt.{context_in, instrs_in, stack_in, current_in, saved_in, threads_in, threads_left_in, bits_in, left_in, ahead_in, marks_in, KnownIn, AllFailedIn, FailedPastIn, first_accepted_in, SteppedIn, RunningIn, VisitedIn};
 
 use crate::code::{Code, Instr};
 use crate::options::is_match_boundary;
 use crate::reading::{SuppressedEnds, holds_at, read_at};
-use crate::slot::{Pair, Slot};
+use crate::slot::Pair;
 use crate::table::Table;
 use crate::threads::Threads;
 use crate::work::Work;
 use fancy_input::last_lines::LastLines;
-use fancy_input::span::Span;
 use fancy_tree::char_set::CharSet;
-use fancy_tree::tree::Meaning;
+use fancy_tree::tree::{Assertion, Meaning};
 use std::alloc::AllocError;
 
 /// What follows a step.
@@ -122,43 +121,37 @@ fn advance(pair: &mut Pair, next: usize, place: Option<usize>, limit: usize) -> 
     }
 }
 
-/// A group begins at a place.
-fn open_group(threads: &mut Threads, group: usize, place: usize) -> Result<(), AllocError>
-    ensures spans { OnOk result (map slot_span threads.new.slots ≡ map slot_span threads.old.slots) }
-    ensures starts { OnOk result (map slot_from threads.new.slots ≡ slice_set (map slot_from threads.old.slots) group place) }
-    ensures saved { threads.new.saved ≡ threads.old.saved }
+/// Goes on past a test of the place, if that holds.
+fn pass_test(
+    attempt: &Attempt,
+    pair: &mut Pair,
+    assertion: Assertion,
+    next: usize,
+    last_lines: &mut LastLines,
+) -> Next
+    requires { KnowsLastLines attempt.now.haystack.now last_lines.old }
+    ensures tested { Tested result (holds (context_in attempt.now) assertion pair.old.place) next pair.old pair.new }
+    ensures goes { result ≡ Next.On → pair.new.at ≡ next }
+    ensures stays { pair.new.place ≡ pair.old.place }
+    ensures found { result ≢ Next.Found }
+    ensures known { KnowsLastLines attempt.now.haystack.now last_lines.new }
 {
-    let slot = threads.slot(group);
-    threads.write_slot(
-        group,
-        Slot {
-            from: place,
-            span: slot.span,
-        },
-    )?;
-    Ok(())
-}
-
-/// A group ends at a place.
-fn close_group(threads: &mut Threads, group: usize, place: usize) -> Result<(), AllocError>
-    ensures spans { OnOk result (map slot_span threads.new.slots ≡ slice_set (map slot_span threads.old.slots) group
-        (Some (from_to (slice_index (map slot_from threads.old.slots) group) place))) }
-    ensures starts { OnOk result (map slot_from threads.new.slots ≡ map slot_from threads.old.slots) }
-    ensures saved { threads.new.saved ≡ threads.old.saved }
-{
-    let slot = threads.slot(group);
-    let span = Span {
-        start: slot.from,
-        end: place,
-    };
-    threads.write_slot(
-        group,
-        Slot {
-            from: slot.from,
-            span: Some(span),
-        },
-    )?;
-    Ok(())
+    let meaning = attempt.code.meaning;
+    let suppressed = attempt.suppressed;
+    let place = pair.place;
+    if holds_at(
+        attempt.haystack,
+        meaning,
+        suppressed,
+        assertion,
+        place,
+        last_lines,
+    ) {
+        pair.at = next;
+        Next::On
+    } else {
+        Next::Dead
+    }
 }
 
 /// Follows one instruction, which is fetched once.
@@ -173,15 +166,18 @@ fn step(
     requires here { pair.old.at < code_len attempt.now.code.now }
     requires easy { IsEasyInstr (instr_at (instrs_in attempt.now) pair.old.at) }
     requires last_lines { KnowsLastLines attempt.now.haystack.now last_lines.old }
-    ensures stepped { IfOk result (λ next. (kept deep : ℕ) → KnownIn attempt.now kept deep (stack_of pair.old threads.old)
-        → SteppedIn attempt.now kept deep next (stack_of pair.old threads.old) (stack_of pair.new threads.new)) }
+    ensures stepped { IfOk result (λ next. (kept deep : ℕ)
+        → KnownIn attempt.now kept deep (stack_in attempt.now pair.old threads.old)
+        → SteppedIn attempt.now kept deep next
+        (stack_in attempt.now pair.old threads.old) (stack_in attempt.now pair.new threads.new)) }
     ensures forth { IfOk result (λ _. pair.old.place ≤ pair.new.place) }
     ensures within { IfOk result (λ _. pair.old.place ≤ attempt.now.last → pair.new.place ≤ attempt.now.last) }
-    ensures stacked { IfOk result (λ next. Stacked next (thread_of pair.old threads.old.slots)
-        threads.old.saved threads.new.saved) }
+    ensures stacked { IfOk result (λ next. Stacked next (current_in attempt.now pair.old threads.old)
+        (saved_in attempt.now threads.old) (saved_in attempt.now threads.new)) }
     ensures spends { IfOk result (λ next. Spends next
         (cost_of attempt.now.code.now (instr_at (instrs_in attempt.now) pair.old.at))
-        (burden attempt.now.code.now threads.old.saved) (burden attempt.now.code.now threads.new.saved)
+        (burden attempt.now.code.now (saved_in attempt.now threads.old))
+        (burden attempt.now.code.now (saved_in attempt.now threads.new))
         (due_of attempt.now.code.now pair.new.at)) }
     ensures work { work.new ≡ stepped_within work.old }
     ensures last_lines { KnowsLastLines attempt.now.haystack.now last_lines.new }
@@ -205,32 +201,20 @@ fn step(
             Ok(advance(pair, *next, past, attempt.last))
         }
         Instr::Assert(assertion, next) => {
-            if holds_at(
-                haystack,
-                code.meaning,
-                attempt.suppressed,
-                *assertion,
-                place,
-                last_lines,
-            ) {
-                pair.at = *next;
-                Ok(Next::On)
-            } else {
-                Ok(Next::Dead)
-            }
+            Ok(pass_test(attempt, pair, *assertion, *next, last_lines))
         }
         Instr::Split(first, second) => {
-            threads.save(Pair { at: *second, place })?;
+            threads.save(*pair, *second)?;
             pair.at = *first;
             Ok(Next::On)
         }
         Instr::Open(group, next) => {
-            open_group(threads, *group, place)?;
+            threads.open_group(*pair, *group)?;
             pair.at = *next;
             Ok(Next::On)
         }
         Instr::Close(group, next) => {
-            close_group(threads, *group, place)?;
+            threads.close_group(*pair, *group)?;
             pair.at = *next;
             Ok(Next::On)
         }
@@ -270,34 +254,35 @@ fn visit(
 ) -> Result<Next, AllocError>
     requires inside { attempt.now.last ≤ length attempt.now.haystack.now }
     requires easy { AreEasy (instrs_in attempt.now) }
-    requires within { AllWithin attempt.now.base attempt.now.last (thread_of pair.old threads.old.slots ∷ threads.old.saved) }
+    requires within { AllWithin attempt.now.base attempt.now.last (threads_in attempt.now pair.old threads.old) }
     requires room { bits_in attempt.now ≤ length table.old }
     requires small { length table.old < 2 ^ 64 }
     requires last_lines { KnowsLastLines attempt.now.haystack.now last_lines.old }
     ensures visited { IfOk result (λ next. (low kept deep : ℕ) (goal : Option State) → attempt.now.base ≤ low
-        → AllWithin low attempt.now.last (thread_of pair.old threads.old.slots ∷ threads.old.saved)
-        → RunningIn attempt.now low kept deep goal table.old (stack_of pair.old threads.old)
-        → VisitedIn attempt.now low kept deep next goal table.new (stack_of pair.new threads.new)) }
+        → AllWithin low attempt.now.last (threads_in attempt.now pair.old threads.old)
+        → RunningIn attempt.now low kept deep goal table.old (stack_in attempt.now pair.old threads.old)
+        → VisitedIn attempt.now low kept deep next goal table.new (stack_in attempt.now pair.new threads.new)) }
     ensures progress { IfOk result (λ next. Progresses next
-        (ahead_in attempt.now table.old (thread_of pair.old threads.old.slots ∷ threads.old.saved))
-        (ahead_in attempt.now table.new (threads_after next (thread_of pair.new threads.new.slots) threads.new.saved))
-        (length threads.old.saved) (length threads.new.saved)) }
+        (ahead_in attempt.now table.old (threads_in attempt.now pair.old threads.old))
+        (ahead_in attempt.now table.new (threads_left_in attempt.now next pair.new threads.new))
+        (length (saved_in attempt.now threads.old)) (length (saved_in attempt.now threads.new))) }
     ensures within { IfOk result (λ _. (low : ℕ)
-        → AllWithin low attempt.now.last (thread_of pair.old threads.old.slots ∷ threads.old.saved)
-        → AllWithin low attempt.now.last (thread_of pair.new threads.new.slots ∷ threads.new.saved)) }
+        → AllWithin low attempt.now.last (threads_in attempt.now pair.old threads.old)
+        → AllWithin low attempt.now.last (threads_in attempt.now pair.new threads.new)) }
     ensures room { length table.new ≡ length table.old }
     ensures spent { IfOk result (λ next. steps_of work.new
-        + ahead_in attempt.now table.new (threads_after next (thread_of pair.new threads.new.slots) threads.new.saved)
-        ≤ steps_of work.old + ahead_in attempt.now table.old (thread_of pair.old threads.old.slots ∷ threads.old.saved)) }
+        + ahead_in attempt.now table.new (threads_left_in attempt.now next pair.new threads.new)
+        ≤ steps_of work.old + ahead_in attempt.now table.old (threads_in attempt.now pair.old threads.old)) }
     ensures bounded { steps_of work.new
-        ≤ steps_of work.old + ahead_in attempt.now table.old (thread_of pair.old threads.old.slots ∷ threads.old.saved) }
+        ≤ steps_of work.old + ahead_in attempt.now table.old (threads_in attempt.now pair.old threads.old) }
     ensures steps { steps_of work.old ≤ steps_of work.new }
     ensures returns { returns_of work.new ≡ returns_of work.old }
     ensures ticks { pair.old.at < code_len attempt.now.code.now
         → marks_in attempt.now table.old pair.old.at pair.old.place ≡ false
         → work.new ≡ stepped_within work.old }
     ensures tally { IfOk result (λ _. steps_of work.new < usize.MAX
-        → length threads.new.saved + steps_of work.old ≤ length threads.old.saved + steps_of work.new) }
+        → length (saved_in attempt.now threads.new) + steps_of work.old
+        ≤ length (saved_in attempt.now threads.old) + steps_of work.new) }
     ensures last_lines { KnowsLastLines attempt.now.haystack.now last_lines.new }
 {
     if pair.at >= attempt.code.len() {
@@ -335,18 +320,22 @@ pub fn follow(
     requires easy { AreEasy (instrs_in attempt.now) }
     requires low { attempt.now.base ≤ start.place }
     requires high { start.place ≤ attempt.now.last }
-    requires fresh { threads.old.saved ≡ [] }
+    requires fresh { AreFresh threads.old }
     requires room { bits_in attempt.now ≤ length table.old }
     requires small { length table.old < 2 ^ 64 }
     requires last_lines { KnowsLastLines attempt.now.haystack.now last_lines.old }
-    ensures answer { IfOk result (λ end. (kept deep : ℕ) → KnownIn attempt.now kept deep (stack_of start threads.old)
+    ensures answer { IfOk result (λ end. (kept deep : ℕ)
+        → KnownIn attempt.now kept deep (begun_at start threads.old.slots)
         → AllFailedIn attempt.now start.place deep table.old
-        → found_state kept end threads.new.slots ≡ first_accepted_in attempt.now kept deep (stack_of start threads.old)) }
-    ensures failed { IfOk result (λ end. (kept deep : ℕ) → KnownIn attempt.now kept deep (stack_of start threads.old)
+        → found_state kept end threads.new.slots
+        ≡ first_accepted_in attempt.now kept deep (begun_at start threads.old.slots)) }
+    ensures failed { IfOk result (λ end. (kept deep : ℕ)
+        → KnownIn attempt.now kept deep (begun_at start threads.old.slots)
         → AllFailedIn attempt.now start.place deep table.old → end ≡ None
         → AllFailedIn attempt.now start.place deep table.new) }
     ensures past { IfOk result (λ end. IfSome end (λ place. (kept deep : ℕ)
-        → KnownIn attempt.now kept deep (stack_of start threads.old) → AllFailedIn attempt.now start.place deep table.old
+        → KnownIn attempt.now kept deep (begun_at start threads.old.slots)
+        → AllFailedIn attempt.now start.place deep table.old
         → FailedPastIn attempt.now start.place deep place table.new)) }
     ensures forth { IfOk result (λ end. IfSome end (λ place. start.place ≤ place)) }
     ensures within { IfOk result (λ end. IfSome end (λ place. place ≤ attempt.now.last)) }
@@ -364,11 +353,14 @@ pub fn follow(
     'pairs: loop {
         match visit(attempt, &mut pair, threads, table, last_lines, work)? {
             Next::On => {}
-            Next::Dead => match threads.back(work) {
+            Next::Dead => match threads.back(attempt.code, work) {
                 Some(branch) => pair = branch,
                 None => return Ok(None),
             },
-            Next::Found => return Ok(Some(pair.place)),
+            Next::Found => {
+                threads.settle(attempt.code);
+                return Ok(Some(pair.place));
+            }
         }
     }
 }

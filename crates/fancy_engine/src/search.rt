@@ -7,6 +7,7 @@ ghost use Rattle.fancy_engine.specs.Attempt.{bits_in, left_in, AllFailedIn};
 ghost use Rattle.fancy_engine.specs.KeptTable.{IsKept, table_in, table_base, steps_ahead, steps_before};
 ghost use Rattle.fancy_engine.specs.Compile.{IsCodeOf, AreEasy};
 ghost use Rattle.fancy_engine.specs.Search.{search};
+ghost use Rattle.fancy_input.specs.LastLines.{KnowsLastLines};
 ghost use Rattle.fancy_input.specs.Requests.{effective_start};
 ghost use Rattle.fancy_bytes.specs.Openings.{NoneStandsBefore};
 ghost use Rattle.fancy_engine.specs.Seen.{IsNextCandidate, IsNextOpening, NoneMayStart};
@@ -33,6 +34,8 @@ use std::alloc::Global;
 pub struct Cache {
     threads: Threads,
     table: Table,
+    /// What was read of the line ends that close the haystack of the last search.
+    last_lines: LastLines,
 }
 
 impl Cache {
@@ -43,6 +46,7 @@ impl Cache {
         Cache {
             threads: Threads::new(alloc),
             table: Table::new(alloc),
+            last_lines: LastLines::new(b""),
         }
     }
 
@@ -99,6 +103,17 @@ fn ready_table(
     let marks = attempt.code.marks();
     table.clear((first - attempt.base) * marks, marks);
     Ok(())
+}
+
+/// Makes what is known of the line ends that close the haystack ready for a search: what is kept stays, and else nothing was
+/// read so far.
+pub fn ready_last_lines(last_lines: &mut LastLines, haystack: &[u8], is_kept: bool)
+    requires { is_kept ≡ true → KnowsLastLines haystack.now last_lines.old }
+    ensures { KnowsLastLines haystack.now last_lines.new }
+{
+    if !is_kept {
+        *last_lines = LastLines::new(haystack);
+    }
 }
 
 /// The first position, from the one on and up to the last, at which a match of the code may start; past the last where
@@ -192,7 +207,7 @@ fn literal_from(
 /// up to one end, each of which starts at the end of the match before or later, `kept` is where the table begins that the
 /// first of them began, as a byte offset. What they marked past the end of the last match is not followed again, since it
 /// fails whatever the groups are. All searches of a list together then take no more steps than one alone may take, and the
-/// code's length for each of them.
+/// code's length for each of them. What they read of the line ends that close the haystack is not read again either.
 ///
 /// What is done is added to the counts of `work`, after a refusal what was done up to it. They never begin anew here. No
 /// step is taken where no match may start at any position.
@@ -212,12 +227,12 @@ pub fn search(
     requires inside { request.range_end ≤ length haystack.now }
     requires easy { AreEasy (instrs_of code.now) }
     requires kept { IfSome kept (λ base. IsKept code.now haystack.now request options
-        base (effective_start request) (table_in cache.old)) }
+        base (effective_start request) cache.old) }
     ensures answer { IfOk result (λ found. (p : Pattern) (on : Bool) → IsCodeOf p code.now
         → answer_with (groups_in cache.new) found
         ≡ search (query_of p code.now (unfiltered options) haystack.now request on)) }
     ensures kept { IfOk result (λ found. IfSome found (λ f. IsKept code.now haystack.now request options
-        (table_base kept request) f.end (table_in cache.new))) }
+        (table_base kept request) f.end cache.new)) }
     ensures ordered { IfOk result (λ found. IfSome found (λ f. effective_start request ≤ f.end)) }
     ensures steps { steps_of work.old ≤ steps_of work.new }
     ensures fresh { kept ≡ None → steps_of work.new ≤ steps_of work.old + most_steps code.now request }
@@ -251,10 +266,12 @@ pub fn search(
         on_boundaries: options.on_boundaries,
         suppressed: options.suppressed_ends(request),
     };
+    let is_kept = kept.is_some();
     let threads = &mut cache.threads;
     let table = &mut cache.table;
-    ready_table(table, &attempt, first, kept.is_some())?;
-    let mut last_lines = LastLines::new(haystack);
+    let last_lines = &mut cache.last_lines;
+    ready_table(table, &attempt, first, is_kept)?;
+    ready_last_lines(last_lines, haystack, is_kept);
     while place <= last {
         if is_match_boundary(options.on_boundaries, haystack, place) {
             threads.begin(code.groups)?;
@@ -262,7 +279,7 @@ pub fn search(
                 at: code.start,
                 place,
             };
-            match follow(&attempt, start, threads, table, &mut last_lines, work)? {
+            match follow(&attempt, start, threads, table, last_lines, work)? {
                 Some(end) => {
                     return Ok(Some(Found {
                         position: place,

@@ -1,10 +1,15 @@
 //! The slots of the thread that a search follows, and the branches that it saved, over one list of slots.
 
-ghost use Rattle.std.specs.Prelude.{◌≡◌, ◌≢◌, ◌+◌, ◌-◌, ◌<◌, ◌≤◌, ◌^◌, [], ◌∷◌, ◌++◌, List, Err, Option, length, take, drop, replicate, OnOk, IfOk, vec_len, slice_index, slice_index_or, slice_set};
-ghost use Rattle.fancy_engine.specs.Threads.{undone, empty_slot, thread_of, Backed};
+ghost use Rattle.std.specs.Prelude.{◌≡◌, ◌≤◌, ℕ, [], take, drop, replicate, reverse, OnOk, vec_len, slice_index_or};
+ghost use Rattle.fancy_engine.specs.Code.{instrs_of};
+ghost use Rattle.fancy_engine.specs.Instructions.{Open, Close};
+ghost use Rattle.fancy_engine.specs.Run.{instr_at};
+ghost use Rattle.fancy_engine.specs.Threads.{undone, empty_slot, slots_past, other_way, slots_after, AreFresh, SavedWay, PassedInstr, TookWay, Backed};
 
-use crate::slot::{Branch, EMPTY, Pair, Slot, Write};
+use crate::code::{Code, Instr};
+use crate::slot::{EMPTY, Pair, Slot, Write};
 use crate::work::Work;
+use fancy_input::span::Span;
 use std::alloc::{AllocError, Global};
 use std::marker::Model;
 
@@ -37,43 +42,128 @@ pub fn begin_slots(slots: &mut Vec<Slot>, count: usize) -> Result<(), AllocError
     Ok(())
 }
 
-/// The slots of the thread that is followed, and the saved branches. Each branch is seen with the slots that it was saved
-/// with; what is kept is one list of slots and a log of the writes that were done since. Where the thread stands is told
-/// beside it.
+/// A group begins at a place: its slot says so, and its span stays.
+fn begin_group(slots: &mut Vec<Slot>, group: usize, place: usize)
+    ensures { (next : ℕ) → slots.new.items ≡ slots_past (Open group next) place slots.old.items }
+{
+    if group < slots.len() {
+        let span = slots[group].span;
+        slots[group] = Slot { from: place, span };
+    }
+}
+
+/// A group ends at a place: its text goes from where it began up to there.
+fn end_group(slots: &mut Vec<Slot>, group: usize, place: usize)
+    ensures { (next : ℕ) → slots.new.items ≡ slots_past (Close group next) place slots.old.items }
+{
+    if group < slots.len() {
+        let from = slots[group].from;
+        let span = Span {
+            start: from,
+            end: place,
+        };
+        slots[group] = Slot {
+            from,
+            span: Some(span),
+        };
+    }
+}
+
+/// Writes the slot of the group that begins or ends at a pair, if one does.
+fn write_group(slots: &mut Vec<Slot>, code: &Code, pair: Pair)
+    ensures { slots.new.items ≡ slots_past (instr_at (instrs_of code.now) pair.at) pair.place slots.old.items }
+{
+    if pair.at >= code.len() {
+        return;
+    }
+    match code.instr(pair.at) {
+        Instr::Open(group, _) => begin_group(slots, *group, pair.place),
+        Instr::Close(group, _) => end_group(slots, *group, pair.place),
+        _ => {}
+    }
+}
+
+/// Writes the slots of the groups that begin and end at pairs, the first pair first.
+fn write_groups(slots: &mut Vec<Slot>, code: &Code, pairs: &[Pair])
+    ensures { slots.new.items ≡ slots_after (instrs_of code.now) (reverse pairs.now) slots.old.items }
+{
+    'pairs: for n in 0..pairs.len() {
+        write_group(slots, code, pairs[n]);
+    }
+}
+
+/// The pair that the other way from a pair begins at, if the pair is at a choice.
+fn way_from(code: &Code, pair: Pair) -> Option<Pair>
+    ensures { result ≡ other_way (instr_at (instrs_of code.now) pair.at) pair.place }
+{
+    if pair.at >= code.len() {
+        return None;
+    }
+    match code.instr(pair.at) {
+        Instr::Split(_, second) => Some(Pair {
+            at: *second,
+            place: pair.place,
+        }),
+        _ => None,
+    }
+}
+
+/// Takes pairs away, the last one first, up to a choice, and returns the other way from there.
+fn take_way(code: &Code, passed: &mut Vec<Pair>) -> Option<Pair>
+    ensures { TookWay (instrs_of code.now) result (reverse passed.old.items) (reverse passed.new.items) }
+{
+    'passed: while let Some(pair) = passed.pop() {
+        if let Some(way) = way_from(code, pair) {
+            return Some(way);
+        }
+    }
+    None
+}
+
+/// The slots of the thread that is followed, and the saved branches, each with slots of its own. Where the thread
+/// stands is told beside it.
+///
+/// As long as no group begins or ends past a saved branch, all have the slots that are kept, and a branch is the pair
+/// where it goes on. From the first such group on, what is kept is the pairs that the thread passed: each choice, and
+/// each start and end of a group. A pair takes two words, whatever it is. To go back is to take pairs away, up to a
+/// choice. The slots are written once, when a match is found.
+///
+/// In `(?:(a)|b)*c` on `aac` the first choice of the star is a branch. Then four pairs are kept for each `a`: the
+/// choice between the two ways, the start and the end of the group, and the star's next choice.
 #[derive(Drop)]
 pub struct Threads {
     slots: Vec<Slot>,
-    branches: Vec<Branch>,
-    log: Vec<Write>,
+    branches: Vec<Pair>,
+    passed: Vec<Pair>,
     // whether a slot was written since they were begun
     written: bool,
 }
 
 impl Model for Threads {
-    ghost use Rattle.std.specs.Prelude.{◌≡◌, false, [], reverse, length, replicate};
-    ghost use Rattle.fancy_engine.specs.Threads.{HeldThreads, saved_of, empty_slot, Ordered};
+    ghost use Rattle.std.specs.Prelude.{◌≡◌, false, reverse, length, replicate};
+    ghost use Rattle.fancy_engine.specs.Threads.{KeptThreads, threads_at, empty_slot};
 
-    ghost Value = { HeldThreads };
+    ghost Value = { KeptThreads };
 
     ghost view = { λ w. record {
       slots = w.slots.items;
-      saved = saved_of w.log.items w.slots.items (reverse w.branches.items);
+      saved = threads_at w.slots.items (reverse w.branches.items);
+      passed = reverse w.passed.items;
     } };
 
-    ghost invariant = { λ w. Ordered (length w.log.items) (reverse w.branches.items)
-        × (w.written ≡ false → (w.slots.items ≡ replicate (length w.slots.items) empty_slot) × (w.log.items ≡ [])) };
+    ghost invariant = { λ w. w.written ≡ false → w.slots.items ≡ replicate (length w.slots.items) empty_slot };
 }
 
 impl Threads {
     /// No slot and no branch.
     pub fn new(alloc: Global) -> Threads
         ensures slots { result.slots ≡ [] }
-        ensures saved { result.saved ≡ [] }
+        ensures fresh { AreFresh result }
     {
         Threads {
             slots: Vec::new(alloc),
             branches: Vec::new(alloc),
-            log: Vec::new(alloc),
+            passed: Vec::new(alloc),
             written: false,
         }
     }
@@ -82,10 +172,10 @@ impl Threads {
     /// written to.
     pub fn begin(&mut self, count: usize) -> Result<(), AllocError>
         ensures slots { OnOk result (self.new.slots ≡ replicate count empty_slot) }
-        ensures saved { self.new.saved ≡ [] }
+        ensures fresh { AreFresh self.new }
     {
         self.branches.clear();
-        self.log.clear();
+        self.passed.clear();
         if self.written || self.slots.len() != count {
             self.written = true;
             begin_slots(&mut self.slots, count)?;
@@ -94,7 +184,7 @@ impl Threads {
         Ok(())
     }
 
-    /// What is known of a group.
+    /// What is known of a group, up to the pairs that were passed since.
     pub fn slot(&self, number: usize) -> Slot
         ensures { result ≡ slice_index_or self.now.slots number empty_slot }
     {
@@ -104,55 +194,71 @@ impl Threads {
         }
     }
 
-    /// Saves a branch at another pair.
-    pub fn save(&mut self, pair: Pair) -> Result<(), AllocError>
-        ensures slots { self.new.slots ≡ self.old.slots }
-        ensures saved { OnOk result (self.new.saved ≡ thread_of pair self.old.slots ∷ self.old.saved) }
+    /// The thread passes a choice at a pair, and the way that begins at `second` is saved.
+    pub fn save(&mut self, pair: Pair, second: usize) -> Result<(), AllocError>
+        ensures { OnOk result (SavedWay pair second self.old self.new) }
     {
-        let branch = Branch {
-            at: pair.at,
-            place: pair.place,
-            log: self.log.len(),
-        };
-        self.branches.push(branch)?;
+        if self.passed.is_empty() {
+            let branch = Pair {
+                at: second,
+                place: pair.place,
+            };
+            self.branches.push(branch)?;
+        } else {
+            self.passed.push(pair)?;
+        }
         Ok(())
     }
 
-    /// Writes a slot, and logs the write if a branch is saved.
-    pub fn write_slot(&mut self, number: usize, slot: Slot) -> Result<(), AllocError>
-        ensures slots { OnOk result (self.new.slots ≡ slice_set self.old.slots number slot) }
-        ensures saved { self.new.saved ≡ self.old.saved }
+    /// The thread passes the start of a group at a pair.
+    pub fn open_group(&mut self, pair: Pair, group: usize) -> Result<(), AllocError>
+        ensures { (next : ℕ) → OnOk result (PassedInstr pair (Open group next) self.old self.new) }
     {
-        if number >= self.slots.len() {
+        if self.branches.is_empty() && self.passed.is_empty() {
+            self.written = true;
+            begin_group(&mut self.slots, group, pair.place);
             return Ok(());
         }
-        self.written = true;
-        if self.branches.is_empty() {
-            self.slots[number] = slot;
-            return Ok(());
-        }
-        let write = Write {
-            slot: number,
-            old: self.slots[number],
-        };
-        self.log.push(write)?;
-        self.slots[number] = slot;
+        self.passed.push(pair)?;
         Ok(())
     }
 
-    /// Takes the branch that was saved last, which is one return, and goes back to what was written then. Returns where
-    /// the branch stands, if there was one.
-    pub fn back(&mut self, work: &mut Work) -> Option<Pair>
-        ensures { Backed result self.old self.new work.old work.new }
+    /// The thread passes the end of a group at a pair.
+    pub fn close_group(&mut self, pair: Pair, group: usize) -> Result<(), AllocError>
+        ensures { (next : ℕ) → OnOk result (PassedInstr pair (Close group next) self.old self.new) }
     {
+        if self.branches.is_empty() && self.passed.is_empty() {
+            self.written = true;
+            end_group(&mut self.slots, group, pair.place);
+            return Ok(());
+        }
+        self.passed.push(pair)?;
+        Ok(())
+    }
+
+    /// Takes the branch that was saved last, which is one return, and goes back to what was passed before it. Returns
+    /// where the branch stands, if there was one.
+    pub fn back(&mut self, code: &Code, work: &mut Work) -> Option<Pair>
+        ensures { Backed (instrs_of code.now) result self.old self.new work.old work.new }
+    {
+        if let Some(way) = take_way(code, &mut self.passed) {
+            work.count_return_within();
+            return Some(way);
+        }
         let Some(branch) = self.branches.pop() else {
             return None;
         };
         work.count_return_within();
-        undo(&mut self.slots, &mut self.log, branch.log);
-        Some(Pair {
-            at: branch.at,
-            place: branch.place,
-        })
+        Some(branch)
+    }
+
+    /// Writes the slots of the thread that is followed. What is saved has no meaning from then on.
+    pub fn settle(&mut self, code: &Code)
+        ensures { self.new.slots ≡ slots_after (instrs_of code.now) self.old.passed self.old.slots }
+    {
+        if !self.passed.is_empty() {
+            self.written = true;
+            write_groups(&mut self.slots, code, &self.passed);
+        }
     }
 }

@@ -1,5 +1,5 @@
 -- What searches work in, and what it holds of the last match, by whichever engine.
-use Rattle.std.specs.Prelude.{◌≡◌, ℕ, List, Option, IsTrue}
+use Rattle.std.specs.Prelude.{◌≡◌, ℕ, List, Option, None, IsTrue, replicate}
 use Rattle.fancy_input.specs.Places.{is_boundary}
 use Rattle.fancy_input.specs.declared.span.Span.{Span}
 use Rattle.fancy_engine.specs.Search.{Query, Answer, search, attempt}
@@ -7,13 +7,14 @@ use Rattle.fancy_engine.specs.declared.found.Found.{Found}
 use Rattle.fancy_engine.specs.Queries.{groups_in, answer_with}
 use Rattle.fancy_machine.specs.Asked.{groups_held}
 use Rattle.fancy_search.specs.declared.cache.Engine.{Engine}
-use Rattle.fancy_search.specs.declared.cache.Engine.TheVariants.{Runner, Machine}
+use Rattle.fancy_search.specs.declared.cache.Engine.TheVariants.{Runner, Machine, Automaton}
 use Rattle.fancy_search.specs.declared.cache.Cache.{Cache}
 
--- of the groups that the two engines hold those of the engine that served
+-- Of the groups that the engines hold those of the engine that served. The automaton holds none, and none takes part where it serves.
 abbrev pub groups_by : Engine → List (Option Span) → List (Option Span) → List (Option Span)
 groups_by Runner runner machine = runner
 groups_by Machine runner machine = machine
+groups_by (Automaton groups) runner machine = replicate groups None
 
 -- where the groups stand in the match that the search before found
 abbrev pub cached_groups : Cache → List (Option Span)

@@ -1,22 +1,41 @@
--- The table of the runner that is kept through a list of searches.
-use Rattle.std.specs.Prelude.{◌≡◌, ℕ, false, List, IfSome}
+-- What is kept through a list of searches: the table of the runner and what it read of the line ends that close the haystack, or
+-- the steps that the automaton remembers.
+use Rattle.std.specs.Prelude.{◌≡◌, ℕ, false, List, Option, Some, None}
 use Rattle.std.specs.Option.{ForSome}
 use Rattle.fancy_input.specs.Requests.{effective_start}
 use Rattle.fancy_input.specs.declared.input.Request.{Request}
-use Rattle.fancy_engine.specs.KeptTable.{IsKept, table_in}
+use Rattle.fancy_engine.specs.KeptTable.{IsKept}
+use Rattle.fancy_automaton.specs.Cells.{IsFor, IsWithin}
 use Rattle.fancy_search.specs.declared.cache.Cache.{Cache}
+use Rattle.fancy_search.specs.declared.cache.Kept.{Kept}
+use Rattle.fancy_search.specs.declared.cache.Kept.TheVariants.{Nothing, Table, Steps}
 use Rattle.fancy_search.specs.declared.program.Program.{Program}
 use Rattle.fancy_search.specs.declared.searcher.Searcher.{Searcher}
 use Rattle.fancy_search.specs.Options.{search_options}
 
--- The table in the cache begins at `base`, and what it holds is known of searches with the program that start at `place` or later.
+-- The table in the cache begins at `base`, and what it holds is known of searches with the program that start at `place` or later. What
+-- was read of the last lines is true of the haystack.
 abbrev pub KeepsTable : Program → List ℕ → Request → ℕ → ℕ → Cache → Type 0
-KeepsTable program haystack request base place cache = IsKept program.code haystack request (search_options program.options) base place (table_in cache.runner)
+KeepsTable program haystack request base place cache = IsKept program.code haystack request (search_options program.options) base place cache.runner
 
--- the table that the iteration keeps, if it does, is one for searches that start at `place` or later
+abbrev pub table_kept : Kept → Option ℕ
+table_kept Nothing = None
+table_kept (Table base) = Some base
+table_kept Steps = None
+
+-- The steps that the automaton remembers are of the program's code.
+abbrev pub KeepsSteps : Program → Cache → Type 0
+KeepsSteps program cache = IsFor cache.cells program.code × IsWithin cache.cells
+
+-- what is kept in the cache, if anything is, is for searches with the program that start at `place` or later
+abbrev pub IsKeptIn : Program → List ℕ → Request → Kept → ℕ → Cache → Type 0
+IsKeptIn program haystack request kept place cache =
+    ForSome (table_kept kept) (λ base. KeepsTable program haystack request base place cache) × (kept ≡ Steps → KeepsSteps program cache)
+
+-- what the iteration keeps is for searches that start at `place` or later
 abbrev pub KeepsFrom : {S : Type 0} {g : _} → (S → List ℕ) → Program → Searcher S g → Cache → ℕ → Type 0
-KeepsFrom bytes program w cache place = IfSome w.kept (λ base. KeepsTable program (bytes w.haystack) w.request base place cache)
+KeepsFrom bytes program w cache place = IsKeptIn program (bytes w.haystack) w.request w.kept place cache
 
--- unless the iteration has ended, the table that it keeps, if it does, is one for its next search
+-- unless the iteration has ended, what it keeps is for its next search
 abbrev pub Keeps : {S : Type 0} {g : _} → (S → List ℕ) → Program → Searcher S g → Cache → Type 0
-Keeps bytes program w cache = w.ended ≡ false → ForSome w.kept (λ base. KeepsTable program (bytes w.haystack) w.request base (effective_start w.request) cache)
+Keeps bytes program w cache = w.ended ≡ false → KeepsFrom bytes program w cache (effective_start w.request)

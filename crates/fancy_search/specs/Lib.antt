@@ -2,6 +2,7 @@ pub mod Options
 pub mod PatternCode
 pub mod Readings
 pub mod Compiled
+pub mod Followed
 pub mod Programs
 pub mod Searching
 pub mod Cached

@@ -1,8 +1,13 @@
-//! What searches work in, by either engine.
+//! What searches work in, by whichever engine.
 
-ghost use Rattle.std.specs.Prelude.{◌≡◌, [], None, slice_index_or};
+ghost use Rattle.std.specs.Prelude.{◌≡◌, [], None, true, slice_index_or};
+ghost use Rattle.fancy_automaton.specs.Cells.{IsFor, IsWithin};
+ghost use Rattle.fancy_engine.specs.declared.code.Code.{Code};
 
+use fancy_automaton::cells::Cells;
+use fancy_engine::found::Found;
 use fancy_engine::search as runner;
+use fancy_input::input::Request;
 use fancy_input::span::Span;
 use fancy_machine::search as machine;
 use std::alloc::Global;
@@ -14,13 +19,62 @@ pub enum Engine {
     Runner,
     /// The backtracking machine, which serves the others.
     Machine,
+    /// The automaton, which serves easy patterns whose code has no group. A pattern may have groups still, so many with the
+    /// whole match, none of which takes part in a match.
+    Automaton(usize),
 }
+
+/// What a search of a list takes over from those before, which left it in the cache.
+#[derive(Clone, Copy, PartialEq, Eq)]
+pub enum Kept {
+    /// Nothing: it is a search alone, or the first one.
+    Nothing,
+    /// The runner's table, which begins at this place, a byte offset.
+    Table(usize),
+    /// The steps that the automaton remembers.
+    Steps,
+}
+
+impl Kept {
+    ghost use Rattle.fancy_search.specs.KeptTables.{table_kept};
+
+    /// Where the table begins, if one is kept.
+    pub(crate) fn table(self) -> Option<usize>
+        ensures { result ≡ table_kept self }
+    {
+        match self {
+            Kept::Table(base) => Some(base),
+            _ => None,
+        }
+    }
+
+    /// Whether steps are kept.
+    pub(crate) fn is_steps(self) -> bool
+        ensures { result ≡ true → self ≡ Kept.Steps }
+    {
+        matches!(self, Kept::Steps)
+    }
+}
+
+/// The fewest bytes that a search alone, or the first of a list, goes over where the automaton serves it: its steps are computed
+/// then, which takes longer than to run through a short text.
+const SHORT: usize = 256;
+
+/// A list leaves the automaton once its searches have read so many bytes past the ends of their matches, where each byte that
+/// they came on by makes up for [`MADE_UP`].
+const READ_PAST: usize = 1024;
+
+/// For how many bytes past a match a byte makes up that a list comes on by.
+const MADE_UP: usize = 4;
 
 /// What searches work in, reused from one to the next, with the groups of the last match.
 #[derive(Drop)]
 pub struct Cache {
     pub(crate) runner: runner::Cache,
     pub(crate) machine: machine::Cache,
+    pub(crate) cells: Cells,
+    /// How many bytes the automaton's searches of a list read past the ends of their matches, that were not made up for.
+    read_past: usize,
     /// Which engine worked in it last.
     pub(crate) served: Engine,
 }
@@ -35,6 +89,8 @@ impl Cache {
         Cache {
             runner: runner::Cache::new(alloc),
             machine: machine::Cache::new(alloc),
+            cells: Cells::new(alloc),
+            read_past: 0,
             served: Engine::Runner,
         }
     }
@@ -47,6 +103,46 @@ impl Cache {
         match self.served {
             Engine::Runner => self.runner.group(number),
             Engine::Machine => self.machine.group(number),
+            Engine::Automaton(_) => None,
         }
+    }
+
+    /// Whether a search is worth the automaton's steps: its text is not short, or the steps of searches before are kept, which did
+    /// not read much more than their list came on by.
+    pub(crate) fn is_worth_steps(&self, request: Request, kept: Kept) -> bool {
+        match kept {
+            Kept::Nothing => {
+                let searched = request.range_end.saturating_sub(request.effective_start());
+                searched >= SHORT
+            }
+            Kept::Steps => self.read_past <= READ_PAST,
+            Kept::Table(_) => false,
+        }
+    }
+
+    /// Makes the automaton's steps ready: those of the searches before, where they are kept, and else none.
+    pub(crate) fn ready_steps(&mut self, are_kept: bool)
+        requires within { are_kept ≡ true → IsWithin self.old.cells }
+        ensures within { IsWithin self.new.cells }
+        ensures all { (code : Code) → (are_kept ≡ true → IsFor self.old.cells code) → IsFor self.new.cells code }
+    {
+        if are_kept {
+            return;
+        }
+        self.cells.clear();
+        self.read_past = 0;
+    }
+
+    /// Notes how far the automaton read past what it found, in a search that began at `first`, a byte offset.
+    pub(crate) fn note_reached(&mut self, found: Option<Found>, first: usize)
+        ensures { self.new ≡ record self.old { read_past = self.new.read_past } }
+    {
+        let Some(found) = found else {
+            return;
+        };
+        let past = self.cells.reached().saturating_sub(found.end);
+        let forth = found.end.saturating_sub(first);
+        let read = self.read_past.saturating_add(past);
+        self.read_past = read.saturating_sub(forth.saturating_mul(MADE_UP));
     }
 }

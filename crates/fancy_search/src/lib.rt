@@ -7,3 +7,4 @@ pub mod groups;
 pub mod options;
 pub mod program;
 pub mod searcher;
+mod wide;

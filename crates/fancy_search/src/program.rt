@@ -1,7 +1,6 @@
 //! A compiled pattern: the code that is searched with, and what decides how.
 
-ghost use Rattle.std.specs.Prelude.{◌≡◌, ◌≤◌, ◌+◌, ◌*◌, Bool, None, Some, IfOk, IfErr, IfSome, IsTrue, chars, true, false, length, string_bytes};
-ghost use Rattle.std.specs.Option.{unwrap_or};
+ghost use Rattle.std.specs.Prelude.{◌≡◌, ◌≤◌, ◌+◌, ◌*◌, ℕ, Bool, List, None, Some, IfOk, IfErr, IfSome, IsTrue, IsUtf8, chars, true, false, length, string_bytes};
 ghost use Rattle.fancy_tree.specs.Pattern.{Pattern};
 ghost use Rattle.fancy_tree.specs.Names.{named_groups};
 ghost use Rattle.fancy_tree.specs.Modes.{keeps_characters};
@@ -15,15 +14,20 @@ ghost use Rattle.fancy_engine.specs.KeptTable.{table_base};
 ghost use Rattle.fancy_engine.specs.Work.{steps_of, returns_of};
 ghost use Rattle.fancy_engine.specs.Tried.{NoneTried};
 ghost use Rattle.fancy_engine.specs.Search.{search};
+ghost use Rattle.fancy_automaton.specs.Futures.{ArePlain};
+ghost use Rattle.fancy_automaton.specs.Search.{KeepsPlaces};
 ghost use Rattle.fancy_bytes.specs.Lacks.{AllStand, AreRequired};
 ghost use Rattle.fancy_search.specs.Readings.{Reading, one_reading};
+ghost use Rattle.fancy_search.specs.Followed.{FollowsEach};
 ghost use Rattle.fancy_search.specs.Compiled.{IsCompiled, IsSpelled};
 ghost use Rattle.fancy_search.specs.Options.{meaning_in, dialect_of, is_easy_under};
 ghost use Rattle.fancy_search.specs.ProgramSize.{IsRefusedUnder, RefusesPattern, passes};
 ghost use Rattle.fancy_search.specs.Cached.{IsAnswerIn, IsAttemptIn, IsCleanlyFound};
 
-use crate::cache::{Cache, Engine};
+use crate::cache::{Cache, Engine, Kept};
 use crate::options::Options;
+use crate::wide::is_worth_following;
+use fancy_automaton::search as automaton;
 use fancy_bytes::byte_set::ByteSet;
 use fancy_bytes::lacking::RequiredBytes;
 use fancy_engine::code::Code;
@@ -37,12 +41,14 @@ use fancy_machine::search as machine;
 use fancy_syntax::parse::{Parsed, parse_with};
 use fancy_tree::error::{CompileError, Error, Result, RuntimeError};
 use fancy_tree::name::GroupName;
+use fancy_tree::tree::Meaning;
 use std::alloc::Global;
 
 /// A pattern that was read and compiled under options.
 ///
 /// Which engine serves its searches is decided once: the memoised runner an easy pattern, and the backtracking machine a
-/// hard one.
+/// hard one. An easy pattern that opens with many branches, and whose code an automaton follows, is served by that in a text that
+/// is not short.
 #[derive(Drop)]
 pub struct Program {
     options: Options,
@@ -50,6 +56,8 @@ pub struct Program {
     code: Code,
     names: Vec<GroupName>,
     easy: bool,
+    /// Whether the automaton is worth its steps, and follows the code.
+    plain: bool,
     /// The bytes that every haystack with a match has.
     required: RequiredBytes,
     pub ghost reading: { Reading options (string_bytes text) } by { one_reading options (string_bytes text) },
@@ -57,6 +65,7 @@ pub struct Program {
     ghost meant: { code.meaning ≡ meaning_in options },
     ghost short: { code_len code ≤ 4 * nodes reading.0 + 2 },
     ghost decided: { easy ≡ is_easy_under options reading.0 },
+    ghost followed: { plain ≡ true → FollowsEach code },
     ghost light: { is_easy reading.0 ≡ true → are_easy (instrs_of code) ≡ true },
     ghost starts: { has_keep_start_in_look_around reading.0 ≡ false },
     ghost needed: { AreRequired (meaning_in options) reading.0 required },
@@ -67,7 +76,8 @@ impl Program {
     ghost use Rattle.fancy_search.specs.SearchCounts.{Counted, CountedUpTo, TriesNothing, is_hopeless, IfFound, IsHardProgram, RefusesQuery, AllowsQuery, RefusesAttempt, AllowsAttempt, HasRoomFor, IsStopped, AddsReturns, AddsReturnsUpTo, step_bound, returns_taken};
     ghost use Rattle.fancy_search.specs.Programs.{KeepsCharacters, program_pattern, program_options, program_groups, program_names, program_length, program_is_easy, program_limit, asked_of};
     ghost use Rattle.fancy_search.specs.Starts.{may_start};
-    ghost use Rattle.fancy_search.specs.KeptTables.{KeepsTable};
+    ghost use Rattle.fancy_search.specs.KeptTables.{KeepsTable, KeepsSteps, IsKeptIn};
+    ghost use Rattle.fancy_search.specs.Options.{search_options};
 
     /// Reads a pattern under these options, and compiles it.
     ///
@@ -92,6 +102,7 @@ impl Program {
         if options.forbids(easy, code.len()) {
             return Err(Error::CompileError(CompileError::PatternTooComplex));
         }
+        let plain = is_worth_following(&code);
         let required = RequiredBytes::new(alloc, &tree, options.meaning())?;
         let text = String::from_str(alloc, pattern)?;
         Ok(Program {
@@ -100,6 +111,7 @@ impl Program {
             code,
             names,
             easy,
+            plain,
             required,
         })
     }
@@ -158,8 +170,8 @@ impl Program {
     /// The first match that the request asks for in the bytes of a haystack, with `\G` on or off. Its groups stand in
     /// `cache` then.
     ///
-    /// Under `seek` positions are passed over where no match begins, as the first bytes tell, and no step is taken where none is
-    /// left, or where the haystack lacks a byte that every haystack with a match has. The bytes in `standing` are known to stand
+    /// `text` says that the haystack is text. Under `seek` positions are passed over where no match begins, as the first bytes tell, and
+    /// no step is taken where none is left, or where the haystack lacks a byte that every haystack with a match has. The bytes in `standing` are known to stand
     /// in the haystack, and those that were looked for and found are added to them, so that the searches of a list look for each
     /// once.
     ///
@@ -168,6 +180,7 @@ impl Program {
     pub fn search(
         &self,
         haystack: &[u8],
+        text: bool,
         request: Request,
         continues: bool,
         standing: &mut ByteSet,
@@ -175,6 +188,7 @@ impl Program {
         work: &mut Work,
     ) -> Result<Option<Found>>
         requires inside { request.range_end ≤ length haystack.now }
+        requires text { text ≡ true → IsUtf8 haystack.now }
         requires room { HasRoomFor self.now request work.old }
         requires standing { AllStand standing.old haystack.now }
         ensures standing { AllStand standing.new haystack.now }
@@ -199,29 +213,33 @@ impl Program {
         ensures refused { IfErr result (RefusesQuery self.now (asked_of self.now haystack.now request continues)) }
         ensures allowed { IfOk result (λ _. AllowsQuery self.now (asked_of self.now haystack.now request continues)) }
     {
-        self.search_next(haystack, request, continues, None, standing, cache, work)
+        let mut kept = Kept::Nothing;
+        self.search_next(
+            haystack, text, request, continues, &mut kept, standing, cache, work,
+        )
     }
 
     /// A search of a list, as [`Program::search`] is a search alone: of one haystack up to one end, each from the end of the match
     /// before, or later.
     ///
-    /// `kept` is where the table begins that searches before left in `cache`, as a byte offset. For an easy pattern what they
-    /// marked is not followed again. Without it no search before is heeded.
+    /// `kept` tells what the searches before left in `cache`, and then what this one leaves there for the next. For an easy pattern
+    /// what they found out is not followed again.
     pub fn search_next(
         &self,
         haystack: &[u8],
+        text: bool,
         request: Request,
         continues: bool,
-        kept: Option<usize>,
+        kept: &mut Kept,
         standing: &mut ByteSet,
         cache: &mut Cache,
         work: &mut Work,
     ) -> Result<Option<Found>>
         requires inside { request.range_end ≤ length haystack.now }
+        requires text { text ≡ true → IsUtf8 haystack.now }
         requires room { HasRoomFor self.now request work.old }
         requires standing { AllStand standing.old haystack.now }
-        requires kept { IfSome kept
-            (λ base. KeepsTable self.now haystack.now request base (effective_start request) cache.old) }
+        requires kept { IsKeptIn self.now haystack.now request kept.old (effective_start request) cache.old }
         ensures standing { AllStand standing.new haystack.now }
         ensures answer { IfOk result (λ m. IsAnswerIn m cache.new (asked_of self.now haystack.now request continues)) }
         ensures ordered { IfFound result (λ f. f.start ≤ f.end) }
@@ -232,9 +250,8 @@ impl Program {
             → steps_of work.new ≡ steps_of work.old }
         ensures none { TriesNothing self.now (asked_of self.now haystack.now request continues)
             → IfOk result (λ m. m ≡ None) }
-        ensures kept { program_is_easy self.now ≡ true → IfFound result
-            (λ f. KeepsTable self.now haystack.now request (table_base kept request) f.end cache.new) }
-        ensures fresh { program_is_easy self.now ≡ true → kept ≡ None
+        ensures kept { IfFound result (λ f. IsKeptIn self.now haystack.now request kept.new f.end cache.new) }
+        ensures fresh { program_is_easy self.now ≡ true → kept.old ≡ Kept.Nothing
             → steps_of work.new ≤ steps_of work.old + step_bound self.now request }
         ensures returns { returns_of work.old ≤ returns_of work.new }
         ensures paired { returns_of work.new ≤ steps_of work.new }
@@ -250,21 +267,122 @@ impl Program {
             return Ok(None);
         }
         if self.easy {
-            return self.run(haystack, request, kept, cache, work);
+            return self.search_easy(haystack, text, request, kept, cache, work);
         }
+        *kept = Kept::Nothing;
         self.backtrack(haystack, request, continues, cache, work)
     }
 
-    /// Where the table begins that a search of a list leaves for the next one, if it does: where the one begins that it kept, or
-    /// at the effective start from which it searched.
-    pub(crate) fn keeps_from(&self, kept: Option<usize>, from: usize) -> Option<usize>
-        ensures easy { program_is_easy self.now ≡ true → result ≡ Some (unwrap_or kept from) }
-        ensures hard { program_is_easy self.now ≡ false → result ≡ None }
+    /// The search for an easy pattern, by the automaton where that is worth its steps, and else by the runner. It has no `\G`.
+    fn search_easy(
+        &self,
+        haystack: &[u8],
+        text: bool,
+        request: Request,
+        kept: &mut Kept,
+        cache: &mut Cache,
+        work: &mut Work,
+    ) -> Result<Option<Found>>
+        requires inside { request.range_end ≤ length haystack.now }
+        requires text { text ≡ true → IsUtf8 haystack.now }
+        requires easy { program_is_easy self.now ≡ true }
+        requires room { HasRoomFor self.now request work.old }
+        requires kept { IsKeptIn self.now haystack.now request kept.old (effective_start request) cache.old }
+        ensures answer { IfOk result (λ m. (on : Bool) → IsAnswerIn m cache.new (asked_of self.now haystack.now request on)) }
+        ensures steps { steps_of work.old ≤ steps_of work.new }
+        ensures idle { (on : Bool) → NoneTried (program_options self.now).seek (asked_of self.now haystack.now request on)
+            → steps_of work.new ≡ steps_of work.old }
+        ensures kept { IfFound result (λ f. IsKeptIn self.now haystack.now request kept.new f.end cache.new) }
+        ensures fresh { kept.old ≡ Kept.Nothing → steps_of work.new ≤ steps_of work.old + step_bound self.now request }
+        ensures returns { returns_of work.old ≤ returns_of work.new }
+        ensures paired { returns_of work.new ≤ steps_of work.new }
+        ensures refused { IfErr result (λ e. e ≡ Error.Memory) }
     {
-        if self.easy {
-            Some(kept.unwrap_or(from))
-        } else {
-            None
+        if self.is_followed(text, request, *kept, cache) {
+            return self.follow(haystack, request, kept, cache, work);
+        }
+        let base = kept.table();
+        *kept = Kept::Table(base.unwrap_or(request.effective_start()));
+        self.run(haystack, request, base, cache, work)
+    }
+
+    /// Whether a search of a haystack of this form goes from boundary to boundary: text by characters, or bytes one by one.
+    fn keeps_places(&self, text: bool) -> bool
+        ensures { result ≡ true → (haystack : List ℕ) → (text ≡ true → IsUtf8 haystack)
+            → KeepsPlaces haystack self.now.code.meaning (search_options self.now.options).on_boundaries }
+    {
+        let on_boundaries = self.options.bytes_mode.keeps_characters();
+        match self.code.meaning {
+            Meaning::Bytes => !on_boundaries,
+            _ => text && on_boundaries,
+        }
+    }
+
+    /// Whether the automaton follows the code in a haystack of this form.
+    fn can_follow(&self, text: bool) -> bool
+        ensures plain { result ≡ true → ArePlain (instrs_of self.now.code) }
+        ensures places { result ≡ true → (haystack : List ℕ) → (text ≡ true → IsUtf8 haystack)
+            → KeepsPlaces haystack self.now.code.meaning (search_options self.now.options).on_boundaries }
+    {
+        if !self.plain {
+            return false;
+        }
+        self.keeps_places(text)
+    }
+
+    /// Whether the automaton serves a search: where it follows the code, the search is not anchored, and it is worth its steps.
+    fn is_followed(&self, text: bool, request: Request, kept: Kept, cache: &Cache) -> bool
+        ensures plain { result ≡ true → ArePlain (instrs_of self.now.code) }
+        ensures places { result ≡ true → (haystack : List ℕ) → (text ≡ true → IsUtf8 haystack)
+            → KeepsPlaces haystack self.now.code.meaning (search_options self.now.options).on_boundaries }
+        ensures free { result ≡ true → request.anchored ≡ false }
+    {
+        if request.anchored {
+            return false;
+        }
+        if !cache.is_worth_steps(request, kept) {
+            return false;
+        }
+        self.can_follow(text)
+    }
+
+    /// The search for an easy pattern, by the automaton.
+    fn follow(
+        &self,
+        haystack: &[u8],
+        request: Request,
+        kept: &mut Kept,
+        cache: &mut Cache,
+        work: &mut Work,
+    ) -> Result<Option<Found>>
+        requires inside { request.range_end ≤ length haystack.now }
+        requires easy { program_is_easy self.now ≡ true }
+        requires plain { ArePlain (instrs_of self.now.code) }
+        requires places { KeepsPlaces haystack.now self.now.code.meaning (search_options self.now.options).on_boundaries }
+        requires free { request.anchored ≡ false }
+        requires room { HasRoomFor self.now request work.old }
+        requires kept { kept.old ≡ Kept.Steps → KeepsSteps self.now cache.old }
+        ensures answer { IfOk result (λ m. (on : Bool) → IsAnswerIn m cache.new (asked_of self.now haystack.now request on)) }
+        ensures steps { steps_of work.old ≤ steps_of work.new }
+        ensures idle { (on : Bool) → NoneTried (program_options self.now).seek (asked_of self.now haystack.now request on)
+            → steps_of work.new ≡ steps_of work.old }
+        ensures kept { IfFound result (λ f. IsKeptIn self.now haystack.now request kept.new f.end cache.new) }
+        ensures bounded { steps_of work.new ≤ steps_of work.old + step_bound self.now request }
+        ensures returns { returns_of work.new ≡ returns_of work.old }
+        ensures paired { returns_of work.new ≤ steps_of work.new }
+        ensures refused { IfErr result (λ e. e ≡ Error.Memory) }
+    {
+        cache.ready_steps(kept.is_steps());
+        *kept = Kept::Steps;
+        cache.served = Engine::Automaton(self.code.groups);
+        let options = self.options.for_search();
+        let cells = &mut cache.cells;
+        match automaton::find(&self.code, haystack, request, options, cells, work) {
+            Ok(found) => {
+                cache.note_reached(found, request.effective_start());
+                Ok(found)
+            }
+            Err(_) => Err(Error::Memory),
         }
     }
 

@@ -7,9 +7,11 @@ ghost use Rattle.fancy_input.specs.Requests.{effective_start};
 ghost use Rattle.fancy_search.specs.Programs.{program_options};
 ghost use Rattle.fancy_bytes.specs.Lacks.{AllStand};
 ghost use Rattle.fancy_search.specs.Searching.{Suits};
+ghost use Rattle.fancy_search.specs.declared.cache.Cache.{Cache};
+ghost use Rattle.fancy_search.specs.declared.program.Program.{Program};
 ghost use Rattle.fancy_search.specs.Remaining.{item_in, EndsUnlessOk, IfItem, IfRefusal};
 
-use crate::cache::Cache;
+use crate::cache::{Cache, Kept};
 use crate::program::Program;
 use fancy_bytes::byte_set::ByteSet;
 use fancy_engine::found::Found;
@@ -43,8 +45,8 @@ pub struct Searcher<S: Haystack> {
     // whether an empty match at the start is passed over
     skips_empty: bool,
     ended: bool,
-    // where the table begins that the searches before left in the cache, if it can be kept
-    kept: Option<usize>,
+    // what the searches before left in the cache
+    kept: Kept,
     // bytes that were looked for in the haystack, and found
     standing: ByteSet,
     pub ghost ordered: { request.range_start ≤ request.range_end },
@@ -64,7 +66,8 @@ impl<S: Input> Searcher<S> {
         ensures continues { result.continues ≡ true }
         ensures skips_empty { result.skips_empty ≡ false }
         ensures ended { result.ended ≡ false }
-        ensures kept { result.kept ≡ None }
+        ensures kept { result.kept ≡ Kept.Nothing }
+        ensures keeps { (program : Program) (cache : Cache) → Keeps S.bytes program result cache }
     {
         let haystack = input.haystack();
         // a slice is shorter than 2^63 bytes
@@ -75,7 +78,7 @@ impl<S: Input> Searcher<S> {
             continues: true,
             skips_empty: false,
             ended: false,
-            kept: None,
+            kept: Kept::Nothing,
             standing: ByteSet::new(),
         }
     }
@@ -174,9 +177,10 @@ impl<S: Input> Searcher<S> {
         let bytes = self.haystack.as_bytes();
         let found = program.search_next(
             bytes,
+            self.haystack.is_text(),
             self.request,
             self.continues,
-            self.kept,
+            &mut self.kept,
             &mut self.standing,
             cache,
             &mut work,
@@ -184,7 +188,6 @@ impl<S: Input> Searcher<S> {
         let Some(found) = found else {
             return Ok(None);
         };
-        self.kept = program.keeps_from(self.kept, from);
         Ok(Some(FoundItem {
             found,
             from,

@@ -33,6 +33,8 @@ mod inputs;
 #[cfg(test)]
 mod kept;
 #[cfg(test)]
+mod last_lines;
+#[cfg(test)]
 mod odd;
 #[cfg(test)]
 mod options;

@@ -1,6 +1,6 @@
 use Rattle.std.proofs.Common.{◌≡◌, ◌+◌, ◌-◌, ◌^◌, ◌<◌, ◌∷◌, inl, inr, length, List, ap, ◌∙◌, subst, arith}
-use Rattle.fancy_engine.specs.Threads.{Thread, thread_of, stack_of}
-use Rattle.fancy_engine.specs.Attempt.{context_in, instrs_in, may_end_in, marks_in, first_accepted_in, RestingIn}
+use Rattle.fancy_engine.specs.Threads.{Thread, begun_at}
+use Rattle.fancy_engine.specs.Attempt.{context_in, instrs_in, may_end_in, marks_in, first_accepted_in, RestingIn, current_in, saved_in, threads_in}
 use Rattle.fancy_engine.specs.Runner.{AllWithin}
 use Rattle.fancy_engine.specs.Work.{steps_of}
 use Rattle.fancy_engine.proofs.WorkLemmas.{one_return}
@@ -17,7 +17,7 @@ pub pairs-preserved-in-On : goal.pairs-preserved-in-On
 pairs-preserved-in-On c =
     let spent = rw c.in-On.is at c.in_ok-visit.ensures.spent in
     record {
-      running = λ kept deep known failed. rw c.in-On.is at (c.in_ok-visit.ensures.visited c.args.start.place kept deep (first_accepted_in c.args.attempt.now kept deep (stack_of c.args.start c.args.threads.now)) c.requires.low c.pairs.invariant.within (c.pairs.invariant.running kept deep known failed));
+      running = λ kept deep known failed. rw c.in-On.is at (c.in_ok-visit.ensures.visited c.args.start.place kept deep (first_accepted_in c.args.attempt.now kept deep (begun_at c.args.start c.args.threads.now.slots)) c.requires.low c.pairs.invariant.within (c.pairs.invariant.running kept deep known failed));
       within = c.in_ok-visit.ensures.within c.args.start.place c.pairs.invariant.within;
       room = c.visit.ensures.room ∙ c.pairs.invariant.room;
       spent = omega (arith, spent, c.pairs.invariant.spent);
@@ -30,22 +30,22 @@ pairs-preserved-in-On c =
 
 pub returns-in-None-clause-answer : goal.returns-in-None-clause-answer
 returns-in-None-clause-answer c kept deep known failed =
-    let rest = rw c.in-Dead.is at (c.in_ok-visit.ensures.visited c.args.start.place kept deep (first_accepted_in c.args.attempt.now kept deep (stack_of c.args.start c.args.threads.now)) c.requires.low c.pairs.invariant.within (c.pairs.invariant.running kept deep known failed)) in
+    let rest = rw c.in-Dead.is at (c.in_ok-visit.ensures.visited c.args.start.place kept deep (first_accepted_in c.args.attempt.now kept deep (begun_at c.args.start c.args.threads.now.slots)) c.requires.low c.pairs.invariant.within (c.pairs.invariant.running kept deep known failed)) in
     let b = c.in-None.ensures in
-    (rest_done (may_end_in c.args.attempt.now) (context_in c.args.attempt.now) c.args.start.place c.args.attempt.now.last (instrs_in c.args.attempt.now) c.requires.easy deep kept (first_accepted_in c.args.attempt.now kept deep (stack_of c.args.start c.args.threads.now)) (marks_in c.args.attempt.now c.visit.new.table)
-    (subst (λ (x : List Thread). RestingIn c.args.attempt.now c.args.start.place kept deep (first_accepted_in c.args.attempt.now kept deep (stack_of c.args.start c.args.threads.now)) c.visit.new.table x) b.0 rest)).0
+    (rest_done (may_end_in c.args.attempt.now) (context_in c.args.attempt.now) c.args.start.place c.args.attempt.now.last (instrs_in c.args.attempt.now) c.requires.easy deep kept (first_accepted_in c.args.attempt.now kept deep (begun_at c.args.start c.args.threads.now.slots)) (marks_in c.args.attempt.now c.visit.new.table)
+    (subst (λ (x : List Thread). RestingIn c.args.attempt.now c.args.start.place kept deep (first_accepted_in c.args.attempt.now kept deep (begun_at c.args.start c.args.threads.now.slots)) c.visit.new.table x) b.0 rest)).0
 
 pub returns-in-None-clause-failed : goal.returns-in-None-clause-failed
 returns-in-None-clause-failed c kept deep known failed _ =
-    let rest = rw c.in-Dead.is at (c.in_ok-visit.ensures.visited c.args.start.place kept deep (first_accepted_in c.args.attempt.now kept deep (stack_of c.args.start c.args.threads.now)) c.requires.low c.pairs.invariant.within (c.pairs.invariant.running kept deep known failed)) in
+    let rest = rw c.in-Dead.is at (c.in_ok-visit.ensures.visited c.args.start.place kept deep (first_accepted_in c.args.attempt.now kept deep (begun_at c.args.start c.args.threads.now.slots)) c.requires.low c.pairs.invariant.within (c.pairs.invariant.running kept deep known failed)) in
     let b = c.in-None.ensures in
-    (rest_done (may_end_in c.args.attempt.now) (context_in c.args.attempt.now) c.args.start.place c.args.attempt.now.last (instrs_in c.args.attempt.now) c.requires.easy deep kept (first_accepted_in c.args.attempt.now kept deep (stack_of c.args.start c.args.threads.now)) (marks_in c.args.attempt.now c.visit.new.table)
-    (subst (λ (x : List Thread). RestingIn c.args.attempt.now c.args.start.place kept deep (first_accepted_in c.args.attempt.now kept deep (stack_of c.args.start c.args.threads.now)) c.visit.new.table x) b.0 rest)).1
+    (rest_done (may_end_in c.args.attempt.now) (context_in c.args.attempt.now) c.args.start.place c.args.attempt.now.last (instrs_in c.args.attempt.now) c.requires.easy deep kept (first_accepted_in c.args.attempt.now kept deep (begun_at c.args.start c.args.threads.now.slots)) (marks_in c.args.attempt.now c.visit.new.table)
+    (subst (λ (x : List Thread). RestingIn c.args.attempt.now c.args.start.place kept deep (first_accepted_in c.args.attempt.now kept deep (begun_at c.args.start c.args.threads.now.slots)) c.visit.new.table x) b.0 rest)).1
 
 pub pairs-smaller : goal.pairs-smaller
 pairs-smaller c =
     let b = c.in-Some.ensures in
-    let few : length c.visit.new.threads.saved ≡ length c.back.new.self.saved + 1 = ap length b.0 ∙ omega arith in
+    let few : length (saved_in c.args.attempt.now c.visit.new.threads) ≡ length (saved_in c.args.attempt.now c.back.new.self) + 1 = ap length b.0 ∙ omega arith in
     let progress = rw (c.in-Dead.is, b.0) at c.in_ok-visit.ensures.progress in
     omega (arith, few, progress.0, progress.1)
 
@@ -53,15 +53,15 @@ pub pairs-preserved : goal.pairs-preserved
 pairs-preserved c =
     let b = c.in-Some.ensures in
     let one = one_return c.visit.new.work c.back.new.work b.1 in
-    let few : length c.visit.new.threads.saved ≡ length c.back.new.self.saved + 1 = ap length b.0 ∙ omega arith in
+    let few : length (saved_in c.args.attempt.now c.visit.new.threads) ≡ length (saved_in c.args.attempt.now c.back.new.self) + 1 = ap length b.0 ∙ omega arith in
     let spent = rw (c.in-Dead.is, b.0) at c.in_ok-visit.ensures.spent in
-    let within : AllWithin c.args.start.place c.args.attempt.now.last ((thread_of c.in-Some.branch c.back.new.self.slots) ∷ c.back.new.self.saved) =
+    let within : AllWithin c.args.start.place c.args.attempt.now.last ((current_in c.args.attempt.now c.in-Some.branch c.back.new.self) ∷ saved_in c.args.attempt.now c.back.new.self) =
     subst (λ (x : List Thread). AllWithin c.args.start.place c.args.attempt.now.last x) b.0 (c.in_ok-visit.ensures.within c.args.start.place c.pairs.invariant.within).2 in
     record {
       running = λ kept deep known failed.
-          (let rest = rw c.in-Dead.is at (c.in_ok-visit.ensures.visited c.args.start.place kept deep (first_accepted_in c.args.attempt.now kept deep (stack_of c.args.start c.args.threads.now)) c.requires.low c.pairs.invariant.within (c.pairs.invariant.running kept deep known failed)) in
-          rest_back (may_end_in c.args.attempt.now) (context_in c.args.attempt.now) c.args.start.place c.args.attempt.now.last (instrs_in c.args.attempt.now) c.requires.easy deep kept (first_accepted_in c.args.attempt.now kept deep (stack_of c.args.start c.args.threads.now)) (marks_in c.args.attempt.now c.visit.new.table) (thread_of c.in-Some.branch c.back.new.self.slots) c.back.new.self.saved
-          (subst (λ (x : List Thread). RestingIn c.args.attempt.now c.args.start.place kept deep (first_accepted_in c.args.attempt.now kept deep (stack_of c.args.start c.args.threads.now)) c.visit.new.table x) b.0 rest));
+          (let rest = rw c.in-Dead.is at (c.in_ok-visit.ensures.visited c.args.start.place kept deep (first_accepted_in c.args.attempt.now kept deep (begun_at c.args.start c.args.threads.now.slots)) c.requires.low c.pairs.invariant.within (c.pairs.invariant.running kept deep known failed)) in
+          rest_back (may_end_in c.args.attempt.now) (context_in c.args.attempt.now) c.args.start.place c.args.attempt.now.last (instrs_in c.args.attempt.now) c.requires.easy deep kept (first_accepted_in c.args.attempt.now kept deep (begun_at c.args.start c.args.threads.now.slots)) (marks_in c.args.attempt.now c.visit.new.table) (current_in c.args.attempt.now c.in-Some.branch c.back.new.self) (saved_in c.args.attempt.now c.back.new.self)
+          (subst (λ (x : List Thread). RestingIn c.args.attempt.now c.args.start.place kept deep (first_accepted_in c.args.attempt.now kept deep (begun_at c.args.start c.args.threads.now.slots)) c.visit.new.table x) b.0 rest));
       within = within;
       room = c.visit.ensures.room ∙ c.pairs.invariant.room;
       spent = omega (arith, spent, one.steps, c.pairs.invariant.spent);
@@ -80,13 +80,15 @@ pairs-preserved c =
     }
 
 pub visit-requires-clause-within : goal.visit-requires-clause-within
-visit-requires-clause-within c = within_lower c.args.attempt.now.base c.args.start.place c.args.attempt.now.last (thread_of c.pairs.pair c.pairs.threads.slots ∷ c.pairs.threads.saved) c.requires.low c.pairs.invariant.within
+visit-requires-clause-within c = within_lower c.args.attempt.now.base c.args.start.place c.args.attempt.now.last (threads_in c.args.attempt.now c.pairs.pair c.pairs.threads) c.requires.low c.pairs.invariant.within
 
 pub returns-in-Found-clause-answer : goal.returns-in-Found-clause-answer
-returns-in-Found-clause-answer c kept deep known failed = (rw c.in-Found.is at (c.in_ok-visit.ensures.visited c.args.start.place kept deep (first_accepted_in c.args.attempt.now kept deep (stack_of c.args.start c.args.threads.now)) c.requires.low c.pairs.invariant.within (c.pairs.invariant.running kept deep known failed))).0
+returns-in-Found-clause-answer c kept deep known failed =
+    rw c.settle.ensures
+    (rw c.in-Found.is at (c.in_ok-visit.ensures.visited c.args.start.place kept deep (first_accepted_in c.args.attempt.now kept deep (begun_at c.args.start c.args.threads.now.slots)) c.requires.low c.pairs.invariant.within (c.pairs.invariant.running kept deep known failed))).0
 
 pub returns-in-Found-clause-past : goal.returns-in-Found-clause-past
-returns-in-Found-clause-past c kept deep known failed = (rw c.in-Found.is at (c.in_ok-visit.ensures.visited c.args.start.place kept deep (first_accepted_in c.args.attempt.now kept deep (stack_of c.args.start c.args.threads.now)) c.requires.low c.pairs.invariant.within (c.pairs.invariant.running kept deep known failed))).1
+returns-in-Found-clause-past c kept deep known failed = (rw c.in-Found.is at (c.in_ok-visit.ensures.visited c.args.start.place kept deep (first_accepted_in c.args.attempt.now kept deep (begun_at c.args.start c.args.threads.now.slots)) c.requires.low c.pairs.invariant.within (c.pairs.invariant.running kept deep known failed))).1
 
 pub returns-in-Found-clause-forth : goal.returns-in-Found-clause-forth
 returns-in-Found-clause-forth c = (c.in_ok-visit.ensures.within c.args.start.place c.pairs.invariant.within).0

@@ -9,7 +9,7 @@ use Rattle.fancy_engine.specs.Work.{steps_of, returns_of}
 use Rattle.fancy_engine.specs.Compile.{depth}
 use Rattle.fancy_engine.specs.KeptTable.{marks_from}
 use Rattle.fancy_engine.proofs.MarkingLemmas.{later_starts}
-use Rattle.fancy_engine.proofs.KeptTableLemmas.{failed_later, kept_begins, kept_room, kept_small, kept_failed, kept_after, ahead_first, ahead_kept, ahead_after}
+use Rattle.fancy_engine.proofs.KeptTableLemmas.{failed_later, kept_begins, kept_room, kept_small, kept_last_lines, kept_failed, kept_after, ahead_first, ahead_kept, ahead_after}
 use Rattle.fancy_engine.proofs.RunnerSearch.{deep, attempt_known, attempt_answer, search_hit, search_miss, search_skip, search_over, positions_none, begun}
 use Rattle.fancy_engine.proofs.OpenLemmas.{openings_passed}
 use Rattle.fancy_engine.proofs.search.search.Goals as goal
@@ -27,7 +27,7 @@ returns-then-place-last-clause-answer c p on is =
 
 pub loop-place-init : goal.loop-place-init
 loop-place-init c =
-    let based : c.unwrap_or-base.result ≤ c.effective_start-first.result = kept_begins c.args.code.now c.args.haystack.now c.args.request c.args.options c.effective_start-first.result c.unwrap_or-base.result c.suppressed_ends.result c.effective_start-first.ensures c.suppressed_ends.ensures c.args.kept c.args.cache.now.table c.requires.kept c.unwrap_or-base.ensures in
+    let based : c.unwrap_or-base.result ≤ c.effective_start-first.result = kept_begins c.args.code.now c.args.haystack.now c.args.request c.args.options c.effective_start-first.result c.unwrap_or-base.result c.suppressed_ends.result c.effective_start-first.ensures c.suppressed_ends.ensures c.args.kept c.args.cache.now c.requires.kept c.unwrap_or-base.ensures in
     record {
       left = λ p on is.
           ap₂ (answer_from (query_of p c.args.code.now (unfiltered c.args.options) c.args.haystack.now c.args.request on)) (sym c.last_position-last.ensures.count ∙ ap (λ (n : ℕ). c.last_position-last.result + 1 - n) (sym c.effective_start-first.ensures)) (sym c.effective_start-first.ensures)
@@ -38,15 +38,15 @@ loop-place-init c =
       idle = λ none. refl;
       failed = λ p is.
           failed_later (is_match_boundary c.args.options.on_boundaries c.args.haystack.now) (search_context c.args.haystack.now c.args.code.now.meaning c.suppressed_ends.result c.unwrap_or-base.result) c.effective_start-first.result c.next_opening-place.result c.args.request.range_end (instrs_of c.args.code.now) (depth (length c.args.haystack.now) p + 1) (marks_from c.args.code.now c.unwrap_or-base.result c.ready_table.new.table) c.next_opening-place.ensures.passed
-          (c.in_ok-ready_table.ensures.failed (depth (length c.args.haystack.now) p + 1) (λ some. kept_failed c.args.code.now c.args.haystack.now c.args.request c.args.options c.effective_start-first.result c.unwrap_or-base.result c.suppressed_ends.result c.effective_start-first.ensures c.suppressed_ends.ensures c.args.kept c.args.cache.now.table c.requires.kept c.unwrap_or-base.ensures (sym c.is_some.ensures ∙ some) p is));
+          (c.in_ok-ready_table.ensures.failed (depth (length c.args.haystack.now) p + 1) (λ some. kept_failed c.args.code.now c.args.haystack.now c.args.request c.args.options c.effective_start-first.result c.unwrap_or-base.result c.suppressed_ends.result c.effective_start-first.ensures c.suppressed_ends.ensures c.args.kept c.args.cache.now c.requires.kept c.unwrap_or-base.ensures (sym c.is_some-is_kept.ensures ∙ some) p is));
       room = c.in_ok-ready_table.ensures.room;
       small = c.in_ok-ready_table.ensures.small;
       steps = omega arith;
       fresh = λ none. omega (arith, ahead_first c.args.code.now c.args.haystack.now c.args.request c.args.options c.effective_start-first.result c.unwrap_or-base.result c.suppressed_ends.result c.effective_start-first.ensures c.suppressed_ends.ensures c.args.kept c.ready_table.new.table (c.args.request.range_end + 1 - c.next_opening-place.result) c.unwrap_or-base.ensures (omega (arith, c.if-first-request.false)) (omega (arith, c.next_opening-place.ensures.passed)) none);
-      spent = omega (arith, ahead_kept c.args.code.now c.args.haystack.now c.args.request c.args.options c.effective_start-first.result c.unwrap_or-base.result c.suppressed_ends.result c.effective_start-first.ensures c.suppressed_ends.ensures c.args.kept c.args.cache.now.table c.ready_table.new.table (c.args.request.range_end + 1 - c.next_opening-place.result) c.unwrap_or-base.ensures (omega (arith, c.if-first-request.false)) (omega (arith, c.next_opening-place.ensures.passed)) (λ some. c.in_ok-ready_table.ensures.left (c.is_some.ensures ∙ some)));
+      spent = omega (arith, ahead_kept c.args.code.now c.args.haystack.now c.args.request c.args.options c.effective_start-first.result c.unwrap_or-base.result c.suppressed_ends.result c.effective_start-first.ensures c.suppressed_ends.ensures c.args.kept c.args.cache.now.table c.ready_table.new.table (c.args.request.range_end + 1 - c.next_opening-place.result) c.unwrap_or-base.ensures (omega (arith, c.if-first-request.false)) (omega (arith, c.next_opening-place.ensures.passed)) (λ some. c.in_ok-ready_table.ensures.left (c.is_some-is_kept.ensures ∙ some)));
       returns = omega arith;
       paired = omega arith;
-      last_lines = c.new-last_lines.ensures;
+      last_lines = c.ready_last_lines.ensures;
     }
 
 pub returns-in-Some-clause-answer : goal.returns-in-Some-clause-answer
@@ -117,13 +117,16 @@ pub returns-clause-answer : goal.returns-clause-answer
 returns-clause-answer c p on is = sym (c.loop-place.invariant.left p on is ∙ search_over (query_of p c.args.code.now (unfiltered c.args.options) c.args.haystack.now c.args.request on) _ _ (omega arith))
 
 pub ready_table-requires-clause-begins : goal.ready_table-requires-clause-begins
-ready_table-requires-clause-begins c = kept_begins c.args.code.now c.args.haystack.now c.args.request c.args.options c.effective_start-first.result c.unwrap_or-base.result c.suppressed_ends.result c.effective_start-first.ensures c.suppressed_ends.ensures c.args.kept c.args.cache.now.table c.requires.kept c.unwrap_or-base.ensures
+ready_table-requires-clause-begins c = kept_begins c.args.code.now c.args.haystack.now c.args.request c.args.options c.effective_start-first.result c.unwrap_or-base.result c.suppressed_ends.result c.effective_start-first.ensures c.suppressed_ends.ensures c.args.kept c.args.cache.now c.requires.kept c.unwrap_or-base.ensures
 
 pub ready_table-requires-clause-room : goal.ready_table-requires-clause-room
-ready_table-requires-clause-room c some = kept_room c.args.code.now c.args.haystack.now c.args.request c.args.options c.effective_start-first.result c.unwrap_or-base.result c.suppressed_ends.result c.effective_start-first.ensures c.suppressed_ends.ensures c.args.kept c.args.cache.now.table c.requires.kept c.unwrap_or-base.ensures (sym c.is_some.ensures ∙ some)
+ready_table-requires-clause-room c some = kept_room c.args.code.now c.args.haystack.now c.args.request c.args.options c.effective_start-first.result c.unwrap_or-base.result c.suppressed_ends.result c.effective_start-first.ensures c.suppressed_ends.ensures c.args.kept c.args.cache.now c.requires.kept c.unwrap_or-base.ensures (sym c.is_some-is_kept.ensures ∙ some)
 
 pub ready_table-requires-clause-short : goal.ready_table-requires-clause-short
-ready_table-requires-clause-short c some = kept_small c.args.code.now c.args.haystack.now c.args.request c.args.options c.effective_start-first.result c.unwrap_or-base.result c.suppressed_ends.result c.effective_start-first.ensures c.suppressed_ends.ensures c.args.kept c.args.cache.now.table c.requires.kept (sym c.is_some.ensures ∙ some)
+ready_table-requires-clause-short c some = kept_small c.args.code.now c.args.haystack.now c.args.request c.args.options c.effective_start-first.result c.unwrap_or-base.result c.suppressed_ends.result c.effective_start-first.ensures c.suppressed_ends.ensures c.args.kept c.args.cache.now c.requires.kept (sym c.is_some-is_kept.ensures ∙ some)
+
+pub ready_last_lines-requires : goal.ready_last_lines-requires
+ready_last_lines-requires c some = kept_last_lines c.args.code.now c.args.haystack.now c.args.request c.args.options c.effective_start-first.result c.unwrap_or-base.result c.suppressed_ends.result c.effective_start-first.ensures c.suppressed_ends.ensures c.args.kept c.args.cache.now c.requires.kept (sym c.is_some-is_kept.ensures ∙ some)
 
 pub returns-in_err-begin-clause-bounded : goal.returns-in_err-begin-clause-bounded
 returns-in_err-begin-clause-bounded c = omega (arith, c.loop-place.invariant.spent)
@@ -164,11 +167,12 @@ returns-in-Some-clause-spent c =
 
 pub returns-in-Some-clause-kept : goal.returns-in-Some-clause-kept
 returns-in-Some-clause-kept c =
-    kept_after c.args.code.now c.args.haystack.now c.args.request c.args.options c.effective_start-first.result c.unwrap_or-base.result c.suppressed_ends.result c.effective_start-first.ensures c.suppressed_ends.ensures c.args.kept c.loop-place.place c.in-Some.end c.follow.new.table c.unwrap_or-base.ensures c.loop-place.invariant.begins (rw c.in-Some.is at c.in_ok-end.ensures.forth)
+    kept_after c.args.code.now c.args.haystack.now c.args.request c.args.options c.effective_start-first.result c.unwrap_or-base.result c.suppressed_ends.result c.effective_start-first.ensures c.suppressed_ends.ensures c.args.kept c.loop-place.place c.in-Some.end _ c.unwrap_or-base.ensures c.loop-place.invariant.begins (rw c.in-Some.is at c.in_ok-end.ensures.forth)
     (c.follow.ensures.room ∙ c.loop-place.invariant.room)
     (omega (arith, c.follow.ensures.room, c.loop-place.invariant.small))
     (λ p is. (rw c.in-Some.is at c.in_ok-end.ensures.past) c.loop-place.place (depth (length c.args.haystack.now) p + 1)
     (attempt_known (query_of p c.args.code.now (unfiltered c.args.options) c.args.haystack.now c.args.request true) c.args.code.now is refl refl refl refl c.requires.inside (search_context c.args.haystack.now c.args.code.now.meaning c.suppressed_ends.result c.unwrap_or-base.result) (Some c.unwrap_or-base.result) (ap (λ (s : SuppressedEnds). search_context c.args.haystack.now c.args.code.now.meaning s c.unwrap_or-base.result) c.suppressed_ends.ensures) c.requires.easy c.loop-place.place (thread_of (record { at = c.args.code.now.start; place = c.loop-place.place }) c.begin.new.self.slots) (begun c.args.code.now c.loop-place.place c.begin.new.self.slots c.in_ok-begin.ensures.slots) (omega (arith, c.last_position-last.ensures.inside, c.loop-place-test.true))) (c.loop-place.invariant.failed p is))
+    c.follow.ensures.last_lines
 
 pub returns-in_err-begin-clause-idle : goal.returns-in_err-begin-clause-idle
 returns-in_err-begin-clause-idle c none = absurd (c.loop-place.invariant.starts (omega (arith, c.loop-place-test.true)) none)

@@ -51,6 +51,7 @@ invariant_of-result c = record {
   meant = c.in_ok-code.ensures.meaning ∙ c.meaning.ensures;
   short = c.in_ok-code.ensures.short;
   decided = c.is_easy-easy.ensures;
+  followed = c.is_worth_following-plain.ensures;
   light = c.in_ok-code.ensures.easy;
   starts = kept_accepted (c.in_ok-tree.ensures.accepted.0);
   needed = rw (sym c.meaning-2.ensures) c.in_ok-required.ensures;

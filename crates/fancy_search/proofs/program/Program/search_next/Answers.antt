@@ -6,19 +6,19 @@ use Rattle.fancy_search.proofs.SearchedLemmas.{none_tried, none_tried_in, no_ret
 use Rattle.fancy_search.proofs.program.Program.search_next.Goals as goal
 
 pub returns-then-self-clause-answer : goal.returns-then-self-clause-answer
-returns-then-self-clause-answer c = if_ok _ _ (λ m e. e c.args.continues) c.run.result c.run.ensures.answer
+returns-then-self-clause-answer c = if_ok _ _ (λ m e. e c.args.continues) c.search_easy.result c.search_easy.ensures.answer
 
 pub returns-then-self-clause-ordered : goal.returns-then-self-clause-ordered
 returns-then-self-clause-ordered c =
-    if_ok _ _ (λ m e. ordered_found (asked_of c.args.self.now c.args.haystack.now c.args.request c.args.continues) (cached_groups c.run.new.cache) c.requires.inside c.args.self.now.starts m (e c.args.continues)) c.run.result c.run.ensures.answer
+    if_ok _ _ (λ m e. ordered_found (asked_of c.args.self.now c.args.haystack.now c.args.request c.args.continues) (cached_groups c.search_easy.new.cache) c.requires.inside c.args.self.now.starts m (e c.args.continues)) c.search_easy.result c.search_easy.ensures.answer
 
 pub returns-then-self-clause-inside : goal.returns-then-self-clause-inside
 returns-then-self-clause-inside c =
-    if_ok _ _ (λ m e. inside_found (asked_of c.args.self.now c.args.haystack.now c.args.request c.args.continues) (cached_groups c.run.new.cache) c.requires.inside c.args.self.now.starts m (e c.args.continues)) c.run.result c.run.ensures.answer
+    if_ok _ _ (λ m e. inside_found (asked_of c.args.self.now c.args.haystack.now c.args.request c.args.continues) (cached_groups c.search_easy.new.cache) c.requires.inside c.args.self.now.starts m (e c.args.continues)) c.search_easy.result c.search_easy.ensures.answer
 
 pub returns-then-self-clause-cleanly : goal.returns-then-self-clause-cleanly
 returns-then-self-clause-cleanly c = λ on.
-    if_ok _ _ (λ m e. clean_found (asked_of c.args.self.now c.args.haystack.now c.args.request c.args.continues) (cached_groups c.run.new.cache) c.requires.inside c.args.self.now.starts m on (e c.args.continues)) c.run.result c.run.ensures.answer
+    if_ok _ _ (λ m e. clean_found (asked_of c.args.self.now c.args.haystack.now c.args.request c.args.continues) (cached_groups c.search_easy.new.cache) c.requires.inside c.args.self.now.starts m on (e c.args.continues)) c.search_easy.result c.search_easy.ensures.answer
 
 pub returns-clause-ordered : goal.returns-clause-ordered
 returns-clause-ordered c =
@@ -35,13 +35,13 @@ returns-clause-cleanly c = λ on.
 pub returns-then-self-clause-idle : goal.returns-then-self-clause-idle
 returns-then-self-clause-idle c none =
     let q = asked_of c.args.self.now c.args.haystack.now c.args.request c.args.continues in
-    c.run.ensures.idle c.args.continues (none_tried_in c.args.self.now q (c.is_hopeless.ensures.seeks c.if-is_hopeless.false c.args.continues) none)
+    c.search_easy.ensures.idle c.args.continues (none_tried_in c.args.self.now q (c.is_hopeless.ensures.seeks c.if-is_hopeless.false c.args.continues) none)
 
 pub returns-then-self-clause-none : goal.returns-then-self-clause-none
 returns-then-self-clause-none c none =
     let q = asked_of c.args.self.now c.args.haystack.now c.args.request c.args.continues in
     let hopeful = c.is_hopeless.ensures.seeks c.if-is_hopeless.false c.args.continues in
-    if_ok _ _ (λ m e. none_tried c.args.self.now q (cached_groups c.run.new.cache) hopeful none m (e c.args.continues)) c.run.result c.run.ensures.answer
+    if_ok _ _ (λ m e. none_tried c.args.self.now q (cached_groups c.search_easy.new.cache) hopeful none m (e c.args.continues)) c.search_easy.result c.search_easy.ensures.answer
 
 pub returns-clause-none : goal.returns-clause-none
 returns-clause-none c none =

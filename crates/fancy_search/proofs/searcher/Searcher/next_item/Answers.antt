@@ -1,8 +1,6 @@
 use Rattle.std.proofs.Common.{rules, refl, ◌∙◌}
-use Rattle.fancy_input.specs.Requests.{effective_start}
-use Rattle.fancy_search.specs.KeptTables.{KeepsTable}
 use Rattle.fancy_search.proofs.IterationStepLemmas.{gives}
-use Rattle.fancy_search.proofs.KeptTablesLemmas.{keeps_moved, for_some, if_some}
+use Rattle.fancy_search.proofs.KeptTablesLemmas.{keeps_moved}
 use Rattle.fancy_search.proofs.searcher.Searcher.next_item.Goals as goal
 
 pub returns-in-Ok-Some-clause-steps : goal.returns-in-Ok-Some-clause-steps
@@ -19,12 +17,9 @@ pub returns-in-Err-clause-steps : goal.returns-in-Err-clause-steps
 returns-in-Err-clause-steps g c = (c.in-Err.ensures.refused, rw c.refuse.ensures.ended refl)
 
 pub upcoming-requires-clause-kept : goal.upcoming-requires-clause-kept
-upcoming-requires-clause-kept g c =
-    if_some c.args.self.now.kept (λ base. KeepsTable c.args.program.now (g.S.Haystack.bytes c.args.self.now.haystack) c.args.self.now.request base (effective_start c.args.self.now.request) c.args.cache.now)
-    (c.requires.kept c.if-self.false)
+upcoming-requires-clause-kept g c = c.requires.kept c.if-self.false
 
 pub returns-in-Ok-Some-clause-kept : goal.returns-in-Ok-Some-clause-kept
 returns-in-Ok-Some-clause-kept g c running =
-    for_some c.go_after.new.self.kept (λ base. KeepsTable c.args.program.now (g.S.Haystack.bytes c.go_after.new.self.haystack) c.go_after.new.self.request base (effective_start c.go_after.new.self.request) c.upcoming.new.cache)
-    (keeps_moved g.S.Haystack.bytes c.args.program.now c.upcoming.new.cache c.upcoming.new.self.haystack c.go_after.new.self.haystack c.upcoming.new.self.request c.go_after.new.self.request c.upcoming.new.self.kept c.go_after.new.self.kept c.in-Ok-Some.item.found.end
-    c.go_after.ensures.haystack c.go_after.ensures.request c.go_after.ensures.kept c.go_after.ensures.moved (rw c.in-Ok-Some.field-0-is at c.in-Ok-Some.ensures.kept))
+    keeps_moved g.S.Haystack.bytes c.args.program.now c.upcoming.new.cache c.upcoming.new.self.haystack c.go_after.new.self.haystack c.upcoming.new.self.request c.go_after.new.self.request c.upcoming.new.self.kept c.go_after.new.self.kept c.in-Ok-Some.item.found.end
+    c.go_after.ensures.haystack c.go_after.ensures.request c.go_after.ensures.kept c.go_after.ensures.moved (rw c.in-Ok-Some.field-0-is at c.in-Ok-Some.ensures.kept)

@@ -1,0 +1,14 @@
+pub mod MarkLemmas
+pub mod ClosingLemmas
+pub mod FutureLemmas
+pub mod PlainLemmas
+pub mod StepLemmas
+pub mod JoinLemmas
+pub mod SearchLemmas
+pub mod UntouchedLemmas
+pub mod AnswerLemmas
+pub mod CellLemmas
+pub mod GoingLemmas
+pub mod SteadyLemmas
+pub mod TrailLemmas
+pub mod FrontLemmas

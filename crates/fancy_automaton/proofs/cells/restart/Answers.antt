@@ -1,0 +1,23 @@
+use Rattle.std.proofs.Common.{◌≡◌, ◌∙◌, ◌++◌, ◌∷◌, [], ℕ, List, sym, ap, subst}
+use Rattle.fancy_automaton.specs.Cells.{HasRow, ways_at}
+use Rattle.fancy_automaton.proofs.CellLemmas.{has_row, keeps_row, row_ways}
+use Rattle.fancy_automaton.proofs.cells.restart.Goals as goal
+
+pub returns-clause-waits : goal.returns-clause-waits
+returns-clause-waits c =
+    let rows = c.args.cells.now.rows.lists.items in
+    let same : c.in_ok-ways.ways.items ≡ ways_at rows c.args.row =
+    c.in_ok-ways.ensures
+    ∙ sym (row_ways rows c.args.row c.deref.result.now (has_row rows c.args.row c.index.result.now c.index.result.now c.deref.result.now c.requires.row c.index.ensures (sym c.deref.ensures.value))) in
+    keeps_row c.intern.new.rows.lists.items c.intern-2.new.rows.lists.items c.in_ok-next.next (ways_at rows c.args.row) c.in_ok-begun.ensures.kept
+    (subst (λ (ws : List ℕ). HasRow c.intern.new.rows.lists.items c.in_ok-next.next ws) same c.in_ok-next.ensures.row)
+
+pub returns-clause-opens : goal.returns-clause-opens
+returns-clause-opens c =
+    let rows = c.args.cells.now.rows.lists.items in
+    let same : c.in_ok-ways.ways.items ≡ ways_at rows c.args.row =
+    c.in_ok-ways.ensures
+    ∙ sym (row_ways rows c.args.row c.deref.result.now (has_row rows c.args.row c.index.result.now c.index.result.now c.deref.result.now c.requires.row c.index.ensures (sym c.deref.ensures.value))) in
+    subst (λ (ws : List ℕ). HasRow c.intern-2.new.rows.lists.items c.in_ok-begun.begun ws)
+    (c.in_ok-push.ensures.items ∙ ap (λ (ws : List ℕ). ws ++ c.args.start ∷ []) (c.in_ok-more.ensures ∙ c.deref-2.ensures.value ∙ same))
+    c.in_ok-begun.ensures.row

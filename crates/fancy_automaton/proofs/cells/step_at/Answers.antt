@@ -1,0 +1,45 @@
+use Rattle.std.proofs.Common.{◌≡◌, ◌∙◌, List, Option, Some, sym, ap, arith, length, subst, All}
+use Rattle.std.specs.Prelude.{slice_get}
+use Rattle.fancy_automaton.specs.declared.cells.Cell.{Cell}
+use Rattle.fancy_automaton.specs.Trail.{came_of}
+use Rattle.fancy_automaton.proofs.CellLemmas.{cell_last, cell_pushed, cells_more, grown, keeps_cells}
+use Rattle.fancy_automaton.specs.Cells.{IsCellOf}
+use Rattle.fancy_automaton.proofs.cells.step_at.Goals as goal
+
+pub returns-clause-all : goal.returns-clause-all
+returns-clause-all c =
+    cells_more c.args.code.now c.args.cells.now.rows.lists.items c.computed.new.rows.lists.items c.args.cells.now.cells.items c.push.new.self.items c.args.row c.args.reading c.in_ok-cell.cell
+    c.in_ok-cell.ensures.kept c.requires.all c.in_ok-push.ensures.items c.in_ok-cell.ensures.from c.in_ok-cell.ensures.on c.in_ok-cell.ensures.cell
+
+pub returns-clause-cell : goal.returns-clause-cell
+returns-clause-cell c =
+    let n : c.len-k.result ≡ length c.args.cells.now.cells.items = omega arith in
+    cell_pushed c.args.cells.now.cells.items c.push.new.self.items c.len-k.result c.args.row c.args.reading c.in_ok-cell.cell c.in_ok-push.ensures.items n c.in_ok-cell.ensures.from c.in_ok-cell.ensures.on
+
+pub returns-clause-grown : goal.returns-clause-grown
+returns-clause-grown c = grown c.args.cells.now.cells.items c.push.new.self.items c.in_ok-cell.cell c.in_ok-push.ensures.items
+
+pub returns-in_err-cell-clause-all : goal.returns-in_err-cell-clause-all
+returns-in_err-cell-clause-all c =
+    keeps_cells c.args.code.now c.args.cells.now.rows.lists.items c.computed.new.rows.lists.items c.args.cells.now.cells.items c.computed.ensures.kept c.requires.all
+
+pub returns-in_err-push-clause-all : goal.returns-in_err-push-clause-all
+returns-in_err-push-clause-all c =
+    let same : c.push.new.self.items ≡ c.args.cells.now.cells.items = c.in_err-push.ensures.items in
+    subst (All (IsCellOf c.args.code.now c.computed.new.rows.lists.items)) (sym same)
+    (keeps_cells c.args.code.now c.args.cells.now.rows.lists.items c.computed.new.rows.lists.items c.args.cells.now.cells.items c.computed.ensures.kept c.requires.all)
+
+pub returns-in_err-hint_cell-clause-all : goal.returns-in_err-hint_cell-clause-all
+returns-in_err-hint_cell-clause-all c =
+    cells_more c.args.code.now c.args.cells.now.rows.lists.items c.computed.new.rows.lists.items c.args.cells.now.cells.items c.push.new.self.items c.args.row c.args.reading c.in_ok-cell.cell
+    c.computed.ensures.kept c.requires.all c.in_ok-push.ensures.items c.in_ok-cell.ensures.from c.in_ok-cell.ensures.on c.in_ok-cell.ensures.cell
+
+pub returns-clause-counted : goal.returns-clause-counted
+returns-clause-counted c more few =
+    let n : c.len-k.result ≡ length c.args.cells.now.cells.items = omega arith in
+    let at : slice_get c.push.new.self.items c.len-k.result ≡ Some c.in_ok-cell.cell = ap (λ (cells : List Cell). slice_get cells c.len-k.result) c.in_ok-push.ensures.items ∙ cell_last c.args.cells.now.cells.items c.in_ok-cell.cell c.len-k.result n in
+    let came : length (came_of (slice_get c.push.new.self.items c.len-k.result)) ≡ length c.in_ok-cell.cell.came.items = ap (λ (o : Option Cell). length (came_of o)) at in
+    omega (arith, came, c.in_ok-cell.ensures.ways, c.in_ok-step.ensures.counted few)
+
+pub returns-in_err-hint_cell-clause-grown : goal.returns-in_err-hint_cell-clause-grown
+returns-in_err-hint_cell-clause-grown c = grown c.args.cells.now.cells.items c.push.new.self.items c.in_ok-cell.cell c.in_ok-push.ensures.items

@@ -1,0 +1,31 @@
+use Rattle.std.proofs.Common.{◌∙◌, refl, sym, ap, subst, option_map}
+use Rattle.fancy_engine.specs.Code.{instrs_of}
+use Rattle.fancy_engine.specs.Run.{instr_at}
+use Rattle.fancy_engine.specs.Reading.{unit_read}
+use Rattle.fancy_engine.proofs.RunnerSteps.{past_end}
+use Rattle.fancy_automaton.specs.declared.way.Way.{Way}
+use Rattle.fancy_automaton.specs.declared.way.Effect.{Effect}
+use Rattle.fancy_automaton.specs.Ways.{Obeys, effect_of}
+use Rattle.fancy_automaton.proofs.ClosingLemmas.{never_reads, adds_none, close_dead, close_reads, close_ended}
+use Rattle.fancy_automaton.proofs.closure.visit.Goals as goal
+
+pub returns-then-way-len-clause-visited : goal.returns-then-way-len-clause-visited
+returns-then-way-len-clause-visited c here ends later known beyond rank goal solves closing =
+    close_dead ends later known beyond rank goal _ _ _ _ c.args.way closing (adds_none ends later known beyond rank c.args.marks.now c.args.way.at)
+    (subst (λ (k : Effect). Obeys ends later known beyond rank k here c.args.way.at) (ap (effect_of (option_map unit_read c.args.reading)) (past_end (instrs_of c.args.code.now) c.args.way.at (rw c.len.ensures at c.if-way-len.true))) (solves c.args.way.at closing.all.0))
+
+pub returns-in_ok-push-in-Reads-clause-visited : goal.returns-in_ok-push-in-Reads-clause-visited
+returns-in_ok-push-in-Reads-clause-visited c here ends later known beyond rank goal solves closing =
+    let m : Way = record { at = c.in-Reads.at; from = c.args.way.from } in
+    let o = subst (λ (k : Effect). Obeys ends later known beyond rank k here c.args.way.at) (sym c.effect_at.ensures.effect ∙ c.in-Reads.is) (solves c.args.way.at closing.all.0) in
+    rw c.in_ok-push-in-Reads.ensures.items
+    (close_reads ends later known beyond rank goal _ _ _ _ c.args.way m closing c.is_first.ensures.adds refl o.0 o.1)
+
+pub returns-in-Ends-clause-visited : goal.returns-in-Ends-clause-visited
+returns-in-Ends-clause-visited c here ends later known beyond rank goal solves closing =
+    close_ended ends later known beyond rank goal _ _ _ c.args.way here closing
+    (subst (λ (k : Effect). Obeys ends later known beyond rank k here c.args.way.at) (sym c.effect_at.ensures.effect ∙ c.in-Ends.is) (solves c.args.way.at closing.all.0))
+
+pub returns-in_ok-push-in-Reads-clause-halts : goal.returns-in_ok-push-in-Reads-clause-halts
+returns-in_ok-push-in-Reads-clause-halts c e fresh =
+    absurd (never_reads (option_map unit_read c.args.reading) (instr_at (instrs_of c.args.code.now) c.args.way.at) c.in-Reads.at (ap (option_map unit_read) e) (sym c.effect_at.ensures.effect ∙ c.in-Reads.is))

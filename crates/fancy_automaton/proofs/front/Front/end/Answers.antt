@@ -1,0 +1,8 @@
+use Rattle.std.proofs.Common.{List, ap, ◌∙◌}
+use Rattle.fancy_automaton.specs.declared.cells.Cell.{Cell}
+use Rattle.fancy_automaton.specs.Trail.{found_in_trail}
+use Rattle.fancy_automaton.proofs.front.Front.end.Goals as goal
+
+pub returns-clause-found : goal.returns-clause-found
+returns-clause-found c =
+    c.span_of.ensures ∙ ap (λ (cells : List Cell). found_in_trail cells c.args.self.now.trail c.args.self.now.hit) c.deref.ensures.value

@@ -1,0 +1,14 @@
+use Rattle.std.proofs.Common.{[], ◌∷◌, ◌++◌, refl, subst, sym}
+use Rattle.fancy_engine.specs.declared.code.Code.{Code}
+use Rattle.fancy_automaton.specs.Cells.{HasRow}
+use Rattle.fancy_automaton.specs.Front.{ways_of}
+use Rattle.fancy_automaton.proofs.FrontLemmas.{front_restarted}
+use Rattle.fancy_automaton.proofs.front.Front.make_place.Goals as goal
+
+pub returns-clause-front : goal.returns-clause-front
+returns-clause-front c a place resume same is =
+    let f = c.settle.new.self in
+    let settled = c.in_ok-settle.ensures.front a place resume is in
+    front_restarted a c.args.cells.now c.restart.new.cells f _ place resume c.in_ok-settle.ensures.visits (c.restart.ensures.all a.code.now settled.all) c.in_ok-target.ensures.waits
+    (subst (λ (code : Code). HasRow c.restart.new.cells.rows.lists.items c.in_ok-target.target.begun (ways_of c.args.cells.now f ++ code.start ∷ [])) (sym same) c.in_ok-target.ensures.opens)
+    refl refl settled

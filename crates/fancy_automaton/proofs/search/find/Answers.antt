@@ -1,0 +1,57 @@
+use Rattle.std.proofs.Common.{◌≡◌, ℕ, ◌+◌, ◌-◌, ◌∙◌, Bool, List, Option, Some, None, sym, ap, ap₂, subst, arith, option_map, refl, replicate}
+use Rattle.fancy_input.specs.declared.span.Span.{Span}
+use Rattle.std.specs.Prelude.{min, if◌then◌else◌}
+use Rattle.fancy_input.specs.Requests.{positions, effective_start}
+use Rattle.fancy_engine.specs.Queries.{query_of, unfiltered, answer_with}
+use Rattle.fancy_engine.specs.Reading.{search_context}
+use Rattle.fancy_engine.specs.Search.{answer_from, search}
+use Rattle.fancy_engine.specs.Seen.{NoneMayStart}
+use Rattle.fancy_engine.specs.declared.reading.SuppressedEnds.{SuppressedEnds}
+use Rattle.fancy_engine.specs.declared.runner.Attempt.{Attempt}
+use Rattle.fancy_engine.proofs.RunnerSearch.{positions_none, search_over}
+use Rattle.fancy_automaton.specs.Search.{ends_in, ends_of}
+use Rattle.fancy_automaton.proofs.AnswerLemmas.{IsWhole, Deep, begun, found_by_ends, whole_is, leftmost_is, starts_none}
+use Rattle.fancy_automaton.proofs.SteadyLemmas.{steady}
+use Rattle.fancy_automaton.proofs.search.find.Goals as goal
+
+pub returns-then-first-request-clause-answer : goal.returns-then-first-request-clause-answer
+returns-then-first-request-clause-answer c p on is =
+    sym (search_over (query_of p c.args.code.now (unfiltered c.args.options) c.args.haystack.now c.args.request on) _ _
+    (positions_none c.args.request (omega (arith, c.effective_start-first.ensures))))
+
+pub find_span-requires-clause-steady : goal.find_span-requires-clause-steady
+find_span-requires-clause-steady c =
+    let a : Attempt = record { code = c.args.code; haystack = c.args.haystack; base = c.effective_start-first.result; last = c.args.request.range_end; on_boundaries = c.args.options.on_boundaries; suppressed = c.suppressed_ends.result } in
+    steady a c.requires.inside c.requires.reads
+
+pub returns-clause-answer : goal.returns-clause-answer
+returns-clause-answer c p on is =
+    let q = query_of p c.args.code.now (unfiltered c.args.options) c.args.haystack.now c.args.request on in
+    let first = c.effective_start-first.result in
+    let n = c.args.request.range_end + 1 - first in
+    let x = search_context c.args.haystack.now c.args.code.now.meaning c.suppressed_ends.result first in
+    let same = ap (λ (s : SuppressedEnds). search_context c.args.haystack.now c.args.code.now.meaning s first) c.suppressed_ends.ensures in
+    let plain = c.requires.plain in
+    let tried : positions c.args.request ≡ n =
+    ap (λ (b : Bool). if b then (min 1 (c.args.request.range_end + 1 - effective_start c.args.request)) else (c.args.request.range_end + 1 - effective_start c.args.request)) c.requires.free
+    ∙ ap (λ (k : ℕ). c.args.request.range_end + 1 - k) (sym c.effective_start-first.ensures) in
+    let all : answer_from q n first ≡ search q = ap₂ (answer_from q) (sym tried) c.effective_start-first.ensures in
+    let ends : option_map ends_in c.in_ok-found.found ≡ option_map ends_of (search q) =
+    c.in_ok-found.ensures.answer (Deep q c.args.code.now is refl refl refl refl c.requires.inside x (Some first) same plain) (record {
+      known = begun q c.args.code.now is refl refl refl refl c.requires.inside x (Some first) same plain;
+      starts = starts_none q c.args.code.now is refl refl refl refl c.requires.inside x (Some first) same plain (λ k. omega (arith, c.type_inv.haystack k));
+    })
+    ∙ leftmost_is q c.args.code.now is refl refl refl refl c.requires.inside x (Some first) same plain n first (omega arith)
+    ∙ ap (option_map ends_of) all in
+    let groups : List (Option Span) = replicate c.args.code.now.groups None in
+    ap (answer_with groups) c.found_by.ensures
+    ∙ found_by_ends groups c.in_ok-found.found (search q)
+    (subst (IsWhole groups) all (whole_is q c.args.code.now is refl refl refl refl c.requires.inside x (Some first) same plain n first (omega arith))) ends
+
+pub returns-clause-idle : goal.returns-clause-idle
+returns-clause-idle c none =
+    c.find_span.ensures.idle (subst (λ (k : ℕ). NoneMayStart c.args.code.now.start_bytes c.args.haystack.now c.args.request.range_end k (c.args.request.range_end + 1)) (sym c.effective_start-first.ensures) none)
+
+pub returns-in_err-found-clause-idle : goal.returns-in_err-found-clause-idle
+returns-in_err-found-clause-idle c none =
+    c.find_span.ensures.idle (subst (λ (k : ℕ). NoneMayStart c.args.code.now.start_bytes c.args.haystack.now c.args.request.range_end k (c.args.request.range_end + 1)) (sym c.effective_start-first.ensures) none)

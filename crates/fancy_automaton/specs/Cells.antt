@@ -1,0 +1,77 @@
+-- What an automaton remembers: rows of waiting instructions, and steps between them.
+use Rattle.std.specs.Prelude.{◌≡◌, ◌+◌, ◌≤◌, ℕ, length, List, [], ◌∷◌, ◌++◌, Option, None, Some, All, map, option_map, slice_get}
+use Rattle.std.specs.Global.{Vec}
+use Rattle.fancy_input.specs.declared.span.Span.{Span}
+use Rattle.fancy_engine.specs.declared.code.Code.{Code}
+use Rattle.fancy_engine.specs.Code.{instrs_of}
+use Rattle.fancy_engine.specs.declared.reading.Reading.{Reading}
+use Rattle.fancy_engine.specs.Reading.{unit_read}
+use Rattle.fancy_automaton.specs.declared.way.Way.{Way}
+use Rattle.fancy_automaton.specs.declared.cells.Cell.{Cell}
+use Rattle.fancy_automaton.specs.declared.cells.Cells.{Cells}
+use Rattle.fancy_automaton.specs.Steps.{IsStep, at_of, from_of}
+
+abbrev pub items_or : Option (Vec ℕ) → List ℕ
+items_or None = []
+items_or (Some v) = v.items
+
+-- the instructions of a row
+abbrev pub ways_at : List (Vec ℕ) → ℕ → List ℕ
+ways_at rows r = items_or (slice_get rows r)
+
+-- each row stays what it is
+abbrev pub KeepsRows : List (Vec ℕ) → List (Vec ℕ) → Type 0
+KeepsRows rows later = (r : ℕ) (v : Vec ℕ) → slice_get rows r ≡ Some v → slice_get later r ≡ Some v
+
+-- each step that is remembered stays what it is
+abbrev pub KeepsCells : List Cell → List Cell → Type 0
+KeepsCells cells later = (k : ℕ) (c : Cell) → slice_get cells k ≡ Some c → slice_get later k ≡ Some c
+
+-- the row with this number has these instructions
+abbrev pub HasRow : List (Vec ℕ) → ℕ → List ℕ → Type 0
+HasRow rows r ways = (v : Vec ℕ) × (slice_get rows r ≡ Some v) × (v.items ≡ ways)
+
+-- the step from a row on what is read, which leads to these ways in order
+pub record IsCell (code : Code) (rows : List (Vec ℕ)) (row : ℕ) (reading : Option Reading) (next begun : ℕ) (came : List ℕ) (matched : Option ℕ) : Type 0 where
+  pub ways : List ℕ
+  pub after : List Way
+  pub source : HasRow rows row ways
+  pub leads : HasRow rows next (map at_of after)
+  -- with one more way, which begins there
+  pub opens : HasRow rows begun (map at_of after ++ code.start ∷ [])
+  pub comes : came ≡ map from_of after
+  pub step : IsStep (instrs_of code) ways (option_map unit_read reading) after matched
+  pub halts : reading ≡ None → after ≡ []
+
+abbrev pub IsCellOf : Code → List (Vec ℕ) → Cell → Type 0
+IsCellOf code rows c = IsCell code rows c.row c.reading c.next c.begun c.came.items c.matched
+
+-- all that is remembered is true of the code
+abbrev pub IsFor : Cells → Code → Type 0
+IsFor a code = All (IsCellOf code a.rows.lists.items) a.cells.items
+
+-- the step with this number is from this row on what is read
+abbrev pub HasCell : List Cell → ℕ → ℕ → Option Reading → Type 0
+HasCell cells k row reading = (c : Cell) × (slice_get cells k ≡ Some c) × (c.row ≡ row) × (c.reading ≡ reading)
+
+-- the row of a place: where nothing was found, one more way begins there
+abbrev pub row_if : Option Span → ℕ → ℕ → ℕ
+row_if None next begun = begun
+row_if (Some s) next begun = next
+
+-- how many rows and steps are kept at most
+abbrev pub most_rows : ℕ
+most_rows = 32_768
+
+abbrev pub most_cells : ℕ
+most_cells = 16_384
+
+-- no more is remembered than that
+pub record IsWithin (a : Cells) : Type 0 where
+  pub rows : length a.rows.lists.items ≤ most_rows
+  pub cells : length a.cells.items ≤ most_cells
+
+-- and one more step with its two rows is not too much
+pub record HasPlace (a : Cells) : Type 0 where
+  pub rows : length a.rows.lists.items + 2 ≤ most_rows
+  pub cells : length a.cells.items + 1 ≤ most_cells

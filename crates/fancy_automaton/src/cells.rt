@@ -1,0 +1,438 @@
+//! What an automaton remembers: steps that were computed, each of them true of the code.
+
+ghost use Rattle.std.specs.Prelude.{◌≡◌, ◌+◌, ◌-◌, ◌++◌, ◌∷◌, [], ◌<◌, ◌≤◌, ℕ, List, Option, None, true, IfOk, IfSome, map, min, length, option_map, take};
+ghost use Rattle.fancy_engine.specs.Code.{instrs_of, code_len};
+ghost use Rattle.fancy_engine.specs.Reading.{unit_read};
+ghost use Rattle.fancy_engine.specs.Work.{steps_of, returns_of};
+ghost use Rattle.fancy_engine.specs.declared.code.Code.{Code};
+ghost use Rattle.fancy_automaton.specs.Steps.{IsStep, at_of, from_of};
+ghost use Rattle.fancy_automaton.specs.Trail.{came_at};
+ghost use Rattle.fancy_automaton.specs.Cells.{KeepsRows, KeepsCells, HasRow, HasCell, HasPlace, IsFor, IsCell, IsWithin, ways_at};
+
+use crate::hints::Hints;
+use crate::join::joined;
+use crate::rows::{Rows, Target, are_same, copied, intern, intern_one, target_of};
+use crate::step::{Step, step_from};
+use crate::way::Way;
+use fancy_engine::code::Code;
+use fancy_engine::reading::Reading;
+use fancy_engine::work::Work;
+use std::alloc::{AllocError, Global};
+
+/// A step from a row of waiting instructions on what is read there.
+#[derive(Drop)]
+pub struct Cell {
+    /// The number of the row.
+    pub row: usize,
+    /// What is read; `None` where the haystack, or what is searched of it, ends.
+    pub reading: Option<Reading>,
+    /// The row after what is read.
+    pub next: usize,
+    /// That row with one more way, which begins there.
+    pub begun: usize,
+    /// Of each way of that row, the number of the way that it comes from.
+    pub came: Vec<usize>,
+    /// The number of the way from which one ended with an outcome.
+    pub matched: Option<usize>,
+}
+
+/// The most rows that are kept. A search for a thousand words makes some thousand.
+pub const ROWS: usize = 32_768;
+
+/// The most steps that are kept, of some 100 bytes each, so 1.6 MB, without the ways that they lead to.
+pub const CELLS: usize = 16_384;
+
+/// Once the rows and the steps have so many numbers together, of 8 bytes each, so 32 MB, they are forgotten before the next
+/// step is computed.
+pub const HELD: usize = 4_194_304;
+
+/// Rows of waiting instructions, and steps between them. A row has each instruction in order of preference. Where a step
+/// is kept is a mere hint: what it leads to is tested.
+#[derive(Drop)]
+pub struct Cells {
+    /// Where the memory comes from.
+    pub alloc: Global,
+    /// The rows.
+    pub rows: Rows,
+    /// The steps.
+    pub cells: Vec<Cell>,
+    /// The numbers of steps, by their row and what is read.
+    pub hints: Hints,
+    /// The number of the row of the first instruction alone, where it is one; that is tested.
+    pub alone: usize,
+    /// How many ways all steps lead to together.
+    pub held: usize,
+    /// The place where the last search stopped reading, a byte offset.
+    pub reached: usize,
+    /// How many steps were computed since the cells were made, as far as the number goes.
+    pub computed: usize,
+}
+
+impl Cells {
+    ghost use Rattle.std.specs.Prelude.{false};
+
+    /// Nothing is remembered.
+    pub fn new(alloc: Global) -> Cells
+        ensures rows { result.rows.lists.items ≡ [] }
+        ensures cells { result.cells.items ≡ [] }
+        ensures within { IsWithin result }
+    {
+        Cells {
+            alloc,
+            rows: Rows::new(alloc),
+            cells: Vec::new(alloc),
+            hints: Hints::new(alloc),
+            alone: 0,
+            held: 0,
+            reached: 0,
+            computed: 0,
+        }
+    }
+
+    /// The place where the last search stopped reading, a byte offset.
+    pub fn reached(&self) -> usize {
+        self.reached
+    }
+
+    /// How many steps were computed since the cells were made, as far as the number goes.
+    pub fn computed(&self) -> usize {
+        self.computed
+    }
+
+    /// Whether one more step may be one too many.
+    pub fn is_full(&self) -> bool
+        requires { IsWithin self.now }
+        ensures { result ≡ false → HasPlace self.now }
+    {
+        self.rows.lists.len() > ROWS - 2
+            || self.cells.len() >= CELLS
+            || self.rows.held.saturating_add(self.held) >= HELD
+    }
+
+    /// Forgets all, so that another code may be searched for. Hints that are left name nothing, or a later step, which is
+    /// tested.
+    pub fn clear(&mut self)
+        ensures rows { self.new.rows.lists.items ≡ [] }
+        ensures cells { self.new.cells.items ≡ [] }
+        ensures place { HasPlace self.new }
+        ensures kept { IsWithin self.new }
+        ensures all { (code : Code) → IsFor self.new code }
+    {
+        self.rows.clear();
+        self.cells.clear();
+        self.held = 0;
+    }
+
+    /// Forgets all where one more step may be one too many.
+    pub fn make_place(&mut self)
+        requires { IsWithin self.old }
+        ensures all { (code : Code) → IsFor self.old code → IsFor self.new code }
+        ensures place { HasPlace self.new }
+    {
+        if !self.is_full() {
+            return;
+        }
+        self.clear();
+    }
+}
+
+/// The numbers of the ways that they come from.
+fn origins(alloc: Global, next: &[Way]) -> Result<Vec<usize>, AllocError>
+    ensures { IfOk result (λ came. came.items ≡ map from_of next.now) }
+{
+    let mut came = Vec::new(alloc);
+    for way in next {
+        came.push(way.from)?;
+    }
+    Ok(came)
+}
+
+/// Puts a step from a row on what is read among the steps, with the rows that it leads to.
+fn computed(
+    alloc: Global,
+    code: &Code,
+    rows: &mut Rows,
+    row: usize,
+    reading: Option<Reading>,
+    step: Step,
+) -> Result<Cell, AllocError>
+    requires row { row < length rows.old.lists.items }
+    requires step { IsStep (instrs_of code.now) (ways_at rows.old.lists.items row) (option_map unit_read reading)
+        step.next.items step.matched }
+    requires halts { reading ≡ None → step.next.items ≡ [] }
+    ensures kept { KeepsRows rows.old.lists.items rows.new.lists.items }
+    ensures more { length rows.new.lists.items ≤ length rows.old.lists.items + 2 }
+    ensures from { IfOk result (λ c. c.row ≡ row) }
+    ensures on { IfOk result (λ c. c.reading ≡ reading) }
+    ensures cell { IfOk result (λ c. IsCell code.now rows.new.lists.items row reading c.next c.begun c.came.items
+        c.matched) }
+    ensures ways { IfOk result (λ c. length c.came.items ≡ length step.next.items) }
+{
+    let came = origins(alloc, &step.next)?;
+    let target = target_of(alloc, rows, code.start, &step.next)?;
+    Ok(Cell {
+        row,
+        reading,
+        next: target.next,
+        begun: target.begun,
+        came,
+        matched: step.matched,
+    })
+}
+
+/// The key of the step from a row on what is read.
+#[inline]
+fn cell_key(row: usize, reading: Option<Reading>) -> usize {
+    let code = match reading {
+        None => 0,
+        Some(reading) => reading.code as usize,
+    };
+    row.wrapping_mul(97).wrapping_add(code)
+}
+
+/// Whether the same is read.
+fn is_same_reading(a: Option<Reading>, b: Option<Reading>) -> bool
+    ensures { result ≡ true → a ≡ b }
+{
+    match (a, b) {
+        (None, None) => true,
+        (Some(a), Some(b)) => a.code == b.code && a.width == b.width,
+        _ => false,
+    }
+}
+
+/// The step that a hint names, if it is from this row on what is read.
+#[inline]
+fn tested_cell(
+    cells: &[Cell],
+    hint: Option<usize>,
+    row: usize,
+    reading: Option<Reading>,
+) -> Option<usize>
+    ensures { IfSome result (λ k. HasCell cells.now k row reading) }
+{
+    let k = hint?;
+    if k >= cells.len() {
+        return None;
+    }
+    let cell = &cells[k];
+    if cell.row != row {
+        return None;
+    }
+    if !is_same_reading(cell.reading, reading) {
+        return None;
+    }
+    Some(k)
+}
+
+/// The number of the step from a row on what is read, if a hint leads to it.
+#[inline]
+pub fn remembered(cells: &Cells, row: usize, reading: Option<Reading>) -> Option<usize>
+    ensures { IfSome result (λ k. HasCell cells.now.cells.items k row reading) }
+{
+    let key = cell_key(row, reading);
+    match tested_cell(&cells.cells, cells.hints.first(key), row, reading) {
+        Some(k) => Some(k),
+        None => tested_cell(&cells.cells, cells.hints.second(key), row, reading),
+    }
+}
+
+/// Leaves hints for all steps.
+fn hint_all(hints: &mut Hints, cells: &[Cell]) {
+    for k in 0..cells.len() {
+        let cell = &cells[k];
+        hints.leave(cell_key(cell.row, cell.reading), k);
+    }
+}
+
+/// Leaves a hint for a step, in a larger table where this one is too small.
+fn hint_cell(
+    alloc: Global,
+    hints: &mut Hints,
+    cells: &[Cell],
+    key: usize,
+    cell: usize,
+) -> Result<(), AllocError> {
+    if !hints.is_small(cells.len()) {
+        hints.leave(key, cell);
+        return Ok(());
+    }
+    hints.widen(alloc)?;
+    hint_all(hints, cells);
+    Ok(())
+}
+
+/// Whether the row of the first instruction alone is where it is looked for.
+fn has_alone(code: &Code, cells: &Cells) -> bool
+    ensures { result ≡ true → HasRow cells.now.rows.lists.items cells.now.alone (code.now.start ∷ []) }
+{
+    match cells.rows.lists.get(cells.alone) {
+        None => false,
+        Some(ways) => are_same(ways, &[code.start]),
+    }
+}
+
+/// The number of the step of the way that begins, where that is the last of these ways, there are others before it, and what it
+/// does by itself on what is read is remembered.
+fn begun_cell(code: &Code, cells: &Cells, ways: &[usize], reading: Option<Reading>) -> Option<usize>
+    ensures more { IfSome result (λ _. 0 < length ways.now) }
+    ensures last { IfSome result (λ _. ways.now ≡ take (length ways.now - 1) ways.now ++ code.now.start ∷ []) }
+    ensures alone { IfSome result (λ _. HasRow cells.now.rows.lists.items cells.now.alone (code.now.start ∷ [])) }
+    ensures cell { IfSome result (λ k. HasCell cells.now.cells.items k cells.now.alone reading) }
+{
+    if ways.len() < 2 {
+        return None;
+    }
+    if ways[ways.len() - 1] != code.start {
+        return None;
+    }
+    if !has_alone(code, cells) {
+        return None;
+    }
+    let k = remembered(cells, cells.alone, reading)?;
+    Some(k)
+}
+
+/// Counts steps until there are so many, as far as the number goes.
+fn count_up(work: &mut Work, wanted: usize)
+    ensures steps { steps_of work.old ≤ steps_of work.new }
+    ensures bounded { (most : ℕ) → steps_of work.old ≤ most → wanted ≤ most → steps_of work.new ≤ most }
+    ensures counted { wanted ≤ steps_of work.new }
+    ensures returns { returns_of work.new ≡ returns_of work.old }
+{
+    for step in work.steps()..wanted {
+        work.count_step_within();
+    }
+}
+
+/// Computes the step from some ways, and one more that begins after them, by that of the one more, which is remembered. Each way
+/// that it leads to costs a step at least.
+fn step_begun(
+    code: &Code,
+    cells: &Cells,
+    ways: &[usize],
+    begun: &Cell,
+    reading: Option<Reading>,
+    work: &mut Work,
+) -> Result<Step, AllocError>
+    requires next { begun.now.next < length cells.now.rows.lists.items }
+    ensures step { IfOk result (λ s. (start : ℕ) (after : List Way)
+        → IsStep (instrs_of code.now) (start ∷ []) (option_map unit_read reading) after begun.now.matched
+        → HasRow cells.now.rows.lists.items begun.now.next (map at_of after)
+        → IsStep (instrs_of code.now) (ways.now ++ start ∷ []) (option_map unit_read reading) s.next.items s.matched) }
+    ensures halts { IfOk result (λ s. reading ≡ None → HasRow cells.now.rows.lists.items begun.now.next []
+        → s.next.items ≡ []) }
+    ensures steps { steps_of work.old ≤ steps_of work.new }
+    ensures bounded { steps_of work.new ≤ steps_of work.old + code_len code.now }
+    ensures counted { IfOk result (λ s. steps_of work.new < usize.MAX
+        → min (length s.next.items) (code_len code.now) + steps_of work.old ≤ steps_of work.new) }
+    ensures returns { returns_of work.new ≡ returns_of work.old }
+{
+    let before = work.steps();
+    let first = step_from(cells.alloc, code, ways, reading, work)?;
+    let ats = &cells.rows.lists[begun.next];
+    let step = joined(cells.alloc, code, ways.len(), first, ats, begun.matched)?;
+    count_up(work, before.saturating_add(step.next.len().min(code.len())));
+    Ok(step)
+}
+
+/// Computes the step from a row on what is read. Where the step of the way that begins there is remembered, only the others
+/// are followed. Each instruction is fetched once at most, and each way that the step leads to costs a step at least.
+fn step_of(
+    code: &Code,
+    cells: &Cells,
+    row: usize,
+    reading: Option<Reading>,
+    work: &mut Work,
+) -> Result<Step, AllocError>
+    requires row { row < length cells.now.rows.lists.items }
+    requires all { IsFor cells.now code.now }
+    ensures step { IfOk result (λ s. IsStep (instrs_of code.now) (ways_at cells.now.rows.lists.items row)
+        (option_map unit_read reading) s.next.items s.matched) }
+    ensures halts { IfOk result (λ s. reading ≡ None → s.next.items ≡ []) }
+    ensures steps { steps_of work.old ≤ steps_of work.new }
+    ensures bounded { steps_of work.new ≤ steps_of work.old + code_len code.now }
+    ensures counted { IfOk result (λ s. steps_of work.new < usize.MAX
+        → min (length s.next.items) (code_len code.now) + steps_of work.old ≤ steps_of work.new) }
+    ensures returns { returns_of work.new ≡ returns_of work.old }
+{
+    let ways = cells.rows.lists[row].as_slice();
+    match begun_cell(code, cells, ways, reading) {
+        None => {
+            let step = step_from(cells.alloc, code, ways, reading, work)?;
+            Ok(step)
+        }
+        Some(k) => {
+            let others = &ways[..ways.len() - 1];
+            let step = step_begun(code, cells, others, &cells.cells[k], reading, work)?;
+            Ok(step)
+        }
+    }
+}
+
+/// The number of the step from a row on what is read: one that is remembered, or else it is computed. What is computed
+/// is counted in `work`: each way that it leads to costs a step at least.
+pub fn step_at(
+    code: &Code,
+    cells: &mut Cells,
+    row: usize,
+    reading: Option<Reading>,
+    work: &mut Work,
+) -> Result<usize, AllocError>
+    requires row { row < length cells.old.rows.lists.items }
+    requires place { HasPlace cells.old }
+    requires all { IsFor cells.old code.now }
+    ensures within { IsWithin cells.new }
+    ensures all { IsFor cells.new code.now }
+    ensures kept { KeepsRows cells.old.rows.lists.items cells.new.rows.lists.items }
+    ensures grown { KeepsCells cells.old.cells.items cells.new.cells.items }
+    ensures cell { IfOk result (λ k. HasCell cells.new.cells.items k row reading) }
+    ensures steps { steps_of work.old ≤ steps_of work.new }
+    ensures bounded { steps_of work.new ≤ steps_of work.old + code_len code.now }
+    ensures counted { IfOk result (λ k. length cells.old.cells.items < length cells.new.cells.items
+        → steps_of work.new < usize.MAX
+        → min (length (came_at cells.new.cells.items k)) (code_len code.now) + steps_of work.old ≤ steps_of work.new) }
+    ensures returns { returns_of work.new ≡ returns_of work.old }
+{
+    if let Some(k) = remembered(cells, row, reading) {
+        return Ok(k);
+    }
+    let step = step_of(code, cells, row, reading, work)?;
+    let cell = computed(cells.alloc, code, &mut cells.rows, row, reading, step)?;
+    let k = cells.cells.len();
+    cells.computed = cells.computed.saturating_add(1);
+    cells.held = cells.held.saturating_add(cell.came.len());
+    cells.cells.push(cell)?;
+    hint_cell(
+        cells.alloc,
+        &mut cells.hints,
+        &cells.cells,
+        cell_key(row, reading),
+        k,
+    )?;
+    Ok(k)
+}
+
+/// Forgets all rows and steps but the row with this number, which is two rows then: its own, and that with one more way,
+/// which begins at `start`.
+pub fn restart(cells: &mut Cells, start: usize, row: usize) -> Result<Target, AllocError>
+    requires row { row < length cells.old.rows.lists.items }
+    requires within { IsWithin cells.old }
+    ensures all { (code : Code) → IsFor cells.old code → IsFor cells.new code }
+    ensures waits { IfOk result (λ t. HasRow cells.new.rows.lists.items t.next
+        (ways_at cells.old.rows.lists.items row)) }
+    ensures opens { IfOk result (λ t. HasRow cells.new.rows.lists.items t.begun
+        (ways_at cells.old.rows.lists.items row ++ start ∷ [])) }
+    ensures within { IsWithin cells.new }
+    ensures place { IfOk result (λ _. HasPlace cells.new) }
+{
+    let ways = copied(cells.alloc, &cells.rows.lists[row])?;
+    let mut more = copied(cells.alloc, &ways)?;
+    more.push(start)?;
+    cells.clear();
+    let alone = intern_one(cells.alloc, &mut cells.rows, start)?;
+    cells.alone = alone;
+    let next = intern(cells.alloc, &mut cells.rows, ways)?;
+    let begun = intern(cells.alloc, &mut cells.rows, more)?;
+    Ok(Target { next, begun })
+}

@@ -1,0 +1,447 @@
+//! How far a search has come, and the step to the next place.
+
+ghost use Rattle.std.specs.Prelude.{◌≡◌, ◌+◌, ◌<◌, ◌≤◌, ℕ, true, [], Some, OnOk, IfOk, IfSome, is_some, length, option_map};
+ghost use Rattle.fancy_engine.specs.Attempt.{context_in, instrs_in, may_end_in};
+ghost use Rattle.fancy_engine.specs.Code.{code_len};
+ghost use Rattle.fancy_engine.specs.Reading.{unit_read};
+ghost use Rattle.fancy_engine.specs.Seen.{MayStart};
+ghost use Rattle.fancy_engine.specs.Work.{steps_of, returns_of};
+ghost use Rattle.fancy_engine.specs.declared.code.Code.{Code};
+ghost use Rattle.fancy_engine.specs.declared.runner.Attempt.{Attempt};
+ghost use Rattle.fancy_automaton.specs.Cells.{HasPlace, IsFor, IsWithin};
+ghost use Rattle.fancy_automaton.specs.Trail.{HitIn, most_visits};
+ghost use Rattle.fancy_automaton.specs.Front.{IsFront, ways_of, found_of};
+ghost use Rattle.fancy_automaton.specs.Futures.{ArePlain, unit_by, place_after};
+ghost use Rattle.fancy_automaton.specs.Search.{Steady};
+
+use crate::cells::{Cells, remembered, restart, step_at};
+use crate::rows::target_of;
+use crate::trail::{
+    Hit, Trail, VISITS, Visit, hit_by, note_hit, row_at, settled, span_of, start_at, starts_in,
+};
+use fancy_engine::code::Code;
+use fancy_engine::options::is_match_boundary;
+use fancy_engine::reading::{Reading, read_at};
+use fancy_engine::runner::Attempt;
+use fancy_engine::search::next_candidate;
+use fancy_engine::work::Work;
+use fancy_input::span::Span;
+use std::alloc::AllocError;
+
+/// How far a search has come: the ways that wait at the next place, and what was found so far.
+#[derive(Drop)]
+pub struct Front {
+    /// The row of the ways that wait.
+    pub next: usize,
+    /// That row with one more way, which begins there.
+    pub begun: usize,
+    /// The steps that were taken.
+    pub trail: Trail,
+    /// The match that was found, to which only the ways that wait are preferred.
+    pub hit: Option<Hit>,
+}
+
+impl Front {
+    ghost use Rattle.std.specs.Prelude.{None, false, ◌∷◌, ◌++◌, ◌≢◌};
+    ghost use Rattle.fancy_automaton.specs.Cells.{HasRow};
+
+    /// Before the first place: no way waits, and nothing was found.
+    pub fn new(code: &Code, cells: &mut Cells) -> Result<Front, AllocError>
+        requires within { IsWithin cells.old }
+        requires all { IsFor cells.old code.now }
+        ensures within { IsWithin cells.new }
+        ensures all { IsFor cells.new code.now }
+        ensures waits { IfOk result (λ f. HasRow cells.new.rows.lists.items f.next []) }
+        ensures opens { IfOk result (λ f. HasRow cells.new.rows.lists.items f.begun (code.now.start ∷ [])) }
+        ensures base { IfOk result (λ f. f.trail.base.items ≡ []) }
+        ensures visits { IfOk result (λ f. f.trail.visits.items ≡ []) }
+        ensures hit { IfOk result (λ f. f.hit ≡ None) }
+    {
+        cells.make_place();
+        let origin = target_of(cells.alloc, &mut cells.rows, code.start, &[])?;
+        cells.alone = origin.begun;
+        Ok(Front {
+            next: origin.next,
+            begun: origin.begun,
+            trail: Trail::new(cells.alloc),
+            hit: None,
+        })
+    }
+
+    /// Whether some way waits.
+    fn has_waiting(&self, cells: &Cells) -> bool
+        requires { self.now.next < length cells.now.rows.lists.items }
+        ensures none { result ≡ false → ways_of cells.now self.now ≡ [] }
+        ensures some { result ≡ true → ways_of cells.now self.now ≢ [] }
+    {
+        cells.rows.lists[self.next].len() > 0
+    }
+
+    /// Whether the search is over before the last place: something was found, and no way waits.
+    pub fn is_over(&self, cells: &Cells) -> bool
+        requires row { self.now.next < length cells.now.rows.lists.items }
+        ensures found { result ≡ true → is_some self.now.hit ≡ true }
+        ensures over { result ≡ true → ways_of cells.now self.now ≡ [] }
+    {
+        if self.hit.is_none() {
+            return false;
+        }
+        !self.has_waiting(cells)
+    }
+
+    /// Ends a search that stops reading at a place, a byte offset: what it found.
+    pub fn end(&self, cells: &mut Cells, place: usize) -> Option<Span>
+        requires hits { HitIn self.now.trail.visits.items self.now.hit }
+        ensures found { result ≡ found_of cells.old self.now }
+        ensures kept { IsWithin cells.old → IsWithin cells.new }
+        ensures all { (code : Code) → IsFor cells.old code → IsFor cells.new code }
+    {
+        cells.reached = place;
+        span_of(&cells.cells, &self.trail, self.hit)
+    }
+
+    /// Forgets the trail: where the ways began that wait, and the match that was found, is read from it first.
+    fn settle(&mut self, cells: &Cells) -> Result<(), AllocError>
+        requires hits { HitIn self.old.trail.visits.items self.old.hit }
+        ensures row { self.new.next ≡ self.old.next }
+        ensures visits { OnOk result (self.new.trail.visits.items ≡ []) }
+        ensures front { OnOk result ((a : Attempt) (place resume : ℕ)
+            → IsFront a cells.now self.old place resume → IsFront a cells.now self.new place resume) }
+    {
+        let starts = starts_in(cells.alloc, &cells.cells, &self.trail)?;
+        self.hit = settled(&cells.cells, &self.trail, self.hit);
+        self.trail.base = starts;
+        self.trail.visits.clear();
+        Ok(())
+    }
+
+    /// Forgets a trail that is as long as it may be.
+    fn shorten(&mut self, cells: &Cells) -> Result<(), AllocError>
+        requires hits { HitIn self.old.trail.visits.items self.old.hit }
+        ensures visits { OnOk result (length self.new.trail.visits.items < most_visits) }
+        ensures front { OnOk result ((a : Attempt) (place resume : ℕ)
+            → IsFront a cells.now self.old place resume → IsFront a cells.now self.new place resume) }
+    {
+        if self.trail.visits.len() < VISITS {
+            return Ok(());
+        }
+        self.settle(cells)
+    }
+
+    /// Forgets all but the row of the ways that wait, where one more step may be one too many.
+    fn make_place(&mut self, code: &Code, cells: &mut Cells) -> Result<(), AllocError>
+        requires row { self.old.next < length cells.old.rows.lists.items }
+        requires hits { HitIn self.old.trail.visits.items self.old.hit }
+        requires within { IsWithin cells.old }
+        requires all { IsFor cells.old code.now }
+        ensures all { IsFor cells.new code.now }
+        ensures within { IsWithin cells.new }
+        ensures place { OnOk result (HasPlace cells.new) }
+        ensures visits { OnOk result (length self.old.trail.visits.items < most_visits
+            → length self.new.trail.visits.items < most_visits) }
+        ensures front { OnOk result ((a : Attempt) (place resume : ℕ) → a.code.now ≡ code.now
+            → IsFront a cells.old self.old place resume → IsFront a cells.new self.new place resume) }
+    {
+        if !cells.is_full() {
+            return Ok(());
+        }
+        self.settle(cells)?;
+        let target = restart(cells, code.start, self.next)?;
+        self.next = target.next;
+        self.begun = target.begun;
+        Ok(())
+    }
+
+    /// Forgets the trail where nothing was found and no way waits: no step of it is asked any more.
+    fn forget_idle(&mut self, cells: &Cells)
+        requires row { self.old.next < length cells.now.rows.lists.items }
+        ensures visits { length self.new.trail.visits.items ≤ length self.old.trail.visits.items }
+        ensures front { (a : Attempt) (place resume : ℕ)
+            → IsFront a cells.now self.old place resume → IsFront a cells.now self.new place resume }
+    {
+        if self.hit.is_some() {
+            return;
+        }
+        if self.has_waiting(cells) {
+            return;
+        }
+        self.trail.clear();
+    }
+
+    /// Takes the step at a place, where a way begins unless something was found. The answer is the place where the ways wait
+    /// then, a byte offset.
+    fn step(
+        &mut self,
+        attempt: &Attempt,
+        cells: &mut Cells,
+        place: usize,
+        work: &mut Work,
+    ) -> Result<usize, AllocError>
+        requires within { place ≤ attempt.now.last }
+        requires inside { attempt.now.last ≤ length attempt.now.haystack.now }
+        requires plain { ArePlain (instrs_in attempt.now) }
+        requires steady { Steady attempt.now }
+        requires good { may_end_in attempt.now place ≡ true }
+        requires place { HasPlace cells.old }
+        requires visits { length self.old.trail.visits.items < most_visits }
+        requires front { IsFront attempt.now cells.old self.old place place }
+        ensures front { IfOk result (λ resume. IsFront attempt.now cells.new self.new (place + 1) resume) }
+        ensures ends { IfOk result (λ resume. resume ≤ attempt.now.last + 1) }
+        ensures visits { IfOk result (λ _. length self.new.trail.visits.items ≤ most_visits) }
+        ensures within { IsWithin cells.new }
+        ensures all { IsFor cells.new attempt.now.code.now }
+        ensures steps { steps_of work.old ≤ steps_of work.new }
+        ensures bounded { steps_of work.new ≤ steps_of work.old + code_len attempt.now.code.now }
+        ensures returns { returns_of work.new ≡ returns_of work.old }
+    {
+        let row = row_at(self.hit, self.next, self.begun);
+        let start = start_at(self.hit, place);
+        let reading = reading_at(attempt, place);
+        let k = step_at(attempt.code, cells, row, reading, work)?;
+        let cell = &cells.cells[k];
+        self.hit = hit_by(self.hit, cell.matched, self.trail.visits.len(), place);
+        self.next = cell.next;
+        self.begun = cell.begun;
+        self.trail.visits.push(Visit { cell: k, start })?;
+        Ok(place_after(place, reading, attempt.last))
+    }
+
+    /// Takes the step at a place, with room for it made before, and what is not asked any more forgotten after it. The answer is
+    /// the place where the ways wait then, a byte offset.
+    fn advance(
+        &mut self,
+        attempt: &Attempt,
+        cells: &mut Cells,
+        place: usize,
+        work: &mut Work,
+    ) -> Result<usize, AllocError>
+        requires within { place ≤ attempt.now.last }
+        requires inside { attempt.now.last ≤ length attempt.now.haystack.now }
+        requires plain { ArePlain (instrs_in attempt.now) }
+        requires steady { Steady attempt.now }
+        requires good { may_end_in attempt.now place ≡ true }
+        requires kept { IsWithin cells.old }
+        requires front { IsFront attempt.now cells.old self.old place place }
+        ensures front { IfOk result (λ resume. IsFront attempt.now cells.new self.new (place + 1) resume) }
+        ensures ends { IfOk result (λ resume. resume ≤ attempt.now.last + 1) }
+        ensures visits { IfOk result (λ _. length self.new.trail.visits.items ≤ most_visits) }
+        ensures kept { IsWithin cells.new }
+        ensures all { IsFor cells.new attempt.now.code.now }
+        ensures steps { steps_of work.old ≤ steps_of work.new }
+        ensures bounded { steps_of work.new ≤ steps_of work.old + code_len attempt.now.code.now }
+        ensures returns { returns_of work.new ≡ returns_of work.old }
+    {
+        self.shorten(cells)?;
+        self.make_place(attempt.code, cells)?;
+        let resume = self.step(attempt, cells, place, work)?;
+        self.forget_idle(cells);
+        Ok(resume)
+    }
+
+    /// Takes the step at a place on what is read there if it is remembered, and the trail has room for it. The answer is the
+    /// place where the ways wait then, a byte offset; it is the same place where no step was taken.
+    #[inline]
+    fn take(
+        &mut self,
+        attempt: &Attempt,
+        cells: &Cells,
+        place: usize,
+        reading: Option<Reading>,
+    ) -> Result<usize, AllocError>
+        requires within { place ≤ attempt.now.last }
+        requires plain { ArePlain (instrs_in attempt.now) }
+        requires steady { Steady attempt.now }
+        requires good { may_end_in attempt.now place ≡ true }
+        requires reading { option_map unit_read reading ≡ unit_by (context_in attempt.now) attempt.now.last place }
+        requires fits { IfSome reading (λ r. place + r.width ≤ attempt.now.last) }
+        requires small { attempt.now.last < usize.MAX }
+        requires front { IsFront attempt.now cells.now self.old place place }
+        ensures front { IfOk result (λ next. IsFront attempt.now cells.now self.new next next) }
+        ensures forth { IfOk result (λ next. place ≤ next) }
+        ensures ends { IfOk result (λ next. next ≤ attempt.now.last + 1) }
+        ensures visits { length self.old.trail.visits.items ≤ most_visits
+            → length self.new.trail.visits.items ≤ most_visits }
+    {
+        if self.trail.visits.len() >= VISITS {
+            return Ok(place);
+        }
+        let row = row_at(self.hit, self.next, self.begun);
+        let start = start_at(self.hit, place);
+        let Some(k) = remembered(cells, row, reading) else {
+            return Ok(place);
+        };
+        let cell = &cells.cells[k];
+        note_hit(&mut self.hit, cell.matched, self.trail.visits.len(), place);
+        self.next = cell.next;
+        self.begun = cell.begun;
+        self.trail.visits.push(Visit { cell: k, start })?;
+        Ok(place_after(place, reading, attempt.last))
+    }
+
+    /// Takes the step at a place if it is remembered, and the trail has room for it. The answer is the place where the ways
+    /// wait then, a byte offset; it is the same place where no step was taken. An ASCII character is looked for first.
+    #[inline]
+    fn glide(&mut self, attempt: &Attempt, cells: &Cells, place: usize) -> Result<usize, AllocError>
+        requires within { place ≤ attempt.now.last }
+        requires inside { attempt.now.last ≤ length attempt.now.haystack.now }
+        requires plain { ArePlain (instrs_in attempt.now) }
+        requires steady { Steady attempt.now }
+        requires good { may_end_in attempt.now place ≡ true }
+        requires front { IsFront attempt.now cells.now self.old place place }
+        ensures front { IfOk result (λ next. IsFront attempt.now cells.now self.new next next) }
+        ensures forth { IfOk result (λ next. place ≤ next) }
+        ensures ends { IfOk result (λ next. next ≤ attempt.now.last + 1) }
+        ensures visits { length self.old.trail.visits.items ≤ most_visits
+            → length self.new.trail.visits.items ≤ most_visits }
+    {
+        match ascii_at(attempt, place) {
+            Some(reading) => {
+                let next = self.take(attempt, cells, place, Some(reading))?;
+                Ok(next)
+            }
+            None => {
+                let next = self.take(attempt, cells, place, reading_at(attempt, place))?;
+                Ok(next)
+            }
+        }
+    }
+
+    /// Takes steps that are remembered, as long as some way waits. The answer is the place where the ways wait then, a byte
+    /// offset. What is read leads from a place where a match may begin and end to the next, so no place is tested on the way.
+    fn skim(&mut self, attempt: &Attempt, cells: &Cells, place: usize) -> Result<usize, AllocError>
+        requires within { place ≤ attempt.now.last }
+        requires inside { attempt.now.last ≤ length attempt.now.haystack.now }
+        requires plain { ArePlain (instrs_in attempt.now) }
+        requires steady { Steady attempt.now }
+        requires good { may_end_in attempt.now place ≡ true }
+        requires front { IsFront attempt.now cells.now self.old place place }
+        ensures front { IfOk result (λ next. IsFront attempt.now cells.now self.new next next) }
+        ensures forth { IfOk result (λ next. place ≤ next) }
+        ensures ends { IfOk result (λ next. next ≤ attempt.now.last + 1) }
+    {
+        let mut at = place;
+        'places: loop {
+            let next = self.glide(attempt, cells, at)?;
+            if next == at {
+                return Ok(at);
+            }
+            at = next;
+            if !self.has_waiting(cells) {
+                self.forget_idle(cells);
+                return Ok(at);
+            }
+        }
+    }
+
+    /// Goes past a place. The answer is the next place that is to be passed, a byte offset.
+    pub fn pass(
+        &mut self,
+        attempt: &Attempt,
+        cells: &mut Cells,
+        place: usize,
+        work: &mut Work,
+    ) -> Result<usize, AllocError>
+        requires within { place ≤ attempt.now.last }
+        requires inside { attempt.now.last ≤ length attempt.now.haystack.now }
+        requires plain { ArePlain (instrs_in attempt.now) }
+        requires steady { Steady attempt.now }
+        requires kept { IsWithin cells.old }
+        requires front { IsFront attempt.now cells.old self.old place place }
+        ensures front { IfOk result (λ next. IsFront attempt.now cells.new self.new next next) }
+        ensures forth { IfOk result (λ next. place < next) }
+        ensures ends { IfOk result (λ next. next ≤ attempt.now.last + 1) }
+        ensures kept { IsWithin cells.new }
+        ensures all { IsFor cells.new attempt.now.code.now }
+        ensures steps { steps_of work.old ≤ steps_of work.new }
+        ensures bounded { steps_of work.new ≤ steps_of work.old + code_len attempt.now.code.now }
+        ensures returns { returns_of work.new ≡ returns_of work.old }
+    {
+        if !is_match_boundary(attempt.on_boundaries, attempt.haystack, place) {
+            return Ok(place + 1);
+        }
+        let skimmed = self.skim(attempt, cells, place)?;
+        if skimmed > place {
+            return Ok(skimmed);
+        }
+        let resume = self.advance(attempt, cells, place, work)?;
+        Ok(resume)
+    }
+
+    /// The next place that is to be passed, from one on: where no way waits, one where a match may start by its first byte, or
+    /// past the last place where none may.
+    pub fn seek(&self, attempt: &Attempt, cells: &Cells, place: usize) -> usize
+        requires within { place ≤ attempt.now.last + 1 }
+        requires inside { attempt.now.last ≤ length attempt.now.haystack.now }
+        requires front { IsFront attempt.now cells.now self.now place place }
+        ensures front { IsFront attempt.now cells.now self.now result result }
+        ensures stands { ways_of cells.now self.now ≡ [] → result ≤ attempt.now.last
+            → MayStart attempt.now.code.now.start_bytes attempt.now.haystack.now attempt.now.last result }
+        ensures forth { place ≤ result }
+        ensures ends { result ≤ attempt.now.last + 1 }
+    {
+        if !self.has_waiting(cells) {
+            return next_candidate(
+                attempt.code,
+                attempt.haystack,
+                attempt.last,
+                place,
+                attempt.last,
+            );
+        }
+        place
+    }
+}
+
+/// What is read at a place, if it ends within what is searched.
+#[inline]
+fn reading_at(attempt: &Attempt, place: usize) -> Option<Reading>
+    ensures reading { option_map unit_read result ≡ unit_by (context_in attempt.now) attempt.now.last place }
+    ensures fits { IfSome result (λ r. place + r.width ≤ attempt.now.last) }
+{
+    match read_at(attempt.haystack, attempt.code.meaning, place) {
+        None => None,
+        Some(reading) => {
+            if place + reading.width <= attempt.last {
+                Some(reading)
+            } else {
+                None
+            }
+        }
+    }
+}
+
+/// What is read at a place, if that is an ASCII character within what is searched.
+#[inline]
+fn ascii_at(attempt: &Attempt, place: usize) -> Option<Reading>
+    requires inside { attempt.now.last ≤ length attempt.now.haystack.now }
+    ensures reading { IfSome result (λ r. Some (unit_read r)
+        ≡ unit_by (context_in attempt.now) attempt.now.last place) }
+    ensures fits { IfSome result (λ r. place + r.width ≤ attempt.now.last) }
+{
+    if place >= attempt.last {
+        return None;
+    }
+    let byte = attempt.haystack[place];
+    if byte >= 0x80 {
+        return None;
+    }
+    Some(Reading {
+        code: byte as u32,
+        width: 1,
+    })
+}
+
+/// The place after what is read; where nothing is, the next byte offset.
+#[inline]
+fn place_after(place: usize, reading: Option<Reading>, limit: usize) -> usize
+    requires more { place < usize.MAX }
+    requires fits { IfSome reading (λ r. place + r.width ≤ limit) }
+    requires within { place ≤ limit }
+    ensures after { result ≡ place_after place (option_map unit_read reading) }
+    ensures ends { result ≤ limit + 1 }
+{
+    match reading {
+        None => place + 1,
+        Some(reading) => place + reading.width,
+    }
+}

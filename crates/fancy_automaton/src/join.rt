@@ -1,0 +1,116 @@
+//! Steps are joined: that of some ways, and that of one more way after them, which begins at the place.
+//!
+//! The first way of all that has an end counts. So where one of the first ways ended with an outcome, the way that begins
+//! does not count; else the ways that it leads to are put after those of the others, but for each that was met before.
+
+ghost use Rattle.std.specs.Prelude.{◌≡◌, ◌+◌, ◌≤◌, [], ◌∷◌, ◌++◌, ℕ, List, Option, false, IfOk, OnOk, map, length};
+ghost use Rattle.fancy_engine.specs.Code.{code_len};
+ghost use Rattle.fancy_engine.specs.Context.{Unit_at};
+ghost use Rattle.fancy_engine.specs.Instructions.{Instruction};
+ghost use Rattle.fancy_automaton.specs.Steps.{IsStep, at_of};
+ghost use Rattle.fancy_automaton.specs.Joins.{Thinned, all_from, match_from};
+
+use crate::closure::is_first;
+use crate::step::Step;
+use crate::way::Way;
+use fancy_engine::code::Code;
+use fancy_engine::table::Table;
+use std::alloc::{AllocError, Global};
+
+/// Appends a way, unless its instruction has a mark, which it is given.
+fn add(code: &Code, way: Way, next: &mut Vec<Way>, marks: &mut Table) -> Result<(), AllocError>
+    requires room { length marks.old ≡ code_len code.now }
+    ensures thinned { OnOk result ((whole : List Way) → Thinned marks.old whole next.old.items
+        → Thinned marks.new (whole ++ way ∷ []) next.new.items) }
+    ensures more { OnOk result (length next.new.items ≤ length next.old.items + 1) }
+    ensures room { length marks.new ≡ length marks.old }
+{
+    if way.at >= code.len() {
+        next.push(way)?;
+        return Ok(());
+    }
+    if !is_first(marks, way.at) {
+        return Ok(());
+    }
+    next.push(way)?;
+    Ok(())
+}
+
+/// Appends ways, but for those whose instructions have a mark.
+fn add_all(
+    code: &Code,
+    ways: &[Way],
+    next: &mut Vec<Way>,
+    marks: &mut Table,
+) -> Result<(), AllocError>
+    requires room { length marks.old ≡ code_len code.now }
+    ensures thinned { OnOk result ((whole : List Way) → Thinned marks.old whole next.old.items
+        → Thinned marks.new (whole ++ ways.now) next.new.items) }
+    ensures more { OnOk result (length next.new.items ≤ length next.old.items + length ways.now) }
+    ensures room { length marks.new ≡ length marks.old }
+{
+    for way in ways {
+        add(code, *way, next, marks)?;
+    }
+    Ok(())
+}
+
+/// Appends ways at these instructions, all of which come from one way, but for those whose instructions have a mark.
+fn add_begun(
+    code: &Code,
+    from: usize,
+    ats: &[usize],
+    next: &mut Vec<Way>,
+    marks: &mut Table,
+) -> Result<(), AllocError>
+    requires room { length marks.old ≡ code_len code.now }
+    ensures thinned { OnOk result ((whole : List Way) → Thinned marks.old whole next.old.items
+        → Thinned marks.new (whole ++ all_from from ats.now) next.new.items) }
+    ensures more { OnOk result (length next.new.items ≤ length next.old.items + length ats.now) }
+    ensures room { length marks.new ≡ length marks.old }
+{
+    for at in ats {
+        add(code, Way { at: *at, from }, next, marks)?;
+    }
+    Ok(())
+}
+
+/// The same outcome, of the way with this number.
+fn match_from(from: usize, matched: Option<usize>) -> Option<usize>
+    ensures { result ≡ match_from from matched }
+{
+    match matched {
+        None => None,
+        Some(_) => Some(from),
+    }
+}
+
+/// The step from some ways, `count` of them, and one more, which begins. `first` is the step from these ways alone. That of the
+/// way that begins leads to the instructions `ats`, and ended with an outcome if `matched` has one.
+pub fn joined(
+    alloc: Global,
+    code: &Code,
+    count: usize,
+    first: Step,
+    ats: &[usize],
+    matched: Option<usize>,
+) -> Result<Step, AllocError>
+    ensures step { IfOk result (λ s. (instrs : List Instruction) (ways : List ℕ) (start : ℕ) (u : Option Unit_at)
+        (after : List Way) → length ways ≡ count → IsStep instrs ways u first.next.items first.matched
+        → IsStep instrs (start ∷ []) u after matched → map at_of after ≡ ats.now
+        → IsStep instrs (ways ++ start ∷ []) u s.next.items s.matched) }
+    ensures halts { IfOk result (λ s. first.next.items ≡ [] → ats.now ≡ [] → s.next.items ≡ []) }
+{
+    if first.matched.is_some() {
+        return Ok(first);
+    }
+    let mut next = Vec::new(alloc);
+    let mut marks = Table::new(alloc);
+    marks.reset(code.len())?;
+    add_all(code, &first.next, &mut next, &mut marks)?;
+    add_begun(code, count, ats, &mut next, &mut marks)?;
+    Ok(Step {
+        next,
+        matched: match_from(count, matched),
+    })
+}

@@ -1,0 +1,26 @@
+//! An automaton for easy patterns: all ways through the code at once, in order of preference.
+//!
+//! At a place of the haystack a row of instructions waits, the preferred one first. A step follows each of them to the
+//! instructions that read an item, and leads to the row of those that go on after the item that is there. A step is
+//! computed once for a row and an item, and remembered in a cell. As long as nothing was found, one more way begins at each
+//! place, as the last one of its row.
+//!
+//! The code of `a|ab` begins with a split. The row at 0 of `ab` is that instruction alone. On `a` the step leads to the row of
+//! two ways: the one of `a`, at whose end the code matches, and the one of `ab`, which still reads a `b`. At 1 the first
+//! way ends with an outcome, which hides the second one: the match is `a`, and no way waits any more.
+//!
+//! Where the match began is told by the trail, the steps that were taken: each way has the number of the way that it comes
+//! from, so it is followed back to the step at which it began.
+#![tactic(auto)]
+
+pub mod cells;
+pub mod closure;
+pub mod front;
+pub mod hints;
+pub mod join;
+pub mod plain;
+pub mod rows;
+pub mod search;
+pub mod step;
+pub mod trail;
+pub mod way;

@@ -1,0 +1,181 @@
+//! Rows of waiting instructions, each with a number.
+
+ghost use Rattle.std.specs.Prelude.{◌≡◌, ◌+◌, ◌++◌, ◌∷◌, [], ◌≤◌, true, IfOk, IfSome, map, length};
+ghost use Rattle.fancy_automaton.specs.Steps.{at_of};
+ghost use Rattle.fancy_automaton.specs.Cells.{KeepsRows, HasRow};
+
+use crate::hints::Hints;
+use crate::way::Way;
+use std::alloc::{AllocError, Global};
+
+/// Rows of instructions, each in order of preference.
+#[derive(Drop)]
+pub struct Rows {
+    /// The rows.
+    pub lists: Vec<Vec<usize>>,
+    /// The numbers of rows, by their instructions.
+    pub names: Hints,
+    /// How many instructions all rows have together.
+    pub held: usize,
+}
+
+impl Rows {
+    /// No row.
+    pub fn new(alloc: Global) -> Rows
+        ensures { result.lists.items ≡ [] }
+    {
+        Rows {
+            lists: Vec::new(alloc),
+            names: Hints::new(alloc),
+            held: 0,
+        }
+    }
+
+    /// Forgets all rows. Hints that are left name none, or a later row, which is tested.
+    pub fn clear(&mut self)
+        ensures { self.new.lists.items ≡ [] }
+    {
+        self.lists.clear();
+        self.held = 0;
+    }
+}
+
+/// Whether the instructions are the same.
+pub fn are_same(a: &[usize], b: &[usize]) -> bool
+    ensures { result ≡ true → a.now ≡ b.now }
+{
+    a == b
+}
+
+/// The key of a row, by its instructions.
+fn row_key(ways: &[usize]) -> usize {
+    let mut key = ways.len();
+    for way in ways {
+        key = (key ^ *way).wrapping_mul(0x9E37_79B9_7F4A_7C15);
+        key = key ^ (key >> 29);
+    }
+    key
+}
+
+/// The row that a hint names, if it has these instructions.
+fn tested_row(lists: &[Vec<usize>], hint: Option<usize>, ways: &[usize]) -> Option<usize>
+    ensures { IfSome result (λ r. HasRow lists.now r ways.now) }
+{
+    let r = hint?;
+    if r >= lists.len() {
+        return None;
+    }
+    if !are_same(&lists[r], ways) {
+        return None;
+    }
+    Some(r)
+}
+
+/// The number of a row with these instructions, if a hint leads to one.
+fn named_row(rows: &Rows, key: usize, ways: &[usize]) -> Option<usize>
+    ensures { IfSome result (λ r. HasRow rows.now.lists.items r ways.now) }
+{
+    match tested_row(&rows.lists, rows.names.first(key), ways) {
+        Some(r) => Some(r),
+        None => tested_row(&rows.lists, rows.names.second(key), ways),
+    }
+}
+
+/// Leaves hints for all rows.
+fn name_all(names: &mut Hints, lists: &[Vec<usize>]) {
+    for r in 0..lists.len() {
+        names.leave(row_key(&lists[r]), r);
+    }
+}
+
+/// Leaves a hint for a row, in a larger table where this one is too small.
+fn name_row(
+    alloc: Global,
+    names: &mut Hints,
+    lists: &[Vec<usize>],
+    key: usize,
+    row: usize,
+) -> Result<(), AllocError> {
+    if !names.is_small(lists.len()) {
+        names.leave(key, row);
+        return Ok(());
+    }
+    names.widen(alloc)?;
+    name_all(names, lists);
+    Ok(())
+}
+
+/// The number of a row with these instructions: one that a hint leads to, or else a new one.
+pub fn intern(alloc: Global, rows: &mut Rows, ways: Vec<usize>) -> Result<usize, AllocError>
+    ensures kept { KeepsRows rows.old.lists.items rows.new.lists.items }
+    ensures row { IfOk result (λ r. HasRow rows.new.lists.items r ways.items) }
+    ensures more { length rows.new.lists.items ≤ length rows.old.lists.items + 1 }
+{
+    let key = row_key(&ways);
+    if let Some(r) = named_row(rows, key, &ways) {
+        return Ok(r);
+    }
+    let r = rows.lists.len();
+    rows.held = rows.held.saturating_add(ways.len());
+    rows.lists.push(ways)?;
+    name_row(alloc, &mut rows.names, &rows.lists, key, r)?;
+    Ok(r)
+}
+
+/// The number of the row with this instruction alone.
+pub fn intern_one(alloc: Global, rows: &mut Rows, at: usize) -> Result<usize, AllocError>
+    ensures kept { KeepsRows rows.old.lists.items rows.new.lists.items }
+    ensures more { length rows.new.lists.items ≤ length rows.old.lists.items + 1 }
+{
+    let mut ways = Vec::new(alloc);
+    ways.push(at)?;
+    let row = intern(alloc, rows, ways)?;
+    Ok(row)
+}
+
+/// The instructions of the ways.
+fn instructions(alloc: Global, next: &[Way]) -> Result<Vec<usize>, AllocError>
+    ensures { IfOk result (λ ways. ways.items ≡ map at_of next.now) }
+{
+    let mut ways = Vec::new(alloc);
+    for way in next {
+        ways.push(way.at)?;
+    }
+    Ok(ways)
+}
+
+/// Two rows: one of ways, and the same with one more way, which begins there.
+#[derive(Clone, Copy, PartialEq, Eq, Debug)]
+pub struct Target {
+    /// The number of the row of the ways.
+    pub next: usize,
+    /// The number of the row with one more.
+    pub begun: usize,
+}
+
+/// The rows of the ways, where one more may begin at `start`.
+pub fn target_of(
+    alloc: Global,
+    rows: &mut Rows,
+    start: usize,
+    next: &[Way],
+) -> Result<Target, AllocError>
+    ensures kept { KeepsRows rows.old.lists.items rows.new.lists.items }
+    ensures leads { IfOk result (λ t. HasRow rows.new.lists.items t.next (map at_of next.now)) }
+    ensures opens { IfOk result (λ t. HasRow rows.new.lists.items t.begun (map at_of next.now ++ start ∷ [])) }
+    ensures more { length rows.new.lists.items ≤ length rows.old.lists.items + 2 }
+{
+    let ways = instructions(alloc, next)?;
+    let mut more = instructions(alloc, next)?;
+    more.push(start)?;
+    let next = intern(alloc, rows, ways)?;
+    let begun = intern(alloc, rows, more)?;
+    Ok(Target { next, begun })
+}
+
+/// The instructions of a row, once more.
+pub fn copied(alloc: Global, ways: &[usize]) -> Result<Vec<usize>, AllocError>
+    ensures { IfOk result (λ copy. copy.items ≡ ways.now) }
+{
+    ways.to_vec(alloc)
+}

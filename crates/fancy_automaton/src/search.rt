@@ -1,0 +1,134 @@
+//! Searches by the automaton: the match that the runner finds, for code without groups.
+
+ghost use Rattle.std.specs.Prelude.{◌≡◌, ◌+◌, ◌-◌, ◌*◌, ◌≤◌, ℕ, Bool, false, None, IfOk, IfErr, length, option_map, replicate};
+ghost use Rattle.fancy_tree.specs.Pattern.{Pattern};
+ghost use Rattle.fancy_input.specs.Requests.{effective_start};
+ghost use Rattle.fancy_engine.specs.Attempt.{instrs_in};
+ghost use Rattle.fancy_engine.specs.Code.{instrs_of, code_len};
+ghost use Rattle.fancy_engine.specs.Compile.{IsCodeOf};
+ghost use Rattle.fancy_engine.specs.Queries.{query_of, unfiltered, answer_with, most_steps};
+ghost use Rattle.fancy_engine.specs.Search.{search};
+ghost use Rattle.fancy_engine.specs.Seen.{NoneMayStart};
+ghost use Rattle.fancy_engine.specs.Work.{steps_of, returns_of};
+ghost use Rattle.fancy_automaton.specs.Cells.{IsFor, IsWithin};
+ghost use Rattle.fancy_automaton.specs.Futures.{ArePlain};
+ghost use Rattle.fancy_automaton.specs.Search.{BegunIn, KeepsPlaces, Steady, at_position, ends_in, leftmost_in};
+
+use crate::cells::Cells;
+use crate::front::Front;
+use fancy_engine::code::Code;
+use fancy_engine::found::Found;
+use fancy_engine::options::SearchOptions;
+use fancy_engine::refusal::SearchRefusal;
+use fancy_engine::runner::Attempt;
+use fancy_engine::work::Work;
+use fancy_input::input::Request;
+use fancy_input::span::Span;
+use std::alloc::AllocError;
+
+/// Where the leftmost match within the bounds begins and ends that is preferred there, if there is one.
+fn find_span(
+    attempt: &Attempt,
+    cells: &mut Cells,
+    work: &mut Work,
+) -> Result<Option<Span>, AllocError>
+    requires inside { attempt.now.last ≤ length attempt.now.haystack.now }
+    requires ordered { attempt.now.base ≤ attempt.now.last }
+    requires plain { ArePlain (instrs_in attempt.now) }
+    requires steady { Steady attempt.now }
+    requires kept { IsWithin cells.old }
+    requires all { IsFor cells.old attempt.now.code.now }
+    ensures answer { IfOk result (λ found. (deep : ℕ) → BegunIn attempt.now deep
+        → option_map ends_in found
+        ≡ leftmost_in attempt.now deep (attempt.now.last + 1 - attempt.now.base) attempt.now.base) }
+    ensures kept { IsWithin cells.new }
+    ensures all { IsFor cells.new attempt.now.code.now }
+    ensures steps { steps_of work.old ≤ steps_of work.new }
+    ensures bounded { steps_of work.new
+        ≤ steps_of work.old + code_len attempt.now.code.now * (attempt.now.last + 1 - attempt.now.base) }
+    ensures idle { NoneMayStart attempt.now.code.now.start_bytes attempt.now.haystack.now attempt.now.last
+        attempt.now.base (attempt.now.last + 1)
+        → steps_of work.new ≡ steps_of work.old }
+    ensures returns { returns_of work.new ≡ returns_of work.old }
+{
+    let mut front = Front::new(attempt.code, cells)?;
+    let mut place = attempt.base;
+    'places: loop {
+        if front.is_over(cells) {
+            return Ok(front.end(cells, place));
+        }
+        place = front.seek(attempt, cells, place);
+        if place > attempt.last {
+            return Ok(front.end(cells, place));
+        }
+        place = front.pass(attempt, cells, place, work)?;
+    }
+}
+
+/// Searches a haystack for the pattern of plain code: the match that the runner's search finds, in byte offsets. No group takes
+/// part in it, since plain code begins none. A search is not anchored, and reads from boundary to boundary (`KeepsPlaces`).
+///
+/// Steps are remembered in `cells`, which begins empty and serves any number of searches for one code. It is cleared where
+/// it is full, as often as that is; no answer changes by that. Each place of the range is read at most once, and fetches
+/// each instruction at most once. So no more steps are added to `work` than the code is long, times the searched length
+/// plus one, and none where no match may start at any place. No return is added.
+///
+/// # Errors
+///
+/// `SearchRefusal::Memory` where memory runs out, and no other.
+pub fn find(
+    code: &Code,
+    haystack: &[u8],
+    request: Request,
+    options: SearchOptions,
+    cells: &mut Cells,
+    work: &mut Work,
+) -> Result<Option<Found>, SearchRefusal>
+    requires inside { request.range_end ≤ length haystack.now }
+    requires plain { ArePlain (instrs_of code.now) }
+    requires free { request.anchored ≡ false }
+    requires reads { KeepsPlaces haystack.now code.now.meaning options.on_boundaries }
+    requires kept { IsWithin cells.old }
+    requires all { IsFor cells.old code.now }
+    ensures answer { IfOk result (λ found. (p : Pattern) (on : Bool) → IsCodeOf p code.now
+        → answer_with (replicate code.now.groups None) found
+        ≡ search (query_of p code.now (unfiltered options) haystack.now request on)) }
+    ensures kept { IsWithin cells.new }
+    ensures all { IsFor cells.new code.now }
+    ensures steps { steps_of work.old ≤ steps_of work.new }
+    ensures bounded { steps_of work.new ≤ steps_of work.old + most_steps code.now request }
+    ensures idle { NoneMayStart code.now.start_bytes haystack.now request.range_end
+        (effective_start request) (request.range_end + 1)
+        → steps_of work.new ≡ steps_of work.old }
+    ensures returns { returns_of work.new ≡ returns_of work.old }
+    ensures refused { IfErr result (λ e. e ≡ SearchRefusal.Memory) }
+{
+    let first = request.effective_start();
+    if first > request.range_end {
+        return Ok(None);
+    }
+    let attempt = Attempt {
+        code,
+        haystack,
+        base: first,
+        last: request.range_end,
+        on_boundaries: options.on_boundaries,
+        suppressed: options.suppressed_ends(request),
+    };
+    let found = find_span(&attempt, cells, work)?;
+    Ok(found_by(found))
+}
+
+/// A match that starts at its position.
+fn found_by(span: Option<Span>) -> Option<Found>
+    ensures { result ≡ option_map at_position span }
+{
+    match span {
+        None => None,
+        Some(span) => Some(Found {
+            position: span.start,
+            start: span.start,
+            end: span.end,
+        }),
+    }
+}

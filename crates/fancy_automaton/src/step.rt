@@ -1,0 +1,65 @@
+//! One place of a search.
+
+ghost use Rattle.std.specs.Prelude.{◌≡◌, ◌+◌, ◌<◌, ◌≤◌, IfOk, None, [], option_map, reverse, length};
+ghost use Rattle.fancy_engine.specs.Code.{instrs_of, code_len};
+ghost use Rattle.fancy_engine.specs.Work.{steps_of, returns_of};
+ghost use Rattle.fancy_engine.specs.Reading.{unit_read};
+ghost use Rattle.fancy_automaton.specs.Steps.{IsStep, waiting};
+
+use crate::closure::close;
+use crate::way::Way;
+use fancy_engine::code::Code;
+use fancy_engine::reading::Reading;
+use fancy_engine::table::Table;
+use fancy_engine::work::Work;
+use std::alloc::{AllocError, Global};
+
+/// What the ways that wait at a place come to where an item is read.
+#[derive(Drop)]
+pub struct Step {
+    /// The ways after the item, in order of preference.
+    pub next: Vec<Way>,
+    /// The number of the way from which one ended with an outcome.
+    pub matched: Option<usize>,
+}
+
+/// Puts the ways on a stack, the first one on top.
+fn load(alloc: Global, ways: &[usize]) -> Result<Vec<Way>, AllocError>
+    ensures { IfOk result (λ stack. reverse stack.items ≡ waiting 0 ways.now) }
+{
+    let mut stack = Vec::new(alloc);
+    for from in (0..ways.len()).rev() {
+        stack.push(Way {
+            at: ways[from],
+            from,
+        })?;
+    }
+    Ok(stack)
+}
+
+/// Computes the step from these waiting instructions, in order of preference, on what is read. It fetches each instruction
+/// of the code at most once.
+pub fn step_from(
+    alloc: Global,
+    code: &Code,
+    ways: &[usize],
+    reading: Option<Reading>,
+    work: &mut Work,
+) -> Result<Step, AllocError>
+    ensures step { IfOk result (λ s. IsStep (instrs_of code.now) ways.now (option_map unit_read reading)
+        s.next.items s.matched) }
+    ensures halts { IfOk result (λ s. reading ≡ None → s.next.items ≡ []) }
+    ensures width { IfOk result (λ s. length s.next.items ≤ code_len code.now) }
+    ensures steps { steps_of work.old ≤ steps_of work.new }
+    ensures bounded { steps_of work.new ≤ steps_of work.old + code_len code.now }
+    ensures counted { IfOk result (λ s. steps_of work.new < usize.MAX
+        → length s.next.items + steps_of work.old ≤ steps_of work.new) }
+    ensures returns { returns_of work.new ≡ returns_of work.old }
+{
+    let mut stack = load(alloc, ways)?;
+    let mut next = Vec::new(alloc);
+    let mut marks = Table::new(alloc);
+    marks.reset(code.len())?;
+    let matched = close(code, reading, &mut stack, &mut next, &mut marks, work)?;
+    Ok(Step { next, matched })
+}
