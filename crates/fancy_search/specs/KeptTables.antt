@@ -5,7 +5,8 @@ use Rattle.std.specs.Option.{ForSome}
 use Rattle.fancy_input.specs.Requests.{effective_start}
 use Rattle.fancy_input.specs.declared.input.Request.{Request}
 use Rattle.fancy_engine.specs.KeptTable.{IsKept}
-use Rattle.fancy_automaton.specs.Cells.{IsFor, IsWithin}
+use Rattle.fancy_automaton.specs.Cells.{IsWithin}
+use Rattle.fancy_automaton.specs.Remembered.{Remembers}
 use Rattle.fancy_search.specs.declared.cache.Cache.{Cache}
 use Rattle.fancy_search.specs.declared.cache.Kept.{Kept}
 use Rattle.fancy_search.specs.declared.cache.Kept.TheVariants.{Nothing, Table, Steps}
@@ -25,7 +26,7 @@ table_kept Steps = None
 
 -- The steps that the automaton remembers are of the program's code.
 abbrev pub KeepsSteps : Program → Cache → Type 0
-KeepsSteps program cache = IsFor cache.cells program.code × IsWithin cache.cells
+KeepsSteps program cache = Remembers cache.cells program.code × IsWithin cache.cells
 
 -- what is kept in the cache, if anything is, is for searches with the program that start at `place` or later
 abbrev pub IsKeptIn : Program → List ℕ → Request → Kept → ℕ → Cache → Type 0
