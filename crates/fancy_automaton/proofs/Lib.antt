@@ -12,3 +12,4 @@ pub mod GoingLemmas
 pub mod SteadyLemmas
 pub mod TrailLemmas
 pub mod FrontLemmas
+pub mod RememberedLemmas

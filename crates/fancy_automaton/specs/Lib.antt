@@ -6,3 +6,4 @@ pub mod Search
 pub mod Cells
 pub mod Trail
 pub mod Front
+pub mod Remembered

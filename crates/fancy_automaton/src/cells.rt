@@ -181,7 +181,7 @@ fn computed(
 }
 
 /// The key of the step from a row on what is read.
-#[inline]
+#[inline(always)]
 fn cell_key(row: usize, reading: Option<Reading>) -> usize {
     let code = match reading {
         None => 0,
@@ -191,6 +191,7 @@ fn cell_key(row: usize, reading: Option<Reading>) -> usize {
 }
 
 /// Whether the same is read.
+#[inline(always)]
 fn is_same_reading(a: Option<Reading>, b: Option<Reading>) -> bool
     ensures { result ≡ true → a ≡ b }
 {
@@ -202,7 +203,7 @@ fn is_same_reading(a: Option<Reading>, b: Option<Reading>) -> bool
 }
 
 /// The step that a hint names, if it is from this row on what is read.
-#[inline]
+#[inline(always)]
 fn tested_cell(
     cells: &[Cell],
     hint: Option<usize>,
@@ -226,7 +227,7 @@ fn tested_cell(
 }
 
 /// The number of the step from a row on what is read, if a hint leads to it.
-#[inline]
+#[inline(always)]
 pub fn remembered(cells: &Cells, row: usize, reading: Option<Reading>) -> Option<usize>
     ensures { IfSome result (λ k. HasCell cells.now.cells.items k row reading) }
 {

@@ -240,7 +240,7 @@ impl Front {
 
     /// Takes the step at a place on what is read there if it is remembered, and the trail has room for it. The answer is the
     /// place where the ways wait then, a byte offset; it is the same place where no step was taken.
-    #[inline]
+    #[inline(always)]
     fn take(
         &mut self,
         attempt: &Attempt,
@@ -278,9 +278,34 @@ impl Front {
         Ok(place_after(place, reading, attempt.last))
     }
 
+    /// The same as `glide`, which calls it where no ASCII character is read.
+    #[inline(never)]
+    fn glide_wide(
+        &mut self,
+        attempt: &Attempt,
+        cells: &Cells,
+        place: usize,
+    ) -> Result<usize, AllocError>
+        requires within { place ≤ attempt.now.last }
+        requires inside { attempt.now.last ≤ length attempt.now.haystack.now }
+        requires plain { ArePlain (instrs_in attempt.now) }
+        requires steady { Steady attempt.now }
+        requires good { may_end_in attempt.now place ≡ true }
+        requires front { IsFront attempt.now cells.now self.old place place }
+        ensures front { IfOk result (λ next. IsFront attempt.now cells.now self.new next next) }
+        ensures forth { IfOk result (λ next. place ≤ next) }
+        ensures ends { IfOk result (λ next. next ≤ attempt.now.last + 1) }
+        ensures visits { length self.old.trail.visits.items ≤ most_visits
+            → length self.new.trail.visits.items ≤ most_visits }
+    {
+        let reading = reading_at(attempt, place);
+        let next = self.take(attempt, cells, place, reading)?;
+        Ok(next)
+    }
+
     /// Takes the step at a place if it is remembered, and the trail has room for it. The answer is the place where the ways
     /// wait then, a byte offset; it is the same place where no step was taken. An ASCII character is looked for first.
-    #[inline]
+    #[inline(always)]
     fn glide(&mut self, attempt: &Attempt, cells: &Cells, place: usize) -> Result<usize, AllocError>
         requires within { place ≤ attempt.now.last }
         requires inside { attempt.now.last ≤ length attempt.now.haystack.now }
@@ -300,7 +325,7 @@ impl Front {
                 Ok(next)
             }
             None => {
-                let next = self.take(attempt, cells, place, reading_at(attempt, place))?;
+                let next = self.glide_wide(attempt, cells, place)?;
                 Ok(next)
             }
         }
@@ -393,7 +418,6 @@ impl Front {
 }
 
 /// What is read at a place, if it ends within what is searched.
-#[inline]
 fn reading_at(attempt: &Attempt, place: usize) -> Option<Reading>
     ensures reading { option_map unit_read result ≡ unit_by (context_in attempt.now) attempt.now.last place }
     ensures fits { IfSome result (λ r. place + r.width ≤ attempt.now.last) }
@@ -411,7 +435,7 @@ fn reading_at(attempt: &Attempt, place: usize) -> Option<Reading>
 }
 
 /// What is read at a place, if that is an ASCII character within what is searched.
-#[inline]
+#[inline(always)]
 fn ascii_at(attempt: &Attempt, place: usize) -> Option<Reading>
     requires inside { attempt.now.last ≤ length attempt.now.haystack.now }
     ensures reading { IfSome result (λ r. Some (unit_read r)
@@ -432,7 +456,7 @@ fn ascii_at(attempt: &Attempt, place: usize) -> Option<Reading>
 }
 
 /// The place after what is read; where nothing is, the next byte offset.
-#[inline]
+#[inline(always)]
 fn place_after(place: usize, reading: Option<Reading>, limit: usize) -> usize
     requires more { place < usize.MAX }
     requires fits { IfSome reading (λ r. place + r.width ≤ limit) }

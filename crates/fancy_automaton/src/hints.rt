@@ -25,19 +25,19 @@ impl Hints {
     }
 
     /// The first place of a key, an even one. Its second place is the next.
-    #[inline]
+    #[inline(always)]
     fn place(&self, key: usize) -> usize {
         (key << 1) & self.slots.len().wrapping_sub(1)
     }
 
     /// The number that was left last for a key, or for one that shares its place.
-    #[inline]
+    #[inline(always)]
     pub fn first(&self, key: usize) -> Option<usize> {
         self.slots.get(self.place(key)).copied()
     }
 
     /// The number at the second place of a key.
-    #[inline]
+    #[inline(always)]
     pub fn second(&self, key: usize) -> Option<usize> {
         self.slots.get(self.place(key) | 1).copied()
     }

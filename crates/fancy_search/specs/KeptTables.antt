@@ -6,7 +6,8 @@ use Rattle.fancy_input.specs.LastLines.{KnowsLastLines}
 use Rattle.fancy_input.specs.Requests.{effective_start}
 use Rattle.fancy_input.specs.declared.input.Request.{Request}
 use Rattle.fancy_engine.specs.KeptTable.{IsKept}
-use Rattle.fancy_automaton.specs.Cells.{IsFor, IsWithin}
+use Rattle.fancy_automaton.specs.Cells.{IsWithin}
+use Rattle.fancy_automaton.specs.Remembered.{Remembers}
 use Rattle.fancy_machine.specs.Asked.{lines_held}
 use Rattle.fancy_search.specs.declared.cache.Cache.{Cache}
 use Rattle.fancy_search.specs.declared.cache.Kept.{Kept}
@@ -28,7 +29,7 @@ table_kept Lines = None
 
 -- The steps that the automaton remembers are of the program's code.
 abbrev pub KeepsSteps : Program → Cache → Type 0
-KeepsSteps program cache = IsFor cache.cells program.code × IsWithin cache.cells
+KeepsSteps program cache = Remembers cache.cells program.code × IsWithin cache.cells
 
 -- What the machine read of the last lines is true of the haystack.
 abbrev pub KeepsLines : List ℕ → Cache → Type 0

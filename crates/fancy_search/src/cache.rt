@@ -1,7 +1,8 @@
 //! What searches work in, by whichever engine.
 
 ghost use Rattle.std.specs.Prelude.{◌≡◌, [], None, true, slice_index_or};
-ghost use Rattle.fancy_automaton.specs.Cells.{IsFor, IsWithin};
+ghost use Rattle.fancy_automaton.specs.Cells.{IsWithin};
+ghost use Rattle.fancy_automaton.specs.Remembered.{Remembers};
 ghost use Rattle.fancy_engine.specs.declared.code.Code.{Code};
 
 use fancy_automaton::cells::Cells;
@@ -133,7 +134,7 @@ impl Cache {
     pub(crate) fn ready_steps(&mut self, are_kept: bool)
         requires within { are_kept ≡ true → IsWithin self.old.cells }
         ensures within { IsWithin self.new.cells }
-        ensures all { (code : Code) → (are_kept ≡ true → IsFor self.old.cells code) → IsFor self.new.cells code }
+        ensures all { (code : Code) → (are_kept ≡ true → Remembers self.old.cells code) → Remembers self.new.cells code }
     {
         if are_kept {
             return;

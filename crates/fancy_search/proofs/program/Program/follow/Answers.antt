@@ -1,4 +1,5 @@
 use Rattle.std.proofs.Common.{◌≡◌, None, ap, arith, replicate}
+use Rattle.fancy_automaton.proofs.RememberedLemmas.{remembers, recalls}
 use Rattle.fancy_search.specs.declared.cache.Cache.{Cache}
 use Rattle.fancy_search.specs.Cached.{cached_groups}
 use Rattle.fancy_search.proofs.KeptTablesLemmas.{found_steps}
@@ -16,10 +17,15 @@ returns-in-Ok-clause-answer c on =
 pub returns-in-Ok-clause-kept : goal.returns-in-Ok-clause-kept
 returns-in-Ok-clause-kept c =
     let cells : c.note_reached.new.self.cells ≡ c.find.new.cells = ap (λ (k : Cache). k.cells) c.note_reached.ensures in
-    found_steps c.args.self.now c.args.haystack.now c.note_reached.new.self c.args.request c.in-Ok.found (rw cells c.find.ensures.all, rw cells c.find.ensures.kept)
+    found_steps c.args.self.now c.args.haystack.now c.note_reached.new.self c.args.request c.in-Ok.found (rw cells (remembers c.find.new.cells c.args.self.now.code c.find.ensures.all), rw cells c.find.ensures.kept)
 
 pub returns-in-Ok-clause-idle : goal.returns-in-Ok-clause-idle
 returns-in-Ok-clause-idle c on none = nowhere c.args.self.now c.args.haystack.now c.args.request on _ _ (λ k. omega (arith, c.type_inv.haystack k)) none c.find.ensures.idle
 
 pub returns-in-Err-clause-idle : goal.returns-in-Err-clause-idle
 returns-in-Err-clause-idle c on none = nowhere c.args.self.now c.args.haystack.now c.args.request on _ _ (λ k. omega (arith, c.type_inv.haystack k)) none c.find.ensures.idle
+
+pub find-requires-clause-all : goal.find-requires-clause-all
+find-requires-clause-all c =
+    recalls c.ready_steps.new.self.cells c.args.self.now.code
+    (c.ready_steps.ensures.all c.args.self.now.code (λ e. (c.requires.kept (c.is_steps.ensures e)).0))
