@@ -164,7 +164,8 @@ fn computed(
     ensures more { length rows.new.lists.items ≤ length rows.old.lists.items + 2 }
     ensures from { IfOk result (λ c. c.row ≡ row) }
     ensures on { IfOk result (λ c. c.reading ≡ reading) }
-    ensures cell { IfOk result (λ c. IsCell code.now rows.new.lists.items row reading c.next c.begun c.came.items c.matched) }
+    ensures cell { IfOk result (λ c. IsCell code.now rows.new.lists.items row reading c.next c.begun c.came.items
+        c.matched) }
     ensures ways { IfOk result (λ c. length c.came.items ≡ length step.next.items) }
 {
     let came = origins(alloc, &step.next)?;
@@ -180,7 +181,7 @@ fn computed(
 }
 
 /// The key of the step from a row on what is read.
-#[inline]
+#[inline(always)]
 fn cell_key(row: usize, reading: Option<Reading>) -> usize {
     let code = match reading {
         None => 0,
@@ -190,6 +191,7 @@ fn cell_key(row: usize, reading: Option<Reading>) -> usize {
 }
 
 /// Whether the same is read.
+#[inline(always)]
 fn is_same_reading(a: Option<Reading>, b: Option<Reading>) -> bool
     ensures { result ≡ true → a ≡ b }
 {
@@ -201,7 +203,7 @@ fn is_same_reading(a: Option<Reading>, b: Option<Reading>) -> bool
 }
 
 /// The step that a hint names, if it is from this row on what is read.
-#[inline]
+#[inline(always)]
 fn tested_cell(
     cells: &[Cell],
     hint: Option<usize>,
@@ -225,7 +227,7 @@ fn tested_cell(
 }
 
 /// The number of the step from a row on what is read, if a hint leads to it.
-#[inline]
+#[inline(always)]
 pub fn remembered(cells: &Cells, row: usize, reading: Option<Reading>) -> Option<usize>
     ensures { IfSome result (λ k. HasCell cells.now.cells.items k row reading) }
 {
@@ -418,7 +420,8 @@ pub fn restart(cells: &mut Cells, start: usize, row: usize) -> Result<Target, Al
     requires row { row < length cells.old.rows.lists.items }
     requires within { IsWithin cells.old }
     ensures all { (code : Code) → IsFor cells.old code → IsFor cells.new code }
-    ensures waits { IfOk result (λ t. HasRow cells.new.rows.lists.items t.next (ways_at cells.old.rows.lists.items row)) }
+    ensures waits { IfOk result (λ t. HasRow cells.new.rows.lists.items t.next
+        (ways_at cells.old.rows.lists.items row)) }
     ensures opens { IfOk result (λ t. HasRow cells.new.rows.lists.items t.begun
         (ways_at cells.old.rows.lists.items row ++ start ∷ [])) }
     ensures within { IsWithin cells.new }

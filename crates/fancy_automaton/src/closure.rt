@@ -17,7 +17,8 @@ use std::alloc::AllocError;
 /// Marks an instruction, and says whether it had no mark.
 pub fn is_first(marks: &mut Table, at: usize) -> bool
     requires { at < length marks.old }
-    ensures adds { (q : ℕ) → slice_index_or marks.new q false ≡ true → (slice_index_or marks.old q false ≡ true) ⊎ (q ≡ at) }
+    ensures adds { (q : ℕ) → slice_index_or marks.new q false ≡ true
+        → (slice_index_or marks.old q false ≡ true) ⊎ (q ≡ at) }
     ensures seen { result ≡ false → slice_index_or marks.old at false ≡ true }
     ensures same { result ≡ false → marks.new ≡ marks.old }
     ensures one { result ≡ true → marked marks.new ≡ marked marks.old + 1 }

@@ -1,6 +1,6 @@
 //! How far a search has come, and the step to the next place.
 
-ghost use Rattle.std.specs.Prelude.{◌≡◌, ◌+◌, ◌<◌, ◌≤◌, ℕ, true, [], OnOk, IfOk, IfSome, is_some, length, option_map};
+ghost use Rattle.std.specs.Prelude.{◌≡◌, ◌+◌, ◌<◌, ◌≤◌, ℕ, true, [], Some, OnOk, IfOk, IfSome, is_some, length, option_map};
 ghost use Rattle.fancy_engine.specs.Attempt.{context_in, instrs_in, may_end_in};
 ghost use Rattle.fancy_engine.specs.Code.{code_len};
 ghost use Rattle.fancy_engine.specs.Reading.{unit_read};
@@ -17,7 +17,7 @@ ghost use Rattle.fancy_automaton.specs.Search.{Steady};
 use crate::cells::{Cells, remembered, restart, step_at};
 use crate::rows::target_of;
 use crate::trail::{
-    Hit, Trail, VISITS, Visit, hit_by, row_at, settled, span_of, start_at, starts_in,
+    Hit, Trail, VISITS, Visit, hit_by, note_hit, row_at, settled, span_of, start_at, starts_in,
 };
 use fancy_engine::code::Code;
 use fancy_engine::options::is_match_boundary;
@@ -238,9 +238,74 @@ impl Front {
         Ok(resume)
     }
 
-    /// Takes the step at a place if it is remembered, and the trail has room for it. The answer is the place where the ways wait then,
-    /// a byte offset; it is the same place where no step was taken.
-    #[inline]
+    /// Takes the step at a place on what is read there if it is remembered, and the trail has room for it. The answer is the
+    /// place where the ways wait then, a byte offset; it is the same place where no step was taken.
+    #[inline(always)]
+    fn take(
+        &mut self,
+        attempt: &Attempt,
+        cells: &Cells,
+        place: usize,
+        reading: Option<Reading>,
+    ) -> Result<usize, AllocError>
+        requires within { place ≤ attempt.now.last }
+        requires plain { ArePlain (instrs_in attempt.now) }
+        requires steady { Steady attempt.now }
+        requires good { may_end_in attempt.now place ≡ true }
+        requires reading { option_map unit_read reading ≡ unit_by (context_in attempt.now) attempt.now.last place }
+        requires fits { IfSome reading (λ r. place + r.width ≤ attempt.now.last) }
+        requires small { attempt.now.last < usize.MAX }
+        requires front { IsFront attempt.now cells.now self.old place place }
+        ensures front { IfOk result (λ next. IsFront attempt.now cells.now self.new next next) }
+        ensures forth { IfOk result (λ next. place ≤ next) }
+        ensures ends { IfOk result (λ next. next ≤ attempt.now.last + 1) }
+        ensures visits { length self.old.trail.visits.items ≤ most_visits
+            → length self.new.trail.visits.items ≤ most_visits }
+    {
+        if self.trail.visits.len() >= VISITS {
+            return Ok(place);
+        }
+        let row = row_at(self.hit, self.next, self.begun);
+        let start = start_at(self.hit, place);
+        let Some(k) = remembered(cells, row, reading) else {
+            return Ok(place);
+        };
+        let cell = &cells.cells[k];
+        note_hit(&mut self.hit, cell.matched, self.trail.visits.len(), place);
+        self.next = cell.next;
+        self.begun = cell.begun;
+        self.trail.visits.push(Visit { cell: k, start })?;
+        Ok(place_after(place, reading, attempt.last))
+    }
+
+    /// The same as `glide`, which calls it where no ASCII character is read.
+    #[inline(never)]
+    fn glide_wide(
+        &mut self,
+        attempt: &Attempt,
+        cells: &Cells,
+        place: usize,
+    ) -> Result<usize, AllocError>
+        requires within { place ≤ attempt.now.last }
+        requires inside { attempt.now.last ≤ length attempt.now.haystack.now }
+        requires plain { ArePlain (instrs_in attempt.now) }
+        requires steady { Steady attempt.now }
+        requires good { may_end_in attempt.now place ≡ true }
+        requires front { IsFront attempt.now cells.now self.old place place }
+        ensures front { IfOk result (λ next. IsFront attempt.now cells.now self.new next next) }
+        ensures forth { IfOk result (λ next. place ≤ next) }
+        ensures ends { IfOk result (λ next. next ≤ attempt.now.last + 1) }
+        ensures visits { length self.old.trail.visits.items ≤ most_visits
+            → length self.new.trail.visits.items ≤ most_visits }
+    {
+        let reading = reading_at(attempt, place);
+        let next = self.take(attempt, cells, place, reading)?;
+        Ok(next)
+    }
+
+    /// Takes the step at a place if it is remembered, and the trail has room for it. The answer is the place where the ways
+    /// wait then, a byte offset; it is the same place where no step was taken. An ASCII character is looked for first.
+    #[inline(always)]
     fn glide(&mut self, attempt: &Attempt, cells: &Cells, place: usize) -> Result<usize, AllocError>
         requires within { place ≤ attempt.now.last }
         requires inside { attempt.now.last ≤ length attempt.now.haystack.now }
@@ -254,25 +319,20 @@ impl Front {
         ensures visits { length self.old.trail.visits.items ≤ most_visits
             → length self.new.trail.visits.items ≤ most_visits }
     {
-        if self.trail.visits.len() >= VISITS {
-            return Ok(place);
+        match ascii_at(attempt, place) {
+            Some(reading) => {
+                let next = self.take(attempt, cells, place, Some(reading))?;
+                Ok(next)
+            }
+            None => {
+                let next = self.glide_wide(attempt, cells, place)?;
+                Ok(next)
+            }
         }
-        let row = row_at(self.hit, self.next, self.begun);
-        let start = start_at(self.hit, place);
-        let reading = reading_at(attempt, place);
-        let Some(k) = remembered(cells, row, reading) else {
-            return Ok(place);
-        };
-        let cell = &cells.cells[k];
-        self.hit = hit_by(self.hit, cell.matched, self.trail.visits.len(), place);
-        self.next = cell.next;
-        self.begun = cell.begun;
-        self.trail.visits.push(Visit { cell: k, start })?;
-        Ok(place_after(place, reading, attempt.last))
     }
 
-    /// Takes steps that are remembered, as long as some way waits. The answer is the place where the ways wait then, a byte offset.
-    /// What is read leads from a place where a match may begin and end to the next, so no place is tested on the way.
+    /// Takes steps that are remembered, as long as some way waits. The answer is the place where the ways wait then, a byte
+    /// offset. What is read leads from a place where a match may begin and end to the next, so no place is tested on the way.
     fn skim(&mut self, attempt: &Attempt, cells: &Cells, place: usize) -> Result<usize, AllocError>
         requires within { place ≤ attempt.now.last }
         requires inside { attempt.now.last ≤ length attempt.now.haystack.now }
@@ -358,7 +418,6 @@ impl Front {
 }
 
 /// What is read at a place, if it ends within what is searched.
-#[inline]
 fn reading_at(attempt: &Attempt, place: usize) -> Option<Reading>
     ensures reading { option_map unit_read result ≡ unit_by (context_in attempt.now) attempt.now.last place }
     ensures fits { IfSome result (λ r. place + r.width ≤ attempt.now.last) }
@@ -375,7 +434,29 @@ fn reading_at(attempt: &Attempt, place: usize) -> Option<Reading>
     }
 }
 
+/// What is read at a place, if that is an ASCII character within what is searched.
+#[inline(always)]
+fn ascii_at(attempt: &Attempt, place: usize) -> Option<Reading>
+    requires inside { attempt.now.last ≤ length attempt.now.haystack.now }
+    ensures reading { IfSome result (λ r. Some (unit_read r)
+        ≡ unit_by (context_in attempt.now) attempt.now.last place) }
+    ensures fits { IfSome result (λ r. place + r.width ≤ attempt.now.last) }
+{
+    if place >= attempt.last {
+        return None;
+    }
+    let byte = attempt.haystack[place];
+    if byte >= 0x80 {
+        return None;
+    }
+    Some(Reading {
+        code: byte as u32,
+        width: 1,
+    })
+}
+
 /// The place after what is read; where nothing is, the next byte offset.
+#[inline(always)]
 fn place_after(place: usize, reading: Option<Reading>, limit: usize) -> usize
     requires more { place < usize.MAX }
     requires fits { IfSome reading (λ r. place + r.width ≤ limit) }

@@ -25,19 +25,19 @@ impl Hints {
     }
 
     /// The first place of a key, an even one. Its second place is the next.
-    #[inline]
+    #[inline(always)]
     fn place(&self, key: usize) -> usize {
         (key << 1) & self.slots.len().wrapping_sub(1)
     }
 
     /// The number that was left last for a key, or for one that shares its place.
-    #[inline]
+    #[inline(always)]
     pub fn first(&self, key: usize) -> Option<usize> {
         self.slots.get(self.place(key)).copied()
     }
 
     /// The number at the second place of a key.
-    #[inline]
+    #[inline(always)]
     pub fn second(&self, key: usize) -> Option<usize> {
         self.slots.get(self.place(key) | 1).copied()
     }
@@ -52,9 +52,9 @@ impl Hints {
         }
     }
 
-    /// Whether so many numbers fill more than half of the table, and it may grow.
+    /// Whether so many numbers fill more than a quarter of the table, and it may grow.
     pub fn is_small(&self, numbers: usize) -> bool {
-        numbers > self.slots.len() / 2 && self.slots.len() < HINTS
+        numbers > self.slots.len() / 4 && self.slots.len() < HINTS
     }
 
     /// Begins the table anew, with twice as many places.

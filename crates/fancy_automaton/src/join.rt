@@ -1,7 +1,7 @@
 //! Steps are joined: that of some ways, and that of one more way after them, which begins at the place.
 //!
-//! The first way of all that has an end counts. So where one of the first ways ended with an outcome, the way that begins does not
-//! count; else the ways that it leads to are put after those of the others, but for each that one of them met before.
+//! The first way of all that has an end counts. So where one of the first ways ended with an outcome, the way that begins
+//! does not count; else the ways that it leads to are put after those of the others, but for each that was met before.
 
 ghost use Rattle.std.specs.Prelude.{◌≡◌, ◌+◌, ◌≤◌, [], ◌∷◌, ◌++◌, ℕ, List, Option, false, IfOk, OnOk, map, length};
 ghost use Rattle.fancy_engine.specs.Code.{code_len};
@@ -95,9 +95,10 @@ pub fn joined(
     ats: &[usize],
     matched: Option<usize>,
 ) -> Result<Step, AllocError>
-    ensures step { IfOk result (λ s. (instrs : List Instruction) (ways : List ℕ) (start : ℕ) (u : Option Unit_at) (after : List Way)
-        → length ways ≡ count → IsStep instrs ways u first.next.items first.matched → IsStep instrs (start ∷ []) u after matched
-        → map at_of after ≡ ats.now → IsStep instrs (ways ++ start ∷ []) u s.next.items s.matched) }
+    ensures step { IfOk result (λ s. (instrs : List Instruction) (ways : List ℕ) (start : ℕ) (u : Option Unit_at)
+        (after : List Way) → length ways ≡ count → IsStep instrs ways u first.next.items first.matched
+        → IsStep instrs (start ∷ []) u after matched → map at_of after ≡ ats.now
+        → IsStep instrs (ways ++ start ∷ []) u s.next.items s.matched) }
     ensures halts { IfOk result (λ s. first.next.items ≡ [] → ats.now ≡ [] → s.next.items ≡ []) }
 {
     if first.matched.is_some() {

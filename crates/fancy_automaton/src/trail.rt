@@ -83,7 +83,21 @@ pub fn hit_by(hit: Option<Hit>, matched: Option<usize>, visit: usize, place: usi
     }
 }
 
+/// The same, where what is found stays if the visit found nothing.
+#[inline(always)]
+pub fn note_hit(hit: &mut Option<Hit>, matched: Option<usize>, visit: usize, place: usize)
+    ensures { hit.new ≡ hit_or hit.old matched visit place }
+{
+    match matched {
+        None => {}
+        Some(_) => {
+            *hit = hit_by(*hit, matched, visit, place);
+        }
+    }
+}
+
 /// The row of a place: where nothing was found, one more way begins there.
+#[inline(always)]
 pub fn row_at(hit: Option<Hit>, next: usize, begun: usize) -> usize
     ensures { (cells : List Cell) (trail : Trail) → result ≡ row_if (found_in_trail cells trail hit) next begun }
 {
@@ -94,6 +108,7 @@ pub fn row_at(hit: Option<Hit>, next: usize, begun: usize) -> usize
 }
 
 /// Where a way begins at a place, if one does.
+#[inline(always)]
 pub fn start_at(hit: Option<Hit>, place: usize) -> Option<usize>
     ensures { (cells : List Cell) (trail : Trail) (starts : List ℕ)
         → and_start result starts ≡ begun_if (found_in_trail cells trail hit) starts place }

@@ -1,6 +1,6 @@
 //! POSIX sets, as `[:alpha:]`.
 
-ghost use Rattle.std.specs.Prelude.{◌≡◌, ◌<◌, ◌≤◌, length, drop, option_map, IsTrue, OnOk, IfSome};
+ghost use Rattle.std.specs.Prelude.{◌≡◌, ◌<◌, ◌≤◌, length, take, drop, option_map, IsTrue, OnOk, IfSome};
 ghost use Rattle.fancy_class.specs.EscapeGrammar.{letters};
 ghost use Rattle.fancy_class.specs.Words.{by_word};
 ghost use Rattle.fancy_class.specs.ClassGrammar.{posix_words, is_posix_name, is_posix, posix, posix_of};
@@ -39,6 +39,17 @@ impl<'a> Cursor<'a> {
         ensures value { by_word posix_words self.now.rest.now ≡ option_map (λ found. (found.0, drop found.1 self.now.rest.now)) result }
         ensures room { IfSome result (λ found. found.1 ≤ length self.now.rest.now) }
     {
+        match self.posix_word_to_graph() {
+            Some(found) => Some(found),
+            None => self.posix_word_from_lower(),
+        }
+    }
+
+    /// The same for the first seven sets, up to that of `graph`.
+    fn posix_word_to_graph(&self) -> Option<(Named, usize)>
+        ensures value { by_word (take 7 posix_words) self.now.rest.now ≡ option_map (λ found. (found.0, drop found.1 self.now.rest.now)) result }
+        ensures room { IfSome result (λ found. found.1 ≤ length self.now.rest.now) }
+    {
         if begins(self.rest, &['a', 'l', 'n', 'u', 'm', ':', ']']) {
             Some((Named::Alphanumeric, 7))
         } else if begins(self.rest, &['a', 'l', 'p', 'h', 'a', ':', ']']) {
@@ -53,7 +64,17 @@ impl<'a> Cursor<'a> {
             Some((Named::AsciiDigit, 7))
         } else if begins(self.rest, &['g', 'r', 'a', 'p', 'h', ':', ']']) {
             Some((Named::Graphic, 7))
-        } else if begins(self.rest, &['l', 'o', 'w', 'e', 'r', ':', ']']) {
+        } else {
+            None
+        }
+    }
+
+    /// The same for the others, from that of `lower` on.
+    fn posix_word_from_lower(&self) -> Option<(Named, usize)>
+        ensures value { by_word (drop 7 posix_words) self.now.rest.now ≡ option_map (λ found. (found.0, drop found.1 self.now.rest.now)) result }
+        ensures room { IfSome result (λ found. found.1 ≤ length self.now.rest.now) }
+    {
+        if begins(self.rest, &['l', 'o', 'w', 'e', 'r', ':', ']']) {
             Some((Named::Lowercase, 7))
         } else if begins(self.rest, &['p', 'r', 'i', 'n', 't', ':', ']']) {
             Some((Named::Printable, 7))

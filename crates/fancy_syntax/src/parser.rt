@@ -323,7 +323,7 @@ impl<'a> Parser<'a> {
             return Err(self.error(ParseErrorKind::TargetNotRepeatable));
         }
         let turns = self.turns()?;
-        let kind = self.kind()?;
+        let kind = self.kind();
         Ok(repeat(self.alloc, turns, kind, part)?)
     }
 
@@ -372,19 +372,19 @@ impl<'a> Parser<'a> {
     }
 
     /// Reads the suffix of a quantifier, if one stands here.
-    fn kind(&mut self) -> Result<RepeatKind, Error>
-        ensures value { GivesValue itself (kind (place self.old)) result (place self.new) }
-        ensures progress { OnOk result (length (text_left self.new) ≤ length (text_left self.old)) }
+    fn kind(&mut self) -> RepeatKind
+        ensures value { GivesValue itself (kind (place self.old)) (Ok result) (place self.new) }
+        ensures progress { length (text_left self.new) ≤ length (text_left self.old) }
     {
         if is_at_any(self.cursor.rest, &['?']) {
             self.skip(1);
-            return Ok(RepeatKind::Lazy);
+            return RepeatKind::Lazy;
         }
         if is_at_any(self.cursor.rest, &['+']) {
             self.skip(1);
-            return Ok(RepeatKind::Possessive);
+            return RepeatKind::Possessive;
         }
-        Ok(RepeatKind::Greedy)
+        RepeatKind::Greedy
     }
 }
 

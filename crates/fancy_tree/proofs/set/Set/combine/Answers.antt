@@ -47,3 +47,15 @@ loop-at-preserved c =
 pub returns : goal.returns
 returns c = λ x. ap (λ es. has es x) c.trim.ensures ∙ (merged_done c.loop-at.invariant.merged.1 c.in_default.ensures.0 c.in_default.ensures.1 x
     ∙ ap₂ (applied c.args.how) (ap (λ es. has es x) c.deref-a.ensures.value) (ap (λ es. has es x) c.deref-b.ensures.value))
+
+pub next_edge-requires-clause-a_rises : goal.next_edge-requires-clause-a_rises
+next_edge-requires-clause-a_rises c = rw c.deref-a.ensures.value c.args.self.now.are_edges.rising
+
+pub next_edge-requires-clause-b_rises : goal.next_edge-requires-clause-b_rises
+next_edge-requires-clause-b_rises c = rw c.deref-b.ensures.value c.args.other.now.are_edges.rising
+
+pub skip_edge-i-requires-clause-rising : goal.skip_edge-i-requires-clause-rising
+skip_edge-i-requires-clause-rising c = rw c.deref-a.ensures.value c.args.self.now.are_edges.rising
+
+pub skip_edge-j-requires-clause-rising : goal.skip_edge-j-requires-clause-rising
+skip_edge-j-requires-clause-rising c = rw c.deref-b.ensures.value c.args.other.now.are_edges.rising

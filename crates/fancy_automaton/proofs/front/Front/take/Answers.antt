@@ -1,7 +1,7 @@
 use Rattle.std.proofs.Common.{◌≡◌, ◌∙◌, ap, arith, length}
 use Rattle.fancy_automaton.specs.Trail.{hit_or}
 use Rattle.fancy_automaton.proofs.FrontLemmas.{front_advanced, front_on}
-use Rattle.fancy_automaton.proofs.front.Front.glide.Goals as goal
+use Rattle.fancy_automaton.proofs.front.Front.take.Goals as goal
 
 pub returns-clause-front : goal.returns-clause-front
 returns-clause-front c =
@@ -9,11 +9,11 @@ returns-clause-front c =
     let cell = c.index-cell.result.now in
     let size : c.len-2.result ≡ length f.trail.visits.items = omega arith in
     front_on c.args.attempt.now c.args.cells.now _ _ c.place_after.result c.place_after.ensures.ends
-    (front_advanced c.args.attempt.now c.requires.steady c.requires.plain c.args.cells.now c.args.cells.now f c.args.place c.row_at-row.result c.reading_at-reading.result
-    c.in-Some.k cell c.start_at-start.result c.push.new.self c.hit_by-self.result c.place_after.result
-    c.requires.within c.requires.good c.requires.front (c.row_at-row.ensures c.args.cells.now.cells.items f.trail) c.reading_at-reading.ensures.reading
+    (front_advanced c.args.attempt.now c.requires.steady c.requires.plain c.args.cells.now c.args.cells.now f c.args.place c.row_at-row.result c.args.reading
+    c.in-Some.k cell c.start_at-start.result c.push.new.self c.note_hit.new.hit c.place_after.result
+    c.requires.within c.requires.good c.requires.front (c.row_at-row.ensures c.args.cells.now.cells.items f.trail) c.requires.reading
     c.requires.front.all (λ r v e. e) (λ k x e. e) c.in-Some.ensures c.index-cell.ensures
     (c.start_at-start.ensures c.args.cells.now.cells.items f.trail)
     c.in_ok-push.ensures.items
-    (c.hit_by-self.ensures ∙ ap (λ n. hit_or f.hit cell.matched n c.args.place) size)
+    (c.note_hit.ensures ∙ ap (λ n. hit_or f.hit cell.matched n c.args.place) size)
     c.place_after.ensures.after)
