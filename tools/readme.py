@@ -14,12 +14,12 @@ from pathlib import Path
 
 ROOT = Path(__file__).resolve().parent.parent
 PAGES = [ROOT / "README.md", ROOT / "crates/fancy_regex/CALLING.md"]
-TESTS = [ROOT / "crates/fancy_tests/src", ROOT / "crates/fancy_text_tests/src"]
+EXAMPLES = [ROOT / "crates/fancy_part_tests/src/examples.rt", ROOT / "crates/fancy_text_tests/src/examples.rt"]
 PROGRAM = ROOT / "crates/dates"
 SOURCES = [
-    *[folder / "examples.rt" for folder in TESTS],
+    *EXAMPLES,
     ROOT / "crates/callers/src/lib.rt",
-    TESTS[0] / "readme.rt",
+    ROOT / "crates/fancy_tests/src/readme.rt",
     *sorted(PROGRAM.glob("src/*.rt")),
 ]
 

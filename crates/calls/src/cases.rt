@@ -91,9 +91,19 @@ fn mode_of(letters: &str) -> BytesMode {
 
 /// Answers a line. A refusal before the calls is the answer.
 pub(crate) fn answer<W: io::Write>(alloc: Global, line: &str, out: &mut W) -> Result<()> {
-    let [call, letters, number, texts] = words_of(line);
-    let texts = texts_of(alloc, texts)?;
-    let texts = lent(alloc, &texts)?;
+    let words = words_of(line);
+    let texts = texts_of(alloc, words[3])?;
+    answer_words(alloc, words, &texts, out)
+}
+
+/// Answers a line with these words, the last of which is split and read as texts.
+fn answer_words<W: io::Write>(
+    alloc: Global,
+    [call, letters, number, _]: [&str; 4],
+    texts: &[String],
+    out: &mut W,
+) -> Result<()> {
+    let texts = lent(alloc, texts)?;
     let [text, template, patterns @ ..] = texts.as_slice() else {
         return Ok(());
     };

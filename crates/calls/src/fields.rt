@@ -46,11 +46,45 @@ pub(crate) fn lent(alloc: Global, texts: &[String]) -> Result<Vec<&str>> {
     Ok(all)
 }
 
+/// Writes a text as it is. Items are written in such parts.
+pub(crate) fn write_text<W: io::Write>(text: &str, out: &mut W) {
+    let _ = write!(out, "{text}");
+}
+
+/// Writes a number.
+pub(crate) fn write_number<W: io::Write>(number: usize, out: &mut W) {
+    let _ = write!(out, "{number}");
+}
+
+/// Writes `true` or `false`.
+pub(crate) fn write_bool<W: io::Write>(is_so: bool, out: &mut W) {
+    write_text(if is_so { "true" } else { "false" }, out);
+}
+
+/// Writes where a match starts and ends.
+pub(crate) fn write_span<W: io::Write>((start, end): (usize, usize), out: &mut W) {
+    write_number(start, out);
+    write_text("..", out);
+    write_number(end, out);
+}
+
+/// Writes the index of a pattern, and where its match starts and ends.
+pub(crate) fn write_indexed<W: io::Write>(index: usize, span: (usize, usize), out: &mut W) {
+    write_number(index, out);
+    write_text(" ", out);
+    write_span(span, out);
+}
+
+/// Writes a byte as two digits.
+pub(crate) fn write_byte<W: io::Write>(byte: u8, out: &mut W) {
+    let _ = write!(out, "{byte:02x}");
+}
+
 /// Writes an `x`, and these bytes in hexadecimal.
 pub(crate) fn write_bytes<W: io::Write>(bytes: &[u8], out: &mut W) {
-    let _ = write!(out, "x");
+    write_text("x", out);
     for byte in bytes {
-        let _ = write!(out, "{:02x}", *byte);
+        write_byte(*byte, out);
     }
 }
 

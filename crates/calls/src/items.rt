@@ -2,7 +2,10 @@
 
 ghost use Rattle.std.specs.Iterator.{IsFinite};
 
-use crate::fields::{write_bytes, write_refusal};
+use crate::fields::{
+    write_bool, write_byte, write_bytes, write_indexed, write_number, write_refusal, write_span,
+    write_text,
+};
 use fancy_regex::{ByteSet, Captures, Match, Regex, RegexSet, RegexSetMatch, Result, Token};
 use std::alloc::Global;
 use std::borrow::CowStr;
@@ -19,7 +22,7 @@ pub(crate) fn write_item<T: Item + Drop, W: io::Write>(answer: Result<T>, out: &
     match answer {
         Ok(item) => {
             item.tell(out);
-            let _ = write!(out, "|");
+            write_text("|", out);
         }
         Err(error) => write_refusal(&error, out),
     }
@@ -40,13 +43,13 @@ pub(crate) fn write_all<T: Item + Drop, I: Iterator<Item = Result<T>> + Drop, W:
 
 impl Item for () {
     fn tell<W: io::Write>(&self, out: &mut W) {
-        let _ = write!(out, "fits");
+        write_text("fits", out);
     }
 }
 
 impl Item for bool {
     fn tell<W: io::Write>(&self, out: &mut W) {
-        let _ = write!(out, "{self}");
+        write_bool(*self, out);
     }
 }
 
@@ -72,16 +75,14 @@ impl<T: Item> Item for Option<T> {
     fn tell<W: io::Write>(&self, out: &mut W) {
         match self {
             Some(item) => item.tell(out),
-            None => {
-                let _ = write!(out, "none");
-            }
+            None => write_text("none", out),
         }
     }
 }
 
 impl Item for Match<'_> {
     fn tell<W: io::Write>(&self, out: &mut W) {
-        let _ = write!(out, "{}..{}", self.start(), self.end());
+        write_span((self.start(), self.end()), out);
     }
 }
 
@@ -90,47 +91,48 @@ impl Item for Captures<'_, &str> {
     fn tell<W: io::Write>(&self, out: &mut W) {
         for group in self.iter() {
             group.tell(out);
-            let _ = write!(out, ",");
+            write_text(",", out);
         }
     }
 }
 
 impl Item for RegexSetMatch<'_, &str> {
     fn tell<W: io::Write>(&self, out: &mut W) {
-        let _ = write!(out, "{} {}..{}", self.pattern(), self.start(), self.end());
+        write_indexed(self.pattern(), (self.start(), self.end()), out);
     }
 }
 
 impl Item for Token<'_, &str> {
     fn tell<W: io::Write>(&self, out: &mut W) {
-        let _ = write!(out, "{} {}..{}", self.pattern(), self.start(), self.end());
+        write_indexed(self.pattern(), (self.start(), self.end()), out);
     }
 }
 
 /// Tells what is known of a regex without a search.
 impl Item for Regex {
     fn tell<W: io::Write>(&self, out: &mut W) {
-        let _ = write!(
-            out,
-            "{} groups, easy {}, ",
-            self.captures_len(),
-            self.is_easy()
-        );
+        write_number(self.captures_len(), out);
+        write_text(" groups, easy ", out);
+        write_bool(self.is_easy(), out);
+        write_text(", ", out);
         write_bytes(self.as_str().as_bytes(), out);
     }
 }
 
 impl Item for RegexSet {
     fn tell<W: io::Write>(&self, out: &mut W) {
-        let _ = write!(out, "{} patterns", self.len());
+        write_number(self.len(), out);
+        write_text(" patterns", out);
     }
 }
 
 impl Item for ByteSet {
     fn tell<W: io::Write>(&self, out: &mut W) {
-        let _ = write!(out, "{} bytes", self.len());
+        write_number(self.len(), out);
+        write_text(" bytes", out);
         for byte in self.iter() {
-            let _ = write!(out, " {byte:02x}");
+            write_text(" ", out);
+            write_byte(byte, out);
         }
     }
 }

@@ -1,7 +1,7 @@
 //! Calls of a regex.
 
 use crate::cases::{Ask, Asked};
-use crate::fields::{write_bytes, write_refusal};
+use crate::fields::{write_bytes, write_number, write_refusal, write_text};
 use crate::items::{Item, write_all, write_item};
 use crate::templates::{check, replace, replace_by};
 use fancy_regex::{Regex, RegexInput, Replacer, Work};
@@ -28,7 +28,7 @@ impl Ask for Regex {
 
 /// Writes that an input cannot be searched.
 pub(crate) fn cannot<W: io::Write>(out: &mut W) {
-    let _ = write!(out, "?cannot|");
+    write_text("?cannot|", out);
 }
 
 /// The first match in the whole text, by each call that takes a text.
@@ -57,7 +57,8 @@ fn find_from<W: io::Write>(regex: &Regex, asked: Asked<'_>, out: &mut W) {
     write_item(regex.find_from_pos(asked.text, asked.number), out);
     let mut work = Work::new();
     write_item(regex.find_input_counted(input, &mut work), out);
-    let _ = write!(out, "within {}|", is_within(regex, &work, asked.text.len()));
+    write_text("within ", out);
+    write_item(Ok(is_within(regex, &work, asked.text.len())), out);
 }
 
 /// The groups of the first match in the whole text, and of the first from the byte offset of the line on.
@@ -127,16 +128,15 @@ fn tell<W: io::Write>(regex: &Regex, asked: Asked<'_>, out: &mut W) {
     let _ = asked.options();
     regex.tell(out);
     let next = asked.text.as_bytes().first().copied();
-    let _ = write!(
-        out,
-        "|{}|{}|",
-        regex.may_start_before(next),
-        regex.may_start_before(None)
-    );
+    write_text("|", out);
+    write_item(Ok(regex.may_start_before(next)), out);
+    write_item(Ok(regex.may_start_before(None)), out);
     let items = regex.captures_iter_input(input.again());
     write_bytes(items.text().as_bytes(), out);
     let matches = regex.find_iter(asked.text);
-    let _ = write!(out, "|{}|", matches.input().start());
+    write_text("|", out);
+    write_number(matches.input().start(), out);
+    write_text("|", out);
     let mut template = asked.template;
     write_item(Ok(template.no_expansion()), out);
 }

@@ -1,7 +1,7 @@
 //! Calls of pattern sets.
 
 use crate::cases::{Ask, Asked};
-use crate::fields::{begin, end, write_refusal};
+use crate::fields::{begin, end, write_number, write_refusal, write_text};
 use crate::items::{write_all, write_item};
 use crate::searches::cannot;
 use fancy_regex::{Regex, RegexInput, RegexSet, Result};
@@ -15,6 +15,18 @@ impl Ask for RegexSet {
             _ => tell(self, asked, out),
         }
     }
+}
+
+/// Writes a number as an item.
+fn write_count<W: io::Write>(count: usize, out: &mut W) {
+    write_number(count, out);
+    write_text("|", out);
+}
+
+/// Writes a place as an item.
+fn write_place<W: io::Write>(place: usize, out: &mut W) {
+    write_text("at ", out);
+    write_count(place, out);
 }
 
 /// The regexes of patterns, with the default options.
@@ -32,7 +44,9 @@ pub(crate) fn from_regexes<W: io::Write>(asked: Asked<'_>, out: &mut W) -> Resul
     begin(out);
     let set = RegexSet::from_regexes(members);
     let can = set.can_search(&RegexInput::new(asked.text));
-    let _ = write!(out, "{}|{}|{can}|", set.len(), set.is_empty());
+    write_count(set.len(), out);
+    write_item(Ok(set.is_empty()), out);
+    write_item(Ok(can), out);
     end(out);
     Ok(())
 }
@@ -45,12 +59,10 @@ fn search<W: io::Write>(set: &RegexSet, asked: Asked<'_>, out: &mut W) {
     }
     match set.find_input(input) {
         Ok(Some(matches)) => {
-            let _ = write!(out, "at {}|", matches.start());
+            write_place(matches.start(), out);
             write_all(matches, out);
         }
-        Ok(None) => {
-            let _ = write!(out, "none|");
-        }
+        Ok(None) => write_text("none|", out),
         Err(error) => write_refusal(&error, out),
     }
 }
@@ -65,7 +77,7 @@ fn tokens<W: io::Write>(set: &RegexSet, asked: Asked<'_>, out: &mut W) {
     for token in tokens.by_ref() {
         write_item(token, out);
     }
-    let _ = write!(out, "at {}|", tokens.place());
+    write_place(tokens.place(), out);
 }
 
 /// What a set tells without a search, and a list of tokens that is made and not asked: none of it takes memory.
@@ -75,12 +87,8 @@ fn tell<W: io::Write>(set: &RegexSet, asked: Asked<'_>, out: &mut W) {
         return cannot(out);
     }
     let tokens = set.tokens(input);
-    let _ = write!(
-        out,
-        "{}|{}|{}|{}|",
-        set.is_empty(),
-        tokens.regex_set().len(),
-        tokens.haystack().len(),
-        tokens.place()
-    );
+    write_item(Ok(set.is_empty()), out);
+    write_count(tokens.regex_set().len(), out);
+    write_count(tokens.haystack().len(), out);
+    write_count(tokens.place(), out);
 }

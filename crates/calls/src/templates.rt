@@ -1,7 +1,7 @@
 //! Templates, and texts whose matches are replaced.
 
 use crate::cases::{Ask, Asked};
-use crate::fields::{write_bytes, write_refusal};
+use crate::fields::{write_bytes, write_number, write_refusal, write_text};
 use crate::items::{Item, write_item};
 use crate::searches::cannot;
 use fancy_regex::{
@@ -35,13 +35,16 @@ pub(crate) fn replace<W: io::Write>(regex: &Regex, asked: Asked<'_>, out: &mut W
 
 /// The text of the last group between `<` and `>`, or the two alone where it took no part.
 fn marked(alloc: Global, captures: &Captures<'_, &str>) -> Result<String> {
-    let mut text = String::new(alloc);
-    text.push('<')?;
-    if let Some(group) = captures.get(captures.len().wrapping_sub(1)) {
-        text.push_str(group.as_str())?;
+    let text = last_text(captures);
+    Ok(format!(in alloc; "<{text}>")?)
+}
+
+/// The text of the last group, and the empty one where it took no part.
+fn last_text<'t>(captures: &Captures<'_, &'t str>) -> &'t str {
+    match captures.get(captures.len().wrapping_sub(1)) {
+        Some(group) => group.as_str(),
+        None => "",
     }
-    text.push('>')?;
-    Ok(text)
 }
 
 /// The text with matches replaced by a function: so many as the line says, where it is lent, and then all.
@@ -95,7 +98,7 @@ fn write_target<W: io::Write>(answer: Result<()>, target: &[u8], out: &mut W) {
         let _ = write!(out, "!{error} left ");
     }
     write_bytes(target, out);
-    let _ = write!(out, "|");
+    write_text("|", out);
 }
 
 fn append<W: io::Write>(
@@ -104,18 +107,28 @@ fn append<W: io::Write>(
     appends: Appends,
     out: &mut W,
 ) {
-    let Ok(mut target) = String::from_str(asked.alloc, "t") else {
-        return write_refusal(&Error::Memory, out);
-    };
-    let mut template = asked.template;
-    let answer = match appends {
-        Appends::Expander => {
-            expander_of(asked).append_expansion(&mut target, asked.template, captures)
+    match String::from_str(asked.alloc, "t") {
+        Ok(mut target) => {
+            let answer = append_to(&mut target, captures, asked, appends);
+            write_target(answer, target.as_str().as_bytes(), out);
         }
-        Appends::Captures => captures.expand(asked.template, &mut target),
-        Appends::Template => template.replace_append(captures, &mut target),
-    };
-    write_target(answer, target.as_str().as_bytes(), out);
+        Err(_) => write_refusal(&Error::Memory, out),
+    }
+}
+
+/// Appends to the target what the template expands to.
+fn append_to(
+    target: &mut String,
+    captures: &Captures<'_, &str>,
+    asked: Asked<'_>,
+    appends: Appends,
+) -> Result<()> {
+    let mut template = asked.template;
+    match appends {
+        Appends::Expander => expander_of(asked).append_expansion(target, template, captures),
+        Appends::Captures => captures.expand(template, target),
+        Appends::Template => template.replace_append(captures, target),
+    }
 }
 
 fn append_bytes<W: io::Write>(captures: &Captures<'_, &str>, asked: Asked<'_>, out: &mut W) {
@@ -130,16 +143,17 @@ fn append_bytes<W: io::Write>(captures: &Captures<'_, &str>, asked: Asked<'_>, o
 /// Writes as it stands what the template expands to, for which no memory is taken.
 fn write<W: io::Write>(captures: &Captures<'_, &str>, asked: Asked<'_>, out: &mut W) {
     let _ = Expander::default().write_expansion(out, asked.template, captures);
-    let _ = write!(out, "|");
+    write_text("|", out);
 }
 
 /// What is read of the groups of a match: no reader takes memory.
 fn read<W: io::Write>(captures: &Captures<'_, &str>, out: &mut W) {
-    let _ = write!(out, "{} groups|", captures.len());
+    write_number(captures.len(), out);
+    write_text(" groups|", out);
     write_item(Ok(captures.name("n")), out);
     write_item(Ok(captures.get(captures.len())), out);
     captures.tell(out);
-    let _ = write!(out, "|");
+    write_text("|", out);
     write_bytes(captures.input_as_bytes(), out);
-    let _ = write!(out, "|");
+    write_text("|", out);
 }

@@ -4,17 +4,14 @@ mod counts;
 mod fact;
 mod nested;
 mod overrides;
-mod pattern_sets;
 mod settings;
 mod spans;
-mod tokens;
 mod verdicts;
 
 pub(crate) use counts::{CountRow, PartCountRow, check_counts, check_part_counts, counted};
 pub(crate) use fact::check;
 pub(crate) use nested::{nested, repeated};
 pub(crate) use overrides::{OverrideRow, check_overrides};
-pub(crate) use pattern_sets::{AMPLE, SetRow, check_matches_at, check_sets, searched, set_of};
 pub(crate) use settings::{
     ASCII_TEXT, BYTES, BYTES_WITHOUT_UNICODE, CHARACTERS, CHARACTERS_ANYWHERE, FOLDED, LONGEST,
     NONE_SAVED, NOT_EMPTY, ONE_SAVED, ONLY_NAMED, OVERRIDING, SEEKING, Settings, options_of, owned,
@@ -25,7 +22,6 @@ pub(crate) use spans::{
     check_may_search, check_part, check_read, check_searches, check_spans, check_texts, first_span,
     span_found,
 };
-pub(crate) use tokens::{TokenRow, TokensEnd, check_tokens};
 pub(crate) use verdicts::{
     KindRow, Verdict, VerdictRow, check_kinds, check_verdict, check_verdicts, is_given_up,
 };

@@ -6,7 +6,9 @@ use crate::asking::{
     check_searches, check_spans, check_texts, check_verdict, check_verdicts, is_given_up, owned,
     regex_of, regex_with, repeated, searchable,
 };
-use fancy_regex::{RegexBuilder, RegexInput, RegexOptionsBuilder, RuntimeError};
+use fancy_regex::{Match, RegexBuilder, RegexInput, RegexOptionsBuilder, Result, RuntimeError};
+use std::alloc::Global;
+use std::process::Abort;
 
 const TEXTS: &[TextRow] = &[
     // atomic parts have one outcome
@@ -234,20 +236,26 @@ const FEW_SAVED: &[SpanRow<&str>] = &[
     (NONE_SAVED, "a*", "aa", Some((0, 2))),
 ];
 
+/// Checks that a search was given up since it saved more branches than it may.
+fn check_too_many(rt: &impl Abort, found: Result<Option<Match<'_>>>, pattern: &str) {
+    let is_stopped = is_given_up(&found, RuntimeError::StackOverflow);
+    check(rt, is_stopped, pattern);
+}
+
 // each turn of the star saves a branch
 #[test]
 fn too_many_branches_are_saved(rt: HostRuntime) {
-    let regex = regex_of(&rt, rt.alloc(), "a*(?=c)");
     let haystack = repeated(&rt, rt.alloc(), "a", 1_000_002);
-    let found = regex.find(haystack.as_str());
-    let is_stopped = is_given_up(&found, RuntimeError::StackOverflow);
-    check(&rt, is_stopped, "a*(?=c)");
-    // the second branch is saved while the first is tried
+    let regex = regex_of(&rt, rt.alloc(), "a*(?=c)");
+    check_too_many(&rt, regex.find(haystack.as_str()), "a*(?=c)");
+}
+
+// the second branch is saved while the first is tried
+#[test]
+fn no_branch_may_be_saved(rt: HostRuntime) {
     let regex = regex_with(&rt, rt.alloc(), NONE_SAVED, "(?:a|b)(?=c)");
     let input = searchable(&rt, &regex, RegexInput::new("bc"));
-    let found = regex.find_input(input);
-    let is_stopped = is_given_up(&found, RuntimeError::StackOverflow);
-    check(&rt, is_stopped, "(?:a|b)(?=c)");
+    check_too_many(&rt, regex.find_input(input), "(?:a|b)(?=c)");
 }
 
 /// A pattern, how large its code may be, and what becomes of it. `a(?=b)` has 3 nodes.
@@ -258,15 +266,29 @@ const SIZES: &[(&str, usize, Verdict)] = &[
     ("(?:a|b)*c", 0, Verdict::Accepted),
 ];
 
+/// Checks what becomes of a pattern whose code may be so large.
+fn check_size(rt: &impl Abort, alloc: Global, (pattern, size): (&str, usize), wanted: Verdict) {
+    let mut options = RegexOptionsBuilder::new();
+    let read = options.max_prog_size(size).build(owned(rt, alloc, pattern));
+    check_verdict(rt, &read, wanted, pattern);
+}
+
+/// The same by a builder that holds the pattern.
+fn check_size_of_builder(
+    rt: &impl Abort,
+    alloc: Global,
+    (pattern, size): (&str, usize),
+    wanted: Verdict,
+) {
+    let mut builder = RegexBuilder::new(alloc, pattern).expect(rt, pattern);
+    let read = builder.max_prog_size(size).build();
+    check_verdict(rt, &read, wanted, pattern);
+}
+
 #[test]
 fn the_size_of_hard_code_is_limited(rt: HostRuntime) {
     for &(pattern, size, wanted) in SIZES {
-        let mut options = RegexOptionsBuilder::new();
-        options.max_prog_size(size);
-        let read = options.build(owned(&rt, rt.alloc(), pattern));
-        check_verdict(&rt, &read, wanted, pattern);
-        let mut builder = RegexBuilder::new(rt.alloc(), pattern).expect(&rt, pattern);
-        let read = builder.max_prog_size(size).build();
-        check_verdict(&rt, &read, wanted, pattern);
+        check_size(&rt, rt.alloc(), (pattern, size), wanted);
+        check_size_of_builder(&rt, rt.alloc(), (pattern, size), wanted);
     }
 }

@@ -61,7 +61,7 @@ fn set_beside_the_pattern(builder: &mut RegexBuilder, switch: Switch, yes: bool)
     };
 }
 
-/// Checks what is found where the switch is off, or on, by both builders.
+/// Checks what is found where the switch is off, or on, after it was set otherwise.
 fn check_switched(rt: &impl Abort, alloc: Global, row: &Row, yes: bool) {
     let (switch, pattern, haystack, off, on) = *row;
     let wanted = if yes { on } else { off };
@@ -70,6 +70,12 @@ fn check_switched(rt: &impl Abort, alloc: Global, row: &Row, yes: bool) {
     set(&mut options, switch, yes);
     let read = options.build(owned(rt, alloc, pattern));
     check_read(rt, read, RegexInput::new(haystack), wanted);
+}
+
+/// The same by a builder that holds the pattern.
+fn check_switched_beside(rt: &impl Abort, alloc: Global, row: &Row, yes: bool) {
+    let (switch, pattern, haystack, off, on) = *row;
+    let wanted = if yes { on } else { off };
     let mut builder = RegexBuilder::new(alloc, pattern).expect(rt, pattern);
     set_beside_the_pattern(&mut builder, switch, !yes);
     set_beside_the_pattern(&mut builder, switch, yes);
@@ -113,8 +119,10 @@ fn each_switch_changes_answers(rt: HostRuntime) {
         let wanted = if is_on { on } else { off };
         let input = RegexInput::new(haystack);
         check_read(&rt, Regex::new(rt.alloc(), pattern), input, wanted);
-        check_switched(&rt, rt.alloc(), row, false);
-        check_switched(&rt, rt.alloc(), row, true);
+        for yes in [false, true] {
+            check_switched(&rt, rt.alloc(), row, yes);
+            check_switched_beside(&rt, rt.alloc(), row, yes);
+        }
     }
     let options = RegexOptionsBuilder::default();
     let read = options.build(owned(&rt, rt.alloc(), "a b"));
@@ -180,6 +188,15 @@ fn modes_and_overrides_change_answers(rt: HostRuntime) {
 /// How many groups a pattern has, or why it is refused.
 type Count = Result<usize, ParseErrorKind>;
 
+/// How many groups a pattern has, or why it is refused; none where that is no fault of it.
+fn count_in(read: &fancy_regex::Result<Regex>) -> Option<Count> {
+    match read {
+        Ok(regex) => Some(Ok(regex.captures_len())),
+        Err(Error::ParseError(_, kind)) => Some(Err(*kind)),
+        Err(_) => None,
+    }
+}
+
 /// Checks how many groups the pattern has with [`RegexOptionsBuilder::ignore_numbered_groups_when_named_groups_exist`] off
 /// or on, where the option is first set otherwise.
 fn check_groups(rt: &impl Abort, alloc: Global, pattern: &str, yes: bool, wanted: Count) {
@@ -187,12 +204,7 @@ fn check_groups(rt: &impl Abort, alloc: Global, pattern: &str, yes: bool, wanted
     builder.ignore_numbered_groups_when_named_groups_exist(!yes);
     builder.ignore_numbered_groups_when_named_groups_exist(yes);
     let read = builder.build(owned(rt, alloc, pattern));
-    let found = match &read {
-        Ok(regex) => Ok(regex.captures_len()),
-        Err(Error::ParseError(_, kind)) => Err(*kind),
-        Err(_) => rt.panic(pattern),
-    };
-    check(rt, found == wanted, pattern);
+    check(rt, count_in(&read) == Some(wanted), pattern);
 }
 
 /// A pattern, and how many groups it has with the option off and on.

@@ -3,12 +3,14 @@
 use crate::asking::{
     ASCII_TEXT, BYTES, BytesRow, CHARACTERS, CountRow, LONGEST, NOT_EMPTY, OverrideRow, SEEKING,
     SearchRow, Settings, SpanRow, Verdict, VerdictRow, check, check_counts, check_match,
-    check_matches_at, check_may_search, check_overrides, check_part, check_read, check_searches,
-    check_spans, check_verdict, check_verdicts, counted, owned, regex_of, searched, span_found,
+    check_may_search, check_overrides, check_part, check_read, check_searches, check_spans,
+    check_verdict, check_verdicts, counted, owned, regex_of, span_found,
 };
 use fancy_regex::{
-    ParseErrorKind, Regex, RegexBuilder, RegexInput, RegexOptionsBuilder, RegexSet, Work,
+    ParseErrorKind, Regex, RegexBuilder, RegexInput, RegexOptionsBuilder, Result, Work,
 };
+use std::alloc::Global;
+use std::process::Abort;
 
 #[test]
 fn searches_and_inputs(rt: HostRuntime) {
@@ -124,44 +126,48 @@ fn patterns_and_options(rt: HostRuntime) {
     check_verdicts(&rt, rt.alloc(), REFUSED);
 }
 
+/// Checks patterns that a builder holds.
+fn check_held(rt: &impl Abort, alloc: Global) {
+    let mut builder = RegexBuilder::new(alloc, "a b").expect(rt, "a builder");
+    let read = builder.ignore_whitespace(true).build();
+    check_read(rt, read, RegexInput::new("ab"), Some((0, 2)));
+    let read = builder.pattern(owned(rt, alloc, "b #")).build();
+    check_read(rt, read, RegexInput::new("ab"), Some((1, 2)));
+}
+
+/// Checks that a regex tells its pattern.
+fn check_pattern(rt: &impl Abort, read: Result<Regex>, pattern: &str) {
+    let regex = read.expect(rt, pattern);
+    check(rt, regex.as_str() == pattern, pattern);
+}
+
 #[test]
 fn builders(rt: HostRuntime) {
     let pattern = owned(&rt, rt.alloc(), "a b # c");
-    let mut options = RegexOptionsBuilder::new();
-    let read = options.verbose_mode(true).build(pattern);
+    let read = RegexOptionsBuilder::new().verbose_mode(true).build(pattern);
     check_read(&rt, read, RegexInput::new("ab"), Some((0, 2)));
     let pattern = owned(&rt, rt.alloc(), "a(?=b)");
     let refused = RegexOptionsBuilder::new().max_prog_size(0).build(pattern);
     check_verdict(&rt, &refused, Verdict::TooComplex, "a(?=b)");
-    let mut builder = RegexBuilder::new(rt.alloc(), "a b").expect(&rt, "a builder");
-    let read = builder.ignore_whitespace(true).build();
-    check_read(&rt, read, RegexInput::new("ab"), Some((0, 2)));
-    let other = owned(&rt, rt.alloc(), "b #");
-    let read = builder.pattern(other).build();
-    check_read(&rt, read, RegexInput::new("ab"), Some((1, 2)));
-    let regex = Regex::try_from(owned(&rt, rt.alloc(), "a|ab")).expect(&rt, "a regex");
-    check(&rt, regex.as_str() == "a|ab", "a|ab");
+    check_held(&rt, rt.alloc());
+    let text = owned(&rt, rt.alloc(), "a|ab");
+    check_pattern(&rt, Regex::try_from(text), "a|ab");
+}
+
+/// Checks whether a pattern is easy.
+fn check_easy(rt: &impl Abort, alloc: Global, pattern: &str, wanted: bool) {
+    let regex = regex_of(rt, alloc, pattern);
+    check(rt, regex.is_easy() == wanted, pattern);
 }
 
 #[test]
 fn work(rt: HostRuntime) {
-    let regex = regex_of(&rt, rt.alloc(), "(?:a|b)(?=c)");
-    check(&rt, !regex.is_easy(), "a hard pattern");
+    check_easy(&rt, rt.alloc(), "(?:a|b)(?=c)", false);
+    check_easy(&rt, rt.alloc(), "a|ab", true);
     let regex = regex_of(&rt, rt.alloc(), "a|ab");
-    check(&rt, regex.is_easy(), "an easy pattern");
     let mut work = Work::new();
     let found = counted(&rt, &regex, RegexInput::new("xab"), &mut work);
     check(&rt, found == Some(Some((1, 2))), "the span");
     let most = regex.code_len().saturating_mul(4);
     check(&rt, work.steps() <= most, "the steps");
-}
-
-#[test]
-fn pattern_sets(rt: HostRuntime) {
-    let set = RegexSet::new(rt.alloc(), &["a\\Kb", "c", "ab"]).expect(&rt, "a set");
-    check(&rt, set.len() == 3, "how many patterns");
-    let found = searched(&rt, &set, RegexInput::new("xab")).expect(&rt, "a search");
-    let matches = found.expect(&rt, "a position");
-    let items = &[Some((0, (2, 3))), Some((2, (1, 3)))];
-    check_matches_at(&rt, matches, (3, "xab"), 1, items);
 }

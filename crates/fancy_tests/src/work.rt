@@ -257,20 +257,31 @@ fn a_search_for_a_large_pattern_is_bounded(rt: HostRuntime) {
     check_nothing_in_time(&rt, &regex, "", regex.code_len());
 }
 
+/// Checks searches of the front and of the rest of a text, cut at each of its bytes. The second regex seeks a `b`, which no
+/// front has.
+fn check_parts(rt: &impl Abort, regex: &Regex, sought: &Regex, text: &str) {
+    let most = regex.code_len();
+    for count in 0..131usize {
+        let (front, rest) = (text.get(..count), text.get(count..));
+        let front = front.expect(rt, "no text");
+        check_nothing_in_time(rt, regex, front, most);
+        check_nothing_in_time(rt, sought, front, 0);
+        check_nothing_in_time(rt, regex, rest.expect(rt, "no text"), most);
+    }
+}
+
 #[test]
 fn a_search_is_bounded(rt: HostRuntime) {
-    let regex = regex_of(&rt, rt.alloc(), "(?:a|b|ab)*bc");
-    let sought = regex_with(&rt, rt.alloc(), SEEKING, "(?:a|b|ab)*bc");
+    let regex = regex_with(&rt, rt.alloc(), CHARACTERS, "(?:a|b|ab)*bc");
     check(&rt, regex.is_easy(), "an easy pattern");
-    let most = regex.code_len();
     let twins = nested(&rt, rt.alloc(), ("ab", "ac", ""), 28);
-    check_nothing_in_time(&rt, &regex, twins.as_str(), most);
-    let all = nested(&rt, rt.alloc(), ("a", "cb", ""), 130);
-    for count in 0..131usize {
-        let text = all.as_str().get(..count).expect(&rt, "no text");
-        check_nothing_in_time(&rt, &regex, text, most);
-        check_nothing_in_time(&rt, &sought, text, 0);
-        let text = all.as_str().get(count..).expect(&rt, "no text");
-        check_nothing_in_time(&rt, &regex, text, most);
-    }
+    check_nothing_in_time(&rt, &regex, twins.as_str(), regex.code_len());
+}
+
+#[test]
+fn a_search_of_a_part_is_bounded(rt: HostRuntime) {
+    let regex = regex_with(&rt, rt.alloc(), CHARACTERS, "(?:a|b|ab)*bc");
+    let sought = regex_with(&rt, rt.alloc(), SEEKING, "(?:a|b|ab)*bc");
+    let text = nested(&rt, rt.alloc(), ("a", "cb", ""), 130);
+    check_parts(&rt, &regex, &sought, text.as_str());
 }

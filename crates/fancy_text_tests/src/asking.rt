@@ -29,5 +29,5 @@ pub(crate) use settings::{
 };
 pub(crate) use spans::{Span, Spanned};
 pub(crate) use templates::{
-    CheckedRow, TemplateRow, Told, check_expanded, check_templates, check_told,
+    CheckedRow, TemplateRow, Told, check_expanded, check_expanded_text, check_templates, check_told,
 };

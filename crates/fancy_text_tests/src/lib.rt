@@ -13,6 +13,8 @@ mod hard;
 #[cfg(test)]
 mod iteration;
 #[cfg(test)]
+mod last_lines;
+#[cfg(test)]
 mod odd;
 #[cfg(test)]
 mod readme;

@@ -7,6 +7,7 @@ use crate::asking::{ReplacedRow, check, check_answer, check_fixed, check_replace
 use fancy_regex::{Captures, Error, NoExpand, ReplaceFn, Replacer, RuntimeError};
 use std::alloc::Global;
 use std::borrow::CowStr;
+use std::process::Abort;
 
 const REPLACED: &[ReplacedRow] = &[
     ("aa", "aaaa aaa aa a", 0, "xx", "xxxx xxa xx a"),
@@ -60,8 +61,12 @@ fn a_text_without_matches_is_borrowed(rt: HostRuntime) {
     check(&rt, is_lent, "a lent text");
     let is_lent = check_answer(&rt, regex.replace_all("", NoExpand("y")), "");
     check(&rt, is_lent, "a lent text");
-    let same = regex_of(&rt, rt.alloc(), "b");
-    let is_lent = check_answer(&rt, same.replace_all("abc", "b"), "abc");
+}
+
+#[test]
+fn a_match_that_is_replaced_by_itself_is_copied(rt: HostRuntime) {
+    let regex = regex_of(&rt, rt.alloc(), "b");
+    let is_lent = check_answer(&rt, regex.replace_all("abc", "b"), "abc");
     check(&rt, !is_lent, "a copy");
 }
 
@@ -73,12 +78,13 @@ fn second_fails(alloc: Global, calls: u32) -> fancy_regex::Result<String> {
     Ok(format!(in alloc; "{calls}")?)
 }
 
-/// Whether the answer is the error of the second call.
-fn is_second_error(answer: &fancy_regex::Result<CowStr<'_, Global>>) -> bool {
-    matches!(
+/// Checks that the answer is the error of the second call.
+fn check_second_error(rt: &impl Abort, answer: fancy_regex::Result<CowStr<'_, Global>>) {
+    let holds = matches!(
         answer,
         Err(Error::RuntimeError(RuntimeError::BacktrackLimitExceeded))
-    )
+    );
+    check(rt, holds, "an error");
 }
 
 #[test]
@@ -90,13 +96,15 @@ fn an_error_of_a_replacer_is_the_answer(rt: HostRuntime) {
         calls = calls.wrapping_add(1);
         second_fails(alloc, calls)
     });
-    check(
-        &rt,
-        is_second_error(&regex.replace_all("aaa", failing.by_ref())),
-        "an error",
-    );
+    check_second_error(&rt, regex.replace_all("aaa", failing.by_ref()));
     // the second call was the last one, and the third goes on from there
     check_answer(&rt, regex.replace_all("aba", failing.by_ref()), "3b4");
+}
+
+#[test]
+fn a_replacer_is_called_once(rt: HostRuntime) {
+    let alloc = rt.alloc();
+    let regex = regex_of(&rt, alloc, "a");
     let mut calls = 0u32;
     let once = ReplaceFn::new(|_captures: &Captures<'_, &str>| {
         calls = calls.wrapping_add(1);
@@ -142,8 +150,7 @@ impl Replacer for Hyphens {
 fn an_error_of_any_replacer_is_the_answer(rt: HostRuntime) {
     let regex = regex_of(&rt, rt.alloc(), "a");
     let mut hyphens = Hyphens { calls: 0 };
-    let answer = regex.replace_all("aaa", hyphens.by_ref());
-    check(&rt, is_second_error(&answer), "an error");
+    check_second_error(&rt, regex.replace_all("aaa", hyphens.by_ref()));
     check_answer(&rt, regex.replace_all("aba", hyphens), "-b-");
     let once = regex.replacen("aaa", 1, Hyphens { calls: 0 });
     check_answer(&rt, once, "-aa");
@@ -159,16 +166,25 @@ fn a_replacer_by_reference_goes_on(rt: HostRuntime) {
         second_fails(alloc, calls)
     });
     check_answer(&rt, regex.try_replacen_by("aaa", 1, &mut failing), "1aa");
-    check(
-        &rt,
-        is_second_error(&regex.try_replacen_by("aa", 0, &mut failing)),
-        "an error",
-    );
+    check_second_error(&rt, regex.try_replacen_by("aa", 0, &mut failing));
     check_answer(&rt, regex.try_replacen_by("aaa", 2, &mut failing), "34a");
+}
+
+#[test]
+fn templates_are_lent(rt: HostRuntime) {
+    let regex = regex_of(&rt, rt.alloc(), "a");
     let mut template = "<$0>";
     check_answer(&rt, regex.try_replacen_by("ab", 0, &mut template), "<a>b");
     let mut fixed = NoExpand("$0");
     check_answer(&rt, regex.try_replacen_by("ab", 0, &mut fixed), "$0b");
+}
+
+/// The text of a group, and the empty one where it took no part.
+fn text_of<'t>(captures: &Captures<'_, &'t str>, number: usize) -> &'t str {
+    match captures.get(number) {
+        Some(group) => group.as_str(),
+        None => "",
+    }
 }
 
 #[test]
@@ -177,15 +193,8 @@ fn functions_replace(rt: HostRuntime) {
     let regex = regex_of(&rt, alloc, "([^,\\s]+),\\s+(\\S+)");
     // the text of the second group, a space, and that of the first
     let swap = ReplaceFn::new(|captures: &Captures<'_, &str>| {
-        let mut text = String::new(alloc);
-        if let Some(group) = captures.get(2) {
-            text.push_str(group.as_str())?;
-        }
-        text.push(' ')?;
-        if let Some(group) = captures.get(1) {
-            text.push_str(group.as_str())?;
-        }
-        Ok(text)
+        let (first, second) = (text_of(captures, 1), text_of(captures, 2));
+        Ok(format!(in alloc; "{second} {first}")?)
     });
     let replaced = regex.replace("Springsteen, Bruce", swap);
     check_answer(&rt, replaced, "Bruce Springsteen");

@@ -1,10 +1,10 @@
 //! What templates expand to, which of them a regex allows, and escapes.
 
 use crate::asking::{
-    CheckedRow, TemplateRow, Told, check, check_answer, check_expanded, check_templates,
-    check_told, regex_of, taken,
+    CheckedRow, TemplateRow, Told, check, check_answer, check_expanded, check_expanded_text,
+    check_templates, check_told, regex_of, taken,
 };
-use fancy_regex::{Expander, escape};
+use fancy_regex::{Captures, Expander, escape};
 use fancy_template::steps::Step;
 use fancy_template::steps::Step::{Literal, Name, Number};
 use fancy_template::write::write_whole;
@@ -176,6 +176,15 @@ const PYTHON_CHECKS: &[CheckedRow] = &[
     ),
 ];
 
+/// Checks that captures of owned text expand.
+fn check_owned_text(rt: &impl Abort, alloc: Global) {
+    let haystack = String::from_str(alloc, "éab").expect(rt, "a text");
+    let regex = regex_of(rt, alloc, "(é)(x)?a");
+    let captures = taken(rt, regex.captures(&haystack), "a search");
+    let answer = Expander::default().expansion("$2[$1]$0", &captures);
+    check_expanded_text(rt, answer, "[é]éa");
+}
+
 #[test]
 fn templates_are_read(rt: HostRuntime) {
     let dollar = Expander::default();
@@ -187,13 +196,7 @@ fn templates_are_read(rt: HostRuntime) {
     check_expanded(&rt, rt.alloc(), DOLLAR_TEMPLATES);
     check_told(&rt, rt.alloc(), &dollar, DOLLAR_CHECKS);
     check_told(&rt, rt.alloc(), &python, PYTHON_CHECKS);
-    // captures of owned text expand
-    let haystack = String::from_str(rt.alloc(), "éab").expect(&rt, "a text");
-    let regex = regex_of(&rt, rt.alloc(), "(é)(x)?a");
-    let captures = taken(&rt, regex.captures(&haystack), "a search");
-    let answer = dollar.expansion("$2[$1]$0", &captures);
-    let text = answer.expect(&rt, "an expansion");
-    check(&rt, text.as_str() == "[é]éa", "an expansion");
+    check_owned_text(&rt, rt.alloc());
 }
 
 /// Texts, and what stands for them in a pattern.
@@ -275,8 +278,19 @@ impl io::Write for Narrow {
     }
 }
 
+/// A narrow writer that has taken nothing.
+fn narrow_writer(alloc: Global, most: usize, left: usize, fault: Option<ErrorKind>) -> Narrow {
+    Narrow {
+        taken: Vec::new(alloc),
+        calls: 0,
+        most,
+        left,
+        fault,
+    }
+}
+
 /// The kind of the fault of a write, if it has one.
-fn kind_of(answer: &io::Result<()>) -> Option<ErrorKind> {
+fn kind_of(answer: io::Result<()>) -> Option<ErrorKind> {
     match answer {
         Ok(()) => None,
         Err(error) => Some(error.kind()),
@@ -335,25 +349,38 @@ const NOT_WRITTEN: &[WrittenRow] = &[
     ("$7$x", 0, 0, BREAKS, b"", None),
 ];
 
-/// Checks what is written of expansions to narrow writers, which are called where there is something to write. The pattern is
-/// found in the text.
+/// Checks what is written of an expansion to a narrow writer, which is called where there is something to write.
+fn check_write(rt: &impl Abort, alloc: Global, captures: &Captures<'_, &str>, row: WrittenRow) {
+    let (template, most, left, fault, wanted, answered) = row;
+    let mut writer = narrow_writer(alloc, most, left, fault);
+    let answer = Expander::default().write_expansion(&mut writer, template, captures);
+    check(rt, kind_of(answer) == answered, template);
+    check(rt, writer.taken.as_slice() == wanted, template);
+    let is_something = !wanted.is_empty() | answered.is_some();
+    check(rt, (writer.calls != 0) == is_something, template);
+}
+
+/// Checks what is written of expansions to narrow writers. The pattern is found in the text.
 fn check_writes(rt: &impl Abort, alloc: Global, pattern: &str, text: &str, rows: &[WrittenRow]) {
     let regex = regex_of(rt, alloc, pattern);
     let captures = taken(rt, regex.captures(text), pattern);
-    for &(template, most, left, fault, wanted, answered) in rows {
-        let mut writer = Narrow {
-            taken: Vec::new(alloc),
-            calls: 0,
-            most,
-            left,
-            fault,
-        };
-        let answer = Expander::default().write_expansion(&mut writer, template, &captures);
-        check(rt, writer.taken.as_slice() == wanted, template);
-        check(rt, kind_of(&answer) == answered, template);
-        let is_something = !wanted.is_empty() | answered.is_some();
-        check(rt, (writer.calls != 0) == is_something, template);
+    for &row in rows {
+        check_write(rt, alloc, &captures, row);
     }
+}
+
+/// Checks the fault of a writer that takes a byte in a call, and so many of three bytes in all.
+fn check_narrow(
+    rt: &impl Abort,
+    alloc: Global,
+    left: usize,
+    fault: Option<ErrorKind>,
+    answered: ErrorKind,
+) {
+    let mut writer = narrow_writer(alloc, 1, left, fault);
+    let answer = write_whole(&mut writer, b"abc");
+    check(rt, kind_of(answer) == Some(answered), "the fault");
+    check(rt, writer.taken.len() == left, "what was taken");
 }
 
 #[test]
@@ -361,20 +388,10 @@ fn a_fault_ends_the_writing(rt: HostRuntime) {
     let alloc = rt.alloc();
     check_writes(&rt, alloc, "(b)", "abc", WRITTEN);
     check_writes(&rt, alloc, "(b)|c", "c", NOT_WRITTEN);
+    check_narrow(&rt, alloc, 2, BREAKS, BrokenPipe);
+    check_narrow(&rt, alloc, 1, None, WriteZero);
     let mut out = Vec::new(alloc);
     write_whole(&mut out, b"abc").expect(&rt, "a write");
     write_whole(&mut out, b"d").expect(&rt, "a write");
     check(&rt, out.as_slice() == b"abcd".as_slice(), "abcd");
-    for (left, fault, answered) in [(2, BREAKS, BrokenPipe), (1, None, WriteZero)] {
-        let mut writer = Narrow {
-            taken: Vec::new(alloc),
-            calls: 0,
-            most: 1,
-            left,
-            fault,
-        };
-        let answer = write_whole(&mut writer, b"abc");
-        check(&rt, kind_of(&answer) == Some(answered), "the fault");
-        check(&rt, writer.taken.len() == left, "what was taken");
-    }
 }

@@ -14,12 +14,22 @@ pub(crate) fn counted(
     work: &mut Work,
 ) -> Option<Option<Span>> {
     let input = searchable(rt, regex, input);
-    match regex.find_input_counted(input, work) {
-        Ok(Some(found)) => Some(Some((found.start(), found.end()))),
-        Ok(None) => Some(None),
-        Err(Error::RuntimeError(RuntimeError::BacktrackLimitExceeded)) => None,
-        Err(_) => rt.panic(regex.as_str()),
+    let answer = regex.find_input_counted(input, work);
+    match answer {
+        Ok(found) => Some(found.map(|found| (found.start(), found.end()))),
+        Err(error) => {
+            check(rt, is_limit(&error), regex.as_str());
+            None
+        }
     }
+}
+
+/// Whether a search is given up at its limit of returns.
+fn is_limit(error: &Error) -> bool {
+    matches!(
+        error,
+        Error::RuntimeError(RuntimeError::BacktrackLimitExceeded)
+    )
 }
 
 /// What a search counts: where the first match starts and ends (nothing where the search is given up), how many instructions

@@ -125,26 +125,33 @@ fn check_items(
 /// A pattern, and the names of its groups, from group 0 on.
 pub(crate) type NamesRow = (&'static str, &'static [Option<&'static str>]);
 
-fn check_same_names(
+/// Checks the names of a regex.
+fn check_names_of(
     rt: &impl Abort,
-    names: &[Option<&str>],
+    alloc: Global,
+    regex: &Regex,
     pattern: &str,
     wanted: &[Option<&str>],
 ) {
-    check(rt, names == wanted, pattern);
+    let names = regex.capture_names().expect(rt, pattern);
+    let names: Vec<Option<&str>> = names.collect(alloc).expect(rt, pattern);
+    check(rt, names.as_slice() == wanted, pattern);
+}
+
+/// Checks that the regex gives its pattern back.
+fn check_text_of(rt: &impl Abort, alloc: Global, regex: &Regex, pattern: &str) {
+    check(rt, regex.as_str() == pattern, pattern);
+    let text = regex.to_string(alloc).expect(rt, pattern);
+    check(rt, text.as_str() == pattern, pattern);
 }
 
 /// Checks the names, and that the regex gives its pattern back.
 pub(crate) fn check_names(rt: &impl Abort, alloc: Global, rows: &[NamesRow]) {
     for &(pattern, wanted) in rows {
         let regex = regex_of(rt, alloc, pattern);
-        let text = regex.to_string(alloc).expect(rt, pattern);
-        check(rt, regex.as_str() == pattern, pattern);
-        check(rt, text.as_str() == pattern, pattern);
         check(rt, regex.captures_len() == wanted.len(), pattern);
-        let names = regex.capture_names().expect(rt, pattern);
-        let names: Vec<Option<&str>> = names.collect(alloc).expect(rt, pattern);
-        check_same_names(rt, names.as_slice(), pattern, wanted);
+        check_text_of(rt, alloc, &regex, pattern);
+        check_names_of(rt, alloc, &regex, pattern, wanted);
     }
 }
 

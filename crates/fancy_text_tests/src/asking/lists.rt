@@ -48,38 +48,80 @@ fn check_captures<M: Spanned, S: Input<Match = M>>(
     check(rt, items.next().is_none(), pattern);
 }
 
+/// Checks what a list of matches tells of its regex and its haystack.
+fn check_told<S: Input>(rt: &impl Abort, matches: &Matches<'_, S>, bytes: &[u8], pattern: &str) {
+    check(rt, matches.text().as_bytes() == bytes, pattern);
+    check(rt, matches.regex().as_str() == pattern, pattern);
+}
+
+/// Checks what a list of captures tells of its regex, its haystack and where it starts.
+fn check_told_by_captures<S: Input>(
+    rt: &impl Abort,
+    items: &CaptureMatches<'_, S>,
+    (bytes, start): (&[u8], usize),
+    pattern: &str,
+) {
+    check(rt, items.text().as_bytes() == bytes, pattern);
+    check(rt, items.regex().as_str() == pattern, pattern);
+    check(rt, items.input().start() == start, pattern);
+}
+
+/// Checks whether a list has a match, and how many come after it.
+fn check_rest<S: Input>(
+    rt: &impl Abort,
+    mut matches: Matches<'_, S>,
+    pattern: &str,
+    spans: &[Span],
+) {
+    let is_some = matches.next().is_some();
+    check(rt, is_some != spans.is_empty(), pattern);
+    let count = matches.count();
+    check(rt, count == spans.len().saturating_sub(1), pattern);
+}
+
+/// Checks how many items were collected.
+fn check_collected<T: Drop>(rt: &impl Abort, all: Result<Vec<T>>, pattern: &str, spans: &[Span]) {
+    let all = all.expect(rt, pattern);
+    check(rt, all.len() == spans.len(), pattern);
+}
+
+/// Checks how many matches of an input, which the regex may search, are counted and collected.
+fn check_counts<S: Input>(
+    rt: &impl Abort,
+    alloc: Global,
+    regex: &Regex,
+    input: RegexInput<S>,
+    spans: &[Span],
+) {
+    let pattern = regex.as_str();
+    let input = searchable(rt, regex, input);
+    check_rest(rt, regex.find_iter_input(input.again()), pattern, spans);
+    let count = regex.find_iter_input(input.again()).count();
+    check(rt, count == spans.len(), pattern);
+    let count = regex.captures_iter_input(input.again()).count();
+    check(rt, count == spans.len(), pattern);
+    let all: Result<Vec<Captures<'_, S>>> = regex.captures_iter_input(input).try_collect(alloc);
+    check_collected(rt, all, pattern, spans);
+}
+
 /// Checks the lists of an input, which the regex may search, and what they tell of it.
 fn check_input_lists<M: Spanned, S: Input<Match = M>>(
     rt: &impl Abort,
-    alloc: Global,
     regex: &Regex,
     input: RegexInput<S>,
     (spans, starts): Wanted<'_>,
 ) {
     let pattern = regex.as_str();
     let input = searchable(rt, regex, input);
-    let matches = regex.find_iter_input(input.again());
     let haystack = input.haystack();
     let bytes = haystack.as_bytes();
-    check(rt, matches.text().as_bytes() == bytes, pattern);
-    check(rt, matches.regex().as_str() == pattern, pattern);
+    let matches = regex.find_iter_input(input.again());
+    check_told(rt, &matches, bytes, pattern);
     check_matches(rt, matches, pattern, (spans, starts));
-    let items = regex.captures_iter_input(input.again());
-    check(rt, items.text().as_bytes() == bytes, pattern);
-    check(rt, items.regex().as_str() == pattern, pattern);
-    check(rt, items.input().start() == input.start(), pattern);
-    check_captures(rt, items, pattern, spans);
-    let mut matches = regex.find_iter_input(input.again());
-    check(rt, matches.next().is_some() != spans.is_empty(), pattern);
-    let count = matches.count();
-    check(rt, count == spans.len().saturating_sub(1), pattern);
-    let count = regex.find_iter_input(input.again()).count();
-    check(rt, count == spans.len(), pattern);
-    let count = regex.captures_iter_input(input.again()).count();
-    check(rt, count == spans.len(), pattern);
+    let start = input.start();
     let items = regex.captures_iter_input(input);
-    let all: Result<Vec<Captures<'_, S>>> = items.try_collect(alloc);
-    check(rt, all.expect(rt, pattern).len() == spans.len(), pattern);
+    check_told_by_captures(rt, &items, (bytes, start), pattern);
+    check_captures(rt, items, pattern, spans);
 }
 
 /// An iteration: what is searched, where its matches start and end, and where the search starts that is next: at
@@ -139,7 +181,8 @@ pub(crate) fn check_rows<M: Spanned, S: Input<Match = M>>(
                 ..row.settings
             };
             let regex = regex_with(rt, alloc, settings, row.pattern);
-            check_input_lists(rt, alloc, &regex, input.again(), (row.spans, row.starts));
+            check_input_lists(rt, &regex, input.again(), (row.spans, row.starts));
+            check_counts(rt, alloc, &regex, input.again(), row.spans);
         }
     }
 }
@@ -161,7 +204,7 @@ fn check_whole<M: Spanned, S: Input<Match = M>>(
     let count = regex.captures_iter(haystack).count();
     check(rt, count == spans.len(), pattern);
     let all: Result<Vec<M>> = regex.find_iter(haystack).try_collect(alloc);
-    check(rt, all.expect(rt, pattern).len() == spans.len(), pattern);
+    check_collected(rt, all, pattern, spans);
 }
 
 /// A pattern, a text, and where the matches start and end, also in the bytes of the text.

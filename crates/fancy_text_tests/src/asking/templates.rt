@@ -8,6 +8,67 @@ use std::process::Abort;
 /// A template, and what it expands to where `b` is group 1 and the whole match.
 pub(crate) type TemplateRow = (&'static str, &'static str);
 
+/// Checks that something was written, and what.
+fn check_written<E: Drop>(
+    rt: &impl Abort,
+    answer: Result<(), E>,
+    written: &[u8],
+    (template, wanted): TemplateRow,
+) {
+    check(rt, answer.is_ok(), template);
+    check(rt, written == wanted.as_bytes(), template);
+}
+
+/// Checks what is appended to a text.
+fn check_appended(
+    rt: &impl Abort,
+    answer: fancy_regex::Result<()>,
+    text: &str,
+    (template, wanted): TemplateRow,
+) {
+    check(rt, answer.is_ok(), template);
+    check(rt, text.strip_prefix("é") == Some(wanted), template);
+}
+
+/// Checks what an expander appends to a text.
+fn check_append(
+    rt: &impl Abort,
+    alloc: Global,
+    expander: &Expander,
+    captures: &Captures<'_, &str>,
+    row: TemplateRow,
+) {
+    let mut text = String::from_str(alloc, "é").expect(rt, row.0);
+    let answer = expander.append_expansion(&mut text, row.0, captures);
+    check_appended(rt, answer, text.as_str(), row);
+}
+
+/// Checks what an expander appends to bytes.
+fn check_vec(
+    rt: &impl Abort,
+    alloc: Global,
+    expander: &Expander,
+    captures: &Captures<'_, &str>,
+    row: TemplateRow,
+) {
+    let mut bytes = Vec::new(alloc);
+    let answer = expander.write_expansion_vec(&mut bytes, row.0, captures);
+    check_written(rt, answer, bytes.as_slice(), row);
+}
+
+/// Checks what an expander writes.
+fn check_write(
+    rt: &impl Abort,
+    alloc: Global,
+    expander: &Expander,
+    captures: &Captures<'_, &str>,
+    row: TemplateRow,
+) {
+    let mut written = Vec::new(alloc);
+    let answer = expander.write_expansion(&mut written, row.0, captures);
+    check_written(rt, answer, written.as_slice(), row);
+}
+
 /// Checks every form of expansion by an expander.
 pub(crate) fn check_templates(
     rt: &impl Abort,
@@ -18,40 +79,41 @@ pub(crate) fn check_templates(
     let regex = regex_of(rt, alloc, "(b)");
     let captures = taken(rt, regex.captures("abc"), "(b)");
     for &(template, wanted) in rows {
-        let text = expander.expansion(template, &captures).expect(rt, template);
-        check(rt, text.as_str() == wanted, template);
-        let mut text = String::from_str(alloc, "é").expect(rt, template);
-        let answer = expander.append_expansion(&mut text, template, &captures);
-        check(rt, answer.is_ok(), template);
-        check(
-            rt,
-            text.as_str().strip_prefix("é") == Some(wanted),
-            template,
-        );
-        let mut bytes = Vec::new(alloc);
-        let answer = expander.write_expansion_vec(&mut bytes, template, &captures);
-        check(rt, answer.is_ok(), template);
-        check(rt, bytes.as_slice() == wanted.as_bytes(), template);
-        let mut written = Vec::new(alloc);
-        let answer = expander.write_expansion(&mut written, template, &captures);
-        check(rt, answer.is_ok(), template);
-        check(rt, written.as_slice() == wanted.as_bytes(), template);
+        check_expanded_text(rt, expander.expansion(template, &captures), wanted);
+        check_append(rt, alloc, expander, &captures, (template, wanted));
+        check_vec(rt, alloc, expander, &captures, (template, wanted));
+        check_write(rt, alloc, expander, &captures, (template, wanted));
     }
 }
 
-/// Checks the expansion by the captures, and by a template that replaces.
+/// Checks a text that is made.
+pub(crate) fn check_expanded_text(
+    rt: &impl Abort,
+    answer: fancy_regex::Result<String>,
+    wanted: &str,
+) {
+    let text = answer.expect(rt, wanted);
+    check(rt, text.as_str() == wanted, wanted);
+}
+
+/// Checks what captures append to a text.
+fn check_expansion(
+    rt: &impl Abort,
+    alloc: Global,
+    captures: &Captures<'_, &str>,
+    row: TemplateRow,
+) {
+    let mut text = String::from_str(alloc, "é").expect(rt, row.0);
+    let answer = captures.expand(row.0, &mut text);
+    check_appended(rt, answer, text.as_str(), row);
+}
+
+/// Checks the expansion by the captures.
 pub(crate) fn check_expanded(rt: &impl Abort, alloc: Global, rows: &[TemplateRow]) {
     let regex = regex_of(rt, alloc, "(b)");
     let captures = taken(rt, regex.captures("abc"), "(b)");
-    for &(template, wanted) in rows {
-        let mut text = String::from_str(alloc, "é").expect(rt, template);
-        let answer = captures.expand(template, &mut text);
-        check(rt, answer.is_ok(), template);
-        check(
-            rt,
-            text.as_str().strip_prefix("é") == Some(wanted),
-            template,
-        );
+    for &row in rows {
+        check_expansion(rt, alloc, &captures, row);
     }
 }
 

@@ -1,12 +1,15 @@
 //! Pattern sets.
 
-use crate::asking::{Span, check};
+use crate::asking::check;
 use fancy_regex::{
-    Error, Input, RegexInput, RegexOptionsBuilder, RegexSet, RegexSetMatchesAt, Result,
-    RuntimeError,
+    Error, Input, RegexInput, RegexOptionsBuilder, RegexSet, RegexSetMatch, RegexSetMatchesAt,
+    Result, RuntimeError,
 };
 use std::alloc::Global;
 use std::process::Abort;
+
+/// Where a match starts and ends.
+pub(crate) type Span = (usize, usize);
 
 /// The index of a pattern and where its match stands, or none where it is refused past its limit of returns.
 pub(crate) type Item = Option<(usize, Span)>;
@@ -41,18 +44,28 @@ pub(crate) fn searched<'s, S: Input>(
     set.find_input(input)
 }
 
+/// The index of a match's pattern and where the match stands.
+fn seen_in(rt: &impl Abort, found: &RegexSetMatch<'_, &str>, haystack: &str) -> (usize, Span) {
+    let (start, end) = (found.start(), found.end());
+    let part = haystack.get(start..end);
+    check(rt, part == Some(found.as_str()), haystack);
+    (found.pattern(), (start, end))
+}
+
+/// What the answer of a member says of itself.
+fn item_of(rt: &impl Abort, answer: &Result<RegexSetMatch<'_, &str>>, haystack: &str) -> Item {
+    match answer {
+        Ok(found) => Some(seen_in(rt, found, haystack)),
+        Err(Error::RuntimeError(RuntimeError::BacktrackLimitExceeded)) => None,
+        Err(_) => rt.panic(haystack),
+    }
+}
+
 /// What the next answer of a member says of itself, if there is one.
 fn next_item(rt: &impl Abort, matches: &mut RegexSetMatchesAt<'_, &str>) -> Option<Item> {
     let haystack = matches.haystack();
     match matches.next() {
-        Some(Ok(found)) => {
-            let (start, end) = (found.start(), found.end());
-            let part = haystack.get(start..end);
-            check(rt, part == Some(found.as_str()), haystack);
-            Some(Some((found.pattern(), (start, end))))
-        }
-        Some(Err(Error::RuntimeError(RuntimeError::BacktrackLimitExceeded))) => Some(None),
-        Some(Err(_)) => rt.panic(haystack),
+        Some(answer) => Some(item_of(rt, &answer, haystack)),
         None => None,
     }
 }
@@ -85,9 +98,12 @@ pub(crate) fn check_sets(rt: &impl Abort, alloc: Global, rows: &[SetRow]) {
         let set = set_of(rt, alloc, limit, patterns);
         let input = RegexInput::new(text).from_pos(start).anchored(anchored);
         let found = searched(rt, &set, input).expect(rt, text);
-        check(rt, found.is_some() == wanted.is_some(), text);
-        if let (Some(matches), Some((position, items))) = (found, wanted) {
-            check_matches_at(rt, matches, (patterns.len(), text), position, items);
+        match wanted {
+            Some((position, items)) => {
+                let matches = found.expect(rt, text);
+                check_matches_at(rt, matches, (patterns.len(), text), position, items);
+            }
+            None => check(rt, found.is_none(), text),
         }
     }
 }

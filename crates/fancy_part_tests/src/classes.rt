@@ -1,6 +1,6 @@
 //! The members of classes, by the sets that they are read as, and why classes are refused.
 
-use crate::asking::{Verdict, check, check_verdict};
+use crate::asking::{check, is_fault};
 use fancy_syntax::flags::Flags;
 use fancy_syntax::parse::{ParseOptions, parse_with};
 use fancy_tree::error::ParseErrorKind;
@@ -163,6 +163,6 @@ fn classes_have_members_or_are_refused(rt: HostRuntime) {
     }
     for &(options, pattern, wanted) in REFUSALS {
         let found = parse_with(rt.alloc(), pattern, options);
-        check_verdict(&rt, &found, Verdict::Kind(wanted), pattern);
+        check(&rt, is_fault(&found, wanted), pattern);
     }
 }

@@ -3,7 +3,7 @@
 ghost use Rattle.std.specs.Prelude.{◌≡◌, ◌↔◌, IsTrue};
 ghost use Rattle.fancy_input.specs.Spans.{span_in, text_in, span_in_bytes, bytes_in};
 
-use crate::asking::{check, owned};
+use crate::asking::check;
 use fancy_input::bytes::MatchBytes;
 use fancy_input::input::Input;
 use fancy_input::matches::Match;
@@ -35,7 +35,7 @@ fn check_form<S: Input>(rt: &impl Abort, haystack: S, wanted: Facts, boundaries:
 #[test]
 fn four_forms_have_facts_and_boundaries(rt: HostRuntime) {
     let text = "aé";
-    let owned = owned(&rt, rt.alloc(), text);
+    let owned = String::from_str(rt.alloc(), text).expect(&rt, text);
     let facts = (3, false, false, true);
     check_form(&rt, text, facts, [true, true, false, true, false]);
     check_form(&rt, &owned, facts, [true, true, false, true, false]);

@@ -15,9 +15,8 @@ fn first_match(alloc: Global, text: &str) -> Result<Option<(usize, usize)>> {
     }
 }
 
-/// The number that begins at this byte of the text, if one does.
-fn number_at<'t>(alloc: Global, text: &'t str, place: usize) -> Result<Option<&'t str>> {
-    let number = Regex::new(alloc, "\\d+")?;
+/// The number that begins at this byte of the text, if one does. The regex is one for numbers, as `\d+`.
+fn number_at<'t>(number: &Regex, text: &'t str, place: usize) -> Result<Option<&'t str>> {
     let input = RegexInput::new(text).from_pos(place).anchored(true);
     if !number.can_search(&input) {
         return Ok(None);
@@ -31,8 +30,9 @@ fn number_at<'t>(alloc: Global, text: &'t str, place: usize) -> Result<Option<&'
 /// How long the header of a file is: two marks, and all up to a zero byte.
 fn header_len(alloc: Global, file: &[u8]) -> Result<Option<usize>> {
     let pattern = String::from_str(alloc, "\\A\\xFF\\xD8[^\\x00]*\\x00")?;
-    let mut options = RegexOptionsBuilder::new();
-    let header = options.bytes_mode(BytesMode::Ascii).build(pattern)?;
+    let header = RegexOptionsBuilder::new()
+        .bytes_mode(BytesMode::Ascii)
+        .build(pattern)?;
     match header.find(file)? {
         Some(found) => Ok(Some(found.end())),
         None => Ok(None),
@@ -70,26 +70,27 @@ fn place_of_fault(alloc: Global, pattern: &str) -> Result<Option<usize>> {
     }
 }
 
-/// Which pattern the text begins with, and how many bytes its match takes: blanks 0, numbers 1, words 2.
-fn first_token(alloc: Global, text: &str) -> Result<Option<(usize, usize)>> {
-    let tokens = RegexSet::new(alloc, &["\\s+", "\\d+", "\\w+"])?;
-    let input = RegexInput::new(text).anchored(true);
-    if !tokens.can_search(&input) {
-        return Ok(None);
-    }
-    let Some(mut matches) = tokens.find_input(input)? else {
-        return Ok(None);
-    };
-    match matches.next() {
-        Some(Ok(found)) => Ok(Some((found.pattern(), found.end()))),
-        Some(Err(error)) => Err(error),
-        None => Ok(None),
-    }
+/// Blanks, numbers and words, of the kinds 0, 1 and 2.
+fn kinds_of_tokens(alloc: Global) -> Result<RegexSet> {
+    RegexSet::new(alloc, &["\\s+", "\\d+", "\\w+"])
 }
 
-/// The tokens of a line of a small language, each with its kind and its text. The kinds are keywords 0, names 1, numbers 2,
-/// strings 3, operators 4, brackets and separators 5, comments 6 and blanks 7.
-fn tokens_of_line<'t>(alloc: Global, line: &'t str) -> Result<Vec<(usize, &'t str)>> {
+/// Which kind of token the text begins with, and how many bytes it takes.
+fn first_token(kinds: &RegexSet, text: &str) -> Result<Option<(usize, usize)>> {
+    let input = RegexInput::new(text).anchored(true);
+    if !kinds.can_search(&input) {
+        return Ok(None);
+    }
+    let Some(mut matches) = kinds.find_input(input)? else {
+        return Ok(None);
+    };
+    let first = matches.next().transpose()?;
+    Ok(first.map(|found| (found.pattern(), found.end())))
+}
+
+/// The tokens of a small language: keywords 0, names 1, numbers 2, strings 3, operators 4, brackets and separators 5, comments 6
+/// and blanks 7.
+fn lexer(alloc: Global) -> Result<RegexSet> {
     let kinds = [
         "let|if|else|while",
         "[A-Za-z_]\\w*",
@@ -100,7 +101,15 @@ fn tokens_of_line<'t>(alloc: Global, line: &'t str) -> Result<Vec<(usize, &'t st
         "//.*",
         "\\s+",
     ];
-    let lexer = RegexSet::new(alloc, &kinds)?;
+    RegexSet::new(alloc, &kinds)
+}
+
+/// The tokens of a line, each with its kind and its text.
+fn tokens_of_line<'t>(
+    alloc: Global,
+    lexer: &RegexSet,
+    line: &'t str,
+) -> Result<Vec<(usize, &'t str)>> {
     let input = RegexInput::new(line);
     let mut tokens = Vec::new(alloc);
     if !lexer.can_search(&input) {
@@ -118,10 +127,6 @@ fn examples(rt: HostRuntime) {
     let alloc = rt.alloc();
     let found = first_match(alloc, "xab").expect(&rt, "a|ab");
     check(&rt, found == Some((1, 2)), "a|ab");
-    let found = number_at(alloc, "on 2026", 3).expect(&rt, "a number");
-    check(&rt, found == Some("2026"), "a number");
-    let found = number_at(alloc, "on 2026", 2).expect(&rt, "no number");
-    check(&rt, found.is_none(), "no number");
     let length = header_len(alloc, b"\xFF\xD8ab\x00c").expect(&rt, "a header");
     check(&rt, length == Some(5), "a header");
     let stops = says_stop(alloc, "go\nStop\n").expect(&rt, "stop");
@@ -130,7 +135,21 @@ fn examples(rt: HostRuntime) {
     check(&rt, twice == Some(true), "twice");
     let place = place_of_fault(alloc, "(?:a").expect(&rt, "a fault");
     check(&rt, place == Some(4), "a fault");
-    let token = first_token(alloc, "42 is").expect(&rt, "a token");
+}
+
+#[test]
+fn a_number(rt: HostRuntime) {
+    let number = Regex::new(rt.alloc(), "\\d+").expect(&rt, "a regex");
+    let found = number_at(&number, "on 2026", 3).expect(&rt, "a number");
+    check(&rt, found == Some("2026"), "a number");
+    let found = number_at(&number, "on 2026", 2).expect(&rt, "no number");
+    check(&rt, found.is_none(), "no number");
+}
+
+#[test]
+fn a_token(rt: HostRuntime) {
+    let kinds = kinds_of_tokens(rt.alloc()).expect(&rt, "a set");
+    let token = first_token(&kinds, "42 is").expect(&rt, "a token");
     check(&rt, token == Some((1, 2)), "a token");
 }
 
@@ -150,12 +169,15 @@ const TOKENS: &[(usize, &str)] = &[
 
 #[test]
 fn a_lexer(rt: HostRuntime) {
-    let tokens = tokens_of_line(rt.alloc(), "let x = 2.5; // half").expect(&rt, "a line");
-    check(&rt, tokens.len() == TOKENS.len(), "how many tokens");
-    for (&(kind, text), &(wanted_kind, wanted_text)) in tokens.iter().zip(TOKENS) {
-        check(&rt, kind == wanted_kind && text == wanted_text, text);
-    }
-    let refused = tokens_of_line(rt.alloc(), "x ? y");
+    let lexer = lexer(rt.alloc()).expect(&rt, "a lexer");
+    let tokens = tokens_of_line(rt.alloc(), &lexer, "let x = 2.5; // half").expect(&rt, "a line");
+    check(&rt, tokens.as_slice() == TOKENS, "the tokens");
+}
+
+#[test]
+fn a_lexer_refuses(rt: HostRuntime) {
+    let lexer = lexer(rt.alloc()).expect(&rt, "a lexer");
+    let refused = tokens_of_line(rt.alloc(), &lexer, "x ? y");
     let is_unmatched = is_given_up(&refused, RuntimeError::Unmatched(2));
     check(&rt, is_unmatched, "no token at 2");
 }

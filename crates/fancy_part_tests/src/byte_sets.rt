@@ -2,18 +2,28 @@
 //!
 //! The rows were worked out from the dialect's table of byte sets, by hand or by an independent model.
 
-use crate::asking::{
-    BYTES, CHARACTERS, FOLDED, Settings, Verdict, check, check_verdict, options_of,
-};
-use fancy_regex::{ByteSet, ParseErrorKind, RegexOptionsBuilder};
+use crate::asking::{check, is_fault};
+use fancy_regex::{ByteSet, BytesMode, ParseErrorKind, RegexOptionsBuilder};
 use std::alloc::Global;
 use std::process::Abort;
 
 /// The bytes that matches start with (nothing where they may start anywhere), and those that they require.
 type Bytes = (Option<&'static [u8]>, &'static [u8]);
 
+/// What items are, and whether literals stand in either case.
+type Options = (BytesMode, bool);
+
+/// Items are characters.
+const CHARACTERS: Options = (BytesMode::Unicode, false);
+
+/// Items are bytes.
+const BYTES: Options = (BytesMode::Ascii, false);
+
+/// Items are characters, in either case.
+const FOLDED: Options = (BytesMode::Unicode, true);
+
 /// Options, a pattern, and its bytes.
-type BytesRow = (Settings, &'static str, Option<&'static [u8]>, &'static [u8]);
+type BytesRow = (Options, &'static str, Option<&'static [u8]>, &'static [u8]);
 
 /// Checks that the set has these members, in this order, and no others.
 fn check_members(rt: &impl Abort, set: &ByteSet, wanted: &[u8], pattern: &str) {
@@ -43,6 +53,27 @@ fn check_bytes(
     }
     let found = builder.required_bytes(alloc, pattern).expect(rt, pattern);
     check_members(rt, &found, required, pattern);
+}
+
+/// Checks how many bytes matches of a pattern may start with.
+fn check_count(
+    rt: &impl Abort,
+    alloc: Global,
+    builder: &RegexOptionsBuilder,
+    pattern: &str,
+    wanted: usize,
+) {
+    let found = builder.start_bytes(alloc, pattern).expect(rt, pattern);
+    check(rt, found.expect(rt, pattern).len() == wanted, pattern);
+}
+
+/// Checks that what is no pattern has no bytes: a parenthesis of it is not closed.
+fn check_no_bytes(rt: &impl Abort, alloc: Global, builder: &RegexOptionsBuilder, pattern: &str) {
+    let unclosed = ParseErrorKind::UnclosedOpenParen;
+    let start = builder.start_bytes(alloc, pattern);
+    check(rt, is_fault(&start, unclosed), "start bytes");
+    let required = builder.required_bytes(alloc, pattern);
+    check(rt, is_fault(&required, unclosed), "required bytes");
 }
 
 const ROWS: &[BytesRow] = &[
@@ -97,23 +128,16 @@ const COUNTS: &[(&str, usize)] = &[
 
 #[test]
 fn patterns_have_bytes(rt: HostRuntime) {
-    for &(settings, pattern, start, required) in ROWS {
-        let builder = options_of(settings);
+    let mut builder = RegexOptionsBuilder::new();
+    for &((mode, folded), pattern, start, required) in ROWS {
+        builder.bytes_mode(mode).case_insensitive(folded);
         check_bytes(&rt, rt.alloc(), &builder, pattern, (start, required));
     }
     let mut builder = RegexOptionsBuilder::new();
     for &(pattern, wanted) in COUNTS {
-        let found = builder
-            .start_bytes(rt.alloc(), pattern)
-            .expect(&rt, pattern);
-        check(&rt, found.expect(&rt, pattern).len() == wanted, pattern);
+        check_count(&rt, rt.alloc(), &builder, pattern, wanted);
     }
-    // what is no pattern has no bytes
-    let unclosed = Verdict::Kind(ParseErrorKind::UnclosedOpenParen);
-    let start = builder.start_bytes(rt.alloc(), "(a");
-    check_verdict(&rt, &start, unclosed, "start bytes");
-    let required = builder.required_bytes(rt.alloc(), "(a");
-    check_verdict(&rt, &required, unclosed, "required bytes");
+    check_no_bytes(&rt, rt.alloc(), &builder, "(a");
     // a size refuses no bytes
     builder.max_prog_size(0);
     let bytes: Bytes = (Some(&[0x62]), &[0x61, 0x62]);

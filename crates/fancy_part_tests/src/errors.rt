@@ -1,6 +1,6 @@
 //! What errors print.
 
-use crate::asking::{check, owned};
+use crate::asking::check;
 use fancy_regex::{CompileError, Error, ParseErrorKind, RuntimeError};
 use std::alloc::Global;
 use std::process::Abort;
@@ -79,7 +79,7 @@ fn errors_have_their_texts(rt: HostRuntime) {
         check_shown(&rt, alloc, Error::ParseError(3, kind), beginning, words);
     }
     let beginning = "error compiling regex: ";
-    let name = owned(&rt, alloc, "n");
+    let name = String::from_str(alloc, "n").expect(&rt, "n");
     let error = Error::CompileError(CompileError::InvalidGroupNameBackref(name));
     check_shown(&rt, alloc, error, beginning, "no group has the name n");
     let error = Error::CompileError(CompileError::InvalidBackref(2));

@@ -35,17 +35,27 @@ fn seen_in(rt: &impl Abort, token: &Token<'_, &str>, text: &str) -> (usize, Span
     (token.pattern(), (start, end))
 }
 
-/// How the list ends that gives this after its last token.
-fn ending(rt: &impl Abort, last: Option<Result<Token<'_, &str>>>, place: usize) -> TokensEnd {
+/// How a list ends at the place that gives this after its last token; none where it gives a token or another refusal.
+fn ending(last: &Option<Result<Token<'_, &str>>>, place: usize) -> Option<TokensEnd> {
     match last {
-        None => TokensEnd::OfRange,
-        Some(Err(Error::RuntimeError(RuntimeError::Unmatched(at)))) => {
-            check(rt, at == place, "the place of the refusal");
-            TokensEnd::Unmatched
+        None => Some(TokensEnd::OfRange),
+        Some(Err(Error::RuntimeError(RuntimeError::Unmatched(at)))) if *at == place => {
+            Some(TokensEnd::Unmatched)
         }
-        Some(Err(Error::RuntimeError(RuntimeError::BacktrackLimitExceeded))) => TokensEnd::GivenUp,
-        Some(_) => rt.panic("a token or another refusal"),
+        Some(Err(Error::RuntimeError(RuntimeError::BacktrackLimitExceeded))) => {
+            Some(TokensEnd::GivenUp)
+        }
+        Some(_) => None,
     }
+}
+
+/// Checks where and how a list ends, and that it stays ended.
+fn check_end(rt: &impl Abort, tokens: &mut Tokens<'_, &str>, (place, end): (usize, TokensEnd)) {
+    let last = tokens.next();
+    check(rt, ending(&last, place) == Some(end), "the end");
+    check(rt, tokens.place() == place, "the place of the end");
+    check(rt, tokens.next().is_none(), "the end again");
+    check(rt, tokens.place() == place, "the place again");
 }
 
 /// Checks the tokens of a list one by one, where they end and how, and that the list stays ended.
@@ -53,7 +63,7 @@ fn check_tokens_of(
     rt: &impl Abort,
     mut tokens: Tokens<'_, &str>,
     wanted: &[(usize, Span)],
-    (place, end): (usize, TokensEnd),
+    end: (usize, TokensEnd),
 ) {
     let text = tokens.haystack();
     for one in wanted {
@@ -61,11 +71,7 @@ fn check_tokens_of(
         check(rt, seen_in(rt, &token, text) == *one, text);
         check(rt, tokens.place() == token.end(), text);
     }
-    let last = tokens.next();
-    check(rt, ending(rt, last, place) == end, text);
-    check(rt, tokens.place() == place, text);
-    check(rt, tokens.next().is_none(), text);
-    check(rt, tokens.place() == place, text);
+    check_end(rt, &mut tokens, end);
 }
 
 /// The tokens of the input, which the set may search.

@@ -1,0 +1,152 @@
+//! `\Z` in lists of matches, where a search goes on with what those before it read of the line ends that close the text.
+//!
+//! The rows were worked out by hand, from where `\Z` holds: where only line ends follow up to the end of the text.
+
+use crate::asking::{Row, TEXT, TextListRow, check, check_rows, check_text_lists, regex_of};
+use std::alloc::Global;
+use std::process::Abort;
+
+/// A row of line feeds in the middle of the text, and one at its end.
+const ROWS: &[TextListRow] = &[
+    ("\\Z", "\n\na\n\n", &[(3, 3), (4, 4), (5, 5)]),
+    ("\\n\\Z", "\n\na\n\n", &[(3, 4), (4, 5)]),
+    ("\\n\\Z|\\n", "\n\na\n\n", &[(0, 1), (1, 2), (3, 4), (4, 5)]),
+    (
+        "\\n\\Z|\\n\\n|a",
+        "\n\na\n\n",
+        &[(0, 2), (2, 3), (3, 4), (4, 5)],
+    ),
+    ("\\n+\\Z|\\n", "a\n\nb\n\n\n", &[(1, 2), (2, 3), (4, 7)]),
+    ("\\s+\\Z|\\s", "a \nb\n \n", &[(1, 2), (2, 3), (4, 7)]),
+    ("\\s\\Z|\\s+", "a\n\nb\n \n\n", &[(1, 3), (4, 8)]),
+    ("$\\n*\\Z|\\n", "\na\n", &[(0, 1), (2, 3)]),
+    ("$\\n*\\Z|\\n", "\na", &[(0, 1), (2, 2)]),
+    ("(?m)$\\n*\\Z|\\n", "a\n\nb\n\n", &[(1, 2), (2, 3), (4, 6)]),
+    // the hard engine
+    (
+        "(?=\\n)(?:\\n+\\Z|\\n)",
+        "a\n\nb\n\n\n",
+        &[(1, 2), (2, 3), (4, 7)],
+    ),
+    ("(?>\\n)\\Z", "\n\na\n\n", &[(3, 4), (4, 5)]),
+];
+
+/// Carriage returns before line feeds, with the flag and without it.
+const WITH_RETURNS: &[TextListRow] = &[
+    (
+        "(?R)\\r\\n\\Z|\\s",
+        "\r\n\r\nb\r\n\r\n",
+        &[(0, 1), (1, 2), (2, 3), (3, 4), (5, 7), (7, 9)],
+    ),
+    (
+        "\\r\\n\\Z|\\s",
+        "\r\n\r\nb\r\n\r\n",
+        &[(0, 1), (1, 2), (2, 3), (3, 4), (5, 6), (6, 7), (7, 9)],
+    ),
+    // both in one pattern
+    (
+        "\\Z\\n\\n|(?R:\\Z)\\r\\n|\\n",
+        "\n\nb\r\n\n\n",
+        &[(0, 1), (1, 2), (3, 5), (5, 7)],
+    ),
+    ("(?R)\\Z", "a\r\n\r", &[(4, 4)]),
+];
+
+/// Parts of texts: `\Z` holds by what follows in the whole text.
+const PARTS: &[Row<&str>] = &[
+    Row {
+        pattern: "\\n\\Z|b",
+        haystack: "\n\nb\n\n\n",
+        range: (1, 5),
+        spans: &[(2, 3), (3, 4), (4, 5)],
+        ..TEXT
+    },
+    Row {
+        pattern: "\\n+\\Z|\\n",
+        haystack: "\n\nb\n\n\n",
+        range: (0, 2),
+        spans: &[(0, 1), (1, 2)],
+        ..TEXT
+    },
+    Row {
+        pattern: "\\n+\\Z|\\n",
+        haystack: "\n\nb\n\n\n",
+        range: (1, 4),
+        spans: &[(1, 2), (3, 4)],
+        ..TEXT
+    },
+    Row {
+        pattern: "\\n+\\Z|\\n",
+        haystack: "\n\nb\n\n\n",
+        range: (3, 5),
+        spans: &[(3, 5)],
+        ..TEXT
+    },
+    Row {
+        pattern: "\\n+\\Z|\\n",
+        haystack: "\n\nb\n\n\n",
+        range: (6, 6),
+        spans: &[],
+        ..TEXT
+    },
+    Row {
+        pattern: "\\Z",
+        haystack: "\n\nb\n\n\n",
+        range: (0, 3),
+        spans: &[(3, 3)],
+        ..TEXT
+    },
+];
+
+/// Checks how many matches a long text has, by each call that goes over all.
+fn check_all(rt: &impl Abort, alloc: Global, pattern: &str, text: &str, count: usize) {
+    let regex = regex_of(rt, alloc, pattern);
+    check(rt, regex.find_iter(text).count() == count, pattern);
+    check(rt, regex.captures_iter(text).count() == count, pattern);
+    let pieces = regex.split(text).count();
+    check(rt, pieces.checked_sub(1) == Some(count), pattern);
+    let rest = regex.replace_all(text, "").expect(rt, pattern);
+    check(
+        rt,
+        rest.as_str().len() == text.len().saturating_sub(count),
+        pattern,
+    );
+}
+
+#[test]
+fn lists_find_the_last_lines(rt: HostRuntime) {
+    check_text_lists(&rt, rt.alloc(), ROWS);
+    check_text_lists(&rt, rt.alloc(), WITH_RETURNS);
+    check_rows(&rt, rt.alloc(), PARTS);
+}
+
+/// Adds 128 KiB of line feeds.
+fn push_feeds(rt: &impl Abort, alloc: Global, text: &mut String) {
+    let feeds = "\n".repeat(alloc, 131_072).expect(rt, "line feeds");
+    text.push_str(feeds.as_str()).expect(rt, "line feeds");
+}
+
+#[test]
+fn lists_read_the_last_lines_once(rt: HostRuntime) {
+    let mut feeds = String::new(rt.alloc());
+    push_feeds(&rt, rt.alloc(), &mut feeds);
+    check_all(&rt, rt.alloc(), "\\n\\Z|\\n", feeds.as_str(), 131_072);
+}
+
+#[test]
+fn lists_read_the_last_lines_once_on_both_sides(rt: HostRuntime) {
+    let mut halves = String::new(rt.alloc());
+    push_feeds(&rt, rt.alloc(), &mut halves);
+    halves.push_str("a").expect(&rt, "a");
+    push_feeds(&rt, rt.alloc(), &mut halves);
+    let pattern = "(?R)\\n\\Z|\\n";
+    check_all(&rt, rt.alloc(), pattern, halves.as_str(), 262_144);
+}
+
+#[test]
+fn lists_of_hard_patterns_read_the_last_lines_once(rt: HostRuntime) {
+    let mut feeds = String::new(rt.alloc());
+    push_feeds(&rt, rt.alloc(), &mut feeds);
+    let pattern = "(?=\\n)(?:\\n\\Z|\\n)";
+    check_all(&rt, rt.alloc(), pattern, feeds.as_str(), 131_072);
+}
