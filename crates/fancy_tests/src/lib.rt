@@ -32,4 +32,6 @@ mod refusals;
 #[cfg(test)]
 mod sets;
 #[cfg(test)]
+mod words;
+#[cfg(test)]
 mod work;

@@ -1,0 +1,158 @@
+//! Patterns that open with many branches, in texts that are not short: what is found does not depend on how long a text is.
+//!
+//! Where a match is follows from the order of the branches: the first place where one matches, and there the first one that does.
+
+use crate::asking::{check, regex_of, repeated, searchable};
+use fancy_regex::{Input, Regex, RegexInput};
+use std::alloc::Global;
+use std::ops::Range;
+use std::process::Abort;
+
+/// A pattern, a text without a match that is repeated so many times, what follows it, and all matches in that, by places from where it
+/// begins.
+struct LongRow {
+    pattern: &'static str,
+    filler: &'static str,
+    count: usize,
+    tail: &'static str,
+    spans: &'static [(usize, usize)],
+}
+
+/// Fifteen words and shapes, some of which begin alike; of two that match at one place the one that is written first counts.
+const ANIMALS: &str =
+    "cat|catalog|dogged|dog|dove|eel|elk|x[a-c]+y|(?:ab)+|é+|na[ïi]ve|zebra|yak|gnu|emu";
+
+/// The longer words are written first.
+const LONGER_FIRST: &str =
+    "catalog|cat|dogged|dog|dove|eel|elk|xyz|abc|bcde|cdefg|zebra|yak|gnu|emu";
+
+/// The first branch reads on to the end of the text before it fails.
+const FAR: &str = "q.*?!|qa|qb|qc|qd|qe|qf|qg|qh|qi|qj|qk|ql|qm|q";
+
+/// Some branches match the empty text.
+const EMPTY: &str = "ab|ac|ad|ae|af|ag|ah|ai|aj|ak|al|am|an|a*";
+
+const ROWS: &[LongRow] = &[
+    LongRow {
+        pattern: ANIMALS,
+        filler: "lorem ",
+        count: 100,
+        tail: "catalog dog dogged doves",
+        spans: &[(0, 3), (8, 11), (12, 18), (19, 23)],
+    },
+    LongRow {
+        pattern: ANIMALS,
+        filler: "do ca x ",
+        count: 100,
+        tail: "xabcay xy abababa éé naïve naive yakgnu",
+        spans: &[
+            (0, 6),
+            (10, 16),
+            (18, 22),
+            (23, 29),
+            (30, 35),
+            (36, 39),
+            (39, 42),
+        ],
+    },
+    LongRow {
+        pattern: ANIMALS,
+        filler: "ñandú ",
+        count: 100,
+        tail: "",
+        spans: &[],
+    },
+    LongRow {
+        pattern: LONGER_FIRST,
+        filler: "lorem ",
+        count: 100,
+        tail: "catalog catalo abcdefg bcdefg cdefg",
+        spans: &[(0, 7), (8, 11), (15, 18), (23, 27), (30, 35)],
+    },
+    // each match is found once its first branch has read all of the text
+    LongRow {
+        pattern: FAR,
+        filler: "lorem ",
+        count: 100,
+        tail: "qa qz qm q",
+        spans: &[(0, 2), (3, 4), (6, 8), (9, 10)],
+    },
+    LongRow {
+        pattern: FAR,
+        filler: "lorem ",
+        count: 100,
+        tail: "qa qz! qm q",
+        spans: &[(0, 6), (7, 9), (10, 11)],
+    },
+];
+
+/// The text of a row, and where what follows the filler begins.
+fn text_of(rt: &impl Abort, alloc: Global, row: &LongRow) -> (String, usize) {
+    let mut text = repeated(rt, alloc, row.filler, row.count);
+    let start = text.len();
+    text.push_str(row.tail).expect(rt, row.tail);
+    (text, start)
+}
+
+/// Checks all matches that the input asks for, each of which is that far from `start`.
+fn check_spans_from<M: Into<Range<usize>>, S: Input<Match = M>>(
+    rt: &impl Abort,
+    regex: &Regex,
+    input: RegexInput<S>,
+    start: usize,
+    spans: &[(usize, usize)],
+) {
+    let mut wanted = spans.iter();
+    let input = searchable(rt, regex, input);
+    for found in regex.find_iter_input(input) {
+        let range: Range<usize> = found.expect(rt, regex.as_str()).into();
+        let (from, to) = wanted.next().copied().expect(rt, regex.as_str());
+        check(
+            rt,
+            range.start == start.wrapping_add(from) && range.end == start.wrapping_add(to),
+            regex.as_str(),
+        );
+    }
+    check(rt, wanted.next().is_none(), regex.as_str());
+}
+
+#[test]
+fn wide_patterns_find_the_same_in_long_texts(rt: HostRuntime) {
+    for row in ROWS {
+        let (text, start) = text_of(&rt, rt.alloc(), row);
+        let regex = regex_of(&rt, rt.alloc(), row.pattern);
+        let input = RegexInput::new(text.as_str());
+        check_spans_from(&rt, &regex, input, start, row.spans);
+        let input = RegexInput::new(text.as_bytes());
+        check_spans_from(&rt, &regex, input, start, row.spans);
+        let input = RegexInput::new(text.as_str()).from_pos(start);
+        check_spans_from(&rt, &regex, input, start, row.spans);
+    }
+}
+
+/// Checks that there is a match at each place of so many `unit`s, one byte each, and that each is `width` bytes long.
+fn check_each_place(
+    rt: &impl Abort,
+    alloc: Global,
+    (pattern, unit, count): (&str, &str, usize),
+    (width, matches): (usize, usize),
+) {
+    let text = repeated(rt, alloc, unit, count);
+    let regex = regex_of(rt, alloc, pattern);
+    let mut place = 0usize;
+    for found in regex.find_iter(text.as_str()) {
+        let found = found.expect(rt, pattern);
+        check(rt, found.start() == place, pattern);
+        check(rt, found.end() == place.wrapping_add(width), pattern);
+        place = place.wrapping_add(1);
+    }
+    check(rt, place == matches, pattern);
+}
+
+#[test]
+fn wide_patterns_match_at_each_place(rt: HostRuntime) {
+    // each match is found once its first branch has read to the end
+    check_each_place(&rt, rt.alloc(), (FAR, "q", 40_000), (1, 40_000));
+    // the empty text is found at the end too
+    check_each_place(&rt, rt.alloc(), (EMPTY, "b", 300), (0, 301));
+}
