@@ -52,9 +52,9 @@ impl Hints {
         }
     }
 
-    /// Whether so many numbers fill more than a quarter of the table, and it may grow.
+    /// Whether so many numbers fill more than an eighth of the table, and it may grow.
     pub fn is_small(&self, numbers: usize) -> bool {
-        numbers > self.slots.len() / 4 && self.slots.len() < HINTS
+        numbers > self.slots.len() / 8 && self.slots.len() < HINTS
     }
 
     /// Begins the table anew, with twice as many places.
