@@ -13,6 +13,7 @@ use crate::hints::Hints;
 use crate::join::joined;
 use crate::rows::{Rows, Target, are_same, copied, intern, intern_one, target_of};
 use crate::step::{Step, step_from};
+use crate::trail::Trail;
 use crate::way::Way;
 use fancy_engine::code::Code;
 use fancy_engine::reading::Reading;
@@ -58,10 +59,14 @@ pub struct Cells {
     pub cells: Vec<Cell>,
     /// The numbers of steps, by their row and what is read.
     pub hints: Hints,
+    /// The number of the row without an instruction, where it is one; that is tested.
+    pub nothing: usize,
     /// The number of the row of the first instruction alone, where it is one; that is tested.
     pub alone: usize,
     /// How many ways all steps lead to together.
     pub held: usize,
+    /// The trail of the search before, whose memory the next one takes over.
+    pub spare: Trail,
     /// The place where the last search stopped reading, a byte offset.
     pub reached: usize,
     /// How many steps were computed since the cells were made, as far as the number goes.
@@ -82,8 +87,10 @@ impl Cells {
             rows: Rows::new(alloc),
             cells: Vec::new(alloc),
             hints: Hints::new(alloc),
+            nothing: 0,
             alone: 0,
             held: 0,
+            spare: Trail::new(alloc),
             reached: 0,
             computed: 0,
         }
@@ -271,6 +278,50 @@ fn has_alone(code: &Code, cells: &Cells) -> bool
         None => false,
         Some(ways) => are_same(ways, &[code.start]),
     }
+}
+
+/// Whether the row without an instruction is where it is looked for.
+fn has_nothing(cells: &Cells) -> bool
+    ensures { result ≡ true → HasRow cells.now.rows.lists.items cells.now.nothing [] }
+{
+    match cells.rows.lists.get(cells.nothing) {
+        None => false,
+        Some(ways) => are_same(ways, &[]),
+    }
+}
+
+/// Whether the rows before the first place are where they are looked for.
+fn has_origin(code: &Code, cells: &Cells) -> bool
+    ensures nothing { result ≡ true → HasRow cells.now.rows.lists.items cells.now.nothing [] }
+    ensures alone { result ≡ true → HasRow cells.now.rows.lists.items cells.now.alone (code.now.start ∷ []) }
+{
+    if !has_nothing(cells) {
+        return false;
+    }
+    has_alone(code, cells)
+}
+
+/// The rows before the first place: that without an instruction, and that of the first instruction alone. Where one more step
+/// may be one too many, all is forgotten before they are made.
+pub fn origin(code: &Code, cells: &mut Cells) -> Result<Target, AllocError>
+    requires within { IsWithin cells.old }
+    requires all { IsFor cells.old code.now }
+    ensures within { IsWithin cells.new }
+    ensures all { IsFor cells.new code.now }
+    ensures waits { IfOk result (λ t. HasRow cells.new.rows.lists.items t.next []) }
+    ensures opens { IfOk result (λ t. HasRow cells.new.rows.lists.items t.begun (code.now.start ∷ [])) }
+{
+    if has_origin(code, cells) {
+        return Ok(Target {
+            next: cells.nothing,
+            begun: cells.alone,
+        });
+    }
+    cells.make_place();
+    let target = target_of(cells.alloc, &mut cells.rows, code.start, &[])?;
+    cells.nothing = target.next;
+    cells.alone = target.begun;
+    Ok(target)
 }
 
 /// The number of the step of the way that begins, where that is the last of these ways, there are others before it, and what it

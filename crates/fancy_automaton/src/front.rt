@@ -14,8 +14,7 @@ ghost use Rattle.fancy_automaton.specs.Front.{IsFront, ways_of, found_of};
 ghost use Rattle.fancy_automaton.specs.Futures.{ArePlain, unit_by, place_after};
 ghost use Rattle.fancy_automaton.specs.Search.{Steady};
 
-use crate::cells::{Cells, remembered, restart, step_at};
-use crate::rows::target_of;
+use crate::cells::{Cells, origin, remembered, restart, step_at};
 use crate::trail::{
     Hit, Trail, VISITS, Visit, hit_by, note_hit, row_at, settled, span_of, start_at, starts_in,
 };
@@ -27,6 +26,7 @@ use fancy_engine::search::next_candidate;
 use fancy_engine::work::Work;
 use fancy_input::span::Span;
 use std::alloc::AllocError;
+use std::mem;
 
 /// How far a search has come: the ways that wait at the next place, and what was found so far.
 #[derive(Drop)]
@@ -57,13 +57,13 @@ impl Front {
         ensures visits { IfOk result (λ f. f.trail.visits.items ≡ []) }
         ensures hit { IfOk result (λ f. f.hit ≡ None) }
     {
-        cells.make_place();
-        let origin = target_of(cells.alloc, &mut cells.rows, code.start, &[])?;
-        cells.alone = origin.begun;
+        let origin = origin(code, cells)?;
+        let mut trail = mem::replace(&mut cells.spare, Trail::new(cells.alloc));
+        trail.clear();
         Ok(Front {
             next: origin.next,
             begun: origin.begun,
-            trail: Trail::new(cells.alloc),
+            trail,
             hit: None,
         })
     }
@@ -90,14 +90,16 @@ impl Front {
     }
 
     /// Ends a search that stops reading at a place, a byte offset: what it found.
-    pub fn end(&self, cells: &mut Cells, place: usize) -> Option<Span>
-        requires hits { HitIn self.now.trail.visits.items self.now.hit }
-        ensures found { result ≡ found_of cells.old self.now }
+    pub fn end(self, cells: &mut Cells, place: usize) -> Option<Span>
+        requires hits { HitIn self.trail.visits.items self.hit }
+        ensures found { result ≡ found_of cells.old self }
         ensures kept { IsWithin cells.old → IsWithin cells.new }
         ensures all { (code : Code) → IsFor cells.old code → IsFor cells.new code }
     {
+        let found = span_of(&cells.cells, &self.trail, self.hit);
         cells.reached = place;
-        span_of(&cells.cells, &self.trail, self.hit)
+        cells.spare = self.trail;
+        found
     }
 
     /// Forgets the trail: where the ways began that wait, and the match that was found, is read from it first.

@@ -4,8 +4,8 @@ ghost use Rattle.std.specs.Prelude.{◌≤◌, length};
 
 use std::alloc::{AllocError, Global};
 
-/// The most hints of a table, of 8 bytes each, so 512 KB.
-pub const HINTS: usize = 65_536;
+/// The most hints of a table, of 8 bytes each, so 1 MB.
+pub const HINTS: usize = 131_072;
 
 /// Numbers by keys. Each key has two places, which it shares with other keys. A table has a power of two of places; a new one has
 /// none, and nothing is found in it.
@@ -13,7 +13,7 @@ pub const HINTS: usize = 65_536;
 pub struct Hints {
     /// The numbers; `usize::MAX` where none was left.
     slots: Vec<usize>,
-    ghost within: { length slots.items ≤ 65536 },
+    ghost within: { length slots.items ≤ 131_072 },
 }
 
 impl Hints {
@@ -52,9 +52,9 @@ impl Hints {
         }
     }
 
-    /// Whether so many numbers fill more than a quarter of the table, and it may grow.
+    /// Whether so many numbers fill more than an eighth of the table, and it may grow.
     pub fn is_small(&self, numbers: usize) -> bool {
-        numbers > self.slots.len() / 4 && self.slots.len() < HINTS
+        numbers > self.slots.len() / 8 && self.slots.len() < HINTS
     }
 
     /// Begins the table anew, with twice as many places.
@@ -69,7 +69,7 @@ impl Hints {
 
 /// Twice as many places, and 64 at first.
 fn wider(places: usize) -> usize
-    ensures { result ≤ 65536 }
+    ensures { result ≤ 131_072 }
 {
     if places < 64 {
         64

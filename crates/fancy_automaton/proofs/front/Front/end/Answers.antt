@@ -5,4 +5,4 @@ use Rattle.fancy_automaton.proofs.front.Front.end.Goals as goal
 
 pub returns-clause-found : goal.returns-clause-found
 returns-clause-found c =
-    c.span_of.ensures ∙ ap (λ (cells : List Cell). found_in_trail cells c.args.self.now.trail c.args.self.now.hit) c.deref.ensures.value
+    c.span_of-found.ensures ∙ ap (λ (cells : List Cell). found_in_trail cells c.args.self.trail c.args.self.hit) c.deref.ensures.value
