@@ -74,7 +74,7 @@ remembered code rows c is =
       even = ap length is.comes ∙ same_lengths is.after ∙ ap length (sym leads);
       opens = row_ways rows c.begun (map at_of is.after ++ code.start ∷ []) is.opens ∙ ap (λ (xs : List ℕ). xs ++ code.start ∷ []) (sym leads);
       step = subst (λ (ws : List ℕ). IsStepEach (instrs_of code) ws u (ways_from (ways_at rows c.next) c.came.items) c.matched) (sym source)
-        (subst (λ (n : List Way). IsStepEach (instrs_of code) is.ways u n c.matched) (sym after) (step_each (instrs_of code) is.ways u is.after c.matched is.step));
+          (subst (λ (n : List Way). IsStepEach (instrs_of code) is.ways u n c.matched) (sym after) (step_each (instrs_of code) is.ways u is.after c.matched is.step));
       halts = λ e. leads ∙ ap (map at_of) (is.halts e);
     }
 

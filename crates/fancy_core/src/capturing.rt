@@ -144,9 +144,15 @@ impl Regex {
         let mut standing = ByteSet::new();
         let mut work = Work::new();
         let bytes = haystack.as_bytes();
-        let found = self
-            .program
-            .search(bytes, haystack.is_text(), request, true, &mut standing, cache, &mut work)?;
+        let found = self.program.search(
+            bytes,
+            haystack.is_text(),
+            request,
+            true,
+            &mut standing,
+            cache,
+            &mut work,
+        )?;
         let Some(found) = found else {
             return Ok(None);
         };

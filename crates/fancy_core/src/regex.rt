@@ -326,9 +326,15 @@ impl Regex {
         let mut cache = Cache::new(self.allocator());
         let mut standing = ByteSet::new();
         let bytes = haystack.as_bytes();
-        let found = self
-            .program
-            .search(bytes, haystack.is_text(), request, true, &mut standing, &mut cache, work)?;
+        let found = self.program.search(
+            bytes,
+            haystack.is_text(),
+            request,
+            true,
+            &mut standing,
+            &mut cache,
+            work,
+        )?;
         let Some(found) = found else {
             return Ok(None);
         };
@@ -371,9 +377,15 @@ impl Regex {
         let mut cache = Cache::new(self.allocator());
         let mut standing = ByteSet::new();
         let mut work = Work::new();
-        let found = self
-            .program
-            .search(bytes, haystack.is_text(), asked, true, &mut standing, &mut cache, &mut work)?;
+        let found = self.program.search(
+            bytes,
+            haystack.is_text(),
+            asked,
+            true,
+            &mut standing,
+            &mut cache,
+            &mut work,
+        )?;
         Ok(found.is_some())
     }
 }
