@@ -394,18 +394,22 @@ impl Front {
         Ok(resume)
     }
 
-    /// Whether the step of the way that begins at a place by itself is not remembered. Where it is remembered on all that is read
-    /// between matches, other rows need not follow that way again.
+    /// Whether an ASCII character is read at a place, and the step of the way that begins there by itself is not remembered. Where
+    /// it is remembered on all that is read between matches, other rows need not follow that way again.
     fn learns(&self, attempt: &Attempt, cells: &Cells, place: usize) -> bool
         requires row { self.now.next < length cells.now.rows.lists.items }
+        requires inside { attempt.now.last ≤ length attempt.now.haystack.now }
     {
-        if place > attempt.last || self.hit.is_some() {
+        if self.hit.is_some() {
             return false;
         }
         if self.has_waiting(cells) {
             return false;
         }
-        remembered(cells, self.begun, reading_at(attempt, place)).is_none()
+        match ascii_at(attempt, place) {
+            None => false,
+            Some(reading) => remembered(cells, self.begun, Some(reading)).is_none(),
+        }
     }
 
     /// The next place that is to be passed, from one on: where no way waits, one where a match may start by its first byte, or
