@@ -394,18 +394,42 @@ impl Front {
         Ok(resume)
     }
 
+    /// Whether an ASCII character is read at a place, and the step of the way that begins there by itself is not remembered. Where
+    /// it is remembered on all that is read between matches, other rows need not follow that way again.
+    fn learns(&self, attempt: &Attempt, cells: &Cells, place: usize) -> bool
+        requires row { self.now.next < length cells.now.rows.lists.items }
+        requires inside { attempt.now.last ≤ length attempt.now.haystack.now }
+    {
+        if self.hit.is_some() {
+            return false;
+        }
+        if self.has_waiting(cells) {
+            return false;
+        }
+        match ascii_at(attempt, place) {
+            None => false,
+            Some(reading) => remembered(cells, self.begun, Some(reading)).is_none(),
+        }
+    }
+
     /// The next place that is to be passed, from one on: where no way waits, one where a match may start by its first byte, or
-    /// past the last place where none may.
-    pub fn seek(&self, attempt: &Attempt, cells: &Cells, place: usize) -> usize
+    /// past the last place where none may. Once a place was `tried`, one is passed too at which the step of the way that begins is
+    /// not remembered.
+    pub fn seek(&self, attempt: &Attempt, cells: &Cells, place: usize, tried: bool) -> usize
         requires within { place ≤ attempt.now.last + 1 }
         requires inside { attempt.now.last ≤ length attempt.now.haystack.now }
         requires front { IsFront attempt.now cells.now self.now place place }
         ensures front { IsFront attempt.now cells.now self.now result result }
-        ensures stands { ways_of cells.now self.now ≡ [] → result ≤ attempt.now.last
+        ensures stands { tried ≡ false → ways_of cells.now self.now ≡ [] → result ≤ attempt.now.last
             → MayStart attempt.now.code.now.start_bytes attempt.now.haystack.now attempt.now.last result }
         ensures forth { place ≤ result }
         ensures ends { result ≤ attempt.now.last + 1 }
     {
+        if tried {
+            if self.learns(attempt, cells, place) {
+                return place;
+            }
+        }
         if !self.has_waiting(cells) {
             return next_candidate(
                 attempt.code,

@@ -53,15 +53,17 @@ fn find_span(
 {
     let mut front = Front::new(attempt.code, cells)?;
     let mut place = attempt.base;
+    let mut tried = false;
     'places: loop {
         if front.is_over(cells) {
             return Ok(front.end(cells, place));
         }
-        place = front.seek(attempt, cells, place);
+        place = front.seek(attempt, cells, place, tried);
         if place > attempt.last {
             return Ok(front.end(cells, place));
         }
         place = front.pass(attempt, cells, place, work)?;
+        tried = true;
     }
 }
 

@@ -19,7 +19,7 @@ places-init c = record {
   within = omega arith;
   steps = omega arith;
   bounded = omega arith;
-  idle = λ none. (row_ways c.new.new.cells.rows.lists.items c.in_ok-front.front.next [] c.in_ok-front.ensures.waits, refl);
+  idle = λ none. (row_ways c.new.new.cells.rows.lists.items c.in_ok-front.front.next [] c.in_ok-front.ensures.waits, refl, refl);
   returns = refl;
 }
 
@@ -53,7 +53,7 @@ places-preserved c = record {
       (steps_up (code_len c.args.attempt.now.code.now) c.args.attempt.now.base c.places.place c.seek-place.result (steps_of c.args.work.now) (steps_of c.places.work) c.seek-place.ensures.forth c.places.invariant.bounded)
       c.pass.ensures.bounded;
   idle = λ none. absurd (starts_somewhere c.args.attempt.now.code.now.start_bytes c.args.attempt.now.haystack.now c.args.attempt.now.last c.seek-place.result
-      (c.seek-place.ensures.stands (c.places.invariant.idle none).0 (omega (arith, c.if-place-attempt.false))) (none c.seek-place.result (omega (arith, c.places.invariant.passed, c.seek-place.ensures.forth)) (omega (arith, c.if-place-attempt.false))));
+      (c.seek-place.ensures.stands (c.places.invariant.idle none).2 (c.places.invariant.idle none).0 (omega (arith, c.if-place-attempt.false))) (none c.seek-place.result (omega (arith, c.places.invariant.passed, c.seek-place.ensures.forth)) (omega (arith, c.if-place-attempt.false))));
   returns = c.pass.ensures.returns ∙ c.places.invariant.returns;
 }
 
@@ -66,4 +66,4 @@ returns-then-place-attempt-clause-idle c none = (c.places.invariant.idle none).1
 pub returns-in_err-place-clause-idle : goal.returns-in_err-place-clause-idle
 returns-in_err-place-clause-idle c none =
     absurd (starts_somewhere c.args.attempt.now.code.now.start_bytes c.args.attempt.now.haystack.now c.args.attempt.now.last c.seek-place.result
-    (c.seek-place.ensures.stands (c.places.invariant.idle none).0 (omega (arith, c.if-place-attempt.false))) (none c.seek-place.result (omega (arith, c.places.invariant.passed, c.seek-place.ensures.forth)) (omega (arith, c.if-place-attempt.false))))
+    (c.seek-place.ensures.stands (c.places.invariant.idle none).2 (c.places.invariant.idle none).0 (omega (arith, c.if-place-attempt.false))) (none c.seek-place.result (omega (arith, c.places.invariant.passed, c.seek-place.ensures.forth)) (omega (arith, c.if-place-attempt.false))))

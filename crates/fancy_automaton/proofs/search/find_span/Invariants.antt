@@ -1,4 +1,4 @@
-use Rattle.std.proofs.Common.{◌≡◌, ◌+◌, ◌-◌, ◌*◌, ◌≤◌, []}
+use Rattle.std.proofs.Common.{◌≡◌, ◌+◌, ◌-◌, ◌*◌, ◌≤◌, [], false}
 use Rattle.fancy_engine.specs.Code.{code_len}
 use Rattle.fancy_engine.specs.Seen.{NoneMayStart}
 use Rattle.fancy_engine.specs.Work.{steps_of, returns_of}
@@ -15,7 +15,7 @@ invariant-places l = record {
   steps : steps_of l.fn.work ≤ steps_of l.work;
   bounded : steps_of l.work ≤ steps_of l.fn.work + code_len l.attempt.code.now * (l.place - l.attempt.base);
   idle : NoneMayStart l.attempt.code.now.start_bytes l.attempt.haystack.now l.attempt.last l.attempt.base (l.attempt.last + 1)
-      → (ways_of l.cells l.front ≡ []) × (steps_of l.work ≡ steps_of l.fn.work);
+      → (ways_of l.cells l.front ≡ []) × (steps_of l.work ≡ steps_of l.fn.work) × (l.tried ≡ false);
   returns : returns_of l.work ≡ returns_of l.fn.work;
 }
 

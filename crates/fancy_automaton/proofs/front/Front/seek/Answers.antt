@@ -11,4 +11,7 @@ returns-then-not-has_waiting-clause-front c =
     c.next_candidate.ensures.passed c.next_candidate.ensures.within c.next_candidate.ensures.none c.requires.front
 
 pub returns-clause-stands : goal.returns-clause-stands
-returns-clause-stands c none le = absurd (c.has_waiting.ensures.some c.if-not-has_waiting.false none)
+returns-clause-stands c first none le = absurd (c.has_waiting.ensures.some c.if-not-has_waiting.false none)
+
+pub learns-requires : goal.learns-requires
+learns-requires c = record { row = row_within c.args.cells.now.rows.lists.items c.args.self.now.next _ c.requires.front.waits; inside = c.requires.inside }
