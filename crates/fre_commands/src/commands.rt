@@ -188,30 +188,17 @@ fn tokens<W: io::Write>(
 
 /// Writes a line for each token, and one for the place where no pattern gives one, if there is such a place.
 fn write_tokens<W: io::Write>(tokens: Tokens<'_, &str>, out: &mut W) -> Result<bool, Fault> {
-    for answer in tokens {
-        if !write_answer(answer, out)? {
-            return Ok(false);
+    for token in tokens {
+        match token {
+            Ok(token) => write_token(&token, out)?,
+            Err(Error::RuntimeError(RuntimeError::Unmatched(place))) => {
+                write_unmatched(place, out)?;
+                return Ok(false);
+            }
+            Err(error) => return Err(Fault::Refused(error)),
         }
     }
     Ok(true)
-}
-
-/// Writes a line for a token, or for the place where no pattern gives one; tells whether it is a token.
-fn write_answer<W: io::Write>(
-    answer: Result<Token<'_, &str>, Error>,
-    out: &mut W,
-) -> Result<bool, Fault> {
-    match answer {
-        Ok(token) => {
-            write_token(&token, out)?;
-            Ok(true)
-        }
-        Err(Error::RuntimeError(RuntimeError::Unmatched(place))) => {
-            write_unmatched(place, out)?;
-            Ok(false)
-        }
-        Err(error) => Err(Fault::Refused(error)),
-    }
 }
 
 fn write_token<W: io::Write>(token: &Token<'_, &str>, out: &mut W) -> io::Result<()> {
