@@ -66,15 +66,12 @@ fn check_told_by_captures<S: Input>(
     check(rt, items.input().start() == start, pattern);
 }
 
-/// Checks whether a list has a match, and how many come after it.
-fn check_rest<S: Input>(
-    rt: &impl Abort,
-    mut matches: Matches<'_, S>,
-    pattern: &str,
-    spans: &[Span],
-) {
-    let is_some = matches.next().is_some();
-    check(rt, is_some != spans.is_empty(), pattern);
+/// Checks whether an input, which the regex may search, has a match, and how many come after it.
+fn check_rest<S: Input>(rt: &impl Abort, regex: &Regex, input: RegexInput<S>, spans: &[Span]) {
+    let pattern = regex.as_str();
+    let input = searchable(rt, regex, input);
+    let mut matches = regex.find_iter_input(input);
+    check(rt, matches.next().is_some() != spans.is_empty(), pattern);
     let count = matches.count();
     check(rt, count == spans.len().saturating_sub(1), pattern);
 }
@@ -94,8 +91,8 @@ fn check_counts<S: Input>(
     spans: &[Span],
 ) {
     let pattern = regex.as_str();
+    check_rest(rt, regex, input.again(), spans);
     let input = searchable(rt, regex, input);
-    check_rest(rt, regex.find_iter_input(input.again()), pattern, spans);
     let count = regex.find_iter_input(input.again()).count();
     check(rt, count == spans.len(), pattern);
     let count = regex.captures_iter_input(input.again()).count();
