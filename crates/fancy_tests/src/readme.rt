@@ -21,6 +21,10 @@ fn searches_and_inputs(rt: HostRuntime) {
     check(&rt, input.get_range() == (2..5), "the range");
     let inside = RegexInput::new("é").from_pos(1);
     check_may_search(&rt, rt.alloc(), (CHARACTERS, "a|ab"), inside, false);
+}
+
+#[test]
+fn searches_without_an_input(rt: HostRuntime) {
     let regex = regex_of(&rt, rt.alloc(), "a|ab");
     let found = span_found(&rt, regex.find_from_pos("xabab", 2), "a|ab");
     check(&rt, found == Some((3, 4)), "a|ab");

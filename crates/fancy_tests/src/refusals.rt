@@ -2,9 +2,11 @@
 
 use crate::asking::{
     ASCII_TEXT, BYTES, BYTES_WITHOUT_UNICODE, KindRow, Verdict, VerdictRow, check_kinds,
-    check_verdict, check_verdicts, nested, repeated,
+    check_verdict, check_verdicts, nested,
 };
 use fancy_regex::{ParseErrorKind, Regex};
+use std::alloc::Global;
+use std::process::Abort;
 
 const FAULTS: &[KindRow] = &[
     // patterns
@@ -146,26 +148,32 @@ const DEEP: &[((&str, &str, &str), usize, Verdict)] = &[
     (("(?(a)", "b", ")"), 127, TOO_DEEP),
 ];
 
+/// Checks what becomes of a pattern of so many parts.
+fn check_nested(
+    rt: &impl Abort,
+    alloc: Global,
+    parts: (&str, &str, &str),
+    depth: usize,
+    wanted: Verdict,
+) {
+    let pattern = nested(rt, alloc, parts, depth);
+    let read = Regex::new(alloc, pattern.as_str());
+    check_verdict(rt, &read, wanted, parts.0);
+}
+
 #[test]
 fn parentheses_and_brackets_nest_128_deep(rt: HostRuntime) {
     for &(parts, depth, verdict) in DEEP {
-        for less in [0usize, 1] {
-            let deep = nested(&rt, rt.alloc(), parts, depth.saturating_sub(less));
-            let read = Regex::new(rt.alloc(), deep.as_str());
-            check_verdict(&rt, &read, Verdict::Accepted, parts.0);
-        }
-        let too_deep = nested(&rt, rt.alloc(), parts, depth.saturating_add(1));
-        let read = Regex::new(rt.alloc(), too_deep.as_str());
-        check_verdict(&rt, &read, verdict, parts.0);
+        let (less, more) = (depth.saturating_sub(1), depth.saturating_add(1));
+        check_nested(&rt, rt.alloc(), parts, depth, Verdict::Accepted);
+        check_nested(&rt, rt.alloc(), parts, less, Verdict::Accepted);
+        check_nested(&rt, rt.alloc(), parts, more, verdict);
     }
 }
 
 #[test]
 fn a_pattern_has_four_million_nodes(rt: HostRuntime) {
-    let most = repeated(&rt, rt.alloc(), "a", 4_000_000);
-    let read = Regex::new(rt.alloc(), most.as_str());
-    check_verdict(&rt, &read, Verdict::Accepted, "four million nodes");
-    let more = repeated(&rt, rt.alloc(), "a", 4_000_001);
-    let read = Regex::new(rt.alloc(), more.as_str());
-    check_verdict(&rt, &read, Verdict::TooComplex, "one node more");
+    let parts = ("a", "", "");
+    check_nested(&rt, rt.alloc(), parts, 4_000_000, Verdict::Accepted);
+    check_nested(&rt, rt.alloc(), parts, 4_000_001, Verdict::TooComplex);
 }

@@ -3,7 +3,7 @@
 //! Where a match is follows from the order of the branches: the first place where one matches, and there the first one that does.
 
 use crate::asking::{check, regex_of, repeated, searchable};
-use fancy_regex::{Input, Regex, RegexInput};
+use fancy_regex::{Input, Matches, Regex, RegexInput};
 use std::alloc::Global;
 use std::ops::Range;
 use std::process::Abort;
@@ -130,6 +130,18 @@ fn wide_patterns_find_the_same_in_long_texts(rt: HostRuntime) {
     }
 }
 
+/// Checks that there is a match at each place from 0 on, so many, and that each is `width` bytes long.
+fn check_places(rt: &impl Abort, found: Matches<'_, &str>, width: usize, matches: usize) {
+    let mut place = 0usize;
+    for one in found {
+        let one = one.expect(rt, "a match");
+        check(rt, one.start() == place, "the start");
+        check(rt, one.end() == place.wrapping_add(width), "the end");
+        place = place.wrapping_add(1);
+    }
+    check(rt, place == matches, "how many matches");
+}
+
 /// Checks that there is a match at each place of so many `unit`s, one byte each, and that each is `width` bytes long.
 fn check_each_place(
     rt: &impl Abort,
@@ -139,14 +151,7 @@ fn check_each_place(
 ) {
     let text = repeated(rt, alloc, unit, count);
     let regex = regex_of(rt, alloc, pattern);
-    let mut place = 0usize;
-    for found in regex.find_iter(text.as_str()) {
-        let found = found.expect(rt, pattern);
-        check(rt, found.start() == place, pattern);
-        check(rt, found.end() == place.wrapping_add(width), pattern);
-        place = place.wrapping_add(1);
-    }
-    check(rt, place == matches, pattern);
+    check_places(rt, regex.find_iter(text.as_str()), width, matches);
 }
 
 #[test]
