@@ -6,3 +6,4 @@ pub mod EdgeLemmas
 pub mod ScanLemmas
 pub mod LackLemmas
 pub mod OpeningLemmas
+pub mod WindowLemmas

@@ -7,3 +7,4 @@ pub mod Required
 pub mod Lists
 pub mod Lacks
 pub mod Openings
+pub mod Windows

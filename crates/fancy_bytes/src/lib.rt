@@ -5,6 +5,7 @@ pub mod byte_set;
 pub mod lacking;
 pub mod literal;
 pub mod members;
+pub mod prefilter;
 pub mod required;
 pub mod scan;
 pub mod seek;

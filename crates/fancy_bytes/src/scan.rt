@@ -63,6 +63,11 @@ impl Scan {
         Scan { set, only }
     }
 
+    /// Whether the set has one byte alone. It tells how fast a scan is, and no answer rests on it.
+    pub fn has_one(&self) -> bool {
+        self.only.is_some()
+    }
+
     /// Whether the byte is in the set.
     pub fn contains(&self, byte: u8) -> bool
         ensures { result ≡ member self.now byte }

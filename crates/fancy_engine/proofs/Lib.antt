@@ -45,4 +45,6 @@ pub mod BeginLemmas
 pub mod RequireLemmas
 pub mod SkipLemmas
 pub mod TriedLemmas
+pub mod ForetoldLemmas
+pub mod PassedLemmas
 pub mod OpenLemmas

@@ -1,6 +1,6 @@
 -- Where a pattern has an outcome, the text that it opens with stands where it began; a literal ends where that text does.
-use Rattle.std.proofs.Common.{◌≡◌, ℕ, suc, ◌+◌, ◌-◌, ◌<◌, ◌≤◌, ◌==◌, Bool, true, false, ◌⊎◌, inl, inr, List, [], ◌∷◌, ◌++◌, length, drop, Option, Some, None, if◌then◌else◌, nat_le, nat_lt, refl, sym, ap, subst, ◌∙◌, arith, true≢false, slice_get, slice_index}
-use Rattle.std.specs.Prelude.{encode_utf8, IfSome}
+use Rattle.std.proofs.Common.{◌≡◌, ℕ, suc, ◌+◌, ◌-◌, ◌<◌, ◌≤◌, ◌==◌, Bool, true, false, ◌⊎◌, List, [], ◌∷◌, ◌++◌, length, drop, Option, Some, None, if◌then◌else◌, nat_le, nat_lt, refl, sym, ap, subst, ◌∙◌, arith, true≢false, slice_get}
+use Rattle.std.specs.Prelude.{encode_utf8}
 use Rattle.std.specs.Char.{len_utf8}
 use Rattle.std.proofs.lemmas.List.{append-nil, length-append}
 use Rattle.std.proofs.lemmas.Str.{length-encode}
@@ -9,27 +9,21 @@ use Rattle.fancy_tree.specs.declared.tree.Meaning.TheVariants.{Unicode, Bytes, A
 use Rattle.fancy_tree.specs.declared.tree.RepeatKind.{RepeatKind}
 use Rattle.fancy_tree.specs.Pattern.{Pattern, empty, character, member_of, in_any_case, raw_byte, backreference, assertion, group_test, keep_start, continue_here, group, repeat, look_ahead, look_behind, atomic, conditional, followed, or_else, last_branch}
 use Rattle.fancy_input.specs.Places.{char_at}
-use Rattle.fancy_bytes.specs.Firsts.{AreStartBytes}
 use Rattle.fancy_bytes.specs.Items.{encoding, only}
 use Rattle.fancy_bytes.specs.Openings.{has_text, item_text, is_literal, opening, StandsBefore}
-use Rattle.fancy_bytes.specs.Sets.{ByteFlags}
-use Rattle.fancy_bytes.proofs.BoolLemmas.{parts_of, lt_holds}
-use Rattle.std.proofs.lemmas.Bool.Decides.{nat_tests}
+use Rattle.fancy_bytes.proofs.BoolLemmas.{parts_of}
 use Rattle.fancy_engine.specs.Answers.{HasAccepted}
 use Rattle.fancy_engine.specs.Context.{Context, State, Unit_at, one_character, one_byte, unit_in, unit_at, past_item, past_byte, holds, option_to}
 use Rattle.fancy_engine.specs.Events.{Event, bind}
 use Rattle.fancy_engine.specs.Forward.{EachOutcome}
-use Rattle.fancy_engine.specs.Search.{Query, answer_at, answer_from, context_of, initial}
-use Rattle.fancy_engine.specs.Seen.{MayNotStart, LacksOpening, IsNextCandidate, IsNextOpening}
+use Rattle.fancy_engine.specs.Search.{Query, context_of, initial}
 use Rattle.fancy_engine.specs.Trace.{trace, is_greedy}
 use Rattle.fancy_engine.proofs.BeginLemmas.{moved_within, accepted_holds}
 use Rattle.fancy_engine.proofs.EventLemmas.{EachOutcome-bind, EachOutcome-only_if, EachOutcome_all}
 use Rattle.fancy_engine.proofs.ForwardLemmas.{EachOutcome_imp, LeadsOn-by_kind}
 use Rattle.fancy_engine.proofs.WalkLemmas.{EachOutcome_both}
 use Rattle.fancy_engine.proofs.RequireLemmas.{Implies, by_start, by_repeated}
-use Rattle.fancy_engine.proofs.SearchLemmas.{is-no_answer}
 use Rattle.fancy_engine.proofs.SeenLemmas.{get_first, drop_from_get, past_item-has, only_one, past_byte-here}
-use Rattle.fancy_engine.proofs.SkipLemmas.{skip_none, none_starts, starts_somewhere}
 
 -- texts that stand before an end
 
@@ -72,7 +66,7 @@ one_byte-wide : (o : Option ℕ) (u : Unit_at) → one_byte o ≡ Some u → u.w
 one_byte-wide None u e = cc
 one_byte-wide (Some c) u e = cc
 
-unit_wide : (m : Meaning) (haystack : List ℕ) (p : ℕ) (u : Unit_at) → unit_in m haystack p ≡ Some u → u.width ≡ length (encoding m u.code)
+pub unit_wide : (m : Meaning) (haystack : List ℕ) (p : ℕ) (u : Unit_at) → unit_in m haystack p ≡ Some u → u.width ≡ length (encoding m u.code)
 unit_wide Unicode haystack p u e = one_character-wide (char_at haystack p) u e
 unit_wide Bytes haystack p u e = one_byte-wide (slice_get haystack p) u e
 unit_wide AsciiText haystack p u e = one_character-wide (char_at haystack p) u e
@@ -231,45 +225,3 @@ pub opening_stands : (q : Query) (p : ℕ) → HasAccepted q p → StandsBefore 
 opening_stands q p h =
     accepted_holds q p (λ t. StandsBefore q.haystack q.request.range_end (opening q.sought.meaning q.sought.pattern) p) h
     (trace_opens (context_of q) q.sought.pattern q.request.range_end (initial q p))
-
-module _ (q : Query) (starts : Option ByteFlags) (is : AreStartBytes q.sought.meaning q.sought.pattern starts) (bytes : (k : ℕ) → slice_index q.haystack k < 256)
-    (text : Option (List ℕ)) (opens : IfSome text (λ t. t ≡ opening q.sought.meaning q.sought.pattern)) where
-  lacks_opening : (o : Option (List ℕ)) → IfSome o (λ t. t ≡ opening q.sought.meaning q.sought.pattern) → (p : ℕ) → LacksOpening o q.haystack q.request.range_end p → answer_at q p ≡ None
-  lacks_opening None same p never = absurd never
-  lacks_opening (Some t) same p lacks = is-no_answer q p (λ h. lacks (subst (λ (u : List ℕ). StandsBefore q.haystack q.request.range_end u p) (sym same) (opening_stands q p h)))
-
-  -- positions where no match starts, or its opening does not stand, may be passed over
-  pub openings_passed : (n m p r : ℕ) → p ≤ r → n ≡ (r - p) + m →
-      ((k : ℕ) → p ≤ k → k < r → MayNotStart starts q.haystack q.request.range_end k ⊎ LacksOpening text q.haystack q.request.range_end k) → answer_from q n p ≡ answer_from q m r
-  openings_passed n m p r le count none =
-      skip_none q (r - p) n m p r count (omega arith)
-      (λ k from before. elim (none k from before) [ inl never ↦ none_starts q starts is bytes k never | inr lacks ↦ lacks_opening text opens k lacks ])
-
-not_lt : (a b : ℕ) → nat_lt a b ≡ false → b ≤ a
-not_lt a b e = grind (arith, nat_tests)
-
-module _ (starts : Option ByteFlags) (text : Option (List ℕ)) (haystack : List ℕ) (range_end from last place : ℕ) (next : IsNextCandidate starts haystack range_end from last place) where
-  -- without a text the search goes on where a match may start
-  pub by_first : IsNextOpening starts text haystack range_end from last place
-  by_first = record {
-    passed = next.passed;
-    within = next.within;
-    some = λ le none. starts_somewhere starts haystack range_end place (next.stands le) (none place next.passed (omega (arith, le)));
-    none = λ k low high. inl (next.none k low high);
-  }
-
-  either : (p : ℕ) → ((k : ℕ) → place ≤ k → k < p → LacksOpening text haystack range_end k) → (k : ℕ) → from ≤ k → k < p → (b : Bool) → nat_lt k place ≡ b →
-      MayNotStart starts haystack range_end k ⊎ LacksOpening text haystack range_end k
-  either p lacks k low high true e = inl (next.none k low (lt_holds k place e))
-  either p lacks k low high false e = inr (lacks k (not_lt k place e) high)
-
-  -- and with one where that stands, if there is a place that the first byte allows
-  pub by_text : (p : ℕ) → place ≤ p → p ≤ last + 1 → ((k : ℕ) → place ≤ k → k < p → LacksOpening text haystack range_end k) → IsNextOpening starts text haystack range_end from last p
-  by_text p later within lacks = record {
-    passed = omega (arith, next.passed, later);
-    within = within;
-    some = λ le none.
-        let to : place ≤ last = omega (arith, le, later) in
-        starts_somewhere starts haystack range_end place (next.stands to) (none place next.passed (omega (arith, to)));
-    none = λ k low high. either p lacks k low high (nat_lt k place) refl;
-  }

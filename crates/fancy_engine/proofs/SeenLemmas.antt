@@ -86,7 +86,7 @@ module _ (haystack : List ℕ) (p : ℕ) where
         bytes = drop_from_get haystack p c is;
       }
 
-  unit_item : (m : Meaning) (test : ℕ → Bool) (u : Unit_at) → unit_in m haystack p ≡ Some u → test u.code ≡ true → HasItem m haystack test p
+  pub unit_item : (m : Meaning) (test : ℕ → Bool) (u : Unit_at) → unit_in m haystack p ≡ Some u → test u.code ≡ true → HasItem m haystack test p
   unit_item Unicode test u e passes = char_item Unicode (λ c. refl) test (char_at haystack p) refl u e passes
   unit_item Bytes test u e passes = byte_item test (slice_get haystack p) refl u e passes
   unit_item AsciiText test u e passes = char_item AsciiText (λ c. refl) test (char_at haystack p) refl u e passes

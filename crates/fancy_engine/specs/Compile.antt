@@ -13,6 +13,7 @@ use Rattle.fancy_engine.specs.Instructions as i
 use Rattle.fancy_tree.specs.declared.tree.Meaning.{Meaning}
 use Rattle.fancy_tree.specs.Sizes.{size, is_empty}
 use Rattle.fancy_engine.specs.Code.{instrs_of}
+use Rattle.fancy_engine.specs.Foretold.{AreForetold, IsAnchored}
 use Rattle.fancy_engine.specs.Run.{instr_at}
 
 -- a repeat of this kind can go back to another number of turns
@@ -281,6 +282,8 @@ pub record IsCodeOf (p : Pattern) (code : Code) : Type 0 where
   pub numbered : Numbered 0 code.groups p
   pub starts : AreStartBytes code.meaning p code.start_bytes
   pub opens : IfSome code.literal (λ text. text ≡ opening code.meaning p)
+  pub foretold : IfSome code.prefilter (λ sets. AreForetold sets code)
+  pub anchored : code.only_at_start ≡ true → IsAnchored (instrs_of code) code.start
 
 -- An instruction that reads neither captures nor where groups began, and that ends no way early.
 abbrev pub IsEasyInstr : Instruction → Type 0

@@ -2,6 +2,7 @@
 use Rattle.std.specs.Prelude.{◌≡◌, ℕ, ◌+◌, ◌<◌, ◌≤◌, Bool, true, false, ◌⊎◌, List, Option, Some, None, slice_get, slice_index}
 use Rattle.fancy_bytes.specs.Openings.{StandsBefore}
 use Rattle.fancy_bytes.specs.Sets.{ByteFlags, member}
+use Rattle.fancy_bytes.specs.Windows.{StandsFrom}
 use Rattle.fancy_engine.specs.Context.{State}
 
 -- a byte of this kind stands at p
@@ -53,9 +54,19 @@ abbrev pub LacksOpening : Option (List ℕ) → List ℕ → ℕ → ℕ → Typ
 LacksOpening None haystack range_end p = ⊥
 LacksOpening (Some text) haystack range_end p = ¬ StandsBefore haystack range_end text p
 
+-- a byte of each set does not stand in the window at p; without a row of sets, nothing is told
+abbrev pub LacksRow : Option (List ByteFlags) → List ℕ → ℕ → ℕ → Type 0
+LacksRow None haystack range_end p = ⊥
+LacksRow (Some sets) haystack range_end p = ¬ StandsFrom sets haystack range_end 0 p
+
+-- no match starts at p, by its first byte, by the text that it begins with, by the bytes at its first places, or since it starts at the text's start alone
+abbrev pub StartsNot : Option ByteFlags → Option (List ℕ) → Option (List ByteFlags) → Bool → List ℕ → ℕ → ℕ → Type 0
+StartsNot starts text sets anchored haystack range_end p =
+    MayNotStart starts haystack range_end p ⊎ (LacksOpening text haystack range_end p ⊎ (LacksRow sets haystack range_end p ⊎ ((anchored ≡ true) × (0 < p))))
+
 -- p is a place, from the one on and up to the other, at which a search may go on, since no match starts before it; or it is past both. Where no match starts by its first byte, it is past both.
-pub record IsNextOpening (starts : Option ByteFlags) (text : Option (List ℕ)) (haystack : List ℕ) (range_end from last p : ℕ) : Type 0 where
+pub record IsNextOpening (starts : Option ByteFlags) (text : Option (List ℕ)) (sets : Option (List ByteFlags)) (anchored : Bool) (haystack : List ℕ) (range_end from last p : ℕ) : Type 0 where
   pub passed : from ≤ p
   pub within : p ≤ last + 1
   pub some : p ≤ last → ¬ NoneMayStart starts haystack range_end from (last + 1)
-  pub none : (k : ℕ) → from ≤ k → k < p → MayNotStart starts haystack range_end k ⊎ LacksOpening text haystack range_end k
+  pub none : (k : ℕ) → from ≤ k → k < p → StartsNot starts text sets anchored haystack range_end k

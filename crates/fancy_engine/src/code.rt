@@ -1,12 +1,13 @@
 //! The code of a pattern: instructions that say where they go on.
 
-ghost use Rattle.std.specs.Prelude.{◌≡◌, ◌<◌, ℕ, IsTrue, length};
+ghost use Rattle.std.specs.Prelude.{◌≡◌, ◌<◌, ℕ, None, false, IsTrue, length};
 ghost use Rattle.fancy_engine.specs.Instructions.{are_known, edges_in, with_sets};
 ghost use Rattle.fancy_engine.specs.Marking.{IsPaid};
 
 use crate::marking::Marking;
 use crate::work::Work;
 use fancy_bytes::literal::Literal;
+use fancy_bytes::prefilter::Prefilter;
 use fancy_bytes::scan::Scan;
 use fancy_tree::char_set::CharSet;
 use fancy_tree::tree::{Assertion, Meaning};
@@ -94,6 +95,10 @@ pub struct Code {
     pub start_bytes: Option<Scan>,
     /// The text of two bytes or more that each match begins with, where it was tried. `None` where there is no such text.
     pub literal: Option<Literal>,
+    /// The sets of the bytes that stand at the first places of each match, where that tells more than its first byte.
+    pub prefilter: Option<Prefilter>,
+    /// Each match starts at the text's start.
+    pub only_at_start: bool,
     ghost known: { IsTrue (are_known (length sets.items) instrs.items) },
     ghost marked: { length marking.numbers.items ≡ length instrs.items },
     ghost paid: { IsPaid (with_sets sets.items instrs.items) marking.numbers.items marking.weights.items start },
@@ -124,6 +129,8 @@ impl Code {
         ensures meaning { result.meaning ≡ meaning }
         ensures start_bytes { result.start_bytes ≡ start_bytes }
         ensures literal { result.literal ≡ literal }
+        ensures prefilter { result.prefilter ≡ None }
+        ensures anchored { result.only_at_start ≡ false }
     {
         Code {
             instrs,
@@ -134,6 +141,8 @@ impl Code {
             meaning,
             start_bytes,
             literal,
+            prefilter: None,
+            only_at_start: false,
         }
     }
 

@@ -11,7 +11,9 @@ ghost use Rattle.fancy_tree.specs.GroupNumbers.{Numbered};
 ghost use Rattle.fancy_engine.specs.Compile.{Keeps, Emitted, CopiesEmitted, OptionalsEmitted, StarEmitted, RestEmitted, RepeatEmitted, TestEmitted, BackEmitted, BehindEmitted, IsCodeOf, StaysEasy, goes_back, is_easy, are_easy, split_of, look_of};
 
 use crate::code::{Code, Entry, FAIL, Instr, MATCH};
+use crate::classify::is_easy;
 use crate::emitter::Emitter;
+use crate::prefilter::with_starts;
 use fancy_bytes::literal::opening_literal;
 use fancy_bytes::scan::start_scan;
 use fancy_tree::char_set::CharSet;
@@ -520,15 +522,8 @@ fn emit_choice(
     Ok(entry)
 }
 
-/// The code of a pattern with so many groups, group 0 among them. It has at most 4 instructions for each node of
-/// the pattern with its counted repeats written out, and 2 more. A branch of a look-behind that has no size, as
-/// `a*`, matches nowhere. The call fails only where memory runs out.
-///
-/// ```
-/// let code = compile(alloc, &Tree::Character('a'), 1, Meaning::Unicode)?;
-/// assert_eq!(code.len(), 3);
-/// ```
-pub fn compile(
+/// The code of a pattern, before it is known where its matches may begin by more than their first byte and text.
+fn compile_alone(
     alloc: Global,
     tree: &Tree,
     groups: usize,
@@ -553,5 +548,35 @@ pub fn compile(
     let start_bytes = start_scan(tree, meaning);
     let literal = opening_literal(alloc, tree, meaning)?;
     let code = code.into_code(entry.moved, groups, meaning, start_bytes, literal)?;
+    Ok(code)
+}
+
+/// The code of a pattern with so many groups, group 0 among them. It has at most 4 instructions for each node of
+/// the pattern with its counted repeats written out, and 2 more. A branch of a look-behind that has no size, as
+/// `a*`, matches nowhere. The call fails only where memory runs out.
+///
+/// ```
+/// let code = compile(alloc, &Tree::Character('a'), 1, Meaning::Unicode)?;
+/// assert_eq!(code.len(), 3);
+/// ```
+pub fn compile(
+    alloc: Global,
+    tree: &Tree,
+    groups: usize,
+    meaning: Meaning,
+) -> Result<Code, AllocError>
+    requires small { nodes (pattern_of tree.now) < 2 ^ 64 }
+    requires numbered { Numbered 0 groups (pattern_of tree.now) }
+    ensures code { IfOk result (λ code. IsCodeOf (pattern_of tree.now) code) }
+    ensures easy { IfOk result (λ code. is_easy (pattern_of tree.now) ≡ true → are_easy (instrs_of code) ≡ true) }
+    ensures short { IfOk result (λ code. code_len code ≤ 4 * nodes (pattern_of tree.now) + 2) }
+    ensures groups { IfOk result (λ code. code.groups ≡ groups) }
+    ensures meaning { IfOk result (λ code. code.meaning ≡ meaning) }
+{
+    let code = compile_alone(alloc, tree, groups, meaning)?;
+    if !is_easy(tree) {
+        return Ok(code);
+    }
+    let code = with_starts(alloc, code)?;
     Ok(code)
 }

@@ -182,6 +182,8 @@ impl Emitter {
         ensures meaning { IfOk result (λ code. code.meaning ≡ meaning) }
         ensures start_bytes { IfOk result (λ code. code.start_bytes ≡ start_bytes) }
         ensures literal { IfOk result (λ code. code.literal ≡ literal) }
+        ensures prefilter { IfOk result (λ code. code.prefilter ≡ None) }
+        ensures anchored { IfOk result (λ code. code.only_at_start ≡ false) }
     {
         let marking = Marking::new(self.allocator(), &self.instrs, start)?;
         Ok(Code::new(

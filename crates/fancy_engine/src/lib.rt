@@ -9,6 +9,7 @@ pub mod found;
 pub mod laws;
 mod marking;
 pub mod options;
+mod prefilter;
 pub mod reading;
 pub mod refusal;
 pub mod runner;

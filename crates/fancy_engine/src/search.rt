@@ -1,6 +1,6 @@
 //! Searches by the runner: their time is bounded by the product of the code's length and the text's.
 
-ghost use Rattle.std.specs.Prelude.{◌≡◌, ◌+◌, ◌-◌, ◌^◌, ◌<◌, ◌≤◌, ℕ, Bool, true, false, [], None, length, replicate, slice_index_or, IfOk, IfErr, IfSome, OnOk};
+ghost use Rattle.std.specs.Prelude.{◌≡◌, ◌+◌, ◌-◌, ◌^◌, ◌<◌, ◌≤◌, ℕ, Bool, true, false, [], Some, None, length, replicate, slice_index_or, IfOk, IfErr, IfSome, OnOk};
 ghost use Rattle.fancy_tree.specs.Pattern.{Pattern};
 ghost use Rattle.fancy_engine.specs.Code.{instrs_of, code_len, worth_of};
 ghost use Rattle.fancy_engine.specs.Attempt.{bits_in, left_in, AllFailedIn};
@@ -24,6 +24,7 @@ use crate::table::Table;
 use crate::threads::Threads;
 use crate::work::Work;
 use fancy_bytes::literal::Literal;
+use fancy_bytes::prefilter::Prefilter;
 use fancy_input::input::Request;
 use fancy_input::last_lines::LastLines;
 use fancy_input::span::Span;
@@ -159,16 +160,61 @@ pub fn next_candidate(
 /// The first position, from the one on and up to the last, at which the search by the runner goes on, past the last where there is
 /// none: where a match may start, and the text stands that each match begins with.
 #[inline]
-fn next_opening(code: &Code, haystack: &[u8], range_end: usize, from: usize, last: usize) -> usize
+fn next_unfiltered(
+    code: &Code,
+    haystack: &[u8],
+    range_end: usize,
+    from: usize,
+    last: usize,
+) -> usize
     requires ordered { from ≤ last + 1 }
     requires last { last ≤ range_end }
     requires inside { range_end ≤ length haystack.now }
-    ensures { IsNextOpening code.now.start_bytes code.now.literal haystack.now range_end from last result }
+    ensures { IsNextOpening code.now.start_bytes code.now.literal code.now.prefilter code.now.only_at_start haystack.now range_end from last result }
 {
     let place = candidate_from(code, haystack, range_end, from, last);
     match &code.literal {
         None => place,
         Some(literal) => literal_from(literal, haystack, range_end, place, last),
+    }
+}
+
+/// The same where all of the range is searched, by a scan for the bytes that stand at the first places of each match.
+#[inline(never)]
+fn next_filtered(
+    code: &Code,
+    prefilter: &Prefilter,
+    haystack: &[u8],
+    range_end: usize,
+    from: usize,
+) -> usize
+    requires ordered { from ≤ range_end + 1 }
+    requires inside { range_end ≤ length haystack.now }
+    ensures { IsNextOpening code.now.start_bytes code.now.literal (Some prefilter.now) code.now.only_at_start haystack.now range_end from range_end result }
+{
+    match prefilter.next_seen(haystack, from, range_end) {
+        None => range_end + 1,
+        Some(seen) => candidate_from(code, haystack, range_end, seen, range_end),
+    }
+}
+
+/// The first position, from the one on and up to the last, at which the search by the runner goes on, past the last where there is
+/// none. A match that starts at the text's start alone is tried there alone.
+#[inline]
+fn next_opening(code: &Code, haystack: &[u8], range_end: usize, from: usize, last: usize) -> usize
+    requires ordered { from ≤ last + 1 }
+    requires last { last ≤ range_end }
+    requires inside { range_end ≤ length haystack.now }
+    ensures { IsNextOpening code.now.start_bytes code.now.literal code.now.prefilter code.now.only_at_start haystack.now range_end from last result }
+{
+    if code.only_at_start && from > 0 {
+        return last + 1;
+    }
+    match &code.prefilter {
+        Some(prefilter) if last == range_end => {
+            next_filtered(code, prefilter, haystack, range_end, from)
+        }
+        _ => next_unfiltered(code, haystack, range_end, from, last),
     }
 }
 

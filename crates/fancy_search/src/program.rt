@@ -44,6 +44,9 @@ use fancy_tree::name::GroupName;
 use fancy_tree::tree::Meaning;
 use std::alloc::Global;
 
+/// A haystack of fewer bytes is short.
+const SHORT_HAYSTACK: usize = 256;
+
 /// A pattern that was read and compiled under options.
 ///
 /// Which engine serves its searches is decided once: the memoised runner an easy pattern, and the backtracking machine a
@@ -413,7 +416,17 @@ impl Program {
         let searches_all = !request.anchored
             && request.effective_start() == 0
             && request.range_end == haystack.len();
-        self.options.seek || (self.easy && searches_all)
+        self.options.seek || (self.easy && searches_all && !self.ends_soon(haystack))
+    }
+
+    /// Whether a search for an easy pattern that finds nothing ends as soon as a look for a byte does: by the text that each match
+    /// begins with where the haystack is short, and where it is not since a match starts at its start alone.
+    fn ends_soon(&self, haystack: &[u8]) -> bool {
+        if haystack.len() < SHORT_HAYSTACK {
+            self.code.literal.is_some()
+        } else {
+            self.code.only_at_start
+        }
     }
 
     /// The match that an attempt at one position finds, from the effective start of the request on, with `\G` on: it may hold

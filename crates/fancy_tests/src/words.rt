@@ -1,4 +1,5 @@
-//! Patterns that open with many branches, in texts that are not short: what is found does not depend on how long a text is.
+//! Patterns that open with many branches, and patterns whose matches have few bytes at their first places or start at the text's
+//! start alone, in texts that are not short: what is found does not depend on how long a text is.
 //!
 //! Where a match is follows from the order of the branches: the first place where one matches, and there the first one that does.
 
@@ -83,6 +84,86 @@ const ROWS: &[LongRow] = &[
         count: 100,
         tail: "qa qz! qm q",
         spans: &[(0, 6), (7, 9), (10, 11)],
+    },
+    // five digits in a row: the match begins at the second one
+    LongRow {
+        pattern: r"\d{4}-\d\d-\d\d",
+        filler: "12-34 567 ",
+        count: 100,
+        tail: "2024-01-02 ٢٠٢٤-٠١-٠٢ 12024-01-023",
+        spans: &[(0, 10), (11, 29), (31, 41)],
+    },
+    LongRow {
+        pattern: "(?i)error|fatal|panic",
+        filler: "err erro fat ",
+        count: 100,
+        tail: "ERROR fAtAl pañic panic",
+        spans: &[(0, 5), (6, 11), (19, 24)],
+    },
+    LongRow {
+        pattern: "ab?c[de]",
+        filler: "abd ac ",
+        count: 100,
+        tail: "acd abce acbd",
+        spans: &[(0, 3), (4, 8)],
+    },
+    LongRow {
+        pattern: "[aé]b[xy]",
+        filler: "éb ab éa ",
+        count: 100,
+        tail: "ébx aby",
+        spans: &[(0, 4), (5, 8)],
+    },
+    // `ſ` is a small `s` too, of two bytes
+    LongRow {
+        pattern: "(?i)ks[0-9]",
+        filler: "ks KS k5 ",
+        count: 100,
+        tail: "ks1 Kſ2 Kf3 kS4",
+        spans: &[(0, 3), (4, 8), (13, 16)],
+    },
+    LongRow {
+        pattern: r"\bif\b|\bfor\b",
+        filler: "iff fori ",
+        count: 100,
+        tail: "if for xif",
+        spans: &[(0, 2), (3, 6)],
+    },
+    LongRow {
+        pattern: r"a[0-9](?:b|$)",
+        filler: "a1 a2c ",
+        count: 100,
+        tail: "a1ba2",
+        spans: &[(0, 3), (3, 5)],
+    },
+    // a match starts at the text's start alone
+    LongRow {
+        pattern: r"^ab|\Acd",
+        filler: "xab",
+        count: 100,
+        tail: "ab",
+        spans: &[],
+    },
+    LongRow {
+        pattern: r"^ab|\Acd",
+        filler: "",
+        count: 0,
+        tail: "cd ab",
+        spans: &[(0, 2)],
+    },
+    LongRow {
+        pattern: r"(?m)^ab|^cd",
+        filler: "xab",
+        count: 100,
+        tail: "\nab cd\ncd",
+        spans: &[(1, 3), (7, 9)],
+    },
+    LongRow {
+        pattern: r"(?:^|\s)ab",
+        filler: "xab",
+        count: 100,
+        tail: " ab xab ab",
+        spans: &[(0, 3), (7, 10)],
     },
 ];
 

@@ -57,6 +57,13 @@ impl CharSet {
         self.set.is_same(set)
     }
 
+    /// The numbers at which the set begins and ends in turn.
+    pub fn edges(&self) -> &[u32]
+        ensures { result.now ≡ edges_of self.now.set }
+    {
+        self.set.edges()
+    }
+
     /// Whether this number is a member: by the table below 256, else by binary search.
     pub fn contains(&self, c: u32) -> bool
         ensures { result ≡ members self.now.set c }

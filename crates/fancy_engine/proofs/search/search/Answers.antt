@@ -11,7 +11,7 @@ use Rattle.fancy_engine.specs.KeptTable.{marks_from}
 use Rattle.fancy_engine.proofs.MarkingLemmas.{later_starts}
 use Rattle.fancy_engine.proofs.KeptTableLemmas.{failed_later, kept_begins, kept_room, kept_small, kept_last_lines, kept_failed, kept_after, ahead_first, ahead_kept, ahead_after}
 use Rattle.fancy_engine.proofs.RunnerSearch.{deep, attempt_known, attempt_answer, search_hit, search_miss, search_skip, search_over, positions_none, begun}
-use Rattle.fancy_engine.proofs.OpenLemmas.{openings_passed}
+use Rattle.fancy_engine.proofs.PassedLemmas.{openings_passed}
 use Rattle.fancy_engine.proofs.search.search.Goals as goal
 use Rattle.fancy_engine.proofs.search.search.Goals.{then-is_match_boundary+in_ok-begin+in_ok-end+in-None, else-is_match_boundary}
 
@@ -22,7 +22,7 @@ returns-then-first-request-clause-answer c p on is =
 pub returns-then-place-last-clause-answer : goal.returns-then-place-last-clause-answer
 returns-then-place-last-clause-answer c p on is =
     sym (ap₂ (answer_from (query_of p c.args.code.now (unfiltered c.args.options) c.args.haystack.now c.args.request on)) (sym c.last_position-last.ensures.count ∙ ap (λ (n : ℕ). c.last_position-last.result + 1 - n) (sym c.effective_start-first.ensures)) (sym c.effective_start-first.ensures)
-    ∙ openings_passed (query_of p c.args.code.now (unfiltered c.args.options) c.args.haystack.now c.args.request on) c.args.code.now.start_bytes is.starts (λ k. omega (arith, c.type_inv.haystack k)) c.args.code.now.literal is.opens (c.last_position-last.result + 1 - c.effective_start-first.result) (0) c.effective_start-first.result c.next_opening-place.result c.next_opening-place.ensures.passed (omega (arith, c.next_opening-place.ensures.within, c.next_opening-place.ensures.passed)) c.next_opening-place.ensures.none
+    ∙ openings_passed (query_of p c.args.code.now (unfiltered c.args.options) c.args.haystack.now c.args.request on) c.args.code.now is refl c.requires.inside (λ k. omega (arith, c.type_inv.haystack k)) (c.last_position-last.result + 1 - c.effective_start-first.result) (0) c.effective_start-first.result c.next_opening-place.result c.next_opening-place.ensures.passed (omega (arith, c.next_opening-place.ensures.within, c.last_position-last.ensures.inside)) (omega (arith, c.next_opening-place.ensures.within, c.next_opening-place.ensures.passed)) c.next_opening-place.ensures.none
     ∙ search_over (query_of p c.args.code.now (unfiltered c.args.options) c.args.haystack.now c.args.request on) 0 _ refl)
 
 pub loop-place-init : goal.loop-place-init
@@ -31,7 +31,7 @@ loop-place-init c =
     record {
       left = λ p on is.
           ap₂ (answer_from (query_of p c.args.code.now (unfiltered c.args.options) c.args.haystack.now c.args.request on)) (sym c.last_position-last.ensures.count ∙ ap (λ (n : ℕ). c.last_position-last.result + 1 - n) (sym c.effective_start-first.ensures)) (sym c.effective_start-first.ensures)
-          ∙ openings_passed (query_of p c.args.code.now (unfiltered c.args.options) c.args.haystack.now c.args.request on) c.args.code.now.start_bytes is.starts (λ k. omega (arith, c.type_inv.haystack k)) c.args.code.now.literal is.opens (c.last_position-last.result + 1 - c.effective_start-first.result) (c.last_position-last.result + 1 - c.next_opening-place.result) c.effective_start-first.result c.next_opening-place.result c.next_opening-place.ensures.passed (omega (arith, c.next_opening-place.ensures.passed, c.next_opening-place.ensures.within)) c.next_opening-place.ensures.none;
+          ∙ openings_passed (query_of p c.args.code.now (unfiltered c.args.options) c.args.haystack.now c.args.request on) c.args.code.now is refl c.requires.inside (λ k. omega (arith, c.type_inv.haystack k)) (c.last_position-last.result + 1 - c.effective_start-first.result) (c.last_position-last.result + 1 - c.next_opening-place.result) c.effective_start-first.result c.next_opening-place.result c.next_opening-place.ensures.passed (omega (arith, c.next_opening-place.ensures.within, c.last_position-last.ensures.inside)) (omega (arith, c.next_opening-place.ensures.passed, c.next_opening-place.ensures.within)) c.next_opening-place.ensures.none;
       begins = omega (arith, c.next_opening-place.ensures.passed, based);
       passed = c.next_opening-place.ensures.passed;
       starts = λ le none. c.next_opening-place.ensures.some le (λ k low high. none k (omega (arith, low, c.effective_start-first.ensures)) (omega (arith, high, c.last_position-last.ensures.inside)));
@@ -66,7 +66,7 @@ loop-place-preserved c =
             let found = rw w.in-None.is at (w.in_ok-end.ensures.answer c.loop-place.place (deep (query_of p c.args.code.now (unfiltered c.args.options) c.args.haystack.now c.args.request on) c.args.code.now is refl refl refl refl c.requires.inside (search_context c.args.haystack.now c.args.code.now.meaning c.suppressed_ends.result c.unwrap_or-base.result) (Some c.unwrap_or-base.result) (ap (λ (s : SuppressedEnds). search_context c.args.haystack.now c.args.code.now.meaning s c.unwrap_or-base.result) c.suppressed_ends.ensures))) in
             c.loop-place.invariant.left p on is
             ∙ search_miss (query_of p c.args.code.now (unfiltered c.args.options) c.args.haystack.now c.args.request on) (c.last_position-last.result + 1 - c.loop-place.place) (c.last_position-last.result + 1 - (c.loop-place.place + 1)) c.loop-place.place (omega (arith, c.loop-place-test.true)) (sym is_answer ∙ sym (found (attempt_known (query_of p c.args.code.now (unfiltered c.args.options) c.args.haystack.now c.args.request on) c.args.code.now is refl refl refl refl c.requires.inside (search_context c.args.haystack.now c.args.code.now.meaning c.suppressed_ends.result c.unwrap_or-base.result) (Some c.unwrap_or-base.result) (ap (λ (s : SuppressedEnds). search_context c.args.haystack.now c.args.code.now.meaning s c.unwrap_or-base.result) c.suppressed_ends.ensures) c.requires.easy c.loop-place.place (thread_of (record { at = c.args.code.now.start; place = c.loop-place.place }) w.begin.new.self.slots) (begun c.args.code.now c.loop-place.place w.begin.new.self.slots w.in_ok-begin.ensures.slots) (omega (arith, c.last_position-last.ensures.inside, c.loop-place-test.true))) (c.loop-place.invariant.failed p is)))
-            ∙ openings_passed (query_of p c.args.code.now (unfiltered c.args.options) c.args.haystack.now c.args.request on) c.args.code.now.start_bytes is.starts (λ k. omega (arith, c.type_inv.haystack k)) c.args.code.now.literal is.opens (c.last_position-last.result + 1 - (c.loop-place.place + 1)) (c.last_position-last.result + 1 - c.next_opening-place-in-loop-place.result) (c.loop-place.place + 1) c.next_opening-place-in-loop-place.result c.next_opening-place-in-loop-place.ensures.passed (omega (arith, c.next_opening-place-in-loop-place.ensures.passed, c.next_opening-place-in-loop-place.ensures.within, c.loop-place-test.true)) c.next_opening-place-in-loop-place.ensures.none);
+            ∙ openings_passed (query_of p c.args.code.now (unfiltered c.args.options) c.args.haystack.now c.args.request on) c.args.code.now is refl c.requires.inside (λ k. omega (arith, c.type_inv.haystack k)) (c.last_position-last.result + 1 - (c.loop-place.place + 1)) (c.last_position-last.result + 1 - c.next_opening-place-in-loop-place.result) (c.loop-place.place + 1) c.next_opening-place-in-loop-place.result c.next_opening-place-in-loop-place.ensures.passed (omega (arith, c.next_opening-place-in-loop-place.ensures.within, c.last_position-last.ensures.inside)) (omega (arith, c.next_opening-place-in-loop-place.ensures.passed, c.next_opening-place-in-loop-place.ensures.within, c.loop-place-test.true)) c.next_opening-place-in-loop-place.ensures.none);
         begins = omega (arith, c.loop-place.invariant.begins, c.next_opening-place-in-loop-place.ensures.passed);
         passed = omega (arith, c.loop-place.invariant.passed, c.next_opening-place-in-loop-place.ensures.passed);
         starts = λ le none. c.loop-place.invariant.starts (omega (arith, c.loop-place-test.true)) none;
@@ -91,7 +91,7 @@ loop-place-preserved c =
         left = λ p on is.
             c.loop-place.invariant.left p on is
             ∙ search_miss (query_of p c.args.code.now (unfiltered c.args.options) c.args.haystack.now c.args.request on) (c.last_position-last.result + 1 - c.loop-place.place) (c.last_position-last.result + 1 - (c.loop-place.place + 1)) c.loop-place.place (omega (arith, c.loop-place-test.true)) (search_skip (query_of p c.args.code.now (unfiltered c.args.options) c.args.haystack.now c.args.request on) c.loop-place.place refl (sym c.is_match_boundary.ensures ∙ w.if-is_match_boundary.false))
-            ∙ openings_passed (query_of p c.args.code.now (unfiltered c.args.options) c.args.haystack.now c.args.request on) c.args.code.now.start_bytes is.starts (λ k. omega (arith, c.type_inv.haystack k)) c.args.code.now.literal is.opens (c.last_position-last.result + 1 - (c.loop-place.place + 1)) (c.last_position-last.result + 1 - c.next_opening-place-in-loop-place.result) (c.loop-place.place + 1) c.next_opening-place-in-loop-place.result c.next_opening-place-in-loop-place.ensures.passed (omega (arith, c.next_opening-place-in-loop-place.ensures.passed, c.next_opening-place-in-loop-place.ensures.within, c.loop-place-test.true)) c.next_opening-place-in-loop-place.ensures.none;
+            ∙ openings_passed (query_of p c.args.code.now (unfiltered c.args.options) c.args.haystack.now c.args.request on) c.args.code.now is refl c.requires.inside (λ k. omega (arith, c.type_inv.haystack k)) (c.last_position-last.result + 1 - (c.loop-place.place + 1)) (c.last_position-last.result + 1 - c.next_opening-place-in-loop-place.result) (c.loop-place.place + 1) c.next_opening-place-in-loop-place.result c.next_opening-place-in-loop-place.ensures.passed (omega (arith, c.next_opening-place-in-loop-place.ensures.within, c.last_position-last.ensures.inside)) (omega (arith, c.next_opening-place-in-loop-place.ensures.passed, c.next_opening-place-in-loop-place.ensures.within, c.loop-place-test.true)) c.next_opening-place-in-loop-place.ensures.none;
         begins = omega (arith, c.loop-place.invariant.begins, c.next_opening-place-in-loop-place.ensures.passed);
         passed = omega (arith, c.loop-place.invariant.passed, c.next_opening-place-in-loop-place.ensures.passed);
         starts = λ le none. c.loop-place.invariant.starts (omega (arith, c.loop-place-test.true)) none;

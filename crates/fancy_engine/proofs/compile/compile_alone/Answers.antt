@@ -1,8 +1,8 @@
-use Rattle.std.proofs.Common.{rules, arith, ℕ, ◌+◌, ◌≡◌, sym, ap, ◌∙◌}
+use Rattle.std.proofs.Common.{rules, arith, ℕ, ◌+◌, ◌≡◌, sym, ap, ◌∙◌, true≢false}
 use Rattle.fancy_tree.specs.Pattern.{pattern_of}
 use Rattle.fancy_engine.specs.Instructions as i
 use Rattle.fancy_engine.proofs.CompileLemmas.{opens_with}
-use Rattle.fancy_engine.proofs.compile.compile.Goals as goal
+use Rattle.fancy_engine.proofs.compile.compile_alone.Goals as goal
 
 pub returns-clause-code : goal.returns-clause-code
 returns-clause-code c = record {
@@ -20,4 +20,6 @@ returns-clause-code c = record {
   numbered = search rules;
   starts = search rules;
   opens = opens_with _ _ (pattern_of c.args.tree.now) _ _ c.in_ok-code.ensures.literal c.in_ok-code.ensures.meaning c.in_ok-literal.ensures;
+  foretold = rw c.in_ok-code.ensures.prefilter tt;
+  anchored = λ e. absurd (true≢false (sym e ∙ c.in_ok-code.ensures.anchored));
 }

@@ -1,0 +1,290 @@
+//! Where a match may start, by the code of the pattern: at the text's start alone, or where some bytes stand at its first places.
+
+ghost use Rattle.std.specs.Prelude.{◌≡◌, ◌==◌, ℕ, ◌<◌, ◌≤◌, ◌+◌, nat_le, true, false, length, IfOk, IfSome};
+ghost use Rattle.fancy_tree.specs.Pattern.{Pattern};
+ghost use Rattle.fancy_tree.specs.Sets.{has};
+ghost use Rattle.fancy_bytes.specs.Sets.{AddsBytes};
+ghost use Rattle.fancy_engine.specs.Code.{instrs_of, code_len};
+ghost use Rattle.fancy_engine.specs.Compile.{IsCodeOf};
+ghost use Rattle.fancy_engine.specs.Foretold.{AreBytesOf, AreForetold, Foretold, HasFrom, IsAnchored, Wider};
+ghost use Rattle.fancy_engine.specs.Instructions.{edges_in};
+
+use crate::code::{Code, Instr};
+use fancy_bytes::byte_set::ByteSet;
+use fancy_bytes::prefilter::Prefilter;
+use fancy_tree::char_set::CharSet;
+use fancy_tree::tree::{Assertion, Meaning};
+use std::alloc::{AllocError, Global};
+
+/// At how many places bytes are told at most.
+const PLACES: usize = 8;
+
+/// How many instructions are followed one after another.
+const DEPTH: usize = 48;
+
+/// How many instructions are followed in all.
+const FOLLOWED: usize = 192;
+
+/// A set of bytes tells something where it has at most so many that are ASCII: most texts have the others at most places.
+const FEW: usize = 16;
+
+/// The bytes that an item may have.
+struct Item {
+    bytes: ByteSet,
+    /// It may have more than one.
+    wide: bool,
+}
+
+/// Whether each member of a set is ASCII, by its edges.
+fn is_ascii(edges: &[u32]) -> bool
+    ensures { result ≡ true → (c : ℕ) → 128 ≤ c → has edges.now c ≡ false }
+{
+    for edge in edges {
+        if *edge > 0x80 {
+            return false;
+        }
+    }
+    edges.len() % 2 == 0
+}
+
+/// Whether items are characters, which may have more than one byte.
+fn is_text(meaning: Meaning) -> bool
+    ensures { result ≡ false → meaning ≡ Meaning.Bytes }
+{
+    match meaning {
+        Meaning::Bytes => false,
+        Meaning::Unicode | Meaning::AsciiText => true,
+    }
+}
+
+/// Adds the bytes that characters past ASCII consist of.
+fn add_high(bytes: &mut ByteSet)
+    ensures { AddsBytes (λ b. nat_le 128 b) bytes.old bytes.new }
+{
+    for byte in 128..256u32 {
+        bytes.insert(byte as u8);
+    }
+}
+
+/// The bytes of a set's items.
+fn item_of_set(set: &CharSet, meaning: Meaning) -> Item
+    ensures { AreBytesOf meaning (has (edges_in set.now)) result.bytes result.wide }
+{
+    let mut bytes = ByteSet::new();
+    for byte in 0..256u32 {
+        if set.contains(byte) {
+            bytes.insert(byte as u8);
+        }
+    }
+    let wide = is_text(meaning) && !is_ascii(set.edges());
+    if wide {
+        add_high(&mut bytes);
+    }
+    Item { bytes, wide }
+}
+
+/// The bytes of one item.
+fn item_of_character(character: char, meaning: Meaning) -> Item
+    ensures { AreBytesOf meaning (λ d. d == character) result.bytes result.wide }
+{
+    let code = character as u32;
+    let mut bytes = ByteSet::new();
+    if code < 256 {
+        bytes.insert(code as u8);
+    }
+    let wide = is_text(meaning) && code >= 0x80;
+    if wide {
+        add_high(&mut bytes);
+    }
+    Item { bytes, wide }
+}
+
+/// Adds bytes to each set from a number on; where that is told, to that one alone.
+fn add_bytes(sets: &mut Vec<ByteSet>, from: usize, exact: bool, bytes: &ByteSet)
+    ensures wider { Wider sets.old.items sets.new.items }
+    ensures has { HasFrom sets.new.items from exact bytes.now }
+{
+    let end = if exact {
+        sets.len().min(from.saturating_add(1))
+    } else {
+        sets.len()
+    };
+    for j in from..end {
+        sets[j] = sets[j].union(bytes);
+    }
+}
+
+/// Where the code goes on.
+#[derive(Clone, Copy)]
+struct Spot {
+    /// The number of the instruction.
+    at: usize,
+    /// How many places of the window lie before it at least.
+    from: usize,
+    /// There are no more than these.
+    exact: bool,
+}
+
+/// Adds the bytes of an item, and then what may stand after it.
+#[cycle(collect)]
+fn collect_item(
+    code: &Code,
+    spot: Spot,
+    item: Item,
+    next: usize,
+    deep: usize,
+    sets: &mut Vec<ByteSet>,
+    left: &mut usize,
+)
+    ensures wider { Wider sets.old.items sets.new.items }
+    ensures has { HasFrom sets.new.items spot.from (spot.exact && not item.wide) item.bytes }
+    ensures told { Foretold (instrs_of code.now) code.now.meaning sets.new.items (spot.from + 1) (spot.exact && not item.wide) next }
+{
+    let exact = spot.exact && !item.wide;
+    add_bytes(sets, spot.from, exact, &item.bytes);
+    let after = Spot {
+        at: next,
+        from: spot.from.saturating_add(1),
+        exact,
+    };
+    collect(code, after, deep, sets, left);
+}
+
+/// Adds to the sets the bytes that may stand from a place on, as the code goes on there. Where a way may stop, or the code is not
+/// followed any further, the row ends.
+#[cycle(collect)]
+fn collect(code: &Code, spot: Spot, deep: usize, sets: &mut Vec<ByteSet>, left: &mut usize)
+    ensures wider { Wider sets.old.items sets.new.items }
+    ensures told { Foretold (instrs_of code.now) code.now.meaning sets.new.items spot.from spot.exact spot.at }
+{
+    if spot.from >= sets.len() || spot.at >= code.len() {
+        return;
+    }
+    if deep == 0 || *left == 0 {
+        sets.truncate(spot.from);
+        return;
+    }
+    *left -= 1;
+    let deep = deep - 1;
+    match code.instr(spot.at) {
+        Instr::Fail => {}
+        Instr::Character(character, next) => {
+            let item = item_of_character(*character, code.meaning);
+            collect_item(code, spot, item, *next, deep, sets, left);
+        }
+        Instr::Member(set, next) => {
+            let item = item_of_set(code.set(*set), code.meaning);
+            collect_item(code, spot, item, *next, deep, sets, left);
+        }
+        Instr::Assert(_, next) | Instr::Open(_, next) | Instr::Close(_, next) => {
+            collect(code, Spot { at: *next, ..spot }, deep, sets, left);
+        }
+        Instr::Split(first, second) => {
+            collect(code, Spot { at: *first, ..spot }, deep, sets, left);
+            collect(code, Spot { at: *second, ..spot }, deep, sets, left);
+        }
+        _ => sets.truncate(spot.from),
+    }
+}
+
+/// Whether the code goes on from an instruction at the text's start alone. It is not told where the code is not followed any
+/// further.
+#[cycle(anchored)]
+fn is_anchored(code: &Code, at: usize, deep: usize, left: &mut usize) -> bool
+    ensures { result ≡ true → IsAnchored (instrs_of code.now) at }
+{
+    if at >= code.len() {
+        return true;
+    }
+    if deep == 0 || *left == 0 {
+        return false;
+    }
+    *left -= 1;
+    let deep = deep - 1;
+    match code.instr(at) {
+        Instr::Fail | Instr::Assert(Assertion::TextStart, _) => true,
+        Instr::Assert(_, next) | Instr::Open(_, next) | Instr::Close(_, next) => {
+            is_anchored(code, *next, deep, left)
+        }
+        Instr::Split(first, second) => {
+            is_anchored(code, *first, deep, left) && is_anchored(code, *second, deep, left)
+        }
+        _ => false,
+    }
+}
+
+/// How many of the bytes are ASCII.
+fn count_ascii(set: &ByteSet) -> usize {
+    let mut count = 0usize;
+    for byte in 0..128u32 {
+        if set.contains(byte as u8) {
+            count = count.saturating_add(1);
+        }
+    }
+    count
+}
+
+/// Whether the sets tell more than the first of them alone: another has few bytes.
+fn are_telling(sets: &[ByteSet]) -> bool {
+    for j in 1..sets.len() {
+        if count_ascii(&sets[j]) <= FEW {
+            return true;
+        }
+    }
+    false
+}
+
+/// Whether a search would scan for sets of bytes: not where each match begins with one text, or one byte, for which it scans
+/// faster, nor where a match may begin with any byte.
+fn is_worth_filtering(code: &Code) -> bool {
+    if code.literal.is_some() {
+        return false;
+    }
+    match &code.start_bytes {
+        None => false,
+        Some(scan) => !scan.has_one(),
+    }
+}
+
+/// The sets of the bytes that may stand at the first places of a match, if they tell something. It is refused where memory runs
+/// out.
+fn prefilter_of(alloc: Global, code: &Code) -> Result<Option<Prefilter>, AllocError>
+    ensures { IfOk result (λ f. IfSome f (λ sets. AreForetold sets code.now)) }
+{
+    if !is_worth_filtering(code) {
+        return Ok(None);
+    }
+    let mut sets = Vec::with_capacity(alloc, PLACES)?;
+    for _ in 0..PLACES {
+        sets.push(ByteSet::new())?;
+    }
+    let mut left = FOLLOWED;
+    let start = Spot {
+        at: code.start,
+        from: 0,
+        exact: true,
+    };
+    collect(code, start, DEPTH, &mut sets, &mut left);
+    if !are_telling(&sets) {
+        return Ok(None);
+    }
+    let prefilter = Prefilter::new(alloc, sets)?;
+    Ok(prefilter)
+}
+
+/// The same code, with what tells where a match may start.
+pub(crate) fn with_starts(alloc: Global, code: Code) -> Result<Code, AllocError>
+    ensures instrs { IfOk result (λ c. instrs_of c ≡ instrs_of code) }
+    ensures groups { IfOk result (λ c. c.groups ≡ code.groups) }
+    ensures meaning { IfOk result (λ c. c.meaning ≡ code.meaning) }
+    ensures is { IfOk result (λ c. (p : Pattern) → IsCodeOf p code → IsCodeOf p c) }
+{
+    let mut code = code;
+    let mut left = FOLLOWED;
+    if is_anchored(&code, code.start, DEPTH, &mut left) {
+        code.only_at_start = true;
+        return Ok(code);
+    }
+    code.prefilter = prefilter_of(alloc, &code)?;
+    Ok(code)
+}
