@@ -1,6 +1,6 @@
 //! The code of a pattern while it is made.
 
-ghost use Rattle.std.specs.Prelude.{◌≡◌, ◌+◌, ◌<◌, IfOk, IsTrue, true, length, slice_set};
+ghost use Rattle.std.specs.Prelude.{◌≡◌, ◌+◌, ◌<◌, IfOk, IsTrue, true, length, slice_set, false};
 ghost use Rattle.fancy_tree.specs.Pattern.{member_of, backreference};
 ghost use Rattle.fancy_tree.specs.Members.{edges_of};
 ghost use Rattle.fancy_engine.specs.Instructions.{are_known, is_known, edges_at};

@@ -1,9 +1,9 @@
 //! Where a match may start, by the code of the pattern: at the text's start alone, or where some bytes stand at its first places.
 
-ghost use Rattle.std.specs.Prelude.{◌≡◌, ◌==◌, ℕ, ◌<◌, ◌≤◌, ◌+◌, nat_le, true, false, length, IfOk, IfSome};
+ghost use Rattle.std.specs.Prelude.{◌≡◌, ◌==◌, ◌&&◌, ◌⊎◌, not, ℕ, ◌<◌, ◌≤◌, ◌+◌, nat_le, true, false, length, IfOk, IfSome};
 ghost use Rattle.fancy_tree.specs.Pattern.{Pattern};
 ghost use Rattle.fancy_tree.specs.Sets.{has};
-ghost use Rattle.fancy_bytes.specs.Sets.{AddsBytes};
+ghost use Rattle.fancy_bytes.specs.Sets.{AddsBytes, member};
 ghost use Rattle.fancy_engine.specs.Code.{instrs_of, code_len};
 ghost use Rattle.fancy_engine.specs.Compile.{IsCodeOf};
 ghost use Rattle.fancy_engine.specs.Foretold.{AreBytesOf, AreForetold, Foretold, HasFrom, IsAnchored, Wider};
@@ -29,6 +29,7 @@ const FOLLOWED: usize = 192;
 const FEW: usize = 16;
 
 /// The bytes that an item may have.
+#[derive(Drop)]
 struct Item {
     bytes: ByteSet,
     /// It may have more than one.
@@ -47,13 +48,13 @@ fn is_ascii(edges: &[u32]) -> bool
     edges.len() % 2 == 0
 }
 
-/// Whether items are characters, which may have more than one byte.
-fn is_text(meaning: Meaning) -> bool
-    ensures { result ≡ false → meaning ≡ Meaning.Bytes }
+/// Whether items may have more than one byte: where they are characters, and not all of them ASCII.
+fn is_wide(meaning: Meaning, are_ascii: bool) -> bool
+    ensures { result ≡ false → (meaning ≡ Meaning.Bytes) ⊎ (are_ascii ≡ true) }
 {
     match meaning {
         Meaning::Bytes => false,
-        Meaning::Unicode | Meaning::AsciiText => true,
+        Meaning::Unicode | Meaning::AsciiText => !are_ascii,
     }
 }
 
@@ -66,9 +67,33 @@ fn add_high(bytes: &mut ByteSet)
     }
 }
 
-/// The bytes of a set's items.
-fn item_of_set(set: &CharSet, meaning: Meaning) -> Item
-    ensures { AreBytesOf meaning (has (edges_in set.now)) result.bytes result.wide }
+/// An item that has these bytes, and those of characters past ASCII where it may have more than one.
+fn item_with(bytes: ByteSet, wide: bool) -> Item
+    ensures wide { result.wide ≡ wide }
+    ensures kept { (b : ℕ) → b < 256 → member bytes b ≡ true → member result.bytes b ≡ true }
+    ensures high { wide ≡ true → (b : ℕ) → 128 ≤ b → b < 256 → member result.bytes b ≡ true }
+{
+    let mut bytes = bytes;
+    if wide {
+        add_high(&mut bytes);
+    }
+    Item { bytes, wide }
+}
+
+/// The byte with this number alone, if there is one.
+fn byte_alone(code: u32) -> ByteSet
+    ensures { code < 256 → member result code ≡ true }
+{
+    let mut bytes = ByteSet::new();
+    if code < 256 {
+        bytes.insert(code as u8);
+    }
+    bytes
+}
+
+/// The bytes whose numbers are members of a set.
+fn bytes_of(set: &CharSet) -> ByteSet
+    ensures { (b : ℕ) → b < 256 → has (edges_in set.now) b ≡ true → member result b ≡ true }
 {
     let mut bytes = ByteSet::new();
     for byte in 0..256u32 {
@@ -76,11 +101,15 @@ fn item_of_set(set: &CharSet, meaning: Meaning) -> Item
             bytes.insert(byte as u8);
         }
     }
-    let wide = is_text(meaning) && !is_ascii(set.edges());
-    if wide {
-        add_high(&mut bytes);
-    }
-    Item { bytes, wide }
+    bytes
+}
+
+/// The bytes of a set's items.
+fn item_of_set(set: &CharSet, meaning: Meaning) -> Item
+    ensures { AreBytesOf meaning (has (edges_in set.now)) result.bytes result.wide }
+{
+    let wide = is_wide(meaning, is_ascii(set.edges()));
+    item_with(bytes_of(set), wide)
 }
 
 /// The bytes of one item.
@@ -88,15 +117,8 @@ fn item_of_character(character: char, meaning: Meaning) -> Item
     ensures { AreBytesOf meaning (λ d. d == character) result.bytes result.wide }
 {
     let code = character as u32;
-    let mut bytes = ByteSet::new();
-    if code < 256 {
-        bytes.insert(code as u8);
-    }
-    let wide = is_text(meaning) && code >= 0x80;
-    if wide {
-        add_high(&mut bytes);
-    }
-    Item { bytes, wide }
+    let wide = is_wide(meaning, code < 0x80);
+    item_with(byte_alone(code), wide)
 }
 
 /// Adds bytes to each set from a number on; where that is told, to that one alone.
@@ -125,6 +147,13 @@ struct Spot {
     exact: bool,
 }
 
+/// Whether it is known how many places lie before what follows an item, where it is told whether that is known before it.
+fn stays_exact(exact: bool, wide: bool) -> bool
+    ensures { result ≡ (exact && not wide) }
+{
+    exact && !wide
+}
+
 /// Adds the bytes of an item, and then what may stand after it.
 #[cycle(collect)]
 fn collect_item(
@@ -136,15 +165,16 @@ fn collect_item(
     sets: &mut Vec<ByteSet>,
     left: &mut usize,
 )
+    requires inside { spot.from < length sets.old.items }
     ensures wider { Wider sets.old.items sets.new.items }
     ensures has { HasFrom sets.new.items spot.from (spot.exact && not item.wide) item.bytes }
     ensures told { Foretold (instrs_of code.now) code.now.meaning sets.new.items (spot.from + 1) (spot.exact && not item.wide) next }
 {
-    let exact = spot.exact && !item.wide;
+    let exact = stays_exact(spot.exact, item.wide);
     add_bytes(sets, spot.from, exact, &item.bytes);
     let after = Spot {
         at: next,
-        from: spot.from.saturating_add(1),
+        from: spot.from + 1,
         exact,
     };
     collect(code, after, deep, sets, left);
@@ -187,6 +217,13 @@ fn collect(code: &Code, spot: Spot, deep: usize, sets: &mut Vec<ByteSet>, left: 
     }
 }
 
+/// Whether this is the test of the text's start.
+fn is_text_start(assertion: Assertion) -> bool
+    ensures { result ≡ true → assertion ≡ Assertion.TextStart }
+{
+    matches!(assertion, Assertion::TextStart)
+}
+
 /// Whether the code goes on from an instruction at the text's start alone. It is not told where the code is not followed any
 /// further.
 #[cycle(anchored)]
@@ -202,10 +239,11 @@ fn is_anchored(code: &Code, at: usize, deep: usize, left: &mut usize) -> bool
     *left -= 1;
     let deep = deep - 1;
     match code.instr(at) {
-        Instr::Fail | Instr::Assert(Assertion::TextStart, _) => true,
-        Instr::Assert(_, next) | Instr::Open(_, next) | Instr::Close(_, next) => {
-            is_anchored(code, *next, deep, left)
+        Instr::Fail => true,
+        Instr::Assert(assertion, next) => {
+            is_text_start(*assertion) || is_anchored(code, *next, deep, left)
         }
+        Instr::Open(_, next) | Instr::Close(_, next) => is_anchored(code, *next, deep, left),
         Instr::Split(first, second) => {
             is_anchored(code, *first, deep, left) && is_anchored(code, *second, deep, left)
         }
