@@ -422,3 +422,7 @@ are_bytes m test bytes wide low high small = record {
   has = λ c i passes inside lt. item_has c bytes wide (low c passes) high m (small c passes) i inside lt;
   one = λ c passes narrow. item_one c bytes wide (low c passes) high m (small c passes) narrow;
 }
+
+pub some_foretold : (code : Code) (o : Option (List ByteFlags)) (row : List ByteFlags) → IfSome o (λ r. r ≡ row) → AreForetold row code → IfSome o (λ sets. AreForetold sets code)
+some_foretold code None row same told = tt
+some_foretold code (Some r) row same told = subst (λ (sets : List ByteFlags). AreForetold sets code) (sym same) told

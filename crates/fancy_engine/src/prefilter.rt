@@ -284,18 +284,21 @@ fn is_worth_filtering(code: &Code) -> bool {
     }
 }
 
-/// The sets of the bytes that may stand at the first places of a match, if they tell something. It is refused where memory runs
-/// out.
-fn prefilter_of(alloc: Global, code: &Code) -> Result<Option<Prefilter>, AllocError>
-    ensures { IfOk result (λ f. IfSome f (λ sets. AreForetold sets code.now)) }
-{
-    if !is_worth_filtering(code) {
-        return Ok(None);
-    }
+/// Sets without bytes, one for each place at which bytes are told.
+fn empty_sets(alloc: Global) -> Result<Vec<ByteSet>, AllocError> {
     let mut sets = Vec::with_capacity(alloc, PLACES)?;
     for _ in 0..PLACES {
         sets.push(ByteSet::new())?;
     }
+    Ok(sets)
+}
+
+/// The sets of the bytes that may stand at the first places of a match, as far as they are told. It is refused where memory runs
+/// out.
+fn sets_of(alloc: Global, code: &Code) -> Result<Vec<ByteSet>, AllocError>
+    ensures { IfOk result (λ sets. AreForetold sets.items code.now) }
+{
+    let mut sets = empty_sets(alloc)?;
     let mut left = FOLLOWED;
     let start = Spot {
         at: code.start,
@@ -303,6 +306,17 @@ fn prefilter_of(alloc: Global, code: &Code) -> Result<Option<Prefilter>, AllocEr
         exact: true,
     };
     collect(code, start, DEPTH, &mut sets, &mut left);
+    Ok(sets)
+}
+
+/// The same, made ready for scans, if they tell something.
+fn prefilter_of(alloc: Global, code: &Code) -> Result<Option<Prefilter>, AllocError>
+    ensures { IfOk result (λ f. IfSome f (λ sets. AreForetold sets code.now)) }
+{
+    if !is_worth_filtering(code) {
+        return Ok(None);
+    }
+    let sets = sets_of(alloc, code)?;
     if !are_telling(&sets) {
         return Ok(None);
     }
