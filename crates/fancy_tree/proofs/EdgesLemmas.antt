@@ -17,7 +17,7 @@ not_not : (b : Bool) → not (not b) ≡ b
 not_not true = refl
 not_not false = refl
 
-differ-false : (b : Bool) → differ b false ≡ b
+pub differ-false : (b : Bool) → differ b false ≡ b
 differ-false true = refl
 differ-false false = refl
 
@@ -30,7 +30,7 @@ get_or-push_last : (xs : List ℕ) (e d : ℕ) → get_or (xs ++ e ∷ []) (leng
 get_or-push_last [] e d = refl
 get_or-push_last (x ∷ xs) e d = get_or-push_last xs e d
 
-le_true : (a b : ℕ) → a ≤ b → nat_le a b ≡ true
+pub le_true : (a b : ℕ) → a ≤ b → nat_le a b ≡ true
 le_true a b h = grind (arith, nat_tests)
 
 pub le_false : (a b : ℕ) → b < a → nat_le a b ≡ false
@@ -52,6 +52,21 @@ has_count (e ∷ es) (suc i) c h low high =
 
 pub has_cut : (es : List ℕ) (i c : ℕ) → Cut es i (c + 1) → has es c ≡ is_odd i
 has_cut es i c h = has_count es i c h.count (λ k lt. let x = h.before k lt in omega arith) (λ k le lt. let x = h.after k le lt in omega arith)
+
+-- the first edges at or below a number, all of which are
+pub has_front : (es : List ℕ) (i c : ℕ) → i ≤ length es → ((k : ℕ) → k < i → slice_index es k ≤ c) → has (take i es) c ≡ is_odd i
+has_front es i c le low =
+    has_count (take i es) i c (omega (arith, length-take-le i es le))
+    (λ k lt. let a = low k lt in let b : slice_index (take i es) k ≡ slice_index es k = get_or-take i es k 0 lt in omega arith)
+    (λ k le2 lt2. absurd (omega (arith, length-take-le i es le)))
+
+-- edges past a number change nothing there
+pub has_take : (es : List ℕ) (i c : ℕ) → ((k : ℕ) → i ≤ k → k < length es → c < slice_index es k) → has (take i es) c ≡ has es c
+unfolding has is_odd
+has_take [] zero c high = refl
+has_take [] (suc i) c high = refl
+has_take (e ∷ es) zero c high = sym (has_count (e ∷ es) zero c (omega arith) (λ k lt. absurd (not-suc-le-zero lt)) high)
+has_take (e ∷ es) (suc i) c high = ap (differ (nat_le e c)) (has_take es i c (λ k le lt. high (suc k) (suc-le-suc le) (suc-le-suc lt)))
 
 differ_assoc : (x y z : Bool) → differ x (differ y z) ≡ differ (differ x y) z
 differ_assoc true true z = not_not z
@@ -391,9 +406,7 @@ le_trans_true x y c h t = le_true x c (let z = leb-true y c t in omega arith)
 none_left : (es : List ℕ) (i c : ℕ) → AreRising es → i < length es → is_odd i ≡ false → nat_le (slice_index es i) c ≡ true → has (take i es) c ≡ false
 none_left es i c rise lt even le =
     let at = leb-true (slice_index es i) c le in
-    has_count (take i es) i c (omega (arith, length-take-le i es (omega arith)))
-    (λ k hk. let a = rise k i hk lt in let b : slice_index (take i es) k ≡ slice_index es k = get_or-take i es k 0 hk in omega arith)
-    (λ k le2 lt2. absurd (omega (arith, length-take-le i es (omega arith)))) ∙ even
+    has_front es i c (omega arith) (λ k hk. let a = rise k i hk lt in omega arith) ∙ even
 
 pub even_two : (i : ℕ) → is_odd i ≡ false → is_odd (i + 2) ≡ false
 even_two i h = ap is_odd (two_more i) ∙ (is_odd-suc (suc i) ∙ (ap not (is_odd-suc i) ∙ (not_not (is_odd i) ∙ h)))

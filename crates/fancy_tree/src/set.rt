@@ -52,7 +52,7 @@ fn next_edge(a: &[u32], i: usize, b: &[u32], j: usize) -> Option<u32>
 }
 
 /// The index after the edge `at`, if that stands at the index `i`; else `i`.
-pub(crate) fn skip_edge(edges: &[u32], i: usize, at: u32) -> usize
+fn skip_edge(edges: &[u32], i: usize, at: u32) -> usize
     requires rising { AreRising edges.now }
     requires cut { Cut edges.now i at }
     ensures cut { Cut edges.now result (at + 1) }
@@ -100,6 +100,11 @@ impl Set {
         Ok(Set {
             edges: Vec::from_slice(alloc, &[first, last + 1])?,
         })
+    }
+
+    /// Where the memory of its edges is from.
+    pub(crate) fn allocator(&self) -> Global {
+        *self.edges.allocator()
     }
 
     /// The same set once more.
