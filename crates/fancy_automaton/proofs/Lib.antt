@@ -1,4 +1,5 @@
 pub mod MarkLemmas
+pub mod TurnLemmas
 pub mod ClosingLemmas
 pub mod FutureLemmas
 pub mod PlainLemmas

@@ -1,4 +1,5 @@
 pub mod Ways
+pub mod Marks
 pub mod Futures
 pub mod Steps
 pub mod Joins

@@ -11,6 +11,7 @@ ghost use Rattle.fancy_automaton.specs.Cells.{KeepsRows, KeepsCells, HasRow, Has
 
 use crate::hints::Hints;
 use crate::join::joined;
+use crate::marks::Marks;
 use crate::rows::{Rows, Target, are_same, copied, intern, intern_one, target_of};
 use crate::step::{Step, step_from};
 use crate::trail::Trail;
@@ -19,6 +20,7 @@ use fancy_engine::code::Code;
 use fancy_engine::reading::Reading;
 use fancy_engine::work::Work;
 use std::alloc::{AllocError, Global};
+use std::mem;
 
 /// A step from a row of waiting instructions on what is read there.
 #[derive(Drop)]
@@ -69,8 +71,8 @@ pub struct Cells {
     pub spare: Trail,
     /// The place where the last search stopped reading, a byte offset.
     pub reached: usize,
-    /// How many steps were computed since the cells were made, as far as the number goes.
-    pub computed: usize,
+    /// The marks of the last step that was computed, whose memory the next one takes over.
+    pub marks: Marks,
 }
 
 impl Cells {
@@ -92,18 +94,13 @@ impl Cells {
             held: 0,
             spare: Trail::new(alloc),
             reached: 0,
-            computed: 0,
+            marks: Marks::new(alloc),
         }
     }
 
     /// The place where the last search stopped reading, a byte offset.
     pub fn reached(&self) -> usize {
         self.reached
-    }
-
-    /// How many steps were computed since the cells were made, as far as the number goes.
-    pub fn computed(&self) -> usize {
-        self.computed
     }
 
     /// Whether one more step may be one too many.
@@ -147,7 +144,7 @@ impl Cells {
 fn origins(alloc: Global, next: &[Way]) -> Result<Vec<usize>, AllocError>
     ensures { IfOk result (λ came. came.items ≡ map from_of next.now) }
 {
-    let mut came = Vec::new(alloc);
+    let mut came = Vec::with_capacity(alloc, next.len())?;
     for way in next {
         came.push(way.from)?;
     }
@@ -235,7 +232,7 @@ fn tested_cell(
 
 /// The number of the step from a row on what is read, if a hint leads to it.
 #[inline(always)]
-pub fn remembered(cells: &Cells, row: usize, reading: Option<Reading>) -> Option<usize>
+pub(crate) fn remembered(cells: &Cells, row: usize, reading: Option<Reading>) -> Option<usize>
     ensures { IfSome result (λ k. HasCell cells.now.cells.items k row reading) }
 {
     let key = cell_key(row, reading);
@@ -303,7 +300,7 @@ fn has_origin(code: &Code, cells: &Cells) -> bool
 
 /// The rows before the first place: that without an instruction, and that of the first instruction alone. Where one more step
 /// may be one too many, all is forgotten before they are made.
-pub fn origin(code: &Code, cells: &mut Cells) -> Result<Target, AllocError>
+pub(crate) fn origin(code: &Code, cells: &mut Cells) -> Result<Target, AllocError>
     requires within { IsWithin cells.old }
     requires all { IsFor cells.old code.now }
     ensures within { IsWithin cells.new }
@@ -365,6 +362,7 @@ fn step_begun(
     ways: &[usize],
     begun: &Cell,
     reading: Option<Reading>,
+    marks: &mut Marks,
     work: &mut Work,
 ) -> Result<Step, AllocError>
     requires next { begun.now.next < length cells.now.rows.lists.items }
@@ -381,9 +379,17 @@ fn step_begun(
     ensures returns { returns_of work.new ≡ returns_of work.old }
 {
     let before = work.steps();
-    let first = step_from(cells.alloc, code, ways, reading, work)?;
+    let first = step_from(cells.alloc, code, ways, reading, marks, work)?;
     let ats = &cells.rows.lists[begun.next];
-    let step = joined(cells.alloc, code, ways.len(), first, ats, begun.matched)?;
+    let step = joined(
+        cells.alloc,
+        code,
+        ways.len(),
+        first,
+        ats,
+        begun.matched,
+        marks,
+    )?;
     count_up(work, before.saturating_add(step.next.len().min(code.len())));
     Ok(step)
 }
@@ -395,6 +401,7 @@ fn step_of(
     cells: &Cells,
     row: usize,
     reading: Option<Reading>,
+    marks: &mut Marks,
     work: &mut Work,
 ) -> Result<Step, AllocError>
     requires row { row < length cells.now.rows.lists.items }
@@ -411,12 +418,13 @@ fn step_of(
     let ways = cells.rows.lists[row].as_slice();
     match begun_cell(code, cells, ways, reading) {
         None => {
-            let step = step_from(cells.alloc, code, ways, reading, work)?;
+            let step = step_from(cells.alloc, code, ways, reading, marks, work)?;
             Ok(step)
         }
         Some(k) => {
             let others = &ways[..ways.len() - 1];
-            let step = step_begun(code, cells, others, &cells.cells[k], reading, work)?;
+            let begun = &cells.cells[k];
+            let step = step_begun(code, cells, others, begun, reading, marks, work)?;
             Ok(step)
         }
     }
@@ -424,7 +432,7 @@ fn step_of(
 
 /// The number of the step from a row on what is read: one that is remembered, or else it is computed. What is computed
 /// is counted in `work`: each way that it leads to costs a step at least.
-pub fn step_at(
+pub(crate) fn step_at(
     code: &Code,
     cells: &mut Cells,
     row: usize,
@@ -449,10 +457,11 @@ pub fn step_at(
     if let Some(k) = remembered(cells, row, reading) {
         return Ok(k);
     }
-    let step = step_of(code, cells, row, reading, work)?;
+    let mut marks = mem::replace(&mut cells.marks, Marks::new(cells.alloc));
+    let step = step_of(code, cells, row, reading, &mut marks, work)?;
+    cells.marks = marks;
     let cell = computed(cells.alloc, code, &mut cells.rows, row, reading, step)?;
     let k = cells.cells.len();
-    cells.computed = cells.computed.saturating_add(1);
     cells.held = cells.held.saturating_add(cell.came.len());
     cells.cells.push(cell)?;
     hint_cell(
@@ -467,7 +476,7 @@ pub fn step_at(
 
 /// Forgets all rows and steps but the row with this number, which is two rows then: its own, and that with one more way,
 /// which begins at `start`.
-pub fn restart(cells: &mut Cells, start: usize, row: usize) -> Result<Target, AllocError>
+pub(crate) fn restart(cells: &mut Cells, start: usize, row: usize) -> Result<Target, AllocError>
     requires row { row < length cells.old.rows.lists.items }
     requires within { IsWithin cells.old }
     ensures all { (code : Code) → IsFor cells.old code → IsFor cells.new code }

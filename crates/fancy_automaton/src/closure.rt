@@ -7,15 +7,15 @@ ghost use Rattle.fancy_engine.specs.Work.{steps_of, returns_of};
 ghost use Rattle.fancy_engine.specs.Reading.{unit_read};
 ghost use Rattle.fancy_automaton.specs.Ways.{Ends, Solves, Closing, AllKnown, Visited, marked, first_end, match_end};
 
+use crate::marks::Marks;
 use crate::way::{Effect, Way, effect_at};
 use fancy_engine::code::Code;
 use fancy_engine::reading::Reading;
-use fancy_engine::table::Table;
 use fancy_engine::work::Work;
 use std::alloc::AllocError;
 
 /// Marks an instruction, and says whether it had no mark.
-pub fn is_first(marks: &mut Table, at: usize) -> bool
+pub fn is_first(marks: &mut Marks, at: usize) -> bool
     requires { at < length marks.old }
     ensures adds { (q : ℕ) → slice_index_or marks.new q false ≡ true
         → (slice_index_or marks.old q false ≡ true) ⊎ (q ≡ at) }
@@ -35,7 +35,7 @@ fn visit(
     way: Way,
     stack: &mut Vec<Way>,
     next: &mut Vec<Way>,
-    marks: &mut Table,
+    marks: &mut Marks,
     work: &mut Work,
 ) -> Result<bool, AllocError>
     requires room { length marks.old ≡ code_len code.now }
@@ -92,7 +92,7 @@ pub fn close(
     reading: Option<Reading>,
     stack: &mut Vec<Way>,
     next: &mut Vec<Way>,
-    marks: &mut Table,
+    marks: &mut Marks,
     work: &mut Work,
 ) -> Result<Option<usize>, AllocError>
     requires fresh { next.old.items ≡ [] }

@@ -16,7 +16,7 @@ ghost use Rattle.fancy_automaton.specs.Search.{Steady};
 
 use crate::cells::{Cells, origin, remembered, restart, step_at};
 use crate::trail::{
-    Hit, Trail, VISITS, Visit, hit_by, note_hit, row_at, settled, span_of, start_at, starts_in,
+    Hit, Trail, VISITS, Visit, note_hit, row_at, settled, span_of, start_at, starts_in,
 };
 use fancy_engine::code::Code;
 use fancy_engine::options::is_match_boundary;
@@ -201,7 +201,7 @@ impl Front {
         let reading = reading_at(attempt, place);
         let k = step_at(attempt.code, cells, row, reading, work)?;
         let cell = &cells.cells[k];
-        self.hit = hit_by(self.hit, cell.matched, self.trail.visits.len(), place);
+        note_hit(&mut self.hit, cell.matched, self.trail.visits.len(), place);
         self.next = cell.next;
         self.begun = cell.begun;
         self.trail.visits.push(Visit { cell: k, start })?;

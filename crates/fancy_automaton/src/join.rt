@@ -11,14 +11,14 @@ ghost use Rattle.fancy_automaton.specs.Steps.{IsStep, at_of};
 ghost use Rattle.fancy_automaton.specs.Joins.{Thinned, all_from, match_from};
 
 use crate::closure::is_first;
+use crate::marks::Marks;
 use crate::step::Step;
 use crate::way::Way;
 use fancy_engine::code::Code;
-use fancy_engine::table::Table;
 use std::alloc::{AllocError, Global};
 
 /// Appends a way, unless its instruction has a mark, which it is given.
-fn add(code: &Code, way: Way, next: &mut Vec<Way>, marks: &mut Table) -> Result<(), AllocError>
+fn add(code: &Code, way: Way, next: &mut Vec<Way>, marks: &mut Marks) -> Result<(), AllocError>
     requires room { length marks.old ≡ code_len code.now }
     ensures thinned { OnOk result ((whole : List Way) → Thinned marks.old whole next.old.items
         → Thinned marks.new (whole ++ way ∷ []) next.new.items) }
@@ -41,7 +41,7 @@ fn add_all(
     code: &Code,
     ways: &[Way],
     next: &mut Vec<Way>,
-    marks: &mut Table,
+    marks: &mut Marks,
 ) -> Result<(), AllocError>
     requires room { length marks.old ≡ code_len code.now }
     ensures thinned { OnOk result ((whole : List Way) → Thinned marks.old whole next.old.items
@@ -61,7 +61,7 @@ fn add_begun(
     from: usize,
     ats: &[usize],
     next: &mut Vec<Way>,
-    marks: &mut Table,
+    marks: &mut Marks,
 ) -> Result<(), AllocError>
     requires room { length marks.old ≡ code_len code.now }
     ensures thinned { OnOk result ((whole : List Way) → Thinned marks.old whole next.old.items
@@ -86,14 +86,16 @@ fn match_from(from: usize, matched: Option<usize>) -> Option<usize>
 }
 
 /// The step from some ways, `count` of them, and one more, which begins. `first` is the step from these ways alone. That of the
-/// way that begins leads to the instructions `ats`, and ended with an outcome if `matched` has one.
-pub fn joined(
+/// way that begins leads to the instructions `ats`, and ended with an outcome if `matched` has one. What is marked before does not
+/// matter.
+pub(crate) fn joined(
     alloc: Global,
     code: &Code,
     count: usize,
     first: Step,
     ats: &[usize],
     matched: Option<usize>,
+    marks: &mut Marks,
 ) -> Result<Step, AllocError>
     ensures step { IfOk result (λ s. (instrs : List Instruction) (ways : List ℕ) (start : ℕ) (u : Option Unit_at)
         (after : List Way) → length ways ≡ count → IsStep instrs ways u first.next.items first.matched
@@ -104,11 +106,10 @@ pub fn joined(
     if first.matched.is_some() {
         return Ok(first);
     }
-    let mut next = Vec::new(alloc);
-    let mut marks = Table::new(alloc);
+    let mut next = Vec::with_capacity(alloc, first.next.len().saturating_add(ats.len()))?;
     marks.reset(code.len())?;
-    add_all(code, &first.next, &mut next, &mut marks)?;
-    add_begun(code, count, ats, &mut next, &mut marks)?;
+    add_all(code, &first.next, &mut next, marks)?;
+    add_begun(code, count, ats, &mut next, marks)?;
     Ok(Step {
         next,
         matched: match_from(count, matched),

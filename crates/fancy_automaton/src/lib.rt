@@ -18,6 +18,7 @@ pub mod closure;
 pub mod front;
 pub mod hints;
 pub mod join;
+pub mod marks;
 pub mod plain;
 pub mod rows;
 pub mod search;

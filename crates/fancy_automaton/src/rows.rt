@@ -41,7 +41,7 @@ impl Rows {
 }
 
 /// Whether the instructions are the same.
-pub fn are_same(a: &[usize], b: &[usize]) -> bool
+pub(crate) fn are_same(a: &[usize], b: &[usize]) -> bool
     ensures { result ≡ true → a.now ≡ b.now }
 {
     a == b
@@ -106,7 +106,7 @@ fn name_row(
 }
 
 /// The number of a row with these instructions: one that a hint leads to, or else a new one.
-pub fn intern(alloc: Global, rows: &mut Rows, ways: Vec<usize>) -> Result<usize, AllocError>
+pub(crate) fn intern(alloc: Global, rows: &mut Rows, ways: Vec<usize>) -> Result<usize, AllocError>
     ensures kept { KeepsRows rows.old.lists.items rows.new.lists.items }
     ensures row { IfOk result (λ r. HasRow rows.new.lists.items r ways.items) }
     ensures more { length rows.new.lists.items ≤ length rows.old.lists.items + 1 }
@@ -123,21 +123,21 @@ pub fn intern(alloc: Global, rows: &mut Rows, ways: Vec<usize>) -> Result<usize,
 }
 
 /// The number of the row with this instruction alone.
-pub fn intern_one(alloc: Global, rows: &mut Rows, at: usize) -> Result<usize, AllocError>
+pub(crate) fn intern_one(alloc: Global, rows: &mut Rows, at: usize) -> Result<usize, AllocError>
     ensures kept { KeepsRows rows.old.lists.items rows.new.lists.items }
     ensures more { length rows.new.lists.items ≤ length rows.old.lists.items + 1 }
 {
-    let mut ways = Vec::new(alloc);
+    let mut ways = Vec::with_capacity(alloc, 1)?;
     ways.push(at)?;
     let row = intern(alloc, rows, ways)?;
     Ok(row)
 }
 
-/// The instructions of the ways.
+/// The instructions of the ways, with room for one more.
 fn instructions(alloc: Global, next: &[Way]) -> Result<Vec<usize>, AllocError>
     ensures { IfOk result (λ ways. ways.items ≡ map at_of next.now) }
 {
-    let mut ways = Vec::new(alloc);
+    let mut ways = Vec::with_capacity(alloc, next.len().saturating_add(1))?;
     for way in next {
         ways.push(way.at)?;
     }
@@ -154,7 +154,7 @@ pub struct Target {
 }
 
 /// The rows of the ways, where one more may begin at `start`.
-pub fn target_of(
+pub(crate) fn target_of(
     alloc: Global,
     rows: &mut Rows,
     start: usize,
@@ -174,7 +174,7 @@ pub fn target_of(
 }
 
 /// The instructions of a row, once more.
-pub fn copied(alloc: Global, ways: &[usize]) -> Result<Vec<usize>, AllocError>
+pub(crate) fn copied(alloc: Global, ways: &[usize]) -> Result<Vec<usize>, AllocError>
     ensures { IfOk result (λ copy. copy.items ≡ ways.now) }
 {
     ways.to_vec(alloc)

@@ -7,10 +7,10 @@ ghost use Rattle.fancy_engine.specs.Reading.{unit_read};
 ghost use Rattle.fancy_automaton.specs.Steps.{IsStep, waiting};
 
 use crate::closure::close;
+use crate::marks::Marks;
 use crate::way::Way;
 use fancy_engine::code::Code;
 use fancy_engine::reading::Reading;
-use fancy_engine::table::Table;
 use fancy_engine::work::Work;
 use std::alloc::{AllocError, Global};
 
@@ -27,7 +27,7 @@ pub struct Step {
 fn load(alloc: Global, ways: &[usize]) -> Result<Vec<Way>, AllocError>
     ensures { IfOk result (λ stack. reverse stack.items ≡ waiting 0 ways.now) }
 {
-    let mut stack = Vec::new(alloc);
+    let mut stack = Vec::with_capacity(alloc, ways.len())?;
     for from in (0..ways.len()).rev() {
         stack.push(Way {
             at: ways[from],
@@ -38,12 +38,13 @@ fn load(alloc: Global, ways: &[usize]) -> Result<Vec<Way>, AllocError>
 }
 
 /// Computes the step from these waiting instructions, in order of preference, on what is read. It fetches each instruction
-/// of the code at most once.
-pub fn step_from(
+/// of the code at most once. What is marked before does not matter.
+pub(crate) fn step_from(
     alloc: Global,
     code: &Code,
     ways: &[usize],
     reading: Option<Reading>,
+    marks: &mut Marks,
     work: &mut Work,
 ) -> Result<Step, AllocError>
     ensures step { IfOk result (λ s. IsStep (instrs_of code.now) ways.now (option_map unit_read reading)
@@ -57,9 +58,8 @@ pub fn step_from(
     ensures returns { returns_of work.new ≡ returns_of work.old }
 {
     let mut stack = load(alloc, ways)?;
-    let mut next = Vec::new(alloc);
-    let mut marks = Table::new(alloc);
+    let mut next = Vec::with_capacity(alloc, ways.len())?;
     marks.reset(code.len())?;
-    let matched = close(code, reading, &mut stack, &mut next, &mut marks, work)?;
+    let matched = close(code, reading, &mut stack, &mut next, marks, work)?;
     Ok(Step { next, matched })
 }

@@ -70,28 +70,18 @@ pub struct Hit {
     pub end: usize,
 }
 
-/// What is found once a visit was made: a match that ended there hides what was found before.
-pub fn hit_by(hit: Option<Hit>, matched: Option<usize>, visit: usize, place: usize) -> Option<Hit>
-    ensures { result ≡ hit_or hit matched visit place }
-{
-    match matched {
-        None => hit,
-        Some(way) => Some(Hit {
-            beginning: Beginning::Traced(visit, way),
-            end: place,
-        }),
-    }
-}
-
-/// The same, where what is found stays if the visit found nothing.
+/// Notes what a visit found: a match that ended there hides what was found before.
 #[inline(always)]
-pub fn note_hit(hit: &mut Option<Hit>, matched: Option<usize>, visit: usize, place: usize)
+pub(crate) fn note_hit(hit: &mut Option<Hit>, matched: Option<usize>, visit: usize, place: usize)
     ensures { hit.new ≡ hit_or hit.old matched visit place }
 {
     match matched {
         None => {}
-        Some(_) => {
-            *hit = hit_by(*hit, matched, visit, place);
+        Some(way) => {
+            *hit = Some(Hit {
+                beginning: Beginning::Traced(visit, way),
+                end: place,
+            });
         }
     }
 }

@@ -243,8 +243,7 @@ module _ (m : Meaning) (code : List Instruction) (sets : List ByteFlags) where
               let i : ℕ = j - o in
               let there : s.place + i ≡ p + j = omega (arith, here, later) in
               let byte : slice_index x.haystack (p + j) ≡ slice_index (encoding m h.code) i =
-              ap (slice_index x.haystack) (sym there) ∙ item_byte x.haystack (encoding m h.code) h.rest s.place i h.bytes (omega (arith, lt, later)) in
-              (
+              ap (slice_index x.haystack) (sym there) ∙ item_byte x.haystack (encoding m h.code) h.rest s.place i h.bytes (omega (arith, lt, later)) in (
                 omega (arith, here, within, h.ends, lt),
                 has_them j (slice_index x.haystack (p + j)) (omega (arith, low, later)) (λ e. omega (arith, (one e).0, (one e).1, lt, later)) inside (small (p + j))
                     (ap (member bytes) byte ∙ are.has h.code i h.passes (omega (arith, lt, later)) (subst (λ (b : ℕ). b < 256) byte (small (p + j)))),

@@ -10,8 +10,8 @@ ghost use Rattle.fancy_engine.specs.Emitted.{emitted, len_of};
 ghost use Rattle.fancy_tree.specs.GroupNumbers.{Numbered};
 ghost use Rattle.fancy_engine.specs.Compile.{Keeps, Emitted, CopiesEmitted, OptionalsEmitted, StarEmitted, RestEmitted, RepeatEmitted, TestEmitted, BackEmitted, BehindEmitted, IsCodeOf, StaysEasy, goes_back, is_easy, are_easy, split_of, look_of};
 
-use crate::code::{Code, Entry, FAIL, Instr, MATCH};
 use crate::classify::is_easy;
+use crate::code::{Code, Entry, FAIL, Instr, MATCH};
 use crate::emitter::Emitter;
 use crate::prefilter::with_starts;
 use fancy_bytes::literal::opening_literal;

@@ -211,7 +211,16 @@ fn collect(code: &Code, spot: Spot, deep: usize, sets: &mut Vec<ByteSet>, left: 
         }
         Instr::Split(first, second) => {
             collect(code, Spot { at: *first, ..spot }, deep, sets, left);
-            collect(code, Spot { at: *second, ..spot }, deep, sets, left);
+            collect(
+                code,
+                Spot {
+                    at: *second,
+                    ..spot
+                },
+                deep,
+                sets,
+                left,
+            );
         }
         _ => sets.truncate(spot.from),
     }

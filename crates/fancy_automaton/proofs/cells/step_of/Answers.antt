@@ -21,8 +21,8 @@ returns-in_ok-step-in-Some-clause-step c =
     let start = c.args.code.now.start in
     let same : ways ≡ ways_at rows c.args.row =
     c.as_slice-ways.ensures.value ∙ row_items rows c.args.row c.index.result.now (ways_at rows c.args.row) (row_of rows c.args.row c.requires.row) c.index.ensures in
-    let alone = alone_is c.args.code.now rows c.args.cells.now.cells.items c.in-Some.k c.args.cells.now.alone c.args.reading c.index-in-Some.result.now c.requires.all
-    c.in-Some.ensures.cell c.index-in-Some.ensures c.in-Some.ensures.alone in
+    let alone = alone_is c.args.code.now rows c.args.cells.now.cells.items c.in-Some.k c.args.cells.now.alone c.args.reading c.index-begun.result.now c.requires.all
+    c.in-Some.ensures.cell c.index-begun.ensures c.in-Some.ensures.alone in
     let whole : take (length ways - 1) ways ++ start ∷ [] ≡ ways_at rows c.args.row = sym c.in-Some.ensures.last ∙ same in
     subst (λ (ws : List ℕ). IsStep (instrs_of c.args.code.now) ws (option_map unit_read c.args.reading) c.in_ok-step-in-Some.step.next.items c.in_ok-step-in-Some.step.matched) whole
     (c.in_ok-step-in-Some.ensures.step start alone.after alone.step alone.leads)
@@ -30,6 +30,6 @@ returns-in_ok-step-in-Some-clause-step c =
 pub returns-in_ok-step-in-Some-clause-halts : goal.returns-in_ok-step-in-Some-clause-halts
 returns-in_ok-step-in-Some-clause-halts c none =
     let rows = c.args.cells.now.rows.lists.items in
-    let alone = alone_is c.args.code.now rows c.args.cells.now.cells.items c.in-Some.k c.args.cells.now.alone c.args.reading c.index-in-Some.result.now c.requires.all
-    c.in-Some.ensures.cell c.index-in-Some.ensures c.in-Some.ensures.alone in
-    c.in_ok-step-in-Some.ensures.halts none (subst (λ (ws : List Way). HasRow rows c.index-in-Some.result.now.next (map at_of ws)) (alone.halts none) alone.leads)
+    let alone = alone_is c.args.code.now rows c.args.cells.now.cells.items c.in-Some.k c.args.cells.now.alone c.args.reading c.index-begun.result.now c.requires.all
+    c.in-Some.ensures.cell c.index-begun.ensures c.in-Some.ensures.alone in
+    c.in_ok-step-in-Some.ensures.halts none (subst (λ (ws : List Way). HasRow rows c.index-begun.result.now.next (map at_of ws)) (alone.halts none) alone.leads)

@@ -12,7 +12,7 @@ returns-then-is_some-clause-step c instrs ways start u after e first begun ats =
 
 pub returns-clause-step : goal.returns-clause-step
 returns-clause-step c instrs ways start u after e first begun ats =
-    let none = thin_none c.len.result c.reset.new.self c.new-next.result.items c.in_ok-reset.ensures c.new-next.ensures.items in
+    let none = thin_none c.len-2.result c.reset.new.self c.in_ok-next.next.items c.in_ok-reset.ensures c.in_ok-next.ensures.items in
     let some = c.in_ok-add_all.ensures.thinned [] none in
     let all = c.in_ok-add_begun.ensures.thinned c.deref.result.now some in
     let whole : c.deref.result.now ++ all_from c.args.count c.args.ats.now ≡ c.args.first.next.items ++ all_from (length ways) (map at_of after) =
