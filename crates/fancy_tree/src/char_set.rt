@@ -21,6 +21,14 @@ pub struct CharSet {
     ghost wide_is: { IsTable wide.items (length wide.items) (members set) },
 }
 
+/// Whether the bit of this number below 256 is set.
+fn is_low(words: &[u64; 4], i: usize) -> bool
+    requires { i < 256 }
+    ensures { IsTrue result ↔ (bit words.now i ≡ 1) }
+{
+    (words[i / 64] >> (i % 64)) & 1 == 1
+}
+
 /// Whether the bit of this number is set.
 fn is_marked(words: &[u64], i: usize) -> bool
     requires { i < 64 * length words.now }
@@ -116,10 +124,20 @@ impl CharSet {
     pub fn contains(&self, c: u32) -> bool
         ensures { result ≡ members self.now.set c }
     {
+        if c < 256 {
+            is_low(&self.low, c as usize)
+        } else {
+            self.contains_past_low(c)
+        }
+    }
+
+    /// Whether this number is a member, which is more than a byte. It is apart, so that the test of a byte is put in line.
+    fn contains_past_low(&self, c: u32) -> bool
+        requires { 256 ≤ c }
+        ensures { result ≡ members self.now.set c }
+    {
         let i = c as usize;
-        if i < 256 {
-            is_marked(&self.low, i)
-        } else if i / 64 < self.wide.len() {
+        if i / 64 < self.wide.len() {
             is_marked(&self.wide, i)
         } else {
             self.set.contains(c)

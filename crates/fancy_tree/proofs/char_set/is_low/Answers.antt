@@ -1,0 +1,8 @@
+use Rattle.std.proofs.Common.{rules}
+use Rattle.std.proofs.lemmas.Nat.Bits.{shr_and_one}
+use Rattle.fancy_tree.specs.CharSet.{bit}
+use Rattle.fancy_tree.proofs.char_set.is_low.Goals as goal
+
+pub returns : goal.returns
+unfolding bit
+returns c = rw shr_and_one (search rules)
