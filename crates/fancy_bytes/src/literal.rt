@@ -5,20 +5,20 @@ ghost use Rattle.fancy_tree.specs.Pattern.{pattern_of};
 ghost use Rattle.fancy_bytes.specs.Openings.{opening, is_literal, opening_of_row, are_literal, item_text, has_text, StandsBefore, NoneStandsBefore};
 
 use fancy_tree::tree::{Meaning, Tree};
-use memchr::memmem;
+use memchr::memmem::{Finder, FinderBuilder};
 use std::alloc::{AllocError, Global};
 use std::marker::Model;
 
-/// A text that is scanned for.
+/// A text that is scanned for, by a search that is prepared once.
 #[derive(Drop)]
 pub struct Literal {
-    text: Vec<u8>,
+    finder: Finder<'static>,
 }
 
 impl Model for Literal {
     ghost Value = { List ℕ };
 
-    ghost view = { λ l. l.text.items };
+    ghost view = { λ l. l.finder };
 }
 
 impl Literal {
@@ -32,10 +32,10 @@ impl Literal {
             (NoneStandsBefore haystack.now end self.now from) }
     {
         let rest = &haystack[from..end];
-        if rest.starts_with(&self.text) {
+        if rest.starts_with(self.finder.needle()) {
             return Some(from);
         }
-        match memmem::find(rest, &self.text) {
+        match self.finder.find(rest) {
             None => None,
             Some(passed) => Some(from + passed),
         }
@@ -56,7 +56,8 @@ pub fn opening_literal(
     if text.len() < 2 {
         return Ok(None);
     }
-    Ok(Some(Literal { text }))
+    let finder = FinderBuilder::new().build_forward_owned(text);
+    Ok(Some(Literal { finder }))
 }
 
 /// Adds the text that whatever the pattern matches begins with, and tells whether the pattern consumes that and nothing else.
