@@ -8,3 +8,5 @@ pub mod Lists
 pub mod Lacks
 pub mod Openings
 pub mod Windows
+pub mod Keys
+pub mod KeyTables

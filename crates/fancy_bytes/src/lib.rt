@@ -2,6 +2,8 @@
 #![tactic(auto)]
 
 pub mod byte_set;
+pub mod key_scan;
+pub mod key_table;
 pub mod lacking;
 pub mod literal;
 pub mod members;
