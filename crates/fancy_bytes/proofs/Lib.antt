@@ -7,3 +7,4 @@ pub mod ScanLemmas
 pub mod LackLemmas
 pub mod OpeningLemmas
 pub mod WindowLemmas
+pub mod KeyLemmas

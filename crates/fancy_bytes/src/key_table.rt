@@ -207,13 +207,16 @@ pub(crate) fn members_of(
 
 /// Puts the number of an entry at the next place of its key.
 fn place_entry(entry: Entry, next: &mut Vec<u32>, members: &mut Vec<u32>) {
+    let Ok(number) = u32::try_from(entry.number) else {
+        return;
+    };
     if entry.key >= next.len() {
         return;
     }
     let at = next[entry.key] as usize;
     next[entry.key] = next[entry.key].saturating_add(1);
     if at < members.len() {
-        members[at] = entry.number as u32;
+        members[at] = number;
     }
 }
 

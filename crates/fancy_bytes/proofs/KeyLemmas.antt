@@ -1,0 +1,64 @@
+-- Keys of windows, and the numbers at them.
+use Rattle.std.proofs.Common.{◌≡◌, ℕ, zero, suc, ◌+◌, ◌-◌, ◌<◌, ◌≤◌, Bool, true, false, ◌⊎◌, inl, inr, List, [], ◌∷◌, length, take, slice_index, refl, sym, ap, ap₂, subst, ◌∙◌, arith}
+use Rattle.std.proofs.lemmas.Bool.{cases_eq, cases_lt}
+use Rattle.std.proofs.lemmas.Bool.Decides.{nat_tests}
+use Rattle.std.proofs.lemmas.List.{get_or-take, length-take-le}
+use Rattle.fancy_bytes.specs.Sets.{ByteFlags, member}
+use Rattle.fancy_bytes.specs.Windows.{set_at, StandsFrom}
+use Rattle.fancy_bytes.specs.Keys.{class_of, mixed, key_from, key_at, IsAmong, Covers, IsCovered}
+
+-- classes
+
+pub class_low : (byte class : ℕ) → class_of byte ≡ class → class < 128 → byte ≡ class
+class_low byte class is lt = grind (arith, nat_tests)
+
+pub class_high : (byte class : ℕ) → class_of byte ≡ class → 128 ≤ class → 128 ≤ byte
+class_high byte class is le = grind (arith, nat_tests)
+
+pub class_small : (byte : ℕ) → class_of byte < 129
+class_small byte = grind (arith, nat_tests)
+
+-- keys
+
+pub key_step : (haystack : List ℕ) (seed next width place i : ℕ) → i < width → next ≡ mixed seed (slice_index haystack (place + i)) →
+    key_from next (width - (i + 1)) haystack (place + (i + 1)) ≡ key_from seed (width - i) haystack (place + i)
+key_step haystack seed next width place i lt is =
+    let count : width - i ≡ suc (width - (i + 1)) = omega arith in
+    let there : place + (i + 1) ≡ place + i + 1 = omega arith in
+    ap₂ (λ (s p : ℕ). key_from s (width - (i + 1)) haystack p) is there
+    ∙ sym (ap (λ (n : ℕ). key_from seed n haystack (place + i)) count)
+
+pub key_done : (haystack : List ℕ) (seed width place i key : ℕ) → width ≤ i → key_from seed (width - i) haystack (place + i) ≡ key → seed ≡ key
+key_done haystack seed width place i key le is =
+    let none : width - i ≡ 0 = omega arith in
+    sym (ap (λ (n : ℕ). key_from seed n haystack (place + i)) none) ∙ is
+
+-- numbers at a key
+
+pub covered_at : (starts members haystack : List ℕ) (number : ℕ) (sets : List ByteFlags) (seed p : ℕ) → ((k : ℕ) → slice_index haystack k < 256) →
+    Covers starts members number seed sets → ((j : ℕ) → j < length sets → member (set_at sets j) (slice_index haystack (p + j)) ≡ true) →
+    IsAmong members (slice_index starts (key_from seed (length sets) haystack p)) (slice_index starts (key_from seed (length sets) haystack p + 1)) number
+covered_at starts members haystack number [] seed p bytes covers stand = covers
+covered_at starts members haystack number (set ∷ sets) seed p bytes covers stand =
+    let here : p ≡ p + 0 = omega arith in
+    covered_at starts members haystack number sets (mixed seed (slice_index haystack p)) (p + 1) bytes
+    (covers (slice_index haystack p) (bytes p) (ap (λ (i : ℕ). member set (slice_index haystack i)) here ∙ stand 0 (omega arith)))
+    (λ j lt.
+    let there : p + 1 + j ≡ p + suc j = omega arith in
+    ap (λ (i : ℕ). member (set_at sets j) (slice_index haystack i)) there ∙ stand (suc j) (omega arith))
+
+module _ (starts members haystack : List ℕ) (number width : ℕ) (row : List ByteFlags) (end p : ℕ) (some : 0 < width) (is : IsCovered starts members number width row) (stands : StandsFrom row haystack end 0 p) where
+  pub fits : p + width ≤ end
+  fits =
+      let last : p + (width - 1) < end = (stands (width - 1) (omega arith) (omega (arith, is.enough, some))).0 in
+      omega (arith, last, some)
+
+  pub is_there : ((k : ℕ) → slice_index haystack k < 256) → IsAmong members (slice_index starts (key_at width haystack p)) (slice_index starts (key_at width haystack p + 1)) number
+  is_there bytes =
+      let size : length (take width row) ≡ width = length-take-le width row is.enough in
+      subst (λ (n : ℕ). IsAmong members (slice_index starts (key_from 0 n haystack p)) (slice_index starts (key_from 0 n haystack p + 1)) number) size
+      (covered_at starts members haystack number (take width row) 0 p bytes is.covered
+      (λ j lt.
+      let below : j < width = omega (arith, size, lt) in
+      ap (λ (s : ByteFlags). member s (slice_index haystack (p + j))) (get_or-take width row j [] below)
+      ∙ (stands j (omega arith) (omega (arith, below, is.enough))).1))
