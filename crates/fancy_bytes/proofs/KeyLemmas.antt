@@ -7,6 +7,13 @@ use Rattle.fancy_bytes.specs.Sets.{ByteFlags, member}
 use Rattle.fancy_bytes.specs.Windows.{set_at, StandsFrom}
 use Rattle.fancy_bytes.specs.Keys.{class_of, mixed, key_from, key_at, IsAmong, Covers, IsCovered}
 
+pub one_more : (P : ℕ → Type 0) (n : ℕ) → ((k : ℕ) → k < n → P k) → P n → (k : ℕ) → k < n + 1 → P k
+one_more P n before here k lt =
+    elim (cases_eq k n) [
+      | inl same ↦ subst P (sym same) here
+      | inr other ↦ before k (omega (arith, other, lt))
+    ]
+
 -- classes
 
 pub class_low : (byte class : ℕ) → class_of byte ≡ class → class < 128 → byte ≡ class

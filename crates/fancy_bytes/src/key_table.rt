@@ -338,6 +338,7 @@ pub struct KeyTable {
     pub(crate) starts: Vec<u32>,
     /// The numbers.
     pub(crate) members: Vec<u32>,
+    ghost wide: { 0 < width },
     ghost sized: { length starts.items ≡ keys + 1 },
     ghost rising: { AreRising starts.items members.items },
 }
