@@ -1,12 +1,12 @@
 -- Keys of windows, and the numbers at them.
-use Rattle.std.proofs.Common.{◌≡◌, ℕ, zero, suc, ◌+◌, ◌-◌, ◌<◌, ◌≤◌, Bool, true, false, ◌⊎◌, inl, inr, List, [], ◌∷◌, length, take, slice_index, refl, sym, ap, ap₂, subst, ◌∙◌, arith}
-use Rattle.std.proofs.lemmas.Bool.{cases_eq, cases_lt}
-use Rattle.std.proofs.lemmas.Bool.Decides.{nat_tests}
+use Rattle.std.proofs.Common.{◌≡◌, ℕ, suc, ◌+◌, ◌-◌, ◌<◌, ◌≤◌, true, inl, inr, List, [], ◌∷◌, length, take, slice_index, sym, ap, ap₂, subst, ◌∙◌, arith}
+use Rattle.std.proofs.lemmas.Bool.{cases_eq}
 use Rattle.std.proofs.lemmas.List.{get_or-take, length-take-le}
 use Rattle.fancy_bytes.specs.Sets.{ByteFlags, member}
 use Rattle.fancy_bytes.specs.Windows.{set_at, StandsFrom}
-use Rattle.fancy_bytes.specs.Keys.{class_of, mixed, key_from, key_at, IsAmong, Covers, IsCovered}
+use Rattle.fancy_bytes.specs.Keys.{mixed, key_from, key_at, IsAmong, Covers, IsCovered}
 
+-- what holds of each number below n, and of n
 pub one_more : (P : ℕ → Type 0) (n : ℕ) → ((k : ℕ) → k < n → P k) → P n → (k : ℕ) → k < n + 1 → P k
 one_more P n before here k lt =
     elim (cases_eq k n) [
@@ -14,19 +14,9 @@ one_more P n before here k lt =
       | inr other ↦ before k (omega (arith, other, lt))
     ]
 
--- classes
-
-pub class_low : (byte class : ℕ) → class_of byte ≡ class → class < 128 → byte ≡ class
-class_low byte class is lt = grind (arith, nat_tests)
-
-pub class_high : (byte class : ℕ) → class_of byte ≡ class → 128 ≤ class → 128 ≤ byte
-class_high byte class is le = grind (arith, nat_tests)
-
-pub class_small : (byte : ℕ) → class_of byte < 129
-class_small byte = grind (arith, nat_tests)
-
 -- keys
 
+-- one more byte is read
 pub key_step : (haystack : List ℕ) (seed next width place i : ℕ) → i < width → next ≡ mixed seed (slice_index haystack (place + i)) →
     key_from next (width - (i + 1)) haystack (place + (i + 1)) ≡ key_from seed (width - i) haystack (place + i)
 key_step haystack seed next width place i lt is =
@@ -35,6 +25,7 @@ key_step haystack seed next width place i lt is =
     ap₂ (λ (s p : ℕ). key_from s (width - (i + 1)) haystack p) is there
     ∙ sym (ap (λ (n : ℕ). key_from seed n haystack (place + i)) count)
 
+-- no byte is left
 pub key_done : (haystack : List ℕ) (seed width place i key : ℕ) → width ≤ i → key_from seed (width - i) haystack (place + i) ≡ key → seed ≡ key
 key_done haystack seed width place i key le is =
     let none : width - i ≡ 0 = omega arith in
@@ -42,6 +33,7 @@ key_done haystack seed width place i key le is =
 
 -- numbers at a key
 
+-- where a byte of each set stands, the number is among those of the window's key
 pub covered_at : (starts members haystack : List ℕ) (number : ℕ) (sets : List ByteFlags) (seed p : ℕ) → ((k : ℕ) → slice_index haystack k < 256) →
     Covers starts members number seed sets → ((j : ℕ) → j < length sets → member (set_at sets j) (slice_index haystack (p + j)) ≡ true) →
     IsAmong members (slice_index starts (key_from seed (length sets) haystack p)) (slice_index starts (key_from seed (length sets) haystack p + 1)) number
@@ -55,11 +47,13 @@ covered_at starts members haystack number (set ∷ sets) seed p bytes covers sta
     ap (λ (i : ℕ). member (set_at sets j) (slice_index haystack i)) there ∙ stand (suc j) (omega arith))
 
 module _ (starts members haystack : List ℕ) (number width : ℕ) (row : List ByteFlags) (end p : ℕ) (some : 0 < width) (is : IsCovered starts members number width row) (stands : StandsFrom row haystack end 0 p) where
+  -- the window ends before the end
   pub fits : p + width ≤ end
   fits =
       let last : p + (width - 1) < end = (stands (width - 1) (omega arith) (omega (arith, is.enough, some))).0 in
       omega (arith, last, some)
 
+  -- the row's number is among those of the window's key
   pub is_there : ((k : ℕ) → slice_index haystack k < 256) → IsAmong members (slice_index starts (key_at width haystack p)) (slice_index starts (key_at width haystack p + 1)) number
   is_there bytes =
       let size : length (take width row) ≡ width = length-take-le width row is.enough in

@@ -1,5 +1,5 @@
 -- Keys of the bytes that stand first in a window, and numbers of rows of byte sets by their keys.
-use Rattle.std.specs.Prelude.{◌≡◌, ℕ, zero, suc, ◌+◌, ◌*◌, ◌%◌, ◌<◌, ◌≤◌, true, List, [], ◌∷◌, Option, Some, length, take, slice_get, slice_index, if◌then◌else◌, nat_lt}
+use Rattle.std.specs.Prelude.{◌≡◌, ℕ, zero, suc, ◌+◌, ◌*◌, ◌%◌, ◌<◌, ◌≤◌, true, List, [], ◌∷◌, Some, length, take, slice_get, slice_index, if◌then◌else◌, nat_lt}
 use Rattle.std.specs.Global.{Vec}
 use Rattle.fancy_bytes.specs.Sets.{ByteFlags, member}
 

@@ -1,4 +1,4 @@
-use Rattle.std.proofs.Common.{ℕ, ◌+◌, slice_index, refl, arith}
+use Rattle.std.proofs.Common.{ℕ, ◌+◌, slice_index, arith}
 use Rattle.fancy_bytes.specs.Keys.{RiseBetween}
 use Rattle.fancy_bytes.proofs.KeyLemmas.{one_more}
 use Rattle.fancy_bytes.proofs.key_table.are_rising.Goals as goal

@@ -1,4 +1,4 @@
-use Rattle.std.proofs.Common.{◌≡◌, ℕ, ◌⊎◌, inl, inr, ◌<◌, Some, List, length, sym, ap, subst, ◌∙◌, arith, slice_get, take}
+use Rattle.std.proofs.Common.{◌≡◌, ℕ, inl, inr, ◌<◌, Some, List, length, sym, ap, subst, ◌∙◌, arith, slice_get, take}
 use Rattle.std.proofs.lemmas.Bool.{cases_eq}
 use Rattle.std.proofs.lemmas.Option.{get_or_from_slice_get, slice_get_within}
 use Rattle.std.specs.Global.{Vec}

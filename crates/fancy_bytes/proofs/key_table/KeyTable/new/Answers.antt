@@ -1,4 +1,4 @@
-use Rattle.std.proofs.Common.{◌≡◌, ◌<◌, List, ℕ, length, sym, ap, subst, ◌∙◌, arith}
+use Rattle.std.proofs.Common.{◌<◌, List, ℕ, length, sym, ap, subst, ◌∙◌, arith}
 use Rattle.fancy_bytes.specs.Keys.{AreRising, AreCovered}
 use Rattle.fancy_bytes.proofs.KeyLemmas.{fits, is_there}
 use Rattle.fancy_bytes.proofs.key_table.KeyTable.new.Goals as goal
@@ -22,6 +22,7 @@ returns-clause-tells c number row haystack end p get bytes stands =
     let width : ℕ = c.width_of-width.result in
     let some : 0 < width = omega (arith, c.if-width-eq0.false) in
     let covered = subst (λ (xs : List ℕ). AreCovered c.in_ok-starts.starts.items xs rows width) c.deref-5.ensures.value
-    (subst (λ (xs : List ℕ). AreCovered xs c.deref-5.result.now rows width) c.deref-4.ensures.value (c.is_sound.ensures.covered c.if-not-is_sound.false)) in
-    (fits c.in_ok-starts.starts.items c.in_ok-members.members.items haystack number width row.items end p some (covered number row get) stands,
-    is_there c.in_ok-starts.starts.items c.in_ok-members.members.items haystack number width row.items end p some (covered number row get) stands bytes)
+    (subst (λ (xs : List ℕ). AreCovered xs c.deref-5.result.now rows width) c.deref-4.ensures.value (c.is_sound.ensures.covered c.if-not-is_sound.false)) in (
+      fits c.in_ok-starts.starts.items c.in_ok-members.members.items haystack number width row.items end p some (covered number row get) stands,
+      is_there c.in_ok-starts.starts.items c.in_ok-members.members.items haystack number width row.items end p some (covered number row get) stands bytes,
+    )

@@ -1,4 +1,4 @@
-use Rattle.std.proofs.Common.{◌≡◌, ℕ, ◌⊎◌, inl, inr, subst, arith}
+use Rattle.std.proofs.Common.{◌≡◌, ℕ, inl, inr, subst, arith}
 use Rattle.std.proofs.lemmas.Bool.{cases_lt}
 use Rattle.fancy_bytes.specs.KeyTables.{NoneMayStand}
 use Rattle.fancy_bytes.proofs.key_table.KeyTable.next_seen.Goals as goal
