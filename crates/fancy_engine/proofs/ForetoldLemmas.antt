@@ -15,15 +15,18 @@ use Rattle.fancy_bytes.specs.Items.{encoding, only}
 use Rattle.fancy_bytes.specs.Sets.{ByteFlags, member}
 use Rattle.fancy_bytes.specs.Windows.{set_at, StandsFrom}
 use Rattle.fancy_bytes.proofs.BoolLemmas.{parts_of}
+use Rattle.fancy_bytes.specs.KeyTables.{NoneMayStand}
+use Rattle.fancy_engine.specs.Branches.{AreBranches, Chooses}
+use Rattle.fancy_engine.specs.declared.branches.Branches.{Branches}
 use Rattle.fancy_engine.specs.declared.code.Code.{Code}
 use Rattle.fancy_engine.specs.Code.{instrs_of}
 use Rattle.fancy_engine.specs.Context.{Context, State, Unit_at, moved_to, with_capture, unit_in, unit_at, past_item, past_byte, holds, option_to}
 use Rattle.fancy_engine.specs.Events.{Event}
 use Rattle.fancy_engine.specs.Forward.{EachOutcome}
 use Rattle.fancy_engine.specs.Instructions.{Instruction, Match, Fail, Character, Member, RawByte, Assert, Split, Open, Close}
-use Rattle.fancy_engine.specs.Run.{Raw, Note, Stop, Sign, choice_opened, returned, fetched, Go, AllStops, before, join, onward, instr_at, act, run, erase}
+use Rattle.fancy_engine.specs.Run.{Raw, Note, Stop, Sign, choice_opened, returned, fetched, Go, AllStops, before, join, onward, instr_at, act, run, erase, Foretells}
 use Rattle.fancy_engine.specs.Compile.{IsCodeOf, depth}
-use Rattle.fancy_engine.specs.Foretold.{Foretells, Foretold, AreForetold, IsAnchored, Wider, HasFrom, AreBytesOf}
+use Rattle.fancy_engine.specs.Foretold.{Foretold, AreForetold, IsAnchored, Wider, HasFrom, AreBytesOf}
 use Rattle.fancy_engine.specs.Search.{Query, answer_at, context_of, initial, trace_at}
 use Rattle.fancy_engine.proofs.BeginLemmas.{accepted_holds}
 use Rattle.fancy_engine.proofs.OpenLemmas.{unit_wide}
@@ -292,6 +295,33 @@ module _ (q : Query) (code : Code) (is : IsCodeOf q.sought.pattern code) (meant 
   pub none_anchored : IsAnchored (instrs_of code) code.start → (p : ℕ) → p ≤ q.request.range_end → 0 < p → answer_at q p ≡ None
   none_anchored f p le later =
       none_told ⊥ p le (f (context_of q) q.request.range_end (depth (length q.haystack) q.sought.pattern + 1) (initial q p) (replicate code.groups 0) later) (λ h. h)
+
+-- where no alternative may match that the code opens with, no way of it stops
+
+module _ (code : List Instruction) (x : Context) (limit : ℕ) (s : State) (v : List ℕ) where
+  none_stops : (q : ℕ) (hs : List ℕ) → Chooses code q hs → ((j n : ℕ) → j < length hs → Foretells ⊥ (run x limit code n (slice_index hs j) s v)) → (n : ℕ) → Foretells ⊥ (run x limit code n q s v)
+  none_stops q [] chooses none n = absurd chooses
+  none_stops q (h ∷ hs) chooses none zero = tt
+  none_stops q (h ∷ hs) chooses none (suc n) =
+      elim chooses [
+        | inl last ↦ subst (λ (i : ℕ). Foretells ⊥ (run x limit code (suc n) i s v)) (sym last.1) (none 0 (suc n) (omega arith))
+        | inr more ↦
+            before_told ⊥ fetched (act x limit q (instr_at code q) (run x limit code n) (run x (length x.haystack) code n) s v)
+            (subst (λ (i : Instruction). Foretells ⊥ (act x limit q i (run x limit code n) (run x (length x.haystack) code n) s v)) (sym more.1)
+            (before_told ⊥ choice_opened (join (run x limit code n h s v) (run x limit code n more.0 s v))
+            (join_told ⊥ (run x limit code n h s v) (run x limit code n more.0 s v) (none 0 n (omega arith))
+            (none_stops more.0 hs more.2 (λ j m lt. none (suc j) m (omega (arith, lt))) n))))
+      ]
+
+module _ (q : Query) (code : Code) (is : IsCodeOf q.sought.pattern code) (meant : q.sought.meaning ≡ code.meaning) (inside : q.request.range_end ≤ length q.haystack) where
+  pub none_branched : ((k : ℕ) → slice_index q.haystack k < 256) → (b : Branches) → AreBranches b (instrs_of code) code.meaning code.start
+      → (p : ℕ) → p ≤ q.request.range_end → NoneMayStand b.table q.haystack q.request.range_end p → answer_at q p ≡ None
+  none_branched bytes b told p le none =
+      none_told q code is meant inside ⊥ p le
+      (none_stops (instrs_of code) (context_of q) q.request.range_end (initial q p) (replicate code.groups 0) code.start b.heads.items told.chooses
+      (λ j n lt. told.told j lt (context_of q) q.request.range_end n (initial q p) (replicate code.groups 0) meant bytes (none j))
+      (depth (length q.haystack) q.sought.pattern + 1))
+      (λ h. h)
 
 -- code that goes on at the text's start alone
 

@@ -46,5 +46,6 @@ pub mod RequireLemmas
 pub mod SkipLemmas
 pub mod TriedLemmas
 pub mod ForetoldLemmas
+pub mod BranchLemmas
 pub mod PassedLemmas
 pub mod OpenLemmas

@@ -32,7 +32,7 @@ within_lower base low last [] le w = tt
 within_lower base low last (t ∷ ts) le w = (omega (arith, le, w.0), w.1, within_lower base low last ts le w.2)
 
 -- the first accepted outcome of two parts
-first_or : (ok : State → Bool) (a b : List Event) → first_accepted ok (a ++ b) ≡ option_or (first_accepted ok a) (first_accepted ok b)
+pub first_or : (ok : State → Bool) (a b : List Event) → first_accepted ok (a ++ b) ≡ option_or (first_accepted ok a) (first_accepted ok b)
 first_or ok [] b = refl
 first_or ok (mark ∷ a) b = first_or ok a b
 first_or ok (return ∷ a) b = first_or ok a b

@@ -1,5 +1,5 @@
 -- What the runner says of an attempt, with its code, its haystack and its bounds.
-use Rattle.std.specs.Prelude.{ℕ, ◌+◌, ◌-◌, ◌*◌, Bool, List, ◌∷◌, Option}
+use Rattle.std.specs.Prelude.{ℕ, ◌+◌, ◌-◌, ◌*◌, Bool, List, ◌∷◌, Option, replicate}
 use Rattle.fancy_engine.specs.Instructions.{Instruction}
 use Rattle.fancy_engine.specs.declared.runner.Attempt.{Attempt}
 use Rattle.fancy_engine.specs.declared.runner.Next.{Next}
@@ -9,7 +9,7 @@ use Rattle.fancy_engine.specs.Marking.{Marks}
 use Rattle.fancy_engine.specs.Reading.{search_context}
 use Rattle.fancy_engine.specs.Search.{is_match_boundary}
 use Rattle.fancy_engine.specs.declared.slot.Pair.{Pair}
-use Rattle.fancy_engine.specs.Threads.{Thread, ThreadStack, HeldThreads, KeptThreads, held_of, stack_of}
+use Rattle.fancy_engine.specs.Threads.{Thread, ThreadStack, HeldThreads, KeptThreads, begun_at, empty_slot, held_of, stack_of}
 use Rattle.fancy_engine.specs.Runner.{threads_after, thread_run, events_of, first_accepted, ends_well, Known, Stepped, AllFailed, FailedPast, Resting, Running, Visited}
 
 module _ (a : Attempt) where
@@ -27,6 +27,10 @@ module _ (a : Attempt) where
   -- the same, of which the one that is followed stands at a pair
   abbrev pub stack_in : Pair → KeptThreads → ThreadStack
   stack_in pair kept = stack_of pair (held_in kept)
+
+  -- a thread that begins at an instruction and a place, alone, with no group written
+  abbrev pub begins_in : ℕ → ℕ → ThreadStack
+  begins_in at place = begun_at (record { at = at; place = place }) (replicate a.code.now.groups empty_slot)
 
   -- the thread that is followed
   abbrev pub current_in : Pair → KeptThreads → Thread

@@ -13,6 +13,7 @@ use Rattle.fancy_engine.specs.Instructions as i
 use Rattle.fancy_tree.specs.declared.tree.Meaning.{Meaning}
 use Rattle.fancy_tree.specs.Sizes.{size, is_empty}
 use Rattle.fancy_engine.specs.Code.{instrs_of}
+use Rattle.fancy_engine.specs.Branches.{AreBranches}
 use Rattle.fancy_engine.specs.Foretold.{AreForetold, IsAnchored}
 use Rattle.fancy_engine.specs.Run.{instr_at}
 
@@ -284,6 +285,7 @@ pub record IsCodeOf (p : Pattern) (code : Code) : Type 0 where
   pub opens : IfSome code.literal (λ text. text ≡ opening code.meaning p)
   pub foretold : IfSome code.prefilter (λ sets. AreForetold sets code)
   pub anchored : code.only_at_start ≡ true → IsAnchored (instrs_of code) code.start
+  pub branched : IfSome code.branches (λ b. AreBranches b (instrs_of code) code.meaning code.start)
 
 -- An instruction that reads neither captures nor where groups began, and that ends no way early.
 abbrev pub IsEasyInstr : Instruction → Type 0

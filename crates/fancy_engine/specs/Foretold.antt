@@ -1,5 +1,6 @@
 -- Which bytes stand at the first places of what code consumes from an instruction on.
-use Rattle.std.specs.Prelude.{◌≡◌, ℕ, ◌+◌, ◌<◌, ◌≤◌, Bool, true, false, List, [], length, Option, Some, None, slice_index}
+use Rattle.std.specs.Prelude.{◌≡◌, ℕ, ◌+◌, ◌<◌, ◌≤◌, Bool, true, false, List, [], length, Some, slice_get, slice_index}
+use Rattle.std.specs.Global.{Vec}
 use Rattle.fancy_tree.specs.declared.tree.Meaning.{Meaning}
 use Rattle.fancy_bytes.specs.Items.{encoding}
 use Rattle.fancy_bytes.specs.Sets.{ByteFlags, member}
@@ -7,13 +8,8 @@ use Rattle.fancy_bytes.specs.Windows.{set_at, StandsFrom}
 use Rattle.fancy_engine.specs.Code.{instrs_of}
 use Rattle.fancy_engine.specs.Context.{Context, State}
 use Rattle.fancy_engine.specs.Instructions.{Instruction}
-use Rattle.fancy_engine.specs.Run.{Raw, AllStops, run}
+use Rattle.fancy_engine.specs.Run.{Foretells, run}
 use Rattle.fancy_engine.specs.declared.code.Code.{Code}
-
--- Where the events are known and a way stops among them, P holds.
-abbrev pub Foretells : Type 0 → Option (List Raw) → Type 0
-Foretells P None = Unit {0}
-Foretells P (Some w) = AllStops (λ q s v. P) w
 
 -- The code goes on at an instruction o places after the window's beginning, o being `from` or more, and exactly `from` where it is told so. Where a way stops from there, a byte of each set from that number on stands in the window.
 abbrev pub Foretold : List Instruction → Meaning → List ByteFlags → ℕ → Bool → ℕ → Type 0
@@ -46,3 +42,8 @@ HasFrom sets from exact bytes =
 pub record AreBytesOf (m : Meaning) (test : ℕ → Bool) (bytes : ByteFlags) (wide : Bool) : Type 0 where
   pub has : (c i : ℕ) → test c ≡ true → i < length (encoding m c) → slice_index (encoding m c) i < 256 → member bytes (slice_index (encoding m c) i) ≡ true
   pub one : (c : ℕ) → test c ≡ true → wide ≡ false → length (encoding m c) ≡ 1
+
+-- one row for each of these instructions: the sets of the bytes at the first places of what is consumed from it on
+pub record AreRows (code : List Instruction) (m : Meaning) (heads : List ℕ) (rows : List (Vec ByteFlags)) : Type 0 where
+  pub count : length rows ≡ length heads
+  pub each : (number : ℕ) (row : Vec ByteFlags) → slice_get rows number ≡ Some row → Foretold code m row.items 0 true (slice_index heads number)

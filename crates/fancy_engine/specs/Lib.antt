@@ -16,6 +16,7 @@ pub mod Reading
 pub mod Runner
 pub mod Attempt
 pub mod Queries
+pub mod Branches
 pub mod Foretold
 pub mod Compile
 pub mod KeptTable

@@ -1,9 +1,12 @@
 //! The code of a pattern: instructions that say where they go on.
 
-ghost use Rattle.std.specs.Prelude.{◌≡◌, ◌<◌, ℕ, None, false, IsTrue, length};
+ghost use Rattle.std.specs.Prelude.{◌≡◌, ◌<◌, ℕ, None, Some, false, IsTrue, length};
+ghost use Rattle.std.specs.Option.{ForSome};
+ghost use Rattle.fancy_engine.specs.Branches.{ArePaid};
 ghost use Rattle.fancy_engine.specs.Instructions.{are_known, edges_in, with_sets};
 ghost use Rattle.fancy_engine.specs.Marking.{IsPaid};
 
+use crate::branches::Branches;
 use crate::marking::Marking;
 use crate::work::Work;
 use fancy_bytes::literal::Literal;
@@ -99,13 +102,16 @@ pub struct Code {
     pub prefilter: Option<Prefilter>,
     /// Each match starts at the text's start.
     pub only_at_start: bool,
+    /// The alternatives that the code opens with, where there are many, and their first bytes tell them apart.
+    pub branches: Option<Branches>,
     ghost known: { IsTrue (are_known (length sets.items) instrs.items) },
     ghost marked: { length marking.numbers.items ≡ length instrs.items },
     ghost paid: { IsPaid (with_sets sets.items instrs.items) marking.numbers.items marking.weights.items start },
+    ghost branches_paid: { ForSome branches (λ b. ArePaid b marking.numbers.items marking.weights.items start) },
 }
 
 impl Code {
-    ghost use Rattle.fancy_engine.specs.Code.{instrs_of, code_len, instr_in, sets_len, set_edges, number_of, width_of};
+    ghost use Rattle.fancy_engine.specs.Code.{instrs_of, code_len, instr_in, sets_len, set_edges, due_of, number_of, width_of};
     ghost use Rattle.fancy_engine.specs.Run.{instr_at};
     ghost use Rattle.fancy_engine.specs.Work.{stepped_within};
 
@@ -131,6 +137,7 @@ impl Code {
         ensures literal { result.literal ≡ literal }
         ensures prefilter { result.prefilter ≡ None }
         ensures anchored { result.only_at_start ≡ false }
+        ensures branches { result.branches ≡ None }
     {
         Code {
             instrs,
@@ -143,6 +150,35 @@ impl Code {
             literal,
             prefilter: None,
             only_at_start: false,
+            branches: None,
+        }
+    }
+
+    /// The same code, with the alternatives that it opens with.
+    pub(crate) fn with_branches(self, branches: Branches) -> Code
+        requires { ArePaid branches self.marking.numbers.items self.marking.weights.items self.start }
+        ensures instrs { instrs_of result ≡ instrs_of self }
+        ensures start { result.start ≡ self.start }
+        ensures groups { result.groups ≡ self.groups }
+        ensures meaning { result.meaning ≡ self.meaning }
+        ensures start_bytes { result.start_bytes ≡ self.start_bytes }
+        ensures literal { result.literal ≡ self.literal }
+        ensures prefilter { result.prefilter ≡ self.prefilter }
+        ensures anchored { result.only_at_start ≡ self.only_at_start }
+        ensures branches { result.branches ≡ Some branches }
+    {
+        Code {
+            instrs: self.instrs,
+            sets: self.sets,
+            marking: self.marking,
+            start: self.start,
+            groups: self.groups,
+            meaning: self.meaning,
+            start_bytes: self.start_bytes,
+            literal: self.literal,
+            prefilter: self.prefilter,
+            only_at_start: self.only_at_start,
+            branches: Some(branches),
         }
     }
 
@@ -180,6 +216,13 @@ impl Code {
         ensures { result ≡ number_of self.now at }
     {
         self.marking.number(at)
+    }
+
+    /// What is due where a thread goes on at the instruction.
+    pub(crate) fn due(&self, at: usize) -> usize
+        ensures { result ≡ due_of self.now at }
+    {
+        self.marking.due(at)
     }
 
     /// How many marks a place has.

@@ -184,6 +184,7 @@ impl Emitter {
         ensures literal { IfOk result (λ code. code.literal ≡ literal) }
         ensures prefilter { IfOk result (λ code. code.prefilter ≡ None) }
         ensures anchored { IfOk result (λ code. code.only_at_start ≡ false) }
+        ensures branches { IfOk result (λ code. code.branches ≡ None) }
     {
         let marking = Marking::new(self.allocator(), &self.instrs, start)?;
         Ok(Code::new(

@@ -1,6 +1,8 @@
 //! What a pattern finds in a haystack: its definition, its code, and the runner, the engine for easy patterns.
 #![tactic(auto)]
 
+pub mod branches;
+mod branching;
 pub mod classify;
 pub mod code;
 pub mod compile;
@@ -15,6 +17,7 @@ pub mod refusal;
 pub mod runner;
 pub mod search;
 pub mod slot;
+mod start;
 pub mod table;
 pub mod threads;
 pub mod work;

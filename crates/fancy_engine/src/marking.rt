@@ -70,6 +70,13 @@ impl Marking {
         self.numbers[at]
     }
 
+    /// What is due where a thread goes on at an instruction.
+    pub(crate) fn due(&self, at: usize) -> usize
+        ensures { result ≡ due_in self.now.numbers.items self.now.weights.items at }
+    {
+        due(&self.numbers, &self.weights, at)
+    }
+
     /// How many marks a place has.
     pub(crate) fn width(&self) -> usize
         ensures { result ≡ self.now.width }

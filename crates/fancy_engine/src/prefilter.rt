@@ -9,6 +9,7 @@ ghost use Rattle.fancy_engine.specs.Compile.{IsCodeOf};
 ghost use Rattle.fancy_engine.specs.Foretold.{AreBytesOf, AreForetold, Foretold, HasFrom, IsAnchored, Wider};
 ghost use Rattle.fancy_engine.specs.Instructions.{edges_in};
 
+use crate::branching::branches_of;
 use crate::code::{Code, Instr};
 use fancy_bytes::byte_set::ByteSet;
 use fancy_bytes::prefilter::Prefilter;
@@ -293,44 +294,61 @@ fn is_worth_filtering(code: &Code) -> bool {
     }
 }
 
-/// Sets without bytes, one for each place at which bytes are told.
-fn empty_sets(alloc: Global) -> Result<Vec<ByteSet>, AllocError> {
-    let mut sets = Vec::with_capacity(alloc, PLACES)?;
-    for _ in 0..PLACES {
+/// So many sets without bytes.
+fn empty_sets(alloc: Global, places: usize) -> Result<Vec<ByteSet>, AllocError> {
+    let mut sets = Vec::with_capacity(alloc, places)?;
+    for _ in 0..places {
         sets.push(ByteSet::new())?;
     }
     Ok(sets)
 }
 
-/// The sets of the bytes that may stand at the first places of a match, as far as they are told. It is refused where memory runs
-/// out.
-fn sets_of(alloc: Global, code: &Code) -> Result<Vec<ByteSet>, AllocError>
-    ensures { IfOk result (λ sets. AreForetold sets.items code.now) }
+/// The sets of the bytes that may stand at so many first places of what the code consumes from an instruction on, as far as they are
+/// told. It is refused where memory runs out.
+pub(crate) fn sets_of(
+    alloc: Global,
+    code: &Code,
+    at: usize,
+    places: usize,
+) -> Result<Vec<ByteSet>, AllocError>
+    ensures { IfOk result (λ sets. Foretold (instrs_of code.now) code.now.meaning sets.items 0 true at) }
 {
-    let mut sets = empty_sets(alloc)?;
+    let mut sets = empty_sets(alloc, places)?;
     let mut left = FOLLOWED;
-    let start = Spot {
-        at: code.start,
+    let spot = Spot {
+        at,
         from: 0,
         exact: true,
     };
-    collect(code, start, DEPTH, &mut sets, &mut left);
+    collect(code, spot, DEPTH, &mut sets, &mut left);
     Ok(sets)
 }
 
-/// The same, made ready for scans, if they tell something.
+/// The sets of the bytes that may stand at the first places of a match, made ready for scans, if they tell something.
 fn prefilter_of(alloc: Global, code: &Code) -> Result<Option<Prefilter>, AllocError>
     ensures { IfOk result (λ f. IfSome f (λ sets. AreForetold sets code.now)) }
 {
     if !is_worth_filtering(code) {
         return Ok(None);
     }
-    let sets = sets_of(alloc, code)?;
+    let sets = sets_of(alloc, code, code.start, PLACES)?;
     if !are_telling(&sets) {
         return Ok(None);
     }
     let prefilter = Prefilter::new(alloc, sets)?;
     Ok(prefilter)
+}
+
+/// The same code, with the sets of the bytes that may stand at the first places of a match, if they tell something.
+fn with_prefilter(alloc: Global, code: Code) -> Result<Code, AllocError>
+    ensures instrs { IfOk result (λ c. instrs_of c ≡ instrs_of code) }
+    ensures groups { IfOk result (λ c. c.groups ≡ code.groups) }
+    ensures meaning { IfOk result (λ c. c.meaning ≡ code.meaning) }
+    ensures is { IfOk result (λ c. (p : Pattern) → IsCodeOf p code → IsCodeOf p c) }
+{
+    let mut code = code;
+    code.prefilter = prefilter_of(alloc, &code)?;
+    Ok(code)
 }
 
 /// The same code, with what tells where a match may start.
@@ -346,6 +364,8 @@ pub(crate) fn with_starts(alloc: Global, code: Code) -> Result<Code, AllocError>
         code.only_at_start = true;
         return Ok(code);
     }
-    code.prefilter = prefilter_of(alloc, &code)?;
-    Ok(code)
+    match branches_of(alloc, &code)? {
+        Some(branches) => Ok(code.with_branches(branches)),
+        None => with_prefilter(alloc, code),
+    }
 }

@@ -10,16 +10,17 @@ ghost use Rattle.fancy_engine.specs.Search.{search};
 ghost use Rattle.fancy_input.specs.LastLines.{KnowsLastLines};
 ghost use Rattle.fancy_input.specs.Requests.{effective_start};
 ghost use Rattle.fancy_bytes.specs.Openings.{NoneStandsBefore};
-ghost use Rattle.fancy_engine.specs.Seen.{IsNextCandidate, IsNextOpening, NoneMayStart};
+ghost use Rattle.fancy_engine.specs.Seen.{IsNextCandidate, IsNextOpening, NoneMayStart, openings_of};
 ghost use Rattle.fancy_engine.specs.Queries.{query_of, unfiltered, groups_in, answer_with, most_steps};
 ghost use Rattle.fancy_engine.specs.Work.{steps_of, returns_of};
 
+use crate::branches::Branches;
 use crate::code::Code;
 use crate::found::Found;
 use crate::options::{SearchOptions, is_match_boundary};
 use crate::refusal::SearchRefusal;
-use crate::runner::{Attempt, follow};
-use crate::slot::Pair;
+use crate::runner::Attempt;
+use crate::start::follow_start;
 use crate::table::Table;
 use crate::threads::Threads;
 use crate::work::Work;
@@ -170,7 +171,7 @@ fn next_unfiltered(
     requires ordered { from ≤ last + 1 }
     requires last { last ≤ range_end }
     requires inside { range_end ≤ length haystack.now }
-    ensures { IsNextOpening code.now.start_bytes code.now.literal code.now.prefilter code.now.only_at_start haystack.now range_end from last result }
+    ensures { IsNextOpening (openings_of code.now) haystack.now range_end from last result }
 {
     let place = candidate_from(code, haystack, range_end, from, last);
     match &code.literal {
@@ -190,9 +191,30 @@ fn next_filtered(
 ) -> usize
     requires ordered { from ≤ range_end + 1 }
     requires inside { range_end ≤ length haystack.now }
-    ensures { IsNextOpening code.now.start_bytes code.now.literal (Some prefilter.now) code.now.only_at_start haystack.now range_end from range_end result }
+    requires prefilter { code.now.prefilter ≡ Some prefilter.now }
+    ensures { IsNextOpening (openings_of code.now) haystack.now range_end from range_end result }
 {
     match prefilter.next_seen(haystack, from, range_end) {
+        None => range_end + 1,
+        Some(seen) => candidate_from(code, haystack, range_end, seen, range_end),
+    }
+}
+
+/// The same, by the alternatives that may match by their first bytes.
+#[inline(never)]
+fn next_branched(
+    code: &Code,
+    branches: &Branches,
+    haystack: &[u8],
+    range_end: usize,
+    from: usize,
+) -> usize
+    requires branches { code.now.branches ≡ Some branches.now }
+    requires ordered { from ≤ range_end + 1 }
+    requires inside { range_end ≤ length haystack.now }
+    ensures { IsNextOpening (openings_of code.now) haystack.now range_end from range_end result }
+{
+    match branches.table.next_seen(haystack, from, range_end) {
         None => range_end + 1,
         Some(seen) => candidate_from(code, haystack, range_end, seen, range_end),
     }
@@ -205,16 +227,20 @@ fn next_opening(code: &Code, haystack: &[u8], range_end: usize, from: usize, las
     requires ordered { from ≤ last + 1 }
     requires last { last ≤ range_end }
     requires inside { range_end ≤ length haystack.now }
-    ensures { IsNextOpening code.now.start_bytes code.now.literal code.now.prefilter code.now.only_at_start haystack.now range_end from last result }
+    ensures { IsNextOpening (openings_of code.now) haystack.now range_end from last result }
 {
     if code.only_at_start && from > 0 {
         return last + 1;
     }
+    if last < range_end {
+        return next_unfiltered(code, haystack, range_end, from, last);
+    }
+    if let Some(branches) = &code.branches {
+        return next_branched(code, branches, haystack, range_end, from);
+    }
     match &code.prefilter {
-        Some(prefilter) if last == range_end => {
-            next_filtered(code, prefilter, haystack, range_end, from)
-        }
-        _ => next_unfiltered(code, haystack, range_end, from, last),
+        None => next_unfiltered(code, haystack, range_end, from, last),
+        Some(prefilter) => next_filtered(code, prefilter, haystack, range_end, from),
     }
 }
 
@@ -320,12 +346,7 @@ pub fn search(
     ready_last_lines(last_lines, haystack, is_kept);
     while place <= last {
         if is_match_boundary(options.on_boundaries, haystack, place) {
-            threads.begin(code.groups)?;
-            let start = Pair {
-                at: code.start,
-                place,
-            };
-            match follow(&attempt, start, threads, table, last_lines, work)? {
+            match follow_start(&attempt, place, threads, table, last_lines, work)? {
                 Some(end) => {
                     return Ok(Some(Found {
                         position: place,

@@ -26,11 +26,12 @@ fn opens_wide(code: &Code) -> bool {
     true
 }
 
-/// Whether the automaton is worth its steps for the code, and follows it.
+/// Whether the automaton is worth its steps for the code, and follows it. Where the first bytes of the alternatives tell them apart,
+/// the runner tries those alone that may match, which takes less.
 pub(crate) fn is_worth_following(code: &Code) -> bool
     ensures { result ≡ true → FollowsEach code.now }
 {
-    if !opens_wide(code) {
+    if code.branches.is_some() || !opens_wide(code) {
         return false;
     }
     is_plain(code)

@@ -33,7 +33,50 @@ const FAR: &str = "q.*?!|qa|qb|qc|qd|qe|qf|qg|qh|qi|qj|qk|ql|qm|q";
 /// Some branches match the empty text.
 const EMPTY: &str = "ab|ac|ad|ae|af|ag|ah|ai|aj|ak|al|am|an|a*";
 
+/// Words in any case: `ſ` is a small `s` too, and `K`, the sign of the kelvin, a small `k`.
+const FOLDED: &str =
+    "(?i)kelvin|sigma|alpha|beta|gamma|delta|omega|theta|iota|kappa|lambda|mu|nu";
+
+/// Words of characters of two bytes.
+const CYRILLIC: &str =
+    "альфа|бета|гамма|дельта|омега|тета|йота|каппа|лямбда|сигма|дзета|эта";
+
+/// Words of four characters or more, some of which begin others.
+const LETTERS: &str =
+    "alpha|beta|gamma|delta|omega|theta|iota|kappa|lambda|sigma|zeta|mile|miles|eta\\d";
+
+/// Words whose first four characters are the same, and others that begin within them.
+const ALIKE: &str = "abcdv|abcdw|abcdx|abcdy|abcdz|abcd|bcde|cdef|defg|efgh|fghi|ghij";
+
 const ROWS: &[LongRow] = &[
+    LongRow {
+        pattern: FOLDED,
+        filler: "kel sig alp m n ",
+        count: 100,
+        tail: "\u{212A}elvin ſigma KAPPA mUnU kelvi",
+        spans: &[(0, 8), (9, 15), (16, 21), (22, 24), (24, 26)],
+    },
+    LongRow {
+        pattern: CYRILLIC,
+        filler: "эт бет ламб ",
+        count: 100,
+        tail: "эта бета лямб каппа э",
+        spans: &[(0, 6), (7, 15), (25, 35)],
+    },
+    LongRow {
+        pattern: LETTERS,
+        filler: "mil iot kapp ",
+        count: 100,
+        tail: "xiota betagamma miles eta5 mil",
+        spans: &[(1, 5), (6, 10), (10, 15), (16, 20), (22, 26)],
+    },
+    LongRow {
+        pattern: ALIKE,
+        filler: "abc bcd cde ",
+        count: 100,
+        tail: "abcdz abcde abcd bcdz bcdef abcdu",
+        spans: &[(0, 5), (6, 10), (12, 16), (22, 26), (28, 32)],
+    },
     LongRow {
         pattern: ANIMALS,
         filler: "lorem ",

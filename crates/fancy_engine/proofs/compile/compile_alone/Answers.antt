@@ -21,5 +21,6 @@ returns-clause-code c = record {
   starts = search rules;
   opens = opens_with _ _ (pattern_of c.args.tree.now) _ _ c.in_ok-code.ensures.literal c.in_ok-code.ensures.meaning c.in_ok-literal.ensures;
   foretold = rw c.in_ok-code.ensures.prefilter tt;
+  branched = rw c.in_ok-code.ensures.branches tt;
   anchored = λ e. absurd (true≢false (sym e ∙ c.in_ok-code.ensures.anchored));
 }

@@ -1,0 +1,210 @@
+-- The alternatives that code opens with: what it gives from them is what it gives from its first instruction.
+use Rattle.std.proofs.Common.{◌≡◌, ℕ, zero, suc, ◌+◌, ◌<◌, ◌≤◌, Bool, List, [], ◌∷◌, ◌++◌, length, drop, Option, Some, None, inl, inr, refl, sym, ap, ap₂, subst, ◌∙◌, arith, slice_index, true≢false}
+use Rattle.std.specs.Global.{Vec}
+use Rattle.std.specs.Option.{option_or, unwrap_or, is_some}
+use Rattle.std.specs.Prelude.{slice_get, replicate}
+use Rattle.std.proofs.lemmas.Bool.{cases_eq, cases_lt}
+use Rattle.std.proofs.lemmas.Option.{get_or_from_slice_get}
+use Rattle.fancy_bytes.specs.Keys.{IsAmong, RiseBetween}
+use Rattle.fancy_tree.specs.declared.tree.Meaning.{Meaning}
+use Rattle.fancy_bytes.specs.KeyTables.{MayStand, Tells}
+use Rattle.fancy_bytes.specs.Sets.{ByteFlags}
+use Rattle.fancy_bytes.specs.Windows.{StandsFrom}
+use Rattle.fancy_engine.specs.Attempt.{instrs_in, context_in, may_end_in, first_accepted_in, begins_in, KnownIn}
+use Rattle.fancy_engine.specs.Branches.{AreBranches, Chooses, SplitsTo, dues_in}
+use Rattle.fancy_engine.specs.Context.{Context, State}
+use Rattle.fancy_engine.specs.Events.{return}
+use Rattle.fancy_engine.specs.Foretold.{AreRows}
+use Rattle.fancy_engine.specs.Instructions.{Instruction, Split}
+use Rattle.fancy_engine.specs.Marking.{due_in}
+use Rattle.fancy_engine.specs.Run.{Raw, Note, Stop, choice_opened, returned, fetched, AllStops, Foretells, erase, instr_at, run}
+use Rattle.fancy_engine.specs.Runner.{Known, Parted, thread_run, events_of, first_accepted, ends_well}
+use Rattle.fancy_engine.specs.Threads.{Thread, empty_slot, state_of, starts_of}
+use Rattle.fancy_engine.specs.declared.branches.Branches.{Branches}
+use Rattle.fancy_engine.specs.declared.runner.Attempt.{Attempt}
+use Rattle.fancy_engine.specs.declared.slot.Slot.{Slot}
+use Rattle.fancy_engine.proofs.ForetoldLemmas.{foretells_imply}
+use Rattle.fancy_engine.proofs.RunnerLemmas.{first_or}
+use Rattle.fancy_engine.proofs.RunnerSteps.{parted}
+
+-- where no way stops, there is no outcome
+
+no_stop : (ok : State → Bool) (w : List Raw) → AllStops (λ q s v. ⊥) w → first_accepted ok (erase w) ≡ None
+no_stop ok [] h = refl
+no_stop ok (Note choice_opened ∷ w) h = no_stop ok w h
+no_stop ok (Note returned ∷ w) h = no_stop ok w h
+no_stop ok (Note fetched ∷ w) h = no_stop ok w h
+no_stop ok (Stop q s v ∷ w) h = absurd h.0
+
+pub told_none : (ok : State → Bool) (o : Option (List Raw)) → Foretells ⊥ o → first_accepted ok (events_of o) ≡ None
+told_none ok None h = refl
+told_none ok (Some w) h = no_stop ok w h
+
+-- an attempt from the first instruction on, by the alternatives
+
+module _ (ok : State → Bool) (x : Context) (limit : ℕ) (code : List Instruction) (deep kept place : ℕ) (slots : List Slot) where
+  abbrev pub head_at : ℕ → Thread
+  head_at q = record { at = q; place = place; slots = slots }
+
+  -- the first outcome from an instruction on
+  abbrev pub first_at : ℕ → Option State
+  first_at q = first_accepted ok (events_of (thread_run x limit code deep kept (head_at q)))
+
+  abbrev KnownAt : ℕ → Type 0
+  KnownAt q = Known x limit code deep kept (head_at q)
+
+  split_known : (q h next : ℕ) → instr_at code q ≡ Split h next → KnownAt q → Parted x limit code deep kept (head_at q) (head_at h) (head_at next)
+  split_known q h next is known = parted x limit code deep kept (head_at q) known h next (head_at h) (head_at next) is refl refl refl refl refl refl refl
+
+  split_first : (q h next : ℕ) → instr_at code q ≡ Split h next → KnownAt q → first_at q ≡ option_or (first_at h) (first_at next)
+  split_first q h next is known =
+      let p = split_known q h next is known in
+      ap (first_accepted ok) p.2 ∙ first_or ok (events_of (thread_run x limit code deep kept (head_at h))) (return ∷ events_of (thread_run x limit code deep kept (head_at next)))
+
+  pub chosen_known : (q : ℕ) (hs : List ℕ) → Chooses code q hs → KnownAt q → (j : ℕ) → j < length hs → KnownAt (slice_index hs j)
+  chosen_known q [] chooses known j lt = absurd chooses
+  chosen_known q (h ∷ hs) chooses known zero lt =
+      elim chooses [
+        | inl last ↦ subst KnownAt last.1 known
+        | inr more ↦ (split_known q h more.0 more.1 known).0
+      ]
+  chosen_known q (h ∷ hs) chooses known (suc j) lt =
+      elim chooses [
+        | inl last ↦ absurd (omega (arith, lt, ap length last.0))
+        | inr more ↦ chosen_known more.0 hs more.2 (split_known q h more.0 more.1 known).1 j (omega (arith, lt))
+      ]
+
+  pub chosen_none : (q : ℕ) (hs : List ℕ) → Chooses code q hs → KnownAt q → ((j : ℕ) → j < length hs → first_at (slice_index hs j) ≡ None) → first_at q ≡ None
+  chosen_none q [] chooses known none = absurd chooses
+  chosen_none q (h ∷ hs) chooses known none =
+      elim chooses [
+        | inl last ↦ ap first_at last.1 ∙ none 0 (omega arith)
+        | inr more ↦
+            split_first q h more.0 more.1 known
+            ∙ ap₂ option_or (none 0 (omega arith)) (chosen_none more.0 hs more.2 (split_known q h more.0 more.1 known).1 (λ j lt. none (suc j) (omega (arith, lt))))
+      ]
+
+  pub chosen_some : (q : ℕ) (hs : List ℕ) → Chooses code q hs → KnownAt q → (j : ℕ) → j < length hs → ((i : ℕ) → i < j → first_at (slice_index hs i) ≡ None)
+      → (s : State) → Some s ≡ first_at (slice_index hs j) → Some s ≡ first_at q
+  chosen_some q [] chooses known j lt none s some = absurd chooses
+  chosen_some q (h ∷ hs) chooses known zero lt none s some =
+      elim chooses [
+        | inl last ↦ some ∙ sym (ap first_at last.1)
+        | inr more ↦ sym (split_first q h more.0 more.1 known ∙ ap (λ (o : Option State). option_or o (first_at more.0)) (sym some))
+      ]
+  chosen_some q (h ∷ hs) chooses known (suc j) lt none s some =
+      elim chooses [
+        | inl last ↦ absurd (omega (arith, lt, ap length last.0))
+        | inr more ↦
+            chosen_some more.0 hs more.2 (split_known q h more.0 more.1 known).1 j (omega (arith, lt)) (λ i less. none (suc i) (omega (arith, less))) s some
+            ∙ sym (split_first q h more.0 more.1 known ∙ ap (λ (o : Option State). option_or o (first_at more.0)) (none 0 (omega arith)))
+      ]
+
+-- the same of an attempt that begins with no group written
+module _ (a : Attempt) (b : Branches) (place kept deep : ℕ) (is : AreBranches b (instrs_in a) a.code.now.meaning a.code.now.start) where
+  abbrev slots : List Slot
+  slots = replicate a.code.now.groups empty_slot
+
+  -- an alternative that may not match has no outcome
+  pub head_none : ((k : ℕ) → slice_index a.haystack.now k < 256) → (j : ℕ) → j < length b.heads.items → ¬ MayStand b.table a.haystack.now a.last place j
+      → first_accepted_in a kept deep (begins_in a (slice_index b.heads.items j) place) ≡ None
+  head_none bytes j lt not =
+      let t : Thread = head_at (ends_well (may_end_in a)) (context_in a) a.last (instrs_in a) deep kept place slots (slice_index b.heads.items j) in
+      told_none (ends_well (may_end_in a)) (thread_run (context_in a) a.last (instrs_in a) deep kept t)
+      (is.told j lt (context_in a) a.last deep (state_of kept t) (starts_of t) refl bytes not)
+
+  module _ (known : KnownIn a kept deep (begins_in a a.code.now.start place)) where
+    pub head_known : (j : ℕ) → j < length b.heads.items → KnownIn a kept deep (begins_in a (slice_index b.heads.items j) place)
+    head_known = chosen_known (ends_well (may_end_in a)) (context_in a) a.last (instrs_in a) deep kept place slots a.code.now.start b.heads.items is.chooses known
+
+    pub all_none : ((j : ℕ) → j < length b.heads.items → first_accepted_in a kept deep (begins_in a (slice_index b.heads.items j) place) ≡ None)
+        → None ≡ first_accepted_in a kept deep (begins_in a a.code.now.start place)
+    all_none none = sym (chosen_none (ends_well (may_end_in a)) (context_in a) a.last (instrs_in a) deep kept place slots a.code.now.start b.heads.items is.chooses known none)
+
+    pub one_some : (j : ℕ) → j < length b.heads.items → ((i : ℕ) → i < j → first_accepted_in a kept deep (begins_in a (slice_index b.heads.items i) place) ≡ None)
+        → (s : State) → Some s ≡ first_accepted_in a kept deep (begins_in a (slice_index b.heads.items j) place) → Some s ≡ first_accepted_in a kept deep (begins_in a a.code.now.start place)
+    one_some = chosen_some (ends_well (may_end_in a)) (context_in a) a.last (instrs_in a) deep kept place slots a.code.now.start b.heads.items is.chooses known
+
+-- what is due for the alternatives that are left
+
+at_most_more : (more n m : ℕ) → n ≤ m → n ≤ more + m
+at_most_more more n m le = omega (arith, le)
+
+dues_suc : (numbers : List (Option ℕ)) (weights hs : List ℕ) (p j : ℕ) → p ≤ j → j < length hs
+    → due_in numbers weights (slice_index hs j) + dues_in numbers weights (drop (suc j) hs) ≤ dues_in numbers weights (drop p hs)
+dues_suc numbers weights [] p j le lt = absurd (omega (arith, lt))
+dues_suc numbers weights (h ∷ hs) zero zero le lt = omega arith
+dues_suc numbers weights (h ∷ hs) zero (suc j) le lt =
+    at_most_more (due_in numbers weights h) _ (dues_in numbers weights hs) (dues_suc numbers weights hs zero j (omega arith) (omega (arith, lt)))
+dues_suc numbers weights (h ∷ hs) (suc p) zero le lt = absurd (omega (arith, le))
+dues_suc numbers weights (h ∷ hs) (suc p) (suc j) le lt = dues_suc numbers weights hs p j (omega (arith, le)) (omega (arith, lt))
+
+pub dues_left : (numbers : List (Option ℕ)) (weights hs : List ℕ) (p j : ℕ) → p ≤ j → j < length hs
+    → due_in numbers weights (slice_index hs j) + dues_in numbers weights (drop (j + 1) hs) ≤ dues_in numbers weights (drop p hs)
+dues_left numbers weights hs p j le lt =
+    let next : suc j ≡ j + 1 = omega arith in
+    subst (λ (k : ℕ). due_in numbers weights (slice_index hs j) + dues_in numbers weights (drop k hs) ≤ dues_in numbers weights (drop p hs)) next
+    (dues_suc numbers weights hs p j le lt)
+
+-- numbers of a key that rise
+
+module _ (members : List ℕ) (from to passed i number : ℕ) (rise : RiseBetween members from to) (inside : to ≤ length members) (low : from ≤ i) (high : i < to)
+    (is : slice_index members i ≡ number) (seen : (k : ℕ) → from ≤ k → k < i → slice_index members k < passed) where
+  -- what is between those that were passed and the next one is not among them
+  pub between : (j : ℕ) → passed ≤ j → j < number → IsAmong members from to j → ⊥
+  between j past less among =
+      let there = get_or_from_slice_get members among.0 j 0 among.3 in
+      elim (cases_lt among.0 i) [
+        | inl before ↦ omega (arith, there, seen among.0 among.1 before, past)
+        | inr after ↦ elim (cases_lt i among.0) [
+          | inl later ↦ omega (arith, there, is, rise i among.0 low later among.2 (omega (arith, among.2, inside)), less)
+          | inr not ↦
+              let same : among.0 ≡ i = omega (arith, after, not) in
+              omega (arith, there, is, ap (slice_index members) same, less)
+        ]
+      ]
+
+-- past the last of them there is none
+pub beyond : (members : List ℕ) (from to passed i : ℕ) → to ≤ i → ((k : ℕ) → from ≤ k → k < i → slice_index members k < passed)
+    → (j : ℕ) → passed ≤ j → IsAmong members from to j → ⊥
+beyond members from to passed i end seen j past among =
+    omega (arith, get_or_from_slice_get members among.0 j 0 among.3, seen among.0 among.1 (omega (arith, among.2, end)), past)
+
+-- the splits that code begins with
+
+pub splits_more : (code : List Instruction) (q : ℕ) (hs : List ℕ) (at h next : ℕ) → SplitsTo code q hs at → instr_at code at ≡ Split h next → SplitsTo code q (hs ++ h ∷ []) next
+splits_more code q [] at h next same is = (next, ap (instr_at code) same ∙ is, refl)
+splits_more code q (g ∷ hs) at h next more is = (more.0, more.1, splits_more code more.0 hs at h next more.2 is)
+
+pub splits_chosen : (code : List Instruction) (q : ℕ) (hs : List ℕ) (at : ℕ) → SplitsTo code q hs at → Chooses code q (hs ++ at ∷ [])
+splits_chosen code q [] at same = inl (refl, same)
+splits_chosen code q (g ∷ hs) at more = inr (more.0, more.1, splits_chosen code more.0 hs at more.2)
+
+-- one more row
+
+some_same : {X : Type 0} (x y : X) → Some x ≡ Some y → x ≡ y
+some_same x y e = ap (λ o. unwrap_or o x) e
+
+slice_get_at : {X : Type 0} (xs : List X) (n : ℕ) → n < length xs → (x : X) × (slice_get xs n ≡ Some x)
+slice_get_at [] n lt = absurd (omega (arith, lt))
+slice_get_at (x ∷ xs) zero lt = (x, refl)
+slice_get_at (x ∷ xs) (suc n) lt = slice_get_at xs n (omega (arith, lt))
+
+pub each_more : {X : Type 0} (P : ℕ → X → Type 0) (xs : List X) (x : X) → ((n : ℕ) (y : X) → slice_get xs n ≡ Some y → P n y) → P (length xs) x
+    → (n : ℕ) (y : X) → slice_get (xs ++ x ∷ []) n ≡ Some y → P n y
+each_more P [] x all one zero y e = subst (P 0) (some_same x y e) one
+each_more P [] x all one (suc n) y e = absurd (true≢false (sym (ap is_some e)))
+each_more P (z ∷ zs) x all one zero y e = all zero y e
+each_more P (z ∷ zs) x all one (suc n) y e = each_more (λ k v. P (suc k) v) zs x (λ k v. all (suc k) v) one n y e
+
+-- the alternatives of code, by a table of their rows
+
+pub branches_told : (b : Branches) (code : List Instruction) (m : Meaning) (start : ℕ) (rows : List (Vec ByteFlags)) → Chooses code start b.heads.items → AreRows code m b.heads.items rows → Tells b.table rows
+    → AreBranches b code m start
+branches_told b code m start rows chooses are tells = record {
+  chooses = chooses;
+  told = λ number lt x limit n s v meant bytes not.
+      (let row = slice_get_at rows number (omega (arith, lt, are.count)) in
+      foretells_imply (StandsFrom row.0.items x.haystack limit 0 s.place) ⊥ (λ stands. not (tells number row.0 x.haystack limit s.place row.1 bytes stands)) (run x limit code n (slice_index b.heads.items number) s v)
+      (are.each number row.0 row.1 x limit n s v 0 s.place meant bytes (omega arith) (λ e. refl) (omega arith)));
+}

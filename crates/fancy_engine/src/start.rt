@@ -1,0 +1,182 @@
+//! Attempts from the first instruction on. Where the code opens with many alternatives, those alone are tried that may match.
+
+ghost use Rattle.std.specs.Prelude.{◌≡◌, ◌+◌, ◌-◌, ◌^◌, ◌<◌, ◌≤◌, ℕ, None, length, slice_index, IfOk, IfSome};
+ghost use Rattle.fancy_engine.specs.Attempt.{instrs_in, first_accepted_in, begins_in, bits_in, left_in, KnownIn, AllFailedIn, FailedPastIn};
+ghost use Rattle.fancy_engine.specs.Branches.{AreBranches, ArePaid};
+ghost use Rattle.fancy_engine.specs.Code.{due_of};
+ghost use Rattle.fancy_engine.specs.Compile.{AreEasy};
+ghost use Rattle.fancy_engine.specs.Runner.{found_state};
+ghost use Rattle.fancy_engine.specs.Work.{steps_of, returns_of};
+ghost use Rattle.fancy_input.specs.LastLines.{KnowsLastLines};
+
+use crate::branches::Branches;
+use crate::runner::{Attempt, follow};
+use crate::slot::Pair;
+use crate::table::Table;
+use crate::threads::Threads;
+use crate::work::Work;
+use fancy_input::last_lines::LastLines;
+use std::alloc::AllocError;
+
+/// An attempt at a place from an instruction on, with no group written.
+fn follow_from(
+    attempt: &Attempt,
+    at: usize,
+    place: usize,
+    threads: &mut Threads,
+    table: &mut Table,
+    last_lines: &mut LastLines,
+    work: &mut Work,
+) -> Result<Option<usize>, AllocError>
+    requires inside { attempt.now.last ≤ length attempt.now.haystack.now }
+    requires easy { AreEasy (instrs_in attempt.now) }
+    requires low { attempt.now.base ≤ place }
+    requires high { place ≤ attempt.now.last }
+    requires room { bits_in attempt.now ≤ length table.old }
+    requires small { length table.old < 2 ^ 64 }
+    requires last_lines { KnowsLastLines attempt.now.haystack.now last_lines.old }
+    ensures answer { IfOk result (λ end. (kept deep : ℕ)
+        → KnownIn attempt.now kept deep (begins_in attempt.now at place) → AllFailedIn attempt.now place deep table.old
+        → found_state kept end threads.new.slots
+        ≡ first_accepted_in attempt.now kept deep (begins_in attempt.now at place)) }
+    ensures failed { IfOk result (λ end. (kept deep : ℕ)
+        → KnownIn attempt.now kept deep (begins_in attempt.now at place) → AllFailedIn attempt.now place deep table.old
+        → end ≡ None → AllFailedIn attempt.now place deep table.new) }
+    ensures past { IfOk result (λ end. IfSome end (λ stop. (kept deep : ℕ)
+        → KnownIn attempt.now kept deep (begins_in attempt.now at place) → AllFailedIn attempt.now place deep table.old
+        → FailedPastIn attempt.now place deep stop table.new)) }
+    ensures forth { IfOk result (λ end. IfSome end (λ stop. place ≤ stop)) }
+    ensures within { IfOk result (λ end. IfSome end (λ stop. stop ≤ attempt.now.last)) }
+    ensures room { length table.new ≡ length table.old }
+    ensures spent { IfOk result (λ _. steps_of work.new + left_in attempt.now table.new
+        ≤ steps_of work.old + (due_of attempt.now.code.now at + left_in attempt.now table.old)) }
+    ensures bounded { steps_of work.new
+        ≤ steps_of work.old + (due_of attempt.now.code.now at + left_in attempt.now table.old) }
+    ensures steps { steps_of work.old ≤ steps_of work.new }
+    ensures returns { returns_of work.old ≤ returns_of work.new }
+    ensures paired { returns_of work.new - returns_of work.old ≤ steps_of work.new - steps_of work.old }
+    ensures last_lines { KnowsLastLines attempt.now.haystack.now last_lines.new }
+{
+    threads.begin(attempt.code.groups)?;
+    let start = Pair { at, place };
+    follow(attempt, start, threads, table, last_lines, work)
+}
+
+/// An attempt at a place from the first instruction on, by the alternatives that may match there, in order of preference. Those that
+/// may not have no outcome.
+fn follow_branches(
+    attempt: &Attempt,
+    branches: &Branches,
+    place: usize,
+    threads: &mut Threads,
+    table: &mut Table,
+    last_lines: &mut LastLines,
+    work: &mut Work,
+) -> Result<Option<usize>, AllocError>
+    requires inside { attempt.now.last ≤ length attempt.now.haystack.now }
+    requires easy { AreEasy (instrs_in attempt.now) }
+    requires low { attempt.now.base ≤ place }
+    requires high { place ≤ attempt.now.last }
+    requires room { bits_in attempt.now ≤ length table.old }
+    requires small { length table.old < 2 ^ 64 }
+    requires last_lines { KnowsLastLines attempt.now.haystack.now last_lines.old }
+    requires branches { ArePaid branches.now attempt.now.code.now.marking.numbers.items attempt.now.code.now.marking.weights.items
+        attempt.now.code.now.start }
+    ensures answer { IfOk result (λ end. (kept deep : ℕ)
+        → ((k : ℕ) → slice_index attempt.now.haystack.now k < 256)
+        → AreBranches branches.now (instrs_in attempt.now) attempt.now.code.now.meaning attempt.now.code.now.start
+        → KnownIn attempt.now kept deep (begins_in attempt.now attempt.now.code.now.start place) → AllFailedIn attempt.now place deep table.old
+        → found_state kept end threads.new.slots
+        ≡ first_accepted_in attempt.now kept deep (begins_in attempt.now attempt.now.code.now.start place)) }
+    ensures failed { IfOk result (λ end. (kept deep : ℕ)
+        → AreBranches branches.now (instrs_in attempt.now) attempt.now.code.now.meaning attempt.now.code.now.start
+        → KnownIn attempt.now kept deep (begins_in attempt.now attempt.now.code.now.start place) → AllFailedIn attempt.now place deep table.old
+        → end ≡ None → AllFailedIn attempt.now place deep table.new) }
+    ensures past { IfOk result (λ end. IfSome end (λ stop. (kept deep : ℕ)
+        → AreBranches branches.now (instrs_in attempt.now) attempt.now.code.now.meaning attempt.now.code.now.start
+        → KnownIn attempt.now kept deep (begins_in attempt.now attempt.now.code.now.start place) → AllFailedIn attempt.now place deep table.old
+        → FailedPastIn attempt.now place deep stop table.new)) }
+    ensures forth { IfOk result (λ end. IfSome end (λ stop. place ≤ stop)) }
+    ensures within { IfOk result (λ end. IfSome end (λ stop. stop ≤ attempt.now.last)) }
+    ensures room { length table.new ≡ length table.old }
+    ensures spent { IfOk result (λ _. steps_of work.new + left_in attempt.now table.new
+        ≤ steps_of work.old + (due_of attempt.now.code.now attempt.now.code.now.start + left_in attempt.now table.old)) }
+    ensures bounded { steps_of work.new
+        ≤ steps_of work.old + (due_of attempt.now.code.now attempt.now.code.now.start + left_in attempt.now table.old) }
+    ensures steps { steps_of work.old ≤ steps_of work.new }
+    ensures returns { returns_of work.old ≤ returns_of work.new }
+    ensures paired { returns_of work.new - returns_of work.old ≤ steps_of work.new - steps_of work.old }
+    ensures last_lines { KnowsLastLines attempt.now.haystack.now last_lines.new }
+{
+    let numbers = branches
+        .table
+        .numbers_at(attempt.haystack, place, attempt.last);
+    let mut passed = 0;
+    for i in numbers.from..numbers.to {
+        let number = branches.table.number(i);
+        let head = branches.heads[number];
+        match follow_from(attempt, head, place, threads, table, last_lines, work)? {
+            Some(end) => return Ok(Some(end)),
+            None => passed = number + 1,
+        }
+    }
+    Ok(None)
+}
+
+/// An attempt at a place from the first instruction on, with no group written. Its contract is that of `follow`.
+pub(crate) fn follow_start(
+    attempt: &Attempt,
+    place: usize,
+    threads: &mut Threads,
+    table: &mut Table,
+    last_lines: &mut LastLines,
+    work: &mut Work,
+) -> Result<Option<usize>, AllocError>
+    requires inside { attempt.now.last ≤ length attempt.now.haystack.now }
+    requires easy { AreEasy (instrs_in attempt.now) }
+    requires low { attempt.now.base ≤ place }
+    requires high { place ≤ attempt.now.last }
+    requires room { bits_in attempt.now ≤ length table.old }
+    requires small { length table.old < 2 ^ 64 }
+    requires last_lines { KnowsLastLines attempt.now.haystack.now last_lines.old }
+    ensures answer { IfOk result (λ end. (kept deep : ℕ)
+        → ((k : ℕ) → slice_index attempt.now.haystack.now k < 256)
+        → IfSome attempt.now.code.now.branches (λ b. AreBranches b (instrs_in attempt.now) attempt.now.code.now.meaning attempt.now.code.now.start)
+        → KnownIn attempt.now kept deep (begins_in attempt.now attempt.now.code.now.start place) → AllFailedIn attempt.now place deep table.old
+        → found_state kept end threads.new.slots
+        ≡ first_accepted_in attempt.now kept deep (begins_in attempt.now attempt.now.code.now.start place)) }
+    ensures failed { IfOk result (λ end. (kept deep : ℕ)
+        → IfSome attempt.now.code.now.branches (λ b. AreBranches b (instrs_in attempt.now) attempt.now.code.now.meaning attempt.now.code.now.start)
+        → KnownIn attempt.now kept deep (begins_in attempt.now attempt.now.code.now.start place) → AllFailedIn attempt.now place deep table.old
+        → end ≡ None → AllFailedIn attempt.now place deep table.new) }
+    ensures past { IfOk result (λ end. IfSome end (λ stop. (kept deep : ℕ)
+        → IfSome attempt.now.code.now.branches (λ b. AreBranches b (instrs_in attempt.now) attempt.now.code.now.meaning attempt.now.code.now.start)
+        → KnownIn attempt.now kept deep (begins_in attempt.now attempt.now.code.now.start place) → AllFailedIn attempt.now place deep table.old
+        → FailedPastIn attempt.now place deep stop table.new)) }
+    ensures forth { IfOk result (λ end. IfSome end (λ stop. place ≤ stop)) }
+    ensures within { IfOk result (λ end. IfSome end (λ stop. stop ≤ attempt.now.last)) }
+    ensures room { length table.new ≡ length table.old }
+    ensures spent { IfOk result (λ _. steps_of work.new + left_in attempt.now table.new
+        ≤ steps_of work.old + (due_of attempt.now.code.now attempt.now.code.now.start + left_in attempt.now table.old)) }
+    ensures bounded { steps_of work.new
+        ≤ steps_of work.old + (due_of attempt.now.code.now attempt.now.code.now.start + left_in attempt.now table.old) }
+    ensures steps { steps_of work.old ≤ steps_of work.new }
+    ensures returns { returns_of work.old ≤ returns_of work.new }
+    ensures paired { returns_of work.new - returns_of work.old ≤ steps_of work.new - steps_of work.old }
+    ensures last_lines { KnowsLastLines attempt.now.haystack.now last_lines.new }
+{
+    match &attempt.code.branches {
+        None => follow_from(
+            attempt,
+            attempt.code.start,
+            place,
+            threads,
+            table,
+            last_lines,
+            work,
+        ),
+        Some(branches) => {
+            follow_branches(attempt, branches, place, threads, table, last_lines, work)
+        }
+    }
+}
