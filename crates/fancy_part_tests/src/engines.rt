@@ -40,7 +40,10 @@ const OPENINGS: &[(&str, bool)] = &[
     ("a|b|c|d|e|f|g|h|i|j|k|l", true),
     ("a|b|c|d|e|f|g|h|i|j|k", false),
     ("(?i)ak|bk|ck|dk|ek|fk|gk|hk|ik|jk|kk|lk", true),
-    ("альфа|бета|гамма|дельта|омега|тета|йота|каппа|лямбда|сигма|дзета|эта", true),
+    (
+        "альфа|бета|гамма|дельта|омега|тета|йота|каппа|лямбда|сигма|дзета|эта",
+        true,
+    ),
     // one of them may match the empty text
     ("a|b|c|d|e|f|g|h|i|j|k|", false),
     // one of them may begin with any character

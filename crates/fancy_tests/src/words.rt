@@ -34,12 +34,10 @@ const FAR: &str = "q.*?!|qa|qb|qc|qd|qe|qf|qg|qh|qi|qj|qk|ql|qm|q";
 const EMPTY: &str = "ab|ac|ad|ae|af|ag|ah|ai|aj|ak|al|am|an|a*";
 
 /// Words in any case: `ſ` is a small `s` too, and `K`, the sign of the kelvin, a small `k`.
-const FOLDED: &str =
-    "(?i)kelvin|sigma|alpha|beta|gamma|delta|omega|theta|iota|kappa|lambda|mu|nu";
+const FOLDED: &str = "(?i)kelvin|sigma|alpha|beta|gamma|delta|omega|theta|iota|kappa|lambda|mu|nu";
 
 /// Words of characters of two bytes.
-const CYRILLIC: &str =
-    "альфа|бета|гамма|дельта|омега|тета|йота|каппа|лямбда|сигма|дзета|эта";
+const CYRILLIC: &str = "альфа|бета|гамма|дельта|омега|тета|йота|каппа|лямбда|сигма|дзета|эта";
 
 /// Words of four characters or more, some of which begin others.
 const LETTERS: &str =
