@@ -101,15 +101,30 @@ pub(crate) fn check_broken_lists(rt: &impl Abort, alloc: Global, rows: &[BrokenL
 /// A piece, or none where the search for its end is given up.
 type Piece = Option<&'static str>;
 
-/// Checks what is seen of an item of a split.
-fn check_piece(rt: &impl Abort, item: Option<Result<&str>>, wanted: Piece) {
-    match item.expect(rt, "an item") {
-        Ok(piece) => check(rt, Some(piece) == wanted, piece),
+/// The piece of an item of a split, or none where the search for its end is given up.
+fn piece_of<'t>(rt: &impl Abort, item: Result<&'t str>) -> Option<&'t str> {
+    match item {
+        Ok(piece) => Some(piece),
         Err(error) => {
-            check(rt, wanted.is_none(), "a piece");
             check_given_up(rt, error);
+            None
         }
     }
+}
+
+/// Whether this is the piece that is wanted.
+fn is_piece(piece: Option<&str>, wanted: Piece) -> bool {
+    match (piece, wanted) {
+        (Some(piece), Some(wanted)) => piece == wanted,
+        (None, None) => true,
+        _ => false,
+    }
+}
+
+/// Checks what is seen of an item of a split.
+fn check_piece(rt: &impl Abort, item: Option<Result<&str>>, wanted: Piece) {
+    let piece = piece_of(rt, item.expect(rt, "an item"));
+    check(rt, is_piece(piece, wanted), wanted.unwrap_or("a refusal"));
 }
 
 fn check_split(rt: &impl Abort, mut split: Split<'_, '_>, wanted: &[Piece]) {

@@ -66,20 +66,41 @@ fn check_told_by_captures<S: Input>(
     check(rt, items.input().start() == start, pattern);
 }
 
-/// Checks whether an input, which the regex may search, has a match, and how many come after it.
-fn check_rest<S: Input>(rt: &impl Abort, regex: &Regex, input: RegexInput<S>, spans: &[Span]) {
-    let pattern = regex.as_str();
+/// Whether an input, which the regex may search, has a match, and how many come after it.
+fn first_and_rest<S: Input>(rt: &impl Abort, regex: &Regex, input: RegexInput<S>) -> (bool, usize) {
     let input = searchable(rt, regex, input);
     let mut matches = regex.find_iter_input(input);
-    check(rt, matches.next().is_some() != spans.is_empty(), pattern);
-    let count = matches.count();
-    check(rt, count == spans.len().saturating_sub(1), pattern);
+    let is_some = matches.next().is_some();
+    (is_some, matches.count())
 }
 
-/// Checks how many items were collected.
-fn check_collected<T: Drop>(rt: &impl Abort, all: Result<Vec<T>>, pattern: &str, spans: &[Span]) {
-    let all = all.expect(rt, pattern);
-    check(rt, all.len() == spans.len(), pattern);
+/// How many matches of an input, which the regex may search, are counted.
+fn count_of_matches<S: Input>(rt: &impl Abort, regex: &Regex, input: RegexInput<S>) -> usize {
+    let input = searchable(rt, regex, input);
+    regex.find_iter_input(input).count()
+}
+
+/// How many of them are counted that come with their groups.
+fn count_of_captures<S: Input>(rt: &impl Abort, regex: &Regex, input: RegexInput<S>) -> usize {
+    let input = searchable(rt, regex, input);
+    regex.captures_iter_input(input).count()
+}
+
+/// How many items were collected.
+fn count_of_collected<T: Drop>(rt: &impl Abort, all: Result<Vec<T>>, pattern: &str) -> usize {
+    all.expect(rt, pattern).len()
+}
+
+/// How many matches of an input, which the regex may search, are collected with their groups.
+fn collected_captures<S: Input>(
+    rt: &impl Abort,
+    alloc: Global,
+    regex: &Regex,
+    input: RegexInput<S>,
+) -> usize {
+    let input = searchable(rt, regex, input);
+    let all: Result<Vec<Captures<'_, S>>> = regex.captures_iter_input(input).try_collect(alloc);
+    count_of_collected(rt, all, regex.as_str())
 }
 
 /// Checks how many matches of an input, which the regex may search, are counted and collected.
@@ -90,15 +111,16 @@ fn check_counts<S: Input>(
     input: RegexInput<S>,
     spans: &[Span],
 ) {
-    let pattern = regex.as_str();
-    check_rest(rt, regex, input.again(), spans);
-    let input = searchable(rt, regex, input);
-    let count = regex.find_iter_input(input.again()).count();
-    check(rt, count == spans.len(), pattern);
-    let count = regex.captures_iter_input(input.again()).count();
-    check(rt, count == spans.len(), pattern);
-    let all: Result<Vec<Captures<'_, S>>> = regex.captures_iter_input(input).try_collect(alloc);
-    check_collected(rt, all, pattern, spans);
+    let (is_some, rest) = first_and_rest(rt, regex, input.again());
+    let counted = count_of_matches(rt, regex, input.again());
+    let counted_captures = count_of_captures(rt, regex, input.again());
+    let collected = collected_captures(rt, alloc, regex, input);
+    let (pattern, count) = (regex.as_str(), spans.len());
+    check(rt, is_some != spans.is_empty(), pattern);
+    check(rt, rest == count.saturating_sub(1), pattern);
+    check(rt, counted == count, pattern);
+    check(rt, counted_captures == count, pattern);
+    check(rt, collected == count, pattern);
 }
 
 /// Checks the lists of an input, which the regex may search, and what they tell of it.
@@ -201,7 +223,8 @@ fn check_whole<M: Spanned, S: Input<Match = M>>(
     let count = regex.captures_iter(haystack).count();
     check(rt, count == spans.len(), pattern);
     let all: Result<Vec<M>> = regex.find_iter(haystack).try_collect(alloc);
-    check_collected(rt, all, pattern, spans);
+    let count = count_of_collected(rt, all, pattern);
+    check(rt, count == spans.len(), pattern);
 }
 
 /// A pattern, a text, and where the matches start and end, also in the bytes of the text.
