@@ -58,6 +58,19 @@ fn check_captures(rt: &impl Abort, item: Option<Result<Captures<'_, &str>>>, wan
     }
 }
 
+/// Whether the next search of a list would start past the end.
+fn is_past(matches: &Matches<'_, &str>) -> bool {
+    let past = matches.text().len().wrapping_add(1);
+    matches.input().start() == past
+}
+
+/// Checks what is seen of the items of a list.
+fn check_items(rt: &impl Abort, matches: &mut Matches<'_, &str>, wanted: &[Item]) {
+    for &item in wanted {
+        check_match(rt, matches.next(), item);
+    }
+}
+
 /// Checks a list, which has ended then, and where its next search would start: past the end, where one was given up.
 fn check_matches(
     rt: &impl Abort,
@@ -65,14 +78,10 @@ fn check_matches(
     wanted: &[Item],
     is_given_up: bool,
 ) {
-    for &item in wanted {
-        check_match(rt, matches.next(), item);
-    }
+    check_items(rt, &mut matches, wanted);
     check(rt, matches.next().is_none(), "the end");
     check(rt, matches.next().is_none(), "the end again");
-    let past = matches.text().len().wrapping_add(1);
-    let is_past = matches.input().start() == past;
-    check(rt, is_past == is_given_up, "the next start");
+    check(rt, is_past(&matches) == is_given_up, "the next start");
 }
 
 /// Checks a list with groups, which has ended then.

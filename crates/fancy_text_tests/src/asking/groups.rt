@@ -130,6 +130,18 @@ pub(crate) fn check_all_groups(rt: &impl Abort, alloc: Global, rows: &[AllGroups
     }
 }
 
+/// Checks the groups of the next match of a list.
+fn check_item(
+    rt: &impl Abort,
+    items: &mut CaptureMatches<'_, &str>,
+    pattern: &str,
+    wanted: &[Option<Span>],
+) {
+    let captures = items.next().expect(rt, pattern).expect(rt, pattern);
+    check_captured(rt, &captures, pattern, wanted);
+    check(rt, items.regex().captures_len() == wanted.len(), pattern);
+}
+
 /// Checks the groups of each match of a list.
 fn check_items(
     rt: &impl Abort,
@@ -138,9 +150,7 @@ fn check_items(
     wanted: &[&[Option<Span>]],
 ) {
     for spans in wanted {
-        let captures = items.next().expect(rt, pattern).expect(rt, pattern);
-        check_captured(rt, &captures, pattern, *spans);
-        check(rt, items.regex().captures_len() == spans.len(), pattern);
+        check_item(rt, &mut items, pattern, *spans);
     }
     check(rt, items.next().is_none(), pattern);
 }

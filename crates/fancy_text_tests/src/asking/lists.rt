@@ -9,6 +9,50 @@ use std::process::Abort;
 /// the end; no starts where they are not known.
 type Wanted<'a> = (&'a [Span], &'a [usize]);
 
+/// Where the next search of a list starts.
+fn start_of<S: Input>(matches: &Matches<'_, S>) -> usize {
+    matches.input().start()
+}
+
+/// Where the next match of a list starts and ends, if there is one.
+fn next_span<M: Spanned, S: Input<Match = M>>(
+    rt: &impl Abort,
+    matches: &mut Matches<'_, S>,
+    pattern: &str,
+) -> Option<Span> {
+    let found = matches.next()?.expect(rt, pattern);
+    Some(found.span())
+}
+
+/// Checks where the next search of a list starts, where that is known.
+fn check_start<S: Input>(
+    rt: &impl Abort,
+    matches: &Matches<'_, S>,
+    pattern: &str,
+    (is_unknown, wanted): (bool, Option<&usize>),
+) {
+    let start = start_of(matches);
+    check(rt, is_unknown | (wanted == Some(&start)), pattern);
+}
+
+/// Checks where the matches of a list start and end that are wanted, and where each search starts, where that is known.
+fn check_next_matches<M: Spanned, S: Input<Match = M>>(
+    rt: &impl Abort,
+    matches: &mut Matches<'_, S>,
+    pattern: &str,
+    (spans, starts): Wanted<'_>,
+) {
+    let is_unknown = starts.is_empty();
+    let mut at = 0usize;
+    for wanted in spans {
+        check_start(rt, matches, pattern, (is_unknown, starts.get(at)));
+        let found = next_span(rt, matches, pattern);
+        check(rt, found == Some(*wanted), pattern);
+        at = at.wrapping_add(1);
+    }
+    check_start(rt, matches, pattern, (is_unknown, starts.get(at)));
+}
+
 /// Checks where the matches start and end, and where the list goes on after each, where that is known.
 fn check_matches<M: Spanned, S: Input<Match = M>>(
     rt: &impl Abort,
@@ -16,21 +60,29 @@ fn check_matches<M: Spanned, S: Input<Match = M>>(
     pattern: &str,
     (spans, starts): Wanted<'_>,
 ) {
-    let is_unknown = starts.is_empty();
-    let mut at = 0usize;
-    for wanted in spans {
-        let start = matches.input().start();
-        check(rt, is_unknown | (starts.get(at) == Some(&start)), pattern);
-        let found = matches.next().expect(rt, pattern).expect(rt, pattern);
-        check(rt, found.span() == *wanted, pattern);
-        at = at.wrapping_add(1);
-    }
-    let start = matches.input().start();
-    check(rt, is_unknown | (starts.get(at) == Some(&start)), pattern);
-    check(rt, matches.next().is_none(), pattern);
-    check(rt, matches.next().is_none(), pattern);
-    let start = matches.input().start();
-    check(rt, is_unknown | (starts.last() == Some(&start)), pattern);
+    check_next_matches(rt, &mut matches, pattern, (spans, starts));
+    check(rt, next_span(rt, &mut matches, pattern).is_none(), pattern);
+    check(rt, next_span(rt, &mut matches, pattern).is_none(), pattern);
+    check_start(rt, &matches, pattern, (starts.is_empty(), starts.last()));
+}
+
+/// Where a match starts and ends that comes with its groups.
+fn span_of_whole<M: Spanned, S: Input<Match = M>>(
+    rt: &impl Abort,
+    captures: &Captures<'_, S>,
+    pattern: &str,
+) -> Span {
+    captures.get(0).expect(rt, pattern).span()
+}
+
+/// Where the next match of a list starts and ends that comes with its groups, if there is one.
+fn next_whole<M: Spanned, S: Input<Match = M>>(
+    rt: &impl Abort,
+    items: &mut CaptureMatches<'_, S>,
+    pattern: &str,
+) -> Option<Span> {
+    let captures = items.next()?.expect(rt, pattern);
+    Some(span_of_whole(rt, &captures, pattern))
 }
 
 /// Checks where the matches start and end that come with their groups.
@@ -41,11 +93,10 @@ fn check_captures<M: Spanned, S: Input<Match = M>>(
     spans: &[Span],
 ) {
     for wanted in spans {
-        let captures = items.next().expect(rt, pattern).expect(rt, pattern);
-        let whole = captures.get(0).expect(rt, pattern);
-        check(rt, whole.span() == *wanted, pattern);
+        let found = next_whole(rt, &mut items, pattern);
+        check(rt, found == Some(*wanted), pattern);
     }
-    check(rt, items.next().is_none(), pattern);
+    check(rt, next_whole(rt, &mut items, pattern).is_none(), pattern);
 }
 
 /// Checks what a list of matches tells of its regex and its haystack.
