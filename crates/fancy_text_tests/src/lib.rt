@@ -1,5 +1,6 @@
 //! Tests of what is made of matches: groups, lists and pieces, through public names. Those of replaced texts and templates are in
-//! `fancy_part_tests`, so that both crates are proved in about the same time.
+//! `fancy_part_tests`, so that both crates are proved in about the same time; here are the examples of them that the README shows,
+//! and the texts in whose middle a search is given up.
 #![tactic(auto)]
 
 #[cfg(test)]
