@@ -1,6 +1,6 @@
-//! Tests of the library's parts: the sets, the trees and the code of patterns, haystacks, errors, pattern sets and tokens. What no
-//! call of `fancy_regex` shows by itself is asked of its own crate. They are a crate of their own, so that these tests and those of
-//! what patterns mean are proved side by side.
+//! Tests of the library's parts: the sets, the trees and the code of patterns, haystacks, errors, pattern sets and tokens; and of
+//! replaced texts and templates. What no call of `fancy_regex` shows by itself is asked of its own crate. They are a crate of their
+//! own, so that these tests, those of what patterns mean and those of groups, lists and pieces are proved side by side.
 #![tactic(auto)]
 
 #[cfg(test)]
@@ -21,6 +21,12 @@ mod haystacks;
 mod pattern_sets;
 #[cfg(test)]
 mod readme;
+#[cfg(test)]
+mod readme_texts;
+#[cfg(test)]
+mod replacement;
+#[cfg(test)]
+mod templates;
 #[cfg(test)]
 mod tokens;
 #[cfg(test)]

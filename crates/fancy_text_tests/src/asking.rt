@@ -1,15 +1,15 @@
 //! What the tests ask of a pattern and a text: the rows of their tables, and for each kind of call one function that checks rows.
 
+mod answers;
 mod broken;
 mod fact;
 mod groups;
 mod lists;
 mod pieces;
-mod replaced;
 mod settings;
 mod spans;
-mod templates;
 
+pub(crate) use answers::check_answer;
 pub(crate) use broken::{
     BrokenFirstRow, BrokenListRow, BrokenPiecesRow, BrokenReplacedRow, check_broken_first,
     check_broken_lists, check_broken_pieces, check_broken_replaced,
@@ -22,12 +22,8 @@ pub(crate) use groups::{
 };
 pub(crate) use lists::{Row, TEXT, TextListRow, WHOLE_BYTES, check_rows, check_text_lists};
 pub(crate) use pieces::{FirstPiecesRow, PiecesRow, check_cut, check_first_pieces, check_pieces};
-pub(crate) use replaced::{ReplacedRow, check_answer, check_fixed, check_replaced};
 pub(crate) use settings::{
     BYTES, CHARACTERS, CHARACTERS_ANYWHERE, LONGEST, NOT_EMPTY, ONLY_NAMED, Settings, regex_of,
     regex_with, searchable,
 };
 pub(crate) use spans::{Span, Spanned};
-pub(crate) use templates::{
-    CheckedRow, TemplateRow, Told, check_expanded, check_expanded_text, check_templates, check_told,
-};

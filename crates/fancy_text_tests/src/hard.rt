@@ -1,9 +1,9 @@
-//! Groups, lists, pieces and replaced texts of patterns that the backtracking machine serves: references, look-around, atomic
-//! groups, conditionals, `\K` and `\G`.
+//! Groups, lists and pieces of patterns that the backtracking machine serves: references, look-around, atomic groups,
+//! conditionals, `\K` and `\G`.
 
 use crate::asking::{
-    AllGroupsRow, FirstPiecesRow, GroupsRow, PiecesRow, ReplacedRow, TextListRow, check_all_groups,
-    check_first_pieces, check_groups, check_pieces, check_replaced, check_text_lists,
+    AllGroupsRow, FirstPiecesRow, GroupsRow, PiecesRow, TextListRow, check_all_groups,
+    check_first_pieces, check_groups, check_pieces, check_text_lists,
 };
 
 const GROUPS: &[GroupsRow] = &[
@@ -84,14 +84,6 @@ const PIECES: &[PiecesRow] = &[
 
 const FIRST_PIECES: &[FirstPiecesRow] = &[("a\\Kb", "xabyab", 2, &["xa", "yab"])];
 
-const REPLACED: &[ReplacedRow] = &[
-    ("foo\\Kbar", "foobar", 0, "x", "foox"),
-    ("(a)\\Kb", "abab", 0, "<$1>", "a<a>a<a>"),
-    ("(a)\\Kb", "abab", 1, "<$0>", "a<b>ab"),
-    ("a\\K", "aba", 0, "-", "a-ba-"),
-    ("\\Ga", "aaba", 0, "x", "xxba"),
-];
-
 #[test]
 fn hard_patterns_serve_each_call(rt: HostRuntime) {
     check_groups(&rt, rt.alloc(), GROUPS);
@@ -99,5 +91,4 @@ fn hard_patterns_serve_each_call(rt: HostRuntime) {
     check_text_lists(&rt, rt.alloc(), LISTS);
     check_pieces(&rt, rt.alloc(), PIECES);
     check_first_pieces(&rt, rt.alloc(), FIRST_PIECES);
-    check_replaced(&rt, rt.alloc(), REPLACED);
 }

@@ -1,5 +1,6 @@
-//! Tests of what is made of matches: groups, lists, pieces, replaced texts and templates, through public names. What no call of
-//! `fancy_regex` shows by itself is asked of its own crate.
+//! Tests of what is made of matches: groups, lists and pieces, through public names. Those of replaced texts and templates are in
+//! `fancy_part_tests`, so that both crates are proved in about the same time; here are the examples of them that the README shows,
+//! and the texts in whose middle a search is given up.
 #![tactic(auto)]
 
 #[cfg(test)]
@@ -19,8 +20,4 @@ mod odd;
 #[cfg(test)]
 mod readme;
 #[cfg(test)]
-mod replacement;
-#[cfg(test)]
 mod splitting;
-#[cfg(test)]
-mod templates;

@@ -1,15 +1,13 @@
-//! Each call that the README names, on groups, lists, pieces, replacement and templates.
+//! Each call that the README names, on groups, lists and pieces.
 
 use crate::asking::Group::{Named, Numbered};
 use crate::asking::{
-    AllGroupsRow, CHARACTERS, CheckedRow, FirstPiecesRow, GroupsRow, LaterGroupsRow, NamesRow,
-    ONLY_NAMED, PartsRow, PiecesRow, ReplacedRow, Row, TemplateRow, TextListRow, Told, check,
-    check_all_groups, check_answer, check_captured, check_expanded, check_first_pieces,
-    check_fixed, check_groups, check_later_groups, check_names, check_parts, check_pieces,
-    check_replaced, check_rows, check_templates, check_text_lists, check_told, part_of, regex_of,
-    regex_with, searchable, taken,
+    AllGroupsRow, CHARACTERS, FirstPiecesRow, GroupsRow, LaterGroupsRow, NamesRow, ONLY_NAMED,
+    PartsRow, PiecesRow, Row, TextListRow, check, check_all_groups, check_first_pieces,
+    check_groups, check_later_groups, check_names, check_parts, check_pieces, check_rows,
+    check_text_lists, part_of, regex_with, searchable, taken,
 };
-use fancy_regex::{Expander, NoExpand, RegexInput, escape};
+use fancy_regex::RegexInput;
 
 const GROUPS: &[GroupsRow] = &[
     (
@@ -83,24 +81,6 @@ const PIECES: &[PiecesRow] = &[
 
 const FIRST_PIECES: &[FirstPiecesRow] = &[("a|ab", "xabab", 2, &["x", "bab"])];
 
-const REPLACED: &[ReplacedRow] = &[
-    ("(b)", "abc", 0, "${1}-$0", "ab-bc"),
-    ("bla", "blablabla", 2, "foo", "foofoobla"),
-    ("a", "aaa", 1, "x", "xaa"),
-];
-
-const PYTHON_TEMPLATES: &[TemplateRow] = &[("\\1\\g<0>\\\\x", "bb\\x")];
-
-const TEMPLATES: &[TemplateRow] = &[
-    ("$1!", "b!"),
-    ("${1}-$0", "b-b"),
-    ("<$0>", "<b>"),
-    ("$10", ""),
-    ("a$ b", "a$ b"),
-];
-
-const CHECKS: &[CheckedRow] = &[("(b)", "$2", Told::NoNumber(2))];
-
 #[test]
 fn tables_of_examples(rt: HostRuntime) {
     check_groups(&rt, rt.alloc(), GROUPS);
@@ -112,11 +92,6 @@ fn tables_of_examples(rt: HostRuntime) {
     check_all_groups(&rt, rt.alloc(), ALL_GROUPS);
     check_pieces(&rt, rt.alloc(), PIECES);
     check_first_pieces(&rt, rt.alloc(), FIRST_PIECES);
-    check_replaced(&rt, rt.alloc(), REPLACED);
-    check_templates(&rt, rt.alloc(), &Expander::python(), PYTHON_TEMPLATES);
-    check_templates(&rt, rt.alloc(), &Expander::default(), TEMPLATES);
-    check_expanded(&rt, rt.alloc(), TEMPLATES);
-    check_told(&rt, rt.alloc(), &Expander::default(), CHECKS);
 }
 
 #[test]
@@ -129,16 +104,4 @@ fn named_groups_alone_are_captured(rt: HostRuntime) {
         part_of(&captures, Named("n")) == Some(((1, 2), "b")),
         "n",
     );
-}
-
-#[test]
-fn literal_texts(rt: HostRuntime) {
-    let regex = regex_of(&rt, rt.alloc(), "a|ab");
-    check_answer(&rt, regex.replace("xab", NoExpand("$0")), "x$0b");
-    check_fixed(&rt, &mut NoExpand("$0"), Some("$0"));
-    check_fixed(&rt, &mut "$0", None);
-    let safe = Expander::default().escape(rt.alloc(), "5 $");
-    check(&rt, !check_answer(&rt, safe, "5 $$"), "a copy");
-    let safe = escape(rt.alloc(), "1+1");
-    check(&rt, !check_answer(&rt, safe, "1\\+1"), "a copy");
 }

@@ -1,15 +1,12 @@
 //! Pattern sets.
 
-use crate::asking::check;
+use crate::asking::{Span, check, is_part};
 use fancy_regex::{
     Error, Input, RegexInput, RegexOptionsBuilder, RegexSet, RegexSetMatch, RegexSetMatchesAt,
     Result, RuntimeError,
 };
 use std::alloc::Global;
 use std::process::Abort;
-
-/// Where a match starts and ends.
-pub(crate) type Span = (usize, usize);
 
 /// The index of a pattern and where its match stands, or none where it is refused past its limit of returns.
 pub(crate) type Item = Option<(usize, Span)>;
@@ -46,10 +43,9 @@ pub(crate) fn searched<'s, S: Input>(
 
 /// The index of a match's pattern and where the match stands.
 fn seen_in(rt: &impl Abort, found: &RegexSetMatch<'_, &str>, haystack: &str) -> (usize, Span) {
-    let (start, end) = (found.start(), found.end());
-    let part = haystack.get(start..end);
-    check(rt, part == Some(found.as_str()), haystack);
-    (found.pattern(), (start, end))
+    let span = (found.start(), found.end());
+    check(rt, is_part(haystack, span, found.as_str()), haystack);
+    (found.pattern(), span)
 }
 
 /// What the answer of a member says of itself.

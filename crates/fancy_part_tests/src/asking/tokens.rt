@@ -1,6 +1,6 @@
 //! Tokens of a pattern set.
 
-use crate::asking::{Span, check, set_of};
+use crate::asking::{Span, check, is_part, set_of};
 use fancy_regex::{Error, RegexInput, RegexSet, Result, RuntimeError, Token, Tokens};
 use std::alloc::Global;
 use std::process::Abort;
@@ -29,10 +29,9 @@ pub(crate) type TokenRow = (
 
 /// The index of a token's pattern and where the token stands.
 fn seen_in(rt: &impl Abort, token: &Token<'_, &str>, text: &str) -> (usize, Span) {
-    let (start, end) = (token.start(), token.end());
-    let part = text.get(start..end);
-    check(rt, part == Some(token.as_str()), text);
-    (token.pattern(), (start, end))
+    let span = (token.start(), token.end());
+    check(rt, is_part(text, span, token.as_str()), text);
+    (token.pattern(), span)
 }
 
 /// How a list ends at the place that gives this after its last token; none where it gives a token or another refusal.

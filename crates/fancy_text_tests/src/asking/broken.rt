@@ -58,6 +58,19 @@ fn check_captures(rt: &impl Abort, item: Option<Result<Captures<'_, &str>>>, wan
     }
 }
 
+/// Whether the next search of a list would start past the end.
+fn is_past(matches: &Matches<'_, &str>) -> bool {
+    let past = matches.text().len().wrapping_add(1);
+    matches.input().start() == past
+}
+
+/// Checks what is seen of the items of a list.
+fn check_items(rt: &impl Abort, matches: &mut Matches<'_, &str>, wanted: &[Item]) {
+    for &item in wanted {
+        check_match(rt, matches.next(), item);
+    }
+}
+
 /// Checks a list, which has ended then, and where its next search would start: past the end, where one was given up.
 fn check_matches(
     rt: &impl Abort,
@@ -65,14 +78,10 @@ fn check_matches(
     wanted: &[Item],
     is_given_up: bool,
 ) {
-    for &item in wanted {
-        check_match(rt, matches.next(), item);
-    }
+    check_items(rt, &mut matches, wanted);
     check(rt, matches.next().is_none(), "the end");
     check(rt, matches.next().is_none(), "the end again");
-    let past = matches.text().len().wrapping_add(1);
-    let is_past = matches.input().start() == past;
-    check(rt, is_past == is_given_up, "the next start");
+    check(rt, is_past(&matches) == is_given_up, "the next start");
 }
 
 /// Checks a list with groups, which has ended then.
@@ -101,15 +110,30 @@ pub(crate) fn check_broken_lists(rt: &impl Abort, alloc: Global, rows: &[BrokenL
 /// A piece, or none where the search for its end is given up.
 type Piece = Option<&'static str>;
 
-/// Checks what is seen of an item of a split.
-fn check_piece(rt: &impl Abort, item: Option<Result<&str>>, wanted: Piece) {
-    match item.expect(rt, "an item") {
-        Ok(piece) => check(rt, Some(piece) == wanted, piece),
+/// The piece of an item of a split, or none where the search for its end is given up.
+fn piece_of<'t>(rt: &impl Abort, item: Result<&'t str>) -> Option<&'t str> {
+    match item {
+        Ok(piece) => Some(piece),
         Err(error) => {
-            check(rt, wanted.is_none(), "a piece");
             check_given_up(rt, error);
+            None
         }
     }
+}
+
+/// Whether this is the piece that is wanted.
+fn is_piece(piece: Option<&str>, wanted: Piece) -> bool {
+    match (piece, wanted) {
+        (Some(piece), Some(wanted)) => piece == wanted,
+        (None, None) => true,
+        _ => false,
+    }
+}
+
+/// Checks what is seen of an item of a split.
+fn check_piece(rt: &impl Abort, item: Option<Result<&str>>, wanted: Piece) {
+    let piece = piece_of(rt, item.expect(rt, "an item"));
+    check(rt, is_piece(piece, wanted), wanted.unwrap_or("a refusal"));
 }
 
 fn check_split(rt: &impl Abort, mut split: Split<'_, '_>, wanted: &[Piece]) {

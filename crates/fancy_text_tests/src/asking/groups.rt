@@ -5,18 +5,46 @@ use fancy_regex::{CaptureMatches, Captures, Input, Match, Regex, RegexInput};
 use std::alloc::Global;
 use std::process::Abort;
 
-/// Checks where a group starts and ends, if it took part.
-fn check_group(
-    rt: &impl Abort,
-    pattern: &str,
-    group: Option<Match<'_>>,
-    wanted: Option<&Option<Span>>,
-) {
-    let found = match group {
+/// Where a group starts and ends, if it took part.
+fn span_of(group: Option<Match<'_>>) -> Option<Span> {
+    match group {
         Some(group) => Some(group.span()),
         None => None,
-    };
-    check(rt, wanted == Some(&found), pattern);
+    }
+}
+
+/// Checks where a group starts and ends, if it took part, by each way to it.
+fn check_group(
+    rt: &impl Abort,
+    captures: &Captures<'_, &str>,
+    (number, listed): (usize, Option<Span>),
+    pattern: &str,
+    wanted: &[Option<Span>],
+) {
+    let wanted = wanted.get(number);
+    check(rt, wanted == Some(&listed), pattern);
+    let asked = span_of(captures.get(number));
+    check(rt, wanted == Some(&asked), pattern);
+}
+
+/// Checks the spans of a match's groups, from group 0 on, by each way to them, and tells how many there are.
+fn check_spans(
+    rt: &impl Abort,
+    captures: &Captures<'_, &str>,
+    pattern: &str,
+    wanted: &[Option<Span>],
+) -> usize {
+    let mut number = 0usize;
+    for group in captures.iter() {
+        check_group(rt, captures, (number, span_of(group)), pattern, wanted);
+        number = number.saturating_add(1);
+    }
+    number
+}
+
+/// Checks that a match has no group of this number.
+fn check_absent(rt: &impl Abort, captures: &Captures<'_, &str>, number: usize, pattern: &str) {
+    check(rt, captures.get(number).is_none(), pattern);
 }
 
 /// Checks the spans of a match's groups, from group 0 on, by each way to them, and that there are no others.
@@ -26,18 +54,13 @@ pub(crate) fn check_captured(
     pattern: &str,
     wanted: &[Option<Span>],
 ) {
-    let mut number = 0usize;
-    for group in captures.iter() {
-        check_group(rt, pattern, group, wanted.get(number));
-        check_group(rt, pattern, captures.get(number), wanted.get(number));
-        number = number.saturating_add(1);
-    }
-    check(rt, number == wanted.len(), pattern);
+    let count = check_spans(rt, captures, pattern, wanted);
+    check(rt, count == wanted.len(), pattern);
     check(rt, captures.len() == wanted.len(), pattern);
     check(rt, captures.iter().count() == wanted.len(), pattern);
-    check(rt, captures.get(wanted.len()).is_none(), pattern);
-    check(rt, captures.get(usize::MAX).is_none(), pattern);
-    check(rt, captures.get(usize::MAX / 2 + 1).is_none(), pattern);
+    check_absent(rt, captures, wanted.len(), pattern);
+    check_absent(rt, captures, usize::MAX, pattern);
+    check_absent(rt, captures, usize::MAX / 2 + 1, pattern);
 }
 
 /// The groups of a match that was found.
@@ -107,6 +130,18 @@ pub(crate) fn check_all_groups(rt: &impl Abort, alloc: Global, rows: &[AllGroups
     }
 }
 
+/// Checks the groups of the next match of a list.
+fn check_item(
+    rt: &impl Abort,
+    items: &mut CaptureMatches<'_, &str>,
+    pattern: &str,
+    wanted: &[Option<Span>],
+) {
+    let captures = items.next().expect(rt, pattern).expect(rt, pattern);
+    check_captured(rt, &captures, pattern, wanted);
+    check(rt, items.regex().captures_len() == wanted.len(), pattern);
+}
+
 /// Checks the groups of each match of a list.
 fn check_items(
     rt: &impl Abort,
@@ -115,9 +150,7 @@ fn check_items(
     wanted: &[&[Option<Span>]],
 ) {
     for spans in wanted {
-        let captures = items.next().expect(rt, pattern).expect(rt, pattern);
-        check_captured(rt, &captures, pattern, *spans);
-        check(rt, items.regex().captures_len() == spans.len(), pattern);
+        check_item(rt, &mut items, pattern, *spans);
     }
     check(rt, items.next().is_none(), pattern);
 }

@@ -9,6 +9,50 @@ use std::process::Abort;
 /// the end; no starts where they are not known.
 type Wanted<'a> = (&'a [Span], &'a [usize]);
 
+/// Where the next search of a list starts.
+fn start_of<S: Input>(matches: &Matches<'_, S>) -> usize {
+    matches.input().start()
+}
+
+/// Where the next match of a list starts and ends, if there is one.
+fn next_span<M: Spanned, S: Input<Match = M>>(
+    rt: &impl Abort,
+    matches: &mut Matches<'_, S>,
+    pattern: &str,
+) -> Option<Span> {
+    let found = matches.next()?.expect(rt, pattern);
+    Some(found.span())
+}
+
+/// Checks where the next search of a list starts, where that is known.
+fn check_start<S: Input>(
+    rt: &impl Abort,
+    matches: &Matches<'_, S>,
+    pattern: &str,
+    (is_unknown, wanted): (bool, Option<&usize>),
+) {
+    let start = start_of(matches);
+    check(rt, is_unknown | (wanted == Some(&start)), pattern);
+}
+
+/// Checks where the matches of a list start and end that are wanted, and where each search starts, where that is known.
+fn check_next_matches<M: Spanned, S: Input<Match = M>>(
+    rt: &impl Abort,
+    matches: &mut Matches<'_, S>,
+    pattern: &str,
+    (spans, starts): Wanted<'_>,
+) {
+    let is_unknown = starts.is_empty();
+    let mut at = 0usize;
+    for wanted in spans {
+        check_start(rt, matches, pattern, (is_unknown, starts.get(at)));
+        let found = next_span(rt, matches, pattern);
+        check(rt, found == Some(*wanted), pattern);
+        at = at.wrapping_add(1);
+    }
+    check_start(rt, matches, pattern, (is_unknown, starts.get(at)));
+}
+
 /// Checks where the matches start and end, and where the list goes on after each, where that is known.
 fn check_matches<M: Spanned, S: Input<Match = M>>(
     rt: &impl Abort,
@@ -16,21 +60,29 @@ fn check_matches<M: Spanned, S: Input<Match = M>>(
     pattern: &str,
     (spans, starts): Wanted<'_>,
 ) {
-    let is_unknown = starts.is_empty();
-    let mut at = 0usize;
-    for wanted in spans {
-        let start = matches.input().start();
-        check(rt, is_unknown | (starts.get(at) == Some(&start)), pattern);
-        let found = matches.next().expect(rt, pattern).expect(rt, pattern);
-        check(rt, found.span() == *wanted, pattern);
-        at = at.wrapping_add(1);
-    }
-    let start = matches.input().start();
-    check(rt, is_unknown | (starts.get(at) == Some(&start)), pattern);
-    check(rt, matches.next().is_none(), pattern);
-    check(rt, matches.next().is_none(), pattern);
-    let start = matches.input().start();
-    check(rt, is_unknown | (starts.last() == Some(&start)), pattern);
+    check_next_matches(rt, &mut matches, pattern, (spans, starts));
+    check(rt, next_span(rt, &mut matches, pattern).is_none(), pattern);
+    check(rt, next_span(rt, &mut matches, pattern).is_none(), pattern);
+    check_start(rt, &matches, pattern, (starts.is_empty(), starts.last()));
+}
+
+/// Where a match starts and ends that comes with its groups.
+fn span_of_whole<M: Spanned, S: Input<Match = M>>(
+    rt: &impl Abort,
+    captures: &Captures<'_, S>,
+    pattern: &str,
+) -> Span {
+    captures.get(0).expect(rt, pattern).span()
+}
+
+/// Where the next match of a list starts and ends that comes with its groups, if there is one.
+fn next_whole<M: Spanned, S: Input<Match = M>>(
+    rt: &impl Abort,
+    items: &mut CaptureMatches<'_, S>,
+    pattern: &str,
+) -> Option<Span> {
+    let captures = items.next()?.expect(rt, pattern);
+    Some(span_of_whole(rt, &captures, pattern))
 }
 
 /// Checks where the matches start and end that come with their groups.
@@ -41,11 +93,10 @@ fn check_captures<M: Spanned, S: Input<Match = M>>(
     spans: &[Span],
 ) {
     for wanted in spans {
-        let captures = items.next().expect(rt, pattern).expect(rt, pattern);
-        let whole = captures.get(0).expect(rt, pattern);
-        check(rt, whole.span() == *wanted, pattern);
+        let found = next_whole(rt, &mut items, pattern);
+        check(rt, found == Some(*wanted), pattern);
     }
-    check(rt, items.next().is_none(), pattern);
+    check(rt, next_whole(rt, &mut items, pattern).is_none(), pattern);
 }
 
 /// Checks what a list of matches tells of its regex and its haystack.
@@ -66,20 +117,41 @@ fn check_told_by_captures<S: Input>(
     check(rt, items.input().start() == start, pattern);
 }
 
-/// Checks whether an input, which the regex may search, has a match, and how many come after it.
-fn check_rest<S: Input>(rt: &impl Abort, regex: &Regex, input: RegexInput<S>, spans: &[Span]) {
-    let pattern = regex.as_str();
+/// Whether an input, which the regex may search, has a match, and how many come after it.
+fn first_and_rest<S: Input>(rt: &impl Abort, regex: &Regex, input: RegexInput<S>) -> (bool, usize) {
     let input = searchable(rt, regex, input);
     let mut matches = regex.find_iter_input(input);
-    check(rt, matches.next().is_some() != spans.is_empty(), pattern);
-    let count = matches.count();
-    check(rt, count == spans.len().saturating_sub(1), pattern);
+    let is_some = matches.next().is_some();
+    (is_some, matches.count())
 }
 
-/// Checks how many items were collected.
-fn check_collected<T: Drop>(rt: &impl Abort, all: Result<Vec<T>>, pattern: &str, spans: &[Span]) {
-    let all = all.expect(rt, pattern);
-    check(rt, all.len() == spans.len(), pattern);
+/// How many matches of an input, which the regex may search, are counted.
+fn count_of_matches<S: Input>(rt: &impl Abort, regex: &Regex, input: RegexInput<S>) -> usize {
+    let input = searchable(rt, regex, input);
+    regex.find_iter_input(input).count()
+}
+
+/// How many of them are counted that come with their groups.
+fn count_of_captures<S: Input>(rt: &impl Abort, regex: &Regex, input: RegexInput<S>) -> usize {
+    let input = searchable(rt, regex, input);
+    regex.captures_iter_input(input).count()
+}
+
+/// How many items were collected.
+fn count_of_collected<T: Drop>(rt: &impl Abort, all: Result<Vec<T>>, pattern: &str) -> usize {
+    all.expect(rt, pattern).len()
+}
+
+/// How many matches of an input, which the regex may search, are collected with their groups.
+fn collected_captures<S: Input>(
+    rt: &impl Abort,
+    alloc: Global,
+    regex: &Regex,
+    input: RegexInput<S>,
+) -> usize {
+    let input = searchable(rt, regex, input);
+    let all: Result<Vec<Captures<'_, S>>> = regex.captures_iter_input(input).try_collect(alloc);
+    count_of_collected(rt, all, regex.as_str())
 }
 
 /// Checks how many matches of an input, which the regex may search, are counted and collected.
@@ -90,15 +162,16 @@ fn check_counts<S: Input>(
     input: RegexInput<S>,
     spans: &[Span],
 ) {
-    let pattern = regex.as_str();
-    check_rest(rt, regex, input.again(), spans);
-    let input = searchable(rt, regex, input);
-    let count = regex.find_iter_input(input.again()).count();
-    check(rt, count == spans.len(), pattern);
-    let count = regex.captures_iter_input(input.again()).count();
-    check(rt, count == spans.len(), pattern);
-    let all: Result<Vec<Captures<'_, S>>> = regex.captures_iter_input(input).try_collect(alloc);
-    check_collected(rt, all, pattern, spans);
+    let (is_some, rest) = first_and_rest(rt, regex, input.again());
+    let counted = count_of_matches(rt, regex, input.again());
+    let counted_captures = count_of_captures(rt, regex, input.again());
+    let collected = collected_captures(rt, alloc, regex, input);
+    let (pattern, count) = (regex.as_str(), spans.len());
+    check(rt, is_some != spans.is_empty(), pattern);
+    check(rt, rest == count.saturating_sub(1), pattern);
+    check(rt, counted == count, pattern);
+    check(rt, counted_captures == count, pattern);
+    check(rt, collected == count, pattern);
 }
 
 /// Checks the lists of an input, which the regex may search, and what they tell of it.
@@ -201,7 +274,8 @@ fn check_whole<M: Spanned, S: Input<Match = M>>(
     let count = regex.captures_iter(haystack).count();
     check(rt, count == spans.len(), pattern);
     let all: Result<Vec<M>> = regex.find_iter(haystack).try_collect(alloc);
-    check_collected(rt, all, pattern, spans);
+    let count = count_of_collected(rt, all, pattern);
+    check(rt, count == spans.len(), pattern);
 }
 
 /// A pattern, a text, and where the matches start and end, also in the bytes of the text.

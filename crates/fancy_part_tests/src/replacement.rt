@@ -40,9 +40,19 @@ const REPLACED: &[ReplacedRow] = &[
     ("é", "aéb", 0, "$$", "a$b"),
 ];
 
+/// Patterns that the backtracking machine serves: `\K` and `\G`.
+const HARD_REPLACED: &[ReplacedRow] = &[
+    ("foo\\Kbar", "foobar", 0, "x", "foox"),
+    ("(a)\\Kb", "abab", 0, "<$1>", "a<a>a<a>"),
+    ("(a)\\Kb", "abab", 1, "<$0>", "a<b>ab"),
+    ("a\\K", "aba", 0, "-", "a-ba-"),
+    ("\\Ga", "aaba", 0, "x", "xxba"),
+];
+
 #[test]
 fn texts_are_replaced(rt: HostRuntime) {
     check_replaced(&rt, rt.alloc(), REPLACED);
+    check_replaced(&rt, rt.alloc(), HARD_REPLACED);
     // literal texts are not expanded
     let regex = regex_of(&rt, rt.alloc(), "([^,\\s]+),\\s+(\\S+)");
     let replaced = regex.replace_all("Springsteen, Bruce", NoExpand("$2 $last"));
