@@ -1,5 +1,5 @@
 -- What code foretells of the bytes at the first places of what it consumes.
-use Rattle.std.proofs.Common.{◌≡◌, ℕ, zero, suc, ◌+◌, ◌-◌, ◌%◌, ◌<◌, ◌≤◌, ◌==◌, Bool, true, false, not, ◌&&◌, ◌||◌, ◌⊎◌, List, [], ◌∷◌, ◌++◌, length, drop, take, Option, Some, None, if◌then◌else◌, nat_le, nat_lt, inl, inr, refl, sym, ap, subst, ◌∙◌, arith, true≢false, slice_index, slice_set, get_or, get_or-drop, leb-true, eq-eqb, ne_eqb, eqb-true, replicate}
+use Rattle.std.proofs.Common.{◌≡◌, ℕ, zero, suc, ◌+◌, ◌-◌, ◌%◌, ◌<◌, ◌≤◌, ◌==◌, Bool, true, false, not, ◌&&◌, ◌||◌, ◌⊎◌, List, [], ◌∷◌, ◌++◌, length, drop, take, Option, Some, None, if◌then◌else◌, nat_le, nat_lt, inl, inr, refl, sym, ap, subst, ◌∙◌, arith, true≢false, slice_index, slice_set, get_or-drop, leb-true, eq-eqb, ne_eqb, eqb-true, replicate}
 use Rattle.std.proofs.lemmas.List.{length-replicate, length-take-le, get_or-take, get_or_append_left}
 use Rattle.std.proofs.lemmas.Bool.Decides.{nat_tests}
 use Rattle.std.proofs.lemmas.Bool.{cases_eq, cases_lt, le-leb}
@@ -13,21 +13,20 @@ use Rattle.fancy_tree.specs.declared.tree.Assertion.TheVariants.{TextStart}
 use Rattle.fancy_tree.specs.Sets.{has, differ, is_odd}
 use Rattle.fancy_bytes.specs.Items.{encoding, only}
 use Rattle.fancy_bytes.specs.Sets.{ByteFlags, member}
-use Rattle.fancy_bytes.specs.Windows.{set_at, StandsFrom}
+use Rattle.fancy_bytes.specs.Windows.{StandsFrom}
 use Rattle.fancy_bytes.proofs.BoolLemmas.{parts_of}
 use Rattle.fancy_bytes.specs.KeyTables.{NoneMayStand}
 use Rattle.fancy_engine.specs.Branches.{AreBranches, Chooses}
 use Rattle.fancy_engine.specs.declared.branches.Branches.{Branches}
 use Rattle.fancy_engine.specs.declared.code.Code.{Code}
 use Rattle.fancy_engine.specs.Code.{instrs_of}
-use Rattle.fancy_engine.specs.Context.{Context, State, Unit_at, moved_to, with_capture, unit_in, unit_at, past_item, past_byte, holds, option_to}
-use Rattle.fancy_engine.specs.Events.{Event}
+use Rattle.fancy_engine.specs.Context.{Context, State, Unit_at, moved_to, with_capture, unit_in, unit_at, past_item, holds, option_to}
 use Rattle.fancy_engine.specs.Forward.{EachOutcome}
-use Rattle.fancy_engine.specs.Instructions.{Instruction, Match, Fail, Character, Member, RawByte, Assert, Split, Open, Close}
+use Rattle.fancy_engine.specs.Instructions.{Instruction, Fail, Character, Member, Assert, Split, Open, Close}
 use Rattle.fancy_engine.specs.Run.{Raw, Note, Stop, Sign, choice_opened, returned, fetched, Go, AllStops, before, join, onward, instr_at, act, run, erase, Foretells}
 use Rattle.fancy_engine.specs.Compile.{IsCodeOf, depth}
 use Rattle.fancy_engine.specs.Foretold.{Foretold, AreForetold, IsAnchored, Wider, HasFrom, AreBytesOf}
-use Rattle.fancy_engine.specs.Search.{Query, answer_at, context_of, initial, trace_at}
+use Rattle.fancy_engine.specs.Search.{Query, answer_at, context_of, initial}
 use Rattle.fancy_engine.proofs.BeginLemmas.{accepted_holds}
 use Rattle.fancy_engine.proofs.OpenLemmas.{unit_wide}
 use Rattle.fancy_engine.proofs.RunnerSteps.{past_end}

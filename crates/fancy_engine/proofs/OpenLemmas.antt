@@ -1,5 +1,5 @@
 -- Where a pattern has an outcome, the text that it opens with stands where it began; a literal ends where that text does.
-use Rattle.std.proofs.Common.{◌≡◌, ℕ, suc, ◌+◌, ◌-◌, ◌<◌, ◌≤◌, ◌==◌, Bool, true, false, ◌⊎◌, List, [], ◌∷◌, ◌++◌, length, drop, Option, Some, None, if◌then◌else◌, nat_le, nat_lt, refl, sym, ap, subst, ◌∙◌, arith, true≢false, slice_get}
+use Rattle.std.proofs.Common.{◌≡◌, ℕ, suc, ◌+◌, ◌≤◌, ◌==◌, Bool, true, false, List, [], ◌∷◌, ◌++◌, length, drop, Option, Some, None, if◌then◌else◌, nat_le, nat_lt, refl, sym, ap, subst, ◌∙◌, arith, true≢false, slice_get}
 use Rattle.std.specs.Prelude.{encode_utf8}
 use Rattle.std.specs.Char.{len_utf8}
 use Rattle.std.proofs.lemmas.List.{append-nil, length-append}

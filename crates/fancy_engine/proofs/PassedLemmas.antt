@@ -1,5 +1,5 @@
 -- Positions that a search passes over, since no match starts there.
-use Rattle.std.proofs.Common.{◌≡◌, ℕ, ◌+◌, ◌-◌, ◌<◌, ◌≤◌, Bool, true, false, ◌⊎◌, inl, inr, List, length, Option, Some, None, nat_lt, sym, subst, arith, slice_index}
+use Rattle.std.proofs.Common.{◌≡◌, ℕ, ◌+◌, ◌-◌, ◌<◌, ◌≤◌, true, inl, inr, List, length, Option, Some, None, sym, subst, arith, slice_index}
 use Rattle.std.specs.Prelude.{IfSome}
 use Rattle.std.proofs.lemmas.Bool.{cases_lt}
 use Rattle.fancy_bytes.specs.Openings.{opening, StandsBefore}
@@ -13,7 +13,7 @@ use Rattle.fancy_engine.specs.Code.{instrs_of}
 use Rattle.fancy_engine.specs.Compile.{IsCodeOf}
 use Rattle.fancy_engine.specs.Foretold.{AreForetold}
 use Rattle.fancy_engine.specs.Search.{Query, answer_at, answer_from}
-use Rattle.fancy_engine.specs.Seen.{MayNotStart, LacksOpening, LacksRow, LacksBranches, Openings, openings_of, StartsNot, by_byte, by_text, by_sets, by_start, by_branches, IsNextCandidate, IsNextOpening}
+use Rattle.fancy_engine.specs.Seen.{LacksOpening, LacksRow, LacksBranches, Openings, openings_of, StartsNot, by_byte, by_text, by_sets, by_start, by_branches, IsNextCandidate, IsNextOpening}
 use Rattle.fancy_engine.proofs.ForetoldLemmas.{none_foretold, none_anchored, none_branched}
 use Rattle.fancy_engine.proofs.OpenLemmas.{opening_stands}
 use Rattle.fancy_engine.proofs.SearchLemmas.{is-no_answer}

@@ -1,10 +1,8 @@
 -- The alternatives that the code of a pattern opens with, and which of them may match where some bytes stand.
-use Rattle.std.specs.Prelude.{◌≡◌, ℕ, ◌+◌, ◌<◌, ◌≤◌, ◌⊎◌, List, [], ◌∷◌, length, Option, slice_get, slice_index}
-use Rattle.std.specs.Global.{Vec}
+use Rattle.std.specs.Prelude.{◌≡◌, ℕ, ◌+◌, ◌<◌, ◌≤◌, ◌⊎◌, List, [], ◌∷◌, length, Option, slice_index}
 use Rattle.fancy_tree.specs.declared.tree.Meaning.{Meaning}
 use Rattle.fancy_bytes.specs.Keys.{AreBelow}
 use Rattle.fancy_bytes.specs.KeyTables.{MayStand}
-use Rattle.fancy_bytes.specs.Sets.{ByteFlags}
 use Rattle.fancy_engine.specs.Context.{Context, State}
 use Rattle.fancy_engine.specs.Instructions.{Instruction, Split}
 use Rattle.fancy_engine.specs.Marking.{due_in}

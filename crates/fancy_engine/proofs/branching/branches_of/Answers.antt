@@ -1,4 +1,3 @@
-use Rattle.std.proofs.Common.{ℕ, List, subst}
 use Rattle.fancy_engine.specs.Code.{instrs_of}
 use Rattle.fancy_engine.proofs.BranchLemmas.{branches_told}
 use Rattle.fancy_engine.proofs.branching.branches_of.Goals as goal

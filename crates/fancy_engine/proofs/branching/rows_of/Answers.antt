@@ -1,4 +1,4 @@
-use Rattle.std.proofs.Common.{◌≡◌, ℕ, ◌+◌, ◌∷◌, ◌∙◌, List, [], true, length, sym, ap, subst, arith, length-append}
+use Rattle.std.proofs.Common.{ℕ, ◌∷◌, ◌∙◌, List, [], true, length, sym, ap, subst, arith, length-append}
 use Rattle.std.specs.Prelude.{slice_get, slice_index}
 use Rattle.std.specs.Global.{Vec}
 use Rattle.fancy_bytes.specs.Sets.{ByteFlags}

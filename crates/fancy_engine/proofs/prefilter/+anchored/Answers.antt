@@ -2,7 +2,7 @@ use Rattle.std.proofs.Common.{sym, ap, ◌∙◌, arith, inl, inr}
 use Rattle.fancy_tree.specs.declared.tree.Assertion.{Assertion}
 use Rattle.fancy_engine.specs.Code.{instrs_of, instr_in}
 use Rattle.fancy_engine.specs.Instructions as i
-use Rattle.fancy_engine.proofs.ForetoldLemmas.{anchored_nowhere, anchored_fail, anchored_start, anchored_assert, anchored_open, anchored_close, anchored_split}
+use Rattle.fancy_engine.proofs.ForetoldLemmas.{anchored_nowhere, anchored_start, anchored_assert, anchored_open, anchored_close, anchored_split}
 use Rattle.fancy_engine.proofs.prefilter.+anchored.Goals as goal
 
 pub returns-then-at-len : goal.returns-then-at-len

@@ -1,10 +1,10 @@
-use Rattle.std.proofs.Common.{ℕ, Bool, List, length, sym, ap, subst, ◌+◌, ◌<◌, ◌≤◌, ◌==◌, ◌∙◌, refl, arith, inl, inr}
+use Rattle.std.proofs.Common.{Bool, List, length, sym, ap, subst, ◌+◌, ◌<◌, ◌==◌, ◌∙◌, refl, arith, inl, inr}
 use Rattle.fancy_tree.specs.Sets.{has}
 use Rattle.fancy_bytes.specs.Sets.{ByteFlags}
 use Rattle.fancy_engine.specs.Code.{instrs_of, instr_in}
-use Rattle.fancy_engine.specs.Foretold.{Foretold, HasFrom, Wider}
+use Rattle.fancy_engine.specs.Foretold.{Foretold, Wider}
 use Rattle.fancy_engine.specs.Instructions.{edges_in}
-use Rattle.fancy_engine.proofs.ForetoldLemmas.{told_past, told_nowhere, told_character, told_member, told_assert, told_open, told_close, told_split, wider_told, wider_has, wider_cut, cut_length}
+use Rattle.fancy_engine.proofs.ForetoldLemmas.{told_past, told_nowhere, told_character, told_member, told_assert, told_open, told_close, told_split, wider_told, wider_cut, cut_length}
 use Rattle.fancy_engine.proofs.prefilter.+collect.Goals as goal
 use Rattle.fancy_engine.proofs.prefilter.+collect.Goals.{collect-then-spot-len-via-then-spot-len, collect-then-spot-len-via-else-spot-len+then-spot-len-2}
 

@@ -1,4 +1,4 @@
-use Rattle.std.proofs.Common.{◌==◌, ◌<◌, ◌≡◌, ℕ, inl, inr, sym, subst, ◌∙◌, arith, eqb-true}
+use Rattle.std.proofs.Common.{◌==◌, ◌<◌, ◌≡◌, inl, inr, sym, ◌∙◌, arith, eqb-true}
 use Rattle.fancy_bytes.proofs.BoolLemmas.{lt_holds}
 use Rattle.fancy_engine.proofs.ForetoldLemmas.{are_bytes}
 use Rattle.fancy_engine.proofs.prefilter.item_of_character.Goals as goal

@@ -1,6 +1,6 @@
 use Rattle.fancy_engine.specs.Instructions.{edges_in}
 use Rattle.fancy_tree.specs.Sets.{has}
-use Rattle.std.proofs.Common.{ℕ, List, inl, inr, sym, ap, ◌∙◌, arith, true≢false}
+use Rattle.std.proofs.Common.{ℕ, List, inl, inr, sym, ap, ◌∙◌, true≢false}
 use Rattle.std.proofs.lemmas.Bool.{cases_lt}
 use Rattle.fancy_engine.proofs.ForetoldLemmas.{are_bytes}
 use Rattle.fancy_engine.proofs.prefilter.item_of_set.Goals as goal

@@ -1,4 +1,3 @@
-use Rattle.std.proofs.Common.{sym}
 use Rattle.fancy_engine.specs.Seen.{openings_of, by_sets}
 use Rattle.fancy_engine.proofs.PassedLemmas.{lacking_row, next_seen, next_nowhere}
 use Rattle.fancy_engine.proofs.search.next_filtered.Goals as goal

@@ -1,10 +1,9 @@
-use Rattle.std.proofs.Common.{◌≡◌, ℕ, ◌+◌, ◌-◌, ◌<◌, ◌≤◌, ◌∙◌, None, inl, inr, sym, ap, refl, subst, arith, length}
+use Rattle.std.proofs.Common.{◌≡◌, ℕ, ◌<◌, ◌≤◌, ◌∙◌, inl, inr, sym, ap, refl, subst, arith, length}
 use Rattle.std.specs.Prelude.{slice_index}
 use Rattle.std.proofs.lemmas.Bool.{cases_lt}
 use Rattle.std.proofs.lemmas.Grind.{get_or_default_zero}
 use Rattle.fancy_engine.specs.Attempt.{first_accepted_in, begins_in, KnownIn}
 use Rattle.fancy_engine.specs.Code.{due_of}
-use Rattle.fancy_engine.specs.Work.{steps_of}
 use Rattle.fancy_engine.proofs.BranchLemmas.{head_none, head_known, all_none, one_some, dues_left, between, beyond}
 use Rattle.fancy_engine.proofs.start.follow_branches.Goals as goal
 
