@@ -5,20 +5,20 @@ ghost use Rattle.fancy_tree.specs.Pattern.{pattern_of};
 ghost use Rattle.fancy_bytes.specs.Openings.{opening, is_literal, opening_of_row, are_literal, item_text, has_text, StandsBefore, NoneStandsBefore};
 
 use fancy_tree::tree::{Meaning, Tree};
-use memchr::memmem::{Finder, FinderBuilder};
+use memchr::memmem;
 use std::alloc::{AllocError, Global};
 use std::marker::Model;
 
-/// A text that is scanned for, by a search that is prepared once.
+/// A text that is scanned for.
 #[derive(Drop)]
 pub struct Literal {
-    finder: Finder<'static>,
+    text: Vec<u8>,
 }
 
 impl Model for Literal {
     ghost Value = { List ℕ };
 
-    ghost view = { λ l. l.finder };
+    ghost view = { λ l. l.text.items };
 }
 
 impl Literal {
@@ -32,10 +32,10 @@ impl Literal {
             (NoneStandsBefore haystack.now end self.now from) }
     {
         let rest = &haystack[from..end];
-        if rest.starts_with(self.finder.needle()) {
+        if rest.starts_with(&self.text) {
             return Some(from);
         }
-        match self.finder.find(rest) {
+        match memmem::find(rest, &self.text) {
             None => None,
             Some(passed) => Some(from + passed),
         }
@@ -56,8 +56,7 @@ pub fn opening_literal(
     if text.len() < 2 {
         return Ok(None);
     }
-    let finder = FinderBuilder::new().build_forward_owned(text);
-    Ok(Some(Literal { finder }))
+    Ok(Some(Literal { text }))
 }
 
 /// Adds the text that whatever the pattern matches begins with, and tells whether the pattern consumes that and nothing else.

@@ -107,7 +107,7 @@ pub fn search(
     if first > request.range_end {
         return Ok(None);
     }
-    let attempt = Attempt::new(&*code, haystack, request, options, continues);
+    let attempt = Attempt::new(code, haystack, request, options, continues);
     let limit = work.returns() + options.backtrack_limit;
     let seek = options.seek;
     let range_end = request.range_end;
@@ -185,7 +185,7 @@ pub fn attempt_at(
     ensures paired { returns_of work.old ≤ steps_of work.old → returns_of work.new ≤ steps_of work.new }
     ensures crowded { result ≡ Err SearchRefusal.Choices → options.stack_limit < choices_at q position }
 {
-    let attempt = Attempt::new(&*code, haystack, request, options, continues);
+    let attempt = Attempt::new(code, haystack, request, options, continues);
     let limit = work.returns() + options.backtrack_limit;
     ready_last_lines(&mut cache.last_lines, attempt.haystack, false);
     try_position(&attempt, position, request.range_end, limit, cache, work)

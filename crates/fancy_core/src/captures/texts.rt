@@ -18,13 +18,13 @@ impl<'r, 't, S: Input<Match = Match<'t>>> GroupTexts<'t> for Captures<'r, S> {
     ghost readable = { λ _. AreOfText S.span S.within };
 
     fn text_numbered(&self, number: usize) -> Option<&'t str> {
-        let group = (&*self).get(number)?;
+        let group = self.get(number)?;
         Some(group.as_str())
     }
 
     fn text_named(&self, name: &str) -> Option<&'t str> {
         let number = self.regex.group_named(name)?;
-        (&*self).text_numbered(number)
+        self.text_numbered(number)
     }
 
     fn allocator(&self) -> Global {
@@ -46,6 +46,6 @@ impl<'r, 't, S: Input<Match = Match<'t>>> Captures<'r, S> {
         ensures kept { OnErr result (string_bytes dst.new ≡ string_bytes dst.old) }
         ensures refused { IfErr result (λ e. e ≡ Error.Memory) }
     {
-        Expander::default().append_expansion(dst, template, &*self)
+        Expander::default().append_expansion(dst, template, self)
     }
 }

@@ -53,7 +53,7 @@ impl<F: FnMut(&Captures<'_, &str>) -> Result<String>> Replacer for ReplaceFn<F> 
     ghost same = { λ s t c x y f a. Prim.search rules };
 
     fn replace_append(&mut self, captures: &Captures<'_, &str>, dst: &mut String) -> Result<()> {
-        match (self.0)(&*captures) {
+        match (self.0)(captures) {
             Ok(text) => {
                 dst.push_str(text.as_str())?;
                 Ok(())
