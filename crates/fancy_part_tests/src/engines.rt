@@ -3,7 +3,6 @@
 use crate::asking::check;
 use fancy_engine::compile::compile;
 use fancy_machine::units::units_back;
-use fancy_syntax::parse::parse;
 use fancy_tree::tree::{Meaning, RepeatKind, Tree};
 
 #[test]
@@ -33,32 +32,4 @@ fn parts_of_the_engines(rt: HostRuntime) {
     check(&rt, code.len() == 6, "the length");
     check(&rt, code.start == 5, "the start");
     check(&rt, code.groups == 1, "the groups");
-}
-
-/// A pattern, and whether a search looks up the alternatives that may match by the bytes at a place.
-const OPENINGS: &[(&str, bool)] = &[
-    ("a|b|c|d|e|f|g|h|i|j|k|l", true),
-    ("a|b|c|d|e|f|g|h|i|j|k", false),
-    ("(?i)ak|bk|ck|dk|ek|fk|gk|hk|ik|jk|kk|lk", true),
-    (
-        "альфа|бета|гамма|дельта|омега|тета|йота|каппа|лямбда|сигма|дзета|эта",
-        true,
-    ),
-    // one of them may match the empty text
-    ("a|b|c|d|e|f|g|h|i|j|k|", false),
-    // one of them may begin with any character
-    ("a|b|c|d|e|f|g|h|i|j|k|.", false),
-    // the pattern opens with a group
-    ("(a|b|c|d|e|f|g|h|i|j|k|l)", false),
-];
-
-#[test]
-fn alternatives_are_looked_up(rt: HostRuntime) {
-    for &(pattern, wanted) in OPENINGS {
-        let alloc = rt.alloc();
-        let parsed = parse(alloc, pattern).expect(&rt, pattern);
-        let code = compile(alloc, &parsed.tree, parsed.groups, Meaning::Unicode);
-        let found = code.expect(&rt, pattern).branches.is_some();
-        check(&rt, found == wanted, pattern);
-    }
 }
