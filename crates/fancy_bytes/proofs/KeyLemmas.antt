@@ -5,6 +5,7 @@ use Rattle.std.proofs.lemmas.List.{get_or-take, length-take-le}
 use Rattle.fancy_bytes.specs.Sets.{ByteFlags, member}
 use Rattle.fancy_bytes.specs.Windows.{set_at, StandsFrom}
 use Rattle.fancy_bytes.specs.Keys.{mixed, key_from, key_at, IsAmong, Covers, IsCovered}
+use Rattle.fancy_bytes.specs.LastKeys.{AreLast}
 
 -- what holds of each number below n, and of n
 pub one_more : (P : ℕ → Type 0) (n : ℕ) → ((k : ℕ) → k < n → P k) → P n → (k : ℕ) → k < n + 1 → P k
@@ -63,3 +64,23 @@ module _ (starts members haystack : List ℕ) (number width : ℕ) (row : List B
       let below : j < width = omega (arith, size, lt) in
       ap (λ (s : ByteFlags). member s (slice_index haystack (p + j))) (get_or-take width row j [] below)
       ∙ (stands j (omega arith) (omega (arith, below, is.enough))).1))
+
+-- keys of the bytes that were read last
+
+module _ (haystack : List ℕ) (p one two three : ℕ) (are : AreLast one two three haystack p) where
+  -- the key of the window that one more byte ends
+  pub window_key : (byte key : ℕ) → byte ≡ slice_index haystack (p + 3) → key ≡ mixed three byte → key ≡ key_at 4 haystack p
+  window_key byte key is same =
+      let there : p + 3 ≡ p + 1 + 1 + 1 = omega arith in
+      same ∙ ap (λ (seed : ℕ). mixed seed byte) are.all ∙ ap (mixed (key_at 3 haystack p)) (is ∙ ap (slice_index haystack) there)
+
+  -- the keys once that was read
+  pub last_after : (byte a b c : ℕ) → byte ≡ slice_index haystack (p + 3) → a ≡ mixed 0 byte → b ≡ mixed one byte → c ≡ mixed two byte → AreLast a b c haystack (p + 1)
+  last_after byte a b c is first second third =
+      let there : p + 3 ≡ p + 1 + 1 + 1 = omega arith in
+      let read : byte ≡ slice_index haystack (p + 1 + 1 + 1) = is ∙ ap (slice_index haystack) there in
+      record {
+        last = first ∙ ap (mixed 0) read;
+        last_two = second ∙ ap (λ (seed : ℕ). mixed seed byte) are.last ∙ ap (mixed (key_at 1 haystack (p + 1 + 1))) read;
+        all = third ∙ ap (λ (seed : ℕ). mixed seed byte) are.last_two ∙ ap (mixed (key_at 2 haystack (p + 1))) read;
+      }

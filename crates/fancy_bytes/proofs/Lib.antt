@@ -7,4 +7,7 @@ pub mod ScanLemmas
 pub mod LackLemmas
 pub mod OpeningLemmas
 pub mod WindowLemmas
+pub mod LaneLemmas
+pub mod MarkLemmas
+pub mod ProbeLemmas
 pub mod KeyLemmas

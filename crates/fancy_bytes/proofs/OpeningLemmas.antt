@@ -1,9 +1,12 @@
 -- The opening of patterns one after another, and where a text stands.
-use Rattle.std.proofs.Common.{◌≡◌, ℕ, zero, suc, ◌+◌, ◌-◌, ◌<◌, ◌≤◌, Bool, true, false, ◌&&◌, List, [], ◌∷◌, ◌++◌, length, map, drop, slice_index, get_or, if◌then◌else◌, refl, sym, ap, ap₂, subst, ◌∙◌, arith, append_assoc}
+use Rattle.std.proofs.Common.{◌≡◌, ℕ, zero, suc, ◌+◌, ◌-◌, ◌<◌, ◌≤◌, Bool, true, false, ◌&&◌, List, [], ◌∷◌, ◌++◌, length, map, drop, slice_index, get_or, if◌then◌else◌, refl, sym, ap, ap₂, subst, ◌∙◌, arith, append_assoc, inl, inr}
 use Rattle.std.proofs.lemmas.List.{append-nil, get_or-take, get_or-drop}
 use Rattle.std.proofs.lemmas.Option.{get_or_from_slice_get}
 use Rattle.std.specs.Prelude.{slice_range}
+use Rattle.std.proofs.lemmas.Bool.{cases_eq, cases_lt}
 use Rattle.memchr.specs.Find.{OccursAt, Nowhere}
+use Rattle.memchr.specs.Pairs.{HasPair, IsPairFinderOf, reach_of}
+use Rattle.memchr.specs.declared.arch.all.packedpair.Finder.{Finder}
 use Rattle.fancy_tree.specs.declared.tree.Tree.{Tree}
 use Rattle.fancy_tree.specs.declared.tree.Meaning.{Meaning}
 use Rattle.fancy_tree.specs.Pattern.{Pattern, in_sequence, in_choice, pattern_of}
@@ -101,3 +104,43 @@ module _ (haystack : List ℕ) (from end : ℕ) (ordered : from ≤ end) (within
   none_stands text n to is le none k low high s =
       let there : from + (k - from) ≡ k = omega (arith, low) in
       none (k - from) (omega arith) (omega (arith, is, low, high)) (occurs text (k - from) (omega (arith, is, le, low, high)) (subst (StandsBefore haystack end text) (sym there) s))
+
+  -- a text that does not occur at the start of the part does not stand where that begins
+  pub not_here : (text : List ℕ) → ¬ OccursAt (slice_range haystack from end) text 0 → ¬ StandsBefore haystack end text from
+  not_here text not s =
+      let same : from + 0 ≡ from = omega arith in
+      not (occurs text 0 (omega arith) (subst (StandsBefore haystack end text) (sym same) s))
+
+  -- where a text occurs two bytes of it stand
+  pair_stands : (f : Finder) (text : List ℕ) (k : ℕ) → IsPairFinderOf f text → OccursAt (slice_range haystack from end) text k → HasPair f (slice_range haystack from end) k
+  pair_stands f text k is there = record {
+    first = there.reads f.pair.index1 is.pair.first ∙ sym is.byte1;
+    second = there.reads f.pair.index2 is.pair.second ∙ sym is.byte2;
+  }
+
+  -- where two bytes of a text do not stand, nor does the text
+  pub none_paired : (f : Finder) (text : List ℕ) (n to : ℕ) → IsPairFinderOf f text → to ≡ from + n → n ≤ end - from + 1
+      → ((k : ℕ) → k < n → k < length (slice_range haystack from end) - reach_of f → ¬ HasPair f (slice_range haystack from end) k)
+      → NoneStandsBefore haystack end text from to
+  none_paired f text n to is here le none k low high s =
+      let there : from + (k - from) ≡ k = omega (arith, low) in
+      let found = occurs text (k - from) (omega (arith, here, le, low, high)) (subst (StandsBefore haystack end text) (sym there) s) in
+      none (k - from) (omega (arith, here, low, high)) (omega (arith, found.fits, is.pair.first, is.pair.second)) (pair_stands f text (k - from) is found)
+
+-- the text stands at no place from one on, where it does not stand at that one and at none past it
+pub none_past : (haystack : List ℕ) (end : ℕ) (text : List ℕ) (place to : ℕ) → ¬ StandsBefore haystack end text place → NoneStandsBefore haystack end text (place + 1) to
+    → NoneStandsBefore haystack end text place to
+none_past haystack end text place to not rest k low high s =
+    elim (cases_eq k place) [
+      | inl same ↦ not (subst (StandsBefore haystack end text) same s)
+      | inr other ↦ rest k (omega (arith, low, other)) high s
+    ]
+
+-- the same of two parts
+pub none_further : (haystack : List ℕ) (end : ℕ) (text : List ℕ) (from place to : ℕ) → NoneStandsBefore haystack end text from place → NoneStandsBefore haystack end text place to
+    → NoneStandsBefore haystack end text from to
+none_further haystack end text from place to before after k low high =
+    elim (cases_lt k place) [
+      | inl lt ↦ before k low lt
+      | inr ge ↦ after k ge high
+    ]

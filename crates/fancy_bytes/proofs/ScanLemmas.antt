@@ -1,7 +1,8 @@
 -- What the search for a byte tells of the set that has it alone.
-use Rattle.std.proofs.Common.{◌≡◌, ℕ, ◌+◌, ◌-◌, ◌<◌, ◌≤◌, ◌==◌, Bool, true, false, List, length, drop, slice_index, slice_range, Option, Some, refl, sym, ap, subst, ◌∙◌, arith}
+use Rattle.std.proofs.Common.{◌≡◌, ℕ, ◌+◌, ◌-◌, ◌<◌, ◌≤◌, ◌==◌, Bool, true, false, List, length, drop, slice_index, slice_range, Option, Some, inl, inr, refl, sym, ap, subst, ◌∙◌, arith}
 use Rattle.std.specs.Prelude.{IfSome}
 use Rattle.std.proofs.lemmas.List.{get_or-take, get_or-drop, length-take-le, length-drop}
+use Rattle.std.proofs.lemmas.Bool.{cases_lt}
 use Rattle.memchr.specs.Find.{Nowhere, Passes, is_byte}
 use Rattle.fancy_bytes.specs.Sets.{ByteFlags, IsSetOf, member}
 use Rattle.fancy_bytes.specs.Seeks.{NoneSeenBefore, IsNextSeen}
@@ -42,3 +43,22 @@ module _ (set : ByteFlags) (byte : ℕ) (hay : List ℕ) (from to : ℕ) (only :
     found = seen_at n lt here;
     none = none_seen n (from + n) (omega arith) refl none;
   }
+
+-- places before which no byte of the set stands, and more of them
+pub none_seen_further : (set : ByteFlags) (hay : List ℕ) (from place next : ℕ) → NoneSeenBefore set hay from place
+    → ((k : ℕ) → place ≤ k → k < next → ¬ (member set (slice_index hay k) ≡ true)) → NoneSeenBefore set hay from next
+none_seen_further set hay from place next before never k low high =
+    elim (cases_lt k place) [
+      | inl lt ↦ before k low lt
+      | inr ge ↦ not_true (member set (slice_index hay k)) (never k ge high)
+    ]
+
+-- and one place more
+pub none_seen_at : (set : ByteFlags) (hay : List ℕ) (from place : ℕ) → NoneSeenBefore set hay from place → member set (slice_index hay place) ≡ false → NoneSeenBefore set hay from (place + 1)
+none_seen_at set hay from place before here k low high =
+    elim (cases_lt k place) [
+      | inl lt ↦ before k low lt
+      | inr ge ↦
+          let same : k ≡ place = omega (arith, ge, high) in
+          ap (λ (i : ℕ). member set (slice_index hay i)) same ∙ here
+    ]

@@ -1,8 +1,9 @@
 -- Windows that are moved over a haystack.
-use Rattle.std.proofs.Common.{◌≡◌, ℕ, zero, suc, ◌+◌, ◌-◌, ◌<◌, ◌≤◌, Bool, true, false, ◌⊎◌, inl, inr, List, length, slice_index, refl, sym, ap, subst, ◌∙◌, arith, true≢false}
+use Rattle.std.proofs.Common.{◌≡◌, ℕ, ◌+◌, ◌-◌, ◌<◌, ◌≤◌, false, inl, inr, List, length, slice_index, sym, ap, subst, ◌∙◌, arith, true≢false}
+use Rattle.std.specs.Prelude.{Option, None, Some, MatchOption}
 use Rattle.std.proofs.lemmas.Bool.{cases_eq, cases_lt}
 use Rattle.fancy_bytes.specs.Sets.{ByteFlags, member}
-use Rattle.fancy_bytes.specs.Windows.{set_at, StandsFrom, NoneStandsIn, IsSkip, AreSkips}
+use Rattle.fancy_bytes.specs.Windows.{set_at, StandsFrom, NoneStandsIn, IsSkip}
 
 module _ (sets : List ByteFlags) (haystack : List ℕ) (end : ℕ) where
   -- a window that would pass the end is none
@@ -41,6 +42,10 @@ module _ (sets : List ByteFlags) (haystack : List ℕ) (end : ℕ) where
   pub stands_before : (place : ℕ) → place + length sets ≤ end → StandsFrom sets haystack (place + length sets) 0 place → StandsFrom sets haystack end 0 place
   stands_before place within stands j from inside = (omega (arith, inside, within), (stands j from inside).1)
 
+  -- a window that stands before the end stands before another end that it does not pass
+  pub stands_within : (place other : ℕ) → place + length sets ≤ other → StandsFrom sets haystack end 0 place → StandsFrom sets haystack other 0 place
+  stands_within place other within stands j from inside = (omega (arith, inside, within), (stands j from inside).1)
+
   -- once a window would pass the end, none stands from there on
   pub none_left : (from place : ℕ) → 0 < length sets → end < place + length sets → NoneStandsIn sets haystack end from place → (k : ℕ) → from ≤ k → ¬ StandsFrom sets haystack end 0 k
   none_left from place some past before k low =
@@ -67,3 +72,33 @@ skips_on sets skips next byte skip kept here is before b lt =
       | inl same ↦ rw same (subst (λ (n : ℕ). IsSkip sets byte n) (sym here) is)
       | inr other ↦ subst (λ (n : ℕ). IsSkip sets b n) (sym (kept b (omega (arith, other, lt)))) (before b (omega (arith, other, lt)))
     ]
+
+-- From 32 windows, which an earlier end is enough for, to the end. It is known that none stands before one of them.
+module _ (sets : List ByteFlags) (haystack : List ℕ) (end place first : ℕ) (some : 0 < length sets) (left : place + (length sets + 31) ≤ end) (low : place ≤ first)
+    (before_first : NoneStandsIn sets haystack end place first) where
+  none_among : (earlier : ℕ) → earlier ≡ place + (length sets + 31) → ((k : ℕ) → first ≤ k → ¬ StandsFrom sets haystack earlier 0 k)
+      → NoneStandsIn sets haystack end place (place + 32)
+  none_among earlier is none =
+      none_further sets haystack end place first (place + 32) before_first
+      (λ k from before stands. none k from (stands_within sets haystack end k earlier (omega (arith, is, before)) stands))
+
+  seen_among : (earlier p : ℕ) → earlier ≡ place + (length sets + 31)
+      → (first ≤ p) × (p < earlier) × StandsFrom sets haystack earlier 0 p × NoneStandsIn sets haystack earlier first p
+      → (place ≤ p) × (p < end) × StandsFrom sets haystack end 0 p × NoneStandsIn sets haystack end place p
+  seen_among earlier p is seen =
+      let last = seen.2 (length sets - 1) (omega arith) (omega (arith, some)) in (
+        omega (arith, seen.0, low),
+        omega (arith, seen.1, is, left),
+        stands_within sets haystack earlier p end (omega (arith, last.0, is, left, some)) seen.2,
+        none_further sets haystack end place first p before_first
+            (λ k from before stands. seen.3 k from before (stands_within sets haystack end k earlier (omega (arith, last.0, before, some)) stands)),
+      )
+
+  -- what is seen by an earlier end
+  pub among : (earlier : ℕ) (seen : Option ℕ) → earlier ≡ place + (length sets + 31)
+      → MatchOption seen ((k : ℕ) → first ≤ k → ¬ StandsFrom sets haystack earlier 0 k)
+      (λ p. (first ≤ p) × (p < earlier) × StandsFrom sets haystack earlier 0 p × NoneStandsIn sets haystack earlier first p)
+      → MatchOption seen (NoneStandsIn sets haystack end place (place + 32))
+      (λ p. (place ≤ p) × (p < end) × StandsFrom sets haystack end 0 p × NoneStandsIn sets haystack end place p)
+  among earlier None is none = none_among earlier is none
+  among earlier (Some p) is seen = seen_among earlier p is seen

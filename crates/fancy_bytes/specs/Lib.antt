@@ -8,5 +8,8 @@ pub mod Lists
 pub mod Lacks
 pub mod Openings
 pub mod Windows
+pub mod HalfTables
+pub mod Probes
 pub mod Keys
+pub mod LastKeys
 pub mod KeyTables

@@ -1,11 +1,14 @@
 //! Which of some rows of byte sets may stand at a place, by a table, and the scan for the places where one may.
 
-ghost use Rattle.std.specs.Prelude.{◌≡◌, ℕ, ◌+◌, ◌<◌, ◌≤◌, true, length, IfOk, IfSome, MatchOption, slice_index};
-ghost use Rattle.fancy_bytes.specs.Keys.{AreBelow, IsAmong, RiseBetween};
-ghost use Rattle.fancy_bytes.specs.KeyTables.{MayStand, NoneMayStand, Tells};
+ghost use Rattle.std.specs.Prelude.{◌≡◌, ℕ, ◌+◌, ◌<◌, ◌≤◌, true, List, length, IfOk, IfSome, MatchOption, slice_index};
+ghost use Rattle.fancy_bytes.specs.Keys.{AreBelow, IsAmong, RiseBetween, class_of, keys};
+ghost use Rattle.fancy_bytes.specs.KeyTables.{HasAt, MayStand, NoneMayStand, Tells};
+ghost use Rattle.fancy_bytes.specs.LastKeys.{AreLast};
 
 use crate::byte_set::ByteSet;
-use crate::key_table::{KeyTable, entries_of, is_sound, key_at, members_of, starts_of, width_of};
+use crate::key_table::{
+    KeyTable, WIDTH, class_of, entries_of, is_sound, key_at, members_of, mixed, starts_of, width_of,
+};
 use std::alloc::{AllocError, Global};
 
 /// The numbers of a key: those of `members` from the one place on and before the other.
@@ -15,6 +18,49 @@ pub struct Numbers {
     pub from: usize,
     /// The place after the last.
     pub to: usize,
+}
+
+/// The keys of the bytes that were read last: of one, of two and of three.
+#[derive(Clone, Copy)]
+struct LastKeys {
+    one: usize,
+    two: usize,
+    three: usize,
+}
+
+/// Those of the three bytes at a place.
+#[inline]
+fn last_keys(haystack: &[u8], place: usize) -> LastKeys
+    requires { place + 3 ≤ length haystack.now }
+    ensures are { AreLast result.one result.two result.three haystack.now place }
+    ensures one { result.one < keys }
+    ensures two { result.two < keys }
+    ensures three { result.three < keys }
+{
+    LastKeys {
+        one: key_at(haystack, place + 2, 1),
+        two: key_at(haystack, place + 1, 2),
+        three: key_at(haystack, place, 3),
+    }
+}
+
+/// Those after one more byte of this class.
+#[inline]
+fn keys_after(last: LastKeys, class: usize) -> LastKeys
+    requires one { last.one < keys }
+    requires two { last.two < keys }
+    requires class { class < 129 }
+    ensures are { (haystack : List ℕ) (p : ℕ) → class_of (slice_index haystack (p + 3)) ≡ class
+        → AreLast last.one last.two last.three haystack p → AreLast result.one result.two result.three haystack (p + 1) }
+    ensures one { result.one < keys }
+    ensures two { result.two < keys }
+    ensures three { result.three < keys }
+{
+    LastKeys {
+        one: mixed(0, class),
+        two: mixed(last.one, class),
+        three: mixed(last.two, class),
+    }
 }
 
 impl KeyTable {
@@ -59,6 +105,15 @@ impl KeyTable {
         }
     }
 
+    /// Whether the key has no number.
+    #[inline]
+    fn is_free(&self, key: usize) -> bool
+        requires { key < keys }
+        ensures { result ≡ true → (number : ℕ) → ¬ HasAt self.now key number }
+    {
+        self.starts[key] >= self.starts[key + 1]
+    }
+
     /// Whether no row may stand in the window at a place.
     #[inline]
     fn is_bare(&self, haystack: &[u8], place: usize) -> bool
@@ -66,7 +121,7 @@ impl KeyTable {
         ensures { result ≡ true → (end : ℕ) → NoneMayStand self.now haystack.now end place }
     {
         let key = key_at(haystack, place, self.width);
-        self.starts[key] >= self.starts[key + 1]
+        self.is_free(key)
     }
 
     /// The number at a place among them.
@@ -77,8 +132,8 @@ impl KeyTable {
         self.members[i] as usize
     }
 
-    /// The first place, from the one on, where a row may stand, before the end.
-    pub fn next_seen(&self, haystack: &[u8], from: usize, end: usize) -> Option<usize>
+    /// `next_seen` by keys of any width, each of which is made anew.
+    fn next_by_windows(&self, haystack: &[u8], from: usize, end: usize) -> Option<usize>
         requires within { end ≤ length haystack.now }
         ensures { MatchOption result ((k : ℕ) → from ≤ k → NoneMayStand self.now haystack.now end k)
             (λ p. (from ≤ p) × (p < end) × ((k : ℕ) → from ≤ k → k < p → NoneMayStand self.now haystack.now end k)) }
@@ -91,5 +146,36 @@ impl KeyTable {
             place += 1;
         }
         None
+    }
+
+    /// `next_seen` by keys of four bytes, each of which is made from that of the three bytes before it.
+    fn next_by_last_keys(&self, haystack: &[u8], from: usize, end: usize) -> Option<usize>
+        requires width { self.now.width ≡ 4 }
+        requires room { from + 4 ≤ end }
+        requires within { end ≤ length haystack.now }
+        ensures { MatchOption result ((k : ℕ) → from ≤ k → NoneMayStand self.now haystack.now end k)
+            (λ p. (from ≤ p) × (p < end) × ((k : ℕ) → from ≤ k → k < p → NoneMayStand self.now haystack.now end k)) }
+    {
+        let mut last = last_keys(haystack, from);
+        for place in from..end - 3 {
+            let class = class_of(haystack[place + 3]);
+            if !self.is_free(mixed(last.three, class)) {
+                return Some(place);
+            }
+            last = keys_after(last, class);
+        }
+        None
+    }
+
+    /// The first place, from the one on, where a row may stand, before the end.
+    pub fn next_seen(&self, haystack: &[u8], from: usize, end: usize) -> Option<usize>
+        requires within { end ≤ length haystack.now }
+        ensures { MatchOption result ((k : ℕ) → from ≤ k → NoneMayStand self.now haystack.now end k)
+            (λ p. (from ≤ p) × (p < end) × ((k : ℕ) → from ≤ k → k < p → NoneMayStand self.now haystack.now end k)) }
+    {
+        if self.width == WIDTH && from < end && end - from >= WIDTH {
+            return self.next_by_last_keys(haystack, from, end);
+        }
+        self.next_by_windows(haystack, from, end)
     }
 }

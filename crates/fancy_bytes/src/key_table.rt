@@ -11,7 +11,7 @@ use std::alloc::{AllocError, Global};
 const KEYS: usize = 8192;
 
 /// How many bytes a key is made of at most.
-const WIDTH: usize = 4;
+pub(crate) const WIDTH: usize = 4;
 
 /// How many keys a row may have at most.
 const WINDOWS: usize = 64;
@@ -21,7 +21,7 @@ const CLASSES: usize = 129;
 
 /// The class of a byte.
 #[inline]
-fn class_of(byte: u8) -> usize
+pub(crate) fn class_of(byte: u8) -> usize
     ensures { result ≡ class_of byte }
 {
     if byte < 0x80 { byte as usize } else { 128 }
@@ -29,7 +29,7 @@ fn class_of(byte: u8) -> usize
 
 /// The key after one more byte of this class.
 #[inline]
-fn mixed(seed: usize, class: usize) -> usize
+pub(crate) fn mixed(seed: usize, class: usize) -> usize
     requires seed { seed < keys }
     requires class { class < 129 }
     ensures mixed { (byte : ℕ) → class_of byte ≡ class → result ≡ mixed seed byte }

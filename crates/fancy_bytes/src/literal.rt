@@ -2,23 +2,32 @@
 
 ghost use Rattle.std.specs.Prelude.{◌≡◌, ℕ, ◌+◌, ◌<◌, ◌≤◌, ◌++◌, List, map, length, if◌then◌else◌, [], IfOk, IfSome, MatchOption, encode_utf8};
 ghost use Rattle.fancy_tree.specs.Pattern.{pattern_of};
+ghost use Rattle.memchr.specs.Pairs.{IsPairFinderOf};
 ghost use Rattle.fancy_bytes.specs.Openings.{opening, is_literal, opening_of_row, are_literal, item_text, has_text, StandsBefore, NoneStandsBefore};
 
 use fancy_tree::tree::{Meaning, Tree};
+use memchr::arch::all::{is_prefix, packedpair};
 use memchr::memmem;
 use std::alloc::{AllocError, Global};
 use std::marker::Model;
 
-/// A text that is scanned for.
+// So many places are compared where the two rarest bytes of a text stand and not the text. After that the text is searched for by
+// means that a haystack cannot make slow, but that are made ready for each search anew.
+const FALSE_PLACES: usize = 32;
+
+/// A text that is scanned for, with its two rarest bytes, by which that is done.
 #[derive(Drop)]
 pub struct Literal {
     text: Vec<u8>,
+    rarest: packedpair::Finder,
 }
 
 impl Model for Literal {
     ghost Value = { List ℕ };
 
     ghost view = { λ l. l.text.items };
+
+    ghost invariant = { λ l. IsPairFinderOf l.rarest l.text.items };
 }
 
 impl Literal {
@@ -31,11 +40,36 @@ impl Literal {
         ensures none { MatchOption result (NoneStandsBefore haystack.now end self.now from (end + 1))
             (NoneStandsBefore haystack.now end self.now from) }
     {
-        let rest = &haystack[from..end];
-        if rest.starts_with(&self.text) {
-            return Some(from);
+        let mut place = from;
+        'places: for _ in 0..FALSE_PLACES {
+            if is_prefix(&haystack[place..end], &self.text) {
+                return Some(place);
+            }
+            match self.next_place(haystack, place, end) {
+                None => return None,
+                Some(next) => place = next,
+            }
         }
-        match memmem::find(rest, &self.text) {
+        match memmem::find(&haystack[place..end], &self.text) {
+            None => None,
+            Some(passed) => Some(place + passed),
+        }
+    }
+
+    /// The first place past one where the text does not stand, at which it may.
+    fn next_place(&self, haystack: &[u8], place: usize, end: usize) -> Option<usize>
+        requires ordered { place ≤ end }
+        requires within { end ≤ length haystack.now }
+        requires unseen { ¬ StandsBefore haystack.now end self.now place }
+        ensures passed { IfSome result (λ p. (place < p) × (p ≤ end)) }
+        ensures none { MatchOption result (NoneStandsBefore haystack.now end self.now place (end + 1))
+            (NoneStandsBefore haystack.now end self.now place) }
+    {
+        if place == end {
+            return None;
+        }
+        let from = place + 1;
+        match self.rarest.find_prefilter(&haystack[from..end]) {
             None => None,
             Some(passed) => Some(from + passed),
         }
@@ -53,10 +87,10 @@ pub fn opening_literal(
 {
     let mut text = Vec::new(alloc);
     add_opening(&mut text, tree, meaning)?;
-    if text.len() < 2 {
-        return Ok(None);
+    match packedpair::Finder::new(&text) {
+        None => Ok(None),
+        Some(rarest) => Ok(Some(Literal { text, rarest })),
     }
-    Ok(Some(Literal { text }))
 }
 
 /// Adds the text that whatever the pattern matches begins with, and tells whether the pattern consumes that and nothing else.

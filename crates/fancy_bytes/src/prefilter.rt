@@ -1,12 +1,22 @@
 //! Sets of bytes for the first places of what is looked for, and the scan for the places where they all stand.
+//!
+//! Probes tell of 32 windows at once in which of them the sets may all stand, and each of these is looked at by the sets. The
+//! last places of a haystack, where fewer windows are left, are gone through by skips.
 
 ghost use Rattle.std.specs.Prelude.{◌≡◌, ◌↔◌, ℕ, ◌+◌, ◌<◌, ◌≤◌, List, length, IfOk, IfSome, IsTrue, MatchOption};
 ghost use Rattle.fancy_bytes.specs.Sets.{ByteFlags};
 ghost use Rattle.fancy_bytes.specs.Windows.{StandsFrom, NoneStandsIn, IsSkip, AreSkips};
+ghost use Rattle.fancy_bytes.specs.HalfTables.{AreMarks};
+ghost use Rattle.fancy_bytes.specs.Probes.{AreProbesOf};
 
 use crate::byte_set::ByteSet;
+use crate::marks::{lowest, without};
+use crate::probes::Probes;
 use std::alloc::{AllocError, Global};
 use std::marker::Model;
+
+/// From so many marked windows of 32 on they are gone through by skips, and not one after another by the sets.
+const MANY_MARKS: u32 = 6;
 
 /// By how many places a window may be moved on where this byte stands last in it.
 fn skip_of(sets: &[ByteSet], byte: u8) -> u8
@@ -34,11 +44,13 @@ fn skips_of(alloc: Global, sets: &[ByteSet]) -> Result<Vec<u8>, AllocError>
 }
 
 /// A row of sets of bytes, one for each of the first places of what is looked for. A window of as many places is moved over a
-/// haystack: the byte that stands last in it tells by how many places it may be moved on at once.
+/// haystack, past 32 places at once where the probes let no window begin. At the end of a haystack the byte that stands last in
+/// the window tells by how many places it may be moved on.
 #[derive(Drop)]
 pub struct Prefilter {
     sets: Vec<ByteSet>,
     skips: Vec<u8>,
+    probes: Probes,
 }
 
 impl Model for Prefilter {
@@ -46,7 +58,8 @@ impl Model for Prefilter {
 
     ghost view = { λ f. f.sets.items };
 
-    ghost invariant = { λ f. (0 < length f.sets.items) × AreSkips f.sets.items f.skips.items };
+    ghost invariant = { λ f. (0 < length f.sets.items) × AreSkips f.sets.items f.skips.items
+        × AreProbesOf f.sets.items f.probes };
 }
 
 impl Prefilter {
@@ -58,7 +71,12 @@ impl Prefilter {
             return Ok(None);
         }
         let skips = skips_of(alloc, &sets)?;
-        Ok(Some(Prefilter { sets, skips }))
+        let probes = Probes::new(&sets);
+        Ok(Some(Prefilter {
+            sets,
+            skips,
+            probes,
+        }))
     }
 
     /// Whether a byte of each set stands in the window that begins at a place.
@@ -74,8 +92,116 @@ impl Prefilter {
         true
     }
 
+    /// Which of the 32 windows from the one at this place on are to be looked at.
+    #[inline(always)]
+    fn marks(&self, haystack: &[u8], place: usize) -> u64
+        requires { place + (length self.now + 31) ≤ length haystack.now }
+        ensures { (end : ℕ) → AreMarks (λ p. StandsFrom self.now haystack.now end 0 p) place result }
+    {
+        self.probes.marks(haystack, place)
+    }
+
+    /// The first of the windows, 32 at a time, among which one is to be looked at, and which ones are. Where fewer than 32 are
+    /// left before the end, none is marked.
+    fn next_marked(&self, haystack: &[u8], from: usize, end: usize) -> (usize, u64)
+        requires within { end ≤ length haystack.now }
+        ensures passed { from ≤ result.0 }
+        ensures none { NoneStandsIn self.now haystack.now end from result.0 }
+        ensures inside { 0 < result.1 → result.0 + 32 ≤ end }
+        ensures left { 0 < result.1 → result.0 + (length self.now + 31) ≤ end }
+        ensures marks { 0 < result.1 → AreMarks (λ p. StandsFrom self.now haystack.now end 0 p) result.0 result.1 }
+    {
+        let reach = self.sets.len() + 31;
+        let mut place = from;
+        while place < end && reach <= end - place {
+            let marks = self.marks(haystack, place);
+            if marks != 0 {
+                return (place, marks);
+            }
+            place += 32;
+        }
+        (place, 0)
+    }
+
+    /// The first of the marked windows in which a byte of each set stands.
+    fn first_marked(&self, haystack: &[u8], place: usize, end: usize, marks: u64) -> Option<usize>
+        requires within { end ≤ length haystack.now }
+        requires inside { place + 32 ≤ end }
+        requires left { place + (length self.now + 31) ≤ end }
+        requires marks { AreMarks (λ p. StandsFrom self.now haystack.now end 0 p) place marks }
+        ensures { MatchOption result (NoneStandsIn self.now haystack.now end place (place + 32))
+            (λ p. (place ≤ p) × (p < end) × StandsFrom self.now haystack.now end 0 p
+            × NoneStandsIn self.now haystack.now end place p) }
+    {
+        let mut left = marks;
+        while left != 0 {
+            let passed = lowest(left);
+            if self.stands_at(haystack, place + passed) {
+                return Some(place + passed);
+            }
+            left = without(left, passed);
+        }
+        None
+    }
+
+    /// The same where at least one is marked: where many are besides the first, they are gone through by skips.
+    fn first_among(&self, haystack: &[u8], place: usize, end: usize, marks: u64) -> Option<usize>
+        requires some { 0 < marks }
+        requires within { end ≤ length haystack.now }
+        requires inside { place + 32 ≤ end }
+        requires left { place + (length self.now + 31) ≤ end }
+        requires marks { AreMarks (λ p. StandsFrom self.now haystack.now end 0 p) place marks }
+        ensures { MatchOption result (NoneStandsIn self.now haystack.now end place (place + 32))
+            (λ p. (place ≤ p) × (p < end) × StandsFrom self.now haystack.now end 0 p
+            × NoneStandsIn self.now haystack.now end place p) }
+    {
+        let passed = lowest(marks);
+        let first = place + passed;
+        if self.stands_at(haystack, first) {
+            return Some(first);
+        }
+        let others = without(marks, passed);
+        if others.count_ones() < MANY_MARKS {
+            return self.first_marked(haystack, place, end, others);
+        }
+        self.seen_by_skips(haystack, first, place + (self.sets.len() + 31))
+    }
+
     /// The first place, from the one on, at which a window begins in which a byte of each set stands, before the end.
     pub fn next_seen(&self, haystack: &[u8], from: usize, end: usize) -> Option<usize>
+        requires within { end ≤ length haystack.now }
+        ensures { MatchOption result ((k : ℕ) → from ≤ k → ¬ StandsFrom self.now haystack.now end 0 k)
+            (λ p. (from ≤ p) × (p < end) × StandsFrom self.now haystack.now end 0 p
+            × NoneStandsIn self.now haystack.now end from p) }
+    {
+        let width = self.sets.len();
+        if from < end && width <= end - from && self.stands_at(haystack, from) {
+            return Some(from);
+        }
+        self.seen_ahead(haystack, from, end)
+    }
+
+    /// The same by the probes, and at the end of the haystack by skips.
+    fn seen_ahead(&self, haystack: &[u8], from: usize, end: usize) -> Option<usize>
+        requires within { end ≤ length haystack.now }
+        ensures { MatchOption result ((k : ℕ) → from ≤ k → ¬ StandsFrom self.now haystack.now end 0 k)
+            (λ p. (from ≤ p) × (p < end) × StandsFrom self.now haystack.now end 0 p
+            × NoneStandsIn self.now haystack.now end from p) }
+    {
+        let (mut place, mut marks) = self.next_marked(haystack, from, end);
+        while marks != 0 {
+            if let Some(found) = self.first_among(haystack, place, end, marks) {
+                return Some(found);
+            }
+            let (next, others) = self.next_marked(haystack, place + 32, end);
+            place = next;
+            marks = others;
+        }
+        self.seen_by_skips(haystack, place, end)
+    }
+
+    /// The same by skips, one window at a time.
+    fn seen_by_skips(&self, haystack: &[u8], from: usize, end: usize) -> Option<usize>
         requires within { end ≤ length haystack.now }
         ensures { MatchOption result ((k : ℕ) → from ≤ k → ¬ StandsFrom self.now haystack.now end 0 k)
             (λ p. (from ≤ p) × (p < end) × StandsFrom self.now haystack.now end 0 p

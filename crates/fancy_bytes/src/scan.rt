@@ -1,12 +1,15 @@
 //! Scans of haystacks for the bytes of a set.
 
-ghost use Rattle.std.specs.Prelude.{◌≡◌, ◌↔◌, ℕ, ◌<◌, ◌≤◌, ◌==◌, List, Bool, length, IfSome, IsTrue, MatchOption};
+ghost use Rattle.std.specs.Prelude.{◌≡◌, ◌↔◌, ℕ, ◌+◌, ◌<◌, ◌≤◌, ◌==◌, List, Bool, true, length, slice_index, IfSome, IsTrue, MatchOption};
 ghost use Rattle.fancy_tree.specs.Pattern.{pattern_of};
 ghost use Rattle.fancy_bytes.specs.Firsts.{AreStartBytes};
 ghost use Rattle.fancy_bytes.specs.Sets.{member, IsSetOf};
 ghost use Rattle.fancy_bytes.specs.Seeks.{NoneSeenBefore, IsNextSeen};
+ghost use Rattle.fancy_bytes.specs.HalfTables.{LetMembersThrough, AreMarks};
 
 use crate::byte_set::ByteSet;
+use crate::half_tables::HalfTables;
+use crate::marks::lowest;
 use crate::seek::next_seen;
 use crate::start::start_bytes;
 use fancy_tree::tree::{Meaning, Tree};
@@ -39,11 +42,13 @@ fn only_member(set: &ByteSet) -> Option<u8>
     None
 }
 
-/// A set of bytes, made ready for scans: a set of one byte is searched for as that byte, many places at a time.
+/// A set of bytes, made ready for scans, many places at a time: a set of one byte is searched for as that byte, and a set of
+/// more by tables.
 #[derive(Drop)]
 pub struct Scan {
     set: ByteSet,
     only: Option<u8>,
+    tables: HalfTables,
 }
 
 impl Model for Scan {
@@ -51,7 +56,8 @@ impl Model for Scan {
 
     ghost view = { λ s. s.set };
 
-    ghost invariant = { λ s. IfSome s.only (λ byte. IsSetOf (λ b. b == byte) s.set) };
+    ghost invariant = { λ s. IfSome s.only (λ byte. IsSetOf (λ b. b == byte) s.set)
+        × LetMembersThrough s.tables.low s.tables.high s.set };
 }
 
 impl Scan {
@@ -60,7 +66,8 @@ impl Scan {
         ensures { result ≡ set }
     {
         let only = only_member(&set);
-        Scan { set, only }
+        let tables = HalfTables::new(&set);
+        Scan { set, only, tables }
     }
 
     /// Whether the set has one byte alone. It tells how fast a scan is, and no answer rests on it.
@@ -99,12 +106,44 @@ impl Scan {
             (IsNextSeen self.now haystack.now from to) }
     {
         match self.only {
-            None => next_seen(&self.set, haystack, from, to),
+            None => self.seen_by_tables(haystack, from, to),
             Some(byte) => match memchr(byte, &haystack[from..to]) {
                 None => None,
                 Some(passed) => Some(from + passed),
             },
         }
+    }
+
+    /// At which of the 32 places from this one on a byte of the set may stand.
+    #[inline(always)]
+    fn marks(&self, haystack: &[u8], place: usize) -> u64
+        requires { place + 32 ≤ length haystack.now }
+        ensures { AreMarks (λ p. member self.now (slice_index haystack.now p) ≡ true) place result }
+    {
+        self.tables.marks(haystack, place)
+    }
+
+    /// The same by the tables, 32 places at a time, and where fewer are left one at a time.
+    fn seen_by_tables(&self, haystack: &[u8], from: usize, to: usize) -> Option<usize>
+        requires ordered { from ≤ to }
+        requires within { to ≤ length haystack.now }
+        ensures { MatchOption result (NoneSeenBefore self.now haystack.now from to)
+            (IsNextSeen self.now haystack.now from to) }
+    {
+        let mut place = from;
+        while 32 <= to - place {
+            let marks = self.marks(haystack, place);
+            if marks == 0 {
+                place += 32;
+            } else {
+                let marked = place + lowest(marks);
+                if self.set.contains(haystack[marked]) {
+                    return Some(marked);
+                }
+                place = marked + 1;
+            }
+        }
+        next_seen(&self.set, haystack, place, to)
     }
 }
 

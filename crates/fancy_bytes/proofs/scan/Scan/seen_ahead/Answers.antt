@@ -6,7 +6,7 @@ use Rattle.fancy_bytes.proofs.scan.Scan.seen_ahead.Goals as goal
 
 pub returns-in-None-memchr : goal.returns-in-None-memchr
 returns-in-None-memchr c =
-    let told = only_of c.self.inside.only c.in-Some.byte c.self.inside.set c.args.self.now c.in-Some.is c.self.view_is c.self.invariant in
+    let told = only_of c.self.inside.only c.in-Some.byte c.self.inside.set c.args.self.now c.in-Some.is c.self.view_is c.self.invariant.0 in
     let nowhere =
     subst (Nowhere (Passes (is_byte c.in-Some.byte) (slice_range c.args.haystack.now c.args.from c.args.to)) 0)
     (length_part c.args.haystack.now c.args.from c.args.to c.requires.within) c.in-None-memchr.ensures in
@@ -15,7 +15,7 @@ returns-in-None-memchr c =
 
 pub returns-in-Some-memchr : goal.returns-in-Some-memchr
 returns-in-Some-memchr c =
-    let told = only_of c.self.inside.only c.in-Some.byte c.self.inside.set c.args.self.now c.in-Some.is c.self.view_is c.self.invariant in
+    let told = only_of c.self.inside.only c.in-Some.byte c.self.inside.set c.args.self.now c.in-Some.is c.self.view_is c.self.invariant.0 in
     let first = c.in-Some-memchr.ensures in
     next_seen c.args.self.now c.in-Some.byte c.args.haystack.now c.args.from c.args.to told (λ k. omega (arith, c.type_inv.haystack k)) c.in-Some-memchr.passed
     (omega (arith, first.0.high, length_part c.args.haystack.now c.args.from c.args.to c.requires.within)) first.0.before first.1

@@ -1,7 +1,7 @@
 use Rattle.std.proofs.Common.{◌≡◌, ℕ, inl, inr, subst, arith}
 use Rattle.std.proofs.lemmas.Bool.{cases_lt}
 use Rattle.fancy_bytes.specs.KeyTables.{NoneMayStand}
-use Rattle.fancy_bytes.proofs.key_table.KeyTable.next_seen.Goals as goal
+use Rattle.fancy_bytes.proofs.key_table.KeyTable.next_by_windows.Goals as goal
 
 pub loop-place-preserved : goal.loop-place-preserved
 loop-place-preserved c = record {

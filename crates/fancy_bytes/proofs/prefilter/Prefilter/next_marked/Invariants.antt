@@ -1,6 +1,6 @@
-use Rattle.std.proofs.Common.{◌-◌, ◌≤◌, ◌<◌, length}
+use Rattle.std.proofs.Common.{◌-◌, ◌≤◌}
 use Rattle.fancy_bytes.specs.Windows.{NoneStandsIn}
-use Rattle.fancy_bytes.proofs.prefilter.Prefilter.next_seen.Given as goal
+use Rattle.fancy_bytes.proofs.prefilter.Prefilter.next_marked.Given as goal
 
 abbrev pub invariant-loop-place : goal.invariant-loop-place
 invariant-loop-place l = record {

@@ -1,6 +1,6 @@
 use Rattle.std.proofs.Common.{ℕ, ◌-◌, ◌≤◌, ◌<◌}
 use Rattle.fancy_bytes.specs.KeyTables.{NoneMayStand}
-use Rattle.fancy_bytes.proofs.key_table.KeyTable.next_seen.Given as goal
+use Rattle.fancy_bytes.proofs.key_table.KeyTable.next_by_windows.Given as goal
 
 abbrev pub invariant-loop-place : goal.invariant-loop-place
 invariant-loop-place l = record {

@@ -1,8 +1,8 @@
-use Rattle.std.proofs.Common.{◌≡◌, ◌+◌, ◌-◌, ◌≤◌, ◌<◌, sym, ap, subst, ◌∙◌, arith, length, slice_index, ℕ, true≢false}
+use Rattle.std.proofs.Common.{◌≡◌, ◌+◌, ◌-◌, ◌<◌, sym, ap, subst, ◌∙◌, arith, length, slice_index, ℕ, true≢false}
 use Rattle.std.proofs.lemmas.Grind.{get_or_default_zero}
 use Rattle.fancy_bytes.specs.Windows.{IsSkip}
 use Rattle.fancy_bytes.proofs.WindowLemmas.{none_skipped, none_further, none_at}
-use Rattle.fancy_bytes.proofs.prefilter.Prefilter.next_seen.Goals as goal
+use Rattle.fancy_bytes.proofs.prefilter.Prefilter.seen_by_skips.Goals as goal
 
 pub loop-place-preserved-then-skip-gt0 : goal.loop-place-preserved-then-skip-gt0
 loop-place-preserved-then-skip-gt0 c =
