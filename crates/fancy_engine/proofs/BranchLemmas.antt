@@ -1,31 +1,35 @@
 -- The alternatives that code opens with: what it gives from them is what it gives from its first instruction.
-use Rattle.std.proofs.Common.{◌≡◌, ℕ, zero, suc, ◌+◌, ◌<◌, ◌≤◌, Bool, List, [], ◌∷◌, ◌++◌, length, drop, Option, Some, None, inl, inr, refl, sym, ap, ap₂, subst, ◌∙◌, arith, slice_index, true≢false}
+use Rattle.std.proofs.Common.{◌≡◌, ℕ, zero, suc, ◌+◌, ◌<◌, ◌≤◌, Bool, List, [], ◌∷◌, ◌++◌, length, drop, Option, Some, None, true, false, if◌then◌else◌, inl, inr, refl, sym, ap, ap₂, subst, ◌∙◌, arith, slice_index, true≢false}
 use Rattle.std.specs.Global.{Vec}
 use Rattle.std.specs.Option.{option_or, unwrap_or, is_some}
 use Rattle.std.specs.Prelude.{slice_get, replicate}
 use Rattle.std.proofs.lemmas.Bool.{cases_lt}
 use Rattle.std.proofs.lemmas.Option.{get_or_from_slice_get}
 use Rattle.fancy_bytes.specs.Keys.{IsAmong, RiseBetween}
+use Rattle.fancy_bytes.specs.Openings.{StandsBefore}
 use Rattle.fancy_tree.specs.declared.tree.Meaning.{Meaning}
 use Rattle.fancy_bytes.specs.KeyTables.{MayStand, Tells}
 use Rattle.fancy_bytes.specs.Sets.{ByteFlags}
 use Rattle.fancy_bytes.specs.Windows.{StandsFrom}
 use Rattle.fancy_engine.specs.Attempt.{instrs_in, context_in, may_end_in, first_accepted_in, begins_in, KnownIn}
 use Rattle.fancy_engine.specs.Branches.{AreBranches, Chooses, SplitsTo, dues_in}
-use Rattle.fancy_engine.specs.Context.{Context, State}
-use Rattle.fancy_engine.specs.Events.{return}
+use Rattle.fancy_engine.specs.Context.{Context, State, moved_to}
+use Rattle.fancy_engine.specs.Events.{return, outcome}
 use Rattle.fancy_engine.specs.Foretold.{AreRows}
 use Rattle.fancy_engine.specs.Instructions.{Instruction, Split}
 use Rattle.fancy_engine.specs.Marking.{due_in}
 use Rattle.fancy_engine.specs.Run.{Raw, Note, Stop, choice_opened, returned, fetched, AllStops, Foretells, erase, instr_at, run}
-use Rattle.fancy_engine.specs.Runner.{Known, Parted, thread_run, events_of, first_accepted, ends_well}
+use Rattle.fancy_engine.specs.Runner.{Known, Parted, thread_run, events_of, first_accepted, ends_well, found_state}
+use Rattle.fancy_engine.specs.Texts.{AreTexts, IsTextOf}
 use Rattle.fancy_engine.specs.Threads.{Thread, empty_slot, state_of, starts_of}
+use Rattle.fancy_engine.specs.declared.text.Text.{Text}
 use Rattle.fancy_engine.specs.declared.branches.Branches.{Branches}
 use Rattle.fancy_engine.specs.declared.runner.Attempt.{Attempt}
 use Rattle.fancy_engine.specs.declared.slot.Slot.{Slot}
 use Rattle.fancy_engine.proofs.ForetoldLemmas.{foretells_imply}
 use Rattle.fancy_engine.proofs.RunnerLemmas.{first_or}
 use Rattle.fancy_engine.proofs.RunnerSteps.{parted}
+use Rattle.fancy_engine.proofs.TextLemmas.{given_events}
 
 -- where no way stops, there is no outcome
 
@@ -125,6 +129,38 @@ module _ (a : Attempt) (b : Branches) (place kept deep : ℕ) (is : AreBranches 
         → (s : State) → Some s ≡ first_accepted_in a kept deep (begins_in a (slice_index b.heads.items j) place) → Some s ≡ first_accepted_in a kept deep (begins_in a a.code.now.start place)
     one_some = chosen_some (ends_well (may_end_in a)) (context_in a) a.last (instrs_in a) deep kept place slots a.code.now.start b.heads.items is.chooses known
 
+-- an alternative that begins with a text
+module _ (a : Attempt) (t : Text) (head place kept deep : ℕ) (is : IsTextOf t (instrs_in a) a.code.now.meaning head) where
+  abbrev begun : Thread
+  begun = head_at (ends_well (may_end_in a)) (context_in a) a.last (instrs_in a) deep kept place (replicate a.code.now.groups empty_slot) head
+
+  -- where that does not stand, there is no outcome
+  pub text_none : ¬ StandsBefore a.haystack.now a.last t.bytes.items place → None ≡ first_accepted_in a kept deep (begins_in a head place)
+  text_none lacks =
+      sym (told_none (ends_well (may_end_in a)) (thread_run (context_in a) a.last (instrs_in a) deep kept begun)
+      (foretells_imply (StandsBefore a.haystack.now a.last t.bytes.items place) ⊥ lacks (thread_run (context_in a) a.last (instrs_in a) deep kept begun)
+      (is.begins (context_in a) a.last deep (state_of kept begun) (starts_of begun) refl)))
+
+  module _ (all : t.is_all ≡ true) (known : KnownIn a kept deep (begins_in a head place)) (stands : StandsBefore a.haystack.now a.last t.bytes.items place) where
+    -- where it is all of the alternative and stands, its end is the one outcome
+    text_events : events_of (thread_run (context_in a) a.last (instrs_in a) deep kept begun) ≡ outcome (moved_to (state_of kept begun) (place + length t.bytes.items)) ∷ []
+    text_events =
+        given_events (outcome (moved_to (state_of kept begun) (place + length t.bytes.items)) ∷ []) (thread_run (context_in a) a.last (instrs_in a) deep kept begun) known
+        (is.ends all (context_in a) a.last deep (state_of kept begun) (starts_of begun) refl stands)
+
+    text_first : (b : Bool) → may_end_in a (place + length t.bytes.items) ≡ b
+        → first_accepted_in a kept deep (begins_in a head place) ≡ (if b then Some (moved_to (state_of kept begun) (place + length t.bytes.items)) else None)
+    text_first b e =
+        ap (first_accepted (ends_well (may_end_in a))) text_events
+        ∙ ap (λ (c : Bool). if c then Some (moved_to (state_of kept begun) (place + length t.bytes.items)) else None) e
+
+    pub text_missed : may_end_in a (place + length t.bytes.items) ≡ false → None ≡ first_accepted_in a kept deep (begins_in a head place)
+    text_missed e = sym (text_first false e)
+
+    pub text_found : may_end_in a (place + length t.bytes.items) ≡ true → (slots : List Slot) → slots ≡ replicate a.code.now.groups empty_slot
+        → found_state kept (Some (place + length t.bytes.items)) slots ≡ first_accepted_in a kept deep (begins_in a head place)
+    text_found e slots same = ap (λ (l : List Slot). found_state kept (Some (place + length t.bytes.items)) l) same ∙ sym (text_first true e)
+
 -- what is due for the alternatives that are left
 
 at_most_more : (more n m : ℕ) → n ≤ m → n ≤ more + m
@@ -200,9 +236,10 @@ each_more P (z ∷ zs) x all one (suc n) y e = each_more (λ k v. P (suc k) v) z
 -- the alternatives of code, by a table of their rows
 
 pub branches_told : (b : Branches) (code : List Instruction) (m : Meaning) (start : ℕ) (rows : List (Vec ByteFlags)) → Chooses code start b.heads.items → AreRows code m b.heads.items rows → Tells b.table rows
-    → AreBranches b code m start
-branches_told b code m start rows chooses are tells = record {
+    → AreTexts code m b.heads.items b.texts.items → AreBranches b code m start
+branches_told b code m start rows chooses are tells texts = record {
   chooses = chooses;
+  texts = texts;
   told = λ number lt x limit n s v meant bytes not.
       (let row = slice_get_at rows number (omega (arith, lt, are.count)) in
       foretells_imply (StandsFrom row.0.items x.haystack limit 0 s.place) ⊥ (λ stands. not (tells number row.0 x.haystack limit s.place row.1 bytes stands)) (run x limit code n (slice_index b.heads.items number) s v)

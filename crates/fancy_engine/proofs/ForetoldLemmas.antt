@@ -59,7 +59,7 @@ stops_both P [] b f g = g
 stops_both P (Note m ∷ a) b f g = stops_both P a b f g
 stops_both P (Stop q s v ∷ a) b f g = (f.0, stops_both P a b f.1 g)
 
-before_told : (P : Type 0) (m : Sign) (o : Option (List Raw)) → Foretells P o → Foretells P (before (Note m) o)
+pub before_told : (P : Type 0) (m : Sign) (o : Option (List Raw)) → Foretells P o → Foretells P (before (Note m) o)
 before_told P m None f = tt
 before_told P m (Some w) f = f
 
@@ -76,7 +76,7 @@ if_within : (P : Type 0) (limit q : ℕ) (c : Bool) (o : Option (List Raw)) → 
 if_within P limit q true o e f = f (leb-true q limit e)
 if_within P limit q false o e f = tt
 
-onward_told : (P : Type 0) (limit : ℕ) (go : Go) (next : ℕ) (s : State) (v : List ℕ) (o : Option ℕ)
+pub onward_told : (P : Type 0) (limit : ℕ) (go : Go) (next : ℕ) (s : State) (v : List ℕ) (o : Option ℕ)
     → ((q : ℕ) → o ≡ Some q → q ≤ limit → Foretells P (go next (moved_to s q) v)) → Foretells P (onward limit go next s v o)
 onward_told P limit go next s v None f = tt
 onward_told P limit go next s v (Some q) f = if_within P limit q (nat_le q limit) (go next (moved_to s q) v) refl (f q refl)
@@ -91,12 +91,12 @@ outcomes_told P (Stop q s v ∷ w) h = (h.0, outcomes_told P w h.1)
 
 -- an item, and where it ends
 
-record ItemAt (m : Meaning) (haystack : List ℕ) (test : ℕ → Bool) (p q : ℕ) : Type 0 where
-  code : ℕ
-  passes : test code ≡ true
-  rest : List ℕ
-  bytes : drop p haystack ≡ encoding m code ++ rest
-  ends : q ≡ p + length (encoding m code)
+pub record ItemAt (m : Meaning) (haystack : List ℕ) (test : ℕ → Bool) (p q : ℕ) : Type 0 where
+  pub code : ℕ
+  pub passes : test code ≡ true
+  pub rest : List ℕ
+  pub bytes : drop p haystack ≡ encoding m code ++ rest
+  pub ends : q ≡ p + length (encoding m code)
 
 item_where : (m : Meaning) (haystack : List ℕ) (test : ℕ → Bool) (p q : ℕ) (u : Unit_at) (b : Bool) → unit_in m haystack p ≡ Some u → test u.code ≡ b
     → (if b then Some (p + u.width) else None) ≡ Some q → ItemAt m haystack test p q
@@ -118,7 +118,7 @@ item_if : (x : Context) (test : ℕ → Bool) (p q : ℕ) (o : Option Unit_at) �
 item_if x test p q None is e = cc
 item_if x test p q (Some u) is e = item_where x.meaning x.haystack test p q u (test u.code) is refl e
 
-item_at : (x : Context) (test : ℕ → Bool) (p q : ℕ) → past_item x test p ≡ Some q → ItemAt x.meaning x.haystack test p q
+pub item_at : (x : Context) (test : ℕ → Bool) (p q : ℕ) → past_item x test p ≡ Some q → ItemAt x.meaning x.haystack test p q
 unfolding past_item unit_at
 item_at x test p q e = item_if x test p q (unit_in x.meaning x.haystack p) refl e
 
@@ -386,7 +386,7 @@ high_byte c (suc (suc zero)) high lt = grind (arith, nat_tests)
 high_byte c (suc (suc (suc zero))) high lt = grind (arith, nat_tests)
 high_byte c (suc (suc (suc (suc i)))) high lt = absurd (omega (arith, lt, (len_utf8_bounds c).1))
 
-low_text : (c : ℕ) → c < 128 → encode_utf8 c ≡ c ∷ []
+pub low_text : (c : ℕ) → c < 128 → encode_utf8 c ≡ c ∷ []
 unfolding encode_utf8
 low_text c lt = grind (arith, nat_tests)
 

@@ -46,6 +46,7 @@ pub mod RequireLemmas
 pub mod SkipLemmas
 pub mod TriedLemmas
 pub mod ForetoldLemmas
+pub mod TextLemmas
 pub mod BranchLemmas
 pub mod PassedLemmas
 pub mod OpenLemmas

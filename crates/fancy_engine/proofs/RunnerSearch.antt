@@ -15,7 +15,7 @@ use Rattle.fancy_engine.specs.Code.{instrs_of}
 use Rattle.fancy_engine.specs.Run.{Raw, Given}
 use Rattle.fancy_engine.specs.Compile.{IsCodeOf, AreEasy, depth}
 use Rattle.fancy_engine.specs.Search.{Query, context_of, initial, trace_at, outcomes_at, is_match_boundary, accepted, first_one, longest_one, answer_at, answer_from}
-use Rattle.fancy_engine.specs.Threads.{Thread, thread_of, empty_slot, slot_span, slot_from, state_of, starts_of}
+use Rattle.fancy_engine.specs.Threads.{Thread, empty_slot, slot_span, slot_from, state_of, starts_of}
 use Rattle.fancy_engine.specs.Runner.{IsKnown, Known, thread_run, events_of, first_accepted, ends_well}
 use Rattle.fancy_engine.proofs.EasyContinues.{continued_at, run_elsewhere}
 use Rattle.fancy_engine.proofs.ThreadsLemmas.{map-replicate}
@@ -32,9 +32,6 @@ accepted_is false b c d n e f g = absurd (true≢false (sym e))
 -- the thread at the start of an attempt
 abbrev pub first_thread : Code → ℕ → Thread
 first_thread code p = record { at = code.start; place = p; slots = replicate code.groups empty_slot }
-
-pub begun : (code : Code) (p : ℕ) (slots : List Slot) → slots ≡ replicate code.groups empty_slot → thread_of (record { at = code.start; place = p }) slots ≡ first_thread code p
-begun code p slots e = ap (λ (l : List Slot). thread_of (record { at = code.start; place = p }) l) e
 
 module _ (q : Query) (code : Code) (is : IsCodeOf q.sought.pattern code) (groups : q.sought.groups ≡ code.groups) (meant : q.sought.meaning ≡ code.meaning)
     (only : q.sought.not_empty ≡ false) (first : q.sought.longest ≡ false) (inside : q.request.range_end ≤ length q.haystack)

@@ -7,6 +7,7 @@ use Rattle.fancy_engine.specs.Context.{Context, State}
 use Rattle.fancy_engine.specs.Instructions.{Instruction, Split}
 use Rattle.fancy_engine.specs.Marking.{due_in}
 use Rattle.fancy_engine.specs.Run.{Foretells, instr_at, run}
+use Rattle.fancy_engine.specs.Texts.{AreTexts}
 use Rattle.fancy_engine.specs.declared.branches.Branches.{Branches}
 
 -- From q on the code chooses among these instructions, in order of preference: each but the last is the first way of a split, whose second way chooses among those after it.
@@ -24,14 +25,16 @@ abbrev pub dues_in : List (Option ℕ) → List ℕ → List ℕ → ℕ
 dues_in numbers weights [] = 0
 dues_in numbers weights (h ∷ hs) = due_in numbers weights h + dues_in numbers weights hs
 
--- The table has numbers of alternatives alone. All of them together are due no more than the start is.
+-- The table has numbers of alternatives alone, and each has a text. All of them together are due no more than the start is.
 pub record ArePaid (b : Branches) (numbers : List (Option ℕ)) (weights : List ℕ) (start : ℕ) : Type 0 where
   pub below : AreBelow b.table.members.items (length b.heads.items)
+  pub texts : length b.texts.items ≡ length b.heads.items
   pub paid : dues_in numbers weights b.heads.items ≤ due_in numbers weights start
 
--- The code opens with these alternatives. Where one may not match by the table, no way of it stops.
+-- The code opens with these alternatives, which begin with these texts. Where one may not match by the table, no way of it stops.
 pub record AreBranches (b : Branches) (code : List Instruction) (meaning : Meaning) (start : ℕ) : Type 0 where
   pub chooses : Chooses code start b.heads.items
   pub told : (number : ℕ) → number < length b.heads.items → (x : Context) (limit n : ℕ) (s : State) (v : List ℕ) → x.meaning ≡ meaning
       → ((k : ℕ) → slice_index x.haystack k < 256) → ¬ MayStand b.table x.haystack limit s.place number
       → Foretells ⊥ (run x limit code n (slice_index b.heads.items number) s v)
+  pub texts : AreTexts code meaning b.heads.items b.texts.items

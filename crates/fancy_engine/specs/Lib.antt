@@ -11,6 +11,7 @@ pub mod Code
 pub mod Emitted
 pub mod Run
 pub mod Table
+pub mod Texts
 pub mod Threads
 pub mod Reading
 pub mod Runner

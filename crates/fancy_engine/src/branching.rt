@@ -4,47 +4,22 @@ ghost use Rattle.std.specs.Prelude.{◌≡◌, ◌≤◌, ℕ, List, true, IfOk,
 ghost use Rattle.fancy_engine.specs.Branches.{AreBranches, ArePaid, Chooses, SplitsTo, dues_in};
 ghost use Rattle.fancy_engine.specs.Code.{instrs_of, due_of};
 ghost use Rattle.fancy_engine.specs.Foretold.{AreRows};
-ghost use Rattle.fancy_engine.specs.Instructions.{Instruction, Split};
-ghost use Rattle.fancy_engine.specs.Run.{instr_at};
+ghost use Rattle.fancy_engine.specs.Instructions.{Instruction};
+ghost use Rattle.fancy_engine.specs.Texts.{AreTexts};
 
-use crate::branches::Branches;
-use crate::code::{Code, Instr};
+use crate::branches::{Branches, WIDE};
+use crate::code::Code;
 use crate::prefilter::sets_of;
+use crate::text::{Text, text_of};
 use fancy_bytes::byte_set::ByteSet;
 use fancy_bytes::key_table::KeyTable;
 use std::alloc::{AllocError, Global};
-
-/// The fewest alternatives for which a table is made.
-const WIDE: usize = 12;
 
 /// The most alternatives for which a table is made: what is told of each takes some 200 bytes until it is made.
 const MOST: usize = 16_384;
 
 /// At how many first places of each alternative bytes are told.
 const PLACES: usize = 4;
-
-/// The two ways of a split, the first one preferred.
-#[derive(Clone, Copy)]
-struct Ways {
-    first: usize,
-    second: usize,
-}
-
-/// The ways of the instruction with this number, if it is a split.
-fn ways_at(code: &Code, at: usize) -> Option<Ways>
-    ensures { IfSome result (λ w. instr_at (instrs_of code.now) at ≡ Split w.first w.second) }
-{
-    if at >= code.len() {
-        return None;
-    }
-    match code.instr(at) {
-        Instr::Split(first, second) => Some(Ways {
-            first: *first,
-            second: *second,
-        }),
-        _ => None,
-    }
-}
 
 /// The alternatives of a row of splits and what that leads to, which is the last of them.
 fn with_last(heads: Vec<usize>, at: usize) -> Result<Vec<usize>, AllocError>
@@ -63,7 +38,7 @@ fn heads_of(alloc: Global, code: &Code) -> Result<Vec<usize>, AllocError>
     let mut heads = Vec::new(alloc);
     let mut at = code.start;
     for _ in 0..code.len() {
-        let Some(ways) = ways_at(code, at) else {
+        let Some(ways) = code.ways(at) else {
             return with_last(heads, at);
         };
         heads.push(ways.first)?;
@@ -82,6 +57,18 @@ fn rows_of(alloc: Global, code: &Code, heads: &[usize]) -> Result<Vec<Vec<ByteSe
         rows.push(row)?;
     }
     Ok(rows)
+}
+
+/// The text that each alternative begins with.
+fn texts_of(alloc: Global, code: &Code, heads: &[usize]) -> Result<Vec<Text>, AllocError>
+    ensures { IfOk result (λ texts. AreTexts (instrs_of code.now) code.now.meaning heads.now texts.items) }
+{
+    let mut texts = Vec::with_capacity(alloc, heads.len())?;
+    for number in 0..heads.len() {
+        let text = text_of(alloc, code, heads[number])?;
+        texts.push(text)?;
+    }
+    Ok(texts)
 }
 
 /// Whether all of these together are due no more than the first instruction is.
@@ -116,5 +103,10 @@ pub(crate) fn branches_of(alloc: Global, code: &Code) -> Result<Option<Branches>
     let Some(table) = KeyTable::new(alloc, &rows)? else {
         return Ok(None);
     };
-    Ok(Some(Branches { heads, table }))
+    let texts = texts_of(alloc, code, &heads)?;
+    Ok(Some(Branches {
+        heads,
+        texts,
+        table,
+    }))
 }

@@ -82,6 +82,15 @@ pub struct Entry {
     pub still: usize,
 }
 
+/// The two ways of a split, the first one preferred.
+#[derive(Clone, Copy)]
+pub struct Ways {
+    /// The number of the instruction that the first way begins at.
+    pub first: usize,
+    /// The number of the one that the second way begins at.
+    pub second: usize,
+}
+
 /// The instructions of a pattern, and the sets in them. Instructions share a set: a counted repeat has each of its sets once.
 #[derive(Drop)]
 pub struct Code {
@@ -111,7 +120,9 @@ pub struct Code {
 }
 
 impl Code {
+    ghost use Rattle.std.specs.Prelude.{IfSome};
     ghost use Rattle.fancy_engine.specs.Code.{instrs_of, code_len, instr_in, sets_len, set_edges, due_of, number_of, width_of};
+    ghost use Rattle.fancy_engine.specs.Instructions.{Split};
     ghost use Rattle.fancy_engine.specs.Run.{instr_at};
     ghost use Rattle.fancy_engine.specs.Work.{stepped_within};
 
@@ -200,6 +211,22 @@ impl Code {
         ensures known { (number next : ℕ) → result.now ≡ Instr.Member number next → number < sets_len self.now }
     {
         &self.instrs[at]
+    }
+
+    /// The ways of the instruction with this number, if it is a split.
+    pub fn ways(&self, at: usize) -> Option<Ways>
+        ensures { IfSome result (λ w. instr_at (instrs_of self.now) at ≡ Split w.first w.second) }
+    {
+        if at >= self.len() {
+            return None;
+        }
+        match self.instr(at) {
+            Instr::Split(first, second) => Some(Ways {
+                first: *first,
+                second: *second,
+            }),
+            _ => None,
+        }
     }
 
     /// The set with this number, which an instruction has.

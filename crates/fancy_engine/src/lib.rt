@@ -19,5 +19,6 @@ pub mod search;
 pub mod slot;
 mod start;
 pub mod table;
+pub mod text;
 pub mod threads;
 pub mod work;

@@ -6,13 +6,16 @@ ghost use Rattle.fancy_engine.specs.Branches.{AreBranches, ArePaid};
 ghost use Rattle.fancy_engine.specs.Code.{due_of};
 ghost use Rattle.fancy_engine.specs.Compile.{AreEasy};
 ghost use Rattle.fancy_engine.specs.Runner.{found_state};
+ghost use Rattle.fancy_engine.specs.Texts.{IsTextOf};
 ghost use Rattle.fancy_engine.specs.Work.{steps_of, returns_of};
 ghost use Rattle.fancy_input.specs.LastLines.{KnowsLastLines};
 
 use crate::branches::Branches;
+use crate::options::is_match_boundary;
 use crate::runner::{Attempt, follow};
 use crate::slot::Pair;
 use crate::table::Table;
+use crate::text::Text;
 use crate::threads::Threads;
 use crate::work::Work;
 use fancy_input::last_lines::LastLines;
@@ -60,6 +63,69 @@ fn follow_from(
     threads.begin(attempt.code.groups)?;
     let start = Pair { at, place };
     follow(attempt, start, threads, table, last_lines, work)
+}
+
+/// The same of an alternative that begins with this text. Where that does not stand at the place, there is no outcome, and where it
+/// is all of the alternative, its end is the outcome.
+fn follow_text(
+    attempt: &Attempt,
+    start: Pair,
+    text: &Text,
+    threads: &mut Threads,
+    table: &mut Table,
+    last_lines: &mut LastLines,
+    work: &mut Work,
+) -> Result<Option<usize>, AllocError>
+    requires inside { attempt.now.last ≤ length attempt.now.haystack.now }
+    requires easy { AreEasy (instrs_in attempt.now) }
+    requires low { attempt.now.base ≤ start.place }
+    requires high { start.place ≤ attempt.now.last }
+    requires room { bits_in attempt.now ≤ length table.old }
+    requires small { length table.old < 2 ^ 64 }
+    requires last_lines { KnowsLastLines attempt.now.haystack.now last_lines.old }
+    ensures answer { IfOk result (λ end. (kept deep : ℕ)
+        → IsTextOf text.now (instrs_in attempt.now) attempt.now.code.now.meaning start.at
+        → KnownIn attempt.now kept deep (begins_in attempt.now start.at start.place) → AllFailedIn attempt.now start.place deep table.old
+        → found_state kept end threads.new.slots
+        ≡ first_accepted_in attempt.now kept deep (begins_in attempt.now start.at start.place)) }
+    ensures failed { IfOk result (λ end. (kept deep : ℕ)
+        → KnownIn attempt.now kept deep (begins_in attempt.now start.at start.place) → AllFailedIn attempt.now start.place deep table.old
+        → end ≡ None → AllFailedIn attempt.now start.place deep table.new) }
+    ensures past { IfOk result (λ end. IfSome end (λ stop. (kept deep : ℕ)
+        → KnownIn attempt.now kept deep (begins_in attempt.now start.at start.place) → AllFailedIn attempt.now start.place deep table.old
+        → FailedPastIn attempt.now start.place deep stop table.new)) }
+    ensures forth { IfOk result (λ end. IfSome end (λ stop. start.place ≤ stop)) }
+    ensures within { IfOk result (λ end. IfSome end (λ stop. stop ≤ attempt.now.last)) }
+    ensures room { length table.new ≡ length table.old }
+    ensures spent { IfOk result (λ _. steps_of work.new + left_in attempt.now table.new
+        ≤ steps_of work.old + (due_of attempt.now.code.now start.at + left_in attempt.now table.old)) }
+    ensures bounded { steps_of work.new
+        ≤ steps_of work.old + (due_of attempt.now.code.now start.at + left_in attempt.now table.old) }
+    ensures steps { steps_of work.old ≤ steps_of work.new }
+    ensures returns { returns_of work.old ≤ returns_of work.new }
+    ensures paired { returns_of work.new - returns_of work.old ≤ steps_of work.new - steps_of work.old }
+    ensures last_lines { KnowsLastLines attempt.now.haystack.now last_lines.new }
+{
+    if !text.stands_at(attempt.haystack, start.place, attempt.last) {
+        return Ok(None);
+    }
+    if !text.is_all {
+        return follow_from(
+            attempt,
+            start.at,
+            start.place,
+            threads,
+            table,
+            last_lines,
+            work,
+        );
+    }
+    let end = start.place + text.bytes.len();
+    if !is_match_boundary(attempt.on_boundaries, attempt.haystack, end) {
+        return Ok(None);
+    }
+    threads.begin(attempt.code.groups)?;
+    Ok(Some(end))
 }
 
 /// An attempt at a place from the first instruction on, by the alternatives that may match there, in order of preference. Those that
@@ -115,7 +181,9 @@ fn follow_branches(
     for i in numbers.from..numbers.to {
         let number = branches.table.number(i);
         let head = branches.heads[number];
-        match follow_from(attempt, head, place, threads, table, last_lines, work)? {
+        let start = Pair { at: head, place };
+        let text = &branches.texts[number];
+        match follow_text(attempt, start, text, threads, table, last_lines, work)? {
             Some(end) => return Ok(Some(end)),
             None => passed = number + 1,
         }

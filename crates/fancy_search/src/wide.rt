@@ -4,24 +4,19 @@ ghost use Rattle.std.specs.Prelude.{◌≡◌, true};
 ghost use Rattle.fancy_search.specs.Followed.{FollowsEach};
 
 use fancy_automaton::plain::is_plain;
-use fancy_engine::code::{Code, Instr};
-
-/// How many branches the code opens with where the automaton is worth its steps. With fewer the runner is as fast: it takes
-/// some instructions for each of them at each position, and the automaton a few dozen whatever their number.
-const WIDE: usize = 12;
+use fancy_engine::branches::WIDE;
+use fancy_engine::code::Code;
 
 /// Whether the code opens with many branches, one of which is taken at each position: an alternation of that many, or as
-/// many repeats in a row that may consume nothing.
+/// many repeats in a row that may consume nothing. With fewer the runner is as fast as the automaton: it takes some
+/// instructions for each of them at each position, and the automaton a few dozen whatever their number.
 fn opens_wide(code: &Code) -> bool {
     let mut at = code.start;
     for _ in 0..WIDE {
-        if at >= code.len() {
+        let Some(ways) = code.ways(at) else {
             return false;
-        }
-        match code.instr(at) {
-            Instr::Split(_, other) => at = *other,
-            _ => return false,
-        }
+        };
+        at = ways.second;
     }
     true
 }

@@ -1,9 +1,11 @@
 use Rattle.std.proofs.Common.{◌≡◌, ℕ, ◌<◌, ◌≤◌, ◌∙◌, inl, inr, sym, ap, refl, subst, arith, length}
-use Rattle.std.specs.Prelude.{slice_index}
+use Rattle.std.specs.Prelude.{Some, slice_index}
 use Rattle.std.proofs.lemmas.Bool.{cases_lt}
 use Rattle.std.proofs.lemmas.Grind.{get_or_default_zero}
-use Rattle.fancy_engine.specs.Attempt.{first_accepted_in, begins_in, KnownIn}
+use Rattle.std.proofs.lemmas.Option.{slice_get-get_or}
+use Rattle.fancy_engine.specs.Attempt.{instrs_in, first_accepted_in, begins_in, KnownIn}
 use Rattle.fancy_engine.specs.Code.{due_of}
+use Rattle.fancy_engine.specs.Texts.{IsTextOf}
 use Rattle.fancy_engine.proofs.BranchLemmas.{head_none, head_known, all_none, one_some, dues_left, between, beyond}
 use Rattle.fancy_engine.proofs.start.follow_branches.Goals as goal
 
@@ -21,17 +23,17 @@ loop-i-init c = record {
   last_lines = c.requires.last_lines;
 }
 
-pub follow_from-requires-clause-room : goal.follow_from-requires-clause-room
-follow_from-requires-clause-room c = omega (arith, c.requires.room, c.loop-i.invariant.room)
+pub follow_text-requires-clause-room : goal.follow_text-requires-clause-room
+follow_text-requires-clause-room c = omega (arith, c.requires.room, c.loop-i.invariant.room)
 
-pub follow_from-requires-clause-small : goal.follow_from-requires-clause-small
-follow_from-requires-clause-small c = omega (arith, c.requires.small, c.loop-i.invariant.room)
+pub follow_text-requires-clause-small : goal.follow_text-requires-clause-small
+follow_text-requires-clause-small c = omega (arith, c.requires.small, c.loop-i.invariant.room)
 
-pub follow_from-requires-clause-last_lines : goal.follow_from-requires-clause-last_lines
-follow_from-requires-clause-last_lines c = c.loop-i.invariant.last_lines
+pub follow_text-requires-clause-last_lines : goal.follow_text-requires-clause-last_lines
+follow_text-requires-clause-last_lines c = c.loop-i.invariant.last_lines
 
 pub returns-in_err-end-clause-room : goal.returns-in_err-end-clause-room
-returns-in_err-end-clause-room c = c.follow_from.ensures.room ∙ c.loop-i.invariant.room
+returns-in_err-end-clause-room c = c.follow_text.ensures.room ∙ c.loop-i.invariant.room
 
 pub returns-in_err-end-clause-bounded : goal.returns-in_err-end-clause-bounded
 returns-in_err-end-clause-bounded c =
@@ -43,20 +45,20 @@ returns-in_err-end-clause-bounded c =
     let past : c.loop-i.passed ≤ c.number-number.result = omega (arith, c.number-number.ensures, c.loop-i.invariant.ahead c.loop-i.i (omega arith) c.loop-i-test.true) in
     let dues = dues_left c.args.attempt.now.code.now.marking.numbers.items c.args.attempt.now.code.now.marking.weights.items heads c.loop-i.passed c.number-number.result past lt in
     let due = ap (due_of c.args.attempt.now.code.now) head in
-    omega (arith, due, dues, c.follow_from.ensures.bounded, c.loop-i.invariant.spent)
+    omega (arith, due, dues, c.follow_text.ensures.bounded, c.loop-i.invariant.spent)
 
 pub returns-in_err-end-clause-steps : goal.returns-in_err-end-clause-steps
-returns-in_err-end-clause-steps c = omega (arith, c.follow_from.ensures.steps, c.loop-i.invariant.steps)
+returns-in_err-end-clause-steps c = omega (arith, c.follow_text.ensures.steps, c.loop-i.invariant.steps)
 
 pub returns-in_err-end-clause-returns : goal.returns-in_err-end-clause-returns
-returns-in_err-end-clause-returns c = omega (arith, c.follow_from.ensures.returns, c.loop-i.invariant.returns)
+returns-in_err-end-clause-returns c = omega (arith, c.follow_text.ensures.returns, c.loop-i.invariant.returns)
 
 pub returns-in_err-end-clause-paired : goal.returns-in_err-end-clause-paired
 returns-in_err-end-clause-paired c =
-    omega (arith, c.follow_from.ensures.paired, c.follow_from.ensures.steps, c.follow_from.ensures.returns, c.loop-i.invariant.steps, c.loop-i.invariant.returns, c.loop-i.invariant.paired)
+    omega (arith, c.follow_text.ensures.paired, c.follow_text.ensures.steps, c.follow_text.ensures.returns, c.loop-i.invariant.steps, c.loop-i.invariant.returns, c.loop-i.invariant.paired)
 
 pub returns-in-Some-clause-room : goal.returns-in-Some-clause-room
-returns-in-Some-clause-room c = c.follow_from.ensures.room ∙ c.loop-i.invariant.room
+returns-in-Some-clause-room c = c.follow_text.ensures.room ∙ c.loop-i.invariant.room
 
 pub returns-in-Some-clause-bounded : goal.returns-in-Some-clause-bounded
 returns-in-Some-clause-bounded c =
@@ -68,17 +70,17 @@ returns-in-Some-clause-bounded c =
     let past : c.loop-i.passed ≤ c.number-number.result = omega (arith, c.number-number.ensures, c.loop-i.invariant.ahead c.loop-i.i (omega arith) c.loop-i-test.true) in
     let dues = dues_left c.args.attempt.now.code.now.marking.numbers.items c.args.attempt.now.code.now.marking.weights.items heads c.loop-i.passed c.number-number.result past lt in
     let due = ap (due_of c.args.attempt.now.code.now) head in
-    omega (arith, due, dues, c.follow_from.ensures.bounded, c.loop-i.invariant.spent)
+    omega (arith, due, dues, c.follow_text.ensures.bounded, c.loop-i.invariant.spent)
 
 pub returns-in-Some-clause-steps : goal.returns-in-Some-clause-steps
-returns-in-Some-clause-steps c = omega (arith, c.follow_from.ensures.steps, c.loop-i.invariant.steps)
+returns-in-Some-clause-steps c = omega (arith, c.follow_text.ensures.steps, c.loop-i.invariant.steps)
 
 pub returns-in-Some-clause-returns : goal.returns-in-Some-clause-returns
-returns-in-Some-clause-returns c = omega (arith, c.follow_from.ensures.returns, c.loop-i.invariant.returns)
+returns-in-Some-clause-returns c = omega (arith, c.follow_text.ensures.returns, c.loop-i.invariant.returns)
 
 pub returns-in-Some-clause-paired : goal.returns-in-Some-clause-paired
 returns-in-Some-clause-paired c =
-    omega (arith, c.follow_from.ensures.paired, c.follow_from.ensures.steps, c.follow_from.ensures.returns, c.loop-i.invariant.steps, c.loop-i.invariant.returns, c.loop-i.invariant.paired)
+    omega (arith, c.follow_text.ensures.paired, c.follow_text.ensures.steps, c.follow_text.ensures.returns, c.loop-i.invariant.steps, c.loop-i.invariant.returns, c.loop-i.invariant.paired)
 
 pub returns-in-Some-clause-answer : goal.returns-in-Some-clause-answer
 returns-in-Some-clause-answer c kept deep bytes is known failed =
@@ -88,7 +90,11 @@ returns-in-Some-clause-answer c kept deep bytes is known failed =
     let lt : c.number-number.result < length heads = omega (arith, c.requires.branches.below c.loop-i.i fits, c.number-number.ensures) in
     let head : c.index-head.result.now ≡ slice_index heads c.number-number.result = c.index-head.ensures ∙ get_or_default_zero heads c.number-number.result c.index-head.result.now lt in
     let past : c.loop-i.passed ≤ c.number-number.result = omega (arith, c.number-number.ensures, c.loop-i.invariant.ahead c.loop-i.i (omega arith) c.loop-i-test.true) in
-    let found = rw c.in-Some.is at (c.in_ok-end.ensures.answer kept deep (subst (λ (q : ℕ). KnownIn c.args.attempt.now kept deep (begins_in c.args.attempt.now q c.args.place)) (sym head) (head_known c.args.attempt.now c.args.branches.now c.args.place kept deep is known c.number-number.result lt)) (c.loop-i.invariant.failed kept deep is known failed)) in
+    let found = rw c.in-Some.is at (c.in_ok-end.ensures.answer kept deep
+    (subst (λ (q : ℕ). IsTextOf c.index-text.result.now (instrs_in c.args.attempt.now) c.args.attempt.now.code.now.meaning q) (sym head)
+    (is.texts.each c.number-number.result c.index-text.result.now
+    (slice_get-get_or c.args.branches.now.texts.items c.number-number.result c.index-text.result.now (omega (arith, lt, c.requires.branches.texts)) ∙ ap Some (sym c.index-text.ensures))))
+    (subst (λ (q : ℕ). KnownIn c.args.attempt.now kept deep (begins_in c.args.attempt.now q c.args.place)) (sym head) (head_known c.args.attempt.now c.args.branches.now c.args.place kept deep is known c.number-number.result lt)) (c.loop-i.invariant.failed kept deep is known failed)) in
     one_some c.args.attempt.now c.args.branches.now c.args.place kept deep is known c.number-number.result lt
     (λ j less. elim (cases_lt j c.loop-i.passed) [
       | inl before ↦ c.loop-i.invariant.gone kept deep bytes is known failed j before (omega (arith, less, lt))
@@ -139,7 +145,11 @@ loop-i-preserved c =
             ]
             | inr after ↦
                 let same : j ≡ c.number-number.result = omega (arith, less, after) in
-                let found = rw c.in-None.is at (c.in_ok-end.ensures.answer kept deep (subst (λ (q : ℕ). KnownIn c.args.attempt.now kept deep (begins_in c.args.attempt.now q c.args.place)) (sym head) (head_known c.args.attempt.now c.args.branches.now c.args.place kept deep is known c.number-number.result lt)) (c.loop-i.invariant.failed kept deep is known failed)) in
+                let found = rw c.in-None.is at (c.in_ok-end.ensures.answer kept deep
+                (subst (λ (q : ℕ). IsTextOf c.index-text.result.now (instrs_in c.args.attempt.now) c.args.attempt.now.code.now.meaning q) (sym head)
+                (is.texts.each c.number-number.result c.index-text.result.now
+                (slice_get-get_or c.args.branches.now.texts.items c.number-number.result c.index-text.result.now (omega (arith, lt, c.requires.branches.texts)) ∙ ap Some (sym c.index-text.ensures))))
+                (subst (λ (q : ℕ). KnownIn c.args.attempt.now kept deep (begins_in c.args.attempt.now q c.args.place)) (sym head) (head_known c.args.attempt.now c.args.branches.now c.args.place kept deep is known c.number-number.result lt)) (c.loop-i.invariant.failed kept deep is known failed)) in
                 ap (λ (i : ℕ). first_accepted_in c.args.attempt.now kept deep (begins_in c.args.attempt.now (slice_index heads i) c.args.place)) same
                 ∙ sym (found ∙ ap (λ (q : ℕ). first_accepted_in c.args.attempt.now kept deep (begins_in c.args.attempt.now q c.args.place)) head)
           ];
@@ -151,12 +161,12 @@ loop-i-preserved c =
             omega (arith, ap (slice_index members) same, c.number-number.ensures)
       ];
       ahead = λ k low high. omega (arith, c.number-number.ensures, c.numbers_at-numbers.ensures.rise c.loop-i.i k c.loop-i.auto.i (omega (arith, low)) high (omega (arith, high, c.numbers_at-numbers.ensures.inside)));
-      room = c.follow_from.ensures.room ∙ c.loop-i.invariant.room;
+      room = c.follow_text.ensures.room ∙ c.loop-i.invariant.room;
       spent = omega (arith, due, dues, c.in_ok-end.ensures.spent, c.loop-i.invariant.spent);
-      steps = omega (arith, c.follow_from.ensures.steps, c.loop-i.invariant.steps);
-      returns = omega (arith, c.follow_from.ensures.returns, c.loop-i.invariant.returns);
-      paired = omega (arith, c.follow_from.ensures.paired, c.follow_from.ensures.steps, c.follow_from.ensures.returns, c.loop-i.invariant.steps, c.loop-i.invariant.returns, c.loop-i.invariant.paired);
-      last_lines = c.follow_from.ensures.last_lines;
+      steps = omega (arith, c.follow_text.ensures.steps, c.loop-i.invariant.steps);
+      returns = omega (arith, c.follow_text.ensures.returns, c.loop-i.invariant.returns);
+      paired = omega (arith, c.follow_text.ensures.paired, c.follow_text.ensures.steps, c.follow_text.ensures.returns, c.loop-i.invariant.steps, c.loop-i.invariant.returns, c.loop-i.invariant.paired);
+      last_lines = c.follow_text.ensures.last_lines;
     }
 
 pub returns-clause-answer : goal.returns-clause-answer
