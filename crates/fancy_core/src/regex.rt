@@ -371,22 +371,8 @@ impl Regex {
         ensures refused { IfErr result (λ e. Refuses self.now (asked_by self.now S.bytes input) e) }
         ensures allowed { IfOk result (λ _. Allows self.now (asked_by self.now S.bytes input)) }
     {
-        let haystack = input.haystack();
-        let bytes = haystack.as_bytes();
-        let asked = input.request();
-        let mut cache = Cache::new(self.allocator());
-        let mut standing = ByteSet::new();
-        let mut work = Work::new();
-        let found = self.program.search(
-            bytes,
-            haystack.is_text(),
-            asked,
-            true,
-            &mut standing,
-            &mut cache,
-            &mut work,
-        )?;
-        Ok(found.is_some())
+        let first = self.find_input(input)?;
+        Ok(first.is_some())
     }
 }
 
