@@ -18,4 +18,4 @@ pub(crate) use spans::{Span, is_part};
 pub(crate) use templates::{
     CheckedRow, TemplateRow, Told, check_expanded, check_expanded_text, check_templates, check_told,
 };
-pub(crate) use tokens::{TokenRow, TokensEnd, check_tokens};
+pub(crate) use tokens::{TokenRow, TokensEnd, check_tokens, check_tokens_within};

@@ -1,6 +1,6 @@
 //! Tokens of pattern sets.
 
-use crate::asking::{AMPLE, TokenRow, TokensEnd, check_tokens};
+use crate::asking::{AMPLE, TokenRow, TokensEnd, check_tokens, check_tokens_within, set_of};
 
 const WORDS: &[&str] = &["if", "[a-z]+", "[0-9]+", " +"];
 
@@ -145,4 +145,11 @@ const TOKENS: &[TokenRow] = &[
 #[test]
 fn the_longest_match_at_a_place_is_its_token(rt: HostRuntime) {
     check_tokens(&rt, rt.alloc(), TOKENS);
+}
+
+#[test]
+fn tokens_begin_where_the_range_does(rt: HostRuntime) {
+    let set = set_of(&rt, rt.alloc(), AMPLE, WORDS);
+    let wanted = &[(1, (3, 4)), (3, (4, 5)), (2, (5, 7))];
+    check_tokens_within(&rt, &set, ("if x 42", 3, 7), wanted);
 }

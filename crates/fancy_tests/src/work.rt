@@ -34,6 +34,36 @@ const COUNTS: &[CountRow] = &[
         Some(2),
         0,
     ),
+    // twelve alternatives: the one whose first bytes stand at 6, and no other: three characters, the dot and Match
+    (
+        CHARACTERS,
+        "alpha|beta|gamma|delta|omega|theta|iota|kappa|lambda|sigma|zeta|mil.",
+        "lorem mile",
+        1_000_000,
+        Some(Some((6, 10))),
+        Some(5),
+        0,
+    ),
+    // twelve words, which are compared as texts
+    (
+        CHARACTERS,
+        "alpha|beta|gamma|delta|omega|theta|iota|kappa|lambda|sigma|zeta|mile",
+        "lorem mile",
+        1_000_000,
+        Some(Some((6, 10))),
+        Some(0),
+        0,
+    ),
+    // eleven alternatives, each in turn: ten choices and ten first characters before the last one's five instructions
+    (
+        CHARACTERS,
+        "alpha|beta|gamma|delta|omega|theta|iota|kappa|lambda|sigma|mil.",
+        "mile",
+        1_000_000,
+        Some(Some((0, 4))),
+        Some(25),
+        10,
+    ),
     // no position has a byte that a match can begin with
     (CHARACTERS, "a", "xyz", 1_000_000, Some(None), Some(0), 0),
     // 2 Character(b, 0), 3 Character(a, 2), 4 Character(a, 0), 5 Split(4, 3); from 5 on, at place 1 alone

@@ -94,3 +94,15 @@ pub(crate) fn check_tokens(rt: &impl Abort, alloc: Global, rows: &[TokenRow]) {
         }
     }
 }
+
+/// Checks the tokens of a part of a text, which they cover.
+pub(crate) fn check_tokens_within(
+    rt: &impl Abort,
+    set: &RegexSet,
+    (text, from, to): (&str, usize, usize),
+    wanted: &[(usize, Span)],
+) {
+    assert!(rt; from <= to && to <= text.len());
+    let input = RegexInput::new(text).range(from..to);
+    check_tokens_of(rt, tokens_of(rt, set, input), wanted, (to, TokensEnd::OfRange));
+}
