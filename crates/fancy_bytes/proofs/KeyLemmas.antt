@@ -84,3 +84,20 @@ module _ (haystack : List ℕ) (p one two three : ℕ) (are : AreLast one two th
         last_two = second ∙ ap (λ (seed : ℕ). mixed seed byte) are.last ∙ ap (mixed (key_at 1 haystack (p + 1 + 1))) read;
         all = third ∙ ap (λ (seed : ℕ). mixed seed byte) are.last_two ∙ ap (mixed (key_at 2 haystack (p + 1))) read;
       }
+
+-- the same of keys of two bytes and of one
+
+pub window_of_three : (haystack : List ℕ) (p two byte key : ℕ) → two ≡ key_at 2 haystack p → byte ≡ slice_index haystack (p + 2) → key ≡ mixed two byte → key ≡ key_at 3 haystack p
+window_of_three haystack p two byte key before is same =
+    let there : p + 2 ≡ p + 1 + 1 = omega arith in
+    same ∙ ap (λ (seed : ℕ). mixed seed byte) before ∙ ap (mixed (key_at 2 haystack p)) (is ∙ ap (slice_index haystack) there)
+
+pub two_after : (haystack : List ℕ) (p one byte key : ℕ) → one ≡ key_at 1 haystack (p + 1) → byte ≡ slice_index haystack (p + 2) → key ≡ mixed one byte → key ≡ key_at 2 haystack (p + 1)
+two_after haystack p one byte key before is same =
+    let there : p + 2 ≡ p + 1 + 1 = omega arith in
+    same ∙ ap (λ (seed : ℕ). mixed seed byte) before ∙ ap (mixed (key_at 1 haystack (p + 1))) (is ∙ ap (slice_index haystack) there)
+
+pub one_after : (haystack : List ℕ) (p byte key : ℕ) → byte ≡ slice_index haystack (p + 2) → key ≡ mixed 0 byte → key ≡ key_at 1 haystack (p + 1 + 1)
+one_after haystack p byte key is same =
+    let there : p + 2 ≡ p + 1 + 1 = omega arith in
+    same ∙ ap (mixed 0) (is ∙ ap (slice_index haystack) there)

@@ -167,15 +167,40 @@ impl KeyTable {
         None
     }
 
+    /// `next_seen` by keys of three bytes, each of which is made from that of the two bytes before it.
+    fn next_by_last_two(&self, haystack: &[u8], from: usize, end: usize) -> Option<usize>
+        requires width { self.now.width ≡ 3 }
+        requires room { from + 3 ≤ end }
+        requires within { end ≤ length haystack.now }
+        ensures { MatchOption result ((k : ℕ) → from ≤ k → NoneMayStand self.now haystack.now end k)
+            (λ p. (from ≤ p) × (p < end) × ((k : ℕ) → from ≤ k → k < p → NoneMayStand self.now haystack.now end k)) }
+    {
+        let mut one = key_at(haystack, from + 1, 1);
+        let mut two = key_at(haystack, from, 2);
+        for place in from..end - 2 {
+            let class = class_of(haystack[place + 2]);
+            if !self.is_free(mixed(two, class)) {
+                return Some(place);
+            }
+            two = mixed(one, class);
+            one = mixed(0, class);
+        }
+        None
+    }
+
     /// The first place, from the one on, where a row may stand, before the end.
     pub fn next_seen(&self, haystack: &[u8], from: usize, end: usize) -> Option<usize>
         requires within { end ≤ length haystack.now }
         ensures { MatchOption result ((k : ℕ) → from ≤ k → NoneMayStand self.now haystack.now end k)
             (λ p. (from ≤ p) × (p < end) × ((k : ℕ) → from ≤ k → k < p → NoneMayStand self.now haystack.now end k)) }
     {
-        if self.width == WIDTH && from < end && end - from >= WIDTH {
-            return self.next_by_last_keys(haystack, from, end);
+        if from >= end || self.width > end - from {
+            return None;
         }
-        self.next_by_windows(haystack, from, end)
+        match self.width {
+            3 => self.next_by_last_two(haystack, from, end),
+            WIDTH => self.next_by_last_keys(haystack, from, end),
+            _ => self.next_by_windows(haystack, from, end),
+        }
     }
 }

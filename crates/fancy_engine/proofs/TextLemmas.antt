@@ -1,21 +1,19 @@
 -- The text that code consumes first, an instruction at a time.
-use Rattle.std.proofs.Common.{◌≡◌, ℕ, zero, suc, ◌+◌, ◌<◌, ◌≤◌, ◌==◌, Bool, true, false, List, [], ◌∷◌, ◌++◌, length, drop, Option, Some, None, if◌then◌else◌, nat_le, refl, sym, ap, subst, ◌∙◌, arith, slice_index, eq-eqb, eqb-true, append_assoc}
+use Rattle.std.proofs.Common.{◌≡◌, ℕ, zero, suc, ◌+◌, ◌<◌, ◌≤◌, ◌==◌, Bool, List, [], ◌∷◌, ◌++◌, length, drop, Option, Some, None, if◌then◌else◌, refl, sym, ap, subst, ◌∙◌, arith, slice_index, eq-eqb, eqb-true, append_assoc}
 use Rattle.std.specs.Prelude.{slice_get}
 use Rattle.std.proofs.lemmas.Bool.{le-leb}
 use Rattle.std.proofs.lemmas.List.{append-nil}
 use Rattle.std.proofs.lemmas.Option.{slice_get-get_or}
-use Rattle.std.specs.Char.{encode_utf8}
 use Rattle.fancy_tree.specs.declared.tree.Meaning.{Meaning}
 use Rattle.fancy_tree.specs.declared.tree.Meaning.TheVariants.{Unicode, Bytes, AsciiText}
 use Rattle.fancy_bytes.specs.Items.{encoding}
 use Rattle.fancy_bytes.specs.Openings.{StandsBefore}
-use Rattle.fancy_engine.specs.Context.{Context, State, Unit_at, moved_to, unit_at, unit_in, past_item, option_to}
+use Rattle.fancy_engine.specs.Context.{Context, State, Unit_at, moved_to, unit_at, past_item, option_to}
 use Rattle.fancy_engine.specs.Events.{Event, outcome}
 use Rattle.fancy_engine.specs.Instructions.{Instruction, Character, Match}
-use Rattle.fancy_engine.specs.Run.{Raw, Note, Stop, Go, Sign, fetched, Foretells, act, before, erase, instr_at, onward, run}
-use Rattle.fancy_engine.specs.Runner.{IsKnown, events_of, first_accepted}
-use Rattle.fancy_engine.specs.Texts.{Gives, BeginsWith, EndsWith, IsTextOf, ConsumesTo, AreTexts}
-use Rattle.fancy_engine.specs.declared.text.Text.{Text}
+use Rattle.fancy_engine.specs.Run.{Raw, Note, Go, fetched, Foretells, act, before, instr_at, onward, run}
+use Rattle.fancy_engine.specs.Runner.{IsKnown, events_of}
+use Rattle.fancy_engine.specs.Texts.{Gives, BeginsWith, EndsWith, ConsumesTo}
 use Rattle.fancy_engine.proofs.ForetoldLemmas.{before_told, onward_told, foretells_all, foretells_imply, item_at, low_text}
 use Rattle.fancy_engine.proofs.ReadingLemmas.{low_unit}
 

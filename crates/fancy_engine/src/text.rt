@@ -1,6 +1,6 @@
 //! The texts that alternatives begin with.
 
-ghost use Rattle.std.specs.Prelude.{◌≡◌, ◌<◌, ◌≤◌, ℕ, List, true, false, length, IfOk, IfSome};
+ghost use Rattle.std.specs.Prelude.{◌≡◌, ◌+◌, ◌<◌, ◌≤◌, ℕ, List, true, false, length, IfOk, IfSome};
 ghost use Rattle.fancy_bytes.specs.Openings.{StandsBefore};
 ghost use Rattle.fancy_engine.specs.Code.{instrs_of};
 ghost use Rattle.fancy_engine.specs.Instructions.{Character, Match};
@@ -23,7 +23,20 @@ pub struct Text {
 }
 
 impl Text {
-    /// Whether the text stands at a place, before the end.
+    /// Whether the last byte stands where the text would have it.
+    fn ends_at(&self, haystack: &[u8], place: usize) -> bool
+        requires { place + length self.now.bytes.items ≤ length haystack.now }
+        ensures { result ≡ false → (end : ℕ) → ¬ StandsBefore haystack.now end self.now.bytes.items place }
+    {
+        let len = self.bytes.len();
+        if len == 0 {
+            return true;
+        }
+        haystack[place + (len - 1)] == self.bytes[len - 1]
+    }
+
+    /// Whether the text stands at a place, before the end. Its last byte is compared first, since those before it may have told already
+    /// that the text is a candidate.
     pub fn stands_at(&self, haystack: &[u8], place: usize, end: usize) -> bool
         requires ordered { place ≤ end }
         requires within { end ≤ length haystack.now }
@@ -31,6 +44,9 @@ impl Text {
         ensures lacks { result ≡ false → ¬ StandsBefore haystack.now end self.now.bytes.items place }
     {
         if self.bytes.len() > end - place {
+            return false;
+        }
+        if !self.ends_at(haystack, place) {
             return false;
         }
         for i in 0..self.bytes.len() {

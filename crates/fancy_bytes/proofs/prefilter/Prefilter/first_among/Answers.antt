@@ -1,4 +1,4 @@
-use Rattle.std.proofs.Common.{◌≡◌, ◌+◌, ◌≤◌, ◌<◌, ap, arith, length}
+use Rattle.std.proofs.Common.{◌≡◌, ◌+◌, ap, arith, length}
 use Rattle.fancy_bytes.specs.Windows.{StandsFrom}
 use Rattle.fancy_bytes.proofs.MarkLemmas.{bit_within, none_before}
 use Rattle.fancy_bytes.proofs.WindowLemmas.{stands_before, among}
