@@ -104,5 +104,10 @@ pub(crate) fn check_tokens_within(
 ) {
     assert!(rt; from <= to && to <= text.len());
     let input = RegexInput::new(text).range(from..to);
-    check_tokens_of(rt, tokens_of(rt, set, input), wanted, (to, TokensEnd::OfRange));
+    check_tokens_of(
+        rt,
+        tokens_of(rt, set, input),
+        wanted,
+        (to, TokensEnd::OfRange),
+    );
 }
