@@ -19,6 +19,8 @@ pub mod ClassifyLemmas
 pub mod Hits
 pub mod RunnerSteps
 pub mod RunnerLemmas
+pub mod SweepLemmas
+pub mod SavedLemmas
 pub mod Keeps
 pub mod EasyContinues
 pub mod RunnerSearch

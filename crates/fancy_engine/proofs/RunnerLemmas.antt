@@ -50,15 +50,15 @@ none_or : (a b : Option State) → is_some a ≡ false → option_or a b ≡ b
 none_or None b e = refl
 none_or (Some x) b e = absurd (true≢false e)
 
-choice_some : (ok : State → Bool) (a b : List Event) → is_some (first_accepted ok (either a b)) ≡ is_some (first_accepted ok a) || is_some (first_accepted ok b)
+pub choice_some : (ok : State → Bool) (a b : List Event) → is_some (first_accepted ok (either a b)) ≡ is_some (first_accepted ok a) || is_some (first_accepted ok b)
 choice_some ok a b = ap is_some (first_or ok a (return ∷ b)) ∙ some_or (first_accepted ok a) (first_accepted ok b)
 
 module _ (good : ℕ → Bool) (cx : Context) (low limit : ℕ) (code : List Instruction) (easy : AreEasy code) (deep : ℕ) where
   -- a thread is as good as its pair
-  rank_is : (kept : ℕ) (t : Thread) → size_of (thread_run cx limit code deep kept t) ≡ rank cx limit code deep t.at t.place
+  pub rank_is : (kept : ℕ) (t : Thread) → size_of (thread_run cx limit code deep kept t) ≡ rank cx limit code deep t.at t.place
   rank_is kept t = both_size _ _ (run_both cx limit code easy deep t.at (state_of kept t) (record { place = t.place; captures = []; kept = 0 }) (starts_of t) [] refl)
 
-  hits_is : (kept : ℕ) (t : Thread) → is_some (first_accepted (ends_well good) (events_of (thread_run cx limit code deep kept t)))
+  pub hits_is : (kept : ℕ) (t : Thread) → is_some (first_accepted (ends_well good) (events_of (thread_run cx limit code deep kept t)))
       ≡ is_some (first_accepted (ends_well good) (events_of (pair_run cx limit code deep t.at t.place)))
   hits_is kept t =
       both_hits (ends_well good) (λ s r e. ap good e) _ _

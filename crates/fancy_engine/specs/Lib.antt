@@ -16,6 +16,11 @@ pub mod Threads
 pub mod Reading
 pub mod Runner
 pub mod Attempt
+pub mod Sweep
+pub mod Saved
+pub mod Backlog
+pub mod Rows
+pub mod Sweeps
 pub mod Queries
 pub mod Branches
 pub mod Foretold

@@ -1,6 +1,6 @@
 //! The runner, which follows each pair of an instruction with a mark and a place at most once.
 
-ghost use Rattle.std.specs.Prelude.{◌≡◌, ◌+◌, ◌-◌, ◌^◌, ◌<◌, ◌≤◌, ◌≢◌, ◌⊎◌, [], ◌∷◌, ℕ, List, Option, Some, None, Bool, true, false, length, IfOk, IfSome, ◌==◌};
+ghost use Rattle.std.specs.Prelude.{◌≡◌, ◌+◌, ◌-◌, ◌^◌, ◌<◌, ◌≤◌, ◌≢◌, ◌⊎◌, [], ◌∷◌, ◌++◌, ℕ, List, Option, Some, None, Bool, true, false, length, IfOk, IfSome, ◌==◌};
 ghost use Rattle.fancy_tree.specs.Sets.{has};
 ghost use Rattle.fancy_engine.specs.Context.{State, past_item, past_byte, holds};
 ghost use Rattle.fancy_engine.specs.Code.{code_len, weight_of, due_of, cost_of, marks_of, burden};
@@ -11,14 +11,16 @@ ghost use Rattle.fancy_engine.specs.Work.{steps_of, returns_of, stepped_within};
 ghost use Rattle.fancy_engine.specs.Reading.{search_context};
 ghost use Rattle.fancy_input.specs.LastLines.{KnowsLastLines};
 ghost use Rattle.fancy_engine.specs.declared.slot.Slot.{Slot};
-ghost use Rattle.fancy_engine.specs.Threads.{thread_of, begun_at, AreFresh};
+ghost use Rattle.fancy_engine.specs.Threads.{Thread, thread_of, begun_at, AreFresh};
 ghost use Rattle.fancy_engine.specs.Runner.{found_state, Stacked, Moved, Tested, AllWithin, Spends, Progresses};
+ghost use Rattle.fancy_engine.specs.Sweep.{AllPast, AreRising, Grown, SweepingIn, SweptIn};
 ghost use Rattle.fancy_engine.specs.Attempt.{context_in, instrs_in, stack_in, current_in, saved_in, threads_in, threads_left_in, bits_in, left_in, ahead_in, marks_in, KnownIn, AllFailedIn, FailedPastIn, first_accepted_in, SteppedIn, RunningIn, VisitedIn};
 
 use crate::code::{Code, Instr};
 use crate::options::is_match_boundary;
 use crate::reading::{SuppressedEnds, holds_at, read_at};
 use crate::slot::Pair;
+use crate::sweep::follow_by_place;
 use crate::table::Table;
 use crate::threads::Threads;
 use crate::work::Work;
@@ -179,6 +181,7 @@ fn step(
         (burden attempt.now.code.now (saved_in attempt.now threads.old))
         (burden attempt.now.code.now (saved_in attempt.now threads.new))
         (due_of attempt.now.code.now pair.new.at)) }
+    ensures found { IfOk result (λ next. next ≡ Next.Found → pair.new ≡ pair.old) }
     ensures work { work.new ≡ stepped_within work.old }
     ensures last_lines { KnowsLastLines attempt.now.haystack.now last_lines.new }
 {
@@ -244,7 +247,7 @@ fn is_new(attempt: &Attempt, pair: Pair, table: &mut Table) -> bool
 }
 
 /// Follows a pair, if it is new. A pair that was marked before has nothing to give, whatever the captures.
-fn visit(
+pub(crate) fn visit(
     attempt: &Attempt,
     pair: &mut Pair,
     threads: &mut Threads,
@@ -262,6 +265,14 @@ fn visit(
         → AllWithin low attempt.now.last (threads_in attempt.now pair.old threads.old)
         → RunningIn attempt.now low kept deep goal table.old (stack_in attempt.now pair.old threads.old)
         → VisitedIn attempt.now low kept deep next goal table.new (stack_in attempt.now pair.new threads.new)) }
+    ensures swept { IfOk result (λ next. (low kept deep : ℕ) (goal found : Option State) (front back : List Thread)
+        → attempt.now.base ≤ low → AllWithin low attempt.now.last (threads_in attempt.now pair.old threads.old)
+        → AllPast pair.old.place front
+        → SweepingIn attempt.now low kept deep goal table.old (front ++ (threads_in attempt.now pair.old threads.old ++ back)) found
+        → SweptIn attempt.now low kept deep next goal table.new front (stack_in attempt.now pair.new threads.new) back found) }
+    ensures forth { IfOk result (λ _. pair.old.place ≤ pair.new.place) }
+    ensures found { IfOk result (λ next. next ≡ Next.Found → pair.new.place ≡ pair.old.place) }
+    ensures grown { IfOk result (λ _. Grown pair.old.place (saved_in attempt.now threads.old) (saved_in attempt.now threads.new)) }
     ensures progress { IfOk result (λ next. Progresses next
         (ahead_in attempt.now table.old (threads_in attempt.now pair.old threads.old))
         (ahead_in attempt.now table.new (threads_left_in attempt.now next pair.new threads.new))
@@ -352,7 +363,11 @@ pub fn follow(
     let mut pair = start;
     'pairs: loop {
         match visit(attempt, &mut pair, threads, table, last_lines, work)? {
-            Next::On => {}
+            Next::On => {
+                if threads.is_long() {
+                    return follow_by_place(attempt, pair, threads, table, last_lines, work);
+                }
+            }
             Next::Dead => match threads.back(attempt.code, work) {
                 Some(branch) => pair = branch,
                 None => return Ok(None),

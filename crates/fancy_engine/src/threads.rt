@@ -1,6 +1,7 @@
 //! The slots of the thread that a search follows, and the branches that it saved, over one list of slots.
 
 ghost use Rattle.std.specs.Prelude.{◌≡◌, ◌≤◌, ℕ, [], take, drop, replicate, reverse, OnOk, vec_len, slice_index_or};
+ghost use Rattle.fancy_engine.specs.Saved.{kept_of};
 ghost use Rattle.fancy_engine.specs.Code.{instrs_of};
 ghost use Rattle.fancy_engine.specs.Instructions.{Open, Close};
 ghost use Rattle.fancy_engine.specs.Run.{instr_at};
@@ -12,6 +13,7 @@ use crate::work::Work;
 use fancy_input::span::Span;
 use std::alloc::{AllocError, Global};
 use std::marker::Model;
+use std::mem;
 
 /// Undoes the writes of a log, the last one first, down to a length.
 pub fn undo(slots: &mut Vec<Slot>, log: &mut Vec<Write>, down: usize)
@@ -70,7 +72,7 @@ fn end_group(slots: &mut Vec<Slot>, group: usize, place: usize)
 }
 
 /// Writes the slot of the group that begins or ends at a pair, if one does.
-fn write_group(slots: &mut Vec<Slot>, code: &Code, pair: Pair)
+pub(crate) fn write_group(slots: &mut Vec<Slot>, code: &Code, pair: Pair)
     ensures { slots.new.items ≡ slots_past (instr_at (instrs_of code.now) pair.at) pair.place slots.old.items }
 {
     if pair.at >= code.len() {
@@ -93,7 +95,7 @@ fn write_groups(slots: &mut Vec<Slot>, code: &Code, pairs: &[Pair])
 }
 
 /// The pair that the other way from a pair begins at, if the pair is at a choice.
-fn way_from(code: &Code, pair: Pair) -> Option<Pair>
+pub(crate) fn way_from(code: &Code, pair: Pair) -> Option<Pair>
     ensures { result ≡ other_way (instr_at (instrs_of code.now) pair.at) pair.place }
 {
     if pair.at >= code.len() {
@@ -118,6 +120,20 @@ fn take_way(code: &Code, passed: &mut Vec<Pair>) -> Option<Pair>
         }
     }
     None
+}
+
+/// So many branches and as many pairs are kept at most before a search goes on without them.
+const MOST: usize = 8192;
+
+/// What threads keep: the slots, the branches that were saved before a group began or ended, and the pairs that were passed since.
+#[derive(Drop)]
+pub struct Saved {
+    /// The slots as they were up to the first pair that was passed.
+    pub slots: Vec<Slot>,
+    /// Where the branches go on, the oldest first.
+    pub branches: Vec<Pair>,
+    /// The pairs that were passed, the oldest first.
+    pub passed: Vec<Pair>,
 }
 
 /// The slots of the thread that is followed, and the saved branches, each with slots of its own. Where the thread
@@ -260,5 +276,51 @@ impl Threads {
             self.written = true;
             write_groups(&mut self.slots, code, &self.passed);
         }
+    }
+
+    /// Where the memory for slots and branches comes from.
+    pub(crate) fn allocator(&self) -> Global {
+        *self.slots.allocator()
+    }
+
+    /// Whether so much is kept that a search is to go on without saving more.
+    pub(crate) fn is_long(&self) -> bool {
+        self.branches.len() >= MOST || self.passed.len() >= MOST
+    }
+
+    /// Gives up all that is kept.
+    pub(crate) fn give_up(&mut self) -> Saved
+        ensures { self.old ≡ kept_of result }
+    {
+        let alloc = self.allocator();
+        self.written = true;
+        Saved {
+            slots: mem::replace(&mut self.slots, Vec::new(alloc)),
+            branches: mem::replace(&mut self.branches, Vec::new(alloc)),
+            passed: mem::replace(&mut self.passed, Vec::new(alloc)),
+        }
+    }
+
+    /// Begins anew with these slots. The memory that it has is kept.
+    pub(crate) fn load(&mut self, slots: &[Slot]) -> Result<(), AllocError>
+        ensures slots { OnOk result (self.new.slots ≡ slots.now) }
+        ensures fresh { AreFresh self.new }
+    {
+        self.branches.clear();
+        self.passed.clear();
+        self.written = true;
+        self.slots.clear();
+        self.slots.extend_from_slice(slots)?;
+        Ok(())
+    }
+
+    /// Copies the slots of the thread that is followed.
+    pub(crate) fn copy_slots(&self, code: &Code, out: &mut Vec<Slot>) -> Result<(), AllocError>
+        ensures { OnOk result (out.new.items ≡ slots_after (instrs_of code.now) self.now.passed self.now.slots) }
+    {
+        out.clear();
+        out.extend_from_slice(&self.slots)?;
+        write_groups(out, code, &self.passed);
+        Ok(())
     }
 }

@@ -2,9 +2,11 @@ use Rattle.std.proofs.Common.{◌≡◌, ◌+◌, ◌-◌, ◌^◌, ◌<◌, ◌
 use Rattle.fancy_engine.specs.Threads.{Thread, begun_at}
 use Rattle.fancy_engine.specs.Attempt.{context_in, instrs_in, may_end_in, marks_in, first_accepted_in, RestingIn, current_in, saved_in, threads_in}
 use Rattle.fancy_engine.specs.Runner.{AllWithin}
+use Rattle.fancy_engine.specs.Sweep.{AreRising}
 use Rattle.fancy_engine.specs.Work.{steps_of}
 use Rattle.fancy_engine.proofs.WorkLemmas.{one_return}
 use Rattle.fancy_engine.proofs.MarkingLemmas.{either_side}
+use Rattle.fancy_engine.proofs.SweepLemmas.{rising_next}
 use Rattle.fancy_engine.proofs.RunnerLemmas.{rest_done, rest_back, within_lower}
 use Rattle.fancy_engine.proofs.runner.follow.Goals as goal
 
@@ -19,6 +21,7 @@ pairs-preserved-in-On c =
     record {
       running = λ kept deep known failed. rw c.in-On.is at (c.in_ok-visit.ensures.visited c.args.start.place kept deep (first_accepted_in c.args.attempt.now kept deep (begun_at c.args.start c.args.threads.now.slots)) c.requires.low c.pairs.invariant.within (c.pairs.invariant.running kept deep known failed));
       within = c.in_ok-visit.ensures.within c.args.start.place c.pairs.invariant.within;
+      rising = rising_next (current_in c.args.attempt.now c.pairs.pair c.pairs.threads) (current_in c.args.attempt.now c.visit.new.pair c.visit.new.threads) (saved_in c.args.attempt.now c.pairs.threads) (saved_in c.args.attempt.now c.visit.new.threads) c.pairs.invariant.rising c.in_ok-visit.ensures.grown c.in_ok-visit.ensures.forth;
       room = c.visit.ensures.room ∙ c.pairs.invariant.room;
       spent = omega (arith, spent, c.pairs.invariant.spent);
       steps = omega (arith, c.visit.ensures.steps, c.pairs.invariant.steps);
@@ -63,6 +66,7 @@ pairs-preserved c =
           rest_back (may_end_in c.args.attempt.now) (context_in c.args.attempt.now) c.args.start.place c.args.attempt.now.last (instrs_in c.args.attempt.now) c.requires.easy deep kept (first_accepted_in c.args.attempt.now kept deep (begun_at c.args.start c.args.threads.now.slots)) (marks_in c.args.attempt.now c.visit.new.table) (current_in c.args.attempt.now c.in-Some.branch c.back.new.self) (saved_in c.args.attempt.now c.back.new.self)
           (subst (λ (x : List Thread). RestingIn c.args.attempt.now c.args.start.place kept deep (first_accepted_in c.args.attempt.now kept deep (begun_at c.args.start c.args.threads.now.slots)) c.visit.new.table x) b.0 rest));
       within = within;
+      rising = subst (λ (x : List Thread). AreRising x) b.0 (rising_next (current_in c.args.attempt.now c.pairs.pair c.pairs.threads) (current_in c.args.attempt.now c.visit.new.pair c.visit.new.threads) (saved_in c.args.attempt.now c.pairs.threads) (saved_in c.args.attempt.now c.visit.new.threads) c.pairs.invariant.rising c.in_ok-visit.ensures.grown c.in_ok-visit.ensures.forth).1;
       room = c.visit.ensures.room ∙ c.pairs.invariant.room;
       spent = omega (arith, spent, one.steps, c.pairs.invariant.spent);
       steps = omega (arith, one.steps, c.visit.ensures.steps, c.pairs.invariant.steps);

@@ -5,6 +5,7 @@ use Rattle.fancy_engine.specs.Threads.{begun_at}
 use Rattle.fancy_engine.specs.Work.{steps_of, returns_of}
 use Rattle.fancy_input.specs.LastLines.{KnowsLastLines}
 use Rattle.fancy_engine.specs.Runner.{AllWithin}
+use Rattle.fancy_engine.specs.Sweep.{AreRising}
 use Rattle.fancy_engine.proofs.runner.follow.Given as goal
 
 abbrev pub invariant-pairs : goal.invariant-pairs
@@ -12,6 +13,7 @@ invariant-pairs l = record {
   running : (kept deep : ℕ) → KnownIn l.attempt kept deep (begun_at l.fn.start l.fn.threads.slots) → AllFailedIn l.attempt l.fn.start.place deep l.fn.table
       → RunningIn l.attempt l.fn.start.place kept deep (first_accepted_in l.attempt kept deep (begun_at l.fn.start l.fn.threads.slots)) l.table (stack_in l.attempt l.pair l.threads);
   within : AllWithin l.fn.start.place l.attempt.last (threads_in l.attempt l.pair l.threads);
+  rising : AreRising (threads_in l.attempt l.pair l.threads);
   room : length l.table ≡ length l.fn.table;
   spent : steps_of l.work + ahead_in l.attempt l.table (threads_in l.attempt l.pair l.threads)
       ≤ steps_of l.fn.work + (due_of l.attempt.code.now l.fn.start.at + left_in l.attempt l.fn.table);
