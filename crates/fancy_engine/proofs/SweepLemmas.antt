@@ -33,7 +33,7 @@ rising_next t u ts us rising grown forth =
       | inl same ↦ subst (λ (x : List Thread). AreRising (u ∷ x)) (sym same) (up_to_more t.place u.place ts forth rising.0, rising.1)
       | inr more ↦
           subst (λ (x : List Thread). AreRising (u ∷ x)) (sym more.2)
-          ((omega (arith, forth, more.1), up_to_more t.place u.place ts forth rising.0), up_to_more t.place more.0.place ts (omega (arith, more.1)) rising.0, rising.1)
+          ((omega (arith, forth, more.1), up_to_more t.place u.place ts forth rising.0), (up_to_more t.place more.0.place ts (omega (arith, more.1)) rising.0, rising.1))
     ]
 
 -- all threads stand at the place after a visit too

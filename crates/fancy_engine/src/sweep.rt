@@ -57,7 +57,8 @@ fn visit_here(
     ensures less { IfOk result (λ next. next ≡ Next.On
         → 2 * ahead_in attempt.now table.new (threads_in attempt.now pair.new threads.new) + length (saved_in attempt.now threads.new)
         < 2 * ahead_in attempt.now table.old (threads_in attempt.now pair.old threads.old) + length (saved_in attempt.now threads.old)) }
-    ensures no_more { IfOk result (λ next. 2 * ahead_in attempt.now table.new (saved_in attempt.now threads.new)
+    ensures no_more { IfOk result (λ next. next ≡ Next.Dead
+        → 2 * ahead_in attempt.now table.new (saved_in attempt.now threads.new)
         + length (saved_in attempt.now threads.new)
         ≤ 2 * ahead_in attempt.now table.old (threads_in attempt.now pair.old threads.old) + length (saved_in attempt.now threads.old)) }
     ensures room { length table.new ≡ length table.old }

@@ -51,7 +51,7 @@ pub pairs-smaller : goal.pairs-smaller
 pairs-smaller c =
     let b = c.in-Some.ensures in
     let few : length (saved_in c.args.attempt.now c.visit_here.new.threads) ≡ length (saved_in c.args.attempt.now c.back.new.self) + 1 = ap length b.0 ∙ omega arith in
-    let progress = rw b.0 at c.in_ok-visit_here.ensures.no_more in
+    let progress = rw b.0 at (c.in_ok-visit_here.ensures.no_more c.in-Dead.is) in
     omega (arith, few, progress)
 
 pub pairs-preserved : goal.pairs-preserved
@@ -109,3 +109,9 @@ returns-in-Found-clause-swept c low kept deep goal found front back begins from 
 
 pub returns-in-Found-clause-found : goal.returns-in-Found-clause-found
 returns-in-Found-clause-found c = c.in_ok-visit_here.ensures.found c.in-Found.is ∙ c.pairs.invariant.here
+
+pub returns-in-None-clause-later : goal.returns-in-None-clause-later
+returns-in-None-clause-later c low from within = c.in_ok-visit_here.ensures.later low (omega (arith, from, c.pairs.invariant.here)) (c.pairs.invariant.later low from within)
+
+pub returns-in-Found-clause-later : goal.returns-in-Found-clause-later
+returns-in-Found-clause-later c low from within = c.in_ok-visit_here.ensures.later low (omega (arith, from, c.pairs.invariant.here)) (c.pairs.invariant.later low from within)
