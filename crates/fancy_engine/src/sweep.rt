@@ -283,7 +283,7 @@ fn follow_one(
             .push_current(pair, &sweep.threads, attempt.code)?;
         return Ok(());
     }
-    let found = follow_here(
+    match follow_here(
         attempt,
         pair,
         &mut sweep.threads,
@@ -291,13 +291,15 @@ fn follow_one(
         table,
         last_lines,
         work,
-    )?;
-    if found.is_some() {
-        sweep.found = found;
-        mem::swap(&mut sweep.threads, &mut sweep.best);
-        sweep.row.clear();
+    )? {
+        None => Ok(()),
+        Some(end) => {
+            sweep.found = Some(end);
+            mem::swap(&mut sweep.threads, &mut sweep.best);
+            sweep.row.clear();
+            Ok(())
+        }
     }
-    Ok(())
 }
 
 /// Follows the threads of the row that stand at the place.
