@@ -21,6 +21,7 @@ pub mod RunnerSteps
 pub mod RunnerLemmas
 pub mod SweepLemmas
 pub mod SavedLemmas
+pub mod SweepsLemmas
 pub mod Keeps
 pub mod EasyContinues
 pub mod RunnerSearch

@@ -1,16 +1,17 @@
 -- What threads passed and saved, taken out from the oldest on.
-use Rattle.std.proofs.Common.{◌≡◌, ℕ, List, [], ◌∷◌, ◌++◌, length, drop, take, Option, Some, None, refl, sym, ap, ap₂, ◌∙◌, append_assoc}
+use Rattle.std.proofs.Common.{◌≡◌, ℕ, ◌<◌, ◌+◌, List, [], ◌∷◌, ◌++◌, length, get_or, drop, Option, Some, None, refl, sym, ap, ap₂, ◌∙◌}
 use Rattle.std.specs.Prelude.{reverse}
-use Rattle.std.proofs.lemmas.List.{reverse-append}
+use Rattle.std.proofs.lemmas.List.{reverse-append, drop_more}
 use Rattle.std.proofs.lemmas.Option.{none-some}
-use Rattle.std.proofs.Math.Seq.{drop-append_seam, take-append_seam}
 use Rattle.fancy_engine.specs.Instructions.{Instruction, Match, Fail, Character, Member, RawByte, Assert, Split, Open, Close, Enter, Commit, Look, Deny, Test, Back, Recall, Keep, Continue, Taken}
 use Rattle.fancy_engine.specs.Run.{instr_at}
 use Rattle.fancy_engine.specs.declared.slot.Slot.{Slot}
 use Rattle.fancy_engine.specs.declared.slot.Pair.{Pair}
-use Rattle.fancy_engine.specs.declared.row.Waiting.{Waiting}
 use Rattle.fancy_engine.specs.Threads.{Thread, thread_of, slots_past, other_way, with_way, slots_after, saved_after, threads_at}
-use Rattle.fancy_engine.specs.Rows.{row_threads}
+
+-- what is left of a list from an index on begins with what is there
+pub next_left : (ps : List Pair) (n : ℕ) (p : Pair) → n < length ps → p ≡ get_or ps n p → drop n ps ≡ p ∷ drop (n + 1) ps
+next_left ps n p h e = drop_more ps n p h ∙ ap (λ (q : Pair). q ∷ drop (n + 1) ps) (sym e)
 
 slots_append : (code : List Instruction) (a b : List Pair) (slots : List Slot) → slots_after code (a ++ b) slots ≡ slots_after code a (slots_after code b slots)
 slots_append code [] b slots = refl
@@ -72,18 +73,18 @@ module _ (code : List Instruction) (current : Option Pair) where
       ∙ with_more current (slots_after code passed slots) (saved_after code passed slots (threads_at slots (reverse rest))) (thread_of b slots ∷ [])
 
   -- the oldest pair is passed: a group begins or ends there
-  pub passed_over : (passed rest : List Pair) (p : Pair) (slots : List Slot) → passed ≡ p ∷ rest → other_way (instr_at code p.at) p.place ≡ None
+  passed_alone : (passed rest : List Pair) (p : Pair) (slots : List Slot) → passed ≡ p ∷ rest → other_way (instr_at code p.at) p.place ≡ None
       → all_after (reverse passed) slots [] ≡ all_after (reverse rest) (slots_past (instr_at code p.at) p.place slots) []
-  passed_over passed rest p slots e none =
+  passed_alone passed rest p slots e none =
       ap (λ (ps : List Pair). all_after ps slots []) (ap reverse e ∙ reverse-append (p ∷ []) rest)
       ∙ ap₂ (with_way current) (slots_append code (reverse rest) (p ∷ []) slots)
       (saved_append code (reverse rest) (p ∷ []) slots []
       ∙ ap (λ (o : Option Pair). saved_after code (reverse rest) (slots_past (instr_at code p.at) p.place slots) (with_way o slots [])) none)
 
   -- or its other way is the last of the threads
-  pub way_out : (passed rest : List Pair) (p way : Pair) (slots : List Slot) → passed ≡ p ∷ rest → other_way (instr_at code p.at) p.place ≡ Some way
+  way_alone : (passed rest : List Pair) (p way : Pair) (slots : List Slot) → passed ≡ p ∷ rest → other_way (instr_at code p.at) p.place ≡ Some way
       → all_after (reverse passed) slots [] ≡ all_after (reverse rest) slots [] ++ thread_of way slots ∷ []
-  way_out passed rest p way slots e is =
+  way_alone passed rest p way slots e is =
       let same = choice_writes (instr_at code p.at) p.place way slots is in
       ap (λ (ps : List Pair). all_after ps slots []) (ap reverse e ∙ reverse-append (p ∷ []) rest)
       ∙ ap₂ (with_way current) (slots_append code (reverse rest) (p ∷ []) slots ∙ ap (slots_after code (reverse rest)) same)
@@ -92,15 +93,21 @@ module _ (code : List Instruction) (current : Option Pair) where
       ∙ saved_more code (reverse rest) slots [] (thread_of way slots ∷ []))
       ∙ with_more current (slots_after code (reverse rest) slots) (saved_after code (reverse rest) slots []) (thread_of way slots ∷ [])
 
--- a thread comes to a row
-pub row_put : (ws : List Waiting) (all slots : List Slot) (pair : Pair) (n : ℕ) → n ≡ length all
-    → row_threads (reverse (ws ++ record { pair = pair; from = n } ∷ [])) (all ++ slots) ≡ thread_of pair slots ∷ row_threads (reverse ws) all
-row_put ws all slots pair n e =
-    ap (λ (xs : List Waiting). row_threads xs (all ++ slots)) (reverse-append ws (record { pair = pair; from = n } ∷ []))
-    ∙ ap₂ (λ (s : List Slot) (r : List Slot). thread_of pair s ∷ row_threads (reverse ws) r)
-    (ap (λ (k : ℕ). drop k (all ++ slots)) e ∙ drop-append_seam all slots) (ap (λ (k : ℕ). take k (all ++ slots)) e ∙ take-append_seam all slots)
+  -- both where no branch is left
+  pub passed_over : (branches passed rest : List Pair) (p : Pair) (slots now : List Slot) → branches ≡ [] → passed ≡ p ∷ rest
+      → other_way (instr_at code p.at) p.place ≡ None → now ≡ slots_past (instr_at code p.at) p.place slots
+      → all_after (reverse passed) slots (threads_at slots (reverse branches)) ≡ all_after (reverse rest) now (threads_at now (reverse branches))
+  passed_over branches passed rest p slots now none e is wrote =
+      ap (λ (bs : List Pair). all_after (reverse passed) slots (threads_at slots (reverse bs))) none
+      ∙ passed_alone passed rest p slots e is
+      ∙ ap (λ (ss : List Slot). all_after (reverse rest) ss []) (sym wrote)
+      ∙ ap (λ (bs : List Pair). all_after (reverse rest) now (threads_at now (reverse bs))) (sym none)
 
--- the one that came last is taken
-pub row_pop : (ws rest : List Waiting) (w : Waiting) (all : List Slot) → ws ≡ rest ++ w ∷ []
-    → row_threads (reverse ws) all ≡ thread_of w.pair (drop w.from all) ∷ row_threads (reverse rest) (take w.from all)
-row_pop ws rest w all e = ap (λ (xs : List Waiting). row_threads xs all) (ap reverse e ∙ reverse-append rest (w ∷ []))
+  pub way_out : (branches passed rest : List Pair) (p way : Pair) (slots : List Slot) → branches ≡ [] → passed ≡ p ∷ rest
+      → other_way (instr_at code p.at) p.place ≡ Some way
+      → all_after (reverse passed) slots (threads_at slots (reverse branches))
+      ≡ all_after (reverse rest) slots (threads_at slots (reverse branches)) ++ thread_of way slots ∷ []
+  way_out branches passed rest p way slots none e is =
+      ap (λ (bs : List Pair). all_after (reverse passed) slots (threads_at slots (reverse bs))) none
+      ∙ way_alone passed rest p way slots e is
+      ∙ ap (λ (bs : List Pair). all_after (reverse rest) slots (threads_at slots (reverse bs)) ++ thread_of way slots ∷ []) (sym none)

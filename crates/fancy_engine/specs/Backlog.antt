@@ -1,5 +1,5 @@
 -- The threads of a backlog, from which the oldest is taken first.
-use Rattle.std.specs.Prelude.{◌≡◌, ℕ, List, [], ◌∷◌, ◌++◌, Option, Some, None, drop, reverse}
+use Rattle.std.specs.Prelude.{◌≡◌, List, [], ◌∷◌, ◌++◌, Option, Some, None, drop, reverse}
 use Rattle.fancy_engine.specs.Instructions.{Instruction}
 use Rattle.fancy_engine.specs.Threads.{Thread, KeptThreads, thread_of, threads_at, with_way, held_of}
 use Rattle.fancy_engine.specs.declared.slot.Pair.{Pair}

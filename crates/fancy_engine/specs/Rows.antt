@@ -1,5 +1,5 @@
 -- Threads that wait, each at a pair and with slots of its own, over one list of slots.
-use Rattle.std.specs.Prelude.{◌≡◌, ℕ, Bool, true, false, List, [], ◌∷◌, Option, Some, None, take, drop}
+use Rattle.std.specs.Prelude.{◌≡◌, Bool, true, false, List, [], ◌∷◌, Option, Some, None, take, drop}
 use Rattle.fancy_engine.specs.Threads.{Thread, KeptThreads, thread_of, AreFresh}
 use Rattle.fancy_engine.specs.declared.slot.Slot.{Slot}
 use Rattle.fancy_engine.specs.declared.slot.Pair.{Pair}

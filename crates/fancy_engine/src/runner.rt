@@ -365,7 +365,8 @@ pub fn follow(
         match visit(attempt, &mut pair, threads, table, last_lines, work)? {
             Next::On => {
                 if threads.is_long() {
-                    return follow_by_place(attempt, pair, threads, table, last_lines, work);
+                    let end = follow_by_place(attempt, pair, threads, table, last_lines, work)?;
+                    return Ok(end);
                 }
             }
             Next::Dead => match threads.back(attempt.code, work) {

@@ -1,6 +1,6 @@
 //! Searches that saved much go on without saving more: the threads that are left are followed in the order of their places.
 
-ghost use Rattle.std.specs.Prelude.{◌≡◌, ◌+◌, ◌-◌, ◌*◌, ◌^◌, ◌<◌, ◌≤◌, ◌⊎◌, ◌++◌, ◌∷◌, [], ℕ, List, Option, Some, None, true, false, length, reverse, IfOk, IfSome};
+ghost use Rattle.std.specs.Prelude.{◌≡◌, ◌+◌, ◌-◌, ◌*◌, ◌^◌, ◌<◌, ◌≤◌, ◌⊎◌, ◌≢◌, ◌++◌, ◌∷◌, [], ℕ, List, Option, Some, None, true, false, length, reverse, IfOk, IfSome};
 ghost use Rattle.fancy_engine.specs.Context.{State};
 ghost use Rattle.fancy_engine.specs.Code.{code_len, due_of, burden, instrs_of};
 ghost use Rattle.fancy_engine.specs.Compile.{AreEasy};
@@ -228,9 +228,22 @@ impl Sweep {
 
     /// Whether no thread is left.
     fn is_over(&self) -> bool
-        ensures { result ≡ true → (code : Code) → IsDrained code self.now → left_in_sweep code self.now ≡ [] }
+        ensures over { result ≡ true → (code : Code) → IsDrained code self.now → left_in_sweep code self.now ≡ [] }
+        ensures open { result ≡ false → (code : Code) → left_in_sweep code self.now ≢ [] }
     {
-        self.waiting.is_none() && self.row.is_empty()
+        match self.waiting {
+            Some(_) => false,
+            None => self.row.is_empty(),
+        }
+    }
+
+    /// Where what was found ends, whose slots `threads` has then.
+    fn finish(&mut self, threads: &mut Threads) -> Option<usize>
+        ensures found { result ≡ self.old.found }
+        ensures slots { threads.new ≡ self.old.best }
+    {
+        mem::swap(threads, &mut self.best);
+        self.found
     }
 }
 
@@ -382,7 +395,8 @@ fn follow_place(
     ensures last_lines { KnowsLastLines attempt.now.haystack.now last_lines.new }
 {
     sweep.gather(attempt.code, place)?;
-    follow_row(attempt, place, sweep, table, last_lines, work)
+    follow_row(attempt, place, sweep, table, last_lines, work)?;
+    Ok(())
 }
 
 /// The place of the first accepted outcome of the threads that a search has before it, of which the one that is followed stands at a
@@ -411,13 +425,13 @@ pub(crate) fn follow_by_place(
         → AllWithin low attempt.now.last (threads_in attempt.now pair threads.old)
         → RunningIn attempt.now low kept deep goal table.old (stack_in attempt.now pair threads.old)
         → end ≡ None → AllFailedIn attempt.now low deep table.new) }
-    ensures past { IfOk result (λ end. IfSome end (λ stop. (low kept deep : ℕ) (goal : Option State) → attempt.now.base ≤ low
+    ensures past { IfOk result (λ end. (stop : ℕ) → end ≡ Some stop → (low kept deep : ℕ) (goal : Option State) → attempt.now.base ≤ low
         → AllWithin low attempt.now.last (threads_in attempt.now pair threads.old)
         → RunningIn attempt.now low kept deep goal table.old (stack_in attempt.now pair threads.old)
-        → FailedPastIn attempt.now low deep stop table.new)) }
-    ensures forth { IfOk result (λ end. IfSome end (λ stop. (low : ℕ)
-        → AllWithin low attempt.now.last (threads_in attempt.now pair threads.old) → low ≤ stop)) }
-    ensures within { IfOk result (λ end. IfSome end (λ stop. stop ≤ attempt.now.last)) }
+        → FailedPastIn attempt.now low deep stop table.new) }
+    ensures forth { IfOk result (λ end. (stop : ℕ) → end ≡ Some stop → (low : ℕ)
+        → AllWithin low attempt.now.last (threads_in attempt.now pair threads.old) → low ≤ stop) }
+    ensures within { IfOk result (λ end. (stop : ℕ) → end ≡ Some stop → stop ≤ attempt.now.last) }
     ensures room { length table.new ≡ length table.old }
     ensures spent { IfOk result (λ _. steps_of work.new + left_in attempt.now table.new
         ≤ steps_of work.old + ahead_in attempt.now table.old (threads_in attempt.now pair threads.old)) }
@@ -432,11 +446,13 @@ pub(crate) fn follow_by_place(
     let Some(first) = sweep.waiting else {
         return Ok(None);
     };
-    let mut place = first.place;
-    'places: while place <= attempt.last && !sweep.is_over() {
+    let last = attempt.last;
+    for place in first.place..last {
+        if sweep.is_over() {
+            return Ok(sweep.finish(threads));
+        }
         follow_place(attempt, place, &mut sweep, table, last_lines, work)?;
-        place += 1;
     }
-    mem::swap(threads, &mut sweep.best);
-    Ok(sweep.found)
+    follow_place(attempt, last, &mut sweep, table, last_lines, work)?;
+    Ok(sweep.finish(threads))
 }

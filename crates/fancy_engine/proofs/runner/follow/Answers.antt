@@ -1,22 +1,23 @@
-use Rattle.std.proofs.Common.{◌≡◌, ◌+◌, ◌-◌, ◌^◌, ◌<◌, ◌∷◌, inl, inr, length, List, ap, ◌∙◌, subst, arith}
+use Rattle.std.proofs.Common.{◌≡◌, ℕ, ◌≤◌, ◌+◌, ◌-◌, ◌^◌, ◌<◌, ◌∷◌, inl, inr, length, List, ap, ◌∙◌, subst, arith}
 use Rattle.fancy_engine.specs.Threads.{Thread, begun_at}
-use Rattle.fancy_engine.specs.Attempt.{context_in, instrs_in, may_end_in, marks_in, first_accepted_in, RestingIn, current_in, saved_in, threads_in}
+use Rattle.fancy_engine.specs.Attempt.{context_in, instrs_in, may_end_in, marks_in, first_accepted_in, KnownIn, AllFailedIn, FailedPastIn, RestingIn, current_in, saved_in, threads_in}
 use Rattle.fancy_engine.specs.Runner.{AllWithin}
 use Rattle.fancy_engine.specs.Sweep.{AreRising}
 use Rattle.fancy_engine.specs.Work.{steps_of}
 use Rattle.fancy_engine.proofs.WorkLemmas.{one_return}
 use Rattle.fancy_engine.proofs.MarkingLemmas.{either_side}
 use Rattle.fancy_engine.proofs.SweepLemmas.{rising_next}
+use Rattle.fancy_engine.proofs.SweepsLemmas.{if_some}
 use Rattle.fancy_engine.proofs.RunnerLemmas.{rest_done, rest_back, within_lower}
 use Rattle.fancy_engine.proofs.runner.follow.Goals as goal
 
-pub pairs-smaller-in-On : goal.pairs-smaller-in-On
-pairs-smaller-in-On c =
+pub pairs-smaller-else-is_long : goal.pairs-smaller-else-is_long
+pairs-smaller-else-is_long c =
     let progress = rw c.in-On.is at c.in_ok-visit.ensures.progress in
     omega (arith, progress.0, progress.1)
 
-pub pairs-preserved-in-On : goal.pairs-preserved-in-On
-pairs-preserved-in-On c =
+pub pairs-preserved-else-is_long : goal.pairs-preserved-else-is_long
+pairs-preserved-else-is_long c =
     let spent = rw c.in-On.is at c.in_ok-visit.ensures.spent in
     record {
       running = λ kept deep known failed. rw c.in-On.is at (c.in_ok-visit.ensures.visited c.args.start.place kept deep (first_accepted_in c.args.attempt.now kept deep (begun_at c.args.start c.args.threads.now.slots)) c.requires.low c.pairs.invariant.within (c.pairs.invariant.running kept deep known failed));
@@ -99,3 +100,35 @@ returns-in-Found-clause-forth c = (c.in_ok-visit.ensures.within c.args.start.pla
 
 pub returns-in-Found-clause-within : goal.returns-in-Found-clause-within
 returns-in-Found-clause-within c = (c.in_ok-visit.ensures.within c.args.start.place c.pairs.invariant.within).1
+
+pub follow_by_place-requires-clause-within : goal.follow_by_place-requires-clause-within
+follow_by_place-requires-clause-within c =
+    within_lower c.args.attempt.now.base c.args.start.place c.args.attempt.now.last (threads_in c.args.attempt.now c.visit.new.pair c.visit.new.threads) c.requires.low (c.in_ok-visit.ensures.within c.args.start.place c.pairs.invariant.within)
+
+pub follow_by_place-requires-clause-rising : goal.follow_by_place-requires-clause-rising
+follow_by_place-requires-clause-rising c =
+    rising_next (current_in c.args.attempt.now c.pairs.pair c.pairs.threads) (current_in c.args.attempt.now c.visit.new.pair c.visit.new.threads) (saved_in c.args.attempt.now c.pairs.threads) (saved_in c.args.attempt.now c.visit.new.threads) c.pairs.invariant.rising c.in_ok-visit.ensures.grown c.in_ok-visit.ensures.forth
+
+pub returns-then-is_long-clause-answer : goal.returns-then-is_long-clause-answer
+returns-then-is_long-clause-answer c kept deep known failed =
+    c.in_ok-end-in-On.ensures.answer c.args.start.place kept deep (first_accepted_in c.args.attempt.now kept deep (begun_at c.args.start c.args.threads.now.slots)) c.requires.low (c.in_ok-visit.ensures.within c.args.start.place c.pairs.invariant.within)
+    (rw c.in-On.is at (c.in_ok-visit.ensures.visited c.args.start.place kept deep (first_accepted_in c.args.attempt.now kept deep (begun_at c.args.start c.args.threads.now.slots)) c.requires.low c.pairs.invariant.within (c.pairs.invariant.running kept deep known failed)))
+
+pub returns-then-is_long-clause-failed : goal.returns-then-is_long-clause-failed
+returns-then-is_long-clause-failed c kept deep known failed =
+    c.in_ok-end-in-On.ensures.failed c.args.start.place kept deep (first_accepted_in c.args.attempt.now kept deep (begun_at c.args.start c.args.threads.now.slots)) c.requires.low (c.in_ok-visit.ensures.within c.args.start.place c.pairs.invariant.within)
+    (rw c.in-On.is at (c.in_ok-visit.ensures.visited c.args.start.place kept deep (first_accepted_in c.args.attempt.now kept deep (begun_at c.args.start c.args.threads.now.slots)) c.requires.low c.pairs.invariant.within (c.pairs.invariant.running kept deep known failed)))
+
+pub returns-then-is_long-clause-past : goal.returns-then-is_long-clause-past
+returns-then-is_long-clause-past c =
+    if_some c.in_ok-end-in-On.end (λ (stop : ℕ). (kept deep : ℕ) → KnownIn c.args.attempt.now kept deep (begun_at c.args.start c.args.threads.now.slots)
+    → AllFailedIn c.args.attempt.now c.args.start.place deep c.args.table.now → FailedPastIn c.args.attempt.now c.args.start.place deep stop c.follow_by_place.new.table)
+    (λ stop is kept deep known failed.
+    c.in_ok-end-in-On.ensures.past stop is c.args.start.place kept deep (first_accepted_in c.args.attempt.now kept deep (begun_at c.args.start c.args.threads.now.slots)) c.requires.low (c.in_ok-visit.ensures.within c.args.start.place c.pairs.invariant.within)
+    (rw c.in-On.is at (c.in_ok-visit.ensures.visited c.args.start.place kept deep (first_accepted_in c.args.attempt.now kept deep (begun_at c.args.start c.args.threads.now.slots)) c.requires.low c.pairs.invariant.within (c.pairs.invariant.running kept deep known failed))))
+
+pub returns-then-is_long-clause-forth : goal.returns-then-is_long-clause-forth
+returns-then-is_long-clause-forth c = if_some c.in_ok-end-in-On.end (λ (stop : ℕ). c.args.start.place ≤ stop) (λ stop is. c.in_ok-end-in-On.ensures.forth stop is c.args.start.place (c.in_ok-visit.ensures.within c.args.start.place c.pairs.invariant.within))
+
+pub returns-then-is_long-clause-within : goal.returns-then-is_long-clause-within
+returns-then-is_long-clause-within c = if_some c.in_ok-end-in-On.end (λ (stop : ℕ). stop ≤ c.args.attempt.now.last) (λ stop is. c.in_ok-end-in-On.ensures.within stop is)
