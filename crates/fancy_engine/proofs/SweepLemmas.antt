@@ -1,20 +1,20 @@
 -- A sweep, which follows the threads that are left in the order of their places.
 use Rattle.std.proofs.Common.{◌≡◌, ℕ, ◌+◌, ◌<◌, ◌≤◌, ◌⊎◌, Bool, true, false, List, [], ◌∷◌, ◌++◌, Option, Some, None, refl, sym, ap, ap₂, ◌∙◌, subst, inl, inr, arith, append_assoc}
-use Rattle.std.specs.Prelude.{if◌then◌else◌, ◌||◌, is_some, reverse}
+use Rattle.std.specs.Prelude.{if◌then◌else◌, is_some, reverse}
 use Rattle.std.specs.Option.{option_or}
 use Rattle.std.proofs.lemmas.List.{reverse-append}
-use Rattle.std.proofs.lemmas.Bool.{or_cases, cases_lt, false_from_ne_true, true≢false}
+use Rattle.std.proofs.lemmas.Bool.{or_cases, cases_lt, true≢false}
 use Rattle.fancy_engine.specs.declared.code.Code.{Code}
-use Rattle.fancy_engine.specs.Code.{burden, due_of}
+use Rattle.fancy_engine.specs.Code.{burden}
 use Rattle.fancy_engine.specs.Instructions.{Instruction}
 use Rattle.fancy_engine.specs.declared.runner.Next.TheVariants.{On}
 use Rattle.fancy_engine.specs.Context.{Context, State}
-use Rattle.fancy_engine.specs.Events.{Event, mark, return, outcome, either}
+use Rattle.fancy_engine.specs.Events.{Event, return, outcome}
 use Rattle.fancy_engine.specs.Marking.{Marks}
 use Rattle.fancy_engine.specs.Threads.{Thread, state_of}
 use Rattle.fancy_engine.specs.Runner.{events_of, Known, AllKnown, thread_run, pending, Stepped, first_accepted, ends_well, AllWithin, WasVisited, rank, Hits, HitsBelow, AllFailed, FailedPast, Running}
 use Rattle.fancy_engine.specs.Compile.{AreEasy}
-use Rattle.fancy_engine.specs.Sweep.{AllPast, AllAt, AllUpTo, AreRising, Grown, IsPast, FoundFrom, HitsPast, CoversAll, Sweeping}
+use Rattle.fancy_engine.specs.Sweep.{AllPast, AllAt, AllUpTo, AreRising, Grown, IsPast, HitsPast, CoversAll, Sweeping}
 use Rattle.fancy_engine.proofs.RunnerLemmas.{first_or, choice_some, rank_is, hits_is, Adds}
 
 -- threads past a place, one after another

@@ -17,7 +17,7 @@ use Rattle.fancy_engine.specs.Code.{instrs_of}
 use Rattle.fancy_engine.specs.Instructions.{Instruction}
 use Rattle.fancy_engine.specs.Runner.{found_state}
 use Rattle.fancy_engine.specs.Sweeps.{taken_out, backlog_in, found_in, KeepsBacklog, KeepsFound}
-use Rattle.fancy_engine.specs.Threads.{Thread, KeptThreads, thread_of}
+use Rattle.fancy_engine.specs.Threads.{Thread, KeptThreads}
 
 pub backlog_same : (code : Code) (s t : Sweep) → KeepsBacklog s t → backlog_in code t ≡ backlog_in code s
 backlog_same code s t k =

@@ -1,5 +1,5 @@
 -- What a sweep keeps true, which follows the threads that are left in the order of their places.
-use Rattle.std.specs.Prelude.{◌≡◌, ℕ, ◌+◌, ◌<◌, ◌≤◌, ◌⊎◌, List, [], ◌∷◌, ◌++◌, Bool, Option, Some, None}
+use Rattle.std.specs.Prelude.{◌≡◌, ℕ, ◌<◌, ◌≤◌, ◌⊎◌, List, [], ◌∷◌, ◌++◌, Bool, Option, Some, None}
 use Rattle.std.specs.Option.{option_or}
 use Rattle.fancy_engine.specs.Instructions.{Instruction}
 use Rattle.fancy_engine.specs.declared.runner.Next.{Next}

@@ -123,7 +123,7 @@ fn take_way(code: &Code, passed: &mut Vec<Pair>) -> Option<Pair>
 }
 
 /// So many branches and as many pairs are kept at most before a search goes on without them.
-const MOST: usize = 8192;
+const MOST: usize = 16_384;
 
 /// What threads keep: the slots, the branches that were saved before a group began or ended, and the pairs that were passed since.
 #[derive(Drop)]

@@ -1,17 +1,15 @@
-use Rattle.std.proofs.Common.{◌≡◌, ℕ, ◌+◌, ◌≤◌, ◌<◌, ◌++◌, ◌∷◌, ◌∙◌, [], List, Option, inl, inr, refl, sym, ap, ap₂, subst, arith}
-use Rattle.std.specs.Prelude.{Some, None}
+use Rattle.std.proofs.Common.{◌≡◌, ℕ, ◌+◌, ◌≤◌, ◌++◌, ◌∷◌, ◌∙◌, [], List, Option, inl, inr, refl, sym, ap, ap₂, subst, arith}
 use Rattle.std.proofs.lemmas.List.{append-nil}
 use Rattle.std.proofs.lemmas.Option.{none-some, same_Some}
 use Rattle.fancy_engine.specs.Attempt.{context_in, instrs_in, may_end_in, marks_in, current_in, saved_in, threads_in}
 use Rattle.fancy_engine.specs.Backlog.{threads_in_backlog}
 use Rattle.fancy_engine.specs.Code.{burden}
-use Rattle.fancy_engine.specs.Context.{State}
 use Rattle.fancy_engine.specs.Runner.{AllWithin, found_state}
 use Rattle.fancy_engine.specs.Sweep.{AreRising, SweepingIn}
 use Rattle.fancy_engine.specs.Sweeps.{taken_out, backlog_in, left_in_sweep, found_in}
 use Rattle.fancy_engine.specs.Threads.{Thread, KeptThreads, thread_of}
 use Rattle.fancy_engine.specs.declared.slot.Pair.{Pair}
-use Rattle.fancy_engine.proofs.SweepLemmas.{within_back, within_last, within_none, sweep_first, sweep_failed, sweep_past}
+use Rattle.fancy_engine.proofs.SweepLemmas.{within_back, within_last, within_none, sweep_first}
 use Rattle.fancy_engine.proofs.RunnerLemmas.{within_lower}
 use Rattle.fancy_engine.proofs.SweepsLemmas.{ended_answer, ended_failed, ended_past}
 use Rattle.fancy_engine.proofs.sweep.follow_by_place.Goals as goal

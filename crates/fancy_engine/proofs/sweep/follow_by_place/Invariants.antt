@@ -1,6 +1,6 @@
 use Rattle.std.proofs.Common.{ℕ, ◌≡◌, ◌+◌, ◌-◌, ◌≤◌, [], Option, length}
 use Rattle.std.specs.Prelude.{Some}
-use Rattle.fancy_engine.specs.Attempt.{left_in, ahead_in, threads_in, stack_in, RunningIn}
+use Rattle.fancy_engine.specs.Attempt.{ahead_in, threads_in, stack_in, RunningIn}
 use Rattle.fancy_engine.specs.Context.{State}
 use Rattle.fancy_engine.specs.Runner.{AllWithin}
 use Rattle.fancy_engine.specs.Sweep.{AreRising, SweepingIn}

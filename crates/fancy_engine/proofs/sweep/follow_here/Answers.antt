@@ -1,8 +1,7 @@
-use Rattle.std.proofs.Common.{◌≡◌, ◌+◌, ◌-◌, ◌^◌, ◌<◌, ◌∷◌, ◌++◌, inl, inr, length, refl, sym, List, ap, ◌∙◌, subst, arith}
-use Rattle.std.specs.Prelude.{Some, reverse}
-use Rattle.fancy_engine.specs.Threads.{Thread, state_of}
+use Rattle.std.proofs.Common.{◌≡◌, ◌+◌, ◌-◌, ◌^◌, ◌<◌, ◌∷◌, ◌++◌, inl, inr, length, sym, List, ap, ◌∙◌, subst, arith}
+use Rattle.std.specs.Prelude.{reverse}
+use Rattle.fancy_engine.specs.Threads.{Thread}
 use Rattle.fancy_engine.specs.Attempt.{current_in, saved_in, threads_in}
-use Rattle.fancy_engine.specs.Runner.{AllWithin}
 use Rattle.fancy_engine.specs.Sweep.{AllPast, AllAt, SweepingIn}
 use Rattle.fancy_engine.specs.Work.{steps_of}
 use Rattle.fancy_engine.proofs.WorkLemmas.{one_return}

@@ -1,4 +1,4 @@
-use Rattle.std.proofs.Common.{◌≡◌, ◌++◌, ◌∙◌, [], List, sym, ap, subst, arith}
+use Rattle.std.proofs.Common.{◌≡◌, ◌++◌, ◌∙◌, List, sym, ap, subst, arith}
 use Rattle.std.specs.Prelude.{Some, reverse}
 use Rattle.std.proofs.lemmas.List.{append-nil}
 use Rattle.fancy_engine.specs.Runner.{found_state}

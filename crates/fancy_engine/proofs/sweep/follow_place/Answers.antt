@@ -1,4 +1,4 @@
-use Rattle.std.proofs.Common.{◌≡◌, ◌+◌, ◌++◌, ◌∙◌, List, Option, sym, ap, subst, arith}
+use Rattle.std.proofs.Common.{◌+◌, ◌++◌, List, Option, sym, ap, subst, arith}
 use Rattle.fancy_engine.specs.Code.{burden}
 use Rattle.fancy_engine.specs.Context.{State}
 use Rattle.fancy_engine.specs.Runner.{AllWithin}

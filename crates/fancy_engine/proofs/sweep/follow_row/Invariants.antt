@@ -1,4 +1,4 @@
-use Rattle.std.proofs.Common.{ℕ, ◌≡◌, ◌+◌, ◌-◌, ◌<◌, ◌≤◌, ◌⊎◌, ◌++◌, List, Option, length}
+use Rattle.std.proofs.Common.{ℕ, ◌≡◌, ◌+◌, ◌-◌, ◌≤◌, ◌⊎◌, ◌++◌, List, Option, length}
 use Rattle.std.specs.Prelude.{Some, reverse}
 use Rattle.fancy_engine.specs.Attempt.{left_in}
 use Rattle.fancy_engine.specs.Code.{burden}

@@ -1,6 +1,6 @@
-use Rattle.std.proofs.Common.{◌≡◌, ◌+◌, ◌∷◌, ◌++◌, ◌∙◌, List, sym, ap, subst, arith}
+use Rattle.std.proofs.Common.{◌∷◌, ◌++◌, List, sym, subst, arith}
 use Rattle.std.specs.Prelude.{reverse}
-use Rattle.fancy_engine.specs.Attempt.{current_in, saved_in, threads_in}
+use Rattle.fancy_engine.specs.Attempt.{current_in, saved_in}
 use Rattle.fancy_engine.specs.Runner.{AllWithin}
 use Rattle.fancy_engine.specs.Sweep.{SweepingIn}
 use Rattle.fancy_engine.specs.Threads.{Thread}

@@ -1,4 +1,4 @@
-use Rattle.std.proofs.Common.{◌≡◌, ◌++◌, ◌∷◌, ◌∙◌, [], List, Option, sym, ap, subst, arith}
+use Rattle.std.proofs.Common.{◌++◌, List, Option, sym, subst, arith}
 use Rattle.fancy_engine.specs.Backlog.{threads_in_backlog}
 use Rattle.fancy_engine.specs.Code.{instrs_of}
 use Rattle.fancy_engine.specs.Sweep.{AllPast, AreRising}
