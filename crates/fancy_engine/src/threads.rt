@@ -122,7 +122,7 @@ fn take_way(code: &Code, passed: &mut Vec<Pair>) -> Option<Pair>
     None
 }
 
-/// So many branches and as many pairs are kept at most before a search goes on without them.
+/// With so many branches or so many pairs, 256 KB of them, a search goes on place by place.
 const MOST: usize = 16_384;
 
 /// What threads keep: the slots, the branches that were saved before a group began or ended, and the pairs that were passed since.
@@ -283,7 +283,7 @@ impl Threads {
         *self.slots.allocator()
     }
 
-    /// Whether so much is kept that a search is to go on without saving more.
+    /// Whether so much is kept that a search is to go on place by place.
     pub(crate) fn is_long(&self) -> bool {
         self.branches.len() >= MOST || self.passed.len() >= MOST
     }

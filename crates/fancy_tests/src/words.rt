@@ -47,6 +47,28 @@ const LETTERS: &str =
 const ALIKE: &str = "abcdv|abcdw|abcdx|abcdy|abcdz|abcd|bcde|cdef|defg|efgh|fghi|ghij";
 
 const ROWS: &[LongRow] = &[
+    // the first branch reads far more than a search keeps of its way before it fails
+    LongRow {
+        pattern: "(?:a|b)*c|d",
+        filler: "ab",
+        count: 10_000,
+        tail: "dabcd",
+        spans: &[(0, 1), (1, 4), (4, 5)],
+    },
+    LongRow {
+        pattern: "[a-z]*!|é",
+        filler: "xy",
+        count: 10_000,
+        tail: "éxy!é",
+        spans: &[(0, 2), (2, 5), (5, 7)],
+    },
+    LongRow {
+        pattern: "(?:[^é]|é[a-m])*!|(éz)",
+        filler: "xyéa",
+        count: 10_000,
+        tail: "éz",
+        spans: &[(0, 3)],
+    },
     LongRow {
         pattern: FOLDED,
         filler: "kel sig alp m n ",

@@ -6,6 +6,8 @@ use crate::asking::{
     check_later_groups, check_names, check_owned_parts, check_parts, regex_of, regex_with,
 };
 use fancy_regex::RegexInput;
+use std::alloc::Global;
+use std::process::Abort;
 
 const GROUPS: &[GroupsRow] = &[
     ("a*", "aab", &[Some((0, 2))]),
@@ -96,6 +98,89 @@ const NAMES: &[NamesRow] = &[
     ("(?<a>(?<b>x))(?m)", &[None, Some("a"), Some("b")]),
     ("é", &[None]),
 ];
+
+/// A pattern, a text that is repeated so many times, what follows it, and the spans of the groups of the first match, from group 0
+/// on.
+type LongGroupsRow = (
+    &'static str,
+    &'static str,
+    usize,
+    &'static str,
+    &'static [Option<(usize, usize)>],
+);
+
+// on the way to each match more ways are put aside than a search keeps
+const LONG_GROUPS: &[LongGroupsRow] = &[
+    // the last turns read `a` and `b`
+    (
+        "((a)|(b))*c",
+        "ab",
+        10_000,
+        "c",
+        &[
+            Some((0, 20_001)),
+            Some((19_999, 20_000)),
+            Some((19_998, 19_999)),
+            Some((19_999, 20_000)),
+        ],
+    ),
+    // there is no `c`, and nothing stands in its place
+    (
+        "(?:(a)|b)*(c|)",
+        "ab",
+        10_000,
+        "d",
+        &[
+            Some((0, 20_000)),
+            Some((19_998, 19_999)),
+            Some((20_000, 20_000)),
+        ],
+    ),
+    // the one `a` that the first group gives back
+    (
+        "(a*)(a|b)",
+        "a",
+        20_000,
+        "",
+        &[Some((0, 20_000)), Some((0, 19_999)), Some((19_999, 20_000))],
+    ),
+    // up to the last `b` that a `c` follows, over lines and characters of two bytes
+    (
+        "(?s)(.*)b(c)",
+        "xé\n",
+        10_000,
+        "bcbdc",
+        &[Some((0, 40_002)), Some((0, 40_000)), Some((40_001, 40_002))],
+    ),
+    // the branch that is written first
+    (
+        "(?:(a|b)*(?:d|(c)d)|(?:a|b)*(cd))",
+        "ab",
+        10_000,
+        "cde",
+        &[
+            Some((0, 20_002)),
+            Some((19_999, 20_000)),
+            Some((20_000, 20_001)),
+            None,
+        ],
+    ),
+];
+
+fn long_text(rt: &impl Abort, alloc: Global, unit: &str, count: usize, tail: &str) -> String {
+    let mut text = unit.repeat(alloc, count).expect(rt, unit);
+    text.push_str(tail).expect(rt, tail);
+    text
+}
+
+#[test]
+fn finds_the_groups_in_long_texts(rt: HostRuntime) {
+    for &(pattern, unit, count, tail, wanted) in LONG_GROUPS {
+        let text = long_text(&rt, rt.alloc(), unit, count, tail);
+        let regex = regex_of(&rt, rt.alloc(), pattern);
+        check_input(&rt, &regex, RegexInput::new(text.as_str()), wanted);
+    }
+}
 
 #[test]
 fn finds_the_groups(rt: HostRuntime) {
