@@ -42,12 +42,20 @@ pub struct Cell {
 /// The most rows that are kept. A search for a thousand words makes some thousand.
 pub const ROWS: usize = 32_768;
 
-/// The most steps that are kept, of some 100 bytes each, so 1.6 MB, without the ways that they lead to.
+/// The most steps that are kept.
 pub const CELLS: usize = 16_384;
 
-/// Once the rows and the steps have so many numbers together, of 8 bytes each, so 32 MB, they are forgotten before the next
-/// step is computed.
-pub const HELD: usize = 4_194_304;
+/// So many bytes the rows and the steps may take in any haystack, and in a longer one as many more as it is long.
+pub const ROOM: usize = 524_288;
+
+/// A row takes about so many bytes, with its hints and without its instructions.
+const ROW_BYTES: usize = 160;
+
+/// A step takes about so many bytes, with its hints and without the ways that it leads to.
+const CELL_BYTES: usize = 240;
+
+/// An instruction of a row takes so many bytes, and so does a way that a step leads to.
+const WAY_BYTES: usize = 8;
 
 /// Rows of waiting instructions, and steps between them. A row has each instruction in order of preference. Where a step
 /// is kept is a mere hint: what it leads to is tested.
@@ -67,6 +75,8 @@ pub struct Cells {
     pub alone: usize,
     /// How many ways all steps lead to together.
     pub held: usize,
+    /// Once rows and steps take about so many bytes, they are forgotten before the next step is computed.
+    pub room: usize,
     /// The trail of the search before, whose memory the next one takes over.
     pub spare: Trail,
     /// The place where the last search stopped reading, a byte offset.
@@ -92,6 +102,7 @@ impl Cells {
             nothing: 0,
             alone: 0,
             held: 0,
+            room: ROOM,
             spare: Trail::new(alloc),
             reached: 0,
             marks: Marks::new(alloc),
@@ -103,14 +114,22 @@ impl Cells {
         self.reached
     }
 
+    /// About how many bytes the rows and the steps take.
+    fn bytes(&self) -> usize {
+        let ways = self.rows.held.saturating_add(self.held);
+        let rows = self.rows.lists.len().saturating_mul(ROW_BYTES);
+        let cells = self.cells.len().saturating_mul(CELL_BYTES);
+        ways.saturating_mul(WAY_BYTES)
+            .saturating_add(rows)
+            .saturating_add(cells)
+    }
+
     /// Whether one more step may be one too many.
     pub fn is_full(&self) -> bool
         requires { IsWithin self.now }
         ensures { result ≡ false → HasPlace self.now }
     {
-        self.rows.lists.len() > ROWS - 2
-            || self.cells.len() >= CELLS
-            || self.rows.held.saturating_add(self.held) >= HELD
+        self.rows.lists.len() > ROWS - 2 || self.cells.len() >= CELLS || self.bytes() >= self.room
     }
 
     /// Forgets all, so that another code may be searched for. Hints that are left name nothing, or a later step, which is

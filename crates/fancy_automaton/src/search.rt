@@ -14,7 +14,7 @@ ghost use Rattle.fancy_automaton.specs.Cells.{IsFor, IsWithin};
 ghost use Rattle.fancy_automaton.specs.Futures.{ArePlain};
 ghost use Rattle.fancy_automaton.specs.Search.{BegunIn, KeepsPlaces, Steady, at_position, ends_in, leftmost_in};
 
-use crate::cells::Cells;
+use crate::cells::{Cells, ROOM};
 use crate::front::Front;
 use fancy_engine::code::Code;
 use fancy_engine::found::Found;
@@ -117,6 +117,7 @@ pub fn find(
         on_boundaries: options.on_boundaries,
         suppressed: options.suppressed_ends(request),
     };
+    cells.room = ROOM.saturating_add(haystack.len());
     let found = find_span(&attempt, cells, work)?;
     Ok(found_by(found))
 }
