@@ -52,6 +52,9 @@ def searches():
                 (r'(?m:^)(\d+)', '1 test 123\n2 foo', 7, '11..12'), ('a', 'a', 2, 'none'), (r'(\w+) \1', MIRRORS, 0, '0..13'),
                 ('(?:a|b|ab)*bc', 'ab' * 28 + 'ac', 0, 'none')):
             yield 'find_from', options, pattern, text, start, '', found_from(span)
+    # more is saved on the way than the runner keeps, which goes on place by place
+    yield 'captures', '-', '((a)|(b))*c', 'ab' * 10000 + 'c', 0, '', ['0..20001,19999..20000,19998..19999,19999..20000,'] * 3
+    yield 'find', '-', '(?:a|b)*c', 'ab' * 10000 + 'd', 0, '', found('none')
     yield 'find', '0', '(?:a|b)(?=c)', 'bc', 0, '', [LIMIT] * 2
     yield 'find', 'E', 'a*', 'baa', 0, '', found('1..3')
     yield 'find', 'L', 'a|ab', 'abaa ab', 0, '', found('0..2')
