@@ -139,10 +139,64 @@ def replace(pattern, haystack, limit, template, texts, options=""):
     yield answered(asking.line("replace", in_options(options), pattern, haystack, limit, template), map(text, texts))
 
 
+def expand(pattern, haystack, template, wanted):
+    alone, after = text(wanted), text("t" + wanted)
+    yield answered(asking.line("expand", "-", pattern, haystack, 0, template), [alone] + [after] * 4)
+    yield answered(asking.line("write", "-", pattern, haystack, 0, template), [wanted])
+
+
+def expand_as_in_python(pattern, haystack, template, wanted, by_default):
+    alone, after, otherwise = text(wanted), text("t" + wanted), text("t" + by_default)
+    yield answered(asking.line("expand", "-", pattern, haystack, 1, template), [alone, after, otherwise, otherwise, after])
+
+
+def check(pattern, template, *told):
+    yield answered(asking.line("check", "-", pattern, "", 0, template), [item(one, str) for one in told])
+
+
+def escape(haystack, *escaped):
+    yield answered(asking.line("escape", "-", "", haystack), map(text, escaped))
+
+
+def bytes_of(one):
+    """An item that is a set of bytes, which the row has in hexadecimal."""
+    return " ".join(["%d bytes" % len(one.split()), *one.split()])
+
+
+def bytes_(pattern, first, required, options=""):
+    items = [text(None) if first is None else item(first, bytes_of), item(required, bytes_of)]
+    yield answered(asking.line("bytes", in_options(options), pattern, ""), items)
+
+
+def of_pattern(one):
+    return "%d %s" % (one[0], span(one[1]))
+
+
+def set_(patterns, count):
+    if isinstance(count, dict):
+        yield answered(asking.line("set", "-", patterns, ""), [text(count)] * 2)
+        return
+    yield answered(asking.line("set", "-", patterns, ""), ["%d patterns" % count] * 2)
+    yield answered(asking.line("tell_set", "-", patterns, ""), [str(count == 0).lower(), str(count), "0", "0"])
+
+
+def in_set(patterns, haystack, start, place, items, options=""):
+    where = text(place) if place is None or isinstance(place, dict) else "at %d" % place
+    items = [where, *(item(one, of_pattern) for one in items)]
+    yield answered(asking.line("in_set", in_options(options), patterns, haystack, start), items)
+
+
+def tokens(patterns, haystack, start, items, end, place, options=""):
+    ends = {"end": [], "unmatched": ["!error executing regex: no token at position %d" % place], "given up": [text({"refused": "given up"})]}
+    items = [*map(of_pattern, items), *ends[end], "at %d" % place]
+    yield answered(asking.line("tokens", in_options(options), patterns, haystack, start), items)
+
+
 KINDS = {
     "find": find, "find from": find_from, "cannot": cannot, "captures": captures, "captures from": captures_from, "names": names,
     "matches": matches, "matches from": matches_from, "groups of matches": groups_of_matches, "split": split, "splitn": splitn,
-    "replace": replace,
+    "replace": replace, "expand": expand, "expand as in Python": expand_as_in_python, "check": check, "escape": escape, "bytes": bytes_,
+    "set": set_, "in set": in_set, "tokens": tokens,
 }
 
 
