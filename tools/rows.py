@@ -66,11 +66,6 @@ def found(place):
     return [is_found, span(place)], [is_found] + [span(place)] * 3 + ["within true"]
 
 
-def refused(line, refusal):
-    """A line whose pattern is refused before its calls."""
-    return line, text(refusal) + "|"
-
-
 def answered(line, items):
     """A line whose calls, each made twice, answer these items."""
     answer = "".join(one + "|" for one in items)
@@ -192,11 +187,23 @@ def tokens(patterns, haystack, start, items, end, place, options=""):
     yield answered(asking.line("tokens", in_options(options), patterns, haystack, start), items)
 
 
+def refused(pattern, words, options=""):
+    """A line that is no build is refused before its calls."""
+    refusal = text({"refused": words})
+    yield asking.line("names", in_options(options), pattern, ""), refusal + "|"
+    if not options:
+        yield answered(asking.line("build", "-", pattern, ""), [refusal] * 3)
+
+
+def accepted(pattern, options=""):
+    yield answered(asking.line("splitn", in_options(options), pattern, ""), [])
+
+
 KINDS = {
     "find": find, "find from": find_from, "cannot": cannot, "captures": captures, "captures from": captures_from, "names": names,
     "matches": matches, "matches from": matches_from, "groups of matches": groups_of_matches, "split": split, "splitn": splitn,
     "replace": replace, "expand": expand, "expand as in Python": expand_as_in_python, "check": check, "escape": escape, "bytes": bytes_,
-    "set": set_, "in set": in_set, "tokens": tokens,
+    "set": set_, "in set": in_set, "tokens": tokens, "refused": refused, "accepted": accepted,
 }
 
 
