@@ -14,32 +14,8 @@ pub(crate) enum Verdict {
     Fault(usize, ParseErrorKind),
     /// The pattern has a fault of this kind, wherever it is.
     Kind(ParseErrorKind),
-    /// No group has the number.
-    Number(usize),
-    /// No group has the name.
-    Name(&'static str),
-    /// A reference by number where only named groups capture.
-    ByNameAlone,
-    /// A look-behind of no constant size.
-    LookBehind,
-    /// A pattern of size 0, where empty matches are refused.
-    NeverMatches,
     /// Too many nodes, or too much code.
     TooComplex,
-}
-
-/// Whether this is why a pattern that can be read is not accepted.
-fn is_flaw(why: &CompileError, wanted: Verdict) -> bool {
-    match (why, wanted) {
-        (CompileError::InvalidBackref(number), Verdict::Number(wanted)) => *number == wanted,
-        (CompileError::InvalidGroupNameBackref(name), Verdict::Name(wanted)) => name.as_str()
-            == wanted,
-        (CompileError::NamedBackrefOnly, Verdict::ByNameAlone) => true,
-        (CompileError::LookBehindNotConst, Verdict::LookBehind) => true,
-        (CompileError::PatternCanNeverMatch, Verdict::NeverMatches) => true,
-        (CompileError::PatternTooComplex, Verdict::TooComplex) => true,
-        _ => false,
-    }
 }
 
 /// Checks what became of a pattern.
@@ -54,7 +30,7 @@ pub(crate) fn check_verdict<T>(
         (Err(Error::ParseError(at, kind)), Verdict::Fault(place, wanted)) => *at == place
             && *kind == wanted,
         (Err(Error::ParseError(_, kind)), Verdict::Kind(wanted)) => *kind == wanted,
-        (Err(Error::CompileError(why)), _) => is_flaw(why, wanted),
+        (Err(Error::CompileError(CompileError::PatternTooComplex)), Verdict::TooComplex) => true,
         _ => false,
     };
     check(rt, holds, words);
