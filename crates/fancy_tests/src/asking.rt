@@ -21,6 +21,4 @@ pub(crate) use spans::{
     BytesRow, SearchRow, Span, SpanRow, check_find, check_input, check_match, check_may_search,
     check_part, check_read, check_searches, check_spans, first_span, span_found,
 };
-pub(crate) use verdicts::{
-    KindRow, Verdict, VerdictRow, check_kinds, check_verdict, check_verdicts, is_given_up,
-};
+pub(crate) use verdicts::{Verdict, VerdictRow, check_verdict, check_verdicts, is_given_up};

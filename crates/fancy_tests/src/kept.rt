@@ -1,11 +1,9 @@
-//! `\K`, which moves the start of what is found, and `\G`, which holds where the search starts: in bytes, within ranges, and where they
-//! are refused. What they find in texts are rows in `crates/calls/rows.txt`.
+//! `\K`, which moves the start of what is found, and `\G`, which holds where the search starts: in bytes and within ranges. What they
+//! find in texts, and where they are refused, are rows in `crates/calls/rows.txt`.
 
 use crate::asking::{
-    BYTES, BytesRow, CHARACTERS, CHARACTERS_ANYWHERE, KindRow, SearchRow, check_kinds,
-    check_searches, check_spans,
+    BYTES, BytesRow, CHARACTERS, CHARACTERS_ANYWHERE, SearchRow, check_searches, check_spans,
 };
-use fancy_regex::ParseErrorKind;
 
 const SEARCHES: &[SearchRow<&str>] = &[
     // the position is where the pattern began, the start where it was kept
@@ -23,22 +21,8 @@ const IN_BYTES: &[BytesRow] = &[
     (CHARACTERS_ANYWHERE, "\\xFF\\K", b"a\xFF", Some((2, 2))),
 ];
 
-const REFUSED: &[KindRow] = &[
-    // no start is kept in look-around
-    ("(?=a\\K)", ParseErrorKind::NotInProfile),
-    ("(?!\\K)a", ParseErrorKind::NotInProfile),
-    ("(?<=\\Ka)b", ParseErrorKind::NotInProfile),
-    ("(?<!(?:a\\K))b", ParseErrorKind::NotInProfile),
-    ("(?=(?>a(\\K)))b", ParseErrorKind::NotInProfile),
-    ("(?((?=\\K))a)", ParseErrorKind::NotInProfile),
-    // classes have no such members
-    ("[\\K]", ParseErrorKind::InvalidEscape),
-    ("[\\G]", ParseErrorKind::InvalidEscape),
-];
-
 #[test]
 fn a_match_starts_where_it_was_kept(rt: HostRuntime) {
     check_searches(&rt, rt.alloc(), SEARCHES);
     check_spans(&rt, rt.alloc(), IN_BYTES);
-    check_kinds(&rt, rt.alloc(), REFUSED);
 }

@@ -7,8 +7,6 @@ mod asking;
 #[cfg(test)]
 mod builders;
 #[cfg(test)]
-mod conditionals;
-#[cfg(test)]
 mod dialect;
 #[cfg(test)]
 mod escapes;

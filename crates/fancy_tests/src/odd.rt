@@ -1,12 +1,11 @@
-//! Odd inputs: bytes that are no characters, starts past every end, ranges without a byte, and numbers that do not fit.
+//! Odd inputs: bytes that are no characters, starts past every end, and ranges without a byte.
 //!
 //! The rows were worked out by hand. Others are in `crates/calls/rows.txt`.
 
 use crate::asking::{
-    BYTES, BYTES_WITHOUT_UNICODE, BytesRow, CHARACTERS, CHARACTERS_ANYWHERE, SearchRow, Verdict,
-    VerdictRow, check_searches, check_spans, check_verdicts,
+    BYTES, BYTES_WITHOUT_UNICODE, BytesRow, CHARACTERS, CHARACTERS_ANYWHERE, SearchRow,
+    check_searches, check_spans,
 };
-use fancy_regex::ParseErrorKind;
 
 /// Any item, on bytes that are cut off, overlong, the half of a pair, past the last character, or that continue nothing.
 const ITEMS: &[BytesRow] = &[
@@ -290,30 +289,6 @@ const EDGES: &[SearchRow<&str>] = &[
     (CHARACTERS, "(?m)^", "a\nb", 0, (2, 3), false, Some((2, 2))),
 ];
 
-/// Numbers that do not fit.
-const NUMBERS: &[VerdictRow] = &[
-    (
-        CHARACTERS,
-        "a{18446744073709551617}",
-        Verdict::Kind(ParseErrorKind::InvalidRepeat),
-    ),
-    (
-        CHARACTERS,
-        "(a)\\18446744073709551617",
-        Verdict::Kind(ParseErrorKind::InvalidEscape),
-    ),
-    (
-        CHARACTERS,
-        "\\x{FFFFFFFF}",
-        Verdict::Kind(ParseErrorKind::InvalidCodepointValue),
-    ),
-    (
-        CHARACTERS,
-        "\\x{100000041}",
-        Verdict::Kind(ParseErrorKind::InvalidHex),
-    ),
-];
-
 #[test]
 fn odd_inputs_have_their_answers(rt: HostRuntime) {
     check_spans(&rt, rt.alloc(), ITEMS);
@@ -322,5 +297,4 @@ fn odd_inputs_have_their_answers(rt: HostRuntime) {
     check_spans(&rt, rt.alloc(), CLASSES);
     check_spans(&rt, rt.alloc(), REFERENCES);
     check_searches(&rt, rt.alloc(), EDGES);
-    check_verdicts(&rt, rt.alloc(), NUMBERS);
 }

@@ -1,7 +1,7 @@
 //! What is accepted, what is refused and why, and what is given up.
 
 use crate::asking::{Settings, check, read};
-use fancy_regex::{CompileError, Error, ParseErrorKind, Regex, RuntimeError};
+use fancy_regex::{CompileError, Error, ParseErrorKind, RuntimeError};
 use std::alloc::Global;
 use std::process::Abort;
 
@@ -39,17 +39,6 @@ pub(crate) fn check_verdict<T>(
 /// Whether a search is given up for this reason.
 pub(crate) fn is_given_up<T>(answer: &fancy_regex::Result<T>, reason: RuntimeError) -> bool {
     matches!(answer, Err(Error::RuntimeError(why)) if *why == reason)
-}
-
-/// A pattern, and the kind of its fault.
-pub(crate) type KindRow = (&'static str, ParseErrorKind);
-
-/// Checks why patterns are refused that are read with the default options.
-pub(crate) fn check_kinds(rt: &impl Abort, alloc: Global, rows: &[KindRow]) {
-    for &(pattern, kind) in rows {
-        let read = Regex::new(alloc, pattern);
-        check_verdict(rt, &read, Verdict::Kind(kind), pattern);
-    }
 }
 
 /// Options, a pattern, and what becomes of it.
