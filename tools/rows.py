@@ -1,11 +1,11 @@
 #!/usr/bin/env python3
 """Makes the input of crates/calls, and the output that it must have, from the rows of crates/calls/rows.txt.
 
-    tools/rows.py           says whether the files stdin and stdout beside the rows are those of the rows; ends with status 1 if not
+    tools/rows.py           compares the files stdin and stdout beside the rows with them, and ends with status 1 if one differs
     tools/rows.py --write   writes both files
 
-The first lines of both files, up to the first line that a row gives, are written by hand and stay. What a call must answer is worked
-out from its row alone. The first lines of rows.txt say what a row of each kind means.
+The first lines of both files are written by hand, and stay as they are. What a call must answer is worked out from its row alone.
+The first lines of rows.txt say what a row of each kind means.
 """
 
 import ast
@@ -16,12 +16,14 @@ from pathlib import Path
 import asking
 
 CALLS = Path(__file__).resolve().parent.parent / "crates/calls"
+# How many lines of both files are written by hand.
 BY_HAND = 24
+# The options that rows have, and their letters in a line.
 LETTERS = {
-    "case_insensitive": "i", "multi_line": "m", "dot_matches_new_line": "s", "ignore_whitespace": "x", "crlf": "R", "no_unicode_mode": "U",
-    "only_named": "N", "overrides": "O", "find_not_empty": "E", "leftmost_longest": "L", "seek": "S", "ascii": "a", "unicode_bytes": "b",
-    "no_returns": "0",
+    "case_insensitive": "i", "no_unicode_mode": "U", "only_named": "N", "find_not_empty": "E", "leftmost_longest": "L",
+    "seek": "S", "ascii": "a", "unicode_bytes": "b", "no_returns": "0",
 }
+REFUSALS = {"given up": "error executing regex: limit for backtracking exceeded"}
 
 
 def span(place):
@@ -30,9 +32,6 @@ def span(place):
 
 def groups(places):
     return "none" if places is None else "".join(span(one) + "," for one in places)
-
-
-REFUSALS = {"given up": "error executing regex: limit for backtracking exceeded"}
 
 
 def text(one):
@@ -59,7 +58,7 @@ def in_options(options, *more):
 
 
 def found(place):
-    """What a search answers by the calls that take a text, and by those that take an input."""
+    """What a search answers by the calls that take a text alone, and by those from a start on, with the counts that are told."""
     if isinstance(place, dict):
         return [text(place)] * 2, [text(place)] * 4 + ["within true"]
     is_found = str(place is not None).lower()
@@ -103,15 +102,11 @@ def names(pattern, wanted, options=""):
 
 
 def matches(pattern, haystack, places, options=""):
-    yield from matches_from(pattern, haystack, 0, places, options)
-
-
-def matches_from(pattern, haystack, start, places, options=""):
     for letters in (in_options(options), in_options(options, "seek")):
-        yield answered(asking.line("matches", letters, pattern, haystack, start), [item(one) for one in places])
+        yield answered(asking.line("matches", letters, pattern, haystack), [item(one) for one in places])
         if not has_groups(pattern):
             items = [item(one, lambda place: groups([place])) for one in places]
-            yield answered(asking.line("capture_matches", letters, pattern, haystack, start), items)
+            yield answered(asking.line("capture_matches", letters, pattern, haystack), items)
 
 
 def groups_of_matches(pattern, haystack, start, all_groups, options=""):
@@ -158,7 +153,7 @@ def bytes_of(one):
     return " ".join(["%d bytes" % len(one.split()), *one.split()])
 
 
-def bytes_(pattern, first, required, options=""):
+def bytes_of_matches(pattern, first, required, options=""):
     items = [text(None) if first is None else item(first, bytes_of), item(required, bytes_of)]
     yield answered(asking.line("bytes", in_options(options), pattern, ""), items)
 
@@ -167,7 +162,7 @@ def of_pattern(one):
     return "%d %s" % (one[0], span(one[1]))
 
 
-def set_(patterns, count):
+def size_of_set(patterns, count):
     if isinstance(count, dict):
         yield answered(asking.line("set", "-", patterns, ""), [text(count)] * 2)
         return
@@ -182,13 +177,13 @@ def in_set(patterns, haystack, start, place, items, options=""):
 
 
 def tokens(patterns, haystack, start, items, end, place, options=""):
-    ends = {"end": [], "unmatched": ["!error executing regex: no token at position %d" % place], "given up": [text({"refused": "given up"})]}
-    items = [*map(of_pattern, items), *ends[end], "at %d" % place]
+    refusals = {"end": [], "unmatched": ["error executing regex: no token at position %d" % place], "given up": ["given up"]}
+    items = [*map(of_pattern, items), *(text({"refused": one}) for one in refusals[end]), "at %d" % place]
     yield answered(asking.line("tokens", in_options(options), patterns, haystack, start), items)
 
 
 def refused(pattern, words, options=""):
-    """A line that is no build is refused before its calls."""
+    """A pattern that is refused is so before any call, but for the call that builds."""
     refusal = text({"refused": words})
     yield asking.line("names", in_options(options), pattern, ""), refusal + "|"
     if not options:
@@ -200,10 +195,10 @@ def accepted(pattern, options=""):
 
 
 KINDS = {
-    "find": find, "find from": find_from, "cannot": cannot, "captures": captures, "captures from": captures_from, "names": names,
-    "matches": matches, "matches from": matches_from, "groups of matches": groups_of_matches, "split": split, "splitn": splitn,
-    "replace": replace, "expand": expand, "expand as in Python": expand_as_in_python, "check": check, "escape": escape, "bytes": bytes_,
-    "set": set_, "in set": in_set, "tokens": tokens, "refused": refused, "accepted": accepted,
+    "find": find, "find from": find_from, "cannot": cannot, "captures": captures, "captures from": captures_from,
+    "names": names, "matches": matches, "groups of matches": groups_of_matches, "split": split, "splitn": splitn,
+    "replace": replace, "expand": expand, "expand as in Python": expand_as_in_python, "check": check, "escape": escape,
+    "bytes": bytes_of_matches, "set": size_of_set, "in set": in_set, "tokens": tokens, "refused": refused, "accepted": accepted,
 }
 
 
