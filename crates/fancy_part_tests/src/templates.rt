@@ -1,5 +1,5 @@
-//! The steps of templates, what comes of a writer that fails, and escapes. Rows of expansions, of checks and of escaped texts are in
-//! `crates/calls/rows.txt`.
+//! The steps of templates, what comes of a writer that fails, and escapes. Rows of expansions, of checks and of escaped texts are
+//! in `crates/calls/rows.txt`.
 
 use crate::asking::{check, check_answer, regex_of, taken};
 use fancy_regex::{Captures, Expander, escape};

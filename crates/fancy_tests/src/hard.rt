@@ -1,5 +1,5 @@
-//! Patterns that the backtracking machine serves, in bytes and within ranges, and what their searches and code may take. What they find
-//! in texts are rows in `crates/calls/rows.txt`.
+//! Patterns that the backtracking machine serves, in bytes and within ranges, and what their searches and code may take. What they
+//! find in texts are rows in `crates/calls/rows.txt`.
 
 use crate::asking::{
     BYTES, BytesRow, CHARACTERS, CHARACTERS_ANYWHERE, CountRow, NONE_SAVED, ONE_SAVED, SearchRow,

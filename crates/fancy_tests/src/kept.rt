@@ -1,5 +1,5 @@
-//! `\K`, which moves the start of what is found, and `\G`, which holds where the search starts: in bytes and within ranges. What they
-//! find in texts, and where they are refused, are rows in `crates/calls/rows.txt`.
+//! `\K`, which moves the start of what is found, and `\G`, which holds where the search starts: in bytes and within ranges. What
+//! they find in texts, and where they are refused, are rows in `crates/calls/rows.txt`.
 
 use crate::asking::{
     BYTES, BytesRow, CHARACTERS, CHARACTERS_ANYWHERE, SearchRow, check_searches, check_spans,

@@ -1,5 +1,6 @@
-//! Tests of what patterns mean, where they are refused and what searches count, through public names. What the program `calls` can
-//! be asked for are rows in `crates/calls/rows.txt`: here are bytes, ranges, anchored searches, counts, and long texts and patterns.
+//! Tests of what patterns mean, where they are refused and what searches count, through public names. What the program `calls`
+//! can be asked for are rows in `crates/calls/rows.txt`: here are bytes, ranges, anchored searches, counts, and long texts and
+//! patterns.
 #![tactic(auto)]
 
 #[cfg(test)]
