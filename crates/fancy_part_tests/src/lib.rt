@@ -22,8 +22,6 @@ mod pattern_sets;
 #[cfg(test)]
 mod readme;
 #[cfg(test)]
-mod readme_texts;
-#[cfg(test)]
 mod replacement;
 #[cfg(test)]
 mod templates;

@@ -9,54 +9,15 @@ use std::alloc::Global;
 use std::borrow::CowStr;
 use std::process::Abort;
 
+/// Rows that are asked of a template of each form.
 const REPLACED: &[ReplacedRow] = &[
-    ("aa", "aaaa aaa aa a", 0, "xx", "xxxx xxa xx a"),
-    ("bla", "blablabla", 2, "foo", "foofoobla"),
+    ("(b)", "abc", 0, "${1}-$0", "ab-bc"),
     ("bla", "blablabla", 1, "foo", "fooblabla"),
-    ("bla", "blablabla", 9, "foo", "foofoofoo"),
-    (
-        "([^,\\s]+),\\s+(\\S+)",
-        "Springsteen, Bruce",
-        0,
-        "$2 $1",
-        "Bruce Springsteen",
-    ),
-    (
-        "(?P<first>\\w+)\\s+(?P<second>\\w+)",
-        "deep fried",
-        1,
-        "${first}_$second",
-        "deep_fried",
-    ),
-    (
-        "(?P<first>\\w+)\\s+(?P<second>\\w+)",
-        "deep fried",
-        1,
-        "$1a",
-        "",
-    ),
-    ("", "123", 0, "-", "-1-2-3-"),
-    ("a*", "baaac", 0, "<$0>", "<>b<aaa>c<>"),
-    ("é", "aéb", 0, "$$", "a$b"),
-];
-
-/// Patterns that the backtracking machine serves: `\K` and `\G`.
-const HARD_REPLACED: &[ReplacedRow] = &[
-    ("foo\\Kbar", "foobar", 0, "x", "foox"),
-    ("(a)\\Kb", "abab", 0, "<$1>", "a<a>a<a>"),
-    ("(a)\\Kb", "abab", 1, "<$0>", "a<b>ab"),
-    ("a\\K", "aba", 0, "-", "a-ba-"),
-    ("\\Ga", "aaba", 0, "x", "xxba"),
 ];
 
 #[test]
 fn texts_are_replaced(rt: HostRuntime) {
     check_replaced(&rt, rt.alloc(), REPLACED);
-    check_replaced(&rt, rt.alloc(), HARD_REPLACED);
-    // literal texts are not expanded
-    let regex = regex_of(&rt, rt.alloc(), "([^,\\s]+),\\s+(\\S+)");
-    let replaced = regex.replace_all("Springsteen, Bruce", NoExpand("$2 $last"));
-    check_answer(&rt, replaced, "$2 $last");
     check_fixed(&rt, &mut NoExpand("$2"), Some("$2"));
     check_fixed(&rt, &mut "$2", None);
     check_fixed(&rt, &mut "2", Some("2"));

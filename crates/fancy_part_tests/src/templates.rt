@@ -1,9 +1,7 @@
-//! What templates expand to, which of them a regex allows, and escapes.
+//! The steps of templates, what comes of a writer that fails, and escapes. Rows of expansions, of checks and of escaped texts are
+//! in `crates/calls/rows.txt`.
 
-use crate::asking::{
-    CheckedRow, TemplateRow, Told, check, check_answer, check_expanded, check_expanded_text,
-    check_templates, check_told, regex_of, taken,
-};
+use crate::asking::{check, check_answer, regex_of, taken};
 use fancy_regex::{Captures, Expander, escape};
 use fancy_template::steps::Step;
 use fancy_template::steps::Step::{Literal, Name, Number};
@@ -91,90 +89,11 @@ const PYTHON_STEPS: &[StepsRow] = &[
     ),
 ];
 
-const DOLLAR_TEMPLATES: &[TemplateRow] = &[
-    ("", ""),
-    ("x", "x"),
-    ("$0", "b"),
-    ("${1", "${1"),
-    ("$$1", "$1"),
-    ("$10", ""),
-    ("$1a", ""),
-    ("a$ b", "a$ b"),
-    ("${18446744073709551615}", ""),
-    ("${18446744073709551616}", ""),
-    ("${18446744073709551617}", ""),
-    ("$18446744073709551617", ""),
-    ("${000000000000000000000001}", "b"),
-    ("${1}-$0", "b-b"),
-    ("$1é$", "$"),
-    ("${1}é$", "bé$"),
-    ("$1!", "b!"),
-    ("<$0>", "<b>"),
-];
-
-const PYTHON_TEMPLATES: &[TemplateRow] = &[
-    ("\\1\\g<0>\\\\x", "bb\\x"),
-    ("\\18446744073709551615", ""),
-    ("\\18446744073709551616", "\\18446744073709551616"),
-    ("\\18446744073709551617", "\\18446744073709551617"),
-    ("\\g<18446744073709551617>", ""),
-    ("\\000000000000000000000001", "b"),
-    ("\\10", ""),
-    ("\\g<1", "\\g<1"),
-    ("$1\\x", "$1\\x"),
-];
-
-const TWO_WORDS: &str = "(?P<first>\\w+)\\s+(?P<second>\\w+)";
-
-const DOLLAR_CHECKS: &[CheckedRow] = &[
-    ("(b)", "", Told::Fits),
-    ("(b)", "x", Told::Fits),
-    ("(b)", "$0", Told::Fits),
-    ("(b)", "$1", Told::Fits),
-    ("(b)", "${1}", Told::Fits),
-    ("(b)", "$$9", Told::Fits),
-    ("(b)", "$00", Told::Fits),
-    ("(b)", "$01", Told::Fits),
-    ("(b)", "a$", Told::NoForm),
-    ("(b)", "$2", Told::NoNumber(2)),
-    ("(b)", "$1$2$x", Told::NoNumber(2)),
-    ("(b)", "$1a$2", Told::NoName("1a")),
-    (
-        "(b)",
-        "${18446744073709551616}",
-        Told::NoName("18446744073709551616"),
-    ),
-    (
-        "(b)",
-        "$18446744073709551617",
-        Told::NoName("18446744073709551617"),
-    ),
-    (
-        "(b)",
-        "${18446744073709551615}",
-        Told::NoNumber(18446744073709551615),
-    ),
-    ("(b)", "$é", Told::NoName("é")),
-    (TWO_WORDS, "$1", Told::NamesAlone),
-    (TWO_WORDS, "a$", Told::NoForm),
-    (TWO_WORDS, "$0", Told::Fits),
-    (TWO_WORDS, "${first}_$second", Told::Fits),
-];
-
-const PYTHON_CHECKS: &[CheckedRow] = &[
-    ("(b)", "\\1\\g<0>\\\\x", Told::Fits),
-    ("(b)", "\\18446744073709551616", Told::NoForm),
-    (
-        "(b)",
-        "\\18446744073709551615",
-        Told::NoNumber(18446744073709551615),
-    ),
-    (
-        "(b)",
-        "\\g<18446744073709551616>",
-        Told::NoName("18446744073709551616"),
-    ),
-];
+/// Checks a text that is made.
+fn check_expanded_text(rt: &impl Abort, answer: fancy_regex::Result<String>, wanted: &str) {
+    let text = answer.expect(rt, wanted);
+    check(rt, text.as_str() == wanted, wanted);
+}
 
 /// Checks that captures of owned text expand.
 fn check_owned_text(rt: &impl Abort, alloc: Global) {
@@ -185,47 +104,34 @@ fn check_owned_text(rt: &impl Abort, alloc: Global) {
     check_expanded_text(rt, answer, "[é]éa");
 }
 
+/// Checks that a template with backslashes is written, where `b` is group 1 and the whole match.
+fn check_python(rt: &impl Abort, alloc: Global) {
+    let template = "\\1\\g<0>\\\\x";
+    let regex = regex_of(rt, alloc, "(b)");
+    let captures = taken(rt, regex.captures("abc"), "(b)");
+    let mut written = Vec::new(alloc);
+    let answer = Expander::python().write_expansion(&mut written, template, &captures);
+    check(rt, answer.is_ok(), template);
+    check(rt, written.as_slice() == "bb\\x".as_bytes(), template);
+}
+
 #[test]
 fn templates_are_read(rt: HostRuntime) {
     let dollar = Expander::default();
     let python = Expander::python();
     check_steps(&rt, rt.alloc(), &dollar, DOLLAR_STEPS);
     check_steps(&rt, rt.alloc(), &python, PYTHON_STEPS);
-    check_templates(&rt, rt.alloc(), &dollar, DOLLAR_TEMPLATES);
-    check_templates(&rt, rt.alloc(), &python, PYTHON_TEMPLATES);
-    check_expanded(&rt, rt.alloc(), DOLLAR_TEMPLATES);
-    check_told(&rt, rt.alloc(), &dollar, DOLLAR_CHECKS);
-    check_told(&rt, rt.alloc(), &python, PYTHON_CHECKS);
     check_owned_text(&rt, rt.alloc());
+    check_python(&rt, rt.alloc());
 }
 
-/// Texts, and what stands for them in a pattern.
-const ESCAPED_PATTERNS: &[(&str, &str)] = &[
-    ("@foo", "@foo"),
-    ("a\nb", "a\nb"),
-    ("a\tb", "a\tb"),
-    ("", ""),
-    ("1+1", "1\\+1"),
-    ("fø*ø", "fø\\*ø"),
-    ("#\n", "\\#\\n"),
-    ("#\n\t\r", "\\#\\n\\t\\r"),
-    (
-        "\\.+*?()|[]{}^$#",
-        "\\\\\\.\\+\\*\\?\\(\\)\\|\\[\\]\\{\\}\\^\\$\\#",
-    ),
-];
+/// Texts, and what stands for them in a pattern. One that stands for itself is lent.
+const ESCAPED_PATTERNS: &[(&str, &str)] = &[("@foo", "@foo"), ("1+1", "1\\+1")];
 
 /// Texts, and what stands for them in a template.
-const ESCAPED_FOR_DOLLAR: &[(&str, &str)] = &[
-    ("Has a literal $ sign.", "Has a literal $$ sign."),
-    ("5 $", "5 $$"),
-];
+const ESCAPED_FOR_DOLLAR: &[(&str, &str)] = &[("5", "5"), ("5 $", "5 $$")];
 
-const ESCAPED_FOR_PYTHON: &[(&str, &str)] = &[
-    ("Has a literal $ sign.", "Has a literal $ sign."),
-    ("$1", "$1"),
-    ("\\1", "\\\\1"),
-];
+const ESCAPED_FOR_PYTHON: &[(&str, &str)] = &[("$1", "$1"), ("\\1", "\\\\1")];
 
 #[test]
 fn texts_are_escaped(rt: HostRuntime) {

@@ -13,15 +13,12 @@ pub(crate) use fact::check;
 pub(crate) use nested::{nested, repeated};
 pub(crate) use overrides::{OverrideRow, check_overrides};
 pub(crate) use settings::{
-    ASCII_TEXT, BYTES, BYTES_WITHOUT_UNICODE, CHARACTERS, CHARACTERS_ANYWHERE, FOLDED, LONGEST,
-    NONE_SAVED, NOT_EMPTY, ONE_SAVED, ONLY_NAMED, OVERRIDING, SEEKING, Settings, options_of, owned,
-    read, regex_of, regex_with, searchable,
+    ASCII_TEXT, BYTES, BYTES_WITHOUT_UNICODE, CHARACTERS, CHARACTERS_ANYWHERE, LONGEST, NONE_SAVED,
+    NOT_EMPTY, ONE_SAVED, OVERRIDING, SEEKING, Settings, owned, read, regex_of, regex_with,
+    searchable,
 };
 pub(crate) use spans::{
-    BytesRow, SearchRow, Span, SpanRow, TextRow, check_find, check_input, check_match,
-    check_may_search, check_part, check_read, check_searches, check_spans, check_texts, first_span,
-    span_found,
+    BytesRow, SearchRow, Span, SpanRow, check_find, check_input, check_match, check_may_search,
+    check_part, check_read, check_searches, check_spans, first_span, span_found,
 };
-pub(crate) use verdicts::{
-    KindRow, Verdict, VerdictRow, check_kinds, check_verdict, check_verdicts, is_given_up,
-};
+pub(crate) use verdicts::{Verdict, VerdictRow, check_verdict, check_verdicts, is_given_up};

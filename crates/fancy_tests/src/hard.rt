@@ -1,78 +1,22 @@
-//! Patterns that the backtracking machine serves: references, look-around, atomic groups and possessive repeats.
+//! Patterns that the backtracking machine serves, in bytes and within ranges, and what their searches and code may take. What they
+//! find in texts are rows in `crates/calls/rows.txt`.
 
 use crate::asking::{
-    BYTES, BytesRow, CHARACTERS, CHARACTERS_ANYWHERE, CountRow, FOLDED, NONE_SAVED, ONE_SAVED,
-    ONLY_NAMED, SearchRow, Settings, SpanRow, TextRow, Verdict, VerdictRow, check, check_counts,
-    check_searches, check_spans, check_texts, check_verdict, check_verdicts, is_given_up, owned,
-    regex_of, regex_with, repeated, searchable,
+    BYTES, BytesRow, CHARACTERS, CHARACTERS_ANYWHERE, CountRow, NONE_SAVED, ONE_SAVED, SearchRow,
+    SpanRow, Verdict, check, check_counts, check_searches, check_spans, check_verdict, is_given_up,
+    owned, regex_of, regex_with, repeated, searchable,
 };
 use fancy_regex::{Match, RegexBuilder, RegexInput, RegexOptionsBuilder, Result, RuntimeError};
 use std::alloc::Global;
 use std::process::Abort;
-
-const TEXTS: &[TextRow] = &[
-    // atomic parts have one outcome
-    ("(?>a|ab)c", "abc", None),
-    ("(?>ab|a)c", "abc", Some((0, 3))),
-    ("a++a", "aaa", None),
-    ("a?+a", "a", None),
-    ("a*+b", "aab", Some((0, 3))),
-    ("a{2}+a", "aaa", Some((0, 3))),
-    ("a{1,2}+a", "aa", None),
-    ("(?>)a", "a", Some((0, 1))),
-    // look-around consumes nothing
-    ("a+(?=c)", "aac", Some((0, 2))),
-    ("b(?=c)", "aabc", Some((2, 3))),
-    ("b(?!c)", "bcbd", Some((2, 3))),
-    ("(?=)a", "a", Some((0, 1))),
-    ("(?!)a", "a", None),
-    ("(?<!a)b", "abb", Some((2, 3))),
-    ("(?<=a)b", "bab", Some((2, 3))),
-    ("(?<=é|ab)c", "éc", Some((2, 3))),
-    ("(?<=é|ab)c", "abc", Some((2, 3))),
-    ("(?<=é|ab)c", "bc", None),
-    ("(?<=(?:é|b)c)d", "écd", Some((3, 4))),
-    ("(?<=a{2})b", "aab", Some((2, 3))),
-    ("(?<=^a)b", "ab", Some((1, 2))),
-    ("(?<=)a", "a", Some((0, 1))),
-    ("(?<=a(?=b))b", "ab", Some((1, 2))),
-    ("(?<!(?<=a)b)c", "abc", None),
-    // references ask for the text of a group
-    ("(a)\\1", "aa", Some((0, 2))),
-    ("(a)\\1", "ab", None),
-    ("(?<n>a)\\k<n>", "aa", Some((0, 2))),
-    ("(?<n>a)\\k'n'", "aa", Some((0, 2))),
-    ("(?P<n>a)(?P=n)", "aa", Some((0, 2))),
-    ("(a)\\k<1>", "aa", Some((0, 2))),
-    ("(a)\\k'1'", "aa", Some((0, 2))),
-    ("(a)\\k<-1>", "aa", Some((0, 2))),
-    ("(a)(b)\\k'-2'", "aba", Some((0, 3))),
-    ("(?<1>a)(b)\\k<1>", "aba", Some((0, 3))),
-    ("\\1(a)", "aa", None),
-    ("(?:\\1b|(a))*", "aab", Some((0, 3))),
-    ("(?:\\1b|(a))+", "aabab", Some((0, 5))),
-    ("(a)|\\1b", "b", None),
-    ("()\\1", "a", Some((0, 0))),
-    ("(a)\\1", "aA", None),
-    ("(?i)(a)\\1", "aA", Some((0, 2))),
-    ("(a)(?i:\\1)", "aA", Some((0, 2))),
-    ("(?i)(a)(?-i:\\1)", "aA", None),
-    (
-        "(.)(.)(.)(.)(.)(.)(.)(.)(.)(.)\\10",
-        "abcdefghijj",
-        Some((0, 11)),
-    ),
-];
 
 /// Look-around reads past the range.
 const SEARCHES: &[SearchRow<&str>] = &[
     (CHARACTERS, "a+(?=c)", "aac", 0, (0, 2), false, Some((0, 2))),
     (CHARACTERS, "a+(?=c)", "aac", 0, (0, 1), false, None),
     (CHARACTERS, "(?<=a)b", "ab", 0, (1, 2), true, Some((1, 2))),
-    (CHARACTERS, "(?<=a)b", "ab", 1, (0, 2), false, Some((1, 2))),
     (CHARACTERS, "a(?!b)", "ab", 0, (0, 1), false, None),
     (CHARACTERS, "(a)\\1", "aaa", 0, (1, 3), false, Some((1, 3))),
-    (CHARACTERS, "(a)\\1", "aaa", 2, (0, 3), false, None),
     (CHARACTERS, "(a)\\1", "aab", 0, (0, 1), false, None),
 ];
 
@@ -103,61 +47,6 @@ const IN_BYTES: &[BytesRow] = &[
     (CHARACTERS_ANYWHERE, "(?<=a)\\B", b"a\x80", None),
 ];
 
-/// Two of the letters that are asked for share their simple folding with two others each.
-const FOLDED_LETTERS: &str = "(\u{1C5}|k)\\1";
-
-const UNDER_OPTIONS: &[SpanRow<&str>] = &[
-    // keywords are found before a name
-    (CHARACTERS, "(?:fn|let) (?=x)", "a let x", Some((2, 6))),
-    // easy patterns heed no limit
-    (
-        Settings {
-            backtrack_limit: 0,
-            ..CHARACTERS
-        },
-        "(?:a|b)*c",
-        "abc",
-        Some((0, 3)),
-    ),
-    // references fold letters: a letter is found again in each other form, and in no form of other letters
-    (FOLDED, FOLDED_LETTERS, "\u{1C4}\u{1C4}", Some((0, 4))),
-    (FOLDED, FOLDED_LETTERS, "\u{1C4}\u{1C5}", Some((0, 4))),
-    (FOLDED, FOLDED_LETTERS, "\u{1C4}\u{1C6}", Some((0, 4))),
-    (FOLDED, FOLDED_LETTERS, "\u{1C4}k", None),
-    (FOLDED, FOLDED_LETTERS, "\u{1C4}K", None),
-    (FOLDED, FOLDED_LETTERS, "\u{1C4}\u{212A}", None),
-    (FOLDED, FOLDED_LETTERS, "\u{1C5}\u{1C4}", Some((0, 4))),
-    (FOLDED, FOLDED_LETTERS, "\u{1C5}\u{1C5}", Some((0, 4))),
-    (FOLDED, FOLDED_LETTERS, "\u{1C5}\u{1C6}", Some((0, 4))),
-    (FOLDED, FOLDED_LETTERS, "\u{1C5}k", None),
-    (FOLDED, FOLDED_LETTERS, "\u{1C5}K", None),
-    (FOLDED, FOLDED_LETTERS, "\u{1C5}\u{212A}", None),
-    (FOLDED, FOLDED_LETTERS, "\u{1C6}\u{1C4}", Some((0, 4))),
-    (FOLDED, FOLDED_LETTERS, "\u{1C6}\u{1C5}", Some((0, 4))),
-    (FOLDED, FOLDED_LETTERS, "\u{1C6}\u{1C6}", Some((0, 4))),
-    (FOLDED, FOLDED_LETTERS, "\u{1C6}k", None),
-    (FOLDED, FOLDED_LETTERS, "\u{1C6}K", None),
-    (FOLDED, FOLDED_LETTERS, "\u{1C6}\u{212A}", None),
-    (FOLDED, FOLDED_LETTERS, "k\u{1C4}", None),
-    (FOLDED, FOLDED_LETTERS, "k\u{1C5}", None),
-    (FOLDED, FOLDED_LETTERS, "k\u{1C6}", None),
-    (FOLDED, FOLDED_LETTERS, "kk", Some((0, 2))),
-    (FOLDED, FOLDED_LETTERS, "kK", Some((0, 2))),
-    (FOLDED, FOLDED_LETTERS, "k\u{212A}", Some((0, 4))),
-    (FOLDED, FOLDED_LETTERS, "K\u{1C4}", None),
-    (FOLDED, FOLDED_LETTERS, "K\u{1C5}", None),
-    (FOLDED, FOLDED_LETTERS, "K\u{1C6}", None),
-    (FOLDED, FOLDED_LETTERS, "Kk", Some((0, 2))),
-    (FOLDED, FOLDED_LETTERS, "KK", Some((0, 2))),
-    (FOLDED, FOLDED_LETTERS, "K\u{212A}", Some((0, 4))),
-    (FOLDED, FOLDED_LETTERS, "\u{212A}\u{1C4}", None),
-    (FOLDED, FOLDED_LETTERS, "\u{212A}\u{1C5}", None),
-    (FOLDED, FOLDED_LETTERS, "\u{212A}\u{1C6}", None),
-    (FOLDED, FOLDED_LETTERS, "\u{212A}k", Some((0, 4))),
-    (FOLDED, FOLDED_LETTERS, "\u{212A}K", Some((0, 4))),
-    (FOLDED, FOLDED_LETTERS, "\u{212A}\u{212A}", Some((0, 6))),
-];
-
 const COUNTED: &[CountRow] = &[
     (
         CHARACTERS,
@@ -186,45 +75,12 @@ const COUNTED: &[CountRow] = &[
     (CHARACTERS, "(?>a|b)c", "bc", 0, None, None, 0),
 ];
 
-/// References to nothing, and look-behind without a size.
-const FLAWS: &[VerdictRow] = &[
-    (CHARACTERS, "(a)\\2", Verdict::Number(2)),
-    (CHARACTERS, "\\1", Verdict::Number(1)),
-    (CHARACTERS, "\\4294967295", Verdict::Number(4_294_967_295)),
-    (CHARACTERS, "\\k<0>(a)", Verdict::Number(0)),
-    (CHARACTERS, "(a)\\k<-0>", Verdict::Number(0)),
-    (CHARACTERS, "(a)\\k<-2>", Verdict::Number(2)),
-    (CHARACTERS, "\\k<-1>(a)", Verdict::Number(1)),
-    (
-        CHARACTERS,
-        "(a)\\k<4294967296>",
-        Verdict::Number(4_294_967_295),
-    ),
-    (CHARACTERS, "\\k<n>", Verdict::Name("n")),
-    (CHARACTERS, "(?<m>a)(?P=n)", Verdict::Name("n")),
-    (CHARACTERS, "(a)(?P=1)", Verdict::Name("1")),
-    (ONLY_NAMED, "(a)(?<n>b)\\1", Verdict::ByNameAlone),
-    (ONLY_NAMED, "(?<n>b)\\k<1>", Verdict::ByNameAlone),
-    (CHARACTERS, "(?<=a+)b", Verdict::LookBehind),
-    (CHARACTERS, "(?<!(?:a|bc)d)e", Verdict::LookBehind),
-    (CHARACTERS, "(a)(?<=\\1)b", Verdict::LookBehind),
-    (CHARACTERS, "(?=(?<=a*))b", Verdict::LookBehind),
-    (
-        CHARACTERS,
-        "(?<=(?:(?:a{4294967295}){4294967295}){2})b",
-        Verdict::TooComplex,
-    ),
-];
-
 #[test]
 fn hard_patterns_have_their_meaning(rt: HostRuntime) {
-    check_texts(&rt, rt.alloc(), TEXTS);
     check_searches(&rt, rt.alloc(), SEARCHES);
     check_spans(&rt, rt.alloc(), IN_BYTES);
-    check_spans(&rt, rt.alloc(), UNDER_OPTIONS);
     check_spans(&rt, rt.alloc(), FEW_SAVED);
     check_counts(&rt, rt.alloc(), COUNTED);
-    check_verdicts(&rt, rt.alloc(), FLAWS);
 }
 
 /// Searches that save few branches or none.

@@ -1,12 +1,12 @@
-//! Tests of what patterns mean, where they are refused and what searches count, through public names.
+//! Tests of what patterns mean, where they are refused and what searches count, through public names. What the program `calls`
+//! can be asked for are rows in `crates/calls/rows.txt`: here are bytes, ranges, anchored searches, counts, and long texts and
+//! patterns.
 #![tactic(auto)]
 
 #[cfg(test)]
 mod asking;
 #[cfg(test)]
 mod builders;
-#[cfg(test)]
-mod conditionals;
 #[cfg(test)]
 mod dialect;
 #[cfg(test)]
@@ -23,8 +23,6 @@ mod kept;
 mod odd;
 #[cfg(test)]
 mod options;
-#[cfg(test)]
-mod parsing;
 #[cfg(test)]
 mod readme;
 #[cfg(test)]

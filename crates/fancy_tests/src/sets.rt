@@ -1,58 +1,12 @@
-//! What classes and the other sets of characters have as members.
+//! What classes and the other sets of characters have as members. What they find in texts are rows in `crates/calls/rows.txt`.
 
 use crate::asking::{
     ASCII_TEXT, BYTES, BYTES_WITHOUT_UNICODE, BytesRow, CHARACTERS, CHARACTERS_ANYWHERE, Settings,
-    TextRow, check, check_spans, check_texts, first_span, regex_with,
+    check, check_spans, first_span, regex_with,
 };
 use fancy_regex::{Regex, RegexInput};
 use std::alloc::Global;
 use std::process::Abort;
-
-const TEXTS: &[TextRow] = &[
-    // classes have operators
-    ("[a-z&&[^aeiou]]+", "aebcd", Some((2, 5))),
-    ("[a-c--b]+", "abc", Some((0, 1))),
-    ("[[:alpha:]&&[^b]]+", "abc", Some((0, 1))),
-    ("[a-c~~b-d]+", "bcda", Some((2, 4))),
-    ("[a&&b]", "a", None),
-    ("[a&&b]", "", None),
-    ("[^a&&b]", "a", Some((0, 1))),
-    ("[a-d--b&&c]+", "abcd", Some((2, 3))),
-    ("[&&a]", "a", None),
-    ("[a~~]", "a", Some((0, 1))),
-    ("[[a-c]x[^a-y]]+", "bxzy", Some((0, 3))),
-    ("[[[a]]]", "a", Some((0, 1))),
-    ("(?m:^)(\\d+)", "1 test 123\n2 foo", Some((0, 1))),
-    // hyphens and brackets have their places
-    ("[]a]", "]", Some((0, 1))),
-    ("[]a]", "a", Some((0, 1))),
-    ("[^]a]", "]", None),
-    ("[a-]", "-", Some((0, 1))),
-    ("[--a]", ".", Some((0, 1))),
-    ("[--a]", ",", None),
-    ("[a---b]", "a", Some((0, 1))),
-    ("[a---b]", "b", None),
-    ("[a---b]", "-", None),
-    ("[a\\-c]+", "b-", Some((1, 2))),
-    ("[\\b]", "\u{8}", Some((0, 1))),
-    ("[a-c]", "c", Some((0, 1))),
-    ("[a-c]", "d", None),
-    ("[é-ü]", "ö", Some((0, 2))),
-    // sets are widened
-    ("(?i)[^k]", "K", None),
-    ("(?i)[^k]", "\u{212A}", None),
-    ("(?i)[k]", "\u{212A}", Some((0, 3))),
-    ("(?i)[[:alpha:]]", "\u{17F}", Some((0, 2))),
-    ("(?i)[[:^alpha:]]", "\u{212A}", None),
-    ("(?i)[a-z--k]", "K", None),
-    ("(?i)[α-ω]", "Σ", Some((0, 2))),
-    ("(?i)\\p{Lu}", "a", Some((0, 1))),
-    ("(?i)\\P{Lu}", "a", None),
-    ("\\p{L}+", "aé1", Some((0, 3))),
-    ("\\pl", "é", Some((0, 2))),
-    ("\\PL+", "aé1", Some((3, 4))),
-    ("\\p{Greek}", "α", Some((0, 2))),
-];
 
 /// Items of sets are characters or bytes.
 const ITEMS: &[BytesRow] = &[
@@ -259,7 +213,6 @@ fn check_edges(rt: &impl Abort, alloc: Global, settings: Settings, row: &EdgeRow
 
 #[test]
 fn sets_have_members(rt: HostRuntime) {
-    check_texts(&rt, rt.alloc(), TEXTS);
     check_spans(&rt, rt.alloc(), ITEMS);
     for row in EDGES {
         check_edges(&rt, rt.alloc(), CHARACTERS, row);

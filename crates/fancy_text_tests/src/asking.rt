@@ -1,7 +1,6 @@
 //! What the tests ask of a pattern and a text: the rows of their tables, and for each kind of call one function that checks rows.
 
 mod answers;
-mod broken;
 mod fact;
 mod groups;
 mod lists;
@@ -10,10 +9,6 @@ mod settings;
 mod spans;
 
 pub(crate) use answers::check_answer;
-pub(crate) use broken::{
-    BrokenFirstRow, BrokenListRow, BrokenPiecesRow, BrokenReplacedRow, check_broken_first,
-    check_broken_lists, check_broken_pieces, check_broken_replaced,
-};
 pub(crate) use fact::check;
 pub(crate) use groups::{
     AllGroupsRow, Group, GroupsRow, LaterGroupsRow, NamesRow, PartsRow, check_all_groups,
@@ -21,9 +16,9 @@ pub(crate) use groups::{
     check_parts, part_of, taken,
 };
 pub(crate) use lists::{Row, TEXT, TextListRow, WHOLE_BYTES, check_rows, check_text_lists};
-pub(crate) use pieces::{FirstPiecesRow, PiecesRow, check_cut, check_first_pieces, check_pieces};
+pub(crate) use pieces::{FirstPiecesRow, PiecesRow, check_first_pieces, check_pieces};
 pub(crate) use settings::{
-    BYTES, CHARACTERS, CHARACTERS_ANYWHERE, LONGEST, NOT_EMPTY, ONLY_NAMED, Settings, regex_of,
-    regex_with, searchable,
+    BYTES, CHARACTERS, CHARACTERS_ANYWHERE, LONGEST, ONLY_NAMED, Settings, regex_of, regex_with,
+    searchable,
 };
 pub(crate) use spans::{Span, Spanned};

@@ -1,41 +1,10 @@
 //! What groups a search finds, by their numbers and names.
 
 use crate::asking::Group::{Named, Numbered};
-use crate::asking::{
-    GroupsRow, LONGEST, LaterGroupsRow, NamesRow, PartsRow, check_groups, check_input,
-    check_later_groups, check_names, check_owned_parts, check_parts, regex_of, regex_with,
-};
+use crate::asking::{PartsRow, check_input, check_owned_parts, check_parts, regex_of};
 use fancy_regex::RegexInput;
 use std::alloc::Global;
 use std::process::Abort;
-
-const GROUPS: &[GroupsRow] = &[
-    ("a*", "aab", &[Some((0, 2))]),
-    ("(a*)*", "b", &[Some((0, 0)), None]),
-    ("(a*)+", "b", &[Some((0, 0)), Some((0, 0))]),
-    (
-        "(a|ab)(c|bcd)(d*)",
-        "abcd",
-        &[Some((0, 4)), Some((0, 1)), Some((1, 4)), Some((4, 4))],
-    ),
-    ("a*?b", "aab", &[Some((0, 3))]),
-    (
-        "(a)?(b|)",
-        "ab",
-        &[Some((0, 2)), Some((0, 1)), Some((1, 2))],
-    ),
-    ("(a)|b", "b", &[Some((0, 1)), None]),
-    ("(a)|b", "ba", &[Some((0, 1)), None]),
-    ("((?:a|)x*?)*", "ax", &[Some((0, 2)), Some((1, 2))]),
-    ("(a){0}b", "b", &[Some((0, 1)), None]),
-];
-
-const LATER_GROUPS: &[LaterGroupsRow] = &[(
-    "(?m:^)(\\d+)",
-    "1 test 123\n2 foo",
-    7,
-    &[Some((11, 12)), Some((11, 12))],
-)];
 
 // the last group of a name is meant
 const PARTS_OF_NAMES: &[PartsRow] = &[
@@ -87,16 +56,6 @@ const PARTS: &[PartsRow] = &[
             (Named("fourth"), None),
         ],
     ),
-];
-
-// names stand at their numbers
-const NAMES: &[NamesRow] = &[
-    ("(?<y>\\d+)-(?<y>\\d+)", &[None, Some("y"), Some("y")]),
-    ("(?<y>1|2)-(?<y>1|2)", &[None, Some("y"), Some("y")]),
-    ("(a)(?:b)(?<c>d)()", &[None, None, Some("c"), None]),
-    ("((?P<é_1>a)|b)c", &[None, None, Some("é_1")]),
-    ("(?<a>(?<b>x))(?m)", &[None, Some("a"), Some("b")]),
-    ("é", &[None]),
 ];
 
 /// A pattern, a text that is repeated so many times, what follows it, and the spans of the groups of the first match, from group 0
@@ -183,13 +142,10 @@ fn finds_the_groups_in_long_texts(rt: HostRuntime) {
 }
 
 #[test]
-fn finds_the_groups(rt: HostRuntime) {
-    check_groups(&rt, rt.alloc(), GROUPS);
-    check_later_groups(&rt, rt.alloc(), LATER_GROUPS);
+fn finds_the_parts(rt: HostRuntime) {
     check_parts(&rt, rt.alloc(), PARTS_OF_NAMES);
     check_parts(&rt, rt.alloc(), PARTS);
     check_owned_parts(&rt, rt.alloc(), PARTS);
-    check_names(&rt, rt.alloc(), NAMES);
 }
 
 #[test]
@@ -197,12 +153,4 @@ fn the_branch_that_was_given_up_captures_nothing(rt: HostRuntime) {
     let regex = regex_of(&rt, rt.alloc(), "(a|ab)c");
     let input = RegexInput::new("xabc").range(1..4);
     check_input(&rt, &regex, input, &[Some((1, 4)), Some((1, 3))]);
-}
-
-// of the two that end last the one that is preferred
-#[test]
-fn groups_of_the_longest_match(rt: HostRuntime) {
-    let regex = regex_with(&rt, rt.alloc(), LONGEST, "(a)|(ab)|(a)(b)");
-    let wanted = [Some((0, 2)), None, Some((0, 2)), None, None];
-    check_input(&rt, &regex, RegexInput::new("ab"), &wanted);
 }

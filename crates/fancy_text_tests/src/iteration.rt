@@ -2,10 +2,7 @@
 //!
 //! The first rows of the first two tables were worked out by hand, the others by an independent model of the search.
 
-use crate::asking::{
-    AllGroupsRow, BYTES, CHARACTERS, CHARACTERS_ANYWHERE, LONGEST, NOT_EMPTY, Row, TEXT,
-    TextListRow, WHOLE_BYTES, check_all_groups, check_rows, check_text_lists,
-};
+use crate::asking::{BYTES, CHARACTERS, CHARACTERS_ANYWHERE, Row, WHOLE_BYTES, check_rows};
 
 const IN_TEXT: &[Row<&str>] = &[
     Row {
@@ -356,21 +353,6 @@ const IN_BYTES: &[Row<&[u8]>] = &[
     },
 ];
 
-const LISTS: &[TextListRow] = &[
-    ("a|", "baa", &[(0, 0), (1, 2), (2, 3)]),
-    ("a|", "aab", &[(0, 1), (1, 2), (3, 3)]),
-    ("(?:aa)?", "baaa", &[(0, 0), (1, 3), (4, 4)]),
-    ("", "aé", &[(0, 0), (1, 1), (3, 3)]),
-    ("aa", "aaaaa", &[(0, 2), (2, 4)]),
-    ("x", "aé", &[]),
-    // a bracket ends a class
-    ("[a-c]z", "azbzczdz", &[(0, 2), (2, 4), (4, 6)]),
-    // matches that are counted and collected
-    ("(a)|b", "ba", &[(0, 1), (1, 2)]),
-    ("a|", "bab", &[(0, 0), (1, 2), (3, 3)]),
-    ("a?", "baa", &[(0, 0), (1, 2), (2, 3)]),
-];
-
 const ITERATIONS: &[Row<&[u8]>] = &[
     Row {
         pattern: "(?m)^",
@@ -446,59 +428,9 @@ const ITERATIONS: &[Row<&[u8]>] = &[
     },
 ];
 
-// empty matches are refused, or the longest are asked for
-const FILTERED: &[Row<&str>] = &[
-    Row {
-        settings: LONGEST,
-        pattern: "a|ab",
-        haystack: "abaa ab",
-        spans: &[(0, 2), (2, 3), (3, 4), (5, 7)],
-        ..TEXT
-    },
-    Row {
-        settings: LONGEST,
-        pattern: "a*?",
-        haystack: "aab",
-        spans: &[(0, 2), (3, 3)],
-        ..TEXT
-    },
-    Row {
-        settings: NOT_EMPTY,
-        pattern: "a*",
-        haystack: "aabba",
-        spans: &[(0, 2), (4, 5)],
-        ..TEXT
-    },
-    Row {
-        settings: NOT_EMPTY,
-        pattern: "a??",
-        haystack: "aba",
-        spans: &[(0, 1), (2, 3)],
-        ..TEXT
-    },
-];
-
-const GROUPS_OF_ALL_MATCHES: &[AllGroupsRow] = &[
-    (
-        "(a)|b",
-        "ba",
-        0,
-        &[&[Some((0, 1)), None], &[Some((1, 2)), Some((1, 2))]],
-    ),
-    (
-        "a(b)?",
-        "aab",
-        0,
-        &[&[Some((0, 1)), None], &[Some((1, 3)), Some((2, 3))]],
-    ),
-];
-
 #[test]
 fn matches_come_one_after_another(rt: HostRuntime) {
     check_rows(&rt, rt.alloc(), IN_TEXT);
     check_rows(&rt, rt.alloc(), IN_BYTES);
-    check_text_lists(&rt, rt.alloc(), LISTS);
     check_rows(&rt, rt.alloc(), ITERATIONS);
-    check_rows(&rt, rt.alloc(), FILTERED);
-    check_all_groups(&rt, rt.alloc(), GROUPS_OF_ALL_MATCHES);
 }

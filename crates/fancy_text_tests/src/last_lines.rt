@@ -2,55 +2,9 @@
 //!
 //! The rows were worked out by hand, from where `\Z` holds: where only line ends follow up to the end of the text.
 
-use crate::asking::{Row, TEXT, TextListRow, check, check_rows, check_text_lists, regex_of};
+use crate::asking::{Row, TEXT, check, check_rows, regex_of};
 use std::alloc::Global;
 use std::process::Abort;
-
-/// A row of line feeds in the middle of the text, and one at its end.
-const ROWS: &[TextListRow] = &[
-    ("\\Z", "\n\na\n\n", &[(3, 3), (4, 4), (5, 5)]),
-    ("\\n\\Z", "\n\na\n\n", &[(3, 4), (4, 5)]),
-    ("\\n\\Z|\\n", "\n\na\n\n", &[(0, 1), (1, 2), (3, 4), (4, 5)]),
-    (
-        "\\n\\Z|\\n\\n|a",
-        "\n\na\n\n",
-        &[(0, 2), (2, 3), (3, 4), (4, 5)],
-    ),
-    ("\\n+\\Z|\\n", "a\n\nb\n\n\n", &[(1, 2), (2, 3), (4, 7)]),
-    ("\\s+\\Z|\\s", "a \nb\n \n", &[(1, 2), (2, 3), (4, 7)]),
-    ("\\s\\Z|\\s+", "a\n\nb\n \n\n", &[(1, 3), (4, 8)]),
-    ("$\\n*\\Z|\\n", "\na\n", &[(0, 1), (2, 3)]),
-    ("$\\n*\\Z|\\n", "\na", &[(0, 1), (2, 2)]),
-    ("(?m)$\\n*\\Z|\\n", "a\n\nb\n\n", &[(1, 2), (2, 3), (4, 6)]),
-    // the hard engine
-    (
-        "(?=\\n)(?:\\n+\\Z|\\n)",
-        "a\n\nb\n\n\n",
-        &[(1, 2), (2, 3), (4, 7)],
-    ),
-    ("(?>\\n)\\Z", "\n\na\n\n", &[(3, 4), (4, 5)]),
-];
-
-/// Carriage returns before line feeds, with the flag and without it.
-const WITH_RETURNS: &[TextListRow] = &[
-    (
-        "(?R)\\r\\n\\Z|\\s",
-        "\r\n\r\nb\r\n\r\n",
-        &[(0, 1), (1, 2), (2, 3), (3, 4), (5, 7), (7, 9)],
-    ),
-    (
-        "\\r\\n\\Z|\\s",
-        "\r\n\r\nb\r\n\r\n",
-        &[(0, 1), (1, 2), (2, 3), (3, 4), (5, 6), (6, 7), (7, 9)],
-    ),
-    // both in one pattern
-    (
-        "\\Z\\n\\n|(?R:\\Z)\\r\\n|\\n",
-        "\n\nb\r\n\n\n",
-        &[(0, 1), (1, 2), (3, 5), (5, 7)],
-    ),
-    ("(?R)\\Z", "a\r\n\r", &[(4, 4)]),
-];
 
 /// Parts of texts: `\Z` holds by what follows in the whole text.
 const PARTS: &[Row<&str>] = &[
@@ -114,9 +68,7 @@ fn check_all(rt: &impl Abort, alloc: Global, pattern: &str, text: &str, count: u
 }
 
 #[test]
-fn lists_find_the_last_lines(rt: HostRuntime) {
-    check_text_lists(&rt, rt.alloc(), ROWS);
-    check_text_lists(&rt, rt.alloc(), WITH_RETURNS);
+fn lists_of_parts_find_the_last_lines(rt: HostRuntime) {
     check_rows(&rt, rt.alloc(), PARTS);
 }
 

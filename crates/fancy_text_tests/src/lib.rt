@@ -1,6 +1,6 @@
 //! Tests of what is made of matches: groups, lists and pieces, through public names. Those of replaced texts and templates are in
-//! `fancy_part_tests`, so that both crates are proved in about the same time; here are the examples of them that the README shows,
-//! and the texts in whose middle a search is given up.
+//! `fancy_part_tests`, so that both crates are proved in about the same time; here are the examples of them that the README shows.
+//! What the program `calls` can be asked for are rows in `crates/calls/rows.txt`.
 #![tactic(auto)]
 
 #[cfg(test)]
@@ -10,8 +10,6 @@ mod captures;
 #[cfg(test)]
 mod examples;
 #[cfg(test)]
-mod hard;
-#[cfg(test)]
 mod iteration;
 #[cfg(test)]
 mod last_lines;
@@ -19,5 +17,3 @@ mod last_lines;
 mod odd;
 #[cfg(test)]
 mod readme;
-#[cfg(test)]
-mod splitting;

@@ -1,13 +1,13 @@
-//! Lists of odd haystacks and from odd starts, and what is left where a search is given up in the middle of a list, of pieces or of
-//! a text whose matches are replaced.
+//! Lists of odd haystacks and from odd starts, and where a list that is given up would go on.
 //!
 //! The rows were worked out by hand.
 
 use crate::asking::{
-    BYTES, BrokenFirstRow, BrokenListRow, BrokenPiecesRow, BrokenReplacedRow, CHARACTERS_ANYWHERE,
-    LONGEST, Row, WHOLE_BYTES, check_broken_first, check_broken_lists, check_broken_pieces,
-    check_broken_replaced, check_rows,
+    BYTES, CHARACTERS, CHARACTERS_ANYWHERE, LONGEST, Row, Settings, WHOLE_BYTES, check, check_rows,
+    regex_with, searchable,
 };
+use fancy_regex::{Matches, RegexInput};
+use std::process::Abort;
 
 /// Bytes that are no characters, and starts past the end.
 const LISTS: &[Row<&[u8]>] = &[
@@ -102,52 +102,29 @@ const LISTS: &[Row<&[u8]>] = &[
     },
 ];
 
-/// The first match of it in `FIELDS` takes no return, and the second takes one.
-const COMMA: &str = ",(?:x|y)(?=z)";
-
-const FIELDS: &str = "1,xz2,yz3";
-
-const BROKEN_LISTS: &[BrokenListRow] = &[
-    (1, COMMA, FIELDS, &[Some((1, 3)), Some((5, 7))]),
-    (0, COMMA, FIELDS, &[Some((1, 3)), None]),
-    // the search for the first match is given up
-    (0, COMMA, ",yz", &[None]),
-    // so is that from the place after an empty match
-    (0, "(?:(?=a)|y)(?=)", "ay", &[Some((0, 0)), None]),
-];
-
-const BROKEN_PIECES: &[BrokenPiecesRow] = &[
-    (1, COMMA, FIELDS, &[Some("1"), Some("z2"), Some("z3")]),
-    (0, COMMA, FIELDS, &[Some("1"), None, Some("z2,yz3")]),
-    (0, COMMA, ",yz", &[None, Some(",yz")]),
-];
-
-/// An error uses one of the limit, and nothing is searched for the last piece.
-const BROKEN_FIRST: &[BrokenFirstRow] = &[
-    (0, COMMA, FIELDS, 3, &[Some("1"), None, Some("z2,yz3")]),
-    (0, COMMA, FIELDS, 2, &[Some("1"), Some("z2,yz3")]),
-    (0, COMMA, FIELDS, 1, &[Some(FIELDS)]),
-    (0, COMMA, ",yz", 1, &[Some(",yz")]),
-    (0, COMMA, FIELDS, 0, &[]),
-];
-
-const BROKEN_REPLACED: &[BrokenReplacedRow] = &[
-    (1, COMMA, FIELDS, 0, "-", Some("1-z2-z3")),
-    (0, COMMA, FIELDS, 0, "-", None),
-    (0, COMMA, FIELDS, 0, "<$0>", None),
-    (0, COMMA, FIELDS, 2, "-", None),
-    (0, COMMA, FIELDS, 2, "<$0>", None),
-    // nothing is searched past the limit
-    (0, COMMA, FIELDS, 1, "-", Some("1-z2,yz3")),
-    (0, COMMA, FIELDS, 1, "<$0>", Some("1<,x>z2,yz3")),
-    (0, COMMA, ",yz", 1, "-", None),
-];
-
 #[test]
-fn faults_stand_in_the_middle(rt: HostRuntime) {
+fn odd_haystacks_have_lists(rt: HostRuntime) {
     check_rows(&rt, rt.alloc(), LISTS);
-    check_broken_lists(&rt, rt.alloc(), BROKEN_LISTS);
-    check_broken_pieces(&rt, rt.alloc(), BROKEN_PIECES);
-    check_broken_first(&rt, rt.alloc(), BROKEN_FIRST);
-    check_broken_replaced(&rt, rt.alloc(), BROKEN_REPLACED);
+}
+
+/// Searches may take no return.
+const NO_RETURNS: Settings = Settings {
+    backtrack_limit: 0,
+    ..CHARACTERS
+};
+
+/// Checks that a list has an item, and no other after it, and where its next search would start then.
+fn check_only_item(rt: &impl Abort, mut matches: Matches<'_, &str>, start: usize) {
+    check(rt, matches.next().is_some(), "an item");
+    check(rt, matches.next().is_none(), "the end");
+    check(rt, matches.next().is_none(), "the end again");
+    check(rt, matches.input().start() == start, "the next start");
+}
+
+// the search for the first match takes a return
+#[test]
+fn a_list_that_is_given_up_has_passed_the_end(rt: HostRuntime) {
+    let regex = regex_with(&rt, rt.alloc(), NO_RETURNS, ",(?:x|y)(?=z)");
+    let input = searchable(&rt, &regex, RegexInput::new(",yz"));
+    check_only_item(&rt, regex.find_iter_input(input), 4);
 }

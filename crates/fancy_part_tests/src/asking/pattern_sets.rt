@@ -2,34 +2,12 @@
 
 use crate::asking::{Span, check, is_part};
 use fancy_regex::{
-    Error, Input, RegexInput, RegexOptionsBuilder, RegexSet, RegexSetMatch, RegexSetMatchesAt,
-    Result, RuntimeError,
+    Error, Input, RegexInput, RegexSet, RegexSetMatch, RegexSetMatchesAt, Result, RuntimeError,
 };
-use std::alloc::Global;
 use std::process::Abort;
 
 /// The index of a pattern and where its match stands, or none where it is refused past its limit of returns.
 pub(crate) type Item = Option<(usize, Span)>;
-
-/// A limit of returns, patterns, a text, the start, whether the search is anchored, and where the set stands, with its items.
-pub(crate) type SetRow = (
-    usize,
-    &'static [&'static str],
-    &'static str,
-    usize,
-    bool,
-    Option<(usize, &'static [Item])>,
-);
-
-/// More returns than any row takes.
-pub(crate) const AMPLE: usize = 1_000;
-
-/// The set of the patterns under a limit of returns.
-pub(crate) fn set_of(rt: &impl Abort, alloc: Global, limit: usize, patterns: &[&str]) -> RegexSet {
-    let mut options = RegexOptionsBuilder::new();
-    options.backtrack_limit(limit);
-    RegexSet::new_with_options(alloc, patterns, &options).expect(rt, "a set")
-}
 
 /// What the set finds in the input, which it may search.
 pub(crate) fn searched<'s, S: Input>(
@@ -86,20 +64,4 @@ pub(crate) fn check_matches_at(
     check(rt, found.is_none(), "the end");
     let found = next_item(rt, &mut matches);
     check(rt, found.is_none(), "the end again");
-}
-
-/// Checks where sets stand, and the items of each.
-pub(crate) fn check_sets(rt: &impl Abort, alloc: Global, rows: &[SetRow]) {
-    for &(limit, patterns, text, start, anchored, wanted) in rows {
-        let set = set_of(rt, alloc, limit, patterns);
-        let input = RegexInput::new(text).from_pos(start).anchored(anchored);
-        let found = searched(rt, &set, input).expect(rt, text);
-        match wanted {
-            Some((position, items)) => {
-                let matches = found.expect(rt, text);
-                check_matches_at(rt, matches, (patterns.len(), text), position, items);
-            }
-            None => check(rt, found.is_none(), text),
-        }
-    }
 }

@@ -21,8 +21,6 @@ pub(crate) struct Settings {
     pub(crate) crlf: bool,
     /// Whether an input may say that the text's start, or its end, does not count as one.
     pub(crate) overrides: bool,
-    /// Whether groups without a name capture nothing where a group has one.
-    pub(crate) only_named: bool,
     /// How many returns a search for a hard pattern may take.
     pub(crate) backtrack_limit: usize,
     /// How many branches such a search may have saved at one time.
@@ -45,7 +43,6 @@ pub(crate) const CHARACTERS: Settings = Settings {
     dot_matches_new_line: false,
     crlf: false,
     overrides: false,
-    only_named: false,
     backtrack_limit: 1_000_000,
     stack_limit: 1_000_000,
     find_not_empty: false,
@@ -81,18 +78,6 @@ pub(crate) const ASCII_TEXT: Settings = Settings {
 /// Inputs may say what counts as the text's start and end.
 pub(crate) const OVERRIDING: Settings = Settings {
     overrides: true,
-    ..CHARACTERS
-};
-
-/// Numbered groups give way to named ones.
-pub(crate) const ONLY_NAMED: Settings = Settings {
-    only_named: true,
-    ..CHARACTERS
-};
-
-/// Literals stand in either case.
-pub(crate) const FOLDED: Settings = Settings {
-    case_insensitive: true,
     ..CHARACTERS
 };
 
@@ -132,7 +117,7 @@ pub(crate) fn owned(rt: &impl Abort, alloc: Global, text: &str) -> String {
 }
 
 /// A builder with these options.
-pub(crate) fn options_of(settings: Settings) -> RegexOptionsBuilder {
+fn options_of(settings: Settings) -> RegexOptionsBuilder {
     let mut builder = RegexOptionsBuilder::new();
     builder
         .bytes_mode(settings.bytes_mode)
@@ -143,7 +128,6 @@ pub(crate) fn options_of(settings: Settings) -> RegexOptionsBuilder {
         .dot_matches_new_line(settings.dot_matches_new_line)
         .crlf(settings.crlf)
         .allow_input_assertion_overrides(settings.overrides)
-        .ignore_numbered_groups_when_named_groups_exist(settings.only_named)
         .backtrack_limit(settings.backtrack_limit)
         .stack_limit(settings.stack_limit)
         .find_not_empty(settings.find_not_empty)

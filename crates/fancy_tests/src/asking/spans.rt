@@ -1,6 +1,6 @@
 //! First matches.
 
-use crate::asking::{SEEKING, Settings, check, read, regex_of, regex_with, searchable};
+use crate::asking::{Settings, check, read, regex_of, regex_with, searchable};
 use fancy_regex::{Input, Match, MatchBytes, Regex, RegexInput};
 use std::alloc::Global;
 use std::ops::Range;
@@ -113,22 +113,6 @@ pub(crate) fn check_match(
         .expect(rt, haystack)
         .expect(rt, haystack);
     check(rt, found == again, pattern);
-}
-
-/// A pattern, a text, and where the first match starts and ends.
-pub(crate) type TextRow = (&'static str, &'static str, Option<Span>);
-
-/// Checks rows on their text, on the bytes of it, and by searches that seek.
-pub(crate) fn check_texts(rt: &impl Abort, alloc: Global, rows: &[TextRow]) {
-    for &(pattern, haystack, wanted) in rows {
-        check_find(rt, alloc, pattern, haystack, wanted);
-        let text = RegexInput::new(haystack);
-        check_read(rt, Regex::new(alloc, pattern), text, wanted);
-        let bytes = RegexInput::new(haystack.as_bytes());
-        check_read(rt, Regex::new(alloc, pattern), bytes, wanted);
-        let text = RegexInput::new(haystack);
-        check_read(rt, read(alloc, SEEKING, pattern), text, wanted);
-    }
 }
 
 /// Checks where the first match starts and ends that the input asks for, whether the search seeks or not.

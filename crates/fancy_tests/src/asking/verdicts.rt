@@ -1,7 +1,7 @@
 //! What is accepted, what is refused and why, and what is given up.
 
 use crate::asking::{Settings, check, read};
-use fancy_regex::{CompileError, Error, ParseErrorKind, Regex, RuntimeError};
+use fancy_regex::{CompileError, Error, ParseErrorKind, RuntimeError};
 use std::alloc::Global;
 use std::process::Abort;
 
@@ -14,32 +14,8 @@ pub(crate) enum Verdict {
     Fault(usize, ParseErrorKind),
     /// The pattern has a fault of this kind, wherever it is.
     Kind(ParseErrorKind),
-    /// No group has the number.
-    Number(usize),
-    /// No group has the name.
-    Name(&'static str),
-    /// A reference by number where only named groups capture.
-    ByNameAlone,
-    /// A look-behind of no constant size.
-    LookBehind,
-    /// A pattern of size 0, where empty matches are refused.
-    NeverMatches,
     /// Too many nodes, or too much code.
     TooComplex,
-}
-
-/// Whether this is why a pattern that can be read is not accepted.
-fn is_flaw(why: &CompileError, wanted: Verdict) -> bool {
-    match (why, wanted) {
-        (CompileError::InvalidBackref(number), Verdict::Number(wanted)) => *number == wanted,
-        (CompileError::InvalidGroupNameBackref(name), Verdict::Name(wanted)) => name.as_str()
-            == wanted,
-        (CompileError::NamedBackrefOnly, Verdict::ByNameAlone) => true,
-        (CompileError::LookBehindNotConst, Verdict::LookBehind) => true,
-        (CompileError::PatternCanNeverMatch, Verdict::NeverMatches) => true,
-        (CompileError::PatternTooComplex, Verdict::TooComplex) => true,
-        _ => false,
-    }
 }
 
 /// Checks what became of a pattern.
@@ -54,7 +30,7 @@ pub(crate) fn check_verdict<T>(
         (Err(Error::ParseError(at, kind)), Verdict::Fault(place, wanted)) => *at == place
             && *kind == wanted,
         (Err(Error::ParseError(_, kind)), Verdict::Kind(wanted)) => *kind == wanted,
-        (Err(Error::CompileError(why)), _) => is_flaw(why, wanted),
+        (Err(Error::CompileError(CompileError::PatternTooComplex)), Verdict::TooComplex) => true,
         _ => false,
     };
     check(rt, holds, words);
@@ -63,17 +39,6 @@ pub(crate) fn check_verdict<T>(
 /// Whether a search is given up for this reason.
 pub(crate) fn is_given_up<T>(answer: &fancy_regex::Result<T>, reason: RuntimeError) -> bool {
     matches!(answer, Err(Error::RuntimeError(why)) if *why == reason)
-}
-
-/// A pattern, and the kind of its fault.
-pub(crate) type KindRow = (&'static str, ParseErrorKind);
-
-/// Checks why patterns are refused that are read with the default options.
-pub(crate) fn check_kinds(rt: &impl Abort, alloc: Global, rows: &[KindRow]) {
-    for &(pattern, kind) in rows {
-        let read = Regex::new(alloc, pattern);
-        check_verdict(rt, &read, Verdict::Kind(kind), pattern);
-    }
 }
 
 /// Options, a pattern, and what becomes of it.

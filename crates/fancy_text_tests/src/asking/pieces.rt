@@ -6,12 +6,7 @@ use std::alloc::Global;
 use std::process::Abort;
 
 /// Checks that these are the pieces of a pattern.
-pub(crate) fn check_cut(
-    rt: &impl Abort,
-    pieces: Result<Vec<&str>>,
-    pattern: &str,
-    wanted: &[&str],
-) {
+fn check_cut(rt: &impl Abort, pieces: Result<Vec<&str>>, pattern: &str, wanted: &[&str]) {
     let pieces = pieces.expect(rt, pattern);
     check(rt, pieces.as_slice() == wanted, pattern);
 }

@@ -53,12 +53,6 @@ pub(crate) const ONLY_NAMED: Settings = Settings {
     ..CHARACTERS
 };
 
-/// Empty matches are refused.
-pub(crate) const NOT_EMPTY: Settings = Settings {
-    find_not_empty: true,
-    ..CHARACTERS
-};
-
 /// The longest match at a position is asked for.
 pub(crate) const LONGEST: Settings = Settings {
     leftmost_longest: true,

@@ -1,0 +1,243 @@
+#!/usr/bin/env python3
+"""Makes the input of crates/calls, and the output that it must have, from the rows of crates/calls/rows.txt.
+
+    tools/rows.py           compares the files stdin and stdout beside the rows with them, and ends with status 1 if one differs
+    tools/rows.py --write   writes both files
+
+The first lines of both files are written by hand, and stay as they are. What a call must answer is worked out from its row alone.
+The first lines of rows.txt say what a row of each kind means.
+"""
+
+import ast
+import re
+import sys
+from pathlib import Path
+
+import asking
+
+CALLS = Path(__file__).resolve().parent.parent / "crates/calls"
+# How many lines of both files are written by hand.
+BY_HAND = 24
+# The options that rows have, and their letters in a line.
+LETTERS = {
+    "case_insensitive": "i", "no_unicode_mode": "U", "only_named": "N", "find_not_empty": "E", "leftmost_longest": "L",
+    "seek": "S", "ascii": "a", "unicode_bytes": "b", "no_returns": "0",
+}
+REFUSALS = {"given up": "error executing regex: limit for backtracking exceeded"}
+
+
+def span(place):
+    return "none" if place is None else "%d..%d" % place
+
+
+def groups(places):
+    return "none" if places is None else "".join(span(one) + "," for one in places)
+
+
+def text(one):
+    """An item that is a text, or a refusal, which is written {"refused": text}, or none."""
+    if one is None:
+        return "none"
+    if isinstance(one, dict):
+        return "!" + REFUSALS.get(one["refused"], one["refused"])
+    return "x" + one.encode().hex()
+
+
+def item(one, form=span):
+    """An item of a list, which may be a refusal."""
+    return text(one) if isinstance(one, dict) else form(one)
+
+
+def has_groups(pattern):
+    """Whether the pattern may have a group besides the whole match: it has a parenthesis that is not followed as in `(?:`."""
+    return bool(re.search(r"\((?!\?(:|=|!|>|<=|<!|[a-zA-Z-]*[:)]))", pattern))
+
+
+def in_options(options, *more):
+    return "".join(sorted(LETTERS[one] for one in (*options.split(), *more))) or "-"
+
+
+def found(place):
+    """What a search answers by the calls that take a text alone, and by those from a start on, with the counts that are told."""
+    if isinstance(place, dict):
+        return [text(place)] * 2, [text(place)] * 4 + ["within true"]
+    is_found = str(place is not None).lower()
+    return [is_found, span(place)], [is_found] + [span(place)] * 3 + ["within true"]
+
+
+def answered(line, items):
+    """A line whose calls, each made twice, answer these items."""
+    answer = "".join(one + "|" for one in items)
+    return line, ">%s<%s" % (answer, answer)
+
+
+def find(pattern, haystack, place, options=""):
+    by_text, by_input = found(place)
+    plain, seeking = in_options(options), in_options(options, "seek")
+    yield answered(asking.line("find", plain, pattern, haystack), by_text)
+    yield answered(asking.line("find_from", plain, pattern, haystack), by_input)
+    yield answered(asking.line("find_from", seeking, pattern, haystack), by_input)
+
+
+def find_from(pattern, haystack, start, place, options=""):
+    for letters in (in_options(options), in_options(options, "seek")):
+        yield answered(asking.line("find_from", letters, pattern, haystack, start), found(place)[1])
+
+
+def cannot(pattern, haystack, start, options=""):
+    yield answered(asking.line("find_from", in_options(options), pattern, haystack, start), ["?cannot"])
+
+
+def captures(pattern, haystack, places, options=""):
+    yield answered(asking.line("captures", in_options(options), pattern, haystack), [groups(places)] * 3)
+
+
+def captures_from(pattern, haystack, start, places, first, options=""):
+    items = [groups(first), groups(places), groups(places)]
+    yield answered(asking.line("captures", in_options(options), pattern, haystack, start), items)
+
+
+def names(pattern, wanted, options=""):
+    yield answered(asking.line("names", in_options(options), pattern, ""), map(text, wanted))
+
+
+def matches(pattern, haystack, places, options=""):
+    for letters in (in_options(options), in_options(options, "seek")):
+        yield answered(asking.line("matches", letters, pattern, haystack), [item(one) for one in places])
+        if not has_groups(pattern):
+            items = [item(one, lambda place: groups([place])) for one in places]
+            yield answered(asking.line("capture_matches", letters, pattern, haystack), items)
+
+
+def groups_of_matches(pattern, haystack, start, all_groups, options=""):
+    items = [item(one, groups) for one in all_groups]
+    yield answered(asking.line("capture_matches", in_options(options), pattern, haystack, start), items)
+
+
+def split(pattern, haystack, pieces, options=""):
+    letters = in_options(options)
+    yield answered(asking.line("split", letters, pattern, haystack), map(text, pieces))
+    for limit in (len(pieces), 2**64 - 1):
+        yield answered(asking.line("splitn", letters, pattern, haystack, limit), map(text, pieces))
+
+
+def splitn(pattern, haystack, limit, pieces, options=""):
+    yield answered(asking.line("splitn", in_options(options), pattern, haystack, limit), map(text, pieces))
+
+
+def replace(pattern, haystack, limit, template, texts, options=""):
+    yield answered(asking.line("replace", in_options(options), pattern, haystack, limit, template), map(text, texts))
+
+
+def expand(pattern, haystack, template, wanted):
+    alone, after = text(wanted), text("t" + wanted)
+    yield answered(asking.line("expand", "-", pattern, haystack, 0, template), [alone] + [after] * 4)
+    yield answered(asking.line("write", "-", pattern, haystack, 0, template), [wanted])
+
+
+def expand_as_in_python(pattern, haystack, template, wanted, by_default):
+    alone, after, otherwise = text(wanted), text("t" + wanted), text("t" + by_default)
+    yield answered(asking.line("expand", "-", pattern, haystack, 1, template), [alone, after, otherwise, otherwise, after])
+
+
+def check(pattern, template, *told):
+    yield answered(asking.line("check", "-", pattern, "", 0, template), [item(one, str) for one in told])
+
+
+def escape(haystack, *escaped):
+    yield answered(asking.line("escape", "-", "", haystack), map(text, escaped))
+
+
+def bytes_of(one):
+    """An item that is a set of bytes, which the row has in hexadecimal."""
+    return " ".join(["%d bytes" % len(one.split()), *one.split()])
+
+
+def bytes_of_matches(pattern, first, required, options=""):
+    items = [text(None) if first is None else item(first, bytes_of), item(required, bytes_of)]
+    yield answered(asking.line("bytes", in_options(options), pattern, ""), items)
+
+
+def of_pattern(one):
+    return "%d %s" % (one[0], span(one[1]))
+
+
+def size_of_set(patterns, count):
+    if isinstance(count, dict):
+        yield answered(asking.line("set", "-", patterns, ""), [text(count)] * 2)
+        return
+    yield answered(asking.line("set", "-", patterns, ""), ["%d patterns" % count] * 2)
+    yield answered(asking.line("tell_set", "-", patterns, ""), [str(count == 0).lower(), str(count), "0", "0"])
+
+
+def in_set(patterns, haystack, start, place, items, options=""):
+    where = text(place) if place is None or isinstance(place, dict) else "at %d" % place
+    items = [where, *(item(one, of_pattern) for one in items)]
+    yield answered(asking.line("in_set", in_options(options), patterns, haystack, start), items)
+
+
+def tokens(patterns, haystack, start, items, end, place, options=""):
+    refusals = {"end": [], "unmatched": ["error executing regex: no token at position %d" % place], "given up": ["given up"]}
+    items = [*map(of_pattern, items), *(text({"refused": one}) for one in refusals[end]), "at %d" % place]
+    yield answered(asking.line("tokens", in_options(options), patterns, haystack, start), items)
+
+
+def refused(pattern, words, options=""):
+    """A pattern that is refused is so before any call, but for the call that builds."""
+    refusal = text({"refused": words})
+    yield asking.line("names", in_options(options), pattern, ""), refusal + "|"
+    if not options:
+        yield answered(asking.line("build", "-", pattern, ""), [refusal] * 3)
+
+
+def accepted(pattern, options=""):
+    yield answered(asking.line("splitn", in_options(options), pattern, ""), [])
+
+
+KINDS = {
+    "find": find, "find from": find_from, "cannot": cannot, "captures": captures, "captures from": captures_from,
+    "names": names, "matches": matches, "groups of matches": groups_of_matches, "split": split, "splitn": splitn,
+    "replace": replace, "expand": expand, "expand as in Python": expand_as_in_python, "check": check, "escape": escape,
+    "bytes": bytes_of_matches, "set": size_of_set, "in set": in_set, "tokens": tokens, "refused": refused, "accepted": accepted,
+}
+
+
+def rows():
+    """The rows, each with the number of its line."""
+    for number, line in enumerate((CALLS / "rows.txt").read_text().split("\n"), 1):
+        if line and not line.startswith("#"):
+            yield number, ast.literal_eval(line)
+
+
+def made():
+    """The lines that the rows ask for, with their answers."""
+    for number, (kind, *fields) in rows():
+        try:
+            yield from KINDS[kind](*fields)
+        except Exception as error:
+            raise SystemExit("rows.txt, line %d: %s" % (number, error)) from error
+
+
+def renewed(path, lines):
+    by_hand = path.read_text().split("\n")[:BY_HAND]
+    return "\n".join([*by_hand, *lines, ""])
+
+
+def main():
+    asked, answers = zip(*made())
+    differs = False
+    for name, lines in (("stdin", asked), ("stdout", answers)):
+        path = CALLS / name
+        wanted = renewed(path, lines)
+        if path.read_text() != wanted:
+            differs = True
+            if "--write" in sys.argv:
+                path.write_text(wanted)
+            else:
+                print("%s is not that of the rows" % path)
+    print("%d rows, %d lines" % (sum(1 for _ in rows()), len(asked)))
+    return int(differs and "--write" not in sys.argv)
+
+
+if __name__ == "__main__":
+    sys.exit(main())
