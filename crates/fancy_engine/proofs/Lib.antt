@@ -8,6 +8,7 @@ pub mod WordCharacters
 pub mod ReachLemmas
 pub mod EventLemmas
 pub mod RunMore
+pub mod RowLemmas
 pub mod RunLemmas
 pub mod Past
 pub mod FollowParts

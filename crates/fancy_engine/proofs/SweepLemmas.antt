@@ -12,9 +12,9 @@ use Rattle.fancy_engine.specs.Context.{Context, State}
 use Rattle.fancy_engine.specs.Events.{Event, return, outcome}
 use Rattle.fancy_engine.specs.Marking.{Marks}
 use Rattle.fancy_engine.specs.Threads.{Thread, state_of}
-use Rattle.fancy_engine.specs.Runner.{events_of, Known, AllKnown, thread_run, pending, Stepped, first_accepted, ends_well, AllWithin, WasVisited, rank, Hits, HitsBelow, AllFailed, FailedPast, Running}
+use Rattle.fancy_engine.specs.Runner.{events_of, Known, AllKnown, thread_run, pending, Stepped, first_accepted, ends_well, AllWithin, Grown, WasVisited, rank, Hits, HitsBelow, AllFailed, FailedPast, Running}
 use Rattle.fancy_engine.specs.Compile.{AreEasy}
-use Rattle.fancy_engine.specs.Sweep.{AllPast, AllAt, AllUpTo, AreRising, Grown, IsPast, HitsPast, CoversAll, Sweeping}
+use Rattle.fancy_engine.specs.Sweep.{AllPast, AllAt, AllUpTo, AreRising, IsPast, HitsPast, CoversAll, Sweeping}
 use Rattle.fancy_engine.proofs.RunnerLemmas.{first_or, choice_some, rank_is, hits_is, Adds}
 
 -- threads past a place, one after another
@@ -411,10 +411,7 @@ module _ (good : ℕ → Bool) (cx : Context) (low limit : ℕ) (code : List Ins
       covers = λ q i seen hit. from_below (rank cx limit code deep q i) i (t ∷ ts) (r.covers q i seen hit);
     }
 
-    -- and it ends where no thread is left
-    pub sweep_last : (table : Marks) (found : Option State) → Sweep table [] found → found ≡ goal
-    sweep_last table found s = s.answer
-
+    -- what was marked where no thread is left
     pub sweep_failed : (table : Marks) → Sweep table [] None → AllFailed good cx low limit code deep table
     sweep_failed table s q i seen hit = s.covers q i seen hit
 

@@ -1,5 +1,5 @@
 -- The threads that a sweep has before it.
-use Rattle.std.proofs.Common.{◌≡◌, ℕ, Bool, List, [], ◌∷◌, ◌++◌, length, Option, Some, None, refl, sym, ap, ap₂, ◌∙◌, subst, arith}
+use Rattle.std.proofs.Common.{◌≡◌, ℕ, Bool, List, [], ◌++◌, Option, Some, None, refl, sym, ap₂, ◌∙◌, subst}
 use Rattle.std.specs.Prelude.{IfSome}
 use Rattle.std.proofs.lemmas.List.{append-nil}
 use Rattle.fancy_engine.specs.declared.code.Code.{Code}
@@ -31,18 +31,6 @@ pub took_all : (code : List Instruction) (o : Option Pair) (old new : Backlog) �
     → threads_in_backlog code new ++ taken_out o new.saved.slots.items ≡ threads_in_backlog code old
 took_all code None old new took = append-nil (threads_in_backlog code new) ∙ took.1 ∙ sym took.0
 took_all code (Some pair) old new took = sym took
-
--- where two lists have nothing, each has nothing
-pub back_nil : (ts us : List Thread) → ts ++ us ≡ [] → us ≡ []
-back_nil [] us e = e
-back_nil (t ∷ ts) us e = let none : length (t ∷ (ts ++ us)) ≡ 0 = ap length e in absurd (omega (arith, none))
-
-pub front_nil : (ts us : List Thread) → ts ++ us ≡ [] → ts ≡ []
-front_nil [] us e = refl
-front_nil (t ∷ ts) us e = let none : length (t ∷ (ts ++ us)) ≡ 0 = ap length e in absurd (omega (arith, none))
-
-pub no_last : (ts : List Thread) (t : Thread) → ts ++ t ∷ [] ≡ [] → ⊥
-no_last ts t e = let none : length (t ∷ []) ≡ 0 = ap length (back_nil ts (t ∷ []) e) in absurd (omega (arith, none))
 
 pub if_some : (o : Option ℕ) (P : ℕ → Type 0) → ((n : ℕ) → o ≡ Some n → P n) → IfSome o P
 if_some None P h = tt

@@ -35,9 +35,13 @@ abbrev pub IsKnown : Option (List Raw) → Type 0
 IsKnown None = ⊥
 IsKnown (Some w) = Unit {0}
 
+-- at most one more branch is saved, at the place where the thread stood
+abbrev pub Grown : ℕ → List Thread → List Thread → Type 0
+Grown p ts us = (us ≡ ts) ⊎ ((b : Thread) × (b.place ≡ p) × (us ≡ b ∷ ts))
+
 -- only a step on may save a branch, and saves one at the same place
 abbrev pub Stacked : Next → Thread → List Thread → List Thread → Type 0
-Stacked On t ts us = (us ≡ ts) ⊎ ((b : Thread) × (b.place ≡ t.place) × (us ≡ b ∷ ts))
+Stacked On t ts us = Grown t.place ts us
 Stacked Dead t ts us = us ≡ ts
 Stacked Found t ts us = us ≡ ts
 

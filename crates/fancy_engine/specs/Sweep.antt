@@ -32,10 +32,6 @@ abbrev pub AreRising : List Thread → Type 0
 AreRising [] = Unit {0}
 AreRising (t ∷ ts) = AllUpTo t.place ts × AreRising ts
 
--- at most one more branch is saved, at the place where the thread stood
-abbrev pub Grown : ℕ → List Thread → List Thread → Type 0
-Grown p ts us = (us ≡ ts) ⊎ ((b : Thread) × (b.place ≡ p) × (us ≡ b ∷ ts))
-
 -- `good` tests the place of an outcome; pairs at places before `low` are left out
 module _ (good : ℕ → Bool) (x : Context) (low limit : ℕ) (code : List Instruction) (deep : ℕ) where
   -- the thread comes no more to a pair of this rank at this place: it stands past that, or there at a lower rank

@@ -10,9 +10,10 @@ use crate::slot::{Pair, Slot};
 use crate::threads::Threads;
 use std::alloc::{AllocError, Global};
 use std::marker::Model;
+use std::mem;
 
 /// A thread that waits.
-#[derive(Clone, Copy, PartialEq, Eq, Debug)]
+#[derive(Clone, Copy)]
 pub struct Waiting {
     /// Where it stands.
     pub pair: Pair,
@@ -84,6 +85,13 @@ impl Row {
         self.waiting.is_empty()
     }
 
+    /// Whether one thread waits.
+    fn is_one(&self) -> bool
+        ensures { result ≡ (length self.now == 1) }
+    {
+        self.waiting.len() == 1
+    }
+
     /// Leaves out all threads. The memory that it has is kept.
     pub fn clear(&mut self)
         ensures { self.new ≡ [] }
@@ -109,6 +117,9 @@ impl Row {
         ensures { OnOk result (self.new
             ≡ thread_of pair (slots_after (instrs_of code.now) threads.now.passed threads.now.slots) ∷ self.old) }
     {
+        if let Some(slots) = threads.plain_slots() {
+            return put(&mut self.waiting, &mut self.slots, pair, slots);
+        }
         threads.copy_slots(code, &mut self.spare)?;
         put(&mut self.waiting, &mut self.slots, pair, &self.spare)
     }
@@ -142,6 +153,10 @@ impl Row {
         ensures row { OnOk result (row.new ≡ reverse self.old ++ row.old) }
         ensures empty { OnOk result (self.new ≡ []) }
     {
+        if row.is_empty() && self.is_one() {
+            mem::swap(self, row);
+            return Ok(());
+        }
         'threads: while self.pass_last(row)? {}
         Ok(())
     }

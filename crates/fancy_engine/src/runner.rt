@@ -12,8 +12,8 @@ ghost use Rattle.fancy_engine.specs.Reading.{search_context};
 ghost use Rattle.fancy_input.specs.LastLines.{KnowsLastLines};
 ghost use Rattle.fancy_engine.specs.declared.slot.Slot.{Slot};
 ghost use Rattle.fancy_engine.specs.Threads.{Thread, thread_of, begun_at, AreFresh};
-ghost use Rattle.fancy_engine.specs.Runner.{found_state, Stacked, Moved, Tested, AllWithin, Spends, Progresses};
-ghost use Rattle.fancy_engine.specs.Sweep.{AllPast, AreRising, Grown, SweepingIn, SweptIn};
+ghost use Rattle.fancy_engine.specs.Runner.{found_state, Stacked, Grown, Moved, Tested, AllWithin, Spends, Progresses};
+ghost use Rattle.fancy_engine.specs.Sweep.{AllPast, AreRising, SweepingIn, SweptIn};
 ghost use Rattle.fancy_engine.specs.Attempt.{context_in, instrs_in, stack_in, current_in, saved_in, threads_in, threads_left_in, bits_in, left_in, ahead_in, marks_in, KnownIn, AllFailedIn, FailedPastIn, first_accepted_in, SteppedIn, RunningIn, VisitedIn};
 
 use crate::code::{Code, Instr};
@@ -157,6 +157,7 @@ fn pass_test(
 }
 
 /// Follows one instruction, which is fetched once.
+#[inline(always)]
 fn step(
     attempt: &Attempt,
     pair: &mut Pair,
@@ -247,6 +248,7 @@ fn is_new(attempt: &Attempt, pair: Pair, table: &mut Table) -> bool
 }
 
 /// Follows a pair, if it is new. A pair that was marked before has nothing to give, whatever the captures.
+#[inline(always)]
 pub(crate) fn visit(
     attempt: &Attempt,
     pair: &mut Pair,

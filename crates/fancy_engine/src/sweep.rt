@@ -7,9 +7,9 @@ ghost use Rattle.fancy_engine.specs.Compile.{AreEasy};
 ghost use Rattle.fancy_engine.specs.Work.{steps_of, returns_of};
 ghost use Rattle.fancy_input.specs.LastLines.{KnowsLastLines};
 ghost use Rattle.fancy_engine.specs.Threads.{Thread, thread_of, with_way, held_of, AreFresh};
-ghost use Rattle.fancy_engine.specs.Runner.{AllWithin, found_state};
+ghost use Rattle.fancy_engine.specs.Runner.{AllWithin, Grown, found_state};
 ghost use Rattle.fancy_engine.specs.Attempt.{instrs_in, stack_in, saved_in, threads_in, threads_left_in, bits_in, left_in, ahead_in, AllFailedIn, FailedPastIn, RunningIn};
-ghost use Rattle.fancy_engine.specs.Sweep.{AllPast, AreRising, Grown, SweepingIn, SweptIn, SweptTo};
+ghost use Rattle.fancy_engine.specs.Sweep.{AllPast, AreRising, SweepingIn, SweptIn, SweptTo};
 ghost use Rattle.fancy_engine.specs.Sweeps.{backlog_in, left_in_sweep, found_in, due_in_rows, IsDrained, KeepsBacklog, KeepsFound};
 
 use crate::backlog::Backlog;

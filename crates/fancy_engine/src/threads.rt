@@ -1,6 +1,6 @@
 //! The slots of the thread that a search follows, and the branches that it saved, over one list of slots.
 
-ghost use Rattle.std.specs.Prelude.{◌≡◌, ◌≤◌, ℕ, [], take, drop, replicate, reverse, OnOk, vec_len, slice_index_or};
+ghost use Rattle.std.specs.Prelude.{◌≡◌, ◌≤◌, ℕ, [], take, drop, replicate, reverse, OnOk, IfSome, vec_len, slice_index_or};
 ghost use Rattle.fancy_engine.specs.Saved.{kept_of};
 ghost use Rattle.fancy_engine.specs.Code.{instrs_of};
 ghost use Rattle.fancy_engine.specs.Instructions.{Open, Close};
@@ -123,7 +123,7 @@ fn take_way(code: &Code, passed: &mut Vec<Pair>) -> Option<Pair>
 }
 
 /// With so many branches or so many pairs, 256 KB of them, a search goes on place by place.
-const MOST: usize = 16_384;
+const MOST_KEPT: usize = 16_384;
 
 /// What threads keep: the slots, the branches that were saved before a group began or ended, and the pairs that were passed since.
 #[derive(Drop)]
@@ -285,7 +285,7 @@ impl Threads {
 
     /// Whether so much is kept that a search is to go on place by place.
     pub(crate) fn is_long(&self) -> bool {
-        self.branches.len() >= MOST || self.passed.len() >= MOST
+        self.branches.len() >= MOST_KEPT || self.passed.len() >= MOST_KEPT
     }
 
     /// Gives up all that is kept.
@@ -312,6 +312,17 @@ impl Threads {
         self.slots.clear();
         self.slots.extend_from_slice(slots)?;
         Ok(())
+    }
+
+    /// The slots of the thread that is followed, if no pair was passed since they were written.
+    pub(crate) fn plain_slots(&self) -> Option<&[Slot]>
+        ensures { IfSome result (λ slots. (slots.now ≡ self.now.slots) × (self.now.passed ≡ [])) }
+    {
+        if self.passed.is_empty() {
+            Some(&self.slots)
+        } else {
+            None
+        }
     }
 
     /// Copies the slots of the thread that is followed.
