@@ -12,7 +12,7 @@ use Rattle.fancy_engine.specs.declared.code.Instr.{Instr}
 use Rattle.fancy_engine.specs.declared.code.Instr.TheVariants as coded
 use Rattle.fancy_engine.specs.Instructions.{Instruction, with_set, with_sets, Match, Fail, Character, Member, RawByte, Assert, Split, Open, Close, Enter, Commit, Look, Deny, Test, Back, Recall, Keep, Continue, Taken}
 use Rattle.fancy_engine.specs.Marking.{number_in, worth_in, due_in, cost_in, sum_to, marks, owed, left_in, IsPaid, IsNumbered}
-use Rattle.fancy_engine.specs.Table.{IsCleared}
+use Rattle.fancy_engine.specs.Table.{IsCleared, IsForgotten}
 use Rattle.fancy_engine.proofs.TableLemmas.{member-set}
 use Rattle.fancy_engine.proofs.SumLemmas.{sum_le, sum_less, sum_one, sum_most}
 
@@ -309,6 +309,27 @@ pub row_inside : (row rows width : ℕ) → row < rows → row * width + width �
 row_inside row rows width lt = omega (arith, times_le (row + 1) rows width (omega arith), one_row row width) where
   one_row : (row width : ℕ) → (row + 1) * width ≡ row * width + width
   one_row row width = omega arith
+
+-- a table in which marks before a row were forgotten
+module _ (numbers : List (Option ℕ)) (weights : List ℕ) (width row : ℕ) (old new : List Bool) (is : IsForgotten old new (row * width)) where
+  -- a mark from that row on was made
+  pub marks_kept : (p r : ℕ) → row ≤ r → marks numbers width new p r ≡ true → marks numbers width old p r ≡ true
+  marks_kept p r le h = at (number_in numbers p) h where
+    at : (o : Option ℕ) → option_to o false (λ k. slice_index_or new (r * width + k) false) ≡ true
+        → option_to o false (λ k. slice_index_or old (r * width + k) false) ≡ true
+    at None h = h
+    at (Some m) h = sym (is.same (r * width + m) (omega (arith, times_le row r width le))) ∙ h
+
+  marks_more : (p r : ℕ) → marks numbers width old p r ≡ true → marks numbers width new p r ≡ true
+  marks_more p r h = at (number_in numbers p) h where
+    at : (o : Option ℕ) → option_to o false (λ k. slice_index_or old (r * width + k) false) ≡ true
+        → option_to o false (λ k. slice_index_or new (r * width + k) false) ≡ true
+    at None h = h
+    at (Some m) h = is.more (r * width + m) h
+
+  -- no more is left
+  pub left_fewer : (count rows : ℕ) → left_in numbers weights width count rows new ≤ left_in numbers weights width count rows old
+  left_fewer count rows = sum_le _ _ rows (λ r. sum_le _ _ count (λ p. if_less (marks numbers width new p r) (marks numbers width old p r) (worth_in numbers weights p) (marks_more p r)))
 
 times_most : (a w v : ℕ) → w ≤ v → a * w ≤ a * v
 times_most a w v h = omega (arith, times_le w v a h)

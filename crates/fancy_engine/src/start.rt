@@ -191,6 +191,19 @@ fn follow_branches(
     Ok(None)
 }
 
+/// Forgets what was marked behind a place, of which no attempt from there on asks.
+fn forget_behind(attempt: &Attempt, place: usize, table: &mut Table)
+    requires low { attempt.now.base ≤ place }
+    requires high { place ≤ attempt.now.last }
+    requires room { bits_in attempt.now ≤ length table.old }
+    requires small { length table.old < 2 ^ 64 }
+    ensures failed { (deep : ℕ) → AllFailedIn attempt.now place deep table.old → AllFailedIn attempt.now place deep table.new }
+    ensures left { left_in attempt.now table.new ≤ left_in attempt.now table.old }
+    ensures room { length table.new ≡ length table.old }
+{
+    table.forget((place - attempt.base) * attempt.code.marks());
+}
+
 /// An attempt at a place from the first instruction on, with no group written. Its contract is that of `follow`.
 pub(crate) fn follow_start(
     attempt: &Attempt,
@@ -233,18 +246,16 @@ pub(crate) fn follow_start(
     ensures paired { returns_of work.new - returns_of work.old ≤ steps_of work.new - steps_of work.old }
     ensures last_lines { KnowsLastLines attempt.now.haystack.now last_lines.new }
 {
+    forget_behind(attempt, place, table);
     match &attempt.code.branches {
-        None => follow_from(
-            attempt,
-            attempt.code.start,
-            place,
-            threads,
-            table,
-            last_lines,
-            work,
-        ),
+        None => {
+            let start = attempt.code.start;
+            let end = follow_from(attempt, start, place, threads, table, last_lines, work)?;
+            Ok(end)
+        }
         Some(branches) => {
-            follow_branches(attempt, branches, place, threads, table, last_lines, work)
+            let end = follow_branches(attempt, branches, place, threads, table, last_lines, work)?;
+            Ok(end)
         }
     }
 }
