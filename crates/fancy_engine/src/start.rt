@@ -192,6 +192,7 @@ fn follow_branches(
 }
 
 /// Forgets what was marked behind a place, of which no attempt from there on asks.
+#[inline]
 fn forget_behind(attempt: &Attempt, place: usize, table: &mut Table)
     requires low { attempt.now.base ≤ place }
     requires high { place ≤ attempt.now.last }

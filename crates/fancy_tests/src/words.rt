@@ -69,6 +69,21 @@ const ROWS: &[LongRow] = &[
         tail: "éz",
         spans: &[(0, 3)],
     },
+    // what is kept of the way behind an attempt is left out again and again
+    LongRow {
+        pattern: "a*b*c*d*e*f*g*h*i*j*k*l*m*n*o*p*q*r*s*x",
+        filler: "ab ",
+        count: 30_000,
+        tail: "abx cx x",
+        spans: &[(0, 3), (4, 6), (7, 8)],
+    },
+    LongRow {
+        pattern: "a*b*c*d*e*f*g*h*i*j*k*l*m*n*o*p*q*r*s*(?:x|$)",
+        filler: "ab ",
+        count: 30_000,
+        tail: "bax srqx!",
+        spans: &[(1, 3), (6, 8), (9, 9)],
+    },
     LongRow {
         pattern: FOLDED,
         filler: "kel sig alp m n ",
