@@ -1,6 +1,6 @@
 //! Matches that come one after another.
 
-use crate::asking::{CHARACTERS, Settings, Span, Spanned, check, regex_of, regex_with, searchable};
+use crate::asking::{CHARACTERS, Settings, Span, Spanned, check, regex_with, searchable};
 use fancy_regex::{CaptureMatches, Captures, Input, Matches, Regex, RegexInput, Result};
 use std::alloc::Global;
 use std::process::Abort;
@@ -254,37 +254,5 @@ pub(crate) fn check_rows<M: Spanned, S: Input<Match = M>>(
             check_input_lists(rt, &regex, input.again(), (row.spans, row.starts));
             check_counts(rt, alloc, &regex, input.again(), row.spans);
         }
-    }
-}
-
-/// Checks the lists of a whole haystack, which the regex may search: where the matches start and end, one after another, and
-/// how many there are that are counted and collected.
-fn check_whole<M: Spanned, S: Input<Match = M>>(
-    rt: &impl Abort,
-    alloc: Global,
-    regex: &Regex,
-    haystack: S,
-    spans: &[Span],
-) {
-    let pattern = regex.as_str();
-    assert!(rt; regex.can_search(&RegexInput::new(haystack)), "{pattern}");
-    check_matches(rt, regex.find_iter(haystack), pattern, (spans, &[]));
-    let count = regex.find_iter(haystack).count();
-    check(rt, count == spans.len(), pattern);
-    let count = regex.captures_iter(haystack).count();
-    check(rt, count == spans.len(), pattern);
-    let all: Result<Vec<M>> = regex.find_iter(haystack).try_collect(alloc);
-    let count = count_of_collected(rt, all, pattern);
-    check(rt, count == spans.len(), pattern);
-}
-
-/// A pattern, a text, and where the matches start and end, also in the bytes of the text.
-pub(crate) type TextListRow = (&'static str, &'static str, &'static [Span]);
-
-pub(crate) fn check_text_lists(rt: &impl Abort, alloc: Global, rows: &[TextListRow]) {
-    for &(pattern, text, spans) in rows {
-        let regex = regex_of(rt, alloc, pattern);
-        check_whole(rt, alloc, &regex, text, spans);
-        check_whole(rt, alloc, &regex, text.as_bytes(), spans);
     }
 }
