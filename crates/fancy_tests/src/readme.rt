@@ -1,20 +1,17 @@
-//! Each call that the README names, on searches, options and refusals; and the rows of its table of patterns.
+//! Calls that the README names, on searches and options; and the rows of its table of patterns.
 
 use crate::asking::{
     ASCII_TEXT, BYTES, BytesRow, CHARACTERS, CountRow, LONGEST, NOT_EMPTY, OverrideRow, SEEKING,
-    SearchRow, Settings, SpanRow, Verdict, VerdictRow, check, check_counts, check_match,
-    check_may_search, check_overrides, check_part, check_read, check_searches, check_spans,
-    check_verdict, check_verdicts, counted, owned, regex_of, span_found,
+    SearchRow, Settings, SpanRow, Verdict, check, check_counts, check_may_search, check_overrides,
+    check_part, check_read, check_searches, check_spans, check_verdict, counted, owned, regex_of,
+    span_found,
 };
-use fancy_regex::{
-    ParseErrorKind, Regex, RegexBuilder, RegexInput, RegexOptionsBuilder, Result, Work,
-};
+use fancy_regex::{Regex, RegexBuilder, RegexInput, RegexOptionsBuilder, Result, Work};
 use std::alloc::Global;
 use std::process::Abort;
 
 #[test]
 fn searches_and_inputs(rt: HostRuntime) {
-    check_match(&rt, rt.alloc(), ("a|ab", "xab"), (1, 2), "a");
     let input = RegexInput::new("xabab").range(2..5);
     check(&rt, input.haystack() == "xabab", "the haystack");
     check(&rt, input.start() == 0, "the start");
@@ -114,12 +111,6 @@ const LIMITED: &[CountRow] = &[
     (CHARACTERS, "(?:a|b)(?=c)", "xxbc", 1, None, None, 1),
 ];
 
-const REFUSED: &[VerdictRow] = &[(
-    CHARACTERS,
-    "(?:a",
-    Verdict::Fault(4, ParseErrorKind::UnclosedOpenParen),
-)];
-
 #[test]
 fn patterns_and_options(rt: HostRuntime) {
     check_searches(&rt, rt.alloc(), SEARCHES);
@@ -127,7 +118,6 @@ fn patterns_and_options(rt: HostRuntime) {
     check_spans(&rt, rt.alloc(), PATTERNS_OF_BYTES);
     check_overrides(&rt, rt.alloc(), OVERRIDES);
     check_counts(&rt, rt.alloc(), LIMITED);
-    check_verdicts(&rt, rt.alloc(), REFUSED);
 }
 
 /// Checks patterns that a builder holds.
