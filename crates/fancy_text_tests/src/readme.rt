@@ -1,8 +1,8 @@
-//! Calls that the README names and none of its examples makes, on groups and pieces. Rows of them are in `crates/calls/rows.txt`.
+//! Calls that the README names and none of its examples makes, on groups, lists and pieces. Rows of them are in `crates/calls/rows.txt`.
 
 use crate::asking::Group::Named;
 use crate::asking::{ONLY_NAMED, check, part_of, regex_of, regex_with, searchable, taken};
-use fancy_regex::RegexInput;
+use fancy_regex::{Captures, RegexInput, Result};
 
 #[test]
 fn groups_have_names(rt: HostRuntime) {
@@ -26,6 +26,13 @@ fn a_later_match_has_groups(rt: HostRuntime) {
     let captures = taken(&rt, regex.captures_from_pos("abab", 1), "a later match");
     let found = part_of(&captures, Named("first"));
     check(&rt, found == Some(((2, 3), "a")), "first");
+}
+
+#[test]
+fn matches_are_collected(rt: HostRuntime) {
+    let regex = regex_of(&rt, rt.alloc(), "a?");
+    let all: Result<Vec<Captures<'_, &str>>> = regex.captures_iter("baa").try_collect(rt.alloc());
+    check(&rt, all.expect(&rt, "a?").len() == 3, "how many matches");
 }
 
 #[test]
