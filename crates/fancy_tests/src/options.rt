@@ -87,6 +87,7 @@ const ROWS: &[Row] = &[
     (Switch::MultiLine, "a$", "a\nb", None, Some((0, 1))),
     (Switch::IgnoreWhitespace, "a b #c", "ab", None, Some((0, 2))),
     (Switch::IgnoreWhitespace, "a b", "a b", Some((0, 3)), None),
+    (Switch::IgnoreWhitespace, "b #", "ab", None, Some((1, 2))),
     (Switch::VerboseMode, "a b #c", "ab", None, Some((0, 2))),
     (Switch::DotMatchesNewLine, ".", "\n", None, Some((0, 1))),
     (Switch::Crlf, ".", "\r", Some((0, 1)), None),
