@@ -20,8 +20,6 @@ mod haystacks;
 #[cfg(test)]
 mod pattern_sets;
 #[cfg(test)]
-mod readme;
-#[cfg(test)]
 mod replacement;
 #[cfg(test)]
 mod templates;

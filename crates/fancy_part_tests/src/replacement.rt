@@ -1,4 +1,4 @@
-//! What comes of a text whose matches are replaced.
+//! What comes of a text whose matches are replaced. Rows of such texts are in `crates/calls/rows.txt`.
 
 ghost use Rattle.std.specs.Prelude.{None, ⊤};
 ghost use Rattle.std.proofs.Common.{rules};
@@ -9,7 +9,7 @@ use std::alloc::Global;
 use std::borrow::CowStr;
 use std::process::Abort;
 
-/// Rows that are asked of a template of each form.
+/// Rows that are asked of a template of each form that is not lent.
 const REPLACED: &[ReplacedRow] = &[
     ("(b)", "abc", 0, "${1}-$0", "ab-bc"),
     ("bla", "blablabla", 1, "foo", "fooblabla"),
@@ -144,6 +144,7 @@ fn a_replacer_by_reference_goes_on(rt: HostRuntime) {
 #[test]
 fn templates_are_lent(rt: HostRuntime) {
     let regex = regex_of(&rt, rt.alloc(), "a");
+    check_answer(&rt, regex.try_replacen("ab", 0, "<$0>"), "<a>b");
     let mut template = "<$0>";
     check_answer(&rt, regex.try_replacen_by("ab", 0, &mut template), "<a>b");
     let mut fixed = NoExpand("$0");

@@ -18,7 +18,7 @@ pub(crate) use settings::{
     searchable,
 };
 pub(crate) use spans::{
-    BytesRow, SearchRow, Span, SpanRow, check_find, check_input, check_match, check_may_search,
-    check_part, check_read, check_searches, check_spans, first_span, span_found,
+    BytesRow, SearchRow, Span, SpanRow, check_find, check_input, check_may_search, check_part,
+    check_read, check_searches, check_spans, first_span, span_found,
 };
-pub(crate) use verdicts::{Verdict, VerdictRow, check_verdict, check_verdicts, is_given_up};
+pub(crate) use verdicts::{Verdict, check_verdict, is_given_up};

@@ -2,8 +2,8 @@
 //! `crates/calls/rows.txt`.
 
 use crate::asking::{
-    BYTES, BYTES_WITHOUT_UNICODE, BytesRow, CHARACTERS, CHARACTERS_ANYWHERE, SearchRow, Verdict,
-    VerdictRow, check_searches, check_spans, check_verdicts,
+    BYTES, BYTES_WITHOUT_UNICODE, BytesRow, CHARACTERS, CHARACTERS_ANYWHERE, SearchRow,
+    check_searches, check_spans,
 };
 
 const IN_BYTES: &[BytesRow] = &[
@@ -48,12 +48,8 @@ const BEYOND_THE_RANGE: &[SearchRow<&str>] = &[
     (CHARACTERS, "^b", "ab", 0, (1, 2), false, None),
 ];
 
-/// Repeats are written out.
-const SIZES: &[VerdictRow] = &[(CHARACTERS, "a{3999999}", Verdict::Accepted)];
-
 #[test]
 fn forms_have_their_meaning(rt: HostRuntime) {
     check_spans(&rt, rt.alloc(), IN_BYTES);
     check_searches(&rt, rt.alloc(), BEYOND_THE_RANGE);
-    check_verdicts(&rt, rt.alloc(), SIZES);
 }

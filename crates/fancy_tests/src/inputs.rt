@@ -3,7 +3,7 @@
 //! The first rows of `IN_TEXT` and `IN_BYTES` were worked out by hand, the others of them by an independent model of the search.
 
 use crate::asking::{
-    BYTES, CHARACTERS, CHARACTERS_ANYWHERE, OverrideRow, SearchRow, check, check_find, check_match,
+    BYTES, CHARACTERS, CHARACTERS_ANYWHERE, OverrideRow, SearchRow, check, check_find,
     check_may_search, check_overrides, check_part, check_searches, owned, regex_of, repeated,
 };
 use fancy_regex::{BytesMode, RegexInput};
@@ -87,6 +87,21 @@ const IN_TEXT: &[SearchRow<&str>] = &[
         false,
         Some((1, 1)),
     ),
+];
+
+/// Patterns of escaped texts.
+const ESCAPED: &[SearchRow<&str>] = &[
+    (CHARACTERS, "fø\\*ø", "a fø*ø", 0, (0, 8), true, None),
+    (
+        CHARACTERS,
+        "fø\\*ø",
+        "a fø*ø",
+        2,
+        (0, 8),
+        true,
+        Some((2, 8)),
+    ),
+    (CHARACTERS, "a\\.b", "a.b", 0, (0, 2), false, None),
 ];
 
 const IN_BYTES: &[SearchRow<&[u8]>] = &[
@@ -342,8 +357,8 @@ const OVERRIDES: &[OverrideRow] = &[
 #[test]
 fn searches_text_and_bytes(rt: HostRuntime) {
     check_searches(&rt, rt.alloc(), IN_TEXT);
+    check_searches(&rt, rt.alloc(), ESCAPED);
     check_searches(&rt, rt.alloc(), IN_BYTES);
-    check_match(&rt, rt.alloc(), ("é", "aéb"), (1, 3), "é");
     check_overrides(&rt, rt.alloc(), OVERRIDES);
 }
 

@@ -10,8 +10,6 @@ mod builders;
 #[cfg(test)]
 mod dialect;
 #[cfg(test)]
-mod escapes;
-#[cfg(test)]
 mod filters;
 #[cfg(test)]
 mod hard;

@@ -4,9 +4,7 @@ use crate::asking::{
     BYTES, BytesRow, CHARACTERS, CHARACTERS_ANYWHERE, Settings, Span, check, check_read,
     check_spans, owned,
 };
-use fancy_regex::{
-    BytesMode, Error, ParseErrorKind, Regex, RegexBuilder, RegexInput, RegexOptionsBuilder,
-};
+use fancy_regex::{BytesMode, Regex, RegexBuilder, RegexInput, RegexOptionsBuilder};
 use std::alloc::Global;
 use std::process::Abort;
 
@@ -89,6 +87,7 @@ const ROWS: &[Row] = &[
     (Switch::MultiLine, "a$", "a\nb", None, Some((0, 1))),
     (Switch::IgnoreWhitespace, "a b #c", "ab", None, Some((0, 2))),
     (Switch::IgnoreWhitespace, "a b", "a b", Some((0, 3)), None),
+    (Switch::IgnoreWhitespace, "b #", "ab", None, Some((1, 2))),
     (Switch::VerboseMode, "a b #c", "ab", None, Some((0, 2))),
     (Switch::DotMatchesNewLine, ".", "\n", None, Some((0, 1))),
     (Switch::Crlf, ".", "\r", Some((0, 1)), None),
@@ -185,50 +184,19 @@ fn modes_and_overrides_change_answers(rt: HostRuntime) {
     }
 }
 
-/// How many groups a pattern has, or why it is refused.
-type Count = Result<usize, ParseErrorKind>;
-
-/// How many groups a pattern has, or why it is refused; none where that is no fault of it.
-fn count_in(read: &fancy_regex::Result<Regex>) -> Option<Count> {
-    match read {
-        Ok(regex) => Some(Ok(regex.captures_len())),
-        Err(Error::ParseError(_, kind)) => Some(Err(*kind)),
-        Err(_) => None,
-    }
+/// Checks how many groups the pattern has that was read.
+fn check_groups(rt: &impl Abort, read: fancy_regex::Result<Regex>, wanted: usize) {
+    let regex = read.expect(rt, "a regex");
+    check(rt, regex.captures_len() == wanted, regex.as_str());
 }
-
-/// Checks how many groups the pattern has with [`RegexOptionsBuilder::ignore_numbered_groups_when_named_groups_exist`] off
-/// or on, where the option is first set otherwise.
-fn check_groups(rt: &impl Abort, alloc: Global, pattern: &str, yes: bool, wanted: Count) {
-    let mut builder = RegexOptionsBuilder::new();
-    builder.ignore_numbered_groups_when_named_groups_exist(!yes);
-    builder.ignore_numbered_groups_when_named_groups_exist(yes);
-    let read = builder.build(owned(rt, alloc, pattern));
-    check(rt, count_in(&read) == Some(wanted), pattern);
-}
-
-/// A pattern, and how many groups it has with the option off and on.
-const GROUPED: &[(&str, Count, Count)] = &[
-    ("(a)(?<n>b)", Ok(3), Ok(2)),
-    ("(?<n>(a)(b))", Ok(4), Ok(2)),
-    ("(a)", Ok(2), Ok(2)),
-    ("()*", Ok(2), Ok(2)),
-    (
-        "()*(?<n>a)",
-        Ok(3),
-        Err(ParseErrorKind::TargetNotRepeatable),
-    ),
-    (
-        "(?:)*(?<n>a)",
-        Err(ParseErrorKind::TargetNotRepeatable),
-        Err(ParseErrorKind::TargetNotRepeatable),
-    ),
-];
 
 #[test]
 fn numbered_groups_give_way_to_named_ones(rt: HostRuntime) {
-    for &(pattern, off, on) in GROUPED {
-        check_groups(&rt, rt.alloc(), pattern, false, off);
-        check_groups(&rt, rt.alloc(), pattern, true, on);
-    }
+    let mut options = RegexOptionsBuilder::new();
+    options.ignore_numbered_groups_when_named_groups_exist(true);
+    let read = options.build(owned(&rt, rt.alloc(), "(a)(?<n>b)"));
+    check_groups(&rt, read, 2);
+    options.ignore_numbered_groups_when_named_groups_exist(false);
+    let read = options.build(owned(&rt, rt.alloc(), "(a)(?<n>b)"));
+    check_groups(&rt, read, 3);
 }

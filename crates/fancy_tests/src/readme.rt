@@ -1,20 +1,16 @@
-//! Each call that the README names, on searches, options and refusals; and the rows of its table of patterns.
+//! Calls that the README names, on searches and options; and the rows of its table of patterns.
 
 use crate::asking::{
     ASCII_TEXT, BYTES, BytesRow, CHARACTERS, CountRow, LONGEST, NOT_EMPTY, OverrideRow, SEEKING,
-    SearchRow, Settings, SpanRow, Verdict, VerdictRow, check, check_counts, check_match,
-    check_may_search, check_overrides, check_part, check_read, check_searches, check_spans,
-    check_verdict, check_verdicts, counted, owned, regex_of, span_found,
+    SearchRow, Settings, SpanRow, check, check_counts, check_may_search, check_overrides,
+    check_part, check_searches, check_spans, counted, regex_of, span_found,
 };
-use fancy_regex::{
-    ParseErrorKind, Regex, RegexBuilder, RegexInput, RegexOptionsBuilder, Result, Work,
-};
+use fancy_regex::{RegexInput, Work};
 use std::alloc::Global;
 use std::process::Abort;
 
 #[test]
 fn searches_and_inputs(rt: HostRuntime) {
-    check_match(&rt, rt.alloc(), ("a|ab", "xab"), (1, 2), "a");
     let input = RegexInput::new("xabab").range(2..5);
     check(&rt, input.haystack() == "xabab", "the haystack");
     check(&rt, input.start() == 0, "the start");
@@ -114,12 +110,6 @@ const LIMITED: &[CountRow] = &[
     (CHARACTERS, "(?:a|b)(?=c)", "xxbc", 1, None, None, 1),
 ];
 
-const REFUSED: &[VerdictRow] = &[(
-    CHARACTERS,
-    "(?:a",
-    Verdict::Fault(4, ParseErrorKind::UnclosedOpenParen),
-)];
-
 #[test]
 fn patterns_and_options(rt: HostRuntime) {
     check_searches(&rt, rt.alloc(), SEARCHES);
@@ -127,35 +117,6 @@ fn patterns_and_options(rt: HostRuntime) {
     check_spans(&rt, rt.alloc(), PATTERNS_OF_BYTES);
     check_overrides(&rt, rt.alloc(), OVERRIDES);
     check_counts(&rt, rt.alloc(), LIMITED);
-    check_verdicts(&rt, rt.alloc(), REFUSED);
-}
-
-/// Checks patterns that a builder holds.
-fn check_held(rt: &impl Abort, alloc: Global) {
-    let mut builder = RegexBuilder::new(alloc, "a b").expect(rt, "a builder");
-    let read = builder.ignore_whitespace(true).build();
-    check_read(rt, read, RegexInput::new("ab"), Some((0, 2)));
-    let read = builder.pattern(owned(rt, alloc, "b #")).build();
-    check_read(rt, read, RegexInput::new("ab"), Some((1, 2)));
-}
-
-/// Checks that a regex tells its pattern.
-fn check_pattern(rt: &impl Abort, read: Result<Regex>, pattern: &str) {
-    let regex = read.expect(rt, pattern);
-    check(rt, regex.as_str() == pattern, pattern);
-}
-
-#[test]
-fn builders(rt: HostRuntime) {
-    let pattern = owned(&rt, rt.alloc(), "a b # c");
-    let read = RegexOptionsBuilder::new().verbose_mode(true).build(pattern);
-    check_read(&rt, read, RegexInput::new("ab"), Some((0, 2)));
-    let pattern = owned(&rt, rt.alloc(), "a(?=b)");
-    let refused = RegexOptionsBuilder::new().max_prog_size(0).build(pattern);
-    check_verdict(&rt, &refused, Verdict::TooComplex, "a(?=b)");
-    check_held(&rt, rt.alloc());
-    let text = owned(&rt, rt.alloc(), "a|ab");
-    check_pattern(&rt, Regex::try_from(text), "a|ab");
 }
 
 /// Checks whether a pattern is easy.

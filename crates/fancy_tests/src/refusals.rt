@@ -1,28 +1,9 @@
-//! What is refused wherever its fault is, and what is too deep or too large. Other refusals are rows in `crates/calls/rows.txt`.
+//! What is too deep or too large. Other refusals are rows in `crates/calls/rows.txt`.
 
-use crate::asking::{CHARACTERS, Verdict, VerdictRow, check_verdict, check_verdicts, nested};
+use crate::asking::{Verdict, check_verdict, nested};
 use fancy_regex::{ParseErrorKind, Regex};
 use std::alloc::Global;
 use std::process::Abort;
-
-const NO_ESCAPE: Verdict = Verdict::Kind(ParseErrorKind::InvalidEscape);
-
-/// Escapes that are no members of classes.
-const NO_MEMBERS: &[VerdictRow] = &[
-    (CHARACTERS, "[\\q]", NO_ESCAPE),
-    (
-        CHARACTERS,
-        "[\\xZ]",
-        Verdict::Kind(ParseErrorKind::InvalidHex),
-    ),
-    (CHARACTERS, "[\\K]", NO_ESCAPE),
-    (CHARACTERS, "[\\G]", NO_ESCAPE),
-];
-
-#[test]
-fn faulty_patterns_are_refused(rt: HostRuntime) {
-    check_verdicts(&rt, rt.alloc(), NO_MEMBERS);
-}
 
 const TOO_DEEP: Verdict = Verdict::Kind(ParseErrorKind::RecursionExceeded);
 

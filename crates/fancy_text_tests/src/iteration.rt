@@ -198,6 +198,17 @@ const IN_TEXT: &[Row<&str>] = &[
         spans: &[(0, 0), (2, 2)],
         starts: &[0, 2, 3, 3],
     },
+    // one match after the other
+    Row {
+        settings: CHARACTERS,
+        pattern: "a|ab",
+        haystack: "xabab",
+        from: 2,
+        range: (0, 5),
+        anchored: false,
+        spans: &[(3, 4)],
+        starts: &[2, 4],
+    },
 ];
 
 const IN_BYTES: &[Row<&[u8]>] = &[
@@ -388,6 +399,12 @@ const ITERATIONS: &[Row<&[u8]>] = &[
         pattern: "a?",
         haystack: b"ba",
         spans: &[(0, 0), (1, 2)],
+        ..WHOLE_BYTES
+    },
+    Row {
+        pattern: "a|ab",
+        haystack: b"xabab",
+        spans: &[(1, 2), (3, 4)],
         ..WHOLE_BYTES
     },
     // the text that each match begins with, and bytes that each haystack with a match has

@@ -1,11 +1,6 @@
 //! Why a part refuses what it is asked for.
 
-use fancy_regex::{CompileError, Error, ParseErrorKind, Result, RuntimeError};
-
-/// Whether a pattern is refused for a fault of this kind.
-pub(crate) fn is_fault<T>(answer: &Result<T>, kind: ParseErrorKind) -> bool {
-    matches!(answer, Err(Error::ParseError(_, found)) if *found == kind)
-}
+use fancy_regex::{CompileError, Error, Result, RuntimeError};
 
 /// Whether a pattern is refused for its many nodes, or for too much code.
 pub(crate) fn is_too_complex<T>(answer: &Result<T>) -> bool {

@@ -26,20 +26,6 @@ pub(crate) type ReplacedRow = (
     &'static str,
 );
 
-/// Checks a row by the calls whose limit it has.
-fn check_lent_template(rt: &impl Abort, alloc: Global, row: ReplacedRow) {
-    let (pattern, text, limit, template, wanted) = row;
-    let regex = regex_of(rt, alloc, pattern);
-    check_answer(rt, regex.try_replacen(text, limit, template), wanted);
-    check_answer(rt, regex.replacen(text, limit, template), wanted);
-    if limit == 0 {
-        check_answer(rt, regex.replace_all(text, template), wanted);
-    }
-    if limit == 1 {
-        check_answer(rt, regex.replace(text, template), wanted);
-    }
-}
-
 /// Checks a row on a template that is owned.
 fn check_owned_template(rt: &impl Abort, alloc: Global, row: ReplacedRow) {
     let (pattern, text, limit, template, wanted) = row;
@@ -58,10 +44,9 @@ fn check_copied_template(rt: &impl Abort, alloc: Global, row: ReplacedRow) {
     check_answer(rt, regex.replacen(text, limit, copied), wanted);
 }
 
-/// Checks rows on a template of each form, and by the calls whose limit they have.
+/// Checks rows on a template of each form that is not lent.
 pub(crate) fn check_replaced(rt: &impl Abort, alloc: Global, rows: &[ReplacedRow]) {
     for &row in rows {
-        check_lent_template(rt, alloc, row);
         check_owned_template(rt, alloc, row);
         check_copied_template(rt, alloc, row);
     }

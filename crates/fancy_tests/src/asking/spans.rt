@@ -1,7 +1,7 @@
 //! First matches.
 
 use crate::asking::{Settings, check, read, regex_of, regex_with, searchable};
-use fancy_regex::{Input, Match, MatchBytes, Regex, RegexInput};
+use fancy_regex::{Input, MatchBytes, Regex, RegexInput};
 use std::alloc::Global;
 use std::ops::Range;
 use std::process::Abort;
@@ -82,37 +82,6 @@ pub(crate) fn check_read<M: Into<Range<usize>>, S: Input<Match = M>>(
     let input = searchable(rt, &regex, input);
     let matched = regex.is_match_input(input).expect(rt, "an answer");
     check(rt, matched == wanted.is_some(), regex.as_str());
-}
-
-/// Checks what a match says of itself.
-fn check_told(rt: &impl Abort, found: Match<'_>, wanted: Span, text: &str) {
-    let range = found.range();
-    let part: &str = found.into();
-    check(rt, (found.start(), found.end()) == wanted, text);
-    check(rt, (range.start, range.end) == wanted, text);
-    check(rt, found.as_str() == text, text);
-    check(rt, part == text, text);
-}
-
-/// Checks what the first match of a pattern with the default options says of itself, and that it is found again.
-pub(crate) fn check_match(
-    rt: &impl Abort,
-    alloc: Global,
-    (pattern, haystack): (&str, &str),
-    wanted: Span,
-    text: &str,
-) {
-    let regex = regex_of(rt, alloc, pattern);
-    let found = regex
-        .find(haystack)
-        .expect(rt, haystack)
-        .expect(rt, haystack);
-    check_told(rt, found, wanted, text);
-    let again = regex
-        .find(haystack)
-        .expect(rt, haystack)
-        .expect(rt, haystack);
-    check(rt, found == again, pattern);
 }
 
 /// Checks where the first match starts and ends that the input asks for, whether the search seeks or not.

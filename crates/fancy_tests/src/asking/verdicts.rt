@@ -1,8 +1,7 @@
 //! What is accepted, what is refused and why, and what is given up.
 
-use crate::asking::{Settings, check, read};
+use crate::asking::check;
 use fancy_regex::{CompileError, Error, ParseErrorKind, RuntimeError};
-use std::alloc::Global;
 use std::process::Abort;
 
 /// What becomes of a pattern.
@@ -39,14 +38,4 @@ pub(crate) fn check_verdict<T>(
 /// Whether a search is given up for this reason.
 pub(crate) fn is_given_up<T>(answer: &fancy_regex::Result<T>, reason: RuntimeError) -> bool {
     matches!(answer, Err(Error::RuntimeError(why)) if *why == reason)
-}
-
-/// Options, a pattern, and what becomes of it.
-pub(crate) type VerdictRow = (Settings, &'static str, Verdict);
-
-pub(crate) fn check_verdicts(rt: &impl Abort, alloc: Global, rows: &[VerdictRow]) {
-    for &(settings, pattern, wanted) in rows {
-        let read = read(alloc, settings, pattern);
-        check_verdict(rt, &read, wanted, pattern);
-    }
 }

@@ -1,7 +1,7 @@
 //! What groups find.
 
 use crate::asking::{Span, Spanned, check, regex_of, searchable};
-use fancy_regex::{CaptureMatches, Captures, Input, Match, Regex, RegexInput};
+use fancy_regex::{Captures, Input, Match, Regex, RegexInput};
 use std::alloc::Global;
 use std::process::Abort;
 
@@ -48,7 +48,7 @@ fn check_absent(rt: &impl Abort, captures: &Captures<'_, &str>, number: usize, p
 }
 
 /// Checks the spans of a match's groups, from group 0 on, by each way to them, and that there are no others.
-pub(crate) fn check_captured(
+fn check_captured(
     rt: &impl Abort,
     captures: &Captures<'_, &str>,
     pattern: &str,
@@ -72,18 +72,6 @@ pub(crate) fn taken<'r, S: Input>(
     found.expect(rt, pattern).expect(rt, pattern)
 }
 
-/// A pattern, a text, and the spans of the groups, from group 0 on.
-pub(crate) type GroupsRow = (&'static str, &'static str, &'static [Option<Span>]);
-
-pub(crate) fn check_groups(rt: &impl Abort, alloc: Global, rows: &[GroupsRow]) {
-    for &(pattern, haystack, wanted) in rows {
-        let regex = regex_of(rt, alloc, pattern);
-        check(rt, regex.captures_len() == wanted.len(), pattern);
-        let captures = taken(rt, regex.captures(haystack), pattern);
-        check_captured(rt, &captures, pattern, wanted);
-    }
-}
-
 /// Checks the spans of the groups of the first match that the input asks for, which the regex may search.
 pub(crate) fn check_input(
     rt: &impl Abort,
@@ -94,98 +82,6 @@ pub(crate) fn check_input(
     let input = searchable(rt, regex, input);
     let captures = taken(rt, regex.captures_input(input), regex.as_str());
     check_captured(rt, &captures, regex.as_str(), wanted);
-}
-
-/// A pattern, a text, where the search starts, and the spans of the groups, from group 0 on.
-pub(crate) type LaterGroupsRow = (&'static str, &'static str, usize, &'static [Option<Span>]);
-
-pub(crate) fn check_later_groups(rt: &impl Abort, alloc: Global, rows: &[LaterGroupsRow]) {
-    for &(pattern, haystack, start, wanted) in rows {
-        assert!(rt; haystack.is_char_boundary(start));
-        let regex = regex_of(rt, alloc, pattern);
-        let captures = taken(rt, regex.captures_from_pos(haystack, start), pattern);
-        check_captured(rt, &captures, pattern, wanted);
-        let input = RegexInput::new(haystack).from_pos(start);
-        check_input(rt, &regex, input, wanted);
-    }
-}
-
-/// A pattern, a text, where the search starts, and for each match the spans of its groups.
-pub(crate) type AllGroupsRow = (
-    &'static str,
-    &'static str,
-    usize,
-    &'static [&'static [Option<Span>]],
-);
-
-pub(crate) fn check_all_groups(rt: &impl Abort, alloc: Global, rows: &[AllGroupsRow]) {
-    for &(pattern, haystack, start, wanted) in rows {
-        let regex = regex_of(rt, alloc, pattern);
-        if start == 0 {
-            check_items(rt, regex.captures_iter(haystack), pattern, wanted);
-        }
-        let input = RegexInput::new(haystack).from_pos(start);
-        let input = searchable(rt, &regex, input);
-        check_items(rt, regex.captures_iter_input(input), pattern, wanted);
-    }
-}
-
-/// Checks the groups of the next match of a list.
-fn check_item(
-    rt: &impl Abort,
-    items: &mut CaptureMatches<'_, &str>,
-    pattern: &str,
-    wanted: &[Option<Span>],
-) {
-    let captures = items.next().expect(rt, pattern).expect(rt, pattern);
-    check_captured(rt, &captures, pattern, wanted);
-    check(rt, items.regex().captures_len() == wanted.len(), pattern);
-}
-
-/// Checks the groups of each match of a list.
-fn check_items(
-    rt: &impl Abort,
-    mut items: CaptureMatches<'_, &str>,
-    pattern: &str,
-    wanted: &[&[Option<Span>]],
-) {
-    for spans in wanted {
-        check_item(rt, &mut items, pattern, *spans);
-    }
-    check(rt, items.next().is_none(), pattern);
-}
-
-/// A pattern, and the names of its groups, from group 0 on.
-pub(crate) type NamesRow = (&'static str, &'static [Option<&'static str>]);
-
-/// Checks the names of a regex.
-fn check_names_of(
-    rt: &impl Abort,
-    alloc: Global,
-    regex: &Regex,
-    pattern: &str,
-    wanted: &[Option<&str>],
-) {
-    let names = regex.capture_names().expect(rt, pattern);
-    let names: Vec<Option<&str>> = names.collect(alloc).expect(rt, pattern);
-    check(rt, names.as_slice() == wanted, pattern);
-}
-
-/// Checks that the regex gives its pattern back.
-fn check_text_of(rt: &impl Abort, alloc: Global, regex: &Regex, pattern: &str) {
-    check(rt, regex.as_str() == pattern, pattern);
-    let text = regex.to_string(alloc).expect(rt, pattern);
-    check(rt, text.as_str() == pattern, pattern);
-}
-
-/// Checks the names, and that the regex gives its pattern back.
-pub(crate) fn check_names(rt: &impl Abort, alloc: Global, rows: &[NamesRow]) {
-    for &(pattern, wanted) in rows {
-        let regex = regex_of(rt, alloc, pattern);
-        check(rt, regex.captures_len() == wanted.len(), pattern);
-        check_text_of(rt, alloc, &regex, pattern);
-        check_names_of(rt, alloc, &regex, pattern, wanted);
-    }
 }
 
 /// How a group is asked for.

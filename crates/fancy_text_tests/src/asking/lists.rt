@@ -1,7 +1,7 @@
 //! Matches that come one after another.
 
-use crate::asking::{CHARACTERS, Settings, Span, Spanned, check, regex_of, regex_with, searchable};
-use fancy_regex::{CaptureMatches, Captures, Input, Matches, Regex, RegexInput, Result};
+use crate::asking::{CHARACTERS, Settings, Span, Spanned, check, regex_with, searchable};
+use fancy_regex::{CaptureMatches, Captures, Input, Matches, Regex, RegexInput};
 use std::alloc::Global;
 use std::process::Abort;
 
@@ -117,63 +117,6 @@ fn check_told_by_captures<S: Input>(
     check(rt, items.input().start() == start, pattern);
 }
 
-/// Whether an input, which the regex may search, has a match, and how many come after it.
-fn first_and_rest<S: Input>(rt: &impl Abort, regex: &Regex, input: RegexInput<S>) -> (bool, usize) {
-    let input = searchable(rt, regex, input);
-    let mut matches = regex.find_iter_input(input);
-    let is_some = matches.next().is_some();
-    (is_some, matches.count())
-}
-
-/// How many matches of an input, which the regex may search, are counted.
-fn count_of_matches<S: Input>(rt: &impl Abort, regex: &Regex, input: RegexInput<S>) -> usize {
-    let input = searchable(rt, regex, input);
-    regex.find_iter_input(input).count()
-}
-
-/// How many of them are counted that come with their groups.
-fn count_of_captures<S: Input>(rt: &impl Abort, regex: &Regex, input: RegexInput<S>) -> usize {
-    let input = searchable(rt, regex, input);
-    regex.captures_iter_input(input).count()
-}
-
-/// How many items were collected.
-fn count_of_collected<T: Drop>(rt: &impl Abort, all: Result<Vec<T>>, pattern: &str) -> usize {
-    all.expect(rt, pattern).len()
-}
-
-/// How many matches of an input, which the regex may search, are collected with their groups.
-fn collected_captures<S: Input>(
-    rt: &impl Abort,
-    alloc: Global,
-    regex: &Regex,
-    input: RegexInput<S>,
-) -> usize {
-    let input = searchable(rt, regex, input);
-    let all: Result<Vec<Captures<'_, S>>> = regex.captures_iter_input(input).try_collect(alloc);
-    count_of_collected(rt, all, regex.as_str())
-}
-
-/// Checks how many matches of an input, which the regex may search, are counted and collected.
-fn check_counts<S: Input>(
-    rt: &impl Abort,
-    alloc: Global,
-    regex: &Regex,
-    input: RegexInput<S>,
-    spans: &[Span],
-) {
-    let (is_some, rest) = first_and_rest(rt, regex, input.again());
-    let counted = count_of_matches(rt, regex, input.again());
-    let counted_captures = count_of_captures(rt, regex, input.again());
-    let collected = collected_captures(rt, alloc, regex, input);
-    let (pattern, count) = (regex.as_str(), spans.len());
-    check(rt, is_some != spans.is_empty(), pattern);
-    check(rt, rest == count.saturating_sub(1), pattern);
-    check(rt, counted == count, pattern);
-    check(rt, counted_captures == count, pattern);
-    check(rt, collected == count, pattern);
-}
-
 /// Checks the lists of an input, which the regex may search, and what they tell of it.
 fn check_input_lists<M: Spanned, S: Input<Match = M>>(
     rt: &impl Abort,
@@ -252,39 +195,6 @@ pub(crate) fn check_rows<M: Spanned, S: Input<Match = M>>(
             };
             let regex = regex_with(rt, alloc, settings, row.pattern);
             check_input_lists(rt, &regex, input.again(), (row.spans, row.starts));
-            check_counts(rt, alloc, &regex, input.again(), row.spans);
         }
-    }
-}
-
-/// Checks the lists of a whole haystack, which the regex may search: where the matches start and end, one after another, and
-/// how many there are that are counted and collected.
-fn check_whole<M: Spanned, S: Input<Match = M>>(
-    rt: &impl Abort,
-    alloc: Global,
-    regex: &Regex,
-    haystack: S,
-    spans: &[Span],
-) {
-    let pattern = regex.as_str();
-    assert!(rt; regex.can_search(&RegexInput::new(haystack)), "{pattern}");
-    check_matches(rt, regex.find_iter(haystack), pattern, (spans, &[]));
-    let count = regex.find_iter(haystack).count();
-    check(rt, count == spans.len(), pattern);
-    let count = regex.captures_iter(haystack).count();
-    check(rt, count == spans.len(), pattern);
-    let all: Result<Vec<M>> = regex.find_iter(haystack).try_collect(alloc);
-    let count = count_of_collected(rt, all, pattern);
-    check(rt, count == spans.len(), pattern);
-}
-
-/// A pattern, a text, and where the matches start and end, also in the bytes of the text.
-pub(crate) type TextListRow = (&'static str, &'static str, &'static [Span]);
-
-pub(crate) fn check_text_lists(rt: &impl Abort, alloc: Global, rows: &[TextListRow]) {
-    for &(pattern, text, spans) in rows {
-        let regex = regex_of(rt, alloc, pattern);
-        check_whole(rt, alloc, &regex, text, spans);
-        check_whole(rt, alloc, &regex, text.as_bytes(), spans);
     }
 }
