@@ -1,9 +1,10 @@
 -- The alternatives that code opens with: what it gives from them is what it gives from its first instruction.
-use Rattle.std.proofs.Common.{◌≡◌, ℕ, zero, suc, ◌+◌, ◌<◌, ◌≤◌, Bool, List, [], ◌∷◌, ◌++◌, length, drop, Option, Some, None, true, false, if◌then◌else◌, inl, inr, refl, sym, ap, ap₂, subst, ◌∙◌, arith, slice_index, true≢false}
+use Rattle.std.proofs.Common.{◌≡◌, ℕ, zero, suc, ◌+◌, ◌<◌, ◌≤◌, Bool, List, [], ◌∷◌, ◌++◌, length, drop, get_or, Option, Some, None, true, false, if◌then◌else◌, inl, inr, refl, sym, ap, ap₂, subst, ◌∙◌, arith, slice_index, true≢false}
 use Rattle.std.specs.Global.{Vec}
 use Rattle.std.specs.Option.{option_or, unwrap_or, is_some}
 use Rattle.std.specs.Prelude.{slice_get, replicate}
 use Rattle.std.proofs.lemmas.Bool.{cases_lt}
+use Rattle.std.proofs.lemmas.List.{map-set}
 use Rattle.std.proofs.lemmas.Option.{get_or_from_slice_get}
 use Rattle.fancy_bytes.specs.Keys.{IsAmong, RiseBetween}
 use Rattle.fancy_bytes.specs.Openings.{StandsBefore}
@@ -11,8 +12,8 @@ use Rattle.fancy_tree.specs.declared.tree.Meaning.{Meaning}
 use Rattle.fancy_bytes.specs.KeyTables.{MayStand, Tells}
 use Rattle.fancy_bytes.specs.Sets.{ByteFlags}
 use Rattle.fancy_bytes.specs.Windows.{StandsFrom}
-use Rattle.fancy_engine.specs.Attempt.{instrs_in, context_in, may_end_in, first_accepted_in, begins_in, KnownIn}
-use Rattle.fancy_engine.specs.Branches.{AreBranches, Chooses, SplitsTo, dues_in}
+use Rattle.fancy_engine.specs.Attempt.{instrs_in, context_in, may_end_in, first_accepted_in, begins_in, begins_with, passes_in, KnownIn}
+use Rattle.fancy_engine.specs.Branches.{AreBranches, Chooses, Leads, OpensTo, SplitsTo, TestsTo, dues_in}
 use Rattle.fancy_engine.specs.Context.{Context, State, moved_to}
 use Rattle.fancy_engine.specs.Events.{return, outcome}
 use Rattle.fancy_engine.specs.Foretold.{AreRows}
@@ -21,15 +22,18 @@ use Rattle.fancy_engine.specs.Marking.{due_in}
 use Rattle.fancy_engine.specs.Run.{Raw, Note, Stop, choice_opened, returned, fetched, AllStops, Foretells, erase, instr_at, run}
 use Rattle.fancy_engine.specs.Runner.{Known, Parted, thread_run, events_of, first_accepted, ends_well, found_state}
 use Rattle.fancy_engine.specs.Texts.{AreTexts, IsTextOf}
-use Rattle.fancy_engine.specs.Threads.{Thread, empty_slot, state_of, starts_of}
+use Rattle.fancy_engine.specs.Threads.{Thread, empty_slot, slot_at, slot_from, begun_slot, with_group, state_of, starts_of}
 use Rattle.fancy_engine.specs.declared.text.Text.{Text}
 use Rattle.fancy_engine.specs.declared.branches.Branches.{Branches}
 use Rattle.fancy_engine.specs.declared.runner.Attempt.{Attempt}
 use Rattle.fancy_engine.specs.declared.slot.Slot.{Slot}
 use Rattle.fancy_engine.proofs.ForetoldLemmas.{foretells_imply}
 use Rattle.fancy_engine.proofs.RunnerLemmas.{first_or}
-use Rattle.fancy_engine.proofs.RunnerSteps.{parted}
+use Rattle.fancy_engine.proofs.RunnerSteps.{asserted, opened, parted, refuted}
 use Rattle.fancy_engine.proofs.TextLemmas.{given_events}
+use Rattle.fancy_engine.proofs.ThreadsLemmas.{open_spans}
+use Rattle.fancy_input.specs.declared.span.Span.{Span}
+use Rattle.fancy_tree.specs.declared.tree.Assertion.{Assertion}
 
 -- where no way stops, there is no outcome
 
@@ -104,44 +108,98 @@ module _ (ok : State → Bool) (x : Context) (limit : ℕ) (code : List Instruct
             ∙ sym (split_first q h more.0 more.1 known ∙ ap (λ (o : Option State). option_or o (first_at more.0)) (none 0 (omega arith)))
       ]
 
--- the same of an attempt that begins with no group written
+-- what comes before the alternatives
+
+module _ (a : Attempt) (place kept deep : ℕ) where
+  -- the state at the place where the match will have begun at `kept`
+  abbrev state_with : ℕ → ℕ → List (Option Span) → State
+  state_with kept place captures = record { place = place; captures = captures; kept = kept }
+
+  -- a test that holds leads on
+  tested_on : (o : Option Assertion) (q next : ℕ) → TestsTo (instrs_in a) o q next → KnownIn a kept deep (begins_in a q place) → passes_in a o place ≡ true
+      → KnownIn a kept deep (begins_in a next place) × (first_accepted_in a kept deep (begins_in a q place) ≡ first_accepted_in a kept deep (begins_in a next place))
+  tested_on None q next same known e = (
+    subst (λ (i : ℕ). KnownIn a kept deep (begins_in a i place)) same known,
+    ap (λ (i : ℕ). first_accepted_in a kept deep (begins_in a i place)) same,
+  )
+  tested_on (Some t) q next is known e =
+      let went = asserted (context_in a) a.last (instrs_in a) deep kept (begins_in a q place).current known t next (begins_in a next place).current is e refl refl refl in
+      (went.0, ap (first_accepted (ends_well (may_end_in a))) went.1)
+
+  -- and one that does not hold, nowhere
+  tested_off : (o : Option Assertion) (q next : ℕ) → TestsTo (instrs_in a) o q next → KnownIn a kept deep (begins_in a q place) → passes_in a o place ≡ false
+      → None ≡ first_accepted_in a kept deep (begins_in a q place)
+  tested_off None q next same known e = absurd (true≢false e)
+  tested_off (Some t) q next is known e =
+      sym (ap (first_accepted (ends_well (may_end_in a))) (refuted (context_in a) a.last (instrs_in a) deep kept (begins_in a q place).current known t next is e))
+
+  -- a group begins
+  opened_on : (o : Option ℕ) (q next : ℕ) → OpensTo (instrs_in a) o q next → KnownIn a kept deep (begins_in a q place)
+      → KnownIn a kept deep (begins_with a o next place) × (first_accepted_in a kept deep (begins_in a q place) ≡ first_accepted_in a kept deep (begins_with a o next place))
+  opened_on None q next same known = (
+    subst (λ (i : ℕ). KnownIn a kept deep (begins_in a i place)) same known,
+    ap (λ (i : ℕ). first_accepted_in a kept deep (begins_in a i place)) same,
+  )
+  opened_on (Some g) q next is known =
+      let slots : List Slot = replicate a.code.now.groups empty_slot in
+      let went = opened (context_in a) a.last (instrs_in a) deep kept (begins_in a q place).current known g next (begins_with a (Some g) next place).current is refl
+      (ap (λ (l : List (Option Span)). state_with kept place l) (open_spans slots g place (get_or slots g empty_slot) refl))
+      (map-set slot_from slots g (begun_slot (slot_at slots g) place)) in
+      (went.0, ap (first_accepted (ends_well (may_end_in a))) went.1)
+
+module _ (a : Attempt) (b : Branches) (place kept deep : ℕ) (is : AreBranches b (instrs_in a) a.code.now.meaning a.code.now.start)
+    (known : KnownIn a kept deep (begins_in a a.code.now.start place)) where
+  module _ (passes : passes_in a b.lead.test place ≡ true) where
+    after_test : KnownIn a kept deep (begins_in a is.leads.0 place) × (first_accepted_in a kept deep (begins_in a a.code.now.start place) ≡ first_accepted_in a kept deep (begins_in a is.leads.0 place))
+    after_test = tested_on a place kept deep b.lead.test a.code.now.start is.leads.0 is.leads.1 known passes
+
+    pub lead_known : KnownIn a kept deep (begins_with a b.lead.group b.lead.at place)
+    lead_known = (opened_on a place kept deep b.lead.group is.leads.0 b.lead.at is.leads.2 after_test.0).0
+
+    pub lead_same : first_accepted_in a kept deep (begins_with a b.lead.group b.lead.at place) ≡ first_accepted_in a kept deep (begins_in a a.code.now.start place)
+    lead_same = sym (after_test.1 ∙ (opened_on a place kept deep b.lead.group is.leads.0 b.lead.at is.leads.2 after_test.0).1)
+
+  pub lead_none : passes_in a b.lead.test place ≡ false → None ≡ first_accepted_in a kept deep (begins_in a a.code.now.start place)
+  lead_none fails = tested_off a place kept deep b.lead.test a.code.now.start is.leads.0 is.leads.1 known fails
+
+-- the same of an attempt that begins with what comes before the alternatives
 module _ (a : Attempt) (b : Branches) (place kept deep : ℕ) (is : AreBranches b (instrs_in a) a.code.now.meaning a.code.now.start) where
   abbrev slots : List Slot
-  slots = replicate a.code.now.groups empty_slot
+  slots = with_group b.lead.group place (replicate a.code.now.groups empty_slot)
 
   -- an alternative that may not match has no outcome
   pub head_none : ((k : ℕ) → slice_index a.haystack.now k < 256) → (j : ℕ) → j < length b.heads.items → ¬ MayStand b.table a.haystack.now a.last place j
-      → first_accepted_in a kept deep (begins_in a (slice_index b.heads.items j) place) ≡ None
+      → first_accepted_in a kept deep (begins_with a b.lead.group (slice_index b.heads.items j) place) ≡ None
   head_none bytes j lt not =
       let t : Thread = head_at (ends_well (may_end_in a)) (context_in a) a.last (instrs_in a) deep kept place slots (slice_index b.heads.items j) in
       told_none (ends_well (may_end_in a)) (thread_run (context_in a) a.last (instrs_in a) deep kept t)
       (is.told j lt (context_in a) a.last deep (state_of kept t) (starts_of t) refl bytes not)
 
-  module _ (known : KnownIn a kept deep (begins_in a a.code.now.start place)) where
-    pub head_known : (j : ℕ) → j < length b.heads.items → KnownIn a kept deep (begins_in a (slice_index b.heads.items j) place)
-    head_known = chosen_known (ends_well (may_end_in a)) (context_in a) a.last (instrs_in a) deep kept place slots a.code.now.start b.heads.items is.chooses known
+  module _ (known : KnownIn a kept deep (begins_with a b.lead.group b.lead.at place)) where
+    pub head_known : (j : ℕ) → j < length b.heads.items → KnownIn a kept deep (begins_with a b.lead.group (slice_index b.heads.items j) place)
+    head_known = chosen_known (ends_well (may_end_in a)) (context_in a) a.last (instrs_in a) deep kept place slots b.lead.at b.heads.items is.chooses known
 
-    pub all_none : ((j : ℕ) → j < length b.heads.items → first_accepted_in a kept deep (begins_in a (slice_index b.heads.items j) place) ≡ None)
-        → None ≡ first_accepted_in a kept deep (begins_in a a.code.now.start place)
-    all_none none = sym (chosen_none (ends_well (may_end_in a)) (context_in a) a.last (instrs_in a) deep kept place slots a.code.now.start b.heads.items is.chooses known none)
+    pub all_none : ((j : ℕ) → j < length b.heads.items → first_accepted_in a kept deep (begins_with a b.lead.group (slice_index b.heads.items j) place) ≡ None)
+        → None ≡ first_accepted_in a kept deep (begins_with a b.lead.group b.lead.at place)
+    all_none none = sym (chosen_none (ends_well (may_end_in a)) (context_in a) a.last (instrs_in a) deep kept place slots b.lead.at b.heads.items is.chooses known none)
 
-    pub one_some : (j : ℕ) → j < length b.heads.items → ((i : ℕ) → i < j → first_accepted_in a kept deep (begins_in a (slice_index b.heads.items i) place) ≡ None)
-        → (s : State) → Some s ≡ first_accepted_in a kept deep (begins_in a (slice_index b.heads.items j) place) → Some s ≡ first_accepted_in a kept deep (begins_in a a.code.now.start place)
-    one_some = chosen_some (ends_well (may_end_in a)) (context_in a) a.last (instrs_in a) deep kept place slots a.code.now.start b.heads.items is.chooses known
+    pub one_some : (j : ℕ) → j < length b.heads.items → ((i : ℕ) → i < j → first_accepted_in a kept deep (begins_with a b.lead.group (slice_index b.heads.items i) place) ≡ None)
+        → (s : State) → Some s ≡ first_accepted_in a kept deep (begins_with a b.lead.group (slice_index b.heads.items j) place) → Some s ≡ first_accepted_in a kept deep (begins_with a b.lead.group b.lead.at place)
+    one_some = chosen_some (ends_well (may_end_in a)) (context_in a) a.last (instrs_in a) deep kept place slots b.lead.at b.heads.items is.chooses known
 
 -- an alternative that begins with a text
-module _ (a : Attempt) (t : Text) (head place kept deep : ℕ) (is : IsTextOf t (instrs_in a) a.code.now.meaning head) where
+module _ (a : Attempt) (t : Text) (group : Option ℕ) (head place kept deep : ℕ) (is : IsTextOf t (instrs_in a) a.code.now.meaning head) where
   abbrev begun : Thread
-  begun = head_at (ends_well (may_end_in a)) (context_in a) a.last (instrs_in a) deep kept place (replicate a.code.now.groups empty_slot) head
+  begun = head_at (ends_well (may_end_in a)) (context_in a) a.last (instrs_in a) deep kept place (with_group group place (replicate a.code.now.groups empty_slot)) head
 
   -- where that does not stand, there is no outcome
-  pub text_none : ¬ StandsBefore a.haystack.now a.last t.bytes.items place → None ≡ first_accepted_in a kept deep (begins_in a head place)
+  pub text_none : ¬ StandsBefore a.haystack.now a.last t.bytes.items place → None ≡ first_accepted_in a kept deep (begins_with a group head place)
   text_none lacks =
       sym (told_none (ends_well (may_end_in a)) (thread_run (context_in a) a.last (instrs_in a) deep kept begun)
       (foretells_imply (StandsBefore a.haystack.now a.last t.bytes.items place) ⊥ lacks (thread_run (context_in a) a.last (instrs_in a) deep kept begun)
       (is.begins (context_in a) a.last deep (state_of kept begun) (starts_of begun) refl)))
 
-  module _ (all : t.is_all ≡ true) (known : KnownIn a kept deep (begins_in a head place)) (stands : StandsBefore a.haystack.now a.last t.bytes.items place) where
+  module _ (all : t.is_all ≡ true) (known : KnownIn a kept deep (begins_with a group head place)) (stands : StandsBefore a.haystack.now a.last t.bytes.items place) where
     -- where it is all of the alternative and stands, its end is the one outcome
     text_events : events_of (thread_run (context_in a) a.last (instrs_in a) deep kept begun) ≡ outcome (moved_to (state_of kept begun) (place + length t.bytes.items)) ∷ []
     text_events =
@@ -149,16 +207,16 @@ module _ (a : Attempt) (t : Text) (head place kept deep : ℕ) (is : IsTextOf t 
         (is.ends all (context_in a) a.last deep (state_of kept begun) (starts_of begun) refl stands)
 
     text_first : (b : Bool) → may_end_in a (place + length t.bytes.items) ≡ b
-        → first_accepted_in a kept deep (begins_in a head place) ≡ (if b then Some (moved_to (state_of kept begun) (place + length t.bytes.items)) else None)
+        → first_accepted_in a kept deep (begins_with a group head place) ≡ (if b then Some (moved_to (state_of kept begun) (place + length t.bytes.items)) else None)
     text_first b e =
         ap (first_accepted (ends_well (may_end_in a))) text_events
         ∙ ap (λ (c : Bool). if c then Some (moved_to (state_of kept begun) (place + length t.bytes.items)) else None) e
 
-    pub text_missed : may_end_in a (place + length t.bytes.items) ≡ false → None ≡ first_accepted_in a kept deep (begins_in a head place)
+    pub text_missed : may_end_in a (place + length t.bytes.items) ≡ false → None ≡ first_accepted_in a kept deep (begins_with a group head place)
     text_missed e = sym (text_first false e)
 
-    pub text_found : may_end_in a (place + length t.bytes.items) ≡ true → (slots : List Slot) → slots ≡ replicate a.code.now.groups empty_slot
-        → found_state kept (Some (place + length t.bytes.items)) slots ≡ first_accepted_in a kept deep (begins_in a head place)
+    pub text_found : may_end_in a (place + length t.bytes.items) ≡ true → (slots : List Slot) → slots ≡ with_group group place (replicate a.code.now.groups empty_slot)
+        → found_state kept (Some (place + length t.bytes.items)) slots ≡ first_accepted_in a kept deep (begins_with a group head place)
     text_found e slots same = ap (λ (l : List Slot). found_state kept (Some (place + length t.bytes.items)) l) same ∙ sym (text_first true e)
 
 -- what is due for the alternatives that are left
@@ -235,9 +293,10 @@ each_more P (z ∷ zs) x all one (suc n) y e = each_more (λ k v. P (suc k) v) z
 
 -- the alternatives of code, by a table of their rows
 
-pub branches_told : (b : Branches) (code : List Instruction) (m : Meaning) (start : ℕ) (rows : List (Vec ByteFlags)) → Chooses code start b.heads.items → AreRows code m b.heads.items rows → Tells b.table rows
+pub branches_told : (b : Branches) (code : List Instruction) (m : Meaning) (start : ℕ) (rows : List (Vec ByteFlags)) → Leads code start b.lead → Chooses code b.lead.at b.heads.items → AreRows code m b.heads.items rows → Tells b.table rows
     → AreTexts code m b.heads.items b.texts.items → AreBranches b code m start
-branches_told b code m start rows chooses are tells texts = record {
+branches_told b code m start rows leads chooses are tells texts = record {
+  leads = leads;
   chooses = chooses;
   texts = texts;
   told = λ number lt x limit n s v meant bytes not.

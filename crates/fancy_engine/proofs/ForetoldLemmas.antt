@@ -16,7 +16,7 @@ use Rattle.fancy_bytes.specs.Sets.{ByteFlags, member}
 use Rattle.fancy_bytes.specs.Windows.{StandsFrom}
 use Rattle.fancy_bytes.proofs.BoolLemmas.{parts_of}
 use Rattle.fancy_bytes.specs.KeyTables.{NoneMayStand}
-use Rattle.fancy_engine.specs.Branches.{AreBranches, Chooses}
+use Rattle.fancy_engine.specs.Branches.{AreBranches, Chooses, OpensTo, TestsTo}
 use Rattle.fancy_engine.specs.declared.branches.Branches.{Branches}
 use Rattle.fancy_engine.specs.declared.code.Code.{Code}
 use Rattle.fancy_engine.specs.Code.{instrs_of}
@@ -312,14 +312,34 @@ module _ (code : List Instruction) (x : Context) (limit : ℕ) (s : State) (v : 
             (none_stops more.0 hs more.2 (λ j m lt. none (suc j) m (omega (arith, lt))) n))))
       ]
 
+-- nor does one of what comes before them
+
+module _ (code : List Instruction) (x : Context) (limit : ℕ) (s : State) where
+  none_opened : (o : Option ℕ) (q next : ℕ) → OpensTo code o q next → ((n : ℕ) (v : List ℕ) → Foretells ⊥ (run x limit code n next s v)) → (n : ℕ) (v : List ℕ) → Foretells ⊥ (run x limit code n q s v)
+  none_opened None q next same none n v = subst (λ (i : ℕ). Foretells ⊥ (run x limit code n i s v)) (sym same) (none n v)
+  none_opened (Some g) q next is none zero v = tt
+  none_opened (Some g) q next is none (suc n) v =
+      before_told ⊥ fetched (act x limit q (instr_at code q) (run x limit code n) (run x (length x.haystack) code n) s v)
+      (subst (λ (i : Instruction). Foretells ⊥ (act x limit q i (run x limit code n) (run x (length x.haystack) code n) s v)) (sym is) (none n (slice_set v g s.place)))
+
+  none_tested : (o : Option Assertion) (q next : ℕ) → TestsTo code o q next → ((n : ℕ) (v : List ℕ) → Foretells ⊥ (run x limit code n next s v)) → (n : ℕ) (v : List ℕ) → Foretells ⊥ (run x limit code n q s v)
+  none_tested None q next same none n v = subst (λ (i : ℕ). Foretells ⊥ (run x limit code n i s v)) (sym same) (none n v)
+  none_tested (Some a) q next is none zero v = tt
+  none_tested (Some a) q next is none (suc n) v =
+      before_told ⊥ fetched (act x limit q (instr_at code q) (run x limit code n) (run x (length x.haystack) code n) s v)
+      (subst (λ (i : Instruction). Foretells ⊥ (act x limit q i (run x limit code n) (run x (length x.haystack) code n) s v)) (sym is)
+      (if_told ⊥ (holds x a s.place) (run x limit code n next s v) (none n v)))
+
 module _ (q : Query) (code : Code) (is : IsCodeOf q.sought.pattern code) (meant : q.sought.meaning ≡ code.meaning) (inside : q.request.range_end ≤ length q.haystack) where
   pub none_branched : ((k : ℕ) → slice_index q.haystack k < 256) → (b : Branches) → AreBranches b (instrs_of code) code.meaning code.start
       → (p : ℕ) → p ≤ q.request.range_end → NoneMayStand b.table q.haystack q.request.range_end p → answer_at q p ≡ None
   none_branched bytes b told p le none =
       none_told q code is meant inside ⊥ p le
-      (none_stops (instrs_of code) (context_of q) q.request.range_end (initial q p) (replicate code.groups 0) code.start b.heads.items told.chooses
-      (λ j n lt. told.told j lt (context_of q) q.request.range_end n (initial q p) (replicate code.groups 0) meant bytes (none j))
-      (depth (length q.haystack) q.sought.pattern + 1))
+      (none_tested (instrs_of code) (context_of q) q.request.range_end (initial q p) b.lead.test code.start told.leads.0 told.leads.1
+      (none_opened (instrs_of code) (context_of q) q.request.range_end (initial q p) b.lead.group told.leads.0 b.lead.at told.leads.2
+      (λ n v. none_stops (instrs_of code) (context_of q) q.request.range_end (initial q p) v b.lead.at b.heads.items told.chooses
+      (λ j m lt. told.told j lt (context_of q) q.request.range_end m (initial q p) v meant bytes (none j)) n))
+      (depth (length q.haystack) q.sought.pattern + 1) (replicate code.groups 0))
       (λ h. h)
 
 -- code that goes on at the text's start alone

@@ -10,7 +10,7 @@ use Rattle.fancy_engine.specs.declared.slot.Write.{Write}
 use Rattle.fancy_engine.specs.declared.slot.Pair.{Pair}
 use Rattle.fancy_engine.specs.Instructions.{Instruction}
 use Rattle.fancy_engine.specs.Run.{instr_at}
-use Rattle.fancy_engine.specs.Threads.{Thread, undone, empty_slot, slot_span, slot_from, slots_past, other_way, with_way, slots_after, saved_after, threads_at}
+use Rattle.fancy_engine.specs.Threads.{Thread, undone, empty_slot, slot_span, slot_from, slots_past, other_way, with_way, slots_after, saved_after, thread_of, threads_at}
 
 -- the later writes are undone first
 pub undone-append : (slots : List Slot) (xs ys : List Write) → undone slots (xs ++ ys) ≡ undone (undone slots ys) xs
@@ -89,3 +89,8 @@ module _ (code : List Instruction) (i : Instruction) (place : ℕ) (slots now : 
   wrote_alone branches passed none fresh =
       subst (λ (bs : List Pair). WroteAlone (reverse bs) (reverse passed)) (sym none)
       (subst (λ (ps : List Pair). WroteAlone [] (reverse ps)) (sym fresh) (is, refl))
+
+-- where no thread is saved, none is, whatever the slots
+pub none_at : (a b : List Slot) (ps : List Pair) → threads_at a ps ≡ [] → threads_at b ps ≡ []
+none_at a b [] e = refl
+none_at a b (p ∷ ps) e = let none : length (thread_of p a ∷ threads_at a ps) ≡ 0 = ap length e in absurd (omega (arith, none))

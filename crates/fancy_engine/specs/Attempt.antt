@@ -1,15 +1,16 @@
 -- What the runner says of an attempt, with its code, its haystack and its bounds.
-use Rattle.std.specs.Prelude.{ℕ, ◌+◌, ◌-◌, ◌*◌, Bool, List, ◌∷◌, Option, replicate}
+use Rattle.std.specs.Prelude.{ℕ, ◌+◌, ◌-◌, ◌*◌, Bool, true, List, ◌∷◌, Option, Some, None, replicate}
+use Rattle.fancy_tree.specs.declared.tree.Assertion.{Assertion}
 use Rattle.fancy_engine.specs.Instructions.{Instruction}
 use Rattle.fancy_engine.specs.declared.runner.Attempt.{Attempt}
 use Rattle.fancy_engine.specs.declared.runner.Next.{Next}
 use Rattle.fancy_engine.specs.Code.{instrs_of, width_of, marks_of, left_of, burden}
-use Rattle.fancy_engine.specs.Context.{Context, State}
+use Rattle.fancy_engine.specs.Context.{Context, State, holds}
 use Rattle.fancy_engine.specs.Marking.{Marks}
 use Rattle.fancy_engine.specs.Reading.{search_context}
 use Rattle.fancy_engine.specs.Search.{is_match_boundary}
 use Rattle.fancy_engine.specs.declared.slot.Pair.{Pair}
-use Rattle.fancy_engine.specs.Threads.{Thread, ThreadStack, HeldThreads, KeptThreads, begun_at, empty_slot, held_of, stack_of}
+use Rattle.fancy_engine.specs.Threads.{Thread, ThreadStack, HeldThreads, KeptThreads, begun_at, empty_slot, with_group, held_of, stack_of}
 use Rattle.fancy_engine.specs.Runner.{threads_after, thread_run, events_of, first_accepted, ends_well, Known, Stepped, AllFailed, FailedPast, Resting, Running, Visited}
 
 module _ (a : Attempt) where
@@ -31,6 +32,15 @@ module _ (a : Attempt) where
   -- a thread that begins at an instruction and a place, alone, with no group written
   abbrev pub begins_in : ℕ → ℕ → ThreadStack
   begins_in at place = begun_at (record { at = at; place = place }) (replicate a.code.now.groups empty_slot)
+
+  -- the same where a group has begun at the place, if one does
+  abbrev pub begins_with : Option ℕ → ℕ → ℕ → ThreadStack
+  begins_with group at place = begun_at (record { at = at; place = place }) (with_group group place (replicate a.code.now.groups empty_slot))
+
+  -- a test of the place holds, if there is one
+  abbrev pub passes_in : Option Assertion → ℕ → Bool
+  passes_in None place = true
+  passes_in (Some test) place = holds context_in test place
 
   -- the thread that is followed
   abbrev pub current_in : Pair → KeptThreads → Thread

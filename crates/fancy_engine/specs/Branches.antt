@@ -1,14 +1,30 @@
 -- The alternatives that the code of a pattern opens with, and which of them may match where some bytes stand.
-use Rattle.std.specs.Prelude.{◌≡◌, ℕ, ◌+◌, ◌<◌, ◌≤◌, ◌⊎◌, List, [], ◌∷◌, length, Option, slice_index}
+use Rattle.std.specs.Prelude.{◌≡◌, ℕ, ◌+◌, ◌<◌, ◌≤◌, ◌⊎◌, List, [], ◌∷◌, length, Option, Some, None, slice_index}
+use Rattle.fancy_tree.specs.declared.tree.Assertion.{Assertion}
 use Rattle.fancy_tree.specs.declared.tree.Meaning.{Meaning}
 use Rattle.fancy_bytes.specs.Keys.{AreBelow}
 use Rattle.fancy_bytes.specs.KeyTables.{MayStand}
 use Rattle.fancy_engine.specs.Context.{Context, State}
-use Rattle.fancy_engine.specs.Instructions.{Instruction, Split}
+use Rattle.fancy_engine.specs.Instructions.{Instruction, Assert, Split, Open}
 use Rattle.fancy_engine.specs.Marking.{due_in}
 use Rattle.fancy_engine.specs.Run.{Foretells, instr_at, run}
 use Rattle.fancy_engine.specs.Texts.{AreTexts}
 use Rattle.fancy_engine.specs.declared.branches.Branches.{Branches}
+use Rattle.fancy_engine.specs.declared.branches.Lead.{Lead}
+
+-- A test of the place leads from q to the next instruction. Without one these are the same.
+abbrev pub TestsTo : List Instruction → Option Assertion → ℕ → ℕ → Type 0
+TestsTo code None q next = q ≡ next
+TestsTo code (Some test) q next = instr_at code q ≡ Assert test next
+
+-- The start of a group leads from q to the next instruction. Without one these are the same.
+abbrev pub OpensTo : List Instruction → Option ℕ → ℕ → ℕ → Type 0
+OpensTo code None q next = q ≡ next
+OpensTo code (Some group) q next = instr_at code q ≡ Open group next
+
+-- from q on the code has what comes before its alternatives
+abbrev pub Leads : List Instruction → ℕ → Lead → Type 0
+Leads code q lead = (next : ℕ) × TestsTo code lead.test q next × OpensTo code lead.group next lead.at
 
 -- From q on the code chooses among these instructions, in order of preference: each but the last is the first way of a split, whose second way chooses among those after it.
 abbrev pub Chooses : List Instruction → ℕ → List ℕ → Type 0
@@ -31,9 +47,11 @@ pub record ArePaid (b : Branches) (numbers : List (Option ℕ)) (weights : List 
   pub texts : length b.texts.items ≡ length b.heads.items
   pub paid : dues_in numbers weights b.heads.items ≤ due_in numbers weights start
 
--- The code opens with these alternatives, which begin with these texts. Where one may not match by the table, no way of it stops.
+-- The code opens with these alternatives, after what comes before them all, and they begin with these texts. Where one may not match by
+-- the table, no way of it stops.
 pub record AreBranches (b : Branches) (code : List Instruction) (meaning : Meaning) (start : ℕ) : Type 0 where
-  pub chooses : Chooses code start b.heads.items
+  pub leads : Leads code start b.lead
+  pub chooses : Chooses code b.lead.at b.heads.items
   pub told : (number : ℕ) → number < length b.heads.items → (x : Context) (limit n : ℕ) (s : State) (v : List ℕ) → x.meaning ≡ meaning
       → ((k : ℕ) → slice_index x.haystack k < 256) → ¬ MayStand b.table x.haystack limit s.place number
       → Foretells ⊥ (run x limit code n (slice_index b.heads.items number) s v)

@@ -1,18 +1,19 @@
 //! Which alternatives code opens with, and the table of the bytes at their first places.
 
 ghost use Rattle.std.specs.Prelude.{◌≡◌, ◌≤◌, ℕ, List, true, IfOk, IfSome};
-ghost use Rattle.fancy_engine.specs.Branches.{AreBranches, ArePaid, Chooses, SplitsTo, dues_in};
+ghost use Rattle.fancy_engine.specs.Branches.{AreBranches, ArePaid, Chooses, Leads, OpensTo, SplitsTo, TestsTo, dues_in};
 ghost use Rattle.fancy_engine.specs.Code.{instrs_of, due_of};
 ghost use Rattle.fancy_engine.specs.Foretold.{AreRows};
 ghost use Rattle.fancy_engine.specs.Instructions.{Instruction};
 ghost use Rattle.fancy_engine.specs.Texts.{AreTexts};
 
-use crate::branches::{Branches, WIDE};
-use crate::code::Code;
+use crate::branches::{Branches, Lead, WIDE};
+use crate::code::{Code, Instr};
 use crate::prefilter::sets_of;
 use crate::text::{Text, text_of};
 use fancy_bytes::byte_set::ByteSet;
 use fancy_bytes::key_table::KeyTable;
+use fancy_tree::tree::Assertion;
 use std::alloc::{AllocError, Global};
 
 /// The most alternatives for which a table is made: what is told of each takes some 200 bytes until it is made.
@@ -20,6 +21,41 @@ const MOST: usize = 16_384;
 
 /// At how many first places of each alternative bytes are told.
 const PLACES: usize = 4;
+
+/// The test that the instruction with this number is, and the number of the next one; without a test the same number.
+fn test_at(code: &Code, at: usize) -> (Option<Assertion>, usize)
+    ensures { TestsTo (instrs_of code.now) result.0 at result.1 }
+{
+    if at >= code.len() {
+        return (None, at);
+    }
+    match code.instr(at) {
+        Instr::Assert(test, next) => (Some(*test), *next),
+        _ => (None, at),
+    }
+}
+
+/// The group that the instruction with this number begins, and the number of the next one; without a group the same number.
+fn group_at(code: &Code, at: usize) -> (Option<usize>, usize)
+    ensures { OpensTo (instrs_of code.now) result.0 at result.1 }
+{
+    if at >= code.len() {
+        return (None, at);
+    }
+    match code.instr(at) {
+        Instr::Open(group, next) => (Some(*group), *next),
+        _ => (None, at),
+    }
+}
+
+/// What the code has before its alternatives.
+fn lead_of(code: &Code) -> Lead
+    ensures { Leads (instrs_of code.now) code.now.start result }
+{
+    let (test, next) = test_at(code, code.start);
+    let (group, at) = group_at(code, next);
+    Lead { test, group, at }
+}
 
 /// The alternatives of a row of splits and what that leads to, which is the last of them.
 fn with_last(heads: Vec<usize>, at: usize) -> Result<Vec<usize>, AllocError>
@@ -31,12 +67,12 @@ fn with_last(heads: Vec<usize>, at: usize) -> Result<Vec<usize>, AllocError>
     Ok(heads)
 }
 
-/// The first instructions of the alternatives that the code opens with, in order of preference.
-fn heads_of(alloc: Global, code: &Code) -> Result<Vec<usize>, AllocError>
-    ensures { IfOk result (λ heads. Chooses (instrs_of code.now) code.now.start heads.items) }
+/// The first instructions of the alternatives that the code has from an instruction on, in order of preference.
+fn heads_of(alloc: Global, code: &Code, first: usize) -> Result<Vec<usize>, AllocError>
+    ensures { IfOk result (λ heads. Chooses (instrs_of code.now) first heads.items) }
 {
     let mut heads = Vec::new(alloc);
-    let mut at = code.start;
+    let mut at = first;
     for _ in 0..code.len() {
         let Some(ways) = code.ways(at) else {
             return with_last(heads, at);
@@ -92,7 +128,8 @@ pub(crate) fn branches_of(alloc: Global, code: &Code) -> Result<Option<Branches>
     ensures paid { IfOk result (λ o. IfSome o (λ b. ArePaid b code.now.marking.numbers.items code.now.marking.weights.items
         code.now.start)) }
 {
-    let heads = heads_of(alloc, code)?;
+    let lead = lead_of(code);
+    let heads = heads_of(alloc, code, lead.at)?;
     if heads.len() < WIDE || heads.len() > MOST {
         return Ok(None);
     }
@@ -105,6 +142,7 @@ pub(crate) fn branches_of(alloc: Global, code: &Code) -> Result<Option<Branches>
     };
     let texts = texts_of(alloc, code, &heads)?;
     Ok(Some(Branches {
+        lead,
         heads,
         texts,
         table,

@@ -1,7 +1,7 @@
 //! Attempts from the first instruction on. Where the code opens with many alternatives, those alone are tried that may match.
 
 ghost use Rattle.std.specs.Prelude.{◌≡◌, ◌+◌, ◌-◌, ◌^◌, ◌<◌, ◌≤◌, ℕ, None, length, slice_index, IfOk, IfSome};
-ghost use Rattle.fancy_engine.specs.Attempt.{instrs_in, first_accepted_in, begins_in, bits_in, left_in, KnownIn, AllFailedIn, FailedPastIn};
+ghost use Rattle.fancy_engine.specs.Attempt.{instrs_in, first_accepted_in, begins_in, begins_with, passes_in, bits_in, left_in, KnownIn, AllFailedIn, FailedPastIn};
 ghost use Rattle.fancy_engine.specs.Branches.{AreBranches, ArePaid};
 ghost use Rattle.fancy_engine.specs.Code.{due_of};
 ghost use Rattle.fancy_engine.specs.Compile.{AreEasy};
@@ -12,6 +12,7 @@ ghost use Rattle.fancy_input.specs.LastLines.{KnowsLastLines};
 
 use crate::branches::Branches;
 use crate::options::is_match_boundary;
+use crate::reading::holds_at;
 use crate::runner::{Attempt, follow};
 use crate::slot::Pair;
 use crate::table::Table;
@@ -19,13 +20,14 @@ use crate::text::Text;
 use crate::threads::Threads;
 use crate::work::Work;
 use fancy_input::last_lines::LastLines;
+use fancy_tree::tree::Assertion;
 use std::alloc::AllocError;
 
-/// An attempt at a place from an instruction on, with no group written.
+/// An attempt at a place from an instruction on, with no group written but one that begins there, if one does.
 fn follow_from(
     attempt: &Attempt,
-    at: usize,
-    place: usize,
+    group: Option<usize>,
+    start: Pair,
     threads: &mut Threads,
     table: &mut Table,
     last_lines: &mut LastLines,
@@ -33,35 +35,34 @@ fn follow_from(
 ) -> Result<Option<usize>, AllocError>
     requires inside { attempt.now.last ≤ length attempt.now.haystack.now }
     requires easy { AreEasy (instrs_in attempt.now) }
-    requires low { attempt.now.base ≤ place }
-    requires high { place ≤ attempt.now.last }
+    requires low { attempt.now.base ≤ start.place }
+    requires high { start.place ≤ attempt.now.last }
     requires room { bits_in attempt.now ≤ length table.old }
     requires small { length table.old < 2 ^ 64 }
     requires last_lines { KnowsLastLines attempt.now.haystack.now last_lines.old }
     ensures answer { IfOk result (λ end. (kept deep : ℕ)
-        → KnownIn attempt.now kept deep (begins_in attempt.now at place) → AllFailedIn attempt.now place deep table.old
+        → KnownIn attempt.now kept deep (begins_with attempt.now group start.at start.place) → AllFailedIn attempt.now start.place deep table.old
         → found_state kept end threads.new.slots
-        ≡ first_accepted_in attempt.now kept deep (begins_in attempt.now at place)) }
+        ≡ first_accepted_in attempt.now kept deep (begins_with attempt.now group start.at start.place)) }
     ensures failed { IfOk result (λ end. (kept deep : ℕ)
-        → KnownIn attempt.now kept deep (begins_in attempt.now at place) → AllFailedIn attempt.now place deep table.old
-        → end ≡ None → AllFailedIn attempt.now place deep table.new) }
+        → KnownIn attempt.now kept deep (begins_with attempt.now group start.at start.place) → AllFailedIn attempt.now start.place deep table.old
+        → end ≡ None → AllFailedIn attempt.now start.place deep table.new) }
     ensures past { IfOk result (λ end. IfSome end (λ stop. (kept deep : ℕ)
-        → KnownIn attempt.now kept deep (begins_in attempt.now at place) → AllFailedIn attempt.now place deep table.old
-        → FailedPastIn attempt.now place deep stop table.new)) }
-    ensures forth { IfOk result (λ end. IfSome end (λ stop. place ≤ stop)) }
+        → KnownIn attempt.now kept deep (begins_with attempt.now group start.at start.place) → AllFailedIn attempt.now start.place deep table.old
+        → FailedPastIn attempt.now start.place deep stop table.new)) }
+    ensures forth { IfOk result (λ end. IfSome end (λ stop. start.place ≤ stop)) }
     ensures within { IfOk result (λ end. IfSome end (λ stop. stop ≤ attempt.now.last)) }
     ensures room { length table.new ≡ length table.old }
     ensures spent { IfOk result (λ _. steps_of work.new + left_in attempt.now table.new
-        ≤ steps_of work.old + (due_of attempt.now.code.now at + left_in attempt.now table.old)) }
+        ≤ steps_of work.old + (due_of attempt.now.code.now start.at + left_in attempt.now table.old)) }
     ensures bounded { steps_of work.new
-        ≤ steps_of work.old + (due_of attempt.now.code.now at + left_in attempt.now table.old) }
+        ≤ steps_of work.old + (due_of attempt.now.code.now start.at + left_in attempt.now table.old) }
     ensures steps { steps_of work.old ≤ steps_of work.new }
     ensures returns { returns_of work.old ≤ returns_of work.new }
     ensures paired { returns_of work.new - returns_of work.old ≤ steps_of work.new - steps_of work.old }
     ensures last_lines { KnowsLastLines attempt.now.haystack.now last_lines.new }
 {
-    threads.begin(attempt.code.groups)?;
-    let start = Pair { at, place };
+    threads.begin_with(attempt.code.groups, group, start.place)?;
     follow(attempt, start, threads, table, last_lines, work)
 }
 
@@ -69,6 +70,7 @@ fn follow_from(
 /// is all of the alternative, its end is the outcome.
 fn follow_text(
     attempt: &Attempt,
+    group: Option<usize>,
     start: Pair,
     text: &Text,
     threads: &mut Threads,
@@ -85,14 +87,14 @@ fn follow_text(
     requires last_lines { KnowsLastLines attempt.now.haystack.now last_lines.old }
     ensures answer { IfOk result (λ end. (kept deep : ℕ)
         → IsTextOf text.now (instrs_in attempt.now) attempt.now.code.now.meaning start.at
-        → KnownIn attempt.now kept deep (begins_in attempt.now start.at start.place) → AllFailedIn attempt.now start.place deep table.old
+        → KnownIn attempt.now kept deep (begins_with attempt.now group start.at start.place) → AllFailedIn attempt.now start.place deep table.old
         → found_state kept end threads.new.slots
-        ≡ first_accepted_in attempt.now kept deep (begins_in attempt.now start.at start.place)) }
+        ≡ first_accepted_in attempt.now kept deep (begins_with attempt.now group start.at start.place)) }
     ensures failed { IfOk result (λ end. (kept deep : ℕ)
-        → KnownIn attempt.now kept deep (begins_in attempt.now start.at start.place) → AllFailedIn attempt.now start.place deep table.old
+        → KnownIn attempt.now kept deep (begins_with attempt.now group start.at start.place) → AllFailedIn attempt.now start.place deep table.old
         → end ≡ None → AllFailedIn attempt.now start.place deep table.new) }
     ensures past { IfOk result (λ end. IfSome end (λ stop. (kept deep : ℕ)
-        → KnownIn attempt.now kept deep (begins_in attempt.now start.at start.place) → AllFailedIn attempt.now start.place deep table.old
+        → KnownIn attempt.now kept deep (begins_with attempt.now group start.at start.place) → AllFailedIn attempt.now start.place deep table.old
         → FailedPastIn attempt.now start.place deep stop table.new)) }
     ensures forth { IfOk result (λ end. IfSome end (λ stop. start.place ≤ stop)) }
     ensures within { IfOk result (λ end. IfSome end (λ stop. stop ≤ attempt.now.last)) }
@@ -110,26 +112,18 @@ fn follow_text(
         return Ok(None);
     }
     if !text.is_all {
-        return follow_from(
-            attempt,
-            start.at,
-            start.place,
-            threads,
-            table,
-            last_lines,
-            work,
-        );
+        return follow_from(attempt, group, start, threads, table, last_lines, work);
     }
     let end = start.place + text.bytes.len();
     if !is_match_boundary(attempt.on_boundaries, attempt.haystack, end) {
         return Ok(None);
     }
-    threads.begin(attempt.code.groups)?;
+    threads.begin_with(attempt.code.groups, group, start.place)?;
     Ok(Some(end))
 }
 
-/// An attempt at a place from the first instruction on, by the alternatives that may match there, in order of preference. Those that
-/// may not have no outcome.
+/// An attempt at a place from the row of alternatives on, by those that may match there, in order of preference. Those that may not
+/// have no outcome.
 fn follow_branches(
     attempt: &Attempt,
     branches: &Branches,
@@ -151,16 +145,16 @@ fn follow_branches(
     ensures answer { IfOk result (λ end. (kept deep : ℕ)
         → ((k : ℕ) → slice_index attempt.now.haystack.now k < 256)
         → AreBranches branches.now (instrs_in attempt.now) attempt.now.code.now.meaning attempt.now.code.now.start
-        → KnownIn attempt.now kept deep (begins_in attempt.now attempt.now.code.now.start place) → AllFailedIn attempt.now place deep table.old
+        → KnownIn attempt.now kept deep (begins_with attempt.now branches.now.lead.group branches.now.lead.at place) → AllFailedIn attempt.now place deep table.old
         → found_state kept end threads.new.slots
-        ≡ first_accepted_in attempt.now kept deep (begins_in attempt.now attempt.now.code.now.start place)) }
+        ≡ first_accepted_in attempt.now kept deep (begins_with attempt.now branches.now.lead.group branches.now.lead.at place)) }
     ensures failed { IfOk result (λ end. (kept deep : ℕ)
         → AreBranches branches.now (instrs_in attempt.now) attempt.now.code.now.meaning attempt.now.code.now.start
-        → KnownIn attempt.now kept deep (begins_in attempt.now attempt.now.code.now.start place) → AllFailedIn attempt.now place deep table.old
+        → KnownIn attempt.now kept deep (begins_with attempt.now branches.now.lead.group branches.now.lead.at place) → AllFailedIn attempt.now place deep table.old
         → end ≡ None → AllFailedIn attempt.now place deep table.new) }
     ensures past { IfOk result (λ end. IfSome end (λ stop. (kept deep : ℕ)
         → AreBranches branches.now (instrs_in attempt.now) attempt.now.code.now.meaning attempt.now.code.now.start
-        → KnownIn attempt.now kept deep (begins_in attempt.now attempt.now.code.now.start place) → AllFailedIn attempt.now place deep table.old
+        → KnownIn attempt.now kept deep (begins_with attempt.now branches.now.lead.group branches.now.lead.at place) → AllFailedIn attempt.now place deep table.old
         → FailedPastIn attempt.now place deep stop table.new)) }
     ensures forth { IfOk result (λ end. IfSome end (λ stop. place ≤ stop)) }
     ensures within { IfOk result (λ end. IfSome end (λ stop. stop ≤ attempt.now.last)) }
@@ -177,13 +171,16 @@ fn follow_branches(
     let numbers = branches
         .table
         .numbers_at(attempt.haystack, place, attempt.last);
+    let group = branches.lead.group;
     let mut passed = 0;
     for i in numbers.from..numbers.to {
         let number = branches.table.number(i);
         let head = branches.heads[number];
         let start = Pair { at: head, place };
         let text = &branches.texts[number];
-        match follow_text(attempt, start, text, threads, table, last_lines, work)? {
+        match follow_text(
+            attempt, group, start, text, threads, table, last_lines, work,
+        )? {
             Some(end) => return Ok(Some(end)),
             None => passed = number + 1,
         }
@@ -203,6 +200,33 @@ fn forget_behind(attempt: &Attempt, place: usize, table: &mut Table)
     ensures room { length table.new ≡ length table.old }
 {
     table.forget((place - attempt.base) * attempt.code.marks());
+}
+
+/// Whether a test of a place holds, if there is one.
+#[inline]
+fn passes_test(
+    attempt: &Attempt,
+    test: Option<Assertion>,
+    place: usize,
+    last_lines: &mut LastLines,
+) -> bool
+    requires { KnowsLastLines attempt.now.haystack.now last_lines.old }
+    ensures passes { result ≡ passes_in attempt.now test place }
+    ensures last_lines { KnowsLastLines attempt.now.haystack.now last_lines.new }
+{
+    let haystack = attempt.haystack;
+    let meaning = attempt.code.meaning;
+    match test {
+        None => true,
+        Some(test) => holds_at(
+            haystack,
+            meaning,
+            attempt.suppressed,
+            test,
+            place,
+            last_lines,
+        ),
+    }
 }
 
 /// An attempt at a place from the first instruction on, with no group written. Its contract is that of `follow`.
@@ -250,11 +274,17 @@ pub(crate) fn follow_start(
     forget_behind(attempt, place, table);
     match &attempt.code.branches {
         None => {
-            let start = attempt.code.start;
-            let end = follow_from(attempt, start, place, threads, table, last_lines, work)?;
+            let start = Pair {
+                at: attempt.code.start,
+                place,
+            };
+            let end = follow_from(attempt, None, start, threads, table, last_lines, work)?;
             Ok(end)
         }
         Some(branches) => {
+            if !passes_test(attempt, branches.lead.test, place, last_lines) {
+                return Ok(None);
+            }
             let end = follow_branches(attempt, branches, place, threads, table, last_lines, work)?;
             Ok(end)
         }

@@ -5,7 +5,7 @@ ghost use Rattle.fancy_engine.specs.Saved.{kept_of};
 ghost use Rattle.fancy_engine.specs.Code.{instrs_of};
 ghost use Rattle.fancy_engine.specs.Instructions.{Open, Close};
 ghost use Rattle.fancy_engine.specs.Run.{instr_at};
-ghost use Rattle.fancy_engine.specs.Threads.{undone, empty_slot, slots_past, other_way, slots_after, AreFresh, SavedWay, PassedInstr, TookWay, Backed};
+ghost use Rattle.fancy_engine.specs.Threads.{undone, empty_slot, slots_past, with_group, other_way, slots_after, AreFresh, SavedWay, PassedInstr, TookWay, Backed};
 
 use crate::code::{Code, Instr};
 use crate::slot::{EMPTY, Pair, Slot, Write};
@@ -196,6 +196,24 @@ impl Threads {
             self.written = true;
             begin_slots(&mut self.slots, count)?;
             self.written = false;
+        }
+        Ok(())
+    }
+
+    /// Begins anew with so many slots, none written but that of a group which begins at a place, if one does.
+    pub(crate) fn begin_with(
+        &mut self,
+        count: usize,
+        group: Option<usize>,
+        place: usize,
+    ) -> Result<(), AllocError>
+        ensures slots { OnOk result (self.new.slots ≡ with_group group place (replicate count empty_slot)) }
+        ensures fresh { OnOk result (AreFresh self.new) }
+    {
+        self.begin(count)?;
+        if let Some(group) = group {
+            self.written = true;
+            begin_group(&mut self.slots, group, place);
         }
         Ok(())
     }

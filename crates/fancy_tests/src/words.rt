@@ -43,6 +43,10 @@ const CYRILLIC: &str = "альфа|бета|гамма|дельта|омега|�
 const LETTERS: &str =
     "alpha|beta|gamma|delta|omega|theta|iota|kappa|lambda|sigma|zeta|mile|miles|eta\\d";
 
+/// Words in a group, behind a test of the place.
+const GROUPED: &str =
+    "\\b(alpha|beta|gamma|delta|omega|theta|iota|kappa|lambda|sigma|zeta|mile|miles)\\b";
+
 /// Words whose first four characters are the same, and others that begin within them.
 const ALIKE: &str = "abcdv|abcdw|abcdx|abcdy|abcdz|abcd|bcde|cdef|defg|efgh|fghi|ghij";
 
@@ -104,6 +108,13 @@ const ROWS: &[LongRow] = &[
         count: 100,
         tail: "xiota betagamma miles eta5 mil",
         spans: &[(1, 5), (6, 10), (10, 15), (16, 20), (22, 26)],
+    },
+    LongRow {
+        pattern: GROUPED,
+        filler: "alphax xbeta _mile ",
+        count: 100,
+        tail: "beta miles alpha",
+        spans: &[(0, 4), (5, 10), (11, 16)],
     },
     LongRow {
         pattern: ALIKE,

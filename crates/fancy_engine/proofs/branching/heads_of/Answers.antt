@@ -5,12 +5,12 @@ use Rattle.fancy_engine.proofs.BranchLemmas.{splits_more}
 use Rattle.fancy_engine.proofs.branching.heads_of.Goals as goal
 
 pub returns-in_default : goal.returns-in_default
-returns-in_default c = c.with_last.ensures (instrs_of c.args.code.now) c.args.code.now.start c.loop.invariant
+returns-in_default c = c.with_last.ensures (instrs_of c.args.code.now) c.args.first c.loop.invariant
 
 pub loop-preserved : goal.loop-preserved
 loop-preserved c =
-    subst (λ (hs : List ℕ). SplitsTo (instrs_of c.args.code.now) c.args.code.now.start hs c.in-Some.ways.second) (sym c.in_ok-push.ensures.items)
-    (splits_more (instrs_of c.args.code.now) c.args.code.now.start c.loop.heads.items c.loop.at c.in-Some.ways.first c.in-Some.ways.second c.loop.invariant c.in-Some.ensures)
+    subst (λ (hs : List ℕ). SplitsTo (instrs_of c.args.code.now) c.args.first hs c.in-Some.ways.second) (sym c.in_ok-push.ensures.items)
+    (splits_more (instrs_of c.args.code.now) c.args.first c.loop.heads.items c.loop.at c.in-Some.ways.first c.in-Some.ways.second c.loop.invariant c.in-Some.ensures)
 
 pub returns : goal.returns
-returns c = c.with_last-2.ensures (instrs_of c.args.code.now) c.args.code.now.start c.loop.invariant
+returns c = c.with_last-2.ensures (instrs_of c.args.code.now) c.args.first c.loop.invariant

@@ -3,7 +3,7 @@ use Rattle.std.specs.Prelude.{Some, slice_index}
 use Rattle.std.proofs.lemmas.Bool.{cases_lt}
 use Rattle.std.proofs.lemmas.Grind.{get_or_default_zero}
 use Rattle.std.proofs.lemmas.Option.{slice_get-get_or}
-use Rattle.fancy_engine.specs.Attempt.{instrs_in, first_accepted_in, begins_in, KnownIn}
+use Rattle.fancy_engine.specs.Attempt.{instrs_in, first_accepted_in, begins_with, KnownIn}
 use Rattle.fancy_engine.specs.Code.{due_of}
 use Rattle.fancy_engine.specs.Texts.{IsTextOf}
 use Rattle.fancy_engine.proofs.BranchLemmas.{head_none, head_known, all_none, one_some, dues_left, between, beyond}
@@ -94,14 +94,14 @@ returns-in-Some-clause-answer c kept deep bytes is known failed =
     (subst (λ (q : ℕ). IsTextOf c.index-text.result.now (instrs_in c.args.attempt.now) c.args.attempt.now.code.now.meaning q) (sym head)
     (is.texts.each c.number-number.result c.index-text.result.now
     (slice_get-get_or c.args.branches.now.texts.items c.number-number.result c.index-text.result.now (omega (arith, lt, c.requires.branches.texts)) ∙ ap Some (sym c.index-text.ensures))))
-    (subst (λ (q : ℕ). KnownIn c.args.attempt.now kept deep (begins_in c.args.attempt.now q c.args.place)) (sym head) (head_known c.args.attempt.now c.args.branches.now c.args.place kept deep is known c.number-number.result lt)) (c.loop-i.invariant.failed kept deep is known failed)) in
+    (subst (λ (q : ℕ). KnownIn c.args.attempt.now kept deep (begins_with c.args.attempt.now c.args.branches.now.lead.group q c.args.place)) (sym head) (head_known c.args.attempt.now c.args.branches.now c.args.place kept deep is known c.number-number.result lt)) (c.loop-i.invariant.failed kept deep is known failed)) in
     one_some c.args.attempt.now c.args.branches.now c.args.place kept deep is known c.number-number.result lt
     (λ j less. elim (cases_lt j c.loop-i.passed) [
       | inl before ↦ c.loop-i.invariant.gone kept deep bytes is known failed j before (omega (arith, less, lt))
       | inr after ↦ head_none c.args.attempt.now c.args.branches.now c.args.place kept deep is bytes j (omega (arith, less, lt))
           (λ may. between members c.numbers_at-numbers.result.from c.numbers_at-numbers.result.to c.loop-i.passed c.loop-i.i c.number-number.result c.numbers_at-numbers.ensures.rise c.numbers_at-numbers.ensures.inside c.loop-i.auto.i c.loop-i-test.true (sym c.number-number.ensures) c.loop-i.invariant.seen j after less (c.numbers_at-numbers.ensures.all j may))
     ])
-    _ (found ∙ ap (λ (q : ℕ). first_accepted_in c.args.attempt.now kept deep (begins_in c.args.attempt.now q c.args.place)) head)
+    _ (found ∙ ap (λ (q : ℕ). first_accepted_in c.args.attempt.now kept deep (begins_with c.args.attempt.now c.args.branches.now.lead.group q c.args.place)) head)
 
 pub returns-in-Some-clause-past : goal.returns-in-Some-clause-past
 returns-in-Some-clause-past c kept deep is known failed =
@@ -111,7 +111,7 @@ returns-in-Some-clause-past c kept deep is known failed =
     let lt : c.number-number.result < length heads = omega (arith, c.requires.branches.below c.loop-i.i fits, c.number-number.ensures) in
     let head : c.index-head.result.now ≡ slice_index heads c.number-number.result = c.index-head.ensures ∙ get_or_default_zero heads c.number-number.result c.index-head.result.now lt in
     let past : c.loop-i.passed ≤ c.number-number.result = omega (arith, c.number-number.ensures, c.loop-i.invariant.ahead c.loop-i.i (omega arith) c.loop-i-test.true) in
-    (rw c.in-Some.is at c.in_ok-end.ensures.past) kept deep (subst (λ (q : ℕ). KnownIn c.args.attempt.now kept deep (begins_in c.args.attempt.now q c.args.place)) (sym head) (head_known c.args.attempt.now c.args.branches.now c.args.place kept deep is known c.number-number.result lt)) (c.loop-i.invariant.failed kept deep is known failed)
+    (rw c.in-Some.is at c.in_ok-end.ensures.past) kept deep (subst (λ (q : ℕ). KnownIn c.args.attempt.now kept deep (begins_with c.args.attempt.now c.args.branches.now.lead.group q c.args.place)) (sym head) (head_known c.args.attempt.now c.args.branches.now c.args.place kept deep is known c.number-number.result lt)) (c.loop-i.invariant.failed kept deep is known failed)
 
 pub returns-in-Some-clause-spent : goal.returns-in-Some-clause-spent
 returns-in-Some-clause-spent c =
@@ -149,11 +149,11 @@ loop-i-preserved c =
                 (subst (λ (q : ℕ). IsTextOf c.index-text.result.now (instrs_in c.args.attempt.now) c.args.attempt.now.code.now.meaning q) (sym head)
                 (is.texts.each c.number-number.result c.index-text.result.now
                 (slice_get-get_or c.args.branches.now.texts.items c.number-number.result c.index-text.result.now (omega (arith, lt, c.requires.branches.texts)) ∙ ap Some (sym c.index-text.ensures))))
-                (subst (λ (q : ℕ). KnownIn c.args.attempt.now kept deep (begins_in c.args.attempt.now q c.args.place)) (sym head) (head_known c.args.attempt.now c.args.branches.now c.args.place kept deep is known c.number-number.result lt)) (c.loop-i.invariant.failed kept deep is known failed)) in
-                ap (λ (i : ℕ). first_accepted_in c.args.attempt.now kept deep (begins_in c.args.attempt.now (slice_index heads i) c.args.place)) same
-                ∙ sym (found ∙ ap (λ (q : ℕ). first_accepted_in c.args.attempt.now kept deep (begins_in c.args.attempt.now q c.args.place)) head)
+                (subst (λ (q : ℕ). KnownIn c.args.attempt.now kept deep (begins_with c.args.attempt.now c.args.branches.now.lead.group q c.args.place)) (sym head) (head_known c.args.attempt.now c.args.branches.now c.args.place kept deep is known c.number-number.result lt)) (c.loop-i.invariant.failed kept deep is known failed)) in
+                ap (λ (i : ℕ). first_accepted_in c.args.attempt.now kept deep (begins_with c.args.attempt.now c.args.branches.now.lead.group (slice_index heads i) c.args.place)) same
+                ∙ sym (found ∙ ap (λ (q : ℕ). first_accepted_in c.args.attempt.now kept deep (begins_with c.args.attempt.now c.args.branches.now.lead.group q c.args.place)) head)
           ];
-      failed = λ kept deep is known failed. c.in_ok-end.ensures.failed kept deep (subst (λ (q : ℕ). KnownIn c.args.attempt.now kept deep (begins_in c.args.attempt.now q c.args.place)) (sym head) (head_known c.args.attempt.now c.args.branches.now c.args.place kept deep is known c.number-number.result lt)) (c.loop-i.invariant.failed kept deep is known failed) c.in-None.is;
+      failed = λ kept deep is known failed. c.in_ok-end.ensures.failed kept deep (subst (λ (q : ℕ). KnownIn c.args.attempt.now kept deep (begins_with c.args.attempt.now c.args.branches.now.lead.group q c.args.place)) (sym head) (head_known c.args.attempt.now c.args.branches.now c.args.place kept deep is known c.number-number.result lt)) (c.loop-i.invariant.failed kept deep is known failed) c.in-None.is;
       seen = λ k low high. elim (cases_lt k c.loop-i.i) [
         | inl before ↦ omega (arith, past, c.loop-i.invariant.seen k low before)
         | inr after ↦

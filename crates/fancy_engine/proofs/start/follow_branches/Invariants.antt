@@ -1,6 +1,6 @@
 use Rattle.std.proofs.Common.{◌≡◌, ◌+◌, ◌-◌, ◌<◌, ◌≤◌, ℕ, None, drop, length}
 use Rattle.std.specs.Prelude.{slice_index}
-use Rattle.fancy_engine.specs.Attempt.{instrs_in, first_accepted_in, begins_in, left_in, KnownIn, AllFailedIn}
+use Rattle.fancy_engine.specs.Attempt.{instrs_in, first_accepted_in, begins_with, left_in, KnownIn, AllFailedIn}
 use Rattle.fancy_engine.specs.Branches.{AreBranches, dues_in}
 use Rattle.fancy_engine.specs.Code.{due_of}
 use Rattle.fancy_engine.specs.Work.{steps_of, returns_of}
@@ -10,11 +10,11 @@ use Rattle.fancy_engine.proofs.start.follow_branches.Given as goal
 abbrev pub invariant-loop-i : goal.invariant-loop-i
 invariant-loop-i l = record {
   gone : (kept deep : ℕ) → ((k : ℕ) → slice_index l.attempt.haystack.now k < 256) → AreBranches l.branches (instrs_in l.attempt) l.attempt.code.now.meaning l.attempt.code.now.start
-      → KnownIn l.attempt kept deep (begins_in l.attempt l.attempt.code.now.start l.place) → AllFailedIn l.attempt l.place deep l.fn.table
+      → KnownIn l.attempt kept deep (begins_with l.attempt l.branches.lead.group l.branches.lead.at l.place) → AllFailedIn l.attempt l.place deep l.fn.table
       → (j : ℕ) → j < l.passed → j < length l.branches.heads.items
-      → first_accepted_in l.attempt kept deep (begins_in l.attempt (slice_index l.branches.heads.items j) l.place) ≡ None;
+      → first_accepted_in l.attempt kept deep (begins_with l.attempt l.branches.lead.group (slice_index l.branches.heads.items j) l.place) ≡ None;
   failed : (kept deep : ℕ) → AreBranches l.branches (instrs_in l.attempt) l.attempt.code.now.meaning l.attempt.code.now.start
-      → KnownIn l.attempt kept deep (begins_in l.attempt l.attempt.code.now.start l.place) → AllFailedIn l.attempt l.place deep l.fn.table
+      → KnownIn l.attempt kept deep (begins_with l.attempt l.branches.lead.group l.branches.lead.at l.place) → AllFailedIn l.attempt l.place deep l.fn.table
       → AllFailedIn l.attempt l.place deep l.table;
   seen : (k : ℕ) → l.initial.i ≤ k → k < l.i → slice_index l.branches.table.members.items k < l.passed;
   ahead : (k : ℕ) → l.i ≤ k → k < l.i-end → l.passed ≤ slice_index l.branches.table.members.items k;

@@ -1,5 +1,8 @@
-use Rattle.std.proofs.Common.{ℕ, Option, Some, None}
+use Rattle.std.proofs.Common.{◌∙◌, ℕ, Option, Some, None, sym}
 use Rattle.std.specs.Prelude.{IfSome}
+use Rattle.fancy_engine.specs.Attempt.{instrs_in}
+use Rattle.fancy_engine.specs.Branches.{AreBranches}
+use Rattle.fancy_engine.proofs.BranchLemmas.{lead_known, lead_same, lead_none}
 use Rattle.fancy_engine.proofs.start.follow_start.Goals as goal
 
 pub follow_branches-requires-clause-branches : goal.follow_branches-requires-clause-branches
@@ -15,4 +18,24 @@ returns-in_ok-end-in-None-clause-past c =
 
 pub returns-in_ok-end-in-Some-clause-past : goal.returns-in_ok-end-in-Some-clause-past
 returns-in_ok-end-in-Some-clause-past c =
-    in_turn c.in_ok-end-in-Some.end _ _ (λ stop past kept deep branches known failed. past kept deep (rw c.in-Some.is at branches) known (c.forget_behind.ensures.failed deep failed)) c.in_ok-end-in-Some.ensures.past
+    in_turn c.in_ok-end-in-Some.end _ _ (λ stop past kept deep branches known failed. past kept deep (rw c.in-Some.is at branches)
+    (lead_known c.args.attempt.now c.in-Some.branches c.args.place kept deep (rw c.in-Some.is at branches) known (sym c.passes_test.ensures.passes ∙ c.if-not-passes_test.false))
+    (c.forget_behind.ensures.failed deep failed)) c.in_ok-end-in-Some.ensures.past
+
+pub returns-in_ok-end-in-Some-clause-answer : goal.returns-in_ok-end-in-Some-clause-answer
+returns-in_ok-end-in-Some-clause-answer c kept deep bytes branches known failed =
+    let are : AreBranches c.in-Some.branches (instrs_in c.args.attempt.now) c.args.attempt.now.code.now.meaning c.args.attempt.now.code.now.start = rw c.in-Some.is at branches in
+    let passes = sym c.passes_test.ensures.passes ∙ c.if-not-passes_test.false in
+    c.in_ok-end-in-Some.ensures.answer kept deep bytes are (lead_known c.args.attempt.now c.in-Some.branches c.args.place kept deep are known passes) (c.forget_behind.ensures.failed deep failed)
+    ∙ lead_same c.args.attempt.now c.in-Some.branches c.args.place kept deep are known passes
+
+pub returns-in_ok-end-in-Some-clause-failed : goal.returns-in_ok-end-in-Some-clause-failed
+returns-in_ok-end-in-Some-clause-failed c kept deep branches known failed none =
+    let are : AreBranches c.in-Some.branches (instrs_in c.args.attempt.now) c.args.attempt.now.code.now.meaning c.args.attempt.now.code.now.start = rw c.in-Some.is at branches in
+    let passes = sym c.passes_test.ensures.passes ∙ c.if-not-passes_test.false in
+    c.in_ok-end-in-Some.ensures.failed kept deep are (lead_known c.args.attempt.now c.in-Some.branches c.args.place kept deep are known passes) (c.forget_behind.ensures.failed deep failed) none
+
+pub returns-then-not-passes_test-clause-answer : goal.returns-then-not-passes_test-clause-answer
+returns-then-not-passes_test-clause-answer c kept deep bytes branches known failed =
+    let are : AreBranches c.in-Some.branches (instrs_in c.args.attempt.now) c.args.attempt.now.code.now.meaning c.args.attempt.now.code.now.start = rw c.in-Some.is at branches in
+    lead_none c.args.attempt.now c.in-Some.branches c.args.place kept deep are known (sym c.passes_test.ensures.passes ∙ c.if-not-passes_test.true)
