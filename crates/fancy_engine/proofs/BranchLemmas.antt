@@ -124,7 +124,7 @@ module _ (a : Attempt) (place kept deep : ℕ) where
   )
   tested_on (Some t) q next is known e =
       let went = asserted (context_in a) a.last (instrs_in a) deep kept (begins_in a q place).current known t next (begins_in a next place).current is e refl refl refl in
-      (went.0, ap (first_accepted (ends_well (may_end_in a))) went.1)
+      (went.0, went.1 (ends_well (may_end_in a)))
 
   -- and one that does not hold, nowhere
   tested_off : (o : Option Assertion) (q next : ℕ) → TestsTo (instrs_in a) o q next → KnownIn a kept deep (begins_in a q place) → passes_in a o place ≡ false
@@ -145,7 +145,7 @@ module _ (a : Attempt) (place kept deep : ℕ) where
       let went = opened (context_in a) a.last (instrs_in a) deep kept (begins_in a q place).current known g next (begins_with a (Some g) next place).current is refl
       (ap (λ (l : List (Option Span)). state_with kept place l) (open_spans slots g place (get_or slots g empty_slot) refl))
       (map-set slot_from slots g (begun_slot (slot_at slots g) place)) in
-      (went.0, ap (first_accepted (ends_well (may_end_in a))) went.1)
+      (went.0, went.1 (ends_well (may_end_in a)))
 
 module _ (a : Attempt) (b : Branches) (place kept deep : ℕ) (is : AreBranches b (instrs_in a) a.code.now.meaning a.code.now.start)
     (known : KnownIn a kept deep (begins_in a a.code.now.start place)) where

@@ -50,6 +50,7 @@ pub mod RequireLemmas
 pub mod SkipLemmas
 pub mod TriedLemmas
 pub mod ForetoldLemmas
+pub mod ChoiceLemmas
 pub mod TextLemmas
 pub mod BranchLemmas
 pub mod PassedLemmas

@@ -147,14 +147,20 @@ module _ (good : ℕ → Bool) (cx : Context) (low limit : ℕ) (code : List Ins
     run_on table table' t u ts us r adds stepped forth =
         elim stepped [
           | inl went ↦
-              let e : events_of (thread_run cx limit code deep kept t) ++ pending cx limit code deep kept ts ≡ events_of (thread_run cx limit code deep kept u) ++ pending cx limit code deep kept us =
-              ap₂ ◌++◌ went.0.1 (ap (pending cx limit code deep kept) (sym went.1)) in
-              let hit : HitsAt t → HitsAt u = λ h. sym (hits_is kept u) ∙ sym (ap (λ (x : List Event). is_some (first_accepted (ends_well good) x)) went.0.1) ∙ hits_is kept t ∙ h in
+              let et = events_of (thread_run cx limit code deep kept t) in
+              let eu = events_of (thread_run cx limit code deep kept u) in
+              let p = pending cx limit code deep kept ts in
+              let e : first_accepted (ends_well good) (et ++ p) ≡ first_accepted (ends_well good) (eu ++ pending cx limit code deep kept us) =
+              first_or (ends_well good) et p
+              ∙ ap (λ (o : Option State). option_or o (first_accepted (ends_well good) p)) (went.0.1 (ends_well good))
+              ∙ sym (first_or (ends_well good) eu p)
+              ∙ ap (λ (x : List Thread). first_accepted (ends_well good) (eu ++ pending cx limit code deep kept x)) (sym went.1) in
+              let hit : HitsAt t → HitsAt u = λ h. sym (hits_is kept u) ∙ sym (ap is_some (went.0.1 (ends_well good))) ∙ hits_is kept t ∙ h in
               let lower : RankAt u < RankAt t = omega (arith, went.0.2, rank_is kept t, rank_is kept u) in
               record {
                 known = went.0.0;
                 all = subst (AllKnown cx limit code deep kept) (sym went.1) r.all;
-                answer = ap (first_accepted (ends_well good)) (sym e) ∙ r.answer;
+                answer = sym e ∙ r.answer;
                 covers = subst (λ (x : List Thread). Covers good cx low limit code deep table' (u ∷ x)) (sym went.1)
                     (covers_next table table' t ts (u ∷ ts) adds r.covers
                     (λ n i lt at h. (omega (arith, lower), omega (arith, at, forth), inl (hit h))) (λ n i lt at h. (omega (arith, lower), omega (arith, at, forth), inr h)));

@@ -11,7 +11,7 @@ use Rattle.fancy_engine.specs.Events.{Event, mark, return, outcome, either}
 use Rattle.fancy_engine.specs.Run.{Raw, Note, Stop, choice_opened, returned, fetched, before, join, onward, instr_at, act, run, erase}
 use Rattle.fancy_engine.specs.declared.slot.Pair.{Pair}
 use Rattle.fancy_engine.specs.Threads.{Thread, thread_of, state_of, starts_of}
-use Rattle.fancy_engine.specs.Runner.{events_of, size_of, IsKnown, Moved, Tested, Known, thread_run, Went, Parted, Stepped}
+use Rattle.fancy_engine.specs.Runner.{events_of, size_of, first_accepted, IsKnown, Moved, Tested, Known, thread_run, Went, Parted, Stepped}
 use Rattle.fancy_engine.proofs.RunMore.{known_act}
 
 erase_append : (a b : List Raw) → erase (a ++ b) ≡ erase a ++ erase b
@@ -25,9 +25,10 @@ known_some : (o : Option (List Raw)) → IsKnown o → (w : List Raw) × (o ≡ 
 known_some None k = absurd k
 known_some (Some w) k = (w, refl)
 
-went_from : (o' o : Option (List Raw)) → o ≡ before (Note fetched) o' → IsKnown o → IsKnown o' × (events_of o ≡ events_of o') × (size_of o' < size_of o)
+went_from : (o' o : Option (List Raw)) → o ≡ before (Note fetched) o' → IsKnown o
+    → IsKnown o' × ((ok : State → Bool) → first_accepted ok (events_of o) ≡ first_accepted ok (events_of o')) × (size_of o' < size_of o)
 went_from None o e k = absurd (subst IsKnown e k)
-went_from (Some w) o e k = (tt, ap events_of e, omega (arith, ap size_of e))
+went_from (Some w) o e k = (tt, λ ok. ap (λ (p : Option (List Raw)). first_accepted ok (events_of p)) e, omega (arith, ap size_of e))
 
 parted_from : (a b o : Option (List Raw)) → o ≡ before (Note fetched) (before (Note choice_opened) (join a b)) → IsKnown o
     → IsKnown a × IsKnown b × (events_of o ≡ either (events_of a) (events_of b)) × (size_of a + size_of b < size_of o)

@@ -346,11 +346,11 @@ module _ (good : ℕ → Bool) (cx : Context) (low limit : ℕ) (code : List Ins
     sweep_on table table' front t u ts us back found s adds past stepped forth =
         elim stepped [
           | inl went ↦
-              let hit : HitsAt t → HitsAt u = λ h. sym (hits_is good cx low limit code easy deep kept u) ∙ sym (ap (λ (x : List Event). is_some (first_accepted (ends_well good) x)) went.0.1) ∙ hits_is good cx low limit code easy deep kept t ∙ h in
+              let hit : HitsAt t → HitsAt u = λ h. sym (hits_is good cx low limit code easy deep kept u) ∙ sym (ap is_some (went.0.1 (ends_well good))) ∙ hits_is good cx low limit code easy deep kept t ∙ h in
               let lower : RankAt u < RankAt t = omega (arith, went.0.2, rank_is good cx low limit code easy deep kept t, rank_is good cx low limit code easy deep kept u) in
               let rest = ts ++ back in
               let alike : first_in (u ∷ rest) ≡ first_in (t ∷ rest) =
-              first_cons u rest ∙ ap (λ (x : List Event). option_or (first_accepted (ends_well good) x) (first_in rest)) (sym went.0.1) ∙ sym (first_cons t rest) in
+              first_cons u rest ∙ ap (λ (o : Option State). option_or o (first_in rest)) (sym (went.0.1 (ends_well good))) ∙ sym (first_cons t rest) in
               subst (λ (x : List Thread). Sweep table' (front ++ u ∷ (x ++ back)) found) (sym went.1)
               (record {
                 all = all_behind front (t ∷ rest) (u ∷ rest) (λ all. (went.0.0, all.1)) s.all;

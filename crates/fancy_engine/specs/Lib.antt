@@ -10,6 +10,7 @@ pub mod Marking
 pub mod Code
 pub mod Emitted
 pub mod Run
+pub mod Choices
 pub mod Table
 pub mod Texts
 pub mod Threads

@@ -101,9 +101,11 @@ module _ (x : Context) (limit : ℕ) (code : List Instruction) (deep : ℕ) wher
   pending kept [] = []
   pending kept (t ∷ ts) = return ∷ (events_of (thread_run kept t) ++ pending kept ts)
 
-  -- the thread went on to the next, and did so alone
+  -- The thread went on to the next, and did so alone: no outcome is lost by that.
   abbrev pub Went : ℕ → Thread → Thread → Type 0
-  Went kept t u = Known kept u × (events_of (thread_run kept t) ≡ events_of (thread_run kept u)) × (size_of (thread_run kept u) < size_of (thread_run kept t))
+  Went kept t u = Known kept u
+      × ((ok : State → Bool) → first_accepted ok (events_of (thread_run kept t)) ≡ first_accepted ok (events_of (thread_run kept u)))
+      × (size_of (thread_run kept u) < size_of (thread_run kept t))
 
   -- the thread saved a branch
   abbrev pub Parted : ℕ → Thread → Thread → Thread → Type 0

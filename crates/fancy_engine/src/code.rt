@@ -3,10 +3,12 @@
 ghost use Rattle.std.specs.Prelude.{◌≡◌, ◌<◌, ℕ, None, Some, false, IsTrue, length};
 ghost use Rattle.std.specs.Option.{ForSome};
 ghost use Rattle.fancy_engine.specs.Branches.{ArePaid};
+ghost use Rattle.fancy_engine.specs.Choices.{AreBeginnings};
 ghost use Rattle.fancy_engine.specs.Instructions.{are_known, edges_in, with_sets};
 ghost use Rattle.fancy_engine.specs.Marking.{IsPaid};
 
 use crate::branches::Branches;
+use crate::choice::{Beginnings, Choice};
 use crate::marking::Marking;
 use crate::work::Work;
 use fancy_bytes::literal::Literal;
@@ -97,6 +99,8 @@ pub struct Code {
     instrs: Vec<Instr>,
     sets: Vec<CharSet>,
     marking: Marking,
+    // for each instruction what tells which ways of a choice are to be gone, or none where that tells nothing
+    beginnings: Vec<Beginnings>,
     /// The number of the first instruction.
     pub start: usize,
     /// The groups of the pattern, with group 0.
@@ -116,11 +120,13 @@ pub struct Code {
     ghost known: { IsTrue (are_known (length sets.items) instrs.items) },
     ghost marked: { length marking.numbers.items ≡ length instrs.items },
     ghost paid: { IsPaid (with_sets sets.items instrs.items) marking.numbers.items marking.weights.items start },
+    ghost begun: { AreBeginnings beginnings.items (with_sets sets.items instrs.items) meaning },
     ghost branches_paid: { ForSome branches (λ b. ArePaid b marking.numbers.items marking.weights.items start) },
 }
 
 impl Code {
     ghost use Rattle.std.specs.Prelude.{IfSome};
+    ghost use Rattle.fancy_engine.specs.Choices.{LeavesOut};
     ghost use Rattle.fancy_engine.specs.Code.{instrs_of, code_len, instr_in, sets_len, set_edges, due_of, number_of, width_of};
     ghost use Rattle.fancy_engine.specs.Instructions.{Split};
     ghost use Rattle.fancy_engine.specs.Run.{instr_at};
@@ -150,10 +156,12 @@ impl Code {
         ensures anchored { result.only_at_start ≡ false }
         ensures branches { result.branches ≡ None }
     {
+        let alloc = *instrs.allocator();
         Code {
             instrs,
             sets,
             marking,
+            beginnings: Vec::new(alloc),
             start,
             groups,
             meaning,
@@ -182,6 +190,7 @@ impl Code {
             instrs: self.instrs,
             sets: self.sets,
             marking: self.marking,
+            beginnings: self.beginnings,
             start: self.start,
             groups: self.groups,
             meaning: self.meaning,
@@ -191,6 +200,50 @@ impl Code {
             only_at_start: self.only_at_start,
             branches: Some(branches),
         }
+    }
+
+    /// The same code, with the bytes that the ways of each choice may begin with.
+    pub(crate) fn with_beginnings(self, beginnings: Vec<Beginnings>) -> Code
+        requires { AreBeginnings beginnings.items (instrs_of self) self.meaning }
+        ensures instrs { instrs_of result ≡ instrs_of self }
+        ensures start { result.start ≡ self.start }
+        ensures groups { result.groups ≡ self.groups }
+        ensures meaning { result.meaning ≡ self.meaning }
+        ensures start_bytes { result.start_bytes ≡ self.start_bytes }
+        ensures literal { result.literal ≡ self.literal }
+        ensures prefilter { result.prefilter ≡ self.prefilter }
+        ensures anchored { result.only_at_start ≡ self.only_at_start }
+        ensures branches { result.branches ≡ self.branches }
+    {
+        Code {
+            instrs: self.instrs,
+            sets: self.sets,
+            marking: self.marking,
+            beginnings,
+            start: self.start,
+            groups: self.groups,
+            meaning: self.meaning,
+            start_bytes: self.start_bytes,
+            literal: self.literal,
+            prefilter: self.prefilter,
+            only_at_start: self.only_at_start,
+            branches: self.branches,
+        }
+    }
+
+    /// Which ways of the choice with this number are to be gone at a place of a haystack, by the byte that stands there.
+    #[inline(always)]
+    pub(crate) fn choice_at(&self, at: usize, haystack: &[u8], place: usize) -> Choice
+        ensures { (first second : ℕ) → instr_at (instrs_of self.now) at ≡ Split first second
+            → LeavesOut (instrs_of self.now) self.now.meaning haystack.now place result first second }
+    {
+        let Some(beginnings) = self.beginnings.get(at) else {
+            return Choice::Both;
+        };
+        let Some(byte) = haystack.get(place) else {
+            return Choice::Both;
+        };
+        beginnings.choice(*byte)
     }
 
     /// The instruction with this number. Each call counts as one step, as far as the number of steps goes.

@@ -10,6 +10,7 @@ ghost use Rattle.fancy_engine.specs.Emitted.{emitted, len_of};
 ghost use Rattle.fancy_tree.specs.GroupNumbers.{Numbered};
 ghost use Rattle.fancy_engine.specs.Compile.{Keeps, Emitted, CopiesEmitted, OptionalsEmitted, StarEmitted, RestEmitted, RepeatEmitted, TestEmitted, BackEmitted, BehindEmitted, IsCodeOf, StaysEasy, goes_back, is_easy, are_easy, split_of, look_of};
 
+use crate::choosing::with_choices;
 use crate::classify::is_easy;
 use crate::code::{Code, Entry, FAIL, Instr, MATCH};
 use crate::emitter::Emitter;
@@ -577,6 +578,7 @@ pub fn compile(
     if !is_easy(tree) {
         return Ok(code);
     }
+    let code = with_choices(alloc, code)?;
     let code = with_starts(alloc, code)?;
     Ok(code)
 }

@@ -4,6 +4,8 @@
 mod backlog;
 pub mod branches;
 mod branching;
+pub mod choice;
+mod choosing;
 pub mod classify;
 pub mod code;
 pub mod compile;

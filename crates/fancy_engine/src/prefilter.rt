@@ -304,7 +304,27 @@ fn empty_sets(alloc: Global, places: usize) -> Result<Vec<ByteSet>, AllocError> 
 }
 
 /// The sets of the bytes that may stand at so many first places of what the code consumes from an instruction on, as far as they are
-/// told. It is refused where memory runs out.
+/// told where so many instructions are followed at most, of which those are taken away that were. It is refused where memory runs out.
+pub(crate) fn sets_within(
+    alloc: Global,
+    code: &Code,
+    at: usize,
+    places: usize,
+    left: &mut usize,
+) -> Result<Vec<ByteSet>, AllocError>
+    ensures { IfOk result (λ sets. Foretold (instrs_of code.now) code.now.meaning sets.items 0 true at) }
+{
+    let mut sets = empty_sets(alloc, places)?;
+    let spot = Spot {
+        at,
+        from: 0,
+        exact: true,
+    };
+    collect(code, spot, DEPTH, &mut sets, left);
+    Ok(sets)
+}
+
+/// The same, where as many instructions are followed as are for all of a match.
 pub(crate) fn sets_of(
     alloc: Global,
     code: &Code,
@@ -313,15 +333,8 @@ pub(crate) fn sets_of(
 ) -> Result<Vec<ByteSet>, AllocError>
     ensures { IfOk result (λ sets. Foretold (instrs_of code.now) code.now.meaning sets.items 0 true at) }
 {
-    let mut sets = empty_sets(alloc, places)?;
     let mut left = FOLLOWED;
-    let spot = Spot {
-        at,
-        from: 0,
-        exact: true,
-    };
-    collect(code, spot, DEPTH, &mut sets, &mut left);
-    Ok(sets)
+    sets_within(alloc, code, at, places, &mut left)
 }
 
 /// The sets of the bytes that may stand at the first places of a match, made ready for scans, if they tell something.

@@ -16,6 +16,7 @@ ghost use Rattle.fancy_engine.specs.Runner.{found_state, Stacked, Grown, Moved, 
 ghost use Rattle.fancy_engine.specs.Sweep.{AllPast, AreRising, SweepingIn, SweptIn};
 ghost use Rattle.fancy_engine.specs.Attempt.{context_in, instrs_in, stack_in, current_in, saved_in, threads_in, threads_left_in, bits_in, left_in, ahead_in, marks_in, KnownIn, AllFailedIn, FailedPastIn, first_accepted_in, SteppedIn, RunningIn, VisitedIn};
 
+use crate::choice::Choice;
 use crate::code::{Code, Instr};
 use crate::options::is_match_boundary;
 use crate::reading::{SuppressedEnds, holds_at, read_at};
@@ -208,8 +209,14 @@ fn step(
             Ok(pass_test(attempt, pair, *assertion, *next, last_lines))
         }
         Instr::Split(first, second) => {
-            threads.save(*pair, *second)?;
-            pair.at = *first;
+            match code.choice_at(pair.at, haystack, place) {
+                Choice::Both => {
+                    threads.save(*pair, *second)?;
+                    pair.at = *first;
+                }
+                Choice::First => pair.at = *first,
+                Choice::Second => pair.at = *second,
+            }
             Ok(Next::On)
         }
         Instr::Open(group, next) => {
