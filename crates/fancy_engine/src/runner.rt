@@ -83,6 +83,7 @@ pub fn past_character(
 }
 
 /// The place after the item at `place`, if the set has it.
+#[inline(always)]
 pub fn past_member(haystack: &[u8], meaning: Meaning, set: &CharSet, place: usize) -> Option<usize>
     ensures past { (suppressed : SuppressedEnds) (from : ℕ)
         → result ≡ past_item (search_context haystack.now meaning suppressed from) (has (edges_in set.now)) place }
