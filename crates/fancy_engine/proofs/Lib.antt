@@ -20,6 +20,7 @@ pub mod ClassifyLemmas
 pub mod Hits
 pub mod RunnerSteps
 pub mod RunnerLemmas
+pub mod AloneLemmas
 pub mod SweepLemmas
 pub mod SavedLemmas
 pub mod SweepsLemmas
