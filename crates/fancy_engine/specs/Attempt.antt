@@ -4,6 +4,7 @@ use Rattle.fancy_tree.specs.declared.tree.Assertion.{Assertion}
 use Rattle.fancy_engine.specs.Instructions.{Instruction, Match}
 use Rattle.fancy_engine.specs.declared.runner.Attempt.{Attempt}
 use Rattle.fancy_engine.specs.declared.runner.Next.{Next}
+use Rattle.fancy_engine.specs.Choices.{ClosesTo}
 use Rattle.fancy_engine.specs.Code.{instrs_of, width_of, marks_of, left_of, burden}
 use Rattle.fancy_engine.specs.Context.{Context, State, holds}
 use Rattle.fancy_engine.specs.Marking.{Marks}
@@ -120,5 +121,5 @@ module _ (a : Attempt) where
 
   -- Either nothing was changed, or of the saved threads the last one alone is left, which ends in an accepted outcome at once.
   abbrev pub LeftAlone : KeptThreads → KeptThreads → Type 0
-  LeftAlone old new = (new ≡ old) ⊎ ((b : Thread) × (ts : List Thread) × (instr_at instrs_in b.at ≡ Match) × (may_end_in b.place ≡ true)
+  LeftAlone old new = (new ≡ old) ⊎ ((b : Thread) × (ts : List Thread) × ((end : ℕ) × ClosesTo instrs_in b.at end × (instr_at instrs_in end ≡ Match)) × (may_end_in b.place ≡ true)
       × ((held_in new).slots ≡ (held_in old).slots) × (saved_in old ≡ b ∷ ts) × (saved_in new ≡ b ∷ []))

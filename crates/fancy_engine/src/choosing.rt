@@ -3,7 +3,7 @@
 ghost use Rattle.std.specs.Prelude.{◌≡◌, true, IfOk, IfSome};
 ghost use Rattle.fancy_bytes.specs.Sets.{member};
 ghost use Rattle.fancy_tree.specs.Pattern.{Pattern};
-ghost use Rattle.fancy_engine.specs.Choices.{AreBeginnings, BeginAt, BeginsBy, ClosesTo, HoldsBefore};
+ghost use Rattle.fancy_engine.specs.Choices.{AreBeginnings, BeginAt, BeginsBy, HoldsBefore};
 ghost use Rattle.fancy_engine.specs.Code.{instrs_of};
 ghost use Rattle.fancy_engine.specs.Compile.{IsCodeOf};
 
@@ -49,24 +49,11 @@ fn bytes_after(assertion: Assertion) -> Option<ByteSet>
     }
 }
 
-/// The instruction after the end of a group, if this one is such, and else this one.
-fn past_group_end(code: &Code, at: usize) -> usize
-    ensures { ClosesTo (instrs_of code.now) at result }
-{
-    if at >= code.len() {
-        return at;
-    }
-    match code.instr(at) {
-        Instr::Close(_, next) => *next,
-        _ => at,
-    }
-}
-
 /// The bytes that the code may begin with from an instruction on, if a test comes first that tells it.
 fn tested_at(code: &Code, at: usize) -> Option<ByteSet>
     ensures { IfSome result (λ set. BeginsBy (instrs_of code.now) code.now.meaning set at) }
 {
-    let test = past_group_end(code, at);
+    let test = code.past_group_end(at);
     if test >= code.len() {
         return None;
     }

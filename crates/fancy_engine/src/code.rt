@@ -126,7 +126,7 @@ pub struct Code {
 
 impl Code {
     ghost use Rattle.std.specs.Prelude.{IfSome};
-    ghost use Rattle.fancy_engine.specs.Choices.{LeavesOut};
+    ghost use Rattle.fancy_engine.specs.Choices.{LeavesOut, ClosesTo};
     ghost use Rattle.fancy_engine.specs.Code.{instrs_of, code_len, instr_in, sets_len, set_edges, due_of, number_of, width_of};
     ghost use Rattle.fancy_engine.specs.Instructions.{Split};
     ghost use Rattle.fancy_engine.specs.Run.{instr_at};
@@ -279,6 +279,19 @@ impl Code {
                 second: *second,
             }),
             _ => None,
+        }
+    }
+
+    /// The number of the instruction after the end of a group, if the instruction with this number is such, and else this number.
+    pub(crate) fn past_group_end(&self, at: usize) -> usize
+        ensures { ClosesTo (instrs_of self.now) at result }
+    {
+        if at >= self.len() {
+            return at;
+        }
+        match self.instr(at) {
+            Instr::Close(_, next) => *next,
+            _ => at,
         }
     }
 

@@ -334,10 +334,11 @@ fn leave_last_alone(attempt: &Attempt, threads: &mut Threads) -> bool
     let Some(branch) = threads.last_branch() else {
         return false;
     };
-    if branch.at >= attempt.code.len() {
+    let end = attempt.code.past_group_end(branch.at);
+    if end >= attempt.code.len() {
         return false;
     }
-    if !matches!(attempt.code.instr(branch.at), Instr::Match) {
+    if !matches!(attempt.code.instr(end), Instr::Match) {
         return false;
     }
     if !is_match_boundary(attempt.on_boundaries, attempt.haystack, branch.place) {
