@@ -73,6 +73,28 @@ const ROWS: &[LongRow] = &[
         tail: "éz",
         spans: &[(0, 3)],
     },
+    // the same, where no byte tells which way of a choice is to be gone
+    LongRow {
+        pattern: "(?:ab|a|b)*c|d",
+        filler: "ab",
+        count: 20_000,
+        tail: "dabcd",
+        spans: &[(0, 1), (1, 4), (4, 5)],
+    },
+    LongRow {
+        pattern: "[a-z]*[a-y]!|é",
+        filler: "xy",
+        count: 10_000,
+        tail: "éxy!é",
+        spans: &[(0, 2), (2, 5), (5, 7)],
+    },
+    LongRow {
+        pattern: "(?:[^é]|é[a-m])*[^é]!|(éz)",
+        filler: "xyéa",
+        count: 10_000,
+        tail: "éz",
+        spans: &[(0, 3)],
+    },
     // what is kept of the way behind an attempt is left out again and again
     LongRow {
         pattern: "a*b*c*d*e*f*g*h*i*j*k*l*m*n*o*p*q*r*s*x",
@@ -330,4 +352,40 @@ fn wide_patterns_match_at_each_place(rt: HostRuntime) {
     check_each_place(&rt, rt.alloc(), (FAR, "q", 40_000), (1, 40_000));
     // the empty text is found at the end too
     check_each_place(&rt, rt.alloc(), (EMPTY, "b", 300), (0, 301));
+}
+
+/// A pattern, what a text begins with, what follows that so many times, and how many bytes are after the first match, which begins
+/// where the text does.
+type FirstRow = (&'static str, &'static str, &'static str, usize, usize);
+
+const FIRST: &[FirstRow] = &[
+    // wherever the star ends is a match, and it goes on further than a search keeps of its way
+    ("[a-z]*", "x", "ab", 20_000, 0),
+    ("x([a-z]*)", "x", "ab", 20_000, 0),
+    ("(?s).*", "x", "é", 20_000, 0),
+    // of all that it went over, the first place alone ends a match
+    (r"[a-z ]*\b", "ab", " ", 40_000, 40_000),
+    (r"([a-z ]*)(?:\b|!)", "ab", " ", 40_000, 40_000),
+];
+
+fn check_first(rt: &impl Abort, alloc: Global, row: &FirstRow) {
+    let (pattern, head, unit, count, left) = *row;
+    let mut text = repeated(rt, alloc, head, 1);
+    let rest = repeated(rt, alloc, unit, count);
+    text.push_str(rest.as_str()).expect(rt, unit);
+    let regex = regex_of(rt, alloc, pattern);
+    let mut matches = regex.find_iter(text.as_str());
+    let first = matches.next().expect(rt, pattern).expect(rt, pattern);
+    check(
+        rt,
+        first.start() == 0 && first.end() == text.len().wrapping_sub(left),
+        pattern,
+    );
+}
+
+#[test]
+fn stars_end_where_they_may_in_long_texts(rt: HostRuntime) {
+    for row in FIRST {
+        check_first(&rt, rt.alloc(), row);
+    }
 }

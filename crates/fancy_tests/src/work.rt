@@ -3,7 +3,7 @@
 //! The counts were worked out by hand. The code of a pattern was written down in the order in which `compile` emits it, after
 //! `0 Match` and `1 Fail`; a comment above each row has the instructions that the search reaches. Then the code was followed over
 //! the text from one position where a match can begin to the next, with each pair of an instruction and a place as one step where
-//! it is met first.
+//! it is met first. Where the byte at an easy search's choice cannot begin one of its ways, the other is gone alone.
 
 use crate::asking::{
     CHARACTERS, CountRow, PartCountRow, SEEKING, SearchRow, check, check_counts, check_part_counts,
@@ -54,15 +54,16 @@ const COUNTS: &[CountRow] = &[
         Some(0),
         0,
     ),
-    // eleven alternatives, each in turn: ten choices and ten first characters before the last one's five instructions
+    // eleven alternatives: the byte tells at each of ten choices that its first way is not to be gone; then the last one's five
+    // instructions
     (
         CHARACTERS,
         "alpha|beta|gamma|delta|omega|theta|iota|kappa|lambda|sigma|mil.",
         "mile",
         1_000_000,
         Some(Some((0, 4))),
-        Some(25),
-        10,
+        Some(15),
+        0,
     ),
     // no position has a byte that a match can begin with
     (CHARACTERS, "a", "xyz", 1_000_000, Some(None), Some(0), 0),
@@ -87,25 +88,25 @@ const COUNTS: &[CountRow] = &[
         Some(10),
         1,
     ),
-    // 2 Split(3, 0), 3 Character(a, 2); from 2 on
+    // 2 Split(3, 0), 3 Character(a, 2); from 2 on, and at the b from 2 to 0 alone
     (
         CHARACTERS,
         "a*",
         "aab",
         1_000_000,
         Some(Some((0, 2))),
-        Some(7),
-        1,
+        Some(6),
+        0,
     ),
-    // 2 Character(b, 0), 3 Split(2, 4), 4 Character(a, 3); from 3 on
+    // 2 Character(b, 0), 3 Split(2, 4), 4 Character(a, 3); from 3 on, where the byte tells at each place which way is to be gone
     (
         CHARACTERS,
         "a*?b",
         "aab",
         1_000_000,
         Some(Some((0, 3))),
-        Some(9),
-        2,
+        Some(7),
+        0,
     ),
     // 2 Character(b, 0), 3 Character(a, 2), 4 Character(a, 2), 5 Split(4, 3); from 5 on at place 0 alone, and 2 is met twice at
     // place 1
@@ -240,15 +241,15 @@ const PART_COUNTS: &[PartCountRow] = &[
         (1, 4),
         (Some(Some((1, 4))), None, 1),
     ),
-    // 2 Character(b, 0), 3 Split(4, 2), 4 Character(a, 3); from 3 on, and the first position meets each pair that there is; the b
-    // stands past the range
+    // 2 Character(b, 0), 3 Split(4, 2), 4 Character(a, 3); from 3 on, to 4 at each a and to 2 at the b, which stands past the range;
+    // what begins later meets 3 where it was before
     (
         CHARACTERS,
         "a*b",
         "aaab",
         0,
         (0, 3),
-        (Some(None), Some(12), 4),
+        (Some(None), Some(8), 0),
     ),
     // the a stands past the range
     (
