@@ -52,6 +52,7 @@ pub mod SkipLemmas
 pub mod TriedLemmas
 pub mod ForetoldLemmas
 pub mod ChoiceLemmas
+pub mod StarLemmas
 pub mod TextLemmas
 pub mod BranchLemmas
 pub mod PassedLemmas

@@ -98,11 +98,17 @@ fn beginnings_at(
         return Ok(Beginnings {
             first: ByteSet::all(),
             second: ByteSet::all(),
+            star: false,
         });
     };
     let first = beginning_of(alloc, code, ways.first, left)?;
     let second = beginning_of(alloc, code, ways.second, left)?;
-    Ok(Beginnings { first, second })
+    let star = second.len() < 256 && code.read_star(at).is_some();
+    Ok(Beginnings {
+        first,
+        second,
+        star,
+    })
 }
 
 /// The bytes that the ways of each choice may begin with. There are none where they tell nothing, or the code is long.

@@ -8,7 +8,7 @@ ghost use Rattle.fancy_engine.specs.Instructions.{are_known, edges_in, with_sets
 ghost use Rattle.fancy_engine.specs.Marking.{IsPaid};
 
 use crate::branches::Branches;
-use crate::choice::{Beginnings, Choice};
+use crate::choice::{Beginnings, Choice, Star};
 use crate::marking::Marking;
 use crate::work::Work;
 use fancy_bytes::literal::Literal;
@@ -130,6 +130,7 @@ impl Code {
     ghost use Rattle.fancy_engine.specs.Code.{instrs_of, code_len, instr_in, sets_len, set_edges, due_of, number_of, width_of};
     ghost use Rattle.fancy_engine.specs.Instructions.{Split};
     ghost use Rattle.fancy_engine.specs.Run.{instr_at};
+    ghost use Rattle.fancy_engine.specs.Stars.{IsStarAt};
     ghost use Rattle.fancy_engine.specs.Work.{stepped_within};
 
     /// These instructions with these sets, which begin at `start`.
@@ -244,6 +245,39 @@ impl Code {
             return Choice::Both;
         };
         beginnings.choice(*byte)
+    }
+
+    /// The star that begins at the instruction with this number, if its turn is one item and leads back there.
+    pub(crate) fn read_star(&self, at: usize) -> Option<Star>
+        ensures { IfSome result (λ star. IsStarAt self.now at star) }
+    {
+        if at >= self.len() {
+            return None;
+        }
+        let ways = self.ways(at)?;
+        let body = ways.first;
+        if body >= self.len() || self.mark_number(body).is_some() {
+            return None;
+        }
+        let Instr::Member(set, next) = self.instr(body) else {
+            return None;
+        };
+        if *next != at {
+            return None;
+        }
+        Some(Star { body, set: *set })
+    }
+
+    /// The same, where a byte may tell that the star goes on.
+    #[inline(always)]
+    pub(crate) fn star_at(&self, at: usize) -> Option<Star>
+        ensures { IfSome result (λ star. IsStarAt self.now at star) }
+    {
+        let beginnings = self.beginnings.get(at)?;
+        if !beginnings.star {
+            return None;
+        }
+        self.read_star(at)
     }
 
     /// The instruction with this number. Each call counts as one step, as far as the number of steps goes.

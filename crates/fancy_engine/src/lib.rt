@@ -21,6 +21,7 @@ mod row;
 pub mod runner;
 pub mod search;
 pub mod slot;
+mod star;
 mod start;
 mod sweep;
 pub mod table;

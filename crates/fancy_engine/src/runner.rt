@@ -21,6 +21,7 @@ use crate::code::{Code, Instr};
 use crate::options::is_match_boundary;
 use crate::reading::{SuppressedEnds, holds_at, read_at};
 use crate::slot::Pair;
+use crate::star::go_along;
 use crate::sweep::follow_by_place;
 use crate::table::Table;
 use crate::threads::Threads;
@@ -235,7 +236,7 @@ fn step(
 }
 
 /// Whether a pair is to be followed: its instruction has no mark, or that was not made at this place. It is made then.
-fn is_new(attempt: &Attempt, pair: Pair, table: &mut Table) -> bool
+pub(crate) fn is_new(attempt: &Attempt, pair: Pair, table: &mut Table) -> bool
     requires here { pair.at < code_len attempt.now.code.now }
     requires low { attempt.now.base ≤ pair.place }
     requires high { pair.place ≤ attempt.now.last }
@@ -395,8 +396,10 @@ pub fn follow(
 {
     let mut pair = start;
     'pairs: loop {
+        let before = pair.place;
         match visit(attempt, &mut pair, threads, table, last_lines, work)? {
             Next::On => {
+                go_along(attempt, before, &mut pair, table, work);
                 if threads.is_long() {
                     if !leave_last_alone(attempt, threads) {
                         let end = follow_by_place(attempt, pair, threads, table, last_lines, work)?;

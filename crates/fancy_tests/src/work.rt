@@ -108,6 +108,16 @@ const COUNTS: &[CountRow] = &[
         Some(7),
         0,
     ),
+    // 2 Character(c, 0), 3 Split(4, 2), 4 Member(ab, 3); from 3 on, two steps for each turn of the star, and at the c from 3 to 2
+    (
+        CHARACTERS,
+        "[ab]*c",
+        "abac",
+        1_000_000,
+        Some(Some((0, 4))),
+        Some(9),
+        0,
+    ),
     // 2 Character(b, 0), 3 Character(a, 2), 4 Character(a, 2), 5 Split(4, 3); from 5 on at place 0 alone, and 2 is met twice at
     // place 1
     (
