@@ -20,7 +20,6 @@ pub mod ClassifyLemmas
 pub mod Hits
 pub mod RunnerSteps
 pub mod RunnerLemmas
-pub mod AloneLemmas
 pub mod SweepLemmas
 pub mod SavedLemmas
 pub mod SweepsLemmas
@@ -52,7 +51,6 @@ pub mod SkipLemmas
 pub mod TriedLemmas
 pub mod ForetoldLemmas
 pub mod ChoiceLemmas
-pub mod StarLemmas
 pub mod TextLemmas
 pub mod BranchLemmas
 pub mod PassedLemmas

@@ -46,10 +46,6 @@ some_or : (a b : Option State) → is_some (option_or a b) ≡ is_some a || is_s
 some_or None b = refl
 some_or (Some x) b = refl
 
-some_stays : (a b : Option State) → is_some a ≡ true → option_or a b ≡ a
-some_stays None b e = absurd (true≢false (sym e))
-some_stays (Some x) b e = refl
-
 none_or : (a b : Option State) → is_some a ≡ false → option_or a b ≡ b
 none_or None b e = refl
 none_or (Some x) b e = absurd (true≢false e)
@@ -195,32 +191,6 @@ module _ (good : ℕ → Bool) (cx : Context) (low limit : ℕ) (code : List Ins
                     (λ n i lt at h. (omega (arith, low_u), omega (arith, at, forth), inr (omega (arith, low_b), omega (arith, at, parted.1.4), inr h))));
               }
         ]
-
-    -- a saved thread with an accepted outcome stands for those that were saved before it
-    pub run_alone : (table : Marks) (t b : Thread) (ts : List Thread) → Running good cx low limit code deep kept goal table t (b ∷ ts)
-        → is_some (first_accepted (ends_well good) (events_of (thread_run cx limit code deep kept b))) ≡ true → Running good cx low limit code deep kept goal table t (b ∷ [])
-    run_alone table t b ts r sure =
-        let ok = ends_well good in
-        let et = events_of (thread_run cx limit code deep kept t) in
-        let eb = events_of (thread_run cx limit code deep kept b) in
-        let p = pending cx limit code deep kept ts in
-        record {
-          known = r.known;
-          all = (r.all.0, tt);
-          answer = first_or ok et (return ∷ (eb ++ []))
-              ∙ ap (option_or (first_accepted ok et)) (first_or ok eb [] ∙ some_stays (first_accepted ok eb) None sure ∙ sym (some_stays (first_accepted ok eb) (first_accepted ok p) sure) ∙ sym (first_or ok eb p))
-              ∙ sym (first_or ok et (return ∷ (eb ++ p)))
-              ∙ r.answer;
-          covers = λ q i seen hit.
-              (let h = r.covers q i seen hit in (
-                h.0,
-                h.1,
-                elim h.2 [
-                  | inl here ↦ inl here
-                  | inr under ↦ inr (under.0, under.1, inl (sym (hits_is kept b) ∙ sure))
-                ],
-              ));
-        }
 
     pub rest_done : (table : Marks) → Resting good cx low limit code deep kept goal table [] → (None ≡ goal) × AllFailed good cx low limit code deep table
     rest_done table r = (r.answer, λ q i seen hit. r.covers q i seen hit)

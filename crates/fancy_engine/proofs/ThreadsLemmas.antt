@@ -1,9 +1,8 @@
 -- The log of writes, and the pairs that were passed.
-use Rattle.std.proofs.Common.{◌≡◌, ℕ, zero, suc, ◌-◌, ◌==◌, ◌≤◌, true, List, [], ◌∷◌, ◌++◌, length, map, take, drop, set, get_or, replicate, refl, sym, ap, ◌∙◌, subst, append_assoc, arith}
+use Rattle.std.proofs.Common.{◌≡◌, ℕ, zero, suc, ◌==◌, ◌≤◌, true, List, [], ◌∷◌, ◌++◌, length, map, take, drop, set, get_or, replicate, refl, sym, ap, ◌∙◌, subst, append_assoc, arith}
 use Rattle.std.proofs.lemmas.List.{drop_at, take_at, drop_all, take-append-drop, reverse-append, map-set, nil_from_length}
 use Rattle.std.proofs.lemmas.Bool.Decides.{nat_tests}
-use Rattle.std.proofs.lemmas.Option.{none-some, same_Some}
-use Rattle.std.specs.Prelude.{Option, Some, None, IfSome, slice_get, slice_index, reverse}
+use Rattle.std.specs.Prelude.{Option, Some, slice_index, reverse}
 use Rattle.fancy_input.specs.declared.span.Span.{Span}
 use Rattle.fancy_input.specs.Spans.{from_to}
 use Rattle.fancy_engine.specs.declared.slot.Slot.{Slot}
@@ -11,7 +10,7 @@ use Rattle.fancy_engine.specs.declared.slot.Write.{Write}
 use Rattle.fancy_engine.specs.declared.slot.Pair.{Pair}
 use Rattle.fancy_engine.specs.Instructions.{Instruction}
 use Rattle.fancy_engine.specs.Run.{instr_at}
-use Rattle.fancy_engine.specs.Threads.{Thread, BranchedLast, undone, empty_slot, slot_span, slot_from, slots_past, other_way, with_way, slots_after, saved_after, thread_of, threads_at}
+use Rattle.fancy_engine.specs.Threads.{Thread, undone, empty_slot, slot_span, slot_from, slots_past, other_way, with_way, slots_after, saved_after, thread_of, threads_at}
 
 -- the later writes are undone first
 pub undone-append : (slots : List Slot) (xs ys : List Write) → undone slots (xs ++ ys) ≡ undone (undone slots ys) xs
@@ -95,20 +94,3 @@ module _ (code : List Instruction) (i : Instruction) (place : ℕ) (slots now : 
 pub none_at : (a b : List Slot) (ps : List Pair) → threads_at a ps ≡ [] → threads_at b ps ≡ []
 none_at a b [] e = refl
 none_at a b (p ∷ ps) e = let none : length (thread_of p a ∷ threads_at a ps) ≡ 0 = ap length e in absurd (omega (arith, none))
-
--- the last of some pairs comes first when they are turned
-last_turned : (ps : List Pair) (p : Pair) → slice_get ps (length ps - 1) ≡ Some p → (rest : List Pair) × (reverse ps ≡ p ∷ rest)
-last_turned [] p e = absurd (none-some p e)
-last_turned (q ∷ []) p e = ([], ap (λ (x : Pair). x ∷ []) (same_Some q p e))
-last_turned (q ∷ r ∷ ps) p e =
-    let one : length (r ∷ ps) - 1 ≡ length ps = omega arith in
-    let two : length (q ∷ r ∷ ps) - 1 ≡ suc (length ps) = omega arith in
-    let before = last_turned (r ∷ ps) p (ap (slice_get (r ∷ ps)) one ∙ sym (ap (slice_get (q ∷ r ∷ ps)) two) ∙ e) in
-    (before.0 ++ q ∷ [], reverse-append (q ∷ []) (r ∷ ps) ∙ ap (λ (x : List Pair). x ++ q ∷ []) before.1)
-
-pub last_branched : (slots : List Slot) (branches passed : List Pair) (o : Option Pair) → o ≡ slice_get branches (length branches - 1) → passed ≡ []
-    → IfSome o (λ pair. BranchedLast pair (record { slots = slots; saved = threads_at slots (reverse branches); passed = reverse passed }))
-last_branched slots branches passed None e none = tt
-last_branched slots branches passed (Some p) e none =
-    let turned = last_turned branches p (sym e) in
-    (ap reverse none, (threads_at slots turned.0, ap (threads_at slots) turned.1))

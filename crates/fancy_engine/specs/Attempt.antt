@@ -1,15 +1,13 @@
 -- What the runner says of an attempt, with its code, its haystack and its bounds.
-use Rattle.std.specs.Prelude.{◌≡◌, ℕ, ◌+◌, ◌-◌, ◌*◌, ◌⊎◌, Bool, true, List, [], ◌∷◌, Option, Some, None, replicate}
+use Rattle.std.specs.Prelude.{ℕ, ◌+◌, ◌-◌, ◌*◌, Bool, true, List, ◌∷◌, Option, Some, None, replicate}
 use Rattle.fancy_tree.specs.declared.tree.Assertion.{Assertion}
-use Rattle.fancy_engine.specs.Instructions.{Instruction, Match}
+use Rattle.fancy_engine.specs.Instructions.{Instruction}
 use Rattle.fancy_engine.specs.declared.runner.Attempt.{Attempt}
 use Rattle.fancy_engine.specs.declared.runner.Next.{Next}
-use Rattle.fancy_engine.specs.Choices.{ClosesTo}
 use Rattle.fancy_engine.specs.Code.{instrs_of, width_of, marks_of, left_of, burden}
 use Rattle.fancy_engine.specs.Context.{Context, State, holds}
 use Rattle.fancy_engine.specs.Marking.{Marks}
 use Rattle.fancy_engine.specs.Reading.{search_context}
-use Rattle.fancy_engine.specs.Run.{instr_at}
 use Rattle.fancy_engine.specs.Search.{is_match_boundary}
 use Rattle.fancy_engine.specs.declared.slot.Pair.{Pair}
 use Rattle.fancy_engine.specs.Threads.{Thread, ThreadStack, HeldThreads, KeptThreads, begun_at, empty_slot, with_group, held_of, stack_of}
@@ -118,8 +116,3 @@ module _ (a : Attempt) where
   abbrev pub VisitedIn : ℕ → ℕ → ℕ → Next → Option State → List Bool → ThreadStack → Type 0
   VisitedIn low kept deep next goal table ts =
       Visited may_end_in context_in low a.last instrs_in deep kept next goal (marks_in table) ts.current ts.saved
-
-  -- Either nothing was changed, or of the saved threads the last one alone is left, which ends in an accepted outcome at once.
-  abbrev pub LeftAlone : KeptThreads → KeptThreads → Type 0
-  LeftAlone old new = (new ≡ old) ⊎ ((b : Thread) × (ts : List Thread) × ((end : ℕ) × ClosesTo instrs_in b.at end × (instr_at instrs_in end ≡ Match)) × (may_end_in b.place ≡ true)
-      × ((held_in new).slots ≡ (held_in old).slots) × (saved_in old ≡ b ∷ ts) × (saved_in new ≡ b ∷ []))

@@ -1,10 +1,9 @@
 -- Which ways of a choice are to be gone at a place, by the byte that stands there.
-use Rattle.std.specs.Prelude.{◌≡◌, ℕ, ◌<◌, ◌⊎◌, Bool, true, false, List, [], ◌∷◌, length, Option, Some, None, slice_get, slice_index}
-use Rattle.fancy_tree.specs.declared.tree.Assertion.{Assertion}
+use Rattle.std.specs.Prelude.{◌≡◌, ℕ, ◌<◌, Bool, true, false, List, [], ◌∷◌, Option, Some, None, slice_get, slice_index}
 use Rattle.fancy_tree.specs.declared.tree.Meaning.{Meaning}
 use Rattle.fancy_bytes.specs.Sets.{ByteFlags, member}
-use Rattle.fancy_engine.specs.Context.{Context, State, holds}
-use Rattle.fancy_engine.specs.Instructions.{Instruction, Split, Close}
+use Rattle.fancy_engine.specs.Context.{Context, State}
+use Rattle.fancy_engine.specs.Instructions.{Instruction, Split}
 use Rattle.fancy_engine.specs.Run.{Raw, Note, Stop, instr_at, run}
 use Rattle.fancy_engine.specs.declared.choice.Beginnings.{Beginnings}
 use Rattle.fancy_engine.specs.declared.choice.Choice.{Choice}
@@ -25,15 +24,7 @@ stops (Some w) = has_stop w
 abbrev pub BeginsBy : List Instruction → Meaning → ByteFlags → ℕ → Type 0
 BeginsBy code m set q =
     (x : Context) (limit n : ℕ) (s : State) (v : List ℕ) → x.meaning ≡ m → ((k : ℕ) → slice_index x.haystack k < 256)
-    → s.place < length x.haystack → member set (slice_index x.haystack s.place) ≡ false → stops (run x limit code n q s v) ≡ false
-
--- the test of a place does not hold before a byte that is not in the set
-abbrev pub HoldsBefore : ByteFlags → Assertion → Type 0
-HoldsBefore set a = (x : Context) (p : ℕ) → p < length x.haystack → member set (slice_index x.haystack p) ≡ false → holds x a p ≡ false
-
--- The end of a group leads from q to the next instruction, or these are the same.
-abbrev pub ClosesTo : List Instruction → ℕ → ℕ → Type 0
-ClosesTo code q next = (q ≡ next) ⊎ ((group : ℕ) × (instr_at code q ≡ Close group next))
+    → member set (slice_index x.haystack s.place) ≡ false → stops (run x limit code n q s v) ≡ false
 
 -- where there is a choice at q, its ways begin by these sets
 abbrev pub BeginAt : List Instruction → Meaning → Beginnings → ℕ → Type 0

@@ -14,7 +14,6 @@ pub mod Choices
 pub mod Table
 pub mod Texts
 pub mod Threads
-pub mod Stars
 pub mod Reading
 pub mod Runner
 pub mod Attempt

@@ -23,17 +23,6 @@ pub struct Beginnings {
     pub first: ByteSet,
     /// Those of the other.
     pub second: ByteSet,
-    /// The first way is a star's turn, and a byte may tell that the star goes on. It is a mere hint.
-    pub star: bool,
-}
-
-/// A star whose turn is one item of a set.
-#[derive(Clone, Copy, PartialEq, Eq, Debug)]
-pub struct Star {
-    /// The number of the instruction that reads the item.
-    pub body: usize,
-    /// The number of its set.
-    pub set: usize,
 }
 
 impl Beginnings {

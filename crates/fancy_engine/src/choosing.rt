@@ -1,17 +1,15 @@
 //! The bytes that the ways of the choices of code may begin with.
 
-ghost use Rattle.std.specs.Prelude.{◌≡◌, true, IfOk, IfSome};
-ghost use Rattle.fancy_bytes.specs.Sets.{member};
+ghost use Rattle.std.specs.Prelude.{◌≡◌, IfOk};
 ghost use Rattle.fancy_tree.specs.Pattern.{Pattern};
-ghost use Rattle.fancy_engine.specs.Choices.{AreBeginnings, BeginAt, BeginsBy, HoldsBefore};
+ghost use Rattle.fancy_engine.specs.Choices.{AreBeginnings, BeginAt, BeginsBy};
 ghost use Rattle.fancy_engine.specs.Code.{instrs_of};
 ghost use Rattle.fancy_engine.specs.Compile.{IsCodeOf};
 
 use crate::choice::Beginnings;
-use crate::code::{Code, Instr};
+use crate::code::Code;
 use crate::prefilter::sets_within;
 use fancy_bytes::byte_set::ByteSet;
-use fancy_tree::tree::Assertion;
 use std::alloc::{AllocError, Global};
 use std::mem;
 
@@ -24,45 +22,6 @@ const FROM_ONE: usize = 32;
 /// How many instructions are followed for all choices of code.
 const FROM_ALL: usize = 2_048;
 
-/// A line feed, and a carriage return where that ends lines too.
-fn line_ends(with_returns: bool) -> ByteSet
-    ensures feed { member result 10 ≡ true }
-    ensures return_too { with_returns ≡ true → member result 13 ≡ true }
-{
-    let mut bytes = ByteSet::new();
-    bytes.insert(b'\n');
-    if with_returns {
-        bytes.insert(b'\r');
-    }
-    bytes
-}
-
-/// The bytes before which a test of the place may hold, if it holds before line ends and at the text's end alone.
-fn bytes_after(assertion: Assertion) -> Option<ByteSet>
-    ensures { IfSome result (λ set. HoldsBefore set assertion) }
-{
-    match assertion {
-        Assertion::TextEnd => Some(ByteSet::new()),
-        Assertion::LineEnd | Assertion::LastLine => Some(line_ends(false)),
-        Assertion::LineEndCrlf | Assertion::LastLineCrlf => Some(line_ends(true)),
-        _ => None,
-    }
-}
-
-/// The bytes that the code may begin with from an instruction on, if a test comes first that tells it.
-fn tested_at(code: &Code, at: usize) -> Option<ByteSet>
-    ensures { IfSome result (λ set. BeginsBy (instrs_of code.now) code.now.meaning set at) }
-{
-    let test = code.past_group_end(at);
-    if test >= code.len() {
-        return None;
-    }
-    match code.instr(test) {
-        Instr::Assert(assertion, _) => bytes_after(*assertion),
-        _ => None,
-    }
-}
-
 /// The bytes that the code may begin with from an instruction on, which are all where that is not told.
 fn beginning_of(
     alloc: Global,
@@ -72,9 +31,6 @@ fn beginning_of(
 ) -> Result<ByteSet, AllocError>
     ensures { IfOk result (λ set. BeginsBy (instrs_of code.now) code.now.meaning set at) }
 {
-    if let Some(set) = tested_at(code, at) {
-        return Ok(set);
-    }
     let mut own = FROM_ONE.min(*left);
     let before = own;
     let mut sets = sets_within(alloc, code, at, 1, &mut own)?;
@@ -98,17 +54,11 @@ fn beginnings_at(
         return Ok(Beginnings {
             first: ByteSet::all(),
             second: ByteSet::all(),
-            star: false,
         });
     };
     let first = beginning_of(alloc, code, ways.first, left)?;
     let second = beginning_of(alloc, code, ways.second, left)?;
-    let star = second.len() < 256 && code.read_star(at).is_some();
-    Ok(Beginnings {
-        first,
-        second,
-        star,
-    })
+    Ok(Beginnings { first, second })
 }
 
 /// The bytes that the ways of each choice may begin with. There are none where they tell nothing, or the code is long.

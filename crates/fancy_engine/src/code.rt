@@ -8,7 +8,7 @@ ghost use Rattle.fancy_engine.specs.Instructions.{are_known, edges_in, with_sets
 ghost use Rattle.fancy_engine.specs.Marking.{IsPaid};
 
 use crate::branches::Branches;
-use crate::choice::{Beginnings, Choice, Star};
+use crate::choice::{Beginnings, Choice};
 use crate::marking::Marking;
 use crate::work::Work;
 use fancy_bytes::literal::Literal;
@@ -126,11 +126,10 @@ pub struct Code {
 
 impl Code {
     ghost use Rattle.std.specs.Prelude.{IfSome};
-    ghost use Rattle.fancy_engine.specs.Choices.{LeavesOut, ClosesTo};
+    ghost use Rattle.fancy_engine.specs.Choices.{LeavesOut};
     ghost use Rattle.fancy_engine.specs.Code.{instrs_of, code_len, instr_in, sets_len, set_edges, due_of, number_of, width_of};
     ghost use Rattle.fancy_engine.specs.Instructions.{Split};
     ghost use Rattle.fancy_engine.specs.Run.{instr_at};
-    ghost use Rattle.fancy_engine.specs.Stars.{IsStarAt};
     ghost use Rattle.fancy_engine.specs.Work.{stepped_within};
 
     /// These instructions with these sets, which begin at `start`.
@@ -247,39 +246,6 @@ impl Code {
         beginnings.choice(*byte)
     }
 
-    /// The star that begins at the instruction with this number, if its turn is one item and leads back there.
-    pub(crate) fn read_star(&self, at: usize) -> Option<Star>
-        ensures { IfSome result (λ star. IsStarAt self.now at star) }
-    {
-        if at >= self.len() {
-            return None;
-        }
-        let ways = self.ways(at)?;
-        let body = ways.first;
-        if body >= self.len() || self.mark_number(body).is_some() {
-            return None;
-        }
-        let Instr::Member(set, next) = self.instr(body) else {
-            return None;
-        };
-        if *next != at {
-            return None;
-        }
-        Some(Star { body, set: *set })
-    }
-
-    /// The same, where a byte may tell that the star goes on.
-    #[inline(always)]
-    pub(crate) fn star_at(&self, at: usize) -> Option<Star>
-        ensures { IfSome result (λ star. IsStarAt self.now at star) }
-    {
-        let beginnings = self.beginnings.get(at)?;
-        if !beginnings.star {
-            return None;
-        }
-        self.read_star(at)
-    }
-
     /// The instruction with this number. Each call counts as one step, as far as the number of steps goes.
     pub fn fetch(&self, at: usize, work: &mut Work) -> &Instr
         requires within { at < code_len self.now }
@@ -313,19 +279,6 @@ impl Code {
                 second: *second,
             }),
             _ => None,
-        }
-    }
-
-    /// The number of the instruction after the end of a group, if the instruction with this number is such, and else this number.
-    pub(crate) fn past_group_end(&self, at: usize) -> usize
-        ensures { ClosesTo (instrs_of self.now) at result }
-    {
-        if at >= self.len() {
-            return at;
-        }
-        match self.instr(at) {
-            Instr::Close(_, next) => *next,
-            _ => at,
         }
     }
 

@@ -21,7 +21,6 @@ mod row;
 pub mod runner;
 pub mod search;
 pub mod slot;
-mod star;
 mod start;
 mod sweep;
 pub mod table;

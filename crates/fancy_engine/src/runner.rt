@@ -14,14 +14,13 @@ ghost use Rattle.fancy_engine.specs.declared.slot.Slot.{Slot};
 ghost use Rattle.fancy_engine.specs.Threads.{Thread, thread_of, begun_at, AreFresh};
 ghost use Rattle.fancy_engine.specs.Runner.{found_state, Stacked, Grown, Moved, Tested, AllWithin, Spends, Progresses};
 ghost use Rattle.fancy_engine.specs.Sweep.{AllPast, AreRising, SweepingIn, SweptIn};
-ghost use Rattle.fancy_engine.specs.Attempt.{context_in, instrs_in, stack_in, current_in, saved_in, threads_in, threads_left_in, bits_in, left_in, ahead_in, marks_in, KnownIn, AllFailedIn, FailedPastIn, first_accepted_in, SteppedIn, RunningIn, VisitedIn, LeftAlone};
+ghost use Rattle.fancy_engine.specs.Attempt.{context_in, instrs_in, stack_in, current_in, saved_in, threads_in, threads_left_in, bits_in, left_in, ahead_in, marks_in, KnownIn, AllFailedIn, FailedPastIn, first_accepted_in, SteppedIn, RunningIn, VisitedIn};
 
 use crate::choice::Choice;
 use crate::code::{Code, Instr};
 use crate::options::is_match_boundary;
 use crate::reading::{SuppressedEnds, holds_at, read_at};
 use crate::slot::Pair;
-use crate::star::go_along;
 use crate::sweep::follow_by_place;
 use crate::table::Table;
 use crate::threads::Threads;
@@ -236,7 +235,7 @@ fn step(
 }
 
 /// Whether a pair is to be followed: its instruction has no mark, or that was not made at this place. It is made then.
-pub(crate) fn is_new(attempt: &Attempt, pair: Pair, table: &mut Table) -> bool
+fn is_new(attempt: &Attempt, pair: Pair, table: &mut Table) -> bool
     requires here { pair.at < code_len attempt.now.code.now }
     requires low { attempt.now.base ≤ pair.place }
     requires high { pair.place ≤ attempt.now.last }
@@ -326,29 +325,6 @@ pub(crate) fn visit(
     }
 }
 
-/// Gives up the branches before the last one, where that ends in an outcome at once: none of them is asked for then. Returns whether
-/// it did.
-fn leave_last_alone(attempt: &Attempt, threads: &mut Threads) -> bool
-    ensures same { result ≡ false → threads.new ≡ threads.old }
-    ensures left { LeftAlone attempt.now threads.old threads.new }
-{
-    let Some(branch) = threads.last_branch() else {
-        return false;
-    };
-    let end = attempt.code.past_group_end(branch.at);
-    if end >= attempt.code.len() {
-        return false;
-    }
-    if !matches!(attempt.code.instr(end), Instr::Match) {
-        return false;
-    }
-    if !is_match_boundary(attempt.on_boundaries, attempt.haystack, branch.place) {
-        return false;
-    }
-    threads.keep_branch(branch);
-    true
-}
-
 /// The place of the first accepted outcome of one attempt, which begins at `start`; its slots then stand in `threads`. The
 /// table is kept from the attempts before: what they marked from the start's place on gives nothing. Where an outcome is
 /// found, what is marked past it gives nothing, whatever the groups, so that a later search can keep that. There are at most
@@ -396,15 +372,11 @@ pub fn follow(
 {
     let mut pair = start;
     'pairs: loop {
-        let before = pair.place;
         match visit(attempt, &mut pair, threads, table, last_lines, work)? {
             Next::On => {
-                go_along(attempt, before, &mut pair, table, work);
                 if threads.is_long() {
-                    if !leave_last_alone(attempt, threads) {
-                        let end = follow_by_place(attempt, pair, threads, table, last_lines, work)?;
-                        return Ok(end);
-                    }
+                    let end = follow_by_place(attempt, pair, threads, table, last_lines, work)?;
+                    return Ok(end);
                 }
             }
             Next::Dead => match threads.back(attempt.code, work) {

@@ -1,11 +1,11 @@
 //! The slots of the thread that a search follows, and the branches that it saved, over one list of slots.
 
-ghost use Rattle.std.specs.Prelude.{◌≡◌, ◌∷◌, ◌≤◌, ℕ, [], take, drop, replicate, reverse, OnOk, IfSome, vec_len, slice_index_or};
+ghost use Rattle.std.specs.Prelude.{◌≡◌, ◌≤◌, ℕ, [], take, drop, replicate, reverse, OnOk, IfSome, vec_len, slice_index_or};
 ghost use Rattle.fancy_engine.specs.Saved.{kept_of};
 ghost use Rattle.fancy_engine.specs.Code.{instrs_of};
 ghost use Rattle.fancy_engine.specs.Instructions.{Open, Close};
 ghost use Rattle.fancy_engine.specs.Run.{instr_at};
-ghost use Rattle.fancy_engine.specs.Threads.{BranchedLast, thread_of, undone, empty_slot, slots_past, with_group, other_way, slots_after, AreFresh, SavedWay, PassedInstr, TookWay, Backed};
+ghost use Rattle.fancy_engine.specs.Threads.{undone, empty_slot, slots_past, with_group, other_way, slots_after, AreFresh, SavedWay, PassedInstr, TookWay, Backed};
 
 use crate::code::{Code, Instr};
 use crate::slot::{EMPTY, Pair, Slot, Write};
@@ -304,25 +304,6 @@ impl Threads {
     /// Whether so much is kept that a search is to go on place by place.
     pub(crate) fn is_long(&self) -> bool {
         self.branches.len() >= MOST_KEPT || self.passed.len() >= MOST_KEPT
-    }
-
-    /// The branch that was saved last, if no pair was passed since one was saved.
-    pub(crate) fn last_branch(&self) -> Option<Pair>
-        ensures { IfSome result (λ pair. BranchedLast pair self.now) }
-    {
-        if !self.passed.is_empty() {
-            return None;
-        }
-        self.branches.last().copied()
-    }
-
-    /// Gives up all branches but this one, which was saved last.
-    pub(crate) fn keep_branch(&mut self, branch: Pair)
-        requires { BranchedLast branch self.old }
-        ensures { self.new ≡ record self.old { saved = thread_of branch self.old.slots ∷ [] } }
-    {
-        self.branches.truncate(1);
-        self.branches[0] = branch;
     }
 
     /// Gives up all that is kept.

@@ -6,8 +6,6 @@ use Rattle.fancy_engine.specs.Sweep.{AreRising}
 use Rattle.fancy_engine.specs.Work.{steps_of}
 use Rattle.fancy_engine.proofs.WorkLemmas.{one_return}
 use Rattle.fancy_engine.proofs.MarkingLemmas.{either_side}
-use Rattle.fancy_engine.proofs.AloneLemmas.{alone_running, alone_within, alone_rising, alone_fewer, alone_due}
-use Rattle.fancy_engine.proofs.StarLemmas.{along_within, along_rising}
 use Rattle.fancy_engine.proofs.SweepLemmas.{rising_next}
 use Rattle.fancy_engine.proofs.SweepsLemmas.{if_some}
 use Rattle.fancy_engine.proofs.RunnerLemmas.{rest_done, rest_back, within_lower}
@@ -16,53 +14,23 @@ use Rattle.fancy_engine.proofs.runner.follow.Goals as goal
 pub pairs-smaller-else-is_long : goal.pairs-smaller-else-is_long
 pairs-smaller-else-is_long c =
     let progress = rw c.in-On.is at c.in_ok-visit.ensures.progress in
-    omega (arith, c.go_along.ensures.spent, c.go_along.ensures.steps, progress.0, progress.1)
+    omega (arith, progress.0, progress.1)
 
 pub pairs-preserved-else-is_long : goal.pairs-preserved-else-is_long
 pairs-preserved-else-is_long c =
     let spent = rw c.in-On.is at c.in_ok-visit.ensures.spent in
     record {
-      running = λ kept deep known failed. c.go_along.ensures.running c.visit.new.threads c.args.start.place kept deep (first_accepted_in c.args.attempt.now kept deep (begun_at c.args.start c.args.threads.now.slots)) c.requires.low
-          (rw c.in-On.is at (c.in_ok-visit.ensures.visited c.args.start.place kept deep (first_accepted_in c.args.attempt.now kept deep (begun_at c.args.start c.args.threads.now.slots)) c.requires.low c.pairs.invariant.within (c.pairs.invariant.running kept deep known failed)));
-      within = along_within c.args.attempt.now c.visit.new.pair c.go_along.new.pair c.visit.new.threads c.go_along.ensures.forth c.args.start.place c.args.attempt.now.last c.go_along.ensures.within (c.in_ok-visit.ensures.within c.args.start.place c.pairs.invariant.within);
-      rising = along_rising c.args.attempt.now c.visit.new.pair c.go_along.new.pair c.visit.new.threads c.go_along.ensures.forth (rising_next (current_in c.args.attempt.now c.pairs.pair c.pairs.threads) (current_in c.args.attempt.now c.visit.new.pair c.visit.new.threads) (saved_in c.args.attempt.now c.pairs.threads) (saved_in c.args.attempt.now c.visit.new.threads) c.pairs.invariant.rising c.in_ok-visit.ensures.grown c.in_ok-visit.ensures.forth);
-      room = c.go_along.ensures.room ∙ c.visit.ensures.room ∙ c.pairs.invariant.room;
-      spent = omega (arith, c.go_along.ensures.spent, spent, c.pairs.invariant.spent);
-      steps = omega (arith, c.go_along.ensures.steps, c.visit.ensures.steps, c.pairs.invariant.steps);
-      returns = omega (arith, c.go_along.ensures.returns, c.go_along.ensures.steps, c.visit.ensures.returns, c.pairs.invariant.returns);
-      paired = omega (arith, c.go_along.ensures.returns, c.go_along.ensures.steps, c.visit.ensures.returns, c.visit.ensures.steps, c.pairs.invariant.steps, c.pairs.invariant.paired);
-      tally = λ few. omega (arith, c.go_along.ensures.returns, c.go_along.ensures.steps, c.visit.ensures.returns, c.visit.ensures.steps, c.in_ok-visit.ensures.tally (omega (arith, few, c.go_along.ensures.steps)), c.pairs.invariant.tally (omega (arith, few, c.go_along.ensures.steps, c.visit.ensures.steps)));
+      running = λ kept deep known failed. rw c.in-On.is at (c.in_ok-visit.ensures.visited c.args.start.place kept deep (first_accepted_in c.args.attempt.now kept deep (begun_at c.args.start c.args.threads.now.slots)) c.requires.low c.pairs.invariant.within (c.pairs.invariant.running kept deep known failed));
+      within = c.in_ok-visit.ensures.within c.args.start.place c.pairs.invariant.within;
+      rising = rising_next (current_in c.args.attempt.now c.pairs.pair c.pairs.threads) (current_in c.args.attempt.now c.visit.new.pair c.visit.new.threads) (saved_in c.args.attempt.now c.pairs.threads) (saved_in c.args.attempt.now c.visit.new.threads) c.pairs.invariant.rising c.in_ok-visit.ensures.grown c.in_ok-visit.ensures.forth;
+      room = c.visit.ensures.room ∙ c.pairs.invariant.room;
+      spent = omega (arith, spent, c.pairs.invariant.spent);
+      steps = omega (arith, c.visit.ensures.steps, c.pairs.invariant.steps);
+      returns = omega (arith, c.visit.ensures.returns, c.pairs.invariant.returns);
+      paired = omega (arith, c.visit.ensures.returns, c.visit.ensures.steps, c.pairs.invariant.steps, c.pairs.invariant.paired);
+      tally = λ few. omega (arith, c.visit.ensures.returns, c.visit.ensures.steps, c.in_ok-visit.ensures.tally few, c.pairs.invariant.tally (omega (arith, few, c.visit.ensures.steps)));
       last_lines = c.visit.ensures.last_lines;
     }
-
-pub pairs-preserved-else-not-leave_last_alone : goal.pairs-preserved-else-not-leave_last_alone
-pairs-preserved-else-not-leave_last_alone c =
-    let spent = rw c.in-On.is at c.in_ok-visit.ensures.spent in
-    let fewer = alone_fewer c.args.attempt.now c.requires.easy c.go_along.new.pair c.visit.new.threads c.leave_last_alone.new.threads c.leave_last_alone.ensures.left in
-    let due = alone_due c.args.attempt.now c.requires.easy c.go_along.new.pair c.visit.new.threads c.leave_last_alone.new.threads c.leave_last_alone.ensures.left in
-    record {
-      running = λ kept deep known failed.
-          alone_running c.args.attempt.now c.requires.easy c.go_along.new.pair c.visit.new.threads c.leave_last_alone.new.threads c.leave_last_alone.ensures.left c.args.start.place kept deep (first_accepted_in c.args.attempt.now kept deep (begun_at c.args.start c.args.threads.now.slots)) c.go_along.new.table
-          (c.go_along.ensures.running c.visit.new.threads c.args.start.place kept deep (first_accepted_in c.args.attempt.now kept deep (begun_at c.args.start c.args.threads.now.slots)) c.requires.low
-          (rw c.in-On.is at (c.in_ok-visit.ensures.visited c.args.start.place kept deep (first_accepted_in c.args.attempt.now kept deep (begun_at c.args.start c.args.threads.now.slots)) c.requires.low c.pairs.invariant.within (c.pairs.invariant.running kept deep known failed))));
-      within = alone_within c.args.attempt.now c.requires.easy c.go_along.new.pair c.visit.new.threads c.leave_last_alone.new.threads c.leave_last_alone.ensures.left c.args.start.place c.args.attempt.now.last (along_within c.args.attempt.now c.visit.new.pair c.go_along.new.pair c.visit.new.threads c.go_along.ensures.forth c.args.start.place c.args.attempt.now.last c.go_along.ensures.within (c.in_ok-visit.ensures.within c.args.start.place c.pairs.invariant.within));
-      rising = alone_rising c.args.attempt.now c.requires.easy c.go_along.new.pair c.visit.new.threads c.leave_last_alone.new.threads c.leave_last_alone.ensures.left
-          (along_rising c.args.attempt.now c.visit.new.pair c.go_along.new.pair c.visit.new.threads c.go_along.ensures.forth (rising_next (current_in c.args.attempt.now c.pairs.pair c.pairs.threads) (current_in c.args.attempt.now c.visit.new.pair c.visit.new.threads) (saved_in c.args.attempt.now c.pairs.threads) (saved_in c.args.attempt.now c.visit.new.threads) c.pairs.invariant.rising c.in_ok-visit.ensures.grown c.in_ok-visit.ensures.forth));
-      room = c.go_along.ensures.room ∙ c.visit.ensures.room ∙ c.pairs.invariant.room;
-      spent = omega (arith, due, c.go_along.ensures.spent, spent, c.pairs.invariant.spent);
-      steps = omega (arith, c.go_along.ensures.steps, c.visit.ensures.steps, c.pairs.invariant.steps);
-      returns = omega (arith, c.go_along.ensures.returns, c.go_along.ensures.steps, c.visit.ensures.returns, c.pairs.invariant.returns);
-      paired = omega (arith, c.go_along.ensures.returns, c.go_along.ensures.steps, c.visit.ensures.returns, c.visit.ensures.steps, c.pairs.invariant.steps, c.pairs.invariant.paired);
-      tally = λ few. omega (arith, fewer, c.go_along.ensures.returns, c.go_along.ensures.steps, c.visit.ensures.returns, c.visit.ensures.steps, c.in_ok-visit.ensures.tally (omega (arith, few, c.go_along.ensures.steps)), c.pairs.invariant.tally (omega (arith, few, c.go_along.ensures.steps, c.visit.ensures.steps)));
-      last_lines = c.visit.ensures.last_lines;
-    }
-
-pub pairs-smaller-else-not-leave_last_alone : goal.pairs-smaller-else-not-leave_last_alone
-pairs-smaller-else-not-leave_last_alone c =
-    let progress = rw c.in-On.is at c.in_ok-visit.ensures.progress in
-    let fewer = alone_fewer c.args.attempt.now c.requires.easy c.go_along.new.pair c.visit.new.threads c.leave_last_alone.new.threads c.leave_last_alone.ensures.left in
-    let due = alone_due c.args.attempt.now c.requires.easy c.go_along.new.pair c.visit.new.threads c.leave_last_alone.new.threads c.leave_last_alone.ensures.left in
-    omega (arith, fewer, due, c.go_along.ensures.spent, c.go_along.ensures.steps, progress.0, progress.1)
 
 pub returns-in-None-clause-answer : goal.returns-in-None-clause-answer
 returns-in-None-clause-answer c kept deep known failed =
@@ -135,42 +103,32 @@ returns-in-Found-clause-within c = (c.in_ok-visit.ensures.within c.args.start.pl
 
 pub follow_by_place-requires-clause-within : goal.follow_by_place-requires-clause-within
 follow_by_place-requires-clause-within c =
-    within_lower c.args.attempt.now.base c.args.start.place c.args.attempt.now.last (threads_in c.args.attempt.now c.go_along.new.pair c.leave_last_alone.new.threads) c.requires.low (alone_within c.args.attempt.now c.requires.easy c.go_along.new.pair c.visit.new.threads c.leave_last_alone.new.threads c.leave_last_alone.ensures.left c.args.start.place c.args.attempt.now.last (along_within c.args.attempt.now c.visit.new.pair c.go_along.new.pair c.visit.new.threads c.go_along.ensures.forth c.args.start.place c.args.attempt.now.last c.go_along.ensures.within (c.in_ok-visit.ensures.within c.args.start.place c.pairs.invariant.within)))
+    within_lower c.args.attempt.now.base c.args.start.place c.args.attempt.now.last (threads_in c.args.attempt.now c.visit.new.pair c.visit.new.threads) c.requires.low (c.in_ok-visit.ensures.within c.args.start.place c.pairs.invariant.within)
 
 pub follow_by_place-requires-clause-rising : goal.follow_by_place-requires-clause-rising
 follow_by_place-requires-clause-rising c =
-    alone_rising c.args.attempt.now c.requires.easy c.go_along.new.pair c.visit.new.threads c.leave_last_alone.new.threads c.leave_last_alone.ensures.left
-    (along_rising c.args.attempt.now c.visit.new.pair c.go_along.new.pair c.visit.new.threads c.go_along.ensures.forth (rising_next (current_in c.args.attempt.now c.pairs.pair c.pairs.threads) (current_in c.args.attempt.now c.visit.new.pair c.visit.new.threads) (saved_in c.args.attempt.now c.pairs.threads) (saved_in c.args.attempt.now c.visit.new.threads) c.pairs.invariant.rising c.in_ok-visit.ensures.grown c.in_ok-visit.ensures.forth))
+    rising_next (current_in c.args.attempt.now c.pairs.pair c.pairs.threads) (current_in c.args.attempt.now c.visit.new.pair c.visit.new.threads) (saved_in c.args.attempt.now c.pairs.threads) (saved_in c.args.attempt.now c.visit.new.threads) c.pairs.invariant.rising c.in_ok-visit.ensures.grown c.in_ok-visit.ensures.forth
 
-pub returns-then-not-leave_last_alone-clause-answer : goal.returns-then-not-leave_last_alone-clause-answer
-returns-then-not-leave_last_alone-clause-answer c kept deep known failed =
-    c.in_ok-end-in-On.ensures.answer c.args.start.place kept deep (first_accepted_in c.args.attempt.now kept deep (begun_at c.args.start c.args.threads.now.slots)) c.requires.low (alone_within c.args.attempt.now c.requires.easy c.go_along.new.pair c.visit.new.threads c.leave_last_alone.new.threads c.leave_last_alone.ensures.left c.args.start.place c.args.attempt.now.last (along_within c.args.attempt.now c.visit.new.pair c.go_along.new.pair c.visit.new.threads c.go_along.ensures.forth c.args.start.place c.args.attempt.now.last c.go_along.ensures.within (c.in_ok-visit.ensures.within c.args.start.place c.pairs.invariant.within)))
-    (alone_running c.args.attempt.now c.requires.easy c.go_along.new.pair c.visit.new.threads c.leave_last_alone.new.threads c.leave_last_alone.ensures.left c.args.start.place kept deep (first_accepted_in c.args.attempt.now kept deep (begun_at c.args.start c.args.threads.now.slots)) c.go_along.new.table
-    (c.go_along.ensures.running c.visit.new.threads c.args.start.place kept deep (first_accepted_in c.args.attempt.now kept deep (begun_at c.args.start c.args.threads.now.slots)) c.requires.low
-    (rw c.in-On.is at (c.in_ok-visit.ensures.visited c.args.start.place kept deep (first_accepted_in c.args.attempt.now kept deep (begun_at c.args.start c.args.threads.now.slots)) c.requires.low c.pairs.invariant.within (c.pairs.invariant.running kept deep known failed)))))
+pub returns-then-is_long-clause-answer : goal.returns-then-is_long-clause-answer
+returns-then-is_long-clause-answer c kept deep known failed =
+    c.in_ok-end-in-On.ensures.answer c.args.start.place kept deep (first_accepted_in c.args.attempt.now kept deep (begun_at c.args.start c.args.threads.now.slots)) c.requires.low (c.in_ok-visit.ensures.within c.args.start.place c.pairs.invariant.within)
+    (rw c.in-On.is at (c.in_ok-visit.ensures.visited c.args.start.place kept deep (first_accepted_in c.args.attempt.now kept deep (begun_at c.args.start c.args.threads.now.slots)) c.requires.low c.pairs.invariant.within (c.pairs.invariant.running kept deep known failed)))
 
-pub returns-then-not-leave_last_alone-clause-failed : goal.returns-then-not-leave_last_alone-clause-failed
-returns-then-not-leave_last_alone-clause-failed c kept deep known failed =
-    c.in_ok-end-in-On.ensures.failed c.args.start.place kept deep (first_accepted_in c.args.attempt.now kept deep (begun_at c.args.start c.args.threads.now.slots)) c.requires.low (alone_within c.args.attempt.now c.requires.easy c.go_along.new.pair c.visit.new.threads c.leave_last_alone.new.threads c.leave_last_alone.ensures.left c.args.start.place c.args.attempt.now.last (along_within c.args.attempt.now c.visit.new.pair c.go_along.new.pair c.visit.new.threads c.go_along.ensures.forth c.args.start.place c.args.attempt.now.last c.go_along.ensures.within (c.in_ok-visit.ensures.within c.args.start.place c.pairs.invariant.within)))
-    (alone_running c.args.attempt.now c.requires.easy c.go_along.new.pair c.visit.new.threads c.leave_last_alone.new.threads c.leave_last_alone.ensures.left c.args.start.place kept deep (first_accepted_in c.args.attempt.now kept deep (begun_at c.args.start c.args.threads.now.slots)) c.go_along.new.table
-    (c.go_along.ensures.running c.visit.new.threads c.args.start.place kept deep (first_accepted_in c.args.attempt.now kept deep (begun_at c.args.start c.args.threads.now.slots)) c.requires.low
-    (rw c.in-On.is at (c.in_ok-visit.ensures.visited c.args.start.place kept deep (first_accepted_in c.args.attempt.now kept deep (begun_at c.args.start c.args.threads.now.slots)) c.requires.low c.pairs.invariant.within (c.pairs.invariant.running kept deep known failed)))))
+pub returns-then-is_long-clause-failed : goal.returns-then-is_long-clause-failed
+returns-then-is_long-clause-failed c kept deep known failed =
+    c.in_ok-end-in-On.ensures.failed c.args.start.place kept deep (first_accepted_in c.args.attempt.now kept deep (begun_at c.args.start c.args.threads.now.slots)) c.requires.low (c.in_ok-visit.ensures.within c.args.start.place c.pairs.invariant.within)
+    (rw c.in-On.is at (c.in_ok-visit.ensures.visited c.args.start.place kept deep (first_accepted_in c.args.attempt.now kept deep (begun_at c.args.start c.args.threads.now.slots)) c.requires.low c.pairs.invariant.within (c.pairs.invariant.running kept deep known failed)))
 
-pub returns-then-not-leave_last_alone-clause-past : goal.returns-then-not-leave_last_alone-clause-past
-returns-then-not-leave_last_alone-clause-past c =
+pub returns-then-is_long-clause-past : goal.returns-then-is_long-clause-past
+returns-then-is_long-clause-past c =
     if_some c.in_ok-end-in-On.end (λ (stop : ℕ). (kept deep : ℕ) → KnownIn c.args.attempt.now kept deep (begun_at c.args.start c.args.threads.now.slots)
     → AllFailedIn c.args.attempt.now c.args.start.place deep c.args.table.now → FailedPastIn c.args.attempt.now c.args.start.place deep stop c.follow_by_place.new.table)
     (λ stop is kept deep known failed.
-    c.in_ok-end-in-On.ensures.past stop is c.args.start.place kept deep (first_accepted_in c.args.attempt.now kept deep (begun_at c.args.start c.args.threads.now.slots)) c.requires.low (alone_within c.args.attempt.now c.requires.easy c.go_along.new.pair c.visit.new.threads c.leave_last_alone.new.threads c.leave_last_alone.ensures.left c.args.start.place c.args.attempt.now.last (along_within c.args.attempt.now c.visit.new.pair c.go_along.new.pair c.visit.new.threads c.go_along.ensures.forth c.args.start.place c.args.attempt.now.last c.go_along.ensures.within (c.in_ok-visit.ensures.within c.args.start.place c.pairs.invariant.within)))
-    (alone_running c.args.attempt.now c.requires.easy c.go_along.new.pair c.visit.new.threads c.leave_last_alone.new.threads c.leave_last_alone.ensures.left c.args.start.place kept deep (first_accepted_in c.args.attempt.now kept deep (begun_at c.args.start c.args.threads.now.slots)) c.go_along.new.table
-    (c.go_along.ensures.running c.visit.new.threads c.args.start.place kept deep (first_accepted_in c.args.attempt.now kept deep (begun_at c.args.start c.args.threads.now.slots)) c.requires.low
-    (rw c.in-On.is at (c.in_ok-visit.ensures.visited c.args.start.place kept deep (first_accepted_in c.args.attempt.now kept deep (begun_at c.args.start c.args.threads.now.slots)) c.requires.low c.pairs.invariant.within (c.pairs.invariant.running kept deep known failed))))))
+    c.in_ok-end-in-On.ensures.past stop is c.args.start.place kept deep (first_accepted_in c.args.attempt.now kept deep (begun_at c.args.start c.args.threads.now.slots)) c.requires.low (c.in_ok-visit.ensures.within c.args.start.place c.pairs.invariant.within)
+    (rw c.in-On.is at (c.in_ok-visit.ensures.visited c.args.start.place kept deep (first_accepted_in c.args.attempt.now kept deep (begun_at c.args.start c.args.threads.now.slots)) c.requires.low c.pairs.invariant.within (c.pairs.invariant.running kept deep known failed))))
 
-pub returns-then-not-leave_last_alone-clause-forth : goal.returns-then-not-leave_last_alone-clause-forth
-returns-then-not-leave_last_alone-clause-forth c = if_some c.in_ok-end-in-On.end (λ (stop : ℕ). c.args.start.place ≤ stop) (λ stop is. c.in_ok-end-in-On.ensures.forth stop is c.args.start.place (alone_within c.args.attempt.now c.requires.easy c.go_along.new.pair c.visit.new.threads c.leave_last_alone.new.threads c.leave_last_alone.ensures.left c.args.start.place c.args.attempt.now.last (along_within c.args.attempt.now c.visit.new.pair c.go_along.new.pair c.visit.new.threads c.go_along.ensures.forth c.args.start.place c.args.attempt.now.last c.go_along.ensures.within (c.in_ok-visit.ensures.within c.args.start.place c.pairs.invariant.within))))
+pub returns-then-is_long-clause-forth : goal.returns-then-is_long-clause-forth
+returns-then-is_long-clause-forth c = if_some c.in_ok-end-in-On.end (λ (stop : ℕ). c.args.start.place ≤ stop) (λ stop is. c.in_ok-end-in-On.ensures.forth stop is c.args.start.place (c.in_ok-visit.ensures.within c.args.start.place c.pairs.invariant.within))
 
-pub returns-then-not-leave_last_alone-clause-within : goal.returns-then-not-leave_last_alone-clause-within
-returns-then-not-leave_last_alone-clause-within c = if_some c.in_ok-end-in-On.end (λ (stop : ℕ). stop ≤ c.args.attempt.now.last) (λ stop is. c.in_ok-end-in-On.ensures.within stop is)
-
-pub go_along-requires-clause-high : goal.go_along-requires-clause-high
-go_along-requires-clause-high c = (c.in_ok-visit.ensures.within c.args.start.place c.pairs.invariant.within).1
+pub returns-then-is_long-clause-within : goal.returns-then-is_long-clause-within
+returns-then-is_long-clause-within c = if_some c.in_ok-end-in-On.end (λ (stop : ℕ). stop ≤ c.args.attempt.now.last) (λ stop is. c.in_ok-end-in-On.ensures.within stop is)
