@@ -28,11 +28,9 @@ use Rattle.fancy_tree.specs.Text.{Text}
 use Rattle.fancy_tree.specs.Names.{named_groups}
 use Rattle.fancy_tree.specs.Refers.{number_in}
 use Rattle.fancy_syntax.specs.References.{Target, numbered, missing, called, called_or_numbered, ReferenceFault, by_name_alone, no_number, no_name, Groups, target_fault, group_for}
+use Rattle.fancy_syntax.specs.Flags.{flags_of}
 use Rattle.fancy_syntax.specs.Dialect.{Flags, Scope, DialectOptions, has_name, Lexeme, IsMeant, followed_by}
 use Rattle.fancy_syntax.specs.Grammar.{Place, start, Opening, setting, plain, capture, marked, reference, chooses, condition, parentheses, opening_here, Opens, LettersRead, RepeatBounds, BranchesReading, PartsReading}
-
-abbrev pub flags_of : Found_flags → Flags
-flags_of f = record { ignore_case = f.ignore_case; multi_line = f.multi_line; dot_all = f.dot_all; ignore_blanks = f.ignore_blanks; crlf = f.crlf }
 
 abbrev pub letters_of : FlagReader → LettersRead
 letters_of l = record { flags = flags_of l.flags; on = l.on; some = l.some }

@@ -3,7 +3,7 @@
 ghost use Rattle.std.specs.Prelude.{◌≡◌, option_map};
 ghost use Rattle.fancy_syntax.specs.Dialect.{anchor_of, place_test, start_mark, is_escapable, must_be_escaped, is_one_item, ends_line};
 ghost use Rattle.fancy_tree.specs.Pattern.{pattern_of};
-ghost use Rattle.fancy_syntax.specs.Views.{flags_of};
+ghost use Rattle.fancy_syntax.specs.Flags.{flags_of};
 
 use crate::flags::Flags;
 use fancy_tree::error::ParseErrorKind;

@@ -3,7 +3,8 @@
 ghost use Rattle.std.specs.Prelude.{◌≡◌, ◌≤◌, IfSome, option_map, length};
 ghost use Rattle.fancy_syntax.specs.Dialect.{with_flag};
 ghost use Rattle.fancy_syntax.specs.Grammar.{next_letter, flags_in, first_letter};
-ghost use Rattle.fancy_syntax.specs.Views.{flags_of, flags_read};
+ghost use Rattle.fancy_syntax.specs.Views.{flags_read};
+ghost use Rattle.fancy_syntax.specs.Flags.{flags_of};
 
 use fancy_tree::tree::Meaning;
 

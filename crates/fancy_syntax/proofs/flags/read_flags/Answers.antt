@@ -1,6 +1,7 @@
 use Rattle.std.proofs.Common.{Option, Some, sym, ap, ◌∙◌}
 use Rattle.std.specs.Option.{option_map}
-use Rattle.fancy_syntax.specs.Views.{letters_of, flags_of}
+use Rattle.fancy_syntax.specs.Views.{letters_of}
+use Rattle.fancy_syntax.specs.Flags.{flags_of}
 use Rattle.fancy_tree.specs.Text.{Text}
 use Rattle.fancy_syntax.specs.Dialect.{Flags}
 use Rattle.fancy_syntax.proofs.FlagLemmas.{stops_here, stops_early, no_letter_here, letter_here, no_end_here, all_the_rest}

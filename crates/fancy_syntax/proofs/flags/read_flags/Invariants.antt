@@ -1,6 +1,7 @@
 use Rattle.std.proofs.Common.{◌≡◌, drop}
 use Rattle.fancy_syntax.specs.Grammar.{flags_in, first_letter}
-use Rattle.fancy_syntax.specs.Views.{flags_of, letters_of}
+use Rattle.fancy_syntax.specs.Views.{letters_of}
+use Rattle.fancy_syntax.specs.Flags.{flags_of}
 use Rattle.fancy_syntax.proofs.flags.read_flags.Given as goal
 
 abbrev pub invariant-loop-i : goal.invariant-loop-i
