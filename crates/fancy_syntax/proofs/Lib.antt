@@ -6,6 +6,7 @@ pub mod ResolveLemmas
 pub mod CountLemmas
 pub mod BlankLemmas
 pub mod FlagLemmas
+pub mod ConditionLemmas
 pub mod SpellingLemmas
 pub mod UniqueLemmas
 pub mod UnnamedLemmas

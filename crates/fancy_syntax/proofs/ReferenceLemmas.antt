@@ -9,7 +9,7 @@ use Rattle.fancy_syntax.specs.Counts.{is_at_digit, past_digits, decimal}
 use Rattle.fancy_syntax.specs.Blanks.{past_blank}
 use Rattle.fancy_tree.specs.Names.{name_here, past_name}
 use Rattle.fancy_tree.specs.Limits.{largest_told}
-use Rattle.fancy_syntax.specs.References.{Target, back, number_reference, distance_reference, name_reference, delimited_target, read_reference, begins_reference, number_condition, name_condition, group_condition}
+use Rattle.fancy_syntax.specs.References.{Target, back, number_reference, distance_reference, name_reference, delimited_target, read_reference, begins_reference}
 use Rattle.fancy_syntax.specs.Dialect.{Scope, lexeme, ReadsAtom, by_lexeme, by_class}
 use Rattle.fancy_syntax.specs.Grammar.{ends_branch}
 use Rattle.fancy_tree.proofs.Facts.{some_pair, some_is_none, true_is_false, chosen, char_is, both_true, left_of}
@@ -65,30 +65,6 @@ ends_reference opened t h =
         ]
       ]
     ]
-
-pub ends_condition : (t : Text) {w : Target} {u : Text} → group_condition t ≡ Some (w, u) → Ends t u
-ends_condition t h =
-    elim (chosen (is_at "<" t) _ _ _ h) [
-      | inl y ↦ ends_then (ends_drop 1 t) (by_name 62 (drop 1 t) y.1)
-      | inr y ↦ elim (chosen (is_at "'" t) _ _ _ y.1) [
-        | inl z ↦ ends_then (ends_drop 1 t) (by_name 39 (drop 1 t) z.1)
-        | inr z ↦ by_number z.1
-      ]
-    ]
-  where
-    by_name : (c : ℕ) (t : Text) {w : Target} {u : Text} → name_condition c t ≡ Some (w, u) → Ends t u
-    by_name c t h =
-        elim (chosen ((length (name_here t) == 0) || not (is_at_any (c ∷ []) (past_name t) && is_at ")" (drop 1 (past_name t)))) _ _ _ h) [
-          | inl y ↦ absurd (some_is_none (sym y.1))
-          | inr y ↦ ends_at (ends_then (ends_drop (length (name_here t)) t) (ends_drop 2 (past_name t))) (some_pair y.1).1
-        ]
-
-    by_number : {w : Target} {u : Text} → number_condition t ≡ Some (w, u) → Ends t u
-    by_number h =
-        elim (chosen (is_at_digit t && is_at ")" (past_digits t)) _ _ _ h) [
-          | inl y ↦ ends_at (ends_then (ends_digits t) (ends_drop 1 (past_digits t))) (some_pair y.1).1
-          | inr y ↦ absurd (some_is_none (sym y.1))
-        ]
 
 -- ---- where a reference may begin, nothing else does
 any_more : (p : ℕ → Bool) (xs ys : List ℕ) → list_any p xs ≡ true → list_any p (xs ++ ys) ≡ true

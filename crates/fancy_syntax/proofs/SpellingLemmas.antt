@@ -17,12 +17,13 @@ use Rattle.fancy_tree.specs.Names.{is_name_character, is_name, name_here, past_n
 use Rattle.fancy_syntax.specs.References as references
 use Rattle.fancy_syntax.specs.References.{Target, called, group_condition, is_left_out}
 use Rattle.fancy_syntax.specs.Dialect as d
-use Rattle.fancy_syntax.specs.Dialect.{Flags, Scope, in_force, Setting, one_more_group, one_more_name, NameMark, name_mark, name_mark_after_p, GroupMark, mark_atomic, mark_ahead, mark_not_ahead, mark_behind, mark_not_behind, inside, wants, test_here, back_to, ReadsAtom, begins_quantifier, Quantifier, optional, asterisk, plus, exactly, at_least, between, at_most, Quantifies, greedily, lazily, possessively, Blanks, IsUnquantified, with_part}
+use Rattle.fancy_syntax.specs.Dialect.{Flags, Scope, in_force, Setting, one_more_group, one_more_name, NameMark, name_mark, name_mark_after_p, GroupMark, mark_atomic, mark_ahead, mark_not_ahead, mark_behind, mark_not_behind, inside, wants, test_here, Condition, TestsNoGroup, back_to, ReadsAtom, begins_quantifier, Quantifier, optional, asterisk, plus, exactly, at_least, between, at_most, Quantifies, greedily, lazily, possessively, Blanks, IsUnquantified, with_part}
 use Rattle.fancy_syntax.specs.Grammar as g
 use Rattle.fancy_syntax.specs.Grammar.{Place, place_past, past_blanks, after_blanks, RepeatBounds, bounds_in, past_count, are_bounds, opening_here, opens_group, parentheses, wrap, after_group, ends_branch, start}
 use Rattle.fancy_tree.proofs.Facts.{some_pair, some_is_none, chosen, same_some, char_is, either_no, both_true, left_of}
 use Rattle.fancy_syntax.proofs.ParserLemmas.{referred}
-use Rattle.fancy_syntax.proofs.ReferenceLemmas.{ends_reference, ends_condition, reference_begins, no_paren_begun, no_end_begun, no_blank_begun}
+use Rattle.fancy_syntax.proofs.ReferenceLemmas.{ends_reference, reference_begins, no_paren_begun, no_end_begun, no_blank_begun}
+use Rattle.fancy_syntax.proofs.ConditionLemmas.{condition_is_read, condition_is_spelled, tests_no_group, none_is_read}
 use Rattle.fancy_syntax.proofs.AtomLemmas.{ends_atom, no_paren, no_end}
 use Rattle.fancy_syntax.proofs.FlagLemmas.{setting_is_read, no_colon_first, no_angle_first, no_p_first, no_mark_first, no_parenthesis_first, no_hash_first, setting_spelled}
 use Rattle.fancy_tree.proofs.NameLemmas.{no_closing, no_parenthesis, no_equals_sign, no_exclamation_mark, other_character, name_is_read, past_read, name_is_some, row_is_name, row_then_rest}
@@ -299,11 +300,11 @@ mutual
   read_atom {s = s} {t = t} {after = after} (d.reference h) f = g.single (no_paren_begun (t ++ after) (reference_begins s.opened (t ++ after) h)) (g.refers h) f
   read_atom {s = s} {after = after} (d.reference_by_name n h) f = rw (append_assoc n (41 ∷ []) after) (g.refers_by_name refl (g.at_once (reference_opens s n after h) refl (one_parenthesis _)) f)
   read_atom {s = s} {after = after} (d.tested {k = k} {t = t} c h b) f =
-      rw (append_assoc c (t ++ 41 ∷ []) after, append_assoc t (41 ∷ []) after)
-      (g.grouped refl (g.at_once (test_opens s (c ++ (t ++ 41 ∷ after)) h) refl (two_parentheses k)) refl (read_branches b refl refl) refl f)
+      rw (append_assoc c (41 ∷ (t ++ 41 ∷ [])) after, append_assoc t (41 ∷ []) after)
+      (g.grouped refl (g.at_once (test_opens s (c ++ 41 ∷ (t ++ 41 ∷ after)) (condition_is_read h (t ++ 41 ∷ after))) refl (two_parentheses k)) refl (read_branches b refl refl) refl f)
   read_atom {s = s} {after = after} (d.decided {t = t} c h f a b) x =
       rw (append_assoc c (41 ∷ (t ++ 41 ∷ [])) after, append_assoc t (41 ∷ []) after)
-      (g.grouped refl (g.after_condition (condition_opens s (c ++ 41 ∷ (t ++ 41 ∷ after)) h f) (read_branches a refl refl) refl) refl (read_branches b refl refl) refl x)
+      (g.grouped refl (g.after_condition (condition_opens s (c ++ 41 ∷ (t ++ 41 ∷ after)) (none_is_read (c ++ 41 ∷ (t ++ 41 ∷ after)) h) f) (read_branches a refl refl) refl) refl (read_branches b refl refl) refl x)
 
 not_true : (b : Bool) → not b ≡ true → b ≡ false
 not_true true h = cc
@@ -332,7 +333,7 @@ pub data Opened (p : Place) : g.Opening → Place → Type 0 where
   as_unnamed : (u : Text) → p.scope.unnamed_capture ≡ false → p.text ≡ 40 ∷ u → is_at "?*" u ≡ false → Opened p g.plain (start p.scope u)
   as_marked : (m u : Text) (how : Grouping) → GroupMark m how → p.text ≡ 40 ∷ (m ++ u) → Opened p (g.marked how) (start (inside how p.scope) u)
   as_reference : (n u : Text) → is_name n ≡ true → p.text ≡ codes "(?P=" ++ (n ++ 41 ∷ u) → Opened p (g.reference p.scope.flags.ignore_case (length p.scope.wanted)) (start (wants (called n) p.scope) u)
-  as_test : (c u : Text) (w : Target) → group_condition (c ++ u) ≡ Some (w, u) → p.text ≡ codes "(?(" ++ (c ++ u) → Opened p (g.chooses (test_here p.scope)) (start (wants w p.scope) u)
+  as_test : (c u : Text) (w : Target) → Condition c w → p.text ≡ codes "(?(" ++ (c ++ 41 ∷ u) → Opened p (g.chooses (test_here p.scope)) (start (wants w p.scope) u)
   as_condition : (u : Text) → group_condition u ≡ None → is_left_out u ≡ false → p.text ≡ codes "(?(" ++ u → Opened p g.condition (start p.scope u)
 
 is_opened : {p : Place} {how : g.Opening} {q : Place} {a : g.Opening} {b : Place} → ◌≡◌ {A = Option (g.Opening × Place)} (Some (a, b)) (Some (how, q)) → Opened p a b → Opened p how q
@@ -381,8 +382,8 @@ conditional_opened p how q t is h = by_condition (group_condition t) refl h
           | inr x ↦ is_opened x.1 (as_condition t e x.0 is)
         ]
     by_condition (Some (w, u)) e f =
-        let r = ends_condition t e in
-        is_opened f (as_test r.front u w (ap group_condition (sym r.is) ∙ e) (is ∙ ap (λ v. 40 ∷ 63 ∷ 40 ∷ v) r.is))
+        let r = condition_is_spelled t e in
+        is_opened f (as_test r.condition u w r.tests (is ∙ ap (λ v. 40 ∷ 63 ∷ 40 ∷ v) r.is))
 
 -- a mark that is read is spelled
 record MarkRead (t : Text) (how : Grouping) (n : ℕ) : Type 0 where
@@ -642,7 +643,7 @@ at_most_opened e (g.after_condition o b c) n = absurd (false_is_true (sym n))
 -- the place of a condition
 record IsCondition (p inside : Place) : Type 0 where
   is : p.text ≡ codes "(?(" ++ inside.text
-  untested : group_condition inside.text ≡ None
+  untested : TestsNoGroup inside.text
   kept : is_left_out inside.text ≡ false
   there : inside.scope ≡ p.scope
 
@@ -656,11 +657,11 @@ condition_of (as_unnamed u c e f) h = absurd (false_is_true (ap g.asks h))
 condition_of (as_marked m u how l e) h = absurd (false_is_true (ap g.asks h))
 condition_of (as_reference n u l e) h = absurd (false_is_true (ap g.asks h))
 condition_of (as_test c u w l e) h = absurd (false_is_true (ap g.asks h))
-condition_of (as_condition u n l e) h = record { is = e; untested = n; kept = l; there = refl }
+condition_of (as_condition u n l e) h = record { is = e; untested = tests_no_group u n; kept = l; there = refl }
 
 -- a conditional has room for two parentheses
-spell_test : {t after : Text} {bs : List Pattern} {q : Scope} (k : ℕ) (s : Scope) (c : Text) (w : Target) → group_condition (c ++ (t ++ 41 ∷ after)) ≡ Some (w, t ++ 41 ∷ after) → 2 ≤ suc k
-    → d.Branches k (wants w s) t (41 ∷ after) bs q → d.Atom (suc k) s (codes "(?(" ++ (c ++ (t ++ codes ")"))) after (d.conditional_of (test_here s) bs) (back_to s q)
+spell_test : {t after : Text} {bs : List Pattern} {q : Scope} (k : ℕ) (s : Scope) (c : Text) (w : Target) → Condition c w → 2 ≤ suc k
+    → d.Branches k (wants w s) t (41 ∷ after) bs q → d.Atom (suc k) s (codes "(?(" ++ (c ++ 41 ∷ (t ++ codes ")"))) after (d.conditional_of (test_here s) bs) (back_to s q)
 spell_test zero s c w h fits b = absurd (omega (arith, fits))
 spell_test (suc k) s c w h fits b = d.tested c h b
 
@@ -668,9 +669,9 @@ spell_test (suc k) s c w h fits b = d.tested c h b
 spell_group : {k : ℕ} {p inside : Place} {how : g.Opening} {t after : Text} {bs : List Pattern} {s : Scope} → parentheses how ≤ suc k → Opened p how inside → opens_group how ≡ true → inside.text ≡ t ++ 41 ∷ after
     → d.Branches k inside.scope t (41 ∷ after) bs s → (w : Text) × (p.text ≡ w ++ after) × d.Atom (suc k) p.scope w after (wrap how bs) (back_to p.scope s)
 spell_group {k} {p} {t = t} {after = after} fits (as_test c u w l e) n i b = (
-  codes "(?(" ++ (c ++ (t ++ codes ")")),
-  e ∙ (ap (λ x. codes "(?(" ++ (c ++ x)) (i ∙ sym (append_assoc t (41 ∷ []) after)) ∙ ap (λ x. codes "(?(" ++ x) (sym (append_assoc c (t ++ 41 ∷ []) after))),
-  spell_test k p.scope c w (subst (λ x. group_condition (c ++ x) ≡ Some (w, x)) i l) fits b,
+  codes "(?(" ++ (c ++ (codes ")" ++ (t ++ codes ")"))),
+  e ∙ (ap (λ x. codes "(?(" ++ (c ++ 41 ∷ x)) (i ∙ sym (append_assoc t (41 ∷ []) after)) ∙ ap (λ x. codes "(?(" ++ x) (sym (append_assoc c (41 ∷ (t ++ 41 ∷ [])) after))),
+  spell_test k p.scope c w l fits b,
 )
 spell_group {t = t} {after = after} fits (as_plain u e) n i b = (codes "(?:" ++ (t ++ codes ")"), e ∙ ap (λ l. codes "(?:" ++ l) (i ∙ sym (append_assoc t (41 ∷ []) after)), d.plain b)
 spell_group {t = t} {after = after} fits (as_flagged v u f e l) n i b = (
@@ -704,7 +705,7 @@ spell_condition : {p inside : Place} {c t after : Text} {cs bs : List Pattern} {
 spell_condition {p} {inside} {c} {t} {after} {cs} {bs} {r} {s} i x is a b = (
   codes "(?(" ++ (c ++ (codes ")" ++ (t ++ codes ")"))),
   x.is ∙ ap (λ v. codes "(?(" ++ v) (is ∙ (ap (λ v. c ++ 41 ∷ v) (sym (append_assoc t (41 ∷ []) after)) ∙ sym (append_assoc c (41 ∷ (t ++ 41 ∷ [])) after))),
-  d.decided c (ap group_condition (sym is) ∙ x.untested) (ap is_left_out (sym is) ∙ x.kept) (subst (λ z. d.Branches i z c (41 ∷ (t ++ 41 ∷ after)) cs r) x.there a) b,
+  d.decided c (subst TestsNoGroup is x.untested) (ap is_left_out (sym is) ∙ x.kept) (subst (λ z. d.Branches i z c (41 ∷ (t ++ 41 ∷ after)) cs r) x.there a) b,
 )
 
 mutual

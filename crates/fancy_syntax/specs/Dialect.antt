@@ -28,7 +28,7 @@ use Rattle.fancy_class.specs.EscapeGrammar.{is_mark, control_of, set_letter, esc
 use Rattle.fancy_class.specs.ClassGrammar.{ReadsEdges, is_ascii_meaning, may_negate, item_members, property}
 use Rattle.fancy_tree.specs.Names.{is_name}
 use Rattle.fancy_syntax.specs.References as references
-use Rattle.fancy_syntax.specs.References.{Target, called, ReferenceFault, Groups, group_condition, is_left_out, group_for}
+use Rattle.fancy_syntax.specs.References.{Target, called, within_largest, ReferenceFault, Groups, is_left_out, group_for}
 use Rattle.fancy_tree.specs.Refers.{number_in, refers_to}
 
 -- the flags `i m s x R`
@@ -331,6 +331,20 @@ pub data GroupMark : Text → Grouping → Type 0 where
   mark_behind : GroupMark (codes "?<=") (LookBehind false)
   mark_not_behind : GroupMark (codes "?<!") (LookBehind true)
 
+-- This text, between the parentheses of a condition, tests a group: its number, or its name in `<>` or quotes.
+pub data Condition : Text → Target → Type 0 where
+  group_number : (n : Text) → is_at_digit n ≡ true → are_digits n ≡ true → Condition n (within_largest (decimal n))
+  group_name : (n : Text) → is_name n ≡ true → Condition (codes "<" ++ (n ++ codes ">")) (called n)
+  quoted_name : (n : Text) → is_name n ≡ true → Condition (codes "'" ++ (n ++ codes "'")) (called n)
+
+-- no test of a group stands here, with a parenthesis after it
+abbrev pub TestsNoGroup : Text → Type 0
+TestsNoGroup text = (c after : Text) (w : Target) → text ≡ c ++ (codes ")" ++ after) → ¬ Condition c w
+
+-- what follows a condition: its parenthesis, the branches, and the conditional's own
+abbrev pub past_condition : Text → Text → Text
+past_condition t after = codes ")" ++ (t ++ (codes ")" ++ after))
+
 -- an item gives a sequence one part, or none
 abbrev pub with_part : Option Pattern → List Pattern → List Pattern
 with_part None ps = ps
@@ -378,11 +392,11 @@ mutual
     marked : {k : ℕ} {s q : Scope} {m t after : Text} {how : Grouping} {bs : List Pattern} → GroupMark m how → Branches k (inside how s) t (codes ")" ++ after) bs q
         → Atom (suc k) s (codes "(" ++ (m ++ (t ++ codes ")"))) after (group_of how (in_branches bs)) (back_to s q)
     -- a conditional that tests a group; two parentheses are open in its condition, and one in its body
-    tested : {k : ℕ} {s q : Scope} {t after : Text} {w : Target} {bs : List Pattern} (c : Text) → group_condition (c ++ (t ++ (codes ")" ++ after))) ≡ Some (w, t ++ (codes ")" ++ after))
-        → Branches (suc k) (wants w s) t (codes ")" ++ after) bs q → Atom (suc (suc k)) s (codes "(?(" ++ (c ++ (t ++ codes ")"))) after (conditional_of (test_here s) bs) (back_to s q)
+    tested : {k : ℕ} {s q : Scope} {t after : Text} {w : Target} {bs : List Pattern} (c : Text) → Condition c w → Branches (suc k) (wants w s) t (codes ")" ++ after) bs q
+        → Atom (suc (suc k)) s (codes "(?(" ++ (c ++ (codes ")" ++ (t ++ codes ")")))) after (conditional_of (test_here s) bs) (back_to s q)
     -- a conditional whose condition is a pattern; flags that are set in the condition end with it
-    decided : {k : ℕ} {s r q : Scope} {t after : Text} {cs bs : List Pattern} (c : Text) → group_condition (c ++ (codes ")" ++ (t ++ (codes ")" ++ after)))) ≡ None
-        → is_left_out (c ++ (codes ")" ++ (t ++ (codes ")" ++ after)))) ≡ false → Branches k s c (codes ")" ++ (t ++ (codes ")" ++ after))) cs r → Branches (suc k) (back_to s r) t (codes ")" ++ after) bs q
+    decided : {k : ℕ} {s r q : Scope} {t after : Text} {cs bs : List Pattern} (c : Text) → TestsNoGroup (c ++ past_condition t after) → is_left_out (c ++ past_condition t after) ≡ false
+        → Branches k s c (past_condition t after) cs r → Branches (suc k) (back_to s r) t (codes ")" ++ after) bs q
         → Atom (suc (suc k)) s (codes "(?(" ++ (c ++ (codes ")" ++ (t ++ codes ")")))) after (conditional_of (in_branches cs) bs) (back_to s q)
     -- references may name groups that are opened only after them
     reference : {k : ℕ} {s : Scope} {t after : Text} {w : Target} → references.read_reference s.opened (t ++ after) ≡ Some (w, after) → Atom k s t after (reference_here s) (wants w s)
