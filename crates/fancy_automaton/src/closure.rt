@@ -2,7 +2,8 @@
 
 ghost use Rattle.std.specs.Prelude.{◌≡◌, ◌+◌, ◌*◌, ◌<◌, ◌≤◌, [], ◌∷◌, ℕ, Option, None, Bool, false, true, ◌⊎◌, length, reverse, replicate, slice_index_or, IfOk, option_map};
 ghost use Rattle.std.specs.Option.{option_or};
-ghost use Rattle.fancy_engine.specs.Code.{instrs_of, code_len};
+ghost use Rattle.fancy_engine.specs.Code.{instrs_of};
+ghost use Rattle.fancy_engine.specs.CodeLength.{code_len};
 ghost use Rattle.fancy_engine.specs.Work.{steps_of, returns_of};
 ghost use Rattle.fancy_engine.specs.Reading.{unit_read};
 ghost use Rattle.fancy_automaton.specs.Ways.{Ends, Solves, Closing, AllKnown, Visited, marked, first_end, match_end};

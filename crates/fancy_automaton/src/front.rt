@@ -2,7 +2,7 @@
 
 ghost use Rattle.std.specs.Prelude.{◌≡◌, ◌+◌, ◌<◌, ◌≤◌, ℕ, true, [], Some, OnOk, IfOk, IfSome, is_some, length, option_map};
 ghost use Rattle.fancy_engine.specs.Attempt.{context_in, instrs_in, may_end_in};
-ghost use Rattle.fancy_engine.specs.Code.{code_len};
+ghost use Rattle.fancy_engine.specs.CodeLength.{code_len};
 ghost use Rattle.fancy_engine.specs.Reading.{unit_read};
 ghost use Rattle.fancy_engine.specs.Seen.{MayStart};
 ghost use Rattle.fancy_engine.specs.Work.{steps_of, returns_of};

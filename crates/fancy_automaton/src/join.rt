@@ -4,7 +4,7 @@
 //! does not count; else the ways that it leads to are put after those of the others, but for each that was met before.
 
 ghost use Rattle.std.specs.Prelude.{◌≡◌, ◌+◌, ◌≤◌, [], ◌∷◌, ◌++◌, ℕ, List, Option, false, IfOk, OnOk, map, length};
-ghost use Rattle.fancy_engine.specs.Code.{code_len};
+ghost use Rattle.fancy_engine.specs.CodeLength.{code_len};
 ghost use Rattle.fancy_engine.specs.Context.{Unit_at};
 ghost use Rattle.fancy_engine.specs.Instructions.{Instruction};
 ghost use Rattle.fancy_automaton.specs.Steps.{IsStep, at_of};

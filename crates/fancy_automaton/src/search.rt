@@ -4,7 +4,8 @@ ghost use Rattle.std.specs.Prelude.{◌≡◌, ◌+◌, ◌-◌, ◌*◌, ◌≤
 ghost use Rattle.fancy_tree.specs.Pattern.{Pattern};
 ghost use Rattle.fancy_input.specs.Requests.{effective_start};
 ghost use Rattle.fancy_engine.specs.Attempt.{instrs_in};
-ghost use Rattle.fancy_engine.specs.Code.{instrs_of, code_len};
+ghost use Rattle.fancy_engine.specs.Code.{instrs_of};
+ghost use Rattle.fancy_engine.specs.CodeLength.{code_len};
 ghost use Rattle.fancy_engine.specs.Compile.{IsCodeOf};
 ghost use Rattle.fancy_engine.specs.Queries.{query_of, unfiltered, answer_with, most_steps};
 ghost use Rattle.fancy_engine.specs.Search.{search};

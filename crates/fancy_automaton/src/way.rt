@@ -1,7 +1,8 @@
 //! The ways that are followed at one place, and what their instructions do there.
 
 ghost use Rattle.std.specs.Prelude.{◌≡◌, ◌+◌, ◌<◌, ◌≤◌, ℕ, option_map};
-ghost use Rattle.fancy_engine.specs.Code.{instrs_of, instr_in, code_len, sets_len};
+ghost use Rattle.fancy_engine.specs.Code.{instrs_of, instr_in, sets_len};
+ghost use Rattle.fancy_engine.specs.CodeLength.{code_len};
 ghost use Rattle.fancy_engine.specs.Run.{instr_at};
 ghost use Rattle.fancy_engine.specs.Work.{steps_of, returns_of};
 ghost use Rattle.fancy_engine.specs.Reading.{unit_read};

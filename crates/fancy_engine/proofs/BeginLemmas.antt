@@ -16,7 +16,7 @@ use Rattle.fancy_engine.proofs.EventLemmas.{EachOutcome-bind, EachOutcome-guarde
 use Rattle.fancy_engine.proofs.ForwardLemmas.{EachOutcome_imp, LeadsOn-by_kind}
 use Rattle.fancy_bytes.specs.Items.{only, first_of_items}
 use Rattle.fancy_bytes.specs.Firsts.{nullable, first_bytes, has_no_turn}
-use Rattle.fancy_engine.specs.Seen.{SeesBefore, BeginsBy}
+use Rattle.fancy_engine.specs.Stands.{SeesBefore, BeginsBy}
 use Rattle.fancy_bytes.proofs.BoolLemmas.{first_holds, second_holds, both_hold, parts_of, not_both}
 use Rattle.fancy_engine.proofs.Past.{item_beyond, byte_beyond, recall_beyond}
 use Rattle.fancy_engine.proofs.SeenLemmas.{past_item-has, item_begins, past_byte-here, backreference-past}

@@ -10,7 +10,8 @@ use Rattle.fancy_tree.specs.Pattern.{Pattern, in_sequence, in_choice, pattern_of
 use Rattle.fancy_tree.proofs.PatternLemmas.{pattern-Concat, pattern-Alternation}
 use Rattle.fancy_engine.specs.Instructions.{Instruction}
 use Rattle.fancy_engine.specs.Instructions as i
-use Rattle.fancy_engine.specs.Compile.{is_easy, all_easy, is_easy_instr, are_easy, StaysEasy, IsEasyInstr, AreEasy, split_of}
+use Rattle.fancy_engine.specs.Compile.{is_easy_instr, are_easy, StaysEasy, IsEasyInstr, AreEasy, split_of}
+use Rattle.fancy_engine.specs.Easy.{is_easy, all_easy}
 
 true_is_false : false ≡ true → ⊥
 true_is_false h = cc

@@ -5,10 +5,17 @@ use Rattle.std.proofs.lemmas.Bool.{and_parts, ltb-true, lt-ltb}
 use Rattle.std.proofs.lemmas.List.{length-map, get_or-map, get_or_append_left, map-append, map-set, length-append}
 use Rattle.std.proofs.Math.Seq.{get_or-append_seam}
 use Rattle.fancy_tree.specs.declared.char_set.CharSet.{CharSet}
+use Rattle.fancy_engine.specs.declared.code.Code.{Code}
 use Rattle.fancy_engine.specs.declared.code.Instr.{Instr}
 use Rattle.fancy_engine.specs.declared.code.Instr.TheVariants as coded
+use Rattle.fancy_engine.specs.Code.{instrs_of}
+use Rattle.fancy_engine.specs.CodeLength.{code_len}
 use Rattle.fancy_engine.specs.Instructions.{Instruction, Member, edges_in, edges_at, with_set, with_sets, is_known, are_known}
 use Rattle.fancy_engine.specs.Run.{instr_at}
+
+-- an instruction has one place, whether its set stands in it or not
+pub length-instrs_of : (c : Code) → length (instrs_of c) ≡ code_len c
+length-instrs_of c = length-map c.instrs.items (with_set c.sets.items)
 
 both : (a b : Bool) → a ≡ true → b ≡ true → (a && b) ≡ true
 both true b e f = f
@@ -135,12 +142,11 @@ known_at n (i ∷ code) zero d h k = (and_parts (is_known n i) (are_known n code
 known_at n (i ∷ code) (suc at) d h k = known_at n code at d (omega arith) (and_parts (is_known n i) (are_known n code) k).1
 
 -- the set of an instruction that was read is there
-pub set_is_there : (sets : List CharSet) (code : List Instr) (at : ℕ) (j : Instr) → at < length (with_sets sets code) → j ≡ get_or code at j → are_known (length sets) code ≡ true
+pub set_is_there : (sets : List CharSet) (code : List Instr) (at : ℕ) (j : Instr) → at < length code → j ≡ get_or code at j → are_known (length sets) code ≡ true
     → (number next : ℕ) → j ≡ coded.Member number next → number < length sets
 set_is_there sets code at j h e k number next is =
-    let within : at < length code = omega (arith, h, length-map code (with_set sets)) in
     ltb-true number (length sets)
-    (subst (λ (i : Instr). is_known (length sets) i ≡ true) (sym e ∙ is) (known_at (length sets) code at j within k))
+    (subst (λ (i : Instr). is_known (length sets) i ≡ true) (sym e ∙ is) (known_at (length sets) code at j h k))
 
 -- the edges of a set that was read
 pub edges_read : (sets : List CharSet) (n : ℕ) (s : CharSet) → n < length sets → s ≡ get_or sets n s → edges_in s ≡ edges_at sets n

@@ -9,18 +9,20 @@ use Rattle.fancy_input.specs.Requests.{effective_start}
 use Rattle.fancy_input.specs.declared.input.Request.{Request}
 use Rattle.fancy_engine.specs.Instructions.{Instruction}
 use Rattle.fancy_engine.specs.Context.{Context}
-use Rattle.fancy_engine.specs.Marking.{Marks}
+use Rattle.fancy_engine.specs.Marking.{Marks, worth_in, sum_to, left_in}
 use Rattle.fancy_engine.specs.declared.code.Code.{Code}
 use Rattle.fancy_engine.specs.declared.options.SearchOptions.{SearchOptions}
 use Rattle.fancy_engine.specs.declared.reading.SuppressedEnds.{SuppressedEnds}
 use Rattle.fancy_engine.specs.declared.search.Cache.{Cache}
-use Rattle.fancy_engine.specs.Code.{instrs_of, code_len, width_of, due_of, worth_of, left_of}
+use Rattle.fancy_engine.specs.Code.{instrs_of, width_of, due_of, worth_of, left_of}
+use Rattle.fancy_engine.specs.CodeLength.{code_len}
 use Rattle.fancy_engine.specs.Compile.{IsCodeOf, depth}
 use Rattle.fancy_engine.specs.Queries.{most_steps}
 use Rattle.fancy_engine.specs.Reading.{search_context, suppressed_ends}
 use Rattle.fancy_engine.specs.Runner.{AllFailed, FailedPast}
 use Rattle.fancy_engine.specs.Search.{is_match_boundary}
 use Rattle.fancy_engine.specs.KeptTable.{table_in, marks_from, table_base, IsKept, steps_ahead, steps_before}
+use Rattle.fancy_engine.proofs.InstructionLemmas.{length-instrs_of}
 use Rattle.fancy_engine.proofs.MarkingLemmas.{first_ticks, times_le}
 
 -- what has failed from a place on has failed from a later one on
@@ -77,7 +79,8 @@ module _ (code : Code) (haystack : List ℕ) (request : Request) (options : Sear
       })
 
   worth_paid : worth_of code + due_of code code.start ≤ code_len code
-  worth_paid = code.paid.total
+  worth_paid =
+      subst (λ (n : ℕ). sum_to (worth_in code.marking.numbers.items code.marking.weights.items) n + due_of code code.start ≤ n) (length-instrs_of code) code.paid.total
 
   -- no more steps are ahead of a table that begins at the first position than a search alone takes
   pub ahead_first : (kept : Option ℕ) (new : List Bool) (n : ℕ) → base ≡ unwrap_or kept first → first ≤ request.range_end → n ≤ request.range_end + 1 - first
@@ -85,7 +88,10 @@ module _ (code : Code) (haystack : List ℕ) (request : Request) (options : Sear
   ahead_first kept new n is within few none =
       let same : base ≡ first = is ∙ ap (λ (o : Option ℕ). unwrap_or o first) none in
       let rows_are : request.range_end - base + 1 ≡ request.range_end + 1 - effective_start request = omega (arith, same, begins, within) in
-      let ticks = first_ticks (instrs_of code) code.marking.numbers.items code.marking.weights.items code.marking.width code.start (request.range_end - base + 1) n new code.paid (omega (arith, same, few, within)) in
+      let ticks : left_of code (request.range_end - base + 1) new + n * due_of code code.start ≤ (request.range_end - base + 1) * code_len code =
+      subst (λ (k : ℕ). left_in code.marking.numbers.items code.marking.weights.items code.marking.width k (request.range_end - base + 1) new + n * due_of code code.start ≤ (request.range_end - base + 1) * k)
+      (length-instrs_of code)
+      (first_ticks (instrs_of code) code.marking.numbers.items code.marking.weights.items code.marking.width code.start (request.range_end - base + 1) n new code.paid (omega (arith, same, few, within))) in
       subst (λ (k : ℕ). left_of code (request.range_end - base + 1) new + n * due_of code code.start ≤ code_len code * k) rows_are (swapped (request.range_end - base + 1) (code_len code) _ ticks) where
         swapped : (rows count all : ℕ) → all ≤ rows * count → all ≤ count * rows
         swapped rows count all h = omega arith

@@ -12,7 +12,7 @@ use Rattle.fancy_engine.proofs.EventLemmas.{EachOutcome-bind, EachOutcome-guarde
 use Rattle.fancy_engine.proofs.ForwardLemmas.{LeadsOn-by_kind}
 use Rattle.fancy_bytes.specs.Items.{only}
 use Rattle.fancy_bytes.specs.Required.{required_bytes}
-use Rattle.fancy_engine.specs.Seen.{Stands}
+use Rattle.fancy_engine.specs.Stands.{Stands}
 use Rattle.fancy_bytes.proofs.BoolLemmas.{either_of, parts_of, not_both}
 use Rattle.fancy_engine.proofs.SeenLemmas.{past_item-has, item_stands, one_stands, all_stand, only_one, past_byte-here}
 use Rattle.fancy_engine.proofs.BeginLemmas.{moved}

@@ -15,7 +15,7 @@ use Rattle.fancy_engine.specs.Context.{Context, State, Unit_at, one_character, o
 use Rattle.fancy_engine.specs.Backreference.{captured_text, past_text, past_letters, shares_folding, past_characters, past_folded, past_span, past_backreference}
 use Rattle.fancy_input.proofs.CharacterLemmas.{is_scalar-scalar, char_at-bytes, char_at-past, bytes_begin}
 use Rattle.fancy_bytes.specs.Items.{codes, encoding, starts_with_byte, includes, first_of_characters, first_of_items, one_member, is_item, is_in_one, is_in_all, only}
-use Rattle.fancy_engine.specs.Seen.{SeesByte, Stands}
+use Rattle.fancy_engine.specs.Stands.{SeesByte, Stands}
 use Rattle.fancy_bytes.proofs.BoolLemmas.{parts_of, both_hold, either_of, some_below_from}
 use Rattle.fancy_bytes.proofs.ItemLemmas.{scalar_below}
 use Rattle.fancy_bytes.proofs.EdgeLemmas.{all_have}

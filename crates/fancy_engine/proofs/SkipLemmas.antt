@@ -9,7 +9,8 @@ use Rattle.fancy_bytes.specs.Firsts.{nullable, first_bytes, AreStartBytes}
 use Rattle.fancy_bytes.specs.Sets.{ByteFlags, member}
 use Rattle.fancy_bytes.proofs.BoolLemmas.{parts_of}
 use Rattle.fancy_bytes.specs.Required.{required_bytes}
-use Rattle.fancy_engine.specs.Seen.{SeesBefore, Stands, NoneSeen, MayStart, MayNotStart, NoneMayStart}
+use Rattle.fancy_engine.specs.Seen.{MayStart, MayNotStart, NoneMayStart}
+use Rattle.fancy_engine.specs.Stands.{SeesBefore, Stands, NoneSeen}
 use Rattle.fancy_engine.proofs.BeginLemmas.{attempt_begins, accepted_holds}
 use Rattle.fancy_engine.proofs.RequireLemmas.{trace_requires}
 

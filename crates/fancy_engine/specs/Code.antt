@@ -2,6 +2,7 @@
 use Rattle.std.specs.Prelude.{ℕ, ◌+◌, Bool, List, [], ◌∷◌, Option, length, slice_index_or}
 use Rattle.fancy_engine.specs.declared.code.Code.{Code}
 use Rattle.fancy_engine.specs.declared.code.Instr.{Instr}
+use Rattle.fancy_engine.specs.CodeLength.{code_len}
 use Rattle.fancy_engine.specs.Instructions.{Instruction, edges_at, with_set, with_sets}
 use Rattle.fancy_engine.specs.Marking.{Marks, number_in, due_in, worth_in, cost_in, sum_to, marks, left_in}
 use Rattle.fancy_engine.specs.Threads.{Thread}
@@ -9,9 +10,6 @@ use Rattle.fancy_engine.specs.Threads.{Thread}
 -- each with the edges of its set
 abbrev pub instrs_of : Code → List Instruction
 instrs_of c = with_sets c.sets.items c.instrs.items
-
-abbrev pub code_len : Code → ℕ
-code_len c = length (instrs_of c)
 
 -- one instruction with the edges of its set
 abbrev pub instr_in : Code → Instr → Instruction

@@ -17,39 +17,6 @@ use Rattle.fancy_engine.specs.Branches.{AreBranches}
 use Rattle.fancy_engine.specs.Foretold.{AreForetold, IsAnchored}
 use Rattle.fancy_engine.specs.Run.{instr_at}
 
--- a repeat of this kind can go back to another number of turns
-abbrev pub goes_back : RepeatKind → Bool
-goes_back Greedy = true
-goes_back Lazy = true
-goes_back Possessive = false
-
--- the patterns whose code never reads what it has captured, and ends no way early
-abbrev pub is_easy : Pattern → Bool
-is_easy empty = true
-is_easy (character c) = true
-is_easy (member_of edges) = true
-is_easy (in_any_case edges) = true
-is_easy (raw_byte byte) = true
-is_easy (backreference folded number) = false
-is_easy (assertion a) = true
-is_easy (group_test number) = false
-is_easy keep_start = false
-is_easy continue_here = false
-is_easy (group index body) = is_easy body
-is_easy (repeat low high kind body) = goes_back kind && is_easy body
-is_easy (look_ahead negated body) = false
-is_easy (look_behind negated body) = false
-is_easy (atomic body) = false
-is_easy (conditional condition first second) = false
-is_easy (followed part rest) = is_easy part && is_easy rest
-is_easy (or_else branch others) = is_easy branch && is_easy others
-is_easy (last_branch branch) = is_easy branch
-
--- each of these patterns is easy
-abbrev pub all_easy : List Pattern → Bool
-all_easy [] = true
-all_easy (p ∷ ps) = is_easy p && all_easy ps
-
 -- the instruction stands at q
 abbrev pub Has : List Instruction → ℕ → Instruction → Type 0
 Has code q i = slice_get code q ≡ Some i

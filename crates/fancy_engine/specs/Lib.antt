@@ -7,6 +7,7 @@ pub mod Literals
 pub mod Work
 pub mod Instructions
 pub mod Marking
+pub mod CodeLength
 pub mod Code
 pub mod Emitted
 pub mod Run
@@ -25,10 +26,12 @@ pub mod Sweeps
 pub mod Queries
 pub mod Branches
 pub mod Foretold
+pub mod Easy
 pub mod Compile
 pub mod KeptTable
 pub mod Answers
 pub mod Forward
+pub mod Stands
 pub mod Seen
 pub mod Tried
 pub mod Placed

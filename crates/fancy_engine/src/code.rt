@@ -127,7 +127,8 @@ pub struct Code {
 impl Code {
     ghost use Rattle.std.specs.Prelude.{IfSome};
     ghost use Rattle.fancy_engine.specs.Choices.{LeavesOut};
-    ghost use Rattle.fancy_engine.specs.Code.{instrs_of, code_len, instr_in, sets_len, set_edges, due_of, number_of, width_of};
+    ghost use Rattle.fancy_engine.specs.Code.{instrs_of, instr_in, sets_len, set_edges, due_of, number_of, width_of};
+    ghost use Rattle.fancy_engine.specs.CodeLength.{code_len};
     ghost use Rattle.fancy_engine.specs.Instructions.{Split};
     ghost use Rattle.fancy_engine.specs.Run.{instr_at};
     ghost use Rattle.fancy_engine.specs.Work.{stepped_within};

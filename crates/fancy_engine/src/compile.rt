@@ -4,11 +4,13 @@ ghost use Rattle.std.specs.Prelude.{◌≡◌, ℕ, List, ◌+◌, ◌*◌, ◌^
 ghost use Rattle.fancy_tree.specs.Pattern.{pattern_of, group, repeat, look_ahead, look_behind, atomic, in_sequence, in_choice};
 ghost use Rattle.fancy_tree.specs.declared.tree.RepeatKind.TheVariants.{Possessive};
 ghost use Rattle.fancy_tree.specs.Sizes.{nodes, repeat_nodes, kind_nodes};
-ghost use Rattle.fancy_engine.specs.Code.{code_len, instrs_of};
+ghost use Rattle.fancy_engine.specs.Code.{instrs_of};
+ghost use Rattle.fancy_engine.specs.CodeLength.{code_len};
 ghost use Rattle.fancy_engine.specs.Instructions.{with_set, is_known};
 ghost use Rattle.fancy_engine.specs.Emitted.{emitted, len_of};
 ghost use Rattle.fancy_tree.specs.GroupNumbers.{Numbered};
-ghost use Rattle.fancy_engine.specs.Compile.{Keeps, Emitted, CopiesEmitted, OptionalsEmitted, StarEmitted, RestEmitted, RepeatEmitted, TestEmitted, BackEmitted, BehindEmitted, IsCodeOf, StaysEasy, goes_back, is_easy, are_easy, split_of, look_of};
+ghost use Rattle.fancy_engine.specs.Compile.{Keeps, Emitted, CopiesEmitted, OptionalsEmitted, StarEmitted, RestEmitted, RepeatEmitted, TestEmitted, BackEmitted, BehindEmitted, IsCodeOf, StaysEasy, are_easy, split_of, look_of};
+ghost use Rattle.fancy_engine.specs.Easy.{goes_back, is_easy};
 
 use crate::choosing::with_choices;
 use crate::classify::is_easy;

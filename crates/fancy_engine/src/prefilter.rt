@@ -4,7 +4,8 @@ ghost use Rattle.std.specs.Prelude.{◌≡◌, ◌==◌, ◌&&◌, ◌⊎◌, no
 ghost use Rattle.fancy_tree.specs.Pattern.{Pattern};
 ghost use Rattle.fancy_tree.specs.Sets.{has};
 ghost use Rattle.fancy_bytes.specs.Sets.{AddsBytes, member};
-ghost use Rattle.fancy_engine.specs.Code.{instrs_of, code_len};
+ghost use Rattle.fancy_engine.specs.Code.{instrs_of};
+ghost use Rattle.fancy_engine.specs.CodeLength.{code_len};
 ghost use Rattle.fancy_engine.specs.Compile.{IsCodeOf};
 ghost use Rattle.fancy_engine.specs.Foretold.{AreBytesOf, AreForetold, Foretold, HasFrom, IsAnchored, Wider};
 ghost use Rattle.fancy_engine.specs.Instructions.{edges_in};

@@ -3,7 +3,8 @@
 ghost use Rattle.std.specs.Prelude.{◌≡◌, ◌+◌, ◌-◌, ◌^◌, ◌<◌, ◌≤◌, ◌≢◌, ◌⊎◌, [], ◌∷◌, ◌++◌, ℕ, List, Option, Some, None, Bool, true, false, length, IfOk, IfSome, ◌==◌};
 ghost use Rattle.fancy_tree.specs.Sets.{has};
 ghost use Rattle.fancy_engine.specs.Context.{State, past_item, past_byte, holds};
-ghost use Rattle.fancy_engine.specs.Code.{code_len, weight_of, due_of, cost_of, marks_of, burden};
+ghost use Rattle.fancy_engine.specs.Code.{weight_of, due_of, cost_of, marks_of, burden};
+ghost use Rattle.fancy_engine.specs.CodeLength.{code_len};
 ghost use Rattle.fancy_engine.specs.Instructions.{edges_in};
 ghost use Rattle.fancy_engine.specs.Run.{instr_at};
 ghost use Rattle.fancy_engine.specs.Compile.{IsEasyInstr, AreEasy};

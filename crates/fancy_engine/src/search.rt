@@ -2,7 +2,8 @@
 
 ghost use Rattle.std.specs.Prelude.{◌≡◌, ◌+◌, ◌-◌, ◌^◌, ◌<◌, ◌≤◌, ℕ, Bool, true, false, [], Some, None, length, replicate, slice_index_or, IfOk, IfErr, IfSome, OnOk};
 ghost use Rattle.fancy_tree.specs.Pattern.{Pattern};
-ghost use Rattle.fancy_engine.specs.Code.{instrs_of, code_len, worth_of};
+ghost use Rattle.fancy_engine.specs.Code.{instrs_of, worth_of};
+ghost use Rattle.fancy_engine.specs.CodeLength.{code_len};
 ghost use Rattle.fancy_engine.specs.Attempt.{bits_in, left_in, AllFailedIn};
 ghost use Rattle.fancy_engine.specs.KeptTable.{IsKept, table_in, table_base, steps_ahead, steps_before};
 ghost use Rattle.fancy_engine.specs.Compile.{IsCodeOf, AreEasy};

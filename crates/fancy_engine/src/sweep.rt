@@ -2,7 +2,8 @@
 
 ghost use Rattle.std.specs.Prelude.{◌≡◌, ◌+◌, ◌-◌, ◌*◌, ◌^◌, ◌<◌, ◌≤◌, ◌⊎◌, ◌≢◌, ◌++◌, ◌∷◌, [], ℕ, List, Option, Some, None, true, false, length, reverse, IfOk, IfSome};
 ghost use Rattle.fancy_engine.specs.Context.{State};
-ghost use Rattle.fancy_engine.specs.Code.{code_len, due_of, burden, instrs_of};
+ghost use Rattle.fancy_engine.specs.Code.{due_of, burden, instrs_of};
+ghost use Rattle.fancy_engine.specs.CodeLength.{code_len};
 ghost use Rattle.fancy_engine.specs.Compile.{AreEasy};
 ghost use Rattle.fancy_engine.specs.Work.{steps_of, returns_of};
 ghost use Rattle.fancy_input.specs.LastLines.{KnowsLastLines};

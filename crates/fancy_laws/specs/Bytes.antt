@@ -8,7 +8,7 @@ use Rattle.fancy_engine.specs.Trace.{trace}
 use Rattle.fancy_engine.specs.Forward.{EachOutcome}
 use Rattle.fancy_engine.specs.Search.{Query, search, answer_from}
 use Rattle.fancy_engine.specs.Answers.{HasAccepted}
-use Rattle.fancy_engine.specs.Seen.{SeesBefore, Stands, NoneSeen, BeginsBy}
+use Rattle.fancy_engine.specs.Stands.{SeesBefore, Stands, NoneSeen, BeginsBy}
 
 -- An outcome stands where the pattern began only if the pattern is nullable, or else one of its first bytes is there, before the limit.
 abbrev pub OutcomesBegin : Type 0

@@ -1,5 +1,6 @@
 use Rattle.std.proofs.Common.{◌+◌, ◌∙◌, [], arith, map, option_map, refl, sym}
-use Rattle.fancy_engine.specs.Code.{instrs_of, code_len}
+use Rattle.fancy_engine.specs.Code.{instrs_of}
+use Rattle.fancy_engine.specs.CodeLength.{code_len}
 use Rattle.fancy_engine.specs.Reading.{unit_read}
 use Rattle.fancy_engine.specs.Work.{steps_of}
 use Rattle.fancy_automaton.specs.Steps.{at_of}

@@ -1,5 +1,6 @@
 use Rattle.std.proofs.Common.{ℕ, ◌≡◌, ◌+◌, ◌-◌, ◌*◌, ◌<◌, ◌≤◌, ◌^◌, Bool, None, [], length, reverse, option_map}
-use Rattle.fancy_engine.specs.Code.{instrs_of, code_len}
+use Rattle.fancy_engine.specs.Code.{instrs_of}
+use Rattle.fancy_engine.specs.CodeLength.{code_len}
 use Rattle.fancy_engine.specs.Work.{steps_of, returns_of}
 use Rattle.fancy_engine.specs.Reading.{unit_read}
 use Rattle.fancy_automaton.specs.Ways.{Ends, Solves, Closing, AllKnown, marked, first_end}

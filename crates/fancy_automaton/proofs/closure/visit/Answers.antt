@@ -2,6 +2,7 @@ use Rattle.std.proofs.Common.{◌∙◌, refl, sym, ap, subst, option_map}
 use Rattle.fancy_engine.specs.Code.{instrs_of}
 use Rattle.fancy_engine.specs.Run.{instr_at}
 use Rattle.fancy_engine.specs.Reading.{unit_read}
+use Rattle.fancy_engine.proofs.InstructionLemmas.{length-instrs_of}
 use Rattle.fancy_engine.proofs.RunnerSteps.{past_end}
 use Rattle.fancy_automaton.specs.declared.way.Way.{Way}
 use Rattle.fancy_automaton.specs.declared.way.Effect.{Effect}
@@ -12,7 +13,7 @@ use Rattle.fancy_automaton.proofs.closure.visit.Goals as goal
 pub returns-then-way-len-clause-visited : goal.returns-then-way-len-clause-visited
 returns-then-way-len-clause-visited c here ends later known beyond rank goal solves closing =
     close_dead ends later known beyond rank goal _ _ _ _ c.args.way closing (adds_none ends later known beyond rank c.args.marks.now c.args.way.at)
-    (subst (λ (k : Effect). Obeys ends later known beyond rank k here c.args.way.at) (ap (effect_of (option_map unit_read c.args.reading)) (past_end (instrs_of c.args.code.now) c.args.way.at (rw c.len.ensures at c.if-way-len.true))) (solves c.args.way.at closing.all.0))
+    (subst (λ (k : Effect). Obeys ends later known beyond rank k here c.args.way.at) (ap (effect_of (option_map unit_read c.args.reading)) (past_end (instrs_of c.args.code.now) c.args.way.at (rw (c.len.ensures ∙ sym (length-instrs_of c.args.code.now)) at c.if-way-len.true))) (solves c.args.way.at closing.all.0))
 
 pub returns-in_ok-push-in-Reads-clause-visited : goal.returns-in_ok-push-in-Reads-clause-visited
 returns-in_ok-push-in-Reads-clause-visited c here ends later known beyond rank goal solves closing =

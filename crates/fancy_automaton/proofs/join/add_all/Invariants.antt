@@ -1,5 +1,4 @@
 use Rattle.std.proofs.Common.{◌≡◌, ◌+◌, ◌≤◌, ◌++◌, List, length, take}
-use Rattle.fancy_engine.specs.Code.{code_len}
 use Rattle.fancy_automaton.specs.declared.way.Way.{Way}
 use Rattle.fancy_automaton.specs.Joins.{Thinned}
 use Rattle.fancy_automaton.proofs.join.add_all.Given as goal

@@ -1,13 +1,12 @@
-use Rattle.std.proofs.Common.{◌+◌, ◌∙◌, [], List, ap, arith, option_map, refl}
-use Rattle.fancy_automaton.specs.declared.cells.Cell.{Cell}
+use Rattle.std.proofs.Common.{◌+◌, ◌∙◌, [], ap, arith, option_map, refl}
 use Rattle.fancy_automaton.specs.Search.{ends_in}
-use Rattle.fancy_automaton.specs.Trail.{found_in_trail}
-use Rattle.fancy_engine.specs.Code.{code_len}
+use Rattle.fancy_engine.specs.CodeLength.{code_len}
 use Rattle.fancy_engine.specs.Work.{steps_of}
 use Rattle.fancy_automaton.proofs.CellLemmas.{row_ways, row_within}
 use Rattle.fancy_engine.proofs.SkipLemmas.{starts_somewhere}
 use Rattle.fancy_automaton.proofs.FrontLemmas.{front_first}
-use Rattle.fancy_automaton.proofs.GoingLemmas.{going_end, steps_more, steps_up}
+use Rattle.fancy_automaton.proofs.GoingLemmas.{going_end, going_over, steps_more, steps_up}
+use Rattle.fancy_automaton.proofs.TrailLemmas.{some_found}
 use Rattle.fancy_automaton.proofs.search.find_span.Goals as goal
 
 pub places-init : goal.places-init
@@ -25,6 +24,13 @@ places-init c = record {
 
 pub is_over-requires : goal.is_over-requires
 is_over-requires c = record { row = row_within c.places.cells.rows.lists.items c.places.front.next _ c.places.invariant.front.waits }
+
+pub returns-then-is_over-clause-answer : goal.returns-then-is_over-clause-answer
+returns-then-is_over-clause-answer c deep begun =
+    ap (option_map ends_in) c.end.ensures.found
+    ∙ going_over c.args.attempt.now _ _ _ c.places.place c.places.place deep (c.is_over.ensures.over c.if-is_over.true)
+    (some_found c.places.cells.cells.items c.places.front.trail.base.items c.places.front.trail.visits.items c.places.front.hit (c.is_over.ensures.found c.if-is_over.true))
+    begun c.places.invariant.front.going
 
 pub returns-then-is_over-clause-bounded : goal.returns-then-is_over-clause-bounded
 returns-then-is_over-clause-bounded c =

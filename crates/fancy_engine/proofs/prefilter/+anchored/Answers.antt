@@ -2,11 +2,12 @@ use Rattle.std.proofs.Common.{sym, ap, ◌∙◌, arith, inl, inr}
 use Rattle.fancy_tree.specs.declared.tree.Assertion.{Assertion}
 use Rattle.fancy_engine.specs.Code.{instrs_of, instr_in}
 use Rattle.fancy_engine.specs.Instructions as i
+use Rattle.fancy_engine.proofs.InstructionLemmas.{length-instrs_of}
 use Rattle.fancy_engine.proofs.ForetoldLemmas.{anchored_nowhere, anchored_start, anchored_assert, anchored_open, anchored_close, anchored_split}
 use Rattle.fancy_engine.proofs.prefilter.+anchored.Goals as goal
 
 pub returns-then-at-len : goal.returns-then-at-len
-returns-then-at-len t c e = anchored_nowhere (instrs_of c.args.code.now) c.args.at (omega (arith, c.if-at-len.true, c.len.ensures))
+returns-then-at-len t c e = anchored_nowhere (instrs_of c.args.code.now) c.args.at (omega (arith, c.if-at-len.true, c.len.ensures, length-instrs_of c.args.code.now))
 
 pub returns-then-is_anchored : goal.returns-then-is_anchored
 returns-then-is_anchored t c e =

@@ -4,6 +4,7 @@ use Rattle.fancy_bytes.specs.Sets.{ByteFlags}
 use Rattle.fancy_engine.specs.Code.{instrs_of, instr_in}
 use Rattle.fancy_engine.specs.Foretold.{Foretold, Wider}
 use Rattle.fancy_engine.specs.Instructions.{edges_in}
+use Rattle.fancy_engine.proofs.InstructionLemmas.{length-instrs_of}
 use Rattle.fancy_engine.proofs.ForetoldLemmas.{told_past, told_nowhere, told_character, told_member, told_assert, told_open, told_close, told_split, wider_told, wider_cut, cut_length}
 use Rattle.fancy_engine.proofs.prefilter.+collect.Goals as goal
 use Rattle.fancy_engine.proofs.prefilter.+collect.Goals.{collect-then-spot-len-via-then-spot-len, collect-then-spot-len-via-else-spot-len+then-spot-len-2}
@@ -15,7 +16,7 @@ collect-returns-then-spot-len-clause-told t c =
           told_past c.args.code.now.meaning (instrs_of c.args.code.now) c.args.sets.now.items c.args.spot.from c.args.spot.at c.args.spot.exact (omega (arith, w.if-spot-len.true, c.len.ensures))
       | collect-then-spot-len-via-else-spot-len+then-spot-len-2 w ↦
           told_nowhere c.args.code.now.meaning (instrs_of c.args.code.now) c.args.sets.now.items c.args.spot.from c.args.spot.at c.args.spot.exact
-          (omega (arith, w.if-spot-len-2.true, w.len-else-spot-len.ensures))
+          (omega (arith, w.if-spot-len-2.true, w.len-else-spot-len.ensures, length-instrs_of c.args.code.now))
     ]
 
 pub collect-returns-then-deep-eq0-clause-told : goal.collect-returns-then-deep-eq0-clause-told

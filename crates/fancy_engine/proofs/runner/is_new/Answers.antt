@@ -1,6 +1,7 @@
 use Rattle.std.proofs.Common.{◌≡◌, ◌+◌, ◌-◌, ◌<◌, ℕ, Some, sym, ◌∙◌, arith}
 use Rattle.std.proofs.lemmas.Bool.{not-true}
-use Rattle.fancy_engine.specs.Code.{number_of, code_len}
+use Rattle.fancy_engine.specs.Code.{number_of}
+use Rattle.fancy_engine.specs.CodeLength.{code_len}
 use Rattle.fancy_engine.proofs.MarkingLemmas.{marks_new, left_less, bit_inside}
 use Rattle.fancy_engine.proofs.runner.is_new.Goals as goal
 

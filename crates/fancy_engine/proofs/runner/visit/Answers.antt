@@ -3,6 +3,7 @@ use Rattle.fancy_engine.specs.Threads.{Thread, state_of}
 use Rattle.fancy_engine.specs.Code.{marks_of}
 use Rattle.fancy_engine.specs.Attempt.{context_in, instrs_in, may_end_in, marks_in, FailedPastIn, current_in, saved_in}
 use Rattle.fancy_engine.specs.Sweep.{SweepingIn}
+use Rattle.fancy_engine.proofs.InstructionLemmas.{length-instrs_of}
 use Rattle.fancy_engine.proofs.RunnerSteps.{failed, past_end}
 use Rattle.fancy_engine.proofs.RunnerLemmas.{run_seen, run_dead, run_good, run_bad, run_on, past_found, same_table, adds_mark}
 use Rattle.fancy_engine.proofs.SweepLemmas.{sweep_known, sweep_seen, sweep_dead, sweep_bad, sweep_found, sweep_on}
@@ -11,13 +12,13 @@ use Rattle.fancy_engine.proofs.runner.visit.Goals as goal
 pub returns-then-pair-len-clause-visited : goal.returns-then-pair-len-clause-visited
 returns-then-pair-len-clause-visited c low kept deep goal begins within r =
     run_dead (may_end_in c.args.attempt.now) (context_in c.args.attempt.now) low c.args.attempt.now.last (instrs_in c.args.attempt.now) c.requires.easy deep kept goal _ _ (current_in c.args.attempt.now c.args.pair.now c.args.threads.now) _ r (same_table (may_end_in c.args.attempt.now) (context_in c.args.attempt.now) low c.args.attempt.now.last (instrs_in c.args.attempt.now) c.requires.easy deep (marks_in c.args.attempt.now c.args.table.now) _ _)
-    (failed (context_in c.args.attempt.now) c.args.attempt.now.last (instrs_in c.args.attempt.now) deep kept (current_in c.args.attempt.now c.args.pair.now c.args.threads.now) r.known (past_end (instrs_in c.args.attempt.now) c.args.pair.now.at (rw (c.len.ensures) at c.if-pair-len.true)))
+    (failed (context_in c.args.attempt.now) c.args.attempt.now.last (instrs_in c.args.attempt.now) deep kept (current_in c.args.attempt.now c.args.pair.now c.args.threads.now) r.known (past_end (instrs_in c.args.attempt.now) c.args.pair.now.at (rw (c.len.ensures ∙ sym (length-instrs_of c.args.attempt.now.code.now)) at c.if-pair-len.true)))
 
 pub returns-then-not-is_new-clause-visited : goal.returns-then-not-is_new-clause-visited
 returns-then-not-is_new-clause-visited c low kept deep goal begins within r =
     rw (c.is_new.ensures.same c.if-not-is_new.true)
     (run_seen (may_end_in c.args.attempt.now) (context_in c.args.attempt.now) low c.args.attempt.now.last (instrs_in c.args.attempt.now) c.requires.easy deep kept goal _ (current_in c.args.attempt.now c.args.pair.now c.args.threads.now) _ r
-    ((rw (c.len.ensures) at c.if-pair-len.false, within.0, within.1), c.is_new.ensures.seen c.if-not-is_new.true))
+    ((rw (c.len.ensures ∙ sym (length-instrs_of c.args.attempt.now.code.now)) at c.if-pair-len.false, within.0, within.1), c.is_new.ensures.seen c.if-not-is_new.true))
 
 pub returns-in-On-clause-visited : goal.returns-in-On-clause-visited
 returns-in-On-clause-visited c low kept deep goal begins within r =
@@ -52,13 +53,13 @@ step-requires-clause-easy c = c.requires.easy c.args.pair.now.at
 pub returns-then-pair-len-clause-swept : goal.returns-then-pair-len-clause-swept
 returns-then-pair-len-clause-swept c low kept deep goal found front back begins within past s =
     sweep_dead (may_end_in c.args.attempt.now) (context_in c.args.attempt.now) low c.args.attempt.now.last (instrs_in c.args.attempt.now) c.requires.easy deep kept goal _ _ front (current_in c.args.attempt.now c.args.pair.now c.args.threads.now) ((saved_in c.args.attempt.now c.args.threads.now) ++ back) found s (same_table (may_end_in c.args.attempt.now) (context_in c.args.attempt.now) low c.args.attempt.now.last (instrs_in c.args.attempt.now) c.requires.easy deep (marks_in c.args.attempt.now c.args.table.now) _ _) past
-    (failed (context_in c.args.attempt.now) c.args.attempt.now.last (instrs_in c.args.attempt.now) deep kept (current_in c.args.attempt.now c.args.pair.now c.args.threads.now) (sweep_known (may_end_in c.args.attempt.now) (context_in c.args.attempt.now) low c.args.attempt.now.last (instrs_in c.args.attempt.now) c.requires.easy deep kept goal _ front (current_in c.args.attempt.now c.args.pair.now c.args.threads.now) ((saved_in c.args.attempt.now c.args.threads.now) ++ back) found s) (past_end (instrs_in c.args.attempt.now) c.args.pair.now.at (rw (c.len.ensures) at c.if-pair-len.true)))
+    (failed (context_in c.args.attempt.now) c.args.attempt.now.last (instrs_in c.args.attempt.now) deep kept (current_in c.args.attempt.now c.args.pair.now c.args.threads.now) (sweep_known (may_end_in c.args.attempt.now) (context_in c.args.attempt.now) low c.args.attempt.now.last (instrs_in c.args.attempt.now) c.requires.easy deep kept goal _ front (current_in c.args.attempt.now c.args.pair.now c.args.threads.now) ((saved_in c.args.attempt.now c.args.threads.now) ++ back) found s) (past_end (instrs_in c.args.attempt.now) c.args.pair.now.at (rw (c.len.ensures ∙ sym (length-instrs_of c.args.attempt.now.code.now)) at c.if-pair-len.true)))
 
 pub returns-then-not-is_new-clause-swept : goal.returns-then-not-is_new-clause-swept
 returns-then-not-is_new-clause-swept c low kept deep goal found front back begins within past s =
     rw (c.is_new.ensures.same c.if-not-is_new.true)
     (sweep_seen (may_end_in c.args.attempt.now) (context_in c.args.attempt.now) low c.args.attempt.now.last (instrs_in c.args.attempt.now) c.requires.easy deep kept goal _ front (current_in c.args.attempt.now c.args.pair.now c.args.threads.now) ((saved_in c.args.attempt.now c.args.threads.now) ++ back) found s past
-    ((rw (c.len.ensures) at c.if-pair-len.false, within.0, within.1), c.is_new.ensures.seen c.if-not-is_new.true))
+    ((rw (c.len.ensures ∙ sym (length-instrs_of c.args.attempt.now.code.now)) at c.if-pair-len.false, within.0, within.1), c.is_new.ensures.seen c.if-not-is_new.true))
 
 pub returns-in-On-clause-swept : goal.returns-in-On-clause-swept
 returns-in-On-clause-swept c low kept deep goal found front back begins within past s =

@@ -1,5 +1,5 @@
 use Rattle.std.proofs.Common.{◌+◌, ◌-◌, ◌*◌, ◌≤◌, ℕ, arith}
-use Rattle.fancy_engine.specs.Code.{code_len}
+use Rattle.fancy_engine.specs.CodeLength.{code_len}
 use Rattle.fancy_engine.proofs.MarkingLemmas.{marks_none, marks_left, left_more, row_inside}
 use Rattle.fancy_engine.proofs.RunnerSearch.{unmarked_table}
 use Rattle.fancy_engine.proofs.search.ready_table.Goals as goal

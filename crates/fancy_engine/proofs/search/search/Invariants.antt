@@ -2,7 +2,8 @@ use Rattle.std.proofs.Common.{◌≡◌, ◌+◌, ◌-◌, ◌*◌, ◌<◌, ◌
 use Rattle.std.specs.Prelude.{None}
 use Rattle.fancy_tree.specs.Pattern.{Pattern}
 use Rattle.fancy_engine.specs.Attempt.{AllFailedIn, bits_in, left_in}
-use Rattle.fancy_engine.specs.Code.{code_len, due_of}
+use Rattle.fancy_engine.specs.Code.{due_of}
+use Rattle.fancy_engine.specs.CodeLength.{code_len}
 use Rattle.fancy_engine.specs.Compile.{IsCodeOf, depth}
 use Rattle.fancy_engine.specs.Queries.{query_of, unfiltered, most_steps}
 use Rattle.fancy_engine.specs.KeptTable.{table_in, steps_before}

@@ -12,6 +12,10 @@ in_turn : (o : Option ℕ) (P Q : ℕ → Type 0) → ((n : ℕ) → P n → Q n
 in_turn None P Q h p = tt
 in_turn (Some n) P Q h p = h n p
 
+pub returns-in_ok-end-in-None-clause-failed : goal.returns-in_ok-end-in-None-clause-failed
+returns-in_ok-end-in-None-clause-failed c kept deep branches known failed none =
+    c.in_ok-end-in-None.ensures.failed kept deep known (c.forget_behind.ensures.failed deep failed) none
+
 pub returns-in_ok-end-in-None-clause-past : goal.returns-in_ok-end-in-None-clause-past
 returns-in_ok-end-in-None-clause-past c =
     in_turn c.in_ok-end-in-None.end _ _ (λ stop past kept deep branches known failed. past kept deep known (c.forget_behind.ensures.failed deep failed)) c.in_ok-end-in-None.ensures.past

@@ -1,5 +1,5 @@
 use Rattle.std.proofs.Common.{◌+◌, ◌-◌, ◌*◌, ◌≤◌, ℕ, arith}
-use Rattle.fancy_engine.specs.Code.{code_len}
+use Rattle.fancy_engine.specs.CodeLength.{code_len}
 use Rattle.fancy_engine.proofs.MarkingLemmas.{marks_kept, left_fewer, row_inside}
 use Rattle.fancy_engine.proofs.start.forget_behind.Goals as goal
 

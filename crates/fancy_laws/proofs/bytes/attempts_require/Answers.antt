@@ -1,5 +1,5 @@
 use Rattle.fancy_engine.specs.Search.{context_of, initial}
-use Rattle.fancy_engine.specs.Seen.{Stands}
+use Rattle.fancy_engine.specs.Stands.{Stands}
 use Rattle.fancy_engine.proofs.BeginLemmas.{accepted_holds}
 use Rattle.fancy_engine.proofs.RequireLemmas.{trace_requires}
 use Rattle.fancy_laws.proofs.bytes.attempts_require.Goals as goal

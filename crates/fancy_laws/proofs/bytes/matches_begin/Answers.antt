@@ -2,7 +2,7 @@ use Rattle.std.proofs.Common.{◌≡◌, Bool, true, false, not, refl, sym, subs
 use Rattle.fancy_engine.specs.Search.{context_of, initial}
 use Rattle.fancy_engine.proofs.KeptLemmas.{KeptAt, kept_without}
 use Rattle.fancy_bytes.specs.Firsts.{nullable, has_keep_start, first_bytes}
-use Rattle.fancy_engine.specs.Seen.{SeesBefore}
+use Rattle.fancy_engine.specs.Stands.{SeesBefore}
 use Rattle.fancy_bytes.proofs.BoolLemmas.{parts_of}
 use Rattle.fancy_engine.proofs.BeginLemmas.{attempt_begins, accepted_holds}
 use Rattle.fancy_laws.proofs.bytes.matches_begin.Goals as goal

@@ -7,6 +7,7 @@ use Rattle.fancy_engine.specs.Instructions as i
 use Rattle.fancy_engine.specs.Code.{instrs_of, instr_in, set_edges}
 use Rattle.fancy_engine.specs.Context.{past_item}
 use Rattle.fancy_engine.specs.Run.{Raw, Stop, instr_at}
+use Rattle.fancy_engine.proofs.InstructionLemmas.{length-instrs_of}
 use Rattle.fancy_engine.proofs.RunnerSteps.{past_end}
 use Rattle.fancy_machine.specs.Attempt.{attempt_context, code_in}
 use Rattle.fancy_machine.specs.Machine.{IsStep}
@@ -19,7 +20,7 @@ follows code same is e = ap (instr_at (instrs_of code)) (sym same) ∙ sym is �
 
 pub returns-then-at-len-clause-stepped : goal.returns-then-at-len-clause-stepped
 returns-then-at-len-clause-stepped c deep w known =
-    failed (attempt_context c.args.attempt.now) (instrs_of c.args.attempt.now.code.now) deep c.args.trail.now.now c.args.trail.now.frames w known c.args.trail.now.now (past_end (instrs_of c.args.attempt.now.code.now) c.args.trail.now.now.at (rw (c.at-at.ensures, c.len.ensures) at c.if-at-len.true))
+    failed (attempt_context c.args.attempt.now) (instrs_of c.args.attempt.now.code.now) deep c.args.trail.now.now c.args.trail.now.frames w known c.args.trail.now.now (past_end (instrs_of c.args.attempt.now.code.now) c.args.trail.now.now.at (rw (c.at-at.ensures, c.len.ensures ∙ sym (length-instrs_of c.args.attempt.now.code.now)) at c.if-at-len.true))
 
 pub returns-in-Match-clause-stepped : goal.returns-in-Match-clause-stepped
 returns-in-Match-clause-stepped c deep w known =
