@@ -20,6 +20,7 @@ use Rattle.fancy_input.specs.declared.span.Span.{Span}
 use Rattle.fancy_engine.specs.Context.{Context, State, group_span, unit_at, unit_in, one_character, past_item, past_byte, option_to}
 use Rattle.fancy_engine.specs.Backreference.{captured_text, past_text, past_letters, shares_folding, past_characters, past_folded, past_span, past_backreference}
 use Rattle.fancy_engine.specs.Placed.{IsSpan, IsPlaced, reads_characters}
+use Rattle.fancy_engine.proofs.PieceLemmas.{past_nothing, past_first}
 use Rattle.fancy_input.proofs.CharacterLemmas.{char_at-from_bytes, char_at-fits, bytes_stand}
 
 -- a place, if there is one, is a boundary within the haystack
@@ -61,23 +62,23 @@ item_ends x test p m text within here = unit_ends x.meaning x.haystack test p m 
 
 -- the place after text that matches a text, a character by one
 
-characters_end : (x : Context) (n : ℕ) (text cs : List ℕ) (p : ℕ) → reads_characters x.meaning ≡ true → IsUtf8 x.haystack → scalars cs ≡ true →
-    encode_utf8_all cs ≡ text → p ≤ length x.haystack → IsTrue (is_boundary x.haystack p) → EndsWell x.haystack (past_characters x n text p)
-unfolding EndsWell past_characters
-characters_end x zero text cs p m whole are e within here = (within, here)
-characters_end x (suc n) [] cs p m whole are e within here = (within, here)
-characters_end x (suc n) (b ∷ bs) [] p m whole are e within here = cc
-characters_end x (suc n) (b ∷ bs) (c ∷ cs) p m whole are e within here =
+characters_end : (x : Context) (text cs : List ℕ) (p : ℕ) → reads_characters x.meaning ≡ true → IsUtf8 x.haystack → scalars cs ≡ true →
+    encode_utf8_all cs ≡ text → p ≤ length x.haystack → IsTrue (is_boundary x.haystack p) → EndsWell x.haystack (past_characters x text p)
+unfolding EndsWell
+characters_end x [] cs p m whole are e within here = subst (EndsWell x.haystack) (sym (past_nothing x p)) (within, here)
+characters_end x (b ∷ bs) [] p m whole are e within here = cc
+characters_end x (b ∷ bs) (c ∷ cs) p m whole are e within here =
     let good = and_parts (scalar c) (scalars cs) are in
     let first : char_at (b ∷ bs) 0 ≡ Some c = char_at-from_bytes (b ∷ bs) 0 c (encode_utf8_all cs) good.0 (sym e) in
     let rest : drop (len_utf8 c) (b ∷ bs) ≡ encode_utf8_all cs =
     ap (λ (k : ℕ). drop k (b ∷ bs)) (sym (zero-add (len_utf8 c))) ∙ drop_past_char (b ∷ bs) (encode_utf8_all cs) 0 c (sym e) in
-    subst (λ (o : Option ℕ).
-    EndsWell x.haystack (option_to o (option_to (past_byte x b p) None (λ r. past_characters x n bs r))
-    (λ c. option_to (past_item x (shares_folding c) p) None (λ r. past_characters x n (drop (len_utf8 c) (b ∷ bs)) r))))
-    (sym first)
-    (ends_then x.haystack (past_item x (shares_folding c) p) (past_characters x n (drop (len_utf8 c) (b ∷ bs))) (item_ends x (shares_folding c) p m whole within here)
-    (λ r within here. characters_end x n (drop (len_utf8 c) (b ∷ bs)) cs r m whole good.1 (sym rest) within here))
+    let same =
+    past_first x b bs p
+    ∙ ap (λ (o : Option ℕ). option_to o (option_to (past_byte x b p) None (λ r. past_characters x bs r))
+    (λ c. option_to (past_item x (shares_folding c) p) None (λ r. past_characters x (drop (len_utf8 c) (b ∷ bs)) r))) first in
+    subst (EndsWell x.haystack) (sym same)
+    (ends_then x.haystack (past_item x (shares_folding c) p) (past_characters x (drop (len_utf8 c) (b ∷ bs))) (item_ends x (shares_folding c) p m whole within here)
+    (λ r within here. characters_end x (drop (len_utf8 c) (b ∷ bs)) cs r m whole good.1 (sym rest) within here))
 
 -- the place after text that equals a text, ASCII letters in either case
 
@@ -192,8 +193,8 @@ module _ (x : Context) (whole : IsUtf8 x.haystack) where
   folded_ends : (m : Meaning) (text : List ℕ) (p r : ℕ) → reads_characters x.meaning ≡ true → IsUtf8 text → p ≤ length x.haystack →
       IsTrue (is_boundary x.haystack p) → past_folded x m text p ≡ Some r → IsTrue (is_boundary x.haystack r)
   folded_ends Unicode text p r reads part within here e =
-      ends_at x.haystack (past_characters x (length text) text p) r
-      (characters_end x (length text) text part.0 p reads whole part.1.0 part.1.1 within here) e
+      ends_at x.haystack (past_characters x text p) r
+      (characters_end x text part.0 p reads whole part.1.0 part.1.1 within here) e
   folded_ends Bytes text p r reads part within here e = letters_end text p r part within here e
   folded_ends AsciiText text p r reads part within here e = letters_end text p r part within here e
 

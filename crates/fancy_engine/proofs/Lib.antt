@@ -39,6 +39,7 @@ pub mod ExampleLemmas
 pub mod WalkLemmas
 pub mod KeptLemmas
 pub mod KeptForward
+pub mod PieceLemmas
 pub mod BackreferenceLemmas
 pub mod LeadsLemmas
 pub mod PlacedLemmas

@@ -1,7 +1,7 @@
 -- What a leaf reads: the encoding of its item, or its byte, stands at its place; and the text of a group is read nowhere at the end but where it is empty.
 use Rattle.std.proofs.Common.{◌≡◌, ℕ, zero, suc, ◌+◌, ◌<◌, ◌≤◌, ◌==◌, Bool, true, false, ◌&&◌, List, [], ◌∷◌, ◌++◌, length, drop, take, map, Option, Some, None, if◌then◌else◌, ◌⊎◌, inl, inr, refl, sym, ap, subst, ◌∙◌, arith, true≢false, slice_get, eq-eqb}
 use Rattle.std.specs.Prelude.{encode_utf8}
-use Rattle.std.specs.Char.{len_utf8, to_ascii_lowercase}
+use Rattle.std.specs.Char.{to_ascii_lowercase}
 use Rattle.std.specs.Str.{str_eq_ignore_ascii_case}
 use Rattle.std.specs.Cmp.Lexicographic.{same_text}
 use Rattle.std.proofs.lemmas.Bool.Decides.{nat_tests, eqb_tells}
@@ -12,7 +12,7 @@ use Rattle.fancy_tree.specs.Sets.{has}
 use Rattle.fancy_input.specs.Places.{is_scalar, char_at, has_bytes_at}
 use Rattle.fancy_input.specs.declared.span.Span.{Span}
 use Rattle.fancy_engine.specs.Context.{Context, State, Unit_at, one_character, one_byte, unit_in, unit_at, past_item, past_byte, group_span, option_to}
-use Rattle.fancy_engine.specs.Backreference.{captured_text, past_text, past_letters, shares_folding, past_characters, past_folded, past_span, past_backreference}
+use Rattle.fancy_engine.specs.Backreference.{captured_text, past_text, past_letters, shares_folding, Piece, whole_character, other_byte, cut, past_piece, past_pieces, past_characters, past_folded, past_span, past_backreference}
 use Rattle.fancy_input.proofs.CharacterLemmas.{is_scalar-scalar, char_at-bytes, char_at-past, bytes_begin}
 use Rattle.fancy_bytes.specs.Items.{codes, encoding, starts_with_byte, includes, first_of_characters, first_of_items, one_member, is_item, is_in_one, is_in_all, only}
 use Rattle.fancy_engine.specs.Stands.{SeesByte, Stands}
@@ -247,20 +247,21 @@ module _ (x : Context) (p q : ℕ) (none : slice_get x.haystack p ≡ None) wher
       let shown : [] ≡ map to_ascii_lowercase (b ∷ bs) = rw rest at same in
       cc
 
-  first_step : (o : Option ℕ) (n : ℕ) (b : ℕ) (bs : List ℕ) →
-      option_to o (option_to (past_byte x b p) None (λ r. past_characters x n bs r))
-      (λ c. option_to (past_item x (shares_folding c) p) None (λ r. past_characters x n (drop (len_utf8 c) (b ∷ bs)) r)) ≡ None
-  first_step None n b bs = ap (λ o. option_to o None (λ r. past_characters x n bs r)) (no_byte b)
-  first_step (Some c) n b bs = ap (λ o. option_to o None (λ r. past_characters x n (drop (len_utf8 c) (b ∷ bs)) r)) (no_item (shares_folding c))
+  no_piece : (piece : Piece) → past_piece x piece p ≡ None
+  no_piece (whole_character c) = no_item (shares_folding c)
+  no_piece (other_byte b) = no_byte b
 
-  characters-past : (n : ℕ) (text : List ℕ) → past_characters x n text p ≡ Some q → q ≡ p
+  pieces-past : (pieces : List Piece) → past_pieces x pieces p ≡ Some q → q ≡ p
+  unfolding past_pieces
+  pieces-past [] e = cc
+  pieces-past (piece ∷ pieces) e = let no : None ≡ Some q = sym (ap (λ o. option_to o None (λ r. past_pieces x pieces r)) (no_piece piece)) ∙ e in cc
+
+  characters-past : (text : List ℕ) → past_characters x text p ≡ Some q → q ≡ p
   unfolding past_characters
-  characters-past zero text e = cc
-  characters-past (suc n) [] e = cc
-  characters-past (suc n) (b ∷ bs) e = let no : None ≡ Some q = sym (first_step (char_at (b ∷ bs) 0) n b bs) ∙ e in cc
+  characters-past text e = pieces-past (cut text) e
 
   folded-past : (m : Meaning) (text : List ℕ) → past_folded x m text p ≡ Some q → q ≡ p
-  folded-past Unicode text e = characters-past (length text) text e
+  folded-past Unicode text e = characters-past text e
   folded-past Bytes text e = letters-past text e
   folded-past AsciiText text e = letters-past text e
 

@@ -25,18 +25,48 @@ past_letters x text p = if str_eq_ignore_ascii_case (take (length text) (drop p 
 abbrev pub shares_folding : ℕ → ℕ → Bool
 shares_folding c d = simple_fold d == simple_fold c
 
--- The place after what matches a text of at most n bytes. The text is cut from the left into well-formed characters and single other bytes: each character is matched by one with the same simple folding, each other byte by itself.
-unfoldable pub past_characters : Context → ℕ → List ℕ → ℕ → Option ℕ
-past_characters x zero text p = Some p
-past_characters x (suc n) [] p = Some p
-past_characters x (suc n) (b ∷ bs) p =
-    option_to (char_at (b ∷ bs) 0)
-    (option_to (past_byte x b p) None (λ r. past_characters x n bs r))
-    (λ c. option_to (past_item x (shares_folding c) p) None (λ r. past_characters x n (drop (len_utf8 c) (b ∷ bs)) r))
+-- a piece of a text: a well-formed character, or a byte at which none begins
+pub data Piece : Type 0 where
+  whole_character : ℕ → Piece
+  other_byte : ℕ → Piece
+
+-- the piece that begins with this byte, and with this character, if one begins there
+abbrev pub piece_of : ℕ → Option ℕ → Piece
+piece_of b None = other_byte b
+piece_of b (Some c) = whole_character c
+
+-- how many bytes of a piece follow its first one
+abbrev pub bytes_after_first : Piece → ℕ
+bytes_after_first (whole_character c) = len_utf8 c - 1
+bytes_after_first (other_byte b) = 0
+
+-- the pieces of a text, but for its first n bytes, which belong to the piece before them
+unfoldable pub cut_after : List ℕ → ℕ → List Piece
+cut_after [] n = []
+cut_after (b ∷ bs) zero = let piece = piece_of b (char_at (b ∷ bs) 0) in piece ∷ cut_after bs (bytes_after_first piece)
+cut_after (b ∷ bs) (suc n) = cut_after bs n
+
+-- the text cut from the left into well-formed characters and single other bytes
+abbrev pub cut : List ℕ → List Piece
+cut text = cut_after text 0
+
+-- the place after what matches a piece: a character is matched by one with the same simple folding, another byte by itself
+abbrev pub past_piece : Context → Piece → ℕ → Option ℕ
+past_piece x (whole_character c) p = past_item x (shares_folding c) p
+past_piece x (other_byte b) p = past_byte x b p
+
+-- the place after what matches these pieces, one after another
+unfoldable pub past_pieces : Context → List Piece → ℕ → Option ℕ
+past_pieces x [] p = Some p
+past_pieces x (piece ∷ pieces) p = option_to (past_piece x piece p) None (λ r. past_pieces x pieces r)
+
+-- the place after what matches a text, piece by piece
+unfoldable pub past_characters : Context → List ℕ → ℕ → Option ℕ
+past_characters x text p = past_pieces x (cut text) p
 
 -- the place after what matches a text under flag `i`
 abbrev pub past_folded : Context → Meaning → List ℕ → ℕ → Option ℕ
-past_folded x Unicode text p = past_characters x (length text) text p
+past_folded x Unicode text p = past_characters x text p
 past_folded x Bytes text p = past_letters x text p
 past_folded x AsciiText text p = past_letters x text p
 

@@ -1,5 +1,5 @@
 -- What a backreference sees.
-use Rattle.std.proofs.Common.{◌≡◌, ℕ, zero, suc, ◌+◌, ◌-◌, ◌<◌, ◌≤◌, ◌==◌, Bool, true, false, List, [], ◌∷◌, length, map, take, drop, IsTrue, Option, Some, None, nat_eq, if◌then◌else◌, refl, sym, ap, ap₂, ◌∙◌, arith, le_refl, length-drop}
+use Rattle.std.proofs.Common.{◌≡◌, ℕ, ◌+◌, ◌-◌, ◌<◌, ◌≤◌, ◌==◌, Bool, true, false, List, [], ◌∷◌, length, map, take, drop, IsTrue, Option, Some, None, nat_eq, if◌then◌else◌, refl, sym, ap, ap₂, ◌∙◌, arith}
 use Rattle.std.specs.Prelude.{slice_index}
 use Rattle.std.specs.Char.{len_utf8, is_ascii, to_ascii_lowercase}
 use Rattle.std.specs.Str.{str_eq_ignore_ascii_case}
@@ -15,6 +15,7 @@ use Rattle.fancy_engine.specs.Context.{Context, State, group_span, unit_at, past
 use Rattle.fancy_input.specs.declared.span.Span.{Span}
 use Rattle.fancy_engine.specs.Backreference.{captured_text, past_text, past_folded, past_characters, past_span, past_backreference, shares_folding}
 use Rattle.fancy_input.proofs.CharacterLemmas.{char_at-fits}
+use Rattle.fancy_engine.proofs.PieceLemmas.{past_nothing, past_first}
 use Rattle.fancy_machine.specs.Attempt.{reading}
 
 pub recall_seen : (x : Context) (folded : Bool) (number : ℕ) (s : State) → past_backreference x folded number s ≡ past_span x folded (group_span s number) s.place
@@ -76,67 +77,44 @@ pub character_fits : (haystack : List ℕ) (i c : ℕ) → Some c ≡ char_at ha
 character_fits haystack i c e = char_at-fits haystack i c (sym e)
 
 module _ (x : Context) where
-  -- more steps than the text has bytes change nothing
-  enough : (n m : ℕ) (text : List ℕ) (p : ℕ) → length text ≤ n → length text ≤ m → past_characters x n text p ≡ past_characters x m text p
-  unfolding past_characters
-  enough zero zero text p a b = refl
-  enough zero (suc m) [] p a b = refl
-  enough zero (suc m) (t ∷ ts) p a b = absurd (omega arith)
-  enough (suc n) zero [] p a b = refl
-  enough (suc n) zero (t ∷ ts) p a b = absurd (omega arith)
-  enough (suc n) (suc m) [] p a b = refl
-  enough (suc n) (suc m) (t ∷ ts) p a b =
-      elim (char_at (t ∷ ts) 0) as (λ (o : Option ℕ).
-      option_to o (option_to (past_byte x t p) None (λ r. past_characters x n ts r))
-      (λ c. option_to (past_item x (shares_folding c) p) None (λ r. past_characters x n (drop (len_utf8 c) (t ∷ ts)) r))
-      ≡ option_to o (option_to (past_byte x t p) None (λ r. past_characters x m ts r))
-      (λ c. option_to (past_item x (shares_folding c) p) None (λ r. past_characters x m (drop (len_utf8 c) (t ∷ ts)) r))) [
-        | None ↦ λ i. option_to (past_byte x t p) None (λ r. enough n m ts r (omega arith) (omega arith) i)
-        | Some c ↦ λ i. option_to (past_item x (shares_folding c) p) None (λ r. enough n m (drop (len_utf8 c) (t ∷ ts)) r
-            (omega (arith, length-drop (len_utf8 c) (t ∷ ts), (len_utf8_bounds c).0)) (omega (arith, length-drop (len_utf8 c) (t ∷ ts), (len_utf8_bounds c).0)) i)
-      ]
-
   -- the text begins with a character
   by_character : (text : List ℕ) (p c : ℕ) (o : Option ℕ) → Some c ≡ char_at text 0 → o ≡ past_item x (shares_folding c) p
-      → past_characters x (length text) text p ≡ option_to o None (λ r. past_characters x (length (drop (len_utf8 c) text)) (drop (len_utf8 c) text) r)
-  unfolding past_characters
+      → past_characters x text p ≡ option_to o None (λ r. past_characters x (drop (len_utf8 c) text) r)
   by_character [] p c o e f = absurd (omega (arith, character_fits [] 0 c e, (len_utf8_bounds c).0))
   by_character (t ∷ ts) p c o e f =
-      ap (λ (o : Option ℕ).
-      option_to o (option_to (past_byte x t p) None (λ r. past_characters x (length ts) ts r))
-      (λ c. option_to (past_item x (shares_folding c) p) None (λ r. past_characters x (length ts) (drop (len_utf8 c) (t ∷ ts)) r))) (sym e)
-      ∙ ap (λ (o : Option ℕ). option_to o None (λ r. past_characters x (length ts) (drop (len_utf8 c) (t ∷ ts)) r)) (sym f)
-      ∙ (λ i. option_to o None (λ r. enough (length ts) (length (drop (len_utf8 c) (t ∷ ts))) (drop (len_utf8 c) (t ∷ ts)) r
-      (omega (arith, length-drop (len_utf8 c) (t ∷ ts), (len_utf8_bounds c).0)) (le_refl (length (drop (len_utf8 c) (t ∷ ts)))) i))
+      past_first x t ts p
+      ∙ ap (λ (o : Option ℕ).
+      option_to o (option_to (past_byte x t p) None (λ r. past_characters x ts r))
+      (λ c. option_to (past_item x (shares_folding c) p) None (λ r. past_characters x (drop (len_utf8 c) (t ∷ ts)) r))) (sym e)
+      ∙ ap (λ (o : Option ℕ). option_to o None (λ r. past_characters x (drop (len_utf8 c) (t ∷ ts)) r)) (sym f)
 
   -- the text begins with another byte
   by_byte : (text : List ℕ) (p : ℕ) (o : Option ℕ) → 0 < length text → None ≡ char_at text 0 → o ≡ past_byte x (slice_index text 0) p
-      → past_characters x (length text) text p ≡ option_to o None (λ r. past_characters x (length (drop 1 text)) (drop 1 text) r)
-  unfolding past_characters
+      → past_characters x text p ≡ option_to o None (λ r. past_characters x (drop 1 text) r)
   by_byte [] p o lt e f = absurd (omega arith)
   by_byte (t ∷ ts) p o lt e f =
-      ap (λ (o : Option ℕ).
-      option_to o (option_to (past_byte x t p) None (λ r. past_characters x (length ts) ts r))
-      (λ c. option_to (past_item x (shares_folding c) p) None (λ r. past_characters x (length ts) (drop (len_utf8 c) (t ∷ ts)) r))) (sym e)
-      ∙ ap (λ (o : Option ℕ). option_to o None (λ r. past_characters x (length ts) ts r)) (sym f)
+      past_first x t ts p
+      ∙ ap (λ (o : Option ℕ).
+      option_to o (option_to (past_byte x t p) None (λ r. past_characters x ts r))
+      (λ c. option_to (past_item x (shares_folding c) p) None (λ r. past_characters x (drop (len_utf8 c) (t ∷ ts)) r))) (sym e)
+      ∙ ap (λ (o : Option ℕ). option_to o None (λ r. past_characters x ts r)) (sym f)
 
-  pub character_stops : (text : List ℕ) (p c : ℕ) → Some c ≡ char_at text 0 → None ≡ past_item x (shares_folding c) p → past_characters x (length text) text p ≡ None
+  pub character_stops : (text : List ℕ) (p c : ℕ) → Some c ≡ char_at text 0 → None ≡ past_item x (shares_folding c) p → past_characters x text p ≡ None
   character_stops text p c e f = by_character text p c None e f
 
   pub character_leads : (text : List ℕ) (p c r : ℕ) → Some c ≡ char_at text 0 → Some r ≡ past_item x (shares_folding c) p
-      → past_characters x (length text) text p ≡ past_characters x (length (drop (len_utf8 c) text)) (drop (len_utf8 c) text) r
+      → past_characters x text p ≡ past_characters x (drop (len_utf8 c) text) r
   character_leads text p c r e f = by_character text p c (Some r) e f
 
-  pub byte_stops : (text : List ℕ) (p : ℕ) → 0 < length text → None ≡ char_at text 0 → None ≡ past_byte x (slice_index text 0) p → past_characters x (length text) text p ≡ None
+  pub byte_stops : (text : List ℕ) (p : ℕ) → 0 < length text → None ≡ char_at text 0 → None ≡ past_byte x (slice_index text 0) p → past_characters x text p ≡ None
   byte_stops text p lt e f = by_byte text p None lt e f
 
   pub byte_leads : (text : List ℕ) (p r : ℕ) → 0 < length text → None ≡ char_at text 0 → Some r ≡ past_byte x (slice_index text 0) p
-      → past_characters x (length text) text p ≡ past_characters x (length (drop 1 text)) (drop 1 text) r
+      → past_characters x text p ≡ past_characters x (drop 1 text) r
   byte_leads text p r lt e f = by_byte text p (Some r) lt e f
 
-  pub nothing_left : (text : List ℕ) (p : ℕ) → length text ≡ 0 → past_characters x (length text) text p ≡ Some p
-  unfolding past_characters
-  nothing_left [] p e = refl
+  pub nothing_left : (text : List ℕ) (p : ℕ) → length text ≡ 0 → past_characters x text p ≡ Some p
+  nothing_left [] p e = past_nothing x p
   nothing_left (t ∷ ts) p e = absurd (omega arith)
 
 -- the text of a span, and what matches it

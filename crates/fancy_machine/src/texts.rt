@@ -79,7 +79,7 @@ fn past_sharing(haystack: &[u8], c: char, place: usize) -> Option<usize>
 /// The place after what matches a text under flag `i` in Unicode meaning: a character is matched by one with
 /// the same simple folding, and a byte that is in none by itself.
 fn past_characters(haystack: &[u8], text: &[u8], place: usize) -> Option<usize>
-    ensures { (x : Context) → result ≡ past_characters (reading haystack.now Meaning.Unicode x) (length text.now) text.now place }
+    ensures { (x : Context) → result ≡ past_characters (reading haystack.now Meaning.Unicode x) text.now place }
 {
     let mut at = place;
     let mut rest = text;

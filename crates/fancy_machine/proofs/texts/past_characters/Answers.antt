@@ -1,4 +1,4 @@
-use Rattle.std.proofs.Common.{ℕ, List, length, drop, sym, ap, ◌∙◌}
+use Rattle.std.proofs.Common.{ℕ, List, drop, sym, ap, ◌∙◌}
 use Rattle.std.specs.Prelude.{slice_index}
 use Rattle.fancy_tree.specs.declared.tree.Meaning.TheVariants.{Unicode}
 use Rattle.fancy_engine.specs.Backreference.{past_characters}
@@ -16,7 +16,7 @@ returns-in_err-at-in-Some c x =
 
 pub loop-rest-preserved-in-Some : goal.loop-rest-preserved-in-Some
 loop-rest-preserved-in-Some c x =
-    ap (λ (l : List ℕ). past_characters (reading c.args.haystack.now Unicode x) (length l) l c.in_ok-at-in-Some.at)
+    ap (λ (l : List ℕ). past_characters (reading c.args.haystack.now Unicode x) l c.in_ok-at-in-Some.at)
     (c.bytes_from-rest.ensures ∙ ap (λ (n : ℕ). drop n c.loop-rest.rest.now) c.len_utf8.ensures.value)
     ∙ sym (character_leads (reading c.args.haystack.now Unicode x) c.loop-rest.rest.now c.loop-rest.at c.in-Some.c c.in_ok-at-in-Some.at c.in-Some.ensures
     (c.in_ok-at-in-Some.ensures x))
@@ -33,7 +33,7 @@ returns-in_err-at-in-None c x =
 
 pub loop-rest-preserved : goal.loop-rest-preserved
 loop-rest-preserved c x =
-    ap (λ (l : List ℕ). past_characters (reading c.args.haystack.now Unicode x) (length l) l c.in_ok-at-in-None.at) c.bytes_from-rest-in-None.ensures
+    ap (λ (l : List ℕ). past_characters (reading c.args.haystack.now Unicode x) l c.in_ok-at-in-None.at) c.bytes_from-rest-in-None.ensures
     ∙ sym (byte_leads (reading c.args.haystack.now Unicode x) c.loop-rest.rest.now c.loop-rest.at c.in_ok-at-in-None.at
     (something_left c.loop-rest.rest.now _ c.is_empty.ensures c.loop-rest-test.true) (sym c.in-None.is ∙ c.character_at.ensures)
     (sym c.in_ok-at-in-None.was ∙ c.past_raw_byte.ensures.past Unicode (suppressed_of x) 0

@@ -7,8 +7,8 @@ use Rattle.fancy_machine.proofs.texts.past_characters.Given as goal
 
 abbrev pub invariant-loop-rest : goal.invariant-loop-rest
 invariant-loop-rest l =
-    (x : Context) → past_characters (reading l.haystack Unicode x) (length l.rest) l.rest l.at
-    ≡ past_characters (reading l.haystack Unicode x) (length l.text) l.text l.place
+    (x : Context) → past_characters (reading l.haystack Unicode x) l.rest l.at
+    ≡ past_characters (reading l.haystack Unicode x) l.text l.place
 
 abbrev pub decreases-loop-rest : goal.decreases-loop-rest
 decreases-loop-rest l = length l.rest
