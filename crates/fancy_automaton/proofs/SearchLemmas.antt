@@ -9,7 +9,7 @@ use Rattle.fancy_input.specs.declared.span.Span.{Span}
 use Rattle.fancy_automaton.specs.declared.way.Way.{Way}
 use Rattle.fancy_automaton.specs.Ways.{tagged, first_end, match_end, AllKnown}
 use Rattle.fancy_automaton.specs.Futures.{ArePlain, end_at, known_at, unit_by, place_after, leftmost, start_end}
-use Rattle.fancy_automaton.specs.Steps.{waiting, IsStep, span_by, first_span, at_of, start_in}
+use Rattle.fancy_automaton.specs.Steps.{waiting, IsStep, span_by, first_tagged_end, at_of, start_in}
 use Rattle.fancy_automaton.specs.Search.{Begun, Under, begun_if, found_or}
 use Rattle.fancy_automaton.proofs.FutureLemmas.{solves}
 use Rattle.fancy_automaton.proofs.StepLemmas.{span_begun, span_step, known_after, known_begun}
@@ -53,14 +53,14 @@ module _ (good : ℕ → Bool) (x : Context) (limit : ℕ) (code : List Instruct
 
     -- with no way left, only the rest is
     pub under_none : (ways starts : List ℕ) (place : ℕ) (rest : Option (ℕ × ℕ)) → ways ≡ [] → Holds ways starts place rest → rest ≡ goal
-    under_none ways starts place rest e u = sym (ap (λ (ws : List ℕ). option_or (first_span (end_at good x limit code deep place) ws starts) rest) e) ∙ u.answer
+    under_none ways starts place rest e u = sym (ap (λ (ws : List ℕ). option_or (first_tagged_end (end_at good x limit code deep place) ws starts) rest) e) ∙ u.answer
 
     -- no way waits, at whatever place
     pub under_moved : (ways starts : List ℕ) (place other : ℕ) (rest : Option (ℕ × ℕ)) → ways ≡ [] → Holds ways starts place rest → Holds ways starts other rest
     under_moved ways starts place other rest e u = record {
       same = u.same;
       known = subst (λ (ws : List ℕ). AllKnown (known_at good x limit code deep other) (waiting 0 ws)) (sym e) tt;
-      answer = ap (λ (ws : List ℕ). option_or (first_span (end_at good x limit code deep other) ws starts) rest) e ∙ under_none ways starts place rest e u;
+      answer = ap (λ (ws : List ℕ). option_or (first_tagged_end (end_at good x limit code deep other) ws starts) rest) e ∙ under_none ways starts place rest e u;
     }
 
     -- a way begins
@@ -70,8 +70,8 @@ module _ (good : ℕ → Bool) (x : Context) (limit : ℕ) (code : List Instruct
       same = omega (arith, u.same, length-append starts (place ∷ []), length-append ways (start ∷ []));
       known = known_begun (known_at good x limit code deep place) ways start u.known (begun place inside);
       answer = ap (λ (o : Option (ℕ × ℕ)). option_or o (Left m (place + 1))) (span_begun (end_at good x limit code deep place) ways starts start place u.same)
-          ∙ or_assoc (first_span (end_at good x limit code deep place) ways starts) (tagged place (end_at good x limit code deep place start)) (Left m (place + 1))
-          ∙ ap (option_or (first_span (end_at good x limit code deep place) ways starts)) (sym (left_good n m place e fine)) ∙ u.answer;
+          ∙ or_assoc (first_tagged_end (end_at good x limit code deep place) ways starts) (tagged place (end_at good x limit code deep place start)) (Left m (place + 1))
+          ∙ ap (option_or (first_tagged_end (end_at good x limit code deep place) ways starts)) (sym (left_good n m place e fine)) ∙ u.answer;
     }
 
     -- a way begins unless something was found
@@ -99,7 +99,7 @@ module _ (good : ℕ → Bool) (x : Context) (limit : ℕ) (code : List Instruct
         record {
           same = same_length next starts;
           known = known_after (known_at good x limit code deep (place_after place u)) next r.0;
-          answer = sym (or_assoc (first_span (end_at good x limit code deep (place_after place u)) (map at_of next) (map (start_in starts) next)) (span_by starts (match_end matched place)) rest)
+          answer = sym (or_assoc (first_tagged_end (end_at good x limit code deep (place_after place u)) (map at_of next) (map (start_in starts) next)) (span_by starts (match_end matched place)) rest)
               ∙ sym (ap (λ (o : Option (ℕ × ℕ)). option_or o rest) e) ∙ h.answer;
         }
 

@@ -38,31 +38,31 @@ inside_character haystack p c k e above below =
     no_boundary (length haystack) k (slice_index haystack k) (omega arith) (let fits : p + len_utf8 c ≤ length haystack = char_at-fits haystack p c e in omega arith)
     (ap is_continuation there ∙ inside_encoded c b.1 j (omega arith) (omega arith))
 
-abbrev Leads : (ℕ → Bool) → ℕ → Unit_at → Type 0
-Leads good p u = (0 < u.width) × (good (p + u.width) ≡ true) × ((k : ℕ) → p < k → k < p + u.width → good k ≡ false)
+abbrev ReachesNext : (ℕ → Bool) → ℕ → Unit_at → Type 0
+ReachesNext good p u = (0 < u.width) × (good (p + u.width) ≡ true) × ((k : ℕ) → p < k → k < p + u.width → good k ≡ false)
 
 character_leads : (haystack : List ℕ) (p : ℕ) (u : Unit_at) (o : Option ℕ) → char_at haystack p ≡ o → IsUtf8 haystack → p ≤ length haystack → is_boundary haystack p ≡ true
-    → one_character o ≡ Some u → Leads (is_boundary haystack) p u
+    → one_character o ≡ Some u → ReachesNext (is_boundary haystack) p u
 character_leads haystack p u None read text within here e = cc
 character_leads haystack p u (Some c) read text within here e =
     let same : record { code = c; width = len_utf8 c } ≡ u = cc in
-    subst (λ (v : Unit_at). Leads (is_boundary haystack) p v) same
+    subst (λ (v : Unit_at). ReachesNext (is_boundary haystack) p v) same
     (omega (arith, (len_utf8_bounds c).0), char_at-boundary haystack p c text within here read, λ k above below. inside_character haystack p c k read above below)
 
 text_leads : (m : Meaning) (haystack : List ℕ) (p : ℕ) (u : Unit_at) → reads_characters m ≡ true → IsUtf8 haystack → p ≤ length haystack → is_boundary haystack p ≡ true
-    → unit_in m haystack p ≡ Some u → Leads (is_boundary haystack) p u
+    → unit_in m haystack p ≡ Some u → ReachesNext (is_boundary haystack) p u
 text_leads Unicode haystack p u m text within here e = character_leads haystack p u _ refl text within here e
 text_leads Bytes haystack p u m text within here e = absurd (true≢false (sym m))
 text_leads AsciiText haystack p u m text within here e = character_leads haystack p u _ refl text within here e
 
-byte_leads : (good : ℕ → Bool) → ((i : ℕ) → good i ≡ true) → (p : ℕ) (u : Unit_at) (o : Option ℕ) → one_byte o ≡ Some u → Leads good p u
+byte_leads : (good : ℕ → Bool) → ((i : ℕ) → good i ≡ true) → (p : ℕ) (u : Unit_at) (o : Option ℕ) → one_byte o ≡ Some u → ReachesNext good p u
 byte_leads good all p u None e = cc
 byte_leads good all p u (Some b) e =
     let same : record { code = b; width = 1 } ≡ u = cc in
-    subst (λ (v : Unit_at). Leads good p v) same (omega arith, all (p + 1), λ k above below. absurd (omega arith))
+    subst (λ (v : Unit_at). ReachesNext good p v) same (omega arith, all (p + 1), λ k above below. absurd (omega arith))
 
 bytes_lead : (m : Meaning) (haystack : List ℕ) (good : ℕ → Bool) → ((i : ℕ) → good i ≡ true) → (p : ℕ) (u : Unit_at) → reads_characters m ≡ false
-    → unit_in m haystack p ≡ Some u → Leads good p u
+    → unit_in m haystack p ≡ Some u → ReachesNext good p u
 bytes_lead Unicode haystack good all p u m e = absurd (true≢false m)
 bytes_lead Bytes haystack good all p u m e = byte_leads good all p u _ e
 bytes_lead AsciiText haystack good all p u m e = absurd (true≢false m)

@@ -5,7 +5,7 @@ use Rattle.fancy_automaton.specs.declared.way.Way.{Way}
 use Rattle.std.specs.Option.{option_or}
 use Rattle.std.specs.Prelude.{map, slice_index}
 use Rattle.fancy_automaton.specs.Ways.{Ends, tagged, first_end, way_end, match_end, AllKnown}
-use Rattle.fancy_automaton.specs.Steps.{waiting, span_by, first_span, at_of, start_in}
+use Rattle.fancy_automaton.specs.Steps.{waiting, span_by, first_tagged_end, at_of, start_in}
 
 drop_length : (qs : List ℕ) → drop (length qs) qs ≡ []
 drop_length [] = refl
@@ -39,7 +39,7 @@ or_assoc None b c = refl
 or_assoc (Some x) b c = refl
 
 -- the ways after an item begin where those began that they come from
-pub span_next : (ends : Ends) (starts : List ℕ) (next : List Way) → first_span ends (map at_of next) (map (start_in starts) next) ≡ span_by starts (first_end ends next)
+pub span_next : (ends : Ends) (starts : List ℕ) (next : List Way) → first_tagged_end ends (map at_of next) (map (start_in starts) next) ≡ span_by starts (first_end ends next)
 span_next ends starts [] = refl
 span_next ends starts (l ∷ ls) =
     ap₂ option_or (sym (span_tagged starts l.from (start_in starts l) (ends l.at) refl)) (span_next ends starts ls) ∙ sym (span_or starts (way_end ends l) (first_end ends ls))
@@ -48,7 +48,7 @@ after_front : (front : List ℕ) (s : ℕ) (starts : List ℕ) → slice_index (
 after_front [] s starts = refl
 after_front (x ∷ front) s starts = after_front front s starts
 
-span_from : (ends : Ends) (front qs starts : List ℕ) → length starts ≡ length qs → span_by (front ++ starts) (first_end ends (waiting (length front) qs)) ≡ first_span ends qs starts
+span_from : (ends : Ends) (front qs starts : List ℕ) → length starts ≡ length qs → span_by (front ++ starts) (first_end ends (waiting (length front) qs)) ≡ first_tagged_end ends qs starts
 span_from ends front [] starts e = refl
 span_from ends front (q ∷ qs) [] e = absurd (omega (arith, e))
 span_from ends front (q ∷ qs) (s ∷ starts) e =
@@ -59,12 +59,12 @@ span_from ends front (q ∷ qs) (s ∷ starts) e =
       one_more : (front : List ℕ) (s : ℕ) → length (front ++ s ∷ []) ≡ suc (length front)
       one_more front s = omega (arith, length-append front (s ∷ []))
 
-pub span_waiting : (ends : Ends) (qs starts : List ℕ) → length starts ≡ length qs → first_span ends qs starts ≡ span_by starts (first_end ends (waiting 0 qs))
+pub span_waiting : (ends : Ends) (qs starts : List ℕ) → length starts ≡ length qs → first_tagged_end ends qs starts ≡ span_by starts (first_end ends (waiting 0 qs))
 span_waiting ends qs starts e = sym (span_from ends [] qs starts e)
 
 -- one more way begins
 pub span_begun : (ends : Ends) (qs starts : List ℕ) (q s : ℕ) → length starts ≡ length qs
-    → first_span ends (qs ++ q ∷ []) (starts ++ s ∷ []) ≡ option_or (first_span ends qs starts) (tagged s (ends q))
+    → first_tagged_end ends (qs ++ q ∷ []) (starts ++ s ∷ []) ≡ option_or (first_tagged_end ends qs starts) (tagged s (ends q))
 span_begun ends [] [] q s e = none (tagged s (ends q)) where
   none : (o : Option (ℕ × ℕ)) → option_or o None ≡ o
   none None = refl
@@ -72,12 +72,12 @@ span_begun ends [] [] q s e = none (tagged s (ends q)) where
 span_begun ends [] (t ∷ starts) q s e = absurd (omega (arith, e))
 span_begun ends (p ∷ qs) [] q s e = absurd (omega (arith, e))
 span_begun ends (p ∷ qs) (t ∷ starts) q s e =
-    ap (option_or (tagged t (ends p))) (span_begun ends qs starts q s (omega (arith, e))) ∙ sym (or_assoc (tagged t (ends p)) (first_span ends qs starts) (tagged s (ends q)))
+    ap (option_or (tagged t (ends p))) (span_begun ends qs starts q s (omega (arith, e))) ∙ sym (or_assoc (tagged t (ends p)) (first_tagged_end ends qs starts) (tagged s (ends q)))
 
 -- a step with where the ways began: those after the item, or else the match
 pub span_step : (ends later : Ends) (qs starts : List ℕ) (next : List Way) (matched : Option ℕ) (here : ℕ) → length starts ≡ length qs
     → option_or (first_end later next) (match_end matched here) ≡ first_end ends (waiting 0 qs)
-    → first_span ends qs starts ≡ option_or (first_span later (map at_of next) (map (start_in starts) next)) (span_by starts (match_end matched here))
+    → first_tagged_end ends qs starts ≡ option_or (first_tagged_end later (map at_of next) (map (start_in starts) next)) (span_by starts (match_end matched here))
 span_step ends later qs starts next matched here e step =
     span_waiting ends qs starts e ∙ ap (span_by starts) (sym step) ∙ span_or starts (first_end later next) (match_end matched here)
     ∙ ap (λ (o : Option (ℕ × ℕ)). option_or o (span_by starts (match_end matched here))) (sym (span_next later starts next))

@@ -15,7 +15,7 @@ use Rattle.fancy_automaton.specs.Ways.{match_end}
 use Rattle.fancy_automaton.specs.Steps.{from_of, start_in, span_by}
 use Rattle.fancy_automaton.specs.Cells.{KeepsCells}
 use Rattle.fancy_automaton.specs.Search.{begun_if, found_or}
-use Rattle.fancy_automaton.specs.Trail.{found_at, hit_or, IsBeginning, HitIn, AllVisited, came_at, came_of, and_start, next_starts, starts_after, starts_before, start_of, began_at, began_by}
+use Rattle.fancy_automaton.specs.Trail.{found_at, hit_or, IsBeginning, HitIn, AllVisited, came_at, came_of, and_start, next_starts, starts_after, starts_before, start_of_visit, began_at, began_by}
 use Rattle.fancy_automaton.proofs.CellLemmas.{starts_by}
 
 pub after_more : (cells : List Cell) (starts : List ℕ) (vs : List Visit) (v : Visit) → starts_after cells starts (vs ++ v ∷ []) ≡ next_starts cells (starts_after cells starts vs) v
@@ -70,21 +70,21 @@ module _ (cells : List Cell) (base : List ℕ) (visits : List Visit) where
   after_some i v j f e came =
       ap (λ (xs : List ℕ). slice_index xs j) (starts_more i v e)
       ∙ get_map (λ k. slice_index (and_start v.start (Starts i)) k) (came_at cells v.cell) j f came
-      ∙ ap (λ (o : Option ℕ). slice_index (and_start o (Starts i)) f) (sym (ap start_of e))
+      ∙ ap (λ (o : Option ℕ). slice_index (and_start o (Starts i)) f) (sym (ap start_of_visit e))
 
   pub after_none : (i : ℕ) (v : Visit) (j : ℕ) → slice_get visits i ≡ Some v → slice_get (came_at cells v.cell) j ≡ None → slice_index (Starts (i + 1)) j ≡ 0
   after_none i v j e came = ap (λ (xs : List ℕ). slice_index xs j) (starts_more i v e) ∙ get_none _ (came_at cells v.cell) j came
 
   -- where a way in a visit's row began
   pub begun_none : (i : ℕ) (v : Visit) (f : ℕ) → slice_get visits i ≡ Some v → v.start ≡ None → began_at cells base visits i f ≡ slice_index (Starts i) f
-  begun_none i v f e none = ap (λ (o : Option ℕ). slice_index (and_start o (Starts i)) f) (ap start_of e ∙ none)
+  begun_none i v f e none = ap (λ (o : Option ℕ). slice_index (and_start o (Starts i)) f) (ap start_of_visit e ∙ none)
 
   pub begun_last : (i : ℕ) (v : Visit) (p f : ℕ) → slice_get visits i ≡ Some v → v.start ≡ Some p → f ≡ length (Starts i) → began_at cells base visits i f ≡ p
-  begun_last i v p f e some last = ap (λ (o : Option ℕ). slice_index (and_start o (Starts i)) f) (ap start_of e ∙ some) ∙ last_is (Starts i) p f last
+  begun_last i v p f e some last = ap (λ (o : Option ℕ). slice_index (and_start o (Starts i)) f) (ap start_of_visit e ∙ some) ∙ last_is (Starts i) p f last
 
   pub begun_other : (i : ℕ) (v : Visit) (p f : ℕ) → slice_get visits i ≡ Some v → v.start ≡ Some p → (f ≡ length (Starts i) → ⊥)
       → began_at cells base visits i f ≡ slice_index (Starts i) f
-  begun_other i v p f e some other = ap (λ (o : Option ℕ). slice_index (and_start o (Starts i)) f) (ap start_of e ∙ some) ∙ others_are (Starts i) p f other
+  begun_other i v p f e some other = ap (λ (o : Option ℕ). slice_index (and_start o (Starts i)) f) (ap start_of_visit e ∙ some) ∙ others_are (Starts i) p f other
 
 came_keeps : (cells later : List Cell) (k : ℕ) (c : Cell) → KeepsCells cells later → slice_get cells k ≡ Some c → came_at later k ≡ came_at cells k
 came_keeps cells later k c keeps e = ap came_of (keeps k c e ∙ sym e)
@@ -131,7 +131,7 @@ take_whole (w ∷ vs) v = ap (λ (xs : List Visit). w ∷ xs) (take_whole vs v)
 module _ (cells later : List Cell) (keeps : KeepsCells cells later) (base : List ℕ) (visits : List Visit) (all : AllVisited cells visits) (v : Visit) where
   began_keeps : (i f : ℕ) → i < length visits → began_at later base (visits ++ v ∷ []) i f ≡ began_at cells base visits i f
   began_keeps i f lt =
-      ap₂ (λ (o : Option Visit) (ss : List ℕ). slice_index (and_start (start_of o) ss) f) (get_before visits v i lt)
+      ap₂ (λ (o : Option Visit) (ss : List ℕ). slice_index (and_start (start_of_visit o) ss) f) (get_before visits v i lt)
       (ap (starts_after later base) (take_before visits v i lt) ∙ starts_keep cells later base (take i visits) keeps (visited_take cells i visits all))
 
   beginning_keeps : (b : Beginning) → IsBeginning visits b → began_by later base (visits ++ v ∷ []) b ≡ began_by cells base visits b
@@ -145,7 +145,7 @@ module _ (cells later : List Cell) (keeps : KeepsCells cells later) (base : List
 
   began_last : (f : ℕ) → began_at later base (visits ++ v ∷ []) (length visits) f ≡ slice_index (and_start v.start (starts_after cells base visits)) f
   began_last f =
-      ap₂ (λ (o : Option Visit) (ss : List ℕ). slice_index (and_start (start_of o) ss) f) (get_last visits v) (ap (starts_after later base) (take_whole visits v) ∙ starts_keep cells later base visits keeps all)
+      ap₂ (λ (o : Option Visit) (ss : List ℕ). slice_index (and_start (start_of_visit o) ss) f) (get_last visits v) (ap (starts_after later base) (take_whole visits v) ∙ starts_keep cells later base visits keeps all)
 
   -- what a visit finds
   pub told_by : (hit : Option Hit) (matched : Option ℕ) (place : ℕ) → HitIn visits hit

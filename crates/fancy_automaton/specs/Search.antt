@@ -13,7 +13,7 @@ use Rattle.fancy_engine.specs.Search.{Answer}
 use Rattle.fancy_engine.specs.Seen.{MayNotStart}
 use Rattle.fancy_automaton.specs.Ways.{AllKnown}
 use Rattle.fancy_automaton.specs.Futures.{end_at, known_at, leftmost}
-use Rattle.fancy_automaton.specs.Steps.{waiting, first_span}
+use Rattle.fancy_automaton.specs.Steps.{waiting, first_tagged_end}
 
 module _ (good : ℕ → Bool) (x : Context) (limit : ℕ) (code : List Instruction) (deep start : ℕ) where
   -- what the code gives from each start is known
@@ -24,7 +24,7 @@ module _ (good : ℕ → Bool) (x : Context) (limit : ℕ) (code : List Instruct
   pub record Under (goal : Option (ℕ × ℕ)) (ways starts : List ℕ) (place : ℕ) (rest : Option (ℕ × ℕ)) : Type 0 where
     pub same : length starts ≡ length ways
     pub known : AllKnown (known_at good x limit code deep place) (waiting 0 ways)
-    pub answer : option_or (first_span (end_at good x limit code deep place) ways starts) rest ≡ goal
+    pub answer : option_or (first_tagged_end (end_at good x limit code deep place) ways starts) rest ≡ goal
 
 -- where a match begins and ends
 abbrev pub ends_in : Span → ℕ × ℕ

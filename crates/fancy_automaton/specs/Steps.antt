@@ -31,10 +31,10 @@ span_by starts None = None
 span_by starts (Some (from, end)) = Some (slice_index starts from, end)
 
 -- the first way that has an end, with where it began
-abbrev pub first_span : Ends → List ℕ → List ℕ → Option (ℕ × ℕ)
-first_span ends [] starts = None
-first_span ends (q ∷ qs) [] = None
-first_span ends (q ∷ qs) (s ∷ starts) = option_or (tagged s (ends q)) (first_span ends qs starts)
+abbrev pub first_tagged_end : Ends → List ℕ → List ℕ → Option (ℕ × ℕ)
+first_tagged_end ends [] starts = None
+first_tagged_end ends (q ∷ qs) [] = None
+first_tagged_end ends (q ∷ qs) (s ∷ starts) = option_or (tagged s (ends q)) (first_tagged_end ends qs starts)
 
 abbrev pub start_in : List ℕ → Way → ℕ
 start_in starts w = slice_index starts w.from

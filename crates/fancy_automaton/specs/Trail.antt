@@ -29,9 +29,9 @@ abbrev pub starts_after : List Cell → List ℕ → List Visit → List ℕ
 starts_after cells starts [] = starts
 starts_after cells starts (v ∷ vs) = starts_after cells (next_starts cells starts v) vs
 
-abbrev pub start_of : Option Visit → Option ℕ
-start_of None = None
-start_of (Some v) = v.start
+abbrev pub start_of_visit : Option Visit → Option ℕ
+start_of_visit None = None
+start_of_visit (Some v) = v.start
 
 abbrev pub start_or : Option ℕ → ℕ → ℕ
 start_or None d = d
@@ -45,7 +45,7 @@ module _ (cells : List Cell) (base : List ℕ) (visits : List Visit) where
 
   -- where a way in the row of a visit began
   abbrev pub began_at : ℕ → ℕ → ℕ
-  began_at visit way = slice_index (and_start (start_of (slice_get visits visit)) (starts_before visit)) way
+  began_at visit way = slice_index (and_start (start_of_visit (slice_get visits visit)) (starts_before visit)) way
 
   -- where a match began
   abbrev pub began_by : Beginning → ℕ

@@ -19,7 +19,7 @@ abbrev pub NoneMayStand : KeyTable → List ℕ → ℕ → ℕ → Type 0
 NoneMayStand t haystack end p = (number : ℕ) → ¬ MayStand t haystack end p number
 
 -- where a row stands, it may stand by the table
-abbrev pub Tells : KeyTable → List (Vec ByteFlags) → Type 0
-Tells t rows =
+abbrev pub MissesNoRow : KeyTable → List (Vec ByteFlags) → Type 0
+MissesNoRow t rows =
     (number : ℕ) (row : Vec ByteFlags) (haystack : List ℕ) (end p : ℕ) → slice_get rows number ≡ Some row → ((k : ℕ) → slice_index haystack k < 256)
     → StandsFrom row.items haystack end 0 p → MayStand t haystack end p number

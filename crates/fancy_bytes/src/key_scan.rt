@@ -2,7 +2,7 @@
 
 ghost use Rattle.std.specs.Prelude.{◌≡◌, ℕ, ◌+◌, ◌<◌, ◌≤◌, true, List, length, IfOk, IfSome, MatchOption, slice_index};
 ghost use Rattle.fancy_bytes.specs.Keys.{AreBelow, IsAmong, RiseBetween, class_of, keys};
-ghost use Rattle.fancy_bytes.specs.KeyTables.{HasAt, MayStand, NoneMayStand, Tells};
+ghost use Rattle.fancy_bytes.specs.KeyTables.{HasAt, MayStand, NoneMayStand, MissesNoRow};
 ghost use Rattle.fancy_bytes.specs.LastKeys.{AreLast};
 
 use crate::byte_set::ByteSet;
@@ -67,7 +67,7 @@ impl KeyTable {
     /// For these rows. `None` where there is none, where one has no set, or where the table would be too large, since too many bytes may
     /// stand first. It is refused where memory runs out.
     pub fn new(alloc: Global, rows: &[Vec<ByteSet>]) -> Result<Option<KeyTable>, AllocError>
-        ensures tells { IfOk result (λ o. IfSome o (λ t. Tells t rows.now)) }
+        ensures tells { IfOk result (λ o. IfSome o (λ t. MissesNoRow t rows.now)) }
         ensures below { IfOk result (λ o. IfSome o (λ t. AreBelow t.members.items (length rows.now))) }
     {
         let width = width_of(rows);

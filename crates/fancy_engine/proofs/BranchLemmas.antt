@@ -9,11 +9,11 @@ use Rattle.std.proofs.lemmas.Option.{get_or_from_slice_get}
 use Rattle.fancy_bytes.specs.Keys.{IsAmong, RiseBetween}
 use Rattle.fancy_bytes.specs.Openings.{StandsBefore}
 use Rattle.fancy_tree.specs.declared.tree.Meaning.{Meaning}
-use Rattle.fancy_bytes.specs.KeyTables.{MayStand, Tells}
+use Rattle.fancy_bytes.specs.KeyTables.{MayStand, MissesNoRow}
 use Rattle.fancy_bytes.specs.Sets.{ByteFlags}
 use Rattle.fancy_bytes.specs.Windows.{StandsFrom}
 use Rattle.fancy_engine.specs.Attempt.{instrs_in, context_in, may_end_in, first_accepted_in, begins_in, begins_with, passes_in, KnownIn}
-use Rattle.fancy_engine.specs.Branches.{AreBranches, Chooses, Leads, OpensTo, SplitsTo, TestsTo, dues_in}
+use Rattle.fancy_engine.specs.Branches.{AreBranches, Chooses, HasLead, OpensTo, SplitsTo, TestsTo, dues_in}
 use Rattle.fancy_engine.specs.Context.{Context, State, moved_to}
 use Rattle.fancy_engine.specs.Events.{return, outcome}
 use Rattle.fancy_engine.specs.Foretold.{AreRows}
@@ -293,7 +293,7 @@ each_more P (z ∷ zs) x all one (suc n) y e = each_more (λ k v. P (suc k) v) z
 
 -- the alternatives of code, by a table of their rows
 
-pub branches_told : (b : Branches) (code : List Instruction) (m : Meaning) (start : ℕ) (rows : List (Vec ByteFlags)) → Leads code start b.lead → Chooses code b.lead.at b.heads.items → AreRows code m b.heads.items rows → Tells b.table rows
+pub branches_told : (b : Branches) (code : List Instruction) (m : Meaning) (start : ℕ) (rows : List (Vec ByteFlags)) → HasLead code start b.lead → Chooses code b.lead.at b.heads.items → AreRows code m b.heads.items rows → MissesNoRow b.table rows
     → AreTexts code m b.heads.items b.texts.items → AreBranches b code m start
 branches_told b code m start rows leads chooses are tells texts = record {
   leads = leads;

@@ -5,7 +5,7 @@ use Rattle.std.specs.Option.{option_or}
 use Rattle.fancy_tree.specs.declared.tree.Meaning.{Meaning}
 use Rattle.fancy_bytes.specs.Sets.{ByteFlags, member}
 use Rattle.fancy_bytes.specs.Windows.{StandsFrom, set_at}
-use Rattle.fancy_engine.specs.Choices.{has_stop, stops, BeginsBy, StopsNowhere}
+use Rattle.fancy_engine.specs.Choices.{has_stop, stops, BeginsAmong, StopsNowhere}
 use Rattle.fancy_engine.specs.Context.{Context, State}
 use Rattle.fancy_engine.specs.Events.{Event, return}
 use Rattle.fancy_engine.specs.Foretold.{Foretold}
@@ -28,7 +28,7 @@ none_foretold P never None h = refl
 none_foretold P never (Some w) h = never_stops P never w h
 
 -- the byte that stands at the first place of what is consumed
-pub by_first : (code : List Instruction) (m : Meaning) (sets : List ByteFlags) (q : ℕ) → Foretold code m sets 0 true q → 0 < length sets → BeginsBy code m (set_at sets 0) q
+pub by_first : (code : List Instruction) (m : Meaning) (sets : List ByteFlags) (q : ℕ) → Foretold code m sets 0 true q → 0 < length sets → BeginsAmong code m (set_at sets 0) q
 by_first code m sets q told some x limit n s v meant bytes lacks =
     none_foretold (StandsFrom sets x.haystack limit 0 s.place)
     (λ stands.
@@ -47,12 +47,12 @@ first_default [] d e some = absurd (omega (arith, some))
 first_default (s ∷ sets) d e some = refl
 
 -- where all bytes are members
-pub by_all : (code : List Instruction) (m : Meaning) (set : ByteFlags) (q : ℕ) → ((b : ℕ) → b < 256 → member set b ≡ true) → BeginsBy code m set q
+pub by_all : (code : List Instruction) (m : Meaning) (set : ByteFlags) (q : ℕ) → ((b : ℕ) → b < 256 → member set b ≡ true) → BeginsAmong code m set q
 by_all code m set q all x limit n s v meant bytes lacks = absurd (true≢false (sym (all (slice_index x.haystack s.place) (bytes s.place)) ∙ lacks))
 
 -- a way stops nowhere where its set does not have the byte
 pub stops_nowhere : (code : List Instruction) (m : Meaning) (set : ByteFlags) (q : ℕ) (haystack : List ℕ) (place : ℕ) → ((k : ℕ) → slice_index haystack k < 256)
-    → BeginsBy code m set q → member set (slice_index haystack place) ≡ false → StopsNowhere code m haystack place q
+    → BeginsAmong code m set q → member set (slice_index haystack place) ≡ false → StopsNowhere code m haystack place q
 stops_nowhere code m set q haystack place bytes begins lacks x limit n s v meant same at =
     begins x limit n s v meant (subst (λ (h : List ℕ). (k : ℕ) → slice_index h k < 256) (sym same) bytes)
     (ap (λ (h : List ℕ). member set (slice_index h s.place)) same ∙ ap (λ (p : ℕ). member set (slice_index haystack p)) at ∙ lacks)

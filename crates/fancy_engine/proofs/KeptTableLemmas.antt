@@ -9,12 +9,12 @@ use Rattle.fancy_input.specs.Requests.{effective_start}
 use Rattle.fancy_input.specs.declared.input.Request.{Request}
 use Rattle.fancy_engine.specs.Instructions.{Instruction}
 use Rattle.fancy_engine.specs.Context.{Context}
-use Rattle.fancy_engine.specs.Marking.{Marks, worth_in, sum_to, left_in}
+use Rattle.fancy_engine.specs.Marking.{Marks, worth_in, sum_to, sum_owed}
 use Rattle.fancy_engine.specs.declared.code.Code.{Code}
 use Rattle.fancy_engine.specs.declared.options.SearchOptions.{SearchOptions}
 use Rattle.fancy_engine.specs.declared.reading.SuppressedEnds.{SuppressedEnds}
 use Rattle.fancy_engine.specs.declared.search.Cache.{Cache}
-use Rattle.fancy_engine.specs.Code.{instrs_of, width_of, due_of, worth_of, left_of}
+use Rattle.fancy_engine.specs.Code.{instrs_of, width_of, due_of, worth_of, owed_of}
 use Rattle.fancy_engine.specs.CodeLength.{code_len}
 use Rattle.fancy_engine.specs.Compile.{IsCodeOf, depth}
 use Rattle.fancy_engine.specs.Queries.{most_steps}
@@ -84,36 +84,36 @@ module _ (code : Code) (haystack : List ℕ) (request : Request) (options : Sear
 
   -- no more steps are ahead of a table that begins at the first position than a search alone takes
   pub ahead_first : (kept : Option ℕ) (new : List Bool) (n : ℕ) → base ≡ unwrap_or kept first → first ≤ request.range_end → n ≤ request.range_end + 1 - first
-      → kept ≡ None → left_of code (request.range_end - base + 1) new + n * due_of code code.start ≤ most_steps code request
+      → kept ≡ None → owed_of code (request.range_end - base + 1) new + n * due_of code code.start ≤ most_steps code request
   ahead_first kept new n is within few none =
       let same : base ≡ first = is ∙ ap (λ (o : Option ℕ). unwrap_or o first) none in
       let rows_are : request.range_end - base + 1 ≡ request.range_end + 1 - effective_start request = omega (arith, same, begins, within) in
-      let ticks : left_of code (request.range_end - base + 1) new + n * due_of code code.start ≤ (request.range_end - base + 1) * code_len code =
-      subst (λ (k : ℕ). left_in code.marking.numbers.items code.marking.weights.items code.marking.width k (request.range_end - base + 1) new + n * due_of code code.start ≤ (request.range_end - base + 1) * k)
+      let ticks : owed_of code (request.range_end - base + 1) new + n * due_of code code.start ≤ (request.range_end - base + 1) * code_len code =
+      subst (λ (k : ℕ). sum_owed code.marking.numbers.items code.marking.weights.items code.marking.width k (request.range_end - base + 1) new + n * due_of code code.start ≤ (request.range_end - base + 1) * k)
       (length-instrs_of code)
       (first_ticks (instrs_of code) code.marking.numbers.items code.marking.weights.items code.marking.width code.start (request.range_end - base + 1) n new code.paid (omega (arith, same, few, within))) in
-      subst (λ (k : ℕ). left_of code (request.range_end - base + 1) new + n * due_of code code.start ≤ code_len code * k) rows_are (swapped (request.range_end - base + 1) (code_len code) _ ticks) where
+      subst (λ (k : ℕ). owed_of code (request.range_end - base + 1) new + n * due_of code code.start ≤ code_len code * k) rows_are (swapped (request.range_end - base + 1) (code_len code) _ ticks) where
         swapped : (rows count all : ℕ) → all ≤ rows * count → all ≤ count * rows
         swapped rows count all h = omega arith
 
   -- nor than were ahead before the search, and one for each instruction
   pub ahead_kept : (kept : Option ℕ) (old new : List Bool) (n : ℕ) → base ≡ unwrap_or kept first → first ≤ request.range_end → n ≤ request.range_end + 1 - first
-      → (is_some kept ≡ true → left_of code (request.range_end - base + 1) new ≤ left_of code (request.range_end - base + 1) old + worth_of code)
-      → left_of code (request.range_end - base + 1) new + n * due_of code code.start + due_of code code.start ≤ steps_before kept code request old + code_len code
+      → (is_some kept ≡ true → owed_of code (request.range_end - base + 1) new ≤ owed_of code (request.range_end - base + 1) old + worth_of code)
+      → owed_of code (request.range_end - base + 1) new + n * due_of code code.start + due_of code code.start ≤ steps_before kept code request old + code_len code
   ahead_kept None old new n is within few left =
       omega (arith, ahead_first None new n is within few refl, worth_paid)
   ahead_kept (Some b) old new n is within few left =
       let rows : ℕ = request.range_end - base + 1 in
-      let same : left_of code rows old ≡ left_of code (request.range_end - b + 1) old = ap (λ (k : ℕ). left_of code (request.range_end - k + 1) old) is in
+      let same : owed_of code rows old ≡ owed_of code (request.range_end - b + 1) old = ap (λ (k : ℕ). owed_of code (request.range_end - k + 1) old) is in
       let starts : (request.range_end + 1 - first) * due_of code code.start ≡ (request.range_end + 1 - effective_start request) * due_of code code.start = ap (λ (k : ℕ). (request.range_end + 1 - k) * due_of code code.start) begins in
       let fewer : n * due_of code code.start ≤ (request.range_end + 1 - first) * due_of code code.start = times_le n (request.range_end + 1 - first) (due_of code code.start) few in
       omega (arith, left refl, same, starts, fewer, worth_paid)
 
   -- what is ahead where something was found
   pub ahead_after : (kept : Option ℕ) (place end : ℕ) (table : List Bool) → base ≡ unwrap_or kept first → place ≤ end
-      → steps_ahead code request (table_base kept request) end table ≤ left_of code (request.range_end - base + 1) table + (request.range_end + 1 - place) * due_of code code.start
+      → steps_ahead code request (table_base kept request) end table ≤ owed_of code (request.range_end - base + 1) table + (request.range_end + 1 - place) * due_of code code.start
   ahead_after kept place end table is forth =
       let same : base ≡ table_base kept request = is ∙ ap (unwrap_or kept) begins in
-      let left : left_of code (request.range_end - base + 1) table ≡ left_of code (request.range_end - table_base kept request + 1) table = ap (λ (k : ℕ). left_of code (request.range_end - k + 1) table) same in
+      let left : owed_of code (request.range_end - base + 1) table ≡ owed_of code (request.range_end - table_base kept request + 1) table = ap (λ (k : ℕ). owed_of code (request.range_end - k + 1) table) same in
       let fewer : (request.range_end + 1 - end) * due_of code code.start ≤ (request.range_end + 1 - place) * due_of code code.start = times_le (request.range_end + 1 - end) (request.range_end + 1 - place) (due_of code code.start) (omega (arith, forth)) in
       omega (arith, left, fewer)

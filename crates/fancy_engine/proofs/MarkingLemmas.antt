@@ -11,7 +11,7 @@ use Rattle.fancy_tree.specs.declared.char_set.CharSet.{CharSet}
 use Rattle.fancy_engine.specs.declared.code.Instr.{Instr}
 use Rattle.fancy_engine.specs.declared.code.Instr.TheVariants as coded
 use Rattle.fancy_engine.specs.Instructions.{Instruction, with_set, with_sets, Match, Fail, Character, Member, RawByte, Assert, Split, Open, Close, Enter, Commit, Look, Deny, Test, Back, Recall, Keep, Continue, Taken}
-use Rattle.fancy_engine.specs.Marking.{number_in, worth_in, due_in, cost_in, sum_to, marks, owed, left_in, IsPaid, IsNumbered}
+use Rattle.fancy_engine.specs.Marking.{number_in, worth_in, due_in, cost_in, sum_to, marks, owed, sum_owed, IsPaid, IsNumbered}
 use Rattle.fancy_engine.specs.Table.{IsCleared, IsForgotten}
 use Rattle.fancy_engine.proofs.TableLemmas.{member-set}
 use Rattle.fancy_engine.proofs.SumLemmas.{sum_le, sum_less, sum_one, sum_most}
@@ -77,7 +77,7 @@ module _ (numbers : List (Option ℕ)) (weights : List ℕ) (width : ℕ) where
 
     -- the new mark is worth what its instruction weighs
     pub left_less : (count rows : ℕ) → q < count → row < rows → row * width + k < length table → slice_index_or table (row * width + k) false ≡ false
-        → left_in numbers weights width count rows (set table (row * width + k) true) + slice_index_or weights q 0 ≤ left_in numbers weights width count rows table
+        → sum_owed numbers weights width count rows (set table (row * width + k) true) + slice_index_or weights q 0 ≤ sum_owed numbers weights width count rows table
     left_less count rows q_in row_in inside new =
         sum_less _ _ (slice_index_or weights q 0) row rows (λ r. sum_le _ _ count (owed_less r)) row_in
         (sum_less _ _ (slice_index_or weights q 0) q count (owed_less row) q_in here) where
@@ -98,7 +98,7 @@ module _ (numbers : List (Option ℕ)) (weights : List ℕ) (width : ℕ) where
               omega (arith, a, b)
 
   -- all marks of a place are worth so much at most
-  pub left_most : (count rows : ℕ) (table : List Bool) → left_in numbers weights width count rows table ≤ rows * sum_to (worth_in numbers weights) count
+  pub left_most : (count rows : ℕ) (table : List Bool) → sum_owed numbers weights width count rows table ≤ rows * sum_to (worth_in numbers weights) count
   left_most count rows table =
       sum_most _ (sum_to (worth_in numbers weights) count) rows (λ r. sum_le _ _ count (λ p. if_most (marks numbers width table p r) (worth_in numbers weights p)))
 
@@ -149,7 +149,7 @@ module _ (numbers : List (Option ℕ)) (weights : List ℕ) (width : ℕ) (numbe
       (sym (marks_elsewhere p r apart) ∙ h, apart)
 
   -- what was taken away is worth no more than the marks of a place
-  pub left_more : (count rows : ℕ) → left_in numbers weights width count rows new ≤ left_in numbers weights width count rows old + sum_to (worth_in numbers weights) count
+  pub left_more : (count rows : ℕ) → sum_owed numbers weights width count rows new ≤ sum_owed numbers weights width count rows old + sum_to (worth_in numbers weights) count
   left_more count rows =
       sum_one _ _ (sum_to (worth_in numbers weights) count) row rows
       (λ r apart. sum_le _ _ count (λ p. if_same (marks numbers width new p r) (marks numbers width old p r) (worth_in numbers weights p) (marks_elsewhere p r apart)))
@@ -328,7 +328,7 @@ module _ (numbers : List (Option ℕ)) (weights : List ℕ) (width row : ℕ) (o
     at (Some m) h = is.more (r * width + m) h
 
   -- no more is left
-  pub left_fewer : (count rows : ℕ) → left_in numbers weights width count rows new ≤ left_in numbers weights width count rows old
+  pub left_fewer : (count rows : ℕ) → sum_owed numbers weights width count rows new ≤ sum_owed numbers weights width count rows old
   left_fewer count rows = sum_le _ _ rows (λ r. sum_le _ _ count (λ p. if_less (marks numbers width new p r) (marks numbers width old p r) (worth_in numbers weights p) (marks_more p r)))
 
 times_most : (a w v : ℕ) → w ≤ v → a * w ≤ a * v
@@ -336,14 +336,14 @@ times_most a w v h = omega (arith, times_le w v a h)
 
 -- the marks of so many places, and a start at each of n of these, are worth no more than all pairs
 pub first_ticks : (code : List Instruction) (numbers : List (Option ℕ)) (weights : List ℕ) (width start rows n : ℕ) (table : List Bool) → IsPaid code numbers weights start → n ≤ rows
-    → left_in numbers weights width (length code) rows table + n * due_in numbers weights start ≤ rows * length code
+    → sum_owed numbers weights width (length code) rows table + n * due_in numbers weights start ≤ rows * length code
 first_ticks code numbers weights width start rows n table w le =
     let worth : ℕ = sum_to (worth_in numbers weights) (length code) in
     let due : ℕ = due_in numbers weights start in
     let all : rows * (worth + due) ≤ rows * length code = times_most rows (worth + due) (length code) w.total in
     let starts : n * due ≤ rows * due = times_le n rows due le in
-    let most : left_in numbers weights width (length code) rows table ≤ rows * worth = left_most numbers weights width (length code) rows table in
-    sums rows worth due (rows * length code) (n * due) (left_in numbers weights width (length code) rows table) all starts most where
+    let most : sum_owed numbers weights width (length code) rows table ≤ rows * worth = left_most numbers weights width (length code) rows table in
+    sums rows worth due (rows * length code) (n * due) (sum_owed numbers weights width (length code) rows table) all starts most where
       sums : (rows worth due all starts left : ℕ) → rows * (worth + due) ≤ all → starts ≤ rows * due → left ≤ rows * worth → left + starts ≤ all
       sums rows worth due all starts left h k m = omega arith
 

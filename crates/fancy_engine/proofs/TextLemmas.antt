@@ -13,7 +13,7 @@ use Rattle.fancy_engine.specs.Events.{Event, outcome}
 use Rattle.fancy_engine.specs.Instructions.{Instruction, Character, Match}
 use Rattle.fancy_engine.specs.Run.{Raw, Note, Go, fetched, Foretells, act, before, instr_at, onward, run}
 use Rattle.fancy_engine.specs.Runner.{IsKnown, events_of}
-use Rattle.fancy_engine.specs.Texts.{Gives, BeginsWith, EndsWith, ConsumesTo}
+use Rattle.fancy_engine.specs.Texts.{GivesEvents, BeginsWith, EndsWith, ConsumesTo}
 use Rattle.fancy_engine.proofs.ForetoldLemmas.{before_told, onward_told, foretells_all, foretells_imply, item_at, low_text}
 use Rattle.fancy_engine.proofs.ReadingLemmas.{low_unit}
 
@@ -51,17 +51,17 @@ low_past x p c low e =
 
 -- what is given
 
-gives_before : (es : List Event) (o : Option (List Raw)) → Gives es o → Gives es (before (Note fetched) o)
+gives_before : (es : List Event) (o : Option (List Raw)) → GivesEvents es o → GivesEvents es (before (Note fetched) o)
 gives_before es None g = tt
 gives_before es (Some w) g = g
 
-gives_onward : (es : List Event) (limit : ℕ) (go : Go) (next : ℕ) (s : State) (v : List ℕ) (o : Option ℕ) (q : ℕ) → o ≡ Some q → q ≤ limit → Gives es (go next (moved_to s q) v)
-    → Gives es (onward limit go next s v o)
+gives_onward : (es : List Event) (limit : ℕ) (go : Go) (next : ℕ) (s : State) (v : List ℕ) (o : Option ℕ) (q : ℕ) → o ≡ Some q → q ≤ limit → GivesEvents es (go next (moved_to s q) v)
+    → GivesEvents es (onward limit go next s v o)
 gives_onward es limit go next s v o q e le g =
-    subst (λ (r : Option ℕ). Gives es (onward limit go next s v r)) (sym e)
-    (subst (λ (b : Bool). Gives es (if b then (go next (moved_to s q) v) else (Some []))) (sym (le-leb q limit le)) g)
+    subst (λ (r : Option ℕ). GivesEvents es (onward limit go next s v r)) (sym e)
+    (subst (λ (b : Bool). GivesEvents es (if b then (go next (moved_to s q) v) else (Some []))) (sym (le-leb q limit le)) g)
 
-pub given_events : (es : List Event) (o : Option (List Raw)) → IsKnown o → Gives es o → events_of o ≡ es
+pub given_events : (es : List Event) (o : Option (List Raw)) → IsKnown o → GivesEvents es o → events_of o ≡ es
 given_events es None known g = absurd known
 given_events es (Some w) known g = g
 
@@ -80,12 +80,12 @@ module _ (code : List Instruction) (m : Meaning) where
 
   ends_by : (text : List ℕ) (at : ℕ) (i : Instruction) → instr_at code at ≡ i
       → ((x : Context) (limit n : ℕ) (s : State) (v : List ℕ) → x.meaning ≡ m → StandsBefore x.haystack limit text s.place
-      → Gives (outcome (moved_to s (s.place + length text)) ∷ []) (act x limit at i (run x limit code n) (run x (length x.haystack) code n) s v))
+      → GivesEvents (outcome (moved_to s (s.place + length text)) ∷ []) (act x limit at i (run x limit code n) (run x (length x.haystack) code n) s v))
       → EndsWith code m text at
   ends_by text at i is f x limit zero s v meant stands = tt
   ends_by text at i is f x limit (suc n) s v meant stands =
       gives_before (outcome (moved_to s (s.place + length text)) ∷ []) (act x limit at (instr_at code at) (run x limit code n) (run x (length x.haystack) code n) s v)
-      (subst (λ (j : Instruction). Gives (outcome (moved_to s (s.place + length text)) ∷ []) (act x limit at j (run x limit code n) (run x (length x.haystack) code n) s v)) (sym is)
+      (subst (λ (j : Instruction). GivesEvents (outcome (moved_to s (s.place + length text)) ∷ []) (act x limit at j (run x limit code n) (run x (length x.haystack) code n) s v)) (sym is)
       (f x limit n s v meant stands))
 
   begins_empty : (at : ℕ) → BeginsWith code m [] at
@@ -121,7 +121,7 @@ module _ (code : List Instruction) (m : Meaning) where
         let end : p + 1 + length text ≡ p + length (c ∷ text) = omega arith in
         gives_onward (outcome (moved_to s (p + length (c ∷ text))) ∷ []) limit (run x limit code n) next s v (past_item x (λ d. d == c) p) (p + 1)
         (low_past x p c low stands.1) (omega (arith, stands.0))
-        (subst (λ (q : ℕ). Gives (outcome (moved_to s q) ∷ []) (run x limit code n next (moved_to s (p + 1)) v)) end
+        (subst (λ (q : ℕ). GivesEvents (outcome (moved_to s q) ∷ []) (run x limit code n next (moved_to s (p + 1)) v)) end
         (f x limit n (moved_to s (p + 1)) v meant stands.2)))
 
   -- a text, and what follows it

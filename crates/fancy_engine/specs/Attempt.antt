@@ -4,7 +4,7 @@ use Rattle.fancy_tree.specs.declared.tree.Assertion.{Assertion}
 use Rattle.fancy_engine.specs.Instructions.{Instruction}
 use Rattle.fancy_engine.specs.declared.runner.Attempt.{Attempt}
 use Rattle.fancy_engine.specs.declared.runner.Next.{Next}
-use Rattle.fancy_engine.specs.Code.{instrs_of, width_of, marks_of, left_of, burden}
+use Rattle.fancy_engine.specs.Code.{instrs_of, width_of, marks_of, owed_of, burden}
 use Rattle.fancy_engine.specs.Context.{Context, State, holds}
 use Rattle.fancy_engine.specs.Marking.{Marks}
 use Rattle.fancy_engine.specs.Reading.{search_context}
@@ -67,12 +67,12 @@ module _ (a : Attempt) where
   bits_in = places_in * width_of a.code.now
 
   -- what the marks are worth that were not made
-  abbrev pub left_in : List Bool → ℕ
-  left_in table = left_of a.code.now places_in table
+  abbrev pub owed_in : List Bool → ℕ
+  owed_in table = owed_of a.code.now places_in table
 
   -- as many steps may still be ahead of these threads
   abbrev pub ahead_in : List Bool → List Thread → ℕ
-  ahead_in table threads = burden a.code.now threads + left_in table
+  ahead_in table threads = burden a.code.now threads + owed_in table
 
   -- a match may begin or end at a place
   abbrev pub may_end_in : ℕ → Bool

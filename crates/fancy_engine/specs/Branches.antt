@@ -23,8 +23,8 @@ OpensTo code None q next = q ≡ next
 OpensTo code (Some group) q next = instr_at code q ≡ Open group next
 
 -- from q on the code has what comes before its alternatives
-abbrev pub Leads : List Instruction → ℕ → Lead → Type 0
-Leads code q lead = (next : ℕ) × TestsTo code lead.test q next × OpensTo code lead.group next lead.at
+abbrev pub HasLead : List Instruction → ℕ → Lead → Type 0
+HasLead code q lead = (next : ℕ) × TestsTo code lead.test q next × OpensTo code lead.group next lead.at
 
 -- From q on the code chooses among these instructions, in order of preference: each but the last is the first way of a split, whose second way chooses among those after it.
 abbrev pub Chooses : List Instruction → ℕ → List ℕ → Type 0
@@ -50,7 +50,7 @@ pub record ArePaid (b : Branches) (numbers : List (Option ℕ)) (weights : List 
 -- The code opens with these alternatives, after what comes before them all, and they begin with these texts. Where one may not match by
 -- the table, no way of it stops.
 pub record AreBranches (b : Branches) (code : List Instruction) (meaning : Meaning) (start : ℕ) : Type 0 where
-  pub leads : Leads code start b.lead
+  pub leads : HasLead code start b.lead
   pub chooses : Chooses code b.lead.at b.heads.items
   pub told : (number : ℕ) → number < length b.heads.items → (x : Context) (limit n : ℕ) (s : State) (v : List ℕ) → x.meaning ≡ meaning
       → ((k : ℕ) → slice_index x.haystack k < 256) → ¬ MayStand b.table x.haystack limit s.place number

@@ -21,14 +21,14 @@ stops None = false
 stops (Some w) = has_stop w
 
 -- No way of the code stops from q on where it begins at a byte that is not in the set.
-abbrev pub BeginsBy : List Instruction → Meaning → ByteFlags → ℕ → Type 0
-BeginsBy code m set q =
+abbrev pub BeginsAmong : List Instruction → Meaning → ByteFlags → ℕ → Type 0
+BeginsAmong code m set q =
     (x : Context) (limit n : ℕ) (s : State) (v : List ℕ) → x.meaning ≡ m → ((k : ℕ) → slice_index x.haystack k < 256)
     → member set (slice_index x.haystack s.place) ≡ false → stops (run x limit code n q s v) ≡ false
 
 -- where there is a choice at q, its ways begin by these sets
 abbrev pub BeginAt : List Instruction → Meaning → Beginnings → ℕ → Type 0
-BeginAt code m b q = (first second : ℕ) → instr_at code q ≡ Split first second → BeginsBy code m b.first first × BeginsBy code m b.second second
+BeginAt code m b q = (first second : ℕ) → instr_at code q ≡ Split first second → BeginsAmong code m b.first first × BeginsAmong code m b.second second
 
 -- one for each of the first instructions, or for none
 abbrev pub AreBeginnings : List Beginnings → List Instruction → Meaning → Type 0

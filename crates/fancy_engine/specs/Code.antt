@@ -4,7 +4,7 @@ use Rattle.fancy_engine.specs.declared.code.Code.{Code}
 use Rattle.fancy_engine.specs.declared.code.Instr.{Instr}
 use Rattle.fancy_engine.specs.CodeLength.{code_len}
 use Rattle.fancy_engine.specs.Instructions.{Instruction, edges_at, with_set, with_sets}
-use Rattle.fancy_engine.specs.Marking.{Marks, number_in, due_in, worth_in, cost_in, sum_to, marks, left_in}
+use Rattle.fancy_engine.specs.Marking.{Marks, number_in, due_in, worth_in, cost_in, sum_to, marks, sum_owed}
 use Rattle.fancy_engine.specs.Threads.{Thread}
 
 -- each with the edges of its set
@@ -47,8 +47,8 @@ abbrev pub marks_of : Code → List Bool → Marks
 marks_of c table = marks c.marking.numbers.items c.marking.width table
 
 -- what the marks are worth that were not made, in a table of so many places
-abbrev pub left_of : Code → ℕ → List Bool → ℕ
-left_of c rows table = left_in c.marking.numbers.items c.marking.weights.items c.marking.width (code_len c) rows table
+abbrev pub owed_of : Code → ℕ → List Bool → ℕ
+owed_of c rows table = sum_owed c.marking.numbers.items c.marking.weights.items c.marking.width (code_len c) rows table
 
 -- what the marks of a place are worth
 abbrev pub worth_of : Code → ℕ

@@ -9,7 +9,7 @@ use Rattle.fancy_engine.specs.declared.code.Code.{Code}
 use Rattle.fancy_engine.specs.declared.options.SearchOptions.{SearchOptions}
 use Rattle.fancy_engine.specs.declared.search.Cache.{Cache}
 use Rattle.fancy_engine.specs.Marking.{Marks}
-use Rattle.fancy_engine.specs.Code.{instrs_of, width_of, due_of, marks_of, left_of}
+use Rattle.fancy_engine.specs.Code.{instrs_of, width_of, due_of, marks_of, owed_of}
 use Rattle.fancy_engine.specs.Reading.{search_context, suppressed_ends}
 use Rattle.fancy_engine.specs.Search.{is_match_boundary}
 use Rattle.fancy_engine.specs.Runner.{AllFailed}
@@ -44,7 +44,7 @@ pub record IsKept (code : Code) (haystack : List ℕ) (request : Request) (optio
 -- so many steps are ahead of the searches from `place` on that keep the table: what its marks are worth that were not made, and a
 -- start at each position
 abbrev pub steps_ahead : Code → Request → ℕ → ℕ → List Bool → ℕ
-steps_ahead code request base place table = left_of code (request.range_end - base + 1) table + (request.range_end + 1 - place) * due_of code code.start
+steps_ahead code request base place table = owed_of code (request.range_end - base + 1) table + (request.range_end + 1 - place) * due_of code code.start
 
 -- the same before a search, which keeps a table or begins one
 abbrev pub steps_before : Option ℕ → Code → Request → List Bool → ℕ

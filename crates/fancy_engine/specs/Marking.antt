@@ -66,5 +66,5 @@ abbrev pub owed : List (Option ℕ) → List ℕ → ℕ → List Bool → ℕ �
 owed numbers weights width table row q = if marks numbers width table q row then 0 else worth_in numbers weights q
 
 -- what all marks are worth that were not made, of so many instructions at so many places
-abbrev pub left_in : List (Option ℕ) → List ℕ → ℕ → ℕ → ℕ → List Bool → ℕ
-left_in numbers weights width count rows table = sum_to (λ row. sum_to (owed numbers weights width table row) count) rows
+abbrev pub sum_owed : List (Option ℕ) → List ℕ → ℕ → ℕ → ℕ → List Bool → ℕ
+sum_owed numbers weights width count rows table = sum_to (λ row. sum_to (owed numbers weights width table row) count) rows

@@ -9,9 +9,9 @@ use Rattle.fancy_engine.specs.Run.{Raw, Foretells, erase, run}
 use Rattle.fancy_engine.specs.declared.text.Text.{Text}
 
 -- where the events are known, they are these
-abbrev pub Gives : List Event → Option (List Raw) → Type 0
-Gives es None = Unit {0}
-Gives es (Some w) = erase w ≡ es
+abbrev pub GivesEvents : List Event → Option (List Raw) → Type 0
+GivesEvents es None = Unit {0}
+GivesEvents es (Some w) = erase w ≡ es
 
 -- Where a way of the code stops from an instruction on, the text stands where it began, before the end.
 abbrev pub BeginsWith : List Instruction → Meaning → List ℕ → ℕ → Type 0
@@ -22,7 +22,7 @@ BeginsWith code m text at =
 abbrev pub EndsWith : List Instruction → Meaning → List ℕ → ℕ → Type 0
 EndsWith code m text at =
     (x : Context) (limit n : ℕ) (s : State) (v : List ℕ) → x.meaning ≡ m → StandsBefore x.haystack limit text s.place
-    → Gives (outcome (moved_to s (s.place + length text)) ∷ []) (run x limit code n at s v)
+    → GivesEvents (outcome (moved_to s (s.place + length text)) ∷ []) (run x limit code n at s v)
 
 -- the text that the code begins with from an instruction on, and all of it where that is told
 pub record IsTextOf (t : Text) (code : List Instruction) (m : Meaning) (at : ℕ) : Type 0 where

@@ -1,7 +1,7 @@
 //! Which alternatives code opens with, and the table of the bytes at their first places.
 
 ghost use Rattle.std.specs.Prelude.{◌≡◌, ◌≤◌, ℕ, List, true, IfOk, IfSome};
-ghost use Rattle.fancy_engine.specs.Branches.{AreBranches, ArePaid, Chooses, Leads, OpensTo, SplitsTo, TestsTo, dues_in};
+ghost use Rattle.fancy_engine.specs.Branches.{AreBranches, ArePaid, Chooses, HasLead, OpensTo, SplitsTo, TestsTo, dues_in};
 ghost use Rattle.fancy_engine.specs.Code.{instrs_of, due_of};
 ghost use Rattle.fancy_engine.specs.Foretold.{AreRows};
 ghost use Rattle.fancy_engine.specs.Instructions.{Instruction};
@@ -50,7 +50,7 @@ fn group_at(code: &Code, at: usize) -> (Option<usize>, usize)
 
 /// What the code has before its alternatives.
 fn lead_of(code: &Code) -> Lead
-    ensures { Leads (instrs_of code.now) code.now.start result }
+    ensures { HasLead (instrs_of code.now) code.now.start result }
 {
     let (test, next) = test_at(code, code.start);
     let (group, at) = group_at(code, next);

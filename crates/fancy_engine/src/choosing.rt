@@ -2,7 +2,7 @@
 
 ghost use Rattle.std.specs.Prelude.{◌≡◌, IfOk};
 ghost use Rattle.fancy_tree.specs.Pattern.{Pattern};
-ghost use Rattle.fancy_engine.specs.Choices.{AreBeginnings, BeginAt, BeginsBy};
+ghost use Rattle.fancy_engine.specs.Choices.{AreBeginnings, BeginAt, BeginsAmong};
 ghost use Rattle.fancy_engine.specs.Code.{instrs_of};
 ghost use Rattle.fancy_engine.specs.Compile.{IsCodeOf};
 
@@ -29,7 +29,7 @@ fn beginning_of(
     at: usize,
     left: &mut usize,
 ) -> Result<ByteSet, AllocError>
-    ensures { IfOk result (λ set. BeginsBy (instrs_of code.now) code.now.meaning set at) }
+    ensures { IfOk result (λ set. BeginsAmong (instrs_of code.now) code.now.meaning set at) }
 {
     let mut own = FROM_ONE.min(*left);
     let before = own;

@@ -15,7 +15,7 @@ ghost use Rattle.fancy_engine.specs.declared.slot.Slot.{Slot};
 ghost use Rattle.fancy_engine.specs.Threads.{Thread, thread_of, begun_at, AreFresh};
 ghost use Rattle.fancy_engine.specs.Runner.{found_state, Stacked, Grown, Moved, Tested, AllWithin, Spends, Progresses};
 ghost use Rattle.fancy_engine.specs.Sweep.{AllPast, AreRising, SweepingIn, SweptIn};
-ghost use Rattle.fancy_engine.specs.Attempt.{context_in, instrs_in, stack_in, current_in, saved_in, threads_in, threads_left_in, bits_in, left_in, ahead_in, marks_in, KnownIn, AllFailedIn, FailedPastIn, first_accepted_in, SteppedIn, RunningIn, VisitedIn};
+ghost use Rattle.fancy_engine.specs.Attempt.{context_in, instrs_in, stack_in, current_in, saved_in, threads_in, threads_left_in, bits_in, owed_in, ahead_in, marks_in, KnownIn, AllFailedIn, FailedPastIn, first_accepted_in, SteppedIn, RunningIn, VisitedIn};
 
 use crate::choice::Choice;
 use crate::code::{Code, Instr};
@@ -246,8 +246,8 @@ fn is_new(attempt: &Attempt, pair: Pair, table: &mut Table) -> bool
     ensures same { result ≡ false → table.new ≡ table.old }
     ensures adds { (q row : ℕ) → marks_of attempt.now.code.now table.new q row ≡ true
         → (marks_of attempt.now.code.now table.old q row ≡ true) ⊎ ((q ≡ pair.at) × (row ≡ pair.place - attempt.now.base)) }
-    ensures left { result ≡ true → left_in attempt.now table.new + weight_of attempt.now.code.now pair.at
-        ≤ left_in attempt.now table.old + due_of attempt.now.code.now pair.at }
+    ensures left { result ≡ true → owed_in attempt.now table.new + weight_of attempt.now.code.now pair.at
+        ≤ owed_in attempt.now table.old + due_of attempt.now.code.now pair.at }
     ensures room { length table.new ≡ length table.old }
 {
     let Some(number) = attempt.code.mark_number(pair.at) else {
@@ -362,10 +362,10 @@ pub fn follow(
     ensures forth { IfOk result (λ end. IfSome end (λ place. start.place ≤ place)) }
     ensures within { IfOk result (λ end. IfSome end (λ place. place ≤ attempt.now.last)) }
     ensures room { length table.new ≡ length table.old }
-    ensures spent { IfOk result (λ _. steps_of work.new + left_in attempt.now table.new
-        ≤ steps_of work.old + (due_of attempt.now.code.now start.at + left_in attempt.now table.old)) }
+    ensures spent { IfOk result (λ _. steps_of work.new + owed_in attempt.now table.new
+        ≤ steps_of work.old + (due_of attempt.now.code.now start.at + owed_in attempt.now table.old)) }
     ensures bounded { steps_of work.new
-        ≤ steps_of work.old + (due_of attempt.now.code.now start.at + left_in attempt.now table.old) }
+        ≤ steps_of work.old + (due_of attempt.now.code.now start.at + owed_in attempt.now table.old) }
     ensures steps { steps_of work.old ≤ steps_of work.new }
     ensures returns { returns_of work.old ≤ returns_of work.new }
     ensures paired { returns_of work.new - returns_of work.old ≤ steps_of work.new - steps_of work.old }

@@ -4,7 +4,7 @@ ghost use Rattle.std.specs.Prelude.{◌≡◌, ◌+◌, ◌-◌, ◌^◌, ◌<�
 ghost use Rattle.fancy_tree.specs.Pattern.{Pattern};
 ghost use Rattle.fancy_engine.specs.Code.{instrs_of, worth_of};
 ghost use Rattle.fancy_engine.specs.CodeLength.{code_len};
-ghost use Rattle.fancy_engine.specs.Attempt.{bits_in, left_in, AllFailedIn};
+ghost use Rattle.fancy_engine.specs.Attempt.{bits_in, owed_in, AllFailedIn};
 ghost use Rattle.fancy_engine.specs.KeptTable.{IsKept, table_in, table_base, steps_ahead, steps_before};
 ghost use Rattle.fancy_engine.specs.Compile.{IsCodeOf, AreEasy};
 ghost use Rattle.fancy_engine.specs.Search.{search};
@@ -94,7 +94,7 @@ fn ready_table(
     ensures failed { OnOk result ((deep : ℕ) → (is_kept ≡ true → AllFailedIn attempt.now (first + 1) deep table.old)
         → AllFailedIn attempt.now first deep table.new) }
     ensures left { is_kept ≡ true
-        → OnOk result (left_in attempt.now table.new ≤ left_in attempt.now table.old + worth_of attempt.now.code.now) }
+        → OnOk result (owed_in attempt.now table.new ≤ owed_in attempt.now table.old + worth_of attempt.now.code.now) }
     ensures room { OnOk result (length table.new ≡ bits_in attempt.now) }
     ensures small { OnOk result (length table.new < 2 ^ 64) }
     ensures refused { IfErr result (λ e. e ≡ SearchRefusal.Memory) }

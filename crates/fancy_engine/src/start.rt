@@ -1,7 +1,7 @@
 //! Attempts from the first instruction on. Where the code opens with many alternatives, those alone are tried that may match.
 
 ghost use Rattle.std.specs.Prelude.{◌≡◌, ◌+◌, ◌-◌, ◌^◌, ◌<◌, ◌≤◌, ℕ, None, length, slice_index, IfOk, IfSome};
-ghost use Rattle.fancy_engine.specs.Attempt.{instrs_in, first_accepted_in, begins_in, begins_with, passes_in, bits_in, left_in, KnownIn, AllFailedIn, FailedPastIn};
+ghost use Rattle.fancy_engine.specs.Attempt.{instrs_in, first_accepted_in, begins_in, begins_with, passes_in, bits_in, owed_in, KnownIn, AllFailedIn, FailedPastIn};
 ghost use Rattle.fancy_engine.specs.Branches.{AreBranches, ArePaid};
 ghost use Rattle.fancy_engine.specs.Code.{due_of};
 ghost use Rattle.fancy_engine.specs.Compile.{AreEasy};
@@ -53,10 +53,10 @@ fn follow_from(
     ensures forth { IfOk result (λ end. IfSome end (λ stop. start.place ≤ stop)) }
     ensures within { IfOk result (λ end. IfSome end (λ stop. stop ≤ attempt.now.last)) }
     ensures room { length table.new ≡ length table.old }
-    ensures spent { IfOk result (λ _. steps_of work.new + left_in attempt.now table.new
-        ≤ steps_of work.old + (due_of attempt.now.code.now start.at + left_in attempt.now table.old)) }
+    ensures spent { IfOk result (λ _. steps_of work.new + owed_in attempt.now table.new
+        ≤ steps_of work.old + (due_of attempt.now.code.now start.at + owed_in attempt.now table.old)) }
     ensures bounded { steps_of work.new
-        ≤ steps_of work.old + (due_of attempt.now.code.now start.at + left_in attempt.now table.old) }
+        ≤ steps_of work.old + (due_of attempt.now.code.now start.at + owed_in attempt.now table.old) }
     ensures steps { steps_of work.old ≤ steps_of work.new }
     ensures returns { returns_of work.old ≤ returns_of work.new }
     ensures paired { returns_of work.new - returns_of work.old ≤ steps_of work.new - steps_of work.old }
@@ -99,10 +99,10 @@ fn follow_text(
     ensures forth { IfOk result (λ end. IfSome end (λ stop. start.place ≤ stop)) }
     ensures within { IfOk result (λ end. IfSome end (λ stop. stop ≤ attempt.now.last)) }
     ensures room { length table.new ≡ length table.old }
-    ensures spent { IfOk result (λ _. steps_of work.new + left_in attempt.now table.new
-        ≤ steps_of work.old + (due_of attempt.now.code.now start.at + left_in attempt.now table.old)) }
+    ensures spent { IfOk result (λ _. steps_of work.new + owed_in attempt.now table.new
+        ≤ steps_of work.old + (due_of attempt.now.code.now start.at + owed_in attempt.now table.old)) }
     ensures bounded { steps_of work.new
-        ≤ steps_of work.old + (due_of attempt.now.code.now start.at + left_in attempt.now table.old) }
+        ≤ steps_of work.old + (due_of attempt.now.code.now start.at + owed_in attempt.now table.old) }
     ensures steps { steps_of work.old ≤ steps_of work.new }
     ensures returns { returns_of work.old ≤ returns_of work.new }
     ensures paired { returns_of work.new - returns_of work.old ≤ steps_of work.new - steps_of work.old }
@@ -159,10 +159,10 @@ fn follow_branches(
     ensures forth { IfOk result (λ end. IfSome end (λ stop. place ≤ stop)) }
     ensures within { IfOk result (λ end. IfSome end (λ stop. stop ≤ attempt.now.last)) }
     ensures room { length table.new ≡ length table.old }
-    ensures spent { IfOk result (λ _. steps_of work.new + left_in attempt.now table.new
-        ≤ steps_of work.old + (due_of attempt.now.code.now attempt.now.code.now.start + left_in attempt.now table.old)) }
+    ensures spent { IfOk result (λ _. steps_of work.new + owed_in attempt.now table.new
+        ≤ steps_of work.old + (due_of attempt.now.code.now attempt.now.code.now.start + owed_in attempt.now table.old)) }
     ensures bounded { steps_of work.new
-        ≤ steps_of work.old + (due_of attempt.now.code.now attempt.now.code.now.start + left_in attempt.now table.old) }
+        ≤ steps_of work.old + (due_of attempt.now.code.now attempt.now.code.now.start + owed_in attempt.now table.old) }
     ensures steps { steps_of work.old ≤ steps_of work.new }
     ensures returns { returns_of work.old ≤ returns_of work.new }
     ensures paired { returns_of work.new - returns_of work.old ≤ steps_of work.new - steps_of work.old }
@@ -196,7 +196,7 @@ fn forget_behind(attempt: &Attempt, place: usize, table: &mut Table)
     requires room { bits_in attempt.now ≤ length table.old }
     requires small { length table.old < 2 ^ 64 }
     ensures failed { (deep : ℕ) → AllFailedIn attempt.now place deep table.old → AllFailedIn attempt.now place deep table.new }
-    ensures left { left_in attempt.now table.new ≤ left_in attempt.now table.old }
+    ensures left { owed_in attempt.now table.new ≤ owed_in attempt.now table.old }
     ensures room { length table.new ≡ length table.old }
 {
     table.forget((place - attempt.base) * attempt.code.marks());
@@ -262,10 +262,10 @@ pub(crate) fn follow_start(
     ensures forth { IfOk result (λ end. IfSome end (λ stop. place ≤ stop)) }
     ensures within { IfOk result (λ end. IfSome end (λ stop. stop ≤ attempt.now.last)) }
     ensures room { length table.new ≡ length table.old }
-    ensures spent { IfOk result (λ _. steps_of work.new + left_in attempt.now table.new
-        ≤ steps_of work.old + (due_of attempt.now.code.now attempt.now.code.now.start + left_in attempt.now table.old)) }
+    ensures spent { IfOk result (λ _. steps_of work.new + owed_in attempt.now table.new
+        ≤ steps_of work.old + (due_of attempt.now.code.now attempt.now.code.now.start + owed_in attempt.now table.old)) }
     ensures bounded { steps_of work.new
-        ≤ steps_of work.old + (due_of attempt.now.code.now attempt.now.code.now.start + left_in attempt.now table.old) }
+        ≤ steps_of work.old + (due_of attempt.now.code.now attempt.now.code.now.start + owed_in attempt.now table.old) }
     ensures steps { steps_of work.old ≤ steps_of work.new }
     ensures returns { returns_of work.old ≤ returns_of work.new }
     ensures paired { returns_of work.new - returns_of work.old ≤ steps_of work.new - steps_of work.old }

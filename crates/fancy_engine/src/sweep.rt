@@ -9,7 +9,7 @@ ghost use Rattle.fancy_engine.specs.Work.{steps_of, returns_of};
 ghost use Rattle.fancy_input.specs.LastLines.{KnowsLastLines};
 ghost use Rattle.fancy_engine.specs.Threads.{Thread, thread_of, with_way, held_of, AreFresh};
 ghost use Rattle.fancy_engine.specs.Runner.{AllWithin, Grown, found_state};
-ghost use Rattle.fancy_engine.specs.Attempt.{instrs_in, stack_in, saved_in, threads_in, threads_left_in, bits_in, left_in, ahead_in, AllFailedIn, FailedPastIn, RunningIn};
+ghost use Rattle.fancy_engine.specs.Attempt.{instrs_in, stack_in, saved_in, threads_in, threads_left_in, bits_in, owed_in, ahead_in, AllFailedIn, FailedPastIn, RunningIn};
 ghost use Rattle.fancy_engine.specs.Sweep.{AllPast, AreRising, SweepingIn, SweptIn, SweptTo};
 ghost use Rattle.fancy_engine.specs.Sweeps.{backlog_in, left_in_sweep, found_in, due_in_rows, IsDrained, KeepsBacklog, KeepsFound};
 
@@ -122,11 +122,11 @@ fn follow_here(
     ensures later { IfOk result (λ _. (low : ℕ) → low ≤ start.place → AllWithin low attempt.now.last later.old
         → AllWithin low attempt.now.last later.new) }
     ensures room { length table.new ≡ length table.old }
-    ensures spent { IfOk result (λ _. steps_of work.new + burden attempt.now.code.now later.new + left_in attempt.now table.new
+    ensures spent { IfOk result (λ _. steps_of work.new + burden attempt.now.code.now later.new + owed_in attempt.now table.new
         ≤ steps_of work.old + burden attempt.now.code.now later.old
-        + (due_of attempt.now.code.now start.at + left_in attempt.now table.old)) }
+        + (due_of attempt.now.code.now start.at + owed_in attempt.now table.old)) }
     ensures bounded { steps_of work.new
-        ≤ steps_of work.old + (due_of attempt.now.code.now start.at + left_in attempt.now table.old) }
+        ≤ steps_of work.old + (due_of attempt.now.code.now start.at + owed_in attempt.now table.old) }
     ensures steps { steps_of work.old ≤ steps_of work.new }
     ensures returns { returns_of work.old ≤ returns_of work.new }
     ensures paired { returns_of work.new - returns_of work.old ≤ steps_of work.new - steps_of work.old }
@@ -281,11 +281,11 @@ fn follow_one(
     ensures found { IfOk result (λ _. (sweep.new.found ≡ sweep.old.found) ⊎ (sweep.new.found ≡ Some place)) }
     ensures kept { KeepsBacklog sweep.old sweep.new }
     ensures room { length table.new ≡ length table.old }
-    ensures spent { IfOk result (λ _. steps_of work.new + due_in_rows attempt.now.code.now sweep.new + left_in attempt.now table.new
+    ensures spent { IfOk result (λ _. steps_of work.new + due_in_rows attempt.now.code.now sweep.new + owed_in attempt.now table.new
         ≤ steps_of work.old + due_in_rows attempt.now.code.now sweep.old
-        + (due_of attempt.now.code.now pair.at + left_in attempt.now table.old)) }
+        + (due_of attempt.now.code.now pair.at + owed_in attempt.now table.old)) }
     ensures bounded { steps_of work.new
-        ≤ steps_of work.old + (due_of attempt.now.code.now pair.at + left_in attempt.now table.old) }
+        ≤ steps_of work.old + (due_of attempt.now.code.now pair.at + owed_in attempt.now table.old) }
     ensures steps { steps_of work.old ≤ steps_of work.new }
     ensures returns { returns_of work.old ≤ returns_of work.new }
     ensures paired { returns_of work.new - returns_of work.old ≤ steps_of work.new - steps_of work.old }
@@ -342,10 +342,10 @@ fn follow_row(
     ensures found { IfOk result (λ _. (sweep.new.found ≡ sweep.old.found) ⊎ (sweep.new.found ≡ Some place)) }
     ensures kept { KeepsBacklog sweep.old sweep.new }
     ensures room { length table.new ≡ length table.old }
-    ensures spent { IfOk result (λ _. steps_of work.new + (burden attempt.now.code.now sweep.new.row + left_in attempt.now table.new)
-        ≤ steps_of work.old + (burden attempt.now.code.now sweep.old.row + left_in attempt.now table.old)) }
+    ensures spent { IfOk result (λ _. steps_of work.new + (burden attempt.now.code.now sweep.new.row + owed_in attempt.now table.new)
+        ≤ steps_of work.old + (burden attempt.now.code.now sweep.old.row + owed_in attempt.now table.old)) }
     ensures bounded { steps_of work.new
-        ≤ steps_of work.old + (burden attempt.now.code.now sweep.old.row + left_in attempt.now table.old) }
+        ≤ steps_of work.old + (burden attempt.now.code.now sweep.old.row + owed_in attempt.now table.old) }
     ensures steps { steps_of work.old ≤ steps_of work.new }
     ensures returns { returns_of work.old ≤ returns_of work.new }
     ensures paired { returns_of work.new - returns_of work.old ≤ steps_of work.new - steps_of work.old }
@@ -434,7 +434,7 @@ pub(crate) fn follow_by_place(
         → AllWithin low attempt.now.last (threads_in attempt.now pair threads.old) → low ≤ stop) }
     ensures within { IfOk result (λ end. (stop : ℕ) → end ≡ Some stop → stop ≤ attempt.now.last) }
     ensures room { length table.new ≡ length table.old }
-    ensures spent { IfOk result (λ _. steps_of work.new + left_in attempt.now table.new
+    ensures spent { IfOk result (λ _. steps_of work.new + owed_in attempt.now table.new
         ≤ steps_of work.old + ahead_in attempt.now table.old (threads_in attempt.now pair threads.old)) }
     ensures bounded { steps_of work.new
         ≤ steps_of work.old + ahead_in attempt.now table.old (threads_in attempt.now pair threads.old) }

@@ -1,5 +1,5 @@
 use Rattle.std.proofs.Common.{ℕ, ◌≡◌, ◌+◌, ◌-◌, ◌*◌, ◌^◌, ◌<◌, ◌≤◌, length}
-use Rattle.fancy_engine.specs.Attempt.{KnownIn, AllFailedIn, RunningIn, first_accepted_in, left_in, ahead_in, saved_in, stack_in, threads_in}
+use Rattle.fancy_engine.specs.Attempt.{KnownIn, AllFailedIn, RunningIn, first_accepted_in, owed_in, ahead_in, saved_in, stack_in, threads_in}
 use Rattle.fancy_engine.specs.Code.{due_of}
 use Rattle.fancy_engine.specs.Threads.{begun_at}
 use Rattle.fancy_engine.specs.Work.{steps_of, returns_of}
@@ -16,7 +16,7 @@ invariant-pairs l = record {
   rising : AreRising (threads_in l.attempt l.pair l.threads);
   room : length l.table ≡ length l.fn.table;
   spent : steps_of l.work + ahead_in l.attempt l.table (threads_in l.attempt l.pair l.threads)
-      ≤ steps_of l.fn.work + (due_of l.attempt.code.now l.fn.start.at + left_in l.attempt l.fn.table);
+      ≤ steps_of l.fn.work + (due_of l.attempt.code.now l.fn.start.at + owed_in l.attempt l.fn.table);
   steps : steps_of l.fn.work ≤ steps_of l.work;
   returns : returns_of l.fn.work ≤ returns_of l.work;
   paired : returns_of l.work - returns_of l.fn.work ≤ steps_of l.work - steps_of l.fn.work;

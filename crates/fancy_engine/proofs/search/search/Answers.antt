@@ -1,6 +1,6 @@
 use Rattle.std.proofs.Common.{◌+◌, ◌-◌, ◌≤◌, ℕ, true, Some, length, sym, refl, ap, ap₂, ◌∙◌, arith}
 use Rattle.fancy_engine.specs.declared.reading.SuppressedEnds.{SuppressedEnds}
-use Rattle.fancy_engine.specs.Code.{instrs_of, due_of, left_of}
+use Rattle.fancy_engine.specs.Code.{instrs_of, due_of, owed_of}
 use Rattle.fancy_engine.specs.Queries.{query_of, unfiltered}
 use Rattle.fancy_engine.specs.Reading.{search_context}
 use Rattle.fancy_engine.specs.Search.{answer_from, is_match_boundary}
@@ -79,9 +79,9 @@ loop-place-preserved c =
         steps = omega (arith, ap steps_of w.work-is, w.follow_start.ensures.steps, c.loop-place.invariant.steps);
         fresh = λ none.
             (let fewer = later_starts (c.args.request.range_end + 1 - c.loop-place.place) (c.args.request.range_end + 1 - c.next_opening-place-in-loop-place.result) (due_of c.args.code.now c.args.code.now.start) (omega (arith, c.next_opening-place-in-loop-place.ensures.passed, c.loop-place-test.true, c.last_position-last.ensures.inside)) in
-            omega (arith, ap (left_of c.args.code.now (c.args.request.range_end - c.unwrap_or-base.result + 1)) w.table-is, ap steps_of w.work-is, w.in_ok-end.ensures.spent, fewer, c.loop-place.invariant.fresh none));
+            omega (arith, ap (owed_of c.args.code.now (c.args.request.range_end - c.unwrap_or-base.result + 1)) w.table-is, ap steps_of w.work-is, w.in_ok-end.ensures.spent, fewer, c.loop-place.invariant.fresh none));
         spent = (let fewer = later_starts (c.args.request.range_end + 1 - c.loop-place.place) (c.args.request.range_end + 1 - c.next_opening-place-in-loop-place.result) (due_of c.args.code.now c.args.code.now.start) (omega (arith, c.next_opening-place-in-loop-place.ensures.passed, c.loop-place-test.true, c.last_position-last.ensures.inside)) in
-            omega (arith, ap (left_of c.args.code.now (c.args.request.range_end - c.unwrap_or-base.result + 1)) w.table-is, ap steps_of w.work-is, w.in_ok-end.ensures.spent, fewer, c.loop-place.invariant.spent));
+            omega (arith, ap (owed_of c.args.code.now (c.args.request.range_end - c.unwrap_or-base.result + 1)) w.table-is, ap steps_of w.work-is, w.in_ok-end.ensures.spent, fewer, c.loop-place.invariant.spent));
         returns = omega (arith, ap returns_of w.work-is, w.follow_start.ensures.returns, c.loop-place.invariant.returns);
         paired = omega (arith, ap returns_of w.work-is, ap steps_of w.work-is, w.follow_start.ensures.paired, w.follow_start.ensures.steps, w.follow_start.ensures.returns, c.loop-place.invariant.steps, c.loop-place.invariant.returns, c.loop-place.invariant.paired);
         last_lines = rw w.last_lines-is w.follow_start.ensures.last_lines;
@@ -103,9 +103,9 @@ loop-place-preserved c =
         steps = omega (arith, ap steps_of w.work-is, c.loop-place.invariant.steps);
         fresh = λ none.
             (let fewer = later_starts (c.args.request.range_end + 1 - c.loop-place.place) (c.args.request.range_end + 1 - c.next_opening-place-in-loop-place.result) (due_of c.args.code.now c.args.code.now.start) (omega (arith, c.next_opening-place-in-loop-place.ensures.passed, c.loop-place-test.true, c.last_position-last.ensures.inside)) in
-            omega (arith, ap (left_of c.args.code.now (c.args.request.range_end - c.unwrap_or-base.result + 1)) w.table-is, ap steps_of w.work-is, fewer, c.loop-place.invariant.fresh none));
+            omega (arith, ap (owed_of c.args.code.now (c.args.request.range_end - c.unwrap_or-base.result + 1)) w.table-is, ap steps_of w.work-is, fewer, c.loop-place.invariant.fresh none));
         spent = (let fewer = later_starts (c.args.request.range_end + 1 - c.loop-place.place) (c.args.request.range_end + 1 - c.next_opening-place-in-loop-place.result) (due_of c.args.code.now c.args.code.now.start) (omega (arith, c.next_opening-place-in-loop-place.ensures.passed, c.loop-place-test.true, c.last_position-last.ensures.inside)) in
-            omega (arith, ap (left_of c.args.code.now (c.args.request.range_end - c.unwrap_or-base.result + 1)) w.table-is, ap steps_of w.work-is, fewer, c.loop-place.invariant.spent));
+            omega (arith, ap (owed_of c.args.code.now (c.args.request.range_end - c.unwrap_or-base.result + 1)) w.table-is, ap steps_of w.work-is, fewer, c.loop-place.invariant.spent));
         returns = omega (arith, ap returns_of w.work-is, c.loop-place.invariant.returns);
         paired = omega (arith, ap returns_of w.work-is, ap steps_of w.work-is, c.loop-place.invariant.paired);
         last_lines = rw w.last_lines-is c.loop-place.invariant.last_lines;

@@ -1,7 +1,7 @@
 use Rattle.std.proofs.Common.{◌≡◌, ◌+◌, ◌-◌, ◌*◌, ◌<◌, ◌≤◌, ◌^◌, Bool, length}
 use Rattle.std.specs.Prelude.{None}
 use Rattle.fancy_tree.specs.Pattern.{Pattern}
-use Rattle.fancy_engine.specs.Attempt.{AllFailedIn, bits_in, left_in}
+use Rattle.fancy_engine.specs.Attempt.{AllFailedIn, bits_in, owed_in}
 use Rattle.fancy_engine.specs.Code.{due_of}
 use Rattle.fancy_engine.specs.CodeLength.{code_len}
 use Rattle.fancy_engine.specs.Compile.{IsCodeOf, depth}
@@ -27,8 +27,8 @@ invariant-loop-place l = record {
   small : length l.table < 2 ^ 64;
   steps : steps_of l.fn.work ≤ steps_of l.work;
   fresh : l.fn.kept ≡ None
-      → steps_of l.work + left_in l.attempt l.table + (l.fn.request.range_end + 1 - l.place) * due_of l.code l.code.start ≤ steps_of l.fn.work + most_steps l.code l.fn.request;
-  spent : steps_of l.work + left_in l.attempt l.table + (l.fn.request.range_end + 1 - l.place) * due_of l.code l.code.start + due_of l.code l.code.start
+      → steps_of l.work + owed_in l.attempt l.table + (l.fn.request.range_end + 1 - l.place) * due_of l.code l.code.start ≤ steps_of l.fn.work + most_steps l.code l.fn.request;
+  spent : steps_of l.work + owed_in l.attempt l.table + (l.fn.request.range_end + 1 - l.place) * due_of l.code l.code.start + due_of l.code l.code.start
       ≤ steps_of l.fn.work + (steps_before l.fn.kept l.code l.fn.request (table_in l.fn.cache) + code_len l.code);
   returns : returns_of l.fn.work ≤ returns_of l.work;
   paired : returns_of l.work - returns_of l.fn.work ≤ steps_of l.work - steps_of l.fn.work;

@@ -1,6 +1,6 @@
 use Rattle.std.proofs.Common.{◌≡◌, ◌+◌, ◌-◌, ◌<◌, ◌≤◌, ℕ, None, drop, length}
 use Rattle.std.specs.Prelude.{slice_index}
-use Rattle.fancy_engine.specs.Attempt.{instrs_in, first_accepted_in, begins_with, left_in, KnownIn, AllFailedIn}
+use Rattle.fancy_engine.specs.Attempt.{instrs_in, first_accepted_in, begins_with, owed_in, KnownIn, AllFailedIn}
 use Rattle.fancy_engine.specs.Branches.{AreBranches, dues_in}
 use Rattle.fancy_engine.specs.Code.{due_of}
 use Rattle.fancy_engine.specs.Work.{steps_of, returns_of}
@@ -20,7 +20,7 @@ invariant-loop-i l = record {
   ahead : (k : ℕ) → l.i ≤ k → k < l.i-end → l.passed ≤ slice_index l.branches.table.members.items k;
   room : length l.table ≡ length l.fn.table;
   spent : steps_of l.work + (dues_in l.attempt.code.now.marking.numbers.items l.attempt.code.now.marking.weights.items (drop l.passed l.branches.heads.items)
-      + left_in l.attempt l.table) ≤ steps_of l.fn.work + (due_of l.attempt.code.now l.attempt.code.now.start + left_in l.attempt l.fn.table);
+      + owed_in l.attempt l.table) ≤ steps_of l.fn.work + (due_of l.attempt.code.now l.attempt.code.now.start + owed_in l.attempt l.fn.table);
   steps : steps_of l.fn.work ≤ steps_of l.work;
   returns : returns_of l.fn.work ≤ returns_of l.work;
   paired : returns_of l.work - returns_of l.fn.work ≤ steps_of l.work - steps_of l.fn.work;

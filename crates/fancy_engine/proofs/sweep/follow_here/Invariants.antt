@@ -1,6 +1,6 @@
 use Rattle.std.proofs.Common.{ℕ, ◌≡◌, ◌+◌, ◌-◌, ◌*◌, ◌^◌, ◌<◌, ◌≤◌, ◌∷◌, ◌++◌, List, Option, length}
 use Rattle.std.specs.Prelude.{reverse}
-use Rattle.fancy_engine.specs.Attempt.{left_in, ahead_in, saved_in, threads_in}
+use Rattle.fancy_engine.specs.Attempt.{owed_in, ahead_in, saved_in, threads_in}
 use Rattle.fancy_engine.specs.Code.{due_of, burden}
 use Rattle.fancy_engine.specs.Context.{State}
 use Rattle.fancy_engine.specs.Runner.{AllWithin}
@@ -23,9 +23,9 @@ invariant-pairs l = record {
   more : burden l.attempt.code.now l.fn.later ≤ burden l.attempt.code.now l.later;
   room : length l.table ≡ length l.fn.table;
   spent : steps_of l.work + burden l.attempt.code.now l.later + ahead_in l.attempt l.table (threads_in l.attempt l.pair l.threads)
-      ≤ steps_of l.fn.work + burden l.attempt.code.now l.fn.later + (due_of l.attempt.code.now l.fn.start.at + left_in l.attempt l.fn.table);
+      ≤ steps_of l.fn.work + burden l.attempt.code.now l.fn.later + (due_of l.attempt.code.now l.fn.start.at + owed_in l.attempt l.fn.table);
   bounded : steps_of l.work + ahead_in l.attempt l.table (threads_in l.attempt l.pair l.threads)
-      ≤ steps_of l.fn.work + (due_of l.attempt.code.now l.fn.start.at + left_in l.attempt l.fn.table);
+      ≤ steps_of l.fn.work + (due_of l.attempt.code.now l.fn.start.at + owed_in l.attempt l.fn.table);
   steps : steps_of l.fn.work ≤ steps_of l.work;
   returns : returns_of l.fn.work ≤ returns_of l.work;
   paired : returns_of l.work - returns_of l.fn.work ≤ steps_of l.work - steps_of l.fn.work;

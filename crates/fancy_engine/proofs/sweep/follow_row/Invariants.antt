@@ -1,6 +1,6 @@
 use Rattle.std.proofs.Common.{ℕ, ◌≡◌, ◌+◌, ◌-◌, ◌≤◌, ◌⊎◌, ◌++◌, List, Option, length}
 use Rattle.std.specs.Prelude.{Some, reverse}
-use Rattle.fancy_engine.specs.Attempt.{left_in}
+use Rattle.fancy_engine.specs.Attempt.{owed_in}
 use Rattle.fancy_engine.specs.Code.{burden}
 use Rattle.fancy_engine.specs.Context.{State}
 use Rattle.fancy_engine.specs.Runner.{AllWithin}
@@ -22,8 +22,8 @@ invariant-threads l = record {
   found : (l.sweep.found ≡ l.fn.sweep.found) ⊎ (l.sweep.found ≡ Some l.place);
   kept : KeepsBacklog l.fn.sweep l.sweep;
   room : length l.table ≡ length l.fn.table;
-  spent : steps_of l.work + due_in_rows l.attempt.code.now l.sweep + left_in l.attempt l.table
-      ≤ steps_of l.fn.work + (burden l.attempt.code.now l.fn.sweep.row + left_in l.attempt l.fn.table);
+  spent : steps_of l.work + due_in_rows l.attempt.code.now l.sweep + owed_in l.attempt l.table
+      ≤ steps_of l.fn.work + (burden l.attempt.code.now l.fn.sweep.row + owed_in l.attempt l.fn.table);
   steps : steps_of l.fn.work ≤ steps_of l.work;
   returns : returns_of l.fn.work ≤ returns_of l.work;
   paired : returns_of l.work - returns_of l.fn.work ≤ steps_of l.work - steps_of l.fn.work;
