@@ -1,6 +1,9 @@
 -- What the byte sets of a pattern say of its outcomes, and of a search.
-use Rattle.std.specs.Prelude.{◌≡◌, ℕ, ◌+◌, true, false, None}
-use Rattle.fancy_tree.specs.Pattern.{Pattern}
+use Rattle.std.specs.Prelude.{◌≡◌, ◌↔◌, ℕ, ◌+◌, true, false, List, None}
+use Rattle.fancy_tree.specs.declared.tree.Meaning.{Meaning}
+use Rattle.fancy_tree.specs.Pattern.{Pattern, member_of, in_any_case}
+use Rattle.fancy_tree.specs.Sets.{has, AreEdges}
+use Rattle.fancy_bytes.specs.Items.{encoding, includes, is_item}
 use Rattle.fancy_bytes.specs.Firsts.{nullable, first_bytes, has_start_bytes}
 use Rattle.fancy_bytes.specs.Required.{required_bytes}
 use Rattle.fancy_engine.specs.Context.{Context, State}
@@ -49,3 +52,21 @@ SkipsLoseNothing =
 abbrev pub LackingIsNone : Type 0
 LackingIsNone =
     (q : Query) (b : ℕ) → required_bytes q.sought.meaning q.sought.pattern b ≡ true → ¬ Stands q.haystack b → search q ≡ None
+
+-- A literal in any case requires a byte exactly where each of its forms has it.
+abbrev pub LiteralsRequire : Type 0
+LiteralsRequire =
+    (m : Meaning) (edges : List ℕ) (b : ℕ) → AreEdges edges →
+    (required_bytes m (in_any_case edges) b ≡ true) ↔ ((c : ℕ) → has edges c ≡ true → is_item m c ≡ true → includes (encoding m c) b ≡ true)
+
+-- the set has one member, which is an item, and the byte stands in its encoding
+pub record StandsInOne (m : Meaning) (edges : List ℕ) (b : ℕ) : Type 0 where
+  pub member : ℕ
+  pub is_member : has edges member ≡ true
+  pub alone : (c : ℕ) → has edges c ≡ true → c ≡ member
+  pub item : is_item m member ≡ true
+  pub stands : includes (encoding m member) b ≡ true
+
+-- another set requires a byte exactly where its one member has it
+abbrev pub SetsRequire : Type 0
+SetsRequire = (m : Meaning) (edges : List ℕ) (b : ℕ) → AreEdges edges → (required_bytes m (member_of edges) b ≡ true) ↔ StandsInOne m edges b

@@ -1,6 +1,6 @@
 //! Laws of the byte sets of a pattern: each contract here states one, and nothing is computed.
 
-ghost use Rattle.fancy_laws.specs.Bytes.{OutcomesBegin, AttemptsBegin, MatchesBegin, OutcomesRequire, AttemptsRequire, SkipsLoseNothing, LackingIsNone};
+ghost use Rattle.fancy_laws.specs.Bytes.{OutcomesBegin, AttemptsBegin, MatchesBegin, OutcomesRequire, AttemptsRequire, SkipsLoseNothing, LackingIsNone, LiteralsRequire, SetsRequire};
 
 /// Each outcome stands where its pattern began, which must be nullable, or one of the first bytes is there, before the limit of what may
 /// be consumed.
@@ -36,4 +36,14 @@ pub fn skips_lose_nothing()
 /// Where a required byte stands nowhere, nothing is found.
 pub fn lacking_is_none()
     ensures { LackingIsNone }
+{}
+
+/// A literal in any case, whose characters the edges of a set give, requires a byte exactly where each of its forms has it.
+pub fn literals_require()
+    ensures { LiteralsRequire }
+{}
+
+/// Another set requires a byte exactly where it has one member alone, and that has the byte.
+pub fn sets_require()
+    ensures { SetsRequire }
 {}
