@@ -5,7 +5,7 @@ use Rattle.std.specs.Char.{is_ascii_digit}
 use Rattle.fancy_tree.specs.Text.{Text}
 use Rattle.fancy_template.specs.Templates.{TemplateSyntax, Step, literal, name, number, error, steps, Form, is_name_character}
 use Rattle.fancy_template.specs.Appended.{Writes, WritesPart}
-use Rattle.fancy_template.specs.Expansions.{Captured, expansion}
+use Rattle.fancy_template.specs.Expansions.{Captured, expansion, expanded_texts}
 use Rattle.fancy_template.specs.Marks.{escaped_template}
 use Rattle.fancy_template.specs.declared.scan.CharKind.{CharKind}
 use Rattle.fancy_template.specs.declared.scan.CharKind.TheVariants.{OfName, Digit}
@@ -44,6 +44,10 @@ WritesAll contents before after result e captured c template = OnOk result (Writ
 -- where it refused, it has taken a beginning of the expansion, and not all of it
 abbrev pub WritesSome : {W C A F : Type 0} → (W → Option (List ℕ)) → W → W → Result A F → Expander → (C → Captured) → C → List ℕ → Type 0
 WritesSome contents before after result e captured c template = OnErr result (WritesPart contents before (expand e captured c template) after)
+
+-- the texts that a template of these bytes expands to, one for each step
+abbrev pub expand_texts : {C : Type 0} → Expander → (C → Captured) → C → List ℕ → List (List ℕ)
+expand_texts e captured c template = expanded_texts (syntax_of e) (captured c) (chars template)
 
 -- whatever was captured, a template of these bytes expands to this text
 abbrev pub ExpandsTo : Expander → List ℕ → List ℕ → Type 0

@@ -1,5 +1,5 @@
 -- What templates see of captures, and what they expand to. Texts of groups are bytes.
-use Rattle.std.specs.Prelude.{ℕ, List, [], Option, None, Some, encode_utf8, flat_map, if◌then◌else◌}
+use Rattle.std.specs.Prelude.{ℕ, List, [], Option, None, Some, encode_utf8, flat_map, map, if◌then◌else◌}
 use Rattle.std.specs.Char.{is_ascii_digit}
 use Rattle.std.specs.List.{list_all}
 use Rattle.std.specs.Option.{option_or, option_and_then}
@@ -33,3 +33,7 @@ expanded k error = []
 -- what a template gives
 unfoldable pub expansion : TemplateSyntax → Captured → Text → List ℕ
 expansion s k t = flat_map (expanded k) (steps s t)
+
+-- the texts that a template gives, one for each step
+abbrev pub expanded_texts : TemplateSyntax → Captured → Text → List (List ℕ)
+expanded_texts s k t = map (expanded k) (steps s t)

@@ -1,8 +1,8 @@
 //! What templates expand to.
 
-ghost use Rattle.std.specs.Prelude.{◌≡◌, ℕ, List, chars, string_bytes, option_map, IfOk, IfErr, OnOk, OnErr};
+ghost use Rattle.std.specs.Prelude.{◌≡◌, ℕ, List, [], ◌∷◌, chars, string_bytes, option_map, IfOk, IfErr, OnOk, OnErr};
 ghost use Rattle.fancy_template.specs.Appended.{AddsText, AddsItems, Writes, WritesPart};
-ghost use Rattle.fancy_template.specs.Writers.{IsFault};
+ghost use Rattle.fancy_template.specs.Writers.{Writing, IsFault};
 ghost use Rattle.fancy_template.specs.Expansions.{expanded, text_of_group};
 ghost use Rattle.fancy_template.specs.Expanders.{step_of};
 ghost use Rattle.fancy_template.specs.Expanded.{bytes_of};
@@ -26,7 +26,7 @@ pub(crate) enum Expanded<'t> {
 }
 
 impl Expander {
-    ghost use Rattle.fancy_template.specs.Expanders.{WritesAll, WritesSome, expand};
+    ghost use Rattle.fancy_template.specs.Expanders.{WritesAll, WritesSome, expand, expand_texts};
 
     /// What a template expands to for these captures.
     ///
@@ -110,6 +110,7 @@ impl Expander {
         ensures ok { WritesAll W.contents writer.old writer.new result self.now C.captured captures.now template.now }
         ensures err { WritesSome W.contents writer.old writer.new result self.now C.captured captures.now template.now }
         ensures fault { IfErr result (λ fault. IsFault W.answers fault writer.new) }
+        ensures calls { Writing W.answers writer.old (expand_texts self.now C.captured captures.now template.now) result writer.new }
     {
         for step in self.steps(template) {
             write_expanded(writer, expand_step(step, captures))?;
@@ -184,6 +185,7 @@ fn write_expanded<W: Writer>(writer: &mut W, expanded: Expanded<'_>) -> io::Resu
     ensures ok { OnOk result (Writes W.contents writer.old (bytes_of expanded.entry) writer.new) }
     ensures err { OnErr result (WritesPart W.contents writer.old (bytes_of expanded.entry) writer.new) }
     ensures fault { IfErr result (λ fault. IsFault W.answers fault writer.new) }
+    ensures calls { Writing W.answers writer.old (bytes_of expanded.entry ∷ []) result writer.new }
 {
     match expanded {
         Expanded::Character(c) => write_whole(writer, c.encode_utf8(&mut [0; 4]).as_bytes()),

@@ -1,11 +1,11 @@
 //! Writing to any writer.
 
-ghost use Rattle.std.specs.Prelude.{⊤, ℕ, List, Option, Result, IfErr, OnOk, OnErr};
+ghost use Rattle.std.specs.Prelude.{⊤, ℕ, List, [], ◌∷◌, Option, Result, IfErr, OnOk, OnErr};
 ghost use Rattle.std.specs.Io.{WritesAtMost};
 ghost use Rattle.std.specs.Io.KnownBytes.{WriteAppends};
 ghost use Rattle.std.specs.declared.io.Error.{Error as Fault};
 ghost use Rattle.fancy_template.specs.Appended.{Writes, WritesPart};
-ghost use Rattle.fancy_template.specs.Writers.{IsFault};
+ghost use Rattle.fancy_template.specs.Writers.{Writing, IsFault};
 
 use std::io;
 use std::io::ErrorKind;
@@ -46,6 +46,7 @@ pub fn write_whole<W: Writer>(writer: &mut W, text: &[u8]) -> io::Result<()>
     ensures ok { OnOk result (Writes W.contents writer.old text.now writer.new) }
     ensures err { OnErr result (WritesPart W.contents writer.old text.now writer.new) }
     ensures fault { IfErr result (λ fault. IsFault W.answers fault writer.new) }
+    ensures calls { Writing W.answers writer.old (text.now ∷ []) result writer.new }
 {
     let mut at = 0;
     while at < text.len() {
