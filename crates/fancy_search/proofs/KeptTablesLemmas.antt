@@ -115,3 +115,7 @@ starts_at before after start e = e ∙ ap (λ (s : ℕ). record before { start =
 pub if_some : (o : Option ℕ) (Is : ℕ → Type 0) → ForSome o Is → IfSome o Is
 if_some None Is is = tt
 if_some (Some b) Is is = is b refl
+
+-- the same of an option that is equal
+pub if_some_at : (o p : Option ℕ) (Is : ℕ → Type 0) → o ≡ p → ForSome p Is → IfSome o Is
+if_some_at o p Is e is = rw e (if_some p Is is)

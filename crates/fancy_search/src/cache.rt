@@ -91,6 +91,7 @@ pub struct Cache {
 
 impl Cache {
     ghost use Rattle.fancy_search.specs.Cached.{cached_groups};
+    ghost use Rattle.fancy_search.specs.KeptTables.{table_kept};
 
     /// It has no memory yet, which the searches take, and holds no group.
     pub fn new(alloc: Global) -> Cache
@@ -119,7 +120,9 @@ impl Cache {
 
     /// Whether a search is worth the automaton's steps: its text is not short, or the steps of searches before are kept, which did
     /// not read much more than their list came on by.
-    pub(crate) fn is_worth_steps(&self, request: Request, kept: Kept) -> bool {
+    pub(crate) fn is_worth_steps(&self, request: Request, kept: Kept) -> bool
+        ensures { result ≡ true → table_kept kept ≡ None }
+    {
         match kept {
             Kept::Nothing => {
                 let searched = request.range_end.saturating_sub(request.effective_start());

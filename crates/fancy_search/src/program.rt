@@ -12,7 +12,7 @@ ghost use Rattle.fancy_engine.specs.CodeLength.{code_len};
 ghost use Rattle.fancy_engine.specs.Compile.{are_easy};
 ghost use Rattle.fancy_engine.specs.Easy.{is_easy};
 ghost use Rattle.fancy_engine.specs.Placed.{has_raw_byte, has_keep_start_in_look_around};
-ghost use Rattle.fancy_engine.specs.KeptTable.{table_base};
+ghost use Rattle.fancy_engine.specs.KeptTable.{table_base, table_in, steps_ahead, steps_before};
 ghost use Rattle.fancy_engine.specs.Work.{steps_of, returns_of};
 ghost use Rattle.fancy_engine.specs.Tried.{NoneTried};
 ghost use Rattle.fancy_engine.specs.Search.{search};
@@ -81,7 +81,7 @@ impl Program {
     ghost use Rattle.fancy_search.specs.SearchCounts.{Counted, CountedUpTo, TriesNothing, is_hopeless, IfFound, IsHardProgram, RefusesQuery, AllowsQuery, RefusesAttempt, AllowsAttempt, HasRoomFor, IsStopped, AddsReturns, AddsReturnsUpTo, step_bound, returns_taken};
     ghost use Rattle.fancy_search.specs.Programs.{KeepsCharacters, program_pattern, program_options, program_groups, program_names, program_length, program_is_easy, program_limit, asked_of};
     ghost use Rattle.fancy_search.specs.Starts.{may_start};
-    ghost use Rattle.fancy_search.specs.KeptTables.{KeepsTable, KeepsSteps, KeepsLines, IsKeptIn};
+    ghost use Rattle.fancy_search.specs.KeptTables.{KeepsTable, KeepsSteps, KeepsLines, IsKeptIn, table_kept, TakesStepsToGo, SpendsSteps, KeepsOn};
     ghost use Rattle.fancy_search.specs.Options.{search_options};
 
     /// Reads a pattern under these options, and compiles it.
@@ -258,6 +258,11 @@ impl Program {
         ensures kept { IfFound result (λ f. IsKeptIn self.now haystack.now request kept.new f.end cache.new) }
         ensures fresh { program_is_easy self.now ≡ true → kept.old ≡ Kept.Nothing
             → steps_of work.new ≤ steps_of work.old + step_bound self.now request }
+        ensures bounded { program_is_easy self.now ≡ true
+            → TakesStepsToGo self.now request kept.old cache.old work.old work.new }
+        ensures spent { program_is_easy self.now ≡ true → IfFound result
+            (λ f. SpendsSteps self.now request kept.old cache.old work.old kept.new cache.new work.new f.end) }
+        ensures goes_on { program_is_easy self.now ≡ true → IfFound result (λ _. KeepsOn kept.old kept.new) }
         ensures returns { returns_of work.old ≤ returns_of work.new }
         ensures paired { returns_of work.new ≤ steps_of work.new }
         ensures counted { Counted self.now (asked_of self.now haystack.now request continues) result work.old work.new }
@@ -300,6 +305,10 @@ impl Program {
             → steps_of work.new ≡ steps_of work.old }
         ensures kept { IfFound result (λ f. IsKeptIn self.now haystack.now request kept.new f.end cache.new) }
         ensures fresh { kept.old ≡ Kept.Nothing → steps_of work.new ≤ steps_of work.old + step_bound self.now request }
+        ensures bounded { TakesStepsToGo self.now request kept.old cache.old work.old work.new }
+        ensures spent { IfFound result
+            (λ f. SpendsSteps self.now request kept.old cache.old work.old kept.new cache.new work.new f.end) }
+        ensures goes_on { IfFound result (λ _. KeepsOn kept.old kept.new) }
         ensures returns { returns_of work.old ≤ returns_of work.new }
         ensures paired { returns_of work.new ≤ steps_of work.new }
         ensures refused { IfErr result (λ e. e ≡ Error.Memory) }
@@ -342,6 +351,7 @@ impl Program {
         ensures places { result ≡ true → (haystack : List ℕ) → (text ≡ true → IsUtf8 haystack)
             → KeepsPlaces haystack self.now.code.meaning (search_options self.now.options).on_boundaries }
         ensures free { result ≡ true → request.anchored ≡ false }
+        ensures none { result ≡ true → table_kept kept ≡ None }
     {
         if request.anchored {
             return false;
@@ -373,6 +383,7 @@ impl Program {
         ensures idle { (on : Bool) → NoneTried (program_options self.now).seek (asked_of self.now haystack.now request on)
             → steps_of work.new ≡ steps_of work.old }
         ensures kept { IfFound result (λ f. IsKeptIn self.now haystack.now request kept.new f.end cache.new) }
+        ensures left { kept.new ≡ Kept.Steps }
         ensures bounded { steps_of work.new ≤ steps_of work.old + step_bound self.now request }
         ensures returns { returns_of work.new ≡ returns_of work.old }
         ensures paired { returns_of work.new ≤ steps_of work.new }
@@ -492,6 +503,12 @@ impl Program {
         ensures kept { IfOk result (λ m. IfSome m
             (λ f. KeepsTable self.now haystack.now request (table_base kept request) f.end cache.new)) }
         ensures fresh { kept ≡ None → steps_of work.new ≤ steps_of work.old + step_bound self.now request }
+        ensures bounded { steps_of work.new ≤ steps_of work.old
+            + (steps_before kept self.now.code request (table_in cache.old.runner) + program_length self.now) }
+        ensures spent { IfFound result (λ f. steps_of work.new
+            + steps_ahead self.now.code request (table_base kept request) f.end (table_in cache.new.runner)
+            ≤ steps_of work.old
+            + (steps_before kept self.now.code request (table_in cache.old.runner) + program_length self.now)) }
         ensures returns { returns_of work.old ≤ returns_of work.new }
         ensures paired { returns_of work.new ≤ steps_of work.new }
         ensures refused { IfErr result (λ e. e ≡ Error.Memory) }
