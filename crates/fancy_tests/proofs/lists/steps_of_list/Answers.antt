@@ -1,0 +1,15 @@
+use Rattle.std.proofs.Common.{arith, refl, ◌≡◌, Some, Ok}
+use Rattle.fancy_search.proofs.KeptTablesLemmas.{keeps_on}
+use Rattle.fancy_tests.proofs.lists.steps_of_list.Goals as goal
+
+pub matches-preserved : goal.matches-preserved
+matches-preserved g c =
+    let answer : c.search_next-answer.result ≡ Ok (Some c.in-Some.found) = cc (c.expect.ensures, c.in-Some.is) in
+    record {
+      whole = c.matches.invariant.whole;
+      begins = c.matches.invariant.begins;
+      paired = c.search_next-answer.ensures.paired;
+      standing = c.search_next-answer.ensures.standing;
+      kept = keeps_on c.args.program.now c.as_bytes-haystack.result.now c.search_next-answer.new.cache c.matches.request (record c.matches.request { start = c.max.result }) c.search_next-answer.new.kept c.search_next-answer.new.kept c.in-Some.found.end refl refl (omega (arith, c.max.ensures))
+          (rw answer at c.search_next-answer.ensures.kept);
+    }
