@@ -141,6 +141,47 @@ fn check_size_of_builder(
     check_verdict(rt, &read, wanted, pattern);
 }
 
+/// Hard patterns, and how many instructions their code has: two that each code has, and those that a comment lists.
+const LENGTHS: &[(&str, usize)] = &[
+    // Character(b); Look for each form; Character(a)
+    ("a(?=b)", 6),
+    // Character(c); Look for each form; Character(b), Character(a), Split for each form
+    ("(?:a|b)(?=c)", 9),
+    // Recall, Close, Open for each form; Character(a)
+    ("(a)\\1", 9),
+    // Character(b); Commit, Split, Enter for each form; Character(a)
+    ("a*+b", 10),
+    // Character(c); Character(b), Character(a), Back; Look for each form
+    ("(?<=ab)c", 8),
+    // Character(c); Commit for each form; Character(b), Character(a), Split for each form; Enter for each form
+    ("(?>a|b)c", 11),
+    // Character(b), Character(c); Commit for each form; Character(a); Test for each form
+    ("(?(a)b|c)", 9),
+    // Character(b); Deny for each form; Character(a) three times
+    ("a{3}(?!b)", 8),
+    // Character(a); Continue for each form
+    ("\\Ga", 5),
+];
+
+/// Checks that a pattern builds where its code may be as long as it is, and does not where it may have one instruction less.
+fn check_length(rt: &impl Abort, alloc: Global, pattern: &str, length: usize) {
+    check_size(rt, alloc, (pattern, length), Verdict::Accepted);
+    check_size_of_builder(rt, alloc, (pattern, length), Verdict::Accepted);
+    let less = length.saturating_sub(1);
+    check_size(rt, alloc, (pattern, less), Verdict::TooComplex);
+    check_size_of_builder(rt, alloc, (pattern, less), Verdict::TooComplex);
+    let regex = regex_of(rt, alloc, pattern);
+    check(rt, !regex.is_easy(), pattern);
+    check(rt, regex.code_len() == length, pattern);
+}
+
+#[test]
+fn hard_code_may_be_as_long_as_its_limit(rt: HostRuntime) {
+    for &(pattern, length) in LENGTHS {
+        check_length(&rt, rt.alloc(), pattern, length);
+    }
+}
+
 #[test]
 fn the_size_of_hard_code_is_limited(rt: HostRuntime) {
     for &(pattern, size, wanted) in SIZES {
