@@ -1,10 +1,11 @@
 -- Which bytes stand nowhere in a haystack.
-use Rattle.std.specs.Prelude.{◌≡◌, ℕ, ◌<◌, nat_lt, Bool, true, not, ◌&&◌, List, [], ◌∷◌}
+use Rattle.std.specs.Prelude.{◌≡◌, ℕ, ◌<◌, nat_lt, Bool, true, false, not, ◌&&◌, List, [], ◌∷◌}
 use Rattle.fancy_tree.specs.declared.tree.Meaning.{Meaning}
 use Rattle.fancy_tree.specs.Pattern.{Pattern}
 use Rattle.fancy_bytes.specs.Items.{includes, some_below}
 use Rattle.fancy_bytes.specs.Required.{required_bytes}
 use Rattle.fancy_bytes.specs.Sets.{ByteFlags, member}
+use Rattle.fancy_bytes.specs.declared.lacking.KnownBytes.{KnownBytes}
 
 -- each of these bytes stands in the haystack
 abbrev pub includes_all : List ℕ → List ℕ → Bool
@@ -18,6 +19,15 @@ lacks_some kind haystack = some_below 256 (λ b. kind b && not (includes haystac
 -- each byte of the set stands in the haystack
 abbrev pub AllStand : ByteFlags → List ℕ → Type 0
 AllStand set haystack = (b : ℕ) → b < 256 → member set b ≡ true → includes haystack b ≡ true
+
+-- no byte of the set stands in the haystack
+abbrev pub NoneStand : ByteFlags → List ℕ → Type 0
+NoneStand set haystack = (b : ℕ) → b < 256 → member set b ≡ true → includes haystack b ≡ false
+
+-- what is known of the bytes of the haystack is true of it
+pub record AreKnown (known : KnownBytes) (haystack : List ℕ) : Type 0 where
+  pub standing : AllStand known.standing haystack
+  pub lacking : NoneStand known.lacking haystack
 
 -- these are the bytes that the pattern requires
 abbrev pub AreRequired : Meaning → Pattern → List ℕ → Type 0

@@ -4,7 +4,7 @@ ghost use Rattle.std.specs.Prelude.{◌≡◌, ◌&&◌, ℕ, List, nat_lt, not,
 ghost use Rattle.fancy_tree.specs.Pattern.{pattern_of};
 ghost use Rattle.fancy_bytes.specs.Items.{includes};
 ghost use Rattle.fancy_bytes.specs.Sets.{member};
-ghost use Rattle.fancy_bytes.specs.Lacks.{includes_all, AllStand, AreRequired};
+ghost use Rattle.fancy_bytes.specs.Lacks.{includes_all, AreKnown, AreRequired};
 
 use crate::byte_set::ByteSet;
 use crate::required::required_bytes;
@@ -45,6 +45,45 @@ fn members_of(alloc: Global, set: &ByteSet) -> Result<Vec<u8>, AllocError>
     Ok(bytes)
 }
 
+/// What is known of the bytes of one haystack: those that were looked for, and stand in it or do not.
+#[derive(Drop)]
+pub struct KnownBytes {
+    standing: ByteSet,
+    lacking: ByteSet,
+}
+
+impl KnownBytes {
+    /// Nothing is known yet.
+    pub fn new() -> KnownBytes
+        ensures { (haystack : List ℕ) → AreKnown result haystack }
+    {
+        KnownBytes {
+            standing: ByteSet::new(),
+            lacking: ByteSet::new(),
+        }
+    }
+
+    /// Whether the byte stands in the haystack. It is looked for at most once, from a place on at first.
+    fn has(&mut self, haystack: &[u8], from: usize, byte: u8) -> bool
+        requires known { AreKnown self.old haystack.now }
+        ensures value { result ≡ includes haystack.now byte }
+        ensures known { AreKnown self.new haystack.now }
+    {
+        if self.standing.contains(byte) {
+            return true;
+        }
+        if self.lacking.contains(byte) {
+            return false;
+        }
+        if stands(haystack, from, byte) {
+            self.standing.insert(byte);
+            return true;
+        }
+        self.lacking.insert(byte);
+        false
+    }
+}
+
 /// The bytes that every haystack with a match has, made ready to be looked for.
 #[derive(Drop)]
 pub struct RequiredBytes {
@@ -66,20 +105,16 @@ impl RequiredBytes {
         Ok(RequiredBytes { bytes })
     }
 
-    /// Whether one of the bytes stands nowhere in the haystack, where those in `standing` are known to stand. Those that are
-    /// found are added to it. Bytes are looked for from a place on at first.
-    pub fn are_lacking(&self, haystack: &[u8], from: usize, standing: &mut ByteSet) -> bool
-        requires known { AllStand standing.old haystack.now }
+    /// Whether one of the bytes stands nowhere in the haystack. A byte of which that is not known yet is looked for, from a place
+    /// on at first, and is known then.
+    pub fn are_lacking(&self, haystack: &[u8], from: usize, known: &mut KnownBytes) -> bool
+        requires known { AreKnown known.old haystack.now }
         ensures value { result ≡ not (includes_all haystack.now self.now) }
-        ensures known { AllStand standing.new haystack.now }
+        ensures known { AreKnown known.new haystack.now }
     {
         for i in 0..self.bytes.len() {
-            let byte = self.bytes[i];
-            if !standing.contains(byte) {
-                if !stands(haystack, from, byte) {
-                    return true;
-                }
-                standing.insert(byte);
+            if !known.has(haystack, from, self.bytes[i]) {
+                return true;
             }
         }
         false

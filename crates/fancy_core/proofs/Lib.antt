@@ -7,3 +7,4 @@ pub mod SplitLemmas
 pub mod FixedLemmas
 pub mod RefusedFromLemmas
 pub mod ReplaceLemmas
+pub mod AllowedLemmas

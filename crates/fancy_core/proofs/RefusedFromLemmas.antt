@@ -9,14 +9,13 @@ use Rattle.fancy_input.proofs.PlaceLemmas.{next_place_above}
 use Rattle.fancy_core.specs.declared.regex.Regex.{Regex}
 use Rattle.fancy_core.specs.Limited.{Refuses}
 use Rattle.fancy_core.specs.ItemLimits.{up_to}
-use Rattle.fancy_search.specs.Remaining.{refused_next, at_first, at_next, scan, upcoming_if, left_if, items_left}
+use Rattle.fancy_search.specs.Remaining.{Standing, PassesOver, refused_next, at_first, at_next, scan, upcoming, items_left}
 use Rattle.fancy_search.specs.MatchList.{Scan, MatchItem, stop_of, is_empty_item, answer, unless_empty_at, items_from, Sound}
 use Rattle.fancy_core.specs.Regexes.{program_in, query_in_turn}
 use Rattle.fancy_core.specs.Replacing.{StartFrom, IsRefusedFrom}
-use Rattle.fancy_search.proofs.RemainingLemmas.{skips}
+use Rattle.fancy_search.proofs.RemainingLemmas.{nat_same, upcoming_if, skips}
 use Rattle.fancy_search.proofs.MatchListLemmas.{LiesFrom, answer_lies}
 use Rattle.fancy_search.proofs.ScanLemmas.{scan_sound}
-use Rattle.fancy_search.proofs.IterationStepLemmas.{nat_same}
 
 start_up_to : (left : Option ℕ) (s : ℕ) (xs : List MatchItem) → StartFrom s xs → StartFrom s (up_to left xs)
 start_up_to None s xs h = h
@@ -47,37 +46,37 @@ upcoming_lies k s c true h = lies_unless k s _ h (answer_lies k s c h)
 upcoming_lies k s c false h = answer_lies k s c h
 
 -- what is left of an iteration starts where that stands, or later
-left_start : (k : Scan) (s : ℕ) (c b : Bool) → Sound k → StartFrom s (left_if false k s c b)
-left_start k s c b h = items_start k s (upcoming_if b k s c) (upcoming_lies k s c b h)
+left_start : (k : Scan) (st : Standing) → st.ended ≡ false → Sound k → StartFrom st.start (items_left k st)
+left_start k st going h = rw going (items_start k st.start (upcoming k st) (upcoming_lies k st.start st.continues st.skips_empty h))
 
 -- and at the next place or later, where an empty match is passed over
-passed_start : (k : Scan) (s : ℕ) (c : Bool) (i : MatchItem) → Sound k → answer k s c ≡ Some i → is_empty_item i ≡ true → stop_of i ≡ s → StartFrom (k.advance s) (left_if false k s c true)
-passed_start k s c i h e m p =
-    let u : upcoming_if true k s c ≡ answer k (k.advance s) false = skips k s c i e (both_true {s = is_empty_item i} {t = nat_eq (stop_of i) s} m (rw p (nat_same s))) in
-    rw u (items_start k (k.advance s) _ (answer_lies k (k.advance s) false h))
+passed_start : (k : Scan) (st : Standing) (i : MatchItem) → st.ended ≡ false → Sound k → PassesOver k st i → StartFrom (k.advance st.start) (items_left k st)
+passed_start k st i going h p =
+    let u : upcoming_if true k st.start st.continues ≡ answer k (k.advance st.start) false = skips k st.start st.continues i p.found (both_true {s = is_empty_item i} {t = nat_eq (stop_of i) st.start} p.empty (rw p.there (nat_same st.start))) in
+    rw (going, p.skips, u) (items_start k (k.advance st.start) _ (answer_lies k (k.advance st.start) false h))
 
 -- the next search of an iteration over a text is the search for what it has left
-pub search_refused : (regex : Regex) (t : List ℕ) (r : Request) (c b ended : Bool) (from : ℕ) (left : Option ℕ) (e : Error) → r ≡ record (whole t) { start = r.start } → ended ≡ false → from ≤ r.start →
-    refused_next (program_in regex) true t r c b e → IsRefusedFrom regex t from (up_to left (items_left (program_in regex) true t r ended c b)) e
-search_refused regex t r c b ended from left e of_text going later (at_first x) =
+pub search_refused : (regex : Regex) (t : List ℕ) (r : Request) (st : Standing) (from : ℕ) (left : Option ℕ) (e : Error) → r ≡ record (whole t) { start = r.start } → st.start ≡ r.start → st.ended ≡ false → from ≤ r.start →
+    refused_next (program_in regex) true t r st e → IsRefusedFrom regex t from (up_to left (items_left (scan (program_in regex) true t r) st)) e
+search_refused regex t r st from left e of_text here going later (at_first x) =
     let range : r.range_end ≡ length t = ap (λ (q : Request). q.range_end) of_text in
     let k = scan (program_in regex) true t r in
     record {
-      start = r.start;
-      on = c;
-      after = later;
-      before = rw going (start_up_to left r.start _ (left_start k r.start c b (scan_sound (program_in regex) true t r (omega (arith, range)))));
-      refused = subst (λ (q : Request). Refuses regex (query_in_turn regex t (record q { start = r.start }) c) e) of_text x;
+      start = st.start;
+      on = st.continues;
+      after = omega (arith, later, here);
+      before = start_up_to left st.start _ (left_start k st going (scan_sound (program_in regex) true t r (omega (arith, range))));
+      refused = subst (λ (q : Request). Refuses regex (query_in_turn regex t (record q { start = st.start }) st.continues) e) of_text x;
     }
-search_refused regex t r c b ended from left e of_text going later (at_next i on found empty stops x) =
+search_refused regex t r st from left e of_text here going later (at_next i passes x) =
     let range : r.range_end ≡ length t = ap (λ (q : Request). q.range_end) of_text in
     let k = scan (program_in regex) true t r in
-    let s = next_place true t r.start in
-    let above = next_place_above true t r.start in
+    let s = next_place true t st.start in
+    let above = next_place_above true t st.start in
     record {
       start = s;
       on = false;
-      after = omega (arith, later, above);
-      before = rw (going, on) (start_up_to left s _ (passed_start k r.start c i (scan_sound (program_in regex) true t r (omega (arith, range))) found empty stops));
+      after = omega (arith, later, here, above);
+      before = start_up_to left s _ (passed_start k st i going (scan_sound (program_in regex) true t r (omega (arith, range))) passes);
       refused = subst (λ (q : Request). Refuses regex (query_in_turn regex t (record q { start = s }) false) e) of_text x;
     }

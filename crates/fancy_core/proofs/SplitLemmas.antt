@@ -9,7 +9,7 @@ use Rattle.fancy_input.specs.Requests.{whole}
 use Rattle.fancy_search.specs.declared.program.Program.{Program}
 use Rattle.fancy_core.specs.declared.split.Split.{Split}
 use Rattle.fancy_core.specs.declared.split.limited.SplitN.{SplitN}
-use Rattle.fancy_search.specs.Remaining.{program_matches, items_left, turns_left}
+use Rattle.fancy_search.specs.Remaining.{scan, program_matches, items_left, turns_left}
 use Rattle.fancy_core.specs.Pieces.{Progress, pieces, pieces_left, first_pieces_left, past_piece}
 use Rattle.fancy_core.specs.Splits.{progress, has_ended_splitn, IsNextPiece, IsNextOfFirst}
 use Rattle.fancy_search.proofs.MatchListLemmas.{matches_count}
@@ -17,7 +17,7 @@ use Rattle.fancy_search.proofs.ScanLemmas.{scan_sound}
 
 -- at most as many items come from a whole text as a number holds
 pub few_turns : (program : Program) (t bs : List ℕ) (r : Request) (ended continues skips_empty : Bool) → length t < 2 ^ 63 → bs ≡ t → r ≡ whole t → ended ≡ false → continues ≡ true → skips_empty ≡ false →
-    suc (turns_left ended (items_left program true bs r ended continues skips_empty)) < 2 ^ 64
+    suc (turns_left ended (items_left (scan program true bs r) (record { start = r.start; continues = continues; skips_empty = skips_empty; ended = ended }))) < 2 ^ 64
 few_turns program t bs r ended continues skips_empty short same_bytes whole_request not_ended goes_on skips_none =
     let few : 0 + length (program_matches program true t (whole t)) ≤ max 0 (suc (length t)) = matches_count _ 0 (scan_sound program true t (whole t) (omega arith)) in
     rw (same_bytes, whole_request, not_ended, goes_on, skips_none) (omega arith)
@@ -56,6 +56,7 @@ pub next_of_first : {A : Type 0} (bytes : A → List ℕ) (s : SplitN) (r : Opti
 next_of_first bytes s None t more e h = absurd (some_left _ _ _ _ e h.gives.0)
 next_of_first bytes s (Some (Ok x)) t more e h = record {
   gives = first_gives s.limit _ _ _ _ (progress t) (bytes x) more e h.moves h.gives;
+  allowed = λ _. h.allowed;
   counts = refl;
   moves = λ _. h.moves;
   rests = λ one. absurd (omega (arith, more, one));
@@ -65,6 +66,7 @@ next_of_first bytes s (Some (Ok x)) t more e h = record {
 }
 next_of_first bytes s (Some (Err z)) t more e h = record {
   gives = (h.gives.0, ap (first_pieces_left (s.limit - 1)) h.moves);
+  allowed = λ _. tt;
   counts = refl;
   moves = λ _. h.moves;
   rests = λ one. absurd (omega (arith, more, one));

@@ -7,11 +7,11 @@ use Rattle.fancy_core.specs.declared.iter.Matches.{Matches}
 use Rattle.fancy_core.specs.declared.iter.captures.CaptureMatches.{CaptureMatches}
 use Rattle.fancy_search.specs.Groups.{spans_of}
 use Rattle.fancy_search.specs.MatchList.{MatchItem}
-use Rattle.fancy_search.specs.Remaining.{GivesFirst, EndsUnlessOk, IfItem}
+use Rattle.fancy_search.specs.Remaining.{GivesFirst, EndsUnlessOk, IfItem, UnlessRefusal}
 use Rattle.fancy_core.specs.Regexes.{group_count_in}
 use Rattle.fancy_core.specs.Searches.{matches_in_whole, matches_of_input}
 use Rattle.fancy_input.specs.declared.regex_input.RegexInput.{RegexInput}
-use Rattle.fancy_core.specs.Iterations.{regex_in, haystack_of, next_request, has_ended, left_in, end_in, refuses_next}
+use Rattle.fancy_core.specs.Iterations.{regex_in, haystack_of, next_request, has_ended, left_in, end_in, refuses_next, allows_next}
 
 -- the iteration over the matches alone
 abbrev pub matches_in : {S : Type 0} {g : _} → CaptureMatches S g → Matches S g
@@ -37,6 +37,8 @@ groups_left text bytes m = groups_of_each (group_count_in (regex_in (matches_in 
 pub record IsNextCaptures {S A : Type 0} {g : _} (text : S → Bool) (bytes : S → List ℕ) (spans : A → List (Option Span)) (searched : A → S) (found_by : A → Regex) (s : CaptureMatches S g) (r : Option (Result A Error)) (t : CaptureMatches S g) : Type 0 where
   -- the first of the matches that are left, or a refusal after which there is none
   pub gives : GivesFirst (λ m e. refuses_next text bytes (matches_in m) e) spans (groups_left text bytes) s r t
+  -- an item stands, and so does the end, only where the searches that it rests on kept within their limits
+  pub allowed : UnlessRefusal r (allows_next text bytes (matches_in s))
   pub within_text : IfItem r (λ x. searched x ≡ haystack_of (matches_in s))
   pub within_regex : IfItem r (λ x. found_by x ≡ regex_in (matches_in s))
   pub same_regex : regex_in (matches_in t) ≡ regex_in (matches_in s)

@@ -6,8 +6,9 @@ use Rattle.fancy_input.specs.declared.input.Request.{Request}
 use Rattle.fancy_core.specs.declared.regex.Regex.{Regex}
 use Rattle.fancy_core.specs.declared.iter.Matches.{Matches}
 use Rattle.fancy_core.specs.Regexes.{program_in}
-use Rattle.fancy_search.specs.MatchList.{MatchItem, span_of_item}
-use Rattle.fancy_search.specs.Remaining.{items_left, end_left, turns_left, next_start, refused_next, GivesFirst, EndsUnlessOk, IfItem}
+use Rattle.fancy_search.specs.MatchList.{Scan, MatchItem, span_of_item}
+use Rattle.fancy_search.specs.Remaining.{Standing, scan, items_left, items_end, turns_left, next_start, refused_next, allowed_next, GivesFirst, EndsUnlessOk, IfItem, UnlessRefusal}
+use Rattle.fancy_search.specs.Searchers.{standing_of}
 
 abbrev pub regex_in : {S : Type 0} {g : _} → Matches S g → Regex
 regex_in m = m.regex.now
@@ -23,9 +24,17 @@ next_request m = m.searcher.request
 abbrev pub has_ended : {S : Type 0} {g : _} → Matches S g → Bool
 has_ended m = m.searcher.ended
 
--- the items that are left; a haystack is text where `text` holds of it, and has these bytes
+-- where it stands
+abbrev pub standing_in : {S : Type 0} {g : _} → Matches S g → Standing
+standing_in m = standing_of m.searcher
+
+-- what it searches, again and again; a haystack is text where `text` holds of it, and has these bytes
+abbrev pub scan_in : {S : Type 0} {g : _} → (S → Bool) → (S → List ℕ) → Matches S g → Scan
+scan_in text bytes m = scan (program_in m.regex.now) (text m.searcher.haystack) (bytes m.searcher.haystack) m.searcher.request
+
+-- the items that are left
 abbrev pub left_in : {S : Type 0} {g : _} → (S → Bool) → (S → List ℕ) → Matches S g → List MatchItem
-left_in text bytes m = items_left (program_in m.regex.now) (text m.searcher.haystack) (bytes m.searcher.haystack) m.searcher.request m.searcher.ended m.searcher.continues m.searcher.skips_empty
+left_in text bytes m = items_left (scan_in text bytes m) (standing_in m)
 
 -- the spans of the matches that are left
 abbrev pub spans_left : {S : Type 0} {g : _} → (S → Bool) → (S → List ℕ) → Matches S g → List Span
@@ -33,11 +42,15 @@ spans_left text bytes m = map span_of_item (left_in text bytes m)
 
 -- where the search starts that finds none, at the end of the items that are left
 abbrev pub end_in : {S : Type 0} {g : _} → (S → Bool) → (S → List ℕ) → Matches S g → ℕ
-end_in text bytes m = end_left (program_in m.regex.now) (text m.searcher.haystack) (bytes m.searcher.haystack) m.searcher.request m.searcher.ended m.searcher.continues m.searcher.skips_empty
+end_in text bytes m = items_end (scan_in text bytes m) (standing_in m)
 
 -- the next search may be refused by this error
 abbrev pub refuses_next : {S : Type 0} {g : _} → (S → Bool) → (S → List ℕ) → Matches S g → Error → Type 0
-refuses_next text bytes m e = refused_next (program_in m.regex.now) (text m.searcher.haystack) (bytes m.searcher.haystack) m.searcher.request m.searcher.continues m.searcher.skips_empty e
+refuses_next text bytes m e = refused_next (program_in m.regex.now) (text m.searcher.haystack) (bytes m.searcher.haystack) m.searcher.request (standing_in m) e
+
+-- the next searches keep within their limits
+abbrev pub allows_next : {S : Type 0} {g : _} → (S → Bool) → (S → List ℕ) → Matches S g → Type 0
+allows_next text bytes m = allowed_next (program_in m.regex.now) (text m.searcher.haystack) (bytes m.searcher.haystack) m.searcher.request (standing_in m)
 
 -- how many items can still come
 abbrev pub items_bound : {S : Type 0} {g : _} → (S → Bool) → (S → List ℕ) → Matches S g → ℕ
@@ -47,6 +60,8 @@ items_bound text bytes m = turns_left m.searcher.ended (left_in text bytes m)
 pub record IsNext {S A : Type 0} {g : _} (text : S → Bool) (bytes : S → List ℕ) (within : A → List ℕ) (span : A → Span) (s : Matches S g) (r : Option (Result A Error)) (t : Matches S g) : Type 0 where
   -- the first of the spans that are left, or a refusal after which there is none
   pub gives : GivesFirst (refuses_next text bytes) span (spans_left text bytes) s r t
+  -- an item stands, and so does the end, only where the searches that it rests on kept within their limits
+  pub allowed : UnlessRefusal r (allows_next text bytes s)
   pub within_text : IfItem r (λ x. within x ≡ bytes (haystack_of s))
   pub same_regex : regex_in t ≡ regex_in s
   pub same_text : haystack_of t ≡ haystack_of s

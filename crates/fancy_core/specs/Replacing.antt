@@ -13,8 +13,10 @@ use Rattle.fancy_search.specs.Groups.{spans_of}
 use Rattle.fancy_core.specs.Searches.{matches_of}
 use Rattle.fancy_core.specs.Limited.{Refuses}
 use Rattle.fancy_search.specs.MatchList.{MatchItem, span_of_item, start_of, stop_of}
+use Rattle.fancy_search.specs.Remaining.{standing_at, scan, allows_at, AllowsUpTo}
 use Rattle.fancy_core.specs.Pieces.{pieces, interleaved, limited}
-use Rattle.fancy_core.specs.Regexes.{group_count_in, query_in_turn}
+use Rattle.fancy_core.specs.ItemLimits.{limit_of}
+use Rattle.fancy_core.specs.Regexes.{program_in, group_count_in, query_in_turn}
 
 -- a template without `$` is one text for all matches: its own characters
 abbrev pub fixed_of : List ℕ → Option (List ℕ)
@@ -117,15 +119,20 @@ pub record IsRefusedByReplacer {R : Type 0} (fixed : Option (List ℕ)) (gave : 
   pub given : Answers gave first (map (seen_of regex t) done) answers state
   pub refused : refuses state (seen_of regex t next) error last
 
--- The text that a replacement answers: the matches that the limit takes were replaced in it, which took the replacer from its first state to its last. `fixed` gives the one text that a state has for all matches.
+-- The searches for the matches that a limit takes keep within their limits of returns. Once so many are found no more is searched for.
+abbrev pub AllowsReplacing : Regex → List ℕ → ℕ → Type 0
+AllowsReplacing regex t limit =
+    AllowsUpTo (allows_at (program_in regex) t (whole t)) (scan (program_in regex) true t (whole t)) (limit_of limit) (standing_at 0) (all_matches regex t)
+
+-- The text that a replacement answers: the matches that the limit takes were replaced in it, which took the replacer from its first state to its last. `fixed` gives the one text that a state has for all matches. It stands only where the searches for them kept within their limits.
 abbrev pub Replaces : {R Z : Type 0} → (R → Option (List ℕ)) → (R → Seen → List ℕ → R → Type 0) → Regex → List ℕ → ℕ → R → R → Result (CowStr Z) Error → Type 0
 Replaces fixed gave regex t limit first last result =
-    IfOk result (λ r. IsReplaced (fixed first) gave first last regex t (first_matches regex t limit) (cow_str_bytes r))
+    IfOk result (λ r. IsReplaced (fixed first) gave first last regex t (first_matches regex t limit) (cow_str_bytes r) × AllowsReplacing regex t limit)
 
 -- The same where the replacer was given away: some state was its last.
 abbrev pub ReplacesBy : {R Z : Type 0} → (R → Option (List ℕ)) → (R → Seen → List ℕ → R → Type 0) → Regex → List ℕ → ℕ → R → Result (CowStr Z) Error → Type 0
 ReplacesBy {R} fixed gave regex t limit first result =
-    IfOk result (λ r. (last : R) × IsReplaced (fixed first) gave first last regex t (first_matches regex t limit) (cow_str_bytes r))
+    IfOk result (λ r. (last : R) × IsReplaced (fixed first) gave first last regex t (first_matches regex t limit) (cow_str_bytes r) × AllowsReplacing regex t limit)
 
 -- One of the matches that the limit takes was not replaced, for this error: between the replacer's calls, or by a call.
 abbrev pub IsRefusedReplacing : {R : Type 0} → (R → Option (List ℕ)) → (R → Seen → List ℕ → R → Type 0) → (R → Seen → Error → R → Type 0) → Regex → List ℕ → ℕ → R → R → Error → Type 0

@@ -1,16 +1,16 @@
 -- What stands for a text on its way to having its matches replaced.
-use Rattle.std.specs.Prelude.{◌≡◌, ◌++◌, ◌∷◌, false, List, ℕ, length, slice_range, string_bytes}
+use Rattle.std.specs.Prelude.{◌≡◌, ◌++◌, ◌∷◌, true, false, List, ℕ, length, slice_range, string_bytes}
 use Rattle.fancy_tree.specs.declared.error.Error.{Error}
 use Rattle.fancy_core.specs.declared.regex.Regex.{Regex}
 use Rattle.fancy_core.specs.declared.rewriting.Rewriting.{Rewriting}
 use Rattle.fancy_search.specs.declared.searcher.FoundItem.{FoundItem}
 use Rattle.fancy_core.specs.GroupTexts.{Seen}
 use Rattle.fancy_core.specs.Regexes.{program_in}
-use Rattle.fancy_search.specs.Remaining.{item_in}
+use Rattle.fancy_search.specs.Remaining.{scan, allows_at, AllowsUpTo, item_in}
 use Rattle.fancy_core.specs.ItemLimits.{up_to, is_reached}
 use Rattle.fancy_search.specs.MatchList.{MatchItem}
 use Rattle.fancy_core.specs.Replacing.{seen_of, IsRefusedFrom}
-use Rattle.fancy_search.specs.Searchers.{left_of}
+use Rattle.fancy_search.specs.Searchers.{left_of, standing_of}
 
 abbrev pub rewriting_regex : Rewriting → Regex
 rewriting_regex w = w.regex.now
@@ -46,11 +46,18 @@ TakesFirst s i t = todo_of s ≡ item_in t.cache i ∷ todo_of t
 abbrev pub RefusesSearch : Rewriting → Error → Type 0
 RefusesSearch w e = (is_reached w.left ≡ false) × IsRefusedFrom (rewriting_regex w) (rewriting_text w) w.last (todo_of w) e
 
+-- the searches for the matches that are still to be replaced keep within their limits
+abbrev pub AllowsTodo : Rewriting → Type 0
+AllowsTodo w =
+    AllowsUpTo (allows_at (program_in w.regex.now) (rewriting_text w) w.searcher.request) (scan (program_in w.regex.now) true (rewriting_text w) w.searcher.request)
+    w.left (standing_of w.searcher) (left_of (program_in w.regex.now) w.searcher)
+
 -- nothing changed but what was written
 pub record Stays (s t : Rewriting) : Type 0 where
   pub regex : rewriting_regex t ≡ rewriting_regex s
   pub text : rewriting_text t ≡ rewriting_text s
   pub todo : todo_of t ≡ todo_of s
+  pub allowed : AllowsTodo t → AllowsTodo s
   pub left : t.left ≡ s.left
   pub last : t.last ≡ s.last
   pub found : t.found ≡ s.found

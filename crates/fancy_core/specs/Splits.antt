@@ -7,10 +7,10 @@ use Rattle.fancy_core.specs.declared.split.Split.{Split}
 use Rattle.fancy_core.specs.declared.split.limited.SplitN.{SplitN}
 use Rattle.fancy_core.specs.Regexes.{program_in}
 use Rattle.fancy_search.specs.MatchList.{span_of_item}
-use Rattle.fancy_search.specs.Remaining.{turns_left, refused_next}
+use Rattle.fancy_search.specs.Remaining.{turns_left, refused_next, allowed_next, IfItem}
 use Rattle.fancy_core.specs.Replacing.{all_matches}
 use Rattle.fancy_core.specs.Pieces.{Progress, pieces_left, first_pieces_left, past_piece, rest_of}
-use Rattle.fancy_search.specs.Searchers.{left_of}
+use Rattle.fancy_search.specs.Searchers.{left_of, standing_of}
 
 -- the spans of the matches in a text
 abbrev pub match_spans : Regex → List ℕ → List Span
@@ -46,7 +46,11 @@ pieces_bound s = turns_unless s.ended (turns_left s.searcher.ended (left_of (pro
 
 -- its next search may be refused by this error
 abbrev pub split_refuses_next : Split → Error → Type 0
-split_refuses_next s e = refused_next (program_in s.regex.now) true s.searcher.haystack.now s.searcher.request s.searcher.continues s.searcher.skips_empty e
+split_refuses_next s e = refused_next (program_in s.regex.now) true s.searcher.haystack.now s.searcher.request (standing_of s.searcher) e
+
+-- its next searches keep within their limits, if it still searches
+abbrev pub split_allows_next : Split → Type 0
+split_allows_next s = allowed_next (program_in s.regex.now) true s.searcher.haystack.now s.searcher.request (standing_of s.searcher)
 
 -- One step over the list `rest`: the first of it, or a refusal of the next search, after which the list `after` is left.
 abbrev pub GivesPiece : {S A : Type 0} → (S → Error → Type 0) → (A → List ℕ) → (S → List (List ℕ)) → (S → List (List ℕ)) → S → Option (Result A Error) → S → Type 0
@@ -60,6 +64,8 @@ MovesOn s r t = MatchOption r (progress t ≡ progress s) (λ item. MatchResult 
 pub record IsNextPiece {A : Type 0} (bytes : A → List ℕ) (s : Split) (r : Option (Result A Error)) (t : Split) : Type 0 where
   -- the first of the pieces that are left, or a refusal, after which the rest from the last end is left
   pub gives : GivesPiece split_refuses_next bytes (λ x. pieces_left (progress x)) (λ x. rest_of (progress x) ∷ []) s r t
+  -- a piece stands only where the searches that it rests on kept within their limits
+  pub allowed : IfItem r (λ _. split_allows_next s)
   pub moves : MovesOn s r t
   -- a refusal is that of a search, and the last one
   pub refuses : MatchOption r ⊤ (λ item. MatchResult item (λ _. ⊤) (λ _. (searches s ≡ true) × (searches t ≡ false)))
@@ -89,6 +95,8 @@ pub record IsRest {A : Type 0} (bytes : A → List ℕ) (s : Split) (r : Option 
 pub record IsNextOfFirst {A : Type 0} (bytes : A → List ℕ) (s : SplitN) (r : Option (Result A Error)) (t : SplitN) : Type 0 where
   -- the first of the pieces that are left, or a refusal, after which the rest from the last end is left
   pub gives : GivesPiece (λ x e. split_refuses_next (split_in x) e) bytes (λ x. first_pieces_left (pieces_allowed x) (progress (split_in x))) (λ x. first_pieces_left (pieces_allowed x - 1) (record (progress (split_in x)) { spans = [] })) s r t
+  -- a piece stands only where the searches that it rests on kept within their limits; the last that may come rests on none
+  pub allowed : 1 < pieces_allowed s → IfItem r (λ _. split_allows_next (split_in s))
   pub counts : pieces_allowed t ≡ pieces_allowed s - 1
   pub moves : 1 < pieces_allowed s → MovesOn (split_in s) r (split_in t)
   -- the last piece that may come is the rest

@@ -1,6 +1,7 @@
 //! Regexes: the text of a pattern with its program, and what users ask of them.
 #![tactic(auto)]
 
+pub mod attempt;
 pub mod captures;
 mod capturing;
 pub mod iter;

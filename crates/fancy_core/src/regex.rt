@@ -12,7 +12,7 @@ ghost use Rattle.fancy_search.specs.Options.{by_default};
 ghost use Rattle.fancy_search.specs.Programs.{program_pattern, program_options, program_groups, program_names};
 ghost use Rattle.fancy_search.specs.Searching.{Suits, StartsCleanly};
 
-use fancy_bytes::byte_set::ByteSet;
+use fancy_bytes::lacking::KnownBytes;
 use fancy_engine::work::Work;
 use fancy_input::input::{Haystack, Input, Request};
 use fancy_input::regex_input::RegexInput;
@@ -324,14 +324,14 @@ impl Regex {
         ensures most { CountedUpTo self.now.program (query self.now (S.bytes haystack) request) work.old work.new }
     {
         let mut cache = Cache::new(self.allocator());
-        let mut standing = ByteSet::new();
+        let mut known = KnownBytes::new();
         let bytes = haystack.as_bytes();
         let found = self.program.search(
             bytes,
             haystack.is_text(),
             request,
             true,
-            &mut standing,
+            &mut known,
             &mut cache,
             work,
         )?;

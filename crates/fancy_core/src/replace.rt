@@ -3,7 +3,7 @@
 ghost use Rattle.std.specs.Prelude.{◌≡◌, ◌↔◌, [], true, None, IfOk, IfErr};
 ghost use Rattle.std.specs.Cow.{cow_str_bytes, IsBorrowedStr};
 ghost use Rattle.fancy_core.specs.Regexes.{options_in};
-ghost use Rattle.fancy_core.specs.Replacing.{Replaces, ReplacesBy, Fails, FailsBy, IsRefusedAfterSome, all_matches, first_matches, text_with_each};
+ghost use Rattle.fancy_core.specs.Replacing.{Replaces, ReplacesBy, Fails, FailsBy, IsRefusedAfterSome, AllowsReplacing, all_matches, first_matches, text_with_each};
 ghost use Rattle.fancy_search.specs.Searching.{Suits};
 
 use crate::regex::Regex;
@@ -147,6 +147,7 @@ impl Regex {
         ensures borrowed { IfOk result (λ t. IsBorrowedStr t ↔ (all_matches self.now text.now ≡ [])) }
         ensures kept { IfOk result (λ t. IsBorrowedStr t → cow_str_bytes t ≡ text.now) }
         ensures text { IfOk result (λ t. cow_str_bytes t ≡ text_with_each text.now (first_matches self.now text.now limit) fixed.now) }
+        ensures allowed { IfOk result (λ _. AllowsReplacing self.now text.now limit) }
         ensures refused { IfErr result (λ e. IsRefusedAfterSome self.now text.now limit e) }
     {
         let mut rewriting = Rewriting::new(self, text, limit);

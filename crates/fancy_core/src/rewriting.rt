@@ -11,7 +11,7 @@ ghost use Rattle.fancy_search.specs.Remaining.{item_in, HasGroups};
 ghost use Rattle.fancy_core.specs.ItemLimits.{limit_of, is_reached, one_fewer};
 ghost use Rattle.fancy_search.specs.MatchList.{start_of, stop_of};
 ghost use Rattle.fancy_core.specs.Regexes.{options_in};
-ghost use Rattle.fancy_core.specs.Replacing.{first_matches};
+ghost use Rattle.fancy_core.specs.Replacing.{first_matches, AllowsReplacing};
 ghost use Rattle.fancy_search.specs.KeptTables.{Keeps};
 ghost use Rattle.fancy_search.specs.Searching.{Suits};
 
@@ -53,7 +53,7 @@ pub(crate) struct Rewriting<'r, 't> {
 }
 
 impl<'r, 't> Rewriting<'r, 't> {
-    ghost use Rattle.fancy_core.specs.Rewriting.{rewriting_regex, rewriting_text, todo_of, seen_at, all_written, Stays, TakesFirst, WritesTo, RefusesSearch};
+    ghost use Rattle.fancy_core.specs.Rewriting.{rewriting_regex, rewriting_text, todo_of, seen_at, all_written, AllowsTodo, Stays, TakesFirst, WritesTo, RefusesSearch};
 
     /// A text of which nothing is replaced yet, and so many matches are to be: all of them where `limit` is 0.
     pub fn new(regex: &'r Regex, text: &'t str, limit: usize) -> Rewriting<'r, 't>
@@ -61,6 +61,7 @@ impl<'r, 't> Rewriting<'r, 't> {
         ensures regex { rewriting_regex result ≡ regex.now }
         ensures text { rewriting_text result ≡ text.now }
         ensures todo { todo_of result ≡ first_matches regex.now text.now limit }
+        ensures allowed { AllowsTodo result → AllowsReplacing regex.now text.now limit }
         ensures left { result.left ≡ limit_of limit }
         ensures out { string_bytes result.out ≡ [] }
         ensures last { result.last ≡ 0 }
@@ -80,6 +81,8 @@ impl<'r, 't> Rewriting<'r, 't> {
     /// The next match that is to be replaced, after the part before it. With none left no search is made.
     pub fn next_match(&mut self) -> Result<Option<FoundItem>>
         ensures steps { IfOk result (λ o. MatchOption o (todo_of self.old ≡ []) (λ i. TakesFirst self.old i self.new)) }
+        ensures allowed { IfOk result
+            (λ o. MatchOption o (AllowsTodo self.old) (λ _. AllowsTodo self.new → AllowsTodo self.old)) }
         ensures written { IfOk result
             (λ o. MatchOption o (self.new.out ≡ self.old.out) (λ i. WritesTo i.found.start self.old self.new)) }
         ensures last { IfOk result (λ o. MatchOption o (self.new.last ≡ self.old.last)

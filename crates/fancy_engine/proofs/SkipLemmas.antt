@@ -32,11 +32,14 @@ pub skips_lose_nothing : (q : Query) (d n p : ℕ) → nullable q.sought.pattern
     NoneSeen q.haystack q.request.range_end (first_bytes q.sought.meaning q.sought.pattern) p (p + d) → answer_from q (d + n) p ≡ answer_from q n (p + d)
 skips_lose_nothing q d n p never unseen = skip_none q d (d + n) n p (p + d) refl refl (λ k a b. none_here q k never (unseen k a b))
 
+-- where a required byte stands nowhere, no attempt finds anything
+pub lacking_at : (q : Query) (b : ℕ) → required_bytes q.sought.meaning q.sought.pattern b ≡ true → ¬ Stands q.haystack b → (p : ℕ) → answer_at q p ≡ None
+lacking_at q b e lacks p =
+    is-no_answer q p
+    (λ h. lacks (accepted_holds q p (λ t. Stands q.haystack b) h (trace_requires (context_of q) b q.sought.pattern e q.request.range_end (initial q p))))
+
 pub lacking_is_none : (q : Query) (b : ℕ) → required_bytes q.sought.meaning q.sought.pattern b ≡ true → ¬ Stands q.haystack b → search q ≡ None
-lacking_is_none q b e lacks =
-    all_none q (positions q.request) (effective_start q.request)
-    (λ k from to. is-no_answer q k (λ h. lacks (accepted_holds q k (λ t. Stands q.haystack b) h
-    (trace_requires (context_of q) b q.sought.pattern e q.request.range_end (initial q k)))))
+lacking_is_none q b e lacks = all_none q (positions q.request) (effective_start q.request) (λ k from to. lacking_at q b e lacks k)
 
 off : (b : Bool) → not b ≡ true → b ≡ false
 off true e = absurd (true≢false (sym e))

@@ -1,5 +1,5 @@
 -- What a search by the machine is asked, and what it answers.
-use Rattle.std.specs.Prelude.{◌≡◌, List, Option}
+use Rattle.std.specs.Prelude.{◌≡◌, ◌≤◌, ℕ, max, List, Option}
 use Rattle.fancy_input.specs.declared.last_lines.LastLines.{LastLines}
 use Rattle.fancy_input.specs.declared.span.Span.{Span}
 use Rattle.fancy_engine.specs.Search.{Query, context_of}
@@ -21,3 +21,11 @@ groups_held cache = cache.trail.now.state.captures
 -- what the search before read of the line ends that close the haystack
 abbrev pub lines_held : Cache → LastLines
 lines_held cache = cache.last_lines
+
+-- how many branches the machine may have saved at one time, so far
+abbrev pub branches_allowed : Cache → ℕ
+branches_allowed cache = cache.trail.most
+
+-- Of two states of a cache the later one let no more branches be saved at one time than the earlier one did, or than this limit allows.
+abbrev pub HeedsLimit : ℕ → Cache → Cache → Type 0
+HeedsLimit limit before after = branches_allowed after ≤ max (branches_allowed before) limit

@@ -131,6 +131,7 @@ impl<'a> Attempt<'a> {
         ghost deep: { ℕ }
         requires known { IsKnown (after (code_in self.now deep) trail.old.now) }
         requires fresh { trail.old.frames ≡ [] }
+        requires most { trail.old.most ≡ self.now.options.stack_limit }
         requires room { returns_of work.old ≤ limit }
         requires last_lines { KnowsLastLines self.now.haystack.now last_lines.old }
         ensures answer { IfOk result (λ found. state_if_found found trail.new.now ≡ outcome_from self.now deep trail.old.now) }
@@ -146,6 +147,7 @@ impl<'a> Attempt<'a> {
         ensures paired { returns_of work.old ≤ steps_of work.old → returns_of work.new ≤ steps_of work.new }
         ensures last_lines { KnowsLastLines self.now.haystack.now last_lines.new }
         ensures crowded { result ≡ Err SearchRefusal.Choices → trail.old.most < marks_from self.now deep trail.old.now }
+        ensures most { trail.new.most ≡ self.now.options.stack_limit }
     {
         best.clear();
         'steps: loop {

@@ -73,7 +73,8 @@ impl Best {
 
     /// Whether there is an outcome, where the trail then stands.
     pub fn give(&mut self, trail: &mut Trail) -> bool
-        ensures { state_if_found result trail.new.now ≡ self.old }
+        ensures given { state_if_found result trail.new.now ≡ self.old }
+        ensures most { trail.new.most ≡ trail.old.most }
     {
         if self.found {
             trail.stand(self.place, self.kept, &mut self.slots);

@@ -9,7 +9,7 @@ ghost use Rattle.fancy_engine.specs.Seen.{IsNextCandidate};
 ghost use Rattle.fancy_engine.specs.Tried.{tried, NoneTried};
 ghost use Rattle.fancy_engine.specs.Work.{steps_of, returns_of, HasRoom};
 ghost use Rattle.fancy_engine.specs.Queries.{query_of, answer_with};
-ghost use Rattle.fancy_machine.specs.Asked.{Serves, groups_held, lines_held};
+ghost use Rattle.fancy_machine.specs.Asked.{Serves, HeedsLimit, branches_allowed, groups_held, lines_held};
 
 use crate::attempt::Attempt;
 use crate::best::Best;
@@ -38,7 +38,8 @@ pub struct Cache {
 impl Cache {
     /// It has no memory yet, which the searches take, and holds no group.
     pub fn new(alloc: Global) -> Cache
-        ensures { groups_held result ≡ [] }
+        ensures groups { groups_held result ≡ [] }
+        ensures branches { branches_allowed result ≡ 0 }
     {
         Cache {
             trail: Trail::new(alloc),
@@ -102,6 +103,7 @@ pub fn search(
     ensures bounded { returns_of work.new ≤ returns_of work.old + returns q (tried options.seek q) }
     ensures paired { returns_of work.old ≤ steps_of work.old → returns_of work.new ≤ steps_of work.new }
     ensures crowded { result ≡ Err SearchRefusal.Choices → options.stack_limit < choices q (tried options.seek q) }
+    ensures heeds { HeedsLimit options.stack_limit cache.old cache.new }
 {
     let first = request.effective_start();
     if first > request.range_end {
@@ -184,6 +186,7 @@ pub fn attempt_at(
     ensures bounded { returns_of work.new ≤ returns_of work.old + returns_at q position }
     ensures paired { returns_of work.old ≤ steps_of work.old → returns_of work.new ≤ steps_of work.new }
     ensures crowded { result ≡ Err SearchRefusal.Choices → options.stack_limit < choices_at q position }
+    ensures heeds { HeedsLimit options.stack_limit cache.old cache.new }
 {
     let attempt = Attempt::new(code, haystack, request, options, continues);
     let limit = work.returns() + options.backtrack_limit;
@@ -222,6 +225,7 @@ fn try_position(
     ensures paired { returns_of work.old ≤ steps_of work.old → returns_of work.new ≤ steps_of work.new }
     ensures last_lines { KnowsLastLines attempts.now.haystack.now (lines_held cache.new) }
     ensures crowded { result ≡ Err SearchRefusal.Choices → attempts.now.options.stack_limit < choices_at q position }
+    ensures heeds { HeedsLimit attempts.now.options.stack_limit cache.old cache.new }
 {
     if !is_match_boundary(attempts.options.on_boundaries, attempts.haystack, position) {
         return Ok(None);

@@ -221,7 +221,8 @@ impl Trail {
 
     /// Stands where a way stood that had these slots, and gives up its own for them.
     pub(crate) fn stand(&mut self, place: usize, kept: usize, slots: &mut Vec<Slot>)
-        ensures { Some self.new.now.state ≡ outcome_of true place kept slots.old.items }
+        ensures stands { Some self.new.now.state ≡ outcome_of true place kept slots.old.items }
+        ensures most { self.new.most ≡ self.old.most }
     {
         self.place = place;
         self.kept = kept;
@@ -406,7 +407,8 @@ impl Trail {
     /// Takes the branch that was saved last, which is one return, and goes back to what was written then.
     pub fn back(&mut self, limit: usize, work: &mut Work) -> Result<bool, SearchRefusal>
         requires { returns_of work.old ≤ limit }
-        ensures { TookBranch result limit self.old self.new work.old work.new }
+        ensures took { TookBranch result limit self.old self.new work.old work.new }
+        ensures most { self.new.most ≡ self.old.most }
     {
         'layers: loop {
             let Some(layer) = self.layers.pop() else {

@@ -2,6 +2,7 @@ pub mod Builders
 pub mod Escapes
 pub mod EscapedLiterals
 pub mod ListExamples
+pub mod SetExamples
 pub mod Laws
 pub mod SetMembers
 pub mod Candidates
@@ -53,7 +54,6 @@ pub use Rattle.fancy_core.specs.Limited
 pub use Rattle.fancy_core.specs.Searches
 pub use Rattle.fancy_search.specs.ProgramSize
 pub use Rattle.fancy_search.specs.ByteSets
-pub use Rattle.fancy_search.specs.Cached
 pub use Rattle.fancy_core.specs.Built
 pub use Rattle.fancy_search.specs.Groups
 pub use Rattle.fancy_core.specs.Captures

@@ -2,6 +2,7 @@
 
 ghost use Rattle.std.specs.Prelude.{◌≡◌, ◌≤◌};
 ghost use Rattle.std.specs.Iterator.{at_most};
+ghost use Rattle.fancy_bytes.specs.Lacks.{AreKnown};
 ghost use Rattle.fancy_input.specs.Inputs.{haystack_in, request_in};
 ghost use Rattle.fancy_core.specs.Captures.{spans_in, searched_in, found_by};
 ghost use Rattle.fancy_regex.specs.Sets.{CanSearchAll};
@@ -14,15 +15,16 @@ mod token;
 use crate::set::RegexSet;
 use fancy_input::input::{Haystack, Input};
 use fancy_input::regex_input::RegexInput;
-use fancy_search::cache::Cache;
+use fancy_search::cache::{AttemptCache, Cache};
 use fancy_tree::error::Result;
 pub use token::Token;
 
 /// The tokens of an input, one after another; made by [`RegexSet::tokens`].
 ///
 /// The list ends without an error at the range's end. Before it, a place at which no pattern gives a token gives
-/// `RuntimeError(Unmatched(place))`, and a pattern that is refused gives its refusal; either ends the list. A list that has ended
-/// stays ended, and [`Tokens::place`] tells where it ended.
+/// `RuntimeError(Unmatched(place))`, and a pattern that is refused gives its refusal; either ends the list. Only patterns that may
+/// start with the byte at the place are tried, and those alone can refuse. A list that has ended stays ended, and
+/// [`Tokens::place`] tells where it ended.
 #[derive(Drop)]
 pub struct Tokens<'r, S: Haystack> {
     set: &'r RegexSet,
@@ -31,10 +33,11 @@ pub struct Tokens<'r, S: Haystack> {
     place: usize,
     ended: bool,
     // what the patterns are tried in, and what the longest match so far was found in
-    cache: Cache,
+    cache: AttemptCache,
     longest: Cache,
     ghost searched: { CanSearchAll S.text S.bytes set.now input },
     ghost starts: { (request_in input).range_start ≤ place },
+    ghost known: { AreKnown cache.known (S.bytes (haystack_in input)) },
 }
 
 impl RegexSet {
@@ -65,7 +68,7 @@ impl RegexSet {
             input,
             place,
             ended: false,
-            cache: Cache::new(alloc),
+            cache: AttemptCache::new(alloc),
             longest: Cache::new(alloc),
         }
     }

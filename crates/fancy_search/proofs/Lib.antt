@@ -10,4 +10,5 @@ pub mod RemainingLemmas
 pub mod IterationStepLemmas
 pub mod SpelledLemmas
 pub mod StartLemmas
+pub mod TriedAtLemmas
 pub mod KeptTablesLemmas

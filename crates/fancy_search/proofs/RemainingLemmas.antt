@@ -1,20 +1,31 @@
 -- Lemmas on what an iteration has left.
-use Rattle.std.proofs.Common.{arith, ℕ, ◌≤◌, ◌≡◌, Bool, true, false, not, ◌&&◌, nat_eq, max, [], ◌∷◌, Option, None, Some, MatchOption, option_map, if◌then◌else◌, refl, sym, subst}
+use Rattle.std.proofs.Common.{arith, ℕ, suc, ◌≤◌, ◌≡◌, Bool, true, false, not, ◌&&◌, nat_eq, max, List, [], ◌∷◌, Option, None, Some, MatchOption, option_map, if◌then◌else◌, refl, sym, subst, ◌∙◌, true≢false}
 use Rattle.std.proofs.lemmas.Grind.{common_steps}
 use Rattle.fancy_engine.specs.Search.{Answer}
-use Rattle.fancy_search.specs.MatchList.{Scan, MatchItem, start_of, stop_of, is_empty_item, item_of, answer, unless_empty_at, next_after, search_start_after, Sound, Lies}
-use Rattle.fancy_search.specs.Remaining.{upcoming_if, start_if, left_if, end_if}
+use Rattle.fancy_search.specs.MatchList.{Scan, MatchItem, start_of, stop_of, is_empty_item, item_of, answer, unless_empty_at, start_unless_empty_at, next_after, search_start_after, items_from, end_from, Sound, Lies}
+use Rattle.fancy_search.specs.Remaining.{Standing, standing_after, upcoming, search_start, items_left, items_end, PassesOver, AllowsNext, AllowsStep, AllowsUpTo}
 use Rattle.fancy_search.proofs.MatchListLemmas.{LiesFrom, answer_lies, items_after, items_none, end_after, end_none}
 
--- an iteration stands after an item: what comes next, and where that is searched from
-pub record StandsAfter (k : Scan) (i : MatchItem) (s : ℕ) (c b : Bool) : Type 0 where
-  pub next : upcoming_if b k s c ≡ next_after k i
-  pub start : start_if b k s c ≡ search_start_after k i
+pub nat_same : (n : ℕ) → nat_eq n n ≡ true
+nat_same n = grind (arith, common_steps)
 
-pub stands_after : (k : Scan) (i : MatchItem) (s : ℕ) (empty c b : Bool) → nat_eq (start_of i) (stop_of i) ≡ empty → s ≡ (if empty then k.advance (stop_of i) else stop_of i) → c ≡ not (empty && nat_eq i.from (stop_of i)) → b ≡ not empty → StandsAfter k i s c b
-unfolding next_after search_start_after
-stands_after k i s true c b h p q r = record { next = rw (h, p, q, r) refl; start = rw (h, p, q, r) refl }
-stands_after k i s false c b h p q r = record { next = rw (h, p, q, r) refl; start = rw (h, p, q, r) refl }
+-- the next item and where its search starts, by what makes up where an iteration stands
+abbrev pub upcoming_if : Bool → Scan → ℕ → Bool → Option MatchItem
+upcoming_if b k s c = if b then unless_empty_at k s (answer k s c) else answer k s c
+
+abbrev pub start_if : Bool → Scan → ℕ → Bool → ℕ
+start_if b k s c = if b then start_unless_empty_at k s (answer k s c) else s
+
+-- after an item the next one is what stands after it
+standing_next : (k : Scan) (i : MatchItem) (empty : Bool) → is_empty_item i ≡ empty → upcoming k (standing_after k i) ≡ next_after k i
+unfolding next_after
+standing_next k i true h = rw h refl
+standing_next k i false h = rw h refl
+
+standing_start : (k : Scan) (i : MatchItem) (empty : Bool) → is_empty_item i ≡ empty → search_start k (standing_after k i) ≡ search_start_after k i
+unfolding search_start_after
+standing_start k i true h = rw h refl
+standing_start k i false h = rw h refl
 
 -- a skipped answer gives way to the next
 pub skips : (k : Scan) (s : ℕ) (c : Bool) (i : MatchItem) → answer k s c ≡ Some i → (is_empty_item i && nat_eq (stop_of i) s) ≡ true → upcoming_if true k s c ≡ answer k (k.advance s) false
@@ -61,22 +72,45 @@ lies_some k None i e l = cc
 lies_some k (Some j) i e l = let q : j ≡ i = cc in subst (λ (z : MatchItem). Lies k z) q l
 
 -- the list before an item is the item and the list after it
-pub next_left : (k : Scan) (s t : ℕ) (c d b a : Bool) (i : MatchItem) → Sound k → upcoming_if b k s c ≡ Some i → StandsAfter k i t d a → left_if false k s c b ≡ i ∷ left_if false k t d a
-next_left k s t c d b a i h e f =
-    let l = lies_some k _ i e (upcoming_lies k s c b h) in
-    rw (e, f.next) (items_after k i h l)
+pub next_left : (k : Scan) (st : Standing) (i : MatchItem) → Sound k → st.ended ≡ false → upcoming k st ≡ Some i → items_left k st ≡ i ∷ items_left k (standing_after k i)
+next_left k st i h going e =
+    let l = lies_some k _ i e (upcoming_lies k st.start st.continues st.skips_empty h) in
+    rw (going, e, standing_next k i (is_empty_item i) refl) (items_after k i h l)
 
 -- and both end in one place
-pub next_end : (k : Scan) (s t : ℕ) (c d b a : Bool) (i : MatchItem) → Sound k → upcoming_if b k s c ≡ Some i → StandsAfter k i t d a → end_if false k t d a ≡ end_if false k s c b
-next_end k s t c d b a i h e f =
-    let l = lies_some k _ i e (upcoming_lies k s c b h) in
-    rw (e, f.next, f.start) (sym (end_after k (start_if b k s c) i h l))
+pub next_end : (k : Scan) (st : Standing) (i : MatchItem) → Sound k → st.ended ≡ false → upcoming k st ≡ Some i → items_end k (standing_after k i) ≡ items_end k st
+next_end k st i h going e =
+    let l = lies_some k _ i e (upcoming_lies k st.start st.continues st.skips_empty h) in
+    rw (going, e, standing_next k i (is_empty_item i) refl, standing_start k i (is_empty_item i) refl) (sym (end_after k (search_start k st) i h l))
 
-pub none_left : (k : Scan) (s : ℕ) (c b : Bool) → upcoming_if b k s c ≡ None → left_if false k s c b ≡ []
+pub none_left : (k : Scan) (s : ℕ) (c b : Bool) → upcoming_if b k s c ≡ None → items_from k (upcoming_if b k s c) ≡ []
 none_left k s c b e = rw e (items_none k)
 
-pub none_end : (k : Scan) (s : ℕ) (c b : Bool) → upcoming_if b k s c ≡ None → end_if false k s c b ≡ start_if b k s c
+pub none_end : (k : Scan) (s : ℕ) (c b : Bool) → upcoming_if b k s c ≡ None → end_from k (start_if b k s c) (upcoming_if b k s c) ≡ start_if b k s c
 none_end k s c b e = rw e (end_none k _)
+
+-- the searches for the next item keep within their limits: where nothing is passed over, that is one
+not_passed : (k : Scan) (st : Standing) (i j : MatchItem) → answer k st.start st.continues ≡ Some i → (st.skips_empty && (is_empty_item i && nat_eq (stop_of i) st.start)) ≡ false → PassesOver k st j → ⊥
+not_passed k st i j e h p =
+    let same : i ≡ j = cc in
+    let there : nat_eq (stop_of j) st.start ≡ true = rw p.there (nat_same st.start) in
+    true≢false (sym (rw (p.skips, p.empty, there) refl) ∙ subst (λ (x : MatchItem). (st.skips_empty && (is_empty_item x && nat_eq (stop_of x) st.start)) ≡ false) same h)
+
+pub allows_none : (allows : ℕ → Bool → Type 0) (k : Scan) (st : Standing) → answer k st.start st.continues ≡ None → allows st.start st.continues → AllowsNext allows k st
+allows_none allows k st e first = record { first = first; next = λ j p. absurd (none_is_some j e p.found) } where
+  none_is_some : (j : MatchItem) → answer k st.start st.continues ≡ None → answer k st.start st.continues ≡ Some j → ⊥
+  none_is_some j e f = cc
+
+pub allows_kept : (allows : ℕ → Bool → Type 0) (k : Scan) (st : Standing) (i : MatchItem) → answer k st.start st.continues ≡ Some i → (st.skips_empty && (is_empty_item i && nat_eq (stop_of i) st.start)) ≡ false → allows st.start st.continues → AllowsNext allows k st
+allows_kept allows k st i e h first = record { first = first; next = λ j p. absurd (not_passed k st i j e h p) }
+
+-- where no more may be taken, nothing is searched
+pub allows_no_more : (allows : ℕ → Bool → Type 0) (k : Scan) (st : Standing) (is : List MatchItem) → AllowsUpTo allows k (Some 0) st is
+allows_no_more allows k st is = tt
+
+-- one item more
+pub allows_more : (allows : ℕ → Bool → Type 0) (k : Scan) (n : ℕ) (st : Standing) (i : MatchItem) (is : List MatchItem) → AllowsStep allows k st → AllowsUpTo allows k (Some n) (standing_after k i) is → AllowsUpTo allows k (Some (suc n)) st (i ∷ is)
+allows_more allows k n st i is step later = (step, later)
 
 at_from : (k : Scan) (s : ℕ) (c : Bool) (o : Option Answer) → MatchOption (option_map (item_of (max s k.floor) c) o) Unit (λ i. s ≤ i.from)
 at_from k s c None = tt

@@ -34,7 +34,8 @@ scan_sound program text haystack r range = record {
 }
 
 -- a list of matches and one refusal can be counted
-pub few_turns : (program : Program) (text : Bool) (haystack : List ℕ) (r : Request) (ended continues skips_empty : Bool) → r.range_end ≤ length haystack → length haystack < 2 ^ 63 → ended ≡ false → continues ≡ true → skips_empty ≡ false → turns_left ended (items_left program text haystack r ended continues skips_empty) < 2 ^ 64
+pub few_turns : (program : Program) (text : Bool) (haystack : List ℕ) (r : Request) (ended continues skips_empty : Bool) → r.range_end ≤ length haystack → length haystack < 2 ^ 63 → ended ≡ false → continues ≡ true → skips_empty ≡ false
+    → turns_left ended (items_left (scan program text haystack r) (record { start = r.start; continues = continues; skips_empty = skips_empty; ended = ended })) < 2 ^ 64
 few_turns program text haystack r ended continues skips_empty range short e f h =
     let few : length (program_matches program text haystack r) ≤ suc r.range_end = few_matches (scan program text haystack r) r.start (scan_sound program text haystack r range) in
     rw (e, f, h) (omega (arith, few, range, short))

@@ -26,7 +26,7 @@ on : (b : Bool) → not b ≡ false → b ≡ true
 on true e = refl
 on false e = absurd (true≢false e)
 
-get_taken : {A : Type 0} (n : ℕ) (xs : List A) (i : ℕ) → i < n → slice_get (take n xs) i ≡ slice_get xs i
+pub get_taken : {A : Type 0} (n : ℕ) (xs : List A) (i : ℕ) → i < n → slice_get (take n xs) i ≡ slice_get xs i
 get_taken zero xs i below = absurd (omega (arith, below))
 get_taken (suc n) [] i below = refl
 get_taken (suc n) (x ∷ xs) zero below = refl

@@ -2,11 +2,13 @@ pub mod Options
 pub mod PatternCode
 pub mod Readings
 pub mod Compiled
+pub mod CompiledCode
 pub mod Followed
 pub mod Programs
 pub mod Searching
 pub mod Cached
 pub mod SearchCounts
+pub mod StackLimits
 pub mod ProgramSize
 pub mod Groups
 pub mod MatchList

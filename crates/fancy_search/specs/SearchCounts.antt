@@ -1,5 +1,5 @@
 -- What a search may be refused for, and what it counts.
-use Rattle.std.specs.Prelude.{◌≡◌, ℕ, ◌+◌, ◌-◌, ◌*◌, ◌<◌, ◌≤◌, Bool, not, ◌&&◌, Result, Option, Err, IfOk, IfSome, false}
+use Rattle.std.specs.Prelude.{◌≡◌, ℕ, ◌+◌, ◌-◌, ◌*◌, ◌<◌, ◌≤◌, Bool, not, ◌&&◌, Result, Option, Err, IfOk, IfSome, false, if◌then◌else◌}
 use Rattle.fancy_bytes.specs.Lacks.{lacks_some}
 use Rattle.fancy_bytes.specs.Required.{required_bytes}
 use Rattle.fancy_tree.specs.declared.error.Error.{Error}
@@ -70,9 +70,17 @@ RefusesQuery r q (RuntimeError why) = IsHardProgram r × IsPastLimit why r q
 abbrev pub AllowsQuery : Program → Query → Type 0
 AllowsQuery r q = IsHardProgram r → returns_taken r q ≤ program_limit r
 
+-- how many returns an attempt at p takes: none where the program does not try that position
+abbrev pub returns_taken_at : Program → Query → ℕ → ℕ
+returns_taken_at r q p = if tried_by r q p then returns_at q p else 0
+
+-- how many choices it opens
+abbrev pub choices_opened_at : Program → Query → ℕ → ℕ
+choices_opened_at r q p = if tried_by r q p then choices_at q p else 0
+
 abbrev pub IsPastLimitAt : Running → Program → Query → ℕ → Type 0
-IsPastLimitAt BacktrackLimitExceeded r q p = program_limit r < returns_at q p
-IsPastLimitAt StackOverflow r q p = program_stack_limit r < choices_at q p
+IsPastLimitAt BacktrackLimitExceeded r q p = program_limit r < returns_taken_at r q p
+IsPastLimitAt StackOverflow r q p = program_stack_limit r < choices_opened_at r q p
 IsPastLimitAt (Unmatched place) r q p = ⊥
 
 -- The attempt at a position may be refused by this error: for want of memory at any time, and of a hard pattern past a limit.
@@ -84,7 +92,7 @@ RefusesAttempt r q p (RuntimeError why) = IsHardProgram r × IsPastLimitAt why r
 
 -- An attempt for a hard pattern that is not refused takes no more returns than its limit allows.
 abbrev pub AllowsAttempt : Program → Query → ℕ → Type 0
-AllowsAttempt r q p = IsHardProgram r → returns_at q p ≤ program_limit r
+AllowsAttempt r q p = IsHardProgram r → returns_taken_at r q p ≤ program_limit r
 
 -- a search was refused because it would return more often than its limit allows
 abbrev pub IsStopped : {A : Type 0} → Result A Error → Type 0

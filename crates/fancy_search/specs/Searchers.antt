@@ -9,7 +9,7 @@ use Rattle.fancy_search.specs.declared.cache.Cache.{Cache}
 use Rattle.fancy_search.specs.declared.searcher.FoundItem.{FoundItem}
 use Rattle.fancy_search.specs.declared.searcher.Searcher.{Searcher}
 use Rattle.fancy_search.specs.Groups.{IsCut}
-use Rattle.fancy_search.specs.Remaining.{scan, items_left, end_left, upcoming_if, start_if, next_start, refuses_at, refused_next, item_in, HasGroups, GivesFirst}
+use Rattle.fancy_search.specs.Remaining.{Standing, scan, upcoming, search_start, items_left, items_end, next_start, refuses_at, refused_next, allows_at, allowed_next, item_in, HasGroups, GivesFirst}
 use Rattle.fancy_search.specs.MatchList.{Scan, MatchItem, answer}
 
 -- what it searches, again and again
@@ -20,21 +20,25 @@ scan_of text bytes program w = scan program (text w.haystack) (bytes w.haystack)
 abbrev pub answer_next : {S : Type 0} {g : _} → (S → Bool) → (S → List ℕ) → Program → Searcher S g → Option MatchItem
 answer_next text bytes program w = answer (scan_of text bytes program w) w.request.start w.continues
 
+-- where it stands
+abbrev pub standing_of : {S : Type 0} {g : _} → Searcher S g → Standing
+standing_of w = record { start = w.request.start; continues = w.continues; skips_empty = w.skips_empty; ended = w.ended }
+
 -- its next item: an empty match that is passed over gives way to the next
 abbrev pub item_next : {S : Type 0} {g : _} → (S → Bool) → (S → List ℕ) → Program → Searcher S g → Option MatchItem
-item_next text bytes program w = upcoming_if w.skips_empty (scan_of text bytes program w) w.request.start w.continues
+item_next text bytes program w = upcoming (scan_of text bytes program w) (standing_of w)
 
 -- where the search of that item starts
 abbrev pub start_next : {S : Type 0} {g : _} → (S → Bool) → (S → List ℕ) → Program → Searcher S g → ℕ
-start_next text bytes program w = start_if w.skips_empty (scan_of text bytes program w) w.request.start w.continues
+start_next text bytes program w = search_start (scan_of text bytes program w) (standing_of w)
 
 -- the items that it has left
 abbrev pub items_of : {S : Type 0} {g : _} → (S → Bool) → (S → List ℕ) → Program → Searcher S g → List MatchItem
-items_of text bytes program w = items_left program (text w.haystack) (bytes w.haystack) w.request w.ended w.continues w.skips_empty
+items_of text bytes program w = items_left (scan_of text bytes program w) (standing_of w)
 
 -- where the search starts that finds none, at the end of the items that it has left
 abbrev pub end_of_items : {S : Type 0} {g : _} → (S → Bool) → (S → List ℕ) → Program → Searcher S g → ℕ
-end_of_items text bytes program w = end_left program (text w.haystack) (bytes w.haystack) w.request w.ended w.continues w.skips_empty
+end_of_items text bytes program w = items_end (scan_of text bytes program w) (standing_of w)
 
 -- that stays where it was
 abbrev pub KeepsEnd : {S : Type 0} {g : _} → (S → Bool) → (S → List ℕ) → Program → Searcher S g → Searcher S g → Type 0
@@ -46,7 +50,15 @@ RefusesAnswer bytes program w e = refuses_at program (bytes w.haystack) w.reques
 
 -- the search for its next item may be refused by this error
 abbrev pub RefusesItem : {S : Type 0} {g : _} → (S → Bool) → (S → List ℕ) → Program → Searcher S g → Error → Type 0
-RefusesItem text bytes program w e = refused_next program (text w.haystack) (bytes w.haystack) w.request w.continues w.skips_empty e
+RefusesItem text bytes program w e = refused_next program (text w.haystack) (bytes w.haystack) w.request (standing_of w) e
+
+-- its next search keeps within its limit of returns
+abbrev pub AllowsAnswer : {S : Type 0} {g : _} → (S → List ℕ) → Program → Searcher S g → Type 0
+AllowsAnswer bytes program w = allows_at program (bytes w.haystack) w.request w.request.start w.continues
+
+-- the searches for its next item keep within their limits
+abbrev pub AllowsItem : {S : Type 0} {g : _} → (S → Bool) → (S → List ℕ) → Program → Searcher S g → Type 0
+AllowsItem text bytes program w = allowed_next program (text w.haystack) (bytes w.haystack) w.request (standing_of w)
 
 -- One step: the first of the items that are left, whose groups the search left in its cache; or a refusal, after which none is left.
 abbrev pub GivesItem : {S : Type 0} {g : _} → (S → Bool) → (S → List ℕ) → Program → Cache → Searcher S g → Option (Result FoundItem Error) → Searcher S g → Type 0
@@ -71,4 +83,4 @@ HasGroupsOf text bytes w i cache = HasGroups (text w.haystack) (bytes w.haystack
 
 -- the items that an iteration over a text has left
 abbrev pub left_of : {g : _} → Program → Searcher (Bor (List ℕ)) g → List MatchItem
-left_of program w = items_left program true w.haystack.now w.request w.ended w.continues w.skips_empty
+left_of program w = items_left (scan program true w.haystack.now w.request) (standing_of w)

@@ -1,11 +1,12 @@
 //! What searches work in, by whichever engine.
 
-ghost use Rattle.std.specs.Prelude.{◌≡◌, [], None, true, slice_index_or};
+ghost use Rattle.std.specs.Prelude.{◌≡◌, ℕ, List, [], None, true, slice_index_or};
 ghost use Rattle.fancy_automaton.specs.Cells.{IsWithin};
 ghost use Rattle.fancy_automaton.specs.Remembered.{Remembers};
 ghost use Rattle.fancy_engine.specs.declared.code.Code.{Code};
 
 use fancy_automaton::cells::Cells;
+use fancy_bytes::lacking::KnownBytes;
 use fancy_engine::found::Found;
 use fancy_engine::search as runner;
 use fancy_input::input::Request;
@@ -77,6 +78,29 @@ const READ_PAST: usize = 1024;
 /// For how many bytes past a match a byte makes up that a list comes on by.
 const MADE_UP: usize = 4;
 
+/// What attempts in one haystack work in, reused from one to the next.
+#[derive(Drop)]
+pub struct AttemptCache {
+    /// What the engines work in, with the groups of the last match.
+    pub engines: Cache,
+    /// What is known of the haystack's bytes.
+    pub known: KnownBytes,
+}
+
+impl AttemptCache {
+    ghost use Rattle.fancy_bytes.specs.Lacks.{AreKnown};
+
+    /// It has no memory yet, and nothing is known of the haystack, which may be any.
+    pub fn new(alloc: Global) -> AttemptCache
+        ensures { (haystack : List ℕ) → AreKnown result.known haystack }
+    {
+        AttemptCache {
+            engines: Cache::new(alloc),
+            known: KnownBytes::new(),
+        }
+    }
+}
+
 /// What searches work in, reused from one to the next, with the groups of the last match.
 #[derive(Drop)]
 pub struct Cache {
@@ -138,6 +162,7 @@ impl Cache {
         requires within { are_kept ≡ true → IsWithin self.old.cells }
         ensures within { IsWithin self.new.cells }
         ensures all { (code : Code) → (are_kept ≡ true → Remembers self.old.cells code) → Remembers self.new.cells code }
+        ensures others { self.new ≡ record self.old { cells = self.new.cells; read_past = self.new.read_past } }
     {
         if are_kept {
             return;

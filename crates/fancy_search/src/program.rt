@@ -1,6 +1,6 @@
 //! A compiled pattern: the code that is searched with, and what decides how.
 
-ghost use Rattle.std.specs.Prelude.{◌≡◌, ◌≤◌, ◌+◌, ◌*◌, ℕ, Bool, List, None, Some, IfOk, IfErr, IfSome, IsTrue, IsUtf8, chars, true, false, length, string_bytes};
+ghost use Rattle.std.specs.Prelude.{◌≡◌, ◌≤◌, ◌+◌, ◌*◌, ℕ, Bool, List, None, Some, IfOk, IfErr, IfSome, IsTrue, IsUtf8, chars, true, false, length, slice_get, string_bytes};
 ghost use Rattle.fancy_tree.specs.Pattern.{Pattern};
 ghost use Rattle.fancy_tree.specs.Names.{named_groups};
 ghost use Rattle.fancy_tree.specs.Modes.{keeps_characters};
@@ -18,20 +18,20 @@ ghost use Rattle.fancy_engine.specs.Tried.{NoneTried};
 ghost use Rattle.fancy_engine.specs.Search.{search};
 ghost use Rattle.fancy_automaton.specs.Futures.{ArePlain};
 ghost use Rattle.fancy_automaton.specs.Search.{KeepsPlaces};
-ghost use Rattle.fancy_bytes.specs.Lacks.{AllStand, AreRequired};
+ghost use Rattle.fancy_bytes.specs.Lacks.{AreKnown, AreRequired};
 ghost use Rattle.fancy_search.specs.Readings.{Reading, one_reading};
 ghost use Rattle.fancy_search.specs.Followed.{FollowsEach};
-ghost use Rattle.fancy_search.specs.Compiled.{IsCompiled, IsSpelled};
+ghost use Rattle.fancy_search.specs.Compiled.{IsSpelled};
+ghost use Rattle.fancy_search.specs.CompiledCode.{IsCompiled};
 ghost use Rattle.fancy_search.specs.Options.{meaning_in, dialect_of, is_easy_under};
 ghost use Rattle.fancy_search.specs.ProgramSize.{IsRefusedUnder, RefusesPattern, passes};
 ghost use Rattle.fancy_search.specs.Cached.{IsAnswerIn, IsAttemptIn, IsCleanlyFound};
 
-use crate::cache::{Cache, Engine, Kept};
+use crate::cache::{AttemptCache, Cache, Engine, Kept};
 use crate::options::Options;
 use crate::wide::is_worth_following;
 use fancy_automaton::search as automaton;
-use fancy_bytes::byte_set::ByteSet;
-use fancy_bytes::lacking::RequiredBytes;
+use fancy_bytes::lacking::{KnownBytes, RequiredBytes};
 use fancy_engine::code::Code;
 use fancy_engine::compile::compile;
 use fancy_engine::found::Found;
@@ -48,6 +48,13 @@ use std::alloc::Global;
 
 /// A haystack of fewer bytes is short.
 const SHORT_HAYSTACK: usize = 256;
+
+/// The byte at a position, if there is one.
+fn byte_at(bytes: &[u8], position: usize) -> Option<u8>
+    ensures { result ≡ slice_get bytes.now position }
+{
+    bytes.get(position).copied()
+}
 
 /// A pattern that was read and compiled under options.
 ///
@@ -78,8 +85,9 @@ pub struct Program {
 }
 
 impl Program {
-    ghost use Rattle.fancy_search.specs.SearchCounts.{Counted, CountedUpTo, TriesNothing, is_hopeless, IfFound, IsHardProgram, RefusesQuery, AllowsQuery, RefusesAttempt, AllowsAttempt, HasRoomFor, IsStopped, AddsReturns, AddsReturnsUpTo, step_bound, returns_taken};
+    ghost use Rattle.fancy_search.specs.SearchCounts.{Counted, CountedUpTo, TriesNothing, tried_by, is_hopeless, IfFound, IsHardProgram, RefusesQuery, AllowsQuery, RefusesAttempt, AllowsAttempt, HasRoomFor, IsStopped, AddsReturns, AddsReturnsUpTo, step_bound, returns_taken};
     ghost use Rattle.fancy_search.specs.Programs.{KeepsCharacters, program_pattern, program_options, program_groups, program_names, program_length, program_is_easy, program_limit, asked_of};
+    ghost use Rattle.fancy_search.specs.StackLimits.{HeedsStackLimit};
     ghost use Rattle.fancy_search.specs.Starts.{may_start};
     ghost use Rattle.fancy_search.specs.KeptTables.{KeepsTable, KeepsSteps, KeepsLines, IsKeptIn, table_kept, TakesStepsToGo, SpendsSteps, KeepsOn};
     ghost use Rattle.fancy_search.specs.Options.{search_options};
@@ -176,8 +184,8 @@ impl Program {
     /// `cache` then.
     ///
     /// `text` says that the haystack is text. Under `seek` positions are passed over where no match begins, as the first bytes tell, and
-    /// no step is taken where none is left, or where the haystack lacks a byte that every haystack with a match has. The bytes in `standing` are known to stand
-    /// in the haystack, and those that were looked for and found are added to them, so that the searches of a list look for each
+    /// no step is taken where none is left, or where the haystack lacks a byte that every haystack with a match has. `known` is what
+    /// is known of the haystack's bytes: those that are looked for are added to it, so that the searches of a list look for each
     /// once.
     ///
     /// It is refused where memory runs out (`Memory`), and for a hard pattern past a limit: as
@@ -188,15 +196,15 @@ impl Program {
         text: bool,
         request: Request,
         continues: bool,
-        standing: &mut ByteSet,
+        known: &mut KnownBytes,
         cache: &mut Cache,
         work: &mut Work,
     ) -> Result<Option<Found>>
         requires inside { request.range_end ≤ length haystack.now }
         requires text { text ≡ true → IsUtf8 haystack.now }
         requires room { HasRoomFor self.now request work.old }
-        requires standing { AllStand standing.old haystack.now }
-        ensures standing { AllStand standing.new haystack.now }
+        requires known { AreKnown known.old haystack.now }
+        ensures known { AreKnown known.new haystack.now }
         ensures answer { IfOk result (λ m. IsAnswerIn m cache.new (asked_of self.now haystack.now request continues)) }
         ensures ordered { IfFound result (λ f. f.start ≤ f.end) }
         ensures inside { IfFound result (λ f. f.end ≤ request.range_end) }
@@ -217,10 +225,11 @@ impl Program {
         ensures most { CountedUpTo self.now (asked_of self.now haystack.now request continues) work.old work.new }
         ensures refused { IfErr result (RefusesQuery self.now (asked_of self.now haystack.now request continues)) }
         ensures allowed { IfOk result (λ _. AllowsQuery self.now (asked_of self.now haystack.now request continues)) }
+        ensures heeds { HeedsStackLimit self.now cache.old cache.new }
     {
         let mut kept = Kept::Nothing;
         self.search_next(
-            haystack, text, request, continues, &mut kept, standing, cache, work,
+            haystack, text, request, continues, &mut kept, known, cache, work,
         )
     }
 
@@ -236,16 +245,16 @@ impl Program {
         request: Request,
         continues: bool,
         kept: &mut Kept,
-        standing: &mut ByteSet,
+        known: &mut KnownBytes,
         cache: &mut Cache,
         work: &mut Work,
     ) -> Result<Option<Found>>
         requires inside { request.range_end ≤ length haystack.now }
         requires text { text ≡ true → IsUtf8 haystack.now }
         requires room { HasRoomFor self.now request work.old }
-        requires standing { AllStand standing.old haystack.now }
+        requires known { AreKnown known.old haystack.now }
         requires kept { IsKeptIn self.now haystack.now request kept.old (effective_start request) cache.old }
-        ensures standing { AllStand standing.new haystack.now }
+        ensures known { AreKnown known.new haystack.now }
         ensures answer { IfOk result (λ m. IsAnswerIn m cache.new (asked_of self.now haystack.now request continues)) }
         ensures ordered { IfFound result (λ f. f.start ≤ f.end) }
         ensures inside { IfFound result (λ f. f.end ≤ request.range_end) }
@@ -272,8 +281,9 @@ impl Program {
         ensures most { CountedUpTo self.now (asked_of self.now haystack.now request continues) work.old work.new }
         ensures refused { IfErr result (RefusesQuery self.now (asked_of self.now haystack.now request continues)) }
         ensures allowed { IfOk result (λ _. AllowsQuery self.now (asked_of self.now haystack.now request continues)) }
+        ensures heeds { HeedsStackLimit self.now cache.old cache.new }
     {
-        if self.is_hopeless(haystack, request, standing) {
+        if self.is_hopeless(haystack, request, known) {
             return Ok(None);
         }
         if self.easy {
@@ -312,6 +322,7 @@ impl Program {
         ensures returns { returns_of work.old ≤ returns_of work.new }
         ensures paired { returns_of work.new ≤ steps_of work.new }
         ensures refused { IfErr result (λ e. e ≡ Error.Memory) }
+        ensures apart { cache.new.machine ≡ cache.old.machine }
     {
         if self.is_followed(text, request, *kept, cache) {
             return self.follow(haystack, request, kept, cache, work);
@@ -388,6 +399,7 @@ impl Program {
         ensures returns { returns_of work.new ≡ returns_of work.old }
         ensures paired { returns_of work.new ≤ steps_of work.new }
         ensures refused { IfErr result (λ e. e ≡ Error.Memory) }
+        ensures apart { cache.new.machine ≡ cache.old.machine }
     {
         cache.ready_steps(kept.is_steps());
         *kept = Kept::Steps;
@@ -403,12 +415,11 @@ impl Program {
         }
     }
 
-    /// Whether a byte that the pattern requires was looked for, and does not stand in the haystack: then nothing is found. The bytes
-    /// in `standing` are known to stand there, and those that were found are added.
+    /// Whether a byte that the pattern requires was looked for, and does not stand in the haystack: then nothing is found.
     #[inline]
-    fn is_hopeless(&self, haystack: &[u8], request: Request, standing: &mut ByteSet) -> bool
-        requires standing { AllStand standing.old haystack.now }
-        ensures standing { AllStand standing.new haystack.now }
+    fn is_hopeless(&self, haystack: &[u8], request: Request, known: &mut KnownBytes) -> bool
+        requires known { AreKnown known.old haystack.now }
+        ensures known { AreKnown known.new haystack.now }
         ensures none { result ≡ true → (on : Bool) → search (asked_of self.now haystack.now request on) ≡ None }
         ensures seeks { result ≡ false → (on : Bool) → is_hopeless self.now (asked_of self.now haystack.now request on) ≡ false }
         ensures hard { IsHardProgram self.now → result ≡ true
@@ -416,7 +427,7 @@ impl Program {
     {
         let start = request.effective_start();
         self.looks_for_required(haystack, request)
-            && self.required.are_lacking(haystack, start, standing)
+            && self.required.are_lacking(haystack, start, known)
     }
 
     /// Whether a search begins with a look for the bytes that the pattern requires: where it seeks, and for an easy pattern also
@@ -445,32 +456,44 @@ impl Program {
     /// The match that an attempt at one position finds, from the effective start of the request on, with `\G` on: it may hold
     /// at the effective start, and not at the position. Its groups stand in `cache` then.
     ///
+    /// Under `seek` a position that a search passes over is not tried, and nothing is found there. What is learnt of the haystack's
+    /// bytes stays in `cache`, so that the attempts in one haystack look for each byte once.
+    ///
     /// It is refused as [`Program::search`] is, for what the attempt takes.
     pub fn attempt_at(
         &self,
         haystack: &[u8],
         request: Request,
         position: usize,
-        cache: &mut Cache,
+        cache: &mut AttemptCache,
         work: &mut Work,
     ) -> Result<Option<Found>>
         requires inside { request.range_end ≤ length haystack.now }
         requires starts { effective_start request ≤ position }
         requires ends { position ≤ request.range_end }
         requires room { HasRoomFor self.now (record request { start = position }) work.old }
+        requires known { AreKnown cache.old.known haystack.now }
+        ensures known { AreKnown cache.new.known haystack.now }
         ensures answer { IfOk result
-            (λ m. IsAttemptIn m cache.new (asked_of self.now haystack.now request true) position) }
+            (λ m. IsAttemptIn m cache.new.engines (asked_of self.now haystack.now request true) position) }
         ensures ordered { IfFound result (λ f. f.start ≤ f.end) }
         ensures inside { IfFound result (λ f. f.end ≤ request.range_end) }
         ensures cleanly { KeepsCharacters self.now → IfFound result (IsCleanlyFound haystack.now) }
         ensures steps { steps_of work.old ≤ steps_of work.new }
+        ensures idle { tried_by self.now (asked_of self.now haystack.now request true) position ≡ false
+            → steps_of work.new ≡ steps_of work.old }
         ensures returns { returns_of work.old ≤ returns_of work.new }
         ensures paired { returns_of work.new ≤ steps_of work.new }
         ensures refused { IfErr result
             (RefusesAttempt self.now (asked_of self.now haystack.now request true) position) }
         ensures allowed { IfOk result
             (λ _. AllowsAttempt self.now (asked_of self.now haystack.now request true) position) }
+        ensures heeds { HeedsStackLimit self.now cache.old.engines cache.new.engines }
     {
+        if !self.is_tried(haystack, request, position, &mut cache.known) {
+            return Ok(None);
+        }
+        let cache = &mut cache.engines;
         if self.easy {
             let from_position = Request {
                 start: position,
@@ -480,6 +503,27 @@ impl Program {
             return self.run(haystack, from_position, None, cache, work);
         }
         self.backtrack_at(haystack, request, position, cache, work)
+    }
+
+    /// Whether an attempt at a position is made: always, but under `seek` only where a byte stands that a match may start with, and
+    /// where the haystack lacks no byte that the pattern requires.
+    fn is_tried(
+        &self,
+        haystack: &[u8],
+        request: Request,
+        position: usize,
+        known: &mut KnownBytes,
+    ) -> bool
+        requires inside { request.range_end ≤ length haystack.now }
+        requires known { AreKnown known.old haystack.now }
+        ensures known { AreKnown known.new haystack.now }
+        ensures tried { result ≡ tried_by self.now (asked_of self.now haystack.now request true) position }
+    {
+        if !self.options.seek {
+            return true;
+        }
+        let next = byte_at(&haystack[..request.range_end], position);
+        self.may_start_before(next) && !self.required.are_lacking(haystack, position, known)
     }
 
     /// The search for an easy pattern, by the memoised runner. It has no `\G`. `kept` is where a table begins that searches before left.
@@ -512,6 +556,7 @@ impl Program {
         ensures returns { returns_of work.old ≤ returns_of work.new }
         ensures paired { returns_of work.new ≤ steps_of work.new }
         ensures refused { IfErr result (λ e. e ≡ Error.Memory) }
+        ensures apart { cache.new.machine ≡ cache.old.machine }
     {
         cache.served = Engine::Runner;
         let runner = &mut cache.runner;
@@ -551,6 +596,7 @@ impl Program {
         ensures fits { AddsReturnsUpTo work.old (program_limit self.now) work.new }
         ensures most { AddsReturnsUpTo work.old (returns_taken self.now (asked_of self.now haystack.now request continues)) work.new }
         ensures refused { IfErr result (λ e. RefusesQuery self.now (asked_of self.now haystack.now request continues) e) }
+        ensures heeds { HeedsStackLimit self.now cache.old cache.new }
     {
         cache.served = Engine::Machine;
         let machine = &mut cache.machine;
@@ -582,6 +628,7 @@ impl Program {
         requires ends { position ≤ request.range_end }
         requires of { p ≡ program_pattern self.now }
         requires hard { IsHardProgram self.now }
+        requires tried { tried_by self.now (asked_of self.now haystack.now request true) position ≡ true }
         requires room { HasRoomFor self.now (record request { start = position }) work.old }
         ensures answer { IfOk result (λ m. IsAttemptIn m cache.new (asked_of self.now haystack.now request true) position) }
         ensures steps { steps_of work.old ≤ steps_of work.new }
@@ -589,6 +636,7 @@ impl Program {
         ensures paired { returns_of work.new ≤ steps_of work.new }
         ensures refused { IfErr result (λ e. RefusesAttempt self.now (asked_of self.now haystack.now request true) position e) }
         ensures allowed { IfOk result (λ _. AllowsAttempt self.now (asked_of self.now haystack.now request true) position) }
+        ensures heeds { HeedsStackLimit self.now cache.old cache.new }
     {
         cache.served = Engine::Machine;
         let machine = &mut cache.machine;

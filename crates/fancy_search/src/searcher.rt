@@ -5,15 +5,15 @@ ghost use Rattle.fancy_input.specs.Inputs.{haystack_in, request_in};
 ghost use Rattle.fancy_input.specs.Places.{is_boundary};
 ghost use Rattle.fancy_input.specs.Requests.{effective_start};
 ghost use Rattle.fancy_search.specs.Programs.{program_options};
-ghost use Rattle.fancy_bytes.specs.Lacks.{AllStand};
+ghost use Rattle.fancy_bytes.specs.Lacks.{AreKnown};
 ghost use Rattle.fancy_search.specs.Searching.{Suits};
 ghost use Rattle.fancy_search.specs.declared.cache.Cache.{Cache};
 ghost use Rattle.fancy_search.specs.declared.program.Program.{Program};
-ghost use Rattle.fancy_search.specs.Remaining.{item_in, EndsUnlessOk, IfItem, IfRefusal};
+ghost use Rattle.fancy_search.specs.Remaining.{standing_after, item_in, EndsUnlessOk, IfItem, IfRefusal, UnlessRefusal};
 
 use crate::cache::{Cache, Kept};
 use crate::program::Program;
-use fancy_bytes::byte_set::ByteSet;
+use fancy_bytes::lacking::KnownBytes;
 use fancy_engine::found::Found;
 use fancy_engine::work::Work;
 use fancy_input::input::{Haystack, Input, Request};
@@ -47,17 +47,17 @@ pub struct Searcher<S: Haystack> {
     ended: bool,
     // what the searches before left in the cache
     kept: Kept,
-    // bytes that were looked for in the haystack, and found
-    standing: ByteSet,
+    // what is known of the haystack's bytes
+    known: KnownBytes,
     pub ghost ordered: { request.range_start ≤ request.range_end },
     pub ghost inside: { request.range_end ≤ length (S.bytes haystack) },
     pub ghost short: { length (S.bytes haystack) < 2 ^ 63 },
-    pub ghost stands: { AllStand standing (S.bytes haystack) },
+    pub ghost looked: { AreKnown known (S.bytes haystack) },
 }
 
 impl<S: Input> Searcher<S> {
     ghost use Rattle.fancy_search.specs.KeptTables.{KeepsFrom, Keeps};
-    ghost use Rattle.fancy_search.specs.Searchers.{IsCutOut, HasGroupsOf, GivesItem, KeepsEnd, answer_next, item_next, start_next, end_of_items, place_after, start_after, RefusesAnswer, RefusesItem};
+    ghost use Rattle.fancy_search.specs.Searchers.{IsCutOut, HasGroupsOf, GivesItem, KeepsEnd, scan_of, standing_of, answer_next, item_next, start_next, end_of_items, place_after, start_after, RefusesAnswer, RefusesItem, AllowsAnswer, AllowsItem};
 
     /// The iteration of `input`.
     pub fn new(input: RegexInput<S>) -> Searcher<S>
@@ -79,7 +79,7 @@ impl<S: Input> Searcher<S> {
             skips_empty: false,
             ended: false,
             kept: Kept::Nothing,
-            standing: ByteSet::new(),
+            known: KnownBytes::new(),
         }
     }
 
@@ -171,6 +171,7 @@ impl<S: Input> Searcher<S> {
         ensures skips_empty { self.new.skips_empty ≡ self.old.skips_empty }
         ensures ended { self.new.ended ≡ self.old.ended }
         ensures refused { IfErr result (λ e. RefusesAnswer S.bytes program.now self.old e) }
+        ensures allowed { IfOk result (λ _. AllowsAnswer S.bytes program.now self.old) }
     {
         let from = self.request.effective_start();
         let mut work = Work::new();
@@ -181,7 +182,7 @@ impl<S: Input> Searcher<S> {
             self.request,
             self.continues,
             &mut self.kept,
-            &mut self.standing,
+            &mut self.known,
             cache,
             &mut work,
         )?;
@@ -211,6 +212,7 @@ impl<S: Input> Searcher<S> {
         ensures request { self.new.request ≡ record self.old.request { start = self.new.request.start } }
         ensures ended { self.new.ended ≡ false }
         ensures refused { IfErr result (λ e. RefusesItem S.text S.bytes program.now self.old e) }
+        ensures allowed { IfOk result (λ _. AllowsItem S.text S.bytes program.now self.old) }
     {
         let Some(item) = self.answer(program, cache)? else {
             return Ok(None);
@@ -232,6 +234,9 @@ impl<S: Input> Searcher<S> {
         ensures kept { Keeps S.bytes program.now self.new cache.new }
         ensures steps { GivesItem S.text S.bytes program.now cache.new self.old result self.new }
         ensures keeps_end { IfItem result (λ _. KeepsEnd S.text S.bytes program.now self.old self.new) }
+        ensures allowed { UnlessRefusal result (AllowsItem S.text S.bytes program.now self.old) }
+        ensures goes_on { IfItem result (λ i. standing_of self.new
+            ≡ standing_after (scan_of S.text S.bytes program.now self.old) (item_in cache.new i)) }
         ensures rests { IfNone result (self.new.request.start ≡ end_of_items S.text S.bytes program.now self.old) }
         ensures haystack { self.new.haystack ≡ self.old.haystack }
         ensures request { self.new.request ≡ record self.old.request { start = self.new.request.start } }

@@ -3,6 +3,7 @@
 ghost use Rattle.std.specs.Prelude.{◌≡◌, ◌≤◌, ◌-◌, ◌↔◌, None, IfOk, IfErr, IfSome, length};
 ghost use Rattle.std.specs.Option.{ForSome};
 ghost use Rattle.std.specs.Iterator.{at_most};
+ghost use Rattle.fancy_bytes.specs.Lacks.{AreKnown};
 ghost use Rattle.fancy_input.specs.Inputs.{haystack_in, request_in};
 ghost use Rattle.fancy_input.specs.Requests.{effective_start};
 ghost use Rattle.fancy_core.specs.Captures.{spans_in, searched_in, found_by};
@@ -15,7 +16,7 @@ use crate::set::members::MemberAnswer;
 use fancy_core::captures::Captures;
 use fancy_input::input::{Haystack, Input};
 use fancy_input::regex_input::RegexInput;
-use fancy_search::cache::Cache;
+use fancy_search::cache::AttemptCache;
 use fancy_tree::error::Result;
 
 /// The matches of the patterns of a set at one position, in the order of their indices; made by [`RegexSet::find_input`].
@@ -38,10 +39,11 @@ pub struct RegexSetMatchesAt<'r, S: Haystack> {
     next: usize,
     // what that member found, if it was asked already
     found: Option<Captures<'r, S>>,
-    cache: Cache,
+    cache: AttemptCache,
     ghost searched: { CanSearchAll S.text S.bytes set.now input },
     ghost starts: { effective_start (request_in input) ≤ position },
     ghost ends: { position ≤ (request_in input).range_end },
+    ghost known: { AreKnown cache.known (S.bytes (haystack_in input)) },
     ghost kept: { ForSome found (λ c. IsItemOf (asked_of_set set.now S.bytes input) (haystack_in input) position next c) },
 }
 
@@ -59,7 +61,8 @@ impl RegexSet {
     /// ```
     ///
     /// It is refused as the first attempt is that is refused before a match was found, in the order of positions and then of
-    /// indices: for want of memory, or past the limits of that pattern.
+    /// indices: for want of memory, or past the limits of that pattern. A pattern that was built with `RegexOptionsBuilder::seek`
+    /// is not tried where its own searches pass a position over, and takes nothing of its limits there.
     pub fn find_input<S: Input>(
         &self,
         input: RegexInput<S>,
@@ -70,7 +73,7 @@ impl RegexSet {
             (λ m. IfSome m (IsAnswerOfSet S.bytes self.now (haystack_in input) (request_in input))) }
         ensures refused { IfErr result (RefusesSet (asked_of_set self.now S.bytes input)) }
     {
-        let mut cache = Cache::new(*self.members.allocator());
+        let mut cache = AttemptCache::new(*self.members.allocator());
         let Some((position, first)) = self.first_answer(&input, &mut cache) else {
             return Ok(None);
         };

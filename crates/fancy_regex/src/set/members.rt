@@ -1,6 +1,7 @@
 //! What the members of a pattern set answer.
 
 ghost use Rattle.std.specs.Prelude.{◌≡◌, ◌≤◌, ◌<◌, None, false, IfNone, IfSome, length};
+ghost use Rattle.fancy_bytes.specs.Lacks.{AreKnown};
 ghost use Rattle.fancy_input.specs.Inputs.{haystack_in, request_in};
 ghost use Rattle.fancy_input.specs.Requests.{effective_start};
 ghost use Rattle.fancy_regex.specs.Candidates.{OthersFail};
@@ -10,10 +11,11 @@ ghost use Rattle.fancy_regex.specs.Sets.{members_of, asked_of_set, CanSearchAll}
 
 use crate::set::RegexSet;
 use crate::set::candidates::Groups;
+use fancy_core::attempt::attempt_at;
 use fancy_core::captures::Captures;
 use fancy_input::input::{Haystack, Input};
 use fancy_input::regex_input::RegexInput;
-use fancy_search::cache::Cache;
+use fancy_search::cache::AttemptCache;
 use fancy_tree::error::Result;
 
 /// What a member answers that finds something or is refused.
@@ -30,9 +32,11 @@ impl RegexSet {
     pub(crate) fn first_answer<S: Input>(
         &self,
         input: &RegexInput<S>,
-        cache: &mut Cache,
+        cache: &mut AttemptCache,
     ) -> Option<(usize, MemberAnswer<'_, S>)>
         requires searched { CanSearchAll S.text S.bytes self.now input.now }
+        requires known { AreKnown cache.old.known (S.bytes (haystack_in input.now)) }
+        ensures known { AreKnown cache.new.known (S.bytes (haystack_in input.now)) }
         ensures none { IfNone result (set_position (asked_of_set self.now S.bytes input.now) ≡ None) }
         ensures first { IfSome result (λ a. IsFirstOfSet (asked_of_set self.now S.bytes input.now)
             (haystack_in input.now) a.0 a.1.index a.1.answer) }
@@ -61,11 +65,13 @@ impl RegexSet {
         from: usize,
         input: &RegexInput<S>,
         position: usize,
-        cache: &mut Cache,
+        cache: &mut AttemptCache,
     ) -> Option<MemberAnswer<'_, S>>
         requires searched { CanSearchAll S.text S.bytes self.now input.now }
         requires starts { effective_start (request_in input.now) ≤ position }
         requires ends { position ≤ (request_in input.now).range_end }
+        requires known { AreKnown cache.old.known (S.bytes (haystack_in input.now)) }
+        ensures known { AreKnown cache.new.known (S.bytes (haystack_in input.now)) }
         ensures none { IfNone result
             (NoneBetween (asked_of_set self.now S.bytes input.now) position from (length (members_of self.now))) }
         ensures first { IfSome result (λ a. IsFirstAnswer (asked_of_set self.now S.bytes input.now)
@@ -86,12 +92,14 @@ impl RegexSet {
         from: usize,
         input: &RegexInput<S>,
         position: usize,
-        cache: &mut Cache,
+        cache: &mut AttemptCache,
     ) -> Option<MemberAnswer<'_, S>>
         requires others { OthersFail (asked_of_set self.now S.bytes input.now) position self.now.candidates.width groups }
         requires searched { CanSearchAll S.text S.bytes self.now input.now }
         requires starts { effective_start (request_in input.now) ≤ position }
         requires ends { position ≤ (request_in input.now).range_end }
+        requires known { AreKnown cache.old.known (S.bytes (haystack_in input.now)) }
+        ensures known { AreKnown cache.new.known (S.bytes (haystack_in input.now)) }
         ensures none { IfNone result
             (NoneBetween (asked_of_set self.now S.bytes input.now) position from (length (members_of self.now))) }
         ensures first { IfSome result (λ a. IsFirstAnswer (asked_of_set self.now S.bytes input.now)
@@ -114,18 +122,20 @@ impl RegexSet {
         index: usize,
         input: &RegexInput<S>,
         position: usize,
-        cache: &mut Cache,
+        cache: &mut AttemptCache,
     ) -> Option<Result<Captures<'_, S>>>
         requires member { index < length (members_of self.now) }
         requires searched { CanSearchAll S.text S.bytes self.now input.now }
         requires starts { effective_start (request_in input.now) ≤ position }
         requires ends { position ≤ (request_in input.now).range_end }
+        requires known { AreKnown cache.old.known (S.bytes (haystack_in input.now)) }
+        ensures known { AreKnown cache.new.known (S.bytes (haystack_in input.now)) }
         ensures none { IfNone result
             (has_answer_at (asked_of_set self.now S.bytes input.now) position index ≡ false) }
         ensures some { IfSome result (λ a. IsAnswerOf (asked_of_set self.now S.bytes input.now)
             (haystack_in input.now) position index a) }
     {
-        match self.members[index].attempt_at(input.again(), position, cache) {
+        match attempt_at(&self.members[index], input.again(), position, cache) {
             Ok(None) => None,
             Ok(Some(captures)) => Some(Ok(captures)),
             Err(error) => Some(Err(error)),

@@ -1,6 +1,7 @@
 //! The longest match of the patterns of a set at one place.
 
 ghost use Rattle.std.specs.Prelude.{◌≡◌, ◌≤◌, ◌<◌, ◌+◌, ◌⊎◌, IfOk, IfErr, Some, length, slice_get};
+ghost use Rattle.fancy_bytes.specs.Lacks.{AreKnown};
 ghost use Rattle.fancy_input.specs.Inputs.{haystack_in, request_in};
 ghost use Rattle.fancy_engine.specs.Queries.{answer_with};
 ghost use Rattle.fancy_search.specs.Cached.{cached_groups};
@@ -12,10 +13,11 @@ ghost use Rattle.fancy_regex.specs.Tokens.{found_by_member, KeepLimits, KeepsLim
 
 use crate::set::{RegexSet, RegexSetMatch};
 use crate::tokens::token::Token;
+use fancy_core::attempt::{captures_found, find_at};
 use fancy_engine::found::Found;
 use fancy_input::input::{Input, Request};
 use fancy_input::regex_input::RegexInput;
-use fancy_search::cache::Cache;
+use fancy_search::cache::{AttemptCache, Cache};
 use fancy_tree::error::{Error, Result, RuntimeError};
 use std::mem;
 
@@ -33,12 +35,14 @@ impl RegexSet {
         &self,
         input: &RegexInput<S>,
         place: usize,
-        cache: &mut Cache,
+        cache: &mut AttemptCache,
         longest: &mut Cache,
     ) -> Result<Token<'_, S>>
         requires searched { CanSearchAll S.text S.bytes self.now input.now }
         requires starts { (request_in input.now).range_start ≤ place }
         requires ends { place < (request_in input.now).range_end }
+        requires known { AreKnown cache.old.known (S.bytes (haystack_in input.now)) }
+        ensures known { AreKnown cache.new.known (S.bytes (haystack_in input.now)) }
         ensures given { IfOk result
             (IsTokenGiven (asked_of_set self.now S.bytes input.now) (haystack_in input.now) place) }
         ensures limits { IfOk result
@@ -53,7 +57,7 @@ impl RegexSet {
             return Err(Error::RuntimeError(RuntimeError::Unmatched(place)));
         };
         let member = &self.members[found.index];
-        let captures = member.captures_found(haystack, found.found, longest)?;
+        let captures = captures_found(member, haystack, found.found, longest)?;
         Ok(Token {
             found: RegexSetMatch::new(found.index, captures),
         })
@@ -66,12 +70,14 @@ impl RegexSet {
         haystack: &[u8],
         request: Request,
         place: usize,
-        cache: &mut Cache,
+        cache: &mut AttemptCache,
         longest: &mut Cache,
     ) -> Result<Option<Longest>>
         requires inside { request.range_end ≤ length haystack.now }
         requires starts { request.range_start ≤ place }
         requires ends { place < request.range_end }
+        requires known { AreKnown cache.old.known haystack.now }
+        ensures known { AreKnown cache.new.known haystack.now }
         ensures longest { IfOk result (λ l. IsLongestIfAny (asked_in_bytes self.now haystack.now request) place
             (length (members_of self.now)) l longest.new) }
         ensures limits { IfOk result
@@ -88,8 +94,8 @@ impl RegexSet {
         let mut best = None;
         let mut next = 0;
         'members: while let Some(index) = self.candidates.next_member(groups, next, count) {
-            let found = self.members[index].find_at(haystack, here, place, cache)?;
-            best = longer(index, found, place, best, cache, longest);
+            let found = find_at(&self.members[index], haystack, here, place, cache)?;
+            best = longer(index, found, place, best, &mut cache.engines, longest);
             next = index + 1;
         }
         Ok(best)

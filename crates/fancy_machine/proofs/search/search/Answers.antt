@@ -41,6 +41,7 @@ loop-place-init g c =
       returns = omega arith;
       paired = λ pairs. pairs;
       last_lines = c.ready_last_lines.ensures;
+      heeds = omega arith;
     }
 
 pub ready_last_lines-requires : goal.ready_last_lines-requires
@@ -109,6 +110,7 @@ loop-place-preserved g c =
       returns = omega (arith, c.try_position.ensures.returns, c.loop-place.invariant.returns);
       paired = λ pairs. c.try_position.ensures.paired (c.loop-place.invariant.paired pairs);
       last_lines = c.try_position.ensures.last_lines;
+      heeds = omega (arith, c.try_position.ensures.heeds, c.loop-place.invariant.heeds, ap (λ o. o.stack_limit) c.new-attempt.ensures.options);
     }
 
 pub returns-clause-answer : goal.returns-clause-answer

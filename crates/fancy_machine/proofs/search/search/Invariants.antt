@@ -5,6 +5,7 @@ use Rattle.fancy_input.specs.Requests.{effective_start}
 use Rattle.fancy_input.specs.LastLines.{KnowsLastLines}
 use Rattle.fancy_engine.specs.Work.{steps_of, returns_of}
 use Rattle.fancy_engine.specs.Tried.{tried, NoneTried}
+use Rattle.fancy_machine.specs.Asked.{HeedsLimit}
 use Rattle.fancy_machine.proofs.search.search.Given as goal
 
 abbrev pub invariant-loop-place : goal.invariant-loop-place
@@ -20,6 +21,7 @@ invariant-loop-place g l = record {
   returns : returns_of l.fn.work ≤ returns_of l.work;
   paired : returns_of l.fn.work ≤ steps_of l.fn.work → returns_of l.work ≤ steps_of l.work;
   last_lines : KnowsLastLines l.attempt.haystack.now l.cache.last_lines;
+  heeds : HeedsLimit l.fn.options.stack_limit l.fn.cache l.cache;
 }
 
 abbrev pub decreases-loop-place : goal.decreases-loop-place

@@ -21,7 +21,7 @@ run-requires g c =
     let may : admits g.q c.args.position ≡ true = sym (admits_is g.q c.args.attempts.now c.requires.0 c.args.position) ∙ sym c.if-not-is_match_boundary.ensures in
     let k = begun_from g.q c.args.attempts.now c.requires.1.1.0 c.requires.1.0 c.requires.1.1.1.1.0 c.requires.0 c.args.position may c.begin.new.self.now
     (c.in_ok-begin.ensures.begun ∙ ap (λ (r : ℕ). spot_of c.args.attempts.now.code.now.start r c.args.position c.args.position (replicate c.args.attempts.now.code.now.groups empty_slot)) c.requires.1.1.1.0) c.requires.1.1.1.1.1.0 in
-    (k.known, (c.begin.ensures.frames, (c.requires.1.1.1.1.1.1.0, c.requires.1.1.1.1.1.1.1)))
+    (k.known, (c.begin.ensures.frames, (c.begin.ensures.most, (c.requires.1.1.1.1.1.1.0, c.requires.1.1.1.1.1.1.1))))
 
 pub returns-in_err-found-clause-refused : goal.returns-in_err-found-clause-refused
 returns-in_err-found-clause-refused g c e =

@@ -6,6 +6,7 @@ returns-in-Some-Err-clause-steps g c =
     let steps = rw c.in-Some-Err.field-0-is at c.in-Some-Err.ensures.steps in
     record {
       gives = (steps.0, rw steps.1 refl);
+      allowed = tt;
       within_text = tt;
       same_regex = refl;
       same_text = c.in-Some-Err.ensures.haystack;

@@ -8,3 +8,6 @@ new-requires g c = record {
       c.captures_len.result c.requires.inside c.requires.suits (λ t. rw c.as_bytes-bytes.ensures.bytes at (c.as_bytes-bytes.ensures.utf8 t))
       (rw (c.in-Some.is, c.as_bytes-bytes.ensures.bytes) at c.in_ok-found.ensures.answer));
 }
+
+pub search-requires-clause-known : goal.search-requires-clause-known
+search-requires-clause-known g c = c.new-known.ensures _

@@ -9,12 +9,14 @@ use Rattle.fancy_core.specs.Replacing.{IsRefusedFrom}
 use Rattle.fancy_core.specs.Rewriting.{rewriting_regex, rewriting_text, todo_of}
 use Rattle.fancy_search.proofs.ResultLemmas.{if_ok, if_err}
 use Rattle.fancy_core.proofs.ReplaceLemmas.{SaysItself, Goes, goes_first, goes_on, goes_over, goes_last, goes_found, goes_stopped, fills_stopped, refused_same, one_done, none_is, borrowed_is, same_fills}
+use Rattle.fancy_core.proofs.AllowedLemmas.{of_answer}
 use Rattle.fancy_core.proofs.regex.Regex.fill.Goals as goal
 
 pub matches-init : goal.matches-init
 matches-init c = record {
   regex = c.new-rewriting.ensures.regex;
   text = c.new-rewriting.ensures.text;
+  allowed = c.new-rewriting.ensures.allowed;
   goes = goes_first _ _ _ _ _ _ _ _ _ _ c.new-rewriting.ensures.todo c.new-rewriting.ensures.out c.new-rewriting.ensures.last c.new-rewriting.ensures.found c.new-rewriting.ensures.left;
 }
 
@@ -36,6 +38,7 @@ matches-preserved c =
     record {
       regex = stays.regex ∙ (c.in_ok-next_match.ensures.regex ∙ c.matches.invariant.regex);
       text = stays.text ∙ (c.in_ok-next_match.ensures.text ∙ c.matches.invariant.text);
+      allowed = λ later. c.matches.invariant.allowed ((rw c.in-Some.is at c.in_ok-next_match.ensures.allowed) (stays.allowed later));
       goes = goes_on SaysItself c.args.self.now c.args.text.now _ _ _ _ _ _ _ _ _ _ _ _ (item_in match.cache item) _ _ _ c.args.fixed.now todo refl (refl, refl) more (stays.last ∙ last) (stays.found ∙ found) (stays.left ∙ left) c.matches.invariant.goes;
     }
 
@@ -51,6 +54,7 @@ returns c =
       borrowed = borrowed_is c.finish.result _ _ _ c.finish.ensures.borrowed (goes_found _ _ _ c.args.limit _ _ _ _ _ _ goes);
       kept = search rules;
       text = if_ok _ _ (λ _ w. same_fills _ _ _ _ _ _ (goes_last _ _ _ _ _ _ _ _ _ _ _ (rw text at w) goes)) c.finish.result c.finish.ensures.value;
+      allowed = of_answer _ (c.matches.invariant.allowed (rw none at c.in_ok-next_match.ensures.allowed)) c.finish.result;
       refused = if_err _ _ (λ e w. fills_stopped _ _ _ _ _ e (goes_stopped _ _ _ _ _ _ _ _ _ _ _ e (inl w) goes)) c.finish.result c.finish.ensures.refused;
     }
 

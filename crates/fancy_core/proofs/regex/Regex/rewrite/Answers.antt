@@ -16,6 +16,7 @@ matches-init g c = record {
   callable = c.requires.callable;
   regex = c.new-rewriting.ensures.regex;
   text = c.new-rewriting.ensures.text;
+  allowed = c.new-rewriting.ensures.allowed;
   goes = goes_first _ _ _ _ _ _ _ _ _ _ c.new-rewriting.ensures.todo c.new-rewriting.ensures.out c.new-rewriting.ensures.last c.new-rewriting.ensures.found c.new-rewriting.ensures.left;
 }
 
@@ -41,6 +42,7 @@ matches-preserved g c =
       callable = c.in_ok-push_answer.ensures.again;
       regex = stays.regex ∙ regex;
       text = stays.text ∙ text;
+      allowed = λ later. c.matches.invariant.allowed ((rw c.in-Some.is at c.in_ok-item.ensures.allowed) (stays.allowed later));
       goes = goes_on g.R.Replacer.appends c.args.self.now c.args.text.now _ _ _ _ _ _ _ _ _ _ _ _ (item_in match.cache item) _ _ _ ok.0 todo (seen_same _ _ _ _ (item_in match.cache item) regex text) ok.2 more (stays.last ∙ last) (stays.found ∙ found) (stays.left ∙ left) c.matches.invariant.goes;
     }
 
@@ -55,7 +57,7 @@ returns g c =
     record {
       borrowed = borrowed_is c.finish.result _ _ _ c.finish.ensures.borrowed (goes_found _ _ _ c.args.limit _ _ _ _ _ _ goes);
       kept = search rules;
-      text = if_ok _ _ (λ _ w. goes_last _ _ _ _ _ _ _ _ _ _ _ (rw text at w) goes) c.finish.result c.finish.ensures.value;
+      text = if_ok _ _ (λ _ w. (goes_last _ _ _ _ _ _ _ _ _ _ _ (rw text at w) goes, c.matches.invariant.allowed (rw none at c.in_ok-item.ensures.allowed))) c.finish.result c.finish.ensures.value;
       refused = if_err _ _ (λ e w. inl (goes_stopped _ _ _ _ _ _ _ _ _ _ _ e (inl w) goes)) c.finish.result c.finish.ensures.refused;
       again = search rules;
     }

@@ -28,28 +28,28 @@ returns-in-Found-clause-count g c = c.turn.ensures.returns ∙ (search_found (co
 
 pub returns-in_err-taken-in-Dead-clause-refused : goal.returns-in_err-taken-in-Dead-clause-refused
 returns-in_err-taken-in-Dead-clause-refused g c e =
-    let k = backed_err _ _ _ _ _ _ c.in_err-taken-in-Dead.ensures in
+    let k = backed_err _ _ _ _ _ _ c.in_err-taken-in-Dead.ensures.took in
     let lt = search_refused (code_in c.args.self.now g.deep) _ _ _ _ _ c.steps.trail.now c.steps.trail.frames _ _ c.steps.invariant.searching c.turn.new.trail.now c.turn.new.trail.frames c.turn.new.best (rw c.in-Dead.is at (c.in_ok-next.ensures.turned g.deep c.steps.invariant.searching.rest c.steps.invariant.searching.known)) k.0 in
     omega (arith, lt, k.1, c.turn.ensures.returns)
 
 pub returns-then-not-taken-clause-answer : goal.returns-then-not-taken-clause-answer
 returns-then-not-taken-clause-answer g c =
-    let b = rw c.if-not-taken.true at c.in_ok-taken-in-Dead.ensures in
-    c.give.ensures ∙ (search_end (code_in c.args.self.now g.deep) _ _ _ _ _ c.steps.trail.now c.steps.trail.frames _ _ c.steps.invariant.searching c.turn.new.trail.now c.turn.new.trail.frames c.turn.new.best (rw c.in-Dead.is at (c.in_ok-next.ensures.turned g.deep c.steps.invariant.searching.rest c.steps.invariant.searching.known)) b.0).0
+    let b = rw c.if-not-taken.true at c.in_ok-taken-in-Dead.ensures.took in
+    c.give.ensures.given ∙ (search_end (code_in c.args.self.now g.deep) _ _ _ _ _ c.steps.trail.now c.steps.trail.frames _ _ c.steps.invariant.searching c.turn.new.trail.now c.turn.new.trail.frames c.turn.new.best (rw c.in-Dead.is at (c.in_ok-next.ensures.turned g.deep c.steps.invariant.searching.rest c.steps.invariant.searching.known)) b.0).0
 
 pub returns-then-not-taken-clause-count : goal.returns-then-not-taken-clause-count
 returns-then-not-taken-clause-count g c =
-    let b = rw c.if-not-taken.true at c.in_ok-taken-in-Dead.ensures in
+    let b = rw c.if-not-taken.true at c.in_ok-taken-in-Dead.ensures.took in
     ap returns_of b.1 ∙ c.turn.ensures.returns ∙ (search_end (code_in c.args.self.now g.deep) _ _ _ _ _ c.steps.trail.now c.steps.trail.frames _ _ c.steps.invariant.searching c.turn.new.trail.now c.turn.new.trail.frames c.turn.new.best (rw c.in-Dead.is at (c.in_ok-next.ensures.turned g.deep c.steps.invariant.searching.rest c.steps.invariant.searching.known)) b.0).1
 
 pub steps-smaller : goal.steps-smaller
 steps-smaller g c =
-    let b = rw c.if-not-taken.false at c.in_ok-taken-in-Dead.ensures in
+    let b = rw c.if-not-taken.false at c.in_ok-taken-in-Dead.ensures.took in
     smaller_back (code_in c.args.self.now g.deep) _ _ _ _ _ c.steps.trail.now c.steps.trail.frames _ _ c.steps.invariant.searching c.turn.new.trail.now c.turn.new.trail.frames c.turn.new.best c.back.new.self.now c.back.new.self.frames (rw c.in-Dead.is at (c.in_ok-next.ensures.turned g.deep c.steps.invariant.searching.rest c.steps.invariant.searching.known)) b.0
 
 pub steps-preserved : goal.steps-preserved
 steps-preserved g c =
-    let b = rw c.if-not-taken.false at c.in_ok-taken-in-Dead.ensures in
+    let b = rw c.if-not-taken.false at c.in_ok-taken-in-Dead.ensures.took in
     record {
       searching = rw (b.2, c.turn.ensures.returns) (search_back (code_in c.args.self.now g.deep) _ _ _ _ _ c.steps.trail.now c.steps.trail.frames _ _ c.steps.invariant.searching c.turn.new.trail.now c.turn.new.trail.frames c.turn.new.best c.back.new.self.now c.back.new.self.frames (rw c.in-Dead.is at (c.in_ok-next.ensures.turned g.deep c.steps.invariant.searching.rest c.steps.invariant.searching.known)) b.0);
       room = rw b.2 (omega (arith, b.3));
@@ -65,3 +65,9 @@ returns-in_err-next-clause-crowded g c e =
     let full = c.in_err-next.ensures.crowded (ap Err (passed_on c.from_residual.result _ _ c.from_residual.ensures.1 e)) g.deep c.steps.invariant.searching.rest c.steps.invariant.searching.known in
     let few = search_crowded (code_in c.args.self.now g.deep) _ _ c.steps.trail.most _ _ _ c.steps.trail.now c.steps.trail.frames _ _ c.steps.invariant.searching full in
     omega (arith, few, c.steps.invariant.most)
+
+pub returns-in_err-taken-in-Dead-clause-most : goal.returns-in_err-taken-in-Dead-clause-most
+returns-in_err-taken-in-Dead-clause-most g c = c.back.ensures.most ∙ c.turn.ensures.most ∙ c.steps.invariant.most ∙ c.requires.1.1.0
+
+pub returns-then-not-taken-clause-most : goal.returns-then-not-taken-clause-most
+returns-then-not-taken-clause-most g c = c.give.ensures.most ∙ c.back.ensures.most ∙ c.turn.ensures.most ∙ c.steps.invariant.most ∙ c.requires.1.1.0

@@ -60,8 +60,8 @@ invariant_of-self-in-layers c =
       rises_more 0 l.log _ c.pop.new.self.items (omega (arith, ap length c.undo.ensures.log, length-take-le l.log log r.1)) r.0,
     )
 
-pub returns-in-layers : goal.returns-in-layers
-returns-in-layers c =
+pub returns-in-layers-clause-took : goal.returns-in-layers-clause-took
+returns-in-layers-clause-took c =
     let l = c.in-Some.layer in
     let log = c.layers.self-inside.log.items in
     let slots = c.layers.self-inside.slots.items in

@@ -1,10 +1,13 @@
 use Rattle.std.proofs.Common.{◌≤◌, ◌-◌}
+use Rattle.fancy_bytes.specs.Lacks.{AreKnown}
+use Rattle.fancy_input.specs.Inputs.{haystack_in}
 use Rattle.fancy_regex.specs.SetMembers.{NoneBetween}
 use Rattle.fancy_regex.specs.Sets.{asked_of_set}
 use Rattle.fancy_regex.proofs.set.RegexSet.answer_among.Given as goal
 
 abbrev pub invariant-members : goal.invariant-members
 invariant-members g l = record {
+  known : AreKnown l.cache.known (g.S.Haystack.bytes (haystack_in l.input));
   reached : l.from ≤ l.next;
   none : NoneBetween (asked_of_set l.self g.S.Haystack.bytes l.input) l.position l.from l.next;
 }

@@ -16,11 +16,13 @@ answer_among-requires-clause-others g c =
     (part_before c.as_bytes.result.now _ c.request-request.result.range_end _ (c.as_bytes.ensures.bytes ∙ ap g.S.Haystack.bytes c.haystack-haystack.ensures) (ap (λ (r : Request). r.range_end) c.request-request.ensures.value)) c.at-groups.ensures.byte)
 
 pub loop-position-preserved : goal.loop-position-preserved
-loop-position-preserved g c =
-    passed_more (asked_of_set c.args.self.now g.S.Haystack.bytes c.args.input.now) c.loop-position.position c.answer_among.result c.in_default.not-Some c.answer_among.ensures.none c.loop-position.invariant
+loop-position-preserved g c = record {
+  known = c.answer_among.ensures.known;
+  passed = passed_more (asked_of_set c.args.self.now g.S.Haystack.bytes c.args.input.now) c.loop-position.position c.answer_among.result c.in_default.not-Some c.answer_among.ensures.none c.loop-position.invariant.passed;
+}
 
 pub returns-clause-none : goal.returns-clause-none
 returns-clause-none g c =
     nowhere (asked_of_set c.args.self.now g.S.Haystack.bytes c.args.input.now)
-    (λ p from below. c.loop-position.invariant p from
+    (λ p from below. c.loop-position.invariant.passed p from
     (let count = rw c.request-request.ensures.value at c.last_position-last.ensures.count in let past = c.loop-position-test.false in omega (arith, count, past, from, below)))

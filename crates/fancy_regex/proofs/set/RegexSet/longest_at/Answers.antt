@@ -39,6 +39,7 @@ members-preserved c =
     let limit = limit_kept q p index member is c.in_ok-found.ensures.allowed in
     let reached = c.in-Some.ensures.reached in
     record {
+      known = c.find_at.ensures.known;
       inside = omega (arith, inside);
       longest = c.longer-best.ensures q
           (passed_over q p s.candidates s.listed c.at-groups.ensures.byte c.members.next index c.members.best c.members.longest reached none c.members.invariant.longest)

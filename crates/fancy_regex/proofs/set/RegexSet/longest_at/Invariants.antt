@@ -1,10 +1,12 @@
 use Rattle.std.proofs.Common.{◌≤◌, ◌-◌}
+use Rattle.fancy_bytes.specs.Lacks.{AreKnown}
 use Rattle.fancy_regex.specs.LongestMatches.{asked_in_bytes, IsLongestIfAny}
 use Rattle.fancy_regex.specs.Tokens.{KeepLimits}
 use Rattle.fancy_regex.proofs.set.RegexSet.longest_at.Given as goal
 
 abbrev pub invariant-members : goal.invariant-members
 invariant-members l = record {
+  known : AreKnown l.cache.known l.haystack;
   inside : l.next ≤ l.count;
   longest : IsLongestIfAny (asked_in_bytes l.self l.haystack l.fn.request) l.place l.next l.best l.longest;
   limits : KeepLimits (asked_in_bytes l.self l.haystack l.fn.request) l.place l.next;

@@ -1,8 +1,9 @@
-use Rattle.std.proofs.Common.{◌∙◌, sym, true, false}
+use Rattle.std.proofs.Common.{◌≡◌, ◌∙◌, sym, true, false, ap, not, arith}
 use Rattle.fancy_search.specs.Cached.{IsAttemptIn, cached_groups}
 use Rattle.fancy_search.specs.Programs.{asked_of}
 use Rattle.fancy_search.proofs.ResultLemmas.{if_ok}
 use Rattle.fancy_search.proofs.SearchedLemmas.{ordered_at, inside_at, clean_at, attempted}
+use Rattle.fancy_search.proofs.TriedAtLemmas.{untried_at, untaken_at}
 use Rattle.fancy_search.proofs.program.Program.attempt_at.Goals as goal
 
 pub returns-then-self-clause-answer : goal.returns-then-self-clause-answer
@@ -40,3 +41,11 @@ returns-then-self-clause-cleanly c = λ on.
 pub returns-clause-cleanly : goal.returns-clause-cleanly
 returns-clause-cleanly c = λ on.
     if_ok _ _ (λ m e. clean_at (asked_of c.args.self.now c.args.haystack.now c.args.request true) c.args.position (cached_groups c.backtrack_at.new.cache) c.requires.inside c.requires.ends c.args.self.now.starts m on e) c.backtrack_at.result c.backtrack_at.ensures.answer
+
+pub returns-then-not-is_tried-clause-answer : goal.returns-then-not-is_tried-clause-answer
+returns-then-not-is_tried-clause-answer c = sym (untried_at c.args.self.now (asked_of c.args.self.now c.args.haystack.now c.args.request true) c.args.position c.requires.inside (sym c.is_tried.ensures.tried ∙ c.if-not-is_tried.true))
+
+pub returns-then-not-is_tried-clause-allowed : goal.returns-then-not-is_tried-clause-allowed
+returns-then-not-is_tried-clause-allowed c hard =
+    let none = untaken_at c.args.self.now (asked_of c.args.self.now c.args.haystack.now c.args.request true) c.args.position (sym c.is_tried.ensures.tried ∙ c.if-not-is_tried.true) in
+    omega (arith, none)

@@ -1,4 +1,4 @@
-use Rattle.std.proofs.Common.{◌≡◌, None, ap, arith, replicate}
+use Rattle.std.proofs.Common.{◌≡◌, ◌∙◌, None, ap, arith, replicate}
 use Rattle.fancy_automaton.proofs.RememberedLemmas.{remembers, recalls}
 use Rattle.fancy_search.specs.declared.cache.Cache.{Cache}
 use Rattle.fancy_search.specs.Cached.{cached_groups}
@@ -29,3 +29,9 @@ pub find-requires-clause-all : goal.find-requires-clause-all
 find-requires-clause-all c =
     recalls c.ready_steps.new.self.cells c.args.self.now.code
     (c.ready_steps.ensures.all c.args.self.now.code (λ e. (c.requires.kept (c.is_steps.ensures e)).0))
+
+pub returns-in-Ok-clause-apart : goal.returns-in-Ok-clause-apart
+returns-in-Ok-clause-apart c = ap (λ (k : Cache). k.machine) c.note_reached.ensures ∙ ap (λ (k : Cache). k.machine) c.ready_steps.ensures.others
+
+pub returns-in-Err-clause-apart : goal.returns-in-Err-clause-apart
+returns-in-Err-clause-apart c = ap (λ (k : Cache). k.machine) c.ready_steps.ensures.others

@@ -4,3 +4,6 @@ use Rattle.fancy_search.proofs.searcher.Searcher.new.Goals as goal
 
 pub returns-clause-keeps : goal.returns-clause-keeps
 returns-clause-keeps g c program cache running = keeps_nothing program _ cache _ _ _ refl
+
+pub invariant_of-result-clause-looked : goal.invariant_of-result-clause-looked
+invariant_of-result-clause-looked g c = c.new.ensures _

@@ -1,7 +1,8 @@
 use Rattle.std.proofs.Common.{rules, refl, sym, ◌∙◌, arith}
 use Rattle.fancy_search.specs.Remaining.{item_in}
-use Rattle.fancy_search.proofs.ResultLemmas.{if_err}
-use Rattle.fancy_search.proofs.IterationStepLemmas.{passes, refuses_passed}
+use Rattle.fancy_search.specs.Searchers.{standing_of}
+use Rattle.fancy_search.proofs.ResultLemmas.{if_err, if_ok}
+use Rattle.fancy_search.proofs.IterationStepLemmas.{passes, refuses_passed, allows_passed}
 use Rattle.fancy_search.proofs.KeptTablesLemmas.{keeps_moved, starts_at}
 use Rattle.fancy_search.proofs.searcher.Searcher.upcoming.Goals as goal
 
@@ -13,10 +14,17 @@ returns-then-found-start-clause-value g c =
 pub returns-then-found-start-clause-refused : goal.returns-then-found-start-clause-refused
 returns-then-found-start-clause-refused g c =
     if_err _ _
-    (refuses_passed g.S.Haystack.text g.S.Haystack.bytes c.args.program.now c.args.self.now.haystack c.go_past.new.self.haystack c.args.self.now.request c.go_past.new.self.request c.args.self.now.skips_empty c.args.self.now.continues c.go_past.new.self.continues (item_in c.answer.new.cache c.in-Some.item) c.in-Some.item.found.start c.in-Some.item.found.end (c.go_past.ensures.haystack ∙ c.answer.ensures.haystack) (search rules) (sym c.answer.ensures.skips_empty ∙ c.if-self.true) refl refl (search rules) (search rules) (rw (c.answer.ensures.haystack, c.answer.ensures.request) at c.go_past.ensures.request) c.go_past.ensures.continues)
+    (refuses_passed g.S.Haystack.text g.S.Haystack.bytes c.args.program.now c.args.self.now.haystack c.go_past.new.self.haystack c.args.self.now.request c.go_past.new.self.request c.args.self.now.skips_empty c.args.self.now.continues c.go_past.new.self.continues c.args.self.now.ended (item_in c.answer.new.cache c.in-Some.item) c.in-Some.item.found.start c.in-Some.item.found.end (c.go_past.ensures.haystack ∙ c.answer.ensures.haystack) (search rules) (sym c.answer.ensures.skips_empty ∙ c.if-self.true) refl refl (search rules) (search rules) (rw (c.answer.ensures.haystack, c.answer.ensures.request) at c.go_past.ensures.request) c.go_past.ensures.continues)
     c.answer-then-found-start.result c.answer-then-found-start.ensures.refused
 
 pub answer-requires-then-found-start-clause-kept : goal.answer-requires-then-found-start-clause-kept
 answer-requires-then-found-start-clause-kept g c =
     keeps_moved g.S.Haystack.bytes c.args.program.now c.answer.new.cache c.answer.new.self.haystack c.go_past.new.self.haystack c.answer.new.self.request c.go_past.new.self.request c.answer.new.self.kept c.go_past.new.self.kept c.in-Some.item.found.end
     c.go_past.ensures.haystack (starts_at c.answer.new.self.request c.go_past.new.self.request _ c.go_past.ensures.request) c.go_past.ensures.kept (omega (arith, c.go_past.ensures.later)) (rw c.in-Some.is at c.in_ok-item.ensures.kept)
+
+pub returns-then-found-start-clause-allowed : goal.returns-then-found-start-clause-allowed
+returns-then-found-start-clause-allowed g c =
+    let before = c.args.self.now in
+    if_ok _ _
+    (λ _ next _. allows_passed g.S.Haystack.text g.S.Haystack.bytes c.args.program.now before.haystack c.go_past.new.self.haystack before.request c.go_past.new.self.request (standing_of before) c.go_past.new.self.continues c.in-Some.item.found.end (c.go_past.ensures.haystack ∙ c.answer.ensures.haystack) (search rules) refl (rw (c.answer.ensures.haystack, c.answer.ensures.request) at c.go_past.ensures.request) c.go_past.ensures.continues c.in_ok-item.ensures.allowed next)
+    c.answer-then-found-start.result c.answer-then-found-start.ensures.allowed

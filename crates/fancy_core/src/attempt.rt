@@ -1,0 +1,132 @@
+//! Attempts at one position, on which the searches of pattern sets rest.
+
+ghost use Rattle.std.specs.Prelude.{◌≡◌, ◌≤◌, IfOk, IfErr, IfSome, length};
+ghost use Rattle.fancy_bytes.specs.Lacks.{AreKnown};
+ghost use Rattle.fancy_input.specs.Inputs.{haystack_in, request_in};
+ghost use Rattle.fancy_input.specs.Requests.{effective_start};
+ghost use Rattle.fancy_core.specs.Captures.{spans_if, spans_in, searched_in, found_by};
+ghost use Rattle.fancy_core.specs.Limited.{RefusesAt, AllowsAt};
+ghost use Rattle.fancy_core.specs.Regexes.{options_in, group_count_in, query};
+ghost use Rattle.fancy_core.specs.Searches.{CanSearchInput, asked_by, groups_of_attempt};
+ghost use Rattle.fancy_search.specs.Cached.{IsAttemptIn, found_at};
+ghost use Rattle.fancy_search.specs.Groups.{AreCut, spans_of};
+ghost use Rattle.fancy_search.specs.Searching.{Suits};
+ghost use Rattle.fancy_tree.specs.declared.error.Error.TheVariants.{Memory};
+
+use crate::captures::Captures;
+use crate::regex::Regex;
+use fancy_engine::found::Found;
+use fancy_engine::work::Work;
+use fancy_input::input::{Input, Request};
+use fancy_input::regex_input::RegexInput;
+use fancy_search::cache::{AttemptCache, Cache};
+use fancy_search::groups::groups_found;
+use fancy_tree::error::Result;
+
+/// The groups of the match that an attempt at one position finds, or none; the position is a byte offset, from the
+/// effective start of the input to the end of its range. No other position is tried, whether the input is anchored or not,
+/// and `\G` holds at the effective start. A regex that seeks finds nothing at a position that its searches pass over.
+///
+/// ```text
+/// let regex = Regex::new(alloc, "(\\Ga|b)c")?;
+/// let input = RegexInput::new("acbc");
+/// attempt_at(&regex, input.again(), 0, &mut cache)   // 0..2, group 1 0..1
+/// attempt_at(&regex, input.again(), 1, &mut cache)   // None
+/// attempt_at(&regex, input.again(), 2, &mut cache)   // 2..4, group 1 2..3
+/// ```
+///
+/// `cache` is that of one haystack. It is refused as [`Regex::find_input`] is, for what the attempt takes.
+pub fn attempt_at<'r, S: Input>(
+    regex: &'r Regex,
+    input: RegexInput<S>,
+    position: usize,
+    cache: &mut AttemptCache,
+) -> Result<Option<Captures<'r, S>>>
+    requires searched { CanSearchInput S.text S.bytes (options_in regex.now) input }
+    requires starts { effective_start (request_in input) ≤ position }
+    requires ends { position ≤ (request_in input).range_end }
+    requires known { AreKnown cache.old.known (S.bytes (haystack_in input)) }
+    ensures known { AreKnown cache.new.known (S.bytes (haystack_in input)) }
+    ensures found { IfOk result (λ m. spans_if m ≡ groups_of_attempt (asked_by regex.now S.bytes input) position) }
+    ensures within { IfOk result (λ m. IfSome m (λ c. searched_in c ≡ haystack_in input)) }
+    ensures regex { IfOk result (λ m. IfSome m (λ c. found_by c ≡ regex.now)) }
+    ensures refused { IfErr result (λ e. RefusesAt regex.now (asked_by regex.now S.bytes input) position e) }
+    ensures allowed { IfOk result (λ _. AllowsAt regex.now (asked_by regex.now S.bytes input) position) }
+{
+    let found = capture_at(regex, input.haystack(), input.request(), position, cache)?;
+    Ok(found)
+}
+
+/// The groups of the match that an attempt at one position of the haystack finds, or none.
+fn capture_at<'r, S: Input>(
+    regex: &'r Regex,
+    haystack: S,
+    request: Request,
+    position: usize,
+    cache: &mut AttemptCache,
+) -> Result<Option<Captures<'r, S>>>
+    requires inside { request.range_end ≤ length (S.bytes haystack) }
+    requires suits { Suits (options_in regex.now) (S.text haystack) (S.bytes haystack) }
+    requires starts { effective_start request ≤ position }
+    requires ends { position ≤ request.range_end }
+    requires known { AreKnown cache.old.known (S.bytes haystack) }
+    ensures known { AreKnown cache.new.known (S.bytes haystack) }
+    ensures found { IfOk result (λ m. spans_if m ≡ groups_of_attempt (query regex.now (S.bytes haystack) request) position) }
+    ensures within { IfOk result (λ m. IfSome m (λ c. searched_in c ≡ haystack)) }
+    ensures regex { IfOk result (λ m. IfSome m (λ c. found_by c ≡ regex.now)) }
+    ensures refused { IfErr result (λ e. RefusesAt regex.now (query regex.now (S.bytes haystack) request) position e) }
+    ensures allowed { IfOk result (λ _. AllowsAt regex.now (query regex.now (S.bytes haystack) request) position) }
+{
+    let bytes = haystack.as_bytes();
+    let Some(found) = find_at(regex, bytes, request, position, cache)? else {
+        return Ok(None);
+    };
+    let captures = captures_found(regex, haystack, found, &cache.engines)?;
+    Ok(Some(captures))
+}
+
+/// The match that an attempt at one position finds in the bytes of a haystack, or none, without its groups: those are in
+/// `cache` then, and [`captures_found`] takes them from there. The position is a byte offset, as in [`attempt_at`].
+///
+/// It is refused as [`Regex::find_input`] is, for what the attempt takes.
+pub fn find_at(
+    regex: &Regex,
+    haystack: &[u8],
+    request: Request,
+    position: usize,
+    cache: &mut AttemptCache,
+) -> Result<Option<Found>>
+    requires inside { request.range_end ≤ length haystack.now }
+    requires starts { effective_start request ≤ position }
+    requires ends { position ≤ request.range_end }
+    requires known { AreKnown cache.old.known haystack.now }
+    ensures known { AreKnown cache.new.known haystack.now }
+    ensures found { IfOk result (λ m. IsAttemptIn m cache.new.engines (query regex.now haystack.now request) position) }
+    ensures refused { IfErr result (λ e. RefusesAt regex.now (query regex.now haystack.now request) position e) }
+    ensures allowed { IfOk result (λ _. AllowsAt regex.now (query regex.now haystack.now request) position) }
+{
+    let mut work = Work::new();
+    regex
+        .program
+        .attempt_at(haystack, request, position, cache, &mut work)
+}
+
+/// The groups of a match in the haystack that [`find_at`] found, as it left them in `cache`.
+///
+/// It is refused where memory runs out (`Memory`).
+pub fn captures_found<'r, S: Input>(
+    regex: &'r Regex,
+    haystack: S,
+    found: Found,
+    cache: &Cache,
+) -> Result<Captures<'r, S>>
+    requires cut { AreCut (S.text haystack) (S.bytes haystack)
+        (spans_of (group_count_in regex.now) (found_at found cache.now)) }
+    ensures groups { IfOk result (λ c. spans_in c ≡ spans_of (group_count_in regex.now) (found_at found cache.now)) }
+    ensures within { IfOk result (λ c. searched_in c ≡ haystack) }
+    ensures regex { IfOk result (λ c. found_by c ≡ regex.now) }
+    ensures refused { IfErr result (λ e. e ≡ Memory) }
+{
+    let slots = groups_found(regex.allocator(), regex.captures_len(), found, cache)?;
+    Ok(Captures::new(regex, haystack, slots))
+}
