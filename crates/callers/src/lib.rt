@@ -5,14 +5,16 @@
 ghost use Rattle.std.specs.Prelude.{◌≡◌, IfErr, IfOk, IfSome, None, is_some, true};
 ghost use Rattle.fancy_regex.specs.GroupTexts.{bytes_of_str};
 ghost use Rattle.fancy_regex.specs.MatchList.{InOrder};
+ghost use Rattle.fancy_regex.specs.Options.{by_default};
 ghost use Rattle.fancy_regex.specs.Regexes.{options_in};
 ghost use Rattle.fancy_regex.specs.Search.{search};
-ghost use Rattle.fancy_regex.specs.Searches.{asked_whole, matches_of_input};
+ghost use Rattle.fancy_regex.specs.Searches.{FindsFirst, asked_whole, matches_of_input};
 ghost use Rattle.fancy_regex.specs.Searching.{Suits};
+ghost use Rattle.fancy_regex.specs.Spans.{span_in};
 ghost use Rattle.fancy_regex.specs.declared.Error.TheVariants.{Memory};
 
 use fancy_regex::laws::ends_increase;
-use fancy_regex::{Input, Regex, RegexInput, Result, escape};
+use fancy_regex::{Input, Match, Regex, RegexInput, Result, escape};
 use std::alloc::Global;
 use std::borrow::CowStr;
 
@@ -49,6 +51,28 @@ pub const LINE: &str = "on 2026-11-24";
 /// Whether a constant line has a match: it is handed to a function with a parameter for it.
 pub fn match_of_constant(regex: &Regex) -> Result<Option<bool>> {
     match_if_searchable(regex, LINE)
+}
+
+/// Finds dates in lines. Its regex has the default options, which suit every line: so its calls have no condition.
+#[derive(Drop)]
+pub struct DateFinder {
+    date: Regex,
+    ghost standard: { options_in date ≡ by_default },
+}
+
+impl DateFinder {
+    /// A finder of its own. Want of memory may refuse it.
+    pub fn new(alloc: Global) -> Result<DateFinder> {
+        let date = Regex::new(alloc, "\\d{4}-\\d\\d")?;
+        Ok(DateFinder { date })
+    }
+
+    /// The first date in the line.
+    pub fn find<'t>(&self, line: &'t str) -> Result<Option<Match<'t>>>
+        ensures { IfOk result (λ m. FindsFirst span_in m (asked_whole self.now.date bytes_of_str line.entry)) }
+    {
+        self.date.find(line)
+    }
 }
 
 /// A pattern for the word as it is. Want of memory alone refuses it.
