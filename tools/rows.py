@@ -18,12 +18,16 @@ import asking
 CALLS = Path(__file__).resolve().parent.parent / "crates/calls"
 # How many lines of both files are written by hand.
 BY_HAND = 24
-# The options that rows have, and their letters in a line.
+# The options that rows have, and their letters in a line. A limit stands after a comma, with its number.
 LETTERS = {
     "case_insensitive": "i", "no_unicode_mode": "U", "only_named": "N", "find_not_empty": "E", "leftmost_longest": "L",
-    "seek": "S", "ascii": "a", "unicode_bytes": "b", "no_returns": "0",
+    "seek": "S", "ascii": "a", "unicode_bytes": "b",
 }
-REFUSALS = {"given up": "error executing regex: limit for backtracking exceeded"}
+LIMITS = {"backtrack_limit": "B", "stack_limit": "K"}
+REFUSALS = {
+    "given up": "error executing regex: limit for backtracking exceeded",
+    "too many saved": "error executing regex: too many saved branches",
+}
 
 
 def span(place):
@@ -54,7 +58,10 @@ def has_groups(pattern):
 
 
 def in_options(options, *more):
-    return "".join(sorted(LETTERS[one] for one in (*options.split(), *more))) or "-"
+    words = {*options.split(), *more}
+    limits = sorted(one.split("=") for one in words if "=" in one)
+    letters = "".join(sorted(LETTERS[one] for one in words if "=" not in one))
+    return ",".join([*filter(None, [letters]), *(LIMITS[name] + number for name, number in limits)]) or "-"
 
 
 def found(place):
@@ -89,11 +96,11 @@ def cannot(pattern, haystack, start, options=""):
 
 
 def captures(pattern, haystack, places, options=""):
-    yield answered(asking.line("captures", in_options(options), pattern, haystack), [groups(places)] * 3)
+    yield answered(asking.line("captures", in_options(options), pattern, haystack), [item(places, groups)] * 3)
 
 
 def captures_from(pattern, haystack, start, places, first, options=""):
-    items = [groups(first), groups(places), groups(places)]
+    items = [item(first, groups)] + [item(places, groups)] * 2
     yield answered(asking.line("captures", in_options(options), pattern, haystack, start), items)
 
 
@@ -162,6 +169,10 @@ def of_pattern(one):
     return "%d %s" % (one[0], span(one[1]))
 
 
+def groups_of_pattern(one):
+    return "%d %s" % (one[0], groups(one[1]))
+
+
 def size_of_set(patterns, count):
     if isinstance(count, dict):
         yield answered(asking.line("set", "-", patterns, ""), [text(count)] * 2)
@@ -170,15 +181,18 @@ def size_of_set(patterns, count):
     yield answered(asking.line("tell_set", "-", patterns, ""), [str(count == 0).lower(), str(count), "0", "0"])
 
 
-def in_set(patterns, haystack, start, place, items, options=""):
-    where = text(place) if place is None or isinstance(place, dict) else "at %d" % place
-    items = [where, *(item(one, of_pattern) for one in items)]
-    yield answered(asking.line("in_set", in_options(options), patterns, haystack, start), items)
+def matches_of_set(call, form):
+    def lines(patterns, haystack, start, place, items, options=""):
+        where = text(place) if place is None or isinstance(place, dict) else "at %d" % place
+        items = [where, *(item(one, form) for one in items)]
+        yield answered(asking.line(call, in_options(options), patterns, haystack, start), items)
+
+    return lines
 
 
 def tokens(patterns, haystack, start, items, end, place, options=""):
-    refusals = {"end": [], "unmatched": ["error executing regex: no token at position %d" % place], "given up": ["given up"]}
-    items = [*map(of_pattern, items), *(text({"refused": one}) for one in refusals[end]), "at %d" % place]
+    refusals = {"end": [], "unmatched": ["error executing regex: no token at position %d" % place]}
+    items = [*map(of_pattern, items), *(text({"refused": one}) for one in refusals.get(end, [end])), "at %d" % place]
     yield answered(asking.line("tokens", in_options(options), patterns, haystack, start), items)
 
 
@@ -194,11 +208,24 @@ def accepted(pattern, options=""):
     yield answered(asking.line("splitn", in_options(options), pattern, ""), [])
 
 
+def of_any_size(kind):
+    """The lines of a kind for the patterns of a row alone, and with so many others that a set has them in groups of two and of three."""
+    def lines(patterns, *found):
+        for count in (0, 128, 258):
+            yield from kind([*patterns, *["q"] * count], *found)
+
+    return lines
+
+
+in_set = matches_of_set("in_set", of_pattern)
+groups_in_set = matches_of_set("groups_in_set", groups_of_pattern)
+
 KINDS = {
     "find": find, "find from": find_from, "cannot": cannot, "captures": captures, "captures from": captures_from,
     "names": names, "matches": matches, "groups of matches": groups_of_matches, "split": split, "splitn": splitn,
     "replace": replace, "expand": expand, "expand as in Python": expand_as_in_python, "check": check, "escape": escape,
-    "bytes": bytes_of_matches, "set": size_of_set, "in set": in_set, "tokens": tokens, "refused": refused, "accepted": accepted,
+    "bytes": bytes_of_matches, "set": size_of_set, "in set": in_set, "groups in set": groups_in_set, "in sets": of_any_size(in_set),
+    "tokens": tokens, "tokens of sets": of_any_size(tokens), "refused": refused, "accepted": accepted,
 }
 
 

@@ -55,7 +55,7 @@ def searches():
     # more is saved on the way than the runner keeps, which goes on place by place
     yield 'captures', '-', '((a)|(b))*c', 'ab' * 10000 + 'c', 0, '', ['0..20001,19999..20000,19998..19999,19999..20000,'] * 3
     yield 'find', '-', '(?:a|b)*c', 'ab' * 10000 + 'd', 0, '', found('none')
-    yield 'find', '0', '(?:a|b)(?=c)', 'bc', 0, '', [LIMIT] * 2
+    yield 'find', 'B0', '(?:a|b)(?=c)', 'bc', 0, '', [LIMIT] * 2
     yield 'find', 'E', 'a*', 'baa', 0, '', found('1..3')
     yield 'find', 'L', 'a|ab', 'abaa ab', 0, '', found('0..2')
     for pattern, text, groups in (
@@ -143,7 +143,7 @@ def sets():
     yield 'in_set', '-', numbers, '$29.99', 0, '', ['at 1', '0 1..3', '1 1..3', '2 1..6']
     yield 'in_set', '-', ('(?<=foo)bar',), 'barfoobar', 0, '', ['at 6', '0 6..9']
     yield 'in_set', '-', (r'a\Kb', 'c', 'ab'), 'xab', 0, '', ['at 1', '0 2..3', '2 1..3']
-    yield 'in_set', '0', ('a', r'(?:(a|aa)+)\1'), 'aa', 0, '', ['at 0', '0 0..1', LIMIT]
+    yield 'in_set', 'B0', ('a', r'(?:(a|aa)+)\1'), 'aa', 0, '', ['at 0', '0 0..1', LIMIT]
     yield 'in_set', '-', (r'\Gx',), 'yx', 1, '', ['at 1', '0 1..2']
     yield 'in_set', '-', ('c', r'(d)\1'), 'xab', 0, '', ['none']
 
@@ -158,8 +158,8 @@ def tokens():
             ((r'(\w)\1', '[a-z]', ' '), 'aab cc', ['0 0..2', '1 2..3', '2 3..4', '0 4..6', 'at 6']),
             (('a(?=b)', 'b+', '(?<=b)c'), 'abbc', ['0 0..1', '1 1..3', '2 3..4', 'at 4'])):
         yield 'tokens', '-', patterns, text, 0, '', found
-    yield 'tokens', '0', ('y', '(?:x|y)(?=z)'), 'yz', 0, '', [LIMIT, 'at 0']
-    yield 'tokens', '0', ('y', '(?:x|y)(?=z)'), 'yyyz', 0, '', [LIMIT, 'at 0']
+    yield 'tokens', 'B0', ('y', '(?:x|y)(?=z)'), 'yz', 0, '', [LIMIT, 'at 0']
+    yield 'tokens', 'B0', ('y', '(?:x|y)(?=z)'), 'yyyz', 0, '', [LIMIT, 'at 0']
     yield 'tokens', '-', words, '42if', 2, '', ['0 2..4', 'at 4']
 
 

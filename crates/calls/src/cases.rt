@@ -57,7 +57,7 @@ fn words_of(line: &str) -> [&str; 4] {
     words
 }
 
-/// The options whose letters stand in the word.
+/// The options whose letters stand in the word, and its limits, where it has any.
 fn options_of(letters: &str) -> RegexOptionsBuilder {
     let mut options = RegexOptionsBuilder::new();
     options
@@ -73,10 +73,23 @@ fn options_of(letters: &str) -> RegexOptionsBuilder {
         .leftmost_longest(letters.contains('L'))
         .seek(letters.contains('S'))
         .bytes_mode(mode_of(letters));
-    if letters.contains('0') {
-        options.backtrack_limit(0);
+    if let Some(limit) = limit_of(letters, 'B') {
+        options.backtrack_limit(limit);
+    }
+    if let Some(limit) = limit_of(letters, 'K') {
+        options.stack_limit(limit);
     }
     options
+}
+
+/// The limit that a letter of the word stands before: of returns is 2 in `S,B2`.
+fn limit_of(letters: &str, letter: char) -> Option<usize> {
+    for part in letters.split(',') {
+        if let Some(number) = part.strip_prefix(letter) {
+            return number.parse::<usize>().ok();
+        }
+    }
+    None
 }
 
 fn mode_of(letters: &str) -> BytesMode {
@@ -123,7 +136,7 @@ fn answer_words<W: io::Write>(
 fn answer_read<W: io::Write>(asked: Asked<'_>, out: &mut W) -> Result<()> {
     match asked.call {
         "build" | "build_again" | "bytes" | "escape" | "set" => twice(Ok(Nothing), asked, out),
-        "in_set" | "tokens" | "tell_set" => twice(set_of(asked), asked, out),
+        "in_set" | "groups_in_set" | "tokens" | "tell_set" => twice(set_of(asked), asked, out),
         "set_of_regexes" => from_regexes(asked, out),
         "expand" | "read" | "write" => answer_by_captures(asked, out),
         _ => twice(regex_of(asked), asked, out),

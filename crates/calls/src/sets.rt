@@ -2,15 +2,15 @@
 
 use crate::cases::{Ask, Asked};
 use crate::fields::{begin, end, write_number, write_refusal, write_text};
-use crate::items::{write_all, write_item};
+use crate::items::{Item, write_all, write_item};
 use crate::searches::cannot;
-use fancy_regex::{Regex, RegexInput, RegexSet, Result};
+use fancy_regex::{Regex, RegexInput, RegexSet, RegexSetMatch, RegexSetMatchesAt, Result};
 use std::io;
 
 impl Ask for RegexSet {
     fn ask<W: io::Write>(&self, asked: Asked<'_>, out: &mut W) {
         match asked.call {
-            "in_set" => search(self, asked, out),
+            "in_set" | "groups_in_set" => search(self, asked, out),
             "tokens" => tokens(self, asked, out),
             _ => tell(self, asked, out),
         }
@@ -51,6 +51,32 @@ pub(crate) fn from_regexes<W: io::Write>(asked: Asked<'_>, out: &mut W) -> Resul
     Ok(())
 }
 
+/// A match of a set that is told with its groups.
+#[derive(Drop)]
+struct Grouped<'h>(RegexSetMatch<'h, &'h str>);
+
+impl Item for Grouped<'_> {
+    fn tell<W: io::Write>(&self, out: &mut W) {
+        write_number(self.0.pattern(), out);
+        write_text(" ", out);
+        self.0.captures().tell(out);
+    }
+}
+
+/// Writes the matches of a set, with their groups where the line asks for these.
+fn write_matches<W: io::Write>(
+    matches: RegexSetMatchesAt<'_, &str>,
+    asked: Asked<'_>,
+    out: &mut W,
+) {
+    if asked.call == "in_set" {
+        return write_all(matches, out);
+    }
+    for found in matches {
+        write_item(found.map(Grouped), out);
+    }
+}
+
 /// The matches of the set from the byte offset of the line on, after the position that they are tried at.
 fn search<W: io::Write>(set: &RegexSet, asked: Asked<'_>, out: &mut W) {
     let input = asked.input();
@@ -60,7 +86,7 @@ fn search<W: io::Write>(set: &RegexSet, asked: Asked<'_>, out: &mut W) {
     match set.find_input(input) {
         Ok(Some(matches)) => {
             write_place(matches.start(), out);
-            write_all(matches, out);
+            write_matches(matches, asked, out);
         }
         Ok(None) => write_text("none|", out),
         Err(error) => write_refusal(&error, out),
