@@ -8,14 +8,16 @@ mod settings;
 mod spans;
 mod verdicts;
 
-pub(crate) use counts::{CountRow, PartCountRow, check_counts, check_part_counts, counted};
+pub(crate) use counts::{
+    CountRow, CrowdedRow, PartCountRow, check_counts, check_crowded, check_part_counts, counted,
+};
 pub(crate) use fact::check;
 pub(crate) use nested::{nested, repeated};
 pub(crate) use overrides::{OverrideRow, check_overrides};
 pub(crate) use settings::{
     ASCII_TEXT, BYTES, BYTES_WITHOUT_UNICODE, CHARACTERS, CHARACTERS_ANYWHERE, LONGEST, NONE_SAVED,
-    NOT_EMPTY, ONE_SAVED, OVERRIDING, SEEKING, Settings, owned, read, regex_of, regex_with,
-    searchable,
+    NOT_EMPTY, ONE_SAVED, OVERRIDING, SEEKING, SEVEN_SAVED, Settings, TWO_SAVED, owned, read,
+    regex_of, regex_with, searchable,
 };
 pub(crate) use spans::{
     BytesRow, SearchRow, Span, SpanRow, check_find, check_input, check_may_search, check_part,

@@ -6,7 +6,8 @@
 //! it is met first. Where the byte at an easy search's choice cannot begin one of its ways, the other is gone alone.
 
 use crate::asking::{
-    CHARACTERS, CountRow, PartCountRow, SEEKING, SearchRow, check, check_counts, check_part_counts,
+    CHARACTERS, CountRow, CrowdedRow, NONE_SAVED, ONE_SAVED, PartCountRow, SEEKING, SEVEN_SAVED,
+    SearchRow, Settings, TWO_SAVED, check, check_counts, check_crowded, check_part_counts,
     check_searches, counted, nested, regex_of, regex_with,
 };
 use fancy_regex::{Regex, RegexInput, Work};
@@ -273,6 +274,85 @@ const PART_COUNTS: &[PartCountRow] = &[
     // nothing is done past the end
     (CHARACTERS, "a", "a", 2, (0, 1), (Some(None), Some(0), 0)),
 ];
+
+/// The same under `seek`.
+const ONE_SAVED_SEEKING: Settings = Settings {
+    seek: true,
+    ..ONE_SAVED
+};
+
+/// What is counted up to a branch that would be saved past the limit. An independent model of the search has counted it.
+const CROWDED: &[CrowdedRow] = &[
+    (NONE_SAVED, "(?:a|b)(?=c)", "bc", 0),
+    (NONE_SAVED, "(?:a|b)(?:(?:c|d)|e)(?=x)", "xxbcx", 0),
+    // the branch for `b` was taken before two are to be saved
+    (ONE_SAVED, "(?:a|b)(?:(?:c|d)|e)(?=x)", "bcx", 1),
+    // so it was at each position before
+    (ONE_SAVED, "(?:a|b)(?:(?:c|d)|e)(?=x)", "xxbcx", 3),
+    (ONE_SAVED_SEEKING, "(?:a|b)(?:(?:c|d)|e)(?=x)", "xxbcx", 1),
+    // no turn of the star at the `x`, and two of three at the first `a`
+    (TWO_SAVED, "a*(?=c)", "xaac", 1),
+    // two returns at the first `a` and one at the `b`
+    (SEVEN_SAVED, "a*(?=c)", "abaaaaaaac", 3),
+    // an outcome was found, and a longer one is looked for
+    (
+        Settings {
+            leftmost_longest: true,
+            ..TWO_SAVED
+        },
+        "(?:a|ab)(?:c|bcd)?",
+        "xabcd",
+        1,
+    ),
+    // the limit of returns is met, and not passed
+    (
+        Settings {
+            backtrack_limit: 1,
+            ..ONE_SAVED
+        },
+        "(?:a|b)(?:(?:c|d)|e)(?=x)",
+        "bcx",
+        1,
+    ),
+];
+
+/// Searches that save as many branches as they may.
+const NOT_CROWDED: &[CountRow] = &[
+    (
+        TWO_SAVED,
+        "(?:a|b)(?:(?:c|d)|e)(?=x)",
+        "xxbcx",
+        3,
+        Some(Some((2, 4))),
+        None,
+        3,
+    ),
+    // where both limits are passed the first one that is met counts
+    (
+        ONE_SAVED,
+        "(?:a|b)(?:(?:c|d)|e)(?=x)",
+        "xxbcx",
+        2,
+        None,
+        None,
+        2,
+    ),
+    (
+        SEVEN_SAVED,
+        "a*(?=c)",
+        "abaaaaaac",
+        4,
+        Some(Some((2, 8))),
+        None,
+        4,
+    ),
+];
+
+#[test]
+fn work_is_counted_up_to_too_many_saved_branches(rt: HostRuntime) {
+    check_crowded(&rt, rt.alloc(), CROWDED);
+    check_counts(&rt, rt.alloc(), NOT_CROWDED);
+}
 
 #[test]
 fn work_is_counted(rt: HostRuntime) {

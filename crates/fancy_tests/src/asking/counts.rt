@@ -1,6 +1,6 @@
 //! What a search counts, and where it is given up.
 
-use crate::asking::{Settings, Span, check, regex_with, searchable};
+use crate::asking::{Settings, Span, check, is_given_up, regex_with, searchable};
 use fancy_regex::{Error, Regex, RegexInput, RuntimeError, Work};
 use std::alloc::Global;
 use std::process::Abort;
@@ -74,6 +74,24 @@ pub(crate) fn check_counts(rt: &impl Abort, alloc: Global, rows: &[CountRow]) {
         let input = RegexInput::new(haystack);
         let counts = (wanted, steps, returns);
         check_count(rt, alloc, (settings, pattern), input, &mut work, counts);
+    }
+}
+
+/// Options, a pattern, a text, and how many saved branches a search takes up to the one that would be saved past the limit.
+pub(crate) type CrowdedRow = (Settings, &'static str, &'static str, usize);
+
+/// Checks searches that are given up since they would save too many branches, and what they count up to there, whatever was
+/// counted before.
+pub(crate) fn check_crowded(rt: &impl Abort, alloc: Global, rows: &[CrowdedRow]) {
+    let mut work = Work::new();
+    for &(settings, pattern, haystack, returns) in rows {
+        let regex = regex_with(rt, alloc, settings, pattern);
+        let input = searchable(rt, &regex, RegexInput::new(haystack));
+        let answer = regex.find_input_counted(input, &mut work);
+        let is_crowded = is_given_up(&answer, RuntimeError::StackOverflow);
+        check(rt, is_crowded, pattern);
+        check(rt, work.returns() == returns, pattern);
+        check(rt, work.returns() <= work.steps(), pattern);
     }
 }
 

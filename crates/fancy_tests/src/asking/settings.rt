@@ -105,6 +105,18 @@ pub(crate) const NONE_SAVED: Settings = Settings {
     ..CHARACTERS
 };
 
+/// Two branches may be saved at a time.
+pub(crate) const TWO_SAVED: Settings = Settings {
+    stack_limit: 2,
+    ..CHARACTERS
+};
+
+/// Seven branches may be saved at a time.
+pub(crate) const SEVEN_SAVED: Settings = Settings {
+    stack_limit: 7,
+    ..CHARACTERS
+};
+
 /// Positions where no match begins are passed over.
 pub(crate) const SEEKING: Settings = Settings {
     seek: true,
