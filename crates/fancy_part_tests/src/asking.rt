@@ -9,7 +9,7 @@ mod spans;
 mod tokens;
 
 pub(crate) use fact::check;
-pub(crate) use pattern_sets::{check_matches_at, searched};
+pub(crate) use pattern_sets::{Item, check_matches_at, searched};
 pub(crate) use refusals::{is_given_up, is_too_complex};
 pub(crate) use regexes::{regex_of, taken};
 pub(crate) use replaced::{ReplacedRow, check_answer, check_fixed, check_replaced};
