@@ -58,6 +58,8 @@ def has_groups(pattern):
 
 
 def in_options(options, *more):
+    if isinstance(options, list):
+        return ";".join(in_options(one, *more) for one in options)
     words = {*options.split(), *more}
     limits = sorted(one.split("=") for one in words if "=" in one)
     letters = "".join(sorted(LETTERS[one] for one in words if "=" not in one))

@@ -1,6 +1,6 @@
 //! What is made of patterns, and the calls that make it.
 
-use crate::cases::{Ask, Asked};
+use crate::cases::{Ask, Asked, options_of};
 use crate::items::write_item;
 use fancy_regex::{Expander, Regex, RegexBuilder, RegexSet, Result, escape};
 use std::io;
@@ -27,9 +27,24 @@ pub(crate) fn regex_of(asked: Asked<'_>) -> Result<Regex> {
     asked.options().build(pattern)
 }
 
-/// The patterns of the line as a set, under the options of the line.
+/// The patterns of the line as a set, under the options of the line, or each under its own, where a `;` stands between them.
 pub(crate) fn set_of(asked: Asked<'_>) -> Result<RegexSet> {
+    if asked.letters.contains(';') {
+        return set_of_members(asked);
+    }
     RegexSet::new_with_options(asked.alloc, asked.patterns, &asked.options())
+}
+
+/// The set of the patterns of the line, each under its own options.
+fn set_of_members(asked: Asked<'_>) -> Result<RegexSet> {
+    let mut letters = asked.letters.split(';');
+    let mut members = Vec::new(asked.alloc);
+    for pattern in asked.patterns {
+        let options = options_of(letters.next().unwrap_or(""));
+        let pattern = String::from_str(asked.alloc, *pattern)?;
+        members.push(options.build(pattern)?)?;
+    }
+    Ok(RegexSet::from_regexes(members))
 }
 
 fn by_text(asked: Asked<'_>) -> Result<Regex> {

@@ -58,7 +58,7 @@ fn words_of(line: &str) -> [&str; 4] {
 }
 
 /// The options whose letters stand in the word, and its limits, where it has any.
-fn options_of(letters: &str) -> RegexOptionsBuilder {
+pub(crate) fn options_of(letters: &str) -> RegexOptionsBuilder {
     let mut options = RegexOptionsBuilder::new();
     options
         .case_insensitive(letters.contains('i'))

@@ -3,11 +3,13 @@
 //!
 //! A line has four words, split by blanks: the call, letters of options, a number, and texts in hexadecimal, split by commas: the
 //! text, the template, and the patterns. After the letters and a comma `B2` limits returns to 2, and `K2` the branches that are
-//! saved. What the number means, the call says. The answer is a line `>A<B`, where A and B are what the calls answer at first and
-//! once more: items with a `|` after each, a refusal among them as `!` and its text. Each call of the library gives one item, a
-//! list one for each item of it. The output is flushed at the `>`, at the `<` and at the end of the line, so that who reads along
-//! can tell when the first call begins and ends. A line without a `>` has no answer, as where its pattern is refused; an item
-//! `?cannot` says that the regex must not search the input.
+//! saved; the options of a set's patterns may be split by `;`, where each has its own. What the number means, the call says.
+//!
+//! The answer is a line `>A<B`, where A and B are what the calls answer at first and once more: items with a `|` after each, a
+//! refusal among them as `!` and its text. Each call of the library gives one item, a list one for each item of it. The output is
+//! flushed at the `>`, at the `<` and at the end of the line, so that who reads along can tell when the first call begins and
+//! ends. A line without a `>` has no answer, as where its pattern is refused; an item `?cannot` says that the regex must not
+//! search the input.
 #![tactic(auto)]
 
 mod builds;
