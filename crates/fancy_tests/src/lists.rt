@@ -6,8 +6,9 @@ ghost use Rattle.fancy_engine.specs.Work.{steps_of, returns_of};
 ghost use Rattle.fancy_search.specs.SearchCounts.{HasRoomFor};
 
 use crate::asking::{check, regex_of, repeated};
-use fancy_regex::{ByteSet, Cache, Options, Request, Work};
-use fancy_search::cache::Kept;
+use fancy_bytes::lacking::KnownBytes;
+use fancy_regex::{Options, Request, Work};
+use fancy_search::cache::{Cache, Kept};
 use fancy_search::program::Program;
 use std::alloc::Global;
 use std::process::Abort;
@@ -49,20 +50,13 @@ fn steps_of_list(rt: &impl Abort, alloc: Global, program: &Program, text: &str) 
         continues: true,
     };
     let mut kept = Kept::Nothing;
-    let mut standing = ByteSet::new();
+    let mut known = KnownBytes::new();
     let mut cache = Cache::new(alloc);
     let mut work = Work::new();
     'matches: while request.start <= haystack.len() {
         assert!(rt; has_room(program, request, &work), "{text}");
         let answer = program.search_next(
-            haystack,
-            true,
-            request,
-            true,
-            &mut kept,
-            &mut standing,
-            &mut cache,
-            &mut work,
+            haystack, true, request, true, &mut kept, &mut known, &mut cache, &mut work,
         );
         let Some(found) = answer.expect(rt, "a search") else {
             return work.steps();

@@ -1,5 +1,5 @@
 use Rattle.std.proofs.Common.{length, ◌+◌, ◌-◌, ◌≡◌, ◌≤◌}
-use Rattle.fancy_bytes.specs.Lacks.{AllStand}
+use Rattle.fancy_bytes.specs.Lacks.{AreKnown}
 use Rattle.fancy_engine.specs.Work.{steps_of, returns_of}
 use Rattle.fancy_input.specs.Requests.{effective_start}
 use Rattle.fancy_search.specs.KeptTables.{IsKeptIn}
@@ -10,7 +10,7 @@ invariant-matches g l = record {
   whole : l.request.range_end ≡ length l.haystack;
   begins : l.request.range_start ≡ 0;
   paired : returns_of l.work ≤ steps_of l.work;
-  standing : AllStand l.standing l.haystack;
+  known : AreKnown l.known l.haystack;
   kept : IsKeptIn l.program l.haystack l.request l.kept (effective_start l.request) l.cache;
 }
 

@@ -14,4 +14,3 @@ returns-then-may_start_before-clause-tried c =
     sym (may ∙ ap (may_start q.sought.meaning q.sought.pattern) c.byte_at-next.ensures ∙ begins_by_next q c.args.position c.requires.inside) in
     tries_unless c.args.self.now q c.args.position c.if-not-self.false begins c.are_lacking.result
     (c.are_lacking.ensures.value ∙ lacking_as_told c.args.self.now c.args.haystack.now c.args.request true)
-
