@@ -1,7 +1,6 @@
 pub mod EscapeLemmas
 pub mod EscapedLiteralLemmas
 pub mod ListExampleLemmas
-pub mod SetExampleLemmas
 pub mod EndLemmas
 pub mod SetListLemmas
 pub mod SetLemmas

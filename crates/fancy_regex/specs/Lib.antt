@@ -2,7 +2,6 @@ pub mod Builders
 pub mod Escapes
 pub mod EscapedLiterals
 pub mod ListExamples
-pub mod SetExamples
 pub mod Laws
 pub mod SetMembers
 pub mod Candidates

@@ -22,7 +22,6 @@ ghost use Rattle.fancy_core.specs.Replacing.{fixed_of};
 ghost use Rattle.fancy_core.specs.Splits.{match_spans};
 ghost use Rattle.fancy_regex.specs.Escapes.{escaped_pattern};
 ghost use Rattle.fancy_regex.specs.ListExamples.{WorkedLists};
-ghost use Rattle.fancy_regex.specs.SetExamples.{WorkedSetExamples};
 ghost use Rattle.fancy_regex.specs.Laws.{EndsInNone, FitsPlaces, Rejoins, RejoinsFirst, CountsPieces, CutsNone, KeepsPieces, FindsAsOne};
 ghost use Rattle.fancy_regex.specs.SetMembers.{SetQuery};
 ghost use Rattle.fancy_regex.specs.Tokens.{CutsIntoTokens};
@@ -69,13 +68,6 @@ pub fn last_search_finds_none<S: Input>(_regex: &Regex, _input: &RegexInput<S>)
 /// The definition gives some small lists of matches that are known from elsewhere.
 pub fn worked_lists()
     ensures { WorkedLists }
-{}
-
-/// The definitions give a small set and a small list of tokens that are known from elsewhere, whatever regexes search for the two
-/// patterns.
-#[tactic(auto, using(crate::proofs::SetExampleLemmas::sets))]
-pub fn worked_sets()
-    ensures { WorkedSetExamples }
 {}
 
 /// The pieces of a text between spans, with the texts of the spans between them, are the text.

@@ -23,3 +23,6 @@ returns-clause-found g c =
       stands = stands_first q (haystack_in c.args.input) c.in-Some.position c.in-Some.first.index c.in_ok-captures.captures first;
       items = has_all_left q (haystack_in c.args.input) c.in-Some.position c.in-Some.first.index c.in_ok-captures.captures first;
     }
+
+pub first_answer-requires-clause-known : goal.first_answer-requires-clause-known
+first_answer-requires-clause-known g c = c.new-cache.ensures _

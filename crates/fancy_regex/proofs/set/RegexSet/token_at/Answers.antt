@@ -99,3 +99,9 @@ returns-clause-given g c =
           (item_of_found q p l.index member _ a _ is longest.finds (ap (λ k. found_by k) c.new.ensures.captures ∙ c.in_ok-captures.ensures.regex) spans longest.allowed);
       within = ap (λ k. searched_in k) c.new.ensures.captures ∙ c.in_ok-captures.ensures.within ∙ c.haystack-haystack.ensures;
     }
+
+pub returns-clause-limits : goal.returns-clause-limits
+returns-clause-limits g c =
+    let s = c.args.self.now in
+    let same = ap₂ (asked_in_bytes s) (c.as_bytes-bytes.ensures.bytes ∙ ap g.S.Haystack.bytes c.haystack-haystack.ensures) c.request.ensures.value in
+    subst (λ (x : SetQuery). KeepLimits x c.args.place (length (members_of s))) same c.in_ok-found.ensures.limits
