@@ -1,12 +1,13 @@
 //! What comes of a text whose matches are replaced. Rows of such texts are in `crates/calls/rows.txt`.
 
-ghost use Rattle.std.specs.Prelude.{None, ⊤};
+ghost use Rattle.std.specs.Prelude.{◌≡◌, None, Some, List, ℕ, ⊤, option_map};
 ghost use Rattle.std.proofs.Common.{rules};
 
 use crate::asking::{ReplacedRow, check, check_answer, check_fixed, check_replaced, regex_of};
-use fancy_regex::{Captures, Error, NoExpand, ReplaceFn, Replacer, RuntimeError};
+use fancy_regex::{Captures, Error, NoExpand, Regex, ReplaceFn, Replacer, RuntimeError};
 use std::alloc::Global;
 use std::borrow::CowStr;
+use std::cell::Cell;
 use std::process::Abort;
 
 /// Rows that are asked of a template of each form that is not lent.
@@ -170,4 +171,61 @@ fn functions_replace(rt: HostRuntime) {
     });
     let replaced = regex.replace("Springsteen, Bruce", swap);
     check_answer(&rt, replaced, "Bruce Springsteen");
+}
+
+/// A replacer that counts how often it is asked for its one text. Where it has none, it gives a hyphen for each match.
+#[derive(Drop)]
+struct Asked {
+    text: Option<&'static str>,
+    times: Cell<u32>,
+}
+
+impl Replacer for Asked {
+    ghost fixed = { λ s. option_map (λ t. t.now) s.text };
+
+    ghost appends = { λ s _ y _. (x : List ℕ) → option_map (λ t. t.now) s.text ≡ Some x → y ≡ x };
+
+    ghost refuses = { λ _ _ _ _. ⊤ };
+
+    ghost same = { λ s t c x y f a. a x f };
+
+    fn replace_append(
+        &mut self,
+        _captures: &Captures<'_, &str>,
+        dst: &mut String,
+    ) -> fancy_regex::Result<()> {
+        dst.push_str(self.text.unwrap_or("-"))?;
+        Ok(())
+    }
+
+    fn fixed_text(&self) -> Option<&str> {
+        self.times.set(self.times.get().wrapping_add(1));
+        self.text
+    }
+}
+
+/// A replacer that was not asked yet.
+fn unasked(text: Option<&'static str>) -> Asked {
+    Asked {
+        text,
+        times: Cell::new(0),
+    }
+}
+
+/// Checks that a replacement asks once for the one text, by a replacer that is lent in each way.
+fn check_asked(rt: &impl Abort, regex: &Regex, text: Option<&'static str>, wanted: &str) {
+    let mut replacer = unasked(text);
+    check_answer(rt, regex.try_replacen_by("aba", 0, &mut replacer), wanted);
+    check(rt, replacer.times.get() == 1, wanted);
+    check_answer(rt, regex.replace_all("aba", replacer.by_ref()), wanted);
+    check(rt, replacer.times.get() == 2, wanted);
+    check_fixed(rt, &mut replacer, text);
+    check(rt, replacer.times.get() == 3, wanted);
+}
+
+#[test]
+fn a_replacer_is_asked_once_for_its_text(rt: HostRuntime) {
+    let regex = regex_of(&rt, rt.alloc(), "a");
+    check_asked(&rt, &regex, Some("$0"), "$0b$0");
+    check_asked(&rt, &regex, None, "-b-");
 }

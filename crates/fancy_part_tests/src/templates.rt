@@ -203,7 +203,8 @@ fn kind_of(answer: io::Result<()>) -> Option<ErrorKind> {
     }
 }
 
-/// A template, how many bytes a writer takes in a call and in all, its fault then, what it takes, and the fault of the answer.
+/// A template, how many bytes a writer takes in a call and in all, its fault then, what it takes, the fault of the answer, and
+/// how many calls are made.
 type WrittenRow = (
     &'static str,
     usize,
@@ -211,59 +212,75 @@ type WrittenRow = (
     Option<ErrorKind>,
     &'static [u8],
     Option<ErrorKind>,
+    usize,
 );
 
 const BREAKS: Option<ErrorKind> = Some(BrokenPipe);
 
 /// Where `b` is group 1 and the whole match.
 const WRITTEN: &[WrittenRow] = &[
-    ("${1}-$0", 1, 0, BREAKS, b"", Some(BrokenPipe)),
-    ("${1}-$0", 1, 1, BREAKS, b"b", Some(BrokenPipe)),
-    ("${1}-$0", 1, 2, BREAKS, b"b-", Some(BrokenPipe)),
-    ("${1}-$0", 1, 3, BREAKS, b"b-b", None),
-    ("${1}-$0", 1, 4, BREAKS, b"b-b", None),
-    ("${1}-$0", 9, 0, BREAKS, b"", Some(BrokenPipe)),
-    ("${1}-$0", 9, 1, BREAKS, b"b", Some(BrokenPipe)),
-    ("${1}-$0", 9, 2, BREAKS, b"b-", Some(BrokenPipe)),
-    ("${1}-$0", 9, 3, BREAKS, b"b-b", None),
-    ("${1}-$0", 9, 4, BREAKS, b"b-b", None),
-    ("${1}-$0", 1, 0, None, b"", Some(WriteZero)),
-    ("${1}-$0", 1, 1, None, b"b", Some(WriteZero)),
-    ("${1}-$0", 1, 2, None, b"b-", Some(WriteZero)),
-    ("${1}-$0", 1, 3, None, b"b-b", None),
-    ("${1}-$0", 1, 4, None, b"b-b", None),
-    ("${1}-$0", 9, 0, None, b"", Some(WriteZero)),
-    ("${1}-$0", 9, 1, None, b"b", Some(WriteZero)),
-    ("${1}-$0", 9, 2, None, b"b-", Some(WriteZero)),
-    ("${1}-$0", 9, 3, None, b"b-b", None),
-    ("${1}-$0", 9, 4, None, b"b-b", None),
+    ("${1}-$0", 1, 0, BREAKS, b"", Some(BrokenPipe), 1),
+    ("${1}-$0", 1, 1, BREAKS, b"b", Some(BrokenPipe), 2),
+    ("${1}-$0", 1, 2, BREAKS, b"b-", Some(BrokenPipe), 3),
+    ("${1}-$0", 1, 3, BREAKS, b"b-b", None, 3),
+    ("${1}-$0", 1, 4, BREAKS, b"b-b", None, 3),
+    ("${1}-$0", 9, 0, BREAKS, b"", Some(BrokenPipe), 1),
+    ("${1}-$0", 9, 1, BREAKS, b"b", Some(BrokenPipe), 2),
+    ("${1}-$0", 9, 2, BREAKS, b"b-", Some(BrokenPipe), 3),
+    ("${1}-$0", 9, 3, BREAKS, b"b-b", None, 3),
+    ("${1}-$0", 9, 4, BREAKS, b"b-b", None, 3),
+    ("${1}-$0", 1, 0, None, b"", Some(WriteZero), 1),
+    ("${1}-$0", 1, 1, None, b"b", Some(WriteZero), 2),
+    ("${1}-$0", 1, 2, None, b"b-", Some(WriteZero), 3),
+    ("${1}-$0", 1, 3, None, b"b-b", None, 3),
+    ("${1}-$0", 1, 4, None, b"b-b", None, 3),
+    ("${1}-$0", 9, 0, None, b"", Some(WriteZero), 1),
+    ("${1}-$0", 9, 1, None, b"b", Some(WriteZero), 2),
+    ("${1}-$0", 9, 2, None, b"b-", Some(WriteZero), 3),
+    ("${1}-$0", 9, 3, None, b"b-b", None, 3),
+    ("${1}-$0", 9, 4, None, b"b-b", None, 3),
     // a write that was interrupted is not tried again
-    ("${1}-$0", 9, 0, Some(Interrupted), b"", Some(Interrupted)),
-    ("${1}-$0", 1, 2, Some(Interrupted), b"b-", Some(Interrupted)),
+    (
+        "${1}-$0",
+        9,
+        0,
+        Some(Interrupted),
+        b"",
+        Some(Interrupted),
+        1,
+    ),
+    (
+        "${1}-$0",
+        1,
+        2,
+        Some(Interrupted),
+        b"b-",
+        Some(Interrupted),
+        3,
+    ),
     // a fault within a character
-    ("${0}é", 9, 2, BREAKS, b"b\xC3", Some(BrokenPipe)),
-    ("${0}é", 1, 2, None, b"b\xC3", Some(WriteZero)),
-    ("${0}é", 1, 3, None, b"b\xC3\xA9", None),
+    ("${0}é", 9, 2, BREAKS, b"b\xC3", Some(BrokenPipe), 3),
+    ("${0}é", 1, 2, None, b"b\xC3", Some(WriteZero), 3),
+    ("${0}é", 1, 3, None, b"b\xC3\xA9", None, 3),
 ];
 
-/// Where group 1 took no part, and no group has the other names.
+/// Where group 1 took no part, and no group has the other names. Nothing is written, so no call is made.
 const NOT_WRITTEN: &[WrittenRow] = &[
-    ("", 0, 0, BREAKS, b"", None),
-    ("", 0, 0, None, b"", None),
-    ("$1", 0, 0, BREAKS, b"", None),
-    ("$1", 0, 0, None, b"", None),
-    ("$7$x", 0, 0, BREAKS, b"", None),
+    ("", 0, 0, BREAKS, b"", None, 0),
+    ("", 0, 0, None, b"", None, 0),
+    ("$1", 0, 0, BREAKS, b"", None, 0),
+    ("$1", 0, 0, None, b"", None, 0),
+    ("$7$x", 0, 0, BREAKS, b"", None, 0),
 ];
 
-/// Checks what is written of an expansion to a narrow writer, which is called where there is something to write.
+/// Checks what is written of an expansion to a narrow writer, and how often that is called.
 fn check_write(rt: &impl Abort, alloc: Global, captures: &Captures<'_, &str>, row: WrittenRow) {
-    let (template, most, left, fault, wanted, answered) = row;
+    let (template, most, left, fault, wanted, answered, calls) = row;
     let mut writer = narrow_writer(alloc, most, left, fault);
     let answer = Expander::default().write_expansion(&mut writer, template, captures);
     check(rt, kind_of(answer) == answered, template);
     check(rt, writer.taken.as_slice() == wanted, template);
-    let is_something = !wanted.is_empty() | answered.is_some();
-    check(rt, (writer.calls != 0) == is_something, template);
+    check(rt, writer.calls == calls, template);
 }
 
 /// Checks what is written of expansions to narrow writers. The pattern is found in the text.
@@ -287,6 +304,88 @@ fn check_narrow(
     let answer = write_whole(&mut writer, b"abc");
     check(rt, kind_of(answer) == Some(answered), "the fault");
     check(rt, writer.taken.len() == left, "what was taken");
+    check(rt, writer.calls == left.wrapping_add(1), "the calls");
+}
+
+/// A writer that takes all bytes in each of its calls but one: that one fails with the fault, or takes none where there is no
+/// fault.
+#[derive(Drop)]
+struct Faltering {
+    taken: Vec<u8>,
+    calls: usize,
+    refused_call: usize,
+    fault: Option<ErrorKind>,
+}
+
+impl io::Write for Faltering {
+    fn write(&mut self, buf: &[u8]) -> io::Result<usize> {
+        self.calls = self.calls.wrapping_add(1);
+        if self.calls == self.refused_call {
+            return match self.fault {
+                Some(kind) => Err(io::Error::from(kind)),
+                None => Ok(0),
+            };
+        }
+        self.taken.extend_from_slice(buf)?;
+        Ok(buf.len())
+    }
+
+    fn flush(&mut self) -> io::Result<()> {
+        Ok(())
+    }
+}
+
+/// Which call of the writer is refused, its fault, what it takes of `b-b`, the fault of the answer, and how many calls are made.
+type RefusedOnceRow = (
+    usize,
+    Option<ErrorKind>,
+    &'static [u8],
+    Option<ErrorKind>,
+    usize,
+);
+
+/// A call that was refused is the last one, although the next would take its bytes.
+const REFUSED_ONCE: &[RefusedOnceRow] = &[
+    (1, BREAKS, b"", Some(BrokenPipe), 1),
+    (2, BREAKS, b"b", Some(BrokenPipe), 2),
+    (3, BREAKS, b"b-", Some(BrokenPipe), 3),
+    (4, BREAKS, b"b-b", None, 3),
+    (1, Some(Interrupted), b"", Some(Interrupted), 1),
+    (2, Some(Interrupted), b"b", Some(Interrupted), 2),
+    (1, None, b"", Some(WriteZero), 1),
+    (2, None, b"b", Some(WriteZero), 2),
+    (3, None, b"b-", Some(WriteZero), 3),
+    (4, None, b"b-b", None, 3),
+];
+
+/// Checks what is written of an expansion to a writer that refuses one call.
+fn check_refused_once(
+    rt: &impl Abort,
+    alloc: Global,
+    captures: &Captures<'_, &str>,
+    row: RefusedOnceRow,
+) {
+    let (refused_call, fault, wanted, answered, calls) = row;
+    let mut writer = Faltering {
+        taken: Vec::new(alloc),
+        calls: 0,
+        refused_call,
+        fault,
+    };
+    let answer = Expander::default().write_expansion(&mut writer, "${1}-$0", captures);
+    check(rt, kind_of(answer) == answered, "the fault");
+    check(rt, writer.taken.as_slice() == wanted, "what was taken");
+    check(rt, writer.calls == calls, "the calls");
+}
+
+#[test]
+fn a_refused_write_is_not_tried_again(rt: HostRuntime) {
+    let alloc = rt.alloc();
+    let regex = regex_of(&rt, alloc, "(b)");
+    let captures = taken(&rt, regex.captures("abc"), "(b)");
+    for &row in REFUSED_ONCE {
+        check_refused_once(&rt, alloc, &captures, row);
+    }
 }
 
 #[test]
