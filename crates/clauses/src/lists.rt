@@ -1,0 +1,160 @@
+//! All matches, one after another.
+//!
+//! `left_in` gives the matches that are left, `next_request` what the next search is asked, and `end_in` where the search
+//! starts that finds none. `GivesFirst` says that a call gives the first that is left, or a refusal after which none is.
+
+ghost use Rattle.std.specs.Prelude.{◌+◌, ◌<◌, ◌^◌, ◌≡◌, IfNone, MatchOption, false, ⊤};
+ghost use Rattle.fancy_regex.specs.CaptureIterations.{groups_in_whole, groups_left, groups_of_input, matches_in};
+ghost use Rattle.fancy_regex.specs.Captures.{found_by, searched_in, spans_in};
+ghost use Rattle.fancy_regex.specs.Inputs.{haystack_in, request_in};
+ghost use Rattle.fancy_regex.specs.Iterations.{end_in, has_ended, haystack_of, items_bound, left_in, next_request, refuses_next, regex_in, spans_left};
+ghost use Rattle.fancy_regex.specs.Regexes.{options_in};
+ghost use Rattle.fancy_regex.specs.Remaining.{EndsUnlessOk, GivesFirst, IfItem, IfRefusal, next_start};
+ghost use Rattle.fancy_regex.specs.Requests.{whole};
+ghost use Rattle.fancy_regex.specs.Searches.{CanSearchInput, last_start_in_whole, last_start_of_input, matches_in_whole, matches_of_input};
+ghost use Rattle.fancy_regex.specs.Searching.{Suits};
+
+use fancy_regex::{CaptureMatches, Captures, Input, Matches, Regex, RegexInput, Result};
+
+/// The matches in a haystack.
+pub fn find_iter<S: Input>(regex: &Regex, haystack: S) -> Matches<'_, S>
+    requires suits { Suits (options_in regex.now) (S.text haystack) (S.bytes haystack) }
+    ensures matches { left_in S.text S.bytes result
+        ≡ matches_in_whole regex.now S.text S.bytes haystack }
+    ensures end { end_in S.text S.bytes result
+        ≡ last_start_in_whole regex.now S.text S.bytes haystack }
+    ensures countable { items_bound S.text S.bytes result < 2 ^ 64 }
+    ensures regex { regex_in result ≡ regex.now }
+    ensures text { haystack_of result ≡ haystack }
+    ensures request { next_request result ≡ whole (S.bytes haystack) }
+{
+    regex.find_iter(haystack)
+}
+
+/// The matches that an input asks for.
+pub fn find_iter_input<S: Input>(regex: &Regex, input: RegexInput<S>) -> Matches<'_, S>
+    requires searched { CanSearchInput S.text S.bytes (options_in regex.now) input }
+    ensures matches { left_in S.text S.bytes result
+        ≡ matches_of_input regex.now S.text S.bytes input }
+    ensures end { end_in S.text S.bytes result
+        ≡ last_start_of_input regex.now S.text S.bytes input }
+    ensures countable { items_bound S.text S.bytes result < 2 ^ 64 }
+    ensures regex { regex_in result ≡ regex.now }
+    ensures text { haystack_of result ≡ haystack_in input }
+    ensures request { next_request result ≡ request_in input }
+{
+    regex.find_iter_input(input)
+}
+
+/// The next match.
+pub fn next_match<S: Input>(matches: &mut Matches<'_, S>) -> Option<Result<S::Match>>
+    ensures gives { GivesFirst (refuses_next S.text S.bytes) S.span (spans_left S.text S.bytes)
+        matches.old result matches.new }
+    ensures within { IfItem result (λ x. S.within x ≡ S.bytes (haystack_of matches.old)) }
+    ensures regex { regex_in matches.new ≡ regex_in matches.old }
+    ensures text { haystack_of matches.new ≡ haystack_of matches.old }
+    ensures request { next_request matches.new
+        ≡ record (next_request matches.old) { start = (next_request matches.new).start } }
+    ensures moves { IfItem result (λ x. (next_request matches.new).start
+        ≡ next_start (S.text (haystack_of matches.old)) (S.bytes (haystack_of matches.old))
+        (S.span x)) }
+    ensures refused { IfRefusal result
+        ((next_request matches.new).start ≡ (next_request matches.old).range_end + 1) }
+    ensures keeps_end { IfItem result
+        (λ _. end_in S.text S.bytes matches.new ≡ end_in S.text S.bytes matches.old) }
+    ensures rests { IfNone result
+        ((next_request matches.new).start ≡ end_in S.text S.bytes matches.old) }
+    ensures ends { EndsUnlessOk result (has_ended matches.new) }
+    ensures unended { MatchOption result ⊤ (λ _. has_ended matches.old ≡ false) }
+{
+    matches.next()
+}
+
+/// The regex, the haystack and the input of the next search.
+pub fn reads<'r, S: Input>(matches: &Matches<'r, S>) -> (&'r Regex, S, RegexInput<S>)
+    ensures regex { result.0.now ≡ regex_in matches.now }
+    ensures text { result.1 ≡ haystack_of matches.now }
+    ensures haystack { haystack_in result.2 ≡ haystack_of matches.now }
+    ensures request { request_in result.2 ≡ next_request matches.now }
+{
+    (matches.regex(), matches.text(), matches.input())
+}
+
+/// The matches in a haystack, with their groups.
+pub fn captures_iter<S: Input>(regex: &Regex, haystack: S) -> CaptureMatches<'_, S>
+    requires suits { Suits (options_in regex.now) (S.text haystack) (S.bytes haystack) }
+    ensures matches { groups_left S.text S.bytes result
+        ≡ groups_in_whole regex.now S.text S.bytes haystack }
+    ensures end { end_in S.text S.bytes (matches_in result)
+        ≡ last_start_in_whole regex.now S.text S.bytes haystack }
+    ensures countable { items_bound S.text S.bytes (matches_in result) < 2 ^ 64 }
+    ensures regex { regex_in (matches_in result) ≡ regex.now }
+    ensures text { haystack_of (matches_in result) ≡ haystack }
+    ensures request { next_request (matches_in result) ≡ whole (S.bytes haystack) }
+{
+    regex.captures_iter(haystack)
+}
+
+/// The matches that an input asks for, with their groups.
+pub fn captures_iter_input<S: Input>(regex: &Regex, input: RegexInput<S>) -> CaptureMatches<'_, S>
+    requires searched { CanSearchInput S.text S.bytes (options_in regex.now) input }
+    ensures matches { groups_left S.text S.bytes result
+        ≡ groups_of_input regex.now S.text S.bytes input }
+    ensures end { end_in S.text S.bytes (matches_in result)
+        ≡ last_start_of_input regex.now S.text S.bytes input }
+    ensures countable { items_bound S.text S.bytes (matches_in result) < 2 ^ 64 }
+    ensures regex { regex_in (matches_in result) ≡ regex.now }
+    ensures text { haystack_of (matches_in result) ≡ haystack_in input }
+    ensures request { next_request (matches_in result) ≡ request_in input }
+{
+    regex.captures_iter_input(input)
+}
+
+/// The groups of the next match.
+pub fn next_captures<'r, S: Input>(
+    matches: &mut CaptureMatches<'r, S>,
+) -> Option<Result<Captures<'r, S>>>
+    ensures gives { GivesFirst (λ m e. refuses_next S.text S.bytes (matches_in m) e)
+        (λ c. spans_in c)
+        (groups_left S.text S.bytes) matches.old result matches.new }
+    ensures within { IfItem result (λ c. searched_in c ≡ haystack_of (matches_in matches.old)) }
+    ensures found_by { IfItem result (λ c. found_by c ≡ regex_in (matches_in matches.old)) }
+    ensures regex { regex_in (matches_in matches.new) ≡ regex_in (matches_in matches.old) }
+    ensures text { haystack_of (matches_in matches.new) ≡ haystack_of (matches_in matches.old) }
+    ensures request { next_request (matches_in matches.new)
+        ≡ record (next_request (matches_in matches.old)) {
+          start =
+              (next_request (matches_in matches.new)).start;
+        } }
+    ensures refused { IfRefusal result
+        ((next_request (matches_in matches.new)).start
+        ≡ (next_request (matches_in matches.old)).range_end + 1) }
+    ensures keeps_end { IfItem result
+        (λ _. end_in S.text S.bytes (matches_in matches.new)
+        ≡ end_in S.text S.bytes (matches_in matches.old)) }
+    ensures rests { IfNone result
+        ((next_request (matches_in matches.new)).start
+        ≡ end_in S.text S.bytes (matches_in matches.old)) }
+    ensures ends { EndsUnlessOk result (has_ended (matches_in matches.new)) }
+    ensures unended { MatchOption result ⊤ (λ _. has_ended (matches_in matches.old) ≡ false) }
+{
+    matches.next()
+}
+
+/// The regex, the haystack and the input of the next search.
+pub fn reads_captures<'r, S: Input>(
+    matches: &CaptureMatches<'r, S>,
+) -> (&'r Regex, S, RegexInput<S>)
+    ensures regex { result.0.now ≡ regex_in (matches_in matches.now) }
+    ensures text { result.1 ≡ haystack_of (matches_in matches.now) }
+    ensures haystack { haystack_in result.2 ≡ haystack_of (matches_in matches.now) }
+    ensures request { request_in result.2 ≡ next_request (matches_in matches.now) }
+{
+    (matches.regex(), matches.text(), matches.input())
+}
+
+/// Loops over the matches end.
+pub fn ends<S: Input>(matches: Matches<'_, S>, captures: CaptureMatches<'_, S>) {
+    for _ in matches {}
+    for _ in captures {}
+}
