@@ -7,9 +7,9 @@ ghost use Rattle.std.specs.Prelude.{◌+◌, ◌<◌, ◌^◌, ◌≡◌, IfNone
 ghost use Rattle.fancy_regex.specs.CaptureIterations.{groups_in_whole, groups_left, groups_of_input, matches_in};
 ghost use Rattle.fancy_regex.specs.Captures.{found_by, searched_in, spans_in};
 ghost use Rattle.fancy_regex.specs.Inputs.{haystack_in, request_in};
-ghost use Rattle.fancy_regex.specs.Iterations.{end_in, has_ended, haystack_of, items_bound, left_in, next_request, refuses_next, regex_in, spans_left};
+ghost use Rattle.fancy_regex.specs.Iterations.{allows_next, end_in, has_ended, haystack_of, items_bound, left_in, next_request, refuses_next, regex_in, spans_left};
 ghost use Rattle.fancy_regex.specs.Regexes.{options_in};
-ghost use Rattle.fancy_regex.specs.Remaining.{EndsUnlessOk, GivesFirst, IfItem, IfRefusal, next_start};
+ghost use Rattle.fancy_regex.specs.Remaining.{EndsUnlessOk, GivesFirst, IfItem, IfRefusal, UnlessRefusal, next_start};
 ghost use Rattle.fancy_regex.specs.Requests.{whole};
 ghost use Rattle.fancy_regex.specs.Searches.{CanSearchInput, last_start_in_whole, last_start_of_input, matches_in_whole, matches_of_input};
 ghost use Rattle.fancy_regex.specs.Searching.{Suits};
@@ -50,6 +50,7 @@ pub fn find_iter_input<S: Input>(regex: &Regex, input: RegexInput<S>) -> Matches
 pub fn next_match<S: Input>(matches: &mut Matches<'_, S>) -> Option<Result<S::Match>>
     ensures gives { GivesFirst (refuses_next S.text S.bytes) S.span (spans_left S.text S.bytes)
         matches.old result matches.new }
+    ensures allowed { UnlessRefusal result (allows_next S.text S.bytes matches.old) }
     ensures within { IfItem result (λ x. S.within x ≡ S.bytes (haystack_of matches.old)) }
     ensures regex { regex_in matches.new ≡ regex_in matches.old }
     ensures text { haystack_of matches.new ≡ haystack_of matches.old }
@@ -117,6 +118,8 @@ pub fn next_captures<'r, S: Input>(
     ensures gives { GivesFirst (λ m e. refuses_next S.text S.bytes (matches_in m) e)
         (λ c. spans_in c)
         (groups_left S.text S.bytes) matches.old result matches.new }
+    ensures allowed { UnlessRefusal result
+        (allows_next S.text S.bytes (matches_in matches.old)) }
     ensures within { IfItem result (λ c. searched_in c ≡ haystack_of (matches_in matches.old)) }
     ensures found_by { IfItem result (λ c. found_by c ≡ regex_in (matches_in matches.old)) }
     ensures regex { regex_in (matches_in matches.new) ≡ regex_in (matches_in matches.old) }

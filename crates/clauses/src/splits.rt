@@ -7,9 +7,9 @@ ghost use Rattle.std.specs.Prelude.{◌-◌, ◌<◌, ◌^◌, ◌∷◌, ◌≡
 ghost use Rattle.fancy_regex.specs.GroupTexts.{bytes_of_str};
 ghost use Rattle.fancy_regex.specs.Pieces.{first_pieces_left, pieces_left, rest_of};
 ghost use Rattle.fancy_regex.specs.Regexes.{options_in};
-ghost use Rattle.fancy_regex.specs.Remaining.{IfRefusal};
+ghost use Rattle.fancy_regex.specs.Remaining.{IfItem, IfRefusal};
 ghost use Rattle.fancy_regex.specs.Searching.{Suits};
-ghost use Rattle.fancy_regex.specs.Splits.{GivesPiece, IsRest, MovesOn, at_start, has_ended_splitn, pieces_allowed, pieces_bound, progress, searches, split_in, split_refuses_next, split_regex};
+ghost use Rattle.fancy_regex.specs.Splits.{GivesPiece, IsRest, MovesOn, at_start, has_ended_splitn, pieces_allowed, pieces_bound, progress, searches, split_allows_next, split_in, split_refuses_next, split_regex};
 
 use fancy_regex::{Regex, Result, Split, SplitN};
 
@@ -28,6 +28,7 @@ pub fn split<'r, 't>(regex: &'r Regex, text: &'t str) -> Split<'r, 't>
 pub fn next_piece<'t>(pieces: &mut Split<'_, 't>) -> Option<Result<&'t str>>
     ensures gives { GivesPiece split_refuses_next bytes_of_str (λ x. pieces_left (progress x))
         (λ x. rest_of (progress x) ∷ []) pieces.old result pieces.new }
+    ensures allowed { IfItem result (λ _. split_allows_next pieces.old) }
     ensures moves { MovesOn pieces.old result pieces.new }
     ensures refused { IfRefusal result
         ((searches pieces.old ≡ true) × (searches pieces.new ≡ false)) }
@@ -54,6 +55,8 @@ pub fn next_of_first<'t>(pieces: &mut SplitN<'_, 't>) -> Option<Result<&'t str>>
         (λ x. first_pieces_left (pieces_allowed x - 1)
         (record (progress (split_in x)) { spans = [] }))
         pieces.old result pieces.new }
+    ensures allowed { 1 < pieces_allowed pieces.old
+        → IfItem result (λ _. split_allows_next (split_in pieces.old)) }
     ensures counts { pieces_allowed pieces.new ≡ pieces_allowed pieces.old - 1 }
     ensures moves { 1 < pieces_allowed pieces.old
         → MovesOn (split_in pieces.old) result (split_in pieces.new) }
