@@ -1,6 +1,6 @@
 //! A compiled pattern: the code that is searched with, and what decides how.
 
-ghost use Rattle.std.specs.Prelude.{◌≡◌, ◌≤◌, ◌+◌, ◌*◌, ℕ, Bool, List, None, Some, IfOk, IfErr, IfSome, IsTrue, IsUtf8, chars, true, false, length, slice_get, string_bytes};
+ghost use Rattle.std.specs.Prelude.{◌≡◌, ◌≤◌, ◌+◌, ◌*◌, ℕ, Bool, List, None, Some, IfOk, IfErr, IfSome, IsTrue, IsUtf8, chars, true, false, length, string_bytes};
 ghost use Rattle.fancy_tree.specs.Pattern.{Pattern};
 ghost use Rattle.fancy_tree.specs.Names.{named_groups};
 ghost use Rattle.fancy_tree.specs.Modes.{keeps_characters};
@@ -39,6 +39,7 @@ use fancy_engine::refusal::SearchRefusal;
 use fancy_engine::search as runner;
 use fancy_engine::work::Work;
 use fancy_input::input::Request;
+use fancy_input::lines::byte_at;
 use fancy_machine::search as machine;
 use fancy_syntax::parse::{Parsed, parse_with};
 use fancy_tree::error::{CompileError, Error, Result, RuntimeError};
@@ -48,13 +49,6 @@ use std::alloc::Global;
 
 /// A haystack of fewer bytes is short.
 const SHORT_HAYSTACK: usize = 256;
-
-/// The byte at a position, if there is one.
-fn byte_at(bytes: &[u8], position: usize) -> Option<u8>
-    ensures { result ≡ slice_get bytes.now position }
-{
-    bytes.get(position).copied()
-}
 
 /// A pattern that was read and compiled under options.
 ///
