@@ -29,6 +29,8 @@ def rows():
         yield '%d nested look-aheads' % depth, 'find', '(?=' * depth + 'b' + ')' * depth, 'ab', ['true', '1..1']
         yield '%d nested stars' % depth, 'find', '(?:' * depth + 'b' + ')*' * depth, 'bb', ['true', '0..2']
         yield '%d nested classes' % depth, 'find', '[' * depth + 'b' + ']' * depth, 'ab', ['true', '1..2']
+    yield '128 groups round 128 classes', 'find', '(' * 128 + '[' * 128 + 'b' + ']' * 128 + ')' * 128, 'ab', ['true', '1..2']
+    yield '128 look-behinds round 128 classes', 'find', '(?<=' * 128 + '[' * 128 + 'b' + ']' * 128 + ')' * 128, 'ab', ['true', '2..2']
     yield '129 nested alternations', 'build', '(?:a|' * 129 + 'b' + ')' * 129, '', None
 
 

@@ -24,6 +24,7 @@ ghost use Rattle.fancy_regex.specs.ProgramSize.{IsRefusedUnder, RefusesPattern, 
 ghost use Rattle.fancy_regex.specs.Refusals.{IsRefused};
 ghost use Rattle.fancy_regex.specs.Replacing.{fixed_of};
 ghost use Rattle.fancy_regex.specs.Searches.{matches_of_input};
+ghost use Rattle.fancy_regex.specs.SetExamples.{WorkedSets};
 ghost use Rattle.fancy_regex.specs.SetMembers.{SetQuery};
 ghost use Rattle.fancy_regex.specs.Splits.{match_spans};
 ghost use Rattle.fancy_regex.specs.Templates.{literal, Cuts, ReadsDelimited, ReadsDigits, ReadsUndelimited, Step, TemplateSyntax, steps};
@@ -210,6 +211,13 @@ pub fn set_of_one_finds_as_its_pattern<S: Input>(regex: &Regex, input: &RegexInp
     ensures { FindsAsOne regex.now (S.bytes (haystack_in input.now)) (request_in input.now) }
 {
     laws::set_of_one_finds_as_its_pattern(regex, input);
+}
+
+/// A small set and small lists of tokens that are known from elsewhere.
+pub fn worked_sets()
+    ensures { WorkedSets }
+{
+    laws::worked_sets();
 }
 
 /// The tokens, joined, are the text up to the first place without one.

@@ -6,7 +6,8 @@ use Rattle.fancy_core.specs.declared.rewriting.Rewriting.{Rewriting}
 use Rattle.fancy_search.specs.declared.searcher.FoundItem.{FoundItem}
 use Rattle.fancy_core.specs.GroupTexts.{Seen}
 use Rattle.fancy_core.specs.Regexes.{program_in}
-use Rattle.fancy_search.specs.Remaining.{scan, allows_at, AllowsUpTo, item_in}
+use Rattle.fancy_search.specs.Remaining.{scan, allows_at, AllowsUpTo}
+use Rattle.fancy_search.specs.FoundItems.{item_in}
 use Rattle.fancy_core.specs.ItemLimits.{up_to, is_reached}
 use Rattle.fancy_search.specs.MatchList.{MatchItem}
 use Rattle.fancy_core.specs.Replacing.{seen_of, IsRefusedFrom}

@@ -7,7 +7,7 @@ ghost use Rattle.fancy_input.specs.Places.{is_boundary};
 ghost use Rattle.fancy_input.specs.Requests.{whole};
 ghost use Rattle.fancy_template.specs.Appended.{AddsSome, AddsText};
 ghost use Rattle.fancy_core.specs.GroupTexts.{bytes_of_str, seen_in};
-ghost use Rattle.fancy_search.specs.Remaining.{item_in, HasGroups};
+ghost use Rattle.fancy_search.specs.FoundItems.{item_in, HasGroups};
 ghost use Rattle.fancy_core.specs.ItemLimits.{limit_of, is_reached, one_fewer};
 ghost use Rattle.fancy_search.specs.MatchList.{start_of, stop_of};
 ghost use Rattle.fancy_core.specs.Regexes.{options_in};

@@ -12,3 +12,4 @@ pub mod TokenPickLemmas
 pub mod TokenLemmas
 pub mod TokenSearchLemmas
 pub mod TokenGivenLemmas
+pub mod SetExampleLemmas

@@ -10,6 +10,7 @@ pub mod SetAnswers
 pub mod SetMatches
 pub mod Tokens
 pub mod TokenLists
+pub mod SetExamples
 pub mod LongestMatches
 pub use Rattle.fancy_tree.specs.Text
 pub use Rattle.fancy_tree.specs.Modes

@@ -24,6 +24,7 @@ ghost use Rattle.fancy_regex.specs.Escapes.{escaped_pattern};
 ghost use Rattle.fancy_regex.specs.ListExamples.{WorkedLists};
 ghost use Rattle.fancy_regex.specs.Laws.{EndsInNone, FitsPlaces, Rejoins, RejoinsFirst, CountsPieces, CutsNone, KeepsPieces, FindsAsOne};
 ghost use Rattle.fancy_regex.specs.SetMembers.{SetQuery};
+ghost use Rattle.fancy_regex.specs.SetExamples.{WorkedSets};
 ghost use Rattle.fancy_regex.specs.Tokens.{CutsIntoTokens};
 ghost use Rattle.fancy_regex.specs.EscapedLiterals.{IsOfEscape, IsLiterally, FindsTextFirst, FindsTextAtStart, FindsTextInText};
 
@@ -124,6 +125,11 @@ pub fn plain_template_is_its_expansion()
 /// where there is none; and its one item there has the groups of that match.
 pub fn set_of_one_finds_as_its_pattern<S: Input>(_regex: &Regex, _input: &RegexInput<S>)
     ensures { FindsAsOne _regex.now (S.bytes (haystack_in _input.now)) (request_in _input.now) }
+{}
+
+/// The definitions give the answer of a small set, and small lists of tokens, that are known from elsewhere.
+pub fn worked_sets()
+    ensures { WorkedSets }
 {}
 
 /// What a pattern set cuts a text into, from any place on: each token is the longest of those that the patterns offer where the

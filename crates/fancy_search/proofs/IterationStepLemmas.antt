@@ -10,7 +10,8 @@ use Rattle.fancy_search.specs.declared.program.Program.{Program}
 use Rattle.fancy_search.specs.declared.searcher.FoundItem.{FoundItem}
 use Rattle.fancy_search.specs.MatchList.{Scan, MatchItem, start_of, stop_of, answer, Sound}
 use Rattle.fancy_tree.specs.declared.error.Error.{Error}
-use Rattle.fancy_search.specs.Remaining.{Standing, standing_after, PassesOver, AllowsNext, refuses_at, refused_next, allows_at, at_next, scan, item_in, upcoming, next_start, items_left, items_end}
+use Rattle.fancy_search.specs.Remaining.{Standing, standing_after, PassesOver, AllowsNext, refuses_at, refused_next, allows_at, at_next, scan, upcoming, next_start, items_left, items_end}
+use Rattle.fancy_search.specs.FoundItems.{item_in}
 use Rattle.fancy_search.proofs.RemainingLemmas.{nat_same, upcoming_if, skips, next_left, next_end}
 use Rattle.fancy_search.proofs.ScanLemmas.{scan_sound}
 

@@ -14,7 +14,8 @@ use Rattle.fancy_search.specs.declared.program.Program.{Program}
 use Rattle.fancy_search.specs.Programs.{asked_of, program_options}
 use Rattle.fancy_search.specs.Searching.{Suits}
 use Rattle.fancy_search.specs.MatchList.{Sound}
-use Rattle.fancy_search.specs.Remaining.{scan, HasGroups, program_matches, items_left, turns_left}
+use Rattle.fancy_search.specs.Remaining.{scan, program_matches, items_left, turns_left}
+use Rattle.fancy_search.specs.FoundItems.{HasGroups}
 use Rattle.fancy_search.proofs.CutLemmas.{groups_cut}
 use Rattle.fancy_search.proofs.MatchListLemmas.{few_matches}
 

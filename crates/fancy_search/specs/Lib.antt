@@ -14,6 +14,7 @@ pub mod Groups
 pub mod MatchList
 pub mod Remaining
 pub mod Searchers
+pub mod FoundItems
 pub mod ByteSets
 pub mod Starts
 pub mod KeptTables

@@ -1,18 +1,13 @@
 -- What an iteration over the matches of a program has left.
 use Rattle.std.specs.Prelude.{ℕ, zero, suc, ◌&&◌, not, length, ⊤, ◌≡◌, Bool, true, false, nat_eq, if◌then◌else◌, List, [], ◌∷◌, Option, Some, None, Result, MatchOption, MatchResult}
-use Rattle.fancy_engine.specs.declared.found.Found.{Found}
 use Rattle.fancy_input.specs.declared.span.Span.{Span}
 use Rattle.fancy_tree.specs.declared.error.Error.{Error}
 use Rattle.fancy_input.specs.declared.input.Request.{Request}
 use Rattle.fancy_input.specs.Places.{next_place}
 use Rattle.fancy_engine.specs.Search.{Query, search}
 use Rattle.fancy_search.specs.declared.program.Program.{Program}
-use Rattle.fancy_search.specs.declared.searcher.FoundItem.{FoundItem}
 use Rattle.fancy_search.specs.Programs.{asked_of}
-use Rattle.fancy_search.specs.declared.cache.Cache.{Cache}
-use Rattle.fancy_search.specs.Groups.{AreCut, spans_of}
 use Rattle.fancy_search.specs.SearchCounts.{RefusesQuery, AllowsQuery}
-use Rattle.fancy_search.specs.Cached.{found_at}
 use Rattle.fancy_search.specs.MatchList.{Scan, MatchItem, stop_of, is_empty_item, answer, unless_empty_at, start_unless_empty_at, items_from, end_from, matches, last_start}
 
 -- The iteration of a query: it is asked again from each start, with `\G` on or off, and off everywhere where the query has it off. `text` says that the haystack is text.
@@ -35,14 +30,6 @@ program_matches program text haystack r = matches (scan program text haystack r)
 -- where the search starts that finds none, at the end of these
 abbrev pub program_last_start : Program → Bool → List ℕ → Request → ℕ
 program_last_start program text haystack r = last_start (scan program text haystack r) r.start
-
--- the haystack can be cut at the groups of what was found, which the search left in this cache
-pub record HasGroups (text : Bool) (haystack : List ℕ) (found : Found) (cache : Cache) : Type 0 where
-  pub cut : (n : ℕ) → AreCut text haystack (spans_of n (found_at found cache))
-
--- what was found, with the groups that the search left in its cache
-abbrev pub item_in : Cache → FoundItem → MatchItem
-item_in cache l = record { found = found_at l.found cache; from = l.from; continues = l.continues }
 
 -- where the search after a match starts: at its end, and after an empty one at the next place
 abbrev pub next_start : Bool → List ℕ → Span → ℕ

@@ -1,15 +1,14 @@
 -- What stands for an iteration over matches: what it has left, and what it gives next. `text` and `bytes` are those of the haystack's form.
-use Rattle.std.specs.Prelude.{◌≡◌, ℕ, Bool, true, List, Option, Result}
+use Rattle.std.specs.Prelude.{◌≡◌, ℕ, Bool, true, List, Option}
 use Rattle.std.specs.Borrow.{Bor}
 use Rattle.fancy_input.specs.Spans.{from_to}
 use Rattle.fancy_tree.specs.declared.error.Error.{Error}
 use Rattle.fancy_input.specs.Places.{next_place}
 use Rattle.fancy_search.specs.declared.program.Program.{Program}
-use Rattle.fancy_search.specs.declared.cache.Cache.{Cache}
 use Rattle.fancy_search.specs.declared.searcher.FoundItem.{FoundItem}
 use Rattle.fancy_search.specs.declared.searcher.Searcher.{Searcher}
 use Rattle.fancy_search.specs.Groups.{IsCut}
-use Rattle.fancy_search.specs.Remaining.{Standing, scan, upcoming, search_start, items_left, items_end, next_start, refuses_at, refused_next, allows_at, allowed_next, item_in, HasGroups, GivesFirst}
+use Rattle.fancy_search.specs.Remaining.{Standing, scan, upcoming, search_start, items_left, items_end, next_start, refuses_at, refused_next, allows_at, allowed_next}
 use Rattle.fancy_search.specs.MatchList.{Scan, MatchItem, answer}
 
 -- what it searches, again and again
@@ -60,11 +59,6 @@ AllowsAnswer bytes program w = allows_at program (bytes w.haystack) w.request w.
 abbrev pub AllowsItem : {S : Type 0} {g : _} → (S → Bool) → (S → List ℕ) → Program → Searcher S g → Type 0
 AllowsItem text bytes program w = allowed_next program (text w.haystack) (bytes w.haystack) w.request (standing_of w)
 
--- One step: the first of the items that are left, whose groups the search left in its cache; or a refusal, after which none is left.
-abbrev pub GivesItem : {S : Type 0} {g : _} → (S → Bool) → (S → List ℕ) → Program → Cache → Searcher S g → Option (Result FoundItem Error) → Searcher S g → Type 0
-GivesItem text bytes program cache before r after =
-    GivesFirst (λ w e. RefusesItem text bytes program w e) (item_in cache) (λ w. items_of text bytes program w) before r after
-
 -- the place after another
 abbrev pub place_after : {S : Type 0} {g : _} → (S → Bool) → (S → List ℕ) → Searcher S g → ℕ → ℕ
 place_after text bytes w p = next_place (text w.haystack) (bytes w.haystack) p
@@ -76,10 +70,6 @@ start_after text bytes w i = next_start (text w.haystack) (bytes w.haystack) (fr
 -- the haystack can be cut at both ends of an item
 abbrev pub IsCutOut : {S : Type 0} {g : _} → (S → Bool) → (S → List ℕ) → Searcher S g → FoundItem → Type 0
 IsCutOut text bytes w i = IsCut (text w.haystack) (bytes w.haystack) i.found.start i.found.end
-
--- and at the ends of the groups of an item, which the search left in its cache
-abbrev pub HasGroupsOf : {S : Type 0} {g : _} → (S → Bool) → (S → List ℕ) → Searcher S g → FoundItem → Cache → Type 0
-HasGroupsOf text bytes w i cache = HasGroups (text w.haystack) (bytes w.haystack) i.found cache
 
 -- the items that an iteration over a text has left
 abbrev pub left_of : {g : _} → Program → Searcher (Bor (List ℕ)) g → List MatchItem

@@ -9,7 +9,7 @@ ghost use Rattle.fancy_bytes.specs.Lacks.{AreKnown};
 ghost use Rattle.fancy_search.specs.Searching.{Suits};
 ghost use Rattle.fancy_search.specs.declared.cache.Cache.{Cache};
 ghost use Rattle.fancy_search.specs.declared.program.Program.{Program};
-ghost use Rattle.fancy_search.specs.Remaining.{standing_after, item_in, EndsUnlessOk, IfItem, IfRefusal, UnlessRefusal};
+ghost use Rattle.fancy_search.specs.Remaining.{standing_after, EndsUnlessOk, IfItem, IfRefusal, UnlessRefusal};
 
 use crate::cache::{Cache, Kept};
 use crate::program::Program;
@@ -57,7 +57,8 @@ pub struct Searcher<S: Haystack> {
 
 impl<S: Input> Searcher<S> {
     ghost use Rattle.fancy_search.specs.KeptTables.{KeepsFrom, Keeps};
-    ghost use Rattle.fancy_search.specs.Searchers.{IsCutOut, HasGroupsOf, GivesItem, KeepsEnd, scan_of, standing_of, answer_next, item_next, start_next, end_of_items, place_after, start_after, RefusesAnswer, RefusesItem, AllowsAnswer, AllowsItem};
+    ghost use Rattle.fancy_search.specs.Searchers.{IsCutOut, KeepsEnd, scan_of, standing_of, answer_next, item_next, start_next, end_of_items, place_after, start_after, RefusesAnswer, RefusesItem, AllowsAnswer, AllowsItem};
+    ghost use Rattle.fancy_search.specs.FoundItems.{item_in, HasGroupsOf, GivesItem};
 
     /// The iteration of `input`.
     pub fn new(input: RegexInput<S>) -> Searcher<S>

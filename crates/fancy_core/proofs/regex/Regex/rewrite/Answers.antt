@@ -2,7 +2,7 @@ use Rattle.std.proofs.Common.{rules, false, List, ℕ, ◌≡◌, [], ◌∷◌,
 use Rattle.std.specs.Prelude.{◌⊎◌}
 use Rattle.std.proofs.lemmas.Result.{err_from_is_err_and}
 use Rattle.fancy_tree.specs.declared.error.Error.TheVariants.{Memory}
-use Rattle.fancy_search.specs.Remaining.{item_in}
+use Rattle.fancy_search.specs.FoundItems.{item_in}
 use Rattle.fancy_search.specs.MatchList.{MatchItem, start_of}
 use Rattle.fancy_core.specs.ItemLimits.{is_reached}
 use Rattle.fancy_core.specs.Replacing.{IsRefusedFrom, IsRefusedBetweenCalls, seen_of}

@@ -1,6 +1,6 @@
 use Rattle.std.proofs.Common.{rules, refl, sym, ◌∙◌, ap}
 use Rattle.fancy_input.specs.declared.input.Request.{Request}
-use Rattle.fancy_search.specs.Remaining.{item_in}
+use Rattle.fancy_search.specs.FoundItems.{item_in}
 use Rattle.fancy_search.specs.Searchers.{scan_of, standing_of}
 use Rattle.fancy_search.proofs.IterationStepLemmas.{gives, scan_after, stands_after}
 use Rattle.fancy_search.proofs.ScanLemmas.{scan_sound}

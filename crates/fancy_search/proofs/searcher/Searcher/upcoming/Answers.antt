@@ -1,5 +1,5 @@
 use Rattle.std.proofs.Common.{rules, refl, sym, ◌∙◌, arith}
-use Rattle.fancy_search.specs.Remaining.{item_in}
+use Rattle.fancy_search.specs.FoundItems.{item_in}
 use Rattle.fancy_search.specs.Searchers.{standing_of}
 use Rattle.fancy_search.proofs.ResultLemmas.{if_err, if_ok}
 use Rattle.fancy_search.proofs.IterationStepLemmas.{passes, refuses_passed, allows_passed}
