@@ -17,18 +17,18 @@ use Rattle.fancy_regex.specs.Tokens.{token_at, tokens_from}
 use Rattle.fancy_regex.specs.SetExamples.{SearchesFor, WorkedSet, WorkedTie, WorkedSets}
 
 -- the same in a request
-asked_in : Pattern → List ℕ → Request → Query
+abbrev asked_in : Pattern → List ℕ → Request → Query
 asked_in p t w = record (example_query p 1 t) { request = w }
 
 -- anchored at a place
-at_place : List ℕ → ℕ → Request
+abbrev at_place : List ℕ → ℕ → Request
 at_place t i = record (whole t) { start = i; anchored = true }
 
 answers : (p : Pattern) (r : Regex) → SearchesFor p r → (t : List ℕ) (w : Request) (i : ℕ) → answer_at (query r t w) i ≡ answer_at (asked_in p t w) i
 answers p r e t w i = ap (λ (s : Sought). answer_at (record { sought = s; haystack = t; request = w; continues = true }) i) e
 
 -- the whole match of a pattern without groups
-spanning : ℕ → ℕ → Option State
+abbrev spanning : ℕ → ℕ → Option State
 spanning from to = Some (record { place = to; captures = None ∷ []; kept = from })
 
 ab_at_0 : answer_at (asked_in (followed a b) (codes "xab") (whole (codes "xab"))) 0 ≡ None
