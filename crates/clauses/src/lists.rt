@@ -156,8 +156,12 @@ pub fn reads_captures<'r, S: Input>(
     (matches.regex(), matches.text(), matches.input())
 }
 
-/// Loops over the matches end.
-pub fn ends<S: Input>(matches: Matches<'_, S>, captures: CaptureMatches<'_, S>) {
+/// A loop over the matches ends.
+pub fn ends<S: Input>(matches: Matches<'_, S>) {
     for _ in matches {}
-    for _ in captures {}
+}
+
+/// So does one over the matches with their groups.
+pub fn ends_with_groups<S: Input>(matches: CaptureMatches<'_, S>) {
+    for _ in matches {}
 }
