@@ -3,13 +3,13 @@
 //! `progress` says how far a split has come: its text, where the last match ended, the spans of the matches that are left, and
 //! whether the rest was given. `searches` says whether a search may still be made.
 
-ghost use Rattle.std.specs.Prelude.{◌-◌, ◌<◌, ◌^◌, ◌∷◌, ◌≡◌, MatchOption, [], false, true};
-ghost use Rattle.fancy_regex.specs.GroupTexts.{bytes_of_str};
-ghost use Rattle.fancy_regex.specs.Pieces.{first_pieces_left, pieces_left, rest_of};
+ghost use Rattle.std.specs.Prelude.{◌-◌, ◌<◌, ◌^◌, ◌∷◌, ◌≡◌, IfNone, MatchOption, [], false, true, ⊤};
+ghost use Rattle.fancy_regex.specs.NextAnswers.{ByAnswer};
+ghost use Rattle.fancy_regex.specs.Pieces.{past_piece, pieces_left, rest_of};
 ghost use Rattle.fancy_regex.specs.Regexes.{options_in};
 ghost use Rattle.fancy_regex.specs.Remaining.{IfItem, IfRefusal};
 ghost use Rattle.fancy_regex.specs.Searching.{Suits};
-ghost use Rattle.fancy_regex.specs.Splits.{GivesPiece, IsRest, MovesOn, at_start, has_ended_splitn, pieces_allowed, pieces_bound, progress, searches, split_allows_next, split_in, split_refuses_next, split_regex};
+ghost use Rattle.fancy_regex.specs.Splits.{GivesPiece, GivesRest, RefusesPiece, at_start, first_left, has_ended_splitn, pieces_allowed, pieces_bound, progress, searches, split_allows_next, split_in, split_refuses_next, split_regex};
 
 use fancy_regex::{Regex, Result, Split, SplitN};
 
@@ -26,10 +26,14 @@ pub fn split<'r, 't>(regex: &'r Regex, text: &'t str) -> Split<'r, 't>
 
 /// The next piece.
 pub fn next_piece<'t>(pieces: &mut Split<'_, 't>) -> Option<Result<&'t str>>
-    ensures gives { GivesPiece split_refuses_next bytes_of_str (λ x. pieces_left (progress x))
-        (λ x. rest_of (progress x) ∷ []) pieces.old result pieces.new }
+    ensures gives { ByAnswer result (pieces_left (progress pieces.old) ≡ [])
+        (λ x. pieces_left (progress pieces.old) ≡ x.now ∷ pieces_left (progress pieces.new))
+        (λ e. split_refuses_next pieces.old e
+        × (pieces_left (progress pieces.new) ≡ rest_of (progress pieces.old) ∷ [])) }
     ensures allowed { IfItem result (λ _. split_allows_next pieces.old) }
-    ensures moves { MovesOn pieces.old result pieces.new }
+    ensures moves { ByAnswer result (progress pieces.new ≡ progress pieces.old)
+        (λ _. progress pieces.new ≡ past_piece (progress pieces.old))
+        (λ _. progress pieces.new ≡ record (progress pieces.old) { spans = [] }) }
     ensures refused { IfRefusal result
         ((searches pieces.old ≡ true) × (searches pieces.new ≡ false)) }
     ensures regex { split_regex pieces.new ≡ split_regex pieces.old }
@@ -50,22 +54,22 @@ pub fn splitn<'r, 't>(regex: &'r Regex, text: &'t str, limit: usize) -> SplitN<'
 
 /// The next of these.
 pub fn next_of_first<'t>(pieces: &mut SplitN<'_, 't>) -> Option<Result<&'t str>>
-    ensures gives { GivesPiece (λ x e. split_refuses_next (split_in x) e) bytes_of_str
-        (λ x. first_pieces_left (pieces_allowed x) (progress (split_in x)))
-        (λ x. first_pieces_left (pieces_allowed x - 1)
-        (record (progress (split_in x)) { spans = [] }))
-        pieces.old result pieces.new }
-    ensures allowed { 1 < pieces_allowed pieces.old
-        → IfItem result (λ _. split_allows_next (split_in pieces.old)) }
+    ensures gives { ByAnswer result (first_left pieces.old ≡ [])
+        (λ x. first_left pieces.old ≡ x.now ∷ first_left pieces.new)
+        (λ e. split_refuses_next (split_in pieces.old) e
+        × (first_left pieces.new ≡ rest_of (progress (split_in pieces.old)) ∷ [])) }
+    ensures next { IfItem result (λ x. 1 < pieces_allowed pieces.old
+        → GivesPiece x.now (split_in pieces.old) (split_in pieces.new)) }
+    ensures rest { IfItem result (λ x. pieces_allowed pieces.old ≡ 1
+        → GivesRest x.now (split_in pieces.old) (split_in pieces.new)) }
+    ensures refused { ByAnswer result ⊤ (λ _. ⊤) (λ e. (1 < pieces_allowed pieces.old)
+        × RefusesPiece e (split_in pieces.old) (split_in pieces.new)) }
     ensures counts { pieces_allowed pieces.new ≡ pieces_allowed pieces.old - 1 }
-    ensures moves { 1 < pieces_allowed pieces.old
-        → MovesOn (split_in pieces.old) result (split_in pieces.new) }
-    ensures rests { pieces_allowed pieces.old ≡ 1
-        → IsRest bytes_of_str (split_in pieces.old) result (split_in pieces.new) }
-    ensures refused { IfRefusal result ((1 < pieces_allowed pieces.old)
-        × (searches (split_in pieces.old) ≡ true) × (searches (split_in pieces.new) ≡ false)) }
     ensures ends { MatchOption result (has_ended_splitn pieces.new ≡ true)
         (λ _. has_ended_splitn pieces.old ≡ false) }
+    ensures stays { IfNone result
+        ((progress (split_in pieces.new) ≡ progress (split_in pieces.old))
+        × (searches (split_in pieces.new) ≡ searches (split_in pieces.old))) }
     ensures regex { split_regex (split_in pieces.new) ≡ split_regex (split_in pieces.old) }
 {
     pieces.next()

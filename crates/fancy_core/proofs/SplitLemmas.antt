@@ -2,6 +2,7 @@
 use Rattle.std.proofs.Common.{arith, ℕ, zero, suc, ◌+◌, ◌-◌, ◌<◌, ◌≤◌, ◌^◌, ◌≡◌, ◌==◌, Bool, true, false, max, List, [], ◌∷◌, length, take, slice_range, Option, None, Some, Result, refl, ap}
 use Rattle.std.proofs.lemmas.Bool.Decides.{nat_tests}
 use Rattle.std.specs.Prelude.{Ok, Err}
+use Rattle.std.specs.Borrow.{Bor}
 use Rattle.fancy_input.specs.declared.span.Span.{Span}
 use Rattle.fancy_tree.specs.declared.error.Error.{Error}
 use Rattle.fancy_input.specs.declared.input.Request.{Request}
@@ -50,27 +51,34 @@ unended s more e =
     let some : (s.limit == 0) ≡ false = grind (arith, nat_tests) in
     rw (some, e) refl
 
+-- with no match left the rest is the one piece, also where the limit allows more
+rest_left : (l : ℕ) (t : List ℕ) (last : ℕ) (ended : Bool) (q : Progress) → 1 < l → ended ≡ false → q ≡ record { text = t; last = last; spans = []; ended = ended } → first_pieces_left (l - 1) q ≡ slice_range t last (length t) ∷ []
+rest_left zero t last ended q more e m = absurd (omega arith)
+rest_left (suc zero) t last ended q more e m = absurd (omega arith)
+rest_left (suc (suc zero)) t last ended q more e m = rw (m, e) refl
+rest_left (suc (suc (suc n))) t last ended q more e m = rw (m, e, sub-one_more (suc n)) refl
+
 -- a step of the pieces is a step of the first pieces, where the limit allows more than one
-pub next_of_first : {A : Type 0} (bytes : A → List ℕ) (s : SplitN) (r : Option (Result A Error)) (t : Split) → 1 < s.limit → s.split.ended ≡ false → IsNextPiece bytes s.split r t →
-    IsNextOfFirst bytes s r (record { split = t; limit = s.limit - 1 })
-next_of_first bytes s None t more e h = absurd (some_left _ _ _ _ e h.gives.0)
-next_of_first bytes s (Some (Ok x)) t more e h = record {
-  gives = first_gives s.limit _ _ _ _ (progress t) (bytes x) more e h.moves h.gives;
-  allowed = λ _. h.allowed;
+pub next_of_first : (s : SplitN) (r : Option (Result (Bor (List ℕ)) Error)) (t : Split) → 1 < s.limit → s.split.ended ≡ false → IsNextPiece s.split r t →
+    IsNextOfFirst s r (record { split = t; limit = s.limit - 1 })
+next_of_first s None t more e h = absurd (some_left _ _ _ _ e h.answers.none)
+next_of_first s (Some (Ok x)) t more e h = record {
+  answers = record {
+    unended = unended s more e;
+    first = first_gives s.limit _ _ _ _ (progress t) x.now more e h.answers.moves h.answers.first;
+    next = λ _. h.answers;
+    rest = λ one. absurd (omega (arith, more, one));
+  };
   counts = refl;
-  moves = λ _. h.moves;
-  rests = λ one. absurd (omega (arith, more, one));
-  refuses = tt;
   same_regex = h.same_regex;
-  ends = unended s more e;
 }
-next_of_first bytes s (Some (Err z)) t more e h = record {
-  gives = (h.gives.0, ap (first_pieces_left (s.limit - 1)) h.moves);
-  allowed = λ _. tt;
+next_of_first s (Some (Err z)) t more e h = record {
+  answers = record {
+    unended = unended s more e;
+    more = more;
+    refused = h.answers;
+    rest = rest_left s.limit _ _ s.split.ended (progress t) more e h.answers.moves;
+  };
   counts = refl;
-  moves = λ _. h.moves;
-  rests = λ one. absurd (omega (arith, more, one));
-  refuses = (more, h.refuses.0, h.refuses.1);
   same_regex = h.same_regex;
-  ends = unended s more e;
 }

@@ -4,6 +4,7 @@ pub mod Captures
 pub mod CaptureNames
 pub mod Built
 pub mod Searches
+pub mod NextAnswers
 pub mod Iterations
 pub mod CaptureIterations
 pub mod GroupTexts

@@ -1,5 +1,6 @@
 -- What stands for an iterator over the pieces of a text.
-use Rattle.std.specs.Prelude.{◌≡◌, ◌<◌, ◌-◌, ◌==◌, ◌||◌, ℕ, zero, suc, Bool, true, false, not, List, [], ◌∷◌, map, Option, Result, MatchOption, MatchResult, ⊤}
+use Rattle.std.specs.Prelude.{◌≡◌, ◌<◌, ◌-◌, ◌==◌, ◌||◌, ℕ, zero, suc, Bool, true, false, not, List, [], ◌∷◌, map, Option, Result}
+use Rattle.std.specs.Borrow.{Bor}
 use Rattle.fancy_input.specs.declared.span.Span.{Span}
 use Rattle.fancy_tree.specs.declared.error.Error.{Error}
 use Rattle.fancy_core.specs.declared.regex.Regex.{Regex}
@@ -7,7 +8,8 @@ use Rattle.fancy_core.specs.declared.split.Split.{Split}
 use Rattle.fancy_core.specs.declared.split.limited.SplitN.{SplitN}
 use Rattle.fancy_core.specs.Regexes.{program_in}
 use Rattle.fancy_search.specs.MatchList.{span_of_item}
-use Rattle.fancy_search.specs.Remaining.{turns_left, refused_next, allowed_next, IfItem}
+use Rattle.fancy_search.specs.Remaining.{turns_left, refused_next, allowed_next}
+use Rattle.fancy_core.specs.NextAnswers.{ByAnswer}
 use Rattle.fancy_core.specs.Replacing.{all_matches}
 use Rattle.fancy_core.specs.Pieces.{Progress, pieces_left, first_pieces_left, past_piece, rest_of}
 use Rattle.fancy_search.specs.Searchers.{left_of, standing_of}
@@ -52,23 +54,28 @@ split_refuses_next s e = refused_next (program_in s.regex.now) true s.searcher.h
 abbrev pub split_allows_next : Split → Type 0
 split_allows_next s = allowed_next (program_in s.regex.now) true s.searcher.haystack.now s.searcher.request (standing_of s.searcher)
 
--- One step over the list `rest`: the first of it, or a refusal of the next search, after which the list `after` is left.
-abbrev pub GivesPiece : {S A : Type 0} → (S → Error → Type 0) → (A → List ℕ) → (S → List (List ℕ)) → (S → List (List ℕ)) → S → Option (Result A Error) → S → Type 0
-GivesPiece refuses bytes rest after s r t = MatchOption r ((rest s ≡ []) × (rest t ≡ [])) (λ item. MatchResult item (λ x. rest s ≡ bytes x ∷ rest t) (λ e. refuses s e × (rest t ≡ after s)))
+-- The end: no piece was left, and nothing changes.
+pub record EndsPieces (s t : Split) : Type 0 where
+  pub none : pieces_left (progress s) ≡ []
+  pub stays : progress t ≡ progress s
 
--- a step goes on past the piece that it gives; after a refusal no matches are left, and nothing is searched any more
-abbrev pub MovesOn : {A : Type 0} → Split → Option (Result A Error) → Split → Type 0
-MovesOn s r t = MatchOption r (progress t ≡ progress s) (λ item. MatchResult item (λ x. progress t ≡ past_piece (progress s)) (λ e. progress t ≡ record (progress s) { spans = [] }))
+-- This piece, the first of those that were left. It stands only where the searches that it rests on kept within their limits.
+pub record GivesPiece (piece : List ℕ) (s t : Split) : Type 0 where
+  pub first : pieces_left (progress s) ≡ piece ∷ pieces_left (progress t)
+  pub moves : progress t ≡ past_piece (progress s)
+  pub allowed : split_allows_next s
 
--- One call of `next`, from s to t. A piece has the bytes `bytes`.
-pub record IsNextPiece {A : Type 0} (bytes : A → List ℕ) (s : Split) (r : Option (Result A Error)) (t : Split) : Type 0 where
-  -- the first of the pieces that are left, or a refusal, after which the rest from the last end is left
-  pub gives : GivesPiece split_refuses_next bytes (λ x. pieces_left (progress x)) (λ x. rest_of (progress x) ∷ []) s r t
-  -- a piece stands only where the searches that it rests on kept within their limits
-  pub allowed : IfItem r (λ _. split_allows_next s)
-  pub moves : MovesOn s r t
-  -- a refusal is that of a search, and the last one
-  pub refuses : MatchOption r ⊤ (λ item. MatchResult item (λ _. ⊤) (λ _. (searches s ≡ true) × (searches t ≡ false)))
+-- A refusal of the next search, which is the last one. No matches are left after it, and one piece: the rest from the last end on.
+pub record RefusesPiece (error : Error) (s t : Split) : Type 0 where
+  pub refused : split_refuses_next s error
+  pub rest : pieces_left (progress t) ≡ rest_of (progress s) ∷ []
+  pub moves : progress t ≡ record (progress s) { spans = [] }
+  pub searched : searches s ≡ true
+  pub last : searches t ≡ false
+
+-- One call of `next`, from s to t.
+pub record IsNextPiece (s : Split) (r : Option (Result (Bor (List ℕ)) Error)) (t : Split) : Type 0 where
+  pub answers : ByAnswer r (EndsPieces s t) (λ x. GivesPiece x.now s t) (λ e. RefusesPiece e s t)
   pub same_regex : split_regex t ≡ split_regex s
 
 -- the pieces without their limit
@@ -83,25 +90,41 @@ pieces_allowed s = s.limit
 abbrev pub has_ended_splitn : SplitN → Bool
 has_ended_splitn s = (pieces_allowed s == 0) || (progress (split_in s)).ended
 
--- One call of `next`, from s to t, gives the rest, or nothing where that was given, and never a refusal. Nothing is searched
--- for it: the matches that were left are left still, and so is the search that finds none.
-pub record IsRest {A : Type 0} (bytes : A → List ℕ) (s : Split) (r : Option (Result A Error)) (t : Split) : Type 0 where
-  pub gives : MatchOption r ((progress s).ended ≡ true)
-      (λ item. MatchResult item (λ x. ((progress s).ended ≡ false) × (bytes x ≡ rest_of (progress s))) (λ e. ⊥))
+-- the pieces that are left of so many
+abbrev pub first_left : SplitN → List (List ℕ)
+first_left s = first_pieces_left (pieces_allowed s) (progress (split_in s))
+
+-- The last piece that the limit allows: the rest, for which nothing is searched. The matches that were left are left still, and so
+-- is the search that finds none.
+pub record GivesRest (piece : List ℕ) (s t : Split) : Type 0 where
+  pub unended : (progress s).ended ≡ false
+  pub whole : piece ≡ rest_of (progress s)
   pub stays : progress t ≡ record (progress s) { ended = true }
   pub unsearched : searches t ≡ searches s
 
--- One call of `next`, from s to t. A piece has the bytes `bytes`.
-pub record IsNextOfFirst {A : Type 0} (bytes : A → List ℕ) (s : SplitN) (r : Option (Result A Error)) (t : SplitN) : Type 0 where
-  -- the first of the pieces that are left, or a refusal, after which the rest from the last end is left
-  pub gives : GivesPiece (λ x e. split_refuses_next (split_in x) e) bytes (λ x. first_pieces_left (pieces_allowed x) (progress (split_in x))) (λ x. first_pieces_left (pieces_allowed x - 1) (record (progress (split_in x)) { spans = [] })) s r t
-  -- a piece stands only where the searches that it rests on kept within their limits; the last that may come rests on none
-  pub allowed : 1 < pieces_allowed s → IfItem r (λ _. split_allows_next (split_in s))
+-- The end: no piece was left, and nothing changes but the limit.
+pub record EndsOfFirst (s t : SplitN) : Type 0 where
+  pub none : first_left s ≡ []
+  pub ended : has_ended_splitn t ≡ true
+  pub stays : progress (split_in t) ≡ progress (split_in s)
+  pub unsearched : searches (split_in t) ≡ searches (split_in s)
+
+-- This piece, the first of those that were left: the next of all pieces, or the rest, where no more may come.
+pub record GivesOfFirst (piece : List ℕ) (s t : SplitN) : Type 0 where
+  pub unended : has_ended_splitn s ≡ false
+  pub first : first_left s ≡ piece ∷ first_left t
+  pub next : 1 < pieces_allowed s → GivesPiece piece (split_in s) (split_in t)
+  pub rest : pieces_allowed s ≡ 1 → GivesRest piece (split_in s) (split_in t)
+
+-- A refusal as of all pieces, while more than one may come. The rest from the last end on is left.
+pub record RefusesOfFirst (error : Error) (s t : SplitN) : Type 0 where
+  pub unended : has_ended_splitn s ≡ false
+  pub more : 1 < pieces_allowed s
+  pub refused : RefusesPiece error (split_in s) (split_in t)
+  pub rest : first_left t ≡ rest_of (progress (split_in s)) ∷ []
+
+-- One call of `next`, from s to t. Whatever it answers uses one of the limit.
+pub record IsNextOfFirst (s : SplitN) (r : Option (Result (Bor (List ℕ)) Error)) (t : SplitN) : Type 0 where
+  pub answers : ByAnswer r (EndsOfFirst s t) (λ x. GivesOfFirst x.now s t) (λ e. RefusesOfFirst e s t)
   pub counts : pieces_allowed t ≡ pieces_allowed s - 1
-  pub moves : 1 < pieces_allowed s → MovesOn (split_in s) r (split_in t)
-  -- the last piece that may come is the rest
-  pub rests : pieces_allowed s ≡ 1 → IsRest bytes (split_in s) r (split_in t)
-  pub refuses : MatchOption r ⊤ (λ item. MatchResult item (λ _. ⊤) (λ _. (1 < pieces_allowed s) × (searches (split_in s) ≡ true) × (searches (split_in t) ≡ false)))
-  -- after the end nothing comes
-  pub ends : MatchOption r (has_ended_splitn t ≡ true) (λ _. has_ended_splitn s ≡ false)
   pub same_regex : split_regex (split_in t) ≡ split_regex (split_in s)

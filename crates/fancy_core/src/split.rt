@@ -99,7 +99,7 @@ impl<'r, 't> Iterator for Split<'r, 't> {
 
     type Item = Result<&'t str>;
 
-    ghost next_gives = { IsNextPiece (λ (x : Bor (List ℕ)). x.now) };
+    ghost next_gives = { IsNextPiece };
 
     ghost remaining = { λ s. at_most (pieces_bound s) };
 

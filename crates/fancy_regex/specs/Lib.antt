@@ -61,6 +61,7 @@ pub use Rattle.fancy_core.specs.CaptureNames
 pub use Rattle.fancy_core.specs.GroupTexts
 pub use Rattle.fancy_search.specs.MatchList
 pub use Rattle.fancy_search.specs.Remaining
+pub use Rattle.fancy_core.specs.NextAnswers
 pub use Rattle.fancy_core.specs.Iterations
 pub use Rattle.fancy_core.specs.CaptureIterations
 pub use Rattle.fancy_core.specs.Pieces

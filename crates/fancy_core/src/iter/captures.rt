@@ -103,7 +103,7 @@ impl<'r, S: Input> Iterator for CaptureMatches<'r, S> {
 
     type Item = Result<Captures<'r, S>>;
 
-    ghost next_gives = { IsNextCaptures S.text S.bytes (λ c. spans_in c) (λ c. searched_in c) (λ c. found_by c) };
+    ghost next_gives = { IsNextCaptures S.text S.bytes };
 
     ghost remaining = { λ m. at_most (items_bound S.text S.bytes (matches_in m)) };
 

@@ -1,7 +1,6 @@
 //! The first pieces of a text between matches.
 
-ghost use Rattle.std.specs.Prelude.{◌≡◌, true, false, List, ℕ};
-ghost use Rattle.std.specs.Borrow.{Bor};
+ghost use Rattle.std.specs.Prelude.{◌≡◌, true, false};
 ghost use Rattle.std.specs.Iterator.{at_most};
 ghost use Rattle.fancy_core.specs.Regexes.{options_in};
 ghost use Rattle.fancy_search.specs.Searching.{Suits};
@@ -50,7 +49,7 @@ impl<'r, 't> Iterator for SplitN<'r, 't> {
 
     type Item = Result<&'t str>;
 
-    ghost next_gives = { IsNextOfFirst (λ (x : Bor (List ℕ)). x.now) };
+    ghost next_gives = { IsNextOfFirst };
 
     ghost remaining = { λ s. at_most (pieces_allowed s) };
 

@@ -6,9 +6,12 @@ returns-in-Some-Err-clause-steps c =
     let steps = rw c.in-Some-Err.field-0-is at c.in-Some-Err.ensures.steps in
     let ends = rw c.in-Some-Err.field-0-is at c.in-Some-Err.ensures.ends in
     record {
-      gives = (steps.0, rw (steps.1, c.in-Some-Err.ensures.haystack, c.if-self.false) refl);
-      allowed = tt;
-      moves = rw (steps.1, c.in-Some-Err.ensures.haystack) refl;
-      refuses = (rw c.in-Some-Err.ensures.open refl, rw ends refl);
+      answers = record {
+        refused = steps.0;
+        rest = rw (steps.1, c.in-Some-Err.ensures.haystack, c.if-self.false) refl;
+        moves = rw (steps.1, c.in-Some-Err.ensures.haystack) refl;
+        searched = rw c.in-Some-Err.ensures.open refl;
+        last = rw ends refl;
+      };
       same_regex = refl;
     }

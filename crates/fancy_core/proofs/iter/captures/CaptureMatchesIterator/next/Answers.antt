@@ -10,16 +10,16 @@ pub returns-in-Some-Err-clause-steps : goal.returns-in-Some-Err-clause-steps
 returns-in-Some-Err-clause-steps g c =
     let steps = rw c.in-Some-Err.field-0-is at c.in-Some-Err.ensures.steps in
     record {
-      gives = (steps.0, rw steps.1 refl);
-      allowed = tt;
-      within_text = tt;
-      within_regex = tt;
-      same_regex = refl;
-      same_text = c.in-Some-Err.ensures.haystack;
-      same_request = c.in-Some-Err.ensures.request;
-      refuses = rw c.in-Some-Err.field-0-is at c.in-Some-Err.ensures.refused;
-      keeps_end = tt;
-      rests = tt;
-      ends = rw c.in-Some-Err.field-0-is at c.in-Some-Err.ensures.ends;
-      unended = c.in-Some-Err.ensures.open;
+      answers = record {
+        unended = c.in-Some-Err.ensures.open;
+        refused = steps.0;
+        moves = rw c.in-Some-Err.field-0-is at c.in-Some-Err.ensures.refused;
+        left = steps.1;
+        ended = rw c.in-Some-Err.field-0-is at c.in-Some-Err.ensures.ends;
+      };
+      same = record {
+        same_regex = refl;
+        same_text = c.in-Some-Err.ensures.haystack;
+        same_request = c.in-Some-Err.ensures.request;
+      };
     }
