@@ -1,7 +1,8 @@
 //! Texts with their matches replaced, and what replaces them.
 //!
 //! `R.fixed` is the one text that a replacer has for all matches, if it has one, `R.appends` what a call of it may append, and
-//! `R.refuses` what a call may refuse with. `first_matches` are the matches that a limit takes: all of them for 0.
+//! `R.refuses` what a call may refuse with. `replacing` puts these together with the regex, the text and the limit, which takes all
+//! matches where it is 0.
 
 ghost use Rattle.std.specs.Cow.{IsBorrowedStr, cow_str_bytes};
 ghost use Rattle.std.specs.Prelude.{◌↔◌, ◌≡◌, ◌⊎◌, Err, IfErr, IfOk, None, Ok, OnErr, OnOk, Some, [], chars, false, option_map, string_bytes, true};
@@ -9,7 +10,7 @@ ghost use Rattle.fancy_regex.specs.Appended.{AddsSome};
 ghost use Rattle.fancy_regex.specs.Escapes.{escape_of, has_special};
 ghost use Rattle.fancy_regex.specs.GroupTexts.{bytes_of_str, seen_in, seen_in_str};
 ghost use Rattle.fancy_regex.specs.Regexes.{options_in};
-ghost use Rattle.fancy_regex.specs.Replacing.{Expands, Fails, FailsBy, Replaces, ReplacesBy, all_matches, fixed_of};
+ghost use Rattle.fancy_regex.specs.Replacing.{Fails, FailsBy, Replaces, ReplacesBy, all_matches, replacing, with_template, with_text};
 ghost use Rattle.fancy_regex.specs.Searching.{Suits};
 ghost use Rattle.fancy_regex.specs.declared.Error.TheVariants.{Memory};
 
@@ -29,8 +30,10 @@ pub fn replace<'t, R: Replacer + Drop>(
     requires callable { R.callable replacer }
     ensures borrowed { IfOk result (λ t. IsBorrowedStr t ↔ (all_matches regex.now text.now ≡ [])) }
     ensures kept { IfOk result (λ t. IsBorrowedStr t → cow_str_bytes t ≡ text.now) }
-    ensures text { ReplacesBy R.fixed R.appends regex.now text.now 1 replacer result }
-    ensures refused { FailsBy R.fixed R.appends R.refuses regex.now text.now 1 replacer result }
+    ensures text { ReplacesBy
+        (replacing R.fixed R.appends R.refuses regex.now text.now 1) replacer result }
+    ensures refused { FailsBy
+        (replacing R.fixed R.appends R.refuses regex.now text.now 1) replacer result }
 {
     regex.replace(text, replacer)
 }
@@ -45,8 +48,10 @@ pub fn replace_all<'t, R: Replacer + Drop>(
     requires callable { R.callable replacer }
     ensures borrowed { IfOk result (λ t. IsBorrowedStr t ↔ (all_matches regex.now text.now ≡ [])) }
     ensures kept { IfOk result (λ t. IsBorrowedStr t → cow_str_bytes t ≡ text.now) }
-    ensures text { ReplacesBy R.fixed R.appends regex.now text.now 0 replacer result }
-    ensures refused { FailsBy R.fixed R.appends R.refuses regex.now text.now 0 replacer result }
+    ensures text { ReplacesBy
+        (replacing R.fixed R.appends R.refuses regex.now text.now 0) replacer result }
+    ensures refused { FailsBy
+        (replacing R.fixed R.appends R.refuses regex.now text.now 0) replacer result }
 {
     regex.replace_all(text, replacer)
 }
@@ -62,8 +67,10 @@ pub fn replacen<'t, R: Replacer + Drop>(
     requires callable { R.callable replacer }
     ensures borrowed { IfOk result (λ t. IsBorrowedStr t ↔ (all_matches regex.now text.now ≡ [])) }
     ensures kept { IfOk result (λ t. IsBorrowedStr t → cow_str_bytes t ≡ text.now) }
-    ensures text { ReplacesBy R.fixed R.appends regex.now text.now limit replacer result }
-    ensures refused { FailsBy R.fixed R.appends R.refuses regex.now text.now limit replacer result }
+    ensures text { ReplacesBy
+        (replacing R.fixed R.appends R.refuses regex.now text.now limit) replacer result }
+    ensures refused { FailsBy
+        (replacing R.fixed R.appends R.refuses regex.now text.now limit) replacer result }
 {
     regex.replacen(text, limit, replacer)
 }
@@ -79,8 +86,10 @@ pub fn try_replacen<'t, R: Replacer + Drop>(
     requires callable { R.callable replacer }
     ensures borrowed { IfOk result (λ t. IsBorrowedStr t ↔ (all_matches regex.now text.now ≡ [])) }
     ensures kept { IfOk result (λ t. IsBorrowedStr t → cow_str_bytes t ≡ text.now) }
-    ensures text { ReplacesBy R.fixed R.appends regex.now text.now limit replacer result }
-    ensures refused { FailsBy R.fixed R.appends R.refuses regex.now text.now limit replacer result }
+    ensures text { ReplacesBy
+        (replacing R.fixed R.appends R.refuses regex.now text.now limit) replacer result }
+    ensures refused { FailsBy
+        (replacing R.fixed R.appends R.refuses regex.now text.now limit) replacer result }
 {
     regex.try_replacen(text, limit, replacer)
 }
@@ -96,8 +105,10 @@ pub fn try_replacen_by<'t, R: Replacer>(
     requires callable { R.callable replacer.old }
     ensures borrowed { IfOk result (λ t. IsBorrowedStr t ↔ (all_matches regex.now text.now ≡ [])) }
     ensures kept { IfOk result (λ t. IsBorrowedStr t → cow_str_bytes t ≡ text.now) }
-    ensures text { Replaces R.fixed R.appends regex.now text.now limit replacer.old replacer.new result }
-    ensures refused { Fails R.fixed R.appends R.refuses regex.now text.now limit replacer.old replacer.new result }
+    ensures text { Replaces (replacing R.fixed R.appends R.refuses regex.now text.now limit)
+        replacer.old replacer.new result }
+    ensures refused { Fails (replacing R.fixed R.appends R.refuses regex.now text.now limit)
+        replacer.old replacer.new result }
     ensures again { R.callable replacer.new }
 {
     regex.try_replacen_by(text, limit, replacer)
@@ -151,13 +162,10 @@ pub fn by_template<'t>(
     template: &str,
 ) -> Result<CowStr<'t, Global>>
     requires suits { Suits (options_in regex.now) true text.now }
-    ensures text { ReplacesBy (λ s. fixed_of s.now)
-        (λ s seen t next. (next ≡ s) × Expands s.now seen t)
-        regex.now text.now limit template.entry result }
-    ensures refused { FailsBy (λ s. fixed_of s.now)
-        (λ s seen t next. (next ≡ s) × Expands s.now seen t)
-        (λ s seen e next. (next ≡ s)
-        × (e ≡ Memory)) regex.now text.now limit template.entry result }
+    ensures text { ReplacesBy
+        (with_template (λ s. s.now) regex.now text.now limit) template.entry result }
+    ensures refused { FailsBy
+        (with_template (λ s. s.now) regex.now text.now limit) template.entry result }
 {
     regex.replacen(text, limit, template)
 }
@@ -170,13 +178,10 @@ pub fn by_string_template<'t>(
     template: &String,
 ) -> Result<CowStr<'t, Global>>
     requires suits { Suits (options_in regex.now) true text.now }
-    ensures text { ReplacesBy (λ s. fixed_of (string_bytes s.now))
-        (λ s seen t next. (next ≡ s) × Expands (string_bytes s.now) seen t)
-        regex.now text.now limit template.entry result }
-    ensures refused { FailsBy (λ s. fixed_of (string_bytes s.now))
-        (λ s seen t next. (next ≡ s) × Expands (string_bytes s.now) seen t)
-        (λ s seen e next. (next ≡ s)
-        × (e ≡ Memory)) regex.now text.now limit template.entry result }
+    ensures text { ReplacesBy
+        (with_template (λ s. string_bytes s.now) regex.now text.now limit) template.entry result }
+    ensures refused { FailsBy
+        (with_template (λ s. string_bytes s.now) regex.now text.now limit) template.entry result }
 {
     regex.replacen(text, limit, template)
 }
@@ -189,12 +194,10 @@ pub fn by_owned_template<'t>(
     template: String,
 ) -> Result<CowStr<'t, Global>>
     requires suits { Suits (options_in regex.now) true text.now }
-    ensures text { ReplacesBy (λ s. fixed_of (string_bytes s))
-        (λ s seen t next. (next ≡ s)
-        × Expands (string_bytes s) seen t) regex.now text.now limit template result }
-    ensures refused { FailsBy (λ s. fixed_of (string_bytes s))
-        (λ s seen t next. (next ≡ s) × Expands (string_bytes s) seen t)
-        (λ s seen e next. (next ≡ s) × (e ≡ Memory)) regex.now text.now limit template result }
+    ensures text { ReplacesBy
+        (with_template (λ s. string_bytes s) regex.now text.now limit) template result }
+    ensures refused { FailsBy
+        (with_template (λ s. string_bytes s) regex.now text.now limit) template result }
 {
     regex.replacen(text, limit, template)
 }
@@ -207,13 +210,10 @@ pub fn by_cow_template<'t>(
     template: CowStr<'_, Global>,
 ) -> Result<CowStr<'t, Global>>
     requires suits { Suits (options_in regex.now) true text.now }
-    ensures text { ReplacesBy (λ s. fixed_of (cow_str_bytes s))
-        (λ s seen t next. (next ≡ s) × Expands (cow_str_bytes s) seen t)
-        regex.now text.now limit template.entry result }
-    ensures refused { FailsBy (λ s. fixed_of (cow_str_bytes s))
-        (λ s seen t next. (next ≡ s) × Expands (cow_str_bytes s) seen t)
-        (λ s seen e next. (next ≡ s)
-        × (e ≡ Memory)) regex.now text.now limit template.entry result }
+    ensures text { ReplacesBy
+        (with_template (λ s. cow_str_bytes s) regex.now text.now limit) template.entry result }
+    ensures refused { FailsBy
+        (with_template (λ s. cow_str_bytes s) regex.now text.now limit) template.entry result }
 {
     regex.replacen(text, limit, template)
 }
@@ -226,13 +226,10 @@ pub fn by_lent_cow_template<'t>(
     template: &CowStr<'_, Global>,
 ) -> Result<CowStr<'t, Global>>
     requires suits { Suits (options_in regex.now) true text.now }
-    ensures text { ReplacesBy (λ s. fixed_of (cow_str_bytes s.now))
-        (λ s seen t next. (next ≡ s) × Expands (cow_str_bytes s.now) seen t)
-        regex.now text.now limit template.entry result }
-    ensures refused { FailsBy (λ s. fixed_of (cow_str_bytes s.now))
-        (λ s seen t next. (next ≡ s) × Expands (cow_str_bytes s.now) seen t)
-        (λ s seen e next. (next ≡ s)
-        × (e ≡ Memory)) regex.now text.now limit template.entry result }
+    ensures text { ReplacesBy
+        (with_template (λ s. cow_str_bytes s.now) regex.now text.now limit) template.entry result }
+    ensures refused { FailsBy
+        (with_template (λ s. cow_str_bytes s.now) regex.now text.now limit) template.entry result }
 {
     regex.replacen(text, limit, template)
 }
@@ -245,10 +242,10 @@ pub fn by_literal<'t>(
     literal: NoExpand<'_>,
 ) -> Result<CowStr<'t, Global>>
     requires suits { Suits (options_in regex.now) true text.now }
-    ensures text { ReplacesBy (λ s. Some s.0.now) (λ s seen t next. (next ≡ s) × (t ≡ s.0.now))
-        regex.now text.now limit literal.entry result }
-    ensures refused { FailsBy (λ s. Some s.0.now) (λ s seen t next. (next ≡ s) × (t ≡ s.0.now))
-        (λ s seen e next. (next ≡ s) × (e ≡ Memory)) regex.now text.now limit literal.entry result }
+    ensures text { ReplacesBy
+        (with_text (λ s. s.0.now) regex.now text.now limit) literal.entry result }
+    ensures refused { FailsBy
+        (with_text (λ s. s.0.now) regex.now text.now limit) literal.entry result }
 {
     regex.replacen(text, limit, literal)
 }

@@ -10,7 +10,7 @@ use Rattle.fancy_core.specs.declared.regex.Regex.{Regex}
 use Rattle.fancy_core.specs.GroupTexts.{Seen}
 use Rattle.fancy_search.specs.MatchList.{MatchItem, span_of_item, start_of, stop_of}
 use Rattle.fancy_core.specs.Pieces.{pieces, interleaved, limited}
-use Rattle.fancy_core.specs.Replacing.{Answers, IsReplaced, AllowsOneMore, IsRefusedFrom, IsRefusedAfter, IsRefusedBetweenCalls, IsRefusedByReplacer, all_matches, first_matches, end_of, replaced, text_with_each, seen_of}
+use Rattle.fancy_core.specs.Replacing.{Replacing, replacing, matches_taken, Answers, AnswersOf, IsReplaced, AllowsOneMore, IsRefusedFrom, IsRefusedAfterSome, IsRefusedBetweenCalls, IsRefusedByReplacer, all_matches, first_matches, end_of, replaced, text_with_each, seen_of}
 use Rattle.fancy_core.specs.ItemLimits.{up_to, limit_of, is_reached, one_fewer}
 use Rattle.fancy_core.proofs.PieceLemmas.{whole_of}
 
@@ -57,19 +57,19 @@ leaves_room (suc n) left done e r =
     let some : ((suc n - length done) == 0) ≡ false = rw e at r in
     inr (grind (arith, nat_tests))
 
--- How far a replacement has come in the matches in t that the limit takes. The state `first` answered to those that are done and
--- left the state `now`. Whatever answers to those that are left come, with the answers so far they make up `out` and then the rest
--- from `at` on. As many may still be replaced as are `left`.
-pub record Goes {R : Type 0} (gave : R → Seen → List ℕ → R → Type 0) (regex : Regex) (t : List ℕ) (limit : ℕ) (first now : R) (out : List ℕ) (at : ℕ) (found : Bool) (left : Option ℕ) (todo : List MatchItem) : Type 0 where
+-- How far a replacement has come in the matches that it takes. The state `first` answered to those that are done and left the state
+-- `now`. Whatever answers to those that are left come, with the answers so far they make up `out` and then the rest from `at` on. As
+-- many may still be replaced as are `left`.
+pub record Goes {R : Type 0} (k : Replacing R) (first now : R) (out : List ℕ) (at : ℕ) (found : Bool) (left : Option ℕ) (todo : List MatchItem) : Type 0 where
   pub done : List MatchItem
-  pub order : first_matches regex t limit ≡ done ++ todo
+  pub order : matches_taken k ≡ done ++ todo
   pub answers : List (List ℕ)
-  pub given : Answers gave first (map (seen_of regex t) done) answers now
-  pub joined : (more : List (List ℕ)) → replaced t (first_matches regex t limit) (answers ++ more) ≡ out ++ interleaved (pieces t at (map span_of_item todo)) more
+  pub given : Answers k.appends first (map (seen_of k.regex k.text) done) answers now
+  pub joined : (more : List (List ℕ)) → replaced k.text (matches_taken k) (answers ++ more) ≡ out ++ interleaved (pieces k.text at (map span_of_item todo)) more
   pub ended : at ≡ end_of done
   pub none : found ≡ false → done ≡ []
   pub some : found ≡ true → done ≡ [] → ⊥
-  pub counted : left ≡ fewer_by (length done) (limit_of limit)
+  pub counted : left ≡ fewer_by (length done) (limit_of k.limit)
 
 regroup : (a b c d : List ℕ) → a ++ (b ++ (c ++ d)) ≡ ((a ++ b) ++ c) ++ d
 regroup a b c d = simp append_assoc
@@ -87,98 +87,116 @@ module _ {R : Type 0} (gave : R → Seen → List ℕ → R → Type 0) where
   answers_to_none first now [] h = h
   answers_to_none first now (a ∷ answers) h = absurd h
 
-  module _ (regex : Regex) (t : List ℕ) where
-    pub goes_first : (limit : ℕ) (todo : List MatchItem) (r : R) (out : List ℕ) (at : ℕ) (found : Bool) (left : Option ℕ) → todo ≡ first_matches regex t limit → out ≡ [] → at ≡ 0 → found ≡ false → left ≡ limit_of limit → Goes gave regex t limit r r out at found left todo
-    goes_first limit todo r out at found left e f g h l = rw (e, f, g, h, l) (record {
-      done = [];
-      order = refl;
-      answers = [];
-      given = refl;
-      joined = λ more. refl;
-      ended = refl;
-      none = λ _. refl;
-      some = λ (w : false ≡ true) _. absurd (cc);
-      counted = fewer_by_none (limit_of limit);
-    })
+module _ {R : Type 0} (k : Replacing R) where
+  pub goes_first : (todo : List MatchItem) (r : R) (out : List ℕ) (at : ℕ) (found : Bool) (left : Option ℕ) → todo ≡ matches_taken k → out ≡ [] → at ≡ 0 → found ≡ false → left ≡ limit_of k.limit → Goes k r r out at found left todo
+  goes_first todo r out at found left e f g h l = rw (e, f, g, h, l) (record {
+    done = [];
+    order = refl;
+    answers = [];
+    given = refl;
+    joined = λ more. refl;
+    ended = refl;
+    none = λ _. refl;
+    some = λ (w : false ≡ true) _. absurd (cc);
+    counted = fewer_by_none (limit_of k.limit);
+  })
 
-    pub goes_on : (limit : ℕ) (first now next : R) (out more : List ℕ) (at end : ℕ) (found found_one : Bool) (left left_now : Option ℕ) (x : MatchItem) (todo rest : List MatchItem) (seen : Seen) (a : List ℕ) → todo ≡ x ∷ rest → seen ≡ seen_of regex t x → gave now seen a next → more ≡ (out ++ slice_range t at (start_of x)) ++ a → end ≡ stop_of x → found_one ≡ true → left_now ≡ one_fewer left
-        → Goes gave regex t limit first now out at found left todo → Goes gave regex t limit first next more end found_one left_now rest
-    goes_on limit first now next out more at end found found_one left left_now x todo rest seen a e s g m f i l h = record {
-      done = h.done ++ (x ∷ []);
-      order = h.order ∙ (ap (λ (z : List MatchItem). h.done ++ z) e ∙ sym (append_assoc h.done (x ∷ []) rest));
-      answers = h.answers ++ (a ∷ []);
-      given =
-          let step : gave now (seen_of regex t x) a next = subst (λ (z : Seen). gave now z a next) s g in
-          rw (map-append (seen_of regex t) h.done (x ∷ [])) (answers_more first now next (seen_of regex t x) a (map (seen_of regex t) h.done) h.answers h.given step);
-      joined = λ others.
-          let all = first_matches regex t limit in
-          let tail : List ℕ = interleaved (pieces t (stop_of x) (map span_of_item rest)) others in
-          let before : replaced t all (h.answers ++ (a ∷ others)) ≡ out ++ interleaved (pieces t at (map span_of_item (x ∷ rest))) (a ∷ others) = subst (λ (z : List MatchItem). replaced t all (h.answers ++ (a ∷ others)) ≡ out ++ interleaved (pieces t at (map span_of_item z)) (a ∷ others)) e (h.joined (a ∷ others)) in
-          let joined : replaced t all (h.answers ++ (a ∷ others)) ≡ more ++ tail = before ∙ (regroup out (slice_range t at (start_of x)) a tail ∙ ap (λ (z : List ℕ). z ++ tail) (sym m)) in
-          ap (replaced t all) (append_assoc h.answers (a ∷ []) others) ∙ (joined ∙ ap (λ (z : ℕ). more ++ interleaved (pieces t z (map span_of_item rest)) others) (sym f));
-      ended = f ∙ sym (end_of_more x h.done);
-      none = λ (w : found_one ≡ false). absurd (cc);
-      some = λ _ (w : h.done ++ (x ∷ []) ≡ []). no_end h.done x w;
-      counted =
-          let one_more : length (h.done ++ (x ∷ [])) ≡ suc (length h.done) = omega (arith, length-append h.done (x ∷ [])) in
-          l ∙ (ap one_fewer h.counted ∙ (fewer_by_more (length h.done) (limit_of limit) ∙ ap (λ (z : ℕ). fewer_by z (limit_of limit)) (sym one_more)));
-    }
+  pub goes_on : (first now next : R) (out more : List ℕ) (at end : ℕ) (found found_one : Bool) (left left_now : Option ℕ) (x : MatchItem) (todo rest : List MatchItem) (seen : Seen) (a : List ℕ) → todo ≡ x ∷ rest → seen ≡ seen_of k.regex k.text x → k.appends now seen a next → more ≡ (out ++ slice_range k.text at (start_of x)) ++ a → end ≡ stop_of x → found_one ≡ true → left_now ≡ one_fewer left
+      → Goes k first now out at found left todo → Goes k first next more end found_one left_now rest
+  goes_on first now next out more at end found found_one left left_now x todo rest seen a e s g m f i l h = record {
+    done = h.done ++ (x ∷ []);
+    order = h.order ∙ (ap (λ (z : List MatchItem). h.done ++ z) e ∙ sym (append_assoc h.done (x ∷ []) rest));
+    answers = h.answers ++ (a ∷ []);
+    given =
+        let step : k.appends now (seen_of k.regex k.text x) a next = subst (λ (z : Seen). k.appends now z a next) s g in
+        rw (map-append (seen_of k.regex k.text) h.done (x ∷ [])) (answers_more k.appends first now next (seen_of k.regex k.text x) a (map (seen_of k.regex k.text) h.done) h.answers h.given step);
+    joined = λ others.
+        let all = matches_taken k in
+        let tail : List ℕ = interleaved (pieces k.text (stop_of x) (map span_of_item rest)) others in
+        let before : replaced k.text all (h.answers ++ (a ∷ others)) ≡ out ++ interleaved (pieces k.text at (map span_of_item (x ∷ rest))) (a ∷ others) = subst (λ (z : List MatchItem). replaced k.text all (h.answers ++ (a ∷ others)) ≡ out ++ interleaved (pieces k.text at (map span_of_item z)) (a ∷ others)) e (h.joined (a ∷ others)) in
+        let joined : replaced k.text all (h.answers ++ (a ∷ others)) ≡ more ++ tail = before ∙ (regroup out (slice_range k.text at (start_of x)) a tail ∙ ap (λ (z : List ℕ). z ++ tail) (sym m)) in
+        ap (replaced k.text all) (append_assoc h.answers (a ∷ []) others) ∙ (joined ∙ ap (λ (z : ℕ). more ++ interleaved (pieces k.text z (map span_of_item rest)) others) (sym f));
+    ended = f ∙ sym (end_of_more x h.done);
+    none = λ (w : found_one ≡ false). absurd (cc);
+    some = λ _ (w : h.done ++ (x ∷ []) ≡ []). no_end h.done x w;
+    counted =
+        let one_more : length (h.done ++ (x ∷ [])) ≡ suc (length h.done) = omega (arith, length-append h.done (x ∷ [])) in
+        l ∙ (ap one_fewer h.counted ∙ (fewer_by_more (length h.done) (limit_of k.limit) ∙ ap (λ (z : ℕ). fewer_by z (limit_of k.limit)) (sym one_more)));
+  }
 
-    -- where no match is left, nothing was written any more
-    pub goes_over : (limit : ℕ) (first now : R) (out out_now : List ℕ) (at at_now : ℕ) (found found_now : Bool) (left : Option ℕ) (todo : List MatchItem) → todo ≡ [] → out_now ≡ out → at_now ≡ at → found_now ≡ found → Goes gave regex t limit first now out at found left todo → Goes gave regex t limit first now out_now at_now found_now left []
-    goes_over limit first now out out_now at at_now found found_now left todo d e f g h = rw (e, f, g) (subst (λ (z : List MatchItem). Goes gave regex t limit first now out at found left z) d h)
+  -- where no match is left, nothing was written any more
+  pub goes_over : (first now : R) (out out_now : List ℕ) (at at_now : ℕ) (found found_now : Bool) (left : Option ℕ) (todo : List MatchItem) → todo ≡ [] → out_now ≡ out → at_now ≡ at → found_now ≡ found → Goes k first now out at found left todo → Goes k first now out_now at_now found_now left []
+  goes_over first now out out_now at at_now found found_now left todo d e f g h = rw (e, f, g) (subst (λ (z : List MatchItem). Goes k first now out at found left z) d h)
 
-    done_is_all : (limit : ℕ) (first now : R) (out : List ℕ) (at : ℕ) (found : Bool) (left : Option ℕ) (h : Goes gave regex t limit first now out at found left []) → first_matches regex t limit ≡ h.done
-    done_is_all limit first now out at found left h = h.order ∙ append-nil h.done
+  done_is_all : (first now : R) (out : List ℕ) (at : ℕ) (found : Bool) (left : Option ℕ) (h : Goes k first now out at found left []) → matches_taken k ≡ h.done
+  done_is_all first now out at found left h = h.order ∙ append-nil h.done
 
-    pub goes_last : (limit : ℕ) (first now : R) (out result : List ℕ) (at : ℕ) (found : Bool) (left : Option ℕ) → MatchBool found (result ≡ out ++ slice_range t at (length t)) (result ≡ t) → Goes gave regex t limit first now out at found left [] → IsReplaced None gave first now regex t (first_matches regex t limit) result
-    goes_last limit first now out result at true left w h =
-        let all = first_matches regex t limit in
-        let over : all ≡ h.done = done_is_all limit first now out at true left h in
-        record {
-          answers = h.answers;
-          given = subst (λ (z : List MatchItem). Answers gave first (map (seen_of regex t) z) h.answers now) (sym over) h.given;
-          joined = w ∙ (ap (λ (z : List ℕ). out ++ z) (sym (append-nil (slice_range t at (length t)))) ∙ (sym (h.joined []) ∙ ap (replaced t all) (append-nil h.answers)));
-        }
-    goes_last limit first now out result at false left w h =
-        let over : first_matches regex t limit ≡ [] = done_is_all limit first now out at false left h ∙ h.none refl in
-        let kept : first ≡ now = answers_to_none first now h.answers (subst (λ (z : List MatchItem). Answers gave first (map (seen_of regex t) z) h.answers now) (h.none refl) h.given) in
-        rw (over, w) (record { answers = []; given = kept; joined = sym (append-nil _ ∙ whole_of t) })
+  -- where no match is left, one was found exactly where there are any
+  pub goes_found : (first now : R) (out : List ℕ) (at : ℕ) (found : Bool) (left : Option ℕ) → Goes k first now out at found left [] → (found ≡ false) ↔ (all_matches k.regex k.text ≡ [])
+  goes_found first now out at true left h =
+      (λ (w : true ≡ false). absurd (cc), λ (w : all_matches k.regex k.text ≡ []). absurd (h.some refl (sym (done_is_all first now out at true left h) ∙ (ap (limited k.limit) w ∙ limited_nil k.limit))))
+  goes_found first now out at false left h =
+      (λ _. limited_none k.limit (all_matches k.regex k.text) (done_is_all first now out at false left h ∙ h.none refl), λ _. refl)
 
-    -- a refusal between the calls, by a search only where the limit is not reached
-    pub goes_stopped : (limit : ℕ) (first now : R) (out : List ℕ) (at : ℕ) (found : Bool) (left : Option ℕ) (todo : List MatchItem) (error : Error) → (error ≡ Memory) ⊎ ((is_reached left ≡ false) × IsRefusedFrom regex t at todo error) → Goes gave regex t limit first now out at found left todo → IsRefusedBetweenCalls None gave first now regex t limit error
-    goes_stopped limit first now out at found left todo error w h = record {
-      done = h.done;
-      after = record {
-        later = todo;
-        order = h.order;
-        refused = or_else (error ≡ Memory) _ _ (λ s. (leaves_room limit left h.done h.counted s.0, subst (λ (z : ℕ). IsRefusedFrom regex t z todo error) h.ended s.1)) w;
-      };
-      answers = h.answers;
-      given = h.given;
-    }
+  -- with no one text for all matches the answers are those of the calls
+  answers_by_calls : (first last : R) (items : List MatchItem) (answers : List (List ℕ)) → k.fixed first ≡ None → Answers k.appends first (map (seen_of k.regex k.text) items) answers last → AnswersOf k first last items answers
+  answers_by_calls first last items answers unfixed h = rw unfixed h
 
-    -- where no match is left, one was found exactly where there are any
-    pub goes_found : (limit : ℕ) (first now : R) (out : List ℕ) (at : ℕ) (found : Bool) (left : Option ℕ) → Goes gave regex t limit first now out at found left [] → (found ≡ false) ↔ (all_matches regex t ≡ [])
-    goes_found limit first now out at true left h =
-        (λ (w : true ≡ false). absurd (cc), λ (w : all_matches regex t ≡ []). absurd (h.some refl (sym (done_is_all limit first now out at true left h) ∙ (ap (limited limit) w ∙ limited_nil limit))))
-    goes_found limit first now out at false left h =
-        (λ _. limited_none limit (all_matches regex t) (done_is_all limit first now out at false left h ∙ h.none refl), λ _. refl)
+  pub goes_last : (first now : R) (out result : List ℕ) (at : ℕ) (found : Bool) (left : Option ℕ) → k.fixed first ≡ None → MatchBool found (result ≡ out ++ slice_range k.text at (length k.text)) (result ≡ k.text) → Goes k first now out at found left [] → IsReplaced k first now result
+  goes_last first now out result at true left unfixed w h =
+      let all = matches_taken k in
+      let over : all ≡ h.done = done_is_all first now out at true left h in
+      record {
+        answers = h.answers;
+        given = answers_by_calls first now all h.answers unfixed (subst (λ (z : List MatchItem). Answers k.appends first (map (seen_of k.regex k.text) z) h.answers now) (sym over) h.given);
+        joined = w ∙ (ap (λ (z : List ℕ). out ++ z) (sym (append-nil (slice_range k.text at (length k.text)))) ∙ (sym (h.joined []) ∙ ap (replaced k.text all) (append-nil h.answers)));
+      }
+  goes_last first now out result at false left unfixed w h =
+      let over : matches_taken k ≡ [] = done_is_all first now out at false left h ∙ h.none refl in
+      let kept : first ≡ now = answers_to_none k.appends first now h.answers (subst (λ (z : List MatchItem). Answers k.appends first (map (seen_of k.regex k.text) z) h.answers now) (h.none refl) h.given) in
+      record {
+        answers = [];
+        given = answers_by_calls first now (matches_taken k) [] unfixed (rw over kept);
+        joined = rw (over, w) (sym (append-nil _ ∙ whole_of k.text));
+      }
 
-    -- a call that refuses, of a replacer with no one text for all matches
-    pub goes_refused : (refuses : R → Seen → Error → R → Type 0) (limit : ℕ) (first now last : R) (out : List ℕ) (at : ℕ) (found : Bool) (left : Option ℕ) (x : MatchItem) (todo rest : List MatchItem) (seen : Seen) (error : Error) → todo ≡ x ∷ rest → seen ≡ seen_of regex t x → refuses now seen error last
-        → Goes gave regex t limit first now out at found left todo → IsRefusedByReplacer None gave refuses first last regex t (first_matches regex t limit) error
-    goes_refused refuses limit first now last out at found left x todo rest seen error e s r h = record {
-      unfixed = refl;
-      done = h.done;
-      next = x;
-      later = rest;
-      order = h.order ∙ ap (λ (z : List MatchItem). h.done ++ z) e;
-      answers = h.answers;
-      state = now;
-      given = h.given;
-      refused = subst (λ (z : Seen). refuses now z error last) s r;
-    }
+  -- a refusal between the calls, by a search only where the limit is not reached
+  pub goes_stopped : (first now : R) (out : List ℕ) (at : ℕ) (found : Bool) (left : Option ℕ) (todo : List MatchItem) (error : Error) → k.fixed first ≡ None → (error ≡ Memory) ⊎ ((is_reached left ≡ false) × IsRefusedFrom k.regex k.text at todo error) → Goes k first now out at found left todo → IsRefusedBetweenCalls k first now error
+  goes_stopped first now out at found left todo error unfixed w h = record {
+    done = h.done;
+    after = record {
+      later = todo;
+      order = h.order;
+      refused = or_else (error ≡ Memory) _ _ (λ s. (leaves_room k.limit left h.done h.counted s.0, subst (λ (z : ℕ). IsRefusedFrom k.regex k.text z todo error) h.ended s.1)) w;
+    };
+    answers = h.answers;
+    given = answers_by_calls first now h.done h.answers unfixed h.given;
+  }
+
+  -- a call that refuses, of a replacer with no one text for all matches
+  pub goes_refused : (first now last : R) (out : List ℕ) (at : ℕ) (found : Bool) (left : Option ℕ) (x : MatchItem) (todo rest : List MatchItem) (seen : Seen) (error : Error) → k.fixed first ≡ None → todo ≡ x ∷ rest → seen ≡ seen_of k.regex k.text x → k.refuses now seen error last → Goes k first now out at found left todo → IsRefusedByReplacer k first last error
+  goes_refused first now last out at found left x todo rest seen error unfixed e s r h = record {
+    unfixed = unfixed;
+    done = h.done;
+    next = x;
+    later = rest;
+    order = h.order ∙ ap (λ (z : List MatchItem). h.done ++ z) e;
+    answers = h.answers;
+    state = now;
+    given = answers_by_calls first now h.done h.answers unfixed h.given;
+    refused = subst (λ (z : Seen). k.refuses now z error last) s r;
+  }
+
+  -- the answers of one text for all matches
+  answers_fixed : (first : R) (x : List ℕ) (items : List MatchItem) → k.fixed first ≡ Some x → AnswersOf k first first items (map (λ _. x) items)
+  answers_fixed first x items fixed = rw fixed (refl, refl)
+
+  -- a replacer with one text for all matches is not called
+  pub filled_replaces : (first : R) (x result : List ℕ) → k.fixed first ≡ Some x → result ≡ text_with_each k.text (matches_taken k) x → IsReplaced k first first result
+  filled_replaces first x result fixed e = record { answers = map (λ _. x) (matches_taken k); given = answers_fixed first x (matches_taken k) fixed; joined = e }
+
+  pub fixed_stays : (first : R) (x : List ℕ) (error : Error) → k.fixed first ≡ Some x → IsRefusedAfterSome k.regex k.text k.limit error → IsRefusedBetweenCalls k first first error
+  fixed_stays first x error fixed w = record { done = w.0; after = w.1; answers = map (λ _. x) w.0; given = answers_fixed first x w.0 fixed }
 
 pub one_taken : {A : Type 0} (left : Option ℕ) (xs ys : List A) (x : A) → is_reached left ≡ false → xs ≡ x ∷ ys → up_to left xs ≡ x ∷ up_to (one_fewer left) ys
 one_taken None xs ys x h e = e
@@ -188,6 +206,10 @@ one_taken (Some (suc n)) xs ys x h e = let q : suc n - 1 ≡ n = omega arith in 
 -- a text that answers itself to every match
 abbrev pub SaysItself : List ℕ → Seen → List ℕ → List ℕ → Type 0
 SaysItself x seen answer next = (next ≡ x) × (answer ≡ x)
+
+-- the replacement by such a text, by calls
+abbrev pub filling : Regex → List ℕ → ℕ → Replacing (List ℕ)
+filling regex t limit = replacing (λ _. None) SaysItself (λ _ _ _ _. ⊥) regex t limit
 
 same_answers : (x y : List ℕ) → y ≡ x → (xs : List Seen) (answers : List (List ℕ)) (last : List ℕ) → Answers SaysItself y xs answers last → answers ≡ map (λ _. x) xs
 same_answers x y e [] [] last w = refl
@@ -203,19 +225,13 @@ each_same f x [] = refl
 each_same f x (y ∷ xs) = ap (λ (z : List _). x ∷ z) (each_same f x xs)
 
 -- one text for all matches makes the text that is filled with it
-pub same_fills : (x last : List ℕ) (regex : Regex) (t : List ℕ) (all : List MatchItem) (result : List ℕ) → IsReplaced None SaysItself x last regex t all result → result ≡ text_with_each t all x
-same_fills x last regex t all result w =
+pub same_fills : (x last : List ℕ) (regex : Regex) (t : List ℕ) (limit : ℕ) (result : List ℕ) → IsReplaced (filling regex t limit) x last result → result ≡ text_with_each t (first_matches regex t limit) x
+same_fills x last regex t limit result w =
+    let all = first_matches regex t limit in
     w.joined ∙ ap (replaced t all) (same_answers x x refl (map (seen_of regex t) all) w.answers last w.given ∙ each_same (seen_of regex t) x all)
 
--- a replacer with one text for all matches is not called
-pub filled_replaces : {R : Type 0} (gave : R → Seen → List ℕ → R → Type 0) (first : R) (fixed : Option (List ℕ)) (x : List ℕ) (regex : Regex) (t : List ℕ) (all : List MatchItem) (result : List ℕ) → fixed ≡ Some x → result ≡ text_with_each t all x → IsReplaced fixed gave first first regex t all result
-filled_replaces gave first fixed x regex t all result e f = rw e (record { answers = map (λ _. x) all; given = (sym (each_same (seen_of regex t) x all), refl); joined = f })
-
-pub fixed_stays : {R : Type 0} (gave : R → Seen → List ℕ → R → Type 0) (first : R) (fixed : Option (List ℕ)) (x : List ℕ) (regex : Regex) (t : List ℕ) (limit : ℕ) (error : Error) → fixed ≡ Some x → (done : List MatchItem) × IsRefusedAfter regex t limit done error → IsRefusedBetweenCalls fixed gave first first regex t limit error
-fixed_stays gave first fixed x regex t limit error e w = rw e (record { done = w.0; after = w.1; answers = map (λ _. x) (map (seen_of regex t) w.0); given = (refl, refl) })
-
 -- what was refused after the items that a text filled
-pub fills_stopped : (x last : List ℕ) (regex : Regex) (t : List ℕ) (limit : ℕ) (error : Error) → IsRefusedBetweenCalls None SaysItself x last regex t limit error → (done : List MatchItem) × IsRefusedAfter regex t limit done error
+pub fills_stopped : (x last : List ℕ) (regex : Regex) (t : List ℕ) (limit : ℕ) (error : Error) → IsRefusedBetweenCalls (filling regex t limit) x last error → IsRefusedAfterSome regex t limit error
 fills_stopped x last regex t limit error w = (w.done, w.after)
 
 pub one_done : {A : Type 0} (xs rest : List A) (x : A) → xs ≡ x ∷ rest → length rest < length xs

@@ -1,6 +1,6 @@
 -- What matches are replaced by, and what that makes of a text.
 use Prim.Native.Char.{code}
-use Rattle.std.specs.Prelude.{◌≡◌, ◌≤◌, ◌<◌, ◌⊎◌, ℕ, Bool, List, [], ◌∷◌, ◌++◌, length, Option, None, Some, Result, IfOk, IfErr, chars, encode_utf8_all, map, true, if◌then◌else◌}
+use Rattle.std.specs.Prelude.{◌≡◌, ◌≤◌, ◌<◌, ◌⊎◌, ℕ, Bool, List, [], ◌∷◌, ◌++◌, length, Option, None, Some, Result, MatchOption, IfOk, IfErr, chars, encode_utf8_all, map, true, if◌then◌else◌}
 use Rattle.std.specs.Cow.{cow_str_bytes}
 use Rattle.std.specs.declared.borrow.CowStr.{CowStr}
 use Rattle.fancy_tree.specs.declared.error.Error.{Error}
@@ -37,11 +37,6 @@ Answers gave r [] [] last = r ≡ last
 Answers gave r [] (a ∷ answers) last = ⊥
 Answers gave r (x ∷ xs) [] last = ⊥
 Answers gave r (x ∷ xs) (a ∷ answers) last = (next : _) × gave r x a next × Answers gave next xs answers last
-
--- The answers of a replacer to these matches, and the state that they leave it in: its one text for each where it has one for all, which leaves it as it was; else those of its calls.
-abbrev pub AnswersOf : {R : Type 0} → Option (List ℕ) → (R → Seen → List ℕ → R → Type 0) → R → List Seen → List (List ℕ) → R → Type 0
-AnswersOf (Some x) gave first xs answers last = (answers ≡ map (λ _. x) xs) × (last ≡ first)
-AnswersOf None gave first xs answers last = Answers gave first xs answers last
 
 -- the text with answers in the place of the items
 abbrev pub replaced : List ℕ → List MatchItem → List (List ℕ) → List ℕ
@@ -93,59 +88,106 @@ pub record IsRefusedAfter (regex : Regex) (t : List ℕ) (limit : ℕ) (done : L
 abbrev pub IsRefusedAfterSome : Regex → List ℕ → ℕ → Error → Type 0
 IsRefusedAfterSome regex t limit error = (done : List MatchItem) × IsRefusedAfter regex t limit done error
 
--- These items of the text were replaced, and this is what came of it. The answers took the replacer from its first state to its last.
-pub record IsReplaced {R : Type 0} (fixed : Option (List ℕ)) (gave : R → Seen → List ℕ → R → Type 0) (first last : R) (regex : Regex) (t : List ℕ) (items : List MatchItem) (result : List ℕ) : Type 0 where
-  pub answers : List (List ℕ)
-  pub given : AnswersOf fixed gave first (map (seen_of regex t) items) answers last
-  pub joined : result ≡ replaced t items answers
-
--- A replacement was refused between the replacer's calls. The answers to the matches that come before took it from its first
--- state to its last.
-pub record IsRefusedBetweenCalls {R : Type 0} (fixed : Option (List ℕ)) (gave : R → Seen → List ℕ → R → Type 0) (first last : R) (regex : Regex) (t : List ℕ) (limit : ℕ) (error : Error) : Type 0 where
-  pub done : List MatchItem
-  pub after : IsRefusedAfter regex t limit done error
-  pub answers : List (List ℕ)
-  pub given : AnswersOf fixed gave first (map (seen_of regex t) done) answers last
-
--- A call for one of these items refused with this error. There is no one text for all matches; the calls for the items before answered, in order from the first state on, and in the state that they left the call for the next item refuses, which leaves the last state.
-pub record IsRefusedByReplacer {R : Type 0} (fixed : Option (List ℕ)) (gave : R → Seen → List ℕ → R → Type 0) (refuses : R → Seen → Error → R → Type 0) (first last : R) (regex : Regex) (t : List ℕ) (items : List MatchItem) (error : Error) : Type 0 where
-  pub unfixed : fixed ≡ None
-  pub done : List MatchItem
-  pub next : MatchItem
-  pub later : List MatchItem
-  pub order : items ≡ done ++ (next ∷ later)
-  pub answers : List (List ℕ)
-  pub state : R
-  pub given : Answers gave first (map (seen_of regex t) done) answers state
-  pub refused : refuses state (seen_of regex t next) error last
-
 -- The searches for the matches that a limit takes keep within their limits of returns. Once so many are found no more is searched for.
 abbrev pub AllowsReplacing : Regex → List ℕ → ℕ → Type 0
 AllowsReplacing regex t limit =
     AllowsUpTo (allows_at (program_in regex) t (whole t)) (scan (program_in regex) true t (whole t)) (limit_of limit) (standing_at 0) (all_matches regex t)
 
--- The text that a replacement answers: the matches that the limit takes were replaced in it, which took the replacer from its first state to its last. `fixed` gives the one text that a state has for all matches. It stands only where the searches for them kept within their limits.
-abbrev pub Replaces : {R Z : Type 0} → (R → Option (List ℕ)) → (R → Seen → List ℕ → R → Type 0) → Regex → List ℕ → ℕ → R → R → Result (CowStr Z) Error → Type 0
-Replaces fixed gave regex t limit first last result =
-    IfOk result (λ r. IsReplaced (fixed first) gave first last regex t (first_matches regex t limit) (cow_str_bytes r) × AllowsReplacing regex t limit)
+-- A replacement: what the replacer does in each of its states, of type R, and what is replaced.
+pub record Replacing (R : Type 0) : Type 1 where
+  -- its one text for all matches, if it has one
+  pub fixed : R → Option (List ℕ)
+  -- what a call may append: the state before, the match, the text, and the state after
+  pub appends : R → Seen → List ℕ → R → Type 0
+  -- what a call may refuse with: the state before, the match, the error, and the state after
+  pub refuses : R → Seen → Error → R → Type 0
+  -- in this text the matches of this regex are replaced, the first so many: all of them for the limit 0
+  pub regex : Regex
+  pub text : List ℕ
+  pub limit : ℕ
+
+abbrev pub replacing : {R : Type 0} → (R → Option (List ℕ)) → (R → Seen → List ℕ → R → Type 0) → (R → Seen → Error → R → Type 0) → Regex → List ℕ → ℕ → Replacing R
+replacing fixed appends refuses regex text limit = record { fixed = fixed; appends = appends; refuses = refuses; regex = regex; text = text; limit = limit }
+
+-- The replacement by a template with these bytes. A call appends what it expands to, and refuses for want of memory alone; the
+-- template stays as it was.
+abbrev pub with_template : {R : Type 0} → (R → List ℕ) → Regex → List ℕ → ℕ → Replacing R
+with_template bytes regex text limit = record {
+  fixed = λ s. fixed_of (bytes s);
+  appends = λ s seen answer next. (next ≡ s) × Expands (bytes s) seen answer;
+  refuses = λ s seen e next. (next ≡ s) × (e ≡ Memory);
+  regex = regex;
+  text = text;
+  limit = limit;
+}
+
+-- the replacement by a text that is taken as it is
+abbrev pub with_text : {R : Type 0} → (R → List ℕ) → Regex → List ℕ → ℕ → Replacing R
+with_text bytes regex text limit = record {
+  fixed = λ s. Some (bytes s);
+  appends = λ s seen answer next. (next ≡ s) × (answer ≡ bytes s);
+  refuses = λ s seen e next. (next ≡ s) × (e ≡ Memory);
+  regex = regex;
+  text = text;
+  limit = limit;
+}
+
+-- the matches that it takes
+abbrev pub matches_taken : {R : Type 0} → Replacing R → List MatchItem
+matches_taken k = first_matches k.regex k.text k.limit
+
+-- The replacer's answers to these items take it from its first state to its last: its one text for each, where its first state has
+-- one for all, which leaves it as it was; else those of its calls.
+abbrev pub AnswersOf : {R : Type 0} → Replacing R → R → R → List MatchItem → List (List ℕ) → Type 0
+AnswersOf k first last items answers =
+    MatchOption (k.fixed first) (Answers k.appends first (map (seen_of k.regex k.text) items) answers last)
+    (λ x. (answers ≡ map (λ _. x) items) × (last ≡ first))
+
+-- The matches that it takes were replaced, and this is what came of the text. The answers took the replacer from its first state to
+-- its last.
+pub record IsReplaced {R : Type 0} (k : Replacing R) (first last : R) (result : List ℕ) : Type 0 where
+  pub answers : List (List ℕ)
+  pub given : AnswersOf k first last (matches_taken k) answers
+  pub joined : result ≡ replaced k.text (matches_taken k) answers
+
+-- It was refused between the replacer's calls. The answers to the matches that come before took the replacer from its first state
+-- to its last.
+pub record IsRefusedBetweenCalls {R : Type 0} (k : Replacing R) (first last : R) (error : Error) : Type 0 where
+  pub done : List MatchItem
+  pub after : IsRefusedAfter k.regex k.text k.limit done error
+  pub answers : List (List ℕ)
+  pub given : AnswersOf k first last done answers
+
+-- A call refused with this error. There is no one text for all matches; the calls for the matches before answered, in order from the
+-- first state on, and in the state that they left the call for the next match refuses, which leaves the last state.
+pub record IsRefusedByReplacer {R : Type 0} (k : Replacing R) (first last : R) (error : Error) : Type 0 where
+  pub unfixed : k.fixed first ≡ None
+  pub done : List MatchItem
+  pub next : MatchItem
+  pub later : List MatchItem
+  pub order : matches_taken k ≡ done ++ (next ∷ later)
+  pub answers : List (List ℕ)
+  pub state : R
+  pub given : AnswersOf k first state done answers
+  pub refused : k.refuses state (seen_of k.regex k.text next) error last
+
+-- The text that a replacement answers: the matches that it takes were replaced in it, which took the replacer from its first state
+-- to its last. It stands only where the searches for them kept within their limits.
+abbrev pub Replaces : {R Z : Type 0} → Replacing R → R → R → Result (CowStr Z) Error → Type 0
+Replaces k first last result = IfOk result (λ r. IsReplaced k first last (cow_str_bytes r) × AllowsReplacing k.regex k.text k.limit)
 
 -- The same where the replacer was given away: some state was its last.
-abbrev pub ReplacesBy : {R Z : Type 0} → (R → Option (List ℕ)) → (R → Seen → List ℕ → R → Type 0) → Regex → List ℕ → ℕ → R → Result (CowStr Z) Error → Type 0
-ReplacesBy {R} fixed gave regex t limit first result =
-    IfOk result (λ r. (last : R) × IsReplaced (fixed first) gave first last regex t (first_matches regex t limit) (cow_str_bytes r) × AllowsReplacing regex t limit)
+abbrev pub ReplacesBy : {R Z : Type 0} → Replacing R → R → Result (CowStr Z) Error → Type 0
+ReplacesBy {R} k first result = IfOk result (λ r. (last : R) × IsReplaced k first last (cow_str_bytes r) × AllowsReplacing k.regex k.text k.limit)
 
--- One of the matches that the limit takes was not replaced, for this error: between the replacer's calls, or by a call.
-abbrev pub IsRefusedReplacing : {R : Type 0} → (R → Option (List ℕ)) → (R → Seen → List ℕ → R → Type 0) → (R → Seen → Error → R → Type 0) → Regex → List ℕ → ℕ → R → R → Error → Type 0
-IsRefusedReplacing fixed gave refuses regex t limit first last error =
-    IsRefusedBetweenCalls (fixed first) gave first last regex t limit error
-    ⊎ IsRefusedByReplacer (fixed first) gave refuses first last regex t (first_matches regex t limit) error
+-- One of the matches that it takes was not replaced, for this error: between the replacer's calls, or by a call.
+abbrev pub IsRefusedReplacing : {R : Type 0} → Replacing R → R → R → Error → Type 0
+IsRefusedReplacing k first last error = IsRefusedBetweenCalls k first last error ⊎ IsRefusedByReplacer k first last error
 
 -- The error that a replacement answers is such a refusal, which took the replacer from its first state to its last.
-abbrev pub Fails : {R Z : Type 0} → (R → Option (List ℕ)) → (R → Seen → List ℕ → R → Type 0) → (R → Seen → Error → R → Type 0) → Regex → List ℕ → ℕ → R → R → Result (CowStr Z) Error → Type 0
-Fails fixed gave refuses regex t limit first last result =
-    IfErr result (λ e. IsRefusedReplacing fixed gave refuses regex t limit first last e)
+abbrev pub Fails : {R Z : Type 0} → Replacing R → R → R → Result (CowStr Z) Error → Type 0
+Fails k first last result = IfErr result (λ e. IsRefusedReplacing k first last e)
 
 -- The same where the replacer was given away.
-abbrev pub FailsBy : {R Z : Type 0} → (R → Option (List ℕ)) → (R → Seen → List ℕ → R → Type 0) → (R → Seen → Error → R → Type 0) → Regex → List ℕ → ℕ → R → Result (CowStr Z) Error → Type 0
-FailsBy {R} fixed gave refuses regex t limit first result =
-    IfErr result (λ e. (last : R) × IsRefusedReplacing fixed gave refuses regex t limit first last e)
+abbrev pub FailsBy : {R Z : Type 0} → Replacing R → R → Result (CowStr Z) Error → Type 0
+FailsBy {R} k first result = IfErr result (λ e. (last : R) × IsRefusedReplacing k first last e)

@@ -3,7 +3,7 @@
 ghost use Rattle.std.specs.Prelude.{◌≡◌, ◌↔◌, [], true, None, IfOk, IfErr};
 ghost use Rattle.std.specs.Cow.{cow_str_bytes, IsBorrowedStr};
 ghost use Rattle.fancy_core.specs.Regexes.{options_in};
-ghost use Rattle.fancy_core.specs.Replacing.{Replaces, ReplacesBy, Fails, FailsBy, IsRefusedAfterSome, AllowsReplacing, all_matches, first_matches, text_with_each};
+ghost use Rattle.fancy_core.specs.Replacing.{replacing, Replaces, ReplacesBy, Fails, FailsBy, IsRefusedAfterSome, AllowsReplacing, all_matches, first_matches, text_with_each};
 ghost use Rattle.fancy_search.specs.Searching.{Suits};
 
 use crate::regex::Regex;
@@ -30,8 +30,10 @@ impl Regex {
         requires callable { R.callable replacer }
         ensures borrowed { IfOk result (λ t. IsBorrowedStr t ↔ (all_matches self.now text.now ≡ [])) }
         ensures kept { IfOk result (λ t. IsBorrowedStr t → cow_str_bytes t ≡ text.now) }
-        ensures text { ReplacesBy R.fixed R.appends self.now text.now 1 replacer result }
-        ensures refused { FailsBy R.fixed R.appends R.refuses self.now text.now 1 replacer result }
+        ensures text { ReplacesBy
+            (replacing R.fixed R.appends R.refuses self.now text.now 1) replacer result }
+        ensures refused { FailsBy
+            (replacing R.fixed R.appends R.refuses self.now text.now 1) replacer result }
     {
         self.try_replacen(text, 1, replacer)
     }
@@ -50,8 +52,10 @@ impl Regex {
         requires callable { R.callable replacer }
         ensures borrowed { IfOk result (λ t. IsBorrowedStr t ↔ (all_matches self.now text.now ≡ [])) }
         ensures kept { IfOk result (λ t. IsBorrowedStr t → cow_str_bytes t ≡ text.now) }
-        ensures text { ReplacesBy R.fixed R.appends self.now text.now 0 replacer result }
-        ensures refused { FailsBy R.fixed R.appends R.refuses self.now text.now 0 replacer result }
+        ensures text { ReplacesBy
+            (replacing R.fixed R.appends R.refuses self.now text.now 0) replacer result }
+        ensures refused { FailsBy
+            (replacing R.fixed R.appends R.refuses self.now text.now 0) replacer result }
     {
         self.try_replacen(text, 0, replacer)
     }
@@ -71,8 +75,10 @@ impl Regex {
         requires callable { R.callable replacer }
         ensures borrowed { IfOk result (λ t. IsBorrowedStr t ↔ (all_matches self.now text.now ≡ [])) }
         ensures kept { IfOk result (λ t. IsBorrowedStr t → cow_str_bytes t ≡ text.now) }
-        ensures text { ReplacesBy R.fixed R.appends self.now text.now limit replacer result }
-        ensures refused { FailsBy R.fixed R.appends R.refuses self.now text.now limit replacer result }
+        ensures text { ReplacesBy
+            (replacing R.fixed R.appends R.refuses self.now text.now limit) replacer result }
+        ensures refused { FailsBy
+            (replacing R.fixed R.appends R.refuses self.now text.now limit) replacer result }
     {
         self.try_replacen(text, limit, replacer)
     }
@@ -100,8 +106,10 @@ impl Regex {
         requires callable { R.callable replacer }
         ensures borrowed { IfOk result (λ t. IsBorrowedStr t ↔ (all_matches self.now text.now ≡ [])) }
         ensures kept { IfOk result (λ t. IsBorrowedStr t → cow_str_bytes t ≡ text.now) }
-        ensures text { ReplacesBy R.fixed R.appends self.now text.now limit replacer result }
-        ensures refused { FailsBy R.fixed R.appends R.refuses self.now text.now limit replacer result }
+        ensures text { ReplacesBy
+            (replacing R.fixed R.appends R.refuses self.now text.now limit) replacer result }
+        ensures refused { FailsBy
+            (replacing R.fixed R.appends R.refuses self.now text.now limit) replacer result }
     {
         self.try_replacen_by(text, limit, &mut replacer)
     }
@@ -131,8 +139,10 @@ impl Regex {
         requires callable { R.callable replacer.old }
         ensures borrowed { IfOk result (λ t. IsBorrowedStr t ↔ (all_matches self.now text.now ≡ [])) }
         ensures kept { IfOk result (λ t. IsBorrowedStr t → cow_str_bytes t ≡ text.now) }
-        ensures text { Replaces R.fixed R.appends self.now text.now limit replacer.old replacer.new result }
-        ensures refused { Fails R.fixed R.appends R.refuses self.now text.now limit replacer.old replacer.new result }
+        ensures text { Replaces (replacing R.fixed R.appends R.refuses self.now text.now limit)
+            replacer.old replacer.new result }
+        ensures refused { Fails (replacing R.fixed R.appends R.refuses self.now text.now limit)
+            replacer.old replacer.new result }
         ensures again { R.callable replacer.new }
     {
         if let Some(fixed) = replacer.fixed_text() {
@@ -146,7 +156,8 @@ impl Regex {
         requires suits { Suits (options_in self.now) true text.now }
         ensures borrowed { IfOk result (λ t. IsBorrowedStr t ↔ (all_matches self.now text.now ≡ [])) }
         ensures kept { IfOk result (λ t. IsBorrowedStr t → cow_str_bytes t ≡ text.now) }
-        ensures text { IfOk result (λ t. cow_str_bytes t ≡ text_with_each text.now (first_matches self.now text.now limit) fixed.now) }
+        ensures text { IfOk result (λ t. cow_str_bytes t
+            ≡ text_with_each text.now (first_matches self.now text.now limit) fixed.now) }
         ensures allowed { IfOk result (λ _. AllowsReplacing self.now text.now limit) }
         ensures refused { IfErr result (λ e. IsRefusedAfterSome self.now text.now limit e) }
     {
@@ -168,8 +179,10 @@ impl Regex {
         requires callable { R.callable replacer.old }
         ensures borrowed { IfOk result (λ t. IsBorrowedStr t ↔ (all_matches self.now text.now ≡ [])) }
         ensures kept { IfOk result (λ t. IsBorrowedStr t → cow_str_bytes t ≡ text.now) }
-        ensures text { Replaces (λ _. None) R.appends self.now text.now limit replacer.old replacer.new result }
-        ensures refused { Fails (λ _. None) R.appends R.refuses self.now text.now limit replacer.old replacer.new result }
+        ensures text { Replaces (replacing (λ _. None) R.appends R.refuses self.now text.now limit)
+            replacer.old replacer.new result }
+        ensures refused { Fails (replacing (λ _. None) R.appends R.refuses self.now text.now limit)
+            replacer.old replacer.new result }
         ensures again { R.callable replacer.new }
     {
         let mut rewriting = Rewriting::new(self, text, limit);
