@@ -3,12 +3,13 @@
 //! `members_of` gives the patterns of a set, `asked_of_set` what they are asked, and `set_position` the least position where one
 //! of them matches.
 
-ghost use Rattle.std.specs.Prelude.{◌==◌, ◌↔◌, ◌≡◌, ◌≤◌, IfErr, IfNone, IfOk, IfSome, IsTrue, MatchOption, None, Some, [], length, option_map, string_bytes, ⊤};
+ghost use Rattle.std.specs.Prelude.{◌==◌, ◌↔◌, ◌≡◌, ◌≤◌, IfErr, IfNone, IfOk, IfSome, IsTrue, None, Some, [], length, option_map, string_bytes, ⊤};
 ghost use Rattle.fancy_regex.specs.Builders.{options_of};
-ghost use Rattle.fancy_regex.specs.Captures.{found_by, searched_in, spans_in};
+ghost use Rattle.fancy_regex.specs.Captures.{searched_in};
 ghost use Rattle.fancy_regex.specs.Groups.{IsPart};
 ghost use Rattle.fancy_regex.specs.Inputs.{haystack_in, request_in};
 ghost use Rattle.fancy_regex.specs.Options.{by_default};
+ghost use Rattle.fancy_regex.specs.NextAnswers.{ByAnswer};
 ghost use Rattle.fancy_regex.specs.Remaining.{IfItem};
 ghost use Rattle.fancy_regex.specs.SetMatches.{GivesMember, GivesRefusal, captures_of, haystack_of_set, match_span, members_to_come, next_member, pattern_index, position_of, question_of, request_of_set, set_of};
 ghost use Rattle.fancy_regex.specs.SetMembers.{RefusesSet, members_at, set_position};
@@ -93,16 +94,11 @@ pub fn next_match<'r, S: Input>(
 ) -> Option<Result<RegexSetMatch<'r, S>>>
     ensures none { IfNone result ((members_to_come S.bytes matches.old ≡ [])
         × (length (members_of (set_of matches.new)) ≤ next_member matches.new)) }
-    ensures gives { IfItem result
-        (λ x. GivesMember (question_of S.bytes matches.old) (position_of matches.old)
-        (next_member matches.old) (next_member matches.new) (pattern_index x)
-        (found_by (captures_of x))
-        (spans_in (captures_of x))) }
+    ensures gives { IfItem result (λ x. GivesMember S.bytes x matches.old matches.new) }
     ensures within { IfItem result
         (λ x. searched_in (captures_of x) ≡ haystack_of_set matches.old) }
-    ensures refused { MatchOption result ⊤
-        (λ item. IfErr item (λ e. GivesRefusal (question_of S.bytes matches.old)
-        (position_of matches.old) (next_member matches.old) (next_member matches.new) e)) }
+    ensures refused { ByAnswer result ⊤ (λ _. ⊤)
+        (λ e. GivesRefusal S.bytes e matches.old matches.new) }
     ensures set { set_of matches.new ≡ set_of matches.old }
     ensures haystack { haystack_of_set matches.new ≡ haystack_of_set matches.old }
     ensures request { request_of_set matches.new ≡ request_of_set matches.old }

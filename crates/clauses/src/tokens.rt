@@ -1,16 +1,16 @@
 //! The tokens that a set cuts a text into.
 //!
-//! `token_query` is what the patterns are asked, `token_place` where the next token starts, and `tokens_left` the tokens that are
-//! left.
+//! `token_place` is where the next token starts. `GivesToken`, `RefusesToken` and `EndsTokens` say what a call of `next` answers.
 
-ghost use Rattle.std.specs.Prelude.{◌≡◌, IfErr, IfNone, MatchOption, Some, false, option_map, string_bytes, ⊤};
-ghost use Rattle.fancy_regex.specs.Captures.{found_by, searched_in, spans_in};
+ghost use Rattle.std.specs.Prelude.{◌≡◌, IfNone, Some, false, option_map, string_bytes, ⊤};
+ghost use Rattle.fancy_regex.specs.Captures.{searched_in};
 ghost use Rattle.fancy_regex.specs.Groups.{IsPart};
 ghost use Rattle.fancy_regex.specs.Inputs.{haystack_in, request_in};
+ghost use Rattle.fancy_regex.specs.NextAnswers.{ByAnswer};
 ghost use Rattle.fancy_regex.specs.Remaining.{IfItem, IfRefusal};
 ghost use Rattle.fancy_regex.specs.Requests.{effective_start};
 ghost use Rattle.fancy_regex.specs.Sets.{CanSearchAll};
-ghost use Rattle.fancy_regex.specs.TokenLists.{EndsTokens, GivesToken, RefusesToken, has_ended_tokens, token_captures, token_haystack, token_pattern, token_place, token_query, token_request, token_set, token_span, tokens_left};
+ghost use Rattle.fancy_regex.specs.TokenLists.{EndsTokens, GivesToken, RefusesToken, has_ended_tokens, token_captures, token_haystack, token_pattern, token_place, token_request, token_set, token_span};
 
 use fancy_regex::{Captures, Input, RegexInput, RegexSet, Result, Token, Tokens};
 
@@ -28,20 +28,13 @@ pub fn tokens<S: Input>(set: &RegexSet, input: RegexInput<S>) -> Tokens<'_, S>
 
 /// The next token, or a refusal, which is the last item.
 pub fn next_token<'r, S: Input>(tokens: &mut Tokens<'r, S>) -> Option<Result<Token<'r, S>>>
-    ensures none { IfNone result
-        (EndsTokens (token_query S.bytes tokens.old) (has_ended_tokens tokens.old)
-        (token_place tokens.old) (token_place tokens.new) (has_ended_tokens tokens.new)) }
-    ensures gives { IfItem result
-        (λ x. GivesToken (token_query S.bytes tokens.old) (token_place tokens.old)
-        (token_place tokens.new) (token_pattern x) (found_by (token_captures x))
-        (spans_in (token_captures x))
-        (tokens_left S.bytes tokens.old) (tokens_left S.bytes tokens.new)) }
+    ensures none { IfNone result (EndsTokens tokens.old tokens.new) }
+    ensures gives { IfItem result (λ x. GivesToken S.bytes x tokens.old tokens.new) }
     ensures within { IfItem result
         (λ x. searched_in (token_captures x) ≡ token_haystack tokens.old) }
     ensures goes_on { IfItem result (λ _. has_ended_tokens tokens.new ≡ false) }
-    ensures refused { MatchOption result ⊤
-        (λ item. IfErr item (λ e. RefusesToken (token_query S.bytes tokens.old)
-        (token_place tokens.old) (token_place tokens.new) (has_ended_tokens tokens.new) e)) }
+    ensures refused { ByAnswer result ⊤ (λ _. ⊤)
+        (λ e. RefusesToken S.bytes e tokens.old tokens.new) }
     ensures unended { IfRefusal result (has_ended_tokens tokens.old ≡ false) }
     ensures set { token_set tokens.new ≡ token_set tokens.old }
     ensures haystack { token_haystack tokens.new ≡ token_haystack tokens.old }

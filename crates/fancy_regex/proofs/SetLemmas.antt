@@ -13,13 +13,12 @@ use Rattle.fancy_engine.proofs.RunnerSearch.{positions_none}
 use Rattle.fancy_search.specs.Groups.{span_at, spans_of}
 use Rattle.fancy_core.specs.declared.captures.Captures.{Captures}
 use Rattle.fancy_core.specs.declared.regex.Regex.{Regex}
-use Rattle.fancy_core.specs.Captures.{spans_in, searched_in, found_by}
+use Rattle.fancy_core.specs.Captures.{found_by}
 use Rattle.fancy_core.specs.Limited.{RefusesAt, AllowsAt}
 use Rattle.fancy_core.specs.Regexes.{group_count_in, query}
 use Rattle.fancy_core.specs.Searches.{groups_of_attempt}
 use Rattle.fancy_regex.specs.SetMembers.{SetQuery, asked, has_answer_at, members_at_from, members_at, any_answer_at, set_position, NoneBetween, IsMemberItem, RefusesMember, RefusesSet}
 use Rattle.fancy_regex.specs.SetAnswers.{IsItemOf, IsFirstOfSet}
-use Rattle.fancy_regex.specs.SetMatches.{GivesMember}
 use Rattle.fancy_regex.proofs.SetListLemmas.{nothing_kept, nothing_passes, nothing_found, kept_from, found_first, some_passes}
 
 -- whether there are groups says whether there is an outcome
@@ -143,7 +142,10 @@ module _ {S : Type 0} {g : _} (q : SetQuery) (haystack : S) (p : ℕ) where
   pub item_is_inside : (k : ℕ) (captures : Captures S g) → IsItemOf q haystack p k captures → k < length q.members
   item_is_inside k captures item = ∥∥₁_elim item.0.is (hlevel props) (λ is. inside_or_not q.members k _ is)
 
-  pub gives_kept : (k pattern : ℕ) (captures given : Captures S g) → pattern ≡ k → given ≡ captures → IsItemOf q haystack p k captures
-      → GivesMember q p k (k + 1) pattern (found_by given) (spans_in given) × (searched_in given ≡ haystack)
-  gives_kept k pattern captures given same_index same item =
-      rw (same_index, same) (record { reached = omega arith; first = λ j from below. absurd (omega (arith, from, below)); item = item.0; goes_on = refl }, item.1)
+  -- what was kept is the item of the member that is asked next
+  pub kept_item : (k pattern : ℕ) (captures given : Captures S g) → pattern ≡ k → given ≡ captures → IsItemOf q haystack p k captures → IsItemOf q haystack p pattern given
+  kept_item k pattern captures given same_index same item = rw (same_index, same) item
+
+-- no index is before the one that is asked next
+pub none_before : (q : SetQuery) (p k index : ℕ) → index ≡ k → NoneBetween q p k index
+none_before q p k index same j from below = absurd (omega (arith, same, from, below))

@@ -1,13 +1,13 @@
 -- What stands for a match of a pattern of a set, and for the iterator over such matches at one position.
-use Rattle.std.specs.Prelude.{◌≡◌, ◌≤◌, ◌+◌, ℕ, List, [], length, Option, Some, Result, MatchOption, MatchResult}
+use Rattle.std.specs.Prelude.{◌≡◌, ◌≤◌, ◌+◌, ℕ, List, [], length, Option, Some, Result}
 use Rattle.fancy_tree.specs.declared.error.Error.{Error}
 use Rattle.fancy_input.specs.declared.input.Request.{Request}
 use Rattle.fancy_input.specs.declared.span.Span.{Span}
 use Rattle.fancy_input.specs.Inputs.{haystack_in, request_in}
 use Rattle.fancy_search.specs.Groups.{span_at}
 use Rattle.fancy_core.specs.declared.captures.Captures.{Captures}
-use Rattle.fancy_core.specs.declared.regex.Regex.{Regex}
-use Rattle.fancy_core.specs.Captures.{spans_in}
+use Rattle.fancy_core.specs.Captures.{spans_in, searched_in, found_by}
+use Rattle.fancy_core.specs.NextAnswers.{ByAnswer}
 use Rattle.fancy_regex.specs.declared.set.RegexSet.{RegexSet}
 use Rattle.fancy_regex.specs.declared.set.matched.RegexSetMatch.{RegexSetMatch}
 use Rattle.fancy_regex.specs.declared.set.matches.RegexSetMatchesAt.{RegexSetMatchesAt}
@@ -58,28 +58,30 @@ pub record IsAnswerOfSet {S : Type 0} {g : _} (bytes : S → List ℕ) (set : Re
   pub stands : set_position (question_of bytes m) ≡ Some (position_of m)
   pub items : members_to_come bytes m ≡ members_at (question_of bytes m) (position_of m)
 
--- A member's item: that of the least index, from the one on that is asked next, that has an accepted outcome at the position p.
-pub record GivesMember (q : SetQuery) (p from to index : ℕ) (member : Regex) (spans : List (Option Span)) : Type 0 where
-  pub reached : from ≤ index
-  pub first : NoneBetween q p from index
-  pub item : IsMemberItem q p index member spans
-  pub goes_on : to ≡ index + 1
+-- The end: no member is left, and none will be asked any more.
+pub record EndsMembers {S : Type 0} {g : _} (bytes : S → List ℕ) (s t : RegexSetMatchesAt S g) : Type 0 where
+  pub none : members_to_come bytes s ≡ []
+  pub ended : length (members_of (set_of t)) ≤ next_member t
 
--- A member's refusal: before it, from the one on that is asked next, no member has an accepted outcome at the position p.
-pub record GivesRefusal (q : SetQuery) (p from to : ℕ) (e : Error) : Type 0 where
+-- A member's item: that of the least index, from the one on that is asked next, that has an accepted outcome at the position.
+pub record GivesMember {S : Type 0} {g h : _} (bytes : S → List ℕ) (found : RegexSetMatch S h) (s t : RegexSetMatchesAt S g) : Type 0 where
+  pub reached : next_member s ≤ pattern_index found
+  pub first : NoneBetween (question_of bytes s) (position_of s) (next_member s) (pattern_index found)
+  pub item : IsMemberItem (question_of bytes s) (position_of s) (pattern_index found) (found_by (captures_of found)) (spans_in (captures_of found))
+  pub within : searched_in (captures_of found) ≡ haystack_of_set s
+  pub goes_on : next_member t ≡ pattern_index found + 1
+
+-- A member's refusal: before it, from the one on that is asked next, no member has an accepted outcome at the position.
+pub record GivesRefusal {S : Type 0} {g : _} (bytes : S → List ℕ) (e : Error) (s t : RegexSetMatchesAt S g) : Type 0 where
   pub index : ℕ
-  pub reached : from ≤ index
-  pub first : NoneBetween q p from index
-  pub refuses : RefusesMember q p index e
-  pub goes_on : to ≡ index + 1
+  pub reached : next_member s ≤ index
+  pub first : NoneBetween (question_of bytes s) (position_of s) (next_member s) index
+  pub refuses : RefusesMember (question_of bytes s) (position_of s) index e
+  pub goes_on : next_member t ≡ index + 1
 
--- One call of `next`, from s to t. An item has this index and these spans, and was found by this regex in this haystack.
-pub record IsNextOfSet {S A : Type 0} {g : _} (bytes : S → List ℕ) (index : A → ℕ) (spans : A → List (Option Span)) (searched : A → S) (found_by : A → Regex) (s : RegexSetMatchesAt S g) (r : Option (Result A Error)) (t : RegexSetMatchesAt S g) : Type 0 where
-  -- none where no member is left, and then none will be asked any more
-  pub gives : MatchOption r ((members_to_come bytes s ≡ []) × (length (members_of (set_of t)) ≤ next_member t))
-      (λ item. MatchResult item
-      (λ x. GivesMember (question_of bytes s) (position_of s) (next_member s) (next_member t) (index x) (found_by x) (spans x) × (searched x ≡ haystack_of_set s))
-      (λ e. GivesRefusal (question_of bytes s) (position_of s) (next_member s) (next_member t) e))
+-- One call of `next`, from s to t.
+pub record IsNextOfSet {S : Type 0} {g h : _} (bytes : S → List ℕ) (s : RegexSetMatchesAt S g) (r : Option (Result (RegexSetMatch S h) Error)) (t : RegexSetMatchesAt S g) : Type 0 where
+  pub answers : ByAnswer r (EndsMembers bytes s t) (λ x. GivesMember bytes x s t) (λ e. GivesRefusal bytes e s t)
   pub same_set : set_of t ≡ set_of s
   pub same_haystack : haystack_of_set t ≡ haystack_of_set s
   pub same_request : request_of_set t ≡ request_of_set s

@@ -1,5 +1,5 @@
 -- What stands for a token, and for the iterator over the tokens of an input.
-use Rattle.std.specs.Prelude.{◌≡◌, ◌≤◌, ◌<◌, ◌+◌, ◌-◌, ◌⊎◌, ℕ, zero, Bool, true, false, List, [], ◌∷◌, length, Option, None, Result, MatchOption, MatchResult, if◌then◌else◌}
+use Rattle.std.specs.Prelude.{◌≡◌, ◌≤◌, ◌<◌, ◌+◌, ◌-◌, ◌⊎◌, ℕ, zero, Bool, true, false, List, [], ◌∷◌, length, Option, None, Result, if◌then◌else◌}
 use Rattle.fancy_tree.specs.declared.error.Error.{Error}
 use Rattle.fancy_tree.specs.declared.error.Error.TheVariants.{RuntimeError}
 use Rattle.fancy_tree.specs.declared.error.RuntimeError.TheVariants.{Unmatched}
@@ -8,13 +8,14 @@ use Rattle.fancy_input.specs.declared.span.Span.{Span}
 use Rattle.fancy_input.specs.Inputs.{haystack_in, request_in}
 use Rattle.fancy_input.specs.Requests.{effective_start}
 use Rattle.fancy_core.specs.declared.captures.Captures.{Captures}
-use Rattle.fancy_core.specs.declared.regex.Regex.{Regex}
+use Rattle.fancy_core.specs.Captures.{spans_in, searched_in, found_by}
+use Rattle.fancy_core.specs.NextAnswers.{ByAnswer}
 use Rattle.fancy_regex.specs.declared.set.RegexSet.{RegexSet}
 use Rattle.fancy_regex.specs.declared.tokens.Tokens.{Tokens}
 use Rattle.fancy_regex.specs.declared.tokens.token.Token.{Token}
 use Rattle.fancy_regex.specs.SetMatches.{pattern_index, captures_of, match_span}
 use Rattle.fancy_regex.specs.SetMembers.{SetQuery, IsMemberItem, RefusesMember}
-use Rattle.fancy_regex.specs.Sets.{asked_of_set}
+use Rattle.fancy_regex.specs.Sets.{members_of, asked_of_set}
 use Rattle.fancy_regex.specs.Tokens.{TokenItem, placed_at, token_at, tokens_from, KeepLimits}
 
 -- the index of the pattern that the token is of
@@ -64,12 +65,15 @@ pub record AreTokensOf {S : Type 0} {g : _} (bytes : S → List ℕ) (set : Rege
   pub begins : token_place t ≡ effective_start request
   pub goes_on : has_ended_tokens t ≡ false
 
--- A token, of the pattern with this index, between the places before and after the call: the first of those that were left. All members were asked, and each kept within its limit.
-pub record GivesToken (q : SetQuery) (from to pattern : ℕ) (found_by : Regex) (spans : List (Option Span)) (left rest : List TokenItem) : Type 0 where
-  pub moves : from < to
-  pub first : left ≡ record { pattern = pattern; start = from; end = to } ∷ rest
-  pub groups : IsMemberItem (placed_at q from) from pattern found_by spans
-  pub limits : KeepLimits q from (length q.members)
+-- This token, between the places before and after the call: the first of those that were left. It was found in the haystack, all
+-- members were asked, and each kept within its limit.
+pub record GivesToken {S : Type 0} {g h : _} (bytes : S → List ℕ) (token : Token S h) (s t : Tokens S g) : Type 0 where
+  pub moves : token_place s < token_place t
+  pub first : tokens_left bytes s ≡ record { pattern = token_pattern token; start = token_place s; end = token_place t } ∷ tokens_left bytes t
+  pub groups : IsMemberItem (placed_at (token_query bytes s) (token_place s)) (token_place s) (token_pattern token) (found_by (token_captures token)) (spans_in (token_captures token))
+  pub within : searched_in (token_captures token) ≡ token_haystack s
+  pub limits : KeepLimits (token_query bytes s) (token_place s) (length (members_of (token_set s)))
+  pub goes_on : has_ended_tokens t ≡ false
 
 -- no member gives a token at the place, though all were asked, and the range goes on
 pub record IsUnmatched (q : SetQuery) (p : ℕ) (e : Error) : Type 0 where
@@ -84,24 +88,22 @@ pub record IsRefusedByMember (q : SetQuery) (p : ℕ) (e : Error) : Type 0 where
   pub limits : KeepLimits q p index
 
 -- A refusal, at a place before the range's end: no token is there, or a member is refused. No other token comes, and the place stays.
-pub record RefusesToken (q : SetQuery) (from to : ℕ) (ended : Bool) (e : Error) : Type 0 where
-  pub inside : from < q.request.range_end
-  pub why : IsUnmatched q from e ⊎ IsRefusedByMember q from e
-  pub stays : to ≡ from
-  pub ends : ended ≡ true
+pub record RefusesToken {S : Type 0} {g : _} (bytes : S → List ℕ) (e : Error) (s t : Tokens S g) : Type 0 where
+  pub unended : has_ended_tokens s ≡ false
+  pub inside : token_place s < (token_request s).range_end
+  pub why : IsUnmatched (token_query bytes s) (token_place s) e ⊎ IsRefusedByMember (token_query bytes s) (token_place s) e
+  pub stays : token_place t ≡ token_place s
+  pub ends : has_ended_tokens t ≡ true
 
 -- The end: the list had ended, or the place is the range's end or past it. The place stays.
-pub record EndsTokens (q : SetQuery) (had_ended : Bool) (from to : ℕ) (ended : Bool) : Type 0 where
-  pub why : (had_ended ≡ true) ⊎ (q.request.range_end ≤ from)
-  pub stays : to ≡ from
-  pub ends : ended ≡ true
+pub record EndsTokens {S : Type 0} {g : _} (s t : Tokens S g) : Type 0 where
+  pub why : (has_ended_tokens s ≡ true) ⊎ ((token_request s).range_end ≤ token_place s)
+  pub stays : token_place t ≡ token_place s
+  pub ends : has_ended_tokens t ≡ true
 
--- One call of `next`, from s to t. A token has this index and these spans, and was found by this regex in this haystack.
-pub record IsNextToken {S A : Type 0} {g : _} (bytes : S → List ℕ) (pattern : A → ℕ) (spans : A → List (Option Span)) (searched : A → S) (found_by : A → Regex) (s : Tokens S g) (r : Option (Result A Error)) (t : Tokens S g) : Type 0 where
-  pub gives : MatchOption r (EndsTokens (token_query bytes s) (has_ended_tokens s) (token_place s) (token_place t) (has_ended_tokens t))
-      (λ item. MatchResult item
-      (λ x. GivesToken (token_query bytes s) (token_place s) (token_place t) (pattern x) (found_by x) (spans x) (tokens_left bytes s) (tokens_left bytes t) × (searched x ≡ token_haystack s) × (has_ended_tokens t ≡ false))
-      (λ e. RefusesToken (token_query bytes s) (token_place s) (token_place t) (has_ended_tokens t) e × (has_ended_tokens s ≡ false)))
+-- One call of `next`, from s to t.
+pub record IsNextToken {S : Type 0} {g h : _} (bytes : S → List ℕ) (s : Tokens S g) (r : Option (Result (Token S h) Error)) (t : Tokens S g) : Type 0 where
+  pub answers : ByAnswer r (EndsTokens s t) (λ x. GivesToken bytes x s t) (λ e. RefusesToken bytes e s t)
   pub same_set : token_set t ≡ token_set s
   pub same_haystack : token_haystack t ≡ token_haystack s
   pub same_request : token_request t ≡ token_request s

@@ -4,7 +4,6 @@ ghost use Rattle.std.specs.Prelude.{◌≡◌, ◌≤◌};
 ghost use Rattle.std.specs.Iterator.{at_most};
 ghost use Rattle.fancy_bytes.specs.Lacks.{AreKnown};
 ghost use Rattle.fancy_input.specs.Inputs.{haystack_in, request_in};
-ghost use Rattle.fancy_core.specs.Captures.{spans_in, searched_in, found_by};
 ghost use Rattle.fancy_regex.specs.Sets.{CanSearchAll};
 
 mod borrowed_text;
@@ -101,12 +100,11 @@ impl<'r, S: Input> Tokens<'r, S> {
 }
 
 impl<'r, S: Input> Iterator for Tokens<'r, S> {
-    ghost use Rattle.fancy_regex.specs.TokenLists.{IsNextToken, token_turns, token_pattern, token_captures};
+    ghost use Rattle.fancy_regex.specs.TokenLists.{IsNextToken, token_turns};
 
     type Item = Result<Token<'r, S>>;
 
-    ghost next_gives = { IsNextToken S.bytes (λ t. token_pattern t) (λ t. spans_in (token_captures t))
-        (λ t. searched_in (token_captures t)) (λ t. found_by (token_captures t)) };
+    ghost next_gives = { IsNextToken S.bytes };
 
     ghost remaining = { λ t. at_most (token_turns t) };
 

@@ -6,7 +6,6 @@ ghost use Rattle.std.specs.Iterator.{at_most};
 ghost use Rattle.fancy_bytes.specs.Lacks.{AreKnown};
 ghost use Rattle.fancy_input.specs.Inputs.{haystack_in, request_in};
 ghost use Rattle.fancy_input.specs.Requests.{effective_start};
-ghost use Rattle.fancy_core.specs.Captures.{spans_in, searched_in, found_by};
 ghost use Rattle.fancy_regex.specs.SetAnswers.{IsItemOf};
 ghost use Rattle.fancy_regex.specs.Sets.{members_of, asked_of_set, CanSearchAll};
 
@@ -116,12 +115,11 @@ impl<'r, S: Input> RegexSetMatchesAt<'r, S> {
 }
 
 impl<'r, S: Input> Iterator for RegexSetMatchesAt<'r, S> {
-    ghost use Rattle.fancy_regex.specs.SetMatches.{IsNextOfSet, set_of, next_member, pattern_index, captures_of};
+    ghost use Rattle.fancy_regex.specs.SetMatches.{IsNextOfSet, set_of, next_member};
 
     type Item = Result<RegexSetMatch<'r, S>>;
 
-    ghost next_gives = { IsNextOfSet S.bytes (λ m. pattern_index m) (λ m. spans_in (captures_of m))
-        (λ m. searched_in (captures_of m)) (λ m. found_by (captures_of m)) };
+    ghost next_gives = { IsNextOfSet S.bytes };
 
     ghost remaining = { λ m. at_most (length (members_of (set_of m)) - next_member m) };
 

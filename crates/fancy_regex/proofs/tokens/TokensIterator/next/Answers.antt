@@ -11,16 +11,14 @@ returns-in-Ok-clause-steps g c =
     let end = end_is _ s.place given.end c.end-self.result given.span c.end-self.ensures in
     let moves = given.moves in
     record {
-      gives = (
-        record {
-          moves = omega (arith, moves, end);
-          first = goes_on_with q s.place _ given.end c.end-self.result s.ended c.if-self.false given.is end;
-          groups = given.item;
-          limits = c.in-Ok.ensures.limits;
-        },
-        given.within,
-        c.if-self.false,
-      );
+      answers = record {
+        moves = omega (arith, moves, end);
+        first = goes_on_with q s.place _ given.end c.end-self.result s.ended c.if-self.false given.is end;
+        groups = given.item;
+        within = given.within;
+        limits = c.in-Ok.ensures.limits;
+        goes_on = c.if-self.false;
+      };
       same_set = refl;
       same_haystack = refl;
       same_request = refl;

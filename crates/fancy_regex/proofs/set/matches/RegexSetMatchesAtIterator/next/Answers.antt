@@ -2,7 +2,7 @@ use Rattle.std.proofs.Common.{rules, refl, sym, subst, ◌∙◌, arith}
 use Rattle.fancy_input.specs.Inputs.{haystack_in}
 use Rattle.fancy_regex.specs.Sets.{asked_of_set}
 use Rattle.fancy_regex.specs.SetAnswers.{IsFirstAnswer}
-use Rattle.fancy_regex.proofs.SetLemmas.{item_is_inside, item_is_matched, gives_kept, none_left, if_none}
+use Rattle.fancy_regex.proofs.SetLemmas.{item_is_inside, item_is_matched, kept_item, none_before, none_left, if_none}
 use Rattle.fancy_regex.proofs.set.matches.RegexSetMatchesAtIterator.next.Goals as goal
 
 pub overflow_add-self : goal.overflow_add-self
@@ -25,8 +25,17 @@ pub returns-in-Some-clause-steps : goal.returns-in-Some-clause-steps
 returns-in-Some-clause-steps g c =
     let s = c.args.self.now in
     let item = s.kept c.in-Some.captures (sym c.take.ensures.value ∙ c.in-Some.is) in
+    let q = asked_of_set s.set.now g.S.Haystack.bytes s.input in
+    let index = c.new.ensures.pattern in
+    let kept = kept_item q (haystack_in s.input) s.position s.next _ c.in-Some.captures _ index c.new.ensures.captures item in
     record {
-      gives = gives_kept (asked_of_set s.set.now g.S.Haystack.bytes s.input) (haystack_in s.input) s.position s.next _ c.in-Some.captures _ c.new.ensures.pattern c.new.ensures.captures item;
+      answers = record {
+        reached = omega (arith, index);
+        first = none_before q s.position s.next _ index;
+        item = kept.0;
+        within = kept.1;
+        goes_on = rw index refl;
+      };
       same_set = refl;
       same_haystack = refl;
       same_request = refl;
@@ -46,7 +55,7 @@ returns-in_default-answer_from-clause-steps g c =
     let none = if_none _ c.answer_from.result c.in_default-answer_from.not-Some c.answer_from.ensures.none in
     let all = c.len-self.ensures in
     record {
-      gives = (none_left (asked_of_set s.set.now g.S.Haystack.bytes s.input) s.position s.next none, omega (arith, all));
+      answers = record { none = none_left (asked_of_set s.set.now g.S.Haystack.bytes s.input) s.position s.next none; ended = omega (arith, all) };
       same_set = refl;
       same_haystack = refl;
       same_request = refl;
