@@ -1,15 +1,16 @@
 //! All matches, one after another.
 //!
 //! `left_in` gives the matches that are left, `next_request` what the next search is asked, and `end_in` where the search
-//! starts that finds none. `GivesFirst` says that a call gives the first that is left, or a refusal after which none is.
+//! starts that finds none. A call of `next` gives the first that is left, or a refusal after which none is.
 
-ghost use Rattle.std.specs.Prelude.{◌+◌, ◌<◌, ◌^◌, ◌≡◌, IfNone, MatchOption, false, ⊤};
+ghost use Rattle.std.specs.Prelude.{◌+◌, ◌<◌, ◌^◌, ◌∷◌, ◌≡◌, IfNone, MatchOption, [], false, ⊤};
 ghost use Rattle.fancy_regex.specs.CaptureIterations.{groups_in_whole, groups_left, groups_of_input, matches_in};
 ghost use Rattle.fancy_regex.specs.Captures.{found_by, searched_in, spans_in};
 ghost use Rattle.fancy_regex.specs.Inputs.{haystack_in, request_in};
-ghost use Rattle.fancy_regex.specs.Iterations.{allows_next, end_in, has_ended, haystack_of, items_bound, left_in, next_request, refuses_next, regex_in, spans_left};
+ghost use Rattle.fancy_regex.specs.Iterations.{RefusesMatch, allows_next, end_in, has_ended, haystack_of, items_bound, left_in, next_request, regex_in, spans_left};
+ghost use Rattle.fancy_regex.specs.NextAnswers.{ByAnswer};
 ghost use Rattle.fancy_regex.specs.Regexes.{options_in};
-ghost use Rattle.fancy_regex.specs.Remaining.{EndsUnlessOk, GivesFirst, IfItem, IfRefusal, UnlessRefusal, next_start};
+ghost use Rattle.fancy_regex.specs.Remaining.{EndsUnlessOk, IfItem, IfRefusal, UnlessRefusal, next_start};
 ghost use Rattle.fancy_regex.specs.Requests.{whole};
 ghost use Rattle.fancy_regex.specs.Searches.{CanSearchInput, last_start_in_whole, last_start_of_input, matches_in_whole, matches_of_input};
 ghost use Rattle.fancy_regex.specs.Searching.{Suits};
@@ -48,8 +49,13 @@ pub fn find_iter_input<S: Input>(regex: &Regex, input: RegexInput<S>) -> Matches
 
 /// The next match.
 pub fn next_match<S: Input>(matches: &mut Matches<'_, S>) -> Option<Result<S::Match>>
-    ensures gives { GivesFirst (refuses_next S.text S.bytes) S.span (spans_left S.text S.bytes)
-        matches.old result matches.new }
+    ensures none { IfNone result (left_in S.text S.bytes matches.old ≡ []) }
+    ensures gives { IfItem result (λ x. spans_left S.text S.bytes matches.old
+        ≡ S.span x ∷ spans_left S.text S.bytes matches.new) }
+    ensures refuses { ByAnswer result ⊤ (λ _. ⊤)
+        (λ e. RefusesMatch S.text S.bytes e matches.old matches.new) }
+    ensures left { ByAnswer result (left_in S.text S.bytes matches.new ≡ []) (λ _. ⊤)
+        (λ _. left_in S.text S.bytes matches.new ≡ []) }
     ensures allowed { UnlessRefusal result (allows_next S.text S.bytes matches.old) }
     ensures within { IfItem result (λ x. S.within x ≡ S.bytes (haystack_of matches.old)) }
     ensures regex { regex_in matches.new ≡ regex_in matches.old }
@@ -115,9 +121,13 @@ pub fn captures_iter_input<S: Input>(regex: &Regex, input: RegexInput<S>) -> Cap
 pub fn next_captures<'r, S: Input>(
     matches: &mut CaptureMatches<'r, S>,
 ) -> Option<Result<Captures<'r, S>>>
-    ensures gives { GivesFirst (λ m e. refuses_next S.text S.bytes (matches_in m) e)
-        (λ c. spans_in c)
-        (groups_left S.text S.bytes) matches.old result matches.new }
+    ensures none { IfNone result (left_in S.text S.bytes (matches_in matches.old) ≡ []) }
+    ensures gives { IfItem result (λ c. groups_left S.text S.bytes matches.old
+        ≡ spans_in c ∷ groups_left S.text S.bytes matches.new) }
+    ensures refuses { ByAnswer result ⊤ (λ _. ⊤)
+        (λ e. RefusesMatch S.text S.bytes e (matches_in matches.old) (matches_in matches.new)) }
+    ensures left { ByAnswer result (left_in S.text S.bytes (matches_in matches.new) ≡ [])
+        (λ _. ⊤) (λ _. left_in S.text S.bytes (matches_in matches.new) ≡ []) }
     ensures allowed { UnlessRefusal result
         (allows_next S.text S.bytes (matches_in matches.old)) }
     ensures within { IfItem result (λ c. searched_in c ≡ haystack_of (matches_in matches.old)) }

@@ -5,7 +5,7 @@
 //! matches where it is 0.
 
 ghost use Rattle.std.specs.Cow.{IsBorrowedStr, cow_str_bytes};
-ghost use Rattle.std.specs.Prelude.{◌↔◌, ◌≡◌, ◌⊎◌, Err, IfErr, IfOk, None, Ok, OnErr, OnOk, Some, [], chars, false, option_map, string_bytes, true};
+ghost use Rattle.std.specs.Prelude.{◌↔◌, ◌≡◌, ◌⊎◌, Err, IfErr, IfOk, None, Ok, OnErr, OnOk, [], chars, false, option_map, string_bytes, true};
 ghost use Rattle.fancy_regex.specs.Appended.{AddsSome};
 ghost use Rattle.fancy_regex.specs.Escapes.{escape_of, has_special};
 ghost use Rattle.fancy_regex.specs.GroupTexts.{bytes_of_str, seen_in, seen_in_str};

@@ -9,7 +9,7 @@ ghost use Rattle.fancy_regex.specs.Pieces.{past_piece, pieces_left, rest_of};
 ghost use Rattle.fancy_regex.specs.Regexes.{options_in};
 ghost use Rattle.fancy_regex.specs.Remaining.{IfItem, IfRefusal};
 ghost use Rattle.fancy_regex.specs.Searching.{Suits};
-ghost use Rattle.fancy_regex.specs.Splits.{GivesPiece, GivesRest, RefusesPiece, at_start, first_left, has_ended_splitn, pieces_allowed, pieces_bound, progress, searches, split_allows_next, split_in, split_refuses_next, split_regex};
+ghost use Rattle.fancy_regex.specs.Splits.{GivesPiece, GivesRest, RefusesOfFirst, RefusesPiece, at_start, first_left, has_ended_splitn, pieces_allowed, pieces_bound, progress, searches, split_allows_next, split_in, split_regex};
 
 use fancy_regex::{Regex, Result, Split, SplitN};
 
@@ -26,10 +26,12 @@ pub fn split<'r, 't>(regex: &'r Regex, text: &'t str) -> Split<'r, 't>
 
 /// The next piece.
 pub fn next_piece<'t>(pieces: &mut Split<'_, 't>) -> Option<Result<&'t str>>
-    ensures gives { ByAnswer result (pieces_left (progress pieces.old) ≡ [])
-        (λ x. pieces_left (progress pieces.old) ≡ x.now ∷ pieces_left (progress pieces.new))
-        (λ e. split_refuses_next pieces.old e
-        × (pieces_left (progress pieces.new) ≡ rest_of (progress pieces.old) ∷ [])) }
+    ensures none { IfNone result (pieces_left (progress pieces.old) ≡ []) }
+    ensures gives { IfItem result
+        (λ x. pieces_left (progress pieces.old) ≡ x.now ∷ pieces_left (progress pieces.new)) }
+    ensures refuses { ByAnswer result ⊤ (λ _. ⊤) (λ e. RefusesPiece e pieces.old pieces.new) }
+    ensures rest { IfRefusal result
+        (pieces_left (progress pieces.new) ≡ rest_of (progress pieces.old) ∷ []) }
     ensures allowed { IfItem result (λ _. split_allows_next pieces.old) }
     ensures moves { ByAnswer result (progress pieces.new ≡ progress pieces.old)
         (λ _. progress pieces.new ≡ past_piece (progress pieces.old))
@@ -54,16 +56,16 @@ pub fn splitn<'r, 't>(regex: &'r Regex, text: &'t str, limit: usize) -> SplitN<'
 
 /// The next of these.
 pub fn next_of_first<'t>(pieces: &mut SplitN<'_, 't>) -> Option<Result<&'t str>>
-    ensures gives { ByAnswer result (first_left pieces.old ≡ [])
-        (λ x. first_left pieces.old ≡ x.now ∷ first_left pieces.new)
-        (λ e. split_refuses_next (split_in pieces.old) e
-        × (first_left pieces.new ≡ rest_of (progress (split_in pieces.old)) ∷ [])) }
+    ensures none { IfNone result (first_left pieces.old ≡ []) }
+    ensures gives { IfItem result (λ x. first_left pieces.old ≡ x.now ∷ first_left pieces.new) }
+    ensures refuses { ByAnswer result ⊤ (λ _. ⊤) (λ e. RefusesOfFirst e pieces.old pieces.new) }
     ensures next { IfItem result (λ x. 1 < pieces_allowed pieces.old
         → GivesPiece x.now (split_in pieces.old) (split_in pieces.new)) }
-    ensures rest { IfItem result (λ x. pieces_allowed pieces.old ≡ 1
+    ensures last { IfItem result (λ x. pieces_allowed pieces.old ≡ 1
         → GivesRest x.now (split_in pieces.old) (split_in pieces.new)) }
-    ensures refused { ByAnswer result ⊤ (λ _. ⊤) (λ e. (1 < pieces_allowed pieces.old)
-        × RefusesPiece e (split_in pieces.old) (split_in pieces.new)) }
+    ensures refused { IfRefusal result (1 < pieces_allowed pieces.old) }
+    ensures rest { IfRefusal result
+        (first_left pieces.new ≡ rest_of (progress (split_in pieces.old)) ∷ []) }
     ensures counts { pieces_allowed pieces.new ≡ pieces_allowed pieces.old - 1 }
     ensures ends { MatchOption result (has_ended_splitn pieces.new ≡ true)
         (λ _. has_ended_splitn pieces.old ≡ false) }

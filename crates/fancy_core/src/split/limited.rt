@@ -1,6 +1,6 @@
 //! The first pieces of a text between matches.
 
-ghost use Rattle.std.specs.Prelude.{◌≡◌, true, false};
+ghost use Rattle.std.specs.Prelude.{◌≡◌, true};
 ghost use Rattle.std.specs.Iterator.{at_most};
 ghost use Rattle.fancy_core.specs.Regexes.{options_in};
 ghost use Rattle.fancy_search.specs.Searching.{Suits};
