@@ -17,7 +17,7 @@ use Rattle.fancy_core.specs.Captures.{found_by}
 use Rattle.fancy_core.specs.Limited.{RefusesAt, AllowsAt}
 use Rattle.fancy_core.specs.Regexes.{group_count_in, query}
 use Rattle.fancy_core.specs.Searches.{groups_of_attempt}
-use Rattle.fancy_regex.specs.SetMembers.{SetQuery, asked, has_answer_at, members_at_from, members_at, any_answer_at, set_position, NoneBetween, IsMemberItem, RefusesMember, RefusesSet}
+use Rattle.fancy_regex.specs.SetMembers.{SetQuery, asked, has_answer_at, members_at_from, members_at, any_answer_at, set_position, NoneBetween, IsMemberItem, MayStartAt, RefusesMember, RefusesSet}
 use Rattle.fancy_regex.specs.SetAnswers.{IsItemOf, IsFirstOfSet}
 use Rattle.fancy_regex.proofs.SetListLemmas.{nothing_kept, nothing_passes, nothing_found, kept_from, found_first, some_passes}
 
@@ -62,11 +62,12 @@ module _ (q : SetQuery) (p : ℕ) where
     allowed = subst (λ (x : Request). AllowsAt member (query member q.haystack x) p) same_request (subst (λ (x : List ℕ). AllowsAt member (query member x request) p) same_haystack allowed);
   })
 
-  pub member_refuses : (k : ℕ) (member : Regex) (e : Error) (haystack : List ℕ) (request : Request) → slice_get q.members k ≡ Some member → haystack ≡ q.haystack → request ≡ q.request
+  pub member_refuses : (k : ℕ) (member : Regex) (e : Error) (haystack : List ℕ) (request : Request) → slice_get q.members k ≡ Some member → MayStartAt q p member → haystack ≡ q.haystack → request ≡ q.request
       → RefusesAt member (query member haystack request) p e → RefusesMember q p k e
-  member_refuses k member e haystack request is same_haystack same_request refuses = record {
+  member_refuses k member e haystack request is starts same_haystack same_request refuses = record {
     member = member;
     is = is;
+    starts = starts;
     refuses = subst (λ (x : Request). RefusesAt member (query member q.haystack x) p e) same_request (subst (λ (x : List ℕ). RefusesAt member (query member x request) p e) same_haystack refuses);
   }
 

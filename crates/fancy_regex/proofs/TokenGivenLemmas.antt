@@ -1,11 +1,11 @@
 -- What the longest match at a place says of the token there.
-use Rattle.std.proofs.Common.{◌≡◌, ℕ, zero, suc, ◌<◌, ◌≤◌, Bool, false, List, [], ◌∷◌, Option, Some, option_map, if◌then◌else◌, slice_get, length, refl, sym, ap, subst, ◌∙◌, arith}
+use Rattle.std.proofs.Common.{◌≡◌, ℕ, zero, suc, ◌<◌, ◌≤◌, Bool, true, false, List, [], ◌∷◌, Option, Some, None, is_some, option_map, if◌then◌else◌, slice_get, length, refl, sym, ap, subst, ◌∙◌, arith}
 use Rattle.std.specs.Option.{option_and_then}
 use Rattle.fancy_tree.specs.declared.error.Error.{Error}
 use Rattle.fancy_tree.specs.declared.error.Error.TheVariants.{Memory}
 use Rattle.fancy_input.specs.declared.span.Span.{Span}
 use Rattle.fancy_input.specs.Spans.{from_to}
-use Rattle.fancy_engine.specs.Search.{Answer, attempt, span_of}
+use Rattle.fancy_engine.specs.Search.{Answer, answer_at, attempt, span_of}
 use Rattle.fancy_search.specs.Groups.{span_at, spans_of}
 use Rattle.fancy_core.specs.declared.regex.Regex.{Regex}
 use Rattle.fancy_core.specs.Limited.{AllowsAt}
@@ -14,6 +14,7 @@ use Rattle.fancy_regex.specs.SetMembers.{SetQuery, asked, IsMemberItem}
 use Rattle.fancy_regex.specs.Tokens.{placed_at, found_by_member, token_at, tokens_from, KeepLimits, KeepsLimitAt}
 use Rattle.fancy_regex.specs.TokenLists.{IsRefusedByMember}
 use Rattle.fancy_regex.proofs.SetLemmas.{some_group}
+use Rattle.fancy_regex.proofs.SetCandidateLemmas.{answers_start}
 use Rattle.fancy_regex.proofs.TokenLemmas.{first_and_rest}
 
 -- group 0 of what was found
@@ -26,6 +27,10 @@ whole_span r a spans p groups starts =
     ap (λ (x : List (Option Span)). span_at x 0) groups
     ∙ zero_group (group_count_in r) a (some_group r)
     ∙ ap (λ (x : ℕ). Some (from_to x a.state.place)) starts
+
+attempted : {A B : Type 0} (f : A → B) (b : B) (o : Option A) → Some b ≡ option_map f o → is_some o ≡ true
+attempted f b None e = absurd (cc)
+attempted f b (Some x) e = refl
 
 module _ (q : SetQuery) (p : ℕ) where
   pub found_by_that : (k : ℕ) (r : Regex) (a : Answer) → slice_get q.members k ≡ Some r → found_by_member q p k ≡ Some a → Some a ≡ attempt (asked (placed_at q p) r) p
@@ -51,10 +56,10 @@ module _ (q : SetQuery) (p : ℕ) where
   pub limits_below : (n m : ℕ) → m ≤ n → KeepLimits q p n → KeepLimits q p m
   limits_below n m le keep k r below is may = keep k r (omega (arith, le, below)) is may
 
-  pub out_of_memory_at : (k : ℕ) (r : Regex) (e : Error) → slice_get q.members k ≡ Some r → e ≡ Memory → k < length q.members → KeepLimits q p (length q.members) → IsRefusedByMember q p e
-  out_of_memory_at k r e is same inside keep = rw same (record {
+  pub out_of_memory_at : (k : ℕ) (r : Regex) (e : Error) (a : Answer) → slice_get q.members k ≡ Some r → found_by_member q p k ≡ Some a → e ≡ Memory → k < length q.members → KeepLimits q p (length q.members) → IsRefusedByMember q p e
+  out_of_memory_at k r e a is finds same inside keep = rw same (record {
     index = k;
-    refuses = record { member = r; is = is; refuses = tt };
+    refuses = record { member = r; is = is; starts = answers_start (placed_at q p) p r (attempted _ a (answer_at (asked (placed_at q p) r) p) (found_by_that k r a is finds)); refuses = tt };
     limits = limits_below (length q.members) k (omega (arith, inside)) keep;
   })
 

@@ -1,19 +1,19 @@
 -- The longest match at a place, as the members are gone through.
-use Rattle.std.proofs.Common.{◌≡◌, ℕ, ◌+◌, ◌<◌, ◌≤◌, Option, Some, None, IfSome, slice_get, take, length, inl, inr, refl, sym, subst, ◌∙◌, arith, true≢false}
+use Rattle.std.proofs.Common.{◌≡◌, ℕ, ◌+◌, ◌<◌, ◌≤◌, false, Option, Some, None, slice_get, take, length, inl, inr, refl, sym, subst, ◌∙◌, arith, true≢false}
 use Rattle.std.proofs.lemmas.Bool.Decides.{leb_tells}
 use Rattle.fancy_engine.specs.declared.found.Found.{Found}
 use Rattle.fancy_engine.specs.Search.{Answer}
 use Rattle.fancy_search.specs.declared.cache.Cache.{Cache}
 use Rattle.fancy_search.specs.Cached.{found_at}
-use Rattle.fancy_regex.specs.declared.set.candidates.Groups.{Groups}
-use Rattle.fancy_regex.specs.declared.set.candidates.Candidates.{Candidates}
+use Rattle.fancy_core.specs.declared.regex.Regex.{Regex}
+use Rattle.fancy_core.specs.RegexStarts.{regex_may_start}
 use Rattle.fancy_regex.specs.declared.tokens.longest.Longest.{Longest}
-use Rattle.fancy_regex.specs.Candidates.{groups_before, AreCandidatesOf, NoMemberBetween}
+use Rattle.fancy_regex.specs.Candidates.{NoStarterBetween}
 use Rattle.fancy_regex.specs.SetMembers.{SetQuery}
 use Rattle.fancy_regex.specs.Tokens.{TokenItem, placed_at, found_by_member, candidate_at, token_at, KeepLimits, KeepsLimitAt}
 use Rattle.fancy_regex.specs.LongestMatches.{end_so_far, IsLongest, IsLongestIfAny}
 use Rattle.fancy_regex.proofs.TokenLemmas.{candidate_is, not_found, found_offers, fails_there, offered_is, offered_where, token_given, no_token}
-use Rattle.fancy_regex.proofs.SetCandidateLemmas.{others_fail}
+use Rattle.fancy_regex.proofs.SetCandidateLemmas.{none_starts}
 
 module _ (q : SetQuery) (p : ℕ) where
   -- what members offer that were gone through ends by the longest so far
@@ -126,23 +126,22 @@ module _ (q : SetQuery) (p : ℕ) where
         | inr before ↦ keep k r before.1 is may
       ]
 
-  -- members that the table passes over
-  module _ (c : Candidates) (all : AreCandidatesOf q.members c) (byte : IfSome (slice_get (take q.request.range_end q.haystack) p) (λ b. b < 256)) where
-    abbrev groups : Groups
-    groups = groups_before c (slice_get (take q.request.range_end q.haystack) p)
-
-    pub passed_over : (n m : ℕ) (o : Option Longest) (cache : Cache) → n ≤ m → NoMemberBetween c.width groups n m → IsLongestIfAny q p n o cache → IsLongestIfAny q p m o cache
+  -- members that may not start there
+  module _ (next : Option ℕ) (there : next ≡ slice_get (take q.request.range_end q.haystack) p) where
+    pub passed_over : (n m : ℕ) (o : Option Longest) (cache : Cache) → n ≤ m → NoStarterBetween q.members next n m → IsLongestIfAny q p n o cache → IsLongestIfAny q p m o cache
     passed_over n m o cache le none is =
         passed_to n m o cache le
         (λ k u from below offers.
-        let fails = others_fail (placed_at q p) c all p (take q.request.range_end q.haystack) refl byte k (none k from below) in
+        let fails = none_starts (placed_at q p) p next there n m none k from below in
         let no : candidate_at q p k ≡ None = not_found q p k (fails_there q p k fails) in
         absurd (let e : Some u ≡ None = sym offers ∙ no in cc))
         is
 
-    pub limits_over : (n m : ℕ) → NoMemberBetween c.width groups n m → KeepLimits q p n → KeepLimits q p m
+    pub limits_over : (n m : ℕ) → NoStarterBetween q.members next n m → KeepLimits q p n → KeepLimits q p m
     limits_over n m none keep k r below is may =
         elim (leb_tells n k) [
-          | inl later ↦ absurd (let there = all _ byte k r is may in true≢false (sym there ∙ none k later.1 below))
+          | inl later ↦ absurd (
+              let out : regex_may_start r (slice_get (take q.request.range_end q.haystack) p) ≡ false = subst (λ (o : Option ℕ). regex_may_start r o ≡ false) there (none k r later.1 below is) in
+              true≢false (sym may ∙ out))
           | inr before ↦ keep k r before.1 is may
         ]

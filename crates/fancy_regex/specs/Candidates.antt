@@ -1,11 +1,10 @@
 -- Which members of a pattern set may begin right before a byte. Neighbours share a group: the member with index k is in the group k / width.
-use Rattle.std.specs.Prelude.{◌≡◌, ◌≤◌, ◌<◌, ◌/◌, ◌==◌, ℕ, Bool, true, false, List, Option, Some, None, IfSome, slice_get, slice_index_or}
+use Rattle.std.specs.Prelude.{◌≡◌, ◌≤◌, ◌<◌, ◌/◌, ◌==◌, ℕ, Bool, true, false, List, Option, Some, None, IfSome, length, slice_get, slice_index_or}
 use Rattle.std.specs.Int.{bit_at}
 use Rattle.fancy_core.specs.declared.regex.Regex.{Regex}
 use Rattle.fancy_core.specs.RegexStarts.{regex_may_start}
 use Rattle.fancy_regex.specs.declared.set.candidates.Groups.{Groups}
 use Rattle.fancy_regex.specs.declared.set.candidates.Candidates.{Candidates}
-use Rattle.fancy_regex.specs.SetMembers.{SetQuery, has_answer_at}
 
 -- the group with this number is there
 unfoldable pub has_group : Groups → ℕ → Bool
@@ -62,6 +61,13 @@ pub record IsNextMember (width : ℕ) (groups : Groups) (from count k : ℕ) : T
   pub there : has_group groups (k / width) ≡ true
   pub none : NoMemberBetween width groups from k
 
--- the members in none of the groups have no accepted outcome at p
-abbrev pub OthersFail : SetQuery → ℕ → ℕ → Groups → Type 0
-OthersFail q p width groups = (k : ℕ) → has_group groups (k / width) ≡ false → has_answer_at q p k ≡ false
+-- no member with an index from the one on and below the other may start right before this byte, or before none
+abbrev pub NoStarterBetween : List Regex → Option ℕ → ℕ → ℕ → Type 0
+NoStarterBetween members next from to = (k : ℕ) (r : Regex) → from ≤ k → k < to → slice_get members k ≡ Some r → regex_may_start r next ≡ false
+
+-- k is the first index, from the one on, of a member that may
+pub record IsNextStarter (members : List Regex) (next : Option ℕ) (from k : ℕ) : Type 0 where
+  pub reached : from ≤ k
+  pub inside : k < length members
+  pub starts : (r : Regex) → slice_get members k ≡ Some r → regex_may_start r next ≡ true
+  pub none : NoStarterBetween members next from k

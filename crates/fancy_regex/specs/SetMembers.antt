@@ -1,5 +1,5 @@
 -- What the members of a pattern set have at the positions of an input. A member is known by its index.
-use Rattle.std.specs.Prelude.{◌≡◌, ◌≤◌, ◌<◌, ◌+◌, ◌-◌, ℕ, Bool, false, List, [], ◌∷◌, length, filter, find, Option, Some, slice_get, is_some}
+use Rattle.std.specs.Prelude.{◌≡◌, ◌≤◌, ◌<◌, ◌+◌, ◌-◌, ℕ, Bool, true, false, List, [], ◌∷◌, length, filter, find, Option, Some, slice_get, take, is_some}
 use Rattle.std.specs.List.{range_with_len, list_any}
 use Rattle.std.specs.Option.{option_and_then}
 use Rattle.fancy_tree.specs.declared.error.Error.{Error}
@@ -10,6 +10,7 @@ use Rattle.fancy_engine.specs.Search.{Query, answer_at}
 use Rattle.fancy_core.specs.declared.regex.Regex.{Regex}
 use Rattle.fancy_core.specs.Limited.{RefusesAt, AllowsAt}
 use Rattle.fancy_core.specs.Regexes.{query}
+use Rattle.fancy_core.specs.RegexStarts.{regex_may_start}
 use Rattle.fancy_core.specs.Searches.{groups_of_attempt}
 
 -- what a set is asked: its members, the bytes of the haystack, and where they are searched
@@ -60,10 +61,15 @@ pub record IsMemberItem (q : SetQuery) (p k : ℕ) (member : Regex) (spans : Lis
   pub groups : Some spans ≡ groups_of_attempt (asked q member) p
   pub allowed : AllowsAt member (asked q member) p
 
--- The member with index k may be refused by this error at p.
+-- a match of the member may start with the byte at p
+abbrev pub MayStartAt : SetQuery → ℕ → Regex → Type 0
+MayStartAt q p r = regex_may_start r (slice_get (take q.request.range_end q.haystack) p) ≡ true
+
+-- The member with index k may be refused by this error at p, where a match of it may start.
 pub record RefusesMember (q : SetQuery) (p k : ℕ) (e : Error) : Type 0 where
   pub member : Regex
   pub is : slice_get q.members k ≡ Some member
+  pub starts : MayStartAt q p member
   pub refuses : RefusesAt member (asked q member) p e
 
 -- The set may be refused by this error: by a member at a position where none with a lower index has an accepted outcome, while none at all has one at the positions before.

@@ -4,8 +4,7 @@ use Rattle.std.specs.Option.{option_and_then}
 use Rattle.fancy_engine.specs.Search.{Answer, attempt}
 use Rattle.fancy_core.specs.declared.regex.Regex.{Regex}
 use Rattle.fancy_core.specs.Limited.{AllowsAt}
-use Rattle.fancy_core.specs.RegexStarts.{regex_may_start}
-use Rattle.fancy_regex.specs.SetMembers.{SetQuery, asked, indices_from}
+use Rattle.fancy_regex.specs.SetMembers.{SetQuery, asked, indices_from, MayStartAt}
 
 -- a token: the index of its pattern, and the byte offsets where it starts and ends
 pub record TokenItem : Type 0 where
@@ -87,10 +86,6 @@ pub record CutsIntoTokens (q : SetQuery) (p : ℕ) : Type 0 where
   pub goes_on : p ≤ end_of_tokens p (tokens_from q p)
   pub joined : texts_of_tokens q.haystack (tokens_from q p) ≡ slice_range q.haystack p (end_of_tokens p (tokens_from q p))
   pub ends : token_at q (end_of_tokens p (tokens_from q p)) ≡ None
-
--- the members that may start with the byte at p
-abbrev pub MayStartAt : SetQuery → ℕ → Regex → Type 0
-MayStartAt q p r = regex_may_start r (slice_get (take q.request.range_end q.haystack) p) ≡ true
 
 -- the member with this index, if there is one, keeps within its limit of returns at p
 abbrev pub KeepsLimitAt : SetQuery → ℕ → ℕ → Type 0

@@ -7,7 +7,7 @@
 //! The table takes no memory beside its own, whatever the set's size: it has one bit for each of 128 groups of neighbours. Up to
 //! 128 members each have a group of their own.
 
-ghost use Rattle.std.specs.Prelude.{◌≡◌, ◌≤◌, ◌<◌, ◌*◌, ◌==◌, ◌||◌, ◌↔◌, ℕ, IfSome, IsTrue, MatchOption, false, length, slice_get};
+ghost use Rattle.std.specs.Prelude.{◌≡◌, ◌≤◌, ◌<◌, ◌*◌, ◌==◌, ◌||◌, ◌↔◌, ℕ, IfSome, IsTrue, MatchOption, false, length};
 
 use fancy_core::regex::Regex;
 
@@ -106,13 +106,13 @@ impl Candidates {
         }
     }
 
-    /// The groups of the members that may begin at a position of the bytes that are searched.
-    pub(crate) fn at(&self, searched: &[u8], position: usize) -> Groups
-        ensures groups { result ≡ groups_before self.now (slice_get searched.now position) }
-        ensures byte { IfSome (slice_get searched.now position) (λ b. b < 256) }
+    /// The groups of the members that may begin right before this byte, or with `None` at the end of the searched range.
+    pub(crate) fn before(&self, next: Option<u8>) -> Groups
+        ensures groups { result ≡ groups_before self.now next }
+        ensures byte { IfSome next (λ b. b < 256) }
     {
-        match searched.get(position) {
-            Some(byte) => self.by_byte[*byte as usize],
+        match next {
+            Some(byte) => self.by_byte[byte as usize],
             None => self.at_end,
         }
     }

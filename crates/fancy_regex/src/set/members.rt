@@ -1,19 +1,20 @@
 //! What the members of a pattern set answer.
 
-ghost use Rattle.std.specs.Prelude.{◌≡◌, ◌≤◌, ◌<◌, None, false, IfNone, IfSome, length};
+ghost use Rattle.std.specs.Prelude.{◌≡◌, ◌≤◌, ◌<◌, None, Some, false, IfNone, IfSome, MatchOption, length, slice_get, take};
 ghost use Rattle.fancy_bytes.specs.Lacks.{AreKnown};
+ghost use Rattle.fancy_core.specs.declared.regex.Regex.{Regex};
 ghost use Rattle.fancy_input.specs.Inputs.{haystack_in, request_in};
 ghost use Rattle.fancy_input.specs.Requests.{effective_start};
-ghost use Rattle.fancy_regex.specs.Candidates.{OthersFail};
-ghost use Rattle.fancy_regex.specs.SetMembers.{has_answer_at, set_position, NoneBetween};
+ghost use Rattle.fancy_regex.specs.Candidates.{IsNextStarter, NoStarterBetween};
+ghost use Rattle.fancy_regex.specs.SetMembers.{has_answer_at, set_position, NoneBetween, MayStartAt};
 ghost use Rattle.fancy_regex.specs.SetAnswers.{IsAnswerOf, IsFirstAnswer, IsFirstOfSet};
 ghost use Rattle.fancy_regex.specs.Sets.{members_of, asked_of_set, CanSearchAll};
 
 use crate::set::RegexSet;
-use crate::set::candidates::Groups;
 use fancy_core::attempt::attempt_at;
 use fancy_core::captures::Captures;
 use fancy_input::input::{Haystack, Input};
+use fancy_input::lines::byte_at;
 use fancy_input::regex_input::RegexInput;
 use fancy_search::cache::AttemptCache;
 use fancy_tree::error::Result;
@@ -51,8 +52,8 @@ impl RegexSet {
         let searched = &haystack.as_bytes()[..request.range_end];
         let last = request.last_position();
         for position in first..last + 1 {
-            let groups = self.candidates.at(searched, position);
-            if let Some(answer) = self.answer_among(groups, 0, input, position, cache) {
+            let next = byte_at(searched, position);
+            if let Some(answer) = self.answer_before(next, 0, input, position, cache) {
                 return Some((position, answer));
             }
         }
@@ -80,21 +81,21 @@ impl RegexSet {
         let haystack = input.haystack();
         let request = input.request();
         let searched = &haystack.as_bytes()[..request.range_end];
-        let groups = self.candidates.at(searched, position);
-        self.answer_among(groups, from, input, position, cache)
+        let next = byte_at(searched, position);
+        self.answer_before(next, from, input, position, cache)
     }
 
-    /// The first answer at a position of the members from an index on that are in one of these groups. `None` where none of them
-    /// finds anything there.
-    fn answer_among<S: Input>(
+    /// The first answer of the members from an index on at a position, where this byte stands, or none at the end of the searched
+    /// range. `None` where none of them finds anything there.
+    fn answer_before<S: Input>(
         &self,
-        groups: Groups,
+        next: Option<u8>,
         from: usize,
         input: &RegexInput<S>,
         position: usize,
         cache: &mut AttemptCache,
     ) -> Option<MemberAnswer<'_, S>>
-        requires others { OthersFail (asked_of_set self.now S.bytes input.now) position self.now.candidates.width groups }
+        requires byte { next ≡ slice_get (take (request_in input.now).range_end (S.bytes (haystack_in input.now))) position }
         requires searched { CanSearchAll S.text S.bytes self.now input.now }
         requires starts { effective_start (request_in input.now) ≤ position }
         requires ends { position ≤ (request_in input.now).range_end }
@@ -105,13 +106,30 @@ impl RegexSet {
         ensures first { IfSome result (λ a. IsFirstAnswer (asked_of_set self.now S.bytes input.now)
             (haystack_in input.now) position from a.index a.answer) }
     {
-        let count = self.members.len();
-        let mut next = from;
-        'members: while let Some(index) = self.candidates.next_member(groups, next, count) {
+        let mut from = from;
+        'members: while let Some(index) = self.next_starter(next, from) {
             if let Some(answer) = self.answer_of(index, input, position, cache) {
                 return Some(MemberAnswer { index, answer });
             }
-            next = index + 1;
+            from = index + 1;
+        }
+        None
+    }
+
+    /// The first member from an index on that may start right before this byte, or with `None` at the end of the searched range.
+    pub(crate) fn next_starter(&self, next: Option<u8>, from: usize) -> Option<usize>
+        ensures { MatchOption result
+            (NoStarterBetween (members_of self.now) next from (length (members_of self.now)))
+            (IsNextStarter (members_of self.now) next from) }
+    {
+        let groups = self.candidates.before(next);
+        let count = self.members.len();
+        let mut from = from;
+        'candidates: while let Some(index) = self.candidates.next_member(groups, from, count) {
+            if self.members[index].may_start_before(next) {
+                return Some(index);
+            }
+            from = index + 1;
         }
         None
     }
@@ -125,6 +143,8 @@ impl RegexSet {
         cache: &mut AttemptCache,
     ) -> Option<Result<Captures<'_, S>>>
         requires member { index < length (members_of self.now) }
+        requires may { (r : Regex) → slice_get (members_of self.now) index ≡ Some r
+            → MayStartAt (asked_of_set self.now S.bytes input.now) position r }
         requires searched { CanSearchAll S.text S.bytes self.now input.now }
         requires starts { effective_start (request_in input.now) ≤ position }
         requires ends { position ≤ (request_in input.now).range_end }

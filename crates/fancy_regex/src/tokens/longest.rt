@@ -16,6 +16,7 @@ use crate::tokens::token::Token;
 use fancy_core::attempt::{captures_found, find_at};
 use fancy_engine::found::Found;
 use fancy_input::input::{Input, Request};
+use fancy_input::lines::byte_at;
 use fancy_input::regex_input::RegexInput;
 use fancy_search::cache::{AttemptCache, Cache};
 use fancy_tree::error::{Error, Result, RuntimeError};
@@ -89,14 +90,13 @@ impl RegexSet {
             anchored: true,
             ..request
         };
-        let groups = self.candidates.at(&haystack[..request.range_end], place);
-        let count = self.members.len();
+        let next = byte_at(&haystack[..request.range_end], place);
         let mut best = None;
-        let mut next = 0;
-        'members: while let Some(index) = self.candidates.next_member(groups, next, count) {
+        let mut from = 0;
+        'members: while let Some(index) = self.next_starter(next, from) {
             let found = find_at(&self.members[index], haystack, here, place, cache)?;
             best = longer(index, found, place, best, &mut cache.engines, longest);
-            next = index + 1;
+            from = index + 1;
         }
         Ok(best)
     }

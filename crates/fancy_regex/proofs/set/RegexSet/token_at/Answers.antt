@@ -1,4 +1,4 @@
-use Rattle.std.proofs.Common.{ℕ, ◌<◌, ◌≤◌, true, Some, length, refl, sym, ap, ap₂, subst, ◌∙◌, arith, inl, inr}
+use Rattle.std.proofs.Common.{◌≡◌, ℕ, ◌<◌, ◌≤◌, true, Some, length, refl, sym, ap, ap₂, subst, ◌∙◌, arith, inl, inr}
 use Rattle.std.proofs.lemmas.Option.{slice_get_read}
 use Rattle.std.proofs.lemmas.Result.{err_from_is_err_and}
 use Rattle.fancy_input.specs.declared.input.Request.{Request}
@@ -13,7 +13,7 @@ use Rattle.fancy_core.specs.Captures.{spans_in, searched_in, found_by}
 use Rattle.fancy_regex.specs.SetMatches.{captures_of}
 use Rattle.fancy_regex.specs.SetMembers.{SetQuery, IsMemberItem}
 use Rattle.fancy_regex.specs.Sets.{members_of, asked_of_set}
-use Rattle.fancy_regex.specs.Tokens.{placed_at, KeepLimits}
+use Rattle.fancy_regex.specs.Tokens.{placed_at, found_by_member, KeepLimits}
 use Rattle.fancy_regex.proofs.SetLemmas.{item_is_matched}
 use Rattle.fancy_regex.proofs.TokenSearchLemmas.{all_gone, none_gone}
 use Rattle.fancy_regex.proofs.TokenGivenLemmas.{whole_span, found_by_that, item_of_found, out_of_memory_at}
@@ -63,7 +63,7 @@ returns-in_err-captures-clause-refused g c =
     let is = slice_get_read s.members.items _ l.index member refl longest.inside c.index-member.ensures in
     let limits = subst (λ (x : SetQuery). KeepLimits x p (length (members_of s))) same c.in_ok-found.ensures.limits in
     let e = err_from_is_err_and c.from_residual-in_err-captures.result c.from_residual-in_err-captures.ensures.1 in
-    rw (e.1, e.2) (inr (out_of_memory_at q p l.index member _ is c.in_err-captures.ensures.refused longest.inside limits))
+    rw (e.1, e.2) (inr (out_of_memory_at q p l.index member _ _ is (subst (λ (x : SetQuery). found_by_member x p l.index ≡ Some (found_at l.found c.longest_at.new.longest)) same longest.finds) c.in_err-captures.ensures.refused longest.inside limits))
 
 pub new-requires : goal.new-requires
 new-requires g c =

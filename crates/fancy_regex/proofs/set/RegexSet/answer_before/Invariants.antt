@@ -1,16 +1,16 @@
-use Rattle.std.proofs.Common.{◌≤◌, ◌-◌}
+use Rattle.std.proofs.Common.{◌≤◌, ◌-◌, length}
 use Rattle.fancy_bytes.specs.Lacks.{AreKnown}
 use Rattle.fancy_input.specs.Inputs.{haystack_in}
 use Rattle.fancy_regex.specs.SetMembers.{NoneBetween}
 use Rattle.fancy_regex.specs.Sets.{asked_of_set}
-use Rattle.fancy_regex.proofs.set.RegexSet.answer_among.Given as goal
+use Rattle.fancy_regex.proofs.set.RegexSet.answer_before.Given as goal
 
 abbrev pub invariant-members : goal.invariant-members
 invariant-members g l = record {
   known : AreKnown l.cache.known (g.S.Haystack.bytes (haystack_in l.input));
-  reached : l.from ≤ l.next;
-  none : NoneBetween (asked_of_set l.self g.S.Haystack.bytes l.input) l.position l.from l.next;
+  reached : l.fn.from ≤ l.from;
+  none : NoneBetween (asked_of_set l.self g.S.Haystack.bytes l.input) l.position l.fn.from l.from;
 }
 
 abbrev pub decreases-members : goal.decreases-members
-decreases-members g l = l.count - l.next
+decreases-members g l = length l.self.members.items - l.from

@@ -1,0 +1,34 @@
+use Rattle.std.proofs.Common.{arith, length}
+use Rattle.fancy_regex.specs.Sets.{asked_of_set}
+use Rattle.fancy_regex.proofs.SetCandidateLemmas.{none_to, none_one_more}
+use Rattle.fancy_regex.proofs.set.RegexSet.answer_before.Goals as goal
+
+pub returns-in-Some-answer_of-clause-first : goal.returns-in-Some-answer_of-clause-first
+returns-in-Some-answer_of-clause-first g c =
+    let starter = c.in-Some.ensures in
+    let first = c.members.invariant.reached in
+    let later = starter.reached in
+    record {
+      reached = omega (arith, first, later);
+      inside = starter.inside;
+      first = none_to (asked_of_set c.args.self.now g.S.Haystack.bytes c.args.input.now) c.args.position c.args.next c.requires.byte c.args.from c.members.from c.in-Some.index c.members.invariant.none starter.none;
+      answers = c.in-Some-answer_of.ensures.some;
+    }
+
+pub members-preserved : goal.members-preserved
+members-preserved g c =
+    let q = asked_of_set c.args.self.now g.S.Haystack.bytes c.args.input.now in
+    let starter = c.in-Some.ensures in
+    let first = c.members.invariant.reached in
+    let later = starter.reached in
+    record {
+      known = c.answer_of.ensures.known;
+      reached = omega (arith, first, later);
+      none = none_one_more q c.args.position c.args.from c.in-Some.index
+          (none_to q c.args.position c.args.next c.requires.byte c.args.from c.members.from c.in-Some.index c.members.invariant.none starter.none)
+          c.in_default-answer_of.ensures.none;
+    }
+
+pub returns-clause-none : goal.returns-clause-none
+returns-clause-none g c =
+    none_to (asked_of_set c.args.self.now g.S.Haystack.bytes c.args.input.now) c.args.position c.args.next c.requires.byte c.args.from c.members.from (length c.args.self.now.members.items) c.members.invariant.none c.in_default.ensures
