@@ -48,16 +48,17 @@ fn a_set_of_a_regex_has_its_groups(rt: HostRuntime) {
     check_first(&rt, found.expect(&rt, "a position"));
 }
 
-/// The set of patterns that seek and may take so many returns, with so many others after them, which match nothing.
-pub(crate) fn seeking(
+/// The set of patterns that seek or do not, and may take so many returns, with so many others after them, which match nothing.
+pub(crate) fn limited(
     rt: &impl Abort,
     alloc: Global,
     patterns: &[&str],
+    seek: bool,
     backtrack_limit: usize,
     others: usize,
 ) -> RegexSet {
     let mut options = RegexOptionsBuilder::new();
-    options.seek(true).backtrack_limit(backtrack_limit);
+    options.seek(seek).backtrack_limit(backtrack_limit);
     let mut all = Vec::new(alloc);
     for pattern in patterns {
         all.push(*pattern).expect(rt, *pattern);
@@ -160,8 +161,20 @@ fn check_part(rt: &impl Abort, set: &RegexSet, &(_, text, range, _, wanted): &Pa
 fn sets_that_seek_count_in_a_part_of_a_text(rt: HostRuntime) {
     for others in OTHERS {
         for row in PARTS {
-            let set = seeking(&rt, rt.alloc(), row.0, row.3, *others);
+            let set = limited(&rt, rt.alloc(), row.0, true, row.3, *others);
             check_part(&rt, &set, row);
         }
+    }
+}
+
+// `(?:x|y)(?=z)` would take a return at the `a`, if it were asked there
+#[test]
+fn a_pattern_that_may_not_start_is_not_asked(rt: HostRuntime) {
+    for others in OTHERS {
+        let patterns = &["(?:x|y)(?=z)", "[a-z]+"];
+        let set = limited(&rt, rt.alloc(), patterns, false, 0, *others);
+        let found = searched(&rt, &set, RegexInput::new("ab")).expect(&rt, "a search");
+        let matches = found.expect(&rt, "a position");
+        check_matches_at(&rt, matches, (set.len(), "ab"), 0, &[Some((1, (0, 2)))]);
     }
 }
