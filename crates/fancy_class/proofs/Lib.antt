@@ -1,5 +1,7 @@
 pub mod WordLemmas
 pub mod EndsLemmas
+pub mod UnionLemmas
+pub mod ItemLemmas
 pub mod ClassBuilderLemmas
 pub mod NumberEscapeLemmas
 pub mod ClassSteps

@@ -1,5 +1,5 @@
 -- What the functions that read a class promise each other.
-use Rattle.std.specs.Prelude.{◌≡◌, ℕ, ◌+◌, ◌*◌, min, ◌&&◌, ◌||◌, nat_le, nat_lt, [], ◌∷◌, Option, Some, None, Result, Ok, Err, if◌then◌else◌}
+use Rattle.std.specs.Prelude.{◌≡◌, ℕ, ◌+◌, ◌*◌, min, ◌&&◌, ◌||◌, nat_le, nat_lt, List, [], ◌∷◌, map, Option, Some, None, Result, Ok, Err, if◌then◌else◌}
 use Rattle.std.specs.Char.{digit_value}
 use Rattle.fancy_class.specs.declared.refusal.ClassRefusal.{ClassRefusal}
 use Rattle.fancy_class.specs.declared.refusal.ClassRefusal.TheVariants.{Memory, Invalid}
@@ -9,7 +9,11 @@ use Rattle.unicode.specs.Rows.{in_ranges}
 use Rattle.fancy_tree.specs.Text.{Text}
 use Rattle.fancy_class.specs.Readings.{IsTheReading, HasNoReading}
 use Rattle.fancy_tree.specs.Members.{Members, members, both}
-use Rattle.fancy_class.specs.ClassGrammar.{fold_case}
+use Rattle.fancy_class.specs.ClassGrammar.{fold_case, item_members, union_of}
+use Rattle.fancy_class.specs.declared.class_item.ClassItem.{ClassItem}
+use Rattle.fancy_class.specs.declared.union_builder.UnionBuilder.{UnionBuilder}
+use Rattle.fancy_tree.specs.declared.tree.Meaning.TheVariants.{Unicode}
+use Rattle.fancy_tree.specs.Named.{in_universe}
 
 -- the fault is the text's own
 abbrev pub IsInvalid : ClassRefusal → Type 0
@@ -31,9 +35,22 @@ abbrev pub ClassGivesValue : {X T : Type 0} → (X → T) → Option (T × Text)
 ClassGivesValue view o (Ok x) q = o ≡ Some (view x, q)
 ClassGivesValue view o (Err e) q = RefusesClass e (o ≡ None)
 
--- the members of an operand so far: those of the set, and the ranges that are still to be widened
+-- the members of a union so far: those that were joined, and those of the ranges that were added since
+abbrev pub union_members : UnionBuilder → Members
+union_members u = both (members u.joined) (λ c. nat_le c 0x10_FFFF && in_ranges u.ranges.items c)
+
+-- the characters in any of these ranges
+abbrev pub characters_in : List (ℕ × ℕ) → Members
+characters_in ranges = λ c. in_universe Unicode c && in_ranges ranges c
+
+-- the members of all these items, under the flags in force
+abbrev pub items_members : ClassContext → List ClassItem → Members
+items_members context items = union_of (map (item_members context.meaning context.fold) items)
+
+-- the members of an operand so far: those of nested classes, those of sets that have a name, and the ranges, which are to be widened
 abbrev pub builder_members : ClassContext → ClassBuilder → Members
-builder_members context builder = both (members builder.set) (fold_case context.meaning context.fold (λ c. nat_le c 0x10_FFFF && in_ranges builder.ranges.items c))
+builder_members context builder =
+    both (both (union_members builder.nested) (fold_case context.meaning context.fold (characters_in builder.ranges.items))) (items_members context builder.named.items)
 
 -- these members were added to those before
 abbrev pub Adds : ClassContext → ClassBuilder → ClassBuilder → Members → Type 0

@@ -4,7 +4,7 @@ use fancy_tree::named::Named;
 use unicode::sets::Set as PropertySet;
 
 /// What an item says that is no nested class; `true` stands for the complement.
-#[derive(Clone, Copy)]
+#[derive(Clone, Copy, PartialEq, Eq)]
 pub enum ClassItem {
     /// The characters from the first to the last.
     Range(char, char),

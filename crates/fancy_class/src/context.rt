@@ -2,10 +2,12 @@
 
 ghost use Rattle.std.specs.Prelude.{◌≡◌, ℕ, IfOk};
 ghost use Rattle.fancy_tree.specs.Members.{members};
-ghost use Rattle.fancy_class.specs.ClassGrammar.{fits, fold_case, negate_if, may_negate};
+ghost use Rattle.fancy_class.specs.ClassGrammar.{fits, fold_case, negate_if, may_negate, set_members, item_members};
 
-use fancy_tree::named::universe;
+use crate::class_item::ClassItem;
+use fancy_tree::named::{characters, members_of, universe};
 use fancy_tree::operation::Operation;
+use fancy_tree::property::property_members;
 use fancy_tree::set::Set;
 use fancy_tree::tree::Meaning;
 use fancy_tree::widening::case_closure;
@@ -59,5 +61,30 @@ impl ClassContext {
             return Ok(set);
         }
         universe(self.alloc, self.meaning)?.combine(Operation::Difference, &set)
+    }
+
+    /// A set that has a name, or its complement where it is negated.
+    fn named_set(self, set: Set, negated: bool) -> Result<Set, AllocError>
+        ensures { IfOk result (λ s. (c : ℕ) → members s c ≡ set_members self.meaning self.fold negated (members set) c) }
+    {
+        let set = self.fold_case(set)?;
+        self.negate_if(negated, set)
+    }
+
+    /// The members of an item.
+    pub fn item_set(self, item: ClassItem) -> Result<Set, AllocError>
+        ensures { IfOk result (λ s. (c : ℕ) → members s c ≡ item_members self.meaning self.fold item c) }
+    {
+        match item {
+            ClassItem::Range(first, last) => {
+                self.fold_case(characters(self.alloc, &[(first as u32, last as u32)])?)
+            }
+            ClassItem::NamedSet(which, negated) => {
+                self.named_set(members_of(self.alloc, self.meaning, which)?, negated)
+            }
+            ClassItem::Property(property, negated) => {
+                self.named_set(property_members(self.alloc, property)?, negated)
+            }
+        }
     }
 }

@@ -1,7 +1,7 @@
 //! Reading a class, as `[a-z&&[^q]]`, and an escape that stands for a character or names a set.
 #![tactic(auto)]
 
-pub mod class_builder;
+mod class_builder;
 pub mod class_item;
 pub mod context;
 pub mod cursor;
@@ -11,4 +11,5 @@ mod posix;
 mod property;
 mod reader;
 pub mod refusal;
+mod union_builder;
 pub mod words;

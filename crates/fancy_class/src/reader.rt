@@ -73,10 +73,10 @@ impl<'a> Cursor<'a> {
         'more: while !self.ends_operand(first) {
             if self.starts_class() {
                 let nested = self.bracketed_class(context, room)?;
-                builder.add_set(&nested)?;
+                builder.add_class(&nested)?;
             } else {
                 let item = self.class_item(context)?;
-                builder.add_item(context, item)?;
+                builder.add_item(item)?;
             }
             first = false;
         }

@@ -8,7 +8,6 @@ ghost use Rattle.fancy_core.specs.Regexes.{group_count_in};
 use crate::regex::Regex;
 use fancy_template::groups::GroupNames;
 use fancy_tree::error::{Error, Result};
-use fancy_tree::name::last_named;
 use std::alloc::{AllocError, Global};
 
 /// The name of each group of a regex, in the order of their numbers; made by [`Regex::capture_names`].
@@ -32,7 +31,7 @@ impl Regex {
         ensures refused { IfErr result (λ e. e ≡ Error.Memory) }
     {
         let mut names = groups_without_names(self.allocator(), self.captures_len())?;
-        let groups = self.names();
+        let groups = self.names().groups();
         for named in groups {
             if named.group < names.len() {
                 names[named.group] = Some(named.name.as_str());
@@ -50,13 +49,12 @@ impl GroupNames for Regex {
     }
 
     fn has_names(&self) -> bool {
-        let groups = self.names();
-        !groups.is_empty()
+        !self.names().groups().is_empty()
     }
 
     /// The number of the last group in the pattern that has this name.
     fn group_named(&self, name: &str) -> Option<usize> {
-        last_named(self.names(), name)
+        self.names().last_named(name)
     }
 
     fn allocator(&self) -> Global {

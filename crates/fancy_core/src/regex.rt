@@ -1,7 +1,7 @@
 //! A compiled pattern, and what it finds.
 
 ghost use Rattle.std.specs.Prelude.{◌≡◌, ◌≤◌, ◌↔◌, ◌+◌, ◌*◌, None, Some, IfOk, IfErr, IfSome, IsTrue, string_bytes, is_some, true, length};
-ghost use Rattle.fancy_tree.specs.Names.{named_groups};
+ghost use Rattle.fancy_tree.specs.GroupNames.{names_of};
 ghost use Rattle.fancy_tree.specs.Sizes.{nodes};
 ghost use Rattle.fancy_input.specs.Inputs.{haystack_in, request_in};
 ghost use Rattle.fancy_engine.specs.Work.{steps_of, returns_of};
@@ -20,7 +20,7 @@ use fancy_search::cache::Cache;
 use fancy_search::options::Options;
 use fancy_search::program::Program;
 use fancy_tree::error::{Error, Result};
-use fancy_tree::name::GroupName;
+use fancy_tree::name::Names;
 use std::alloc::Global;
 use std::fmt;
 
@@ -106,8 +106,8 @@ impl Regex {
     }
 
     /// The names of groups, in the order of their openings.
-    pub(crate) fn names(&self) -> &[GroupName]
-        ensures { named_groups result.now ≡ names_in self.now }
+    pub(crate) fn names(&self) -> &Names
+        ensures { names_of result.now ≡ names_in self.now }
     {
         self.program.names()
     }

@@ -51,7 +51,7 @@ const SIZES: &[SizeRow] = &[
 fn patterns_have_a_size(rt: HostRuntime) {
     for &(options, pattern, wanted) in SIZES {
         let found = parse_with(rt.alloc(), pattern, options).expect(&rt, pattern);
-        let size = (found.tree.nodes(), found.groups, found.names.len());
+        let size = (found.tree.nodes(), found.groups, found.names.groups().len());
         check(&rt, size == wanted, pattern);
     }
 }

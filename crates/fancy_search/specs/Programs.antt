@@ -1,7 +1,7 @@
 -- What a program stands for, and what a search with it asks.
 use Rattle.std.specs.Prelude.{ℕ, Bool, List, IsTrue}
 use Rattle.fancy_tree.specs.Modes.{keeps_characters}
-use Rattle.fancy_tree.specs.Names.{named_groups}
+use Rattle.fancy_tree.specs.GroupNames.{names_of}
 use Rattle.fancy_tree.specs.Pattern.{Pattern}
 use Rattle.fancy_tree.specs.Text.{Text}
 use Rattle.fancy_input.specs.declared.input.Request.{Request}
@@ -25,7 +25,7 @@ program_groups p = p.code.groups
 
 -- the names of groups, each with the number of its group, in the order of the groups' openings
 abbrev pub program_names : Program → List (Text × ℕ)
-program_names p = named_groups p.names.items
+program_names p = names_of p.names
 
 -- how many instructions its code has
 abbrev pub program_length : Program → ℕ

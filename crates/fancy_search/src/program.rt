@@ -2,7 +2,7 @@
 
 ghost use Rattle.std.specs.Prelude.{◌≡◌, ◌≤◌, ◌+◌, ◌*◌, ℕ, Bool, List, None, Some, IfOk, IfErr, IfSome, IsTrue, IsUtf8, chars, true, false, length, string_bytes};
 ghost use Rattle.fancy_tree.specs.Pattern.{Pattern};
-ghost use Rattle.fancy_tree.specs.Names.{named_groups};
+ghost use Rattle.fancy_tree.specs.GroupNames.{names_of};
 ghost use Rattle.fancy_tree.specs.Modes.{keeps_characters};
 ghost use Rattle.fancy_tree.specs.Sizes.{nodes};
 ghost use Rattle.fancy_syntax.specs.Dialect.{IsPattern};
@@ -43,7 +43,7 @@ use fancy_input::lines::byte_at;
 use fancy_machine::search as machine;
 use fancy_syntax::parse::{Parsed, parse_with};
 use fancy_tree::error::{CompileError, Error, Result, RuntimeError};
-use fancy_tree::name::GroupName;
+use fancy_tree::name::Names;
 use fancy_tree::tree::Meaning;
 use std::alloc::Global;
 
@@ -60,14 +60,14 @@ pub struct Program {
     options: Options,
     text: String,
     code: Code,
-    names: Vec<GroupName>,
+    names: Names,
     easy: bool,
     /// Whether the automaton is worth its steps, and follows the code.
     plain: bool,
     /// The bytes that every haystack with a match has.
     required: RequiredBytes,
     pub ghost reading: { Reading options (string_bytes text) } by { one_reading options (string_bytes text) },
-    pub ghost compiled: { ∥ IsCompiled reading.0 code (named_groups names.items) ∥₁ },
+    pub ghost compiled: { ∥ IsCompiled reading.0 code (names_of names) ∥₁ },
     ghost meant: { code.meaning ≡ meaning_in options },
     ghost short: { code_len code ≤ 4 * nodes reading.0 + 2 },
     ghost decided: { easy ≡ is_easy_under options reading.0 },
@@ -131,8 +131,8 @@ impl Program {
     }
 
     /// The names of groups, in the order of their openings.
-    pub fn names(&self) -> &[GroupName]
-        ensures { named_groups result.now ≡ program_names self.now }
+    pub fn names(&self) -> &Names
+        ensures { names_of result.now ≡ program_names self.now }
     {
         &self.names
     }

@@ -11,6 +11,7 @@ use Rattle.fancy_tree.specs.Pattern.{Pattern, pattern_of}
 use Rattle.fancy_tree.specs.Sizes.{size, nodes, are_sized}
 use Rattle.fancy_tree.specs.Text.{Text}
 use Rattle.fancy_tree.specs.Names.{named_groups}
+use Rattle.fancy_tree.specs.GroupNames.{names_of}
 use Rattle.fancy_tree.specs.declared.name.GroupName.{GroupName}
 use Rattle.fancy_syntax.specs.declared.parse.Parsed.{Parsed}
 use Rattle.fancy_syntax.specs.declared.parse.Draft.{Draft}
@@ -127,11 +128,11 @@ module _ (o : DialectOptions) {text whole : Text} (draft : Draft) (s : SpellsDra
 
   pub accepted : {m : ℕ} (first : Parsed) (r : Result Parsed Error) → m ≡ min (nodes (pattern_of draft.tree)) (2 ^ 64 - 1) → m ≤ most_nodes
       → pattern_of first.tree ≡ refers_to (draft_numbers o.only_named draft) (pattern_of draft.tree)
-      → (first.groups ≡ draft.groups) × (first.names ≡ draft.names)
+      → (first.groups ≡ draft.groups) × (names_of first.names ≡ named_groups draft.names.items)
       → AreResolved (draft_groups o.only_named draft) draft.wanted.items
       → IfOk r (λ p. p ≡ first) → IfOk r (λ p. are_sized o.meaning (pattern_of p.tree) ≡ true)
       → IfOk r (λ p. o.not_empty ≡ true → (size o.meaning (pattern_of p.tree) ≡ Some 0) → ⊥)
-      → IfOk r (λ p. (h : IsPattern o whole (pattern_of p.tree)) × (h.end.opened + 1 ≡ p.groups) × (named_groups p.names.items ≡ h.end.names))
+      → IfOk r (λ p. (h : IsPattern o whole (pattern_of p.tree)) × (h.end.opened + 1 ≡ p.groups) × (names_of p.names ≡ h.end.names))
   accepted first (Err e) n few tree kept all same_one sized fills = tt
   accepted first (Ok p) n few tree kept all same_one sized fills =
       let is : pattern_of p.tree ≡ refers_to (numbers o s.0) (pattern_of draft.tree) =
@@ -152,7 +153,7 @@ module _ (o : DialectOptions) {text whole : Text} (draft : Draft) (s : SpellsDra
           small = omega (arith, few_written, as_many);
         },
         s.2 ∙ sym (ap (λ (x : Parsed). x.groups) same_one ∙ kept.0),
-        ap (λ (x : Parsed). named_groups x.names.items) same_one ∙ ap (λ v. named_groups v.items) kept.1 ∙ s.3,
+        ap (λ (x : Parsed). names_of x.names) same_one ∙ kept.1 ∙ s.3,
       )
 
   -- a reference that names no group is the reason of a refusal

@@ -64,11 +64,11 @@ any_named [] = refl
 any_named (n ∷ names) = let some : (length (n ∷ names) == 0) ≡ false = grind (arith, nat_tests) in rw some refl
 
 -- the groups that the code resolves by are those of the pattern
-pub same_groups : (only_named : Bool) (draft : Draft) (b : Bool) (listed : List GroupName) → b ≡ (only_named && has_name (named_groups listed)) → listed ≡ draft.names.items
-    → ◌≡◌ {A = Groups} (record { by_name = b; opened = draft.groups - 1; names = named_groups listed }) (draft_groups only_named draft)
-same_groups only_named draft b listed h e =
-    ap₂ (λ (x : Bool) (names : List (Text × ℕ)). let g : Groups = record { by_name = x; opened = draft.groups - 1; names = names } in g)
-    (h ∙ ap (λ (l : List GroupName). only_named && has_name (named_groups l)) e) (ap named_groups e)
+pub same_groups : (only_named : Bool) (draft : Draft) (b : Bool) (names : List (Text × ℕ)) → b ≡ (only_named && has_name names) → names ≡ named_groups draft.names.items
+    → ◌≡◌ {A = Groups} (record { by_name = b; opened = draft.groups - 1; names = names }) (draft_groups only_named draft)
+same_groups only_named draft b names h e =
+    ap₂ (λ (x : Bool) (ns : List (Text × ℕ)). let g : Groups = record { by_name = x; opened = draft.groups - 1; names = ns } in g)
+    (h ∙ ap (λ (ns : List (Text × ℕ)). only_named && has_name ns) e) e
 
 -- one more reference
 module _ (g : Groups) (ts : List Found_target) (i : ℕ) (t : Found_target) (below : i < length ts) (is : t ≡ get_or ts i t) where

@@ -26,6 +26,7 @@ use Rattle.fancy_tree.specs.Pattern.{Pattern, pattern_of, in_sequence, in_branch
 use Rattle.fancy_tree.specs.Sizes.{size, are_sized}
 use Rattle.fancy_tree.specs.Text.{Text}
 use Rattle.fancy_tree.specs.Names.{named_groups}
+use Rattle.fancy_tree.specs.GroupNames.{names_of}
 use Rattle.fancy_tree.specs.Refers.{number_in}
 use Rattle.fancy_syntax.specs.References.{Target, numbered, missing, called, called_or_numbered, ReferenceFault, by_name_alone, no_number, no_name, Groups, target_fault, group_for}
 use Rattle.fancy_syntax.specs.Flags.{flags_of}
@@ -54,7 +55,7 @@ abbrev pub reading_of : Found_target × Bor Text → Target × Text
 reading_of r = (target_of r.0, r.1.now)
 
 abbrev pub groups_of : Found_groups → Groups
-groups_of g = record { by_name = g.by_name; opened = g.count - 1; names = named_groups g.names.now }
+groups_of g = record { by_name = g.by_name; opened = g.count - 1; names = names_of g.names.now }
 
 -- the groups of a whole pattern; they are referred to by name alone where only those with a name capture and there is one
 abbrev pub draft_groups : Bool → Draft → Groups

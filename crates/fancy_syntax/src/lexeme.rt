@@ -19,7 +19,6 @@ use crate::escape::{
 };
 use crate::parser::{Parser, unexpected_fault};
 use crate::reference::{begins_reference, read_reference, reference_fault};
-use fancy_class::class_builder::ClassBuilder;
 use fancy_class::class_item::ClassItem;
 use fancy_class::context::{ClassContext, may_negate};
 use fancy_class::escape::{control, set_letter};
@@ -161,10 +160,7 @@ impl<'a> Parser<'a> {
     fn class_item_tree(&self, item: ClassItem) -> Result<Tree, AllocError>
         ensures { IfOk result (λ t. IsMeant (class_item_lexeme (scope_of self.now) item) (pattern_of t)) }
     {
-        let context = self.context();
-        let mut builder = ClassBuilder::new(self.alloc);
-        builder.add_item(context, item)?;
-        Ok(set_tree(builder.build(context)?))
+        Ok(set_tree(self.context().item_set(item)?))
     }
 
     /// Reads so many characters that stand for this one.

@@ -5,6 +5,7 @@ ghost use Rattle.fancy_tree.specs.declared.error.Error.TheVariants.{Memory};
 ghost use Rattle.fancy_tree.specs.Sizes.{size, are_sized};
 ghost use Rattle.fancy_syntax.specs.Dialect.{standard, begin, Spells, SpellsUnder, IsPattern};
 ghost use Rattle.fancy_tree.specs.Names.{named_groups};
+ghost use Rattle.fancy_tree.specs.GroupNames.{names_of};
 ghost use Rattle.fancy_tree.specs.Pattern.{Pattern, pattern_of};
 ghost use Rattle.fancy_tree.specs.Refers.{refers_to};
 ghost use Rattle.fancy_syntax.specs.Refusals.{IsRefused};
@@ -16,7 +17,7 @@ use crate::reference::Target;
 use crate::resolve::{Groups, names_alone};
 use fancy_class::cursor::Cursor;
 use fancy_tree::error::{CompileError, Error, ParseErrorKind};
-use fancy_tree::name::{GroupName, characters_of};
+use fancy_tree::name::{GroupName, Names, characters_of};
 use fancy_tree::tree::{Meaning, Tree};
 use std::alloc::Global;
 
@@ -61,7 +62,7 @@ pub struct Parsed {
     /// `groups - 1`, in the order of their openings.
     pub groups: usize,
     /// The names of groups, in the order of their openings.
-    pub names: Vec<GroupName>,
+    pub names: Names,
 }
 
 /// Reads a pattern, whose items are characters.
@@ -107,7 +108,7 @@ pub struct Parsed {
 pub fn parse(alloc: Global, pattern: &str) -> Result<Parsed, Error>
     ensures accepted { IfOk result
         (λ r. (h : IsPattern standard (chars pattern.now) (pattern_of r.tree)) × (h.end.opened + 1 ≡ r.groups)
-        × (named_groups r.names.items ≡ h.end.names)) }
+        × (names_of r.names ≡ h.end.names)) }
     ensures refused { IfErr result (λ e. IsRefused e standard (chars pattern.now)) }
     ensures succeeds { (p : Pattern) → IsPattern standard (chars pattern.now) p → IfErr result (λ e. e ≡ Memory) }
 {
@@ -128,7 +129,7 @@ pub fn parse(alloc: Global, pattern: &str) -> Result<Parsed, Error>
 pub fn parse_with(alloc: Global, pattern: &str, options: ParseOptions) -> Result<Parsed, Error>
     ensures accepted { IfOk result
         (λ r. (h : IsPattern (dialect_options options) (chars pattern.now) (pattern_of r.tree))
-        × (h.end.opened + 1 ≡ r.groups) × (named_groups r.names.items ≡ h.end.names)) }
+        × (h.end.opened + 1 ≡ r.groups) × (names_of r.names ≡ h.end.names)) }
     ensures refused { IfErr result (λ e. IsRefused e (dialect_options options) (chars pattern.now)) }
     ensures succeeds { (p : Pattern) → IsPattern (dialect_options options) (chars pattern.now) p
         → IfErr result (λ e. e ≡ Memory) }
@@ -174,7 +175,7 @@ impl Draft {
     /// Puts the number of its group in each reference.
     fn resolve(self, alloc: Global, only_named: bool) -> Result<Parsed, Error>
         ensures tree { IfOk result (λ r. pattern_of r.tree ≡ refers_to (draft_numbers only_named self) (pattern_of self.tree)) }
-        ensures same { IfOk result (λ r. (r.groups ≡ self.groups) × (r.names ≡ self.names)) }
+        ensures same { IfOk result (λ r. (r.groups ≡ self.groups) × (names_of r.names ≡ named_groups self.names.items)) }
         ensures resolved { IfOk result (λ r. AreResolved (draft_groups only_named self) self.wanted.items) }
         ensures refused { IfErr result (λ e. RefusesReference e (HaveFault (draft_groups only_named self) self.wanted.items)) }
     {
@@ -184,12 +185,11 @@ impl Draft {
             names,
             wanted,
         } = self;
-        let listed = names.as_slice();
-        let by_name = names_alone(only_named, listed);
+        let names = Names::new(alloc, names)?;
         let all = Groups {
-            by_name,
+            by_name: names_alone(only_named, &names),
             count: groups,
-            names: listed,
+            names: &names,
         };
         let numbers = all.resolve_all(alloc, &wanted)?;
         tree.refer(&numbers);

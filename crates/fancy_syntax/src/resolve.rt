@@ -2,14 +2,14 @@
 
 ghost use Rattle.std.specs.Prelude.{◌≡◌, ℕ, ◌-◌, ◌^◌, ◌&&◌, min, map, IfOk, IfErr, chars, string_bytes};
 ghost use Rattle.fancy_syntax.specs.Dialect.{has_name};
-ghost use Rattle.fancy_tree.specs.Names.{named_groups};
+ghost use Rattle.fancy_tree.specs.GroupNames.{names_of};
 ghost use Rattle.fancy_syntax.specs.References.{no_name as no_name_fault, group_numbered, group_in_digits, resolve, group_for};
 ghost use Rattle.fancy_syntax.specs.Views.{target_of, targets_of, groups_of, AreResolved, HaveFault, Resolves, RefusesReference};
 
 use crate::count::{decimal, past_digits};
 use crate::reference::{LARGEST_TOLD, Target};
 use fancy_tree::error::{CompileError, Error};
-use fancy_tree::name::{GroupName, characters_of, last_named};
+use fancy_tree::name::{Names, characters_of};
 use std::alloc::Global;
 
 /// The groups of a whole pattern, as references look at them.
@@ -19,16 +19,15 @@ pub(crate) struct Groups<'a> {
     pub(crate) by_name: bool,
     /// How many there are, with group 0, the whole match.
     pub(crate) count: usize,
-    /// Their names, in the order of their openings.
-    pub(crate) names: &'a [GroupName],
+    pub(crate) names: &'a Names,
 }
 
 /// Whether groups are referred to by name alone: where only those with a name are to capture, and there is one.
 #[tactic(auto, using(crate::proofs::ResolveLemmas::any_named))]
-pub(crate) fn names_alone(only_named: bool, names: &[GroupName]) -> bool
-    ensures { result ≡ (only_named && has_name (named_groups names.now)) }
+pub(crate) fn names_alone(only_named: bool, names: &Names) -> bool
+    ensures { result ≡ (only_named && has_name (names_of names.now)) }
 {
-    only_named && !names.is_empty()
+    only_named && !names.groups().is_empty()
 }
 
 /// The refusal of a reference to a name that no group has.
@@ -76,11 +75,11 @@ impl Groups<'_> {
                 Err(Error::CompileError(CompileError::InvalidBackref(*number)))
             }
             Target::Missing(_) => Err(Error::CompileError(CompileError::NamedBackrefOnly)),
-            Target::Called(name) => match last_named(self.names, name.as_str()) {
+            Target::Called(name) => match self.names.last_named(name.as_str()) {
                 Some(group) => Ok(group),
                 None => Err(no_name(alloc, name.as_str())),
             },
-            Target::CalledOrNumbered(name) => match last_named(self.names, name.as_str()) {
+            Target::CalledOrNumbered(name) => match self.names.last_named(name.as_str()) {
                 Some(group) => Ok(group),
                 None => self.resolve_digits(alloc, name.as_str()),
             },

@@ -8,6 +8,7 @@ pub mod Sizes
 pub mod Refers
 pub mod GroupNumbers
 pub mod Names
+pub mod GroupNames
 pub mod Members
 pub mod Widening
 pub mod Named

@@ -84,7 +84,7 @@ pub fn universe(alloc: Global, meaning: Meaning) -> Result<Set, AllocError>
 }
 
 /// What is left of the ranges without surrogates.
-pub(crate) fn characters(alloc: Global, ranges: &[(u32, u32)]) -> Result<Set, AllocError>
+pub fn characters(alloc: Global, ranges: &[(u32, u32)]) -> Result<Set, AllocError>
     ensures { IfOk result (λ s. (c : ℕ) → members s c ≡ (in_universe Meaning.Unicode c && in_ranges ranges.now c)) }
 {
     let all = universe(alloc, Meaning::Unicode)?;

@@ -1,15 +1,26 @@
-use Rattle.std.proofs.Common.{ap, ◌∙◌, ◌||◌}
-use mathlib.Core.Path.{fun_ext}
-use Rattle.fancy_class.specs.ClassGrammar.{set_members}
-use Rattle.fancy_class.specs.ClassViews.{builder_members}
+use Rattle.std.proofs.Common.{◌≡◌, ◌||◌, true, sym, ap, ◌∙◌}
+use Rattle.std.specs.List.{list_any}
+use Rattle.fancy_class.specs.contracts.class_item.ClassItemPartialEq.TheImpl as TheImpl
+use Rattle.fancy_class.specs.ClassGrammar.{fold_case}
+use Rattle.fancy_class.specs.ClassViews.{union_members, characters_in, items_members}
+use Rattle.fancy_class.proofs.ClassBuilderLemmas.{builder_range, items_more, items_again}
 use Rattle.fancy_class.proofs.class_builder.ClassBuilder.add_item.Goals as goal
 
-pub returns-in_ok-add_named_set-in-NamedSet : goal.returns-in_ok-add_named_set-in-NamedSet
-returns-in_ok-add_named_set-in-NamedSet c =
-    let context = c.args.context in
-    rw c.in-NamedSet.is (λ x. c.in_ok-add_named_set-in-NamedSet.ensures x ∙ ap (λ f. builder_members context c.args.self.now x || set_members context.meaning context.fold c.in-NamedSet.negated f x) (fun_ext c.in_ok-set-in-NamedSet.ensures))
+pub returns-in_ok-push : goal.returns-in_ok-push
+returns-in_ok-push c = λ context x.
+    let old = c.args.self.now in
+    rw c.in-Range.is
+    (builder_range context.meaning context.fold (union_members old.nested) old.ranges.items c.push.new.self.items c.in-Range.first c.in-Range.last (items_members context old.named.items x) x c.in_ok-push.ensures.items)
 
-pub returns-in_ok-add_named_set-in-Property : goal.returns-in_ok-add_named_set-in-Property
-returns-in_ok-add_named_set-in-Property c =
-    let context = c.args.context in
-    rw c.in-Property.is (λ x. c.in_ok-add_named_set-in-Property.ensures x ∙ ap (λ f. builder_members context c.args.self.now x || set_members context.meaning context.fold c.in-Property.negated f x) (fun_ext c.in_ok-set-in-Property.ensures))
+pub returns-in_ok-push-2 : goal.returns-in_ok-push-2
+returns-in_ok-push-2 c = λ context x.
+    let old = c.args.self.now in
+    items_more context old.named.items c.push-then-not-contains.new.self.items c.args.item (union_members old.nested x || fold_case context.meaning context.fold (characters_in old.ranges.items) x) x c.in_ok-push-2.ensures.items
+
+
+pub returns-else-not-contains : goal.returns-else-not-contains
+returns-else-not-contains c = λ context x.
+    let old = c.args.self.now in
+    let again : list_any (λ y. (TheImpl.ghosts).eq y c.args.item) old.named.items ≡ true =
+    ap (list_any (λ y. (TheImpl.ghosts).eq y c.args.item)) (sym c.deref.ensures.value) ∙ (sym c.contains.ensures.value ∙ c.if-not-contains.false) in
+    items_again context old.named.items c.args.item (union_members old.nested x || fold_case context.meaning context.fold (characters_in old.ranges.items) x) x again

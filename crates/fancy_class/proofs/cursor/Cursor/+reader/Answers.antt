@@ -44,15 +44,15 @@ items-returns-in_err-item-clause-value t c =
     refused members (λ u f v. OperandItemsReading c.args.context.meaning c.args.context.fold c.args.room c.args.first none_of u f v) c.from_residual-in_err-item.result _ _ p.0 c.in_err-item.field-0.0 p.1 p.2
     (RefusesClass-weaker c.in_err-item.field-0.0 (λ nothing. no_item c.more.invariant.goes_on (sym c.more-test.ensures) (no_class_item (sym c.if-starts_class.ensures.value) nothing)) c.in_err-item.ensures.value)
 
-pub items-more-preserved-in_ok-add_set : goal.items-more-preserved-in_ok-add_set
-items-more-preserved-in_ok-add_set t c = record {
-  goes_on = goes_on_then c.more.invariant.goes_on (items_step (sym c.more-test.ensures) (nested_is (sym c.if-starts_class.ensures.value) c.in_ok-nested.ensures.value) (fun_ext (c.in_ok-add_set.ensures c.args.context)));
+pub items-more-preserved-in_ok-add_class : goal.items-more-preserved-in_ok-add_class
+items-more-preserved-in_ok-add_class t c = record {
+  goes_on = goes_on_then c.more.invariant.goes_on (items_step (sym c.more-test.ensures) (nested_is (sym c.if-starts_class.ensures.value) c.in_ok-nested.ensures.value) (fun_ext (c.in_ok-add_class.ensures c.args.context)));
   forward = omega (arith, c.more.invariant.forward, c.in_ok-nested.ensures.progress);
 }
 
 pub items-more-preserved : goal.items-more-preserved
 items-more-preserved t c = record {
-  goes_on = goes_on_then c.more.invariant.goes_on (items_step (sym c.more-test.ensures) (simple_is (sym c.if-starts_class.ensures.value) c.in_ok-item.ensures.value refl) (fun_ext c.in_ok-add_item.ensures));
+  goes_on = goes_on_then c.more.invariant.goes_on (items_step (sym c.more-test.ensures) (simple_is (sym c.if-starts_class.ensures.value) c.in_ok-item.ensures.value refl) (fun_ext (c.in_ok-add_item.ensures c.args.context)));
   forward = omega (arith, c.more.invariant.forward, c.in_ok-item.ensures.progress);
 }
 

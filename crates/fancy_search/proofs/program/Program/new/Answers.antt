@@ -1,6 +1,6 @@
 use Rattle.std.proofs.Common.{refl, sym, ◌∙◌, ◌+◌, ap, subst, inl, inr, arith}
 use Rattle.fancy_syntax.specs.Dialect.{DialectOptions}
-use Rattle.fancy_tree.specs.Names.{named_groups}
+use Rattle.fancy_tree.specs.GroupNames.{names_of}
 use Rattle.fancy_search.specs.Compiled.{IsSpelled}
 use Rattle.fancy_search.specs.Options.{is_easy_under}
 use Rattle.fancy_search.proofs.ReadingLemmas.{spelled_in, read_as}
@@ -79,7 +79,7 @@ pub returns-clause-spelled : goal.returns-clause-spelled
 returns-clause-spelled c =
     let h = rw c.parse_options.ensures at c.in_ok-tree.ensures.accepted in
     let is = read_as c.args.options c.result-1.given.0 c.in_ok-text.ensures.ok h.0 in
-    subst (λ q. IsSpelled c.args.options c.args.pattern.now q c.in_ok-code.code.groups (named_groups c.in_ok-tree.field-0.names.items)) is (record {
+    subst (λ q. IsSpelled c.args.options c.args.pattern.now q c.in_ok-code.code.groups (names_of c.in_ok-tree.field-0.names)) is (record {
       spelled = h.0;
       counted = h.1 ∙ sym c.in_ok-code.ensures.groups;
       named = sym h.2;
