@@ -76,6 +76,15 @@ or_second true y z w = refl
 or_second false true z w = refl
 or_second false false z w = or_last false z w
 
+or-true : (b : Bool) → (b || true) ≡ true
+or-true true = refl
+or-true false = refl
+
+pub or_first : (x y w z : Bool) → (((x || z) || y) || w) ≡ (((x || y) || w) || z)
+or_first true y w z = refl
+or_first false y w true = sym (or-true (y || w))
+or_first false y w false = sym (or-false (y || w))
+
 pub builder_none : (m : Meaning) (i : Bool) (f : Members) (rs : List (ℕ × ℕ)) (b : Bool) (c : ℕ) → f c ≡ false → rs ≡ [] → b ≡ false → ((f c || fold_case m i (characters_in rs) c) || b) ≡ false
 builder_none m i f rs b c e is g =
     let nothing : characters_in rs ≡ none_of = fun_ext (λ x. ap (λ l. in_universe Unicode x && in_ranges l x) is ∙ (ap (λ y. in_universe Unicode x && y) (in_ranges-nil x) ∙ and-false (in_universe Unicode x))) in
@@ -108,10 +117,6 @@ or_within true y z h = refl
 or_within false y false h = sym (or-false y)
 or_within false true true h = refl
 or_within false false true h = h refl
-
-or-true : (b : Bool) → (b || true) ≡ true
-or-true true = refl
-or-true false = refl
 
 -- the members of an item that is among these are theirs
 one_of : (context : ClassContext) (items : List ClassItem) (item : ClassItem) (c : ℕ) → list_any (λ x. (TheImpl.ghosts).eq x item) items ≡ true → item_members context.meaning context.fold item c ≡ true → items_members context items c ≡ true

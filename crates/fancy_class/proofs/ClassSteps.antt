@@ -1,5 +1,6 @@
 -- What the reader's loops and branches say of the grammar.
 use Rattle.std.proofs.Common.{◌≡◌, ℕ, suc, ◌+◌, Bool, true, false, Some, None, drop, refl, sym, ap, ◌∙◌, subst, arith, add-one, Result, Ok, Err}
+use mathlib.Core.Path.{fun_ext}
 use Rattle.fancy_tree.specs.Text.{Text}
 use Rattle.fancy_class.specs.Words.{is_at}
 use Rattle.fancy_class.specs.ClassGrammar.{class_item, ends_operand, starts_class, may_negate, negate_if, item_members, none_of}
@@ -89,6 +90,10 @@ module _ {m : Meaning} {i : Bool} {k : ℕ} where
         let o = h.1 n.0 n.1 n.2 in
         subst (λ z. OperandsReading m i k z s g r) (sym is) (subst (λ z. OperandsReading m i k (λ c. applied how (f c) (x c)) z g r) o.1 (subst (λ (z : Members). OperandsReading m i k (λ c. applied how (f c) (z c)) n.1 g r) o.0 n.3));
   }
+
+  -- the first operand, by members that are the same
+  pub first_operand : {f g : Members} {p q : Text} → IsTheReading (λ u v w. OperandItemsReading m i k true none_of u v w) p f q → ((c : ℕ) → g c ≡ f c) → IsTheReading (λ u v w. OperandItemsReading m i k true none_of u v w) p g q
+  first_operand {f} {g} {p} {q} h e = subst (λ x. IsTheReading (λ u v w. OperandItemsReading m i k true none_of u v w) p x q) (sym (fun_ext e)) h
 
   -- ---- one item
   pub simple_is : {p q : Text} {t : ClassItem} {x : Members} → starts_class p ≡ false → class_item m p ≡ Some (t, q) → x ≡ item_members m i t → IsTheReading (OperandItemReading m i k) p x q

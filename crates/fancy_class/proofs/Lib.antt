@@ -1,6 +1,6 @@
 pub mod WordLemmas
 pub mod EndsLemmas
-pub mod UnionLemmas
+pub mod ChainLemmas
 pub mod ItemLemmas
 pub mod ClassBuilderLemmas
 pub mod NumberEscapeLemmas

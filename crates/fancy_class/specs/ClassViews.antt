@@ -1,5 +1,5 @@
 -- What the functions that read a class promise each other.
-use Rattle.std.specs.Prelude.{◌≡◌, ℕ, ◌+◌, ◌*◌, min, ◌&&◌, ◌||◌, nat_le, nat_lt, List, [], ◌∷◌, map, Option, Some, None, Result, Ok, Err, if◌then◌else◌}
+use Rattle.std.specs.Prelude.{◌≡◌, ℕ, ◌+◌, ◌*◌, min, ◌&&◌, ◌||◌, nat_lt, List, [], ◌∷◌, map, Option, Some, None, Result, Ok, Err, if◌then◌else◌}
 use Rattle.std.specs.Char.{digit_value}
 use Rattle.fancy_class.specs.declared.refusal.ClassRefusal.{ClassRefusal}
 use Rattle.fancy_class.specs.declared.refusal.ClassRefusal.TheVariants.{Memory, Invalid}
@@ -7,11 +7,11 @@ use Rattle.fancy_class.specs.declared.class_builder.ClassBuilder.{ClassBuilder}
 use Rattle.fancy_class.specs.declared.context.ClassContext.{ClassContext}
 use Rattle.unicode.specs.Rows.{in_ranges}
 use Rattle.fancy_tree.specs.Text.{Text}
+use Rattle.fancy_class.specs.Chains.{chain_members}
 use Rattle.fancy_class.specs.Readings.{IsTheReading, HasNoReading}
-use Rattle.fancy_tree.specs.Members.{Members, members, both}
+use Rattle.fancy_tree.specs.Members.{Members, both}
 use Rattle.fancy_class.specs.ClassGrammar.{fold_case, item_members, union_of}
 use Rattle.fancy_class.specs.declared.class_item.ClassItem.{ClassItem}
-use Rattle.fancy_class.specs.declared.union_builder.UnionBuilder.{UnionBuilder}
 use Rattle.fancy_tree.specs.declared.tree.Meaning.TheVariants.{Unicode}
 use Rattle.fancy_tree.specs.Named.{in_universe}
 
@@ -35,10 +35,6 @@ abbrev pub ClassGivesValue : {X T : Type 0} → (X → T) → Option (T × Text)
 ClassGivesValue view o (Ok x) q = o ≡ Some (view x, q)
 ClassGivesValue view o (Err e) q = RefusesClass e (o ≡ None)
 
--- the members of a union so far: those that were joined, and those of the ranges that were added since
-abbrev pub union_members : UnionBuilder → Members
-union_members u = both (members u.joined) (λ c. nat_le c 0x10_FFFF && in_ranges u.ranges.items c)
-
 -- the characters in any of these ranges
 abbrev pub characters_in : List (ℕ × ℕ) → Members
 characters_in ranges = λ c. in_universe Unicode c && in_ranges ranges c
@@ -50,7 +46,7 @@ items_members context items = union_of (map (item_members context.meaning contex
 -- the members of an operand so far: those of nested classes, those of sets that have a name, and the ranges, which are to be widened
 abbrev pub builder_members : ClassContext → ClassBuilder → Members
 builder_members context builder =
-    both (both (union_members builder.nested) (fold_case context.meaning context.fold (characters_in builder.ranges.items))) (items_members context builder.named.items)
+    both (both (chain_members builder.nested) (fold_case context.meaning context.fold (characters_in builder.ranges.items))) (items_members context builder.named.items)
 
 -- these members were added to those before
 abbrev pub Adds : ClassContext → ClassBuilder → ClassBuilder → Members → Type 0

@@ -6,10 +6,11 @@ ghost use Rattle.fancy_class.specs.declared.context.ClassContext.{ClassContext a
 ghost use Rattle.fancy_class.specs.ClassGrammar.{item_members};
 ghost use Rattle.fancy_class.specs.ClassViews.{builder_members, Adds};
 
+use crate::chain::Chain;
 use crate::class_item::ClassItem;
 use crate::context::ClassContext;
-use crate::union_builder::UnionBuilder;
 use fancy_tree::named::characters;
+use fancy_tree::operation::Operation;
 use fancy_tree::set::Set;
 use std::alloc::{AllocError, Global};
 
@@ -21,7 +22,7 @@ pub(crate) struct ClassBuilder {
     /// The sets that have a name, each once.
     named: Vec<ClassItem>,
     /// The nested classes.
-    nested: UnionBuilder,
+    nested: Chain,
 }
 
 impl ClassBuilder {
@@ -32,15 +33,16 @@ impl ClassBuilder {
         ClassBuilder {
             ranges: Vec::new(alloc),
             named: Vec::new(alloc),
-            nested: UnionBuilder::new(alloc),
+            nested: Chain::new(alloc, Set::empty(alloc)),
         }
     }
 
     /// Adds a nested class.
-    pub(crate) fn add_class(&mut self, set: &Set) -> Result<(), AllocError>
-        ensures { OnOk result ((context : Context) → Adds context self.old self.new (members set.now)) }
+    pub(crate) fn add_class(&mut self, set: Set) -> Result<(), AllocError>
+        ensures { OnOk result ((context : Context) → Adds context self.old self.new (members set)) }
     {
-        self.nested.add(set)
+        self.nested.add(Operation::Union, set)?;
+        Ok(())
     }
 
     /// Adds what an item says. A set that has a name is added once, however often it is named.
@@ -66,10 +68,10 @@ impl ClassBuilder {
             nested: mut all,
         } = self;
         let ranges = characters(context.alloc, &ranges)?;
-        all.add(&context.fold_case(ranges)?)?;
+        all.add(Operation::Union, context.fold_case(ranges)?)?;
         for item in &named {
-            all.add(&context.item_set(*item)?)?;
+            all.add(Operation::Union, context.item_set(*item)?)?;
         }
-        all.set()
+        all.into_set()
     }
 }

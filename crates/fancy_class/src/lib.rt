@@ -1,6 +1,7 @@
 //! Reading a class, as `[a-z&&[^q]]`, and an escape that stands for a character or names a set.
 #![tactic(auto)]
 
+mod chain;
 mod class_builder;
 pub mod class_item;
 pub mod context;
@@ -11,5 +12,4 @@ mod posix;
 mod property;
 mod reader;
 pub mod refusal;
-mod union_builder;
 pub mod words;

@@ -6,6 +6,7 @@ ghost use Rattle.fancy_class.specs.ClassGrammar.{none_of, ReadsClass, ReadsEdges
 ghost use Rattle.fancy_class.specs.ClassReading.{is_bracket, ClassReading, OperandItemsReading};
 ghost use Rattle.fancy_class.specs.ClassViews.{ClassGives};
 
+use crate::chain::Chain;
 use crate::class_builder::ClassBuilder;
 use crate::context::{ClassContext, may_negate};
 use crate::cursor::Cursor;
@@ -44,16 +45,18 @@ impl<'a> Cursor<'a> {
         if room == 0 {
             return Err(ClassRefusal::Invalid(ParseErrorKind::RecursionExceeded));
         }
-        let mut set = self.items(context, room - 1, true)?;
+        let first = self.items(context, room - 1, true)?;
+        let mut chain = Chain::new(context.alloc, first);
         'operands: while let Some(how) = self.operator() {
             self.skip(2);
             let right = self.items(context, room - 1, false)?;
-            set = set.combine(how, &right)?;
+            chain.add(how, right)?;
         }
         if !is_at_any(self.rest, &[']']) {
             return Err(ClassRefusal::Invalid(ParseErrorKind::InvalidClass));
         }
         self.skip(1);
+        let set = chain.into_set()?;
         Ok(context.negate_if(negated, set)?)
     }
 
@@ -73,7 +76,7 @@ impl<'a> Cursor<'a> {
         'more: while !self.ends_operand(first) {
             if self.starts_class() {
                 let nested = self.bracketed_class(context, room)?;
-                builder.add_class(&nested)?;
+                builder.add_class(nested)?;
             } else {
                 let item = self.class_item(context)?;
                 builder.add_item(item)?;

@@ -1,7 +1,7 @@
 use Rattle.std.proofs.Common.{◌+◌, ◌*◌, ◌-◌, ◌≤◌, length}
-use Rattle.fancy_tree.specs.Members.{members}
 use Rattle.fancy_class.specs.ClassGrammar.{none_of}
 use Rattle.fancy_class.specs.ClassReading.{OperandItemsReading, OperandsReading}
+use Rattle.fancy_class.specs.Chains.{chain_members}
 use Rattle.fancy_class.specs.ClassViews.{builder_members}
 use Rattle.fancy_class.proofs.ClassSteps.{GoesOn}
 use Rattle.fancy_class.proofs.cursor.Cursor.+reader.Given as goal
@@ -14,7 +14,7 @@ decreases-items l = 2 * l.room + 1
 
 abbrev pub invariant-bracketed_class-operands : goal.invariant-bracketed_class-operands
 invariant-bracketed_class-operands l = record {
-  goes_on : GoesOn (λ g r. OperandsReading l.context.meaning l.context.fold (l.room - 1) (members l.initial.set) l.initial.self.rest.now g r) (λ g r. OperandsReading l.context.meaning l.context.fold (l.room - 1) (members l.set) l.self.rest.now g r);
+  goes_on : GoesOn (λ g r. OperandsReading l.context.meaning l.context.fold (l.room - 1) (chain_members l.initial.chain) l.initial.self.rest.now g r) (λ g r. OperandsReading l.context.meaning l.context.fold (l.room - 1) (chain_members l.chain) l.self.rest.now g r);
   forward : length l.self.rest.now ≤ length l.initial.self.rest.now;
 }
 
