@@ -18,7 +18,6 @@ returns-in_ok-push-2 c = λ context x.
     let old = c.args.self.now in
     items_more context old.named.items c.push-then-not-contains.new.self.items c.args.item (chain_members old.nested x || fold_case context.meaning context.fold (characters_in old.ranges.items) x) x c.in_ok-push-2.ensures.items
 
-
 pub returns-else-not-contains : goal.returns-else-not-contains
 returns-else-not-contains c = λ context x.
     let old = c.args.self.now in

@@ -14,7 +14,7 @@ loop-named-init c = (as_many c.in_ok-names.names.items c.captures_len.result c.i
 
 pub loop-named-preserved : goal.loop-named-preserved
 loop-named-preserved c =
-    let groups = c.names-groups.result.now in
+    let groups = c.groups-groups.result.now in
     let old = c.loop-named.names.items in
     let placed : Placed old (named_groups (take c.loop-named.named-index groups)) = c.loop-named.invariant.1 in
     elim c.if-named-len.branch [
@@ -36,7 +36,7 @@ loop-named-preserved c =
 
 pub returns-clause-names : goal.returns-clause-names
 returns-clause-names c =
-    let all : named_groups (take c.loop-named.named-index c.names-groups.result.now) ≡ names_in c.args.self.now = ap named_groups (take_all c.loop-named.named-index c.names-groups.result.now c.loop-named-test.false) ∙ c.names-groups.ensures in
+    let all : named_groups (take c.loop-named.named-index c.groups-groups.result.now) ≡ names_in c.args.self.now = ap named_groups (take_all c.loop-named.named-index c.groups-groups.result.now c.loop-named-test.false) ∙ (c.groups-groups.ensures ∙ c.names.ensures) in
     placed_all c.loop-named.names.items (group_count_in c.args.self.now) (names_in c.args.self.now) c.loop-named.invariant.0 (subst (λ l. Placed c.loop-named.names.items l) all c.loop-named.invariant.1)
 
 pub returns-clause-count : goal.returns-clause-count
