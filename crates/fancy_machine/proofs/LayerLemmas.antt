@@ -1,7 +1,7 @@
 -- The layers as frames.
-use Rattle.std.proofs.Common.{◌≡◌, ℕ, zero, suc, ◌+◌, ◌-◌, ◌<◌, ◌≤◌, true, false, List, [], ◌∷◌, ◌++◌, length, map, take, drop, set, get_or, Option, Some, refl, sym, ap, ap₂, ◌∙◌, subst, arith, true≢false, length-append}
-use Rattle.std.specs.Prelude.{reverse, slice_index_or}
-use Rattle.std.proofs.lemmas.List.{take_more, map-append, reverse-append, drop-append-le, take-append-drop, length-take-le, set-set, set-get_or, map-set}
+use Rattle.std.proofs.Common.{◌≡◌, ℕ, zero, suc, ◌+◌, ◌<◌, ◌≤◌, true, false, List, [], ◌∷◌, ◌++◌, length, map, take, drop, set, get_or, Option, Some, refl, sym, ap, ap₂, ◌∙◌, arith, true≢false, length-append}
+use Rattle.std.specs.Prelude.{reverse}
+use Rattle.std.proofs.lemmas.List.{map-append, reverse-append, drop-append-le, take-append-drop, length-take-le, set-set, set-get_or, map-set}
 use Rattle.fancy_input.specs.declared.span.Span.{Span}
 use Rattle.fancy_engine.specs.declared.slot.Slot.{Slot}
 use Rattle.fancy_engine.specs.declared.slot.Write.{Write}
@@ -10,9 +10,9 @@ use Rattle.fancy_engine.proofs.ThreadsLemmas.{undone-append, saved_now, open_spa
 use Rattle.fancy_machine.specs.declared.layer.Layer.{Layer}
 use Rattle.fancy_machine.specs.declared.layer.Kind.{Kind}
 use Rattle.fancy_machine.specs.declared.layer.Kind.TheVariants as k
-use Rattle.fancy_machine.specs.Frames.{Spot, Region, Frame, Saved, Within, saved, saved_in}
+use Rattle.fancy_machine.specs.Frames.{Spot, Frame, saved, saved_in}
 use Rattle.fancy_machine.specs.Layers.{spot_of, frame_by, saves, is_one, branches_in, spot_at, frame_at, frames_of, Rises}
-use Rattle.fancy_machine.specs.Machine.{opened_at, closed_at, IsBare, HasInnermost, IsSpent, Takes, ReachesInnermost}
+use Rattle.fancy_machine.specs.Machine.{opened_at, closed_at, IsSpent, Takes}
 
 pub rises_le : (lo n : ℕ) (ls : List Layer) → Rises lo ls n → lo ≤ n
 rises_le lo n [] r = r
@@ -102,39 +102,6 @@ saved_frames log slots (l ∷ ls) =
   where
     reverse-cons : (fs : List Frame) (f : Frame) → reverse (f ∷ fs) ≡ reverse fs ++ f ∷ []
     reverse-cons fs f = reverse-append (f ∷ []) fs
-
--- the layer below the first n + 1
-pub frames_of_more : (log : List Write) (slots : List Slot) (ls : List Layer) (n : ℕ) (d : Layer) → n < length ls
-    → frames_of log slots (take (n + 1) ls) ≡ frame_at log slots (slice_index_or ls n d) ∷ frames_of log slots (take n ls)
-frames_of_more log slots ls n d lt = ap (frames_of log slots) (take_more ls n d lt) ∙ frames_snoc log slots (take n ls) (slice_index_or ls n d)
-
-pub reaches_all : (ls : List Layer) (n : ℕ) → n ≡ length ls → take n ls ≡ ls → ReachesInnermost n ls
-reaches_all ls n e all = record {
-  within = omega (arith, e);
-  opens = λ log slots r rest o. subst (λ (l : List Layer). HasInnermost (frames_of log slots l) r rest) all o;
-  bare = λ log slots b. subst (λ (l : List Layer). IsBare (frames_of log slots l)) all b;
-}
-
-pub reaches_less : (ls : List Layer) (n : ℕ) (d : Layer) → n < length ls → (slice_index_or ls n d).kind ≡ k.Branch → ReachesInnermost (n + 1) ls → ReachesInnermost n ls
-reaches_less ls n d lt e r =
-    let m : (log : List Write) (slots : List Slot) → frames_of log slots (take (n + 1) ls) ≡ Saved (spot_at log slots (slice_index_or ls n d)) ∷ frames_of log slots (take n ls) =
-    λ log slots. frames_of_more log slots ls n d lt ∙ ap (λ (j : Kind). frame_by j (spot_at log slots (slice_index_or ls n d)) ∷ frames_of log slots (take n ls)) e in
-    record {
-      within = omega arith;
-      opens = λ log slots p rest o. r.opens log slots p rest (subst (λ (l : List Frame). HasInnermost l p rest) (sym (m log slots)) o);
-      bare = λ log slots b. r.bare log slots (subst IsBare (sym (m log slots)) b);
-    }
-
--- the region of the innermost layer that is no saved branch
-pub opens_top : (log : List Write) (slots : List Slot) (ls : List Layer) (top : ℕ) (x : Layer) → x ≡ slice_index_or ls (top - 1) x → (top ≡ 0 → ⊥) → ReachesInnermost top ls
-    → (p : Region) → frame_by x.kind (spot_at log slots x) ≡ Within p → HasInnermost (frames_of log slots ls) p (frames_of log slots (take (top - 1) ls))
-opens_top log slots ls top x at some r p e =
-    let same : top ≡ top - 1 + 1 = omega (arith, some) in
-    let r' : ReachesInnermost (top - 1 + 1) ls = subst (λ (n : ℕ). ReachesInnermost n ls) same r in
-    let f : frame_at log slots (slice_index_or ls (top - 1) x) ≡ Within p = sym (ap (frame_at log slots) at) ∙ e in
-    r'.opens log slots p (frames_of log slots (take (top - 1) ls))
-    (subst (λ (l : List Frame). HasInnermost l p (frames_of log slots (take (top - 1) ls)))
-    (sym (frames_of_more log slots ls (top - 1) x (omega (arith, r.within, some)) ∙ ap (λ (g : Frame). g ∷ frames_of log slots (take (top - 1) ls)) f)) (refl, refl))
 
 -- a branch is taken, or passed over
 pub takes_by : (j : Kind) (x : Spot) (fs : List Frame) → true ≡ is_one (saves j) → Takes (frame_by j x ∷ fs) x fs

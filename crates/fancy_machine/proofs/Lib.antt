@@ -3,6 +3,7 @@ pub mod WorkLemmas
 pub mod MachineSteps
 pub mod MachineLemmas
 pub mod LayerLemmas
+pub mod RegionLemmas
 pub mod TrailStops
 pub mod ContinuesLemmas
 pub mod MachineSearch

@@ -1,17 +1,19 @@
 -- A way stops, and ends a region.
-use Rattle.std.proofs.Common.{◌≡◌, ℕ, ◌-◌, ◌<◌, Bool, true, false, List, take, refl, sym, ap, ◌∙◌, subst, arith, true≢false}
+use Rattle.std.proofs.Common.{◌≡◌, ℕ, ◌-◌, Some, [], ◌∷◌, Bool, true, false, List, length, drop, refl, sym, ap, ◌∙◌, subst, true≢false}
 use Rattle.std.specs.Prelude.{slice_index_or}
+use Rattle.fancy_engine.specs.declared.runner.Next.{Next}
 use Rattle.fancy_engine.specs.declared.runner.Next.TheVariants.{On, Dead, Found}
 use Rattle.fancy_engine.specs.declared.slot.Slot.{Slot}
 use Rattle.fancy_engine.specs.declared.slot.Write.{Write}
 use Rattle.fancy_engine.specs.Context.{State}
+use Rattle.fancy_engine.specs.Run.{Raw, Note, Stop, fetched, Go}
 use Rattle.fancy_machine.specs.declared.layer.Layer.{Layer}
 use Rattle.fancy_machine.specs.declared.layer.Kind.{Kind}
 use Rattle.fancy_machine.specs.declared.layer.Kind.TheVariants as k
-use Rattle.fancy_machine.specs.Frames.{Spot, Region, Held, Within, Atom, LookAround, Denial, Condition}
-use Rattle.fancy_machine.specs.Layers.{frame_by, spot_at, frames_of}
-use Rattle.fancy_machine.specs.Machine.{Stops, ReachesInnermost, IsBare, IsBranch, HasInnermost, ends_kind, wanted_by, within_at, at_place}
-use Rattle.fancy_machine.proofs.LayerLemmas.{opens_top}
+use Rattle.fancy_machine.specs.Frames.{Spot, Region, Frame, Held, Within, Atom, LookAround, Denial, Condition}
+use Rattle.fancy_machine.specs.Layers.{frame_by, spot_at, frames_of, is_region, KnowRegions}
+use Rattle.fancy_machine.specs.Machine.{Stops, IsStep, finish, HasInnermost, ends_kind, wanted_by, within_at, at_place}
+use Rattle.fancy_machine.proofs.RegionLemmas.{bare_by, opens_top}
 use Rattle.fancy_machine.proofs.MachineSteps.{stop_bare, stop_elsewhere, stop_atom, stop_look, stop_denial, stop_condition}
 
 -- the region of a layer that a way does not end
@@ -22,53 +24,61 @@ unended (k.Look behind) x s e = (LookAround behind x.at x.state.place x.limit, r
 unended (k.Denial behind) x s e = (Denial behind x, refl, sym e)
 unended k.Condition x s e = absurd (true≢false (sym e))
 
-module _ (held : Held) (n : Spot) (log : List Write) (slots : List Slot) (ls : List Layer) (most q top : ℕ) (is : record { now = n; frames = frames_of log slots ls; most = most } ≡ held) (r : ReachesInnermost top ls) where
+module _ (held : Held) (n : Spot) (log : List Write) (slots : List Slot) (ls : List Layer) (most top : ℕ) (is : record { now = n; frames = frames_of log slots ls; most = most } ≡ held) (know : KnowRegions 0 0 ls top) (q : ℕ) where
   pub stops_bare : top ≡ 0 → Stops Found q held held.now held.frames
   stops_bare none =
       subst (λ (h : Held). Stops Found q h h.now h.frames) is
-      (λ go u h. stop_bare go q n (frames_of log slots ls) u h (r.bare log slots (subst (λ (j : ℕ). IsBare (frames_of log slots (take j ls))) (sym none) tt)))
+      (λ go u h. stop_bare go q n (frames_of log slots ls) u h (bare_by log slots top ls know none))
+
+  -- the frames below the innermost region
+  abbrev below : List Frame
+  below = drop (length (frames_of log slots ls) - (top - 1)) (frames_of log slots ls)
 
   module _ (x : Layer) (at : x ≡ slice_index_or ls (top - 1) x) (some : top ≡ 0 → ⊥) where
-    opens : (p : Region) → frame_by x.kind (spot_at log slots x) ≡ Within p → HasInnermost (frames_of log slots ls) p (frames_of log slots (take (top - 1) ls))
-    opens p e = opens_top log slots ls top x at some r p e
+    opens : (p : Region) → frame_by x.kind (spot_at log slots x) ≡ Within p → HasInnermost (frames_of log slots ls) p below
+    opens p e = ((opens_top log slots top ls know some).1 x at).1 p e
 
     pub stops_elsewhere : false ≡ ends_kind x.kind x.place n.state.place → Stops Dead q held held.now held.frames
     stops_elsewhere e =
         let a = unended x.kind (spot_at log slots x) n.state e in
         subst (λ (h : Held). Stops Dead q h h.now h.frames) is
-        (λ go u h. stop_elsewhere go q n (frames_of log slots ls) u h a.0 (frames_of log slots (take (top - 1) ls)) (opens a.0 a.1) a.2)
+        (λ go u h. stop_elsewhere go q n (frames_of log slots ls) u h a.0 below (opens a.0 a.1) a.2)
 
-    module _ (lower : List Layer) (low : lower ≡ take (top - 1) ls) where
-      below : (p : Region) → frame_by x.kind (spot_at log slots x) ≡ Within p → HasInnermost (frames_of log slots ls) p (frames_of log slots lower)
-      below p e = subst (λ (l : List Layer). HasInnermost (frames_of log slots ls) p (frames_of log slots l)) (sym low) (opens p e)
+    -- the innermost region is no saved branch
+    pub no_branch : {A : Type 0} → x.kind ≡ k.Branch → A
+    no_branch e = absurd (true≢false (sym ((opens_top log slots top ls know some).1 x at).0 ∙ ap is_region e))
 
-      pub stops_atom : x.kind ≡ k.Atom → Stops On q held (within_at q x.limit n) (frames_of log slots lower)
-      stops_atom e =
-          subst (λ (h : Held). Stops On q h (within_at q x.limit n) (frames_of log slots lower)) is
-          (λ go u h. stop_atom go q n (frames_of log slots ls) u h x.limit (frames_of log slots lower) (below (Atom x.limit) (ap (λ (j : Kind). frame_by j (spot_at log slots x)) e)))
+    -- it was left
+    module _ (new : Held) (same : new.now ≡ held.now) (low : new.frames ≡ drop (length held.frames - (top - 1)) held.frames) where
+      within : (p : Region) → frame_by x.kind (spot_at log slots x) ≡ Within p → HasInnermost held.frames p new.frames
+      within p e = subst (λ (h : Held). HasInnermost h.frames p new.frames) is
+          (subst (HasInnermost (frames_of log slots ls) p) (ap (λ (h : Held). drop (length h.frames - (top - 1)) h.frames) is ∙ sym low) (opens p e))
 
-      pub stops_condition : x.kind ≡ k.Condition → Stops On q held (within_at q x.limit n) (frames_of log slots lower)
+      -- what is done with the way from there
+      by : (next : Next) (go_on : Spot → Spot) → ((go : ℕ → Go) (u : List Raw) → finish go held.frames (Some (Stop q held.now.state held.now.starts ∷ [])) ≡ Some u
+          → IsStep go next (Note fetched ∷ u) held.now held.frames (go_on held.now) new.frames) → Stops next q held (go_on new.now) new.frames
+      by next go_on step = subst (λ (y : Spot). Stops next q held (go_on y) new.frames) (sym same) step
+
+      pub stops_atom : x.kind ≡ k.Atom → Stops On q held (within_at q x.limit new.now) new.frames
+      stops_atom e = by On (within_at q x.limit) (λ go u h. stop_atom go q held.now held.frames u h x.limit new.frames (within (Atom x.limit) (ap (λ (j : Kind). frame_by j (spot_at log slots x)) e)))
+
+      pub stops_condition : x.kind ≡ k.Condition → Stops On q held (within_at q x.limit new.now) new.frames
       stops_condition e =
-          subst (λ (h : Held). Stops On q h (within_at q x.limit n) (frames_of log slots lower)) is
-          (λ go u h. stop_condition go q n (frames_of log slots ls) u h (spot_at log slots x) (frames_of log slots lower) (below (Condition (spot_at log slots x)) (ap (λ (j : Kind). frame_by j (spot_at log slots x)) e)))
+          by On (within_at q x.limit)
+          (λ go u h. stop_condition go q held.now held.frames u h (spot_at log slots x) new.frames (within (Condition (spot_at log slots x)) (ap (λ (j : Kind). frame_by j (spot_at log slots x)) e)))
 
-      pub stops_look : (behind : Bool) → x.kind ≡ k.Look behind → true ≡ ends_kind x.kind x.place n.state.place
-          → Stops On q held (within_at x.at x.limit (at_place x.at x.place n)) (frames_of log slots lower)
-      stops_look behind e good =
-          subst (λ (h : Held). Stops On q h (within_at x.at x.limit (at_place x.at x.place n)) (frames_of log slots lower)) is
-          (λ go u h. stop_look go q n (frames_of log slots ls) u h behind x.at x.place x.limit (frames_of log slots lower)
-          (below (LookAround behind x.at x.place x.limit) (ap (λ (j : Kind). frame_by j (spot_at log slots x)) e))
-          (sym (good ∙ ap (λ (j : Kind). ends_kind j x.place n.state.place) e)))
+      module _ (behind : Bool) (good : true ≡ ends_kind x.kind x.place n.state.place) where
+        ended : (j : Kind) → x.kind ≡ j → ends_kind j x.place held.now.state.place ≡ true
+        ended j e = sym (good ∙ ap (λ (i : Kind). ends_kind i x.place n.state.place) e ∙ ap (λ (h : Held). ends_kind j x.place h.now.state.place) is)
 
-      pub stops_denial : (behind : Bool) (y : Spot) → x.kind ≡ k.Denial behind → true ≡ ends_kind x.kind x.place n.state.place → Stops Dead q held y (frames_of log slots lower)
-      stops_denial behind y e good =
-          subst (λ (h : Held). Stops Dead q h y (frames_of log slots lower)) is
-          (λ go u h. stop_denial go q n (frames_of log slots ls) u h behind (spot_at log slots x) y (frames_of log slots lower)
-          (below (Denial behind (spot_at log slots x)) (ap (λ (j : Kind). frame_by j (spot_at log slots x)) e))
-          (sym (good ∙ ap (λ (j : Kind). ends_kind j x.place n.state.place) e)))
+        pub stops_look : x.kind ≡ k.Look behind → Stops On q held (within_at x.at x.limit (at_place x.at x.place new.now)) new.frames
+        stops_look e =
+            by On (λ y. within_at x.at x.limit (at_place x.at x.place y))
+            (λ go u h. stop_look go q held.now held.frames u h behind x.at x.place x.limit new.frames
+            (within (LookAround behind x.at x.place x.limit) (ap (λ (j : Kind). frame_by j (spot_at log slots x)) e)) (ended (k.Look behind) e))
 
--- the innermost region is no saved branch
-pub no_branch : {A : Type 0} (ls : List Layer) (top : ℕ) (x : Layer) → x ≡ slice_index_or ls (top - 1) x → (top ≡ 0 → ⊥)
-    → ((d : Layer) → 0 < top → IsBranch (slice_index_or ls (top - 1) d).kind → ⊥) → x.kind ≡ k.Branch → A
-no_branch ls top x at some inner e =
-    absurd (inner x (omega (arith, some)) (subst (λ (y : Layer). IsBranch y.kind) at (subst IsBranch (sym e) tt)))
+        pub stops_denial : x.kind ≡ k.Denial behind → Stops Dead q held new.now new.frames
+        stops_denial e =
+            by Dead (λ y. y)
+            (λ go u h. stop_denial go q held.now held.frames u h behind (spot_at log slots x) held.now new.frames
+            (within (Denial behind (spot_at log slots x)) (ap (λ (j : Kind). frame_by j (spot_at log slots x)) e)) (ended (k.Denial behind) e))

@@ -1,5 +1,5 @@
 -- The layers of a search as frames.
-use Rattle.std.specs.Prelude.{ℕ, ◌+◌, ◌≤◌, Bool, true, false, ◌==◌, Option, Some, None, List, [], ◌∷◌, map, drop, reverse}
+use Rattle.std.specs.Prelude.{◌≡◌, ℕ, suc, ◌+◌, ◌≤◌, Bool, true, false, if◌then◌else◌, ◌==◌, Option, Some, None, List, [], ◌∷◌, map, drop, reverse}
 use Rattle.fancy_engine.specs.declared.slot.Slot.{Slot}
 use Rattle.fancy_engine.specs.declared.slot.Write.{Write}
 use Rattle.fancy_engine.specs.Context.{State}
@@ -41,6 +41,14 @@ saves k.Condition = 1
 abbrev pub is_one : ℕ → Bool
 is_one n = n == 1
 
+-- whether a layer of this kind is a region
+abbrev pub is_region : Kind → Bool
+is_region k.Branch = false
+is_region k.Atom = true
+is_region (k.Look behind) = true
+is_region (k.Denial behind) = true
+is_region k.Condition = true
+
 abbrev pub branches_in : List Layer → ℕ
 branches_in [] = 0
 branches_in (l ∷ ls) = saves l.kind + branches_in ls
@@ -60,3 +68,12 @@ frames_of log slots ls = reverse (map (frame_at log slots) ls)
 abbrev pub Rises : ℕ → List Layer → ℕ → Type 0
 Rises lo [] n = lo ≤ n
 Rises lo (l ∷ ls) n = (lo ≤ l.log) × Rises l.log ls n
+
+-- the number of the innermost region, where l is the last of so many layers: how many stand up to it, 0 where none is a region
+abbrev pub region_by : ℕ → Layer → ℕ
+region_by count l = if is_region l.kind then count else l.region
+
+-- Each of these layers has the number of the innermost region below it, and `top` is that of the innermost of all. Below them stand n layers, and `inner` is the number of the innermost region among those.
+abbrev pub KnowRegions : ℕ → ℕ → List Layer → ℕ → Type 0
+KnowRegions n inner [] top = inner ≡ top
+KnowRegions n inner (l ∷ ls) top = (l.region ≡ inner) × KnowRegions (suc n) (region_by (suc n) l) ls top

@@ -1,21 +1,17 @@
 -- What the machine still has before it.
-use Rattle.std.specs.Prelude.{◌≡◌, ℕ, suc, ◌+◌, ◌<◌, ◌≤◌, ◌⊎◌, Bool, true, false, List, [], ◌∷◌, length, Option, Some, None, Result, Ok, Err, take, if◌then◌else◌, ◌==◌, not, ◌&&◌, nat_lt, slice_index, slice_set}
+use Rattle.std.specs.Prelude.{◌≡◌, ℕ, suc, ◌+◌, ◌<◌, ◌≤◌, ◌⊎◌, Bool, true, false, List, [], ◌∷◌, length, Option, Some, None, Result, Ok, Err, if◌then◌else◌, ◌==◌, not, ◌&&◌, nat_lt, slice_index, slice_set}
 use Rattle.fancy_engine.specs.declared.runner.Next.{Next}
 use Rattle.fancy_engine.specs.declared.runner.Next.TheVariants.{On, Dead, Found}
 use Rattle.fancy_engine.specs.declared.refusal.SearchRefusal.{SearchRefusal}
 use Rattle.fancy_engine.specs.declared.refusal.SearchRefusal.TheVariants.{Memory, Returns, Choices}
 use Rattle.fancy_engine.specs.declared.work.Work.{Work}
-use Rattle.fancy_engine.specs.declared.slot.Slot.{Slot}
-use Rattle.fancy_engine.specs.declared.slot.Write.{Write}
 use Rattle.fancy_engine.specs.Work.{returns_of, went_back}
 use Rattle.fancy_engine.specs.Context.{State, moved_to, with_capture}
 use Rattle.fancy_engine.specs.Events.{Event, mark, return, outcome, any, ends_look}
 use Rattle.fancy_engine.specs.Run.{Raw, Note, Stop, choice_opened, returned, fetched, Go, before, join, fenced, resume, halt, erase}
-use Rattle.fancy_machine.specs.declared.layer.Layer.{Layer}
 use Rattle.fancy_machine.specs.declared.layer.Kind.{Kind}
 use Rattle.fancy_machine.specs.declared.layer.Kind.TheVariants as k
 use Rattle.fancy_machine.specs.Frames.{Spot, Region, Frame, Held, Atom, LookAround, Denial, Condition, Saved, Within, saved}
-use Rattle.fancy_machine.specs.Layers.{frames_of}
 
 abbrev pub at_instr : ℕ → Spot → Spot
 at_instr q x = record x { at = q }
@@ -148,13 +144,6 @@ TookBranch (Err Returns) limit old new before after = (IsSpent old.frames → �
 TookBranch (Err Memory) limit old new before after = ⊥
 TookBranch (Err Choices) limit old new before after = ⊥
 
-abbrev pub IsBranch : Kind → Type 0
-IsBranch k.Branch = Unit {0}
-IsBranch k.Atom = ⊥
-IsBranch (k.Look behind) = ⊥
-IsBranch (k.Denial behind) = ⊥
-IsBranch k.Condition = ⊥
-
 -- whether a way that stops at p ends the region of a layer of this kind from the place `from`
 abbrev pub ends_kind : Kind → ℕ → ℕ → Bool
 ends_kind k.Branch from p = true
@@ -162,12 +151,6 @@ ends_kind k.Atom from p = true
 ends_kind (k.Look behind) from p = if behind then p == from else true
 ends_kind (k.Denial behind) from p = if behind then p == from else true
 ends_kind k.Condition from p = true
-
--- the innermost layer that isn't a saved branch is the last of the first n
-pub record ReachesInnermost (n : ℕ) (ls : List Layer) : Type 0 where
-  pub within : n ≤ length ls
-  pub opens : (log : List Write) (slots : List Slot) (r : Region) (rest : List Frame) → HasInnermost (frames_of log slots (take n ls)) r rest → HasInnermost (frames_of log slots ls) r rest
-  pub bare : (log : List Write) (slots : List Slot) → IsBare (frames_of log slots (take n ls)) → IsBare (frames_of log slots ls)
 
 -- the first outcome that is accepted, or under `longest` the first of those with the greatest end, where `best` came before
 abbrev pub betters : Option State → ℕ → Bool

@@ -15,7 +15,7 @@ pub enum Kind {
     Condition,
 }
 
-/// A saved branch, or a region that is open: a way, with the length that the log had then.
+/// A saved branch, or a region that is open: a way, with the length that the log had then, and where the region round it is.
 #[derive(Clone, Copy, PartialEq, Eq, Debug)]
 pub struct Layer {
     pub kind: Kind,
@@ -28,4 +28,6 @@ pub struct Layer {
     /// Consumed text ends here at the latest.
     pub limit: usize,
     pub log: usize,
+    /// How many layers stand up to the innermost region below, 0 where there is none.
+    pub region: usize,
 }

@@ -1,14 +1,13 @@
 //! The way that the machine follows, with the branches that it saved and the regions that are open.
 
-ghost use Rattle.std.specs.Prelude.{◌≡◌, ◌≢◌, ◌+◌, ◌-◌, ◌<◌, ◌≤◌, [], ◌∷◌, Err, Some, map, length, take, replicate, OnOk, vec_len, slice_index_or, if◌then◌else◌, ◌==◌, true, is_some};
+ghost use Rattle.std.specs.Prelude.{◌≡◌, ◌≢◌, ◌+◌, ◌-◌, ◌<◌, ◌≤◌, [], ◌∷◌, Err, Some, map, length, take, drop, replicate, OnOk, vec_len, slice_index_or, if◌then◌else◌, ◌==◌, true, is_some};
 ghost use Rattle.fancy_engine.specs.Context.{group_span};
 ghost use Rattle.fancy_engine.specs.Threads.{empty_slot, slot_span};
 ghost use Rattle.fancy_engine.specs.Work.{returns_of};
 ghost use Rattle.fancy_engine.specs.declared.slot.Write.{Write};
-ghost use Rattle.fancy_machine.specs.declared.layer.Layer.{Layer as LayerIs};
 ghost use Rattle.fancy_machine.specs.Frames.{saved};
-ghost use Rattle.fancy_machine.specs.Layers.{spot_of, outcome_of, frame_by, saves, is_one, branches_in, frames_of};
-ghost use Rattle.fancy_machine.specs.Machine.{at_instr, at_place, opened_at, closed_at, kept_at, within_at, Stops, TookBranch, ReachesInnermost, IsBranch, ends_kind};
+ghost use Rattle.fancy_machine.specs.Layers.{spot_of, outcome_of, frame_by, saves, is_one, branches_in, frames_of, region_by};
+ghost use Rattle.fancy_machine.specs.Machine.{at_instr, at_place, opened_at, closed_at, kept_at, within_at, Stops, TookBranch, ends_kind};
 
 use crate::layer::{Kind, Layer};
 use fancy_engine::refusal::SearchRefusal;
@@ -20,22 +19,6 @@ use fancy_input::span::Span;
 use std::alloc::{AllocError, Global};
 use std::marker::Model;
 use std::mem::swap;
-
-/// How many layers stand up to the innermost that is no saved branch, if there is one.
-fn innermost(layers: &[Layer]) -> usize
-    ensures reaches { ReachesInnermost result layers.now }
-    ensures open { (d : LayerIs) → 0 < result → IsBranch (slice_index_or layers.now (result - 1) d).kind → ⊥ }
-{
-    let mut top = layers.len();
-    while top > 0 {
-        match layers[top - 1].kind {
-            Kind::Branch => {}
-            _ => return top,
-        }
-        top -= 1;
-    }
-    0
-}
 
 /// Whether a look-around from a place may end at another: one that looks behind ends where it began.
 fn ends(behind: bool, from: usize, place: usize) -> bool
@@ -67,6 +50,16 @@ fn is_saved(kind: Kind) -> bool
     match kind {
         Kind::Branch | Kind::Denial(_) | Kind::Condition => true,
         Kind::Atom | Kind::Look(_) => false,
+    }
+}
+
+/// How many layers stand up to the innermost region, where this layer is the last of so many.
+fn region_by(layer: Layer, count: usize) -> usize
+    ensures { result ≡ region_by count layer }
+{
+    match layer.kind {
+        Kind::Branch => layer.region,
+        Kind::Atom | Kind::Look(_) | Kind::Denial(_) | Kind::Condition => count,
     }
 }
 
@@ -119,6 +112,8 @@ pub struct Trail {
     slots: Vec<Slot>,
     layers: Vec<Layer>,
     branches: usize,
+    /// How many layers stand up to the innermost region, 0 where none is open.
+    region: usize,
     log: Vec<Write>,
     most: usize,
 }
@@ -126,7 +121,7 @@ pub struct Trail {
 impl Model for Trail {
     ghost use Rattle.std.specs.Prelude.{◌≡◌, ◌≤◌, length};
     ghost use Rattle.fancy_machine.specs.Frames.{Held};
-    ghost use Rattle.fancy_machine.specs.Layers.{spot_of, frames_of, branches_in, Rises};
+    ghost use Rattle.fancy_machine.specs.Layers.{spot_of, frames_of, branches_in, Rises, KnowRegions};
 
     ghost Value = { Held };
 
@@ -136,7 +131,10 @@ impl Model for Trail {
       most = t.most;
     } };
 
-    ghost invariant = { λ t. (t.branches ≡ branches_in t.layers.items) × (t.branches ≤ t.most) × Rises 0 t.layers.items (length t.log.items) };
+    ghost invariant = { λ t. (t.branches ≡ branches_in t.layers.items)
+        × (t.branches ≤ t.most)
+        × Rises 0 t.layers.items (length t.log.items)
+        × KnowRegions 0 0 t.layers.items t.region };
 }
 
 impl Trail {
@@ -154,6 +152,7 @@ impl Trail {
             slots: Vec::new(alloc),
             layers: Vec::new(alloc),
             branches: 0,
+            region: 0,
             log: Vec::new(alloc),
             most: 0,
         }
@@ -175,6 +174,7 @@ impl Trail {
     {
         self.layers.clear();
         self.branches = 0;
+        self.region = 0;
         self.log.clear();
         self.at = at;
         self.limit = limit;
@@ -296,8 +296,10 @@ impl Trail {
             kept: self.kept,
             limit: self.limit,
             log: self.log.len(),
+            region: self.region,
         };
         self.layers.push(layer)?;
+        self.region = region_by(layer, self.layers.len());
         Ok(())
     }
 
@@ -320,9 +322,11 @@ impl Trail {
             kept: self.kept,
             limit: self.limit,
             log: self.log.len(),
+            region: self.region,
         };
         self.layers.push(layer)?;
         self.branches += 1;
+        self.region = region_by(layer, self.layers.len());
         Ok(())
     }
 
@@ -368,12 +372,26 @@ impl Trail {
         Ok(())
     }
 
+    /// Keeps the lowest layers, so many.
+    fn leave(&mut self, len: usize)
+        ensures now { self.new.now ≡ self.old.now }
+        ensures frames { self.new.frames ≡ drop (length self.old.frames - len) self.old.frames }
+        ensures most { self.new.most ≡ self.old.most }
+    {
+        if len >= self.layers.len() {
+            return;
+        }
+        let lowest = self.layers[len];
+        cut(&mut self.layers, &mut self.branches, len);
+        self.region = lowest.region;
+    }
+
     /// The way stops: the innermost region ends where it may, and what is round it goes on at `next`.
     pub fn stop(&mut self, next: usize) -> Next
         ensures stopped { Stops result next self.old self.new.now self.new.frames }
         ensures most { self.new.most ≡ self.old.most }
     {
-        let top = innermost(&self.layers);
+        let top = self.region;
         if top == 0 {
             return Next::Found;
         }
@@ -381,7 +399,7 @@ impl Trail {
         if !is_ended(layer.kind, layer.place, self.place) {
             return Next::Dead;
         }
-        cut(&mut self.layers, &mut self.branches, top - 1);
+        self.leave(top - 1);
         match layer.kind {
             Kind::Branch => Next::Dead,
             Kind::Atom => {
@@ -414,6 +432,7 @@ impl Trail {
             let Some(layer) = self.layers.pop() else {
                 return Ok(false);
             };
+            self.region = layer.region;
             if !is_saved(layer.kind) {
                 continue;
             }

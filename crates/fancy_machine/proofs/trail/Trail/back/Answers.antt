@@ -5,9 +5,10 @@ use Rattle.fancy_engine.specs.declared.slot.Write.{Write}
 use Rattle.fancy_engine.specs.Work.{returns_of, went_back}
 use Rattle.fancy_machine.specs.declared.layer.Layer.{Layer}
 use Rattle.fancy_machine.specs.Frames.{Spot, Frame}
-use Rattle.fancy_machine.specs.Layers.{spot_of, spot_at, frame_at, frames_of, Rises}
+use Rattle.fancy_machine.specs.Layers.{spot_of, spot_at, frame_at, frames_of, Rises, KnowRegions}
 use Rattle.fancy_machine.specs.Machine.{IsSpent, Takes}
 use Rattle.fancy_machine.proofs.LayerLemmas.{counted_snoc, saves_one, saves_none, rises_pop, rises_more, frames_snoc, frames_undone, takes_by, takes_past, spent_past, unspent_past}
+use Rattle.fancy_machine.proofs.RegionLemmas.{regions_pop}
 use Rattle.fancy_machine.proofs.trail.Trail.back.Goals as goal
 
 pub layers-preserved : goal.layers-preserved
@@ -22,6 +23,7 @@ layers-preserved c =
       branches = omega (arith, c.layers.invariant.branches, counted_snoc _ _ l c.in-Some.ensures.items, saves_none l.kind c.if-not-is_saved.ensures);
       few = c.layers.invariant.few;
       rises = rises_more 0 l.log (length log) rest r.1 r.0;
+      knows = regions_pop 0 0 _ rest l (subst (λ (ls : List Layer). KnowRegions 0 0 ls c.layers.self-inside.region) c.in-Some.ensures.items c.layers.invariant.knows);
       most = c.layers.invariant.most;
       work = c.layers.invariant.work;
       takes = λ y more t. c.layers.invariant.takes y more (subst (λ (fs : List Frame). Takes fs y more) (sym e) (takes_past l.kind (spot_at log slots l) y _ more c.if-not-is_saved.ensures t));
@@ -41,6 +43,7 @@ invariant_of-self-then-returns-limit c =
       omega (arith, c.layers.invariant.branches, counted_snoc _ _ l c.in-Some.ensures.items, saves_one l.kind c.if-not-is_saved.ensures),
       omega (arith, c.layers.invariant.few),
       rises_more 0 l.log (length log) c.pop.new.self.items r.1 r.0,
+      regions_pop 0 0 _ c.pop.new.self.items l (subst (λ (ls : List Layer). KnowRegions 0 0 ls c.layers.self-inside.region) c.in-Some.ensures.items c.layers.invariant.knows),
     )
 
 pub undo-requires : goal.undo-requires
@@ -58,6 +61,7 @@ invariant_of-self-in-layers c =
       omega (arith, c.layers.invariant.branches, counted_snoc _ _ l c.in-Some.ensures.items, saves_one l.kind c.if-not-is_saved.ensures),
       omega (arith, c.layers.invariant.few),
       rises_more 0 l.log _ c.pop.new.self.items (omega (arith, ap length c.undo.ensures.log, length-take-le l.log log r.1)) r.0,
+      regions_pop 0 0 _ c.pop.new.self.items l (subst (λ (ls : List Layer). KnowRegions 0 0 ls c.layers.self-inside.region) c.in-Some.ensures.items c.layers.invariant.knows),
     )
 
 pub returns-in-layers-clause-took : goal.returns-in-layers-clause-took

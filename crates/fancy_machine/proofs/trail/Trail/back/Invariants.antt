@@ -1,7 +1,7 @@
 use Rattle.std.proofs.Common.{◌≡◌, ◌≤◌, List, length}
 use Rattle.std.specs.Prelude.{vec_len}
 use Rattle.fancy_machine.specs.Frames.{Spot, Frame}
-use Rattle.fancy_machine.specs.Layers.{frames_of, branches_in, Rises}
+use Rattle.fancy_machine.specs.Layers.{frames_of, branches_in, Rises, KnowRegions}
 use Rattle.fancy_machine.specs.Machine.{IsSpent, Takes}
 use Rattle.fancy_machine.proofs.trail.Trail.back.Given as goal
 
@@ -10,6 +10,7 @@ invariant-layers l = record {
   branches : l.self-inside.branches ≡ branches_in l.self-inside.layers.items;
   few : l.self-inside.branches ≤ l.self-inside.most;
   rises : Rises 0 l.self-inside.layers.items (length l.self-inside.log.items);
+  knows : KnowRegions 0 0 l.self-inside.layers.items l.self-inside.region;
   most : l.self-inside.most ≡ l.fn.self.most;
   work : l.work ≡ l.fn.work;
   takes : (y : Spot) (rest : List Frame) → Takes (frames_of l.self-inside.log.items l.self-inside.slots.items l.self-inside.layers.items) y rest → Takes l.fn.self.frames y rest;

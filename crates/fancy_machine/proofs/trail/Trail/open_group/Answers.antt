@@ -13,6 +13,7 @@ invariant_of-self-2 c = (
   c.self.invariant.0,
   c.self.invariant.1,
   rises_more 0 (length c.self.inside.log.items) _ c.self.inside.layers.items (omega (arith, ap length c.in_ok-push.ensures.items, length-append {A = Write})) c.self.invariant.2,
+  c.self.invariant.3,
 )
 
 pub returns-clause-now : goal.returns-clause-now

@@ -1,7 +1,7 @@
-use Rattle.std.proofs.Common.{List, arith, length, sym, subst}
+use Rattle.std.proofs.Common.{arith, refl}
 use Rattle.fancy_machine.specs.declared.layer.Layer.{Layer}
-use Rattle.fancy_machine.specs.Layers.{Rises}
-use Rattle.fancy_machine.proofs.LayerLemmas.{counted_snoc, rises_push, saved_frames}
+use Rattle.fancy_machine.proofs.LayerLemmas.{counted_snoc, saved_frames}
+use Rattle.fancy_machine.proofs.RegionLemmas.{pushed}
 use Rattle.fancy_machine.proofs.trail.Trail.save.Goals as goal
 
 pub returns-then-self-clause-full : goal.returns-then-self-clause-full
@@ -11,9 +11,10 @@ returns-then-self-clause-full c _ =
 
 pub invariant_of-self-2 : goal.invariant_of-self-2
 invariant_of-self-2 c =
-    let l : Layer = record { kind = c.args.kind; at = c.args.at; place = c.self.inside.place; kept = c.self.inside.kept; limit = c.self.inside.limit; log = c.len.result } in (
+    let l : Layer = record { kind = c.args.kind; at = c.args.at; place = c.self.inside.place; kept = c.self.inside.kept; limit = c.self.inside.limit; log = c.len.result; region = c.self.inside.region } in
+    let p = pushed _ _ c.len-2.result c.self.inside.layers.items c.push.new.self.items l c.in_ok-push.ensures.items c.self.invariant.2 c.self.invariant.3 (omega (arith, c.len.ensures, c.self.inside.log.ok.0)) refl (omega (arith, c.len-2.ensures)) in (
       omega (arith, c.self.invariant.0, counted_snoc _ _ l c.in_ok-push.ensures.items, c.requires),
       omega (arith, c.if-self.false),
-      subst (λ (ls : List Layer). Rises 0 ls (length c.self.inside.log.items)) (sym c.in_ok-push.ensures.items)
-          (rises_push 0 (length c.self.inside.log.items) _ c.self.inside.layers.items l c.self.invariant.2 (omega (arith, c.len.ensures, c.self.inside.log.ok.0)) (omega arith)),
+      p.0,
+      rw c.region_by-self-inside.ensures p.1,
     )
