@@ -1,18 +1,22 @@
 -- The layers as frames.
-use Rattle.std.proofs.Common.{◌≡◌, ℕ, zero, suc, ◌+◌, ◌<◌, ◌≤◌, true, false, List, [], ◌∷◌, ◌++◌, length, map, take, drop, set, get_or, Option, Some, refl, sym, ap, ap₂, ◌∙◌, arith, true≢false, length-append}
-use Rattle.std.specs.Prelude.{reverse}
-use Rattle.std.proofs.lemmas.List.{map-append, reverse-append, drop-append-le, take-append-drop, length-take-le, set-set, set-get_or, map-set}
+use Rattle.std.proofs.Common.{◌≡◌, ◌<◌, ◌≤◌, ℕ, zero, suc, ◌+◌, true, false, List, [], ◌∷◌, ◌++◌, length, map, take, drop, set, get_or, Option, Some, None, refl, sym, ap, ap₂, ◌∙◌, subst, arith, true≢false, length-append}
+use Rattle.std.specs.Prelude.{reverse, slice_index}
+use Rattle.std.proofs.lemmas.List.{map-append, reverse-append, drop-append-le, drop_all, take-append-drop, length-take-le, set-set, set-get_or, map-set}
 use Rattle.fancy_input.specs.declared.span.Span.{Span}
 use Rattle.fancy_engine.specs.declared.slot.Slot.{Slot}
-use Rattle.fancy_engine.specs.declared.slot.Write.{Write}
-use Rattle.fancy_engine.specs.Threads.{undone, empty_slot, slot_from}
-use Rattle.fancy_engine.proofs.ThreadsLemmas.{undone-append, saved_now, open_spans, close_starts, close_spans}
+use Rattle.fancy_engine.specs.Context.{group_span, with_capture}
+use Rattle.fancy_engine.specs.Threads.{empty_slot, slot_span, slot_from}
+use Rattle.fancy_engine.proofs.ThreadsLemmas.{get_or_mapped}
+use Rattle.fancy_machine.specs.declared.log.Cell.{Cell}
+use Rattle.fancy_machine.specs.declared.log.Write.{Write}
+use Rattle.fancy_machine.specs.Log.{cell_slot, empty_cell, old_slot, undone_by}
+use Rattle.fancy_machine.proofs.LogLemmas.{undone-append}
 use Rattle.fancy_machine.specs.declared.layer.Layer.{Layer}
 use Rattle.fancy_machine.specs.declared.layer.Kind.{Kind}
 use Rattle.fancy_machine.specs.declared.layer.Kind.TheVariants as k
 use Rattle.fancy_machine.specs.Frames.{Spot, Frame, saved, saved_in}
 use Rattle.fancy_machine.specs.Layers.{spot_of, frame_by, saves, is_one, branches_in, spot_at, frame_at, frames_of, Rises}
-use Rattle.fancy_machine.specs.Machine.{opened_at, closed_at, IsSpent, Takes}
+use Rattle.fancy_machine.specs.Machine.{at_instr, written, opened_at, closed_at, IsSpent, Takes}
 
 pub rises_le : (lo n : ℕ) (ls : List Layer) → Rises lo ls n → lo ≤ n
 rises_le lo n [] r = r
@@ -30,11 +34,11 @@ pub rises_pop : (lo n : ℕ) (ls : List Layer) (l : Layer) → Rises lo (ls ++ l
 rises_pop lo n [] l r = (r.0, r.1)
 rises_pop lo n (d ∷ ls) l r = let s = rises_pop d.log n ls l r.1 in ((r.0, s.0), s.1)
 
-pub rises_take : (lo n j : ℕ) (ls : List Layer) → Rises lo ls n → Rises lo (take j ls) n
-rises_take lo n zero [] r = r
-rises_take lo n (suc j) [] r = r
-rises_take lo n zero (l ∷ ls) r = rises_le lo n (l ∷ ls) r
-rises_take lo n (suc j) (l ∷ ls) r = (r.0, rises_take l.log n j ls r.1)
+-- the layers below x had a log no longer than it had when x was made
+pub rises_below : (lo n j : ℕ) (ls : List Layer) (x : Layer) → j < length ls → x ≡ get_or ls j x → Rises lo ls n → Rises lo (take j ls) x.log
+rises_below lo n j [] x lt at r = absurd (omega (arith, lt))
+rises_below lo n zero (l ∷ ls) x lt at r = omega (arith, r.0, ap (λ (y : Layer). y.log) at)
+rises_below lo n (suc j) (l ∷ ls) x lt at r = (r.0, rises_below l.log n j ls x (omega (arith, lt)) at r.1)
 
 maps_same : (f g : Layer → Frame) (lo n : ℕ) (ls : List Layer) → Rises lo ls n → ((l : Layer) → l.log ≤ n → f l ≡ g l) → map f ls ≡ map g ls
 maps_same f g lo n [] r same = refl
@@ -44,28 +48,26 @@ maps_same f g lo n (l ∷ ls) r same = ap₂ (λ (x : Frame) (xs : List Frame). 
 frame_same : (l : Layer) (s t : List Slot) → s ≡ t → frame_by l.kind (spot_of l.at l.limit l.place l.kept s) ≡ frame_by l.kind (spot_of l.at l.limit l.place l.kept t)
 frame_same l s t e = ap (λ (u : List Slot). frame_by l.kind (spot_of l.at l.limit l.place l.kept u)) e
 
--- a write that is logged changes no frame
-pub frames_write : (slots : List Slot) (log : List Write) (ls : List Layer) (w : Write) (x : Slot) → Rises 0 ls (length log) → w.old ≡ get_or slots w.slot empty_slot
-    → frames_of (log ++ w ∷ []) (set slots w.slot x) ls ≡ frames_of log slots ls
-frames_write slots log ls w x r old =
+-- of the slots that a layer stands for it's all one when the last writes are undone
+pub frames_shift : (slots : List Slot) (log more : List Write) (ls : List Layer) → Rises 0 ls (length log) → frames_of (log ++ more) slots ls ≡ frames_of log (undone_by old_slot slots more) ls
+frames_shift slots log more ls r =
     ap reverse
-    (maps_same (frame_at (log ++ w ∷ []) (set slots w.slot x)) (frame_at log slots) 0 (length log) ls r
-    (λ l le. frame_same l _ _
-    (ap (undone (set slots w.slot x)) (drop-append-le l.log log (w ∷ []) le)
-    ∙ undone-append (set slots w.slot x) (drop l.log log) (w ∷ [])
-    ∙ ap (λ (s : List Slot). undone s (drop l.log log)) (set-set slots w.slot x w.old ∙ ap (set slots w.slot) old ∙ set-get_or slots w.slot empty_slot))))
+    (maps_same (frame_at (log ++ more) slots) (frame_at log (undone_by old_slot slots more)) 0 (length log) ls r
+    (λ l le. frame_same l _ _ (ap (undone_by old_slot slots) (drop-append-le l.log log more le) ∙ undone-append old_slot slots (drop l.log log) more)))
+
+-- a write that is logged changes no frame
+pub frames_write : (slots : List Slot) (log : List Write) (ls : List Layer) (w : Write) (x : Slot) → Rises 0 ls (length log) → w.old.slot ≡ get_or slots w.group empty_slot
+    → frames_of (log ++ w ∷ []) (set slots w.group x) ls ≡ frames_of log slots ls
+frames_write slots log ls w x r old =
+    frames_shift (set slots w.group x) log (w ∷ []) ls r
+    ∙ ap (λ (s : List Slot). frames_of log s ls) (set-set slots w.group x w.old.slot ∙ ap (set slots w.group) old ∙ set-get_or slots w.group empty_slot)
 
 -- nor does going back to where the log was when these were made
 pub frames_undone : (slots : List Slot) (log : List Write) (n : ℕ) (ls : List Layer) → Rises 0 ls n → n ≤ length log
-    → frames_of (take n log) (undone slots (drop n log)) ls ≡ frames_of log slots ls
+    → frames_of (take n log) (undone_by old_slot slots (drop n log)) ls ≡ frames_of log slots ls
 frames_undone slots log n ls r le =
-    ap reverse
-    (maps_same (frame_at (take n log) (undone slots (drop n log))) (frame_at log slots) 0 n ls r
-    (λ l low. frame_same l _ _
-    (sym (undone-append slots (drop l.log (take n log)) (drop n log))
-    ∙ ap (undone slots)
-    (sym (drop-append-le l.log (take n log) (drop n log) (omega (arith, low, length-take-le n log le)))
-    ∙ ap (drop l.log) (take-append-drop n log)))))
+    sym (frames_shift slots (take n log) (drop n log) ls (subst (Rises 0 ls) (sym (length-take-le n log le)) r))
+    ∙ ap (λ (all : List Write). frames_of all slots ls) (take-append-drop n log)
 
 pub frames_snoc : (log : List Write) (slots : List Slot) (ls : List Layer) (l : Layer) → frames_of log slots (ls ++ l ∷ []) ≡ frame_at log slots l ∷ frames_of log slots ls
 frames_snoc log slots ls l = ap reverse (map-append (frame_at log slots) ls (l ∷ [])) ∙ reverse-append (map (frame_at log slots) ls) (frame_at log slots l ∷ [])
@@ -75,7 +77,7 @@ pub frames_push : (log : List Write) (slots : List Slot) (ls items : List Layer)
     → frames_of log slots items ≡ frame_by l.kind (spot_of l.at l.limit l.place l.kept slots) ∷ frames_of log slots ls
 frames_push log slots ls items l e is =
     ap (frames_of log slots) e ∙ frames_snoc log slots ls l
-    ∙ ap (λ (f : Frame). f ∷ frames_of log slots ls) (frame_same l _ _ (saved_now slots log l.log (omega (arith, is))))
+    ∙ ap (λ (f : Frame). f ∷ frames_of log slots ls) (frame_same l _ _ (ap (undone_by old_slot slots) (drop_all l.log log (omega (arith, is)))))
 
 pub branches_snoc : (ls : List Layer) (l : Layer) → branches_in (ls ++ l ∷ []) ≡ branches_in ls + saves l.kind
 branches_snoc [] l = omega arith
@@ -164,14 +166,23 @@ take_snoc n ls all l e lt = sym (ap (take n) e ∙ by n ls (omega (arith, ap len
 pub counted_snoc : (ls all : List Layer) (l : Layer) → all ≡ ls ++ l ∷ [] → branches_in all ≡ branches_in ls + saves l.kind
 counted_snoc ls all l e = ap branches_in e ∙ branches_snoc ls l
 
-pub opened_spot : (at next limit place kept g : ℕ) (slots : List Slot) (slot : Slot) → slot ≡ get_or slots g empty_slot
-    → spot_of next limit place kept (set slots g (record { from = place; span = slot.span })) ≡ opened_at g next (spot_of at limit place kept slots)
-opened_spot at next limit place kept g slots slot e =
-    ap₂ (λ (cs : List (Option Span)) (vs : List ℕ). record { at = next; limit = limit; state = record { place = place; captures = cs; kept = kept }; starts = vs })
-    (open_spans slots g place slot e) (map-set slot_from slots g (record { from = place; span = slot.span }))
+-- a group begins, or ends
+pub opened_by : (g next : ℕ) (x : Spot) → written g (record { from = x.state.place; span = group_span x.state g }) (at_instr next x) ≡ opened_at g next x
+opened_by g next x =
+    ap (λ (cs : List (Option Span)). record x { at = next; state = record x.state { captures = cs }; starts = set x.starts g x.state.place }) (set-get_or x.state.captures g None)
 
-pub closed_spot : (at next limit place kept g : ℕ) (slots : List Slot) (slot : Slot) → slot ≡ get_or slots g empty_slot
-    → spot_of next limit place kept (set slots g (record { from = slot.from; span = Some (record { start = slot.from; end = place }) })) ≡ closed_at g next (spot_of at limit place kept slots)
-closed_spot at next limit place kept g slots slot e =
-    ap₂ (λ (cs : List (Option Span)) (vs : List ℕ). record { at = next; limit = limit; state = record { place = place; captures = cs; kept = kept }; starts = vs })
-    (close_spans slots g place slot e) (close_starts slots g (Some (record { start = slot.from; end = place })) slot e)
+pub closed_by : (g next : ℕ) (x : Spot)
+    → written g (record { from = slice_index x.starts g; span = Some (record { start = slice_index x.starts g; end = x.state.place }) }) (at_instr next x) ≡ closed_at g next x
+closed_by g next x = ap (λ (vs : List ℕ). record x { at = next; state = with_capture x.state g (slice_index x.starts g); starts = vs }) (set-get_or x.starts g 0)
+
+-- what is known of a group, read off its cell
+pub slot_known : {A : Type 0} (f : Slot → A) (cells : List Cell) (g : ℕ) (c : Cell) → c ≡ get_or cells g empty_cell → f c.slot ≡ get_or (map f (map cell_slot cells)) g (f empty_slot)
+slot_known f cells g c is =
+    ap (λ (d : Cell). f d.slot) is ∙ ap f (sym (get_or_mapped cell_slot cells g empty_cell)) ∙ sym (get_or_mapped f (map cell_slot cells) g empty_slot)
+
+-- a cell is written to
+pub written_spot : (at limit place kept g : ℕ) (cells : List Cell) (c : Cell) → spot_of at limit place kept (map cell_slot (set cells g c)) ≡ written g c.slot (spot_of at limit place kept (map cell_slot cells))
+written_spot at limit place kept g cells c =
+    ap (spot_of at limit place kept) (map-set cell_slot cells g c)
+    ∙ ap₂ (λ (cs : List (Option Span)) (vs : List ℕ). record { at = at; limit = limit; state = record { place = place; captures = cs; kept = kept }; starts = vs })
+    (map-set slot_span (map cell_slot cells) g c.slot) (map-set slot_from (map cell_slot cells) g c.slot)

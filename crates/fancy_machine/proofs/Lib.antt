@@ -2,7 +2,9 @@ pub mod Closing
 pub mod WorkLemmas
 pub mod MachineSteps
 pub mod MachineLemmas
+pub mod LogLemmas
 pub mod LayerLemmas
+pub mod WriteLemmas
 pub mod RegionLemmas
 pub mod TrailStops
 pub mod ContinuesLemmas

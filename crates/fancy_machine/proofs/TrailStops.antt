@@ -4,7 +4,7 @@ use Rattle.std.specs.Prelude.{slice_index_or}
 use Rattle.fancy_engine.specs.declared.runner.Next.{Next}
 use Rattle.fancy_engine.specs.declared.runner.Next.TheVariants.{On, Dead, Found}
 use Rattle.fancy_engine.specs.declared.slot.Slot.{Slot}
-use Rattle.fancy_engine.specs.declared.slot.Write.{Write}
+use Rattle.fancy_machine.specs.declared.log.Write.{Write}
 use Rattle.fancy_engine.specs.Context.{State}
 use Rattle.fancy_engine.specs.Run.{Raw, Note, Stop, fetched, Go}
 use Rattle.fancy_machine.specs.declared.layer.Layer.{Layer}

@@ -1,12 +1,14 @@
 -- The layers of a search as frames.
-use Rattle.std.specs.Prelude.{◌≡◌, ℕ, suc, ◌+◌, ◌≤◌, Bool, true, false, if◌then◌else◌, ◌==◌, Option, Some, None, List, [], ◌∷◌, map, drop, reverse}
+use Rattle.std.specs.Prelude.{◌≡◌, ℕ, suc, ◌+◌, ◌≤◌, Bool, true, false, if◌then◌else◌, nat_le, ◌==◌, Option, Some, None, List, [], ◌∷◌, map, length, drop, replicate, reverse}
 use Rattle.fancy_engine.specs.declared.slot.Slot.{Slot}
-use Rattle.fancy_engine.specs.declared.slot.Write.{Write}
 use Rattle.fancy_engine.specs.Context.{State}
-use Rattle.fancy_engine.specs.Threads.{undone, slot_span, slot_from}
+use Rattle.fancy_engine.specs.Threads.{slot_span, slot_from}
 use Rattle.fancy_machine.specs.declared.layer.Layer.{Layer}
 use Rattle.fancy_machine.specs.declared.layer.Kind.{Kind}
 use Rattle.fancy_machine.specs.declared.layer.Kind.TheVariants as k
+use Rattle.fancy_machine.specs.declared.log.Cell.{Cell}
+use Rattle.fancy_machine.specs.declared.log.Write.{Write}
+use Rattle.fancy_machine.specs.Log.{cell_level, old_slot, undone_by, Climbs}
 use Rattle.fancy_machine.specs.Frames.{Spot, Frame, Saved, Within, Atom, LookAround, Denial, Condition}
 
 abbrev pub spot_of : ℕ → ℕ → ℕ → ℕ → List Slot → Spot
@@ -55,7 +57,7 @@ branches_in (l ∷ ls) = saves l.kind + branches_in ls
 
 -- the way of a layer, with the slots that there were when it was made
 abbrev pub spot_at : List Write → List Slot → Layer → Spot
-spot_at log slots l = spot_of l.at l.limit l.place l.kept (undone slots (drop l.log log))
+spot_at log slots l = spot_of l.at l.limit l.place l.kept (undone_by old_slot slots (drop l.log log))
 
 abbrev pub frame_at : List Write → List Slot → Layer → Frame
 frame_at log slots l = frame_by l.kind (spot_at log slots l)
@@ -68,6 +70,15 @@ frames_of log slots ls = reverse (map (frame_at log slots) ls)
 abbrev pub Rises : ℕ → List Layer → ℕ → Type 0
 Rises lo [] n = lo ≤ n
 Rises lo (l ∷ ls) n = (lo ≤ l.log) × Rises l.log ls n
+
+-- how many branches these layers had saved when write n was logged
+abbrev pub depth : List Layer → ℕ → ℕ
+depth [] n = 0
+depth (l ∷ ls) n = (if nat_le l.log n then saves l.kind else 0) + depth ls n
+
+-- The log led from cells that nothing was written to to these, and each of its writes was to a group that had none since the last branch was saved.
+abbrev pub IsLog : List Layer → List Write → List Cell → Type 0
+IsLog ls log cells = Climbs (depth ls) 0 (replicate (length cells) 0) log (map cell_level cells)
 
 -- the number of the innermost region, where l is the last of so many layers: how many stand up to it, 0 where none is a region
 abbrev pub region_by : ℕ → Layer → ℕ

@@ -1,4 +1,5 @@
 pub mod Frames
+pub mod Log
 pub mod Layers
 pub mod Machine
 pub mod Attempt

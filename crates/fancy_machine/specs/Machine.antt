@@ -4,6 +4,7 @@ use Rattle.fancy_engine.specs.declared.runner.Next.{Next}
 use Rattle.fancy_engine.specs.declared.runner.Next.TheVariants.{On, Dead, Found}
 use Rattle.fancy_engine.specs.declared.refusal.SearchRefusal.{SearchRefusal}
 use Rattle.fancy_engine.specs.declared.refusal.SearchRefusal.TheVariants.{Memory, Returns, Choices}
+use Rattle.fancy_engine.specs.declared.slot.Slot.{Slot}
 use Rattle.fancy_engine.specs.declared.work.Work.{Work}
 use Rattle.fancy_engine.specs.Work.{returns_of, went_back}
 use Rattle.fancy_engine.specs.Context.{State, moved_to, with_capture}
@@ -18,6 +19,10 @@ at_instr q x = record x { at = q }
 
 abbrev pub at_place : ℕ → ℕ → Spot → Spot
 at_place q p x = record x { at = q; state = moved_to x.state p }
+
+-- a group has this slot
+abbrev pub written : ℕ → Slot → Spot → Spot
+written g s x = record x { state = record x.state { captures = slice_set x.state.captures g s.span }; starts = slice_set x.starts g s.from }
 
 abbrev pub opened_at : ℕ → ℕ → Spot → Spot
 opened_at g q x = record x { at = q; starts = slice_set x.starts g x.state.place }

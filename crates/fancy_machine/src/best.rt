@@ -2,28 +2,29 @@
 
 ghost use Rattle.std.specs.Prelude.{◌≡◌, None, OnOk};
 
+use crate::log::Cell;
 use crate::trail::Trail;
-use fancy_engine::slot::Slot;
 use std::alloc::{AllocError, Global};
 use std::marker::Model;
 
-/// The best outcome so far, if there is one. It has slots of its own, since the trail goes on from it.
+/// The best outcome so far, if there is one. It has cells of its own, since the trail goes on from it.
 #[derive(Drop)]
 pub struct Best {
     found: bool,
     place: usize,
     kept: usize,
-    slots: Vec<Slot>,
+    cells: Vec<Cell>,
 }
 
 impl Model for Best {
-    ghost use Rattle.std.specs.Prelude.{Option};
+    ghost use Rattle.std.specs.Prelude.{Option, map};
     ghost use Rattle.fancy_engine.specs.Context.{State};
     ghost use Rattle.fancy_machine.specs.Layers.{outcome_of};
+    ghost use Rattle.fancy_machine.specs.Log.{cell_slot};
 
     ghost Value = { Option State };
 
-    ghost view = { λ b. outcome_of b.found b.place b.kept b.slots.items };
+    ghost view = { λ b. outcome_of b.found b.place b.kept (map cell_slot b.cells.items) };
 }
 
 impl Best {
@@ -38,7 +39,7 @@ impl Best {
             found: false,
             place: 0,
             kept: 0,
-            slots: Vec::new(alloc),
+            cells: Vec::new(alloc),
         }
     }
 
@@ -63,8 +64,8 @@ impl Best {
         if !self.is_bettered_by(trail.place()) {
             return Ok(());
         }
-        self.slots.clear();
-        self.slots.extend_from_slice(trail.slots())?;
+        self.cells.clear();
+        self.cells.extend_from_slice(trail.cells())?;
         self.place = trail.place();
         self.kept = trail.kept();
         self.found = true;
@@ -77,7 +78,7 @@ impl Best {
         ensures most { trail.new.most ≡ trail.old.most }
     {
         if self.found {
-            trail.stand(self.place, self.kept, &mut self.slots);
+            trail.stand(self.place, self.kept, &mut self.cells);
         }
         self.found
     }

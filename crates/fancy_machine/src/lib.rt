@@ -6,6 +6,7 @@ mod best;
 mod choice;
 mod condition;
 mod layer;
+mod log;
 mod read;
 pub mod search;
 mod step;

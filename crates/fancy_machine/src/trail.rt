@@ -1,19 +1,19 @@
 //! The way that the machine follows, with the branches that it saved and the regions that are open.
 
-ghost use Rattle.std.specs.Prelude.{◌≡◌, ◌≢◌, ◌+◌, ◌-◌, ◌<◌, ◌≤◌, [], ◌∷◌, Err, Some, map, length, take, drop, replicate, OnOk, vec_len, slice_index_or, if◌then◌else◌, ◌==◌, true, is_some};
+ghost use Rattle.std.specs.Prelude.{◌≡◌, ◌≢◌, ◌+◌, ◌-◌, ◌<◌, ◌≤◌, [], ◌∷◌, Err, Some, map, length, take, drop, replicate, OnOk, vec_len, slice_index, slice_index_or, if◌then◌else◌, ◌==◌, true, is_some};
 ghost use Rattle.fancy_engine.specs.Context.{group_span};
 ghost use Rattle.fancy_engine.specs.Threads.{empty_slot, slot_span};
+ghost use Rattle.fancy_machine.specs.Log.{cell_slot, empty_cell, writes_allowed};
 ghost use Rattle.fancy_engine.specs.Work.{returns_of};
-ghost use Rattle.fancy_engine.specs.declared.slot.Write.{Write};
 ghost use Rattle.fancy_machine.specs.Frames.{saved};
 ghost use Rattle.fancy_machine.specs.Layers.{spot_of, outcome_of, frame_by, saves, is_one, branches_in, frames_of, region_by};
-ghost use Rattle.fancy_machine.specs.Machine.{at_instr, at_place, opened_at, closed_at, kept_at, within_at, Stops, TookBranch, ends_kind};
+ghost use Rattle.fancy_machine.specs.Machine.{at_instr, at_place, written, opened_at, closed_at, kept_at, within_at, Stops, TookBranch, ends_kind};
 
 use crate::layer::{Kind, Layer};
+use crate::log::{Cell, EMPTY_CELL, Write, begin_cells, forget_levels, thin, undo};
 use fancy_engine::refusal::SearchRefusal;
 use fancy_engine::runner::Next;
-use fancy_engine::slot::{EMPTY, Slot, Write};
-use fancy_engine::threads::{begin_slots, undo};
+use fancy_engine::slot::Slot;
 use fancy_engine::work::Work;
 use fancy_input::span::Span;
 use std::alloc::{AllocError, Global};
@@ -64,12 +64,12 @@ fn region_by(layer: Layer, count: usize) -> usize
 }
 
 /// What is known of a group.
-fn slot_at(slots: &[Slot], number: usize) -> Slot
-    ensures { result ≡ slice_index_or slots.now number empty_slot }
+fn cell_at(cells: &[Cell], number: usize) -> Cell
+    ensures { result ≡ slice_index_or cells.now number empty_cell }
 {
-    match slots.get(number) {
-        Some(slot) => *slot,
-        None => EMPTY,
+    match cells.get(number) {
+        Some(cell) => *cell,
+        None => EMPTY_CELL,
     }
 }
 
@@ -102,14 +102,14 @@ fn cut(layers: &mut Vec<Layer>, branches: &mut usize, len: usize)
 }
 
 /// The way that is followed, the saved branches and the open regions. Each is seen with the slots that there were
-/// when it was made; what is kept is one list of slots and a log of the writes that were done since.
+/// when it was made; what is kept is one list of cells and a log of writes.
 #[derive(Drop)]
 pub struct Trail {
     at: usize,
     limit: usize,
     place: usize,
     kept: usize,
-    slots: Vec<Slot>,
+    cells: Vec<Cell>,
     layers: Vec<Layer>,
     branches: usize,
     /// How many layers stand up to the innermost region, 0 where none is open.
@@ -119,22 +119,24 @@ pub struct Trail {
 }
 
 impl Model for Trail {
-    ghost use Rattle.std.specs.Prelude.{◌≡◌, ◌≤◌, length};
+    ghost use Rattle.std.specs.Prelude.{◌≡◌, ◌≤◌, length, map};
     ghost use Rattle.fancy_machine.specs.Frames.{Held};
-    ghost use Rattle.fancy_machine.specs.Layers.{spot_of, frames_of, branches_in, Rises, KnowRegions};
+    ghost use Rattle.fancy_machine.specs.Layers.{spot_of, frames_of, branches_in, Rises, KnowRegions, IsLog};
+    ghost use Rattle.fancy_machine.specs.Log.{cell_slot};
 
     ghost Value = { Held };
 
     ghost view = { λ t. record {
-      now = spot_of t.at t.limit t.place t.kept t.slots.items;
-      frames = frames_of t.log.items t.slots.items t.layers.items;
+      now = spot_of t.at t.limit t.place t.kept (map cell_slot t.cells.items);
+      frames = frames_of t.log.items (map cell_slot t.cells.items) t.layers.items;
       most = t.most;
     } };
 
     ghost invariant = { λ t. (t.branches ≡ branches_in t.layers.items)
         × (t.branches ≤ t.most)
         × Rises 0 t.layers.items (length t.log.items)
-        × KnowRegions 0 0 t.layers.items t.region };
+        × KnowRegions 0 0 t.layers.items t.region
+        × IsLog t.layers.items t.log.items t.cells.items };
 }
 
 impl Trail {
@@ -149,7 +151,7 @@ impl Trail {
             limit: 0,
             place: 0,
             kept: 0,
-            slots: Vec::new(alloc),
+            cells: Vec::new(alloc),
             layers: Vec::new(alloc),
             branches: 0,
             region: 0,
@@ -181,7 +183,8 @@ impl Trail {
         self.place = place;
         self.kept = place;
         self.most = most;
-        begin_slots(&mut self.slots, count)
+        begin_cells(&mut self.cells, count)?;
+        Ok(())
     }
 
     /// The next instruction.
@@ -213,34 +216,54 @@ impl Trail {
     }
 
     /// What is known of each group.
-    pub(crate) fn slots(&self) -> &[Slot]
-        ensures { map slot_span result.now ≡ self.now.now.state.captures }
+    pub(crate) fn cells(&self) -> &[Cell]
+        ensures { map slot_span (map cell_slot result.now) ≡ self.now.now.state.captures }
     {
-        &self.slots
+        &self.cells
     }
 
-    /// Stands where a way stood that had these slots, and gives up its own for them.
-    pub(crate) fn stand(&mut self, place: usize, kept: usize, slots: &mut Vec<Slot>)
-        ensures stands { Some self.new.now.state ≡ outcome_of true place kept slots.old.items }
+    /// How many writes to groups are kept, to go back to what stood there before.
+    pub fn writes(&self) -> usize
+        ensures few { result ≤ writes_allowed (saved self.now.frames) (length self.now.now.state.captures) }
+        ensures bounded { result ≤ writes_allowed self.now.most (length self.now.now.state.captures) }
+    {
+        self.log.len()
+    }
+
+    /// Stands where a way stood that had these cells, and gives up its own for them. No branch is saved any more.
+    pub(crate) fn stand(&mut self, place: usize, kept: usize, cells: &mut Vec<Cell>)
+        ensures stands { Some self.new.now.state ≡ outcome_of true place kept (map cell_slot cells.old.items) }
         ensures most { self.new.most ≡ self.old.most }
     {
+        self.layers.clear();
+        self.branches = 0;
+        self.region = 0;
+        self.log.clear();
         self.place = place;
         self.kept = kept;
-        swap(&mut self.slots, slots);
+        swap(&mut self.cells, cells);
+        forget_levels(&mut self.cells);
     }
 
     /// Whether a group has taken part.
     pub fn is_taken(&self, group: usize) -> bool
         ensures { result ≡ is_some (group_span self.now.now.state group) }
     {
-        has_span(slot_at(&self.slots, group))
+        has_span(cell_at(&self.cells, group).slot)
     }
 
     /// Where the text of a group stands, if it has taken part.
     pub fn span(&self, group: usize) -> Option<Span>
         ensures { result ≡ group_span self.now.now.state group }
     {
-        slot_at(&self.slots, group).span
+        cell_at(&self.cells, group).slot.span
+    }
+
+    /// Where a group began last, a byte offset.
+    fn from(&self, group: usize) -> usize
+        ensures { result ≡ slice_index self.now.now.starts group }
+    {
+        cell_at(&self.cells, group).slot.from
     }
 
     /// Goes on at another instruction.
@@ -330,23 +353,43 @@ impl Trail {
         Ok(())
     }
 
+    /// Writes to a group. What stood there is logged, if that is the first write to it since the last branch was saved.
+    fn write(&mut self, group: usize, slot: Slot) -> Result<(), AllocError>
+        ensures now { OnOk result (self.new.now ≡ written group slot self.old.now) }
+        ensures frames { OnOk result (self.new.frames ≡ self.old.frames) }
+        ensures most { self.new.most ≡ self.old.most }
+    {
+        if group >= self.cells.len() {
+            return Ok(());
+        }
+        let old = self.cells[group];
+        if old.level >= self.branches {
+            self.cells[group] = Cell {
+                slot,
+                level: old.level,
+            };
+            return Ok(());
+        }
+        self.log.push(Write { group, old })?;
+        self.cells[group] = Cell {
+            slot,
+            level: self.branches,
+        };
+        Ok(())
+    }
+
     /// A group begins.
     pub fn open_group(&mut self, group: usize, next: usize) -> Result<(), AllocError>
         ensures now { OnOk result (self.new.now ≡ opened_at group next self.old.now) }
         ensures frames { OnOk result (self.new.frames ≡ self.old.frames) }
         ensures most { self.new.most ≡ self.old.most }
     {
-        self.at = next;
-        if group >= self.slots.len() {
-            return Ok(());
-        }
-        let old = self.slots[group];
-        self.log.push(Write { slot: group, old })?;
-        self.slots[group] = Slot {
+        let slot = Slot {
             from: self.place,
-            span: old.span,
+            span: self.span(group),
         };
-        Ok(())
+        self.at = next;
+        self.write(group, slot)
     }
 
     /// A group ends.
@@ -355,21 +398,17 @@ impl Trail {
         ensures frames { OnOk result (self.new.frames ≡ self.old.frames) }
         ensures most { self.new.most ≡ self.old.most }
     {
-        self.at = next;
-        if group >= self.slots.len() {
-            return Ok(());
-        }
-        let old = self.slots[group];
-        self.log.push(Write { slot: group, old })?;
+        let from = self.from(group);
         let span = Span {
-            start: old.from,
+            start: from,
             end: self.place,
         };
-        self.slots[group] = Slot {
-            from: old.from,
+        let slot = Slot {
+            from,
             span: Some(span),
         };
-        Ok(())
+        self.at = next;
+        self.write(group, slot)
     }
 
     /// Keeps the lowest layers, so many.
@@ -384,6 +423,7 @@ impl Trail {
         let lowest = self.layers[len];
         cut(&mut self.layers, &mut self.branches, len);
         self.region = lowest.region;
+        thin(&mut self.cells, &mut self.log, lowest.log, self.branches);
     }
 
     /// The way stops: the innermost region ends where it may, and what is round it goes on at `next`.
@@ -437,6 +477,7 @@ impl Trail {
                 continue;
             }
             self.branches -= 1;
+            undo(&mut self.cells, &mut self.log, layer.log);
             if work.returns() >= limit {
                 return Err(SearchRefusal::Returns);
             }
@@ -445,7 +486,6 @@ impl Trail {
             self.place = layer.place;
             self.kept = layer.kept;
             self.limit = layer.limit;
-            undo(&mut self.slots, &mut self.log, layer.log);
             return Ok(true);
         }
     }

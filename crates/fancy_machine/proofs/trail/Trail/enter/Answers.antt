@@ -2,6 +2,7 @@ use Rattle.std.proofs.Common.{arith, refl}
 use Rattle.fancy_machine.specs.declared.layer.Layer.{Layer}
 use Rattle.fancy_machine.proofs.LayerLemmas.{counted_snoc}
 use Rattle.fancy_machine.proofs.RegionLemmas.{pushed}
+use Rattle.fancy_machine.proofs.WriteLemmas.{saved_log}
 use Rattle.fancy_machine.proofs.trail.Trail.enter.Goals as goal
 
 pub invariant_of-self-2 : goal.invariant_of-self-2
@@ -12,4 +13,5 @@ invariant_of-self-2 c =
       c.self.invariant.1,
       p.0,
       rw c.region_by-self-inside.ensures p.1,
+      saved_log c.self.inside.layers.items c.self.inside.log.items c.self.inside.cells.items c.self.invariant.2 c.self.invariant.4 c.push.new.self.items l c.in_ok-push.ensures.items (omega (arith, c.len.ensures, c.self.inside.log.ok.0)),
     )

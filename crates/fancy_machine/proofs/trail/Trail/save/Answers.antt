@@ -1,13 +1,15 @@
-use Rattle.std.proofs.Common.{arith, refl}
+use Rattle.fancy_machine.specs.Log.{cell_slot}
+use Rattle.std.proofs.Common.{map, arith, refl}
 use Rattle.fancy_machine.specs.declared.layer.Layer.{Layer}
 use Rattle.fancy_machine.proofs.LayerLemmas.{counted_snoc, saved_frames}
 use Rattle.fancy_machine.proofs.RegionLemmas.{pushed}
+use Rattle.fancy_machine.proofs.WriteLemmas.{saved_log}
 use Rattle.fancy_machine.proofs.trail.Trail.save.Goals as goal
 
 pub returns-then-self-clause-full : goal.returns-then-self-clause-full
 returns-then-self-clause-full c _ =
     rw (← c.self.view_is)
-    (omega (arith, saved_frames c.self.inside.log.items c.self.inside.slots.items c.self.inside.layers.items, c.self.invariant.0, c.if-self.true))
+    (omega (arith, saved_frames c.self.inside.log.items (map cell_slot c.self.inside.cells.items) c.self.inside.layers.items, c.self.invariant.0, c.if-self.true))
 
 pub invariant_of-self-2 : goal.invariant_of-self-2
 invariant_of-self-2 c =
@@ -17,4 +19,5 @@ invariant_of-self-2 c =
       omega (arith, c.if-self.false),
       p.0,
       rw c.region_by-self-inside.ensures p.1,
+      saved_log c.self.inside.layers.items c.self.inside.log.items c.self.inside.cells.items c.self.invariant.2 c.self.invariant.4 c.push.new.self.items l c.in_ok-push.ensures.items (omega (arith, c.len.ensures, c.self.inside.log.ok.0)),
     )

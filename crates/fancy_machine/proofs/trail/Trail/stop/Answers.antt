@@ -1,4 +1,5 @@
-use Rattle.std.proofs.Common.{arith, sym, subst}
+use Rattle.std.proofs.Common.{arith, map, sym, subst}
+use Rattle.fancy_machine.specs.Log.{cell_slot}
 use Rattle.fancy_machine.specs.Frames.{Held}
 use Rattle.fancy_machine.specs.Machine.{Stops, within_at, at_place}
 use Rattle.fancy_engine.specs.declared.runner.Next.TheVariants.{On}
@@ -11,7 +12,7 @@ returns-then-top-eq0-clause-stopped c = stops_bare _ _ _ _ _ _ _ c.self.view_is 
 
 pub index-layer-requires : goal.index-layer-requires
 index-layer-requires c =
-    omega (arith, (opens_top c.self.inside.log.items c.self.inside.slots.items c.self.inside.region c.self.inside.layers.items c.self.invariant.3 c.if-top-eq0.false).0, c.if-top-eq0.false, c.self.inside.layers.ok.0)
+    omega (arith, (opens_top c.self.inside.log.items (map cell_slot c.self.inside.cells.items) c.self.inside.region c.self.inside.layers.items c.self.invariant.3 c.if-top-eq0.false).0, c.if-top-eq0.false, c.self.inside.layers.ok.0)
 
 pub returns-then-not-is_ended-clause-stopped : goal.returns-then-not-is_ended-clause-stopped
 returns-then-not-is_ended-clause-stopped c = stops_elsewhere _ _ _ _ _ _ _ c.self.view_is c.self.invariant.3 c.args.next c.index-layer.result.now c.index-layer.ensures c.if-top-eq0.false c.if-not-is_ended.ensures
