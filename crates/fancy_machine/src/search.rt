@@ -10,6 +10,7 @@ ghost use Rattle.fancy_engine.specs.Tried.{tried, NoneTried};
 ghost use Rattle.fancy_engine.specs.Work.{steps_of, returns_of, HasRoom};
 ghost use Rattle.fancy_engine.specs.Queries.{query_of, answer_with};
 ghost use Rattle.fancy_machine.specs.Asked.{Serves, HeedsLimit, branches_allowed, groups_held, lines_held};
+ghost use Rattle.fancy_machine.specs.Log.{writes_allowed};
 
 use crate::attempt::Attempt;
 use crate::best::Best;
@@ -54,6 +55,14 @@ impl Cache {
         ensures { result ≡ slice_index_or (groups_held self.now) number None }
     {
         self.trail.span(number)
+    }
+
+    /// How many writes to groups it keeps, to go back to what stood there before: at most one for each group and each branch that
+    /// the searches so far were allowed to save at one time.
+    pub fn writes(&self) -> usize
+        ensures { result ≤ writes_allowed (branches_allowed self.now) (length (groups_held self.now)) }
+    {
+        self.trail.writes()
     }
 }
 
