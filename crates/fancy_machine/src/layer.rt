@@ -1,5 +1,9 @@
 //! What the machine keeps below the way that it follows.
 
+ghost use Rattle.std.specs.Prelude.{◌≡◌, ◌≤◌, take, vec_len, if◌then◌else◌, ◌==◌, true};
+ghost use Rattle.fancy_machine.specs.Layers.{saves, is_one, branches_in, region_by};
+ghost use Rattle.fancy_machine.specs.Machine.{ends_kind};
+
 /// What a layer is.
 #[derive(Clone, Copy, PartialEq, Eq, Debug)]
 pub enum Kind {
@@ -30,4 +34,65 @@ pub struct Layer {
     pub log: usize,
     /// How many layers stand up to the innermost region below, 0 where there is none.
     pub region: usize,
+}
+
+/// Whether a look-around from a place may end at another: one that looks behind ends where it began.
+fn ends(behind: bool, from: usize, place: usize) -> bool
+    ensures { result ≡ (if behind then place == from else true) }
+{
+    if behind {
+        return place == from;
+    }
+    true
+}
+
+/// Whether a way that stops at a place ends the region of a layer of this kind.
+pub(crate) fn is_ended(kind: Kind, from: usize, place: usize) -> bool
+    ensures { result ≡ ends_kind kind from place }
+{
+    match kind {
+        Kind::Branch => true,
+        Kind::Atom => true,
+        Kind::Look(behind) => ends(behind, from, place),
+        Kind::Denial(behind) => ends(behind, from, place),
+        Kind::Condition => true,
+    }
+}
+
+/// Whether a layer of this kind saves a branch.
+pub(crate) fn is_saved(kind: Kind) -> bool
+    ensures { result ≡ is_one (saves kind) }
+{
+    match kind {
+        Kind::Branch | Kind::Denial(_) | Kind::Condition => true,
+        Kind::Atom | Kind::Look(_) => false,
+    }
+}
+
+/// How many layers stand up to the innermost region, where this layer is the last of so many.
+pub(crate) fn region_by(layer: Layer, count: usize) -> usize
+    ensures { result ≡ region_by count layer }
+{
+    match layer.kind {
+        Kind::Branch => layer.region,
+        Kind::Atom | Kind::Look(_) | Kind::Denial(_) | Kind::Condition => count,
+    }
+}
+
+/// Keeps the lowest layers, so many.
+pub(crate) fn cut(layers: &mut Vec<Layer>, branches: &mut usize, len: usize)
+    requires counted { branches.old ≡ branches_in layers.old.items }
+    requires fits { len ≤ vec_len layers.old }
+    ensures kept { layers.new.items ≡ take len layers.old.items }
+    ensures counted { branches.new ≡ branches_in layers.new.items }
+    ensures fewer { branches.new ≤ branches.old }
+{
+    'layers: while layers.len() > len {
+        let Some(layer) = layers.pop() else {
+            return;
+        };
+        if is_saved(layer.kind) {
+            *branches -= 1;
+        }
+    }
 }

@@ -5,7 +5,8 @@
 //! saved when a write to it was logged last. Where a region ends and its branches are dropped, the writes that were logged for them
 //! are left out of the log, but for the first ones since the branch that is the last one then.
 
-ghost use Rattle.std.specs.Prelude.{◌≡◌, ◌≤◌, map, length, take, drop, filter, replicate, OnOk, vec_len, slice_set, slice_index_or, ℕ};
+ghost use Rattle.std.specs.Prelude.{◌≡◌, ◌≤◌, map, length, take, drop, filter, replicate, OnOk, vec_len, slice_set, slice_index_or, is_some, ℕ};
+ghost use Rattle.fancy_engine.specs.Threads.{slot_span};
 ghost use Rattle.fancy_machine.specs.Log.{cell_slot, cell_level, empty_cell, old_cell, undone_by, is_kept, lowered};
 
 use fancy_engine::slot::{EMPTY, Slot};
@@ -30,6 +31,26 @@ pub const EMPTY_CELL: Cell = Cell {
 pub struct Write {
     pub group: usize,
     pub old: Cell,
+}
+
+/// What is known of a group.
+pub(crate) fn cell_at(cells: &[Cell], number: usize) -> Cell
+    ensures { result ≡ slice_index_or cells.now number empty_cell }
+{
+    match cells.get(number) {
+        Some(cell) => *cell,
+        None => EMPTY_CELL,
+    }
+}
+
+/// Whether the group of a slot has taken part.
+pub(crate) fn has_span(slot: Slot) -> bool
+    ensures { result ≡ is_some (slot_span slot) }
+{
+    match slot.span {
+        Some(_) => true,
+        None => false,
+    }
 }
 
 /// Begins a list of cells anew with so many, none written. It has only such also where memory runs out.

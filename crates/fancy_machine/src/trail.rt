@@ -1,16 +1,16 @@
 //! The way that the machine follows, with the branches that it saved and the regions that are open.
 
-ghost use Rattle.std.specs.Prelude.{◌≡◌, ◌≢◌, ◌+◌, ◌-◌, ◌<◌, ◌≤◌, [], ◌∷◌, Err, Some, map, length, take, drop, replicate, OnOk, vec_len, slice_index, slice_index_or, if◌then◌else◌, ◌==◌, true, is_some};
+ghost use Rattle.std.specs.Prelude.{◌≡◌, ◌≢◌, ◌-◌, ◌≤◌, [], ◌∷◌, Err, Some, map, length, drop, replicate, OnOk, slice_index, true, is_some};
 ghost use Rattle.fancy_engine.specs.Context.{group_span};
 ghost use Rattle.fancy_engine.specs.Threads.{empty_slot, slot_span};
-ghost use Rattle.fancy_machine.specs.Log.{cell_slot, empty_cell, writes_allowed};
 ghost use Rattle.fancy_engine.specs.Work.{returns_of};
+ghost use Rattle.fancy_machine.specs.Log.{cell_slot, writes_allowed};
 ghost use Rattle.fancy_machine.specs.Frames.{saved};
-ghost use Rattle.fancy_machine.specs.Layers.{spot_of, outcome_of, frame_by, saves, is_one, branches_in, frames_of, region_by};
-ghost use Rattle.fancy_machine.specs.Machine.{at_instr, at_place, written, opened_at, closed_at, kept_at, within_at, Stops, TookBranch, ends_kind};
+ghost use Rattle.fancy_machine.specs.Layers.{spot_of, outcome_of, frame_by, saves};
+ghost use Rattle.fancy_machine.specs.Machine.{at_instr, at_place, written, opened_at, closed_at, kept_at, within_at, Stops, TookBranch};
 
-use crate::layer::{Kind, Layer};
-use crate::log::{Cell, EMPTY_CELL, Write, begin_cells, forget_levels, thin, undo};
+use crate::layer::{Kind, Layer, cut, is_ended, is_saved, region_by};
+use crate::log::{Cell, Write, begin_cells, cell_at, forget_levels, has_span, thin, undo};
 use fancy_engine::refusal::SearchRefusal;
 use fancy_engine::runner::Next;
 use fancy_engine::slot::Slot;
@@ -19,87 +19,6 @@ use fancy_input::span::Span;
 use std::alloc::{AllocError, Global};
 use std::marker::Model;
 use std::mem::swap;
-
-/// Whether a look-around from a place may end at another: one that looks behind ends where it began.
-fn ends(behind: bool, from: usize, place: usize) -> bool
-    ensures { result ≡ (if behind then place == from else true) }
-{
-    if behind {
-        return place == from;
-    }
-    true
-}
-
-/// Whether a way that stops at a place ends the region of a layer of this kind.
-fn is_ended(kind: Kind, from: usize, place: usize) -> bool
-    ensures { result ≡ ends_kind kind from place }
-{
-    match kind {
-        Kind::Branch => true,
-        Kind::Atom => true,
-        Kind::Look(behind) => ends(behind, from, place),
-        Kind::Denial(behind) => ends(behind, from, place),
-        Kind::Condition => true,
-    }
-}
-
-/// Whether a layer of this kind saves a branch.
-fn is_saved(kind: Kind) -> bool
-    ensures { result ≡ is_one (saves kind) }
-{
-    match kind {
-        Kind::Branch | Kind::Denial(_) | Kind::Condition => true,
-        Kind::Atom | Kind::Look(_) => false,
-    }
-}
-
-/// How many layers stand up to the innermost region, where this layer is the last of so many.
-fn region_by(layer: Layer, count: usize) -> usize
-    ensures { result ≡ region_by count layer }
-{
-    match layer.kind {
-        Kind::Branch => layer.region,
-        Kind::Atom | Kind::Look(_) | Kind::Denial(_) | Kind::Condition => count,
-    }
-}
-
-/// What is known of a group.
-fn cell_at(cells: &[Cell], number: usize) -> Cell
-    ensures { result ≡ slice_index_or cells.now number empty_cell }
-{
-    match cells.get(number) {
-        Some(cell) => *cell,
-        None => EMPTY_CELL,
-    }
-}
-
-/// Whether the group of a slot has taken part.
-fn has_span(slot: Slot) -> bool
-    ensures { result ≡ is_some (slot_span slot) }
-{
-    match slot.span {
-        Some(_) => true,
-        None => false,
-    }
-}
-
-/// Keeps the lowest layers, so many.
-fn cut(layers: &mut Vec<Layer>, branches: &mut usize, len: usize)
-    requires counted { branches.old ≡ branches_in layers.old.items }
-    requires fits { len ≤ vec_len layers.old }
-    ensures kept { layers.new.items ≡ take len layers.old.items }
-    ensures counted { branches.new ≡ branches_in layers.new.items }
-    ensures fewer { branches.new ≤ branches.old }
-{
-    'layers: while layers.len() > len {
-        let Some(layer) = layers.pop() else {
-            return;
-        };
-        if is_saved(layer.kind) {
-            *branches -= 1;
-        }
-    }
-}
 
 /// The way that is followed, the saved branches and the open regions. Each is seen with the slots that there were
 /// when it was made; what is kept is one list of cells and a log of writes.

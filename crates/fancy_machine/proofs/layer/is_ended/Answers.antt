@@ -1,7 +1,7 @@
 use Rattle.std.proofs.Common.{ap, sym, ◌∙◌}
 use Rattle.fancy_machine.specs.declared.layer.Kind.{Kind}
 use Rattle.fancy_machine.specs.Machine.{ends_kind}
-use Rattle.fancy_machine.proofs.trail.is_ended.Goals as goal
+use Rattle.fancy_machine.proofs.layer.is_ended.Goals as goal
 
 pub returns-in-Branch : goal.returns-in-Branch
 returns-in-Branch c = sym (ap (λ (j : Kind). ends_kind j c.args.from c.args.place) c.in-Branch.is)

@@ -1,6 +1,6 @@
 use Rattle.std.proofs.Common.{◌∙◌, arith, length, ap, length-append}
 use Rattle.fancy_machine.proofs.LayerLemmas.{counted_snoc, saves_one, saves_none, take_snoc}
-use Rattle.fancy_machine.proofs.trail.cut.Goals as goal
+use Rattle.fancy_machine.proofs.layer.cut.Goals as goal
 
 pub overflow_sub-branches : goal.overflow_sub-branches
 overflow_sub-branches c =

@@ -1,7 +1,7 @@
 use Rattle.std.proofs.Common.{◌≡◌, ◌≤◌, take}
 use Rattle.std.specs.Prelude.{vec_len}
 use Rattle.fancy_machine.specs.Layers.{branches_in}
-use Rattle.fancy_machine.proofs.trail.cut.Given as goal
+use Rattle.fancy_machine.proofs.layer.cut.Given as goal
 
 abbrev pub invariant-layers : goal.invariant-layers
 invariant-layers l = record {
