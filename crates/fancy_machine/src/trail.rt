@@ -330,7 +330,7 @@ impl Trail {
         self.write(group, slot)
     }
 
-    /// Keeps the lowest layers, so many.
+    /// Keeps the lowest layers, so many, and of the log what they ask for.
     fn leave(&mut self, len: usize)
         ensures now { self.new.now ≡ self.old.now }
         ensures frames { self.new.frames ≡ drop (length self.old.frames - len) self.old.frames }
