@@ -1,10 +1,9 @@
 -- The layers as frames.
-use Rattle.std.proofs.Common.{◌≡◌, ◌<◌, ◌≤◌, ℕ, zero, suc, ◌+◌, true, false, List, [], ◌∷◌, ◌++◌, length, map, take, drop, set, get_or, Option, Some, None, refl, sym, ap, ap₂, ◌∙◌, subst, arith, true≢false, length-append}
-use Rattle.std.specs.Prelude.{reverse, slice_index}
-use Rattle.std.proofs.lemmas.List.{map-append, reverse-append, drop-append-le, drop_all, take-append-drop, length-take-le, set-set, set-get_or, map-set}
+use Rattle.std.proofs.Common.{◌≡◌, ◌<◌, ◌≤◌, ℕ, zero, suc, ◌+◌, true, false, List, [], ◌∷◌, ◌++◌, length, map, take, drop, set, get_or, Option, refl, sym, ap, ap₂, ◌∙◌, subst, arith, true≢false, length-append}
+use Rattle.std.specs.Prelude.{reverse}
+use Rattle.std.proofs.lemmas.List.{map-append, reverse-append, drop-append-le, take-append-drop, length-take-le, set-set, set-get_or, map-set}
 use Rattle.fancy_input.specs.declared.span.Span.{Span}
 use Rattle.fancy_engine.specs.declared.slot.Slot.{Slot}
-use Rattle.fancy_engine.specs.Context.{group_span, with_capture}
 use Rattle.fancy_engine.specs.Threads.{empty_slot, slot_span, slot_from}
 use Rattle.fancy_engine.proofs.ThreadsLemmas.{get_or_mapped}
 use Rattle.fancy_machine.specs.declared.log.Cell.{Cell}
@@ -16,7 +15,7 @@ use Rattle.fancy_machine.specs.declared.layer.Kind.{Kind}
 use Rattle.fancy_machine.specs.declared.layer.Kind.TheVariants as k
 use Rattle.fancy_machine.specs.Frames.{Spot, Frame, saved, saved_in}
 use Rattle.fancy_machine.specs.Layers.{spot_of, frame_by, saves, is_one, branches_in, spot_at, frame_at, frames_of, Rises}
-use Rattle.fancy_machine.specs.Machine.{at_instr, written, opened_at, closed_at, IsSpent, Takes}
+use Rattle.fancy_machine.specs.Machine.{written, IsSpent, Takes}
 
 pub rises_le : (lo n : ℕ) (ls : List Layer) → Rises lo ls n → lo ≤ n
 rises_le lo n [] r = r
@@ -71,13 +70,6 @@ frames_undone slots log n ls r le =
 
 pub frames_snoc : (log : List Write) (slots : List Slot) (ls : List Layer) (l : Layer) → frames_of log slots (ls ++ l ∷ []) ≡ frame_at log slots l ∷ frames_of log slots ls
 frames_snoc log slots ls l = ap reverse (map-append (frame_at log slots) ls (l ∷ [])) ∙ reverse-append (map (frame_at log slots) ls) (frame_at log slots l ∷ [])
-
--- a layer that is made now stands for the slots as they are
-pub frames_push : (log : List Write) (slots : List Slot) (ls items : List Layer) (l : Layer) → items ≡ ls ++ l ∷ [] → l.log ≡ length log
-    → frames_of log slots items ≡ frame_by l.kind (spot_of l.at l.limit l.place l.kept slots) ∷ frames_of log slots ls
-frames_push log slots ls items l e is =
-    ap (frames_of log slots) e ∙ frames_snoc log slots ls l
-    ∙ ap (λ (f : Frame). f ∷ frames_of log slots ls) (frame_same l _ _ (ap (undone_by old_slot slots) (drop_all l.log log (omega (arith, is)))))
 
 pub branches_snoc : (ls : List Layer) (l : Layer) → branches_in (ls ++ l ∷ []) ≡ branches_in ls + saves l.kind
 branches_snoc [] l = omega arith
@@ -165,15 +157,6 @@ take_snoc n ls all l e lt = sym (ap (take n) e ∙ by n ls (omega (arith, ap len
 -- the last of the layers that are counted
 pub counted_snoc : (ls all : List Layer) (l : Layer) → all ≡ ls ++ l ∷ [] → branches_in all ≡ branches_in ls + saves l.kind
 counted_snoc ls all l e = ap branches_in e ∙ branches_snoc ls l
-
--- a group begins, or ends
-pub opened_by : (g next : ℕ) (x : Spot) → written g (record { from = x.state.place; span = group_span x.state g }) (at_instr next x) ≡ opened_at g next x
-opened_by g next x =
-    ap (λ (cs : List (Option Span)). record x { at = next; state = record x.state { captures = cs }; starts = set x.starts g x.state.place }) (set-get_or x.state.captures g None)
-
-pub closed_by : (g next : ℕ) (x : Spot)
-    → written g (record { from = slice_index x.starts g; span = Some (record { start = slice_index x.starts g; end = x.state.place }) }) (at_instr next x) ≡ closed_at g next x
-closed_by g next x = ap (λ (vs : List ℕ). record x { at = next; state = with_capture x.state g (slice_index x.starts g); starts = vs }) (set-get_or x.starts g 0)
 
 -- what is known of a group, read off its cell
 pub slot_known : {A : Type 0} (f : Slot → A) (cells : List Cell) (g : ℕ) (c : Cell) → c ≡ get_or cells g empty_cell → f c.slot ≡ get_or (map f (map cell_slot cells)) g (f empty_slot)
