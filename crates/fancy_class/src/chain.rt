@@ -43,7 +43,8 @@ impl Chain {
 
     /// Applies an operator.
     pub(crate) fn add(&mut self, how: Operation, right: Set) -> Result<(), AllocError>
-        ensures { OnOk result ((c : ℕ) → chain_members self.new c ≡ applied how (chain_members self.old c) (members right c)) }
+        ensures { OnOk result ((c : ℕ)
+            → chain_members self.new c ≡ applied how (chain_members self.old c) (members right c)) }
     {
         let edges = right.edges().len();
         self.waiting = self.waiting.saturating_add(edges).saturating_add(1);

@@ -65,7 +65,8 @@ impl ClassContext {
 
     /// A set that has a name, or its complement where it is negated.
     fn named_set(self, set: Set, negated: bool) -> Result<Set, AllocError>
-        ensures { IfOk result (λ s. (c : ℕ) → members s c ≡ set_members self.meaning self.fold negated (members set) c) }
+        ensures { IfOk result
+            (λ s. (c : ℕ) → members s c ≡ set_members self.meaning self.fold negated (members set) c) }
     {
         let set = self.fold_case(set)?;
         self.negate_if(negated, set)

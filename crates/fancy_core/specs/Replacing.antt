@@ -112,25 +112,13 @@ replacing fixed appends refuses regex text limit = record { fixed = fixed; appen
 -- The replacement by a template with these bytes. A call appends what it expands to, and refuses for want of memory alone; the
 -- template stays as it was.
 abbrev pub with_template : {R : Type 0} → (R → List ℕ) → Regex → List ℕ → ℕ → Replacing R
-with_template bytes regex text limit = record {
-  fixed = λ s. fixed_of (bytes s);
-  appends = λ s seen answer next. (next ≡ s) × Expands (bytes s) seen answer;
-  refuses = λ s seen e next. (next ≡ s) × (e ≡ Memory);
-  regex = regex;
-  text = text;
-  limit = limit;
-}
+with_template bytes regex text limit =
+    replacing (λ s. fixed_of (bytes s)) (λ s seen answer next. (next ≡ s) × Expands (bytes s) seen answer) (λ s seen e next. (next ≡ s) × (e ≡ Memory)) regex text limit
 
 -- the replacement by a text that is taken as it is
 abbrev pub with_text : {R : Type 0} → (R → List ℕ) → Regex → List ℕ → ℕ → Replacing R
-with_text bytes regex text limit = record {
-  fixed = λ s. Some (bytes s);
-  appends = λ s seen answer next. (next ≡ s) × (answer ≡ bytes s);
-  refuses = λ s seen e next. (next ≡ s) × (e ≡ Memory);
-  regex = regex;
-  text = text;
-  limit = limit;
-}
+with_text bytes regex text limit =
+    replacing (λ s. Some (bytes s)) (λ s seen answer next. (next ≡ s) × (answer ≡ bytes s)) (λ s seen e next. (next ≡ s) × (e ≡ Memory)) regex text limit
 
 -- the matches that it takes
 abbrev pub matches_taken : {R : Type 0} → Replacing R → List MatchItem

@@ -31,6 +31,7 @@ pub struct Layer {
     pub kept: usize,
     /// Consumed text ends here at the latest.
     pub limit: usize,
+    /// How many writes the log held.
     pub log: usize,
     /// How many layers stand up to the innermost region below, 0 where there is none.
     pub region: usize,

@@ -1,5 +1,5 @@
 -- Members of a set that may not start at a position are passed over, and have no answer there.
-use Rattle.std.proofs.Common.{◌≡◌, ℕ, ◌+◌, ◌<◌, ◌≤◌, Bool, true, false, List, Option, Some, None, IfSome, is_some, slice_get, take, inl, inr, refl, sym, ap, ap₂, subst, ◌∙◌, arith, true≢false}
+use Rattle.std.proofs.Common.{◌≡◌, ℕ, ◌+◌, ◌<◌, ◌≤◌, Bool, true, false, List, Option, Some, None, IfSome, is_some, slice_get, take, inl, inr, refl, sym, ap, subst, ◌∙◌, arith, true≢false}
 use Rattle.std.proofs.lemmas.Bool.Decides.{leb_tells}
 use Rattle.fancy_engine.specs.Search.{answer_at}
 use Rattle.fancy_search.proofs.StartLemmas.{none_before}
@@ -13,10 +13,6 @@ use Rattle.fancy_regex.specs.SetMembers.{SetQuery, asked, has_answer_at, NoneBet
 never : (b : Bool) → (b ≡ true → ⊥) → b ≡ false
 never true unless = absurd (unless refl)
 never false unless = refl
-
--- the byte at a position of the bytes before the range's end
-pub byte_there : (bytes haystack : List ℕ) (end range_end p : ℕ) (next : Option ℕ) → next ≡ slice_get (take end bytes) p → bytes ≡ haystack → end ≡ range_end → next ≡ slice_get (take range_end haystack) p
-byte_there bytes haystack end range_end p next is same at = is ∙ ap₂ (λ (n : ℕ) (xs : List ℕ). slice_get (take n xs) p) at same
 
 module _ (members : List Regex) (next : Option ℕ) where
   -- the members that are in no group
