@@ -13,6 +13,7 @@ mod emitter;
 pub mod found;
 pub mod laws;
 mod marking;
+pub mod notes;
 pub mod options;
 mod prefilter;
 pub mod reading;

@@ -1,23 +1,24 @@
 //! Searches by the runner: their time is bounded by the product of the code's length and the text's.
 
-ghost use Rattle.std.specs.Prelude.{◌≡◌, ◌+◌, ◌-◌, ◌^◌, ◌<◌, ◌≤◌, ℕ, Bool, true, false, [], Some, None, length, replicate, slice_index_or, IfOk, IfErr, IfSome, OnOk};
+ghost use Rattle.std.specs.Prelude.{◌≡◌, ◌+◌, ◌-◌, ◌^◌, ◌<◌, ◌≤◌, ℕ, Bool, true, false, [], Some, None, length, replicate, slice_index_or, IfOk, IfErr, IfSome, IfNone, OnOk};
 ghost use Rattle.fancy_tree.specs.Pattern.{Pattern};
-ghost use Rattle.fancy_engine.specs.Code.{instrs_of, worth_of};
+ghost use Rattle.fancy_engine.specs.Code.{instrs_of};
 ghost use Rattle.fancy_engine.specs.CodeLength.{code_len};
 ghost use Rattle.fancy_engine.specs.Attempt.{bits_in, owed_in, AllFailedIn};
-ghost use Rattle.fancy_engine.specs.KeptTable.{IsKept, table_in, table_base, steps_ahead, steps_before};
+ghost use Rattle.fancy_engine.specs.KeptTable.{IsKept, table_in, table_base, place_kept, past_tried, steps_from, steps_ahead, taken_again};
 ghost use Rattle.fancy_engine.specs.Compile.{IsCodeOf, AreEasy};
 ghost use Rattle.fancy_engine.specs.Search.{search};
 ghost use Rattle.fancy_input.specs.LastLines.{KnowsLastLines};
 ghost use Rattle.fancy_input.specs.Requests.{effective_start};
 ghost use Rattle.fancy_bytes.specs.Openings.{NoneStandsBefore};
 ghost use Rattle.fancy_engine.specs.Seen.{IsNextCandidate, IsNextOpening, NoneMayStart, openings_of};
-ghost use Rattle.fancy_engine.specs.Queries.{query_of, unfiltered, groups_in, answer_with, most_steps};
+ghost use Rattle.fancy_engine.specs.Queries.{query_of, unfiltered, groups_in, answer_with};
 ghost use Rattle.fancy_engine.specs.Work.{steps_of, returns_of};
 
 use crate::branches::Branches;
 use crate::code::Code;
 use crate::found::Found;
+use crate::notes::{KeptTable, Notes};
 use crate::options::{SearchOptions, is_match_boundary};
 use crate::refusal::SearchRefusal;
 use crate::runner::Attempt;
@@ -31,14 +32,14 @@ use fancy_input::input::Request;
 use fancy_input::last_lines::LastLines;
 use fancy_input::span::Span;
 use std::alloc::Global;
+use std::mem;
 
 /// What searches work in, reused from one to the next, with the groups of the last match.
 #[derive(Drop)]
 pub struct Cache {
     threads: Threads,
-    table: Table,
-    /// What was read of the line ends that close the haystack of the last search.
-    last_lines: LastLines,
+    /// What the last search found out.
+    notes: Notes,
 }
 
 impl Cache {
@@ -48,9 +49,16 @@ impl Cache {
     {
         Cache {
             threads: Threads::new(alloc),
-            table: Table::new(alloc),
-            last_lines: LastLines::new(b""),
+            notes: Notes::new(alloc),
         }
+    }
+
+    /// Has the searches to come work with these notes, and gives those of the searches before. The groups stay.
+    pub fn swap_notes(&mut self, notes: &mut Notes)
+        ensures given { self.new ≡ record self.old { notes = notes.old } }
+        ensures taken { notes.new ≡ self.old.notes }
+    {
+        mem::swap(&mut self.notes, notes);
     }
 
     /// Where the group with this number stands in what the search before found, in byte offsets. `None` where the group
@@ -78,33 +86,36 @@ fn begin_table(table: &mut Table, attempt: &Attempt) -> Result<(), SearchRefusal
     Ok(())
 }
 
-/// Makes the table ready for a search that starts at `first`: one that is kept loses the marks of that place, which lie on the way to
-/// the match before, and else the table begins anew.
+/// Makes the table ready for a search that starts at `first`: where none is kept it begins anew. One that is kept loses the marks of
+/// that place, where these may lie on the way to the match before.
 fn ready_table(
     table: &mut Table,
     attempt: &Attempt,
     first: usize,
-    is_kept: bool,
+    kept: Option<KeptTable>,
 ) -> Result<(), SearchRefusal>
     requires begins { attempt.now.base ≤ first }
     requires ordered { first ≤ attempt.now.last }
     requires small { attempt.now.last < usize.MAX }
-    requires room { is_kept ≡ true → length table.old ≡ bits_in attempt.now }
-    requires short { is_kept ≡ true → length table.old < 2 ^ 64 }
-    ensures failed { OnOk result ((deep : ℕ) → (is_kept ≡ true → AllFailedIn attempt.now (first + 1) deep table.old)
+    requires reached { IfSome kept (λ k. k.from ≤ first + 1) }
+    requires room { IfSome kept (λ _. length table.old ≡ bits_in attempt.now) }
+    requires short { IfSome kept (λ _. length table.old < 2 ^ 64) }
+    ensures failed { OnOk result ((deep : ℕ) → IfSome kept (λ k. AllFailedIn attempt.now k.from deep table.old)
         → AllFailedIn attempt.now first deep table.new) }
-    ensures left { is_kept ≡ true
-        → OnOk result (owed_in attempt.now table.new ≤ owed_in attempt.now table.old + worth_of attempt.now.code.now) }
+    ensures left { IfSome kept (λ _. OnOk result (owed_in attempt.now table.new
+        ≤ owed_in attempt.now table.old + taken_again kept attempt.now.code.now first)) }
     ensures room { OnOk result (length table.new ≡ bits_in attempt.now) }
     ensures small { OnOk result (length table.new < 2 ^ 64) }
     ensures refused { IfErr result (λ e. e ≡ SearchRefusal.Memory) }
 {
-    if !is_kept {
+    let Some(kept) = kept else {
         begin_table(table, attempt)?;
         return Ok(());
+    };
+    if first < kept.from {
+        let marks = attempt.code.marks();
+        table.clear((first - attempt.base) * marks, marks);
     }
-    let marks = attempt.code.marks();
-    table.clear((first - attempt.base) * marks, marks);
     Ok(())
 }
 
@@ -276,44 +287,55 @@ fn literal_from(
 /// same with it on and off. Of the options `on_boundaries` and `overrides` are heeded: what is found is the first
 /// match and may be empty, and returns have no limit.
 ///
-/// Without `kept` the table in `cache` begins anew, at the effective start. In a list of searches of one haystack by one code
-/// up to one end, each of which starts at the end of the match before or later, `kept` is where the table begins that the
-/// first of them began, as a byte offset. What they marked past the end of the last match is not followed again, since it
-/// fails whatever the groups are. All searches of a list together then take no more steps than one alone may take, and the
-/// code's length for each of them. What they read of the line ends that close the haystack is not read again either.
+/// Without `kept` the table in `cache` begins anew, at the effective start. Several searches of one haystack by one code up to one
+/// end may keep it, each of which starts at the end of the match before, or where nothing was found at the last position that was
+/// tried, or later. `kept` then tells what the search before left in `cache`, and afterwards what this one leaves there. What they
+/// marked is not followed again, since it fails whatever the groups are; but the marks at the end of a match lie on the way to it, and
+/// are cleared. All these searches together take no more steps than one alone may take, and the code's length for each that starts
+/// where the match before ended. What they read of the line ends that close the haystack is not read again either.
 ///
 /// What is done is added to the counts of `work`, after a refusal what was done up to it. They never begin anew here. No
 /// step is taken where no match may start at any position.
 ///
 /// # Errors
 ///
-/// `SearchRefusal::Memory` where memory runs out, and no other.
+/// `SearchRefusal::Memory` where memory runs out, and no other. Nothing is kept then.
 pub fn search(
     code: &Code,
     haystack: &[u8],
     request: Request,
     options: SearchOptions,
-    kept: Option<usize>,
+    kept: &mut Option<KeptTable>,
     cache: &mut Cache,
     work: &mut Work,
 ) -> Result<Option<Found>, SearchRefusal>
     requires inside { request.range_end ≤ length haystack.now }
     requires easy { AreEasy (instrs_of code.now) }
-    requires kept { IfSome kept (λ base. IsKept code.now haystack.now request options
-        base (effective_start request) cache.old) }
+    requires kept { IfSome kept.old (λ k. IsKept code.now haystack.now request options
+        k (effective_start request) cache.old.notes) }
     ensures answer { IfOk result (λ found. (p : Pattern) (on : Bool) → IsCodeOf p code.now
         → answer_with (groups_in cache.new) found
         ≡ search (query_of p code.now (unfiltered options) haystack.now request on)) }
-    ensures kept { IfOk result (λ found. IfSome found (λ f. IsKept code.now haystack.now request options
-        (table_base kept request) f.end cache.new)) }
+    ensures here { IfOk result (λ found. IfSome found (λ f. f.start ≡ f.position)) }
     ensures ordered { IfOk result (λ found. IfSome found (λ f. effective_start request ≤ f.end)) }
+    ensures kept { IfOk result (λ found. IfSome kept.new (λ k. IsKept code.now haystack.now request options
+        k (place_kept found request) cache.new.notes)) }
+    ensures left { IfOk result (λ found. IfSome found (λ f. kept.new
+        ≡ Some (record { base = table_base kept.old request; from = f.end + 1 }))) }
+    ensures dropped { IfErr result (λ _. kept.new ≡ None) }
     ensures steps { steps_of work.old ≤ steps_of work.new }
-    ensures fresh { kept ≡ None → steps_of work.new ≤ steps_of work.old + most_steps code.now request }
-    ensures bounded { steps_of work.new
-        ≤ steps_of work.old + (steps_before kept code.now request (table_in cache.old) + code_len code.now) }
+    ensures bounded { steps_of work.new ≤ steps_of work.old
+        + (steps_from kept.old code.now request (effective_start request) (table_in cache.old)
+        + taken_again kept.old code.now (effective_start request)) }
+    ensures passed { IfOk result (λ found. IfNone found (steps_of work.new
+        + steps_from kept.new code.now request (past_tried request) (table_in cache.new)
+        ≤ steps_of work.old
+        + (steps_from kept.old code.now request (effective_start request) (table_in cache.old)
+        + taken_again kept.old code.now (effective_start request)))) }
     ensures spent { IfOk result (λ found. IfSome found (λ f. steps_of work.new
-        + steps_ahead code.now request (table_base kept request) f.end (table_in cache.new)
-        ≤ steps_of work.old + (steps_before kept code.now request (table_in cache.old) + code_len code.now))) }
+        + steps_ahead code.now request (table_base kept.old request) f.end (table_in cache.new)
+        ≤ steps_of work.old
+        + (steps_from kept.old code.now request (effective_start request) (table_in cache.old) + code_len code.now))) }
     ensures idle { NoneMayStart code.now.start_bytes haystack.now request.range_end
         (effective_start request) (request.range_end + 1)
         → steps_of work.new ≡ steps_of work.old }
@@ -330,7 +352,8 @@ pub fn search(
     if place > last {
         return Ok(None);
     }
-    let base = kept.unwrap_or(first);
+    let before = kept.take();
+    let base = KeptTable::base(before, first);
     let attempt = Attempt {
         code,
         haystack,
@@ -339,16 +362,17 @@ pub fn search(
         on_boundaries: options.on_boundaries,
         suppressed: options.suppressed_ends(request),
     };
-    let is_kept = kept.is_some();
     let threads = &mut cache.threads;
-    let table = &mut cache.table;
-    let last_lines = &mut cache.last_lines;
-    ready_table(table, &attempt, first, is_kept)?;
-    ready_last_lines(last_lines, haystack, is_kept);
+    let table = &mut cache.notes.table;
+    let last_lines = &mut cache.notes.last_lines;
+    ready_table(table, &attempt, first, before)?;
+    ready_last_lines(last_lines, haystack, before.is_some());
     while place <= last {
         if is_match_boundary(options.on_boundaries, haystack, place) {
             match follow_start(&attempt, place, threads, table, last_lines, work)? {
                 Some(end) => {
+                    let from = end + 1;
+                    *kept = Some(KeptTable { base, from });
                     return Ok(Some(Found {
                         position: place,
                         start: place,
@@ -360,5 +384,6 @@ pub fn search(
         }
         place = next_opening(code, haystack, request.range_end, place + 1, last);
     }
+    *kept = Some(KeptTable { base, from: place });
     Ok(None)
 }

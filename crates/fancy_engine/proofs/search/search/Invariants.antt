@@ -1,12 +1,10 @@
-use Rattle.std.proofs.Common.{◌≡◌, ◌+◌, ◌-◌, ◌*◌, ◌<◌, ◌≤◌, ◌^◌, Bool, length}
-use Rattle.std.specs.Prelude.{None}
+use Rattle.std.proofs.Common.{◌≡◌, None, ◌+◌, ◌-◌, ◌*◌, ◌<◌, ◌≤◌, ◌^◌, Bool, length}
 use Rattle.fancy_tree.specs.Pattern.{Pattern}
 use Rattle.fancy_engine.specs.Attempt.{AllFailedIn, bits_in, owed_in}
 use Rattle.fancy_engine.specs.Code.{due_of}
-use Rattle.fancy_engine.specs.CodeLength.{code_len}
 use Rattle.fancy_engine.specs.Compile.{IsCodeOf, depth}
-use Rattle.fancy_engine.specs.Queries.{query_of, unfiltered, most_steps}
-use Rattle.fancy_engine.specs.KeptTable.{table_in, steps_before}
+use Rattle.fancy_engine.specs.Queries.{query_of, unfiltered}
+use Rattle.fancy_engine.specs.KeptTable.{table_in, steps_from, taken_again}
 use Rattle.fancy_input.specs.LastLines.{KnowsLastLines}
 use Rattle.fancy_input.specs.Requests.{effective_start}
 use Rattle.fancy_engine.specs.Seen.{NoneMayStart}
@@ -20,16 +18,16 @@ invariant-loop-place l = record {
       ≡ answer_from (query_of p l.code (unfiltered l.fn.options) l.haystack l.fn.request on) (l.last + 1 - l.place) l.place;
   begins : l.base ≤ l.place;
   passed : l.first ≤ l.place;
+  within : l.place ≤ l.last + 1;
+  dropped : l.kept ≡ None;
   starts : l.place ≤ l.last → ¬ NoneMayStart l.code.start_bytes l.haystack l.fn.request.range_end (effective_start l.fn.request) (l.fn.request.range_end + 1);
   idle : NoneMayStart l.code.start_bytes l.haystack l.fn.request.range_end (effective_start l.fn.request) (l.fn.request.range_end + 1) → steps_of l.work ≡ steps_of l.fn.work;
   failed : (p : Pattern) → IsCodeOf p l.code → AllFailedIn l.attempt l.place (depth (length l.haystack) p + 1) l.table;
   room : length l.table ≡ bits_in l.attempt;
   small : length l.table < 2 ^ 64;
   steps : steps_of l.fn.work ≤ steps_of l.work;
-  fresh : l.fn.kept ≡ None
-      → steps_of l.work + owed_in l.attempt l.table + (l.fn.request.range_end + 1 - l.place) * due_of l.code l.code.start ≤ steps_of l.fn.work + most_steps l.code l.fn.request;
-  spent : steps_of l.work + owed_in l.attempt l.table + (l.fn.request.range_end + 1 - l.place) * due_of l.code l.code.start + due_of l.code l.code.start
-      ≤ steps_of l.fn.work + (steps_before l.fn.kept l.code l.fn.request (table_in l.fn.cache) + code_len l.code);
+  spent : steps_of l.work + owed_in l.attempt l.table + (l.fn.request.range_end + 1 - l.place) * due_of l.code l.code.start
+      ≤ steps_of l.fn.work + (steps_from l.fn.kept l.code l.fn.request (effective_start l.fn.request) (table_in l.fn.cache) + taken_again l.fn.kept l.code (effective_start l.fn.request));
   returns : returns_of l.fn.work ≤ returns_of l.work;
   paired : returns_of l.work - returns_of l.fn.work ≤ steps_of l.work - steps_of l.fn.work;
   last_lines : KnowsLastLines l.haystack l.last_lines;
