@@ -1,43 +1,51 @@
 -- What is kept from one search of a list to the next.
-use Rattle.std.proofs.Common.{◌≡◌, ℕ, ◌≤◌, Bool, true, false, List, Option, Some, None, IfSome, refl, sym, ap, ◌∙◌, subst, arith, true≢false}
+use Rattle.std.proofs.Common.{◌≡◌, ℕ, ◌+◌, ◌≤◌, Bool, true, false, List, Option, Some, None, IfSome, IfNone, refl, sym, ap, ap₂, ◌∙◌, subst, arith, true≢false, eqb-true, eq-eqb}
+use Rattle.std.specs.Prelude.{nat_eq, option_map, if◌then◌else◌}
 use Rattle.std.specs.Option.{ForSome}
 use Rattle.std.proofs.lemmas.Option.{none-some, same_Some}
-use Rattle.fancy_input.specs.Requests.{effective_start}
+use Rattle.fancy_input.specs.Requests.{effective_start, positions}
 use Rattle.fancy_input.specs.declared.input.Request.{Request}
 use Rattle.fancy_engine.specs.declared.code.Code.{Code}
 use Rattle.fancy_engine.specs.declared.found.Found.{Found}
 use Rattle.fancy_engine.specs.declared.options.SearchOptions.{SearchOptions}
-use Rattle.fancy_engine.specs.declared.search.Cache.{Cache as Runner}
-use Rattle.fancy_engine.specs.KeptTable.{IsKept}
+use Rattle.fancy_engine.specs.declared.notes.KeptTable.{KeptTable}
+use Rattle.fancy_engine.specs.declared.notes.Notes.{Notes}
+use Rattle.fancy_input.specs.declared.span.Span.{Span}
+use Rattle.fancy_engine.specs.Context.{State}
+use Rattle.fancy_engine.specs.Queries.{answer_with}
+use Rattle.fancy_engine.specs.Search.{Query, Answer, attempt, answer_at}
+use Rattle.fancy_engine.specs.KeptTable.{IsKept, base_of, place_kept, past_tried, steps_ahead, steps_from, table_in, taken_again}
+use Rattle.fancy_search.specs.declared.cache.AttemptNotes.{AttemptNotes}
 use Rattle.fancy_search.specs.declared.cache.Cache.{Cache}
 use Rattle.fancy_search.specs.declared.program.Program.{Program}
 use Rattle.fancy_search.specs.declared.cache.Kept.{Kept}
 use Rattle.fancy_search.specs.declared.cache.Kept.TheVariants.{Nothing, Table, Steps, Lines}
-use Rattle.fancy_search.specs.KeptTables.{KeepsTable, KeepsSteps, KeepsLines, IsKeptIn}
+use Rattle.fancy_search.specs.Options.{search_options}
+use Rattle.fancy_search.specs.KeptTables.{KeepsTable, KeepsSteps, KeepsLines, KeepsNotes, IsKeptIn, KeepsOn, table_kept, of_table, kept_from}
 
 abbrev is_nothing : Kept → Bool
 is_nothing Nothing = true
-is_nothing (Table base) = false
+is_nothing (Table kept) = false
 is_nothing Steps = false
 is_nothing Lines = false
 
 abbrev is_steps : Kept → Bool
 is_steps Nothing = false
-is_steps (Table base) = false
+is_steps (Table kept) = false
 is_steps Steps = true
 is_steps Lines = false
 
 abbrev is_lines : Kept → Bool
 is_lines Nothing = false
-is_lines (Table base) = false
+is_lines (Table kept) = false
 is_lines Steps = false
 is_lines Lines = true
 
 nothing≢steps : Nothing ≡ Steps → ⊥
 nothing≢steps e = true≢false (ap is_nothing e)
 
-table≢steps : (base : ℕ) → Table base ≡ Steps → ⊥
-table≢steps base e = true≢false (sym (ap is_steps e))
+table≢steps : (kept : KeptTable) → Table kept ≡ Steps → ⊥
+table≢steps kept e = true≢false (sym (ap is_steps e))
 
 lines≢steps : Lines ≡ Steps → ⊥
 lines≢steps e = true≢false (sym (ap is_steps e))
@@ -45,20 +53,21 @@ lines≢steps e = true≢false (sym (ap is_steps e))
 nothing≢lines : Nothing ≡ Lines → ⊥
 nothing≢lines e = true≢false (sym (ap is_lines e))
 
-table≢lines : (base : ℕ) → Table base ≡ Lines → ⊥
-table≢lines base e = true≢false (sym (ap is_lines e))
+table≢lines : (kept : KeptTable) → Table kept ≡ Lines → ⊥
+table≢lines kept e = true≢false (sym (ap is_lines e))
 
 steps≢lines : Steps ≡ Lines → ⊥
 steps≢lines e = true≢false (sym (ap is_lines e))
 
--- what is kept for a place is kept for a later one
-pub kept_later : (code : Code) (haystack : List ℕ) (request : Request) (options : SearchOptions) (base place later start : ℕ) (cache : Runner) → place ≤ later
-    → IsKept code haystack request options base place cache → IsKept code haystack (record request { start = start }) options base later cache
-kept_later code haystack request options base place later start cache le is = record {
+-- what is kept for a place is kept for a later one, whichever positions are tried
+pub kept_later : (code : Code) (haystack : List ℕ) (request : Request) (options : SearchOptions) (kept : KeptTable) (place later start : ℕ) (anchored : Bool) (notes : Notes) → place ≤ later
+    → IsKept code haystack request options kept place notes → IsKept code haystack (record request { start = start; anchored = anchored }) options kept later notes
+kept_later code haystack request options kept place later start anchored notes le is = record {
   begins = omega (arith, le, is.begins);
+  reached = omega (arith, le, is.reached);
   room = is.room;
   small = is.small;
-  failed = λ p of q i seen hit. is.failed p of q i ((seen.0.0, omega (arith, le, seen.0.1), seen.0.2), seen.1) hit;
+  failed = is.failed;
   last_lines = is.last_lines;
 }
 
@@ -69,18 +78,19 @@ module _ (program : Program) (haystack : List ℕ) (cache : Cache) where
       subst (λ (k : Kept). IsKeptIn program haystack request k place cache) (sym is) ((λ base e. absurd (none-some base e)), (λ e. absurd (nothing≢steps e)), (λ e. absurd (nothing≢lines e)))
 
   -- a table is kept
-  pub keeps_table : (request : Request) (base place : ℕ) → KeepsTable program haystack request base place cache → IsKeptIn program haystack request (Table base) place cache
-  keeps_table request base place is = ((λ b e. subst (λ (n : ℕ). KeepsTable program haystack request n place cache) (same_Some base b e) is), (λ e. absurd (table≢steps base e)), (λ e. absurd (table≢lines base e)))
+  pub keeps_table : (request : Request) (kept : KeptTable) (place : ℕ) → KeepsTable program haystack request kept place cache → IsKeptIn program haystack request (Table kept) place cache
+  keeps_table request kept place is = ((λ b e. subst (λ (n : KeptTable). KeepsTable program haystack request n place cache) (same_Some kept b e) is), (λ e. absurd (table≢steps kept e)), (λ e. absurd (table≢lines kept e)))
 
   -- steps are kept
   pub keeps_steps : (request : Request) (place : ℕ) → KeepsSteps program cache → IsKeptIn program haystack request Steps place cache
   keeps_steps request place is = ((λ base e. absurd (none-some base e)), (λ e. is), (λ e. absurd (steps≢lines e)))
 
   -- either is kept for the search after a match, if there is one
-  pub found_table : (request : Request) (base : ℕ) (m : Option Found) → IfSome m (λ f. KeepsTable program haystack request base f.end cache)
-      → IfSome m (λ f. IsKeptIn program haystack request (Table base) f.end cache)
-  found_table request base None is = tt
-  found_table request base (Some f) is = keeps_table request base f.end is
+  pub found_table : (request : Request) (kept : Option KeptTable) (m : Option Found) → IfSome kept (λ k. KeepsTable program haystack request k (place_kept m request) cache)
+      → IfSome m (λ f. IsKeptIn program haystack request (of_table kept) f.end cache)
+  found_table request kept None is = tt
+  found_table request None (Some f) is = keeps_nothing request Nothing f.end refl
+  found_table request (Some k) (Some f) is = keeps_table request k f.end is
 
   pub found_steps : (request : Request) (m : Option Found) → KeepsSteps program cache → IfSome m (λ f. IsKeptIn program haystack request Steps f.end cache)
   found_steps request None is = tt
@@ -96,7 +106,7 @@ module _ (program : Program) (haystack : List ℕ) (cache : Cache) where
   keeps_on before after kept kept' place same keeps le is =
       subst (λ (k : Kept). IsKeptIn program haystack after k (effective_start after) cache) (sym keeps)
       (subst (λ (r : Request). IsKeptIn program haystack r kept (effective_start after) cache) (sym same)
-      ((λ base e. kept_later program.code haystack before _ base place (effective_start after) after.start _ (omega (arith, le)) (is.0 base e)), is.1, is.2))
+      ((λ k e. kept_later program.code haystack before _ k place (effective_start after) after.start before.anchored _ (omega (arith, le)) (is.0 k e)), is.1, is.2))
 
 -- and the same of an iteration that was moved on
 pub keeps_moved : {S : Type 0} (bytes : S → List ℕ) (program : Program) (cache : Cache) (haystack haystack' : S) (before after : Request) (kept kept' : Kept) (place : ℕ)
@@ -112,10 +122,126 @@ pub starts_at : (before after : Request) (start : ℕ) → after ≡ record befo
 starts_at before after start e = e ∙ ap (λ (s : ℕ). record before { start = s }) (sym (ap (λ (r : Request). r.start) e))
 
 -- what holds of a table that is kept, if one is
-pub if_some : (o : Option ℕ) (Is : ℕ → Type 0) → ForSome o Is → IfSome o Is
+pub if_some : (o : Option KeptTable) (Is : KeptTable → Type 0) → ForSome o Is → IfSome o Is
 if_some None Is is = tt
-if_some (Some b) Is is = is b refl
+if_some (Some k) Is is = is k refl
 
 -- the same of an option that is equal
-pub if_some_at : (o p : Option ℕ) (Is : ℕ → Type 0) → o ≡ p → ForSome p Is → IfSome o Is
+pub if_some_at : (o p : Option KeptTable) (Is : KeptTable → Type 0) → o ≡ p → ForSome p Is → IfSome o Is
 if_some_at o p Is e is = rw e (if_some p Is is)
+
+-- what attempts found out is kept for those at a later place
+pub noted_later : (program : Program) (haystack : List ℕ) (request : Request) (place later : ℕ) (notes : AttemptNotes) → place ≤ later
+    → KeepsNotes program haystack request place notes → KeepsNotes program haystack request later notes
+noted_later program haystack request place later notes le is = at notes.kept is where
+  at : (kept : Option KeptTable) → IfSome kept (λ k. IsKept program.code haystack (record request { start = 0; anchored = false }) (search_options program.options) k place notes.notes)
+      → IfSome kept (λ k. IsKept program.code haystack (record request { start = 0; anchored = false }) (search_options program.options) k later notes.notes)
+  at None is = tt
+  at (Some k) is = kept_later program.code haystack (record request { start = 0; anchored = false }) (search_options program.options) k place later 0 false notes.notes le is
+
+-- it is kept on by an attempt that does not use it
+pub noted_past : (program : Program) (haystack : List ℕ) (request : Request) (position : ℕ) (notes : AttemptNotes) (m : Option Found) → IfSome m (λ f. f.start ≤ f.end)
+    → KeepsNotes program haystack request position notes → KeepsNotes program haystack request (kept_from m position) notes
+noted_past program haystack request position notes None ordered is = is
+noted_past program haystack request position notes (Some f) ordered is = noted_later program haystack request position (kept_from (Some f) position) notes (at (nat_eq f.start position) refl) is where
+  at : (b : Bool) → nat_eq f.start position ≡ b → position ≤ (if b then f.end else position)
+  at true e = omega (arith, ordered, eqb-true f.start position e)
+  at false e = omega arith
+
+-- the request of an attempt at a position, where its searches begin, and past what it tries
+module _ (request : Request) (position : ℕ) (starts : effective_start request ≤ position) (ends : position ≤ request.range_end) where
+  pub begins_at : effective_start (record request { start = position; anchored = true }) ≡ position
+  begins_at = omega (arith, starts)
+
+  pub one_tried : positions (record request { start = position; anchored = true }) ≡ 1
+  one_tried = omega (arith, starts, ends)
+
+-- what attempts found out is kept for the search that is anchored at the position
+pub noted_before : (program : Program) (haystack : List ℕ) (request : Request) (position : ℕ) (notes : AttemptNotes)
+    → KeepsNotes program haystack request position notes
+    → IfSome notes.kept (λ k. IsKept program.code haystack (record request { start = position; anchored = true }) (search_options program.options) k (effective_start (record request { start = position; anchored = true })) notes.notes)
+noted_before program haystack request position notes is = at notes.kept is where
+  at : (kept : Option KeptTable) → IfSome kept (λ k. IsKept program.code haystack (record request { start = 0; anchored = false }) (search_options program.options) k position notes.notes)
+      → IfSome kept (λ k. IsKept program.code haystack (record request { start = position; anchored = true }) (search_options program.options) k (effective_start (record request { start = position; anchored = true })) notes.notes)
+  at None is = tt
+  at (Some k) is = kept_later program.code haystack (record request { start = 0; anchored = false }) (search_options program.options) k position _ position true notes.notes (omega arith) is
+
+-- what that search leaves is kept for attempts
+pub noted_after : (program : Program) (haystack : List ℕ) (request : Request) (position : ℕ) (notes : AttemptNotes) (m : Option Found)
+    → effective_start request ≤ position → position ≤ request.range_end → IfSome m (λ f. f.start ≡ position)
+    → IfSome notes.kept (λ k. IsKept program.code haystack (record request { start = position; anchored = true }) (search_options program.options) k (place_kept m (record request { start = position; anchored = true })) notes.notes)
+    → KeepsNotes program haystack request (kept_from m position) notes
+noted_after program haystack request position notes m starts ends here is = at notes.kept is where
+  reached : (m : Option Found) → IfSome m (λ f. f.start ≡ position) → place_kept m (record request { start = position; anchored = true }) ≤ kept_from m position
+  reached None here = omega (arith, begins_at request position starts ends, one_tried request position starts ends)
+  reached (Some f) here = rw (eq-eqb f.start position here) (omega arith)
+
+  at : (kept : Option KeptTable)
+      → IfSome kept (λ k. IsKept program.code haystack (record request { start = position; anchored = true }) (search_options program.options) k (place_kept m (record request { start = position; anchored = true })) notes.notes)
+      → IfSome kept (λ k. IsKept program.code haystack (record request { start = 0; anchored = false }) (search_options program.options) k (kept_from m position) notes.notes)
+  at None is = tt
+  at (Some k) is = kept_later program.code haystack (record request { start = position; anchored = true }) (search_options program.options) k _ (kept_from m position) 0 false notes.notes (reached m here) is
+
+-- an attempt at a position that finds where it starts starts at the position
+pub starts_here : (q : Query) (p : ℕ) (groups : List (Option Span)) (m : Option Found) → answer_with groups m ≡ attempt q p → IfSome m (λ f. f.start ≡ f.position) → IfSome m (λ f. f.start ≡ p)
+starts_here q p groups None e here = tt
+starts_here q p groups (Some f) e here = here ∙ at (answer_at q p) e where
+  at : (s : Option State) → answer_with groups (Some f) ≡ option_map (λ s. record { position = p; state = s }) s → f.position ≡ p
+  at None e = absurd (none-some _ (sym e))
+  at (Some s) e = ap (λ (a : Answer). a.position) (same_Some _ _ e)
+
+-- a table that is kept is that which was
+kept_of : (kept : Option KeptTable) → table_kept (of_table kept) ≡ kept
+kept_of None = refl
+kept_of (Some k) = refl
+
+table≢nothing : (kept : KeptTable) → Table kept ≡ Nothing → ⊥
+table≢nothing kept e = true≢false (sym (ap is_nothing e))
+
+-- what a search of the runner leaves after a match: the steps that it took are no longer ahead, and the table goes on
+module _ (program : Program) (request : Request) (before : Kept) (table : Option KeptTable) (m : Option Found)
+    (left : IfSome m (λ f. table ≡ Some (record { base = base_of (table_kept before) (effective_start request); from = f.end + 1 }))) where
+  pub found_spent : (cache : Cache) (old new : ℕ)
+      → IfSome m (λ f. new + steps_ahead program.code request (base_of (table_kept before) (effective_start request)) f.end (table_in cache.runner) ≤ old)
+      → IfSome m (λ f. ForSome (table_kept (of_table table)) (λ k. new + steps_ahead program.code request k.base f.end (table_in cache.runner) ≤ old))
+  found_spent cache old new spent = at m left spent where
+    at : (m : Option Found) → IfSome m (λ f. table ≡ Some (record { base = base_of (table_kept before) (effective_start request); from = f.end + 1 }))
+        → IfSome m (λ f. new + steps_ahead program.code request (base_of (table_kept before) (effective_start request)) f.end (table_in cache.runner) ≤ old)
+        → IfSome m (λ f. ForSome (table_kept (of_table table)) (λ k. new + steps_ahead program.code request k.base f.end (table_in cache.runner) ≤ old))
+    at None left spent = tt
+    at (Some f) left spent = λ k e.
+        subst (λ (k : KeptTable). new + steps_ahead program.code request k.base f.end (table_in cache.runner) ≤ old) (same_Some _ k (sym left ∙ sym (kept_of table) ∙ e)) spent
+
+  pub found_goes_on : IfSome m (λ f. KeepsOn before (of_table table))
+  found_goes_on = at m left where
+    at : (m : Option Found) → IfSome m (λ f. table ≡ Some (record { base = base_of (table_kept before) (effective_start request); from = f.end + 1 }))
+        → IfSome m (λ f. KeepsOn before (of_table table))
+    at None left = tt
+    at (Some f) left = (
+      (λ e. table≢nothing _ (sym (ap of_table left) ∙ e)),
+      (λ k e. ap (option_map (λ (l : KeptTable). l.base)) (kept_of table ∙ left) ∙ ap (λ (o : Option KeptTable). Some (base_of o (effective_start request))) e),
+    )
+
+-- what follows where nothing was found
+pub none_so : {A : Type 0} (P Q : Type 0) → (P → Q) → (m : Option A) → IfNone m P → IfNone m Q
+none_so P Q so None p = so p
+none_so P Q so (Some a) p = tt
+
+-- the steps that are ahead of the search that is anchored at a position are those of an attempt there
+module _ (kept : Option KeptTable) (code : Code) (request : Request) (position : ℕ) (table : List Bool) (starts : effective_start request ≤ position) (ends : position ≤ request.range_end) where
+  same_ahead : (kept : Option KeptTable) (place : ℕ) → steps_from kept code (record request { start = position; anchored = true }) place table ≡ steps_from kept code request place table
+  same_ahead None place = refl
+  same_ahead (Some k) place = refl
+
+  pub ahead_at : steps_from kept code (record request { start = position; anchored = true }) (effective_start (record request { start = position; anchored = true })) table
+      + taken_again kept code (effective_start (record request { start = position; anchored = true }))
+      ≡ steps_from kept code request position table + taken_again kept code position
+  ahead_at =
+      ap (λ (p : ℕ). steps_from kept code (record request { start = position; anchored = true }) p table + taken_again kept code p) (begins_at request position starts ends)
+      ∙ ap (λ (n : ℕ). n + taken_again kept code position) (same_ahead kept position)
+
+  pub ahead_past : steps_from kept code (record request { start = position; anchored = true }) (past_tried (record request { start = position; anchored = true })) table
+      ≡ steps_from kept code request (position + 1) table
+  ahead_past =
+      ap (λ (p : ℕ). steps_from kept code (record request { start = position; anchored = true }) p table) (ap₂ (λ (a b : ℕ). a + b) (begins_at request position starts ends) (one_tried request position starts ends))
+      ∙ same_ahead kept (position + 1)

@@ -8,3 +8,8 @@ if_err P Q f (Err e) h = f e h
 pub if_ok : {A E : Type 0} (P Q : A → Type 0) → ((a : A) → P a → Q a) → (r : Result A E) → IfOk r P → IfOk r Q
 if_ok P Q f (Ok a) h = f a h
 if_ok P Q f (Err e) h = tt
+
+-- what follows of a value from two facts
+pub if_ok_both : {A E : Type 0} (P Q R : A → Type 0) → ((a : A) → P a → Q a → R a) → (r : Result A E) → IfOk r P → IfOk r Q → IfOk r R
+if_ok_both P Q R f (Ok a) h k = f a h k
+if_ok_both P Q R f (Err e) h k = tt

@@ -1,16 +1,19 @@
--- What is kept through a list of searches: the table of the runner and what it read of the line ends that close the haystack, the
--- steps that the automaton remembers, or what the machine read of these line ends.
-use Rattle.std.specs.Prelude.{◌≡◌, ◌≤◌, ◌+◌, ℕ, false, List, Option, Some, None}
+-- What is kept through a list of searches, or through attempts from position to position: the table of the runner and what it read of
+-- the line ends that close the haystack, the steps that the automaton remembers, or what the machine read of these line ends.
+use Rattle.std.specs.Prelude.{◌≡◌, ◌≤◌, ◌+◌, ℕ, Bool, true, false, List, Option, Some, None, IfSome, option_map, nat_eq, if◌then◌else◌}
 use Rattle.std.specs.Option.{ForSome}
 use Rattle.fancy_input.specs.LastLines.{KnowsLastLines}
 use Rattle.fancy_input.specs.Requests.{effective_start}
 use Rattle.fancy_input.specs.declared.input.Request.{Request}
-use Rattle.fancy_engine.specs.KeptTable.{IsKept, table_in, steps_ahead, steps_before}
+use Rattle.fancy_engine.specs.KeptTable.{IsKept, table_in, steps_ahead, steps_from, taken_again}
 use Rattle.fancy_engine.specs.Work.{steps_of}
+use Rattle.fancy_engine.specs.declared.found.Found.{Found}
+use Rattle.fancy_engine.specs.declared.notes.KeptTable.{KeptTable}
 use Rattle.fancy_engine.specs.declared.work.Work.{Work}
 use Rattle.fancy_automaton.specs.Cells.{IsWithin}
 use Rattle.fancy_automaton.specs.Remembered.{Remembers}
 use Rattle.fancy_machine.specs.Asked.{lines_held}
+use Rattle.fancy_search.specs.declared.cache.AttemptNotes.{AttemptNotes}
 use Rattle.fancy_search.specs.declared.cache.Cache.{Cache}
 use Rattle.fancy_search.specs.declared.cache.Kept.{Kept}
 use Rattle.fancy_search.specs.declared.cache.Kept.TheVariants.{Nothing, Table, Steps, Lines}
@@ -19,21 +22,26 @@ use Rattle.fancy_search.specs.declared.searcher.Searcher.{Searcher}
 use Rattle.fancy_search.specs.Options.{search_options}
 use Rattle.fancy_search.specs.Programs.{program_length}
 
--- The table in the cache begins at `base`, and what it holds is known of searches with the program that start at `place` or later. What
--- was read of the last lines is true of the haystack.
-abbrev pub KeepsTable : Program → List ℕ → Request → ℕ → ℕ → Cache → Type 0
-KeepsTable program haystack request base place cache = IsKept program.code haystack request (search_options program.options) base place cache.runner
+-- The table in the cache is kept for searches with the program that start at `place` or later. What was read of the last lines is true
+-- of the haystack.
+abbrev pub KeepsTable : Program → List ℕ → Request → KeptTable → ℕ → Cache → Type 0
+KeepsTable program haystack request kept place cache = IsKept program.code haystack request (search_options program.options) kept place cache.runner.notes
 
-abbrev pub table_kept : Kept → Option ℕ
+abbrev pub table_kept : Kept → Option KeptTable
 table_kept Nothing = None
-table_kept (Table base) = Some base
+table_kept (Table kept) = Some kept
 table_kept Steps = None
 table_kept Lines = None
+
+-- a table, if one is kept
+abbrev pub of_table : Option KeptTable → Kept
+of_table None = Nothing
+of_table (Some kept) = Table kept
 
 -- So many steps are ahead of the searches of a list, from one with this request on: where the table is kept, what its marks are worth that
 -- were not made, and a start at each position; else as many as a search alone may take.
 abbrev pub steps_to_go : Program → Request → Kept → Cache → ℕ
-steps_to_go program request kept cache = steps_before (table_kept kept) program.code request (table_in cache.runner)
+steps_to_go program request kept cache = steps_from (table_kept kept) program.code request (effective_start request) (table_in cache.runner)
 
 -- A search takes at most the steps that are ahead of it, and one for each instruction.
 abbrev pub TakesStepsToGo : Program → Request → Kept → Cache → Work → Work → Type 0
@@ -42,12 +50,32 @@ TakesStepsToGo program request kept cache before after = steps_of after ≤ step
 -- Where it leaves its table, the steps that it took are no longer ahead of the searches that start at `place` or later.
 abbrev pub SpendsSteps : Program → Request → Kept → Cache → Work → Kept → Cache → Work → ℕ → Type 0
 SpendsSteps program request kept cache before left cache' after place =
-    ForSome (table_kept left) (λ base. steps_of after + steps_ahead program.code request base place (table_in cache'.runner)
+    ForSome (table_kept left) (λ k. steps_of after + steps_ahead program.code request k.base place (table_in cache'.runner)
     ≤ steps_of before + (steps_to_go program request kept cache + program_length program))
 
 -- Something is left for the next search, and a table that is kept is kept on, with the same first place.
 abbrev pub KeepsOn : Kept → Kept → Type 0
-KeepsOn before after = (after ≡ Nothing → ⊥) × ForSome (table_kept before) (λ base. table_kept after ≡ Some base)
+KeepsOn before after = (after ≡ Nothing → ⊥) × ForSome (table_kept before) (λ k. option_map (λ (l : KeptTable). l.base) (table_kept after) ≡ Some k.base)
+
+-- What attempts found out is kept for those at `place` or later. It is the same whichever positions the request tries.
+abbrev pub KeepsNotes : Program → List ℕ → Request → ℕ → AttemptNotes → Type 0
+KeepsNotes program haystack request place notes =
+    IfSome notes.kept (λ k. IsKept program.code haystack (record request { start = 0; anchored = false }) (search_options program.options) k place notes.notes)
+
+-- From there on the notes of an attempt at a position are kept: from the end of a match that starts at the position, and else from the
+-- position.
+abbrev pub kept_from : Option Found → ℕ → ℕ
+kept_from None position = position
+kept_from (Some f) position = if nat_eq f.start position then f.end else position
+
+-- so many steps are ahead of the attempts at `place` and later: what the marks are worth that were not made, and a start at each
+-- position; where no table is kept, one for each pair of an instruction and a place
+abbrev pub notes_ahead : Program → Request → ℕ → AttemptNotes → ℕ
+notes_ahead program request place notes = steps_from notes.kept program.code request place notes.notes.table
+
+-- so many of them may be taken again by an attempt at `place`, if a match ended there
+abbrev pub notes_again : Program → ℕ → AttemptNotes → ℕ
+notes_again program place notes = taken_again notes.kept program.code place
 
 -- The steps that the automaton remembers are of the program's code.
 abbrev pub KeepsSteps : Program → Cache → Type 0
@@ -60,7 +88,7 @@ KeepsLines haystack cache = KnowsLastLines haystack (lines_held cache.machine)
 -- what is kept in the cache, if anything is, is for searches with the program that start at `place` or later
 abbrev pub IsKeptIn : Program → List ℕ → Request → Kept → ℕ → Cache → Type 0
 IsKeptIn program haystack request kept place cache =
-    ForSome (table_kept kept) (λ base. KeepsTable program haystack request base place cache) × (kept ≡ Steps → KeepsSteps program cache)
+    ForSome (table_kept kept) (λ k. KeepsTable program haystack request k place cache) × (kept ≡ Steps → KeepsSteps program cache)
     × (kept ≡ Lines → KeepsLines haystack cache)
 
 -- what the iteration keeps is for searches that start at `place` or later

@@ -8,6 +8,7 @@ ghost use Rattle.fancy_engine.specs.declared.code.Code.{Code};
 use fancy_automaton::cells::Cells;
 use fancy_bytes::lacking::KnownBytes;
 use fancy_engine::found::Found;
+use fancy_engine::notes::{KeptTable, Notes};
 use fancy_engine::search as runner;
 use fancy_input::input::Request;
 use fancy_input::span::Span;
@@ -31,8 +32,8 @@ pub enum Engine {
 pub enum Kept {
     /// Nothing: it is a search alone, or the first one.
     Nothing,
-    /// The runner's table, which begins at this place, a byte offset.
-    Table(usize),
+    /// The runner's table.
+    Table(KeptTable),
     /// The steps that the automaton remembers.
     Steps,
     /// What the machine read of the line ends that close the haystack.
@@ -40,14 +41,24 @@ pub enum Kept {
 }
 
 impl Kept {
-    ghost use Rattle.fancy_search.specs.KeptTables.{table_kept};
+    ghost use Rattle.fancy_search.specs.KeptTables.{of_table, table_kept};
 
-    /// Where the table begins, if one is kept.
-    pub(crate) fn table(self) -> Option<usize>
+    /// A table, if one is kept.
+    pub(crate) fn of_table(table: Option<KeptTable>) -> Kept
+        ensures { result ≡ of_table table }
+    {
+        match table {
+            Some(table) => Kept::Table(table),
+            None => Kept::Nothing,
+        }
+    }
+
+    /// The table, if one is kept.
+    pub(crate) fn table(self) -> Option<KeptTable>
         ensures { result ≡ table_kept self }
     {
         match self {
-            Kept::Table(base) => Some(base),
+            Kept::Table(table) => Some(table),
             _ => None,
         }
     }
@@ -78,7 +89,29 @@ const READ_PAST: usize = 1024;
 /// For how many bytes past a match a byte makes up that a list comes on by.
 const MADE_UP: usize = 4;
 
-/// What attempts in one haystack work in, reused from one to the next.
+/// What the attempts with one program in one haystack found out, kept from position to position.
+#[derive(Drop)]
+pub struct AttemptNotes {
+    // which table is kept in the notes, if one is
+    pub(crate) kept: Option<KeptTable>,
+    pub(crate) notes: Notes,
+}
+
+impl AttemptNotes {
+    ghost use Rattle.fancy_search.specs.KeptTables.{KeepsNotes};
+
+    /// Nothing was found out yet, and no memory is taken.
+    pub fn new(alloc: Global) -> AttemptNotes
+        ensures nothing { result.kept ≡ None }
+    {
+        AttemptNotes {
+            kept: None,
+            notes: Notes::new(alloc),
+        }
+    }
+}
+
+/// What attempts in one haystack work in, reused from one to the next, with whichever program.
 #[derive(Drop)]
 pub struct AttemptCache {
     /// What the engines work in, with the groups of the last match.

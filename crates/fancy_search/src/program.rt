@@ -1,6 +1,6 @@
 //! A compiled pattern: the code that is searched with, and what decides how.
 
-ghost use Rattle.std.specs.Prelude.{◌≡◌, ◌≤◌, ◌+◌, ◌*◌, ℕ, Bool, List, None, Some, IfOk, IfErr, IfSome, IsTrue, IsUtf8, chars, true, false, length, string_bytes};
+ghost use Rattle.std.specs.Prelude.{◌≡◌, ◌≤◌, ◌+◌, ◌*◌, ℕ, Bool, List, None, Some, IfOk, IfErr, IfSome, IfNone, IsTrue, IsUtf8, chars, true, false, length, string_bytes};
 ghost use Rattle.fancy_tree.specs.Pattern.{Pattern};
 ghost use Rattle.fancy_tree.specs.GroupNames.{names_of};
 ghost use Rattle.fancy_tree.specs.Modes.{keeps_characters};
@@ -12,7 +12,7 @@ ghost use Rattle.fancy_engine.specs.CodeLength.{code_len};
 ghost use Rattle.fancy_engine.specs.Compile.{are_easy};
 ghost use Rattle.fancy_engine.specs.Easy.{is_easy};
 ghost use Rattle.fancy_engine.specs.Placed.{has_raw_byte, has_keep_start_in_look_around};
-ghost use Rattle.fancy_engine.specs.KeptTable.{table_base, table_in, steps_ahead, steps_before};
+ghost use Rattle.fancy_engine.specs.KeptTable.{table_base, table_in, place_kept, past_tried, steps_ahead, steps_from, taken_again};
 ghost use Rattle.fancy_engine.specs.Work.{steps_of, returns_of};
 ghost use Rattle.fancy_engine.specs.Tried.{NoneTried};
 ghost use Rattle.fancy_engine.specs.Search.{search};
@@ -27,7 +27,7 @@ ghost use Rattle.fancy_search.specs.Options.{meaning_in, dialect_of, is_easy_und
 ghost use Rattle.fancy_search.specs.ProgramSize.{IsRefusedUnder, RefusesPattern, passes};
 ghost use Rattle.fancy_search.specs.Cached.{IsAnswerIn, IsAttemptIn, IsCleanlyFound};
 
-use crate::cache::{AttemptCache, Cache, Engine, Kept};
+use crate::cache::{AttemptCache, AttemptNotes, Cache, Engine, Kept};
 use crate::options::Options;
 use crate::wide::is_worth_following;
 use fancy_automaton::search as automaton;
@@ -35,6 +35,7 @@ use fancy_bytes::lacking::{KnownBytes, RequiredBytes};
 use fancy_engine::code::Code;
 use fancy_engine::compile::compile;
 use fancy_engine::found::Found;
+use fancy_engine::notes::KeptTable;
 use fancy_engine::refusal::SearchRefusal;
 use fancy_engine::search as runner;
 use fancy_engine::work::Work;
@@ -83,7 +84,7 @@ impl Program {
     ghost use Rattle.fancy_search.specs.Programs.{KeepsCharacters, program_pattern, program_options, program_groups, program_names, program_length, program_is_easy, program_limit, asked_of};
     ghost use Rattle.fancy_search.specs.StackLimits.{HeedsStackLimit};
     ghost use Rattle.fancy_search.specs.Starts.{may_start};
-    ghost use Rattle.fancy_search.specs.KeptTables.{KeepsTable, KeepsSteps, KeepsLines, IsKeptIn, table_kept, TakesStepsToGo, SpendsSteps, KeepsOn};
+    ghost use Rattle.fancy_search.specs.KeptTables.{KeepsTable, KeepsSteps, KeepsLines, IsKeptIn, KeepsNotes, kept_from, table_kept, TakesStepsToGo, SpendsSteps, KeepsOn, notes_ahead, notes_again};
     ghost use Rattle.fancy_search.specs.Options.{search_options};
 
     /// Reads a pattern under these options, and compiles it.
@@ -321,9 +322,11 @@ impl Program {
         if self.is_followed(text, request, *kept, cache) {
             return self.follow(haystack, request, kept, cache, work);
         }
-        let base = kept.table();
-        *kept = Kept::Table(base.unwrap_or(request.effective_start()));
-        self.run(haystack, request, base, cache, work)
+        let mut table = kept.table();
+        *kept = Kept::Nothing;
+        let found = self.run(haystack, request, &mut table, cache, work)?;
+        *kept = Kept::of_table(table);
+        Ok(found)
     }
 
     /// Whether a search of a haystack of this form goes from boundary to boundary: text by characters, or bytes one by one.
@@ -451,7 +454,9 @@ impl Program {
     /// at the effective start, and not at the position. Its groups stand in `cache` then.
     ///
     /// Under `seek` a position that a search passes over is not tried, and nothing is found there. What is learnt of the haystack's
-    /// bytes stays in `cache`, so that the attempts in one haystack look for each byte once.
+    /// bytes stays in `cache`, so that the attempts in one haystack look for each byte once. What attempts with this program found
+    /// out in `notes` is not followed again: each starts where the match before ended, or where nothing was found at the position
+    /// before, or later. So for an easy pattern all of them that find nothing take no more steps together than one search.
     ///
     /// It is refused as [`Program::search`] is, for what the attempt takes.
     pub fn attempt_at(
@@ -459,6 +464,7 @@ impl Program {
         haystack: &[u8],
         request: Request,
         position: usize,
+        notes: &mut AttemptNotes,
         cache: &mut AttemptCache,
         work: &mut Work,
     ) -> Result<Option<Found>>
@@ -467,7 +473,16 @@ impl Program {
         requires ends { position ≤ request.range_end }
         requires room { HasRoomFor self.now (record request { start = position }) work.old }
         requires known { AreKnown cache.old.known haystack.now }
+        requires notes { KeepsNotes self.now haystack.now request position notes.old }
         ensures known { AreKnown cache.new.known haystack.now }
+        ensures notes { IfOk result
+            (λ m. KeepsNotes self.now haystack.now request (kept_from m position) notes.new) }
+        ensures dropped { IfErr result (λ _. KeepsNotes self.now haystack.now request position notes.new) }
+        ensures bounded { program_is_easy self.now ≡ true → steps_of work.new
+            ≤ steps_of work.old + (notes_ahead self.now request position notes.old + notes_again self.now position notes.old) }
+        ensures spent { program_is_easy self.now ≡ true → IfOk result (λ m. IfNone m
+            (steps_of work.new + notes_ahead self.now request (position + 1) notes.new
+            ≤ steps_of work.old + (notes_ahead self.now request position notes.old + notes_again self.now position notes.old))) }
         ensures answer { IfOk result
             (λ m. IsAttemptIn m cache.new.engines (asked_of self.now haystack.now request true) position) }
         ensures ordered { IfFound result (λ f. f.start ≤ f.end) }
@@ -489,14 +504,51 @@ impl Program {
         }
         let cache = &mut cache.engines;
         if self.easy {
-            let from_position = Request {
-                start: position,
-                anchored: true,
-                ..request
-            };
-            return self.run(haystack, from_position, None, cache, work);
+            return self.run_at(haystack, request, position, notes, cache, work);
         }
         self.backtrack_at(haystack, request, position, cache, work)
+    }
+
+    /// The attempt at one position for an easy pattern, by the runner, which goes on with the notes.
+    fn run_at(
+        &self,
+        haystack: &[u8],
+        request: Request,
+        position: usize,
+        notes: &mut AttemptNotes,
+        cache: &mut Cache,
+        work: &mut Work,
+    ) -> Result<Option<Found>>
+        requires inside { request.range_end ≤ length haystack.now }
+        requires starts { effective_start request ≤ position }
+        requires ends { position ≤ request.range_end }
+        requires easy { program_is_easy self.now ≡ true }
+        requires room { HasRoomFor self.now (record request { start = position }) work.old }
+        requires notes { KeepsNotes self.now haystack.now request position notes.old }
+        ensures notes { IfOk result
+            (λ m. KeepsNotes self.now haystack.now request (kept_from m position) notes.new) }
+        ensures dropped { IfErr result (λ _. KeepsNotes self.now haystack.now request position notes.new) }
+        ensures answer { IfOk result (λ m. IsAttemptIn m cache.new (asked_of self.now haystack.now request true) position) }
+        ensures steps { steps_of work.old ≤ steps_of work.new }
+        ensures bounded { steps_of work.new
+            ≤ steps_of work.old + (notes_ahead self.now request position notes.old + notes_again self.now position notes.old) }
+        ensures spent { IfOk result (λ m. IfNone m
+            (steps_of work.new + notes_ahead self.now request (position + 1) notes.new
+            ≤ steps_of work.old + (notes_ahead self.now request position notes.old + notes_again self.now position notes.old))) }
+        ensures returns { returns_of work.old ≤ returns_of work.new }
+        ensures paired { returns_of work.new ≤ steps_of work.new }
+        ensures refused { IfErr result (λ e. e ≡ Error.Memory) }
+        ensures apart { cache.new.machine ≡ cache.old.machine }
+    {
+        let from_position = Request {
+            start: position,
+            anchored: true,
+            ..request
+        };
+        cache.runner.swap_notes(&mut notes.notes);
+        let found = self.run(haystack, from_position, &mut notes.kept, cache, work);
+        cache.runner.swap_notes(&mut notes.notes);
+        found
     }
 
     /// Whether an attempt at a position is made: always, but under `seek` only where a byte stands that a match may start with, and
@@ -520,33 +572,45 @@ impl Program {
         self.may_start_before(next) && !self.required.are_lacking(haystack, position, known)
     }
 
-    /// The search for an easy pattern, by the memoised runner. It has no `\G`. `kept` is where a table begins that searches before left.
+    /// The search for an easy pattern, by the memoised runner. It has no `\G`. `kept` is the table that searches before left, if one is
+    /// kept, and then what this one leaves.
     fn run(
         &self,
         haystack: &[u8],
         request: Request,
-        kept: Option<usize>,
+        kept: &mut Option<KeptTable>,
         cache: &mut Cache,
         work: &mut Work,
     ) -> Result<Option<Found>>
         requires inside { request.range_end ≤ length haystack.now }
         requires easy { program_is_easy self.now ≡ true }
         requires room { HasRoomFor self.now request work.old }
-        requires kept { IfSome kept
-            (λ base. KeepsTable self.now haystack.now request base (effective_start request) cache.old) }
+        requires kept { IfSome kept.old
+            (λ k. KeepsTable self.now haystack.now request k (effective_start request) cache.old) }
         ensures answer { IfOk result (λ m. (on : Bool) → IsAnswerIn m cache.new (asked_of self.now haystack.now request on)) }
+        ensures here { IfFound result (λ f. f.start ≡ f.position) }
+        ensures ordered { IfFound result (λ f. effective_start request ≤ f.end) }
         ensures steps { steps_of work.old ≤ steps_of work.new }
         ensures idle { (on : Bool) → NoneTried (program_options self.now).seek (asked_of self.now haystack.now request on)
             → steps_of work.new ≡ steps_of work.old }
-        ensures kept { IfOk result (λ m. IfSome m
-            (λ f. KeepsTable self.now haystack.now request (table_base kept request) f.end cache.new)) }
-        ensures fresh { kept ≡ None → steps_of work.new ≤ steps_of work.old + step_bound self.now request }
+        ensures kept { IfOk result (λ m. IfSome kept.new
+            (λ k. KeepsTable self.now haystack.now request k (place_kept m request) cache.new)) }
+        ensures left { IfFound result
+            (λ f. kept.new ≡ Some (record { base = table_base kept.old request; from = f.end + 1 })) }
+        ensures dropped { IfErr result (λ _. kept.new ≡ None) }
         ensures bounded { steps_of work.new ≤ steps_of work.old
-            + (steps_before kept self.now.code request (table_in cache.old.runner) + program_length self.now) }
-        ensures spent { IfFound result (λ f. steps_of work.new
-            + steps_ahead self.now.code request (table_base kept request) f.end (table_in cache.new.runner)
+            + (steps_from kept.old self.now.code request (effective_start request) (table_in cache.old.runner)
+            + taken_again kept.old self.now.code (effective_start request)) }
+        ensures passed { IfOk result (λ m. IfNone m (steps_of work.new
+            + steps_from kept.new self.now.code request (past_tried request) (table_in cache.new.runner)
             ≤ steps_of work.old
-            + (steps_before kept self.now.code request (table_in cache.old.runner) + program_length self.now)) }
+            + (steps_from kept.old self.now.code request (effective_start request) (table_in cache.old.runner)
+            + taken_again kept.old self.now.code (effective_start request)))) }
+        ensures spent { IfFound result (λ f. steps_of work.new
+            + steps_ahead self.now.code request (table_base kept.old request) f.end (table_in cache.new.runner)
+            ≤ steps_of work.old
+            + (steps_from kept.old self.now.code request (effective_start request) (table_in cache.old.runner)
+            + program_length self.now)) }
         ensures returns { returns_of work.old ≤ returns_of work.new }
         ensures paired { returns_of work.new ≤ steps_of work.new }
         ensures refused { IfErr result (λ e. e ≡ Error.Memory) }
