@@ -1,15 +1,16 @@
 //! Attempts at one position, on which the searches of pattern sets rest.
 
-ghost use Rattle.std.specs.Prelude.{◌≡◌, ◌≤◌, IfOk, IfErr, IfSome, length};
+ghost use Rattle.std.specs.Prelude.{◌≡◌, ◌≤◌, IfOk, IfErr, IfSome, IfNone, length};
 ghost use Rattle.fancy_bytes.specs.Lacks.{AreKnown};
 ghost use Rattle.fancy_input.specs.Inputs.{haystack_in, request_in};
 ghost use Rattle.fancy_input.specs.Requests.{effective_start};
 ghost use Rattle.fancy_core.specs.Captures.{spans_if, spans_in, searched_in, found_by};
 ghost use Rattle.fancy_core.specs.Limited.{RefusesAt, AllowsAt};
-ghost use Rattle.fancy_core.specs.Regexes.{options_in, group_count_in, query};
+ghost use Rattle.fancy_core.specs.Regexes.{options_in, program_in, group_count_in, query};
 ghost use Rattle.fancy_core.specs.Searches.{CanSearchInput, asked_by, groups_of_attempt};
 ghost use Rattle.fancy_search.specs.Cached.{IsAttemptIn, found_at};
 ghost use Rattle.fancy_search.specs.Groups.{AreCut, spans_of};
+ghost use Rattle.fancy_search.specs.KeptTables.{KeepsNotes, kept_from};
 ghost use Rattle.fancy_search.specs.Searching.{Suits};
 ghost use Rattle.fancy_tree.specs.declared.error.Error.TheVariants.{Memory};
 
@@ -19,7 +20,7 @@ use fancy_engine::found::Found;
 use fancy_engine::work::Work;
 use fancy_input::input::{Input, Request};
 use fancy_input::regex_input::RegexInput;
-use fancy_search::cache::{AttemptCache, Cache};
+use fancy_search::cache::{AttemptCache, AttemptNotes, Cache};
 use fancy_search::groups::groups_found;
 use fancy_tree::error::Result;
 
@@ -30,22 +31,28 @@ use fancy_tree::error::Result;
 /// ```text
 /// let regex = Regex::new(alloc, "(\\Ga|b)c")?;
 /// let input = RegexInput::new("acbc");
-/// attempt_at(&regex, input.again(), 0, &mut cache)   // 0..2, group 1 0..1
-/// attempt_at(&regex, input.again(), 1, &mut cache)   // None
-/// attempt_at(&regex, input.again(), 2, &mut cache)   // 2..4, group 1 2..3
+/// attempt_at(&regex, input.again(), 0, &mut notes, &mut cache)   // 0..2, group 1 0..1
+/// attempt_at(&regex, input.again(), 1, &mut notes, &mut cache)   // None
+/// attempt_at(&regex, input.again(), 2, &mut notes, &mut cache)   // 2..4, group 1 2..3
 /// ```
 ///
-/// `cache` is that of one haystack. It is refused as [`Regex::find_input`] is, for what the attempt takes.
+/// `cache` is that of one haystack, and `notes` are those of the regex in it. What attempts before found out is not followed again:
+/// each of those with this regex starts where the match before ended, or at the position after, or later. It is refused as
+/// [`Regex::find_input`] is, for what the attempt takes.
 pub fn attempt_at<'r, S: Input>(
     regex: &'r Regex,
     input: RegexInput<S>,
     position: usize,
+    notes: &mut AttemptNotes,
     cache: &mut AttemptCache,
 ) -> Result<Option<Captures<'r, S>>>
     requires searched { CanSearchInput S.text S.bytes (options_in regex.now) input }
     requires starts { effective_start (request_in input) ≤ position }
     requires ends { position ≤ (request_in input).range_end }
     requires known { AreKnown cache.old.known (S.bytes (haystack_in input)) }
+    requires notes { KeepsNotes (program_in regex.now) (S.bytes (haystack_in input)) (request_in input) position notes.old }
+    ensures notes { IfOk result (λ m. IfNone m
+        (KeepsNotes (program_in regex.now) (S.bytes (haystack_in input)) (request_in input) position notes.new)) }
     ensures known { AreKnown cache.new.known (S.bytes (haystack_in input)) }
     ensures found { IfOk result (λ m. spans_if m ≡ groups_of_attempt (asked_by regex.now S.bytes input) position) }
     ensures within { IfOk result (λ m. IfSome m (λ c. searched_in c ≡ haystack_in input)) }
@@ -53,7 +60,14 @@ pub fn attempt_at<'r, S: Input>(
     ensures refused { IfErr result (λ e. RefusesAt regex.now (asked_by regex.now S.bytes input) position e) }
     ensures allowed { IfOk result (λ _. AllowsAt regex.now (asked_by regex.now S.bytes input) position) }
 {
-    let found = capture_at(regex, input.haystack(), input.request(), position, cache)?;
+    let found = capture_at(
+        regex,
+        input.haystack(),
+        input.request(),
+        position,
+        notes,
+        cache,
+    )?;
     Ok(found)
 }
 
@@ -63,6 +77,7 @@ fn capture_at<'r, S: Input>(
     haystack: S,
     request: Request,
     position: usize,
+    notes: &mut AttemptNotes,
     cache: &mut AttemptCache,
 ) -> Result<Option<Captures<'r, S>>>
     requires inside { request.range_end ≤ length (S.bytes haystack) }
@@ -70,6 +85,9 @@ fn capture_at<'r, S: Input>(
     requires starts { effective_start request ≤ position }
     requires ends { position ≤ request.range_end }
     requires known { AreKnown cache.old.known (S.bytes haystack) }
+    requires notes { KeepsNotes (program_in regex.now) (S.bytes haystack) request position notes.old }
+    ensures notes { IfOk result (λ m. IfNone m
+        (KeepsNotes (program_in regex.now) (S.bytes haystack) request position notes.new)) }
     ensures known { AreKnown cache.new.known (S.bytes haystack) }
     ensures found { IfOk result (λ m. spans_if m ≡ groups_of_attempt (query regex.now (S.bytes haystack) request) position) }
     ensures within { IfOk result (λ m. IfSome m (λ c. searched_in c ≡ haystack)) }
@@ -78,7 +96,7 @@ fn capture_at<'r, S: Input>(
     ensures allowed { IfOk result (λ _. AllowsAt regex.now (query regex.now (S.bytes haystack) request) position) }
 {
     let bytes = haystack.as_bytes();
-    let Some(found) = find_at(regex, bytes, request, position, cache)? else {
+    let Some(found) = find_at(regex, bytes, request, position, notes, cache)? else {
         return Ok(None);
     };
     let captures = captures_found(regex, haystack, found, &cache.engines)?;
@@ -94,12 +112,16 @@ pub fn find_at(
     haystack: &[u8],
     request: Request,
     position: usize,
+    notes: &mut AttemptNotes,
     cache: &mut AttemptCache,
 ) -> Result<Option<Found>>
     requires inside { request.range_end ≤ length haystack.now }
     requires starts { effective_start request ≤ position }
     requires ends { position ≤ request.range_end }
     requires known { AreKnown cache.old.known haystack.now }
+    requires notes { KeepsNotes (program_in regex.now) haystack.now request position notes.old }
+    ensures notes { IfOk result
+        (λ m. KeepsNotes (program_in regex.now) haystack.now request (kept_from m position) notes.new) }
     ensures known { AreKnown cache.new.known haystack.now }
     ensures found { IfOk result (λ m. IsAttemptIn m cache.new.engines (query regex.now haystack.now request) position) }
     ensures refused { IfErr result (λ e. RefusesAt regex.now (query regex.now haystack.now request) position e) }
@@ -108,7 +130,7 @@ pub fn find_at(
     let mut work = Work::new();
     regex
         .program
-        .attempt_at(haystack, request, position, cache, &mut work)
+        .attempt_at(haystack, request, position, notes, cache, &mut work)
 }
 
 /// The groups of a match in the haystack that [`find_at`] found, as it left them in `cache`.
