@@ -10,6 +10,7 @@ pub mod CandidateLemmas
 pub mod SetCandidateLemmas
 pub mod TokenPickLemmas
 pub mod TokenLemmas
+pub mod TrialLemmas
 pub mod TokenSearchLemmas
 pub mod TokenGivenLemmas
 pub mod SetExampleLemmas

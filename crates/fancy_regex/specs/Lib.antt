@@ -5,6 +5,7 @@ pub mod ListExamples
 pub mod Laws
 pub mod SetMembers
 pub mod Candidates
+pub mod Trials
 pub mod Sets
 pub mod SetAnswers
 pub mod SetMatches

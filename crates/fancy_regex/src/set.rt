@@ -12,6 +12,7 @@ mod matched;
 mod matches;
 mod members;
 mod owned_text;
+pub(crate) mod trials;
 
 use crate::options::RegexOptionsBuilder;
 use crate::set::candidates::Candidates;

@@ -1,10 +1,12 @@
 //! The tokens that a pattern set cuts a text into.
 
-ghost use Rattle.std.specs.Prelude.{◌≡◌, ◌≤◌};
+ghost use Rattle.std.specs.Prelude.{◌≡◌, ◌≤◌, false};
 ghost use Rattle.std.specs.Iterator.{at_most};
+ghost use Rattle.std.proofs.Props.{props};
 ghost use Rattle.fancy_bytes.specs.Lacks.{AreKnown};
 ghost use Rattle.fancy_input.specs.Inputs.{haystack_in, request_in};
-ghost use Rattle.fancy_regex.specs.Sets.{CanSearchAll};
+ghost use Rattle.fancy_regex.specs.Sets.{asked_of_set, CanSearchAll};
+ghost use Rattle.fancy_regex.specs.Trials.{AreNotedFrom};
 
 mod borrowed_text;
 mod longest;
@@ -12,9 +14,10 @@ mod owned_text;
 mod token;
 
 use crate::set::RegexSet;
+use crate::set::trials::Trials;
 use fancy_input::input::{Haystack, Input};
 use fancy_input::regex_input::RegexInput;
-use fancy_search::cache::{AttemptCache, Cache};
+use fancy_search::cache::Cache;
 use fancy_tree::error::Result;
 pub use token::Token;
 
@@ -32,11 +35,12 @@ pub struct Tokens<'r, S: Haystack> {
     place: usize,
     ended: bool,
     // what the patterns are tried in, and what the longest match so far was found in
-    cache: AttemptCache,
+    trials: Trials,
     longest: Cache,
     ghost searched: { CanSearchAll S.text S.bytes set.now input },
     ghost starts: { (request_in input).range_start ≤ place },
-    ghost known: { AreKnown cache.known (S.bytes (haystack_in input)) },
+    ghost known: { AreKnown trials.cache.known (S.bytes (haystack_in input)) },
+    ghost noted: { ended ≡ false → AreNotedFrom 0 (asked_of_set set.now S.bytes input) place trials } by { Prim.hlevel props },
 }
 
 impl RegexSet {
@@ -67,7 +71,7 @@ impl RegexSet {
             input,
             place,
             ended: false,
-            cache: AttemptCache::new(alloc),
+            trials: Trials::new(alloc),
             longest: Cache::new(alloc),
         }
     }
@@ -115,7 +119,7 @@ impl<'r, S: Input> Iterator for Tokens<'r, S> {
             return None;
         }
         let set = self.set;
-        match set.token_at(&self.input, self.place, &mut self.cache, &mut self.longest) {
+        match set.token_at(&self.input, self.place, &mut self.trials, &mut self.longest) {
             Ok(token) => {
                 self.place = token.end();
                 Some(Ok(token))

@@ -3,19 +3,21 @@
 ghost use Rattle.std.specs.Prelude.{◌≡◌, ◌≤◌, ◌-◌, ◌↔◌, None, IfOk, IfErr, IfSome, length};
 ghost use Rattle.std.specs.Option.{ForSome};
 ghost use Rattle.std.specs.Iterator.{at_most};
+ghost use Rattle.std.proofs.Props.{props};
 ghost use Rattle.fancy_bytes.specs.Lacks.{AreKnown};
 ghost use Rattle.fancy_input.specs.Inputs.{haystack_in, request_in};
 ghost use Rattle.fancy_input.specs.Requests.{effective_start};
 ghost use Rattle.fancy_regex.specs.SetAnswers.{IsItemOf};
 ghost use Rattle.fancy_regex.specs.Sets.{members_of, asked_of_set, CanSearchAll};
+ghost use Rattle.fancy_regex.specs.Trials.{AreNotedFrom, next_asked};
 
 use crate::set::RegexSet;
 use crate::set::matched::RegexSetMatch;
 use crate::set::members::MemberAnswer;
+use crate::set::trials::Trials;
 use fancy_core::captures::Captures;
 use fancy_input::input::{Haystack, Input};
 use fancy_input::regex_input::RegexInput;
-use fancy_search::cache::AttemptCache;
 use fancy_tree::error::Result;
 
 /// The matches of the patterns of a set at one position, in the order of their indices; made by [`RegexSet::find_input`].
@@ -38,11 +40,12 @@ pub struct RegexSetMatchesAt<'r, S: Haystack> {
     next: usize,
     // what that member found, if it was asked already
     found: Option<Captures<'r, S>>,
-    cache: AttemptCache,
+    trials: Trials,
     ghost searched: { CanSearchAll S.text S.bytes set.now input },
     ghost starts: { effective_start (request_in input) ≤ position },
     ghost ends: { position ≤ (request_in input).range_end },
-    ghost known: { AreKnown cache.known (S.bytes (haystack_in input)) },
+    ghost known: { AreKnown trials.cache.known (S.bytes (haystack_in input)) },
+    ghost noted: { AreNotedFrom (next_asked found next) (asked_of_set set.now S.bytes input) position trials } by { Prim.hlevel props },
     ghost kept: { ForSome found (λ c. IsItemOf (asked_of_set set.now S.bytes input) (haystack_in input) position next c) },
 }
 
@@ -72,8 +75,8 @@ impl RegexSet {
             (λ m. IfSome m (IsAnswerOfSet S.bytes self.now (haystack_in input) (request_in input))) }
         ensures refused { IfErr result (RefusesSet (asked_of_set self.now S.bytes input)) }
     {
-        let mut cache = AttemptCache::new(*self.members.allocator());
-        let Some((position, first)) = self.first_answer(&input, &mut cache) else {
+        let mut trials = Trials::new(*self.members.allocator());
+        let Some((position, first)) = self.first_answer(&input, &mut trials) else {
             return Ok(None);
         };
         let captures = first.answer?;
@@ -83,7 +86,7 @@ impl RegexSet {
             position,
             next: first.index,
             found: Some(captures),
-            cache,
+            trials,
         }))
     }
 }
@@ -130,7 +133,7 @@ impl<'r, S: Input> Iterator for RegexSetMatchesAt<'r, S> {
             return Some(Ok(RegexSetMatch::new(index, captures)));
         }
         let set = self.set;
-        let Some(first) = set.answer_from(self.next, &self.input, self.position, &mut self.cache)
+        let Some(first) = set.answer_from(self.next, &self.input, self.position, &mut self.trials)
         else {
             self.next = set.len();
             return None;

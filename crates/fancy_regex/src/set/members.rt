@@ -1,6 +1,6 @@
 //! What the members of a pattern set answer.
 
-ghost use Rattle.std.specs.Prelude.{◌≡◌, ◌≤◌, ◌<◌, None, Some, false, IfNone, IfSome, MatchOption, length, slice_get, take};
+ghost use Rattle.std.specs.Prelude.{◌≡◌, ◌≤◌, ◌<◌, ◌+◌, [], None, Some, false, IfNone, IfSome, MatchOption, ℕ, length, slice_get, take};
 ghost use Rattle.fancy_bytes.specs.Lacks.{AreKnown};
 ghost use Rattle.fancy_core.specs.declared.regex.Regex.{Regex};
 ghost use Rattle.fancy_input.specs.Inputs.{haystack_in, request_in};
@@ -9,14 +9,14 @@ ghost use Rattle.fancy_regex.specs.Candidates.{IsNextStarter, NoStarterBetween};
 ghost use Rattle.fancy_regex.specs.SetMembers.{has_answer_at, set_position, NoneBetween, MayStartAt};
 ghost use Rattle.fancy_regex.specs.SetAnswers.{IsAnswerOf, IsFirstAnswer, IsFirstOfSet};
 ghost use Rattle.fancy_regex.specs.Sets.{members_of, asked_of_set, CanSearchAll};
+ghost use Rattle.fancy_regex.specs.Trials.{AreNotedFrom};
 
 use crate::set::RegexSet;
-use fancy_core::attempt::attempt_at;
+use crate::set::trials::Trials;
 use fancy_core::captures::Captures;
 use fancy_input::input::{Haystack, Input};
 use fancy_input::lines::byte_at;
 use fancy_input::regex_input::RegexInput;
-use fancy_search::cache::AttemptCache;
 use fancy_tree::error::Result;
 
 /// What a member answers that finds something or is refused.
@@ -33,11 +33,13 @@ impl RegexSet {
     pub(crate) fn first_answer<S: Input>(
         &self,
         input: &RegexInput<S>,
-        cache: &mut AttemptCache,
+        trials: &mut Trials,
     ) -> Option<(usize, MemberAnswer<'_, S>)>
         requires searched { CanSearchAll S.text S.bytes self.now input.now }
-        requires known { AreKnown cache.old.known (S.bytes (haystack_in input.now)) }
-        ensures known { AreKnown cache.new.known (S.bytes (haystack_in input.now)) }
+        requires known { AreKnown trials.old.cache.known (S.bytes (haystack_in input.now)) }
+        requires fresh { trials.old.notes.items ≡ [] }
+        ensures known { AreKnown trials.new.cache.known (S.bytes (haystack_in input.now)) }
+        ensures noted { IfSome result (λ a. AreNotedFrom (a.1.index + 1) (asked_of_set self.now S.bytes input.now) a.0 trials.new) }
         ensures none { IfNone result (set_position (asked_of_set self.now S.bytes input.now) ≡ None) }
         ensures first { IfSome result (λ a. IsFirstOfSet (asked_of_set self.now S.bytes input.now)
             (haystack_in input.now) a.0 a.1.index a.1.answer) }
@@ -53,7 +55,7 @@ impl RegexSet {
         let last = request.last_position();
         for position in first..last + 1 {
             let next = byte_at(searched, position);
-            if let Some(answer) = self.answer_before(next, 0, input, position, cache) {
+            if let Some(answer) = self.answer_before(next, 0, input, position, trials) {
                 return Some((position, answer));
             }
         }
@@ -66,13 +68,16 @@ impl RegexSet {
         from: usize,
         input: &RegexInput<S>,
         position: usize,
-        cache: &mut AttemptCache,
+        trials: &mut Trials,
     ) -> Option<MemberAnswer<'_, S>>
         requires searched { CanSearchAll S.text S.bytes self.now input.now }
         requires starts { effective_start (request_in input.now) ≤ position }
         requires ends { position ≤ (request_in input.now).range_end }
-        requires known { AreKnown cache.old.known (S.bytes (haystack_in input.now)) }
-        ensures known { AreKnown cache.new.known (S.bytes (haystack_in input.now)) }
+        requires known { AreKnown trials.old.cache.known (S.bytes (haystack_in input.now)) }
+        requires noted { AreNotedFrom from (asked_of_set self.now S.bytes input.now) position trials.old }
+        ensures known { AreKnown trials.new.cache.known (S.bytes (haystack_in input.now)) }
+        ensures noted { IfNone result (AreNotedFrom from (asked_of_set self.now S.bytes input.now) position trials.new) }
+        ensures left { IfSome result (λ a. AreNotedFrom (a.index + 1) (asked_of_set self.now S.bytes input.now) position trials.new) }
         ensures none { IfNone result
             (NoneBetween (asked_of_set self.now S.bytes input.now) position from (length (members_of self.now))) }
         ensures first { IfSome result (λ a. IsFirstAnswer (asked_of_set self.now S.bytes input.now)
@@ -82,7 +87,7 @@ impl RegexSet {
         let request = input.request();
         let searched = &haystack.as_bytes()[..request.range_end];
         let next = byte_at(searched, position);
-        self.answer_before(next, from, input, position, cache)
+        self.answer_before(next, from, input, position, trials)
     }
 
     /// The first answer of the members from an index on at a position, where this byte stands, or none at the end of the searched
@@ -93,14 +98,17 @@ impl RegexSet {
         from: usize,
         input: &RegexInput<S>,
         position: usize,
-        cache: &mut AttemptCache,
+        trials: &mut Trials,
     ) -> Option<MemberAnswer<'_, S>>
         requires byte { next ≡ slice_get (take (request_in input.now).range_end (S.bytes (haystack_in input.now))) position }
         requires searched { CanSearchAll S.text S.bytes self.now input.now }
         requires starts { effective_start (request_in input.now) ≤ position }
         requires ends { position ≤ (request_in input.now).range_end }
-        requires known { AreKnown cache.old.known (S.bytes (haystack_in input.now)) }
-        ensures known { AreKnown cache.new.known (S.bytes (haystack_in input.now)) }
+        requires known { AreKnown trials.old.cache.known (S.bytes (haystack_in input.now)) }
+        requires noted { AreNotedFrom from (asked_of_set self.now S.bytes input.now) position trials.old }
+        ensures known { AreKnown trials.new.cache.known (S.bytes (haystack_in input.now)) }
+        ensures noted { IfNone result (AreNotedFrom from (asked_of_set self.now S.bytes input.now) position trials.new) }
+        ensures left { IfSome result (λ a. AreNotedFrom (a.index + 1) (asked_of_set self.now S.bytes input.now) position trials.new) }
         ensures none { IfNone result
             (NoneBetween (asked_of_set self.now S.bytes input.now) position from (length (members_of self.now))) }
         ensures first { IfSome result (λ a. IsFirstAnswer (asked_of_set self.now S.bytes input.now)
@@ -108,7 +116,7 @@ impl RegexSet {
     {
         let mut from = from;
         'members: while let Some(index) = self.next_starter(next, from) {
-            if let Some(answer) = self.answer_of(index, input, position, cache) {
+            if let Some(answer) = self.answer_of(index, input, position, trials) {
                 return Some(MemberAnswer { index, answer });
             }
             from = index + 1;
@@ -140,7 +148,7 @@ impl RegexSet {
         index: usize,
         input: &RegexInput<S>,
         position: usize,
-        cache: &mut AttemptCache,
+        trials: &mut Trials,
     ) -> Option<Result<Captures<'_, S>>>
         requires member { index < length (members_of self.now) }
         requires may { (r : Regex) → slice_get (members_of self.now) index ≡ Some r
@@ -148,14 +156,18 @@ impl RegexSet {
         requires searched { CanSearchAll S.text S.bytes self.now input.now }
         requires starts { effective_start (request_in input.now) ≤ position }
         requires ends { position ≤ (request_in input.now).range_end }
-        requires known { AreKnown cache.old.known (S.bytes (haystack_in input.now)) }
-        ensures known { AreKnown cache.new.known (S.bytes (haystack_in input.now)) }
+        requires known { AreKnown trials.old.cache.known (S.bytes (haystack_in input.now)) }
+        requires noted { AreNotedFrom index (asked_of_set self.now S.bytes input.now) position trials.old }
+        ensures known { AreKnown trials.new.cache.known (S.bytes (haystack_in input.now)) }
+        ensures noted { IfNone result ((from : ℕ) → AreNotedFrom from (asked_of_set self.now S.bytes input.now) position trials.old
+            → AreNotedFrom from (asked_of_set self.now S.bytes input.now) position trials.new) }
+        ensures left { AreNotedFrom (index + 1) (asked_of_set self.now S.bytes input.now) position trials.new }
         ensures none { IfNone result
             (has_answer_at (asked_of_set self.now S.bytes input.now) position index ≡ false) }
         ensures some { IfSome result (λ a. IsAnswerOf (asked_of_set self.now S.bytes input.now)
             (haystack_in input.now) position index a) }
     {
-        match attempt_at(&self.members[index], input.again(), position, cache) {
+        match trials.attempt(index, &self.members[index], input.again(), position) {
             Ok(None) => None,
             Ok(Some(captures)) => Some(Ok(captures)),
             Err(error) => Some(Err(error)),

@@ -1,24 +1,27 @@
 //! The longest match of the patterns of a set at one place.
 
-ghost use Rattle.std.specs.Prelude.{◌≡◌, ◌≤◌, ◌<◌, ◌+◌, ◌⊎◌, IfOk, IfErr, Some, length, slice_get};
+ghost use Rattle.std.specs.Prelude.{◌≡◌, ◌≤◌, ◌<◌, ◌+◌, ◌⊎◌, IfOk, IfErr, IfSome, Some, length, slice_get};
 ghost use Rattle.fancy_bytes.specs.Lacks.{AreKnown};
 ghost use Rattle.fancy_input.specs.Inputs.{haystack_in, request_in};
 ghost use Rattle.fancy_engine.specs.Queries.{answer_with};
 ghost use Rattle.fancy_search.specs.Cached.{cached_groups};
+ghost use Rattle.fancy_search.specs.KeptTables.{kept_from};
 ghost use Rattle.fancy_regex.specs.LongestMatches.{asked_in_bytes, end_so_far, IsLongestIfAny, IsTokenGiven};
 ghost use Rattle.fancy_regex.specs.SetMembers.{SetQuery};
 ghost use Rattle.fancy_regex.specs.Sets.{members_of, asked_of_set, CanSearchAll};
-ghost use Rattle.fancy_regex.specs.TokenLists.{IsUnmatched, IsRefusedByMember};
+ghost use Rattle.fancy_regex.specs.TokenLists.{IsUnmatched, IsRefusedByMember, token_span};
+ghost use Rattle.fancy_regex.specs.Trials.{AreNotedFrom};
 ghost use Rattle.fancy_regex.specs.Tokens.{found_by_member, KeepLimits, KeepsLimitAt};
 
+use crate::set::trials::Trials;
 use crate::set::{RegexSet, RegexSetMatch};
 use crate::tokens::token::Token;
-use fancy_core::attempt::{captures_found, find_at};
+use fancy_core::attempt::captures_found;
 use fancy_engine::found::Found;
 use fancy_input::input::{Input, Request};
 use fancy_input::lines::byte_at;
 use fancy_input::regex_input::RegexInput;
-use fancy_search::cache::{AttemptCache, Cache};
+use fancy_search::cache::Cache;
 use fancy_tree::error::{Error, Result, RuntimeError};
 use std::mem;
 
@@ -30,20 +33,23 @@ pub(crate) struct Longest {
 }
 
 impl RegexSet {
-    /// The token at a place before the end of the input's range. The patterns are tried in the first cache, and the longest
-    /// match so far keeps its groups in the second.
+    /// The token at a place before the end of the input's range. The longest match so far keeps its groups in the cache
+    /// `longest`.
     pub(crate) fn token_at<S: Input>(
         &self,
         input: &RegexInput<S>,
         place: usize,
-        cache: &mut AttemptCache,
+        trials: &mut Trials,
         longest: &mut Cache,
     ) -> Result<Token<'_, S>>
         requires searched { CanSearchAll S.text S.bytes self.now input.now }
         requires starts { (request_in input.now).range_start ≤ place }
         requires ends { place < (request_in input.now).range_end }
-        requires known { AreKnown cache.old.known (S.bytes (haystack_in input.now)) }
-        ensures known { AreKnown cache.new.known (S.bytes (haystack_in input.now)) }
+        requires known { AreKnown trials.old.cache.known (S.bytes (haystack_in input.now)) }
+        requires noted { AreNotedFrom 0 (asked_of_set self.now S.bytes input.now) place trials.old }
+        ensures known { AreKnown trials.new.cache.known (S.bytes (haystack_in input.now)) }
+        ensures noted { IfOk result (λ t. IfSome (token_span t)
+            (λ s. AreNotedFrom 0 (asked_of_set self.now S.bytes input.now) s.end trials.new)) }
         ensures given { IfOk result
             (IsTokenGiven (asked_of_set self.now S.bytes input.now) (haystack_in input.now) place) }
         ensures limits { IfOk result
@@ -53,7 +59,7 @@ impl RegexSet {
     {
         let haystack = input.haystack();
         let bytes = haystack.as_bytes();
-        let found = self.longest_at(bytes, input.request(), place, cache, longest)?;
+        let found = self.longest_at(bytes, input.request(), place, trials, longest)?;
         let Some(found) = found else {
             return Err(Error::RuntimeError(RuntimeError::Unmatched(place)));
         };
@@ -71,14 +77,17 @@ impl RegexSet {
         haystack: &[u8],
         request: Request,
         place: usize,
-        cache: &mut AttemptCache,
+        trials: &mut Trials,
         longest: &mut Cache,
     ) -> Result<Option<Longest>>
         requires inside { request.range_end ≤ length haystack.now }
         requires starts { request.range_start ≤ place }
         requires ends { place < request.range_end }
-        requires known { AreKnown cache.old.known haystack.now }
-        ensures known { AreKnown cache.new.known haystack.now }
+        requires known { AreKnown trials.old.cache.known haystack.now }
+        requires noted { AreNotedFrom 0 (asked_in_bytes self.now haystack.now request) place trials.old }
+        ensures known { AreKnown trials.new.cache.known haystack.now }
+        ensures noted { IfOk result
+            (λ l. AreNotedFrom 0 (asked_in_bytes self.now haystack.now request) (end_so_far place l) trials.new) }
         ensures longest { IfOk result (λ l. IsLongestIfAny (asked_in_bytes self.now haystack.now request) place
             (length (members_of self.now)) l longest.new) }
         ensures limits { IfOk result
@@ -94,8 +103,15 @@ impl RegexSet {
         let mut best = None;
         let mut from = 0;
         'members: while let Some(index) = self.next_starter(next, from) {
-            let found = find_at(&self.members[index], haystack, here, place, cache)?;
-            best = longer(index, found, place, best, &mut cache.engines, longest);
+            let found = trials.find(index, &self.members[index], haystack, here, place)?;
+            best = longer(
+                index,
+                found,
+                place,
+                best,
+                &mut trials.cache.engines,
+                longest,
+            );
             from = index + 1;
         }
         Ok(best)
@@ -113,7 +129,9 @@ fn longer(
     cache: &mut Cache,
     longest: &mut Cache,
 ) -> Option<Longest>
-    ensures { (q : SetQuery) → IsLongestIfAny q place index best longest.old
+    ensures forth { end_so_far place best ≤ end_so_far place result }
+    ensures reaches { place ≤ end_so_far place best → kept_from found place ≤ end_so_far place result }
+    ensures longest { (q : SetQuery) → IsLongestIfAny q place index best longest.old
         → answer_with (cached_groups cache.old) found ≡ found_by_member q place index → KeepsLimitAt q place index
         → IsLongestIfAny q place (index + 1) result longest.new }
 {

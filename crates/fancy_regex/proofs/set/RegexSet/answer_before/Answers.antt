@@ -1,4 +1,4 @@
-use Rattle.std.proofs.Common.{arith, length}
+use Rattle.std.proofs.Common.{◌≤◌, arith, length}
 use Rattle.fancy_regex.specs.Sets.{asked_of_set}
 use Rattle.fancy_regex.proofs.SetCandidateLemmas.{none_to, none_one_more}
 use Rattle.fancy_regex.proofs.set.RegexSet.answer_before.Goals as goal
@@ -23,6 +23,7 @@ members-preserved g c =
     let later = starter.reached in
     record {
       known = c.answer_of.ensures.known;
+      noted = c.in_default-answer_of.ensures.noted c.args.from c.members.invariant.noted;
       reached = omega (arith, first, later);
       none = none_one_more q c.args.position c.args.from c.in-Some.index
           (none_to q c.args.position c.args.next c.requires.byte c.args.from c.members.from c.in-Some.index c.members.invariant.none starter.none)
@@ -32,3 +33,9 @@ members-preserved g c =
 pub returns-clause-none : goal.returns-clause-none
 returns-clause-none g c =
     none_to (asked_of_set c.args.self.now g.S.Haystack.bytes c.args.input.now) c.args.position c.args.next c.requires.byte c.args.from c.members.from (length c.args.self.now.members.items) c.members.invariant.none c.in_default.ensures
+
+pub answer_of-requires-clause-noted : goal.answer_of-requires-clause-noted
+answer_of-requires-clause-noted g c k member le is =
+    let reached = c.members.invariant.reached in
+    let next = c.in-Some.ensures.reached in
+    c.members.invariant.noted k member (omega (arith, le, reached, next)) is

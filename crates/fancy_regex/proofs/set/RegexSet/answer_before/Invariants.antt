@@ -3,11 +3,13 @@ use Rattle.fancy_bytes.specs.Lacks.{AreKnown}
 use Rattle.fancy_input.specs.Inputs.{haystack_in}
 use Rattle.fancy_regex.specs.SetMembers.{NoneBetween}
 use Rattle.fancy_regex.specs.Sets.{asked_of_set}
+use Rattle.fancy_regex.specs.Trials.{AreNotedFrom}
 use Rattle.fancy_regex.proofs.set.RegexSet.answer_before.Given as goal
 
 abbrev pub invariant-members : goal.invariant-members
 invariant-members g l = record {
-  known : AreKnown l.cache.known (g.S.Haystack.bytes (haystack_in l.input));
+  known : AreKnown l.trials.cache.known (g.S.Haystack.bytes (haystack_in l.input));
+  noted : AreNotedFrom l.fn.from (asked_of_set l.self g.S.Haystack.bytes l.input) l.position l.trials;
   reached : l.fn.from ≤ l.from;
   none : NoneBetween (asked_of_set l.self g.S.Haystack.bytes l.input) l.position l.fn.from l.from;
 }

@@ -1,6 +1,7 @@
-use Rattle.std.proofs.Common.{refl, ap, ◌∙◌}
+use Rattle.std.proofs.Common.{refl, ap, ◌∙◌, arith}
 use Rattle.std.proofs.lemmas.Option.{slice_get_read}
 use Rattle.fancy_regex.specs.Sets.{asked_of_set}
+use Rattle.fancy_regex.proofs.TrialLemmas.{noted_past, noted_with}
 use Rattle.fancy_regex.proofs.SetLemmas.{member_refuses, member_item}
 use Rattle.fancy_regex.proofs.set.RegexSet.answer_of.Goals as goal
 
@@ -20,3 +21,23 @@ returns-in-Ok-Some-clause-some g c =
           (rw c.in-Ok-Some.field-0-is at c.in-Ok-Some.ensures.regex) (rw c.in-Ok-Some.field-0-is at c.in-Ok-Some.ensures.found) c.in-Ok-Some.ensures.allowed,
       within ∙ c.again.ensures.haystack,
     )
+
+pub attempt-requires-clause-notes : goal.attempt-requires-clause-notes
+attempt-requires-clause-notes g c =
+    rw (c.again.ensures.haystack, c.again.ensures.request) (c.requires.noted c.args.index c.index.result.now (omega arith)
+    (slice_get_read c.args.self.now.members.items _ c.args.index c.index.result.now refl c.requires.member c.index.ensures))
+
+pub returns-in-Err-clause-left : goal.returns-in-Err-clause-left
+returns-in-Err-clause-left g c = noted_past (asked_of_set c.args.self.now g.S.Haystack.bytes c.args.input.now) c.args.position c.args.index c.args.index c.args.trials.now c.attempt.new.self (omega arith) c.attempt.ensures.others c.requires.noted
+
+pub returns-in-Ok-Some-clause-left : goal.returns-in-Ok-Some-clause-left
+returns-in-Ok-Some-clause-left g c = noted_past (asked_of_set c.args.self.now g.S.Haystack.bytes c.args.input.now) c.args.position c.args.index c.args.index c.args.trials.now c.attempt.new.self (omega arith) c.attempt.ensures.others c.requires.noted
+
+pub returns-in-Ok-None-clause-left : goal.returns-in-Ok-None-clause-left
+returns-in-Ok-None-clause-left g c = noted_past (asked_of_set c.args.self.now g.S.Haystack.bytes c.args.input.now) c.args.position c.args.index c.args.index c.args.trials.now c.attempt.new.self (omega arith) c.attempt.ensures.others c.requires.noted
+
+pub returns-in-Ok-None-clause-noted : goal.returns-in-Ok-None-clause-noted
+returns-in-Ok-None-clause-noted g c from noted =
+    noted_with (asked_of_set c.args.self.now g.S.Haystack.bytes c.args.input.now) c.args.position from c.args.index c.index.result.now c.args.trials.now c.attempt.new.self
+    (slice_get_read c.args.self.now.members.items _ c.args.index c.index.result.now refl c.requires.member c.index.ensures)
+    c.attempt.ensures.others (rw (c.in-Ok-None.field-0-is, c.again.ensures.haystack, c.again.ensures.request) at c.in-Ok-None.ensures.notes) noted

@@ -25,4 +25,4 @@ returns-clause-found g c =
     }
 
 pub first_answer-requires-clause-known : goal.first_answer-requires-clause-known
-first_answer-requires-clause-known g c = c.new-cache.ensures _
+first_answer-requires-clause-known g c = c.new-trials.ensures.known _

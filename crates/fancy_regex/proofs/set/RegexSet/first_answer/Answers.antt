@@ -1,11 +1,13 @@
-use Rattle.std.proofs.Common.{arith, sym, ap, subst, take, ◌∙◌}
+use Rattle.std.proofs.Common.{◌+◌, ◌≤◌, rules, arith, sym, ap, subst, take, ◌∙◌}
 use Rattle.fancy_regex.specs.Sets.{asked_of_set}
-use Rattle.fancy_regex.proofs.SetLemmas.{passed_more, nowhere}
+use Rattle.fancy_regex.proofs.SetLemmas.{passed_more, nowhere, if_none}
+use Rattle.fancy_regex.proofs.TrialLemmas.{none_tried, noted_on}
 use Rattle.fancy_regex.proofs.set.RegexSet.first_answer.Goals as goal
 
 pub loop-position-preserved : goal.loop-position-preserved
 loop-position-preserved g c = record {
   known = c.answer_before.ensures.known;
+  noted = noted_on (asked_of_set c.args.self.now g.S.Haystack.bytes c.args.input.now) (λ k. 0 ≤ k) c.loop-position.position (c.loop-position.position + 1) c.answer_before.new.trials (omega arith) (if_none _ c.answer_before.result c.in_default.not-Some c.answer_before.ensures.noted);
   passed = passed_more (asked_of_set c.args.self.now g.S.Haystack.bytes c.args.input.now) c.loop-position.position c.answer_before.result c.in_default.not-Some c.answer_before.ensures.none c.loop-position.invariant.passed;
 }
 
@@ -14,3 +16,10 @@ returns-clause-none g c =
     nowhere (asked_of_set c.args.self.now g.S.Haystack.bytes c.args.input.now)
     (λ p from below. c.loop-position.invariant.passed p from
     (let count = rw c.request-request.ensures.value at c.last_position-last.ensures.count in let past = c.loop-position-test.false in omega (arith, count, past, from, below)))
+
+pub loop-position-init : goal.loop-position-init
+loop-position-init g c = record {
+  known = c.requires.known;
+  noted = none_tried (asked_of_set c.args.self.now g.S.Haystack.bytes c.args.input.now) (λ k. 0 ≤ k) c.effective_start-first.result c.args.trials.now c.requires.fresh;
+  passed = search rules;
+}

@@ -1,4 +1,4 @@
-use Rattle.std.proofs.Common.{◌≡◌, ℕ, ◌<◌, ◌≤◌, true, Some, length, refl, sym, ap, ap₂, subst, ◌∙◌, arith, inl, inr}
+use Rattle.std.proofs.Common.{◌≡◌, ℕ, ◌<◌, ◌≤◌, true, Some, IfSome, length, refl, sym, ap, ap₂, subst, ◌∙◌, arith, inl, inr}
 use Rattle.std.proofs.lemmas.Option.{slice_get_read}
 use Rattle.std.proofs.lemmas.Result.{err_from_is_err_and}
 use Rattle.fancy_input.specs.declared.input.Request.{Request}
@@ -8,7 +8,8 @@ use Rattle.fancy_core.specs.Searches.{CanSearchInput}
 use Rattle.fancy_search.proofs.CutLemmas.{groups_cut_at}
 use Rattle.fancy_search.specs.Cached.{found_at}
 use Rattle.fancy_search.specs.Searching.{Suits}
-use Rattle.fancy_regex.specs.LongestMatches.{asked_in_bytes, IsLongestIfAny}
+use Rattle.fancy_regex.specs.LongestMatches.{asked_in_bytes, end_so_far, IsLongestIfAny}
+use Rattle.fancy_regex.specs.Trials.{AreNotedFrom}
 use Rattle.fancy_core.specs.Captures.{spans_in, searched_in, found_by}
 use Rattle.fancy_regex.specs.SetMatches.{captures_of}
 use Rattle.fancy_regex.specs.SetMembers.{SetQuery, IsMemberItem}
@@ -105,3 +106,25 @@ returns-clause-limits g c =
     let s = c.args.self.now in
     let same = ap₂ (asked_in_bytes s) (c.as_bytes-bytes.ensures.bytes ∙ ap g.S.Haystack.bytes c.haystack-haystack.ensures) c.request.ensures.value in
     subst (λ (x : SetQuery). KeepLimits x c.args.place (length (members_of s))) same c.in_ok-found.ensures.limits
+
+pub longest_at-requires-clause-noted : goal.longest_at-requires-clause-noted
+longest_at-requires-clause-noted g c =
+    let s = c.args.self.now in
+    let same = ap₂ (asked_in_bytes s) (c.as_bytes-bytes.ensures.bytes ∙ ap g.S.Haystack.bytes c.haystack-haystack.ensures) c.request.ensures.value in
+    subst (λ (x : SetQuery). AreNotedFrom 0 x c.args.place c.args.trials.now) (sym same) c.requires.noted
+
+pub returns-clause-noted : goal.returns-clause-noted
+returns-clause-noted g c =
+    let s = c.args.self.now in
+    let p = c.args.place in
+    let l = c.in-Some.found in
+    let member = c.index-member.result.now in
+    let q = asked_of_set s g.S.Haystack.bytes c.args.input.now in
+    let same = ap₂ (asked_in_bytes s) (c.as_bytes-bytes.ensures.bytes ∙ ap g.S.Haystack.bytes c.haystack-haystack.ensures) c.request.ensures.value in
+    let all = subst (λ (x : SetQuery). IsLongestIfAny x p (length (members_of s)) c.in_ok-found.found c.longest_at.new.longest) same c.in_ok-found.ensures.longest in
+    let longest = subst (λ x. IsLongestIfAny q p (length (members_of s)) x c.longest_at.new.longest) c.in-Some.is all in
+    let spans = ap (λ k. spans_in k) c.new.ensures.captures ∙ c.in_ok-captures.ensures.groups in
+    let span = whole_span member (found_at l.found c.longest_at.new.longest) _ p spans longest.starts in
+    let noted = subst (λ (x : SetQuery). AreNotedFrom 0 x (end_so_far p c.in_ok-found.found) c.longest_at.new.trials) same c.in_ok-found.ensures.noted in
+    subst (λ o. IfSome o (λ s. AreNotedFrom 0 q s.end c.longest_at.new.trials)) (sym span)
+    (subst (λ x. AreNotedFrom 0 q (end_so_far p x) c.longest_at.new.trials) c.in-Some.is noted)

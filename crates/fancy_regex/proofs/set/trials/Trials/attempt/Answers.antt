@@ -1,0 +1,27 @@
+use Rattle.std.proofs.Common.{◌<◌, refl, set, arith}
+use Rattle.std.proofs.lemmas.Option.{slice_get_read}
+use Rattle.fancy_input.specs.Inputs.{haystack_in, request_in}
+use Rattle.fancy_core.specs.Regexes.{program_in}
+use Rattle.fancy_search.specs.declared.cache.AttemptNotes.{AttemptNotes}
+use Rattle.fancy_search.specs.KeptTables.{KeepsNotes}
+use Rattle.fancy_search.proofs.KeptTablesLemmas.{none_so}
+use Rattle.fancy_search.proofs.ResultLemmas.{if_ok}
+use Rattle.fancy_regex.specs.SetMembers.{asked_alone}
+use Rattle.fancy_regex.proofs.TrialLemmas.{noted_still, noted_now, stay_but, get_set_other}
+use Rattle.fancy_regex.proofs.set.trials.Trials.attempt.Goals as goal
+
+pub attempt_at-requires-clause-notes : goal.attempt_at-requires-clause-notes
+attempt_at-requires-clause-notes g c =
+    let q = asked_alone c.args.member.now (g.S.Haystack.bytes (haystack_in c.args.input)) (request_in c.args.input) in
+    noted_still q c.args.member.now c.args.position c.args.index c.args.self.now c.reach.new.self c.reach.ensures.others c.requires.notes c.index_mut-notes.result.now
+    (slice_get_read c.reach.new.self.notes.items _ c.args.index c.index_mut-notes.result.now refl (omega (arith, c.in_ok-reach.ensures.reached, c.reach.new.self.notes.ok.0)) c.index_mut-notes.ensures.value)
+
+pub returns-clause-notes : goal.returns-clause-notes
+returns-clause-notes g c =
+    if_ok _ _ (λ m h. none_so _ _ (noted_now c.args.member.now (g.S.Haystack.bytes (haystack_in c.args.input)) (request_in c.args.input) c.args.position c.args.index c.reach.new.self.notes.items c.attempt_at.new.notes (omega (arith, c.in_ok-reach.ensures.reached, c.reach.new.self.notes.ok.0))) m h) c.attempt_at.result c.attempt_at.ensures.notes
+
+pub returns-clause-others : goal.returns-clause-others
+returns-clause-others g c = stay_but c.args.index c.args.self.now c.reach.new.self (set c.reach.new.self.notes.items c.args.index c.attempt_at.new.notes) c.reach.ensures.others (λ k apart. get_set_other c.reach.new.self.notes.items c.args.index k c.attempt_at.new.notes apart)
+
+pub returns-in_err-reach-clause-others : goal.returns-in_err-reach-clause-others
+returns-in_err-reach-clause-others g c k notes apart at = c.reach.ensures.others k notes at

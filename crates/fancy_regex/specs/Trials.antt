@@ -1,0 +1,48 @@
+-- What the members of a pattern set found out at the positions before.
+use Rattle.std.specs.Prelude.{◌≡◌, ◌≤◌, ◌<◌, ◌+◌, ◌⊎◌, ℕ, List, Option, Some, None, slice_get}
+use Rattle.fancy_input.specs.declared.input.Request.{Request}
+use Rattle.fancy_core.specs.declared.regex.Regex.{Regex}
+use Rattle.fancy_core.specs.Regexes.{program_in}
+use Rattle.fancy_search.specs.declared.cache.AttemptNotes.{AttemptNotes}
+use Rattle.fancy_search.specs.KeptTables.{KeepsNotes}
+use Rattle.fancy_regex.specs.SetMembers.{SetQuery}
+use Rattle.fancy_regex.specs.declared.set.trials.Trials.{Trials}
+
+-- what the member with this index found out, if it was tried
+abbrev pub notes_at : Trials → ℕ → Option AttemptNotes
+notes_at trials index = slice_get trials.notes.items index
+
+-- what the member with this index, this regex, found out is kept for attempts at `place` or later
+abbrev pub NotedAt : ℕ → Regex → List ℕ → Request → ℕ → Trials → Type 0
+NotedAt index member haystack request place trials =
+    (notes : AttemptNotes) → notes_at trials index ≡ Some notes → KeepsNotes (program_in member) haystack request place notes
+
+-- so it is of each of those members
+abbrev pub AreNoted : (ℕ → Type 0) → SetQuery → ℕ → Trials → Type 0
+AreNoted These q place trials = (k : ℕ) (member : Regex) → These k → slice_get q.members k ≡ Some member → NotedAt k member q.haystack q.request place trials
+
+-- of all members from an index on
+abbrev pub AreNotedFrom : ℕ → SetQuery → ℕ → Trials → Type 0
+AreNotedFrom from q place trials = AreNoted (λ k. from ≤ k) q place trials
+
+-- of all members below an index
+abbrev pub AreNotedBelow : ℕ → SetQuery → ℕ → Trials → Type 0
+AreNotedBelow to q place trials = AreNoted (λ k. k < to) q place trials
+
+-- these notes are as they were, or nothing was found out yet
+abbrev pub IsOldOrNew : Option AttemptNotes → AttemptNotes → Type 0
+IsOldOrNew old notes = (old ≡ Some notes) ⊎ (notes.kept ≡ None)
+
+-- the notes of all members are as they were, or new
+abbrev pub OthersStay : Trials → Trials → Type 0
+OthersStay old new = (k : ℕ) (notes : AttemptNotes) → notes_at new k ≡ Some notes → IsOldOrNew (notes_at old k) notes
+
+-- so are those of all members but the one with this index
+abbrev pub OthersStayBut : ℕ → Trials → Trials → Type 0
+OthersStayBut index old new =
+    (k : ℕ) (notes : AttemptNotes) → (k ≡ index → ⊥) → notes_at new k ≡ Some notes → IsOldOrNew (notes_at old k) notes
+
+-- the member that a set's matches ask next: past the one that has answered already
+abbrev pub next_asked : {A : Type 0} → Option A → ℕ → ℕ
+next_asked None next = next
+next_asked (Some answered) next = next + 1

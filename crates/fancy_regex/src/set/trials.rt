@@ -1,0 +1,120 @@
+//! What the members of a pattern set are tried in.
+//!
+//! A set tries its members at one position after another. What an attempt of a member finds out is kept for the next attempts of
+//! that member, so an easy member takes no more steps at all positions together than one search of it does. The memory for that
+//! is taken as members are first tried; all other memory serves all members.
+
+ghost use Rattle.std.specs.Prelude.{◌≡◌, ◌≤◌, ◌<◌, ℕ, List, [], IfOk, IfErr, IfSome, IfNone, OnOk, length, vec_len, slice_get};
+ghost use Rattle.fancy_bytes.specs.Lacks.{AreKnown};
+ghost use Rattle.fancy_core.specs.Captures.{spans_if, searched_in, found_by};
+ghost use Rattle.fancy_core.specs.Limited.{RefusesAt, AllowsAt};
+ghost use Rattle.fancy_core.specs.Regexes.{options_in, query};
+ghost use Rattle.fancy_core.specs.Searches.{CanSearchInput, asked_by, groups_of_attempt};
+ghost use Rattle.fancy_input.specs.Inputs.{haystack_in, request_in};
+ghost use Rattle.fancy_input.specs.Requests.{effective_start};
+ghost use Rattle.fancy_search.specs.Cached.{IsAttemptIn};
+ghost use Rattle.fancy_search.specs.KeptTables.{kept_from};
+
+use fancy_core::attempt::{attempt_at, find_at};
+use fancy_core::captures::Captures;
+use fancy_core::regex::Regex;
+use fancy_engine::found::Found;
+use fancy_input::input::{Input, Request};
+use fancy_input::regex_input::RegexInput;
+use fancy_search::cache::{AttemptCache, AttemptNotes};
+use fancy_tree::error::{Error, Result};
+use std::alloc::Global;
+
+/// What the members of a set are tried in, in one haystack.
+#[derive(Drop)]
+pub(crate) struct Trials {
+    // what each member found out, up to the last that was tried
+    notes: Vec<AttemptNotes>,
+    /// What all members are tried in.
+    pub(crate) cache: AttemptCache,
+}
+
+impl Trials {
+    ghost use Rattle.fancy_regex.specs.Trials.{NotedAt, OthersStay, OthersStayBut};
+
+    /// No member was tried yet, and no memory is taken.
+    pub(crate) fn new(alloc: Global) -> Trials
+        ensures notes { result.notes.items ≡ [] }
+        ensures known { (haystack : List ℕ) → AreKnown result.cache.known haystack }
+    {
+        Trials {
+            notes: Vec::new(alloc),
+            cache: AttemptCache::new(alloc),
+        }
+    }
+
+    /// Has a place for what the member with this index finds out.
+    fn reach(&mut self, index: usize) -> Result<()>
+        ensures reached { OnOk result (index < vec_len self.new.notes) }
+        ensures others { OthersStay self.old self.new }
+        ensures cache { self.new.cache ≡ self.old.cache }
+        ensures refused { IfErr result (λ e. e ≡ Error.Memory) }
+    {
+        let alloc = *self.notes.allocator();
+        'members: while self.notes.len() <= index {
+            self.notes.push(AttemptNotes::new(alloc))?;
+        }
+        Ok(())
+    }
+
+    /// The attempt of the member with this index at a position, as [`attempt_at`].
+    pub(crate) fn attempt<'r, S: Input>(
+        &mut self,
+        index: usize,
+        member: &'r Regex,
+        input: RegexInput<S>,
+        position: usize,
+    ) -> Result<Option<Captures<'r, S>>>
+        requires searched { CanSearchInput S.text S.bytes (options_in member.now) input }
+        requires starts { effective_start (request_in input) ≤ position }
+        requires ends { position ≤ (request_in input).range_end }
+        requires known { AreKnown self.old.cache.known (S.bytes (haystack_in input)) }
+        requires notes { NotedAt index member.now (S.bytes (haystack_in input)) (request_in input) position self.old }
+        ensures known { AreKnown self.new.cache.known (S.bytes (haystack_in input)) }
+        ensures notes { IfOk result (λ m. IfNone m
+            (NotedAt index member.now (S.bytes (haystack_in input)) (request_in input) position self.new)) }
+        ensures others { OthersStayBut index self.old self.new }
+        ensures found { IfOk result (λ m. spans_if m ≡ groups_of_attempt (asked_by member.now S.bytes input) position) }
+        ensures within { IfOk result (λ m. IfSome m (λ c. searched_in c ≡ haystack_in input)) }
+        ensures regex { IfOk result (λ m. IfSome m (λ c. found_by c ≡ member.now)) }
+        ensures refused { IfErr result (λ e. RefusesAt member.now (asked_by member.now S.bytes input) position e) }
+        ensures allowed { IfOk result (λ _. AllowsAt member.now (asked_by member.now S.bytes input) position) }
+    {
+        self.reach(index)?;
+        let notes = &mut self.notes[index];
+        attempt_at(member, input, position, notes, &mut self.cache)
+    }
+
+    /// The match that the attempt of the member with this index finds at a position, as [`find_at`].
+    pub(crate) fn find(
+        &mut self,
+        index: usize,
+        member: &Regex,
+        haystack: &[u8],
+        request: Request,
+        position: usize,
+    ) -> Result<Option<Found>>
+        requires inside { request.range_end ≤ length haystack.now }
+        requires starts { effective_start request ≤ position }
+        requires ends { position ≤ request.range_end }
+        requires known { AreKnown self.old.cache.known haystack.now }
+        requires notes { NotedAt index member.now haystack.now request position self.old }
+        ensures known { AreKnown self.new.cache.known haystack.now }
+        ensures notes { IfOk result
+            (λ m. NotedAt index member.now haystack.now request (kept_from m position) self.new) }
+        ensures others { OthersStayBut index self.old self.new }
+        ensures found { IfOk result
+            (λ m. IsAttemptIn m self.new.cache.engines (query member.now haystack.now request) position) }
+        ensures refused { IfErr result (λ e. RefusesAt member.now (query member.now haystack.now request) position e) }
+        ensures allowed { IfOk result (λ _. AllowsAt member.now (query member.now haystack.now request) position) }
+    {
+        self.reach(index)?;
+        let notes = &mut self.notes[index];
+        find_at(member, haystack, request, position, notes, &mut self.cache)
+    }
+}
