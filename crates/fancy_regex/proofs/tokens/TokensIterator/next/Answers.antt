@@ -23,3 +23,11 @@ returns-in-Ok-clause-steps g c =
       same_haystack = refl;
       same_request = refl;
     }
+
+pub invariant_of-self-in-Ok-clause-noted : goal.invariant_of-self-in-Ok-clause-noted
+invariant_of-self-in-Ok-clause-noted g c going =
+    let s = c.args.self.now in
+    let q = asked_of_set s.set.now g.S.Haystack.bytes s.input in
+    let given = c.in-Ok.ensures.given in
+    let end = end_is _ s.place given.end c.end-self.result given.span c.end-self.ensures in
+    rw end (rw given.span at c.in-Ok.ensures.noted)

@@ -1,4 +1,5 @@
 use Rattle.std.proofs.Common.{rules, refl, sym, subst, ◌∙◌, arith}
+use Rattle.std.proofs.lemmas.Option.{slice_get_within}
 use Rattle.fancy_input.specs.Inputs.{haystack_in}
 use Rattle.fancy_regex.specs.Sets.{asked_of_set}
 use Rattle.fancy_regex.specs.SetAnswers.{IsFirstAnswer}
@@ -69,3 +70,17 @@ new-requires-in-Ok g c =
     let answer = c.in-Some-answer_from.first in
     let first = subst (IsFirstAnswer q (haystack_in s.input) s.position s.next answer.index) c.in-Ok.is c.in-Some-answer_from.ensures.first in
     record { matched = item_is_matched q s.position answer.index _ _ first.answers.0 }
+
+pub invariant_of-self-clause-noted : goal.invariant_of-self-clause-noted
+invariant_of-self-clause-noted g c =
+    let s = c.args.self.now in
+    rw c.take.ensures.after (rw (sym c.take.ensures.value ∙ c.in-Some.is) at s.noted)
+
+pub invariant_of-self-in_default-answer_from-clause-noted : goal.invariant_of-self-in_default-answer_from-clause-noted
+invariant_of-self-in_default-answer_from-clause-noted g c =
+    let all = c.len-self.ensures in
+    rw c.take.ensures.after
+    (λ k member from is. absurd (let inside = slice_get_within c.args.self.now.set.now.members.items k member is in omega (arith, from, inside, all)))
+
+pub invariant_of-self-2-clause-noted : goal.invariant_of-self-2-clause-noted
+invariant_of-self-2-clause-noted g c = rw c.take.ensures.after c.in-Some-answer_from.ensures.left
