@@ -21,6 +21,7 @@ pub mod Attempt
 pub mod Sweep
 pub mod Saved
 pub mod Backlog
+pub mod Refusals
 pub mod Rows
 pub mod Sweeps
 pub mod Queries

@@ -23,6 +23,8 @@ pub struct SearchOptions {
     pub backtrack_limit: usize,
     /// The most branches that a search has saved at one time.
     pub stack_limit: usize,
+    /// The most work of a search, if that is limited: its steps, and what counts as such.
+    pub step_limit: Option<usize>,
     /// A search for a hard pattern passes over the positions where no match begins, as the first bytes tell, and counts nothing
     /// there. One for an easy pattern does so in any case.
     pub seek: bool,

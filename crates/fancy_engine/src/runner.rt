@@ -1,6 +1,6 @@
 //! The runner, which follows each pair of an instruction with a mark and a place at most once.
 
-ghost use Rattle.std.specs.Prelude.{◌≡◌, ◌+◌, ◌-◌, ◌^◌, ◌<◌, ◌≤◌, ◌≢◌, ◌⊎◌, [], ◌∷◌, ◌++◌, ℕ, List, Option, Some, None, Bool, true, false, length, IfOk, IfSome, ◌==◌};
+ghost use Rattle.std.specs.Prelude.{◌≡◌, ◌+◌, ◌-◌, ◌^◌, ◌<◌, ◌≤◌, ◌≢◌, ◌⊎◌, [], ◌∷◌, ◌++◌, ℕ, List, Option, Some, None, Err, Bool, true, false, length, IfOk, IfSome, ◌==◌};
 ghost use Rattle.fancy_tree.specs.Sets.{has};
 ghost use Rattle.fancy_engine.specs.Context.{State, past_item, past_byte, holds};
 ghost use Rattle.fancy_engine.specs.Code.{weight_of, due_of, cost_of, marks_of, burden};
@@ -8,7 +8,7 @@ ghost use Rattle.fancy_engine.specs.CodeLength.{code_len};
 ghost use Rattle.fancy_engine.specs.Instructions.{edges_in};
 ghost use Rattle.fancy_engine.specs.Run.{instr_at};
 ghost use Rattle.fancy_engine.specs.Compile.{IsEasyInstr, AreEasy};
-ghost use Rattle.fancy_engine.specs.Work.{steps_of, returns_of, stepped_within};
+ghost use Rattle.fancy_engine.specs.Work.{steps_of, returns_of, stepped_within, RunsWithin, IsSpent};
 ghost use Rattle.fancy_engine.specs.Reading.{search_context};
 ghost use Rattle.fancy_input.specs.LastLines.{KnowsLastLines};
 ghost use Rattle.fancy_engine.specs.declared.slot.Slot.{Slot};
@@ -21,6 +21,7 @@ use crate::choice::Choice;
 use crate::code::{Code, Instr};
 use crate::options::is_match_boundary;
 use crate::reading::{SuppressedEnds, holds_at, read_at};
+use crate::refusal::RunnerRefusal;
 use crate::slot::Pair;
 use crate::sweep::follow_by_place;
 use crate::table::Table;
@@ -58,6 +59,8 @@ pub struct Attempt<'a> {
     pub on_boundaries: bool,
     /// The ends of the text that do not count as such.
     pub suppressed: SuppressedEnds,
+    /// The most work that is done, if that is limited. What was done before counts.
+    pub step_limit: Option<usize>,
 }
 
 /// The place after the character at `place`, if it is this one.
@@ -265,7 +268,7 @@ pub(crate) fn visit(
     table: &mut Table,
     last_lines: &mut LastLines,
     work: &mut Work,
-) -> Result<Next, AllocError>
+) -> Result<Next, RunnerRefusal>
     requires inside { attempt.now.last ≤ length attempt.now.haystack.now }
     requires easy { AreEasy (instrs_in attempt.now) }
     requires within { AllWithin attempt.now.base attempt.now.last (threads_in attempt.now pair.old threads.old) }
@@ -306,12 +309,17 @@ pub(crate) fn visit(
         → length (saved_in attempt.now threads.new) + steps_of work.old
         ≤ length (saved_in attempt.now threads.old) + steps_of work.new) }
     ensures last_lines { KnowsLastLines attempt.now.haystack.now last_lines.new }
+    ensures heeds { RunsWithin attempt.now.step_limit work.old work.new }
+    ensures limited { result ≡ Err RunnerRefusal.Steps → IsSpent attempt.now.step_limit work.new }
 {
     if pair.at >= attempt.code.len() {
         return Ok(Next::Dead);
     }
     if !is_new(attempt, *pair, table) {
         return Ok(Next::Dead);
+    }
+    if work.is_spent(attempt.step_limit) {
+        return Err(RunnerRefusal::Steps);
     }
     match step(attempt, pair, threads, last_lines, work)? {
         Next::On => Ok(Next::On),
@@ -337,7 +345,7 @@ pub fn follow(
     table: &mut Table,
     last_lines: &mut LastLines,
     work: &mut Work,
-) -> Result<Option<usize>, AllocError>
+) -> Result<Option<usize>, RunnerRefusal>
     requires inside { attempt.now.last ≤ length attempt.now.haystack.now }
     requires easy { AreEasy (instrs_in attempt.now) }
     requires low { attempt.now.base ≤ start.place }
@@ -370,6 +378,8 @@ pub fn follow(
     ensures returns { returns_of work.old ≤ returns_of work.new }
     ensures paired { returns_of work.new - returns_of work.old ≤ steps_of work.new - steps_of work.old }
     ensures last_lines { KnowsLastLines attempt.now.haystack.now last_lines.new }
+    ensures heeds { RunsWithin attempt.now.step_limit work.old work.new }
+    ensures limited { result ≡ Err RunnerRefusal.Steps → IsSpent attempt.now.step_limit work.new }
 {
     let mut pair = start;
     'pairs: loop {

@@ -1,6 +1,6 @@
 //! Searches by the runner: their time is bounded by the product of the code's length and the text's.
 
-ghost use Rattle.std.specs.Prelude.{◌≡◌, ◌+◌, ◌-◌, ◌^◌, ◌<◌, ◌≤◌, ℕ, Bool, true, false, [], Some, None, length, replicate, slice_index_or, IfOk, IfErr, IfSome, IfNone, OnOk};
+ghost use Rattle.std.specs.Prelude.{◌≡◌, ◌+◌, ◌-◌, ◌^◌, ◌<◌, ◌≤◌, ℕ, Bool, true, false, [], Some, None, length, replicate, slice_index_or, IfOk, IfErr, IfSome, IfNone, OnOk, Err, ◌≢◌, ◌⊎◌};
 ghost use Rattle.fancy_tree.specs.Pattern.{Pattern};
 ghost use Rattle.fancy_engine.specs.Code.{instrs_of};
 ghost use Rattle.fancy_engine.specs.CodeLength.{code_len};
@@ -12,8 +12,9 @@ ghost use Rattle.fancy_input.specs.LastLines.{KnowsLastLines};
 ghost use Rattle.fancy_input.specs.Requests.{effective_start};
 ghost use Rattle.fancy_bytes.specs.Openings.{NoneStandsBefore};
 ghost use Rattle.fancy_engine.specs.Seen.{IsNextCandidate, IsNextOpening, NoneMayStart, openings_of};
-ghost use Rattle.fancy_engine.specs.Queries.{query_of, unfiltered, groups_in, answer_with};
-ghost use Rattle.fancy_engine.specs.Work.{steps_of, returns_of};
+ghost use Rattle.fancy_engine.specs.Queries.{query_of, unfiltered, groups_in, answer_with, most_steps};
+ghost use Rattle.fancy_engine.specs.Refusals.{IsRunnersRefusal};
+ghost use Rattle.fancy_engine.specs.Work.{steps_of, returns_of, RunsWithin, IsSpent, HasWorkFor};
 
 use crate::branches::Branches;
 use crate::code::Code;
@@ -282,6 +283,24 @@ fn literal_from(
     }
 }
 
+/// The limit that the steps of a search are held to: none where it allows all that the search can take.
+fn limit_to_heed(code: &Code, request: Request, limit: Option<usize>, work: &Work) -> Option<usize>
+    requires ordered { effective_start request ≤ request.range_end }
+    requires small { request.range_end < usize.MAX }
+    ensures limit { (result ≡ limit) ⊎ ((result ≡ None) × HasWorkFor limit (most_steps code.now request) work.now) }
+    ensures free { HasWorkFor limit (most_steps code.now request) work.now → result ≡ None }
+{
+    let most = limit?;
+    let places = request.range_end - request.effective_start() + 1;
+    let Some(steps) = code.len().checked_mul(places) else {
+        return limit;
+    };
+    match work.work().checked_add(steps) {
+        Some(all) if all <= most => None,
+        _ => limit,
+    }
+}
+
 /// Searches a haystack for the pattern of the code. Found is the first outcome at the least position, from the
 /// effective start on, which has one; its groups then stand in `cache`. Easy code has no `\G`, so the answer is the
 /// same with it on and off. Of the options `on_boundaries` and `overrides` are heeded: what is found is the first
@@ -299,7 +318,9 @@ fn literal_from(
 ///
 /// # Errors
 ///
-/// `SearchRefusal::Memory` where memory runs out, and no other. Nothing is kept then.
+/// `SearchRefusal::Memory` where memory runs out, and `SearchRefusal::Steps` where more work is needed than `step_limit` of the
+/// options allows, with what was done before. So a search without a kept table is not refused where the limit allows the code's
+/// length for each position of the searched text, its end among them. Nothing is kept after a refusal.
 pub fn search(
     code: &Code,
     haystack: &[u8],
@@ -341,7 +362,11 @@ pub fn search(
         → steps_of work.new ≡ steps_of work.old }
     ensures returns { returns_of work.old ≤ returns_of work.new }
     ensures paired { returns_of work.new - returns_of work.old ≤ steps_of work.new - steps_of work.old }
-    ensures refused { IfErr result (λ e. e ≡ SearchRefusal.Memory) }
+    ensures refused { IfErr result IsRunnersRefusal }
+    ensures heeds { RunsWithin options.step_limit work.old work.new }
+    ensures limited { result ≡ Err SearchRefusal.Steps → IsSpent options.step_limit work.new }
+    ensures unlimited { kept.old ≡ None → HasWorkFor options.step_limit (most_steps code.now request) work.old
+        → result ≢ Err SearchRefusal.Steps }
 {
     let first = request.effective_start();
     if first > request.range_end {
@@ -354,6 +379,10 @@ pub fn search(
     }
     let before = kept.take();
     let base = KeptTable::base(before, first);
+    let step_limit = match before {
+        Some(_) => options.step_limit,
+        None => limit_to_heed(code, request, options.step_limit, work),
+    };
     let attempt = Attempt {
         code,
         haystack,
@@ -361,6 +390,7 @@ pub fn search(
         last: request.range_end,
         on_boundaries: options.on_boundaries,
         suppressed: options.suppressed_ends(request),
+        step_limit,
     };
     let threads = &mut cache.threads;
     let table = &mut cache.notes.table;

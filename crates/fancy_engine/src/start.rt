@@ -1,18 +1,19 @@
 //! Attempts from the first instruction on. Where the code opens with many alternatives, those alone are tried that may match.
 
-ghost use Rattle.std.specs.Prelude.{◌≡◌, ◌+◌, ◌-◌, ◌^◌, ◌<◌, ◌≤◌, ℕ, None, length, slice_index, IfOk, IfSome};
+ghost use Rattle.std.specs.Prelude.{◌≡◌, ◌+◌, ◌-◌, ◌^◌, ◌<◌, ◌≤◌, ℕ, None, Err, length, slice_index, IfOk, IfSome};
 ghost use Rattle.fancy_engine.specs.Attempt.{instrs_in, first_accepted_in, begins_in, begins_with, passes_in, bits_in, owed_in, KnownIn, AllFailedIn, FailedPastIn};
 ghost use Rattle.fancy_engine.specs.Branches.{AreBranches, ArePaid};
 ghost use Rattle.fancy_engine.specs.Code.{due_of};
 ghost use Rattle.fancy_engine.specs.Compile.{AreEasy};
 ghost use Rattle.fancy_engine.specs.Runner.{found_state};
 ghost use Rattle.fancy_engine.specs.Texts.{IsTextOf};
-ghost use Rattle.fancy_engine.specs.Work.{steps_of, returns_of};
+ghost use Rattle.fancy_engine.specs.Work.{steps_of, returns_of, RunsWithin, IsSpent};
 ghost use Rattle.fancy_input.specs.LastLines.{KnowsLastLines};
 
 use crate::branches::Branches;
 use crate::options::is_match_boundary;
 use crate::reading::holds_at;
+use crate::refusal::RunnerRefusal;
 use crate::runner::{Attempt, follow};
 use crate::slot::Pair;
 use crate::table::Table;
@@ -21,7 +22,6 @@ use crate::threads::Threads;
 use crate::work::Work;
 use fancy_input::last_lines::LastLines;
 use fancy_tree::tree::Assertion;
-use std::alloc::AllocError;
 
 /// An attempt at a place from an instruction on, with no group written but one that begins there, if one does.
 fn follow_from(
@@ -32,7 +32,7 @@ fn follow_from(
     table: &mut Table,
     last_lines: &mut LastLines,
     work: &mut Work,
-) -> Result<Option<usize>, AllocError>
+) -> Result<Option<usize>, RunnerRefusal>
     requires inside { attempt.now.last ≤ length attempt.now.haystack.now }
     requires easy { AreEasy (instrs_in attempt.now) }
     requires low { attempt.now.base ≤ start.place }
@@ -61,6 +61,8 @@ fn follow_from(
     ensures returns { returns_of work.old ≤ returns_of work.new }
     ensures paired { returns_of work.new - returns_of work.old ≤ steps_of work.new - steps_of work.old }
     ensures last_lines { KnowsLastLines attempt.now.haystack.now last_lines.new }
+    ensures heeds { RunsWithin attempt.now.step_limit work.old work.new }
+    ensures limited { result ≡ Err RunnerRefusal.Steps → IsSpent attempt.now.step_limit work.new }
 {
     threads.begin_with(attempt.code.groups, group, start.place)?;
     follow(attempt, start, threads, table, last_lines, work)
@@ -77,7 +79,7 @@ fn follow_text(
     table: &mut Table,
     last_lines: &mut LastLines,
     work: &mut Work,
-) -> Result<Option<usize>, AllocError>
+) -> Result<Option<usize>, RunnerRefusal>
     requires inside { attempt.now.last ≤ length attempt.now.haystack.now }
     requires easy { AreEasy (instrs_in attempt.now) }
     requires low { attempt.now.base ≤ start.place }
@@ -107,6 +109,8 @@ fn follow_text(
     ensures returns { returns_of work.old ≤ returns_of work.new }
     ensures paired { returns_of work.new - returns_of work.old ≤ steps_of work.new - steps_of work.old }
     ensures last_lines { KnowsLastLines attempt.now.haystack.now last_lines.new }
+    ensures heeds { RunsWithin attempt.now.step_limit work.old work.new }
+    ensures limited { result ≡ Err RunnerRefusal.Steps → IsSpent attempt.now.step_limit work.new }
 {
     if !text.stands_at(attempt.haystack, start.place, attempt.last) {
         return Ok(None);
@@ -132,7 +136,7 @@ fn follow_branches(
     table: &mut Table,
     last_lines: &mut LastLines,
     work: &mut Work,
-) -> Result<Option<usize>, AllocError>
+) -> Result<Option<usize>, RunnerRefusal>
     requires inside { attempt.now.last ≤ length attempt.now.haystack.now }
     requires easy { AreEasy (instrs_in attempt.now) }
     requires low { attempt.now.base ≤ place }
@@ -167,6 +171,8 @@ fn follow_branches(
     ensures returns { returns_of work.old ≤ returns_of work.new }
     ensures paired { returns_of work.new - returns_of work.old ≤ steps_of work.new - steps_of work.old }
     ensures last_lines { KnowsLastLines attempt.now.haystack.now last_lines.new }
+    ensures heeds { RunsWithin attempt.now.step_limit work.old work.new }
+    ensures limited { result ≡ Err RunnerRefusal.Steps → IsSpent attempt.now.step_limit work.new }
 {
     let numbers = branches
         .table
@@ -237,7 +243,7 @@ pub(crate) fn follow_start(
     table: &mut Table,
     last_lines: &mut LastLines,
     work: &mut Work,
-) -> Result<Option<usize>, AllocError>
+) -> Result<Option<usize>, RunnerRefusal>
     requires inside { attempt.now.last ≤ length attempt.now.haystack.now }
     requires easy { AreEasy (instrs_in attempt.now) }
     requires low { attempt.now.base ≤ place }
@@ -270,6 +276,8 @@ pub(crate) fn follow_start(
     ensures returns { returns_of work.old ≤ returns_of work.new }
     ensures paired { returns_of work.new - returns_of work.old ≤ steps_of work.new - steps_of work.old }
     ensures last_lines { KnowsLastLines attempt.now.haystack.now last_lines.new }
+    ensures heeds { RunsWithin attempt.now.step_limit work.old work.new }
+    ensures limited { result ≡ Err RunnerRefusal.Steps → IsSpent attempt.now.step_limit work.new }
 {
     forget_behind(attempt, place, table);
     match &attempt.code.branches {

@@ -1,11 +1,11 @@
 //! Searches that saved much go on without saving more: the threads that are left are followed in the order of their places.
 
-ghost use Rattle.std.specs.Prelude.{◌≡◌, ◌+◌, ◌-◌, ◌*◌, ◌^◌, ◌<◌, ◌≤◌, ◌⊎◌, ◌≢◌, ◌++◌, ◌∷◌, [], ℕ, List, Option, Some, None, true, false, length, reverse, IfOk, IfSome};
+ghost use Rattle.std.specs.Prelude.{◌≡◌, ◌+◌, ◌-◌, ◌*◌, ◌^◌, ◌<◌, ◌≤◌, ◌⊎◌, ◌≢◌, ◌++◌, ◌∷◌, [], ℕ, List, Option, Some, None, Err, true, false, length, reverse, IfOk, IfSome};
 ghost use Rattle.fancy_engine.specs.Context.{State};
 ghost use Rattle.fancy_engine.specs.Code.{due_of, burden, instrs_of};
 ghost use Rattle.fancy_engine.specs.CodeLength.{code_len};
 ghost use Rattle.fancy_engine.specs.Compile.{AreEasy};
-ghost use Rattle.fancy_engine.specs.Work.{steps_of, returns_of};
+ghost use Rattle.fancy_engine.specs.Work.{steps_of, returns_of, RunsWithin, IsSpent};
 ghost use Rattle.fancy_input.specs.LastLines.{KnowsLastLines};
 ghost use Rattle.fancy_engine.specs.Threads.{Thread, thread_of, with_way, held_of, AreFresh};
 ghost use Rattle.fancy_engine.specs.Runner.{AllWithin, Grown, found_state};
@@ -15,6 +15,7 @@ ghost use Rattle.fancy_engine.specs.Sweeps.{backlog_in, left_in_sweep, found_in,
 
 use crate::backlog::Backlog;
 use crate::code::Code;
+use crate::refusal::RunnerRefusal;
 use crate::row::Row;
 use crate::runner::{Attempt, Next, visit};
 use crate::slot::Pair;
@@ -34,7 +35,7 @@ fn visit_here(
     table: &mut Table,
     last_lines: &mut LastLines,
     work: &mut Work,
-) -> Result<Next, AllocError>
+) -> Result<Next, RunnerRefusal>
     requires inside { attempt.now.last ≤ length attempt.now.haystack.now }
     requires easy { AreEasy (instrs_in attempt.now) }
     requires within { AllWithin attempt.now.base attempt.now.last (threads_in attempt.now pair.old threads.old) }
@@ -78,6 +79,8 @@ fn visit_here(
         → length (saved_in attempt.now threads.new) + steps_of work.old
         ≤ length (saved_in attempt.now threads.old) + steps_of work.new) }
     ensures last_lines { KnowsLastLines attempt.now.haystack.now last_lines.new }
+    ensures heeds { RunsWithin attempt.now.step_limit work.old work.new }
+    ensures limited { result ≡ Err RunnerRefusal.Steps → IsSpent attempt.now.step_limit work.new }
 {
     let place = pair.place;
     match visit(attempt, pair, threads, table, last_lines, work)? {
@@ -103,7 +106,7 @@ fn follow_here(
     table: &mut Table,
     last_lines: &mut LastLines,
     work: &mut Work,
-) -> Result<Option<usize>, AllocError>
+) -> Result<Option<usize>, RunnerRefusal>
     requires inside { attempt.now.last ≤ length attempt.now.haystack.now }
     requires easy { AreEasy (instrs_in attempt.now) }
     requires low { attempt.now.base ≤ start.place }
@@ -131,6 +134,8 @@ fn follow_here(
     ensures returns { returns_of work.old ≤ returns_of work.new }
     ensures paired { returns_of work.new - returns_of work.old ≤ steps_of work.new - steps_of work.old }
     ensures last_lines { KnowsLastLines attempt.now.haystack.now last_lines.new }
+    ensures heeds { RunsWithin attempt.now.step_limit work.old work.new }
+    ensures limited { result ≡ Err RunnerRefusal.Steps → IsSpent attempt.now.step_limit work.new }
 {
     let mut pair = start;
     'pairs: loop {
@@ -258,7 +263,7 @@ fn follow_one(
     table: &mut Table,
     last_lines: &mut LastLines,
     work: &mut Work,
-) -> Result<(), AllocError>
+) -> Result<(), RunnerRefusal>
     requires inside { attempt.now.last ≤ length attempt.now.haystack.now }
     requires easy { AreEasy (instrs_in attempt.now) }
     requires low { attempt.now.base ≤ place }
@@ -290,6 +295,8 @@ fn follow_one(
     ensures returns { returns_of work.old ≤ returns_of work.new }
     ensures paired { returns_of work.new - returns_of work.old ≤ steps_of work.new - steps_of work.old }
     ensures last_lines { KnowsLastLines attempt.now.haystack.now last_lines.new }
+    ensures heeds { RunsWithin attempt.now.step_limit work.old work.new }
+    ensures limited { result ≡ Err RunnerRefusal.Steps → IsSpent attempt.now.step_limit work.new }
 {
     if pair.place > place {
         sweep
@@ -324,7 +331,7 @@ fn follow_row(
     table: &mut Table,
     last_lines: &mut LastLines,
     work: &mut Work,
-) -> Result<(), AllocError>
+) -> Result<(), RunnerRefusal>
     requires inside { attempt.now.last ≤ length attempt.now.haystack.now }
     requires easy { AreEasy (instrs_in attempt.now) }
     requires low { attempt.now.base ≤ place }
@@ -350,6 +357,8 @@ fn follow_row(
     ensures returns { returns_of work.old ≤ returns_of work.new }
     ensures paired { returns_of work.new - returns_of work.old ≤ steps_of work.new - steps_of work.old }
     ensures last_lines { KnowsLastLines attempt.now.haystack.now last_lines.new }
+    ensures heeds { RunsWithin attempt.now.step_limit work.old work.new }
+    ensures limited { result ≡ Err RunnerRefusal.Steps → IsSpent attempt.now.step_limit work.new }
 {
     'threads: while let Some(pair) = sweep.row.pop(&mut sweep.threads)? {
         follow_one(attempt, place, pair, sweep, table, last_lines, work)?;
@@ -366,7 +375,7 @@ fn follow_place(
     table: &mut Table,
     last_lines: &mut LastLines,
     work: &mut Work,
-) -> Result<(), AllocError>
+) -> Result<(), RunnerRefusal>
     requires inside { attempt.now.last ≤ length attempt.now.haystack.now }
     requires easy { AreEasy (instrs_in attempt.now) }
     requires low { attempt.now.base ≤ place }
@@ -394,6 +403,8 @@ fn follow_place(
     ensures returns { returns_of work.old ≤ returns_of work.new }
     ensures paired { returns_of work.new - returns_of work.old ≤ steps_of work.new - steps_of work.old }
     ensures last_lines { KnowsLastLines attempt.now.haystack.now last_lines.new }
+    ensures heeds { RunsWithin attempt.now.step_limit work.old work.new }
+    ensures limited { result ≡ Err RunnerRefusal.Steps → IsSpent attempt.now.step_limit work.new }
 {
     sweep.gather(attempt.code, place)?;
     follow_row(attempt, place, sweep, table, last_lines, work)?;
@@ -410,7 +421,7 @@ pub(crate) fn follow_by_place(
     table: &mut Table,
     last_lines: &mut LastLines,
     work: &mut Work,
-) -> Result<Option<usize>, AllocError>
+) -> Result<Option<usize>, RunnerRefusal>
     requires inside { attempt.now.last ≤ length attempt.now.haystack.now }
     requires easy { AreEasy (instrs_in attempt.now) }
     requires within { AllWithin attempt.now.base attempt.now.last (threads_in attempt.now pair threads.old) }
@@ -442,6 +453,8 @@ pub(crate) fn follow_by_place(
     ensures returns { returns_of work.old ≤ returns_of work.new }
     ensures paired { returns_of work.new - returns_of work.old ≤ steps_of work.new - steps_of work.old }
     ensures last_lines { KnowsLastLines attempt.now.haystack.now last_lines.new }
+    ensures heeds { RunsWithin attempt.now.step_limit work.old work.new }
+    ensures limited { result ≡ Err RunnerRefusal.Steps → IsSpent attempt.now.step_limit work.new }
 {
     let mut sweep = Sweep::new(attempt.code, threads, pair);
     let Some(first) = sweep.waiting else {

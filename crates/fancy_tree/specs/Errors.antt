@@ -37,6 +37,7 @@ compile_error_name compile.PatternTooComplex = codes "PatternTooComplex"
 abbrev pub runtime_error_name : RuntimeError → Text
 runtime_error_name runtime.BacktrackLimitExceeded = codes "BacktrackLimitExceeded"
 runtime_error_name runtime.StackOverflow = codes "StackOverflow"
+runtime_error_name runtime.StepLimitExceeded = codes "StepLimitExceeded"
 runtime_error_name (runtime.Unmatched place) = codes "Unmatched"
 
 -- the name of the kind inside

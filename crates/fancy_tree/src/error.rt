@@ -89,6 +89,9 @@ pub enum RuntimeError {
     /// A hard search would save more branches than its limit allows.
     #[error("too many saved branches")]
     StackOverflow,
+    /// A search would do more work than its limit allows.
+    #[error("limit for steps exceeded")]
+    StepLimitExceeded,
     /// No pattern of a set gives a token at this place, a byte offset into the text, which a list of tokens ends at.
     #[error("no token at position {0}")]
     Unmatched(usize),
@@ -173,6 +176,7 @@ impl RuntimeError {
         match self {
             RuntimeError::BacktrackLimitExceeded => "BacktrackLimitExceeded",
             RuntimeError::StackOverflow => "StackOverflow",
+            RuntimeError::StepLimitExceeded => "StepLimitExceeded",
             RuntimeError::Unmatched(_) => "Unmatched",
         }
     }
