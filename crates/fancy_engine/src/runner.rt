@@ -8,7 +8,7 @@ ghost use Rattle.fancy_engine.specs.CodeLength.{code_len};
 ghost use Rattle.fancy_engine.specs.Instructions.{edges_in};
 ghost use Rattle.fancy_engine.specs.Run.{instr_at};
 ghost use Rattle.fancy_engine.specs.Compile.{IsEasyInstr, AreEasy};
-ghost use Rattle.fancy_engine.specs.Work.{steps_of, returns_of, stepped_within, RunsWithin, IsSpent};
+ghost use Rattle.fancy_engine.specs.Work.{steps_of, returns_of, stepped_within, RunsWithin, IsSpent, HasWorkLeft};
 ghost use Rattle.fancy_engine.specs.Reading.{search_context};
 ghost use Rattle.fancy_input.specs.LastLines.{KnowsLastLines};
 ghost use Rattle.fancy_engine.specs.declared.slot.Slot.{Slot};
@@ -304,7 +304,7 @@ pub(crate) fn visit(
     ensures returns { returns_of work.new ≡ returns_of work.old }
     ensures ticks { pair.old.at < code_len attempt.now.code.now
         → marks_in attempt.now table.old pair.old.at pair.old.place ≡ false
-        → work.new ≡ stepped_within work.old }
+        → HasWorkLeft attempt.now.step_limit work.old → work.new ≡ stepped_within work.old }
     ensures tally { IfOk result (λ _. steps_of work.new < usize.MAX
         → length (saved_in attempt.now threads.new) + steps_of work.old
         ≤ length (saved_in attempt.now threads.old) + steps_of work.new) }

@@ -283,20 +283,26 @@ fn literal_from(
     }
 }
 
-/// The limit that the steps of a search are held to: none where it allows all that the search can take.
-fn limit_to_heed(code: &Code, request: Request, limit: Option<usize>, work: &Work) -> Option<usize>
+/// The limit that the steps of a search are held to: none where it allows all that a search without a kept table can take.
+fn limit_to_heed(
+    code: &Code,
+    request: Request,
+    before: Option<KeptTable>,
+    limit: Option<usize>,
+    work: &Work,
+) -> Option<usize>
     requires ordered { effective_start request ≤ request.range_end }
     requires small { request.range_end < usize.MAX }
-    ensures limit { (result ≡ limit) ⊎ ((result ≡ None) × HasWorkFor limit (most_steps code.now request) work.now) }
-    ensures free { HasWorkFor limit (most_steps code.now request) work.now → result ≡ None }
+    ensures limit { (result ≡ limit)
+        ⊎ ((result ≡ None) × ((before ≡ None) × HasWorkFor limit (most_steps code.now request) work.now)) }
+    ensures free { before ≡ None → HasWorkFor limit (most_steps code.now request) work.now → result ≡ None }
 {
-    let most = limit?;
-    let places = request.range_end - request.effective_start() + 1;
-    let Some(steps) = code.len().checked_mul(places) else {
+    if before.is_some() {
         return limit;
-    };
-    match work.work().checked_add(steps) {
-        Some(all) if all <= most => None,
+    }
+    let places = request.range_end - request.effective_start() + 1;
+    match code.len().checked_mul(places) {
+        Some(steps) if work.has_work_for(steps, limit) => None,
         _ => limit,
     }
 }
@@ -379,10 +385,7 @@ pub fn search(
     }
     let before = kept.take();
     let base = KeptTable::base(before, first);
-    let step_limit = match before {
-        Some(_) => options.step_limit,
-        None => limit_to_heed(code, request, options.step_limit, work),
-    };
+    let step_limit = limit_to_heed(code, request, before, options.step_limit, work);
     let attempt = Attempt {
         code,
         haystack,

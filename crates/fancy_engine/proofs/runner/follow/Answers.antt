@@ -4,7 +4,7 @@ use Rattle.fancy_engine.specs.Attempt.{context_in, instrs_in, may_end_in, marks_
 use Rattle.fancy_engine.specs.Runner.{AllWithin}
 use Rattle.fancy_engine.specs.Sweep.{AreRising}
 use Rattle.fancy_engine.specs.Work.{steps_of}
-use Rattle.fancy_engine.proofs.WorkLemmas.{one_return}
+use Rattle.fancy_engine.proofs.WorkLemmas.{one_return, runs_on, runs_back}
 use Rattle.fancy_engine.proofs.MarkingLemmas.{either_side}
 use Rattle.fancy_engine.proofs.SweepLemmas.{rising_next}
 use Rattle.fancy_engine.proofs.SweepsLemmas.{if_some}
@@ -30,6 +30,7 @@ pairs-preserved-else-is_long c =
       paired = omega (arith, c.visit.ensures.returns, c.visit.ensures.steps, c.pairs.invariant.steps, c.pairs.invariant.paired);
       tally = λ few. omega (arith, c.visit.ensures.returns, c.visit.ensures.steps, c.in_ok-visit.ensures.tally few, c.pairs.invariant.tally (omega (arith, few, c.visit.ensures.steps)));
       last_lines = c.visit.ensures.last_lines;
+      heeds = runs_on _ _ _ _ c.pairs.invariant.heeds c.visit.ensures.heeds;
     }
 
 pub returns-in-None-clause-answer : goal.returns-in-None-clause-answer
@@ -82,6 +83,7 @@ pairs-preserved c =
           (let visited : steps_of c.visit.new.work < 2 ^ 64 - 1 = omega (arith, less, one.steps) in
           omega (arith, few, one.steps, one.one, c.visit.ensures.returns, c.visit.ensures.steps, c.in_ok-visit.ensures.tally visited, c.pairs.invariant.tally (omega (arith, visited, c.visit.ensures.steps))));
       last_lines = c.visit.ensures.last_lines;
+      heeds = runs_on _ _ _ _ (runs_on _ _ _ _ c.pairs.invariant.heeds c.visit.ensures.heeds) (runs_back _ _ _ b.1);
     }
 
 pub visit-requires-clause-within : goal.visit-requires-clause-within
@@ -132,3 +134,18 @@ returns-then-is_long-clause-forth c = if_some c.in_ok-end-in-On.end (λ (stop : 
 
 pub returns-then-is_long-clause-within : goal.returns-then-is_long-clause-within
 returns-then-is_long-clause-within c = if_some c.in_ok-end-in-On.end (λ (stop : ℕ). stop ≤ c.args.attempt.now.last) (λ stop is. c.in_ok-end-in-On.ensures.within stop is)
+
+pub returns-in_err-visit-clause-heeds : goal.returns-in_err-visit-clause-heeds
+returns-in_err-visit-clause-heeds c = runs_on _ _ _ _ c.pairs.invariant.heeds c.visit.ensures.heeds
+
+pub returns-in-None-clause-heeds : goal.returns-in-None-clause-heeds
+returns-in-None-clause-heeds c = runs_on _ _ _ _ (runs_on _ _ _ _ c.pairs.invariant.heeds c.visit.ensures.heeds) (runs_back _ _ _ c.in-None.ensures.1)
+
+pub returns-in-Found-clause-heeds : goal.returns-in-Found-clause-heeds
+returns-in-Found-clause-heeds c = runs_on _ _ _ _ c.pairs.invariant.heeds c.visit.ensures.heeds
+
+pub returns-in_err-end-in-On-clause-heeds : goal.returns-in_err-end-in-On-clause-heeds
+returns-in_err-end-in-On-clause-heeds c = runs_on _ _ _ _ (runs_on _ _ _ _ c.pairs.invariant.heeds c.visit.ensures.heeds) c.follow_by_place-end.ensures.heeds
+
+pub returns-then-is_long-clause-heeds : goal.returns-then-is_long-clause-heeds
+returns-then-is_long-clause-heeds c = runs_on _ _ _ _ (runs_on _ _ _ _ c.pairs.invariant.heeds c.visit.ensures.heeds) c.follow_by_place-end.ensures.heeds

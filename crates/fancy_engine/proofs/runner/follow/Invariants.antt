@@ -2,7 +2,7 @@ use Rattle.std.proofs.Common.{ℕ, ◌≡◌, ◌+◌, ◌-◌, ◌*◌, ◌^◌
 use Rattle.fancy_engine.specs.Attempt.{KnownIn, AllFailedIn, RunningIn, first_accepted_in, owed_in, ahead_in, saved_in, stack_in, threads_in}
 use Rattle.fancy_engine.specs.Code.{due_of}
 use Rattle.fancy_engine.specs.Threads.{begun_at}
-use Rattle.fancy_engine.specs.Work.{steps_of, returns_of}
+use Rattle.fancy_engine.specs.Work.{steps_of, returns_of, RunsWithin}
 use Rattle.fancy_input.specs.LastLines.{KnowsLastLines}
 use Rattle.fancy_engine.specs.Runner.{AllWithin}
 use Rattle.fancy_engine.specs.Sweep.{AreRising}
@@ -22,6 +22,7 @@ invariant-pairs l = record {
   paired : returns_of l.work - returns_of l.fn.work ≤ steps_of l.work - steps_of l.fn.work;
   tally : steps_of l.work < 2 ^ 64 - 1 → returns_of l.work + length (saved_in l.attempt l.threads) + steps_of l.fn.work ≤ returns_of l.fn.work + steps_of l.work;
   last_lines : KnowsLastLines l.attempt.haystack.now l.last_lines;
+  heeds : RunsWithin l.attempt.step_limit l.fn.work l.work;
 }
 
 abbrev pub decreases-pairs : goal.decreases-pairs

@@ -7,6 +7,7 @@ use Rattle.fancy_engine.proofs.InstructionLemmas.{length-instrs_of}
 use Rattle.fancy_engine.proofs.RunnerSteps.{failed, past_end}
 use Rattle.fancy_engine.proofs.RunnerLemmas.{run_seen, run_dead, run_good, run_bad, run_on, past_found, same_table, adds_mark}
 use Rattle.fancy_engine.proofs.SweepLemmas.{sweep_known, sweep_seen, sweep_dead, sweep_bad, sweep_found, sweep_on}
+use Rattle.fancy_engine.proofs.WorkLemmas.{spent_none_left}
 use Rattle.fancy_engine.proofs.runner.visit.Goals as goal
 
 pub returns-then-pair-len-clause-visited : goal.returns-then-pair-len-clause-visited
@@ -96,3 +97,6 @@ returns-then-is_match_boundary-clause-grown c = inl (rw c.in-Found.is at c.in_ok
 
 pub returns-else-is_match_boundary-clause-grown : goal.returns-else-is_match_boundary-clause-grown
 returns-else-is_match_boundary-clause-grown c = inl (rw c.in-Found.is at c.in_ok-step.ensures.stacked)
+
+pub returns-then-is_spent-clause-ticks : goal.returns-then-is_spent-clause-ticks
+returns-then-is_spent-clause-ticks c _ _ left = absurd (spent_none_left _ _ (c.is_spent.ensures.spent c.if-is_spent.true) left)

@@ -9,7 +9,7 @@ use Rattle.fancy_input.specs.LastLines.{KnowsLastLines}
 use Rattle.fancy_input.specs.Requests.{effective_start}
 use Rattle.fancy_engine.specs.Seen.{NoneMayStart}
 use Rattle.fancy_engine.specs.Search.{search, answer_from}
-use Rattle.fancy_engine.specs.Work.{steps_of, returns_of}
+use Rattle.fancy_engine.specs.Work.{steps_of, returns_of, RunsWithin}
 use Rattle.fancy_engine.proofs.search.search.Given as goal
 
 abbrev pub invariant-loop-place : goal.invariant-loop-place
@@ -31,6 +31,7 @@ invariant-loop-place l = record {
   returns : returns_of l.fn.work ≤ returns_of l.work;
   paired : returns_of l.work - returns_of l.fn.work ≤ steps_of l.work - steps_of l.fn.work;
   last_lines : KnowsLastLines l.haystack l.last_lines;
+  heeds : RunsWithin l.attempt.step_limit l.fn.work l.work;
 }
 
 abbrev pub decreases-loop-place : goal.decreases-loop-place

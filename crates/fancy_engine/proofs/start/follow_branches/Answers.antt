@@ -7,6 +7,7 @@ use Rattle.fancy_engine.specs.Attempt.{instrs_in, first_accepted_in, begins_with
 use Rattle.fancy_engine.specs.Code.{due_of}
 use Rattle.fancy_engine.specs.Texts.{IsTextOf}
 use Rattle.fancy_engine.proofs.BranchLemmas.{head_none, head_known, all_none, one_some, dues_left, between, beyond}
+use Rattle.fancy_engine.proofs.WorkLemmas.{runs_on, runs_from_start}
 use Rattle.fancy_engine.proofs.start.follow_branches.Goals as goal
 
 pub loop-i-init : goal.loop-i-init
@@ -21,6 +22,7 @@ loop-i-init c = record {
   returns = omega arith;
   paired = omega arith;
   last_lines = c.requires.last_lines;
+  heeds = runs_from_start _ _;
 }
 
 pub follow_text-requires-clause-room : goal.follow_text-requires-clause-room
@@ -167,6 +169,7 @@ loop-i-preserved c =
       returns = omega (arith, c.follow_text.ensures.returns, c.loop-i.invariant.returns);
       paired = omega (arith, c.follow_text.ensures.paired, c.follow_text.ensures.steps, c.follow_text.ensures.returns, c.loop-i.invariant.steps, c.loop-i.invariant.returns, c.loop-i.invariant.paired);
       last_lines = c.follow_text.ensures.last_lines;
+      heeds = runs_on _ _ _ _ c.loop-i.invariant.heeds c.follow_text.ensures.heeds;
     }
 
 pub returns-clause-answer : goal.returns-clause-answer
@@ -201,3 +204,12 @@ returns-clause-paired c = c.loop-i.invariant.paired
 
 pub returns-clause-last_lines : goal.returns-clause-last_lines
 returns-clause-last_lines c = c.loop-i.invariant.last_lines
+
+pub returns-clause-heeds : goal.returns-clause-heeds
+returns-clause-heeds c = c.loop-i.invariant.heeds
+
+pub returns-in-Some-clause-heeds : goal.returns-in-Some-clause-heeds
+returns-in-Some-clause-heeds c = runs_on _ _ _ _ c.loop-i.invariant.heeds c.follow_text.ensures.heeds
+
+pub returns-in_err-end-clause-heeds : goal.returns-in_err-end-clause-heeds
+returns-in_err-end-clause-heeds c = runs_on _ _ _ _ c.loop-i.invariant.heeds c.follow_text.ensures.heeds

@@ -3,7 +3,7 @@ use Rattle.std.specs.Prelude.{slice_index}
 use Rattle.fancy_engine.specs.Attempt.{instrs_in, first_accepted_in, begins_with, owed_in, KnownIn, AllFailedIn}
 use Rattle.fancy_engine.specs.Branches.{AreBranches, dues_in}
 use Rattle.fancy_engine.specs.Code.{due_of}
-use Rattle.fancy_engine.specs.Work.{steps_of, returns_of}
+use Rattle.fancy_engine.specs.Work.{steps_of, returns_of, RunsWithin}
 use Rattle.fancy_input.specs.LastLines.{KnowsLastLines}
 use Rattle.fancy_engine.proofs.start.follow_branches.Given as goal
 
@@ -25,4 +25,5 @@ invariant-loop-i l = record {
   returns : returns_of l.fn.work ≤ returns_of l.work;
   paired : returns_of l.work - returns_of l.fn.work ≤ steps_of l.work - steps_of l.fn.work;
   last_lines : KnowsLastLines l.attempt.haystack.now l.last_lines;
+  heeds : RunsWithin l.attempt.step_limit l.fn.work l.work;
 }

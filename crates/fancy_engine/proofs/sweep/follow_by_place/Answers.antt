@@ -12,6 +12,7 @@ use Rattle.fancy_engine.specs.declared.slot.Pair.{Pair}
 use Rattle.fancy_engine.proofs.SweepLemmas.{within_back, within_last, within_none, sweep_first}
 use Rattle.fancy_engine.proofs.RunnerLemmas.{within_lower}
 use Rattle.fancy_engine.proofs.SweepsLemmas.{ended_answer, ended_failed, ended_past}
+use Rattle.fancy_engine.proofs.WorkLemmas.{runs_on, runs_from_start}
 use Rattle.fancy_engine.proofs.sweep.follow_by_place.Goals as goal
 
 pub loop-place-init : goal.loop-place-init
@@ -48,6 +49,7 @@ loop-place-init c =
       returns = omega arith;
       paired = omega arith;
       last_lines = c.requires.last_lines;
+      heeds = runs_from_start _ _;
     }
 
 pub loop-place-preserved : goal.loop-place-preserved
@@ -73,6 +75,7 @@ loop-place-preserved c =
       returns = omega (arith, c.follow_place.ensures.returns, c.loop-place.invariant.returns);
       paired = omega (arith, c.follow_place.ensures.paired, c.follow_place.ensures.steps, c.follow_place.ensures.returns, c.loop-place.invariant.steps, c.loop-place.invariant.returns, c.loop-place.invariant.paired);
       last_lines = c.follow_place.ensures.last_lines;
+      heeds = runs_on _ _ _ _ c.loop-place.invariant.heeds c.follow_place.ensures.heeds;
     }
 
 pub returns-then-is_over-clause-answer : goal.returns-then-is_over-clause-answer
@@ -140,3 +143,12 @@ returns-clause-within c stop is =
 pub follow_place-requires-2-clause-within : goal.follow_place-requires-2-clause-within
 follow_place-requires-2-clause-within c =
     within_lower c.args.attempt.now.last c.loop-place.place c.args.attempt.now.last (left_in_sweep c.args.attempt.now.code.now c.loop-place.sweep) (omega (arith, c.loop-place-test.false)) c.loop-place.invariant.within
+
+pub returns-in_err-follow_place-clause-heeds : goal.returns-in_err-follow_place-clause-heeds
+returns-in_err-follow_place-clause-heeds c = runs_on _ _ _ _ c.loop-place.invariant.heeds c.follow_place.ensures.heeds
+
+pub returns-in_err-follow_place-2-clause-heeds : goal.returns-in_err-follow_place-2-clause-heeds
+returns-in_err-follow_place-2-clause-heeds c = runs_on _ _ _ _ c.loop-place.invariant.heeds c.follow_place-2.ensures.heeds
+
+pub returns-clause-heeds : goal.returns-clause-heeds
+returns-clause-heeds c = runs_on _ _ _ _ c.loop-place.invariant.heeds c.follow_place-2.ensures.heeds

@@ -5,7 +5,7 @@ use Rattle.fancy_engine.specs.Context.{State}
 use Rattle.fancy_engine.specs.Runner.{AllWithin}
 use Rattle.fancy_engine.specs.Sweep.{AreRising, SweepingIn}
 use Rattle.fancy_engine.specs.Sweeps.{backlog_in, left_in_sweep, found_in, IsDrained}
-use Rattle.fancy_engine.specs.Work.{steps_of, returns_of}
+use Rattle.fancy_engine.specs.Work.{steps_of, returns_of, RunsWithin}
 use Rattle.fancy_input.specs.LastLines.{KnowsLastLines}
 use Rattle.fancy_engine.proofs.sweep.follow_by_place.Given as goal
 
@@ -28,4 +28,5 @@ invariant-loop-place l = record {
   returns : returns_of l.fn.work ≤ returns_of l.work;
   paired : returns_of l.work - returns_of l.fn.work ≤ steps_of l.work - steps_of l.fn.work;
   last_lines : KnowsLastLines l.attempt.haystack.now l.last_lines;
+  heeds : RunsWithin l.attempt.step_limit l.fn.work l.work;
 }

@@ -4,7 +4,7 @@ use Rattle.fancy_engine.specs.Threads.{Thread}
 use Rattle.fancy_engine.specs.Attempt.{current_in, saved_in, threads_in}
 use Rattle.fancy_engine.specs.Sweep.{AllPast, AllAt, SweepingIn}
 use Rattle.fancy_engine.specs.Work.{steps_of}
-use Rattle.fancy_engine.proofs.WorkLemmas.{one_return}
+use Rattle.fancy_engine.proofs.WorkLemmas.{one_return, runs_on, runs_back}
 use Rattle.fancy_engine.proofs.MarkingLemmas.{either_side}
 use Rattle.fancy_engine.proofs.SweepLemmas.{at_within, at_next}
 use Rattle.fancy_engine.proofs.sweep.follow_here.Goals as goal
@@ -34,6 +34,7 @@ pairs-preserved-in-On c =
       paired = omega (arith, c.visit_here.ensures.returns, c.visit_here.ensures.steps, c.pairs.invariant.steps, c.pairs.invariant.paired);
       tally = λ few. omega (arith, c.visit_here.ensures.returns, c.visit_here.ensures.steps, c.in_ok-visit_here.ensures.tally few, c.pairs.invariant.tally (omega (arith, few, c.visit_here.ensures.steps)));
       last_lines = c.visit_here.ensures.last_lines;
+      heeds = runs_on _ _ _ _ c.pairs.invariant.heeds c.visit_here.ensures.heeds;
     }
 
 pub returns-in-None-clause-swept : goal.returns-in-None-clause-swept
@@ -91,6 +92,7 @@ pairs-preserved c =
           (let visited : steps_of c.visit_here.new.work < 2 ^ 64 - 1 = omega (arith, less, one.steps) in
           omega (arith, few, one.steps, one.one, c.visit_here.ensures.returns, c.visit_here.ensures.steps, c.in_ok-visit_here.ensures.tally visited, c.pairs.invariant.tally (omega (arith, visited, c.visit_here.ensures.steps))));
       last_lines = c.visit_here.ensures.last_lines;
+      heeds = runs_on _ _ _ _ (runs_on _ _ _ _ c.pairs.invariant.heeds c.visit_here.ensures.heeds) (runs_back _ _ _ b.1);
     }
 
 pub visit_here-requires-clause-within : goal.visit_here-requires-clause-within
@@ -114,3 +116,12 @@ returns-in-None-clause-later c low from within = c.in_ok-visit_here.ensures.late
 
 pub returns-in-Found-clause-later : goal.returns-in-Found-clause-later
 returns-in-Found-clause-later c low from within = c.in_ok-visit_here.ensures.later low (omega (arith, from, c.pairs.invariant.here)) (c.pairs.invariant.later low from within)
+
+pub returns-in_err-visit_here-clause-heeds : goal.returns-in_err-visit_here-clause-heeds
+returns-in_err-visit_here-clause-heeds c = runs_on _ _ _ _ c.pairs.invariant.heeds c.visit_here.ensures.heeds
+
+pub returns-in-None-clause-heeds : goal.returns-in-None-clause-heeds
+returns-in-None-clause-heeds c = runs_on _ _ _ _ (runs_on _ _ _ _ c.pairs.invariant.heeds c.visit_here.ensures.heeds) (runs_back _ _ _ c.in-None.ensures.1)
+
+pub returns-in-Found-clause-heeds : goal.returns-in-Found-clause-heeds
+returns-in-Found-clause-heeds c = runs_on _ _ _ _ c.pairs.invariant.heeds c.visit_here.ensures.heeds

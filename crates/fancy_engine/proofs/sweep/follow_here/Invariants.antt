@@ -6,7 +6,7 @@ use Rattle.fancy_engine.specs.Context.{State}
 use Rattle.fancy_engine.specs.Runner.{AllWithin}
 use Rattle.fancy_engine.specs.Sweep.{AllPast, AllAt, SweepingIn}
 use Rattle.fancy_engine.specs.Threads.{Thread, thread_of}
-use Rattle.fancy_engine.specs.Work.{steps_of, returns_of}
+use Rattle.fancy_engine.specs.Work.{steps_of, returns_of, RunsWithin}
 use Rattle.fancy_input.specs.LastLines.{KnowsLastLines}
 use Rattle.fancy_engine.proofs.sweep.follow_here.Given as goal
 
@@ -31,6 +31,7 @@ invariant-pairs l = record {
   paired : returns_of l.work - returns_of l.fn.work ≤ steps_of l.work - steps_of l.fn.work;
   tally : steps_of l.work < 2 ^ 64 - 1 → returns_of l.work + length (saved_in l.attempt l.threads) + steps_of l.fn.work ≤ returns_of l.fn.work + steps_of l.work;
   last_lines : KnowsLastLines l.attempt.haystack.now l.last_lines;
+  heeds : RunsWithin l.attempt.step_limit l.fn.work l.work;
 }
 
 abbrev pub decreases-pairs : goal.decreases-pairs

@@ -7,6 +7,7 @@ use Rattle.fancy_engine.specs.Sweep.{SweepingIn}
 use Rattle.fancy_engine.specs.Sweeps.{found_in}
 use Rattle.fancy_engine.specs.Threads.{Thread, thread_of}
 use Rattle.fancy_engine.proofs.SweepLemmas.{past_reverse, within_reverse, within_past, burden_append, burden_reverse}
+use Rattle.fancy_engine.proofs.WorkLemmas.{runs_on}
 use Rattle.fancy_engine.proofs.sweep.follow_row.Goals as goal
 
 pub threads-preserved : goal.threads-preserved
@@ -39,6 +40,7 @@ threads-preserved c =
       returns = omega (arith, c.follow_one.ensures.returns, c.threads.invariant.returns);
       paired = omega (arith, c.follow_one.ensures.paired, c.follow_one.ensures.steps, c.follow_one.ensures.returns, c.threads.invariant.steps, c.threads.invariant.returns, c.threads.invariant.paired);
       last_lines = c.follow_one.ensures.last_lines;
+      heeds = runs_on _ _ _ _ c.threads.invariant.heeds c.follow_one.ensures.heeds;
     }
 
 pub returns-clause-swept : goal.returns-clause-swept
@@ -68,3 +70,6 @@ returns-clause-spent c =
     let code = c.args.attempt.now.code.now in
     let turned = reverse c.threads.sweep.later in
     omega (arith, ap (burden code) c.in_ok-pass_all.ensures.row, burden_append code turned c.pop.new.self, burden_reverse code c.threads.sweep.later, ap (burden code) popped.1, ap (burden code) popped.0, c.threads.invariant.spent)
+
+pub returns-in_err-follow_one-clause-heeds : goal.returns-in_err-follow_one-clause-heeds
+returns-in_err-follow_one-clause-heeds c = runs_on _ _ _ _ c.threads.invariant.heeds c.follow_one.ensures.heeds

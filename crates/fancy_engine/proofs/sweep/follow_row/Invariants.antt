@@ -7,7 +7,7 @@ use Rattle.fancy_engine.specs.Runner.{AllWithin}
 use Rattle.fancy_engine.specs.Sweep.{AllPast, SweepingIn}
 use Rattle.fancy_engine.specs.Sweeps.{found_in, due_in_rows, KeepsBacklog}
 use Rattle.fancy_engine.specs.Threads.{Thread}
-use Rattle.fancy_engine.specs.Work.{steps_of, returns_of}
+use Rattle.fancy_engine.specs.Work.{steps_of, returns_of, RunsWithin}
 use Rattle.fancy_input.specs.LastLines.{KnowsLastLines}
 use Rattle.fancy_engine.proofs.sweep.follow_row.Given as goal
 
@@ -28,6 +28,7 @@ invariant-threads l = record {
   returns : returns_of l.fn.work ≤ returns_of l.work;
   paired : returns_of l.work - returns_of l.fn.work ≤ steps_of l.work - steps_of l.fn.work;
   last_lines : KnowsLastLines l.attempt.haystack.now l.last_lines;
+  heeds : RunsWithin l.attempt.step_limit l.fn.work l.work;
 }
 
 abbrev pub decreases-threads : goal.decreases-threads
