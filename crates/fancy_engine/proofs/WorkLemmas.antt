@@ -39,6 +39,9 @@ one_return before after is =
 pub runs_from_start : (limit : Option ℕ) (w : Work) → RunsWithin limit w w
 runs_from_start limit w = record { units = refl; within = λ is. is }
 
+pub runs_same : (limit : Option ℕ) (before after : Work) → after ≡ before → RunsWithin limit before after
+runs_same limit before after e = subst (λ (w : Work). RunsWithin limit before w) (sym e) (runs_from_start limit before)
+
 -- what was done, and what was done then
 pub runs_on : (limit : Option ℕ) (a b c : Work) → RunsWithin limit a b → RunsWithin limit b c → RunsWithin limit a c
 runs_on limit a b c first after = record { units = after.units ∙ first.units; within = λ is. after.within (first.within is) }

@@ -4,7 +4,7 @@ use Rattle.fancy_engine.specs.Attempt.{context_in, instrs_in, may_end_in, marks_
 use Rattle.fancy_engine.specs.Runner.{AllWithin}
 use Rattle.fancy_engine.specs.Sweep.{AreRising}
 use Rattle.fancy_engine.specs.Work.{steps_of}
-use Rattle.fancy_engine.proofs.WorkLemmas.{one_return, runs_on, runs_back}
+use Rattle.fancy_engine.proofs.WorkLemmas.{one_return, runs_on, runs_back, runs_same}
 use Rattle.fancy_engine.proofs.MarkingLemmas.{either_side}
 use Rattle.fancy_engine.proofs.SweepLemmas.{rising_next}
 use Rattle.fancy_engine.proofs.SweepsLemmas.{if_some}
@@ -139,13 +139,13 @@ pub returns-in_err-visit-clause-heeds : goal.returns-in_err-visit-clause-heeds
 returns-in_err-visit-clause-heeds c = runs_on _ _ _ _ c.pairs.invariant.heeds c.visit.ensures.heeds
 
 pub returns-in-None-clause-heeds : goal.returns-in-None-clause-heeds
-returns-in-None-clause-heeds c = runs_on _ _ _ _ (runs_on _ _ _ _ c.pairs.invariant.heeds c.visit.ensures.heeds) (runs_back _ _ _ c.in-None.ensures.1)
+returns-in-None-clause-heeds c = runs_on _ _ _ _ (runs_on _ _ _ _ c.pairs.invariant.heeds c.visit.ensures.heeds) (runs_same _ _ _ c.in-None.ensures.2)
 
 pub returns-in-Found-clause-heeds : goal.returns-in-Found-clause-heeds
 returns-in-Found-clause-heeds c = runs_on _ _ _ _ c.pairs.invariant.heeds c.visit.ensures.heeds
 
 pub returns-in_err-end-in-On-clause-heeds : goal.returns-in_err-end-in-On-clause-heeds
-returns-in_err-end-in-On-clause-heeds c = runs_on _ _ _ _ (runs_on _ _ _ _ c.pairs.invariant.heeds c.visit.ensures.heeds) c.follow_by_place-end.ensures.heeds
+returns-in_err-end-in-On-clause-heeds c = runs_on _ _ _ _ (runs_on _ _ _ _ c.pairs.invariant.heeds c.visit.ensures.heeds) c.follow_by_place.ensures.heeds
 
 pub returns-then-is_long-clause-heeds : goal.returns-then-is_long-clause-heeds
-returns-then-is_long-clause-heeds c = runs_on _ _ _ _ (runs_on _ _ _ _ c.pairs.invariant.heeds c.visit.ensures.heeds) c.follow_by_place-end.ensures.heeds
+returns-then-is_long-clause-heeds c = runs_on _ _ _ _ (runs_on _ _ _ _ c.pairs.invariant.heeds c.visit.ensures.heeds) c.follow_by_place.ensures.heeds

@@ -4,7 +4,7 @@ use Rattle.fancy_engine.specs.Threads.{Thread}
 use Rattle.fancy_engine.specs.Attempt.{current_in, saved_in, threads_in}
 use Rattle.fancy_engine.specs.Sweep.{AllPast, AllAt, SweepingIn}
 use Rattle.fancy_engine.specs.Work.{steps_of}
-use Rattle.fancy_engine.proofs.WorkLemmas.{one_return, runs_on, runs_back}
+use Rattle.fancy_engine.proofs.WorkLemmas.{one_return, runs_on, runs_back, runs_same}
 use Rattle.fancy_engine.proofs.MarkingLemmas.{either_side}
 use Rattle.fancy_engine.proofs.SweepLemmas.{at_within, at_next}
 use Rattle.fancy_engine.proofs.sweep.follow_here.Goals as goal
@@ -121,7 +121,7 @@ pub returns-in_err-visit_here-clause-heeds : goal.returns-in_err-visit_here-clau
 returns-in_err-visit_here-clause-heeds c = runs_on _ _ _ _ c.pairs.invariant.heeds c.visit_here.ensures.heeds
 
 pub returns-in-None-clause-heeds : goal.returns-in-None-clause-heeds
-returns-in-None-clause-heeds c = runs_on _ _ _ _ (runs_on _ _ _ _ c.pairs.invariant.heeds c.visit_here.ensures.heeds) (runs_back _ _ _ c.in-None.ensures.1)
+returns-in-None-clause-heeds c = runs_on _ _ _ _ (runs_on _ _ _ _ c.pairs.invariant.heeds c.visit_here.ensures.heeds) (runs_same _ _ _ c.in-None.ensures.2)
 
 pub returns-in-Found-clause-heeds : goal.returns-in-Found-clause-heeds
 returns-in-Found-clause-heeds c = runs_on _ _ _ _ c.pairs.invariant.heeds c.visit_here.ensures.heeds
