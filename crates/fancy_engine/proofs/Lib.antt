@@ -27,6 +27,7 @@ pub mod Keeps
 pub mod EasyContinues
 pub mod RunnerSearch
 pub mod KeptTableLemmas
+pub mod LimitLemmas
 pub mod AttemptLemmas
 pub mod CodeLemmas
 pub mod InstructionLemmas

@@ -14,6 +14,8 @@ use Rattle.fancy_engine.proofs.MarkingLemmas.{later_starts}
 use Rattle.fancy_engine.proofs.KeptTableLemmas.{failed_later, told_later, kept_begins, kept_reached, kept_room, kept_small, kept_last_lines, kept_failed, kept_after, ahead_ready, ahead_after, fewer_ahead, again_paid}
 use Rattle.fancy_engine.proofs.RunnerSearch.{deep, attempt_known, attempt_answer, search_hit, search_miss, search_skip, search_over, positions_none, first_thread}
 use Rattle.fancy_engine.proofs.PassedLemmas.{openings_passed}
+use Rattle.fancy_engine.proofs.WorkLemmas.{runs_from_start, runs_on, runs_same}
+use Rattle.fancy_engine.proofs.LimitLemmas.{runs_heeded, spent_heeded, none_spent, runner_spent}
 use Rattle.fancy_engine.proofs.search.search.Goals as goal
 use Rattle.fancy_engine.proofs.search.search.Goals.{then-is_match_boundary+in_ok-end+in-None, else-is_match_boundary}
 
@@ -50,6 +52,7 @@ loop-place-init c =
       returns = omega arith;
       paired = omega arith;
       last_lines = c.ready_last_lines.ensures;
+      heeds = runs_from_start _ _;
     }
 
 pub returns-in-Some-clause-answer : goal.returns-in-Some-clause-answer
@@ -88,6 +91,7 @@ loop-place-preserved c =
         returns = omega (arith, ap returns_of w.work-is, w.follow_start.ensures.returns, c.loop-place.invariant.returns);
         paired = omega (arith, ap returns_of w.work-is, ap steps_of w.work-is, w.follow_start.ensures.paired, w.follow_start.ensures.steps, w.follow_start.ensures.returns, c.loop-place.invariant.steps, c.loop-place.invariant.returns, c.loop-place.invariant.paired);
         last_lines = rw w.last_lines-is w.follow_start.ensures.last_lines;
+        heeds = runs_on _ _ _ _ c.loop-place.invariant.heeds (runs_on _ _ _ _ w.follow_start.ensures.heeds (runs_same _ _ _ w.work-is));
       }
       | else-is_match_boundary w ↦ record {
         left = λ p on is.
@@ -111,6 +115,7 @@ loop-place-preserved c =
         returns = omega (arith, ap returns_of w.work-is, c.loop-place.invariant.returns);
         paired = omega (arith, ap returns_of w.work-is, ap steps_of w.work-is, c.loop-place.invariant.paired);
         last_lines = rw w.last_lines-is c.loop-place.invariant.last_lines;
+        heeds = runs_on _ _ _ _ c.loop-place.invariant.heeds (runs_same _ _ _ w.work-is);
       }
     ]
 
@@ -197,3 +202,12 @@ returns-in_err-end-clause-idle c none = absurd (c.loop-place.invariant.starts (o
 
 pub returns-in-Some-clause-idle : goal.returns-in-Some-clause-idle
 returns-in-Some-clause-idle c none = absurd (c.loop-place.invariant.starts (omega (arith, c.loop-place-test.true)) none)
+
+pub returns-clause-heeds : goal.returns-clause-heeds
+returns-clause-heeds c = runs_heeded _ _ _ _ c.args.code.now c.args.request _ c.take-before.ensures.value c.limit_to_heed-step_limit.ensures.limit (table_in c.args.cache.now) _ c.loop-place.invariant.heeds (returns-clause-bounded c)
+
+pub returns-in_err-end-clause-heeds : goal.returns-in_err-end-clause-heeds
+returns-in_err-end-clause-heeds c = runs_heeded _ _ _ _ c.args.code.now c.args.request _ c.take-before.ensures.value c.limit_to_heed-step_limit.ensures.limit (table_in c.args.cache.now) _ (runs_on _ _ _ _ c.loop-place.invariant.heeds c.follow_start.ensures.heeds) (returns-in_err-end-clause-bounded c)
+
+pub returns-in-Some-clause-heeds : goal.returns-in-Some-clause-heeds
+returns-in-Some-clause-heeds c = runs_heeded _ _ _ _ c.args.code.now c.args.request _ c.take-before.ensures.value c.limit_to_heed-step_limit.ensures.limit (table_in c.args.cache.now) _ (runs_on _ _ _ _ c.loop-place.invariant.heeds c.follow_start.ensures.heeds) (returns-in-Some-clause-bounded c)
