@@ -1,17 +1,13 @@
 -- The limit that a search heeds: the one that it was given, or none where that allows all that it can take.
-use Rattle.std.proofs.Common.{◌≡◌, ◌⊎◌, ◌+◌, ◌≤◌, ◌∙◌, ℕ, Bool, List, Option, Some, None, inl, inr, refl, sym, ap, subst, arith}
+use Rattle.std.proofs.Common.{◌≡◌, ◌⊎◌, ◌+◌, ◌≤◌, ◌∙◌, ℕ, Bool, List, Option, Some, None, inl, inr, sym, subst, arith}
 use Rattle.fancy_input.specs.Requests.{effective_start}
 use Rattle.fancy_input.specs.declared.input.Request.{Request}
 use Rattle.fancy_engine.specs.declared.code.Code.{Code}
 use Rattle.fancy_engine.specs.declared.notes.KeptTable.{KeptTable}
-use Rattle.fancy_engine.specs.declared.refusal.RunnerRefusal.{RunnerRefusal}
-use Rattle.fancy_engine.specs.declared.refusal.RunnerRefusal.TheVariants as runner
-use Rattle.fancy_engine.specs.declared.refusal.SearchRefusal.TheVariants as search
 use Rattle.fancy_engine.specs.declared.work.Work.{Work}
 use Rattle.fancy_engine.specs.KeptTable.{steps_from, taken_again}
 use Rattle.fancy_engine.specs.Queries.{most_steps}
-use Rattle.fancy_engine.specs.Refusals.{refusal_of}
-use Rattle.fancy_engine.specs.Work.{steps_of, IsSpent, HasWorkFor, RunsWithin}
+use Rattle.fancy_engine.specs.Work.{steps_of, HasWorkFor, RunsWithin}
 use Rattle.fancy_engine.proofs.WorkLemmas.{runs_all}
 
 -- a search without a kept table takes a step for each pair, and no more
@@ -31,20 +27,3 @@ module _ (limit heeded : Option ℕ) (before kept : Option KeptTable) (code : Co
         | inl e ↦ subst (λ (o : Option ℕ). RunsWithin o work after) e runs
         | inr free ↦ runs_all limit (most_steps code request) work after free.1.1 runs.units (omega (arith, bounded, fresh_steps kept code request table (sym same ∙ free.1.0)))
       ]
-
-  -- where the limit that is heeded is spent, so is the one that was given
-  pub spent_heeded : (after : Work) → IsSpent heeded after → IsSpent limit after
-  spent_heeded after spent =
-      elim is [
-        | inl e ↦ subst (λ (o : Option ℕ). IsSpent o after) e spent
-        | inr free ↦ absurd (subst (λ (o : Option ℕ). IsSpent o after) free.0 spent)
-      ]
-
--- no limit is never spent
-pub none_spent : (heeded : Option ℕ) (after : Work) → heeded ≡ None → IsSpent heeded after → ⊥
-none_spent heeded after e spent = subst (λ (o : Option ℕ). IsSpent o after) e spent
-
--- a search is refused for want of steps only where the runner is
-pub runner_spent : (r : RunnerRefusal) → refusal_of r ≡ search.Steps → r ≡ runner.Steps
-runner_spent runner.Memory e = cc
-runner_spent runner.Steps e = refl

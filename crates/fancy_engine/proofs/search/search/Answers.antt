@@ -15,7 +15,7 @@ use Rattle.fancy_engine.proofs.KeptTableLemmas.{failed_later, told_later, kept_b
 use Rattle.fancy_engine.proofs.RunnerSearch.{deep, attempt_known, attempt_answer, search_hit, search_miss, search_skip, search_over, positions_none, first_thread}
 use Rattle.fancy_engine.proofs.PassedLemmas.{openings_passed}
 use Rattle.fancy_engine.proofs.WorkLemmas.{runs_from_start, runs_on, runs_same}
-use Rattle.fancy_engine.proofs.LimitLemmas.{runs_heeded, spent_heeded, none_spent, runner_spent}
+use Rattle.fancy_engine.proofs.LimitLemmas.{runs_heeded}
 use Rattle.fancy_engine.proofs.search.search.Goals as goal
 use Rattle.fancy_engine.proofs.search.search.Goals.{then-is_match_boundary+in_ok-end+in-None, else-is_match_boundary}
 
