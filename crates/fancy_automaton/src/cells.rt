@@ -4,7 +4,7 @@ ghost use Rattle.std.specs.Prelude.{◌≡◌, ◌+◌, ◌-◌, ◌++◌, ◌�
 ghost use Rattle.fancy_engine.specs.Code.{instrs_of};
 ghost use Rattle.fancy_engine.specs.CodeLength.{code_len};
 ghost use Rattle.fancy_engine.specs.Reading.{unit_read};
-ghost use Rattle.fancy_engine.specs.Work.{steps_of, returns_of};
+ghost use Rattle.fancy_engine.specs.Work.{steps_of, returns_of, units_of};
 ghost use Rattle.fancy_engine.specs.declared.code.Code.{Code};
 ghost use Rattle.fancy_automaton.specs.Steps.{IsStep, at_of, from_of};
 ghost use Rattle.fancy_automaton.specs.Trail.{came_at};
@@ -368,6 +368,7 @@ fn count_up(work: &mut Work, wanted: usize)
     ensures bounded { (most : ℕ) → steps_of work.old ≤ most → wanted ≤ most → steps_of work.new ≤ most }
     ensures counted { wanted ≤ steps_of work.new }
     ensures returns { returns_of work.new ≡ returns_of work.old }
+    ensures units { units_of work.new ≡ units_of work.old }
 {
     for step in work.steps()..wanted {
         work.count_step_within();
@@ -397,6 +398,7 @@ fn step_begun(
     ensures counted { IfOk result (λ s. steps_of work.new < usize.MAX
         → min (length s.next.items) (code_len code.now) + steps_of work.old ≤ steps_of work.new) }
     ensures returns { returns_of work.new ≡ returns_of work.old }
+    ensures units { units_of work.new ≡ units_of work.old }
 {
     let before = work.steps();
     let first = step_from(cells.alloc, code, ways, reading, marks, work)?;
@@ -434,6 +436,7 @@ fn step_of(
     ensures counted { IfOk result (λ s. steps_of work.new < usize.MAX
         → min (length s.next.items) (code_len code.now) + steps_of work.old ≤ steps_of work.new) }
     ensures returns { returns_of work.new ≡ returns_of work.old }
+    ensures units { units_of work.new ≡ units_of work.old }
 {
     let ways = cells.rows.lists[row].as_slice();
     match begun_cell(code, cells, ways, reading) {
@@ -473,6 +476,7 @@ pub(crate) fn step_at(
         → steps_of work.new < usize.MAX
         → min (length (came_at cells.new.cells.items k)) (code_len code.now) + steps_of work.old ≤ steps_of work.new) }
     ensures returns { returns_of work.new ≡ returns_of work.old }
+    ensures units { units_of work.new ≡ units_of work.old }
 {
     if let Some(k) = remembered(cells, row, reading) {
         return Ok(k);

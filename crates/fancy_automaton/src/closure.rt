@@ -4,7 +4,7 @@ ghost use Rattle.std.specs.Prelude.{◌≡◌, ◌+◌, ◌*◌, ◌<◌, ◌≤
 ghost use Rattle.std.specs.Option.{option_or};
 ghost use Rattle.fancy_engine.specs.Code.{instrs_of};
 ghost use Rattle.fancy_engine.specs.CodeLength.{code_len};
-ghost use Rattle.fancy_engine.specs.Work.{steps_of, returns_of};
+ghost use Rattle.fancy_engine.specs.Work.{steps_of, returns_of, units_of};
 ghost use Rattle.fancy_engine.specs.Reading.{unit_read};
 ghost use Rattle.fancy_automaton.specs.Ways.{Ends, Solves, Closing, AllKnown, Visited, marked, first_end, match_end};
 
@@ -54,6 +54,7 @@ fn visit(
     ensures counted { steps_of work.new < usize.MAX
         → steps_of work.new + marked marks.old ≡ steps_of work.old + marked marks.new }
     ensures returns { returns_of work.new ≡ returns_of work.old }
+    ensures units { units_of work.new ≡ units_of work.old }
     ensures width { length next.new.items + marked marks.old ≤ length next.old.items + marked marks.new }
     ensures progress { IfOk result (λ _. length stack.new.items + 2 * marked marks.old
         ≤ length stack.old.items + 2 * marked marks.new) }
@@ -110,6 +111,7 @@ pub fn close(
     ensures bounded { steps_of work.new ≤ steps_of work.old + code_len code.now }
     ensures counted { steps_of work.new < usize.MAX → steps_of work.new ≡ steps_of work.old + marked marks.new }
     ensures returns { returns_of work.new ≡ returns_of work.old }
+    ensures units { units_of work.new ≡ units_of work.old }
 {
     'ways: while let Some(way) = stack.pop() {
         if visit(code, reading, way, stack, next, marks, work)? {

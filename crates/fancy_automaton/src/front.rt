@@ -5,7 +5,7 @@ ghost use Rattle.fancy_engine.specs.Attempt.{context_in, instrs_in, may_end_in};
 ghost use Rattle.fancy_engine.specs.CodeLength.{code_len};
 ghost use Rattle.fancy_engine.specs.Reading.{unit_read};
 ghost use Rattle.fancy_engine.specs.Seen.{MayStart};
-ghost use Rattle.fancy_engine.specs.Work.{steps_of, returns_of};
+ghost use Rattle.fancy_engine.specs.Work.{steps_of, returns_of, units_of};
 ghost use Rattle.fancy_engine.specs.declared.code.Code.{Code};
 ghost use Rattle.fancy_engine.specs.declared.runner.Attempt.{Attempt};
 ghost use Rattle.fancy_automaton.specs.Cells.{HasPlace, IsFor, IsWithin};
@@ -195,6 +195,7 @@ impl Front {
         ensures steps { steps_of work.old ≤ steps_of work.new }
         ensures bounded { steps_of work.new ≤ steps_of work.old + code_len attempt.now.code.now }
         ensures returns { returns_of work.new ≡ returns_of work.old }
+        ensures units { units_of work.new ≡ units_of work.old }
     {
         let row = row_at(self.hit, self.next, self.begun);
         let start = start_at(self.hit, place);
@@ -232,6 +233,7 @@ impl Front {
         ensures steps { steps_of work.old ≤ steps_of work.new }
         ensures bounded { steps_of work.new ≤ steps_of work.old + code_len attempt.now.code.now }
         ensures returns { returns_of work.new ≡ returns_of work.old }
+        ensures units { units_of work.new ≡ units_of work.old }
     {
         self.shorten(cells)?;
         self.make_place(attempt.code, cells)?;
@@ -382,6 +384,7 @@ impl Front {
         ensures steps { steps_of work.old ≤ steps_of work.new }
         ensures bounded { steps_of work.new ≤ steps_of work.old + code_len attempt.now.code.now }
         ensures returns { returns_of work.new ≡ returns_of work.old }
+        ensures units { units_of work.new ≡ units_of work.old }
     {
         if !is_match_boundary(attempt.on_boundaries, attempt.haystack, place) {
             return Ok(place + 1);

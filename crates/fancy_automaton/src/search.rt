@@ -10,7 +10,7 @@ ghost use Rattle.fancy_engine.specs.Compile.{IsCodeOf};
 ghost use Rattle.fancy_engine.specs.Queries.{query_of, unfiltered, answer_with, most_steps};
 ghost use Rattle.fancy_engine.specs.Search.{search};
 ghost use Rattle.fancy_engine.specs.Seen.{NoneMayStart};
-ghost use Rattle.fancy_engine.specs.Work.{steps_of, returns_of};
+ghost use Rattle.fancy_engine.specs.Work.{steps_of, returns_of, units_of};
 ghost use Rattle.fancy_automaton.specs.Cells.{IsFor, IsWithin};
 ghost use Rattle.fancy_automaton.specs.Futures.{ArePlain};
 ghost use Rattle.fancy_automaton.specs.Search.{BegunIn, KeepsPlaces, Steady, at_position, ends_in, leftmost_in};
@@ -51,6 +51,7 @@ fn find_span(
         attempt.now.base (attempt.now.last + 1)
         → steps_of work.new ≡ steps_of work.old }
     ensures returns { returns_of work.new ≡ returns_of work.old }
+    ensures units { units_of work.new ≡ units_of work.old }
 {
     let mut front = Front::new(attempt.code, cells)?;
     let mut place = attempt.base;
@@ -74,7 +75,7 @@ fn find_span(
 /// Steps are remembered in `cells`, which begins empty and serves any number of searches for one code. It is cleared where
 /// it is full, as often as that is; no answer changes by that. Each place of the range is read at most once, and fetches
 /// each instruction at most once. So no more steps are added to `work` than the code is long, times the searched length
-/// plus one, and none where no match may start at any place. No return is added.
+/// plus one, and none where no match may start at any place. No return is added, and no unit is gone over.
 ///
 /// # Errors
 ///
@@ -104,6 +105,7 @@ pub fn find(
         (effective_start request) (request.range_end + 1)
         → steps_of work.new ≡ steps_of work.old }
     ensures returns { returns_of work.new ≡ returns_of work.old }
+    ensures units { units_of work.new ≡ units_of work.old }
     ensures refused { IfErr result (λ e. e ≡ SearchRefusal.Memory) }
 {
     let first = request.effective_start();

@@ -3,7 +3,7 @@
 ghost use Rattle.std.specs.Prelude.{◌≡◌, ◌+◌, ◌<◌, ◌≤◌, IfOk, None, [], option_map, reverse, length};
 ghost use Rattle.fancy_engine.specs.Code.{instrs_of};
 ghost use Rattle.fancy_engine.specs.CodeLength.{code_len};
-ghost use Rattle.fancy_engine.specs.Work.{steps_of, returns_of};
+ghost use Rattle.fancy_engine.specs.Work.{steps_of, returns_of, units_of};
 ghost use Rattle.fancy_engine.specs.Reading.{unit_read};
 ghost use Rattle.fancy_automaton.specs.Steps.{IsStep, waiting};
 
@@ -57,6 +57,7 @@ pub(crate) fn step_from(
     ensures counted { IfOk result (λ s. steps_of work.new < usize.MAX
         → length s.next.items + steps_of work.old ≤ steps_of work.new) }
     ensures returns { returns_of work.new ≡ returns_of work.old }
+    ensures units { units_of work.new ≡ units_of work.old }
 {
     let mut stack = load(alloc, ways)?;
     let mut next = Vec::with_capacity(alloc, ways.len())?;

@@ -4,7 +4,7 @@ ghost use Rattle.std.specs.Prelude.{◌≡◌, ◌+◌, ◌<◌, ◌≤◌, ℕ,
 ghost use Rattle.fancy_engine.specs.Code.{instrs_of, instr_in, sets_len};
 ghost use Rattle.fancy_engine.specs.CodeLength.{code_len};
 ghost use Rattle.fancy_engine.specs.Run.{instr_at};
-ghost use Rattle.fancy_engine.specs.Work.{steps_of, returns_of};
+ghost use Rattle.fancy_engine.specs.Work.{steps_of, returns_of, units_of};
 ghost use Rattle.fancy_engine.specs.Reading.{unit_read};
 ghost use Rattle.fancy_automaton.specs.Ways.{effect_of, reads_if};
 
@@ -74,6 +74,7 @@ pub fn effect_at(code: &Code, at: usize, reading: Option<Reading>, work: &mut Wo
     ensures bounded { steps_of work.new ≤ steps_of work.old + 1 }
     ensures counted { steps_of work.new < usize.MAX → steps_of work.new ≡ steps_of work.old + 1 }
     ensures returns { returns_of work.new ≡ returns_of work.old }
+    ensures units { units_of work.new ≡ units_of work.old }
 {
     effect_of_instr(code, code.fetch(at, work), reading)
 }

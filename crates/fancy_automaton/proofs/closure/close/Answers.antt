@@ -18,6 +18,7 @@ ways-init c =
       bounded = omega (arith, none);
       counted = λ lt. omega (arith, none);
       returns = refl;
+      units = refl;
     }
 
 pub returns-then-branch-clause-answer : goal.returns-then-branch-clause-answer
@@ -43,6 +44,7 @@ ways-preserved c = record {
   bounded = omega (arith, c.visit.ensures.bounded, c.ways.invariant.bounded);
   counted = λ lt. omega (arith, c.visit.ensures.counted lt, c.ways.invariant.counted (omega (arith, lt, c.visit.ensures.steps)));
   returns = c.visit.ensures.returns ∙ c.ways.invariant.returns;
+  units = c.visit.ensures.units ∙ c.ways.invariant.units;
 }
 
 pub returns-clause-answer : goal.returns-clause-answer

@@ -1,7 +1,7 @@
 use Rattle.std.proofs.Common.{ℕ, ◌≡◌, ◌+◌, ◌-◌, ◌*◌, ◌<◌, ◌≤◌, ◌^◌, Bool, None, [], length, reverse, option_map}
 use Rattle.fancy_engine.specs.Code.{instrs_of}
 use Rattle.fancy_engine.specs.CodeLength.{code_len}
-use Rattle.fancy_engine.specs.Work.{steps_of, returns_of}
+use Rattle.fancy_engine.specs.Work.{steps_of, returns_of, units_of}
 use Rattle.fancy_engine.specs.Reading.{unit_read}
 use Rattle.fancy_automaton.specs.Ways.{Ends, Solves, Closing, AllKnown, marked, first_end}
 use Rattle.fancy_automaton.proofs.closure.close.Given as goal
@@ -19,6 +19,7 @@ invariant-ways l = record {
   bounded : steps_of l.work ≤ steps_of l.fn.work + marked l.marks;
   counted : steps_of l.work < 2 ^ 64 - 1 → steps_of l.work ≡ steps_of l.fn.work + marked l.marks;
   returns : returns_of l.work ≡ returns_of l.fn.work;
+  units : units_of l.work ≡ units_of l.fn.work;
 }
 
 abbrev pub decreases-ways : goal.decreases-ways

@@ -20,6 +20,7 @@ places-init c = record {
   bounded = omega arith;
   idle = λ none. (row_ways c.new.new.cells.rows.lists.items c.in_ok-front.front.next [] c.in_ok-front.ensures.waits, refl, refl);
   returns = refl;
+  units = refl;
 }
 
 pub is_over-requires : goal.is_over-requires
@@ -61,6 +62,7 @@ places-preserved c = record {
   idle = λ none. absurd (starts_somewhere c.args.attempt.now.code.now.start_bytes c.args.attempt.now.haystack.now c.args.attempt.now.last c.seek-place.result
       (c.seek-place.ensures.stands (c.places.invariant.idle none).2 (c.places.invariant.idle none).0 (omega (arith, c.if-place-attempt.false))) (none c.seek-place.result (omega (arith, c.places.invariant.passed, c.seek-place.ensures.forth)) (omega (arith, c.if-place-attempt.false))));
   returns = c.pass.ensures.returns ∙ c.places.invariant.returns;
+  units = c.pass.ensures.units ∙ c.places.invariant.units;
 }
 
 pub returns-then-is_over-clause-idle : goal.returns-then-is_over-clause-idle

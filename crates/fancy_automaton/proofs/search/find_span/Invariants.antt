@@ -1,7 +1,7 @@
 use Rattle.std.proofs.Common.{◌≡◌, ◌+◌, ◌-◌, ◌*◌, ◌≤◌, [], false}
 use Rattle.fancy_engine.specs.CodeLength.{code_len}
 use Rattle.fancy_engine.specs.Seen.{NoneMayStart}
-use Rattle.fancy_engine.specs.Work.{steps_of, returns_of}
+use Rattle.fancy_engine.specs.Work.{steps_of, returns_of, units_of}
 use Rattle.fancy_automaton.specs.Cells.{IsWithin}
 use Rattle.fancy_automaton.specs.Front.{IsFront, ways_of}
 use Rattle.fancy_automaton.proofs.search.find_span.Given as goal
@@ -17,6 +17,7 @@ invariant-places l = record {
   idle : NoneMayStart l.attempt.code.now.start_bytes l.attempt.haystack.now l.attempt.last l.attempt.base (l.attempt.last + 1)
       → (ways_of l.cells l.front ≡ []) × (steps_of l.work ≡ steps_of l.fn.work) × (l.tried ≡ false);
   returns : returns_of l.work ≡ returns_of l.fn.work;
+  units : units_of l.work ≡ units_of l.fn.work;
 }
 
 abbrev pub decreases-places : goal.decreases-places

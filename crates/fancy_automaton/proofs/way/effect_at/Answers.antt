@@ -1,3 +1,7 @@
+use Rattle.std.proofs.Common.{◌≡◌, ◌-◌, ◌^◌, Bool, true, false, refl, sym, subst}
+use Rattle.std.specs.Prelude.{nat_lt, if◌then◌else◌}
+use Rattle.fancy_engine.specs.declared.work.Work.{Work}
+use Rattle.fancy_engine.specs.Work.{units_of, stepped, stepped_within}
 use Rattle.fancy_engine.proofs.WorkLemmas.{one_step}
 use Rattle.fancy_automaton.proofs.way.effect_at.Goals as goal
 
@@ -12,3 +16,13 @@ returns-clause-counted c = (one_step c.args.work.now c.fetch.new.work c.fetch.en
 
 pub returns-clause-returns : goal.returns-clause-returns
 returns-clause-returns c = (one_step c.args.work.now c.fetch.new.work c.fetch.ensures.work).returns
+
+-- a step counts no units
+no_units : (before after : Work) → after ≡ stepped_within before → units_of after ≡ units_of before
+no_units before after is = subst (λ (w : Work). units_of w ≡ units_of before) (sym is) (at (nat_lt before.steps (2 ^ 64 - 1))) where
+  at : (b : Bool) → units_of (if b then stepped before else before) ≡ units_of before
+  at true = refl
+  at false = refl
+
+pub returns-clause-units : goal.returns-clause-units
+returns-clause-units c = no_units c.args.work.now c.fetch.new.work c.fetch.ensures.work
