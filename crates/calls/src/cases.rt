@@ -79,6 +79,9 @@ pub(crate) fn options_of(letters: &str) -> RegexOptionsBuilder {
     if let Some(limit) = limit_of(letters, 'K') {
         options.stack_limit(limit);
     }
+    if let Some(limit) = limit_of(letters, 'W') {
+        options.step_limit(limit);
+    }
     options
 }
 

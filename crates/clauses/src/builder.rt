@@ -92,21 +92,24 @@ pub fn switches(builder: &mut RegexBuilder, only_named: bool, overrides: bool) -
         .allow_input_assertion_overrides(overrides)
 }
 
-/// The limits of returns, of saved branches, and of code.
+/// The limits of returns, of saved branches, of work, and of code.
 pub fn limits(
     builder: &mut RegexBuilder,
     returns: usize,
     branches: usize,
+    steps: usize,
     code: usize,
 ) -> &mut RegexBuilder
     ensures same { result.ghost_name ≡ builder.entry.ghost_name }
     ensures pattern { pattern_set result.now ≡ pattern_set builder.old }
     ensures value { options_set result.now ≡ record (options_set builder.old)
-        { backtrack_limit = returns; stack_limit = branches; max_prog_size = Some code } }
+        { backtrack_limit = returns; stack_limit = branches; step_limit = Some steps;
+        max_prog_size = Some code } }
 {
     builder
         .backtrack_limit(returns)
         .stack_limit(branches)
+        .step_limit(steps)
         .max_prog_size(code)
 }
 

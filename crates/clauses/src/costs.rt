@@ -1,12 +1,12 @@
 //! What a search costs: its steps and its returns.
 
-ghost use Rattle.std.specs.Prelude.{◌≡◌, ◌≤◌, IfErr, IfOk, IfSome, None, true};
+ghost use Rattle.std.specs.Prelude.{◌≡◌, ◌≤◌, ◌<◌, ◌^◌, IfErr, IfOk, IfSome, None, true};
 ghost use Rattle.fancy_regex.specs.Inputs.{haystack_in, request_in};
-ghost use Rattle.fancy_regex.specs.Limited.{IsHard, Refuses, TriesNone, most_steps_of};
-ghost use Rattle.fancy_regex.specs.Regexes.{easy_in, options_in, program_in, returns_limit_in};
-ghost use Rattle.fancy_regex.specs.SearchCounts.{HasReturns, IsStopped, returns_taken};
+ghost use Rattle.fancy_regex.specs.Limited.{AllowsEachStep, IsHard, Refuses, TriesNone, most_steps_of};
+ghost use Rattle.fancy_regex.specs.Regexes.{easy_in, options_in, program_in, returns_limit_in, step_limit_in};
+ghost use Rattle.fancy_regex.specs.SearchCounts.{HasReturns, IsOutOfSteps, IsStopped, returns_taken};
 ghost use Rattle.fancy_regex.specs.Searches.{CanSearchInput, FindsFirst, asked_by};
-ghost use Rattle.fancy_regex.specs.Work.{returns_of, steps_of};
+ghost use Rattle.fancy_regex.specs.Work.{IsSpent, IsWithin, returns_of, steps_of, units_of, work_of};
 
 use fancy_regex::{Input, Regex, RegexInput, Result, Work};
 
@@ -34,6 +34,10 @@ pub fn find_input_counted<S: Input>(
     ensures most { IsHard regex.now
         → returns_of work.new
         ≤ returns_taken (program_in regex.now) (asked_by regex.now S.bytes input) }
+    ensures limit { IsWithin (step_limit_in regex.now) work.new }
+    ensures spent { IsOutOfSteps result → IsSpent (step_limit_in regex.now) work.new }
+    ensures unlimited { easy_in regex.now ≡ true → AllowsEachStep regex.now (request_in input)
+        → IsOutOfSteps result → ⊥ }
 {
     regex.find_input_counted(input, work)
 }
@@ -42,6 +46,7 @@ pub fn find_input_counted<S: Input>(
 pub fn new() -> Work
     ensures steps { steps_of result ≡ 0 }
     ensures returns { returns_of result ≡ 0 }
+    ensures units { units_of result ≡ 0 }
 {
     Work::new()
 }
@@ -50,14 +55,23 @@ pub fn new() -> Work
 pub fn reset(work: &mut Work)
     ensures steps { steps_of work.new ≡ 0 }
     ensures returns { returns_of work.new ≡ 0 }
+    ensures units { units_of work.new ≡ 0 }
 {
     work.reset();
 }
 
-/// The steps and the returns.
-pub fn reads(work: &Work) -> (usize, usize)
+/// The steps, the returns and the units.
+pub fn reads(work: &Work) -> (usize, usize, usize)
     ensures steps { result.0 ≡ steps_of work.now }
     ensures returns { result.1 ≡ returns_of work.now }
+    ensures units { result.2 ≡ units_of work.now }
 {
-    (work.steps(), work.returns())
+    (work.steps(), work.returns(), work.units())
+}
+
+/// The work in all.
+pub fn work(work: &Work) -> usize
+    ensures { work_of work.now < 2 ^ 64 → result ≡ work_of work.now }
+{
+    work.work()
 }

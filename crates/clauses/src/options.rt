@@ -162,6 +162,15 @@ pub fn stack_limit(builder: &mut RegexOptionsBuilder, limit: usize) -> &mut Rege
     builder.stack_limit(limit)
 }
 
+/// How much work a search may do.
+pub fn step_limit(builder: &mut RegexOptionsBuilder, limit: usize) -> &mut RegexOptionsBuilder
+    ensures same { result.ghost_name ≡ builder.entry.ghost_name }
+    ensures value { options_of result.now
+        ≡ record (options_of builder.old) { step_limit = Some limit } }
+{
+    builder.step_limit(limit)
+}
+
 /// How many instructions the code of a hard pattern may have.
 pub fn max_prog_size(builder: &mut RegexOptionsBuilder, size: usize) -> &mut RegexOptionsBuilder
     ensures same { result.ghost_name ≡ builder.entry.ghost_name }

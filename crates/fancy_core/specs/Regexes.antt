@@ -1,11 +1,11 @@
 -- What a regex stands for, and what a search with it asks.
-use Rattle.std.specs.Prelude.{ℕ, Bool, true, List, string_bytes}
+use Rattle.std.specs.Prelude.{ℕ, Bool, true, List, Option, string_bytes}
 use Rattle.fancy_tree.specs.Pattern.{Pattern}
 use Rattle.fancy_input.specs.declared.input.Request.{Request}
 use Rattle.fancy_engine.specs.Search.{Query}
 use Rattle.fancy_search.specs.declared.options.Options.{Options}
 use Rattle.fancy_search.specs.declared.program.Program.{Program}
-use Rattle.fancy_search.specs.Programs.{program_pattern, program_options, program_groups, program_length, program_is_easy, program_limit, asked_of}
+use Rattle.fancy_search.specs.Programs.{program_pattern, program_options, program_groups, program_length, program_is_easy, program_limit, program_step_limit, asked_of}
 use Rattle.fancy_core.specs.declared.regex.Regex.{Regex}
 
 -- the bytes of its pattern's text
@@ -39,6 +39,10 @@ easy_in r = program_is_easy (program_in r)
 -- how many returns a search may take
 abbrev pub returns_limit_in : Regex → ℕ
 returns_limit_in r = program_limit (program_in r)
+
+-- how much work a search for it may do, if that is limited
+abbrev pub step_limit_in : Regex → Option ℕ
+step_limit_in r = program_step_limit (program_in r)
 
 -- what a search with the regex asks, with `\G` on or off
 abbrev pub query_in_turn : Regex → List ℕ → Request → Bool → Query

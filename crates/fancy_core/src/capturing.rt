@@ -1,11 +1,12 @@
 //! Searches for a match with its groups.
 
-ghost use Rattle.std.specs.Prelude.{◌≡◌, ◌≤◌, IfOk, IfErr, IfSome, length};
-ghost use Rattle.fancy_input.specs.Inputs.{haystack_in};
+ghost use Rattle.std.specs.Prelude.{◌≡◌, ◌≤◌, IfOk, IfErr, IfSome, length, true};
+ghost use Rattle.fancy_input.specs.Inputs.{haystack_in, request_in};
 ghost use Rattle.fancy_core.specs.Captures.{spans_if, searched_in, found_by};
-ghost use Rattle.fancy_core.specs.Limited.{Refuses, Allows};
-ghost use Rattle.fancy_core.specs.Regexes.{options_in, query};
+ghost use Rattle.fancy_core.specs.Limited.{Refuses, Allows, AllowsEachStep};
+ghost use Rattle.fancy_core.specs.Regexes.{options_in, easy_in, query};
 ghost use Rattle.fancy_core.specs.Searches.{CanSearchInput, asked_whole, asked_from, asked_by, first_groups};
+ghost use Rattle.fancy_search.specs.SearchCounts.{IsOutOfSteps};
 ghost use Rattle.fancy_search.specs.Searching.{Suits, StartsCleanly};
 
 use crate::captures::Captures;
@@ -81,6 +82,8 @@ impl Regex {
         ensures regex { IfOk result (λ m. IfSome m (λ c. found_by c ≡ self.now)) }
         ensures refused { IfErr result (λ e. Refuses self.now (asked_by self.now S.bytes input) e) }
         ensures allowed { IfOk result (λ _. Allows self.now (asked_by self.now S.bytes input)) }
+        ensures unlimited { easy_in self.now ≡ true → AllowsEachStep self.now (request_in input)
+            → IsOutOfSteps result → ⊥ }
     {
         let mut cache = Cache::new(self.allocator());
         let found = self.capture(input.haystack(), input.request(), &mut cache)?;
@@ -101,6 +104,7 @@ impl Regex {
         ensures regex { IfOk result (λ m. IfSome m (λ c. found_by c ≡ self.now)) }
         ensures refused { IfErr result (λ e. Refuses self.now (query self.now (S.bytes haystack) request) e) }
         ensures allowed { IfOk result (λ _. Allows self.now (query self.now (S.bytes haystack) request)) }
+        ensures unlimited { easy_in self.now ≡ true → AllowsEachStep self.now request → IsOutOfSteps result → ⊥ }
     {
         let mut known = KnownBytes::new();
         let mut work = Work::new();

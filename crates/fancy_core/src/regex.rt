@@ -4,7 +4,7 @@ ghost use Rattle.std.specs.Prelude.{◌≡◌, ◌≤◌, ◌↔◌, ◌+◌, �
 ghost use Rattle.fancy_tree.specs.GroupNames.{names_of};
 ghost use Rattle.fancy_tree.specs.Sizes.{nodes};
 ghost use Rattle.fancy_input.specs.Inputs.{haystack_in, request_in};
-ghost use Rattle.fancy_engine.specs.Work.{steps_of, returns_of};
+ghost use Rattle.fancy_engine.specs.Work.{steps_of, returns_of, IsWithin, IsSpent};
 ghost use Rattle.fancy_engine.specs.Search.{search};
 ghost use Rattle.fancy_engine.specs.Answers.{HasNone};
 ghost use Rattle.fancy_search.specs.Compiled.{IsSpelled};
@@ -45,10 +45,10 @@ pub struct Regex {
 impl Regex {
     ghost use Rattle.fancy_core.specs.Built.{IsReading};
     ghost use Rattle.fancy_core.specs.CaptureNames.{names_in};
-    ghost use Rattle.fancy_core.specs.Regexes.{pattern_text, pattern_in, options_in, group_count_in, length_in, easy_in, returns_limit_in, query};
+    ghost use Rattle.fancy_core.specs.Regexes.{pattern_text, pattern_in, options_in, group_count_in, length_in, easy_in, returns_limit_in, step_limit_in, query};
     ghost use Rattle.fancy_core.specs.RegexStarts.{regex_may_start};
-    ghost use Rattle.fancy_core.specs.Limited.{IsHard, Refuses, Allows, TriesNone, most_steps_of};
-    ghost use Rattle.fancy_search.specs.SearchCounts.{AddsReturns, AddsReturnsUpTo, Counted, CountedUpTo, HasReturns, HasRoomFor, IsStopped, returns_taken};
+    ghost use Rattle.fancy_core.specs.Limited.{IsHard, Refuses, Allows, TriesNone, AllowsEachStep, most_steps_of};
+    ghost use Rattle.fancy_search.specs.SearchCounts.{AddsReturns, AddsReturnsUpTo, Counted, CountedUpTo, HasReturns, HasRoomFor, HasNoStepsLeft, HeedsStepLimit, AllowsAllSteps, IsOutOfSteps, IsStopped, returns_taken};
     ghost use Rattle.fancy_core.specs.Searches.{CanSearchInput, FindsFirst, asked_whole, asked_from, asked_by};
 
     /// Reads a pattern, with the default options.
@@ -236,7 +236,9 @@ impl Regex {
     /// limit: `RuntimeError(BacktrackLimitExceeded)` where the search takes more returns than
     /// `RegexOptionsBuilder::backtrack_limit` allows, and `RuntimeError(StackOverflow)` where more branches
     /// are saved at one time than `RegexOptionsBuilder::stack_limit` allows, which only a search that opens more choices than
-    /// that can do.
+    /// that can do. Where `RegexOptionsBuilder::step_limit` is set, a search of either kind that would do more work is refused as
+    /// `RuntimeError(StepLimitExceeded)`; one for an easy pattern never, where the limit is at least [`Regex::code_len`] for each
+    /// position of the searched text, its end among them.
     ///
     /// ```text
     /// let regex = Regex::new(alloc, "abc")?;
@@ -251,6 +253,8 @@ impl Regex {
         ensures within { IfOk result (λ m. IfSome m (λ x. S.within x ≡ S.bytes (haystack_in input))) }
         ensures refused { IfErr result (λ e. Refuses self.now (asked_by self.now S.bytes input) e) }
         ensures allowed { IfOk result (λ _. Allows self.now (asked_by self.now S.bytes input)) }
+        ensures unlimited { easy_in self.now ≡ true → AllowsEachStep self.now (request_in input)
+            → IsOutOfSteps result → ⊥ }
     {
         let mut work = Work::new();
         let found = self.locate(input.haystack(), input.request(), &mut work)?;
@@ -272,7 +276,8 @@ impl Regex {
     /// among them; from a start past the range's end it takes none, and under `RegexOptionsBuilder::seek` none where the bytes
     /// of the searched text tell that no match begins at any position, or the haystack lacks a byte that each haystack with a match
     /// has. It is refused as [`Regex::find_input`] is; a hard
-    /// search never takes more returns than its limit allows.
+    /// search never takes more returns than its limit allows, and no search does more work than `RegexOptionsBuilder::step_limit`
+    /// allows ([`Work::work`]).
     pub fn find_input_counted<S: Input>(
         &self,
         input: RegexInput<S>,
@@ -292,6 +297,10 @@ impl Regex {
         ensures fits { IsHard self.now → returns_of work.new ≤ returns_limit_in self.now }
         ensures most { IsHard self.now
             → returns_of work.new ≤ returns_taken self.now.program (asked_by self.now S.bytes input) }
+        ensures limit { IsWithin (step_limit_in self.now) work.new }
+        ensures spent { IsOutOfSteps result → IsSpent (step_limit_in self.now) work.new }
+        ensures unlimited { easy_in self.now ≡ true → AllowsEachStep self.now (request_in input)
+            → IsOutOfSteps result → ⊥ }
     {
         work.reset();
         let found = self.locate(input.haystack(), input.request(), work)?;
@@ -322,6 +331,10 @@ impl Regex {
         ensures stopped { IsHard self.now → IsStopped result → AddsReturns work.old (returns_limit_in self.now) work.new }
         ensures fits { IsHard self.now → AddsReturnsUpTo work.old (returns_limit_in self.now) work.new }
         ensures most { CountedUpTo self.now.program (query self.now (S.bytes haystack) request) work.old work.new }
+        ensures limit { HeedsStepLimit self.now.program work.old work.new }
+        ensures spent { IsOutOfSteps result → HasNoStepsLeft self.now.program work.new }
+        ensures unlimited { easy_in self.now ≡ true → AllowsAllSteps self.now.program request work.old
+            → IsOutOfSteps result → ⊥ }
     {
         let mut cache = Cache::new(self.allocator());
         let mut known = KnownBytes::new();
@@ -370,6 +383,8 @@ impl Regex {
         ensures found { IfOk result (λ b. b ≡ is_some (search (asked_by self.now S.bytes input))) }
         ensures refused { IfErr result (λ e. Refuses self.now (asked_by self.now S.bytes input) e) }
         ensures allowed { IfOk result (λ _. Allows self.now (asked_by self.now S.bytes input)) }
+        ensures unlimited { easy_in self.now ≡ true → AllowsEachStep self.now (request_in input)
+            → IsOutOfSteps result → ⊥ }
     {
         let first = self.find_input(input)?;
         Ok(first.is_some())

@@ -183,6 +183,16 @@ impl RegexBuilder {
         self
     }
 
+    /// Sets the option of [`RegexOptionsBuilder::step_limit`].
+    pub fn step_limit(&mut self, limit: usize) -> &mut Self
+        ensures same { result.ghost_name ≡ self.entry.ghost_name }
+        ensures pattern { pattern_set result.now ≡ pattern_set self.old }
+        ensures value { options_set result.now ≡ record (options_set self.old) { step_limit = Some limit } }
+    {
+        self.options.step_limit(limit);
+        self
+    }
+
     /// Sets the option of [`RegexOptionsBuilder::max_prog_size`].
     pub fn max_prog_size(&mut self, size: usize) -> &mut Self
         ensures same { result.ghost_name ≡ self.entry.ghost_name }

@@ -215,8 +215,7 @@ impl RegexOptionsBuilder {
     /// `RuntimeError(StackOverflow)`. 1,000,000 by default.
     ///
     /// A branch is saved at each choice, for its later side, until the search returns to it or drops it. So this bounds the
-    /// memory that such a search takes, as [`RegexOptionsBuilder::backtrack_limit`] bounds its time. Patterns that are easy
-    /// ([`Regex::is_easy`]) do not heed it.
+    /// memory that such a search takes. Patterns that are easy ([`Regex::is_easy`]) do not heed it.
     ///
     /// ```text
     /// let regex = RegexOptionsBuilder::new().stack_limit(0).build(pattern)?;    // of `(?:a|b)(?=c)`
@@ -227,6 +226,25 @@ impl RegexOptionsBuilder {
         ensures value { options_of result.now ≡ record (options_of self.old) { stack_limit = limit } }
     {
         self.options.stack_limit = limit;
+        self
+    }
+
+    /// How much work a search may do, before it is refused as `RuntimeError(StepLimitExceeded)`. No limit by default.
+    ///
+    /// The work is what takes time, whatever the pattern: its steps, the units that its look-behinds go back, and the bytes of the
+    /// texts that its backreferences compare (`Work::work`). Easy patterns heed it too ([`Regex::is_easy`]), but a search for one
+    /// is never refused where the limit is at least [`Regex::code_len`] times the searched length plus one. In lists, splits and
+    /// replacements it holds for each search, in sets and lists of tokens for each pattern at each position.
+    ///
+    /// ```text
+    /// let regex = RegexOptionsBuilder::new().step_limit(100_000).build(pattern)?;    // of `a*+b`
+    /// regex.find(row)    // of 10,000 `a`: Err(RuntimeError(StepLimitExceeded)), where 100,000,000 steps find nothing
+    /// ```
+    pub fn step_limit(&mut self, limit: usize) -> &mut Self
+        ensures same { result.ghost_name ≡ self.entry.ghost_name }
+        ensures value { options_of result.now ≡ record (options_of self.old) { step_limit = Some limit } }
+    {
+        self.options.step_limit = Some(limit);
         self
     }
 

@@ -8,6 +8,7 @@ pub mod Programs
 pub mod Searching
 pub mod Cached
 pub mod SearchCounts
+pub mod Refusals
 pub mod StackLimits
 pub mod ProgramSize
 pub mod Groups

@@ -21,6 +21,7 @@ by_default = record {
   allow_input_assertion_overrides = false;
   backtrack_limit = most_returns;
   stack_limit = most_branches;
+  step_limit = None;
   max_prog_size = None;
   find_not_empty = false;
   leftmost_longest = false;
@@ -48,5 +49,6 @@ search_options o = record {
   longest = o.leftmost_longest;
   backtrack_limit = o.backtrack_limit;
   stack_limit = o.stack_limit;
+  step_limit = o.step_limit;
   seek = o.seek;
 }

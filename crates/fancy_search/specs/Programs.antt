@@ -1,5 +1,5 @@
 -- What a program stands for, and what a search with it asks.
-use Rattle.std.specs.Prelude.{ℕ, Bool, List, IsTrue}
+use Rattle.std.specs.Prelude.{ℕ, Bool, List, Option, IsTrue}
 use Rattle.fancy_tree.specs.Modes.{keeps_characters}
 use Rattle.fancy_tree.specs.GroupNames.{names_of}
 use Rattle.fancy_tree.specs.Pattern.{Pattern}
@@ -42,6 +42,10 @@ program_limit p = p.options.backtrack_limit
 -- how many branches a search for it may have saved at one time
 abbrev pub program_stack_limit : Program → ℕ
 program_stack_limit p = p.options.stack_limit
+
+-- how much work a search for it may do, if that is limited
+abbrev pub program_step_limit : Program → Option ℕ
+program_step_limit p = p.options.step_limit
 
 -- its matches stand on whole characters
 abbrev pub KeepsCharacters : Program → Type 0

@@ -1,19 +1,19 @@
 -- What a search may be refused for, and what it counts.
-use Rattle.std.specs.Prelude.{◌≡◌, ℕ, ◌+◌, ◌-◌, ◌*◌, ◌<◌, ◌≤◌, Bool, not, ◌&&◌, Result, Option, Err, IfOk, IfSome, false, if◌then◌else◌}
+use Rattle.std.specs.Prelude.{◌≡◌, ℕ, ◌+◌, ◌-◌, ◌*◌, ◌<◌, ◌≤◌, Bool, not, ◌&&◌, Result, Option, Err, IfOk, IfSome, true, false, is_some, if◌then◌else◌}
 use Rattle.fancy_bytes.specs.Lacks.{lacks_some}
 use Rattle.fancy_bytes.specs.Required.{required_bytes}
 use Rattle.fancy_tree.specs.declared.error.Error.{Error}
 use Rattle.fancy_tree.specs.declared.error.Error.TheVariants.{Memory, ParseError, CompileError, RuntimeError}
 use Rattle.fancy_tree.specs.declared.error.RuntimeError.{RuntimeError as Running}
-use Rattle.fancy_tree.specs.declared.error.RuntimeError.TheVariants.{BacktrackLimitExceeded, StackOverflow, Unmatched}
+use Rattle.fancy_tree.specs.declared.error.RuntimeError.TheVariants.{BacktrackLimitExceeded, StackOverflow, StepLimitExceeded, Unmatched}
 use Rattle.fancy_input.specs.declared.input.Request.{Request}
 use Rattle.fancy_input.specs.Requests.{effective_start}
 use Rattle.fancy_engine.specs.declared.work.Work.{Work}
-use Rattle.fancy_engine.specs.Work.{steps_of, returns_of, HasRoom}
+use Rattle.fancy_engine.specs.Work.{steps_of, returns_of, HasRoom, HasWorkFor, IsSpent, IsWithin}
 use Rattle.fancy_engine.specs.Tried.{tried}
 use Rattle.fancy_engine.specs.Search.{Query, returns, choices, returns_at, choices_at}
 use Rattle.fancy_search.specs.declared.program.Program.{Program}
-use Rattle.fancy_search.specs.Programs.{program_options, program_is_easy, program_length, program_limit, program_stack_limit}
+use Rattle.fancy_search.specs.Programs.{program_options, program_is_easy, program_length, program_limit, program_stack_limit, program_step_limit}
 
 -- Whether a search for it is refused past limits: its pattern reads what it captured, or ends a way early, or one of the two filters is set.
 abbrev pub IsHardProgram : Program → Type 0
@@ -43,10 +43,16 @@ returns_taken r q = returns q (tried_by r q)
 abbrev pub choices_in : Program → Query → ℕ
 choices_in r q = choices q (tried_by r q)
 
-abbrev pub IsPastLimit : Running → Program → Query → Type 0
-IsPastLimit BacktrackLimitExceeded r q = program_limit r < returns_taken r q
-IsPastLimit StackOverflow r q = program_stack_limit r < choices_in r q
-IsPastLimit (Unmatched place) r q = ⊥
+-- a limit of steps is set
+abbrev pub HasStepLimit : Program → Type 0
+HasStepLimit r = is_some (program_step_limit r) ≡ true
+
+-- The search may be given up for this: a hard one past its limits of returns and of branches, and each where a limit of steps is set.
+abbrev pub IsGivenUp : Running → Program → Query → Type 0
+IsGivenUp BacktrackLimitExceeded r q = IsHardProgram r × (program_limit r < returns_taken r q)
+IsGivenUp StackOverflow r q = IsHardProgram r × (program_stack_limit r < choices_in r q)
+IsGivenUp StepLimitExceeded r q = HasStepLimit r
+IsGivenUp (Unmatched place) r q = ⊥
 
 -- how many steps an easy search takes at most: the length of the code for each position of the searched text, its end among them
 abbrev pub step_bound : Program → Request → ℕ
@@ -59,12 +65,22 @@ HasRoomFor r request w =
     × HasRoom (returns_of w) (program_limit r)
     × (returns_of w ≤ steps_of w)
 
--- The search may be refused by this error: for want of memory at any time, and of a hard pattern past a limit.
+-- The search may be refused by this error: for want of memory at any time, and past a limit.
 abbrev pub RefusesQuery : Program → Query → Error → Type 0
 RefusesQuery r q Memory = Unit {0}
 RefusesQuery r q (ParseError at kind) = ⊥
 RefusesQuery r q (CompileError why) = ⊥
-RefusesQuery r q (RuntimeError why) = IsHardProgram r × IsPastLimit why r q
+RefusesQuery r q (RuntimeError why) = IsGivenUp why r q
+
+-- a search for an easy pattern may be refused by this error: for want of memory, and where a limit of steps is set
+abbrev pub RefusesEasy : Program → Error → Type 0
+RefusesEasy r Memory = Unit {0}
+RefusesEasy r (ParseError at kind) = ⊥
+RefusesEasy r (CompileError why) = ⊥
+RefusesEasy r (RuntimeError BacktrackLimitExceeded) = ⊥
+RefusesEasy r (RuntimeError StackOverflow) = ⊥
+RefusesEasy r (RuntimeError StepLimitExceeded) = HasStepLimit r
+RefusesEasy r (RuntimeError (Unmatched place)) = ⊥
 
 -- A search for a hard pattern that is not refused takes no more returns than its limit allows.
 abbrev pub AllowsQuery : Program → Query → Type 0
@@ -78,17 +94,19 @@ returns_taken_at r q p = if tried_by r q p then returns_at q p else 0
 abbrev pub choices_opened_at : Program → Query → ℕ → ℕ
 choices_opened_at r q p = if tried_by r q p then choices_at q p else 0
 
-abbrev pub IsPastLimitAt : Running → Program → Query → ℕ → Type 0
-IsPastLimitAt BacktrackLimitExceeded r q p = program_limit r < returns_taken_at r q p
-IsPastLimitAt StackOverflow r q p = program_stack_limit r < choices_opened_at r q p
-IsPastLimitAt (Unmatched place) r q p = ⊥
+-- The attempt at a position may be given up for this.
+abbrev pub IsGivenUpAt : Running → Program → Query → ℕ → Type 0
+IsGivenUpAt BacktrackLimitExceeded r q p = IsHardProgram r × (program_limit r < returns_taken_at r q p)
+IsGivenUpAt StackOverflow r q p = IsHardProgram r × (program_stack_limit r < choices_opened_at r q p)
+IsGivenUpAt StepLimitExceeded r q p = HasStepLimit r
+IsGivenUpAt (Unmatched place) r q p = ⊥
 
--- The attempt at a position may be refused by this error: for want of memory at any time, and of a hard pattern past a limit.
+-- The attempt at a position may be refused by this error: for want of memory at any time, and past a limit.
 abbrev pub RefusesAttempt : Program → Query → ℕ → Error → Type 0
 RefusesAttempt r q p Memory = Unit {0}
 RefusesAttempt r q p (ParseError at kind) = ⊥
 RefusesAttempt r q p (CompileError why) = ⊥
-RefusesAttempt r q p (RuntimeError why) = IsHardProgram r × IsPastLimitAt why r q p
+RefusesAttempt r q p (RuntimeError why) = IsGivenUpAt why r q p
 
 -- An attempt for a hard pattern that is not refused takes no more returns than its limit allows.
 abbrev pub AllowsAttempt : Program → Query → ℕ → Type 0
@@ -97,6 +115,22 @@ AllowsAttempt r q p = IsHardProgram r → returns_taken_at r q p ≤ program_lim
 -- a search was refused because it would return more often than its limit allows
 abbrev pub IsStopped : {A : Type 0} → Result A Error → Type 0
 IsStopped result = result ≡ Err (RuntimeError BacktrackLimitExceeded)
+
+-- a search was refused because it would do more work than its limit allows
+abbrev pub IsOutOfSteps : {A : Type 0} → Result A Error → Type 0
+IsOutOfSteps result = result ≡ Err (RuntimeError StepLimitExceeded)
+
+-- no search does more work than the program's limit allows, with what was done before
+abbrev pub HeedsStepLimit : Program → Work → Work → Type 0
+HeedsStepLimit r before after = IsWithin (program_step_limit r) before → IsWithin (program_step_limit r) after
+
+-- all work is done that the program's limit allows
+abbrev pub HasNoStepsLeft : Program → Work → Type 0
+HasNoStepsLeft r w = IsSpent (program_step_limit r) w
+
+-- the program's limit allows all steps that an easy search takes at most
+abbrev pub AllowsAllSteps : Program → Request → Work → Type 0
+AllowsAllSteps r request w = HasWorkFor (program_step_limit r) (step_bound r request) w
 
 -- the count of returns is that of the search
 abbrev pub HasReturns : Program → Work → Query → Type 0

@@ -35,6 +35,9 @@ pub struct Options {
     pub backtrack_limit: usize,
     /// How many branches a search for a hard pattern may have saved at one time.
     pub stack_limit: usize,
+    /// How much work a search may do, if that is limited: its steps, the units that look-behinds go back, and the bytes of texts that
+    /// backreferences compare.
+    pub step_limit: Option<usize>,
     /// How many instructions a hard pattern's code may have, if that is limited.
     pub max_prog_size: Option<usize>,
     /// Whether empty matches are refused.
@@ -48,7 +51,7 @@ pub struct Options {
 impl Default for Options {
     ghost is_default = { λ o. o ≡ by_default };
 
-    /// `BytesMode::Unicode`, the Unicode mode on, at most 1,000,000 returns and as many saved branches, and every
+    /// `BytesMode::Unicode`, the Unicode mode on, at most 1,000,000 returns and as many saved branches, no limit of steps, and every
     /// other switch off.
     fn default() -> Options {
         Options {
@@ -59,6 +62,7 @@ impl Default for Options {
             allow_input_assertion_overrides: false,
             backtrack_limit: BACKTRACK_LIMIT,
             stack_limit: STACK_LIMIT,
+            step_limit: None,
             max_prog_size: None,
             find_not_empty: false,
             leftmost_longest: false,
@@ -99,6 +103,7 @@ impl Options {
             longest: self.leftmost_longest,
             backtrack_limit: self.backtrack_limit,
             stack_limit: self.stack_limit,
+            step_limit: self.step_limit,
             seek: self.seek,
         }
     }

@@ -24,6 +24,7 @@ ghost use Rattle.fancy_search.specs.Followed.{FollowsEach};
 ghost use Rattle.fancy_search.specs.Compiled.{IsSpelled};
 ghost use Rattle.fancy_search.specs.CompiledCode.{IsCompiled};
 ghost use Rattle.fancy_search.specs.Options.{meaning_in, dialect_of, is_easy_under};
+ghost use Rattle.fancy_search.specs.Refusals.{error_of};
 ghost use Rattle.fancy_search.specs.ProgramSize.{IsRefusedUnder, RefusesPattern, passes};
 ghost use Rattle.fancy_search.specs.Cached.{IsAnswerIn, IsAttemptIn, IsCleanlyFound};
 
@@ -79,8 +80,20 @@ pub struct Program {
     ghost whole: { keeps_characters options.bytes_mode ≡ true → has_raw_byte reading.0 ≡ false },
 }
 
+/// The error that a refusal of an engine is told as.
+fn error_of(refusal: SearchRefusal) -> Error
+    ensures { result ≡ error_of refusal }
+{
+    match refusal {
+        SearchRefusal::Memory => Error::Memory,
+        SearchRefusal::Returns => Error::RuntimeError(RuntimeError::BacktrackLimitExceeded),
+        SearchRefusal::Choices => Error::RuntimeError(RuntimeError::StackOverflow),
+        SearchRefusal::Steps => Error::RuntimeError(RuntimeError::StepLimitExceeded),
+    }
+}
+
 impl Program {
-    ghost use Rattle.fancy_search.specs.SearchCounts.{Counted, CountedUpTo, TriesNothing, tried_by, is_hopeless, IfFound, IsHardProgram, RefusesQuery, AllowsQuery, RefusesAttempt, AllowsAttempt, HasRoomFor, IsStopped, AddsReturns, AddsReturnsUpTo, step_bound, returns_taken};
+    ghost use Rattle.fancy_search.specs.SearchCounts.{RefusesEasy, IsOutOfSteps, HeedsStepLimit, HasNoStepsLeft, AllowsAllSteps, Counted, CountedUpTo, TriesNothing, tried_by, is_hopeless, IfFound, IsHardProgram, RefusesQuery, AllowsQuery, RefusesAttempt, AllowsAttempt, HasRoomFor, IsStopped, AddsReturns, AddsReturnsUpTo, step_bound, returns_taken};
     ghost use Rattle.fancy_search.specs.Programs.{KeepsCharacters, program_pattern, program_options, program_groups, program_names, program_length, program_is_easy, program_limit, asked_of};
     ghost use Rattle.fancy_search.specs.StackLimits.{HeedsStackLimit};
     ghost use Rattle.fancy_search.specs.Starts.{may_start};
@@ -183,8 +196,9 @@ impl Program {
     /// is known of the haystack's bytes: those that are looked for are added to it, so that the searches of a list look for each
     /// once.
     ///
-    /// It is refused where memory runs out (`Memory`), and for a hard pattern past a limit: as
-    /// `RuntimeError(BacktrackLimitExceeded)` or `RuntimeError(StackOverflow)`.
+    /// It is refused where memory runs out (`Memory`); for a hard pattern past a limit: as `RuntimeError(BacktrackLimitExceeded)` or
+    /// `RuntimeError(StackOverflow)`; and where it would do more work than `step_limit` allows, with what was counted in `work`
+    /// before: as `RuntimeError(StepLimitExceeded)`.
     pub fn search(
         &self,
         haystack: &[u8],
@@ -213,6 +227,10 @@ impl Program {
             → steps_of work.new ≤ steps_of work.old + step_bound self.now request }
         ensures returns { returns_of work.old ≤ returns_of work.new }
         ensures paired { returns_of work.new ≤ steps_of work.new }
+        ensures within { HeedsStepLimit self.now work.old work.new }
+        ensures limited { IsOutOfSteps result → HasNoStepsLeft self.now work.new }
+        ensures unlimited { program_is_easy self.now ≡ true → AllowsAllSteps self.now request work.old
+            → IsOutOfSteps result → ⊥ }
         ensures counted { Counted self.now (asked_of self.now haystack.now request continues) result work.old work.new }
         ensures stopped { IsHardProgram self.now → IsStopped result
             → AddsReturns work.old (program_limit self.now) work.new }
@@ -269,6 +287,10 @@ impl Program {
         ensures goes_on { program_is_easy self.now ≡ true → IfFound result (λ _. KeepsOn kept.old kept.new) }
         ensures returns { returns_of work.old ≤ returns_of work.new }
         ensures paired { returns_of work.new ≤ steps_of work.new }
+        ensures within { HeedsStepLimit self.now work.old work.new }
+        ensures limited { IsOutOfSteps result → HasNoStepsLeft self.now work.new }
+        ensures unlimited { program_is_easy self.now ≡ true → kept.old ≡ Kept.Nothing
+            → AllowsAllSteps self.now request work.old → IsOutOfSteps result → ⊥ }
         ensures counted { Counted self.now (asked_of self.now haystack.now request continues) result work.old work.new }
         ensures stopped { IsHardProgram self.now → IsStopped result
             → AddsReturns work.old (program_limit self.now) work.new }
@@ -316,10 +338,14 @@ impl Program {
         ensures goes_on { IfFound result (λ _. KeepsOn kept.old kept.new) }
         ensures returns { returns_of work.old ≤ returns_of work.new }
         ensures paired { returns_of work.new ≤ steps_of work.new }
-        ensures refused { IfErr result (λ e. e ≡ Error.Memory) }
+        ensures within { HeedsStepLimit self.now work.old work.new }
+        ensures limited { IsOutOfSteps result → HasNoStepsLeft self.now work.new }
+        ensures unlimited { kept.old ≡ Kept.Nothing → AllowsAllSteps self.now request work.old
+            → IsOutOfSteps result → ⊥ }
+        ensures refused { IfErr result (RefusesEasy self.now) }
         ensures apart { cache.new.machine ≡ cache.old.machine }
     {
-        if self.is_followed(text, request, *kept, cache) {
+        if self.is_followed(text, request, *kept, cache) && self.allows_all_steps(request, work) {
             return self.follow(haystack, request, kept, cache, work);
         }
         let mut table = kept.table();
@@ -370,6 +396,24 @@ impl Program {
         self.can_follow(text)
     }
 
+    /// Whether the limit of steps allows all that an easy search takes at most, besides what was done before.
+    fn allows_all_steps(&self, request: Request, work: &Work) -> bool
+        requires inside { request.range_end < usize.MAX }
+        ensures { result ≡ true → AllowsAllSteps self.now request work.now }
+    {
+        let Some(most) = self.options.step_limit else {
+            return true;
+        };
+        if work.is_spent(Some(most)) {
+            return false;
+        }
+        let places = (request.range_end + 1).saturating_sub(request.effective_start());
+        match self.code.len().checked_mul(places) {
+            Some(steps) => steps <= most.saturating_sub(work.work()),
+            None => false,
+        }
+    }
+
     /// The search for an easy pattern, by the automaton.
     fn follow(
         &self,
@@ -385,6 +429,7 @@ impl Program {
         requires places { KeepsPlaces haystack.now self.now.code.meaning (search_options self.now.options).on_boundaries }
         requires free { request.anchored ≡ false }
         requires room { HasRoomFor self.now request work.old }
+        requires allowed { AllowsAllSteps self.now request work.old }
         requires kept { kept.old ≡ Kept.Steps → KeepsSteps self.now cache.old }
         ensures answer { IfOk result (λ m. (on : Bool) → IsAnswerIn m cache.new (asked_of self.now haystack.now request on)) }
         ensures steps { steps_of work.old ≤ steps_of work.new }
@@ -395,6 +440,7 @@ impl Program {
         ensures bounded { steps_of work.new ≤ steps_of work.old + step_bound self.now request }
         ensures returns { returns_of work.new ≡ returns_of work.old }
         ensures paired { returns_of work.new ≤ steps_of work.new }
+        ensures within { HeedsStepLimit self.now work.old work.new }
         ensures refused { IfErr result (λ e. e ≡ Error.Memory) }
         ensures apart { cache.new.machine ≡ cache.old.machine }
     {
@@ -493,6 +539,8 @@ impl Program {
             → steps_of work.new ≡ steps_of work.old }
         ensures returns { returns_of work.old ≤ returns_of work.new }
         ensures paired { returns_of work.new ≤ steps_of work.new }
+        ensures within { HeedsStepLimit self.now work.old work.new }
+        ensures limited { IsOutOfSteps result → HasNoStepsLeft self.now work.new }
         ensures refused { IfErr result
             (RefusesAttempt self.now (asked_of self.now haystack.now request true) position) }
         ensures allowed { IfOk result
@@ -537,7 +585,9 @@ impl Program {
             ≤ steps_of work.old + (notes_ahead self.now request position notes.old + notes_again self.now position notes.old))) }
         ensures returns { returns_of work.old ≤ returns_of work.new }
         ensures paired { returns_of work.new ≤ steps_of work.new }
-        ensures refused { IfErr result (λ e. e ≡ Error.Memory) }
+        ensures within { HeedsStepLimit self.now work.old work.new }
+        ensures limited { IsOutOfSteps result → HasNoStepsLeft self.now work.new }
+        ensures refused { IfErr result (RefusesEasy self.now) }
         ensures apart { cache.new.machine ≡ cache.old.machine }
     {
         let from_position = Request {
@@ -613,7 +663,10 @@ impl Program {
             + program_length self.now)) }
         ensures returns { returns_of work.old ≤ returns_of work.new }
         ensures paired { returns_of work.new ≤ steps_of work.new }
-        ensures refused { IfErr result (λ e. e ≡ Error.Memory) }
+        ensures within { HeedsStepLimit self.now work.old work.new }
+        ensures limited { IsOutOfSteps result → HasNoStepsLeft self.now work.new }
+        ensures unlimited { kept.old ≡ None → AllowsAllSteps self.now request work.old → IsOutOfSteps result → ⊥ }
+        ensures refused { IfErr result (RefusesEasy self.now) }
         ensures apart { cache.new.machine ≡ cache.old.machine }
     {
         cache.served = Engine::Runner;
@@ -621,7 +674,7 @@ impl Program {
         let options = self.options.for_search();
         match runner::search(&self.code, haystack, request, options, kept, runner, work) {
             Ok(found) => Ok(found),
-            Err(_) => Err(Error::Memory),
+            Err(refusal) => Err(error_of(refusal)),
         }
     }
 
@@ -649,6 +702,8 @@ impl Program {
             → steps_of work.new ≡ steps_of work.old }
         ensures returns { returns_of work.old ≤ returns_of work.new }
         ensures paired { returns_of work.new ≤ steps_of work.new }
+        ensures within { HeedsStepLimit self.now work.old work.new }
+        ensures limited { IsOutOfSteps result → HasNoStepsLeft self.now work.new }
         ensures counted { IfOk result (λ _. AddsReturns work.old (returns_taken self.now (asked_of self.now haystack.now request continues)) work.new) }
         ensures stopped { IsStopped result → AddsReturns work.old (program_limit self.now) work.new }
         ensures fits { AddsReturnsUpTo work.old (program_limit self.now) work.new }
@@ -663,11 +718,7 @@ impl Program {
             &self.code, haystack, request, options, continues, is_kept, machine, work,
         ) {
             Ok(found) => Ok(found),
-            Err(SearchRefusal::Memory) => Err(Error::Memory),
-            Err(SearchRefusal::Returns) => Err(Error::RuntimeError(
-                RuntimeError::BacktrackLimitExceeded,
-            )),
-            Err(SearchRefusal::Choices) => Err(Error::RuntimeError(RuntimeError::StackOverflow)),
+            Err(refusal) => Err(error_of(refusal)),
         }
     }
 
@@ -692,6 +743,8 @@ impl Program {
         ensures steps { steps_of work.old ≤ steps_of work.new }
         ensures returns { returns_of work.old ≤ returns_of work.new }
         ensures paired { returns_of work.new ≤ steps_of work.new }
+        ensures within { HeedsStepLimit self.now work.old work.new }
+        ensures limited { IsOutOfSteps result → HasNoStepsLeft self.now work.new }
         ensures refused { IfErr result (λ e. RefusesAttempt self.now (asked_of self.now haystack.now request true) position e) }
         ensures allowed { IfOk result (λ _. AllowsAttempt self.now (asked_of self.now haystack.now request true) position) }
         ensures heeds { HeedsStackLimit self.now cache.old cache.new }
@@ -703,11 +756,7 @@ impl Program {
             &self.code, haystack, request, options, true, position, machine, work,
         ) {
             Ok(found) => Ok(found),
-            Err(SearchRefusal::Memory) => Err(Error::Memory),
-            Err(SearchRefusal::Returns) => Err(Error::RuntimeError(
-                RuntimeError::BacktrackLimitExceeded,
-            )),
-            Err(SearchRefusal::Choices) => Err(Error::RuntimeError(RuntimeError::StackOverflow)),
+            Err(refusal) => Err(error_of(refusal)),
         }
     }
 }
