@@ -23,10 +23,11 @@ LETTERS = {
     "case_insensitive": "i", "no_unicode_mode": "U", "only_named": "N", "find_not_empty": "E", "leftmost_longest": "L",
     "seek": "S", "ascii": "a", "unicode_bytes": "b",
 }
-LIMITS = {"backtrack_limit": "B", "stack_limit": "K"}
+LIMITS = {"backtrack_limit": "B", "stack_limit": "K", "step_limit": "W"}
 REFUSALS = {
     "given up": "error executing regex: limit for backtracking exceeded",
     "too many saved": "error executing regex: too many saved branches",
+    "out of steps": "error executing regex: limit for steps exceeded",
 }
 
 

@@ -102,9 +102,12 @@ pub fn limits(
 ) -> &mut RegexBuilder
     ensures same { result.ghost_name ≡ builder.entry.ghost_name }
     ensures pattern { pattern_set result.now ≡ pattern_set builder.old }
-    ensures value { options_set result.now ≡ record (options_set builder.old)
-        { backtrack_limit = returns; stack_limit = branches; step_limit = Some steps;
-        max_prog_size = Some code } }
+    ensures value { options_set result.now ≡ record (options_set builder.old) {
+      backtrack_limit = returns;
+      stack_limit = branches;
+      step_limit = Some steps;
+      max_prog_size = Some code;
+    } }
 {
     builder
         .backtrack_limit(returns)

@@ -9,7 +9,8 @@ mod spans;
 mod verdicts;
 
 pub(crate) use counts::{
-    CountRow, CrowdedRow, PartCountRow, check_counts, check_crowded, check_part_counts, counted,
+    CountRow, CrowdedRow, PartCountRow, WorkRow, check_counts, check_crowded, check_part_counts,
+    check_works, counted,
 };
 pub(crate) use fact::check;
 pub(crate) use nested::{nested, repeated};

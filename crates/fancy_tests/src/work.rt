@@ -6,9 +6,9 @@
 //! it is met first. Where the byte at an easy search's choice cannot begin one of its ways, the other is gone alone.
 
 use crate::asking::{
-    CHARACTERS, CountRow, CrowdedRow, NONE_SAVED, ONE_SAVED, PartCountRow, SEEKING, SEVEN_SAVED,
-    SearchRow, Settings, TWO_SAVED, check, check_counts, check_crowded, check_part_counts,
-    check_searches, counted, nested, regex_of, regex_with,
+    CHARACTERS, CountRow, CrowdedRow, LONGEST, NONE_SAVED, ONE_SAVED, PartCountRow, SEEKING,
+    SEVEN_SAVED, SearchRow, Settings, TWO_SAVED, WorkRow, check, check_counts, check_crowded,
+    check_part_counts, check_searches, check_works, counted, nested, regex_of, regex_with,
 };
 use fancy_regex::{Regex, RegexInput, Work};
 use std::process::Abort;
@@ -347,6 +347,27 @@ const NOT_CROWDED: &[CountRow] = &[
         4,
     ),
 ];
+
+/// Searches by each engine, and the units that they go over: a look-behind of two characters goes two back at each place where it is
+/// tried, also where the text's start is passed, and a backreference compares the bytes of its group's text.
+const WORKS: &[WorkRow] = &[
+    (CHARACTERS, "a|ab", "xab", Some((1, 2)), 0),
+    (CHARACTERS, "(?:a|b|ab)*bc", "abababac", None, 0),
+    (CHARACTERS, "(?:(a)|b)*c", "ababc", Some((0, 5)), 0),
+    (CHARACTERS, "(?<=ab)c", "abc", Some((2, 3)), 6),
+    (SEEKING, "(?<=ab)c", "abc", Some((2, 3)), 2),
+    (CHARACTERS, "(ab)\\1", "abab", Some((0, 4)), 2),
+    (CHARACTERS, "(?i)(ab)\\1", "abAB", Some((0, 4)), 2),
+    (CHARACTERS, "(é)\\1", "éé", Some((0, 4)), 2),
+    (CHARACTERS, "a*+b", "aaaa", None, 0),
+    (CHARACTERS, "(?=a{3})b", "aaab", None, 0),
+    (LONGEST, "a|ab", "xab", Some((1, 3)), 0),
+];
+
+#[test]
+fn work_is_limited(rt: HostRuntime) {
+    check_works(&rt, rt.alloc(), WORKS);
+}
 
 #[test]
 fn work_is_counted_up_to_too_many_saved_branches(rt: HostRuntime) {

@@ -109,3 +109,54 @@ pub(crate) fn check_part_counts(rt: &impl Abort, alloc: Global, rows: &[PartCoun
         check_count(rt, alloc, (settings, pattern), input, &mut work, counts);
     }
 }
+
+/// Options, a pattern, a text, what is found in it, and how many units are gone over within instructions.
+pub(crate) type WorkRow = (Settings, &'static str, &'static str, Option<Span>, usize);
+
+/// The regex of a row with so much work as the limit of a search.
+fn limited(rt: &impl Abort, alloc: Global, row: WorkRow, limit: usize) -> Regex {
+    let (settings, pattern, _, _, _) = row;
+    let settings = Settings {
+        step_limit: Some(limit),
+        ..settings
+    };
+    regex_with(rt, alloc, settings, pattern)
+}
+
+/// Checks that a search is given up under this limit, with as much work as it allows.
+fn check_out_of_steps(rt: &impl Abort, alloc: Global, row: WorkRow, limit: usize) {
+    let regex = limited(rt, alloc, row, limit);
+    let input = searchable(rt, &regex, RegexInput::new(row.2));
+    let mut work = Work::new();
+    let answer = regex.find_input_counted(input, &mut work);
+    let is_out = is_given_up(&answer, RuntimeError::StepLimitExceeded);
+    check(rt, is_out, row.1);
+    check(rt, work.work() == limit, row.1);
+}
+
+/// Checks what a search finds and goes over, that it finds the same where all of its work is allowed and no more, and that it is
+/// given up below.
+fn check_work(rt: &impl Abort, alloc: Global, row: WorkRow) {
+    let (settings, pattern, haystack, wanted, units) = row;
+    let regex = regex_with(rt, alloc, settings, pattern);
+    let mut work = Work::new();
+    let found = counted(rt, &regex, RegexInput::new(haystack), &mut work);
+    check(rt, found == Some(wanted), pattern);
+    check(rt, work.units() == units, pattern);
+    let all = work.work();
+    check(rt, all > units, pattern);
+    let regex = limited(rt, alloc, row, all);
+    let found = counted(rt, &regex, RegexInput::new(haystack), &mut work);
+    check(rt, found == Some(wanted), pattern);
+    check(rt, work.work() == all, pattern);
+    check_out_of_steps(rt, alloc, row, all.saturating_sub(1));
+    check_out_of_steps(rt, alloc, row, all / 2);
+    check_out_of_steps(rt, alloc, row, 0);
+}
+
+/// Checks searches under limits of their work.
+pub(crate) fn check_works(rt: &impl Abort, alloc: Global, rows: &[WorkRow]) {
+    for row in rows {
+        check_work(rt, alloc, *row);
+    }
+}

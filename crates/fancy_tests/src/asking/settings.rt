@@ -25,6 +25,8 @@ pub(crate) struct Settings {
     pub(crate) backtrack_limit: usize,
     /// How many branches such a search may have saved at one time.
     pub(crate) stack_limit: usize,
+    /// How much work a search may do, if that is limited.
+    pub(crate) step_limit: Option<usize>,
     /// Whether empty matches are refused.
     pub(crate) find_not_empty: bool,
     /// Whether the longest match at a position is asked for.
@@ -45,6 +47,7 @@ pub(crate) const CHARACTERS: Settings = Settings {
     overrides: false,
     backtrack_limit: 1_000_000,
     stack_limit: 1_000_000,
+    step_limit: None,
     find_not_empty: false,
     leftmost_longest: false,
     seek: false,
@@ -145,6 +148,9 @@ fn options_of(settings: Settings) -> RegexOptionsBuilder {
         .find_not_empty(settings.find_not_empty)
         .leftmost_longest(settings.leftmost_longest)
         .seek(settings.seek);
+    if let Some(limit) = settings.step_limit {
+        builder.step_limit(limit);
+    }
     builder
 }
 
