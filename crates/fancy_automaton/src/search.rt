@@ -73,7 +73,8 @@ fn find_span(
 /// part in it, since plain code begins none. A search is not anchored, and reads from boundary to boundary (`KeepsPlaces`).
 ///
 /// Steps are remembered in `cells`, which begins empty and serves any number of searches for one code. It is cleared where
-/// it is full, as often as that is; no answer changes by that. Each place of the range is read at most once, and fetches
+/// it is full, as often as that is; no answer changes by that. The limit of steps is not heeded: the caller sees that it allows
+/// as many as are bounded here. Each place of the range is read at most once, and fetches
 /// each instruction at most once. So no more steps are added to `work` than the code is long, times the searched length
 /// plus one, and none where no match may start at any place. No return is added, and no unit is gone over.
 ///
@@ -119,6 +120,7 @@ pub fn find(
         last: request.range_end,
         on_boundaries: options.on_boundaries,
         suppressed: options.suppressed_ends(request),
+        step_limit: None,
     };
     cells.room = ROOM.saturating_add(haystack.len());
     let found = find_span(&attempt, cells, work)?;

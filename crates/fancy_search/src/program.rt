@@ -401,16 +401,10 @@ impl Program {
         requires inside { request.range_end < usize.MAX }
         ensures { result ≡ true → AllowsAllSteps self.now request work.now }
     {
-        let Some(most) = self.options.step_limit else {
-            return true;
-        };
-        if work.is_spent(Some(most)) {
-            return false;
-        }
         let places = (request.range_end + 1).saturating_sub(request.effective_start());
         match self.code.len().checked_mul(places) {
-            Some(steps) => steps <= most.saturating_sub(work.work()),
-            None => false,
+            Some(steps) => work.has_work_for(steps, self.options.step_limit),
+            None => self.options.step_limit.is_none(),
         }
     }
 
