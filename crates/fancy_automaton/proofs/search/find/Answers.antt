@@ -21,7 +21,7 @@ returns-then-first-request-clause-answer c p on is =
 
 pub find_span-requires-clause-steady : goal.find_span-requires-clause-steady
 find_span-requires-clause-steady c =
-    let a : Attempt = record { code = c.args.code; haystack = c.args.haystack; base = c.effective_start-first.result; last = c.args.request.range_end; on_boundaries = c.args.options.on_boundaries; suppressed = c.suppressed_ends.result } in
+    let a : Attempt = record { code = c.args.code; haystack = c.args.haystack; base = c.effective_start-first.result; last = c.args.request.range_end; on_boundaries = c.args.options.on_boundaries; suppressed = c.suppressed_ends.result; step_limit = None } in
     steady a c.requires.inside c.requires.reads
 
 pub returns-clause-answer : goal.returns-clause-answer
