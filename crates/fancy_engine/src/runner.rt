@@ -260,6 +260,7 @@ fn is_new(attempt: &Attempt, pair: Pair, table: &mut Table) -> bool
 }
 
 /// Follows a pair, if it is new. A pair that was marked before has nothing to give, whatever the captures.
+/// No step is taken where the attempt's limit is spent.
 #[inline(always)]
 pub(crate) fn visit(
     attempt: &Attempt,
@@ -338,6 +339,10 @@ pub(crate) fn visit(
 /// table is kept from the attempts before: what they marked from the start's place on gives nothing. Where an outcome is
 /// found, what is marked past it gives nothing, whatever the groups, so that a later search can keep that. There are at most
 /// as many steps, also up to a refusal, as are due at the start and as the marks are worth that are made.
+///
+/// # Errors
+///
+/// `RunnerRefusal::Memory` where memory runs out, and `RunnerRefusal::Steps` where one more step would pass the attempt's limit.
 pub fn follow(
     attempt: &Attempt,
     start: Pair,
