@@ -10,7 +10,7 @@ use Rattle.fancy_machine.specs.Machine.{IsSpent, Takes, left, after, IsStep, Cro
 use Rattle.std.specs.Prelude.{Err}
 use Rattle.fancy_engine.specs.declared.work.Work.{Work}
 use Rattle.fancy_engine.specs.declared.refusal.SearchRefusal.{SearchRefusal}
-use Rattle.fancy_engine.specs.declared.refusal.SearchRefusal.TheVariants.{Memory, Returns, Choices}
+use Rattle.fancy_engine.specs.declared.refusal.SearchRefusal.TheVariants.{Memory, Returns, Choices, Steps}
 use Rattle.fancy_engine.specs.Work.{returns_of}
 use Rattle.fancy_machine.specs.Machine.{TookBranch}
 use Rattle.fancy_machine.proofs.Closing.{finish_back, finish_spent, finish_unspent, saved_taken}
@@ -169,4 +169,5 @@ pub backed_err : (e : SearchRefusal) (limit : ℕ) (old new : Held) (before afte
     → (IsSpent old.frames → ⊥) × (returns_of before ≡ limit) × (after ≡ before)
 backed_err Memory limit old new before after b = absurd b
 backed_err Choices limit old new before after b = absurd b
+backed_err Steps limit old new before after b = absurd b
 backed_err Returns limit old new before after b = b

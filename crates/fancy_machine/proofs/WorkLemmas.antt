@@ -1,23 +1,27 @@
 -- What a step adds to the counts.
-use Rattle.std.proofs.Common.{◌≡◌, ℕ, ◌+◌, ◌-◌, ◌^◌, ◌<◌, ◌≤◌, Bool, true, false, refl, sym, subst, arith}
+use Rattle.std.proofs.Common.{◌≡◌, ℕ, ◌+◌, ◌-◌, ◌^◌, ◌<◌, ◌≤◌, Bool, true, false, Option, Some, None, refl, ap, arith}
 use Rattle.std.proofs.lemmas.Bool.{ltb-false}
 use Rattle.std.specs.Prelude.{nat_lt, if◌then◌else◌}
 use Rattle.fancy_engine.specs.declared.work.Work.{Work}
-use Rattle.fancy_engine.specs.Work.{steps_of, stepped, stepped_within}
+use Rattle.fancy_engine.specs.Work.{steps_of, units_of, stepped, stepped_within, went_back, IsWithin, AddsUnits}
 
 stepped_more : (w : Work) (b : Bool) → steps_of w ≤ steps_of (if b then stepped w else w)
 stepped_more w true = omega arith
 stepped_more w false = omega arith
 
 -- steps are never fewer than before
-pub steps_more : (before after : Work) → after ≡ stepped_within before → steps_of before ≤ steps_of after
-steps_more before after is = subst (λ (w : Work). steps_of before ≤ steps_of w) (sym is) (stepped_more before (nat_lt before.steps (2 ^ 64 - 1)))
+pub steps_more : (before after : Work) → AddsUnits (stepped_within before) after → steps_of before ≤ steps_of after
+steps_more before after adds = omega (arith, stepped_more before (nat_lt before.steps (2 ^ 64 - 1)), adds.steps)
 
 stepped_beyond : (w : Work) (n : ℕ) (b : Bool) → nat_lt w.steps (2 ^ 64 - 1) ≡ b → n < 2 ^ 64 - 1 → n ≤ steps_of w → n + 1 ≤ steps_of (if b then stepped w else w)
 stepped_beyond w n true e small le = omega arith
 stepped_beyond w n false e small le = omega (arith, ltb-false w.steps (2 ^ 64 - 1) e)
 
 -- a number that the steps reach, and that is no usize's last, is passed by a step
-pub step_beyond : (before after : Work) (n : ℕ) → after ≡ stepped_within before → n < 2 ^ 64 - 1 → n ≤ steps_of before → n + 1 ≤ steps_of after
-step_beyond before after n is small le =
-    subst (λ (w : Work). n + 1 ≤ steps_of w) (sym is) (stepped_beyond before n (nat_lt before.steps (2 ^ 64 - 1)) refl small le)
+pub step_beyond : (before after : Work) (n : ℕ) → AddsUnits (stepped_within before) after → n < 2 ^ 64 - 1 → n ≤ steps_of before → n + 1 ≤ steps_of after
+step_beyond before after n adds small le = omega (arith, stepped_beyond before n (nat_lt before.steps (2 ^ 64 - 1)) refl small le, adds.steps)
+
+-- a return is no work
+pub back_within : (limit : Option ℕ) (before after : Work) → after ≡ went_back before → IsWithin limit before → IsWithin limit after
+back_within None before after is within = tt
+back_within (Some most) before after is within = omega (arith, ap steps_of is, ap units_of is, within)

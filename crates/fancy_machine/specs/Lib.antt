@@ -4,3 +4,4 @@ pub mod Layers
 pub mod Machine
 pub mod Attempt
 pub mod Asked
+pub mod Units

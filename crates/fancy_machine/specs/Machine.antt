@@ -3,7 +3,7 @@ use Rattle.std.specs.Prelude.{◌≡◌, ℕ, suc, ◌+◌, ◌<◌, ◌≤◌, 
 use Rattle.fancy_engine.specs.declared.runner.Next.{Next}
 use Rattle.fancy_engine.specs.declared.runner.Next.TheVariants.{On, Dead, Found}
 use Rattle.fancy_engine.specs.declared.refusal.SearchRefusal.{SearchRefusal}
-use Rattle.fancy_engine.specs.declared.refusal.SearchRefusal.TheVariants.{Memory, Returns, Choices}
+use Rattle.fancy_engine.specs.declared.refusal.SearchRefusal.TheVariants.{Memory, Returns, Choices, Steps}
 use Rattle.fancy_engine.specs.declared.slot.Slot.{Slot}
 use Rattle.fancy_engine.specs.declared.work.Work.{Work}
 use Rattle.fancy_engine.specs.Work.{returns_of, went_back}
@@ -148,6 +148,7 @@ TookBranch (Ok true) limit old new before after =
 TookBranch (Err Returns) limit old new before after = (IsSpent old.frames → ⊥) × (returns_of before ≡ limit) × (after ≡ before)
 TookBranch (Err Memory) limit old new before after = ⊥
 TookBranch (Err Choices) limit old new before after = ⊥
+TookBranch (Err Steps) limit old new before after = ⊥
 
 -- whether a way that stops at p ends the region of a layer of this kind from the place `from`
 abbrev pub ends_kind : Kind → ℕ → ℕ → Bool

@@ -1,14 +1,15 @@
 //! One attempt: a walk through the code from a position, which goes back to the saved branches.
 
-ghost use Rattle.std.specs.Prelude.{◌≡◌, ◌≢◌, ◌+◌, ◌<◌, ◌≤◌, [], ℕ, Option, Err, IfOk};
+ghost use Rattle.std.specs.Prelude.{◌≡◌, ◌≢◌, ◌+◌, ◌<◌, ◌≤◌, [], ℕ, Option, Err, IfOk, IfErr, OnOk};
 ghost use Rattle.fancy_tree.specs.Pattern.{Pattern};
 ghost use Rattle.fancy_input.specs.LastLines.{KnowsLastLines};
 ghost use Rattle.fancy_engine.specs.Queries.{query_of};
 ghost use Rattle.fancy_engine.specs.Search.{continues_from};
-ghost use Rattle.fancy_engine.specs.Work.{steps_of, returns_of, stepped_within};
+ghost use Rattle.fancy_engine.specs.Work.{steps_of, returns_of, stepped_within, IsWithin, IsSpent, HasWorkLeft, AddsUnits};
 ghost use Rattle.fancy_machine.specs.Asked.{Serves};
 ghost use Rattle.fancy_machine.specs.Attempt.{accepts, code_in, state_if_found, IsFull, TurnsTo, outcome_from, returns_from, marks_from};
 ghost use Rattle.fancy_engine.specs.Runner.{IsKnown};
+ghost use Rattle.fancy_machine.specs.Units.{CountsUnits};
 ghost use Rattle.fancy_machine.specs.Machine.{after};
 
 use crate::best::Best;
@@ -82,6 +83,22 @@ impl<'a> Attempt<'a> {
             && (!self.options.not_empty || kept != place)
     }
 
+    /// Counts units that an instruction is about to go over. Where the limit of steps allows fewer, it counts those, and the attempt is
+    /// refused.
+    pub(crate) fn count_units(&self, units: usize, work: &mut Work) -> Result<(), SearchRefusal>
+        ensures adds { AddsUnits work.old work.new }
+        ensures counted { OnOk result (CountsUnits units work.old work.new) }
+        ensures within { IsWithin self.now.options.step_limit work.old
+            → IsWithin self.now.options.step_limit work.new }
+        ensures refused { IfErr result (λ why. why ≡ SearchRefusal.Steps) }
+        ensures limited { result ≡ Err SearchRefusal.Steps → IsSpent self.now.options.step_limit work.new }
+    {
+        if !work.count_units(units, self.options.step_limit) {
+            return Err(SearchRefusal::Steps);
+        }
+        Ok(())
+    }
+
     /// Follows one instruction, where an outcome that is not accepted is a dead end, and so is each where the longest
     /// is asked for: it is offered as the best one, and the attempt goes on.
     fn turn(
@@ -96,8 +113,11 @@ impl<'a> Attempt<'a> {
         ensures refused { result ≢ Err SearchRefusal.Returns }
         ensures crowded { result ≡ Err SearchRefusal.Choices → IsFull self.now trail.old }
         ensures most { trail.new.most ≡ trail.old.most }
-        ensures work { work.new ≡ stepped_within work.old }
+        ensures work { AddsUnits (stepped_within work.old) work.new }
         ensures returns { returns_of work.new ≡ returns_of work.old }
+        ensures within { HasWorkLeft self.now.options.step_limit work.old
+            → IsWithin self.now.options.step_limit work.new }
+        ensures limited { result ≡ Err SearchRefusal.Steps → IsSpent self.now.options.step_limit work.new }
         ensures last_lines { KnowsLastLines self.now.haystack.now last_lines.new }
     {
         let next = step(self, trail, last_lines, work)?;
@@ -119,7 +139,8 @@ impl<'a> Attempt<'a> {
 
     /// One attempt, from where the trail stands: whether it has an accepted outcome. The first one is where the trail
     /// then stands, or where the longest is asked for the first of those that end last, which `best` kept meanwhile.
-    /// The returns of the attempt are added to those of `work`, also up to a refusal, and none is done past the limit.
+    /// The returns of the attempt are added to those of `work`, also up to a refusal, and none is done past the limit. So are the steps
+    /// and the units, of which none is done past the limit of steps.
     pub(crate) fn run(
         &self,
         trail: &mut Trail,
@@ -148,9 +169,15 @@ impl<'a> Attempt<'a> {
         ensures last_lines { KnowsLastLines self.now.haystack.now last_lines.new }
         ensures crowded { result ≡ Err SearchRefusal.Choices → trail.old.most < marks_from self.now deep trail.old.now }
         ensures most { trail.new.most ≡ self.now.options.stack_limit }
+        ensures within { IsWithin self.now.options.step_limit work.old
+            → IsWithin self.now.options.step_limit work.new }
+        ensures limited { result ≡ Err SearchRefusal.Steps → IsSpent self.now.options.step_limit work.new }
     {
         best.clear();
         'steps: loop {
+            if work.is_spent(self.options.step_limit) {
+                return Err(SearchRefusal::Steps);
+            }
             let next = self.turn(trail, best, last_lines, work)?;
             match next {
                 Next::On => {}

@@ -16,6 +16,7 @@ use fancy_engine::runner::Next;
 pub(crate) fn split(trail: &mut Trail, first: usize, second: usize) -> Result<Next, SearchRefusal>
     ensures stepped { IfOk result (λ on. (a : AttemptIs) → FollowsInstr a (Instr.Split first second) on trail.old trail.new) }
     ensures refused { result ≢ Err SearchRefusal.Returns }
+    ensures unlimited { result ≢ Err SearchRefusal.Steps }
     ensures crowded { result ≡ Err SearchRefusal.Choices → (a : AttemptIs) → IsFullFor a (Instr.Split first second) trail.old }
     ensures most { trail.new.most ≡ trail.old.most }
 {
@@ -32,6 +33,7 @@ pub(crate) fn begin_condition(
 ) -> Result<Next, SearchRefusal>
     ensures stepped { IfOk result (λ on. (a : AttemptIs) → FollowsInstr a (Instr.Test body other) on trail.old trail.new) }
     ensures refused { result ≢ Err SearchRefusal.Returns }
+    ensures unlimited { result ≢ Err SearchRefusal.Steps }
     ensures crowded { result ≡ Err SearchRefusal.Choices → (a : AttemptIs) → IsFullFor a (Instr.Test body other) trail.old }
     ensures most { trail.new.most ≡ trail.old.most }
 {
@@ -44,6 +46,7 @@ pub(crate) fn begin_condition(
 pub(crate) fn begin_atom(trail: &mut Trail, body: usize) -> Result<Next, SearchRefusal>
     ensures stepped { IfOk result (λ on. (a : AttemptIs) → FollowsInstr a (Instr.Enter body) on trail.old trail.new) }
     ensures refused { result ≢ Err SearchRefusal.Returns }
+    ensures unlimited { result ≢ Err SearchRefusal.Steps }
     ensures few { result ≢ Err SearchRefusal.Choices }
     ensures most { trail.new.most ≡ trail.old.most }
 {
@@ -71,6 +74,7 @@ pub(crate) fn begin_look(
 ) -> Result<Next, SearchRefusal>
     ensures stepped { IfOk result (λ on. FollowsInstr attempt.now (Instr.Look behind body next) on trail.old trail.new) }
     ensures refused { result ≢ Err SearchRefusal.Returns }
+    ensures unlimited { result ≢ Err SearchRefusal.Steps }
     ensures few { result ≢ Err SearchRefusal.Choices }
     ensures most { trail.new.most ≡ trail.old.most }
 {
@@ -89,6 +93,7 @@ pub(crate) fn begin_denial(
 ) -> Result<Next, SearchRefusal>
     ensures stepped { IfOk result (λ on. FollowsInstr attempt.now (Instr.Deny behind body next) on trail.old trail.new) }
     ensures refused { result ≢ Err SearchRefusal.Returns }
+    ensures unlimited { result ≢ Err SearchRefusal.Steps }
     ensures crowded { result ≡ Err SearchRefusal.Choices → IsFullFor attempt.now (Instr.Deny behind body next) trail.old }
     ensures most { trail.new.most ≡ trail.old.most }
 {

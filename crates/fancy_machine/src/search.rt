@@ -7,7 +7,7 @@ ghost use Rattle.fancy_input.specs.Requests.{effective_start};
 ghost use Rattle.fancy_engine.specs.Search.{Query, search, attempt, returns, choices, returns_at, choices_at};
 ghost use Rattle.fancy_engine.specs.Seen.{IsNextCandidate};
 ghost use Rattle.fancy_engine.specs.Tried.{tried, NoneTried};
-ghost use Rattle.fancy_engine.specs.Work.{steps_of, returns_of, HasRoom};
+ghost use Rattle.fancy_engine.specs.Work.{steps_of, returns_of, HasRoom, IsWithin, IsSpent};
 ghost use Rattle.fancy_engine.specs.Queries.{query_of, answer_with};
 ghost use Rattle.fancy_machine.specs.Asked.{Serves, HeedsLimit, branches_allowed, groups_held, lines_held};
 ghost use Rattle.fancy_machine.specs.Log.{writes_allowed};
@@ -82,7 +82,9 @@ impl Cache {
 /// # Errors
 ///
 /// `SearchRefusal::Memory` where memory runs out, `SearchRefusal::Returns` where the search takes more returns than the options
-/// allow, and `SearchRefusal::Choices` where it would save more branches at once than they allow.
+/// allow, `SearchRefusal::Choices` where it would save more branches at once than they allow, and `SearchRefusal::Steps` where the
+/// counts of `work` would pass the limit of steps that they set: its steps, the units that look-behinds go back, and the bytes that
+/// backreferences compare.
 pub fn search(
     code: &Code,
     haystack: &[u8],
@@ -113,6 +115,8 @@ pub fn search(
     ensures paired { returns_of work.old ≤ steps_of work.old → returns_of work.new ≤ steps_of work.new }
     ensures crowded { result ≡ Err SearchRefusal.Choices → options.stack_limit < choices q (tried options.seek q) }
     ensures heeds { HeedsLimit options.stack_limit cache.old cache.new }
+    ensures within { IsWithin options.step_limit work.old → IsWithin options.step_limit work.new }
+    ensures limited { result ≡ Err SearchRefusal.Steps → IsSpent options.step_limit work.new }
 {
     let first = request.effective_start();
     if first > request.range_end {
@@ -196,6 +200,8 @@ pub fn attempt_at(
     ensures paired { returns_of work.old ≤ steps_of work.old → returns_of work.new ≤ steps_of work.new }
     ensures crowded { result ≡ Err SearchRefusal.Choices → options.stack_limit < choices_at q position }
     ensures heeds { HeedsLimit options.stack_limit cache.old cache.new }
+    ensures within { IsWithin options.step_limit work.old → IsWithin options.step_limit work.new }
+    ensures limited { result ≡ Err SearchRefusal.Steps → IsSpent options.step_limit work.new }
 {
     let attempt = Attempt::new(code, haystack, request, options, continues);
     let limit = work.returns() + options.backtrack_limit;
@@ -204,7 +210,7 @@ pub fn attempt_at(
 }
 
 /// Makes one attempt at a position, where a match may begin there. No text past `range_end` is consumed, and no return is made
-/// past the limit, which bounds the count in `work`.
+/// past the limit, which bounds the count in `work`. Nothing is done past the limit of steps either.
 #[inline]
 fn try_position(
     attempts: &Attempt,
@@ -235,6 +241,10 @@ fn try_position(
     ensures last_lines { KnowsLastLines attempts.now.haystack.now (lines_held cache.new) }
     ensures crowded { result ≡ Err SearchRefusal.Choices → attempts.now.options.stack_limit < choices_at q position }
     ensures heeds { HeedsLimit attempts.now.options.stack_limit cache.old cache.new }
+    ensures within { IsWithin attempts.now.options.step_limit work.old
+        → IsWithin attempts.now.options.step_limit work.new }
+    ensures limited { result ≡ Err SearchRefusal.Steps
+        → IsSpent attempts.now.options.step_limit work.new }
 {
     if !is_match_boundary(attempts.options.on_boundaries, attempts.haystack, position) {
         return Ok(None);

@@ -2,13 +2,15 @@
 
 ghost use Rattle.std.specs.Prelude.{◌≡◌, ◌≢◌, Err, IfOk};
 ghost use Rattle.fancy_input.specs.LastLines.{KnowsLastLines};
-ghost use Rattle.fancy_engine.specs.Work.{returns_of, stepped_within};
+ghost use Rattle.fancy_engine.specs.Work.{returns_of, stepped_within, IsWithin, IsSpent, HasWorkLeft, AddsUnits};
 ghost use Rattle.fancy_machine.specs.Attempt.{IsFull, StepsTo};
+ghost use Rattle.fancy_machine.specs.Units.{CountsUnits, units_ahead};
 
 use crate::attempt::Attempt;
 use crate::choice::{begin_atom, begin_condition, begin_denial, begin_look, split};
 use crate::condition::{assert_at, test_continued, test_taken};
 use crate::read::{go_back, read_character, read_member, read_raw_byte, recall};
+use crate::texts::text_len;
 use crate::trail::Trail;
 use fancy_engine::code::Instr;
 use fancy_engine::refusal::SearchRefusal;
@@ -16,8 +18,8 @@ use fancy_engine::runner::Next;
 use fancy_engine::work::Work;
 use fancy_input::last_lines::LastLines;
 
-/// Follows one instruction.
-pub(crate) fn step(
+/// Follows the instruction that comes next. The units that it goes over are counted before it does.
+fn follow(
     attempt: &Attempt,
     trail: &mut Trail,
     last_lines: &mut LastLines,
@@ -28,11 +30,14 @@ pub(crate) fn step(
     ensures refused { result ≢ Err SearchRefusal.Returns }
     ensures crowded { result ≡ Err SearchRefusal.Choices → IsFull attempt.now trail.old }
     ensures most { trail.new.most ≡ trail.old.most }
-    ensures work { work.new ≡ stepped_within work.old }
-    ensures returns { returns_of work.new ≡ returns_of work.old }
+    ensures work { AddsUnits work.old work.new }
+    ensures counted { result ≢ Err SearchRefusal.Steps
+        → CountsUnits (units_ahead attempt.now trail.old.now) work.old work.new }
+    ensures within { IsWithin attempt.now.options.step_limit work.old
+        → IsWithin attempt.now.options.step_limit work.new }
+    ensures limited { result ≡ Err SearchRefusal.Steps → IsSpent attempt.now.options.step_limit work.new }
     ensures last_lines { KnowsLastLines attempt.now.haystack.now last_lines.new }
 {
-    work.count_step_within();
     let at = trail.at();
     if at >= attempt.code.len() {
         return Ok(Next::Dead);
@@ -44,13 +49,19 @@ pub(crate) fn step(
         Instr::Character(character, next) => Ok(read_character(attempt, trail, *character, *next)),
         Instr::Member(set, next) => Ok(read_member(attempt, trail, attempt.code.set(*set), *next)),
         Instr::RawByte(byte, next) => Ok(read_raw_byte(attempt, trail, *byte, *next)),
-        Instr::Back(units, next) => Ok(go_back(attempt, trail, *units, *next)),
+        Instr::Back(units, next) => {
+            attempt.count_units(*units, work)?;
+            Ok(go_back(attempt, trail, *units, *next))
+        }
         Instr::Recall {
             folded,
             group,
             moved,
             still,
-        } => Ok(recall(attempt, trail, *folded, *group, *moved, *still)),
+        } => {
+            attempt.count_units(text_len(trail.span(*group)), work)?;
+            Ok(recall(attempt, trail, *folded, *group, *moved, *still))
+        }
         Instr::Assert(assertion, next) => {
             Ok(assert_at(attempt, trail, last_lines, *assertion, *next))
         }
@@ -74,4 +85,29 @@ pub(crate) fn step(
         Instr::Look(behind, body, next) => begin_look(attempt, trail, *behind, *body, *next),
         Instr::Deny(behind, body, next) => begin_denial(attempt, trail, *behind, *body, *next),
     }
+}
+
+/// Follows one instruction: that is one step.
+pub(crate) fn step(
+    attempt: &Attempt,
+    trail: &mut Trail,
+    last_lines: &mut LastLines,
+    work: &mut Work,
+) -> Result<Next, SearchRefusal>
+    requires { KnowsLastLines attempt.now.haystack.now last_lines.old }
+    ensures stepped { IfOk result (λ next. StepsTo attempt.now next trail.old trail.new) }
+    ensures refused { result ≢ Err SearchRefusal.Returns }
+    ensures crowded { result ≡ Err SearchRefusal.Choices → IsFull attempt.now trail.old }
+    ensures most { trail.new.most ≡ trail.old.most }
+    ensures work { AddsUnits (stepped_within work.old) work.new }
+    ensures returns { returns_of work.new ≡ returns_of work.old }
+    ensures counted { result ≢ Err SearchRefusal.Steps
+        → CountsUnits (units_ahead attempt.now trail.old.now) work.old work.new }
+    ensures within { HasWorkLeft attempt.now.options.step_limit work.old
+        → IsWithin attempt.now.options.step_limit work.new }
+    ensures limited { result ≡ Err SearchRefusal.Steps → IsSpent attempt.now.options.step_limit work.new }
+    ensures last_lines { KnowsLastLines attempt.now.haystack.now last_lines.new }
+{
+    work.count_step_within();
+    follow(attempt, trail, last_lines, work)
 }

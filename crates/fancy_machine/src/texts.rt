@@ -4,6 +4,7 @@ ghost use Rattle.std.specs.Prelude.{◌≡◌, take, drop, length};
 ghost use Rattle.fancy_engine.specs.Backreference.{past_text, past_letters, past_characters, past_span, shares_folding};
 ghost use Rattle.fancy_engine.specs.Context.{Context, past_item};
 ghost use Rattle.fancy_machine.specs.Attempt.{reading};
+ghost use Rattle.fancy_machine.specs.Units.{text_len};
 ghost use Rattle.fancy_tree.specs.declared.tree.Meaning.{Meaning as MeaningIs};
 
 use fancy_engine::runner::past_raw_byte;
@@ -96,6 +97,16 @@ fn past_characters(haystack: &[u8], text: &[u8], place: usize) -> Option<usize>
         }
     }
     Some(at)
+}
+
+/// How many bytes the text of a span has, 0 where there is none.
+pub(crate) fn text_len(span: Option<Span>) -> usize
+    ensures { result ≡ text_len span }
+{
+    match span {
+        Some(span) => span.end.saturating_sub(span.start),
+        None => 0,
+    }
 }
 
 /// The place after the text of a span that stands at a place once more, if it does; where it is folded, under

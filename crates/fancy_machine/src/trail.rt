@@ -251,6 +251,7 @@ impl Trail {
         ensures now { self.new.now ≡ self.old.now }
         ensures saved { OnOk result (self.new.frames ≡ frame_by kind (at_instr at self.old.now) ∷ self.old.frames) }
         ensures refused { result ≢ Err SearchRefusal.Returns }
+        ensures unlimited { result ≢ Err SearchRefusal.Steps }
         ensures full { result ≡ Err SearchRefusal.Choices → self.old.most ≤ saved self.old.frames }
         ensures most { self.new.most ≡ self.old.most }
     {

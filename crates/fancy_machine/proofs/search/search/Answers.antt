@@ -1,6 +1,8 @@
 use Rattle.std.proofs.Common.{refl, ◌≡◌, ◌≤◌, ℕ, suc, ◌+◌, ◌-◌, ◌∙◌, Err, List, sym, ap, ap₂, subst, arith}
 use Rattle.fancy_input.specs.LastLines.{KnowsLastLines}
 use Rattle.fancy_input.specs.Requests.{positions, effective_start}
+use Rattle.fancy_engine.specs.declared.options.SearchOptions.{SearchOptions}
+use Rattle.fancy_engine.specs.Work.{IsWithin}
 use Rattle.fancy_engine.specs.Events.{marks_in, returns_in}
 use Rattle.fancy_engine.specs.Search.{answer_from, gone_from}
 use Rattle.fancy_engine.proofs.AttemptLemmas.{found_here, found_later}
@@ -42,6 +44,7 @@ loop-place-init g c =
       paired = λ pairs. pairs;
       last_lines = c.ready_last_lines.ensures;
       heeds = omega arith;
+      within = λ is. is;
     }
 
 pub ready_last_lines-requires : goal.ready_last_lines-requires
@@ -111,6 +114,8 @@ loop-place-preserved g c =
       paired = λ pairs. c.try_position.ensures.paired (c.loop-place.invariant.paired pairs);
       last_lines = c.try_position.ensures.last_lines;
       heeds = omega (arith, c.try_position.ensures.heeds, c.loop-place.invariant.heeds, ap (λ o. o.stack_limit) c.new-attempt.ensures.options);
+      within = λ is. subst (λ (o : SearchOptions). IsWithin o.step_limit c.try_position.new.work) c.new-attempt.ensures.options
+          (c.try_position.ensures.within (subst (λ (o : SearchOptions). IsWithin o.step_limit c.loop-place.work) (sym c.new-attempt.ensures.options) (c.loop-place.invariant.within is)));
     }
 
 pub returns-clause-answer : goal.returns-clause-answer

@@ -3,7 +3,7 @@ use Rattle.fancy_engine.specs.Events.{marks_in, returns_in}
 use Rattle.fancy_engine.specs.Search.{search, returns, choices, answer_from, gone_from}
 use Rattle.fancy_input.specs.Requests.{effective_start}
 use Rattle.fancy_input.specs.LastLines.{KnowsLastLines}
-use Rattle.fancy_engine.specs.Work.{steps_of, returns_of}
+use Rattle.fancy_engine.specs.Work.{steps_of, returns_of, IsWithin}
 use Rattle.fancy_engine.specs.Tried.{tried, NoneTried}
 use Rattle.fancy_machine.specs.Asked.{HeedsLimit}
 use Rattle.fancy_machine.proofs.search.search.Given as goal
@@ -22,6 +22,7 @@ invariant-loop-place g l = record {
   paired : returns_of l.fn.work ≤ steps_of l.fn.work → returns_of l.work ≤ steps_of l.work;
   last_lines : KnowsLastLines l.attempt.haystack.now l.cache.last_lines;
   heeds : HeedsLimit l.fn.options.stack_limit l.fn.cache l.cache;
+  within : IsWithin l.fn.options.step_limit l.fn.work → IsWithin l.fn.options.step_limit l.work;
 }
 
 abbrev pub decreases-loop-place : goal.decreases-loop-place

@@ -1,8 +1,8 @@
-use Rattle.std.proofs.Common.{Err, ◌∙◌, arith, ap}
+use Rattle.std.proofs.Common.{Err, refl, ◌∙◌, arith, ap}
 use Rattle.fancy_engine.specs.Work.{returns_of}
 use Rattle.fancy_machine.specs.Attempt.{code_in}
 use Rattle.fancy_machine.proofs.MachineLemmas.{search_on, smaller_on, search_found, search_back, smaller_back, search_end, search_refused, search_crowded, backed_err}
-use Rattle.fancy_machine.proofs.WorkLemmas.{steps_more, step_beyond}
+use Rattle.fancy_machine.proofs.WorkLemmas.{steps_more, step_beyond, back_within}
 use Rattle.fancy_machine.proofs.RefusalLemmas.{passed_on}
 use Rattle.fancy_machine.proofs.attempt.Attempt.run.Goals as goal
 
@@ -17,6 +17,7 @@ steps-preserved-in-On g c = record {
   returns = omega (arith, c.turn.ensures.returns, c.steps.invariant.returns);
   paired = λ pairs. omega (arith, steps_more c.steps.work c.turn.new.work c.turn.ensures.work, c.turn.ensures.returns, c.steps.invariant.paired pairs);
   most = c.turn.ensures.most ∙ c.steps.invariant.most;
+  within = λ _. c.turn.ensures.within (c.if-is_spent.ensures.open refl);
   last_lines = c.turn.ensures.last_lines;
 }
 
@@ -57,6 +58,7 @@ steps-preserved g c =
       returns = rw b.2 (omega (arith, c.turn.ensures.returns, c.steps.invariant.returns));
       paired = λ pairs. rw b.2 (omega (arith, c.turn.ensures.returns, step_beyond c.steps.work c.turn.new.work (returns_of c.steps.work) c.turn.ensures.work (omega (arith, c.turn.ensures.returns, b.3, c.ranges.limit)) (c.steps.invariant.paired pairs)));
       most = b.1 ∙ c.turn.ensures.most ∙ c.steps.invariant.most;
+      within = λ _. back_within _ c.turn.new.work c.back.new.work b.2 (c.turn.ensures.within (c.if-is_spent.ensures.open refl));
       last_lines = c.turn.ensures.last_lines;
     }
 

@@ -1,6 +1,6 @@
 use Rattle.std.proofs.Common.{◌≡◌, ◌+◌, ◌≤◌}
 use Rattle.fancy_input.specs.LastLines.{KnowsLastLines}
-use Rattle.fancy_engine.specs.Work.{steps_of, returns_of}
+use Rattle.fancy_engine.specs.Work.{steps_of, returns_of, IsWithin}
 use Rattle.fancy_machine.specs.Attempt.{accepts, code_in, outcome_from, returns_from, marks_from}
 use Rattle.fancy_engine.specs.Runner.{size_of}
 use Rattle.fancy_machine.specs.Machine.{Searching, left}
@@ -15,6 +15,7 @@ invariant-steps g l = record {
   returns : returns_of l.fn.work ≤ returns_of l.work;
   paired : returns_of l.fn.work ≤ steps_of l.fn.work → returns_of l.work ≤ steps_of l.work;
   most : l.trail.most ≡ l.fn.trail.most;
+  within : IsWithin l.self.options.step_limit l.fn.work → IsWithin l.self.options.step_limit l.work;
   last_lines : KnowsLastLines l.self.haystack.now l.last_lines;
 }
 

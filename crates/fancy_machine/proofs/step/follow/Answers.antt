@@ -12,7 +12,7 @@ use Rattle.fancy_engine.proofs.RunnerSteps.{past_end}
 use Rattle.fancy_machine.specs.Attempt.{attempt_context, code_in}
 use Rattle.fancy_machine.specs.Machine.{IsStep}
 use Rattle.fancy_machine.proofs.MachineSteps.{stopped, failed, read_by, kept, opened, closed}
-use Rattle.fancy_machine.proofs.step.step.Goals as goal
+use Rattle.fancy_machine.proofs.step.follow.Goals as goal
 
 -- the instruction that is followed is j
 follows : (code : Code) {at n : ℕ} {here j : Instr} → n ≡ at → instr_in code here ≡ instr_at (instrs_of code) n → here ≡ j → instr_at (instrs_of code) at ≡ instr_in code j
@@ -47,11 +47,11 @@ returns-in-Character-clause-stepped c = c.read_character.ensures.stepped (follow
 pub returns-in-RawByte-clause-stepped : goal.returns-in-RawByte-clause-stepped
 returns-in-RawByte-clause-stepped c = c.read_raw_byte.ensures.stepped (follows c.args.attempt.now.code.now c.at-at.ensures c.instr.ensures.instr c.in-RawByte.is)
 
-pub returns-in-Back-clause-stepped : goal.returns-in-Back-clause-stepped
-returns-in-Back-clause-stepped c = c.go_back.ensures.stepped (follows c.args.attempt.now.code.now c.at-at.ensures c.instr.ensures.instr c.in-Back.is)
+pub returns-in_ok-count_units-in-Back-clause-stepped : goal.returns-in_ok-count_units-in-Back-clause-stepped
+returns-in_ok-count_units-in-Back-clause-stepped c = c.go_back.ensures.stepped (follows c.args.attempt.now.code.now c.at-at.ensures c.instr.ensures.instr c.in-Back.is)
 
-pub returns-in-Recall-clause-stepped : goal.returns-in-Recall-clause-stepped
-returns-in-Recall-clause-stepped c = c.recall.ensures.stepped (follows c.args.attempt.now.code.now c.at-at.ensures c.instr.ensures.instr c.in-Recall.is)
+pub returns-in_ok-count_units-in-Recall-clause-stepped : goal.returns-in_ok-count_units-in-Recall-clause-stepped
+returns-in_ok-count_units-in-Recall-clause-stepped c = c.recall.ensures.stepped (follows c.args.attempt.now.code.now c.at-at.ensures c.instr.ensures.instr c.in-Recall.is)
 
 pub returns-in-Assert-clause-stepped : goal.returns-in-Assert-clause-stepped
 returns-in-Assert-clause-stepped c = c.assert_at.ensures.stepped (follows c.args.attempt.now.code.now c.at-at.ensures c.instr.ensures.instr c.in-Assert.is)
