@@ -1,5 +1,6 @@
 pub mod ReadingLemmas
-pub mod ResultLemmas
+pub mod RefusalLemmas
+mod ResultLemmas
 pub mod SearchedLemmas
 pub mod ProgramSizeLemmas
 pub mod CutLemmas

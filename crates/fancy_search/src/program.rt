@@ -1,6 +1,6 @@
 //! A compiled pattern: the code that is searched with, and what decides how.
 
-ghost use Rattle.std.specs.Prelude.{◌≡◌, ◌≤◌, ◌+◌, ◌*◌, ℕ, Bool, List, None, Some, IfOk, IfErr, IfSome, IfNone, IsTrue, IsUtf8, chars, true, false, length, string_bytes};
+ghost use Rattle.std.specs.Prelude.{◌≡◌, ◌≤◌, ◌<◌, ◌+◌, ◌*◌, ℕ, Bool, List, None, Some, IfOk, IfErr, IfSome, IfNone, IsTrue, IsUtf8, chars, true, false, length, string_bytes};
 ghost use Rattle.fancy_tree.specs.Pattern.{Pattern};
 ghost use Rattle.fancy_tree.specs.GroupNames.{names_of};
 ghost use Rattle.fancy_tree.specs.Modes.{keeps_characters};

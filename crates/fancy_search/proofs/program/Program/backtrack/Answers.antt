@@ -1,9 +1,10 @@
-use Rattle.std.proofs.Common.{◌≡◌, ◌+◌, ℕ, refl, sym, ap, ◌∙◌}
+use Rattle.std.proofs.Common.{◌≡◌, ◌+◌, ◌<◌, ℕ, Err, refl, sym, ap, subst, ◌∙◌}
 use Rattle.std.proofs.Math.Logic.{∥∥₁_elim, ∥∥₁_prop}
 use Rattle.fancy_engine.specs.Compile.{IsCodeOf}
-use Rattle.fancy_engine.specs.Search.{returns}
+use Rattle.fancy_engine.specs.Search.{returns, choices}
 use Rattle.fancy_engine.specs.Work.{returns_of}
-use Rattle.fancy_search.specs.Programs.{asked_of, program_pattern}
+use Rattle.fancy_search.specs.Programs.{asked_of, program_pattern, program_limit, program_stack_limit}
+use Rattle.fancy_search.proofs.RefusalLemmas.{refuses_hard}
 use Rattle.fancy_search.proofs.SearchedLemmas.{tried_all}
 use Rattle.fancy_search.proofs.program.Program.backtrack.Goals as goal
 
@@ -24,3 +25,17 @@ returns-in-Ok-clause-counted g c =
     let q = asked_of c.args.self.now c.args.haystack.now c.args.request c.args.continues in
     let count = rw (c.args.self.now.meant, c.for_search-options.ensures, of) at c.in-Ok.ensures.count in
     count ∙ ap (λ (n : ℕ). returns_of c.args.work.now + n) (ap (returns q) (sym (tried_all c.args.self.now q c.requires.1.1.1.0)))
+
+pub returns-in-Err-clause-refused : goal.returns-in-Err-clause-refused
+returns-in-Err-clause-refused g c =
+    let of : g.p ≡ program_pattern c.args.self.now = c.requires.1.0 in
+    let q = asked_of c.args.self.now c.args.haystack.now c.args.request c.args.continues in
+    let all = sym (tried_all c.args.self.now q c.requires.1.1.1.0) in
+    let refused = rw (c.args.self.now.meant, c.for_search-options.ensures, of) at c.in-Err.ensures.refused in
+    let crowded = rw (c.args.self.now.meant, c.for_search-options.ensures, of) at c.in-Err.ensures.crowded in
+    let limited = rw c.for_search-options.ensures at c.in-Err.ensures.limited in
+    rw c.error_of.ensures
+    (refuses_hard c.args.self.now q c.search.new.work c.in-Err.refusal c.requires.1.1.0
+    (λ e. subst (λ n. program_limit c.args.self.now < n) (ap (returns q) all) (refused (ap Err e)))
+    (λ e. subst (λ n. program_stack_limit c.args.self.now < n) (ap (choices q) all) (crowded (ap Err e)))
+    (λ e. limited (ap Err e)))
