@@ -1,6 +1,6 @@
 pub mod ReadingLemmas
-pub mod RefusalLemmas
-mod ResultLemmas
+mod RefusalLemmas
+pub mod ResultLemmas
 pub mod SearchedLemmas
 pub mod ProgramSizeLemmas
 pub mod CutLemmas
