@@ -11,9 +11,10 @@ use Rattle.fancy_machine.specs.declared.layer.Layer.{Layer}
 use Rattle.fancy_machine.specs.declared.layer.Kind.{Kind}
 use Rattle.fancy_machine.specs.declared.layer.Kind.TheVariants as k
 use Rattle.fancy_machine.specs.Frames.{Frame}
-use Rattle.fancy_machine.specs.Log.{cell_slot, cell_level, empty_cell, old_cell, old_slot, old_level, undone_by, is_kept, lowered, Climbs, writes_allowed}
+use Rattle.fancy_machine.specs.Log.{cell_slot, cell_level, empty_cell, old_cell, old_slot, old_level, undone_by, is_kept, lowered, Climbs, writes_allowed, IsUnwritten}
 use Rattle.fancy_machine.specs.Layers.{spot_of, frame_by, frame_at, frames_of, saves, branches_in, Rises, depth, IsLog}
 use Rattle.fancy_machine.proofs.LogLemmas.{undone_over, undone-map, length-undone, climbs_push, climbs_take, climbs_drop, climbs_sum, climbs_within, climbs_given, climbs_same, climbs_kept, lowered_is, min_all}
+use Rattle.fancy_engine.specs.Threads.{empty_slot}
 use Rattle.fancy_engine.proofs.ThreadsLemmas.{map-replicate}
 use Rattle.fancy_machine.proofs.LayerLemmas.{rises_le, rises_more, rises_below, frames_shift}
 
@@ -277,3 +278,24 @@ undone_log all ls l log cells e le is =
 -- no write was logged
 pub begun_log : (cells : List Cell) → cells ≡ replicate (length cells) empty_cell → IsLog [] [] cells
 begun_log cells empty = sym (ap (map cell_level) empty ∙ map-replicate cell_level (length cells) empty_cell)
+
+-- where no write was logged, no cell has a level
+pub unlogged_cells : (ls : List Layer) (log : List Write) (cells : List Cell) → IsLog ls log cells → log ≡ [] → IsLog [] [] cells
+unlogged_cells ls log cells is none = subst (λ (ws : List Write). Climbs (depth ls) 0 (replicate (length cells) 0) ws (map cell_level cells)) none is
+
+none_undone : (n : ℕ) (cells : List Cell) → (take {A = Write} n [] ≡ []) × (undone_by old_cell cells (drop {A = Write} n []) ≡ cells)
+none_undone zero cells = (refl, refl)
+none_undone (suc n) cells = (refl, refl)
+
+-- cells that nothing was written to stay as they are where writes are undone
+pub undone_unwritten : (n : ℕ) (log less : List Write) (cells old : List Cell) → less ≡ take n log → old ≡ undone_by old_cell cells (drop n log) → IsUnwritten log cells → IsUnwritten less old
+undone_unwritten n log less cells old less_is old_is clean =
+    let none = none_undone n cells in
+    let same : old ≡ cells = old_is ∙ ap (λ (ws : List Write). undone_by old_cell cells (drop n ws)) clean.0 ∙ none.1 in
+    (less_is ∙ ap (take n) clean.0 ∙ none.0, subst (λ (cs : List Cell). map cell_slot cs ≡ replicate (length cs) empty_slot) (sym same) clean.1)
+
+-- and where the log is thinned
+pub thinned_unwritten : (level : ℕ) (log less : List Write) (cells after : List Cell) → less ≡ filter (is_kept level) log → map cell_slot after ≡ map cell_slot cells → IsUnwritten log cells → IsUnwritten less after
+thinned_unwritten level log less cells after less_is same clean =
+    let count : length cells ≡ length after = sym (length-map cells cell_slot) ∙ ap length (sym same) ∙ length-map after cell_slot in
+    (less_is ∙ ap (filter (is_kept level)) clean.0, same ∙ clean.1 ∙ ap (λ (n : ℕ). replicate n empty_slot) count)

@@ -1,5 +1,5 @@
 -- What is known of the groups, and the log of what was known before.
-use Rattle.std.specs.Prelude.{◌≡◌, ℕ, suc, ◌*◌, ◌<◌, Bool, nat_lt, List, [], ◌∷◌, length, slice_set, slice_index_or}
+use Rattle.std.specs.Prelude.{◌≡◌, ℕ, suc, ◌*◌, ◌<◌, Bool, nat_lt, List, [], ◌∷◌, length, map, replicate, slice_set, slice_index_or}
 use Rattle.fancy_engine.specs.Threads.{empty_slot}
 use Rattle.fancy_engine.specs.declared.slot.Slot.{Slot}
 use Rattle.fancy_machine.specs.declared.log.Cell.{Cell}
@@ -43,6 +43,10 @@ abbrev pub Climbs : (ℕ → ℕ) → ℕ → List ℕ → List Write → List �
 Climbs depth n before [] after = before ≡ after
 Climbs depth n before (w ∷ log) after =
     (w.old.level ≡ slice_index_or before w.group 0) × (w.old.level < depth n) × (w.group < length before) × Climbs depth (suc n) (slice_set before w.group (depth n)) log after
+
+-- nothing was written to these cells, and no write to them was logged
+abbrev pub IsUnwritten : List Write → List Cell → Type 0
+IsUnwritten log cells = (log ≡ []) × (map cell_slot cells ≡ replicate (length cells) empty_slot)
 
 -- how many writes a log holds at most: one for each group and saved branch
 abbrev pub writes_allowed : ℕ → ℕ → ℕ

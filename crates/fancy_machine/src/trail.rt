@@ -34,14 +34,16 @@ pub struct Trail {
     /// How many layers stand up to the innermost region, 0 where none is open.
     region: usize,
     log: Vec<Write>,
+    /// Whether a group was written since the cells were begun.
+    written: bool,
     most: usize,
 }
 
 impl Model for Trail {
-    ghost use Rattle.std.specs.Prelude.{◌≡◌, ◌≤◌, length, map};
+    ghost use Rattle.std.specs.Prelude.{◌≡◌, ◌≤◌, false, length, map};
     ghost use Rattle.fancy_machine.specs.Frames.{Held};
     ghost use Rattle.fancy_machine.specs.Layers.{spot_of, frames_of, branches_in, Rises, KnowRegions, IsLog};
-    ghost use Rattle.fancy_machine.specs.Log.{cell_slot};
+    ghost use Rattle.fancy_machine.specs.Log.{cell_slot, IsUnwritten};
 
     ghost Value = { Held };
 
@@ -55,7 +57,8 @@ impl Model for Trail {
         × (t.branches ≤ t.most)
         × Rises 0 t.layers.items (length t.log.items)
         × KnowRegions 0 0 t.layers.items t.region
-        × IsLog t.layers.items t.log.items t.cells.items };
+        × IsLog t.layers.items t.log.items t.cells.items
+        × (t.written ≡ false → IsUnwritten t.log.items t.cells.items) };
 }
 
 impl Trail {
@@ -75,12 +78,13 @@ impl Trail {
             branches: 0,
             region: 0,
             log: Vec::new(alloc),
+            written: false,
             most: 0,
         }
     }
 
     /// Begins anew with so many slots, none written, and lets at most so many branches be saved. The memory that it
-    /// has is kept.
+    /// has is kept, and so are slots that nothing was written to, where there are as many.
     pub fn begin(
         &mut self,
         at: usize,
@@ -102,6 +106,10 @@ impl Trail {
         self.place = place;
         self.kept = place;
         self.most = most;
+        if !self.written && self.cells.len() == count {
+            return Ok(());
+        }
+        self.written = false;
         begin_cells(&mut self.cells, count)?;
         Ok(())
     }
@@ -160,6 +168,7 @@ impl Trail {
         self.log.clear();
         self.place = place;
         self.kept = kept;
+        self.written = true;
         swap(&mut self.cells, cells);
         forget_levels(&mut self.cells);
     }
@@ -282,6 +291,7 @@ impl Trail {
         if group >= self.cells.len() {
             return Ok(());
         }
+        self.written = true;
         let old = self.cells[group];
         if old.level >= self.branches {
             self.cells[group] = Cell {

@@ -1,4 +1,4 @@
-use Rattle.std.proofs.Common.{◌≡◌, ◌≤◌, ◌-◌, ℕ, true, ◌++◌, [], take, ◌∙◌, List, ◌∷◌, length, map, drop, arith, ap, ap₂, sym, subst}
+use Rattle.std.proofs.Common.{◌≡◌, ◌≤◌, ◌-◌, ℕ, Bool, true, false, ◌++◌, [], take, ◌∙◌, List, ◌∷◌, length, map, drop, arith, ap, ap₂, sym, subst}
 use Rattle.std.proofs.lemmas.List.{length-take-le}
 use Rattle.fancy_engine.specs.declared.slot.Slot.{Slot}
 use Rattle.fancy_machine.specs.declared.log.Write.{Write}
@@ -9,10 +9,10 @@ use Rattle.fancy_machine.specs.Frames.{Spot, Frame}
 use Rattle.fancy_machine.specs.Layers.{saves, is_one, branches_in, IsLog, spot_of, spot_at, frame_at, frames_of, Rises, KnowRegions}
 use Rattle.fancy_machine.specs.Machine.{IsSpent, Takes}
 use Rattle.fancy_machine.proofs.LayerLemmas.{counted_snoc, saves_one, saves_none, rises_pop, rises_more, frames_snoc, frames_undone, takes_by, takes_past, spent_past, unspent_past}
-use Rattle.fancy_machine.specs.Log.{cell_slot, old_cell, old_slot, undone_by}
+use Rattle.fancy_machine.specs.Log.{cell_slot, old_cell, old_slot, undone_by, IsUnwritten}
 use Rattle.fancy_machine.proofs.LogLemmas.{undone-map}
 use Rattle.fancy_machine.proofs.RegionLemmas.{regions_pop}
-use Rattle.fancy_machine.proofs.WriteLemmas.{unsaved_log, undone_log}
+use Rattle.fancy_machine.proofs.WriteLemmas.{unsaved_log, undone_log, undone_unwritten}
 use Rattle.fancy_machine.proofs.trail.Trail.back.Goals as goal
 
 pub layers-preserved : goal.layers-preserved
@@ -28,6 +28,7 @@ layers-preserved c =
       few = c.layers.invariant.few;
       rises = rises_more 0 l.log (length log) rest r.1 r.0;
       knows = regions_pop 0 0 _ rest l (subst (λ (ls : List Layer). KnowRegions 0 0 ls c.layers.self-inside.region) c.in-Some.ensures.items c.layers.invariant.knows);
+      unwritten = c.layers.invariant.unwritten;
       logged = unsaved_log c.layers.self-inside.layers.items rest l log c.layers.self-inside.cells.items c.in-Some.ensures.items (saves_none l.kind c.if-not-is_saved.ensures) c.layers.invariant.logged;
       most = c.layers.invariant.most;
       work = c.layers.invariant.work;
@@ -48,27 +49,28 @@ undo-requires c =
     omega (arith, r.1, c.layers.self-inside.log.ok.0)
 
 -- the trail without its last branch, once what was written since that was saved is undone
-popped : (n most top : ℕ) (all rest : List Layer) (l : Layer) (log : List Write) (cells : List Cell) → all ≡ rest ++ l ∷ [] → true ≡ is_one (saves l.kind) → n ≡ branches_in all → n ≤ most
-    → Rises 0 all (length log) → KnowRegions 0 0 all top → IsLog all log cells → (less : List Write) (old : List Cell) → less ≡ take l.log log → old ≡ undone_by old_cell cells (drop l.log log)
-    → (n - 1 ≡ branches_in rest) × (n - 1 ≤ most) × Rises 0 rest (length less) × KnowRegions 0 0 rest l.region × IsLog rest less old
-popped n most top all rest l log cells e one count le rises knows is less old less_is old_is =
+popped : (n most top : ℕ) (written : Bool) (all rest : List Layer) (l : Layer) (log : List Write) (cells : List Cell) → all ≡ rest ++ l ∷ [] → true ≡ is_one (saves l.kind) → n ≡ branches_in all → n ≤ most
+    → Rises 0 all (length log) → KnowRegions 0 0 all top → IsLog all log cells → (written ≡ false → IsUnwritten log cells) → (less : List Write) (old : List Cell) → less ≡ take l.log log → old ≡ undone_by old_cell cells (drop l.log log)
+    → (n - 1 ≡ branches_in rest) × (n - 1 ≤ most) × Rises 0 rest (length less) × KnowRegions 0 0 rest l.region × IsLog rest less old × (written ≡ false → IsUnwritten less old)
+popped n most top written all rest l log cells e one count le rises knows is clean less old less_is old_is =
     let r = rises_pop 0 (length log) rest l (subst (λ (ls : List Layer). Rises 0 ls (length log)) e rises) in (
       omega (arith, count, counted_snoc rest all l e, saves_one l.kind one),
       omega (arith, le),
       rises_more 0 l.log (length less) rest (omega (arith, ap length less_is, length-take-le l.log log r.1)) r.0,
       regions_pop 0 0 top rest l (subst (λ (ls : List Layer). KnowRegions 0 0 ls top) e knows),
       rw (less_is, old_is) (undone_log all rest l log cells e r.1 is),
+      λ w. undone_unwritten l.log log less cells old less_is old_is (clean w),
     )
 
 pub invariant_of-self-then-returns-limit : goal.invariant_of-self-then-returns-limit
 invariant_of-self-then-returns-limit c =
     let i = c.layers.invariant in
-    popped _ _ _ _ _ c.in-Some.layer _ _ c.in-Some.ensures.items c.if-not-is_saved.ensures i.branches i.few i.rises i.knows i.logged _ _ c.undo.ensures.log c.undo.ensures.cells
+    popped _ _ _ _ _ _ c.in-Some.layer _ _ c.in-Some.ensures.items c.if-not-is_saved.ensures i.branches i.few i.rises i.knows i.logged i.unwritten _ _ c.undo.ensures.log c.undo.ensures.cells
 
 pub invariant_of-self-in-layers : goal.invariant_of-self-in-layers
 invariant_of-self-in-layers c =
     let i = c.layers.invariant in
-    popped _ _ _ _ _ c.in-Some.layer _ _ c.in-Some.ensures.items c.if-not-is_saved.ensures i.branches i.few i.rises i.knows i.logged _ _ c.undo.ensures.log c.undo.ensures.cells
+    popped _ _ _ _ _ _ c.in-Some.layer _ _ c.in-Some.ensures.items c.if-not-is_saved.ensures i.branches i.few i.rises i.knows i.logged i.unwritten _ _ c.undo.ensures.log c.undo.ensures.cells
 
 pub returns-in-layers-clause-took : goal.returns-in-layers-clause-took
 returns-in-layers-clause-took c =

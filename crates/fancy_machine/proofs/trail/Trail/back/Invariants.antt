@@ -1,8 +1,8 @@
-use Rattle.std.proofs.Common.{◌≡◌, ◌≤◌, List, length, map}
+use Rattle.std.proofs.Common.{◌≡◌, ◌≤◌, false, List, length, map}
 use Rattle.std.specs.Prelude.{vec_len}
 use Rattle.fancy_machine.specs.Frames.{Spot, Frame}
 use Rattle.fancy_machine.specs.Layers.{frames_of, branches_in, Rises, KnowRegions, IsLog}
-use Rattle.fancy_machine.specs.Log.{cell_slot}
+use Rattle.fancy_machine.specs.Log.{cell_slot, IsUnwritten}
 use Rattle.fancy_machine.specs.Machine.{IsSpent, Takes}
 use Rattle.fancy_machine.proofs.trail.Trail.back.Given as goal
 
@@ -13,6 +13,7 @@ invariant-layers l = record {
   rises : Rises 0 l.self-inside.layers.items (length l.self-inside.log.items);
   knows : KnowRegions 0 0 l.self-inside.layers.items l.self-inside.region;
   logged : IsLog l.self-inside.layers.items l.self-inside.log.items l.self-inside.cells.items;
+  unwritten : l.self-inside.written ≡ false → IsUnwritten l.self-inside.log.items l.self-inside.cells.items;
   most : l.self-inside.most ≡ l.fn.self.most;
   work : l.work ≡ l.fn.work;
   takes : (y : Spot) (rest : List Frame) → Takes (frames_of l.self-inside.log.items (map cell_slot l.self-inside.cells.items) l.self-inside.layers.items) y rest → Takes l.fn.self.frames y rest;

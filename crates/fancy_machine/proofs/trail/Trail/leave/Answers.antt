@@ -5,7 +5,7 @@ use Rattle.fancy_machine.specs.Frames.{Held}
 use Rattle.fancy_machine.specs.Log.{cell_level, cell_slot, is_kept, lowered}
 use Rattle.fancy_machine.specs.Layers.{frames_of, branches_in}
 use Rattle.fancy_machine.proofs.RegionLemmas.{frames_take, regions_take}
-use Rattle.fancy_machine.proofs.WriteLemmas.{x_within, low_kept, left}
+use Rattle.fancy_machine.proofs.WriteLemmas.{x_within, low_kept, left, thinned_unwritten}
 use Rattle.fancy_machine.proofs.trail.Trail.leave.Goals as goal
 
 pub thin-requires-clause-fits : goal.thin-requires-clause-fits
@@ -27,6 +27,7 @@ invariant_of-self c =
           (regions_take 0 0 c.args.len c.self.inside.region c.self.inside.layers.items c.index-lowest.result.now
           (omega (arith, c.if-len.false, c.len.ensures, c.self.inside.layers.ok.0)) c.index-lowest.ensures c.self.invariant.3),
       rw (c.cut.ensures.kept, log) l.1,
+      λ e. thinned_unwritten _ _ _ _ _ c.thin.ensures.log c.thin.ensures.slots (c.self.invariant.5 e),
     )
 
 pub returns-clause-frames : goal.returns-clause-frames

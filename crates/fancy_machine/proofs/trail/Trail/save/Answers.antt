@@ -20,4 +20,5 @@ invariant_of-self-2 c =
       p.0,
       rw c.region_by-self-inside.ensures p.1,
       saved_log c.self.inside.layers.items c.self.inside.log.items c.self.inside.cells.items c.self.invariant.2 c.self.invariant.4 c.push.new.self.items l c.in_ok-push.ensures.items (omega (arith, c.len.ensures, c.self.inside.log.ok.0)),
+      c.self.invariant.5,
     )

@@ -1,4 +1,4 @@
-use Rattle.std.proofs.Common.{◌<◌, ◌∙◌, ap, arith, length, length-append, map, refl, sym}
+use Rattle.std.proofs.Common.{◌<◌, ◌∙◌, ap, arith, length, length-append, map, refl, sym, true≢false}
 use Rattle.std.proofs.lemmas.List.{get_or_read, get_or-map, map-set}
 use Rattle.fancy_engine.specs.Threads.{empty_slot}
 use Rattle.fancy_machine.specs.declared.log.Cell.{Cell}
@@ -20,6 +20,7 @@ invariant_of-self c =
       c.self.invariant.2,
       c.self.invariant.3,
       (unlogged c.self.inside.layers.items c.self.inside.log.items c.self.inside.cells.items c.self.invariant.2 c.self.invariant.4 c.args.group c.index-old.result.now lt old new refl (omega (arith, c.if-old-self.true, c.self.invariant.0))).0,
+      λ e. absurd (true≢false e),
     )
 
 pub returns-then-old-self-clause-now : goal.returns-then-old-self-clause-now
@@ -42,6 +43,7 @@ invariant_of-self-2 c =
       rises_more 0 (length c.self.inside.log.items) _ c.self.inside.layers.items (omega (arith, ap length c.in_ok-push.ensures.items, length-append {A = Write})) c.self.invariant.2,
       c.self.invariant.3,
       rw c.in_ok-push.ensures.items (logged c.self.inside.layers.items c.self.inside.log.items c.self.inside.cells.items c.self.invariant.2 c.self.invariant.4 c.args.group c.index-old.result.now lt old new _ c.self.invariant.0 refl (omega (arith, c.if-old-self.false, c.self.invariant.0))),
+      λ e. absurd (true≢false e),
     )
 
 pub returns-clause-now : goal.returns-clause-now
