@@ -57,6 +57,12 @@ depth_cut lo n (suc j) (l ∷ ls) x i r lt at =
     let c = depth_cut l.log n j ls x i r.1 (omega (arith, lt)) at in
     (omega (arith, c.0), λ below. ap (λ (m : ℕ). part l i + m) (c.1 below))
 
+-- the layers above the first j saved no more branches when write i was logged than they save in all
+depth_rest : (j : ℕ) (ls : List Layer) (i : ℕ) → depth ls i + branches_in (take j ls) ≤ depth (take j ls) i + branches_in ls
+depth_rest zero ls i = omega (arith, depth_le ls i)
+depth_rest (suc j) [] i = omega arith
+depth_rest (suc j) (l ∷ ls) i = omega (arith, depth_rest j ls i)
+
 depth-append : (ls : List Layer) (l : Layer) (i : ℕ) → depth (ls ++ l ∷ []) i ≡ depth ls i + part l i
 depth-append [] l i = omega arith
 depth-append (d ∷ ls) l i = omega (arith, depth-append ls l i)
@@ -194,6 +200,14 @@ module _ (ls : List Layer) (log : List Write) (cells : List Cell) (rises : Rises
 
     deep : (i : ℕ) → x.log ≤ i → branches_in lower ≤ depth ls i
     deep i le = omega (arith, (depth_cut 0 (length log) j ls x i rises lt at).0, depth_all 0 x.log lower i low_rises le)
+
+    -- where the dropped layers save no branch, all of the log stays
+    pub unthinned : branches_in ls ≤ branches_in lower → Rises 0 lower (length log) × IsLog lower log cells
+    unthinned none = (
+      rises_more 0 x.log (length log) lower x_within low_rises,
+      climbs_same (depth ls) (depth lower) (length log) 0 (replicate (length cells) 0) levels log
+          (λ i below. omega (arith, (depth_cut 0 (length log) j ls x i rises lt at).0, depth_rest j ls i, none)) (omega arith) is,
+    )
 
     pub low_kept : filter (is_kept (branches_in lower)) (take x.log log) ≡ take x.log log
     low_kept = climbs_kept (depth lower) (branches_in lower) 0 (replicate (length cells) 0) (undone_by old_level levels (drop x.log log)) (take x.log log) (λ i below. depth_le lower i) first

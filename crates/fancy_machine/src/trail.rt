@@ -341,7 +341,7 @@ impl Trail {
         self.write(group, slot)
     }
 
-    /// Keeps the lowest layers, so many, and of the log what they ask for.
+    /// Keeps the lowest layers, so many, and of the log what they ask for: all of it, where no saved branch is dropped.
     fn leave(&mut self, len: usize)
         ensures now { self.new.now ≡ self.old.now }
         ensures frames { self.new.frames ≡ drop (length self.old.frames - len) self.old.frames }
@@ -351,9 +351,12 @@ impl Trail {
             return;
         }
         let lowest = self.layers[len];
+        let saved = self.branches;
         cut(&mut self.layers, &mut self.branches, len);
         self.region = lowest.region;
-        thin(&mut self.cells, &mut self.log, lowest.log, self.branches);
+        if self.branches < saved {
+            thin(&mut self.cells, &mut self.log, lowest.log, self.branches);
+        }
     }
 
     /// The way stops: the innermost region ends where it may, and what is round it goes on at `next`.
