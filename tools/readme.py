@@ -1,5 +1,5 @@
 #!/usr/bin/env python3
-"""Compares the examples of the README and of the page on callers with the texts that the gate builds and runs.
+"""Compares the examples of the README, of the guide and of the page on callers with the texts that the gate builds and runs.
 
     tools/readme.py           says which example differs, and ends with status 1 if one does
     tools/readme.py --write   puts the text of the source in the place of each function that differs
@@ -13,7 +13,7 @@ import sys
 from pathlib import Path
 
 ROOT = Path(__file__).resolve().parent.parent
-PAGES = [ROOT / "README.md", ROOT / "crates/fancy_regex/CALLING.md"]
+PAGES = [ROOT / "README.md", ROOT / "docs/GUIDE.md", ROOT / "crates/fancy_regex/CALLING.md"]
 EXAMPLES = [ROOT / "crates/fancy_part_tests/src/examples.rt", ROOT / "crates/fancy_text_tests/src/examples.rt"]
 PROGRAM = ROOT / "crates/dates"
 SOURCES = [
