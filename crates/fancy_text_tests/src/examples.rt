@@ -1,7 +1,7 @@
 //! The functions that the README shows, on groups, lists, pieces, replacement and templates. `tools/readme.py` compares them with it.
 
 use crate::asking::{check, check_answer};
-use fancy_regex::{Captures, Expander, Regex, ReplaceFn, Replacer, Result};
+use fancy_regex::{Captures, Expander, Regex, RegexInput, ReplaceFn, Replacer, Result};
 use std::alloc::Global;
 use std::borrow::CowStr;
 use std::fs;
@@ -29,12 +29,20 @@ fn numbers<'t>(alloc: Global, text: &'t str) -> Result<Vec<&'t str>> {
     Ok(numbers)
 }
 
-/// How many lines of the text have a date.
-fn lines_with_a_date(alloc: Global, text: &str) -> Result<usize> {
-    let date = Regex::new(alloc, r"\d{4}-\d\d-\d\d")?;
+/// Whether the line has a match. What options the regex has is not known here, so it is asked first.
+fn has_match(regex: &Regex, line: &str) -> Result<bool> {
+    let input = RegexInput::new(line);
+    if !regex.can_search(&input) {
+        return Ok(false);
+    }
+    regex.is_match_input(input)
+}
+
+/// How many lines of the text have a match.
+fn lines_with(regex: &Regex, text: &str) -> Result<usize> {
     let mut count = 0usize;
     for line in text.lines() {
-        if date.is_match(line)? {
+        if has_match(regex, line)? {
             count = count.wrapping_add(1);
         }
     }
@@ -43,10 +51,11 @@ fn lines_with_a_date(alloc: Global, text: &str) -> Result<usize> {
 
 /// How many lines of the file have a date; `None` where the file cannot be read as text.
 fn dates_in_file<R: Files + AllocGlobal>(rt: &R, path: &str) -> Result<Option<usize>> {
+    let date = Regex::new(rt.alloc(), r"\d{4}-\d\d-\d\d")?;
     let Ok(text) = fs::read_to_string(rt, path) else {
         return Ok(None);
     };
-    Ok(Some(lines_with_a_date(rt.alloc(), text.as_str())?))
+    Ok(Some(lines_with(&date, text.as_str())?))
 }
 
 /// The fields of the line, without the blanks around its commas.
@@ -102,9 +111,14 @@ fn examples(rt: HostRuntime) {
 }
 
 #[test]
-fn a_file(rt: HostRuntime) {
-    let count = lines_with_a_date(rt.alloc(), "on 2026-11-24\nno\n2026-11-25").expect(&rt, "lines");
+fn lines_of_a_text(rt: HostRuntime) {
+    let date = Regex::new(rt.alloc(), r"\d{4}-\d\d-\d\d").expect(&rt, "a date");
+    let count = lines_with(&date, "on 2026-11-24\nno\n2026-11-25").expect(&rt, "lines");
     check(&rt, count == 2, "two lines");
+}
+
+#[test]
+fn a_file(rt: HostRuntime) {
     let empty = dates_in_file(&rt, "/dev/null").expect(&rt, "an empty file");
     check(&rt, empty == Some(0), "an empty file");
     let missing = dates_in_file(&rt, "/dev/null/none").expect(&rt, "no file");
