@@ -156,7 +156,7 @@ def public_calls():
             is_shown = is_public or bare.startswith("pub trait") or " for " in bare
             if is_one and is_shown and owners[0] in (own if head else [""]) and (head or name in own):
                 signature = squeezed(facade.signature_at(lines, at)[0].rstrip("{} \n").rstrip(";"))
-                signature = re.sub(r"^(pub )?(final )?fn ", "", signature)
+                signature = re.sub(r"^(pub )?(final )?fn |\bmut (?=self\b|replacer\b)(?<!&mut )| where .*$", "", signature)
                 full = f"{owners[0]}::{signature}" if owners[0] else signature
                 calls.setdefault((owners[0], name), (full, first_sentence(doc_before(lines, at) or doc_before(lines, opening)) or "The default."))
     return calls
