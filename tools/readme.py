@@ -70,10 +70,11 @@ def differences(page, sources):
 def missing_output(readme):
     """What the program prints, and its line in crates.txt, if the README lacks them."""
     texts = [block.group(2) for block in BLOCK.finditer(readme) if block.group(1) == "text"]
-    lines = [line for line in (ROOT / "crates.txt").read_text().splitlines() if line.startswith(f"{PROGRAM.name}:")]
-    for wanted in [(PROGRAM / "stdout").read_text(), "\n".join(lines) + "\n"]:
-        if wanted not in texts:
-            yield "the README lacks this text:\n" + wanted
+    if (PROGRAM / "stdout").read_text() not in texts:
+        yield "the README lacks what the program prints:\n" + (PROGRAM / "stdout").read_text()
+    for line in (ROOT / "crates.txt").read_text().splitlines():
+        if line.startswith(f"{PROGRAM.name}:") and f"`{line}`" not in readme:
+            yield "the README lacks this line: " + line
 
 
 def main():
