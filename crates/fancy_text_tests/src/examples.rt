@@ -30,7 +30,7 @@ fn numbers<'t>(alloc: Global, text: &'t str) -> Result<Vec<&'t str>> {
 }
 
 /// Whether the line has a match. What options the regex has is not known here, so it is asked first.
-fn has_match(regex: &Regex, line: &str) -> Result<bool> {
+fn matches_line(regex: &Regex, line: &str) -> Result<bool> {
     let input = RegexInput::new(line);
     if !regex.can_search(&input) {
         return Ok(false);
@@ -42,7 +42,7 @@ fn has_match(regex: &Regex, line: &str) -> Result<bool> {
 fn lines_with(regex: &Regex, text: &str) -> Result<usize> {
     let mut count = 0usize;
     for line in text.lines() {
-        if has_match(regex, line)? {
+        if matches_line(regex, line)? {
             count = count.wrapping_add(1);
         }
     }
@@ -51,10 +51,10 @@ fn lines_with(regex: &Regex, text: &str) -> Result<usize> {
 
 /// How many lines of the file have a date; `None` where the file cannot be read as text.
 fn dates_in_file<R: Files + AllocGlobal>(rt: &R, path: &str) -> Result<Option<usize>> {
-    let date = Regex::new(rt.alloc(), r"\d{4}-\d\d-\d\d")?;
     let Ok(text) = fs::read_to_string(rt, path) else {
         return Ok(None);
     };
+    let date = Regex::new(rt.alloc(), r"\d{4}-\d\d-\d\d")?;
     Ok(Some(lines_with(&date, text.as_str())?))
 }
 
