@@ -189,7 +189,7 @@ def table_of_errors():
         yield f"| `{name}{f'({held})' if held else ''}` | {cause} | {REMEDIES.get(name, 'by its kind:' if kind else '')} |"
         if f"pub enum {kind} {{" in lines:
             for variant, inner, why in errors_of(lines, kind):
-                yield f"| .. `{variant}{f'({inner})' if inner else ''}` | {why} | {REMEDIES[variant]} |"
+                yield f"| .. `{variant}{f'({inner})' if inner else ''}` | {why} | {REMEDIES.get(variant, '')} |"
 
 
 def missing(calls):
@@ -209,6 +209,8 @@ def main():
 
     wanted = PART.sub(renew, page)
     found = list(missing(calls))
+    kinds = re.findall(r"^    (\w+)(?:\(.*\))?,$", ERRORS.read_text(), re.M)
+    found += [f"tools/guide.py has no advice for {kind}" for kind in kinds if kind not in REMEDIES and not kind.endswith("Error")]
     found += [f"docs/GUIDE.md lacks the part {part}" for part in [*CALLS, "errors"] if f"<!-- made: {part} -->" not in page]
     if "--write" in sys.argv:
         PAGE.write_text(wanted)
