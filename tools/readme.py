@@ -1,5 +1,5 @@
 #!/usr/bin/env python3
-"""Compares the examples of the README and of the page on callers with the texts that the gate builds and runs.
+"""Compares the examples of the README, of the guide and of the page on callers with the texts that the gate builds and runs.
 
     tools/readme.py           says which example differs, and ends with status 1 if one does
     tools/readme.py --write   puts the text of the source in the place of each function that differs
@@ -13,7 +13,7 @@ import sys
 from pathlib import Path
 
 ROOT = Path(__file__).resolve().parent.parent
-PAGES = [ROOT / "README.md", ROOT / "crates/fancy_regex/CALLING.md"]
+PAGES = [ROOT / "README.md", ROOT / "docs/GUIDE.md", ROOT / "crates/fancy_regex/CALLING.md"]
 EXAMPLES = [ROOT / "crates/fancy_part_tests/src/examples.rt", ROOT / "crates/fancy_text_tests/src/examples.rt"]
 PROGRAM = ROOT / "crates/dates"
 SOURCES = [
@@ -70,10 +70,11 @@ def differences(page, sources):
 def missing_output(readme):
     """What the program prints, and its line in crates.txt, if the README lacks them."""
     texts = [block.group(2) for block in BLOCK.finditer(readme) if block.group(1) == "text"]
-    lines = [line for line in (ROOT / "crates.txt").read_text().splitlines() if line.startswith(f"{PROGRAM.name}:")]
-    for wanted in [(PROGRAM / "stdout").read_text(), "\n".join(lines) + "\n"]:
-        if wanted not in texts:
-            yield "the README lacks this text:\n" + wanted
+    if (PROGRAM / "stdout").read_text() not in texts:
+        yield "the README lacks what the program prints:\n" + (PROGRAM / "stdout").read_text()
+    for line in (ROOT / "crates.txt").read_text().splitlines():
+        if line.startswith(f"{PROGRAM.name}:") and f"`{line}`" not in readme:
+            yield "the README lacks this line: " + line
 
 
 def main():

@@ -29,7 +29,7 @@ fn number_at<'t>(number: &Regex, text: &'t str, place: usize) -> Result<Option<&
 
 /// How long the header of a file is: two marks, and all up to a zero byte.
 fn header_len(alloc: Global, file: &[u8]) -> Result<Option<usize>> {
-    let pattern = String::from_str(alloc, "\\A\\xFF\\xD8[^\\x00]*\\x00")?;
+    let pattern = String::from_str(alloc, r"\A\xFF\xD8[^\x00]*\x00")?;
     let header = RegexOptionsBuilder::new()
         .bytes_mode(BytesMode::Ascii)
         .build(pattern)?;
@@ -50,7 +50,7 @@ fn says_stop(alloc: Global, text: &str) -> Result<bool> {
 
 /// Whether the text has a word twice in a row; `None` where the search would take more than 1,000 returns.
 fn has_a_word_twice(alloc: Global, text: &str) -> Result<Option<bool>> {
-    let pattern = String::from_str(alloc, "\\b(\\w+) \\1\\b")?;
+    let pattern = String::from_str(alloc, r"\b(\w+) \1\b")?;
     let twice = RegexOptionsBuilder::new()
         .backtrack_limit(1000)
         .build(pattern)?;
@@ -72,7 +72,7 @@ fn place_of_fault(alloc: Global, pattern: &str) -> Result<Option<usize>> {
 
 /// Blanks, numbers and words, of the kinds 0, 1 and 2.
 fn kinds_of_tokens(alloc: Global) -> Result<RegexSet> {
-    RegexSet::new(alloc, &["\\s+", "\\d+", "\\w+"])
+    RegexSet::new(alloc, &[r"\s+", r"\d+", r"\w+"])
 }
 
 /// Which kind of token the text begins with, and how many bytes it takes.
@@ -93,13 +93,13 @@ fn first_token(kinds: &RegexSet, text: &str) -> Result<Option<(usize, usize)>> {
 fn lexer(alloc: Global) -> Result<RegexSet> {
     let kinds = [
         "let|if|else|while",
-        "[A-Za-z_]\\w*",
-        "\\d+(?:\\.\\d+)?",
-        "\"(?:[^\"\\\\]|\\\\.)*\"",
+        r"[A-Za-z_]\w*",
+        r"\d+(?:\.\d+)?",
+        r#""(?:[^"\\]|\\.)*""#,
         "[-+*/<>=!]=?",
         "[(){};,]",
         "//.*",
-        "\\s+",
+        r"\s+",
     ];
     RegexSet::new(alloc, &kinds)
 }
@@ -139,7 +139,7 @@ fn examples(rt: HostRuntime) {
 
 #[test]
 fn a_number(rt: HostRuntime) {
-    let number = Regex::new(rt.alloc(), "\\d+").expect(&rt, "a regex");
+    let number = Regex::new(rt.alloc(), r"\d+").expect(&rt, "a regex");
     let found = number_at(&number, "on 2026", 3).expect(&rt, "a number");
     check(&rt, found == Some("2026"), "a number");
     let found = number_at(&number, "on 2026", 2).expect(&rt, "no number");
