@@ -30,12 +30,12 @@ CALLS = {
     "options": {
         "RegexOptionsBuilder": "case_insensitive multi_line dot_matches_new_line ignore_whitespace verbose_mode crlf unicode_mode "
         "bytes_mode ignore_numbered_groups_when_named_groups_exist allow_input_assertion_overrides find_not_empty "
-        "leftmost_longest backtrack_limit stack_limit max_prog_size seek",
+        "leftmost_longest backtrack_limit stack_limit step_limit max_prog_size seek",
     },
     "searches": {
         "Regex": "is_match is_match_input find find_from_pos find_input captures captures_from_pos captures_input can_search "
         "find_input_counted",
-        "Work": "new steps returns reset count_step_within count_return",
+        "Work": "new steps returns units work reset is_spent has_work_for count_step_within count_return count_units",
     },
     "lists": {
         "Regex": "find_iter find_iter_input captures_iter captures_iter_input split splitn",
@@ -112,6 +112,7 @@ REMEDIES = {
     "PatternTooComplex": "lower the counts of its repeats, or raise `max_prog_size`",
     "BacktrackLimitExceeded": "raise `backtrack_limit`, set `seek`, or write an easy pattern",
     "StackOverflow": "raise `stack_limit`, or write an easy pattern",
+    "StepLimitExceeded": "raise `step_limit`, set `seek`, or write a pattern with less to try at each place",
     "Unmatched": "add a pattern for what is there",
 }
 
