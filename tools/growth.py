@@ -22,6 +22,10 @@ def find(options, pattern, text):
     return [asking.CALLS], asking.line('find', options, pattern, text), 4
 
 
+def of_set(call, patterns, text):
+    return [asking.CALLS], asking.line(call, '-', patterns, text), 2
+
+
 def in_fre(*words):
     return [asking.FRE, *words], '', 1
 
@@ -40,6 +44,18 @@ def rows():
         yield '\\w so many times in a class', size, build('[' + '\\w' * size + ']')
     for size in (25000, 50000, 100000):
         yield '\\w so many times', size, build('\\w' * size)
+        yield 'a nested class of \\w so many times', size, build('[' + '[\\w]' * size + ']')
+    for size in (25000, 50000, 100000):
+        yield 'a class of 10,000 ranges so many times', size, build('[' + ''.join(IDEOGRAPHS[:20000:2]) + ']{%d}' % size)
+    for size in (25000, 50000, 100000):
+        yield 'the set of a*b in a', size, of_set('in_set', ['a*b'], 'a' * size)
+        yield 'tokens of a*b and of a in a', size, of_set('tokens', ['a*b', 'a'], 'a' * size)
+        yield 'tokens of \\s\\Zx and of \\s in line feeds', size, of_set('tokens', ['\\s\\Zx', '\\s'], '\n' * size)
+    for size in (1000, 2000, 4000):
+        yield 'find (?=x) in a', size, find('-', '(?=x)', 'a' * size)
+        yield 'find (?=x) and 100,000 groups in a', size, find('-', '(?=x)' + '()' * 100000, 'a' * size)
+    for size in (25000, 50000, 100000):
+        yield 'find a*+b in a within 1,000,000 steps', size, find('-,W1000000', 'a*+b', 'a' * size)
     for size in (4000, 8000, 16000):
         yield 'find (?:(?=(a)*+)a)* in a', size, in_fre('find', '(?:(?=(a)*+)a)*', 'a' * size)
     for size in (20000, 40000, 80000):
