@@ -174,8 +174,9 @@ impl<'a> Attempt<'a> {
         ensures limited { result ≡ Err SearchRefusal.Steps → IsSpent self.now.options.step_limit work.new }
     {
         best.clear();
+        let step_limit = self.options.step_limit;
         'steps: loop {
-            if work.is_spent(self.options.step_limit) {
+            if work.is_spent(step_limit) {
                 return Err(SearchRefusal::Steps);
             }
             let next = self.turn(trail, best, last_lines, work)?;
