@@ -45,7 +45,7 @@ fn drop_front(words: &mut Vec<u64>, count: usize)
     words.truncate(left);
 }
 
-/// A table with fewer words, 64 KB of them, forgets nothing.
+/// Of fewer words, 64 KB of them, no part is forgotten, since the rest would have to be moved.
 const LEAST_WORDS: usize = 8_192;
 
 /// Which pairs were visited: one bit a pair. The room for all words is reserved when the table is made or
@@ -136,14 +136,15 @@ impl Table {
         }
     }
 
-    /// Forgets the words whose pairs all have lower numbers, where at least half of all words are such; these pairs count as
+    /// Forgets the words whose pairs all have lower numbers, where all words are such, or at least half of many; these pairs count as
     /// visited from then on.
     pub fn forget(&mut self, before: usize)
         requires { before ≤ length self.old }
         ensures { IsForgotten self.old self.new before }
     {
         let count = (before / 64).saturating_sub(self.gone);
-        if self.words.len() < LEAST_WORDS || count < self.words.len() / 2 {
+        let len = self.words.len();
+        if count < len && (len < LEAST_WORDS || count < len / 2) {
             return;
         }
         drop_front(&mut self.words, count);
