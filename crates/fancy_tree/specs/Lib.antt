@@ -3,6 +3,7 @@ pub mod Text
 pub mod Modes
 pub mod Sets
 pub mod SetViews
+pub mod SharedEdges
 pub mod Pattern
 pub mod Sizes
 pub mod Refers

@@ -1,6 +1,7 @@
 -- What the operations on sets mean.
 use Rattle.std.specs.Prelude.{ℕ, Bool, not, ◌&&◌, ◌||◌, List}
 use Rattle.fancy_tree.specs.Sets.{has, differ}
+use Rattle.fancy_tree.specs.SharedEdges.{listed}
 use Rattle.fancy_tree.specs.declared.set.Set.{Set}
 use Rattle.fancy_tree.specs.declared.operation.Operation.{Operation}
 use Rattle.fancy_tree.specs.declared.operation.Operation.TheVariants.{Union, Intersection, Difference, SymmetricDifference}
@@ -13,7 +14,7 @@ abbrev pub both : Members → Members → Members
 both f g = λ c. f c || g c
 
 abbrev pub edges_of : Set → List ℕ
-edges_of s = s.edges.items
+edges_of s = listed s.edges
 
 abbrev pub members : Set → Members
 members s = has (edges_of s)

@@ -2,6 +2,7 @@
 #![tactic(auto)]
 
 pub mod char_set;
+mod edges;
 pub mod error;
 mod joining;
 mod look_behind;
@@ -13,5 +14,6 @@ pub mod property;
 mod refer;
 pub mod set;
 pub mod sharing;
+mod table;
 pub mod tree;
 pub mod widening;

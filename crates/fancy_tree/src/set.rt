@@ -4,7 +4,10 @@ ghost use Rattle.std.specs.Prelude.{◌≡◌, ◌↔◌, ◌||◌, ℕ, ◌+◌
 ghost use Rattle.unicode.specs.Rows.{in_ranges};
 ghost use Rattle.fancy_tree.specs.Sets.{has, is_odd, in_range, AreRising, AreEdges};
 ghost use Rattle.fancy_tree.specs.SetViews.{Cut, IsNearest};
+ghost use Rattle.fancy_tree.specs.SharedEdges.{listed};
+ghost use Rattle.fancy_tree.specs.CharSet.{IsTable};
 
+use crate::edges::Edges;
 use crate::joining::{are_in_order, joined_edges};
 use crate::operation::Operation;
 use std::alloc::{AllocError, Global};
@@ -12,11 +15,12 @@ use std::alloc::{AllocError, Global};
 /// The last number that a set can have.
 pub const LAST: u32 = 0x10_FFFF;
 
-/// A set of numbers up to `LAST`, by the numbers at which it begins and ends.
+/// A set of numbers up to `LAST`, by the numbers at which it begins and ends. Copies of a set that is [`shared`](Set::shared)
+/// share these.
 #[derive(Debug, Drop)]
 pub struct Set {
-    edges: Vec<u32>,
-    ghost are_edges: { AreEdges edges.items },
+    edges: Edges,
+    ghost are_edges: { AreEdges (listed edges) },
 }
 
 /// How many edges are at most `c`.
@@ -85,7 +89,7 @@ impl Set {
         ensures edges { edges_of result ≡ [] }
     {
         Set {
-            edges: Vec::new(alloc),
+            edges: Edges::Own(Vec::new(alloc)),
         }
     }
 
@@ -98,21 +102,30 @@ impl Set {
             return Ok(Set::empty(alloc));
         }
         Ok(Set {
-            edges: Vec::from_slice(alloc, &[first, last + 1])?,
+            edges: Edges::Own(Vec::from_slice(alloc, &[first, last + 1])?),
         })
     }
 
     /// Where the memory of its edges is from.
-    pub(crate) fn allocator(&self) -> Global {
-        *self.edges.allocator()
+    fn allocator(&self) -> Global {
+        self.edges.allocator()
     }
 
-    /// The same set once more.
+    /// The same set such that copies share its edges. Where memory for that is refused it is what it was.
+    pub fn shared(self) -> Set
+        ensures { edges_of result ≡ edges_of self }
+    {
+        Set {
+            edges: self.edges.shared(),
+        }
+    }
+
+    /// The same set once more. Where its edges are shared this takes no memory, however many there are.
     pub fn copied(&self) -> Result<Set, AllocError>
         ensures { IfOk result (λ s. edges_of s ≡ edges_of self.now) }
     {
         Ok(Set {
-            edges: self.edges.to_vec(*self.edges.allocator())?,
+            edges: self.edges.copied()?,
         })
     }
 
@@ -120,30 +133,37 @@ impl Set {
     pub fn edges(&self) -> &[u32]
         ensures { result.now ≡ edges_of self.now }
     {
-        &self.edges
+        self.edges.as_slice()
+    }
+
+    /// Which of the numbers below 2,048 are members. Empty where no member is past 255, and where the edges are not shared.
+    pub(crate) fn table(&self) -> &[u64]
+        ensures { IsTable result.now (length result.now) (members self.now) }
+    {
+        self.edges.table()
     }
 
     /// Whether both sets have the same members.
     pub fn is_same(&self, other: &Set) -> bool
         ensures { IsTrue result ↔ (edges_of self.now ≡ edges_of other.now) }
     {
-        self.edges == other.edges
+        self.edges() == other.edges()
     }
 
     /// Whether this number is a member.
     pub fn contains(&self, c: u32) -> bool
         ensures { result ≡ members self.now c }
     {
-        edges_to(&self.edges, c) % 2 == 1
+        edges_to(self.edges(), c) % 2 == 1
     }
 
     /// The numbers that the operation keeps. One walk over the edges of both sets, for which the room is asked at once.
     pub fn combine(&self, how: Operation, other: &Set) -> Result<Set, AllocError>
         ensures { IfOk result (λ s. (c : ℕ) → members s c ≡ applied how (members self.now c) (members other.now c)) }
     {
-        let a: &[u32] = &self.edges;
-        let b: &[u32] = &other.edges;
-        let mut edges = Vec::with_capacity(*self.edges.allocator(), a.len() + b.len())?;
+        let a = self.edges();
+        let b = other.edges();
+        let mut edges = Vec::with_capacity(self.allocator(), a.len() + b.len())?;
         let mut i = 0;
         let mut j = 0;
         while let Some(at) = next_edge(a, i, b, j) {
@@ -155,7 +175,9 @@ impl Set {
             }
         }
         trim(&mut edges);
-        Ok(Set { edges })
+        Ok(Set {
+            edges: Edges::Own(edges),
+        })
     }
 
     /// The numbers up to `LAST` in any of the ranges, which hold both their ends and may be in any order. Ranges that are in
@@ -165,7 +187,7 @@ impl Set {
     {
         if are_in_order(ranges) {
             return Ok(Set {
-                edges: joined_edges(alloc, ranges)?,
+                edges: Edges::Own(joined_edges(alloc, ranges)?),
             });
         }
         let (left, right) = ranges.split_at(ranges.len() / 2);
@@ -178,8 +200,8 @@ impl Set {
     pub fn ranges(&self) -> Result<Vec<(u32, u32)>, AllocError>
         ensures { IfOk result (λ out. (c : ℕ) → in_ranges out.items c ≡ members self.now c) }
     {
-        let edges: &[u32] = &self.edges;
-        let mut out = Vec::new(*self.edges.allocator());
+        let edges = self.edges();
+        let mut out = Vec::new(self.allocator());
         let mut i = 0;
         while i + 1 < edges.len() {
             out.push((edges[i], edges[i + 1] - 1))?;
@@ -192,7 +214,7 @@ impl Set {
     pub(crate) fn with_pairs(&self, pairs: &[(u32, u32)]) -> Result<Set, AllocError>
         ensures { IfOk result (λ s. (c : ℕ) → members s c ≡ (members self.now c || (nat_le c LAST && in_pairs pairs.now (members self.now) c))) }
     {
-        let alloc = *self.edges.allocator();
+        let alloc = self.allocator();
         let mut others = Vec::new(alloc);
         for pair in pairs {
             if self.contains(pair.1) {

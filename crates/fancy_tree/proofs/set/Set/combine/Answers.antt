@@ -14,8 +14,8 @@ pub loop-at-preserved-then-turns : goal.loop-at-preserved-then-turns
 unfolding is_odd
 loop-at-preserved-then-turns c =
     let m = c.loop-at.invariant.merged.1 in
-    let a : AreEdges c.deref-a.result.now = subst AreEdges (sym c.deref-a.ensures.value) c.args.self.now.are_edges in
-    let b : AreEdges c.deref-b.result.now = subst AreEdges (sym c.deref-b.ensures.value) c.args.other.now.are_edges in
+    let a : AreEdges c.edges-a.result.now = subst AreEdges (sym c.edges-a.ensures) c.args.self.now.are_edges in
+    let b : AreEdges c.edges-b.result.now = subst AreEdges (sym c.edges-b.ensures) c.args.other.now.are_edges in
     record {
       merged = (
         c.in-Some.at + 1,
@@ -33,8 +33,8 @@ pub loop-at-preserved : goal.loop-at-preserved
 unfolding is_odd
 loop-at-preserved c =
     let m = c.loop-at.invariant.merged.1 in
-    let a : AreEdges c.deref-a.result.now = subst AreEdges (sym c.deref-a.ensures.value) c.args.self.now.are_edges in
-    let b : AreEdges c.deref-b.result.now = subst AreEdges (sym c.deref-b.ensures.value) c.args.other.now.are_edges in
+    let a : AreEdges c.edges-a.result.now = subst AreEdges (sym c.edges-a.ensures) c.args.self.now.are_edges in
+    let b : AreEdges c.edges-b.result.now = subst AreEdges (sym c.edges-b.ensures) c.args.other.now.are_edges in
     record {
       merged = (
         c.in-Some.at + 1,
@@ -46,16 +46,16 @@ loop-at-preserved c =
 
 pub returns : goal.returns
 returns c = λ x. ap (λ es. has es x) c.trim.ensures ∙ (merged_done c.loop-at.invariant.merged.1 c.in_default.ensures.0 c.in_default.ensures.1 x
-    ∙ ap₂ (applied c.args.how) (ap (λ es. has es x) c.deref-a.ensures.value) (ap (λ es. has es x) c.deref-b.ensures.value))
+    ∙ ap₂ (applied c.args.how) (ap (λ es. has es x) c.edges-a.ensures) (ap (λ es. has es x) c.edges-b.ensures))
 
 pub next_edge-requires-clause-a_rises : goal.next_edge-requires-clause-a_rises
-next_edge-requires-clause-a_rises c = rw c.deref-a.ensures.value c.args.self.now.are_edges.rising
+next_edge-requires-clause-a_rises c = rw c.edges-a.ensures c.args.self.now.are_edges.rising
 
 pub next_edge-requires-clause-b_rises : goal.next_edge-requires-clause-b_rises
-next_edge-requires-clause-b_rises c = rw c.deref-b.ensures.value c.args.other.now.are_edges.rising
+next_edge-requires-clause-b_rises c = rw c.edges-b.ensures c.args.other.now.are_edges.rising
 
 pub skip_edge-i-requires-clause-rising : goal.skip_edge-i-requires-clause-rising
-skip_edge-i-requires-clause-rising c = rw c.deref-a.ensures.value c.args.self.now.are_edges.rising
+skip_edge-i-requires-clause-rising c = rw c.edges-a.ensures c.args.self.now.are_edges.rising
 
 pub skip_edge-j-requires-clause-rising : goal.skip_edge-j-requires-clause-rising
-skip_edge-j-requires-clause-rising c = rw c.deref-b.ensures.value c.args.other.now.are_edges.rising
+skip_edge-j-requires-clause-rising c = rw c.edges-b.ensures c.args.other.now.are_edges.rising

@@ -5,4 +5,4 @@ use Rattle.fancy_tree.proofs.set.Set.contains.Goals as goal
 
 pub returns : goal.returns
 unfolding is_odd
-returns c = sym (has_cut _ _ _ c.edges_to.ensures) ∙ ap (λ es. has es c.args.c) c.deref.ensures.value
+returns c = sym (has_cut _ _ _ c.edges_to.ensures) ∙ ap (λ es. has es c.args.c) c.edges.ensures

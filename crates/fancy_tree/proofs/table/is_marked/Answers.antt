@@ -1,7 +1,7 @@
 use Rattle.std.proofs.Common.{rules}
 use Rattle.std.proofs.lemmas.Nat.Bits.{shr_and_one}
 use Rattle.fancy_tree.specs.CharSet.{bit}
-use Rattle.fancy_tree.proofs.char_set.is_marked.Goals as goal
+use Rattle.fancy_tree.proofs.table.is_marked.Goals as goal
 
 pub returns : goal.returns
 unfolding bit

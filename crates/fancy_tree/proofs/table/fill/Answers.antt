@@ -2,7 +2,7 @@ use Rattle.std.proofs.Common.{arith, subst, ◌≡◌, ◌+◌, ◌*◌}
 use Rattle.fancy_tree.specs.Sets.{has}
 use Rattle.fancy_tree.specs.SetViews.{Cut}
 use Rattle.fancy_tree.proofs.CharSetLemmas.{table_more}
-use Rattle.fancy_tree.proofs.char_set.fill.Goals as goal
+use Rattle.fancy_tree.proofs.table.fill.Goals as goal
 
 pub loop-i-preserved : goal.loop-i-preserved
 loop-i-preserved c =

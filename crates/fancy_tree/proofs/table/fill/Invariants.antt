@@ -2,7 +2,7 @@ use Rattle.std.proofs.Common.{◌*◌}
 use Rattle.fancy_tree.specs.CharSet.{IsTable}
 use Rattle.fancy_tree.specs.Sets.{has}
 use Rattle.fancy_tree.specs.SetViews.{Cut}
-use Rattle.fancy_tree.proofs.char_set.fill.Given as goal
+use Rattle.fancy_tree.proofs.table.fill.Given as goal
 
 abbrev pub invariant-loop-i : goal.invariant-loop-i
 invariant-loop-i l = record {

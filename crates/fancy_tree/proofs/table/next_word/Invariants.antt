@@ -1,6 +1,6 @@
 use Rattle.std.proofs.Common.{◌-◌, length}
 use Rattle.fancy_tree.proofs.CharSetLemmas.{WordTo}
-use Rattle.fancy_tree.proofs.char_set.next_word.Given as goal
+use Rattle.fancy_tree.proofs.table.next_word.Given as goal
 
 abbrev pub invariant-loop-at : goal.invariant-loop-at
 invariant-loop-at l = WordTo l.edges l.first l.at l.word

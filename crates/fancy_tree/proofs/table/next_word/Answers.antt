@@ -1,8 +1,8 @@
 use Rattle.std.proofs.Common.{refl, arith, eq-eqb, ne_eqb}
 use Rattle.fancy_tree.specs.Sets.{is_odd}
 use Rattle.fancy_tree.proofs.CharSetLemmas.{word_full, word_clear, word_more, word_cut, word_bits}
-use Rattle.fancy_tree.proofs.char_set.next_word.Goals as goal
-use Rattle.fancy_tree.proofs.char_set.next_word.Goals.{then-at-eq1, else-at-eq1}
+use Rattle.fancy_tree.proofs.table.next_word.Goals as goal
+use Rattle.fancy_tree.proofs.table.next_word.Goals.{then-at-eq1, else-at-eq1}
 
 pub loop-at-init : goal.loop-at-init
 unfolding is_odd
