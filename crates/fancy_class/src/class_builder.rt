@@ -9,6 +9,7 @@ ghost use Rattle.fancy_class.specs.ClassViews.{builder_members, Adds};
 use crate::chain::Chain;
 use crate::class_item::ClassItem;
 use crate::context::ClassContext;
+use crate::named_sets::NamedSets;
 use fancy_tree::named::characters;
 use fancy_tree::operation::Operation;
 use fancy_tree::set::Set;
@@ -58,8 +59,12 @@ impl ClassBuilder {
         Ok(())
     }
 
-    /// All members, under the flags in force.
-    pub(crate) fn build(self, context: ClassContext) -> Result<Set, AllocError>
+    /// All members, under the flags in force. Sets that have a name are taken from those that were made last.
+    pub(crate) fn build(
+        self,
+        context: ClassContext,
+        last: &mut NamedSets,
+    ) -> Result<Set, AllocError>
         ensures { IfOk result (λ s. (c : ℕ) → members s c ≡ builder_members context self c) }
     {
         let ClassBuilder {
@@ -70,7 +75,7 @@ impl ClassBuilder {
         let ranges = characters(context.alloc, &ranges)?;
         all.add(Operation::Union, context.fold_case(ranges)?)?;
         for item in &named {
-            all.add(Operation::Union, context.item_set(*item)?)?;
+            all.add(Operation::Union, last.item_set(context, *item)?)?;
         }
         all.into_set()
     }

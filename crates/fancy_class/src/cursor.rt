@@ -2,10 +2,13 @@
 
 ghost use Rattle.std.specs.Prelude.{◌≡◌, ◌+◌, ◌≤◌, length, drop};
 
-/// What is left to read.
+use crate::named_sets::NamedSets;
+
+/// What is left to read, and the named sets that were read last.
 #[derive(Drop)]
 pub struct Cursor<'a> {
     pub rest: &'a [char],
+    pub named: NamedSets,
 }
 
 impl<'a> Cursor<'a> {

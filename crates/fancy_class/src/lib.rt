@@ -8,6 +8,7 @@ pub mod context;
 pub mod cursor;
 pub mod escape;
 mod item;
+pub mod named_sets;
 mod posix;
 mod property;
 mod reader;

@@ -83,6 +83,6 @@ impl<'a> Cursor<'a> {
             }
             first = false;
         }
-        Ok(builder.build(context)?)
+        Ok(builder.build(context, &mut self.named)?)
     }
 }
