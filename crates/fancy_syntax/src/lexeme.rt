@@ -157,10 +157,14 @@ impl<'a> Parser<'a> {
     }
 
     /// One item of the set that this stands for in a class.
-    fn class_item_tree(&self, item: ClassItem) -> Result<Tree, AllocError>
-        ensures { IfOk result (λ t. IsMeant (class_item_lexeme (scope_of self.now) item) (pattern_of t)) }
+    fn class_item_tree(&mut self, item: ClassItem) -> Result<Tree, AllocError>
+        ensures value { IfOk result (λ t. IsMeant (class_item_lexeme (scope_of self.old) item) (pattern_of t)) }
+        ensures whole { self.new.whole ≡ self.old.whole }
+        ensures place { place self.new ≡ place self.old }
     {
-        Ok(set_tree(self.context().item_set(item)?))
+        let context = self.context();
+        let set = self.cursor.named.item_set(context, item)?;
+        Ok(set_tree(set))
     }
 
     /// Reads so many characters that stand for this one.
@@ -348,7 +352,7 @@ impl<'a> Parser<'a> {
         let context = self.context();
         let start = self.cursor.rest;
         match self.cursor.class(context) {
-            Ok(set) => Ok(Tree::Member(set)),
+            Ok(set) => Ok(Tree::Member(set.shared())),
             Err(refusal) => {
                 self.cursor.rest = start;
                 Err(self.class_error(refusal))

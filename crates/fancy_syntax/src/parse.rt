@@ -16,6 +16,7 @@ use crate::parser::Parser;
 use crate::reference::Target;
 use crate::resolve::{Groups, names_alone};
 use fancy_class::cursor::Cursor;
+use fancy_class::named_sets::NamedSets;
 use fancy_tree::error::{CompileError, Error, ParseErrorKind};
 use fancy_tree::name::{GroupName, Names, characters_of};
 use fancy_tree::tree::{Meaning, Tree};
@@ -227,7 +228,10 @@ fn read_whole(
 {
     let mut parser = Parser {
         whole: characters,
-        cursor: Cursor { rest: characters },
+        cursor: Cursor {
+            rest: characters,
+            named: NamedSets::new(alloc),
+        },
         meaning: options.meaning,
         keeps_characters: options.keeps_characters,
         unnamed_capture,
