@@ -4,12 +4,14 @@ ghost use Rattle.std.specs.Prelude.{◌≡◌, ℕ, List, [], None, true, slice_
 ghost use Rattle.fancy_automaton.specs.Cells.{IsWithin};
 ghost use Rattle.fancy_automaton.specs.Remembered.{Remembers};
 ghost use Rattle.fancy_engine.specs.declared.code.Code.{Code};
+ghost use Rattle.fancy_engine.specs.Work.{steps_of, returns_of};
 
 use fancy_automaton::cells::Cells;
 use fancy_bytes::lacking::KnownBytes;
 use fancy_engine::found::Found;
 use fancy_engine::notes::{KeptTable, Notes};
 use fancy_engine::search as runner;
+use fancy_engine::work::Work;
 use fancy_input::input::Request;
 use fancy_input::span::Span;
 use fancy_machine::search as machine;
@@ -118,6 +120,8 @@ pub struct AttemptCache {
     pub engines: Cache,
     /// What is known of the haystack's bytes.
     pub known: KnownBytes,
+    /// How much the attempts did that are counted.
+    pub work: Work,
 }
 
 impl AttemptCache {
@@ -125,11 +129,14 @@ impl AttemptCache {
 
     /// It has no memory yet, and nothing is known of the haystack, which may be any.
     pub fn new(alloc: Global) -> AttemptCache
-        ensures { (haystack : List ℕ) → AreKnown result.known haystack }
+        ensures known { (haystack : List ℕ) → AreKnown result.known haystack }
+        ensures steps { steps_of result.work ≡ 0 }
+        ensures returns { returns_of result.work ≡ 0 }
     {
         AttemptCache {
             engines: Cache::new(alloc),
             known: KnownBytes::new(),
+            work: Work::new(),
         }
     }
 }

@@ -496,7 +496,8 @@ impl Program {
     /// Under `seek` a position that a search passes over is not tried, and nothing is found there. What is learnt of the haystack's
     /// bytes stays in `cache`, so that the attempts in one haystack look for each byte once. What attempts with this program found
     /// out in `notes` is not followed again: each starts where the match before ended, or where nothing was found at the position
-    /// before, or later. So for an easy pattern all of them that find nothing take no more steps together than one search.
+    /// before, or later. So for an easy pattern all of them that find nothing take no more steps together than one search. What is
+    /// done is added to the counts of `work`, and not to those in `cache`.
     ///
     /// It is refused as [`Program::search`] is, for what the attempt takes.
     pub fn attempt_at(
@@ -515,6 +516,7 @@ impl Program {
         requires known { AreKnown cache.old.known haystack.now }
         requires notes { KeepsNotes self.now haystack.now request position notes.old }
         ensures known { AreKnown cache.new.known haystack.now }
+        ensures counted { cache.new.work ≡ cache.old.work }
         ensures notes { IfOk result
             (λ m. KeepsNotes self.now haystack.now request (kept_from m position) notes.new) }
         ensures dropped { IfErr result (λ _. KeepsNotes self.now haystack.now request position notes.new) }
