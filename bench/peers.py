@@ -179,7 +179,7 @@ def build(wanted, is_proved=True):
     os.makedirs(NATIVE, exist_ok=True)
     install()
     asked = {PEERS[it][0] for it in wanted}
-    kit = os.path.dirname(os.path.dirname(library.rt_path())) if asked & {"port", "kit"} else None
+    kit = os.path.dirname(os.path.dirname(library.without_proof.rt_path())) if asked & {"port", "kit"} else None
     if kit:
         shutil.copy(f"{kit}/c/liblibc_c.a", NATIVE)
     builds = [it for it in (("kit", build_kit), ("port", lambda: build_port(is_proved))) if it[0] in asked]
