@@ -62,10 +62,14 @@ def version(peer):
     return ""
 
 
-def install():
+def is_installed(package):
+    return output("dpkg-query", "-W", "-f", "${db:Status-Status}", package) == "installed"
+
+
+def install(*more):
     """Installs the packages that are missing."""
-    is_there = lambda name: output("dpkg-query", "-W", "-f", "${db:Status-Status}", name) == "installed"
-    missing = [it for it in PACKAGES if not is_there(it)]
+    os.makedirs(OUT, exist_ok=True)
+    missing = [it for it in (*PACKAGES, *more) if not is_installed(it)]
     if not missing:
         return
     say(f"installing {' '.join(missing)}")
@@ -160,18 +164,26 @@ def build_port(is_proved):
     return True
 
 
-def build_drivers(features):
-    """Compiles the drivers, over the sources of crates that Debian's packages have."""
+def build_drivers(features, native=NATIVE, target=f"{OUT}/target", only=()):
+    """Compiles the drivers, or some, over the sources of crates that Debian's packages have."""
     found = re.search(r"^(/.*/cargo/registry)/", output("dpkg", "-L", "librust-fancy-regex-dev"), re.M)
     os.makedirs(f"{OUT}/cargo", exist_ok=True)
     with open(f"{OUT}/cargo/config.toml", "w", encoding="utf-8") as file:
         file.write(f'[source.crates-io]\nreplace-with = "debian"\n[source.debian]\ndirectory = "{found[1]}"\n[net]\noffline = true\n')
     shutil.rmtree(f"{OUT}/driver", ignore_errors=True)
     shutil.copytree(f"{HERE}/driver", f"{OUT}/driver")
-    environment = {**os.environ, "CARGO_HOME": f"{OUT}/cargo", "CARGO_TARGET_DIR": f"{OUT}/target", "BENCH_NATIVE": NATIVE,
-                   "BENCH_STAMP": sum_of(glob.glob(f"{NATIVE}/*.a"))}
+    environment = {**os.environ, "CARGO_HOME": f"{OUT}/cargo", "CARGO_TARGET_DIR": target, "BENCH_NATIVE": native,
+                   "BENCH_STAMP": sum_of(glob.glob(f"{native}/*.a"))}
     words = ["cargo", "build", "--release", "--quiet", "--features", ",".join(features)]
+    for name in only:
+        words += ["--bin", name]
     subprocess.run(words, cwd=f"{OUT}/driver", env=environment, check=True)
+
+
+def copy_allocator(folder):
+    """Copies the library in which Rattle's allocator is."""
+    kit = os.path.dirname(os.path.dirname(library.without_proof.rt_path()))
+    shutil.copy(f"{kit}/c/liblibc_c.a", folder)
 
 
 def build(wanted, is_proved=True):
@@ -179,9 +191,8 @@ def build(wanted, is_proved=True):
     os.makedirs(NATIVE, exist_ok=True)
     install()
     asked = {PEERS[it][0] for it in wanted}
-    kit = os.path.dirname(os.path.dirname(library.without_proof.rt_path())) if asked & {"port", "kit"} else None
-    if kit:
-        shutil.copy(f"{kit}/c/liblibc_c.a", NATIVE)
+    if asked & {"port", "kit"}:
+        copy_allocator(NATIVE)
     builds = [it for it in (("kit", build_kit), ("port", lambda: build_port(is_proved))) if it[0] in asked]
     with ThreadPoolExecutor(2) as pool:
         made = {name: pool.submit(work) for name, work in builds}
@@ -192,10 +203,11 @@ def build(wanted, is_proved=True):
     return [it for it in wanted if PEERS[it][0] not in lacking]
 
 
-def fields(work):
+def fields(work, folder=TEXTS):
     """A workload as a driver reads it."""
     patterns = work["kinds"] if "kinds" in work else [work["pattern"]]
-    return "".join(it + "\0" for it in (work["operation"], f"{TEXTS}/{work['haystack']}", work.get("replacement", ""), *patterns)).encode()
+    words = (work["operation"], f"{folder}/{work['haystack']}", work.get("replacement", ""), *patterns)
+    return "".join(it + "\0" for it in words).encode()
 
 
 def command(peer, *words):

@@ -371,6 +371,28 @@ MAKERS = {
 }
 
 
+def cut(text, size):
+    """The text's beginning of so many bytes or somewhat fewer, and again and again where it is shorter."""
+    data = text.encode()
+    return (data * (size // len(data) + 1))[:size].decode("utf-8", "ignore")
+
+
+# Texts of any size, whose searches are to show how time grows.
+GROWING = {
+    "a": lambda size: "a" * size,
+    "ab": lambda size: cut("ab", size),
+    "ba": lambda size: "b" + "a" * (size - 1),
+    "blanks-x": lambda size: " " * (size - 1) + "x",
+    "commas": lambda size: "," * size,
+    "lines": lambda size: "\n" * size,
+    "digits": lambda size: cut("1234567890", size),
+    "prose": lambda size: cut(english(), size),
+    "ab-cd": lambda size: cut("ab ab cd ", size),
+    "openings": lambda size: cut("/*", size),
+    "apostrophes": lambda size: cut("' ", size - 1) + '"',
+}
+
+
 def write(path, text):
     """Writes a text, whole or not at all."""
     with open(path + ".part", "w", encoding="utf-8", newline="") as file:

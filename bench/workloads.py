@@ -2,7 +2,7 @@
 import json
 import os
 
-FOLDER = os.path.join(os.path.dirname(os.path.abspath(__file__)), "workloads")
+HERE = os.path.dirname(os.path.abspath(__file__))
 
 # The groups, in the order of the tables, and who has such workloads.
 GROUPS = {
@@ -23,13 +23,15 @@ GROUPS = {
 }
 
 
+def load(name):
+    """What a file of this folder has."""
+    with open(f"{HERE}/{name}", encoding="utf-8") as file:
+        return json.load(file)
+
+
 def read():
     """All workloads, each with its group."""
-    works = []
-    for group in GROUPS:
-        with open(f"{FOLDER}/{group}.json", encoding="utf-8") as file:
-            works += [{"group": group, **work} for work in json.load(file)]
-    return works
+    return [{"group": group, **work} for group in GROUPS for work in load(f"workloads/{group}.json")]
 
 
 def chosen(words):

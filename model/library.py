@@ -185,6 +185,7 @@ def range_case(r, makes):
 
 
 def items_of_range(regex, given):
+    """The items of the answer. The returns of an easy search are the engine's own affair."""
     if not can_search(regex, given):
         return ["?cannot"]
     counts = Counts()
@@ -193,7 +194,7 @@ def items_of_range(regex, given):
     except Limit as limit:
         return [f"{counts.returns} returns", "!" + limit.kind]
     matches = list(regex.matches(given))
-    first = [f"{counts.returns} returns", span(found and found.span), spans(found)]
+    first = [f"{counts.returns} returns" if regex.hard else None, span(found and found.span), spans(found)]
     return [*first, "all", *listed(matches, lambda it: span(it.span)), "groups", *listed(matches, spans)]
 
 
@@ -380,7 +381,7 @@ def byte_set(members):
 # ------------------------------------------------------------------ asking
 
 def agrees(wanted, got):
-    """Whether the items of a program, or None, are what the model allows."""
+    """Whether the items of a program, or None, are what the model allows. An item that the model does not know is None."""
     if isinstance(wanted, frozenset):
         return got is not None and len(got) == 1 and got[0] in wanted
     if wanted is None or got is None:

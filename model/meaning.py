@@ -535,14 +535,16 @@ class Regex:
             return False
         return self.stands(inp, out[2]) and self.stands(inp, out[0])
 
-    def skipped(self, inp, p):
-        """Whether the option `seek` passes over the position."""
-        if not self.options.seek:
-            return False
+    def ruled_out(self, inp, p):
+        """Whether the bytes that a match begins with and needs say that none starts at p."""
         if not self.required <= set(inp.hay):
             return True
         return self.start_bytes is not None and not (
             p < inp.limits[1] and inp.hay[p] in self.start_bytes)
+
+    def skipped(self, inp, p):
+        """Whether the option `seek` passes over the position."""
+        return self.options.seek and self.ruled_out(inp, p)
 
     def attempt(self, inp, p, t, counts):
         """The answer at one position; marks and returns are added to the counts."""
@@ -664,8 +666,8 @@ class Regex:
 # ------------------------------------------------------------------ sets and tokens
 
 class RegexSet:
-    """A pattern set. Members are asked as the iterator asks, at each position in
-    index order; the byte sets pass over members only where they can't match."""
+    """A pattern set. Its members are asked at each position in index order. One that
+    cannot match there by its byte sets is passed over, so no limit of it is met."""
 
     def __init__(self, members):
         self.members = list(members)
@@ -677,15 +679,20 @@ class RegexSet:
         tracers = [m.tracer(inp, g_at) for m in self.members]
         for p in inp.positions():
             for k, member in enumerate(self.members):
-                if member.attempt(inp, p, tracers[k], Counts()) is not None:
+                if self.asked(member, inp, p, tracers[k]) is not None:
                     return p, self.items(inp, p, tracers)
         return None
+
+    @staticmethod
+    def asked(member, inp, p, tracer):
+        """The answer of a member at a position."""
+        return None if member.ruled_out(inp, p) else member.attempt(inp, p, tracer, Counts())
 
     def items(self, inp, p, tracers):
         """The members at position p, in index order."""
         for k, member in enumerate(self.members):
             try:
-                m = member.attempt(inp, p, tracers[k], Counts())
+                m = self.asked(member, inp, p, tracers[k])
             except Limit as e:
                 yield k, e
                 continue
@@ -700,7 +707,7 @@ class RegexSet:
             best = None
             for k, member in enumerate(self.members):
                 try:
-                    m = member.attempt(here, p, member.tracer(here, p), Counts())
+                    m = self.asked(member, here, p, member.tracer(here, p))
                 except Limit as e:
                     yield e
                     return
