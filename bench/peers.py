@@ -4,7 +4,9 @@ import hashlib
 import json
 import os
 import re
+import resource
 import shutil
+import signal
 import subprocess
 import sys
 import tempfile
@@ -218,13 +220,13 @@ def command(peer, *words):
 
 
 def measure(peer, work, seconds=5):
-    """Measures a workload with a peer once, in a process of its own."""
+    """Measures a workload with a peer once, in a process of its own that may have so many seconds of a processor."""
     if peer == "seek" and work["operation"] in NOT_SEEKING:
         return {"status": "left out"}
     words, environment = command(peer)
-    try:
-        ran = subprocess.run(words, input=fields(work), capture_output=True, env=environment, timeout=seconds)
-    except subprocess.TimeoutExpired:
+    ran = subprocess.run(words, input=fields(work), capture_output=True, env=environment,
+                         preexec_fn=lambda: resource.setrlimit(resource.RLIMIT_CPU, (seconds, seconds + 1)))
+    if ran.returncode in (-signal.SIGXCPU, -signal.SIGKILL):
         return {"status": f"over {seconds} s"}
     try:
         return json.loads(ran.stdout)

@@ -367,7 +367,7 @@ MAKERS = {
     "a5000.txt": lambda: "a" * 5000 + "!",
     "a25.txt": lambda: "a" * 25,
     "spaces.txt": lambda: "x" + " " * 20000 + "x",
-    "equals.txt": lambda: "x=" + "x" * 4000,
+    "equals.txt": lambda: "x=" + "x" * 500,
 }
 
 

@@ -384,7 +384,7 @@ class _Parser:
             name = self.peek()
             self.pos += 1
         if '=' in name or ':' in name:
-            self.fault('NotInProfile')
+            self.fault('NotInProfile' if self.meaning == 'unicode' else 'InvalidClass')
             return ()
         if name and name.isascii() and name not in properties.SURE_NAMES:
             raise Unknown(name)

@@ -325,14 +325,7 @@ class Calls:
         return [hexadecimal(it) for it in (one, "t" + one, "t" + plain, "t" + plain, "t" + one)]
 
     def build(self):
-        text = self.regex.pattern.text
-        try:
-            plain = Regex(text, Options())
-        except Refused as refused:
-            first = "!" + refused.names[0] if refused.complete and len(refused.names) == 1 else None
-        else:
-            first = told(plain)
-        return [first, first, told(self.regex)]
+        return of_build(self.regex.pattern.text, self.regex.options)
 
     def bytes(self):
         return [byte_set(self.regex.start_bytes), byte_set(self.regex.required)]
@@ -367,9 +360,18 @@ class Calls:
         return [*out, f"at {place}"]
 
 
-def told(regex):
-    """What is told of a regex without a search."""
-    return f"{regex.pattern.groups} groups, easy {'false' if regex.hard else 'true'}, {hexadecimal(regex.pattern.text)}"
+def of_build(pattern, options):
+    """The items of a build: twice under the default options, and under these."""
+    return [told(pattern, it) for it in (Options(), Options(), options)]
+
+
+def told(pattern, options):
+    """What is told of a regex without a search, or the refusals that its pattern may have."""
+    try:
+        regex = Regex(pattern, options)
+    except Refused as refused:
+        return refused_names(refused)
+    return f"{regex.pattern.groups} groups, easy {'false' if regex.hard else 'true'}, {hexadecimal(pattern)}"
 
 
 def byte_set(members):
@@ -381,12 +383,14 @@ def byte_set(members):
 # ------------------------------------------------------------------ asking
 
 def agrees(wanted, got):
-    """Whether the items of a program, or None, are what the model allows. An item that the model does not know is None."""
+    """Whether the items of a program, or None, are what the model allows. An item of the model is a text, a set of texts of which it is
+    one, or None, which may be anything."""
     if isinstance(wanted, frozenset):
-        return got is not None and len(got) == 1 and got[0] in wanted
+        wanted = [wanted]
     if wanted is None or got is None:
         return wanted is None and got is None
-    return len(wanted) == len(got) and all(one is None or one == other for one, other in zip(wanted, got))
+    return len(wanted) == len(got) and all(
+        one is None or (other in one if isinstance(one, frozenset) else one == other) for one, other in zip(wanted, got))
 
 
 def items_of(text):

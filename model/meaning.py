@@ -536,15 +536,13 @@ class Regex:
         return self.stands(inp, out[2]) and self.stands(inp, out[0])
 
     def ruled_out(self, inp, p):
-        """Whether the bytes that a match begins with and needs say that none starts at p."""
-        if not self.required <= set(inp.hay):
-            return True
+        """Whether the bytes that a match begins with say that none starts at p."""
         return self.start_bytes is not None and not (
             p < inp.limits[1] and inp.hay[p] in self.start_bytes)
 
     def skipped(self, inp, p):
         """Whether the option `seek` passes over the position."""
-        return self.options.seek and self.ruled_out(inp, p)
+        return self.options.seek and (not self.required <= set(inp.hay) or self.ruled_out(inp, p))
 
     def attempt(self, inp, p, t, counts):
         """The answer at one position; marks and returns are added to the counts."""
@@ -667,7 +665,7 @@ class Regex:
 
 class RegexSet:
     """A pattern set. Its members are asked at each position in index order. One that
-    cannot match there by its byte sets is passed over, so no limit of it is met."""
+    cannot begin with the byte there is passed over, so no limit of it is met."""
 
     def __init__(self, members):
         self.members = list(members)
