@@ -140,7 +140,7 @@ def build_kit():
 
 def sources_of_library():
     """The files that the library is built of."""
-    crates = [f"{library.ROOT}/crates.txt", f"{HERE}/library/lib.rt.txt", f"{HERE}/library.py"]
+    crates = [f"{library.ROOT}/crates.txt", f"{HERE}/library/lib.rt.txt"]
     for line in open(f"{library.ROOT}/crates.txt", encoding="utf-8"):
         name = line.split(":")[0].split()[0]
         for part in ("src", "specs", "proofs"):
@@ -155,7 +155,7 @@ def build_port(is_proved):
     if is_made(archive, stamp):
         return True
     if is_proved:
-        say("building this library over the proofs that are kept on this machine; where there are none, all is proved (see bench/README.md)")
+        say("building this library over the proofs that this machine keeps; where it has none, all is proved (see bench/README.md)")
     else:
         say("building this library without proof")
     log = f"{OUT}/port.log"
@@ -231,7 +231,7 @@ def measure(peer, work, seconds=5):
     try:
         return json.loads(ran.stdout)
     except ValueError:
-        return {"status": f"crashed: {ran.stderr.decode(errors='replace').strip()[-100:]}"}
+        return {"status": f"crashed: {ran.stderr.decode(errors='replace').strip()[:200]}"}
 
 
 def least(one, other):

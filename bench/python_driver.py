@@ -28,7 +28,7 @@ def matches_of(operation, code, text, replacement):
         return sum(fresh(code.pattern).search(line) is not None for line in text.split("\n"))
     if operation in ("find_lines", "captures_lines"):
         return sum(code.search(line) is not None for line in text.split("\n"))
-    if operation == "find_all":
+    if operation in ("find_all", "set_all"):
         return sum(1 for _ in code.finditer(text))
     return sum(match.groups() is not None for match in code.finditer(text))
 
@@ -52,7 +52,7 @@ def checksum(operation, code, text, replacement):
         return len(part.encode())
 
     def found(where):
-        with_groups = operation in ("captures_all", "captures_lines", "tokens", "set_all")
+        with_groups = operation in ("captures_all", "captures_lines", "tokens")
         places = None if where.isascii() else [0]
         if places:
             for character in where:
@@ -91,24 +91,24 @@ def report(operation, text, replacement, pattern):
     compile_us = 1e18
     try:
         for _ in range(5):
-            start = time.process_time_ns()
+            start = time.thread_time_ns()
             code = fresh(pattern)
-            compile_us = min(compile_us, (time.process_time_ns() - start) / 1000)
+            compile_us = min(compile_us, (time.thread_time_ns() - start) / 1000)
     except re.error as error:
         return {"status": f"refused: {error}"}
-    start = time.process_time_ns()
+    start = time.thread_time_ns()
     matches = matches_of(operation, code, text, replacement)
-    first = time.process_time_ns() - start
+    first = time.thread_time_ns() - start
     times = min(max(int(5e6 / max(first, 1)), 1), 100000)
-    least, begun = 1e18, time.process_time_ns()
+    least, begun = 1e18, time.thread_time_ns()
     for batch in range(60):
-        spent = time.process_time_ns() - begun
+        spent = time.thread_time_ns() - begun
         if spent > 2e9 or batch >= 3 and spent > 1e8:
             break
-        start = time.process_time_ns()
+        start = time.thread_time_ns()
         for _ in range(times):
             matches_of(operation, code, text, replacement)
-        least = min(least, (time.process_time_ns() - start) / times)
+        least = min(least, (time.thread_time_ns() - start) / times)
     kib = max(status_kib("VmHWM") - before, 0)
     total = checksum(operation, code, text, replacement)
     return {"status": "ok", "matches": matches, "checksum": total, "ns": round(least, 1), "compile_us": round(compile_us, 2), "kib": kib}

@@ -76,9 +76,14 @@ def plain(key):
     return show
 
 
+def heading(first, peers):
+    """The first two lines of a table with a column for each peer."""
+    return [f"| {first} | " + " | ".join(PEERS[it][2] for it in peers) + " |", "|---|" + "---:|" * len(peers)]
+
+
 def table(works, peers, found, show, bold=False):
     """A table with a row for each workload and a column for each peer."""
-    lines = ["| workload | " + " | ".join(PEERS[it][2] for it in peers) + " |", "|---|" + "---:|" * len(peers)]
+    lines = heading("workload", peers)
     for work in works:
         cells = [show(found.get(work["id"], {}), peer, work) for peer in peers]
         lines.append(f"| {work['id']} | " + " | ".join(cells) + " |")
@@ -121,10 +126,16 @@ def head(runs, works, found):
     for at, run in enumerate(runs):
         ids = {name for name, row in found.items() if any(it["run"] == at for it in row.values())}
         peers = [it for it in PEERS if any(row.get(it, {}).get("run") == at for row in found.values())]
+        versions = (f"{PEERS[it][2]} {run['versions'].get(it, '')}".strip() for it in peers)
         lines.append(f"- {run['date']}, commit {run['commit']}, {run['machine']}, load {run['load']} before and {run['load_after']} after; "
-                     f"{len(ids)} of {len(works)} workloads, each {run['rounds']} times, in {run['minutes']:.0f} minutes; this library is built "
-                     f"{run['library']}. Peers: " + ", ".join(f"{PEERS[it][2]} {run['versions'].get(it, '')}".strip() for it in peers) + ".")
+                     f"{len(ids)} of {len(works)} workloads in {run['minutes']:.0f} minutes, rounds: {run['rounds']}; this library is "
+                     f"built {run['library']}. Peers: {', '.join(versions)}.")
     return lines + [""]
+
+
+def in_a_row(text):
+    """A text as a table's cell."""
+    return " ".join(text.split()).replace("|", "\\|")
 
 
 def differences(works, found):
@@ -135,9 +146,10 @@ def differences(works, found):
         for peer, it in row.items():
             if it["status"] == "ok" and answer(it) != usual(row):
                 most = usual(row)
-                lines.append(f"| {work['id']} | {PEERS[peer][2]} | {it['matches']} matches, sum {it['checksum']} | {most[0]}, sum {most[1]} |")
+                told = f"{it['matches']} matches, sum {it['checksum']}"
+                lines.append(f"| {work['id']} | {PEERS[peer][2]} | {told} | {most[0]}, sum {most[1]} |")
             elif it["status"].startswith(("failed", "crashed")):
-                lines.append(f"| {work['id']} | {PEERS[peer][2]} | {it['status'][:90].replace('|', chr(92) + '|')} | |")
+                lines.append(f"| {work['id']} | {PEERS[peer][2]} | {in_a_row(it['status'])} | |")
     return lines
 
 
@@ -150,7 +162,7 @@ def write_page(kept, path=f"{HERE}/RESULTS.md"):
     groups = {group: [it for it in works if it["group"] == group] for group in workloads.GROUPS}
     out = head(kept["runs"], works, found)
     out += ["## Geometric means by group", ""]
-    out += ["| group | " + " | ".join(PEERS[it][2] for it in peers) + " |", "|---|" + "---:|" * len(peers)]
+    out += heading("group", peers)
     for group, chosen in groups.items():
         (_, values), _ = means(chosen, peers, found)
         out.append(f"| {group} | " + " | ".join(it.replace("**", "") for it in values) + " |")
@@ -163,7 +175,7 @@ def write_page(kept, path=f"{HERE}/RESULTS.md"):
     out += ["", "## Workloads", "", "| workload | operation | haystack | bytes | matches | pattern |", "|---|---|---|---:|---:|---|"]
     for work in works:
         most = usual(found.get(work["id"], {}))
-        pattern = workloads.pattern_of(work).replace("|", "\\|").replace("\n", "\\n")
-        out.append(f"| {work['id']} | {work['operation']} | {work['haystack']} | {work['bytes']} | {most[0] if most else ''} | `` {pattern} `` |")
+        count, pattern = most[0] if most else "", in_a_row(workloads.pattern_of(work))
+        out.append(f"| {work['id']} | {work['operation']} | {work['haystack']} | {work['bytes']} | {count} | `` {pattern} `` |")
     with open(path, "w", encoding="utf-8") as file:
         file.write("\n".join(out) + "\n")

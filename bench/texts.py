@@ -360,6 +360,7 @@ MAKERS = {
     "terminal.txt": terminal,
     "lines20.txt": lambda: short_lines(100000),
     "lines20f.txt": lambda: short_lines(3000),
+    "lines20t.txt": lambda: short_lines(300),
     "entries.txt": lambda: entries(20000),
     "ab28.txt": lambda: "ab" * 28 + "ac",
     "ab4000.txt": lambda: "ab" * 4000 + "ac",

@@ -14,8 +14,8 @@ from functools import lru_cache
 import charset
 from other_alphabetic import OTHER_ALPHABETIC
 
-# Simple foldings of characters whose full folding has several characters.
-_SIMPLE = {0x1E9E: 0xDF, 0x1FBC: 0x1FB3, 0x1FCC: 0x1FC3, 0x1FFC: 0x1FF3,
+# Simple foldings of characters whose full folding has several characters, and of one that was assigned after Unicode 14.
+_SIMPLE = {0x1E9E: 0xDF, 0x1DF95: 0xDF, 0x1FBC: 0x1FB3, 0x1FCC: 0x1FC3, 0x1FFC: 0x1FF3,
            0x1FD3: 0x390, 0x1FE3: 0x3B0, 0xFB05: 0xFB06}
 for _base in (0x1F88, 0x1F98, 0x1FA8):
     for _k in range(8):

@@ -19,7 +19,10 @@ unsafe extern "C" {
 
 impl Clock {
     pub fn now() -> Clock {
-        let mut time = Timespec { seconds: 0, nanoseconds: 0 };
+        let mut time = Timespec {
+            seconds: 0,
+            nanoseconds: 0,
+        };
         // SAFETY: it writes one timespec.
         unsafe { clock_gettime(THREAD, &mut time) };
         Clock(Duration::new(time.seconds as u64, time.nanoseconds as u32))

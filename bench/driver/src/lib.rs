@@ -23,9 +23,17 @@ pub trait Engine: Sized {
     /// Gives the start and the end of each match.
     fn each_match(&mut self, haystack: &str, f: impl FnMut(usize, usize)) -> Result<(), String>;
     /// Gives for each match its groups that took part, from 0 on: the group, its start and its end.
-    fn each_captures(&mut self, haystack: &str, f: impl FnMut(usize, usize, usize)) -> Result<(), String>;
+    fn each_captures(
+        &mut self,
+        haystack: &str,
+        f: impl FnMut(usize, usize, usize),
+    ) -> Result<(), String>;
     /// The same for the first match alone.
-    fn first_captures(&mut self, haystack: &str, f: impl FnMut(usize, usize, usize)) -> Result<(), String>;
+    fn first_captures(
+        &mut self,
+        haystack: &str,
+        f: impl FnMut(usize, usize, usize),
+    ) -> Result<(), String>;
     /// The length of the new text.
     fn replace_all(&mut self, haystack: &str, replacement: &str) -> Result<usize, String>;
     fn is_match(&mut self, haystack: &str) -> Result<bool, String> {
@@ -37,8 +45,8 @@ pub trait Engine: Sized {
         let haystack = std::hint::black_box(work.haystack.as_str());
         let mut counts = Counts::default();
         match work.operation.as_str() {
-            "find_all" => self.each_match(haystack, |s, e| counts.add(0, s, e))?,
-            "captures_all" | "tokens" | "set_all" => {
+            "find_all" | "set_all" => self.each_match(haystack, |s, e| counts.add(0, s, e))?,
+            "captures_all" | "tokens" => {
                 self.each_captures(haystack, |g, s, e| counts.add(g, s, e))?
             }
             "replace_all" => {
@@ -121,7 +129,9 @@ impl<E: Engine> Timed for Direct<E> {
     }
 
     fn repeat(work: &Workload, times: u64) -> Result<(), String> {
-        Direct(E::compile(&work.pattern())?).time(work, times).map(|_| ())
+        Direct(E::compile(&work.pattern())?)
+            .time(work, times)
+            .map(|_| ())
     }
 }
 
@@ -151,7 +161,11 @@ fn measure<T: Timed>(work: &Workload) -> Result<Measured, String> {
         }
         ns = if T::KEEPS_LEAST { time } else { ns.min(time) };
     }
-    Ok(Measured { counts, ns, compile_us })
+    Ok(Measured {
+        counts,
+        ns,
+        compile_us,
+    })
 }
 
 fn status_kib(field: &str) -> u64 {

@@ -50,7 +50,9 @@ impl<S: Shim> Shimmed<S> {
         let mut at = 0;
         let mut last = None;
         while at <= haystack.len() {
-            let Some((s, e)) = self.at(haystack, at)? else { break };
+            let Some((s, e)) = self.at(haystack, at)? else {
+                break;
+            };
             if s == e {
                 at = e + 1;
                 while !haystack.is_char_boundary(at) && at < haystack.len() {
@@ -77,12 +79,19 @@ impl<S: Shim> Engine for Shimmed<S> {
             let end = error.iter().position(|b| *b == 0).unwrap_or(error.len());
             return Err(String::from_utf8_lossy(&error[..end]).into_owned());
         }
-        Ok(Shimmed { re, marker: std::marker::PhantomData })
+        Ok(Shimmed {
+            re,
+            marker: std::marker::PhantomData,
+        })
     }
     fn find(&mut self, haystack: &str) -> Result<Option<(usize, usize)>, String> {
         self.at(haystack, 0)
     }
-    fn first_captures(&mut self, haystack: &str, mut f: impl FnMut(usize, usize, usize)) -> Result<(), String> {
+    fn first_captures(
+        &mut self,
+        haystack: &str,
+        mut f: impl FnMut(usize, usize, usize),
+    ) -> Result<(), String> {
         if self.at(haystack, 0)?.is_some() {
             for (g, span) in self.groups().chunks_exact(2).enumerate() {
                 if span[0] != usize::MAX {
@@ -92,7 +101,11 @@ impl<S: Shim> Engine for Shimmed<S> {
         }
         Ok(())
     }
-    fn each_match(&mut self, haystack: &str, mut f: impl FnMut(usize, usize)) -> Result<(), String> {
+    fn each_match(
+        &mut self,
+        haystack: &str,
+        mut f: impl FnMut(usize, usize),
+    ) -> Result<(), String> {
         self.walk(haystack, |_, s, e| f(s, e))
     }
     fn each_captures(

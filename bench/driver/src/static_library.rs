@@ -49,8 +49,11 @@ pub struct Linked<L> {
 }
 
 fn operation_of<L: Library>(work: &Workload) -> Result<u32, String> {
-    let is_of_set = matches!(work.operation.as_str(), "tokens" | "set_all");
-    let name = if is_of_set && !L::HAS_SETS { "captures_all" } else { &work.operation };
+    let name = match work.operation.as_str() {
+        "tokens" if !L::HAS_SETS => "captures_all",
+        "set_all" if !L::HAS_SETS => "find_all",
+        other => other,
+    };
     let place = OPERATIONS.iter().position(|it| *it == name);
     let number = place.ok_or_else(|| format!("no {name}"))? as u32;
     if std::env::var_os("BENCH_SEEK").is_some() {
@@ -61,7 +64,11 @@ fn operation_of<L: Library>(work: &Workload) -> Result<u32, String> {
 
 fn call<L: Library>(work: &Workload, haystack: &str, times: u64) -> Result<(Counts, f64), String> {
     let operation = operation_of::<L>(work)?;
-    let pattern = if L::HAS_SETS { work.patterns.join("\n") } else { work.pattern() };
+    let pattern = if L::HAS_SETS {
+        work.patterns.join("\n")
+    } else {
+        work.pattern()
+    };
     let mut counts = Counts::default();
     let start = Clock::now();
     // SAFETY: each pair is the pointer and the length of a slice that is borrowed for the call.
@@ -103,7 +110,14 @@ impl<L: Library> Timed for Linked<L> {
                 break;
             }
         }
-        Ok((Linked { one: f64::MAX, all: f64::MAX, marker: std::marker::PhantomData }, least))
+        Ok((
+            Linked {
+                one: f64::MAX,
+                all: f64::MAX,
+                marker: std::marker::PhantomData,
+            },
+            least,
+        ))
     }
 
     fn time(&mut self, work: &Workload, times: u64) -> Result<(Counts, f64), String> {

@@ -13,19 +13,34 @@ impl Workload {
     /// Reads the workload from standard input, and its haystack from the file.
     pub fn read() -> Workload {
         let mut text = String::new();
-        std::io::stdin().read_to_string(&mut text).expect("a workload of UTF-8");
+        std::io::stdin()
+            .read_to_string(&mut text)
+            .expect("a workload of UTF-8");
         let mut fields = text.split_terminator('\0').map(str::to_string);
-        let mut next = || fields.next().expect("an operation, a path, a replacement and patterns");
+        let mut next = || {
+            fields
+                .next()
+                .expect("an operation, a path, a replacement and patterns")
+        };
         let (operation, path, replacement) = (next(), next(), next());
         let haystack = std::fs::read_to_string(&path).expect("a haystack of UTF-8");
-        Workload { operation, haystack, replacement, patterns: fields.collect() }
+        Workload {
+            operation,
+            haystack,
+            replacement,
+            patterns: fields.collect(),
+        }
     }
 
     /// The pattern. Several are one, with a group for each.
     pub fn pattern(&self) -> String {
         match self.patterns.as_slice() {
             [one] => one.clone(),
-            several => several.iter().map(|it| format!("({it})")).collect::<Vec<_>>().join("|"),
+            several => several
+                .iter()
+                .map(|it| format!("({it})"))
+                .collect::<Vec<_>>()
+                .join("|"),
         }
     }
 }

@@ -14,7 +14,11 @@ impl Engine for Fancy {
             Err(e) => Err(e.to_string()),
         }
     }
-    fn first_captures(&mut self, haystack: &str, mut f: impl FnMut(usize, usize, usize)) -> Result<(), String> {
+    fn first_captures(
+        &mut self,
+        haystack: &str,
+        mut f: impl FnMut(usize, usize, usize),
+    ) -> Result<(), String> {
         if let Some(c) = self.0.captures(haystack).map_err(|e| e.to_string())? {
             for g in 0..c.len() {
                 if let Some(m) = c.get(g) {
@@ -27,7 +31,11 @@ impl Engine for Fancy {
     fn is_match(&mut self, haystack: &str) -> Result<bool, String> {
         self.0.is_match(haystack).map_err(|e| e.to_string())
     }
-    fn each_match(&mut self, haystack: &str, mut f: impl FnMut(usize, usize)) -> Result<(), String> {
+    fn each_match(
+        &mut self,
+        haystack: &str,
+        mut f: impl FnMut(usize, usize),
+    ) -> Result<(), String> {
         for m in self.0.find_iter(haystack) {
             let m = m.map_err(|e| e.to_string())?;
             f(m.start(), m.end());

@@ -6,7 +6,13 @@ unsafe extern "C" {}
 #[link(name = "onig")]
 unsafe extern "C" {}
 
-drivers::shim!(Onig, shim_onig_compile, shim_onig_search, shim_onig_spans, shim_onig_free);
+drivers::shim!(
+    Onig,
+    shim_onig_compile,
+    shim_onig_search,
+    shim_onig_spans,
+    shim_onig_free
+);
 
 fn main() {
     drive::<Direct<Shimmed<Onig>>>();

@@ -6,7 +6,13 @@ unsafe extern "C" {}
 #[link(name = "pcre2-8")]
 unsafe extern "C" {}
 
-drivers::shim!(Pcre2, shim_pcre2_compile, shim_pcre2_search, shim_pcre2_spans, shim_pcre2_free);
+drivers::shim!(
+    Pcre2,
+    shim_pcre2_compile,
+    shim_pcre2_search,
+    shim_pcre2_spans,
+    shim_pcre2_free
+);
 
 fn main() {
     drive::<Direct<Shimmed<Pcre2>>>();

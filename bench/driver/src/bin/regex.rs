@@ -6,12 +6,18 @@ struct Plain(Regex);
 
 impl Engine for Plain {
     fn compile(pattern: &str) -> Result<Self, String> {
-        Regex::new(pattern).map(Plain).map_err(|e| last_line(&e.to_string()))
+        Regex::new(pattern)
+            .map(Plain)
+            .map_err(|e| last_line(&e.to_string()))
     }
     fn find(&mut self, haystack: &str) -> Result<Option<(usize, usize)>, String> {
         Ok(self.0.find(haystack).map(|m| (m.start(), m.end())))
     }
-    fn first_captures(&mut self, haystack: &str, mut f: impl FnMut(usize, usize, usize)) -> Result<(), String> {
+    fn first_captures(
+        &mut self,
+        haystack: &str,
+        mut f: impl FnMut(usize, usize, usize),
+    ) -> Result<(), String> {
         if let Some(c) = self.0.captures(haystack) {
             for g in 0..c.len() {
                 if let Some(m) = c.get(g) {
@@ -24,7 +30,11 @@ impl Engine for Plain {
     fn is_match(&mut self, haystack: &str) -> Result<bool, String> {
         Ok(self.0.is_match(haystack))
     }
-    fn each_match(&mut self, haystack: &str, mut f: impl FnMut(usize, usize)) -> Result<(), String> {
+    fn each_match(
+        &mut self,
+        haystack: &str,
+        mut f: impl FnMut(usize, usize),
+    ) -> Result<(), String> {
         for m in self.0.find_iter(haystack) {
             f(m.start(), m.end());
         }
