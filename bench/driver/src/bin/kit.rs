@@ -1,0 +1,31 @@
+//! The toolchain's crate `regex`.
+use drivers::drive;
+use drivers::static_library::{Library, Linked, Run};
+use drivers::work::Counts;
+
+#[link(name = "kit_regex_c", kind = "static")]
+#[link(name = "libc_c", kind = "static")]
+unsafe extern "C" {
+    fn kit_regex_run(
+        operation: u32,
+        pattern: *const u8,
+        pattern_len: usize,
+        haystack: *const u8,
+        haystack_len: usize,
+        replacement: *const u8,
+        replacement_len: usize,
+        times: u64,
+        out: *mut Counts,
+    ) -> u32;
+}
+
+struct Kit;
+
+impl Library for Kit {
+    const RUN: Run = kit_regex_run;
+    const HAS_SETS: bool = false;
+}
+
+fn main() {
+    drive::<Linked<Kit>>();
+}
