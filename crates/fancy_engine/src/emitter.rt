@@ -1,6 +1,6 @@
 //! The code of a pattern while it is made.
 
-ghost use Rattle.std.specs.Prelude.{◌≡◌, ◌+◌, ◌<◌, IfOk, IsTrue, true, length, slice_set, false};
+ghost use Rattle.std.specs.Prelude.{◌≡◌, ◌+◌, ◌<◌, IfOk, IfSome, IsTrue, true, length, slice_set, false};
 ghost use Rattle.fancy_tree.specs.Pattern.{member_of, backreference};
 ghost use Rattle.fancy_tree.specs.Members.{edges_of};
 ghost use Rattle.fancy_engine.specs.Instructions.{are_known, is_known, edges_at};
@@ -14,16 +14,29 @@ use fancy_tree::set::Set;
 use fancy_tree::tree::Meaning;
 use std::alloc::{AllocError, Global};
 
+/// How many of the last sets are looked at for the next one.
+const LAST_FEW: usize = 8;
+
+/// How many edges may be compared in any code.
+const COMPARED_AT_FIRST: usize = 1 << 24;
+
+/// How many more may be compared for each set.
+const COMPARED_FOR_EACH: usize = 64;
+
 /// The instructions so far, and the sets in them.
 ///
 /// A repeat that emits its body more than once goes back before each further copy, by `next_set`, to the first set of the
-/// copy before; so each copy of a set finds the one that is there.
+/// copy before; so each copy of a set finds the one that is there. A set that is one of the last few before that is found, too.
+/// Each set makes room for a few more edges to be compared, so that the time is in proportion to the instructions, however many
+/// edges a set has; one that was not found is there once more, and shares its edges.
 #[derive(Drop)]
 pub(crate) struct Emitter {
     instrs: Vec<Instr>,
     sets: Vec<CharSet>,
     // the number of the next set, if that is there already
     pub(crate) next_set: usize,
+    // how many edges may be compared yet
+    comparable: usize,
     ghost known: { IsTrue (are_known (length sets.items) instrs.items) },
 }
 
@@ -40,6 +53,7 @@ impl Emitter {
             instrs: Vec::new(alloc),
             sets: Vec::new(alloc),
             next_set: 0,
+            comparable: COMPARED_AT_FIRST,
         }
     }
 
@@ -140,15 +154,45 @@ impl Emitter {
         self.put_both(read, still)
     }
 
-    /// The number of the set, which is shared with the copy before where there is one.
+    /// The number of this set, if it is one of the last few, or the next one of the copy before.
+    fn number_before(&self, set: &Set) -> Option<usize>
+        ensures within { IfSome result (λ number. number < length self.now.sets.items) }
+        ensures edges { IfSome result (λ number. edges_at self.now.sets.items number ≡ edges_of set.now) }
+    {
+        let first = self.next_set.saturating_sub(LAST_FEW);
+        let end = self.next_set.saturating_add(1).min(self.sets.len());
+        for number in first..end {
+            if self.sets[number].is_of(set) {
+                return Some(number);
+            }
+        }
+        None
+    }
+
+    /// The number of this set, if it was found by comparing no more edges than may be compared yet.
+    fn number_compared(&mut self, set: &Set) -> Option<usize>
+        ensures instrs { self.new.instrs ≡ self.old.instrs }
+        ensures sets { self.new.sets ≡ self.old.sets }
+        ensures within { IfSome result (λ number. number < length self.old.sets.items) }
+        ensures edges { IfSome result (λ number. edges_at self.old.sets.items number ≡ edges_of set.now) }
+    {
+        let edges = set.edges().len();
+        self.comparable = self.comparable.saturating_add(COMPARED_FOR_EACH);
+        if edges > self.comparable {
+            return None;
+        }
+        self.comparable -= edges;
+        self.number_before(set)
+    }
+
+    /// The number of the set, which is shared with one of the last few, or with the copy before, where one is the same.
     fn number_of(&mut self, set: &Set) -> Result<usize, AllocError>
         ensures instrs { IfOk result (λ _. emitted self.new ≡ emitted self.old) }
         ensures within { IfOk result (λ number. number < length self.new.sets.items) }
         ensures edges { IfOk result (λ number. edges_at self.new.sets.items number ≡ edges_of set.now) }
     {
-        let number = self.next_set;
-        if number < self.sets.len() && self.sets[number].is_of(set) {
-            self.next_set = number + 1;
+        if let Some(number) = self.number_compared(set) {
+            self.next_set = self.next_set.max(number + 1);
             return Ok(number);
         }
         let number = self.sets.len();
