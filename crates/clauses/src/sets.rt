@@ -11,13 +11,15 @@ ghost use Rattle.fancy_regex.specs.Inputs.{haystack_in, request_in};
 ghost use Rattle.fancy_regex.specs.Options.{by_default};
 ghost use Rattle.fancy_regex.specs.NextAnswers.{ByAnswer};
 ghost use Rattle.fancy_regex.specs.Remaining.{IfItem};
+ghost use Rattle.fancy_regex.specs.SetCounts.{AreAllEasy, most_steps_of_all};
 ghost use Rattle.fancy_regex.specs.SetMatches.{GivesMember, GivesRefusal, captures_of, haystack_of_set, match_span, members_to_come, next_member, pattern_index, position_of, question_of, request_of_set, set_of};
 ghost use Rattle.fancy_regex.specs.SetMembers.{RefusesSet, members_at, set_position};
 ghost use Rattle.fancy_regex.specs.Sets.{AreReadings, CanSearchAll, HaveOptions, RefusesFirst, asked_of_set, bytes_of_each, members_of};
+ghost use Rattle.fancy_regex.specs.Work.{returns_of, steps_of};
 
 use fancy_regex::{
     Captures, Input, Regex, RegexInput, RegexOptionsBuilder, RegexSet, RegexSetMatch,
-    RegexSetMatchesAt, Result,
+    RegexSetMatchesAt, Result, Work,
 };
 use std::alloc::Global;
 
@@ -86,6 +88,27 @@ pub fn find_input<S: Input>(
     ensures refused { IfErr result (RefusesSet (asked_of_set set.now S.bytes input)) }
 {
     set.find_input(input)
+}
+
+/// The same, and how much this call did: where all patterns are easy, no more steps than searches with each of them alone may take.
+pub fn find_input_counted<'r, S: Input>(
+    set: &'r RegexSet,
+    input: RegexInput<S>,
+    work: &mut Work,
+) -> Result<Option<RegexSetMatchesAt<'r, S>>>
+    requires searched { CanSearchAll S.text S.bytes set.now input }
+    ensures none { IfOk result
+        (λ m. (m ≡ None) ↔ (set_position (asked_of_set set.now S.bytes input) ≡ None)) }
+    ensures stands { IfOk result (λ m. IfSome m
+        (λ x. set_position (question_of S.bytes x) ≡ Some (position_of x))) }
+    ensures items { IfOk result (λ m. IfSome m
+        (λ x. members_to_come S.bytes x ≡ members_at (question_of S.bytes x) (position_of x))) }
+    ensures refused { IfErr result (RefusesSet (asked_of_set set.now S.bytes input)) }
+    ensures steps { AreAllEasy (members_of set.now) → steps_of work.new
+        ≤ most_steps_of_all (members_of set.now) (request_in input) }
+    ensures returns { returns_of work.new ≤ steps_of work.new }
+{
+    set.find_input_counted(input, work)
 }
 
 /// The next match there, or the refusal of a pattern, after which the next pattern comes.

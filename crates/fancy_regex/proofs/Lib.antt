@@ -11,6 +11,7 @@ pub mod SetCandidateLemmas
 pub mod TokenPickLemmas
 pub mod TokenLemmas
 pub mod TrialLemmas
+pub mod SetCountLemmas
 pub mod TokenSearchLemmas
 pub mod TokenGivenLemmas
 pub mod SetExampleLemmas

@@ -16,7 +16,7 @@ use Rattle.fancy_regex.specs.declared.set.trials.Trials.{Trials}
 use Rattle.fancy_regex.specs.Trials.{notes_at, NotedAt, AreNoted, AreNotedFrom, AreNotedBelow, IsOldOrNew, OthersStay, OthersStayBut}
 
 -- two numbers are the same or not
-either_one : (m n : ℕ) → (m ≡ n) ⊎ (m ≡ n → ⊥)
+pub either_one : (m n : ℕ) → (m ≡ n) ⊎ (m ≡ n → ⊥)
 either_one m n = elim (either_side m n) [ inl lt ↦ inr (λ e. omega (arith, lt, e)) | inr ge ↦ at (either_side n m) ge ] where
   at : ((n < m) ⊎ (m ≤ n)) → n ≤ m → (m ≡ n) ⊎ (m ≡ n → ⊥)
   at (inl lt) ge = inr (λ e. omega (arith, lt, e))
@@ -30,11 +30,17 @@ reaches_short found f place end is le short = rw is (at (nat_eq f.start place) r
   at false e = le
 
 -- notes that nothing was found out in are new
-pub noted_pushed : (xs : List AttemptNotes) (x notes : AttemptNotes) (k : ℕ) → x.kept ≡ None → slice_get (xs ++ x ∷ []) k ≡ Some notes → IsOldOrNew (slice_get xs k) notes
-noted_pushed [] x notes zero none h = inr (ap (λ (n : AttemptNotes). n.kept) (sym (same_Some x notes h)) ∙ none)
-noted_pushed [] x notes (suc k) none h = absurd (none-some notes h)
-noted_pushed (y ∷ ys) x notes zero none h = inl h
-noted_pushed (y ∷ ys) x notes (suc k) none h = noted_pushed ys x notes k none h
+pub noted_pushed : (xs : List AttemptNotes) (x : AttemptNotes) (k : ℕ) → x.kept ≡ None → IsOldOrNew (slice_get xs k) (slice_get (xs ++ x ∷ []) k)
+noted_pushed [] x zero none = inr (refl, none)
+noted_pushed [] x (suc k) none = inl refl
+noted_pushed (y ∷ ys) x zero none = inl refl
+noted_pushed (y ∷ ys) x (suc k) none = noted_pushed ys x k none
+
+-- notes that stayed, and then stayed again
+pub stays_twice : (old mid new : Option AttemptNotes) → IsOldOrNew old mid → IsOldOrNew mid new → IsOldOrNew old new
+stays_twice old mid new first (inl same) = subst (λ (n : Option AttemptNotes). IsOldOrNew old n) (sym same) first
+stays_twice old mid new (inl same) (inr fresh) = inr (sym same ∙ fresh.0, fresh.1)
+stays_twice old mid new (inr none) (inr fresh) = inr (none.0, fresh.1)
 
 pub get_set_other : (xs : List AttemptNotes) (i k : ℕ) (x : AttemptNotes) → (k ≡ i → ⊥) → slice_get (set xs i x) k ≡ slice_get xs k
 get_set_other [] i k x apart = refl
@@ -57,8 +63,8 @@ noted_now member haystack request place index xs x lt is notes at =
 
 -- notes that stayed, and then stayed but for one member
 pub stay_but : (index : ℕ) (old mid : Trials) (items : List AttemptNotes) → OthersStay old mid → ((k : ℕ) → (k ≡ index → ⊥) → slice_get items k ≡ notes_at mid k)
-    → (k : ℕ) (notes : AttemptNotes) → (k ≡ index → ⊥) → slice_get items k ≡ Some notes → IsOldOrNew (notes_at old k) notes
-stay_but index old mid items others same k notes apart got = others k notes (sym (same k apart) ∙ got)
+    → (k : ℕ) → (k ≡ index → ⊥) → IsOldOrNew (notes_at old k) (slice_get items k)
+stay_but index old mid items others same k apart = subst (λ (n : Option AttemptNotes). IsOldOrNew (notes_at old k) n) (sym (same k apart)) (others k)
 
 module _ (q : SetQuery) where
   -- notes that are new are kept for any place
@@ -66,14 +72,14 @@ module _ (q : SetQuery) where
   is_noted_new member place notes none = rw none tt
 
   -- so are those that are as they were, for the place that they were kept for
-  is_noted_still : (member : Regex) (place k : ℕ) (old : Trials) (notes : AttemptNotes) → IsOldOrNew (notes_at old k) notes → NotedAt k member q.haystack q.request place old
-      → KeepsNotes (program_in member) q.haystack q.request place notes
-  is_noted_still member place k old notes (inl is) noted = noted notes is
-  is_noted_still member place k old notes (inr none) noted = is_noted_new member place notes none
+  is_noted_still : (member : Regex) (place k : ℕ) (old : Trials) (new : Option AttemptNotes) (notes : AttemptNotes) → new ≡ Some notes → IsOldOrNew (notes_at old k) new
+      → NotedAt k member q.haystack q.request place old → KeepsNotes (program_in member) q.haystack q.request place notes
+  is_noted_still member place k old new notes is (inl same) noted = noted notes (sym same ∙ is)
+  is_noted_still member place k old new notes is (inr fresh) noted = is_noted_new member place notes (subst (λ (n : Option AttemptNotes). IfSome n (λ m. m.kept ≡ None)) is fresh.1)
 
   -- what a member found out is as it was, or new
   pub noted_still : (member : Regex) (place k : ℕ) (old new : Trials) → OthersStay old new → NotedAt k member q.haystack q.request place old → NotedAt k member q.haystack q.request place new
-  noted_still member place k old new others noted notes at = is_noted_still member place k old notes (others k notes at) noted
+  noted_still member place k old new others noted notes at = is_noted_still member place k old (notes_at new k) notes at (others k) noted
 
   -- before any member was tried
   pub none_tried : (These : ℕ → Type 0) (place : ℕ) (trials : Trials) → trials.notes.items ≡ [] → AreNoted These q place trials
@@ -89,7 +95,7 @@ module _ (q : SetQuery) where
   pub noted_past : (place next index : ℕ) (old new : Trials) → next ≤ index → OthersStayBut index old new
       → AreNotedFrom next q place old → AreNotedFrom (index + 1) q place new
   noted_past place next index old new le others noted k member from is notes at =
-      is_noted_still member place k old notes (others k notes (λ e. omega (arith, e, from)) at) (noted k member (omega (arith, le, from)) is)
+      is_noted_still member place k old (notes_at new k) notes at (others k (λ e. omega (arith, e, from))) (noted k member (omega (arith, le, from)) is)
 
   -- what one member found out, told of it by another name
   same_member : (place index k : ℕ) (member other : Regex) (new : Trials) → slice_get q.members index ≡ Some member → slice_get q.members k ≡ Some other → k ≡ index
@@ -105,7 +111,7 @@ module _ (q : SetQuery) where
   noted_with place from index member old new is others this noted k other reached at = here (either_one k index) where
     here : ((k ≡ index) ⊎ (k ≡ index → ⊥)) → NotedAt k other q.haystack q.request place new
     here (inl e) = same_member place index k member other new is at e this
-    here (inr apart) = λ notes here. is_noted_still other place k old notes (others k notes apart here) (noted k other reached at)
+    here (inr apart) = λ notes here. is_noted_still other place k old (notes_at new k) notes here (others k apart) (noted k other reached at)
 
   -- The members below one were tried at a place, and what they found ends at `end` or before. So it is of the member that was tried last.
   pub tried_below : (place next index at end later : ℕ) (member : Regex) (old new : Trials) → next ≤ index → slice_get q.members index ≡ Some member
@@ -117,8 +123,8 @@ module _ (q : SetQuery) where
     here (inl e) = λ notes got. noted_later (program_in other) q.haystack q.request at later notes reach (same_member at index k member other new is is' e this notes got)
     here (inr apart) = before (either_side k next) where
       before : ((k < next) ⊎ (next ≤ k)) → NotedAt k other q.haystack q.request later new
-      before (inl lt) = λ notes got. noted_later (program_in other) q.haystack q.request end later notes forth (is_noted_still other end k old notes (others k notes apart got) (below k other lt is'))
-      before (inr ge) = λ notes got. noted_later (program_in other) q.haystack q.request place later notes on (is_noted_still other place k old notes (others k notes apart got) (from k other ge is'))
+      before (inl lt) = λ notes got. noted_later (program_in other) q.haystack q.request end later notes forth (is_noted_still other end k old (notes_at new k) notes got (others k apart) (below k other lt is'))
+      before (inr ge) = λ notes got. noted_later (program_in other) q.haystack q.request place later notes on (is_noted_still other place k old (notes_at new k) notes got (others k apart) (from k other ge is'))
 
   -- all members, of those below one and those from it on
   pub tried_all : (place next end : ℕ) (trials : Trials) → place ≤ end

@@ -6,6 +6,7 @@ pub mod Laws
 pub mod SetMembers
 pub mod Candidates
 pub mod Trials
+pub mod SetCounts
 pub mod Sets
 pub mod SetAnswers
 pub mod SetMatches

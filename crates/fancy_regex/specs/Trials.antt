@@ -1,5 +1,5 @@
 -- What the members of a pattern set found out at the positions before.
-use Rattle.std.specs.Prelude.{◌≡◌, ◌≤◌, ◌<◌, ◌+◌, ◌⊎◌, ℕ, List, Option, Some, None, slice_get}
+use Rattle.std.specs.Prelude.{◌≡◌, ◌≤◌, ◌<◌, ◌+◌, ◌⊎◌, ℕ, List, Option, Some, None, IfSome, slice_get}
 use Rattle.fancy_input.specs.declared.input.Request.{Request}
 use Rattle.fancy_core.specs.declared.regex.Regex.{Regex}
 use Rattle.fancy_core.specs.Regexes.{program_in}
@@ -29,18 +29,17 @@ AreNotedFrom from q place trials = AreNoted (λ k. from ≤ k) q place trials
 abbrev pub AreNotedBelow : ℕ → SetQuery → ℕ → Trials → Type 0
 AreNotedBelow to q place trials = AreNoted (λ k. k < to) q place trials
 
--- these notes are as they were, or nothing was found out yet
-abbrev pub IsOldOrNew : Option AttemptNotes → AttemptNotes → Type 0
-IsOldOrNew old notes = (old ≡ Some notes) ⊎ (notes.kept ≡ None)
+-- the notes of a member are as they were, or there were none, and nothing was found out since
+abbrev pub IsOldOrNew : Option AttemptNotes → Option AttemptNotes → Type 0
+IsOldOrNew old new = (new ≡ old) ⊎ ((old ≡ None) × IfSome new (λ notes. notes.kept ≡ None))
 
 -- the notes of all members are as they were, or new
 abbrev pub OthersStay : Trials → Trials → Type 0
-OthersStay old new = (k : ℕ) (notes : AttemptNotes) → notes_at new k ≡ Some notes → IsOldOrNew (notes_at old k) notes
+OthersStay old new = (k : ℕ) → IsOldOrNew (notes_at old k) (notes_at new k)
 
 -- so are those of all members but the one with this index
 abbrev pub OthersStayBut : ℕ → Trials → Trials → Type 0
-OthersStayBut index old new =
-    (k : ℕ) (notes : AttemptNotes) → (k ≡ index → ⊥) → notes_at new k ≡ Some notes → IsOldOrNew (notes_at old k) notes
+OthersStayBut index old new = (k : ℕ) → (k ≡ index → ⊥) → IsOldOrNew (notes_at old k) (notes_at new k)
 
 -- the member that a set's matches ask next: past the one that has answered already
 abbrev pub next_asked : {A : Type 0} → Option A → ℕ → ℕ

@@ -7,7 +7,9 @@ ghost use Rattle.std.proofs.Props.{props};
 ghost use Rattle.fancy_bytes.specs.Lacks.{AreKnown};
 ghost use Rattle.fancy_input.specs.Inputs.{haystack_in, request_in};
 ghost use Rattle.fancy_input.specs.Requests.{effective_start};
+ghost use Rattle.fancy_engine.specs.Work.{steps_of, returns_of};
 ghost use Rattle.fancy_regex.specs.SetAnswers.{IsItemOf};
+ghost use Rattle.fancy_regex.specs.SetCounts.{AreAllEasy, most_steps_of_all};
 ghost use Rattle.fancy_regex.specs.Sets.{members_of, asked_of_set, CanSearchAll};
 ghost use Rattle.fancy_regex.specs.Trials.{AreNotedFrom, next_asked};
 
@@ -16,6 +18,7 @@ use crate::set::matched::RegexSetMatch;
 use crate::set::members::MemberAnswer;
 use crate::set::trials::Trials;
 use fancy_core::captures::Captures;
+use fancy_engine::work::Work;
 use fancy_input::input::{Haystack, Input};
 use fancy_input::regex_input::RegexInput;
 use fancy_tree::error::Result;
@@ -75,8 +78,41 @@ impl RegexSet {
             (λ m. IfSome m (IsAnswerOfSet S.bytes self.now (haystack_in input) (request_in input))) }
         ensures refused { IfErr result (RefusesSet (asked_of_set self.now S.bytes input)) }
     {
+        let mut work = Work::new();
+        self.find_input_counted(input, &mut work)
+    }
+
+    /// The same as [`RegexSet::find_input`], with the counts of the search: when it returns, `work` tells how much this call did,
+    /// after a refusal how much up to it. What was counted in `work` before is lost, and what the matches that it gives take later
+    /// is not counted. Steps are counted as far as [`usize::MAX`].
+    ///
+    /// ```text
+    /// let set = RegexSet::new(alloc, &["a*b", "a*c"])?;
+    /// let mut work = Work::new();
+    /// set.find_input_counted(RegexInput::new("aaaa"), &mut work)?    // None
+    /// work.steps()    // at most 5 times the code lengths of both
+    /// ```
+    ///
+    /// Where all patterns are easy, the steps are at most those that a search with each of them alone may take, added up.
+    pub fn find_input_counted<S: Input>(
+        &self,
+        input: RegexInput<S>,
+        work: &mut Work,
+    ) -> Result<Option<RegexSetMatchesAt<'_, S>>>
+        requires searched { CanSearchAll S.text S.bytes self.now input }
+        ensures none { IfOk result (λ m. (m ≡ None) ↔ (set_position (asked_of_set self.now S.bytes input) ≡ None)) }
+        ensures found { IfOk result
+            (λ m. IfSome m (IsAnswerOfSet S.bytes self.now (haystack_in input) (request_in input))) }
+        ensures refused { IfErr result (RefusesSet (asked_of_set self.now S.bytes input)) }
+        ensures steps { AreAllEasy (members_of self.now)
+            → steps_of work.new ≤ most_steps_of_all (members_of self.now) (request_in input) }
+        ensures returns { returns_of work.new ≤ steps_of work.new }
+    {
+        work.reset();
         let mut trials = Trials::new(*self.members.allocator());
-        let Some((position, first)) = self.first_answer(&input, &mut trials) else {
+        let first = self.first_answer(&input, &mut trials);
+        work.add(&trials.cache.work);
+        let Some((position, first)) = first else {
             return Ok(None);
         };
         let captures = first.answer?;

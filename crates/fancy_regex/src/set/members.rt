@@ -9,6 +9,7 @@ ghost use Rattle.fancy_regex.specs.Candidates.{IsNextStarter, NoStarterBetween};
 ghost use Rattle.fancy_regex.specs.SetMembers.{has_answer_at, set_position, NoneBetween, MayStartAt};
 ghost use Rattle.fancy_regex.specs.SetAnswers.{IsAnswerOf, IsFirstAnswer, IsFirstOfSet};
 ghost use Rattle.fancy_regex.specs.Sets.{members_of, asked_of_set, CanSearchAll};
+ghost use Rattle.fancy_regex.specs.SetCounts.{AreAllEasy, IsPaired, TakesSteps, most_steps_of_all, steps_in, steps_left_in};
 ghost use Rattle.fancy_regex.specs.Trials.{AreNotedFrom};
 
 use crate::set::RegexSet;
@@ -40,6 +41,9 @@ impl RegexSet {
         requires fresh { trials.old.notes.items ≡ [] }
         ensures known { AreKnown trials.new.cache.known (S.bytes (haystack_in input.now)) }
         ensures noted { IfSome result (λ a. AreNotedFrom (a.1.index + 1) (asked_of_set self.now S.bytes input.now) a.0 trials.new) }
+        ensures bounded { AreAllEasy (members_of self.now) → steps_in trials.new
+            ≤ steps_in trials.old + most_steps_of_all (members_of self.now) (request_in input.now) }
+        ensures paired { IsPaired trials.old → IsPaired trials.new }
         ensures none { IfNone result (set_position (asked_of_set self.now S.bytes input.now) ≡ None) }
         ensures first { IfSome result (λ a. IsFirstOfSet (asked_of_set self.now S.bytes input.now)
             (haystack_in input.now) a.0 a.1.index a.1.answer) }
@@ -109,6 +113,12 @@ impl RegexSet {
         ensures known { AreKnown trials.new.cache.known (S.bytes (haystack_in input.now)) }
         ensures noted { IfNone result (AreNotedFrom from (asked_of_set self.now S.bytes input.now) position trials.new) }
         ensures left { IfSome result (λ a. AreNotedFrom (a.index + 1) (asked_of_set self.now S.bytes input.now) position trials.new) }
+        ensures bounded { TakesSteps (asked_of_set self.now S.bytes input.now) trials.old trials.new
+            (steps_left_in (asked_of_set self.now S.bytes input.now) from position trials.old) 0 }
+        ensures spent { IfNone result (TakesSteps (asked_of_set self.now S.bytes input.now) trials.old trials.new
+            (steps_left_in (asked_of_set self.now S.bytes input.now) from position trials.old)
+            (steps_left_in (asked_of_set self.now S.bytes input.now) 0 (position + 1) trials.new)) }
+        ensures paired { IsPaired trials.old → IsPaired trials.new }
         ensures none { IfNone result
             (NoneBetween (asked_of_set self.now S.bytes input.now) position from (length (members_of self.now))) }
         ensures first { IfSome result (λ a. IsFirstAnswer (asked_of_set self.now S.bytes input.now)
@@ -162,6 +172,12 @@ impl RegexSet {
         ensures noted { IfNone result ((from : ℕ) → AreNotedFrom from (asked_of_set self.now S.bytes input.now) position trials.old
             → AreNotedFrom from (asked_of_set self.now S.bytes input.now) position trials.new) }
         ensures left { AreNotedFrom (index + 1) (asked_of_set self.now S.bytes input.now) position trials.new }
+        ensures bounded { TakesSteps (asked_of_set self.now S.bytes input.now) trials.old trials.new
+            (steps_left_in (asked_of_set self.now S.bytes input.now) index position trials.old) 0 }
+        ensures spent { IfNone result (TakesSteps (asked_of_set self.now S.bytes input.now) trials.old trials.new
+            (steps_left_in (asked_of_set self.now S.bytes input.now) index position trials.old)
+            (steps_left_in (asked_of_set self.now S.bytes input.now) (index + 1) position trials.new)) }
+        ensures paired { IsPaired trials.old → IsPaired trials.new }
         ensures none { IfNone result
             (has_answer_at (asked_of_set self.now S.bytes input.now) position index ≡ false) }
         ensures some { IfSome result (λ a. IsAnswerOf (asked_of_set self.now S.bytes input.now)

@@ -4,11 +4,11 @@
 //! that member, so an easy member takes no more steps at all positions together than one search of it does. The memory for that
 //! is taken as members are first tried; all other memory serves all members.
 
-ghost use Rattle.std.specs.Prelude.{◌≡◌, ◌≤◌, ◌<◌, ℕ, List, [], IfOk, IfErr, IfSome, IfNone, OnOk, length, vec_len, slice_get};
+ghost use Rattle.std.specs.Prelude.{◌≡◌, ◌≤◌, ◌<◌, ◌+◌, ℕ, true, List, [], IfOk, IfErr, IfSome, IfNone, OnOk, length, vec_len, slice_get};
 ghost use Rattle.fancy_bytes.specs.Lacks.{AreKnown};
 ghost use Rattle.fancy_core.specs.Captures.{spans_if, searched_in, found_by};
 ghost use Rattle.fancy_core.specs.Limited.{RefusesAt, AllowsAt};
-ghost use Rattle.fancy_core.specs.Regexes.{options_in, query};
+ghost use Rattle.fancy_core.specs.Regexes.{easy_in, options_in, query};
 ghost use Rattle.fancy_core.specs.Searches.{CanSearchInput, asked_by, groups_of_attempt};
 ghost use Rattle.fancy_input.specs.Inputs.{haystack_in, request_in};
 ghost use Rattle.fancy_input.specs.Requests.{effective_start};
@@ -35,12 +35,15 @@ pub(crate) struct Trials {
 }
 
 impl Trials {
-    ghost use Rattle.fancy_regex.specs.Trials.{NotedAt, OthersStay, OthersStayBut};
+    ghost use Rattle.fancy_regex.specs.SetCounts.{IsPaired, steps_in, steps_left};
+    ghost use Rattle.fancy_regex.specs.Trials.{NotedAt, OthersStay, OthersStayBut, notes_at};
 
     /// No member was tried yet, and no memory is taken.
     pub(crate) fn new(alloc: Global) -> Trials
         ensures notes { result.notes.items ≡ [] }
         ensures known { (haystack : List ℕ) → AreKnown result.cache.known haystack }
+        ensures steps { steps_in result ≡ 0 }
+        ensures paired { IsPaired result }
     {
         Trials {
             notes: Vec::new(alloc),
@@ -79,6 +82,12 @@ impl Trials {
         ensures notes { IfOk result (λ m. IfNone m
             (NotedAt index member.now (S.bytes (haystack_in input)) (request_in input) position self.new)) }
         ensures others { OthersStayBut index self.old self.new }
+        ensures bounded { easy_in member.now ≡ true → steps_in self.new
+            ≤ steps_in self.old + steps_left member.now (request_in input) position (notes_at self.old index) }
+        ensures spent { easy_in member.now ≡ true → IfOk result (λ m. IfNone m
+            (steps_in self.new + steps_left member.now (request_in input) (position + 1) (notes_at self.new index)
+            ≤ steps_in self.old + steps_left member.now (request_in input) position (notes_at self.old index))) }
+        ensures paired { IsPaired self.old → IsPaired self.new }
         ensures found { IfOk result (λ m. spans_if m ≡ groups_of_attempt (asked_by member.now S.bytes input) position) }
         ensures within { IfOk result (λ m. IfSome m (λ c. searched_in c ≡ haystack_in input)) }
         ensures regex { IfOk result (λ m. IfSome m (λ c. found_by c ≡ member.now)) }

@@ -1,6 +1,7 @@
 use Rattle.std.proofs.Common.{◌≤◌, arith, length}
 use Rattle.fancy_regex.specs.Sets.{asked_of_set}
 use Rattle.fancy_regex.proofs.SetCandidateLemmas.{none_to, none_one_more}
+use Rattle.fancy_regex.proofs.SetCountLemmas.{left_on, left_skipped}
 use Rattle.fancy_regex.proofs.set.RegexSet.answer_before.Goals as goal
 
 pub returns-in-Some-answer_of-clause-first : goal.returns-in-Some-answer_of-clause-first
@@ -24,6 +25,8 @@ members-preserved g c =
     record {
       known = c.answer_of.ensures.known;
       noted = c.in_default-answer_of.ensures.noted c.args.from c.members.invariant.noted;
+      taken = λ easy. omega (arith, c.members.invariant.taken easy, c.in_default-answer_of.ensures.spent easy, left_skipped q c.members.from c.in-Some.index c.args.position c.members.trials later);
+      paired = λ before. c.answer_of.ensures.paired (c.members.invariant.paired before);
       reached = omega (arith, first, later);
       none = none_one_more q c.args.position c.args.from c.in-Some.index
           (none_to q c.args.position c.args.next c.requires.byte c.args.from c.members.from c.in-Some.index c.members.invariant.none starter.none)
@@ -39,3 +42,16 @@ answer_of-requires-clause-noted g c k member le is =
     let reached = c.members.invariant.reached in
     let next = c.in-Some.ensures.reached in
     c.members.invariant.noted k member (omega (arith, le, reached, next)) is
+
+pub returns-in-Some-answer_of-clause-bounded : goal.returns-in-Some-answer_of-clause-bounded
+returns-in-Some-answer_of-clause-bounded g c easy =
+    let q = asked_of_set c.args.self.now g.S.Haystack.bytes c.args.input.now in
+    let later = c.in-Some.ensures.reached in
+    omega (arith, c.members.invariant.taken easy, c.answer_of.ensures.bounded easy, left_skipped q c.members.from c.in-Some.index c.args.position c.members.trials later)
+
+pub returns-clause-bounded : goal.returns-clause-bounded
+returns-clause-bounded g c easy = omega (arith, c.members.invariant.taken easy)
+
+pub returns-clause-spent : goal.returns-clause-spent
+returns-clause-spent g c easy =
+    omega (arith, c.members.invariant.taken easy, left_on (asked_of_set c.args.self.now g.S.Haystack.bytes c.args.input.now) c.members.from c.args.position c.members.trials)

@@ -3,6 +3,7 @@ use Rattle.fancy_bytes.specs.Lacks.{AreKnown}
 use Rattle.fancy_input.specs.Inputs.{haystack_in}
 use Rattle.fancy_regex.specs.SetMembers.{NoneBetween}
 use Rattle.fancy_regex.specs.Sets.{asked_of_set}
+use Rattle.fancy_regex.specs.SetCounts.{IsPaired, TakesSteps, steps_left_in}
 use Rattle.fancy_regex.specs.Trials.{AreNotedFrom}
 use Rattle.fancy_regex.proofs.set.RegexSet.answer_before.Given as goal
 
@@ -10,6 +11,10 @@ abbrev pub invariant-members : goal.invariant-members
 invariant-members g l = record {
   known : AreKnown l.trials.cache.known (g.S.Haystack.bytes (haystack_in l.input));
   noted : AreNotedFrom l.fn.from (asked_of_set l.self g.S.Haystack.bytes l.input) l.position l.trials;
+  taken : TakesSteps (asked_of_set l.self g.S.Haystack.bytes l.input) l.fn.trials l.trials
+      (steps_left_in (asked_of_set l.self g.S.Haystack.bytes l.input) l.fn.from l.position l.fn.trials)
+      (steps_left_in (asked_of_set l.self g.S.Haystack.bytes l.input) l.from l.position l.trials);
+  paired : IsPaired l.fn.trials → IsPaired l.trials;
   reached : l.fn.from ≤ l.from;
   none : NoneBetween (asked_of_set l.self g.S.Haystack.bytes l.input) l.position l.fn.from l.from;
 }

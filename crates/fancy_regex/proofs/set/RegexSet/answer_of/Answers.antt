@@ -2,6 +2,7 @@ use Rattle.std.proofs.Common.{refl, ap, ◌∙◌, arith}
 use Rattle.std.proofs.lemmas.Option.{slice_get_read}
 use Rattle.fancy_regex.specs.Sets.{asked_of_set}
 use Rattle.fancy_regex.proofs.TrialLemmas.{noted_past, noted_with}
+use Rattle.fancy_regex.proofs.SetCountLemmas.{easy_at, left_tried, part_left}
 use Rattle.fancy_regex.proofs.SetLemmas.{member_refuses, member_item}
 use Rattle.fancy_regex.proofs.set.RegexSet.answer_of.Goals as goal
 
@@ -41,3 +42,31 @@ returns-in-Ok-None-clause-noted g c from noted =
     noted_with (asked_of_set c.args.self.now g.S.Haystack.bytes c.args.input.now) c.args.position from c.args.index c.index.result.now c.args.trials.now c.attempt.new.self
     (slice_get_read c.args.self.now.members.items _ c.args.index c.index.result.now refl c.requires.member c.index.ensures)
     c.attempt.ensures.others (rw (c.in-Ok-None.field-0-is, c.again.ensures.haystack, c.again.ensures.request) at c.in-Ok-None.ensures.notes) noted
+
+pub returns-in-Err-clause-bounded : goal.returns-in-Err-clause-bounded
+returns-in-Err-clause-bounded g c easy =
+    let is = slice_get_read c.args.self.now.members.items _ c.args.index c.index.result.now refl c.requires.member c.index.ensures in
+    let q = asked_of_set c.args.self.now g.S.Haystack.bytes c.args.input.now in
+    let taken = rw c.again.ensures.request at (c.attempt.ensures.bounded (easy_at q.members c.args.index c.index.result.now easy is)) in
+    omega (arith, taken, part_left q c.args.index c.args.position c.index.result.now c.args.trials.now is)
+
+pub returns-in-Ok-Some-clause-bounded : goal.returns-in-Ok-Some-clause-bounded
+returns-in-Ok-Some-clause-bounded g c easy =
+    let is = slice_get_read c.args.self.now.members.items _ c.args.index c.index.result.now refl c.requires.member c.index.ensures in
+    let q = asked_of_set c.args.self.now g.S.Haystack.bytes c.args.input.now in
+    let taken = rw c.again.ensures.request at (c.attempt.ensures.bounded (easy_at q.members c.args.index c.index.result.now easy is)) in
+    omega (arith, taken, part_left q c.args.index c.args.position c.index.result.now c.args.trials.now is)
+
+pub returns-in-Ok-None-clause-bounded : goal.returns-in-Ok-None-clause-bounded
+returns-in-Ok-None-clause-bounded g c easy =
+    let is = slice_get_read c.args.self.now.members.items _ c.args.index c.index.result.now refl c.requires.member c.index.ensures in
+    let q = asked_of_set c.args.self.now g.S.Haystack.bytes c.args.input.now in
+    let taken = rw c.again.ensures.request at (c.attempt.ensures.bounded (easy_at q.members c.args.index c.index.result.now easy is)) in
+    omega (arith, taken, part_left q c.args.index c.args.position c.index.result.now c.args.trials.now is)
+
+pub returns-in-Ok-None-clause-spent : goal.returns-in-Ok-None-clause-spent
+returns-in-Ok-None-clause-spent g c easy =
+    let is = slice_get_read c.args.self.now.members.items _ c.args.index c.index.result.now refl c.requires.member c.index.ensures in
+    let q = asked_of_set c.args.self.now g.S.Haystack.bytes c.args.input.now in
+    let spent = rw (c.in-Ok-None.field-0-is, c.again.ensures.request) at (c.in-Ok-None.ensures.spent (easy_at q.members c.args.index c.index.result.now easy is)) in
+    left_tried q c.args.index c.args.position _ _ c.index.result.now c.args.trials.now c.attempt.new.self is c.attempt.ensures.others spent

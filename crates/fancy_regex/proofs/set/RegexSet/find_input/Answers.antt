@@ -3,7 +3,7 @@ use Rattle.fancy_input.specs.Inputs.{haystack_in}
 use Rattle.fancy_regex.specs.Sets.{asked_of_set}
 use Rattle.fancy_regex.specs.SetAnswers.{IsFirstOfSet}
 use Rattle.fancy_regex.proofs.SetLemmas.{stands_first, has_all_left, stands_not_nowhere}
-use Rattle.fancy_regex.proofs.set.RegexSet.find_input.Goals as goal
+use Rattle.fancy_regex.proofs.set.RegexSet.find_input_counted.Goals as goal
 
 pub returns-clause-none : goal.returns-clause-none
 returns-clause-none g c =

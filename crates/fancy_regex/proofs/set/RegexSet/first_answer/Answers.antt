@@ -1,5 +1,6 @@
 use Rattle.std.proofs.Common.{◌+◌, ◌≤◌, rules, arith, sym, ap, subst, take, ◌∙◌}
 use Rattle.fancy_regex.specs.Sets.{asked_of_set}
+use Rattle.fancy_regex.proofs.SetCountLemmas.{left_at_first}
 use Rattle.fancy_regex.proofs.SetLemmas.{passed_more, nowhere, if_none}
 use Rattle.fancy_regex.proofs.TrialLemmas.{none_tried, noted_on}
 use Rattle.fancy_regex.proofs.set.RegexSet.first_answer.Goals as goal
@@ -8,6 +9,8 @@ pub loop-position-preserved : goal.loop-position-preserved
 loop-position-preserved g c = record {
   known = c.answer_before.ensures.known;
   noted = noted_on (asked_of_set c.args.self.now g.S.Haystack.bytes c.args.input.now) (λ k. 0 ≤ k) c.loop-position.position (c.loop-position.position + 1) c.answer_before.new.trials (omega arith) (if_none _ c.answer_before.result c.in_default.not-Some c.answer_before.ensures.noted);
+  taken = λ easy. omega (arith, c.loop-position.invariant.taken easy, if_none _ c.answer_before.result c.in_default.not-Some c.answer_before.ensures.spent easy);
+  paired = λ before. c.answer_before.ensures.paired (c.loop-position.invariant.paired before);
   passed = passed_more (asked_of_set c.args.self.now g.S.Haystack.bytes c.args.input.now) c.loop-position.position c.answer_before.result c.in_default.not-Some c.answer_before.ensures.none c.loop-position.invariant.passed;
 }
 
@@ -21,5 +24,7 @@ pub loop-position-init : goal.loop-position-init
 loop-position-init g c = record {
   known = c.requires.known;
   noted = none_tried (asked_of_set c.args.self.now g.S.Haystack.bytes c.args.input.now) (λ k. 0 ≤ k) c.effective_start-first.result c.args.trials.now c.requires.fresh;
+  taken = λ easy. omega (arith, rw c.effective_start-first.ensures at left_at_first (asked_of_set c.args.self.now g.S.Haystack.bytes c.args.input.now) c.args.trials.now c.requires.fresh);
+  paired = λ before. before;
   passed = search rules;
 }

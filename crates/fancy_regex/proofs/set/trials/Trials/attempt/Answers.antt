@@ -1,13 +1,16 @@
-use Rattle.std.proofs.Common.{◌<◌, refl, set, arith}
+use Rattle.std.proofs.Common.{◌≡◌, ◌≤◌, ◌+◌, ◌<◌, ◌∙◌, Option, Some, refl, ap, set, slice_get, arith}
 use Rattle.std.proofs.lemmas.Option.{slice_get_read}
 use Rattle.fancy_input.specs.Inputs.{haystack_in, request_in}
 use Rattle.fancy_core.specs.Regexes.{program_in}
 use Rattle.fancy_search.specs.declared.cache.AttemptNotes.{AttemptNotes}
 use Rattle.fancy_search.specs.KeptTables.{KeepsNotes}
 use Rattle.fancy_search.proofs.KeptTablesLemmas.{none_so}
-use Rattle.fancy_search.proofs.ResultLemmas.{if_ok}
+use Rattle.fancy_search.proofs.ResultLemmas.{if_ok, if_ok_both}
 use Rattle.fancy_regex.specs.SetMembers.{asked_alone}
-use Rattle.fancy_regex.proofs.TrialLemmas.{noted_still, noted_now, stay_but, get_set_other}
+use Rattle.fancy_regex.proofs.TrialLemmas.{noted_still, noted_now, stay_but, get_set_other, get_set_same}
+use Rattle.fancy_regex.proofs.SetCountLemmas.{left_stays, none_again_after, none_both}
+use Rattle.fancy_regex.specs.SetCounts.{steps_left}
+use Rattle.fancy_regex.specs.Trials.{notes_at}
 use Rattle.fancy_regex.proofs.set.trials.Trials.attempt.Goals as goal
 
 pub attempt_at-requires-clause-notes : goal.attempt_at-requires-clause-notes
@@ -24,4 +27,24 @@ pub returns-clause-others : goal.returns-clause-others
 returns-clause-others g c = stay_but c.args.index c.args.self.now c.reach.new.self (set c.reach.new.self.notes.items c.args.index c.attempt_at.new.notes) c.reach.ensures.others (λ k apart. get_set_other c.reach.new.self.notes.items c.args.index k c.attempt_at.new.notes apart)
 
 pub returns-in_err-reach-clause-others : goal.returns-in_err-reach-clause-others
-returns-in_err-reach-clause-others g c k notes apart at = c.reach.ensures.others k notes at
+returns-in_err-reach-clause-others g c k apart = c.reach.ensures.others k
+
+pub returns-clause-bounded : goal.returns-clause-bounded
+returns-clause-bounded g c easy =
+    let place = slice_get_read c.reach.new.self.notes.items _ c.args.index c.index_mut-notes.result.now refl (omega (arith, c.in_ok-reach.ensures.reached, c.reach.new.self.notes.ok.0)) c.index_mut-notes.ensures.value in
+    let now = ap (steps_left c.args.member.now (request_in c.args.input) c.args.position) place in
+    let stays = left_stays c.args.member.now (request_in c.args.input) c.args.position (notes_at c.args.self.now c.args.index) (notes_at c.reach.new.self c.args.index) (c.reach.ensures.others c.args.index) in
+    omega (arith, now, stays, c.attempt_at.ensures.bounded easy, ap (λ w. w.work.steps) c.reach.ensures.cache)
+
+pub returns-clause-spent : goal.returns-clause-spent
+returns-clause-spent g c easy =
+    let within = omega (arith, c.in_ok-reach.ensures.reached, c.reach.new.self.notes.ok.0) in
+    let place = slice_get_read c.reach.new.self.notes.items _ c.args.index c.index_mut-notes.result.now refl within c.index_mut-notes.ensures.value in
+    let now = ap (steps_left c.args.member.now (request_in c.args.input) c.args.position) place in
+    let stays = left_stays c.args.member.now (request_in c.args.input) c.args.position (notes_at c.args.self.now c.args.index) (notes_at c.reach.new.self c.args.index) (c.reach.ensures.others c.args.index) in
+    let after = ap (steps_left c.args.member.now (request_in c.args.input) (c.args.position + 1)) (get_set_same c.reach.new.self.notes.items c.args.index c.attempt_at.new.notes within) in
+    if_ok_both _ _ _
+    (λ m noted spent. none_both _ _ _
+    (λ kept less. omega (arith, now, stays, after, less, none_again_after (program_in c.args.member.now) (g.S.Haystack.bytes (haystack_in c.args.input)) (request_in c.args.input) c.args.position c.attempt_at.new.notes kept, ap (λ w. w.work.steps) c.reach.ensures.cache))
+    m noted spent)
+    c.attempt_at.result c.attempt_at.ensures.notes (c.attempt_at.ensures.spent easy)

@@ -23,4 +23,4 @@ pub returns-clause-others : goal.returns-clause-others
 returns-clause-others c = stay_but c.args.index c.args.self.now c.reach.new.self (set c.reach.new.self.notes.items c.args.index c.find_at.new.notes) c.reach.ensures.others (λ k apart. get_set_other c.reach.new.self.notes.items c.args.index k c.find_at.new.notes apart)
 
 pub returns-in_err-reach-clause-others : goal.returns-in_err-reach-clause-others
-returns-in_err-reach-clause-others c k notes apart at = c.reach.ensures.others k notes at
+returns-in_err-reach-clause-others c k apart = c.reach.ensures.others k
