@@ -88,26 +88,26 @@ sum_le_below f g (suc n) each = omega (arith, sum_le_below f g n (λ k lt. each 
 
 sum_trade : (f g : ℕ → ℕ) (before after j n : ℕ) → ((k : ℕ) → (k ≡ j → ⊥) → f k ≤ g k) → j < n → after + f j ≤ before + g j → after + sum_to f n ≤ before + sum_to g n
 sum_trade f g before after j zero each lt trade = absurd (omega (arith, lt))
-sum_trade f g before after j (suc n) each lt trade = at (either_one j n) where
-  at : ((j ≡ n) ⊎ (j ≡ n → ⊥)) → after + sum_to f (suc n) ≤ before + sum_to g (suc n)
-  at (inl same) = omega (arith, sum_le_below f g n (λ k lt. each k (λ e. absurd (omega (arith, e, same, lt)))), subst (λ (k : ℕ). after + f k ≤ before + g k) same trade)
-  at (inr apart) = below (either_side j n) where
+sum_trade f g before after j (suc n) each lt trade = at (either_one j n) (λ less. sum_trade f g before after j n each less trade) where
+  at : ((j ≡ n) ⊎ (j ≡ n → ⊥)) → (j < n → after + sum_to f n ≤ before + sum_to g n) → after + sum_to f (suc n) ≤ before + sum_to g (suc n)
+  at (inl same) rest = omega (arith, sum_le_below f g n (λ k lt. each k (λ e. absurd (omega (arith, e, same, lt)))), subst (λ (k : ℕ). after + f k ≤ before + g k) same trade)
+  at (inr apart) rest = below (either_side j n) where
     below : ((j < n) ⊎ (n ≤ j)) → after + sum_to f (suc n) ≤ before + sum_to g (suc n)
-    below (inl less) = omega (arith, sum_trade f g before after j n each less trade, each n (λ e. apart (sym e)))
+    below (inl less) = omega (arith, rest less, each n (λ e. apart (sym e)))
     below (inr more) = absurd (apart (omega (arith, more, lt)))
 
 -- a sum over the members by their indices is one over the list
 sum_members : (f : Regex → ℕ) (xs : List Regex) (g : ℕ → ℕ) (n : ℕ) → n ≤ length xs → ((k : ℕ) (r : Regex) → slice_get xs k ≡ Some r → g k ≡ f r)
     → sum_to g n ≡ sum_by f (take n xs)
 sum_members f xs g zero le each = refl
-sum_members f xs g (suc n) le each = at (slice_get_cases xs n).1 where
-  at : (((x : Regex) × (n < length xs) × (slice_get xs n ≡ Some x) × (get_or xs n x ≡ x)) ⊎ ((length xs ≤ n) × (slice_get xs n ≡ None))) → sum_to g (suc n) ≡ sum_by f (take (suc n) xs)
-  at (inl found) =
+sum_members f xs g (suc n) le each = at (slice_get_cases xs n).1 (sum_members f xs g n (omega (arith, le)) each) where
+  at : (((x : Regex) × (n < length xs) × (slice_get xs n ≡ Some x) × (get_or xs n x ≡ x)) ⊎ ((length xs ≤ n) × (slice_get xs n ≡ None))) → sum_to g n ≡ sum_by f (take n xs) → sum_to g (suc n) ≡ sum_by f (take (suc n) xs)
+  at (inl found) rest =
       let next : n + 1 ≡ suc n = omega arith in
       let more = sum_by_more f xs n found.0 found.1 in
       let step = ap (λ (m : ℕ). sum_by f (take m xs)) next in
-      omega (arith, more, step, each n found.0 found.2, ap f found.3, sum_members f xs g n (omega (arith, le)) each)
-  at (inr past) = absurd (omega (arith, le, past.0))
+      omega (arith, more, step, each n found.0 found.2, ap f found.3, rest)
+  at (inr past) rest = absurd (omega (arith, le, past.0))
 
 module _ (q : SetQuery) where
   -- what is left for the member with an index

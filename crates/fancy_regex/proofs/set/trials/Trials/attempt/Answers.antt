@@ -1,4 +1,4 @@
-use Rattle.std.proofs.Common.{◌≡◌, ◌≤◌, ◌+◌, ◌<◌, ◌∙◌, Option, Some, refl, ap, set, slice_get, arith}
+use Rattle.std.proofs.Common.{◌≡◌, ◌≤◌, ◌+◌, ◌<◌, ◌∙◌, Option, Some, refl, ap, set, length, slice_get, arith}
 use Rattle.std.proofs.lemmas.Option.{slice_get_read}
 use Rattle.fancy_input.specs.Inputs.{haystack_in, request_in}
 use Rattle.fancy_core.specs.Regexes.{program_in}
@@ -38,7 +38,7 @@ returns-clause-bounded g c easy =
 
 pub returns-clause-spent : goal.returns-clause-spent
 returns-clause-spent g c easy =
-    let within = omega (arith, c.in_ok-reach.ensures.reached, c.reach.new.self.notes.ok.0) in
+    let within : c.args.index < length c.reach.new.self.notes.items = omega (arith, c.in_ok-reach.ensures.reached, c.reach.new.self.notes.ok.0) in
     let place = slice_get_read c.reach.new.self.notes.items _ c.args.index c.index_mut-notes.result.now refl within c.index_mut-notes.ensures.value in
     let now = ap (steps_left c.args.member.now (request_in c.args.input) c.args.position) place in
     let stays = left_stays c.args.member.now (request_in c.args.input) c.args.position (notes_at c.args.self.now c.args.index) (notes_at c.reach.new.self c.args.index) (c.reach.ensures.others c.args.index) in
