@@ -24,5 +24,5 @@ returns-clause-found g c =
       items = has_all_left q (haystack_in c.args.input) c.in-Some.position c.in-Some.first.index c.in_ok-captures.captures first;
     }
 
-pub first_answer-requires-clause-known : goal.first_answer-requires-clause-known
-first_answer-requires-clause-known g c = c.new-trials.ensures.known _
+pub first_answer-first-requires-clause-known : goal.first_answer-first-requires-clause-known
+first_answer-first-requires-clause-known g c = c.new-trials.ensures.known _

@@ -1,4 +1,6 @@
-use Rattle.std.proofs.Common.{◌+◌, ◌≤◌, rules, arith, sym, ap, subst, take, ◌∙◌}
+use Rattle.std.proofs.Common.{ℕ, ◌+◌, ◌≤◌, rules, arith, sym, ap, subst, take, ◌∙◌}
+use Rattle.fancy_input.specs.Requests.{effective_start}
+use Rattle.fancy_regex.specs.SetCounts.{most_steps_of_all, steps_left_in}
 use Rattle.fancy_regex.specs.Sets.{asked_of_set}
 use Rattle.fancy_regex.proofs.SetCountLemmas.{left_at_first}
 use Rattle.fancy_regex.proofs.SetLemmas.{passed_more, nowhere, if_none}
@@ -24,7 +26,10 @@ pub loop-position-init : goal.loop-position-init
 loop-position-init g c = record {
   known = c.requires.known;
   noted = none_tried (asked_of_set c.args.self.now g.S.Haystack.bytes c.args.input.now) (λ k. 0 ≤ k) c.effective_start-first.result c.args.trials.now c.requires.fresh;
-  taken = λ easy. omega (arith, rw c.effective_start-first.ensures at left_at_first (asked_of_set c.args.self.now g.S.Haystack.bytes c.args.input.now) c.args.trials.now c.requires.fresh);
+  taken = λ easy.
+      let q = asked_of_set c.args.self.now g.S.Haystack.bytes c.args.input.now in
+      let first = c.effective_start-first.ensures ∙ ap effective_start c.request-request.ensures.value in
+      omega (arith, subst (λ (p : ℕ). steps_left_in q 0 p c.args.trials.now ≤ most_steps_of_all q.members q.request) (sym first) (left_at_first q c.args.trials.now c.requires.fresh));
   paired = λ before. before;
   passed = search rules;
 }
