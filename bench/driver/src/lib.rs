@@ -152,7 +152,7 @@ fn measure<T: Timed>(work: &Workload) -> Result<Measured, String> {
     let begun = Clock::now();
     for batch in 0..60 {
         let spent = begun.elapsed();
-        if spent > Duration::from_secs(2) || batch >= 3 && spent > Duration::from_millis(100) {
+        if spent > Duration::from_secs(1) || batch >= 3 && spent > Duration::from_millis(100) {
             break;
         }
         let (again, time) = timed.time(work, times).map_err(failed)?;
