@@ -103,7 +103,7 @@ def report(operation, text, replacement, pattern):
     least, begun = 1e18, time.thread_time_ns()
     for batch in range(60):
         spent = time.thread_time_ns() - begun
-        if spent > 2e9 or batch >= 3 and spent > 1e8:
+        if spent > 1e9 or batch >= 3 and spent > 1e8:
             break
         start = time.thread_time_ns()
         for _ in range(times):

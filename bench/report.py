@@ -81,15 +81,16 @@ def heading(first, peers):
     return [f"| {first} | " + " | ".join(PEERS[it][2] for it in peers) + " |", "|---|" + "---:|" * len(peers)]
 
 
-def table(works, peers, found, show, bold=False):
+def table(works, peers, found, show, with_means=False):
     """A table with a row for each workload and a column for each peer."""
     lines = heading("workload", peers)
     for work in works:
-        cells = [show(found.get(work["id"], {}), peer, work) for peer in peers]
+        cells = [show(found[work["id"]], peer, work) for peer in peers]
         lines.append(f"| {work['id']} | " + " | ".join(cells) + " |")
-    if bold:
+    if with_means:
         for name, values in means(works, peers, found):
-            lines.append(f"| {name} | " + " | ".join(values) + " |")
+            if any(values):
+                lines.append(f"| {name} | " + " | ".join(values) + " |")
     return lines
 
 
@@ -100,7 +101,7 @@ def mean(values):
 
 def times(works, peer, found):
     """The time of each workload that the peer did, by its name."""
-    rows = ((work, found.get(work["id"], {}).get(peer)) for work in works)
+    rows = ((work, found[work["id"]].get(peer)) for work in works)
     return {work["id"]: max(ns_per_byte(it, work), 1e-4) for work, it in rows if it and it["status"] == "ok"}
 
 
@@ -127,9 +128,10 @@ def head(runs, works, found):
         ids = {name for name, row in found.items() if any(it["run"] == at for it in row.values())}
         peers = [it for it in PEERS if any(row.get(it, {}).get("run") == at for row in found.values())]
         versions = (f"{PEERS[it][2]} {run['versions'].get(it, '')}".strip() for it in peers)
+        built = f"; this library is built {run['library']}" if {"port", "seek"} & set(peers) else ""
         lines.append(f"- {run['date']}, commit {run['commit']}, {run['machine']}, load {run['load']} before and {run['load_after']} after; "
-                     f"{len(ids)} of {len(works)} workloads in {run['minutes']:.0f} minutes, rounds: {run['rounds']}; this library is "
-                     f"built {run['library']}. Peers: {', '.join(versions)}.")
+                     f"{len(ids)} of {len(works)} workloads in {run['minutes']:.1f} minutes, rounds: {run['rounds']}{built}. "
+                     f"Peers: {', '.join(versions)}.")
     return lines + [""]
 
 
@@ -142,7 +144,7 @@ def differences(works, found):
     """Where an answer differs, and what a peer said that gave none."""
     lines = ["| workload | peer | answer, or what it said | most peers |", "|---|---|---|---|"]
     for work in works:
-        row = found.get(work["id"], {})
+        row = found[work["id"]]
         for peer, it in row.items():
             if it["status"] == "ok" and answer(it) != usual(row):
                 most = usual(row)
@@ -155,11 +157,14 @@ def differences(works, found):
 
 def write_page(kept, path=f"{HERE}/RESULTS.md"):
     """Writes RESULTS.md."""
-    works, found = workloads.read(), kept["found"]
+    found = kept["found"]
+    works = [it for it in workloads.read() if it["id"] in found]
     for work in works:
-        work["bytes"] = max((it.get("bytes", 0) for it in found.get(work["id"], {}).values()), default=0)
+        work["bytes"] = max(it["bytes"] for it in found[work["id"]].values())
     peers = [it for it in PEERS if any(it in row for row in found.values())]
-    groups = {group: [it for it in works if it["group"] == group] for group in workloads.GROUPS}
+    groups = {it["group"]: [] for it in works}
+    for work in works:
+        groups[work["group"]].append(work)
     out = head(kept["runs"], works, found)
     out += ["## Geometric means by group", ""]
     out += heading("group", peers)
@@ -167,14 +172,15 @@ def write_page(kept, path=f"{HERE}/RESULTS.md"):
         (_, values), _ = means(chosen, peers, found)
         out.append(f"| {group} | " + " | ".join(it.replace("**", "") for it in values) + " |")
     for group, chosen in groups.items():
-        out += ["", f"## {group.capitalize()}", "", workloads.GROUPS[group].capitalize() + ".", ""]
-        out += table(chosen, peers, found, cell, bold=True)
+        users = workloads.GROUPS[group]
+        out += ["", f"## {group.capitalize()}", "", users[0].upper() + users[1:] + ".", ""]
+        out += table(chosen, peers, found, cell, with_means=True)
     out += ["", "## Building a pattern: microseconds", ""] + table(works, peers, found, plain("compile_us"))
     out += ["", "## Memory: peak of the resident set over that before, KiB", ""] + table(works, peers, found, plain("kib"))
     out += ["", "## Answers that differ, and peers that gave none", ""] + differences(works, found)
     out += ["", "## Workloads", "", "| workload | operation | haystack | bytes | matches | pattern |", "|---|---|---|---:|---:|---|"]
     for work in works:
-        most = usual(found.get(work["id"], {}))
+        most = usual(found[work["id"]])
         count, pattern = most[0] if most else "", in_a_row(workloads.pattern_of(work))
         out.append(f"| {work['id']} | {work['operation']} | {work['haystack']} | {work['bytes']} | {count} | `` {pattern} `` |")
     with open(path, "w", encoding="utf-8") as file:

@@ -46,7 +46,7 @@ def chosen(words):
 
 def pattern_of(work):
     """The pattern as a table shows it."""
-    if "kinds" in work:
+    pattern = work["pattern"] if "pattern" in work else "  ".join(work["kinds"])
+    if "kinds" in work and len(pattern) > 70:
         return f"{len(work['kinds'])} patterns"
-    pattern = work["pattern"]
     return pattern if len(pattern) <= 70 else pattern[:68] + " .."

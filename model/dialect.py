@@ -207,12 +207,12 @@ class _Parser:
     def run(self):
         """pattern = alt. None where reading had to stop."""
         try:
-            tree = self.alt()
+            parts = [self.alt()]
             while self.pos < len(self.t):      # an unmatched `)`
                 self.fault('GeneralParseError')
                 self.pos += 1
-                tree = self.alt()
-            return tree
+                parts.append(self.alt())
+            return parts[0] if len(parts) == 1 else Seq(tuple(parts))
         except _Stop:
             return None
 

@@ -328,7 +328,7 @@ class Calls:
         return of_build(self.regex.pattern.text, self.regex.options)
 
     def bytes(self):
-        return [byte_set(self.regex.start_bytes), byte_set(self.regex.required)]
+        return of_bytes(self.regex.pattern.text, self.regex.options)
 
     def escape(self):
         ways = (templates.escape, Expander().escape, Expander.python().escape)
@@ -363,6 +363,15 @@ class Calls:
 def of_build(pattern, options):
     """The items of a build: twice under the default options, and under these."""
     return [told(pattern, it) for it in (Options(), Options(), options)]
+
+
+def of_bytes(pattern, options):
+    """The items of the byte sets of a pattern."""
+    try:
+        regex = Regex(pattern, options)
+    except Refused as refused:
+        return [refused_names(refused)] * 2
+    return [byte_set(regex.start_bytes), byte_set(regex.required)]
 
 
 def told(pattern, options):

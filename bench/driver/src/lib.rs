@@ -152,7 +152,7 @@ fn measure<T: Timed>(work: &Workload) -> Result<Measured, String> {
     let begun = Clock::now();
     for batch in 0..60 {
         let spent = begun.elapsed();
-        if spent > Duration::from_secs(2) || batch >= 3 && spent > Duration::from_millis(100) {
+        if spent > Duration::from_secs(1) || batch >= 3 && spent > Duration::from_millis(100) {
             break;
         }
         let (again, time) = timed.time(work, times).map_err(failed)?;
@@ -176,6 +176,20 @@ fn status_kib(field: &str) -> u64 {
         .unwrap_or(0)
 }
 
+/// A text as JSON has it.
+fn quoted(text: &str) -> String {
+    let mut out = String::from("\"");
+    for c in text.chars() {
+        match c {
+            '"' | '\\' => out.extend(['\\', c]),
+            ' '.. => out.push(c),
+            _ => out.push_str(&format!("\\u{:04x}", c as u32)),
+        }
+    }
+    out.push('"');
+    out
+}
+
 /// The line of a workload. Its memory is the peak of the resident set less what it was before.
 fn report<T: Timed>(work: &Workload) -> String {
     // This sets the peak back; where it may not be written, the memory is that of the whole process.
@@ -188,7 +202,7 @@ fn report<T: Timed>(work: &Workload) -> String {
             "{{\"status\":\"ok\",\"matches\":{},\"checksum\":{},\"ns\":{:.1},\"compile_us\":{:.2},\"kib\":{kib}}}",
             it.counts.matches, it.counts.checksum, it.ns, it.compile_us
         ),
-        Err(e) => format!("{{\"status\":{e:?}}}").replace("\\'", "'"),
+        Err(e) => format!("{{\"status\":{}}}", quoted(&e)),
     }
 }
 
