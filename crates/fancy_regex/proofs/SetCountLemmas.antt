@@ -1,6 +1,6 @@
 -- How many steps the members of a set may still take, from position to position.
-use Rattle.std.proofs.Common.{◌≡◌, ◌≤◌, ◌<◌, ◌+◌, ◌-◌, ◌*◌, ◌⊎◌, ℕ, zero, suc, Bool, true, false, List, [], ◌∷◌, length, take, Option, Some, None, inl, inr, refl, sym, ◌∙◌, ap, subst, arith, slice_get, get_or, if◌then◌else◌, IfSome, IfNone}
-use Rattle.std.specs.Prelude.{All, sum_by, nat_lt, min}
+use Rattle.std.proofs.Common.{◌≡◌, ◌≤◌, ◌<◌, ◌+◌, ◌-◌, ◌⊎◌, ℕ, zero, suc, Bool, true, false, List, [], length, take, Option, Some, None, inl, inr, refl, sym, ◌∙◌, ap, subst, arith, slice_get, get_or, if◌then◌else◌, IfSome, IfNone}
+use Rattle.std.specs.Prelude.{sum_by, nat_lt}
 use Rattle.std.proofs.lemmas.Bool.{ltb-true, ltb-false, le-ltb}
 use Rattle.std.proofs.lemmas.List.Sums.{sum_by_more, sum_by-take-le}
 use Rattle.std.proofs.lemmas.Option.{slice_get_within, slice_get_cases, get_or_from_slice_get}
@@ -17,11 +17,11 @@ use Rattle.fancy_engine.proofs.MarkingLemmas.{times_le, either_side}
 use Rattle.fancy_engine.proofs.SumLemmas.{sum_le, sum_less}
 use Rattle.fancy_search.specs.declared.cache.AttemptNotes.{AttemptNotes}
 use Rattle.fancy_search.specs.declared.program.Program.{Program}
-use Rattle.fancy_search.specs.KeptTables.{KeepsNotes, notes_ahead, notes_again}
+use Rattle.fancy_search.specs.KeptTables.{KeepsNotes, notes_again}
 use Rattle.fancy_search.specs.Options.{search_options}
 use Rattle.fancy_core.specs.declared.regex.Regex.{Regex}
 use Rattle.fancy_core.specs.Limited.{most_steps_of}
-use Rattle.fancy_core.specs.Regexes.{easy_in, length_in, program_in}
+use Rattle.fancy_core.specs.Regexes.{easy_in, length_in}
 use Rattle.fancy_regex.specs.SetCounts.{AreAllEasy, most_steps_of_all, next_place, steps_left, steps_left_of, steps_left_in}
 use Rattle.fancy_regex.specs.SetMembers.{SetQuery}
 use Rattle.fancy_regex.specs.Trials.{IsOldOrNew, OthersStayBut, notes_at}

@@ -6,7 +6,6 @@ use Rattle.fancy_input.specs.declared.input.Request.{Request}
 use Rattle.fancy_core.specs.declared.regex.Regex.{Regex}
 use Rattle.fancy_core.specs.Regexes.{program_in}
 use Rattle.fancy_engine.proofs.MarkingLemmas.{either_side}
-use Rattle.fancy_engine.specs.declared.notes.KeptTable.{KeptTable}
 use Rattle.fancy_search.specs.declared.cache.AttemptNotes.{AttemptNotes}
 use Rattle.fancy_engine.specs.declared.found.Found.{Found}
 use Rattle.fancy_search.specs.KeptTables.{KeepsNotes, kept_from}

@@ -1,4 +1,4 @@
-use Rattle.std.proofs.Common.{◌≤◌, arith, length}
+use Rattle.std.proofs.Common.{arith, length}
 use Rattle.fancy_regex.specs.Sets.{asked_of_set}
 use Rattle.fancy_regex.proofs.SetCandidateLemmas.{none_to, none_one_more}
 use Rattle.fancy_regex.proofs.SetCountLemmas.{left_on, left_skipped}

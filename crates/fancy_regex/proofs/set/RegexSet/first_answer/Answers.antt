@@ -1,4 +1,4 @@
-use Rattle.std.proofs.Common.{ℕ, ◌+◌, ◌≤◌, rules, arith, sym, ap, subst, take, ◌∙◌}
+use Rattle.std.proofs.Common.{ℕ, ◌+◌, ◌≤◌, rules, arith, sym, ap, subst, ◌∙◌}
 use Rattle.fancy_input.specs.Requests.{effective_start}
 use Rattle.fancy_regex.specs.SetCounts.{most_steps_of_all, steps_left_in}
 use Rattle.fancy_regex.specs.Sets.{asked_of_set}

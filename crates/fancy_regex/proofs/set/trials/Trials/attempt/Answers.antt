@@ -1,9 +1,7 @@
-use Rattle.std.proofs.Common.{◌≡◌, ◌≤◌, ◌+◌, ◌<◌, ◌∙◌, Option, Some, refl, ap, set, length, slice_get, arith}
+use Rattle.std.proofs.Common.{◌+◌, ◌<◌, refl, ap, set, length, arith}
 use Rattle.std.proofs.lemmas.Option.{slice_get_read}
 use Rattle.fancy_input.specs.Inputs.{haystack_in, request_in}
 use Rattle.fancy_core.specs.Regexes.{program_in}
-use Rattle.fancy_search.specs.declared.cache.AttemptNotes.{AttemptNotes}
-use Rattle.fancy_search.specs.KeptTables.{KeepsNotes}
 use Rattle.fancy_search.proofs.KeptTablesLemmas.{none_so}
 use Rattle.fancy_search.proofs.ResultLemmas.{if_ok, if_ok_both}
 use Rattle.fancy_regex.specs.SetMembers.{asked_alone}

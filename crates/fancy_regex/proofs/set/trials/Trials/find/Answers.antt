@@ -1,8 +1,5 @@
-use Rattle.std.proofs.Common.{◌<◌, refl, set, arith}
+use Rattle.std.proofs.Common.{refl, set, arith}
 use Rattle.std.proofs.lemmas.Option.{slice_get_read}
-use Rattle.fancy_core.specs.Regexes.{program_in}
-use Rattle.fancy_search.specs.declared.cache.AttemptNotes.{AttemptNotes}
-use Rattle.fancy_search.specs.KeptTables.{KeepsNotes}
 use Rattle.fancy_search.proofs.ResultLemmas.{if_ok}
 use Rattle.fancy_regex.specs.SetMembers.{asked_alone}
 use Rattle.fancy_regex.proofs.TrialLemmas.{noted_still, noted_now, stay_but, get_set_other}
