@@ -63,7 +63,7 @@ CALLS = {
         "": "escape",
     },
     "sets": {
-        "RegexSet": "new new_with_options from_regexes len is_empty can_search find_input",
+        "RegexSet": "new new_with_options from_regexes len is_empty can_search find_input find_input_counted",
         "RegexSetMatchesAt": "regex_set haystack start",
         "RegexSetMatch": "pattern start end as_str get captures",
     },
