@@ -4,7 +4,8 @@
     tools/coming.py   says which result of the page no row has, and ends with status 1 if there is one
 
 A row of the page has a pattern, the text that it is asked on, and what is found; what to write instead stands likewise, as
-`PATTERN`: RESULT, with `OPTION` or on `TEXT` between them. A pattern that is refused has the name of its error.
+`PATTERN`: RESULT, with `OPTION` or on `TEXT` between them. A pattern that is refused has the name of its error. A table without
+the column Here is not compared.
 """
 
 import re
@@ -95,7 +96,7 @@ def main():
             header = None
         elif header is None:
             header = cells(line)
-        elif not line.startswith("|---"):
+        elif "Here" in header and not line.startswith("|---"):
             count += 1
             lacking += faults(header, line, *known, kinds)
     for one in lacking:
