@@ -60,6 +60,8 @@ def rows():
         yield 'find (?:(?=(a)*+)a)* in a', size, in_fre('find', '(?:(?=(a)*+)a)*', 'a' * size)
     for size in (20000, 40000, 80000):
         yield 'the longest a* in a', size, find('L', 'a*', 'a' * size)
+    for size in (200000, 400000, 800000):
+        yield 'a branch saved at each a', size, find('-', '\\Aa*(?=b)', 'a' * size)
 
 
 def cost(command, line):
