@@ -2,8 +2,9 @@
 //! with random inputs.
 //!
 //! A line has four words, split by blanks: the call, letters of options, a number, and texts in hexadecimal, split by commas: the
-//! text, the template, and the patterns. After the letters and a comma `B2` limits returns to 2, `K2` the branches that are
-//! saved, and `W2` the work; the options of a set's patterns may be split by `;`, where each has its own. What the number means, the call says.
+//! text, the template, and the patterns. After the letters and a comma `B1000` limits returns to 1000, `K1000` the branches that
+//! are saved, and `W1000` the work; the options of a set's patterns may be split by `;`, where each has its own. What the number
+//! means, the call says.
 //!
 //! The answer is a line `>A<B`, where A and B are what the calls answer at first and once more: items with a `|` after each, a
 //! refusal among them as `!` and its text. Each call of the library gives one item, a list one for each item of it. The output is

@@ -97,9 +97,9 @@ AllowsReplacing regex t limit =
 pub record Replacing (R : Type 0) : Type 1 where
   -- its one text for all matches, if it has one
   pub fixed : R → Option (List ℕ)
-  -- what a call may append: the state before, the match, the text, and the state after
+  -- what a call may append: the state that the replacer was in, the match, the text, and the state that it is in then
   pub appends : R → Seen → List ℕ → R → Type 0
-  -- what a call may refuse with: the state before, the match, the error, and the state after
+  -- what a call may refuse with: the state that the replacer was in, the match, the error, and the state that it is in then
   pub refuses : R → Seen → Error → R → Type 0
   -- in this text the matches of this regex are replaced, the first so many: all of them for the limit 0
   pub regex : Regex

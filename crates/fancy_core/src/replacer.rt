@@ -38,10 +38,10 @@ pub trait Replacer {
     // In which states a match may be handed to it.
     ghost callable: { Self → Type 0 } = { λ _. ⊤ };
 
-    // What a call may append: the state before, the match, the text, and the state after.
+    // What a call may append: the state that the replacer was in, the match, the text, and the state that it is in then.
     ghost appends: { Self → Seen → List ℕ → Self → Type 0 };
 
-    // What a call may refuse with: the state before, the match, the error, and the state after.
+    // What a call may refuse with: the state that the replacer was in, the match, the error, and the state that it is in then.
     ghost refuses: { Self → Seen → Refusal → Self → Type 0 };
 
     /// Appends the text that the match is replaced by. A refusal leaves `dst` as it was, and the replacer in a state in

@@ -97,7 +97,7 @@ const PARTS: &[PartRow] = &[
         0,
         Some(Some((0, &[Some((1, (0, 1)))]))),
     ),
-    // what each match has may stand behind the range or before it
+    // what each match has may stand after the range or before it
     (EITHER, "xbxd", (0, 3), 1, None),
     (
         EITHER,

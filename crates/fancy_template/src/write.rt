@@ -17,7 +17,7 @@ pub trait Writer {
     // The bytes that it holds, where they are known.
     ghost contents: { Self → Option (List ℕ) };
 
-    // What a call may answer: the state before, the bytes, the answer, and the state after.
+    // What a call may answer: the state that the writer was in, the bytes, the answer, and the state that it is in then.
     ghost answers: { Self → List ℕ → Result ℕ Fault → Self → Type 0 };
 
     /// Takes a beginning of the bytes, and says how many.

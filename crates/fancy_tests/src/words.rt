@@ -43,7 +43,7 @@ const CYRILLIC: &str = "альфа|бета|гамма|дельта|омега|�
 const LETTERS: &str =
     "alpha|beta|gamma|delta|omega|theta|iota|kappa|lambda|sigma|zeta|mile|miles|eta\\d";
 
-/// Words in a group, behind a test of the place.
+/// Words in a group, after a test of the place.
 const GROUPED: &str =
     "\\b(alpha|beta|gamma|delta|omega|theta|iota|kappa|lambda|sigma|zeta|mile|miles)\\b";
 
@@ -95,7 +95,7 @@ const ROWS: &[LongRow] = &[
         tail: "éz",
         spans: &[(0, 3)],
     },
-    // what is kept of the way behind an attempt is left out again and again
+    // what is kept of the way before an attempt is left out again and again
     LongRow {
         pattern: "a*b*c*d*e*f*g*h*i*j*k*l*m*n*o*p*q*r*s*x",
         filler: "ab ",
