@@ -177,7 +177,7 @@ module _ (good : ℕ → Bool) (cx : Context) (low limit : ℕ) (code : List Ins
         | inr here ↦ absurd (omega (arith, here.1))
       ]
 
-  -- what is behind some threads is changed
+  -- what comes after some threads is changed
   covered_behind : (r i : ℕ) (front a b : List Thread) (f g : Option State) → (Covered r i a f → Covered r i b g) → Covered r i (front ++ a) f → Covered r i (front ++ b) g
   covered_behind r i [] a b f g change h = change h
   covered_behind r i (t ∷ front) a b f g change h = (
@@ -243,14 +243,14 @@ module _ (good : ℕ → Bool) (cx : Context) (low limit : ℕ) (code : List Ins
         first_cons t (ts ++ us) ∙ ap (option_or (first_of t)) (first_append ts us)
         ∙ sym (or_assoc (first_of t) (first_in ts) (first_in us)) ∙ ap (λ (o : Option State). option_or o (first_in us)) (sym (first_cons t ts))
 
-    -- what is behind some threads is changed, and answers the same
+    -- what comes after some threads is changed, and answers the same
     same_answer : (front a b : List Thread) (f g : Option State) → option_or (first_in a) f ≡ option_or (first_in b) g → option_or (first_in (front ++ a)) f ≡ option_or (first_in (front ++ b)) g
     same_answer front a b f g e =
         ap (λ (o : Option State). option_or o f) (first_append front a) ∙ or_assoc (first_in front) (first_in a) f
         ∙ ap (option_or (first_in front)) e
         ∙ sym (or_assoc (first_in front) (first_in b) g) ∙ ap (λ (o : Option State). option_or o g) (sym (first_append front b))
 
-    -- threads behind others are known, and others in their place are
+    -- threads after others are known, and others in their place are
     all_behind : (front a b : List Thread) → (AllKnown cx limit code deep kept a → AllKnown cx limit code deep kept b)
         → AllKnown cx limit code deep kept (front ++ a) → AllKnown cx limit code deep kept (front ++ b)
     all_behind [] a b change all = change all
@@ -319,7 +319,7 @@ module _ (good : ℕ → Bool) (cx : Context) (low limit : ℕ) (code : List Ins
             covers = λ p j h hit. covered_seen (rank cx limit code deep p j) j front t back found (s.covers p j h hit) own;
           }
 
-    -- an accepted outcome stands for all that was behind
+    -- an accepted outcome stands for all that came after
     pub sweep_found : (table table' : Marks) (front : List Thread) (t : Thread) (back : List Thread) (found : Option State) → Sweep table (front ++ t ∷ back) found
         → Adds good cx low limit code easy deep table table' t.at t.place → AllPast t.place front
         → events_of (thread_run cx limit code deep kept t) ≡ outcome (state_of kept t) ∷ [] → good t.place ≡ true → Sweep table' front (Some (state_of kept t))

@@ -194,7 +194,7 @@ fn follow_branches(
     Ok(None)
 }
 
-/// Forgets what was marked behind a place, of which no attempt from there on asks.
+/// Forgets what was marked before a place, of which no attempt from there on asks.
 #[inline]
 fn forget_behind(attempt: &Attempt, place: usize, table: &mut Table)
     requires low { attempt.now.base ≤ place }
