@@ -41,6 +41,39 @@ pub trait Library {
     const HAS_SETS: bool;
 }
 
+/// A program over a static library: the type that stands for it, the name of its file, whether it has sets, and its function.
+#[macro_export]
+macro_rules! linked_library {
+    ($library:ident, $file:literal, $has_sets:literal, $function:ident) => {
+        #[link(name = $file, kind = "static")]
+        #[link(name = "libc_c", kind = "static")]
+        unsafe extern "C" {
+            fn $function(
+                operation: u32,
+                pattern: *const u8,
+                pattern_len: usize,
+                haystack: *const u8,
+                haystack_len: usize,
+                replacement: *const u8,
+                replacement_len: usize,
+                times: u64,
+                out: *mut $crate::work::Counts,
+            ) -> u32;
+        }
+
+        struct $library;
+
+        impl $crate::static_library::Library for $library {
+            const RUN: $crate::static_library::Run = $function;
+            const HAS_SETS: bool = $has_sets;
+        }
+
+        fn main() {
+            $crate::drive::<$crate::static_library::Linked<$library>>();
+        }
+    };
+}
+
 pub struct Linked<L> {
     /// The least times so far of one repetition and of `1 + times`, both with the compilation.
     one: f64,
