@@ -1,9 +1,7 @@
 """Reads a pattern of the dialect (docs/DIALECT.md) into its tree, or says why it is refused.
 
-`parse(pattern, options)` answers a `Pattern`, or raises `Refused` with the set
-of the names of the faults. Reading goes on behind a fault where that makes sense,
-so that several faults give several names; `complete` is False where the rest
-of the text behind a fault can't be judged (then other names are possible too).
+`parse(pattern, options)` answers a `Pattern`, or raises `Refused` with the names
+of the first fault: reading ends there.
 """
 import re
 import sys
@@ -16,13 +14,6 @@ from tree import (Alt, Assertion, Atomic, BackRef, Cond, Empty, Group, GroupTest
                   nodes, size)
 
 sys.setrecursionlimit(max(sys.getrecursionlimit(), 20000))
-
-# Every name that a refusal of a pattern may have.
-REFUSALS = (
-    'GeneralParseError', 'UnclosedOpenParen', 'InvalidRepeat', 'TargetNotRepeatable', 'RecursionExceeded', 'TrailingBackslash',
-    'InvalidEscape', 'InvalidHex', 'InvalidCodepointValue', 'InvalidClass', 'UnknownFlag', 'InvalidGroupName',
-    'ChangingUnicodeModeUnsupported', 'NotInProfile', 'InvalidBackref', 'InvalidGroupNameBackref', 'NamedBackrefOnly',
-    'LookBehindNotConst', 'PatternCanNeverMatch', 'PatternTooComplex')
 
 MAX_COUNT = 4294967295
 UNICODE, ASCII_MODE, UNICODE_BYTES = 'unicode', 'ascii', 'unicode_bytes'
@@ -59,11 +50,11 @@ class Options:
 
 
 class Refused(Exception):
-    """A refused pattern, with the names of its faults."""
+    """A refused pattern, with the names of its first fault: mostly one."""
 
-    def __init__(self, names, complete):
-        super().__init__(','.join(sorted(names)))
-        self.names, self.complete = sorted(names), complete
+    def __init__(self, *names):
+        super().__init__(','.join(names))
+        self.names = names
 
 
 class Unknown(Exception):
@@ -100,10 +91,6 @@ class Pattern:
     def has_names(self):
         """Does a named group exist?"""
         return any(n is not None for n in self.names)
-
-
-class _Stop(Exception):
-    """Reading can't go on behind a fault."""
 
 
 @dataclass(frozen=True)
@@ -149,12 +136,8 @@ def parse(text, options=Options()):
         scout.run()
         ignore_unnamed = any(n is not None for n in scout.names)
     p = _Parser(text, options, ignore_unnamed)
-    tree = p.run()
-    if tree is not None:
-        tree = p.resolve(tree)
-        p.check_tree(tree)
-    if p.faults:
-        raise Refused(p.faults, p.complete)
+    tree = p.resolve(p.run())
+    p.check_tree(tree)
     return Pattern(text, tree, options, p.names)
 
 
@@ -175,23 +158,8 @@ class _Parser:
         self.flags = _Flags(options.case_insensitive, options.multi_line,
                             options.dot_matches_new_line, options.ignore_whitespace,
                             options.crlf)
-        self.depth = 0
+        self.depth, self.looks = 0, 0       # how many parentheses are open here, and how many of them are look-around
         self.names = [None]
-        self.faults, self.complete = set(), True
-
-    # ------------------------------------------------------------ faults
-
-    def fault(self, *names):
-        """Note a fault and read on."""
-        self.faults.update(names)
-
-    def stop(self, *names, at_end=False):
-        """Note a fault behind which the text can't be judged (unless all of it has
-        been read and nothing is left open)."""
-        self.faults.update(names)
-        if not at_end or self.depth or '\\' in self.t or '(?' in self.t:
-            self.complete = False
-        raise _Stop
 
     # ------------------------------------------------------------ reading
 
@@ -205,16 +173,11 @@ class _Parser:
         return self.t.startswith(s, self.pos)
 
     def run(self):
-        """pattern = alt. None where reading had to stop."""
-        try:
-            parts = [self.alt()]
-            while self.pos < len(self.t):      # an unmatched `)`
-                self.fault('GeneralParseError')
-                self.pos += 1
-                parts.append(self.alt())
-            return parts[0] if len(parts) == 1 else Seq(tuple(parts))
-        except _Stop:
-            return None
+        """pattern = alt."""
+        tree = self.alt()
+        if self.pos < len(self.t):
+            raise Refused('GeneralParseError')      # an unmatched `)`
+        return tree
 
     def skip(self):
         """What is skipped before atoms, quantifiers and ends (DIALECT.md, What is skipped)."""
@@ -222,9 +185,7 @@ class _Parser:
             if self.at('(?#'):
                 end = self.t.find(')', self.pos + 3)
                 if end < 0:
-                    self.fault('UnclosedOpenParen')
-                    self.pos = len(self.t)
-                    return
+                    raise Refused('UnclosedOpenParen')
                 self.pos = end + 1
             elif self.flags.x and self.peek() is not None and self.peek() in ' \t\n\r':
                 self.pos += 1
@@ -254,11 +215,10 @@ class _Parser:
             quant = self.quant()
             if quant is not None:
                 if before != _ATOM:
-                    self.fault('TargetNotRepeatable')
-                elif quant:
-                    lo, hi, suffix = quant
-                    body = Repeat(parts[-1], lo, hi, suffix == '?')
-                    parts[-1] = Atomic(body) if suffix == '+' else body
+                    raise Refused('TargetNotRepeatable')
+                lo, hi, suffix = quant
+                body = Repeat(parts[-1], lo, hi, suffix == '?')
+                parts[-1] = Atomic(body) if suffix == '+' else body
                 before = _QUANTIFIED
                 continue
             begin = self.t[self.pos:self.pos + 2]
@@ -275,7 +235,7 @@ class _Parser:
         return parts[0] if len(parts) == 1 else Seq(tuple(parts))
 
     def quant(self):
-        """A quantifier here: (lo, hi, suffix), () for a faulty one, None for none."""
+        """A quantifier here: (lo, hi, suffix), or None."""
         c = self.peek()
         bounds = {'*': (0, None), '+': (1, None), '?': (0, 1)}.get(c)
         if bounds is not None:
@@ -300,8 +260,7 @@ class _Parser:
             suffix = ''
         lo, hi = bounds
         if lo > MAX_COUNT or (hi is not None and (hi > MAX_COUNT or lo > hi)):
-            self.fault('InvalidRepeat')
-            return ()
+            raise Refused('InvalidRepeat')
         return lo, hi, suffix
 
     def atom(self):
@@ -340,7 +299,7 @@ class _Parser:
     def any_item(self, without):
         """Any unit but those of `without`."""
         if self.meaning == 'ascii':
-            self.fault('InvalidClass')
+            raise Refused('InvalidClass')
         return Item(charset.subtract(self.universe, without), self.meaning == 'byte', False)
 
     def dot(self, everything):
@@ -362,7 +321,7 @@ class _Parser:
         if not wanted:
             return s
         if self.meaning == 'ascii':
-            self.fault('InvalidClass')
+            raise Refused('InvalidClass')
         return charset.subtract(self.universe, s)
 
     def property(self):
@@ -370,56 +329,45 @@ class _Parser:
         negate = self.peek() == 'P'
         self.pos += 1
         if self.peek() is None:
-            self.fault('InvalidClass')
-            return ()
+            raise Refused('InvalidClass')
         if self.peek() == '{':
             end = self.t.find('}', self.pos)
             if end < 0:
-                self.fault('InvalidClass')
-                self.pos += 1
-                return ()
+                raise Refused('InvalidClass')
             name = self.t[self.pos + 1:end]
             self.pos = end + 1
         else:
             name = self.peek()
             self.pos += 1
         if '=' in name or ':' in name:
-            self.fault('NotInProfile' if self.meaning == 'unicode' else 'InvalidClass')
-            return ()
+            raise Refused('NotInProfile' if self.meaning == 'unicode' else 'InvalidClass')
         if name and name.isascii() and name not in properties.SURE_NAMES:
             raise Unknown(name)
         s = properties.by_name(name) if name.isascii() and name else None
         if self.meaning != 'unicode' or s is None:
-            self.fault('InvalidClass')
-            return ()
+            raise Refused('InvalidClass')
         return self.complement(self.widen(s), negate)
 
     def number(self, length):
-        """A number escape from behind its letter: `{1 to 8 digits}` or `length`
-        digits. Answers (number, braced) or (None, _) after a fault."""
+        """A number escape after its letter: `{1 to 8 digits}` or `length` digits.
+        Answers the number, and whether it is in braces."""
         if self.peek() == '{':
             end = self.t.find('}', self.pos)
             digits = self.t[self.pos + 1:end] if end >= 0 else ''
             if end < 0 or not 1 <= len(digits) <= 8 or any(d not in _HEX for d in digits):
-                self.fault('InvalidHex')
-                self.pos = end + 1 if end >= 0 else self.pos + 1
-                return None, True
+                raise Refused('InvalidHex')
             self.pos = end + 1
             return self.scalar(int(digits, 16)), True
         digits = self.t[self.pos:self.pos + length]
         if len(digits) < length or any(d not in _HEX for d in digits):
-            self.fault('InvalidHex')
-            while self.peek() is not None and self.peek() in _HEX:
-                self.pos += 1
-            return None, False
+            raise Refused('InvalidHex')
         self.pos += length
         return self.scalar(int(digits, 16)), False
 
     def scalar(self, n):
         """n where it is a scalar value."""
         if n > 0x10FFFF or 0xD800 <= n <= 0xDFFF:
-            self.fault('InvalidCodepointValue')
-            return None
+            raise Refused('InvalidCodepointValue')
         return n
 
     # ------------------------------------------------------------ escapes
@@ -428,9 +376,7 @@ class _Parser:
         """An escape outside a class."""
         c = self.peek(1)
         if c is None:
-            self.pos += 1
-            self.fault('TrailingBackslash')
-            return self.literal(0x5C)
+            raise Refused('TrailingBackslash')
         byte = self.meaning == 'byte'
         if c in 'dDsSwWhH':
             self.pos += 2
@@ -441,8 +387,6 @@ class _Parser:
         if c in 'xuU':
             self.pos += 2
             n, braced = self.number({'x': 2, 'u': 4, 'U': 8}[c])
-            if n is None:
-                return self.literal(0x41)
             if c == 'x' and not braced and n > 0x7F and self.o.bytes_mode != UNICODE:
                 return Raw(n)
             return self.literal(n)
@@ -470,6 +414,8 @@ class _Parser:
             self.pos += 2
             return SearchStart()
         if c == 'K':
+            if self.looks:
+                raise Refused('NotInProfile')
             self.pos += 2
             return KeepOut()
         if c in '123456789':
@@ -477,20 +423,16 @@ class _Parser:
             self.pos = m.end()
             n = int(m.group())
             if n > MAX_COUNT:
-                self.fault('InvalidEscape')
+                raise Refused('InvalidEscape')
             return self.backref(('number', n))
         if c == 'k':
             return self.k_escape()
         if c in 'RXg':
-            self.pos += 2
-            self.fault('NotInProfile')
-            return self.literal(0x41)
+            raise Refused('NotInProfile')
         if c in _PUNCT_OR_SPACE:
             self.pos += 2
             return self.literal(ord(c))
-        self.pos += 2
-        self.fault('InvalidEscape')
-        return self.literal(0x41)
+        raise Refused('InvalidEscape')
 
     def backref(self, target):
         """An unresolved backreference (resolved once all groups are known)."""
@@ -504,12 +446,11 @@ class _Parser:
         opener = self.peek(2)
         self.pos += 2
         if opener is None or opener not in "<'":
-            self.fault('InvalidEscape')
-            return self.literal(0x41)
+            raise Refused('InvalidEscape')
         closer = '>' if opener == '<' else "'"
         end = self.t.find(closer, self.pos + 1)
         if end < 0:
-            self.stop('InvalidGroupName')
+            raise Refused('InvalidGroupName')
         body = self.t[self.pos + 1:end]
         if body and all(properties.is_name_char(ch) for ch in body):
             self.pos = end + 1
@@ -517,16 +458,11 @@ class _Parser:
         if re.fullmatch(r'-[0-9]+', body):
             self.pos = end + 1
             return self.backref(('relative', int(body[1:])))
-        if re.fullmatch(r'\+[0-9]+', body):
-            self.fault('NotInProfile')
-        elif re.fullmatch(r'(.+)[+-][0-9]+', body, re.S) and all(
-                properties.is_name_char(ch) for ch in re.match(r'(.+)[+-][0-9]+$', body, re.S).group(1)):
-            self.fault('NotInProfile')
-        else:
-            self.fault('InvalidGroupName')
-            self.complete = False
-        self.pos = end + 1
-        return self.literal(0x41)
+        level = re.fullmatch(r'(.*)[+-][0-9]+', body, re.S)
+        if re.fullmatch(r'\+[0-9]+', body) or level and level.group(1) and all(
+                properties.is_name_char(ch) for ch in level.group(1)):
+            raise Refused('NotInProfile')
+        raise Refused('InvalidGroupName')
 
     # ------------------------------------------------------------ groups
 
@@ -534,20 +470,17 @@ class _Parser:
         """One more parenthesis that is open at this place."""
         self.depth += 1
         if self.depth > self.o.depth_limit:
-            self.fault('RecursionExceeded')
-            if self.depth > 1000:       # the model's own stack
-                self.stop('RecursionExceeded')
+            raise Refused('RecursionExceeded')
 
     def close(self):
         """The `)` of a group."""
-        if self.peek() == ')':
-            self.pos += 1
-        else:
-            self.fault('UnclosedOpenParen')
+        if self.peek() != ')':
+            raise Refused('UnclosedOpenParen')
+        self.pos += 1
         self.depth -= 1
 
     def body(self):
-        """alt `)` with the flags put back behind it."""
+        """alt `)` with the flags put back after it."""
         saved = self.flags
         tree = self.alt()
         self.flags = saved
@@ -560,14 +493,8 @@ class _Parser:
         while self.peek() is not None and properties.is_name_char(self.peek()):
             self.pos += 1
         if self.pos == begin or self.peek() != closer:
-            if self.peek() is None:
-                self.stop('InvalidGroupName', 'UnclosedOpenParen')
-            m = re.compile('[^()\\\\<>|]*' + re.escape(closer)).match(self.t, self.pos)
-            if not m:
-                self.stop('InvalidGroupName')
-            self.fault('InvalidGroupName')
-            self.pos = m.end()
-            return None if closer == ')' else 'a'
+            at_end = ('UnclosedOpenParen',) if self.peek() is None else ()
+            raise Refused('InvalidGroupName', *at_end)
         text = self.t[begin:self.pos]
         self.pos += 1
         return text
@@ -577,13 +504,13 @@ class _Parser:
         self.open()
         self.pos += 1
         if self.at('*'):
-            return self.left_out()
+            raise Refused('NotInProfile')
         if not self.at('?'):
             return self.capturing(None)
         self.pos += 1
         c, d = self.peek(), self.peek(1)
         if c is None:
-            self.stop('UnclosedOpenParen', 'UnknownFlag')
+            raise Refused('UnclosedOpenParen', 'UnknownFlag')
         if c == ':':
             self.pos += 1
             return self.body()
@@ -592,10 +519,10 @@ class _Parser:
             return Atomic(self.body())
         if c in '=!':
             self.pos += 1
-            return Look(self.body(), False, c == '!')
+            return self.look(False, c == '!')
         if c == '<' and d is not None and d in '=!':
             self.pos += 2
-            return Look(self.body(), True, d == '!')
+            return self.look(True, d == '!')
         if c == '<':
             self.pos += 1
             return self.capturing(self.name('>'))
@@ -606,32 +533,25 @@ class _Parser:
             if d == '=':
                 name = self.name(')')
                 self.depth -= 1
-                return self.literal(0x41) if name is None else self.backref(('name', name))
+                return self.backref(('name', name))
             if d == '>':
-                return self.left_out()
+                raise Refused('NotInProfile')
             if d is None:
-                self.stop('UnknownFlag', 'UnclosedOpenParen')
+                raise Refused('UnknownFlag', 'UnclosedOpenParen')
             self.pos -= 2               # `P` is no flag
         if c == '(':
             return self.conditional()
-        if c == '~':
-            self.fault('NotInProfile')
-            self.pos += 1
-            return self.body()
-        if c in '&+' or c in '0123456789' or (
+        if c in '~&+' or c in '0123456789' or (
                 c == '-' and d is not None and d in '0123456789'):
-            return self.left_out()
+            raise Refused('NotInProfile')
         return self.flag_group()
 
-    def left_out(self):
-        """A form of other dialects up to its `)`, where nothing else can be faulty in it."""
-        m = re.compile(r'[*&+>-]?[A-Za-z0-9_]*\)').match(self.t, self.pos)
-        if not m:
-            self.stop('NotInProfile')
-        self.fault('NotInProfile')
-        self.pos = m.end()
-        self.depth -= 1
-        return self.literal(0x41)
+    def look(self, behind, negative):
+        """Look-around, after what it begins with."""
+        self.looks += 1
+        tree = Look(self.body(), behind, negative)
+        self.looks -= 1
+        return tree
 
     def capturing(self, name):
         """A capturing group, or a plain one under `ignore_numbered..`."""
@@ -647,7 +567,7 @@ class _Parser:
         while True:
             c = self.peek()
             if c is None:
-                self.stop('UnknownFlag', 'UnclosedOpenParen')
+                raise Refused('UnknownFlag', 'UnclosedOpenParen')
             if c in '):':
                 break
             if c == '-' and not minus:
@@ -656,14 +576,12 @@ class _Parser:
                 on[c] = not minus
                 letters[minus] += 1
                 if c == 'u' and (self.meaning == 'unicode') == bool(minus):
-                    self.fault('ChangingUnicodeModeUnsupported')
+                    raise Refused('ChangingUnicodeModeUnsupported')
             else:
-                self.fault('UnknownFlag')       # read on as if a plain group began behind it
-                self.pos += 1
-                return self.body()
+                raise Refused('UnknownFlag')
             self.pos += 1
         if sum(letters) == 0 or (minus and not letters[1]):
-            self.fault('UnknownFlag')
+            raise Refused('UnknownFlag')
         self.pos += 1
         on.pop('u', None)
         if c == ')':
@@ -681,16 +599,8 @@ class _Parser:
         """`(?(C)` alt `)`, from the inner `(` on."""
         self.open()
         self.pos += 1
-        if self.at('DEFINE)'):
-            self.fault('NotInProfile')
-            self.pos += len('DEFINE)')
-            self.depth -= 1
-            return self.body()
-        if self.at('?'):                # `(?(?`: read on as if look-around were a condition
-            self.fault('NotInProfile')
-            self.pos -= 1
-            self.depth -= 1
-            return self.branches(self.group() or Empty())
+        if self.at('DEFINE)') or self.at('?'):
+            raise Refused('NotInProfile')
         m = re.compile(r'([0-9]+)\)').match(self.t, self.pos)
         if m:
             self.pos = m.end()
@@ -731,9 +641,7 @@ class _Parser:
     def klass(self, depth=1):
         """A class from its `[` on: its set, complemented where negated."""
         if depth > self.o.depth_limit:
-            self.fault('RecursionExceeded')
-            if depth > 1000:            # the model's own stack
-                self.stop('RecursionExceeded')
+            raise Refused('RecursionExceeded')
         self.pos += 1
         negate = self.peek() == '^'
         if negate:
@@ -751,7 +659,7 @@ class _Parser:
         while True:
             c = self.peek()
             if c is None:
-                self.stop('InvalidClass', at_end=True)
+                raise Refused('InvalidClass')
             if c == ']' and self.pos > start:
                 self.pos += 1
                 break
@@ -764,8 +672,7 @@ class _Parser:
             if m:
                 self.pos = m.end()
                 if m.group(2) not in _POSIX_SETS:
-                    self.fault('InvalidClass')
-                    continue
+                    raise Refused('InvalidClass')
                 s = charset.make(_POSIX_SETS[m.group(2)])
                 operand.append(self.complement(self.widen(s), bool(m.group(1))))
                 continue
@@ -785,12 +692,10 @@ class _Parser:
             if self.peek() == '-' and self.peek(1) is not None and self.peek(1) not in ']-':
                 self.pos += 1
                 hi = self.range_end()
-                if lo is not None and hi is not None:
-                    if hi < lo:
-                        self.fault('InvalidClass')
-                    else:
-                        operand.append(self.widen(self.scalars(lo, hi)))
-            elif lo is not None:
+                if hi < lo:
+                    raise Refused('InvalidClass')
+                operand.append(self.widen(self.scalars(lo, hi)))
+            else:
                 operand.append(self.widen(charset.of(lo)))
         return self.complement(apply(), negate)
 
@@ -801,29 +706,19 @@ class _Parser:
     def range_end(self):
         """The right end of a range."""
         c = self.peek()
-        if c == '[':
-            self.fault('InvalidClass')
-            self.pos += 1
-            return None
-        if c == '\\' and self.peek(1) is not None and self.peek(1) in 'dDsSwWhHpP':
-            self.fault('InvalidClass')
-            if self.peek(1) in 'pP':
-                self.pos += 1
-                self.property()
-            else:
-                self.pos += 2
-            return None
+        if c == '[' or c == '\\' and self.peek(1) is not None and self.peek(1) in 'dDsSwWhHpP':
+            raise Refused('InvalidClass')
         return self.class_char()
 
     def class_char(self):
-        """A single character of a class: its number, or None after a fault."""
+        """A single character of a class: its number."""
         c = self.peek()
         self.pos += 1
         if c != '\\':
             return self.class_number(ord(c), False)
         c = self.peek()
         if c is None:
-            self.stop('TrailingBackslash', 'InvalidClass')
+            raise Refused('TrailingBackslash', 'InvalidClass')
         self.pos += 1
         if c == 'b':
             return 8
@@ -831,19 +726,15 @@ class _Parser:
             return _CONTROL[c]
         if c in 'xuU':
             n, braced = self.number({'x': 2, 'u': 4, 'U': 8}[c])
-            if n is None:
-                return None
             return self.class_number(n, c == 'x' and not braced)
         if c in _PUNCT_OR_SPACE:
             return ord(c)
-        self.fault('InvalidEscape')
-        return None
+        raise Refused('InvalidEscape')
 
     def class_number(self, n, is_hh):
         """The number, where it may be a member of a class in this meaning (DIALECT.md, Past U+007F)."""
         if n > 0x7F and (self.meaning == 'ascii' or (self.meaning == 'byte' and not is_hh)):
-            self.fault('InvalidClass')
-            return None
+            raise Refused('InvalidClass')
         return n
 
     # ------------------------------------------------------------ what the tree must be
@@ -874,46 +765,33 @@ class _Parser:
             if how == 'name or number' and _DIGITS.fullmatch(what):
                 how, what = 'number', int(what)
             else:
-                self.fault('InvalidGroupNameBackref')
-                return 0
+                raise Refused('InvalidGroupNameBackref')
         if any(n is not None for n in self.names) and \
                 self.o.ignore_numbered_groups_when_named_groups_exist:
-            self.fault('NamedBackrefOnly')
-            if how == 'relative' and not 1 <= what <= opened or \
-                    how != 'relative' and not 1 <= what < len(self.names):
-                self.fault('InvalidBackref')
-            return 0
+            raise Refused('NamedBackrefOnly')
         if how == 'relative':
             if not 1 <= what <= opened:
-                self.fault('InvalidBackref')
-                return 0
+                raise Refused('InvalidBackref')
             return opened - what + 1
-        if what > MAX_COUNT and 'InvalidEscape' in self.faults:
-            return 0
         if not 1 <= what < len(self.names):
-            self.fault('InvalidBackref')
-            return 0
+            raise Refused('InvalidBackref')
         return what
 
     def check_tree(self, tree):
         """Look-behind has a size, the tree its bounds, and the pattern can match what it must."""
-        self.check_looks(tree, False)
+        self.check_looks(tree)
         byte = self.meaning == 'byte'
         if self.o.find_not_empty and size(tree, byte) == 0:
-            self.fault('PatternCanNeverMatch')
+            raise Refused('PatternCanNeverMatch')
         if nodes(tree) > self.o.node_limit:
-            self.fault('PatternTooComplex')
+            raise Refused('PatternTooComplex')
 
-    def check_looks(self, e, inside):
-        """No `\\K` in look-around, and a size for each branch of a look-behind."""
-        if isinstance(e, KeepOut) and inside:
-            self.fault('NotInProfile')
-        if isinstance(e, Look):
-            inside = True
-            if e.behind:
-                byte = self.meaning == 'byte'
-                branches = e.body.branches if isinstance(e.body, Alt) else (e.body,)
-                if any(size(b, byte) is None for b in branches):
-                    self.fault('LookBehindNotConst')
+    def check_looks(self, e):
+        """A size for each branch of a look-behind."""
+        if isinstance(e, Look) and e.behind:
+            byte = self.meaning == 'byte'
+            branches = e.body.branches if isinstance(e.body, Alt) else (e.body,)
+            if any(size(b, byte) is None for b in branches):
+                raise Refused('LookBehindNotConst')
         for c in children(e):
-            self.check_looks(c, inside)
+            self.check_looks(c)

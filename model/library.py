@@ -12,7 +12,7 @@ from dataclasses import replace
 
 import templates
 from cases import Gen, needs
-from dialect import ASCII_MODE, REFUSALS, UNICODE, UNICODE_BYTES, Options, Refused, Unknown
+from dialect import ASCII_MODE, UNICODE, UNICODE_BYTES, Options, Refused, Unknown
 from meaning import Counts, Explosion, Input, Limit, Regex, RegexSet
 from templates import Expander
 
@@ -219,7 +219,7 @@ def built(r, makes):
 
 def refused_names(refused):
     """What a program may say of a refused pattern."""
-    return frozenset("!" + it for it in (refused.names if refused.complete else REFUSALS))
+    return frozenset("!" + it for it in refused.names)
 
 
 CALLS = ["find", "find_from", "captures", "names", "matches", "capture_matches", "split", "splitn", "replace", "check", "expand",

@@ -357,30 +357,22 @@ class Tracer:
         if n == 0:
             yield s
             return
-        yield MARK
-        if e.lazy:
-            yield s
-            yield RETURN
-        for ev in self.trace(e.body, s, lim):
-            if ev.__class__ is tuple:
-                yield from self.optionals(e, n - 1, ev, lim)
-            else:
-                yield ev
-        if not e.lazy:
-            yield RETURN
-            yield s
+        yield from self.turn(e, s, lim, lambda ev: self.optionals(e, n - 1, ev, lim))
 
     def star(self, e, s, lim):
         """The star; a turn that ends at its own start is dropped."""
         self.spend()
+        yield from self.turn(e, s, lim, lambda ev: () if ev[0] == s[0] else self.star(e, ev, lim))
+
+    def turn(self, e, s, lim, more):
+        """One more turn, or none: a lazy repeat prefers none. `more` goes on from an end of the body."""
         yield MARK
         if e.lazy:
             yield s
             yield RETURN
         for ev in self.trace(e.body, s, lim):
             if ev.__class__ is tuple:
-                if ev[0] != s[0]:
-                    yield from self.star(e, ev, lim)
+                yield from more(ev)
             else:
                 yield ev
         if not e.lazy:

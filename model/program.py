@@ -11,16 +11,14 @@ ARITY = {'find': (2, 2), 'captures': (2, 2), 'split': (2, 2), 'replace': (3, 3),
 
 @dataclass(frozen=True)
 class Run:
-    """`errors`: the lines allowed on standard error, one of them; () for none.
-    `exact`: False where other refusals than those are possible."""
+    """`errors`: the lines allowed on standard error, one of them; () for none."""
     status: int
     stdout: str
     errors: tuple = ()
-    exact: bool = True
 
 
-def _error(names, stdout='', exact=True):
-    return Run(2, stdout, tuple('error: ' + it for it in names), exact)
+def _error(names, stdout=''):
+    return Run(2, stdout, tuple('error: ' + it for it in names))
 
 
 def run(words, options=Options()):
@@ -40,7 +38,7 @@ def run(words, options=Options()):
         regexes = [Regex(it, options) for it in patterns]
         status = globals()['_' + command](regexes, text, rest, out)
     except Refused as e:
-        return _error(e.names, '', e.complete)
+        return _error(e.names)
     except Limit as e:
         return _error([e.kind], ''.join(out))
     return Run(status, ''.join(out))
