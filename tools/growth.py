@@ -55,6 +55,13 @@ def rows():
         yield 'find (?=x) in a', size, find('-', '(?=x)', 'a' * size)
         yield 'find (?=x) and 100,000 groups in a', size, find('-', '(?=x)' + '()' * 100000, 'a' * size)
     for size in (25000, 50000, 100000):
+        yield 'find 5,000 groups and then (?:a|b)*c in ab and a c', size, find('-', '()' * 5000 + '(?:a|b)*c', 'ab' * (size // 2) + 'c')
+    for size in (5001, 10001, 20001):
+        yield 'find 1,000 branches (.). in a star, and a Z, in a', size, find('-', '(?:' + '|'.join(['(.).'] * 1000) + ')*Z', 'a' * size + 'Z')
+    for size in (2500, 5000, 10000):
+        groups = ''.join('(?<n%d>)' % number for number in range(size))
+        yield 'a template of so many names', size, in_fre('replace', groups, 'x', ''.join('${n%d}' % number for number in range(size)))
+    for size in (25000, 50000, 100000):
         yield 'find a*+b in a within 1,000,000 steps', size, find('-,W1000000', 'a*+b', 'a' * size)
     for size in (4000, 8000, 16000):
         yield 'find (?:(?=(a)*+)a)* in a', size, in_fre('find', '(?:(?=(a)*+)a)*', 'a' * size)

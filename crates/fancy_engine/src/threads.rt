@@ -125,6 +125,10 @@ fn take_way(code: &Code, passed: &mut Vec<Pair>) -> Option<Pair>
 /// With so many branches or so many pairs, 256 KB of them, a search goes on place by place.
 const MOST_KEPT: usize = 16_384;
 
+/// So many slots are copied at each place as fast as what is kept grows there. A code with more of them keeps more before it goes on
+/// place by place, in proportion.
+const FEW_SLOTS: usize = 16;
+
 /// What threads keep: the slots, the branches that were saved before a group began or ended, and the pairs that were passed since.
 #[derive(Drop)]
 pub struct Saved {
@@ -301,9 +305,11 @@ impl Threads {
         *self.slots.allocator()
     }
 
-    /// Whether so much is kept that a search is to go on place by place.
+    /// Whether so much is kept that a search is to go on place by place. There each thread has slots of its own, which are copied
+    /// from place to place.
     pub(crate) fn is_long(&self) -> bool {
-        self.branches.len() >= MOST_KEPT || self.passed.len() >= MOST_KEPT
+        let kept = self.branches.len().max(self.passed.len());
+        kept >= MOST_KEPT && kept / MOST_KEPT >= self.slots.len() / FEW_SLOTS
     }
 
     /// Gives up all that is kept.
