@@ -14,12 +14,12 @@ from pathlib import Path
 
 ROOT = Path(__file__).resolve().parent.parent
 PAGES = [ROOT / "README.md", ROOT / "docs/GUIDE.md", ROOT / "crates/fancy_regex/CALLING.md"]
-EXAMPLES = [ROOT / "crates/fancy_part_tests/src/examples.rt", ROOT / "crates/fancy_text_tests/src/examples.rt"]
+EXAMPLES = [ROOT / "crates/readme_tests/src/searches.rt", ROOT / "crates/readme_tests/src/texts.rt"]
 PROGRAM = ROOT / "crates/dates"
 SOURCES = [
     *EXAMPLES,
     ROOT / "crates/callers/src/lib.rt",
-    ROOT / "crates/fancy_tests/src/readme.rt",
+    ROOT / "crates/fancy_search_tests/src/readme.rt",
     *sorted(PROGRAM.glob("src/*.rt")),
 ]
 

@@ -18,8 +18,6 @@ mod inputs;
 #[cfg(test)]
 mod kept;
 #[cfg(test)]
-mod lists;
-#[cfg(test)]
 mod odd;
 #[cfg(test)]
 mod options;
