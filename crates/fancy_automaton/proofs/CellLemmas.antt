@@ -1,13 +1,13 @@
 -- Rows and the steps between them.
 use Rattle.std.proofs.Common.{◌≡◌, ℕ, zero, suc, ◌+◌, ◌<◌, List, [], ◌∷◌, ◌++◌, Option, Some, None, refl, sym, ap, ◌∙◌, subst, arith, length, map, take, get_or, All}
 use Rattle.std.specs.Prelude.{slice_get, option_map, slice_index}
-use Rattle.fancy_engine.specs.declared.reading.Reading.{Reading}
+use Rattle.fancy_code.specs.declared.reading.Reading.{Reading}
 use Rattle.fancy_input.specs.declared.span.Span.{Span}
-use Rattle.fancy_engine.specs.Reading.{unit_read}
+use Rattle.fancy_code.specs.Reading.{unit_read}
 use Rattle.std.specs.Global.{Vec}
 use Rattle.std.proofs.lemmas.Option.{slice_get-get_or}
-use Rattle.fancy_engine.specs.declared.code.Code.{Code}
-use Rattle.fancy_engine.specs.Code.{instrs_of}
+use Rattle.fancy_code.specs.declared.code.Code.{Code}
+use Rattle.fancy_code.specs.Code.{instrs_of}
 use Rattle.fancy_automaton.specs.declared.way.Way.{Way}
 use Rattle.fancy_automaton.specs.declared.cells.Cell.{Cell}
 use Rattle.fancy_automaton.specs.Steps.{IsStep, at_of, from_of, start_in}

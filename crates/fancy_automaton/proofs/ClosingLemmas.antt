@@ -4,11 +4,11 @@ use Rattle.std.proofs.lemmas.List.{reverse-append}
 use Rattle.std.specs.Prelude.{is_some, slice_index_or}
 use Rattle.std.specs.Option.{option_or}
 use Rattle.std.proofs.lemmas.Bool.{true≢false}
-use Rattle.fancy_engine.proofs.TableLemmas.{member-set}
+use Rattle.fancy_code.proofs.MarkingLemmas.{member-set}
 use Rattle.fancy_automaton.specs.declared.way.Way.{Way}
 use Rattle.fancy_automaton.specs.declared.way.Effect.TheVariants as does
-use Rattle.fancy_engine.specs.Instructions.{Instruction, Match, Fail, Character, Member, RawByte, Assert, Split, Open, Close, Enter, Commit, Look, Deny, Test, Back, Recall, Keep, Continue, Taken}
-use Rattle.fancy_engine.specs.Context.{Unit_at}
+use Rattle.fancy_code.specs.Instructions.{Instruction, Match, Fail, Character, Member, RawByte, Assert, Split, Open, Close, Enter, Commit, Look, Deny, Test, Back, Recall, Keep, Continue, Taken}
+use Rattle.fancy_code.specs.Context.{Unit_at}
 use Rattle.fancy_automaton.specs.Ways.{effect_of, Ends, tagged, way_end, first_end, AllKnown, HasEnd, Below, Covers, Closing}
 
 or_none : (o : Option (ℕ × ℕ)) → option_or o None ≡ o

@@ -5,11 +5,11 @@ use Rattle.std.proofs.lemmas.Option.{slice_get-get_or}
 use Rattle.std.specs.Option.{option_or}
 use Rattle.std.specs.Global.{Vec}
 use Rattle.fancy_input.specs.declared.span.Span.{Span}
-use Rattle.fancy_engine.specs.declared.reading.Reading.{Reading}
-use Rattle.fancy_engine.specs.declared.runner.Attempt.{Attempt}
-use Rattle.fancy_engine.specs.Attempt.{context_in, instrs_in, may_end_in}
-use Rattle.fancy_engine.specs.Reading.{unit_read}
-use Rattle.fancy_engine.specs.Seen.{NoneMayStart}
+use Rattle.fancy_code.specs.declared.reading.Reading.{Reading}
+use Rattle.fancy_code.specs.declared.attempt.Attempt.{Attempt}
+use Rattle.fancy_code.specs.Attempt.{context_in, instrs_in, may_end_in}
+use Rattle.fancy_code.specs.Reading.{unit_read}
+use Rattle.fancy_code.specs.Seen.{NoneMayStart}
 use Rattle.fancy_automaton.specs.declared.cells.Cell.{Cell}
 use Rattle.fancy_automaton.specs.declared.cells.Cells.{Cells}
 use Rattle.fancy_automaton.specs.declared.front.Front.{Front}

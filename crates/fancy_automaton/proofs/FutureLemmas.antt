@@ -4,13 +4,13 @@ use Rattle.std.specs.Prelude.{is_some, option_map, nat_le, if◌then◌else◌, 
 use Rattle.std.specs.Option.{option_or}
 use Rattle.std.proofs.lemmas.Bool.{true≢false}
 use Rattle.fancy_tree.specs.Sets.{has}
-use Rattle.fancy_engine.specs.Instructions.{Instruction, Match, Fail, Character, Member, RawByte, Assert, Split, Open, Close, Enter, Commit, Look, Deny, Test, Back, Recall, Keep, Continue, Taken}
-use Rattle.fancy_engine.specs.Context.{Context, State, Unit_at, unit_at, past_item, moved_to, option_to}
-use Rattle.fancy_engine.specs.Events.{Event, mark, return, outcome, either}
-use Rattle.fancy_engine.specs.Run.{Raw, Note, Stop, choice_opened, fetched, returned, before, join, onward, instr_at, act, run, erase}
-use Rattle.fancy_engine.specs.Compile.{IsEasyInstr, AreEasy}
-use Rattle.fancy_engine.specs.Runner.{events_of, size_of, first_accepted, ends_well, pair_run, rank}
-use Rattle.fancy_engine.proofs.RunMore.{known_act}
+use Rattle.fancy_code.specs.Instructions.{Instruction, Match, Fail, Character, Member, RawByte, Assert, Split, Open, Close, Enter, Commit, Look, Deny, Test, Back, Recall, Keep, Continue, Taken}
+use Rattle.fancy_code.specs.Context.{Context, State, Unit_at, unit_at, past_item, moved_to, option_to}
+use Rattle.fancy_code.specs.Events.{Event, mark, return, outcome, either}
+use Rattle.fancy_code.specs.Run.{Raw, Note, Stop, choice_opened, fetched, returned, before, join, onward, instr_at, act, run, erase}
+use Rattle.fancy_code.specs.Compile.{IsEasyInstr, AreEasy}
+use Rattle.fancy_code.specs.Thread.{events_of, size_of, first_accepted, ends_well, pair_run, rank}
+use Rattle.fancy_code.proofs.RunMore.{known_act}
 use Rattle.fancy_automaton.specs.declared.way.Effect.{Effect}
 use Rattle.fancy_automaton.specs.declared.way.Effect.TheVariants.{Fails, Reads, Splits}
 use Rattle.fancy_automaton.specs.Ways.{Obeys, Solves, effect_of, reads_if}

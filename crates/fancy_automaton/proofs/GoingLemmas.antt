@@ -5,11 +5,11 @@ use Rattle.std.specs.Option.{option_or}
 use Rattle.std.proofs.Math.Nat.{mul-le-mul_left}
 use Rattle.std.proofs.lemmas.Bool.Decides.{nat_tests}
 use Rattle.fancy_input.specs.declared.span.Span.{Span}
-use Rattle.fancy_engine.specs.declared.reading.Reading.{Reading}
-use Rattle.fancy_engine.specs.declared.runner.Attempt.{Attempt}
-use Rattle.fancy_engine.specs.Attempt.{context_in, instrs_in, may_end_in}
-use Rattle.fancy_engine.specs.Context.{Unit_at, unit_at, unit_in}
-use Rattle.fancy_engine.specs.Reading.{unit_read}
+use Rattle.fancy_code.specs.declared.reading.Reading.{Reading}
+use Rattle.fancy_code.specs.declared.attempt.Attempt.{Attempt}
+use Rattle.fancy_code.specs.Attempt.{context_in, instrs_in, may_end_in}
+use Rattle.fancy_code.specs.Context.{Unit_at, unit_at, unit_in}
+use Rattle.fancy_code.specs.Reading.{unit_read}
 use Rattle.fancy_automaton.specs.declared.way.Way.{Way}
 use Rattle.fancy_automaton.specs.Ways.{match_end}
 use Rattle.fancy_automaton.specs.Futures.{ArePlain, end_at, start_end, cut, unit_by, place_after}

@@ -1,10 +1,10 @@
 -- Which code an automaton follows.
 use Rattle.std.proofs.Common.{◌≡◌, ℕ, ◌+◌, ◌<◌, ◌≤◌, Bool, true, false, List, length, refl, sym, subst, arith, true≢false}
-use Rattle.fancy_engine.specs.Instructions.{Instruction, Match, Fail, Character, Member, RawByte, Assert, Split, Open, Close, Enter, Commit, Look, Deny, Test, Back, Recall, Keep, Continue, Taken}
+use Rattle.fancy_code.specs.Instructions.{Instruction, Match, Fail, Character, Member, RawByte, Assert, Split, Open, Close, Enter, Commit, Look, Deny, Test, Back, Recall, Keep, Continue, Taken}
 use Rattle.std.specs.Prelude.{nat_lt}
 use Rattle.std.proofs.lemmas.Bool.{ltb-true, ltb-false}
-use Rattle.fancy_engine.specs.Run.{instr_at}
-use Rattle.fancy_engine.proofs.RunnerSteps.{past_end}
+use Rattle.fancy_code.specs.Run.{instr_at}
+use Rattle.fancy_code.proofs.RunMore.{past_end}
 use Rattle.fancy_automaton.specs.Futures.{ArePlain, IsPlainInstr, is_plain_instr}
 
 pub plain_by : (i : Instruction) → is_plain_instr i ≡ true → IsPlainInstr i

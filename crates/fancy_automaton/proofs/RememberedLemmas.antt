@@ -2,11 +2,11 @@
 use Rattle.std.proofs.Common.{◌≡◌, ℕ, zero, suc, ◌<◌, Bool, List, [], ◌∷◌, ◌++◌, Option, refl, sym, ap, ap₂, ◌∙◌, subst, arith, length, map, get_or, All}
 use Rattle.std.specs.Prelude.{option_map}
 use Rattle.std.specs.Global.{Vec}
-use Rattle.fancy_engine.specs.declared.code.Code.{Code}
-use Rattle.fancy_engine.specs.Code.{instrs_of}
-use Rattle.fancy_engine.specs.Context.{Unit_at}
-use Rattle.fancy_engine.specs.Instructions.{Instruction}
-use Rattle.fancy_engine.specs.Reading.{unit_read}
+use Rattle.fancy_code.specs.declared.code.Code.{Code}
+use Rattle.fancy_code.specs.Code.{instrs_of}
+use Rattle.fancy_code.specs.Context.{Unit_at}
+use Rattle.fancy_code.specs.Instructions.{Instruction}
+use Rattle.fancy_code.specs.Reading.{unit_read}
 use Rattle.fancy_automaton.specs.declared.way.Way.{Way}
 use Rattle.fancy_automaton.specs.declared.cells.Cell.{Cell}
 use Rattle.fancy_automaton.specs.declared.cells.Cells.{Cells}

@@ -8,10 +8,10 @@ use Rattle.fancy_tree.specs.declared.tree.Meaning.{Meaning}
 use Rattle.fancy_tree.specs.declared.tree.Meaning.TheVariants.{Unicode, Bytes, AsciiText}
 use Rattle.fancy_input.specs.Places.{char_at, is_boundary, is_continuation}
 use Rattle.fancy_input.proofs.TextLemmas.{char_at-boundary}
-use Rattle.fancy_engine.specs.declared.runner.Attempt.{Attempt}
-use Rattle.fancy_engine.specs.Attempt.{may_end_in}
-use Rattle.fancy_engine.specs.Context.{Unit_at, unit_in, one_character, one_byte}
-use Rattle.fancy_engine.specs.Placed.{reads_characters}
+use Rattle.fancy_code.specs.declared.attempt.Attempt.{Attempt}
+use Rattle.fancy_code.specs.Attempt.{may_end_in}
+use Rattle.fancy_code.specs.Context.{Unit_at, unit_in, one_character, one_byte}
+use Rattle.fancy_code.specs.Placed.{reads_characters}
 use Rattle.fancy_input.proofs.CharacterLemmas.{char_at-bytes, char_at-fits}
 use Rattle.fancy_automaton.specs.Search.{Steady, KeepsPlaces, by_characters, by_bytes}
 

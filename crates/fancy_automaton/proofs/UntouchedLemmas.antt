@@ -3,10 +3,10 @@ use Rattle.std.proofs.Common.{◌≡◌, ℕ, zero, suc, Bool, true, false, ◌=
 use Rattle.std.specs.Prelude.{if◌then◌else◌, nat_le}
 use Rattle.fancy_tree.specs.Sets.{has}
 use Rattle.fancy_input.specs.declared.span.Span.{Span}
-use Rattle.fancy_engine.specs.Instructions.{Instruction, Match, Fail, Character, Member, RawByte, Assert, Split, Open, Close, Enter, Commit, Look, Deny, Test, Back, Recall, Keep, Continue, Taken}
-use Rattle.fancy_engine.specs.Context.{Context, State, moved_to, past_item}
-use Rattle.fancy_engine.specs.Run.{Raw, Note, Stop, Sign, choice_opened, returned, fetched, Go, Ends, AllStops, before, join, onward, instr_at, act, run, erase}
-use Rattle.fancy_engine.specs.Runner.{first_accepted}
+use Rattle.fancy_code.specs.Instructions.{Instruction, Match, Fail, Character, Member, RawByte, Assert, Split, Open, Close, Enter, Commit, Look, Deny, Test, Back, Recall, Keep, Continue, Taken}
+use Rattle.fancy_code.specs.Context.{Context, State, moved_to, past_item}
+use Rattle.fancy_code.specs.Run.{Raw, Note, Stop, Sign, choice_opened, returned, fetched, Go, Ends, AllStops, before, join, onward, instr_at, act, run, erase}
+use Rattle.fancy_code.specs.Thread.{first_accepted}
 use Rattle.fancy_automaton.specs.Futures.{ArePlain, IsPlainInstr}
 
 -- a state with these groups and this kept start

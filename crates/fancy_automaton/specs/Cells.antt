@@ -2,10 +2,10 @@
 use Rattle.std.specs.Prelude.{◌≡◌, ◌+◌, ◌≤◌, ℕ, length, List, [], ◌∷◌, ◌++◌, Option, None, Some, All, map, option_map, slice_get}
 use Rattle.std.specs.Global.{Vec}
 use Rattle.fancy_input.specs.declared.span.Span.{Span}
-use Rattle.fancy_engine.specs.declared.code.Code.{Code}
-use Rattle.fancy_engine.specs.Code.{instrs_of}
-use Rattle.fancy_engine.specs.declared.reading.Reading.{Reading}
-use Rattle.fancy_engine.specs.Reading.{unit_read}
+use Rattle.fancy_code.specs.declared.code.Code.{Code}
+use Rattle.fancy_code.specs.Code.{instrs_of}
+use Rattle.fancy_code.specs.declared.reading.Reading.{Reading}
+use Rattle.fancy_code.specs.Reading.{unit_read}
 use Rattle.fancy_automaton.specs.declared.way.Way.{Way}
 use Rattle.fancy_automaton.specs.declared.cells.Cell.{Cell}
 use Rattle.fancy_automaton.specs.declared.cells.Cells.{Cells}
@@ -67,7 +67,7 @@ abbrev pub most_cells : ℕ
 most_cells = 16_384
 
 -- no more is remembered than that
-pub record IsWithin (a : Cells) : Type 0 where
+pub record IsBounded (a : Cells) : Type 0 where
   pub rows : length a.rows.lists.items ≤ most_rows
   pub cells : length a.cells.items ≤ most_cells
 

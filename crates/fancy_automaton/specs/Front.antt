@@ -1,7 +1,7 @@
 -- How far a search over remembered steps has come.
 use Rattle.std.specs.Prelude.{ℕ, List, [], ◌∷◌, ◌++◌, Option}
 use Rattle.fancy_input.specs.declared.span.Span.{Span}
-use Rattle.fancy_engine.specs.declared.runner.Attempt.{Attempt}
+use Rattle.fancy_code.specs.declared.attempt.Attempt.{Attempt}
 use Rattle.fancy_automaton.specs.declared.cells.Cells.{Cells}
 use Rattle.fancy_automaton.specs.declared.front.Front.{Front}
 use Rattle.fancy_automaton.specs.Cells.{IsFor, HasRow, ways_at}

@@ -1,10 +1,10 @@
 -- What the code gives from an instruction and a place: where the first accepted outcome ends.
 use Rattle.std.specs.Prelude.{ℕ, zero, suc, ◌+◌, Bool, List, Option, None, Some, option_map, is_some, nat_le, if◌then◌else◌, true, false}
 use Rattle.std.specs.Option.{option_or}
-use Rattle.fancy_engine.specs.Instructions.{Instruction, Match, Fail, Character, Member, RawByte, Assert, Split, Open, Close, Enter, Commit, Look, Deny, Test, Back, Recall, Keep, Continue, Taken}
-use Rattle.fancy_engine.specs.Context.{Context, State, Unit_at, unit_at}
-use Rattle.fancy_engine.specs.Run.{instr_at}
-use Rattle.fancy_engine.specs.Runner.{first_accepted, ends_well, events_of, pair_run}
+use Rattle.fancy_code.specs.Instructions.{Instruction, Match, Fail, Character, Member, RawByte, Assert, Split, Open, Close, Enter, Commit, Look, Deny, Test, Back, Recall, Keep, Continue, Taken}
+use Rattle.fancy_code.specs.Context.{Context, State, Unit_at, unit_at}
+use Rattle.fancy_code.specs.Run.{instr_at}
+use Rattle.fancy_code.specs.Thread.{first_accepted, ends_well, events_of, pair_run}
 use Rattle.fancy_automaton.specs.Ways.{tagged}
 
 -- an easy instruction that tests no place, reads no single byte, and begins and ends no group

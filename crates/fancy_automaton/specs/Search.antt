@@ -3,14 +3,14 @@ use Rattle.std.specs.Prelude.{◌≡◌, ℕ, ◌+◌, ◌-◌, ◌≤◌, ◌<�
 use Rattle.std.specs.Option.{option_or}
 use Rattle.fancy_tree.specs.declared.tree.Meaning.{Meaning}
 use Rattle.fancy_input.specs.declared.span.Span.{Span}
-use Rattle.fancy_engine.specs.Instructions.{Instruction}
-use Rattle.fancy_engine.specs.Context.{Context, Unit_at, unit_in}
-use Rattle.fancy_engine.specs.Placed.{reads_characters}
-use Rattle.fancy_engine.specs.declared.found.Found.{Found}
-use Rattle.fancy_engine.specs.declared.runner.Attempt.{Attempt}
-use Rattle.fancy_engine.specs.Attempt.{context_in, instrs_in, may_end_in}
-use Rattle.fancy_engine.specs.Search.{Answer}
-use Rattle.fancy_engine.specs.Seen.{MayNotStart}
+use Rattle.fancy_code.specs.Instructions.{Instruction}
+use Rattle.fancy_code.specs.Context.{Context, Unit_at, unit_in}
+use Rattle.fancy_code.specs.Placed.{reads_characters}
+use Rattle.fancy_code.specs.declared.found.Found.{Found}
+use Rattle.fancy_code.specs.declared.attempt.Attempt.{Attempt}
+use Rattle.fancy_code.specs.Attempt.{context_in, instrs_in, may_end_in}
+use Rattle.fancy_code.specs.Search.{Answer}
+use Rattle.fancy_code.specs.Seen.{MayNotStart}
 use Rattle.fancy_automaton.specs.Ways.{AllKnown}
 use Rattle.fancy_automaton.specs.Futures.{end_at, known_at, leftmost}
 use Rattle.fancy_automaton.specs.Steps.{waiting, first_tagged_end}

@@ -1,8 +1,8 @@
 -- One place of a search: the ways that wait there, what is read, and the ways after it.
 use Rattle.std.specs.Prelude.{◌≡◌, ℕ, suc, Bool, List, [], ◌∷◌, Option, None, Some, slice_index}
 use Rattle.std.specs.Option.{option_or}
-use Rattle.fancy_engine.specs.Instructions.{Instruction}
-use Rattle.fancy_engine.specs.Context.{Unit_at}
+use Rattle.fancy_code.specs.Instructions.{Instruction}
+use Rattle.fancy_code.specs.Context.{Unit_at}
 use Rattle.fancy_automaton.specs.declared.way.Way.{Way}
 use Rattle.fancy_automaton.specs.Ways.{Ends, tagged, Solves, AllKnown, first_end, match_end}
 

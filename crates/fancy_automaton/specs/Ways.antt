@@ -2,9 +2,9 @@
 use Rattle.std.specs.Prelude.{◌≡◌, ℕ, suc, ◌<◌, ◌⊎◌, Bool, true, false, List, [], ◌∷◌, Option, None, Some, is_some, slice_index_or, if◌then◌else◌, ◌==◌}
 use Rattle.std.specs.Option.{option_or}
 use Rattle.fancy_tree.specs.Sets.{has}
-use Rattle.fancy_engine.specs.Instructions.{Instruction, Match, Fail, Character, Member, RawByte, Assert, Split, Open, Close, Enter, Commit, Look, Deny, Test, Back, Recall, Keep, Continue, Taken}
-use Rattle.fancy_engine.specs.Context.{Unit_at}
-use Rattle.fancy_engine.specs.Run.{instr_at}
+use Rattle.fancy_code.specs.Instructions.{Instruction, Match, Fail, Character, Member, RawByte, Assert, Split, Open, Close, Enter, Commit, Look, Deny, Test, Back, Recall, Keep, Continue, Taken}
+use Rattle.fancy_code.specs.Context.{Unit_at}
+use Rattle.fancy_code.specs.Run.{instr_at}
 use Rattle.fancy_automaton.specs.declared.way.Way.{Way}
 use Rattle.fancy_automaton.specs.declared.way.Effect.{Effect}
 use Rattle.fancy_automaton.specs.declared.way.Effect.TheVariants as does

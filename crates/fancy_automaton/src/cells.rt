@@ -1,14 +1,14 @@
 //! What an automaton remembers: steps that were computed, each of them true of the code.
 
 ghost use Rattle.std.specs.Prelude.{◌≡◌, ◌+◌, ◌-◌, ◌++◌, ◌∷◌, [], ◌<◌, ◌≤◌, ℕ, List, Option, None, true, IfOk, IfSome, map, min, length, option_map, take};
-ghost use Rattle.fancy_engine.specs.Code.{instrs_of};
-ghost use Rattle.fancy_engine.specs.CodeLength.{code_len};
-ghost use Rattle.fancy_engine.specs.Reading.{unit_read};
-ghost use Rattle.fancy_engine.specs.Work.{steps_of, returns_of, units_of};
-ghost use Rattle.fancy_engine.specs.declared.code.Code.{Code};
+ghost use Rattle.fancy_code.specs.Code.{instrs_of};
+ghost use Rattle.fancy_code.specs.CodeLength.{code_len};
+ghost use Rattle.fancy_code.specs.Reading.{unit_read};
+ghost use Rattle.fancy_code.specs.Work.{steps_of, returns_of, units_of};
+ghost use Rattle.fancy_code.specs.declared.code.Code.{Code};
 ghost use Rattle.fancy_automaton.specs.Steps.{IsStep, at_of, from_of};
 ghost use Rattle.fancy_automaton.specs.Trail.{came_at};
-ghost use Rattle.fancy_automaton.specs.Cells.{KeepsRows, KeepsCells, HasRow, HasCell, HasPlace, IsFor, IsCell, IsWithin, ways_at};
+ghost use Rattle.fancy_automaton.specs.Cells.{KeepsRows, KeepsCells, HasRow, HasCell, HasPlace, IsFor, IsCell, IsBounded, ways_at};
 
 use crate::hints::Hints;
 use crate::join::joined;
@@ -17,9 +17,9 @@ use crate::rows::{Rows, Target, are_same, copied, intern, intern_one, target_of}
 use crate::step::{Step, step_from};
 use crate::trail::Trail;
 use crate::way::Way;
-use fancy_engine::code::Code;
-use fancy_engine::reading::Reading;
-use fancy_engine::work::Work;
+use fancy_code::code::Code;
+use fancy_code::reading::Reading;
+use fancy_code::work::Work;
 use std::alloc::{AllocError, Global};
 use std::mem;
 
@@ -93,7 +93,7 @@ impl Cells {
     pub fn new(alloc: Global) -> Cells
         ensures rows { result.rows.lists.items ≡ [] }
         ensures cells { result.cells.items ≡ [] }
-        ensures within { IsWithin result }
+        ensures within { IsBounded result }
     {
         Cells {
             alloc,
@@ -127,7 +127,7 @@ impl Cells {
 
     /// Whether one more step may be one too many.
     pub fn is_full(&self) -> bool
-        requires { IsWithin self.now }
+        requires { IsBounded self.now }
         ensures { result ≡ false → HasPlace self.now }
     {
         self.rows.lists.len() > ROWS - 2 || self.cells.len() >= CELLS || self.bytes() >= self.room
@@ -139,7 +139,7 @@ impl Cells {
         ensures rows { self.new.rows.lists.items ≡ [] }
         ensures cells { self.new.cells.items ≡ [] }
         ensures place { HasPlace self.new }
-        ensures kept { IsWithin self.new }
+        ensures kept { IsBounded self.new }
         ensures all { (code : Code) → IsFor self.new code }
     {
         self.rows.clear();
@@ -149,7 +149,7 @@ impl Cells {
 
     /// Forgets all where one more step may be one too many.
     pub fn make_place(&mut self)
-        requires { IsWithin self.old }
+        requires { IsBounded self.old }
         ensures all { (code : Code) → IsFor self.old code → IsFor self.new code }
         ensures place { HasPlace self.new }
     {
@@ -321,9 +321,9 @@ fn has_origin(code: &Code, cells: &Cells) -> bool
 /// The rows before the first place: that without an instruction, and that of the first instruction alone. Where one more step
 /// may be one too many, all is forgotten before they are made.
 pub(crate) fn origin(code: &Code, cells: &mut Cells) -> Result<Target, AllocError>
-    requires within { IsWithin cells.old }
+    requires within { IsBounded cells.old }
     requires all { IsFor cells.old code.now }
-    ensures within { IsWithin cells.new }
+    ensures within { IsBounded cells.new }
     ensures all { IsFor cells.new code.now }
     ensures waits { IfOk result (λ t. HasRow cells.new.rows.lists.items t.next []) }
     ensures opens { IfOk result (λ t. HasRow cells.new.rows.lists.items t.begun (code.now.start ∷ [])) }
@@ -465,7 +465,7 @@ pub(crate) fn step_at(
     requires row { row < length cells.old.rows.lists.items }
     requires place { HasPlace cells.old }
     requires all { IsFor cells.old code.now }
-    ensures within { IsWithin cells.new }
+    ensures within { IsBounded cells.new }
     ensures all { IsFor cells.new code.now }
     ensures kept { KeepsRows cells.old.rows.lists.items cells.new.rows.lists.items }
     ensures grown { KeepsCells cells.old.cells.items cells.new.cells.items }
@@ -502,13 +502,13 @@ pub(crate) fn step_at(
 /// which begins at `start`.
 pub(crate) fn restart(cells: &mut Cells, start: usize, row: usize) -> Result<Target, AllocError>
     requires row { row < length cells.old.rows.lists.items }
-    requires within { IsWithin cells.old }
+    requires within { IsBounded cells.old }
     ensures all { (code : Code) → IsFor cells.old code → IsFor cells.new code }
     ensures waits { IfOk result (λ t. HasRow cells.new.rows.lists.items t.next
         (ways_at cells.old.rows.lists.items row)) }
     ensures opens { IfOk result (λ t. HasRow cells.new.rows.lists.items t.begun
         (ways_at cells.old.rows.lists.items row ++ start ∷ [])) }
-    ensures within { IsWithin cells.new }
+    ensures within { IsBounded cells.new }
     ensures place { IfOk result (λ _. HasPlace cells.new) }
 {
     let ways = copied(cells.alloc, &cells.rows.lists[row])?;

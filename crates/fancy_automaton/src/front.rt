@@ -1,14 +1,14 @@
 //! How far a search has come, and the step to the next place.
 
 ghost use Rattle.std.specs.Prelude.{◌≡◌, ◌+◌, ◌<◌, ◌≤◌, ℕ, true, [], Some, OnOk, IfOk, IfSome, is_some, length, option_map};
-ghost use Rattle.fancy_engine.specs.Attempt.{context_in, instrs_in, may_end_in};
-ghost use Rattle.fancy_engine.specs.CodeLength.{code_len};
-ghost use Rattle.fancy_engine.specs.Reading.{unit_read};
-ghost use Rattle.fancy_engine.specs.Seen.{MayStart};
-ghost use Rattle.fancy_engine.specs.Work.{steps_of, returns_of, units_of};
-ghost use Rattle.fancy_engine.specs.declared.code.Code.{Code};
-ghost use Rattle.fancy_engine.specs.declared.runner.Attempt.{Attempt};
-ghost use Rattle.fancy_automaton.specs.Cells.{HasPlace, IsFor, IsWithin};
+ghost use Rattle.fancy_code.specs.Attempt.{context_in, instrs_in, may_end_in};
+ghost use Rattle.fancy_code.specs.CodeLength.{code_len};
+ghost use Rattle.fancy_code.specs.Reading.{unit_read};
+ghost use Rattle.fancy_code.specs.Seen.{MayStart};
+ghost use Rattle.fancy_code.specs.Work.{steps_of, returns_of, units_of};
+ghost use Rattle.fancy_code.specs.declared.code.Code.{Code};
+ghost use Rattle.fancy_code.specs.declared.attempt.Attempt.{Attempt};
+ghost use Rattle.fancy_automaton.specs.Cells.{HasPlace, IsFor, IsBounded};
 ghost use Rattle.fancy_automaton.specs.Trail.{HitIn, most_visits};
 ghost use Rattle.fancy_automaton.specs.Front.{IsFront, ways_of, found_of};
 ghost use Rattle.fancy_automaton.specs.Futures.{ArePlain, unit_by, place_after};
@@ -18,12 +18,12 @@ use crate::cells::{Cells, origin, remembered, restart, step_at};
 use crate::trail::{
     Hit, Trail, VISITS, Visit, note_hit, row_at, settled, span_of, start_at, starts_in,
 };
-use fancy_engine::code::Code;
-use fancy_engine::options::is_match_boundary;
-use fancy_engine::reading::{Reading, read_at};
-use fancy_engine::runner::Attempt;
-use fancy_engine::search::next_candidate;
-use fancy_engine::work::Work;
+use fancy_code::attempt::Attempt;
+use fancy_code::candidates::next_candidate;
+use fancy_code::code::Code;
+use fancy_code::options::is_match_boundary;
+use fancy_code::reading::{Reading, read_at};
+use fancy_code::work::Work;
 use fancy_input::span::Span;
 use std::alloc::AllocError;
 use std::mem;
@@ -47,9 +47,9 @@ impl Front {
 
     /// Before the first place: no way waits, and nothing was found.
     pub fn new(code: &Code, cells: &mut Cells) -> Result<Front, AllocError>
-        requires within { IsWithin cells.old }
+        requires within { IsBounded cells.old }
         requires all { IsFor cells.old code.now }
-        ensures within { IsWithin cells.new }
+        ensures within { IsBounded cells.new }
         ensures all { IsFor cells.new code.now }
         ensures waits { IfOk result (λ f. HasRow cells.new.rows.lists.items f.next []) }
         ensures opens { IfOk result (λ f. HasRow cells.new.rows.lists.items f.begun (code.now.start ∷ [])) }
@@ -93,7 +93,7 @@ impl Front {
     pub fn end(self, cells: &mut Cells, place: usize) -> Option<Span>
         requires hits { HitIn self.trail.visits.items self.hit }
         ensures found { result ≡ found_of cells.old self }
-        ensures kept { IsWithin cells.old → IsWithin cells.new }
+        ensures kept { IsBounded cells.old → IsBounded cells.new }
         ensures all { (code : Code) → IsFor cells.old code → IsFor cells.new code }
     {
         let found = span_of(&cells.cells, &self.trail, self.hit);
@@ -134,10 +134,10 @@ impl Front {
     fn make_place(&mut self, code: &Code, cells: &mut Cells) -> Result<(), AllocError>
         requires row { self.old.next < length cells.old.rows.lists.items }
         requires hits { HitIn self.old.trail.visits.items self.old.hit }
-        requires within { IsWithin cells.old }
+        requires within { IsBounded cells.old }
         requires all { IsFor cells.old code.now }
         ensures all { IsFor cells.new code.now }
-        ensures within { IsWithin cells.new }
+        ensures within { IsBounded cells.new }
         ensures place { OnOk result (HasPlace cells.new) }
         ensures visits { OnOk result (length self.old.trail.visits.items < most_visits
             → length self.new.trail.visits.items < most_visits) }
@@ -190,7 +190,7 @@ impl Front {
         ensures front { IfOk result (λ resume. IsFront attempt.now cells.new self.new (place + 1) resume) }
         ensures ends { IfOk result (λ resume. resume ≤ attempt.now.last + 1) }
         ensures visits { IfOk result (λ _. length self.new.trail.visits.items ≤ most_visits) }
-        ensures within { IsWithin cells.new }
+        ensures within { IsBounded cells.new }
         ensures all { IsFor cells.new attempt.now.code.now }
         ensures steps { steps_of work.old ≤ steps_of work.new }
         ensures bounded { steps_of work.new ≤ steps_of work.old + code_len attempt.now.code.now }
@@ -223,12 +223,12 @@ impl Front {
         requires plain { ArePlain (instrs_in attempt.now) }
         requires steady { Steady attempt.now }
         requires good { may_end_in attempt.now place ≡ true }
-        requires kept { IsWithin cells.old }
+        requires kept { IsBounded cells.old }
         requires front { IsFront attempt.now cells.old self.old place place }
         ensures front { IfOk result (λ resume. IsFront attempt.now cells.new self.new (place + 1) resume) }
         ensures ends { IfOk result (λ resume. resume ≤ attempt.now.last + 1) }
         ensures visits { IfOk result (λ _. length self.new.trail.visits.items ≤ most_visits) }
-        ensures kept { IsWithin cells.new }
+        ensures kept { IsBounded cells.new }
         ensures all { IsFor cells.new attempt.now.code.now }
         ensures steps { steps_of work.old ≤ steps_of work.new }
         ensures bounded { steps_of work.new ≤ steps_of work.old + code_len attempt.now.code.now }
@@ -374,12 +374,12 @@ impl Front {
         requires inside { attempt.now.last ≤ length attempt.now.haystack.now }
         requires plain { ArePlain (instrs_in attempt.now) }
         requires steady { Steady attempt.now }
-        requires kept { IsWithin cells.old }
+        requires kept { IsBounded cells.old }
         requires front { IsFront attempt.now cells.old self.old place place }
         ensures front { IfOk result (λ next. IsFront attempt.now cells.new self.new next next) }
         ensures forth { IfOk result (λ next. place < next) }
         ensures ends { IfOk result (λ next. next ≤ attempt.now.last + 1) }
-        ensures kept { IsWithin cells.new }
+        ensures kept { IsBounded cells.new }
         ensures all { IsFor cells.new attempt.now.code.now }
         ensures steps { steps_of work.old ≤ steps_of work.new }
         ensures bounded { steps_of work.new ≤ steps_of work.old + code_len attempt.now.code.now }

@@ -4,9 +4,9 @@
 //! does not count; else the ways that it leads to are put after those of the others, but for each that was met before.
 
 ghost use Rattle.std.specs.Prelude.{◌≡◌, ◌+◌, ◌≤◌, [], ◌∷◌, ◌++◌, ℕ, List, Option, false, IfOk, OnOk, map, length};
-ghost use Rattle.fancy_engine.specs.CodeLength.{code_len};
-ghost use Rattle.fancy_engine.specs.Context.{Unit_at};
-ghost use Rattle.fancy_engine.specs.Instructions.{Instruction};
+ghost use Rattle.fancy_code.specs.CodeLength.{code_len};
+ghost use Rattle.fancy_code.specs.Context.{Unit_at};
+ghost use Rattle.fancy_code.specs.Instructions.{Instruction};
 ghost use Rattle.fancy_automaton.specs.Steps.{IsStep, at_of};
 ghost use Rattle.fancy_automaton.specs.Joins.{Thinned, all_from, match_from};
 
@@ -14,7 +14,7 @@ use crate::closure::is_first;
 use crate::marks::Marks;
 use crate::step::Step;
 use crate::way::Way;
-use fancy_engine::code::Code;
+use fancy_code::code::Code;
 use std::alloc::{AllocError, Global};
 
 /// Appends a way, unless its instruction has a mark, which it is given.

@@ -1,11 +1,11 @@
 //! Which code an automaton follows.
 
 ghost use Rattle.std.specs.Prelude.{◌≡◌, ◌↔◌, IsTrue};
-ghost use Rattle.fancy_engine.specs.Code.{instrs_of, instr_in};
-ghost use Rattle.fancy_engine.specs.declared.code.Code.{Code};
+ghost use Rattle.fancy_code.specs.Code.{instrs_of, instr_in};
+ghost use Rattle.fancy_code.specs.declared.code.Code.{Code};
 ghost use Rattle.fancy_automaton.specs.Futures.{ArePlain, is_plain_instr};
 
-use fancy_engine::code::{Code, Instr};
+use fancy_code::code::{Code, Instr};
 
 /// Whether an automaton follows the instruction.
 fn is_plain_instr(instr: &Instr) -> bool

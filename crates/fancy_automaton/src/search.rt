@@ -3,26 +3,26 @@
 ghost use Rattle.std.specs.Prelude.{◌≡◌, ◌+◌, ◌-◌, ◌*◌, ◌≤◌, ℕ, Bool, false, None, IfOk, IfErr, length, option_map, replicate};
 ghost use Rattle.fancy_tree.specs.Pattern.{Pattern};
 ghost use Rattle.fancy_input.specs.Requests.{effective_start};
-ghost use Rattle.fancy_engine.specs.Attempt.{instrs_in};
-ghost use Rattle.fancy_engine.specs.Code.{instrs_of};
-ghost use Rattle.fancy_engine.specs.CodeLength.{code_len};
-ghost use Rattle.fancy_engine.specs.Compile.{IsCodeOf};
-ghost use Rattle.fancy_engine.specs.Queries.{query_of, unfiltered, answer_with, most_steps};
-ghost use Rattle.fancy_engine.specs.Search.{search};
-ghost use Rattle.fancy_engine.specs.Seen.{NoneMayStart};
-ghost use Rattle.fancy_engine.specs.Work.{steps_of, returns_of, units_of};
-ghost use Rattle.fancy_automaton.specs.Cells.{IsFor, IsWithin};
+ghost use Rattle.fancy_code.specs.Attempt.{instrs_in};
+ghost use Rattle.fancy_code.specs.Code.{instrs_of};
+ghost use Rattle.fancy_code.specs.CodeLength.{code_len};
+ghost use Rattle.fancy_code.specs.Compile.{IsCodeOf};
+ghost use Rattle.fancy_code.specs.Queries.{query_of, unfiltered, answer_with, most_steps};
+ghost use Rattle.fancy_code.specs.Search.{search};
+ghost use Rattle.fancy_code.specs.Seen.{NoneMayStart};
+ghost use Rattle.fancy_code.specs.Work.{steps_of, returns_of, units_of};
+ghost use Rattle.fancy_automaton.specs.Cells.{IsFor, IsBounded};
 ghost use Rattle.fancy_automaton.specs.Futures.{ArePlain};
 ghost use Rattle.fancy_automaton.specs.Search.{BegunIn, KeepsPlaces, Steady, at_position, ends_in, leftmost_in};
 
 use crate::cells::{Cells, ROOM};
 use crate::front::Front;
-use fancy_engine::code::Code;
-use fancy_engine::found::Found;
-use fancy_engine::options::SearchOptions;
-use fancy_engine::refusal::SearchRefusal;
-use fancy_engine::runner::Attempt;
-use fancy_engine::work::Work;
+use fancy_code::attempt::Attempt;
+use fancy_code::code::Code;
+use fancy_code::found::Found;
+use fancy_code::options::SearchOptions;
+use fancy_code::refusal::SearchRefusal;
+use fancy_code::work::Work;
 use fancy_input::input::Request;
 use fancy_input::span::Span;
 use std::alloc::AllocError;
@@ -37,12 +37,12 @@ fn find_span(
     requires ordered { attempt.now.base ≤ attempt.now.last }
     requires plain { ArePlain (instrs_in attempt.now) }
     requires steady { Steady attempt.now }
-    requires kept { IsWithin cells.old }
+    requires kept { IsBounded cells.old }
     requires all { IsFor cells.old attempt.now.code.now }
     ensures answer { IfOk result (λ found. (deep : ℕ) → BegunIn attempt.now deep
         → option_map ends_in found
         ≡ leftmost_in attempt.now deep (attempt.now.last + 1 - attempt.now.base) attempt.now.base) }
-    ensures kept { IsWithin cells.new }
+    ensures kept { IsBounded cells.new }
     ensures all { IsFor cells.new attempt.now.code.now }
     ensures steps { steps_of work.old ≤ steps_of work.new }
     ensures bounded { steps_of work.new
@@ -93,12 +93,12 @@ pub fn find(
     requires plain { ArePlain (instrs_of code.now) }
     requires free { request.anchored ≡ false }
     requires reads { KeepsPlaces haystack.now code.now.meaning options.on_boundaries }
-    requires kept { IsWithin cells.old }
+    requires kept { IsBounded cells.old }
     requires all { IsFor cells.old code.now }
     ensures answer { IfOk result (λ found. (p : Pattern) (on : Bool) → IsCodeOf p code.now
         → answer_with (replicate code.now.groups None) found
         ≡ search (query_of p code.now (unfiltered options) haystack.now request on)) }
-    ensures kept { IsWithin cells.new }
+    ensures kept { IsBounded cells.new }
     ensures all { IsFor cells.new code.now }
     ensures steps { steps_of work.old ≤ steps_of work.new }
     ensures bounded { steps_of work.new ≤ steps_of work.old + most_steps code.now request }

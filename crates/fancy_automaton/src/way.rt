@@ -1,16 +1,16 @@
 //! The ways that are followed at one place, and what their instructions do there.
 
 ghost use Rattle.std.specs.Prelude.{◌≡◌, ◌+◌, ◌<◌, ◌≤◌, ℕ, option_map};
-ghost use Rattle.fancy_engine.specs.Code.{instrs_of, instr_in, sets_len};
-ghost use Rattle.fancy_engine.specs.CodeLength.{code_len};
-ghost use Rattle.fancy_engine.specs.Run.{instr_at};
-ghost use Rattle.fancy_engine.specs.Work.{steps_of, returns_of, units_of};
-ghost use Rattle.fancy_engine.specs.Reading.{unit_read};
+ghost use Rattle.fancy_code.specs.Code.{instrs_of, instr_in, sets_len};
+ghost use Rattle.fancy_code.specs.CodeLength.{code_len};
+ghost use Rattle.fancy_code.specs.Run.{instr_at};
+ghost use Rattle.fancy_code.specs.Work.{steps_of, returns_of, units_of};
+ghost use Rattle.fancy_code.specs.Reading.{unit_read};
 ghost use Rattle.fancy_automaton.specs.Ways.{effect_of, reads_if};
 
-use fancy_engine::code::{Code, Instr};
-use fancy_engine::reading::Reading;
-use fancy_engine::work::Work;
+use fancy_code::code::{Code, Instr};
+use fancy_code::reading::Reading;
+use fancy_code::work::Work;
 
 /// A way at a place.
 #[derive(Clone, Copy, PartialEq, Eq, Debug)]

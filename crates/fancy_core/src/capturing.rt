@@ -12,7 +12,7 @@ ghost use Rattle.fancy_search.specs.Searching.{Suits, StartsCleanly};
 use crate::captures::Captures;
 use crate::regex::Regex;
 use fancy_bytes::lacking::KnownBytes;
-use fancy_engine::work::Work;
+use fancy_code::work::Work;
 use fancy_input::input::{Input, Request};
 use fancy_input::regex_input::RegexInput;
 use fancy_search::cache::Cache;

@@ -4,16 +4,16 @@ ghost use Rattle.std.specs.Prelude.{◌≡◌, ◌≤◌, ◌↔◌, ◌+◌, �
 ghost use Rattle.fancy_tree.specs.GroupNames.{names_of};
 ghost use Rattle.fancy_tree.specs.Sizes.{nodes};
 ghost use Rattle.fancy_input.specs.Inputs.{haystack_in, request_in};
-ghost use Rattle.fancy_engine.specs.Work.{steps_of, returns_of, IsWithin, IsSpent};
-ghost use Rattle.fancy_engine.specs.Search.{search};
-ghost use Rattle.fancy_engine.specs.Answers.{HasNone};
+ghost use Rattle.fancy_code.specs.Work.{steps_of, returns_of, IsWithin, IsSpent};
+ghost use Rattle.fancy_code.specs.Search.{search};
+ghost use Rattle.fancy_code.specs.Answers.{HasNone};
 ghost use Rattle.fancy_search.specs.Compiled.{IsSpelled};
 ghost use Rattle.fancy_search.specs.Options.{by_default};
 ghost use Rattle.fancy_search.specs.Programs.{program_pattern, program_options, program_groups, program_names};
 ghost use Rattle.fancy_search.specs.Searching.{Suits, StartsCleanly};
 
 use fancy_bytes::lacking::KnownBytes;
-use fancy_engine::work::Work;
+use fancy_code::work::Work;
 use fancy_input::input::{Haystack, Input, Request};
 use fancy_input::regex_input::RegexInput;
 use fancy_search::cache::Cache;

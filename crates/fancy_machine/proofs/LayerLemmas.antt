@@ -3,9 +3,9 @@ use Rattle.std.proofs.Common.{◌≡◌, ◌<◌, ◌≤◌, ℕ, zero, suc, ◌
 use Rattle.std.specs.Prelude.{reverse}
 use Rattle.std.proofs.lemmas.List.{map-append, reverse-append, drop-append-le, take-append-drop, length-take-le, set-set, set-get_or, map-set}
 use Rattle.fancy_input.specs.declared.span.Span.{Span}
-use Rattle.fancy_engine.specs.declared.slot.Slot.{Slot}
-use Rattle.fancy_engine.specs.Threads.{empty_slot, slot_span, slot_from}
-use Rattle.fancy_engine.proofs.ThreadsLemmas.{get_or_mapped}
+use Rattle.fancy_code.specs.declared.slot.Slot.{Slot}
+use Rattle.fancy_code.specs.Thread.{empty_slot, slot_span, slot_from}
+use Rattle.fancy_code.proofs.ThreadLemmas.{get_or_mapped}
 use Rattle.fancy_machine.specs.declared.log.Cell.{Cell}
 use Rattle.fancy_machine.specs.declared.log.Write.{Write}
 use Rattle.fancy_machine.specs.Log.{cell_slot, empty_cell, old_slot, undone_by}

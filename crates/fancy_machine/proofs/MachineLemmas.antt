@@ -1,17 +1,17 @@
 -- What an attempt still has before it.
 use Rattle.std.proofs.Common.{◌≡◌, ℕ, suc, ◌+◌, ◌<◌, Bool, true, false, List, [], ◌∷◌, Option, Some, None, refl, sym, ap, ap₂, ◌∙◌, subst, inl, inr, arith, length, not, ◌&&◌}
 use Rattle.std.specs.Prelude.{if◌then◌else◌}
-use Rattle.fancy_engine.specs.declared.runner.Next.TheVariants.{On, Dead, Found}
-use Rattle.fancy_engine.specs.Context.{State}
-use Rattle.fancy_engine.specs.Run.{Raw, Note, Stop, fetched, Go, erase}
+use Rattle.fancy_code.specs.declared.step.Next.TheVariants.{On, Dead, Found}
+use Rattle.fancy_code.specs.Context.{State}
+use Rattle.fancy_code.specs.Run.{Raw, Note, Stop, fetched, Go, erase}
 use Rattle.fancy_machine.specs.Frames.{Spot, Frame, Held, saved}
-use Rattle.fancy_engine.specs.Runner.{size_of, IsKnown, events_of}
+use Rattle.fancy_code.specs.Thread.{size_of, IsKnown, events_of}
 use Rattle.fancy_machine.specs.Machine.{IsSpent, Takes, left, after, IsStep, Crowded, Turned, Fewer, Searching, betters, better, taken_outcome, final, returns_to, marks_to}
 use Rattle.std.specs.Prelude.{Err}
-use Rattle.fancy_engine.specs.declared.work.Work.{Work}
-use Rattle.fancy_engine.specs.declared.refusal.SearchRefusal.{SearchRefusal}
-use Rattle.fancy_engine.specs.declared.refusal.SearchRefusal.TheVariants.{Memory, Returns, Choices, Steps}
-use Rattle.fancy_engine.specs.Work.{returns_of}
+use Rattle.fancy_code.specs.declared.work.Work.{Work}
+use Rattle.fancy_code.specs.declared.refusal.SearchRefusal.{SearchRefusal}
+use Rattle.fancy_code.specs.declared.refusal.SearchRefusal.TheVariants.{Memory, Returns, Choices, Steps}
+use Rattle.fancy_code.specs.Work.{returns_of}
 use Rattle.fancy_machine.specs.Machine.{TookBranch}
 use Rattle.fancy_machine.proofs.Closing.{finish_back, finish_spent, finish_unspent, saved_taken}
 

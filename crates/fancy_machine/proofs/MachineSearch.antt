@@ -8,28 +8,28 @@ use mathlib.Core.HLevel.{⊥_prop, Unit-prop}
 use Rattle.fancy_input.specs.declared.span.Span.{Span}
 use Rattle.fancy_tree.specs.Pattern.{Pattern}
 use Rattle.fancy_input.specs.declared.input.Request.{Request}
-use Rattle.fancy_engine.specs.declared.code.Code.{Code}
-use Rattle.fancy_engine.specs.declared.options.SearchOptions.{SearchOptions}
-use Rattle.fancy_engine.specs.Queries.{query_of}
-use Rattle.fancy_engine.specs.Code.{instrs_of}
-use Rattle.fancy_engine.specs.Context.{Context, State}
-use Rattle.fancy_engine.specs.Events.{Event, mark, return, outcome, outcomes_in, marks_in, returns_in}
-use Rattle.fancy_engine.specs.Trace.{trace, outcomes}
-use Rattle.fancy_engine.specs.Run.{Raw, Given, run}
-use Rattle.fancy_engine.specs.Compile.{IsCodeOf, depth}
-use Rattle.fancy_engine.specs.Search.{Query, context_of, initial, trace_at, outcomes_at, is_match_boundary, accepted, first_one, further, longest_one, Answer, answer_at, attempt, before_accepted, gone_through, gone_at, gone_from, returns_at, choices_at}
-use Rattle.fancy_engine.specs.Threads.{empty_slot, slot_span, slot_from}
-use Rattle.fancy_engine.proofs.AttemptLemmas.{attempt_some, attempt_none}
-use Rattle.fancy_engine.proofs.SearchLemmas.{is-accepted, is-no_answer}
-use Rattle.fancy_engine.proofs.ThreadsLemmas.{map-replicate}
-use Rattle.fancy_engine.proofs.WholeCode.{Whole, program_gives}
+use Rattle.fancy_code.specs.declared.code.Code.{Code}
+use Rattle.fancy_code.specs.declared.options.SearchOptions.{SearchOptions}
+use Rattle.fancy_code.specs.Queries.{query_of}
+use Rattle.fancy_code.specs.Code.{instrs_of}
+use Rattle.fancy_code.specs.Context.{Context, State}
+use Rattle.fancy_code.specs.Events.{Event, mark, return, outcome, outcomes_in, marks_in, returns_in}
+use Rattle.fancy_code.specs.Trace.{trace, outcomes}
+use Rattle.fancy_code.specs.Run.{Raw, Given, run}
+use Rattle.fancy_code.specs.Compile.{IsCodeOf, depth}
+use Rattle.fancy_code.specs.Search.{Query, context_of, initial, trace_at, outcomes_at, is_match_boundary, accepted, first_one, further, longest_one, Answer, answer_at, attempt, before_accepted, gone_through, gone_at, gone_from, returns_at, choices_at}
+use Rattle.fancy_code.specs.Thread.{empty_slot, slot_span, slot_from}
+use Rattle.fancy_code.proofs.AttemptLemmas.{attempt_some, attempt_none}
+use Rattle.fancy_code.proofs.SearchLemmas.{is-accepted, is-no_answer}
+use Rattle.fancy_code.proofs.ThreadLemmas.{map-replicate}
+use Rattle.fancy_code.proofs.WholeCode.{Whole, program_gives}
 use Rattle.fancy_machine.specs.declared.attempt.Attempt.{Attempt}
 use Rattle.fancy_machine.specs.Attempt.{accepts, code_in, events_from, outcome_from, returns_from, marks_from}
 use Rattle.fancy_machine.specs.Asked.{Serves}
 use Rattle.fancy_machine.specs.Frames.{Spot}
 use Rattle.fancy_input.specs.Places.{is_boundary}
 use Rattle.fancy_machine.specs.Layers.{spot_of}
-use Rattle.fancy_engine.specs.Runner.{IsKnown, events_of}
+use Rattle.fancy_code.specs.Thread.{IsKnown, events_of}
 use Rattle.fancy_machine.specs.Machine.{after, better, taken_outcome, final, returns_to, marks_to}
 
 -- the position p may be tried

@@ -2,14 +2,14 @@
 use Rattle.std.proofs.Common.{◌≡◌, ℕ, ◌+◌, ◌≤◌, ◌<◌, Bool, true, false, List, [], ◌∷◌, length, Option, Some, None, refl, sym, ap, ◌∙◌, subst, inl, inr, arith}
 use Rattle.std.specs.Prelude.{nat_le, ◌==◌, if◌then◌else◌}
 use Rattle.std.proofs.lemmas.Bool.{le-leb, lt-leb}
-use Rattle.fancy_engine.specs.Instructions.{Instruction}
-use Rattle.fancy_engine.specs.Instructions as i
-use Rattle.fancy_engine.specs.declared.runner.Next.{Next}
-use Rattle.fancy_engine.specs.declared.runner.Next.TheVariants.{On, Dead, Found}
-use Rattle.fancy_engine.specs.Context.{Context, moved_to, units_back, option_to}
-use Rattle.fancy_engine.specs.Backreference.{past_backreference}
-use Rattle.fancy_engine.specs.Run.{Raw, Note, Stop, choice_opened, fetched, Go, before, instr_at, act, run, onward, rejoin}
-use Rattle.fancy_engine.proofs.RunMore.{known_act}
+use Rattle.fancy_code.specs.Instructions.{Instruction}
+use Rattle.fancy_code.specs.Instructions as i
+use Rattle.fancy_code.specs.declared.step.Next.{Next}
+use Rattle.fancy_code.specs.declared.step.Next.TheVariants.{On, Dead, Found}
+use Rattle.fancy_code.specs.Context.{Context, moved_to, units_back, option_to}
+use Rattle.fancy_code.specs.Backreference.{past_backreference}
+use Rattle.fancy_code.specs.Run.{Raw, Note, Stop, choice_opened, fetched, Go, before, instr_at, act, run, onward, rejoin}
+use Rattle.fancy_code.proofs.RunMore.{known_act}
 use Rattle.fancy_machine.specs.Frames.{Spot, Region, Frame, Atom, LookAround, Denial, Condition, Saved, Within, saved}
 use Rattle.fancy_machine.specs.Machine.{after, finish, left, IsStep, Crowded, IsBare, HasInnermost, wanted_by, at_instr, at_place, opened_at, closed_at, kept_at, within_at, MovedTo, RecalledTo, WentIf}
 use Rattle.fancy_machine.proofs.Closing.{before_some, finish_note, finish_known, finish_bare, finish_ends, finish_elsewhere, saved_below}

@@ -5,7 +5,7 @@ use Rattle.std.specs.Prelude.{slice_index_or, if◌then◌else◌}
 use Rattle.fancy_machine.specs.declared.layer.Layer.{Layer}
 use Rattle.fancy_machine.specs.declared.layer.Kind.{Kind}
 use Rattle.fancy_machine.specs.declared.layer.Kind.TheVariants as k
-use Rattle.fancy_engine.specs.declared.slot.Slot.{Slot}
+use Rattle.fancy_code.specs.declared.slot.Slot.{Slot}
 use Rattle.fancy_machine.specs.declared.log.Write.{Write}
 use Rattle.fancy_machine.specs.Frames.{Spot, Region, Frame, Within, Saved}
 use Rattle.fancy_machine.specs.Layers.{frame_by, spot_at, frame_at, frames_of, is_region, region_by, Rises, KnowRegions}

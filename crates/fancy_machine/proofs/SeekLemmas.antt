@@ -4,15 +4,15 @@ use Rattle.std.proofs.Math.Logic.{∥∥₁_elim}
 use Rattle.std.proofs.Props.{props}
 use Rattle.fancy_input.specs.declared.input.Request.{Request}
 use Rattle.fancy_input.specs.Requests.{effective_start}
-use Rattle.fancy_engine.specs.declared.code.Code.{Code}
-use Rattle.fancy_engine.specs.declared.options.SearchOptions.{SearchOptions}
-use Rattle.fancy_engine.specs.Compile.{IsCodeOf}
-use Rattle.fancy_engine.specs.Events.{marks_in, returns_in}
-use Rattle.fancy_engine.specs.Queries.{query_of}
-use Rattle.fancy_engine.specs.Search.{Query, answer_at, answer_from, gone_from}
-use Rattle.fancy_engine.specs.Seen.{IsNextCandidate}
-use Rattle.fancy_engine.specs.Tried.{tried, NoneTried}
-use Rattle.fancy_engine.proofs.TriedLemmas.{ArePassed, passed_over, answer_passed}
+use Rattle.fancy_code.specs.declared.code.Code.{Code}
+use Rattle.fancy_code.specs.declared.options.SearchOptions.{SearchOptions}
+use Rattle.fancy_code.specs.Compile.{IsCodeOf}
+use Rattle.fancy_code.specs.Events.{marks_in, returns_in}
+use Rattle.fancy_code.specs.Queries.{query_of}
+use Rattle.fancy_code.specs.Search.{Query, answer_at, answer_from, gone_from}
+use Rattle.fancy_code.specs.Seen.{IsNextCandidate}
+use Rattle.fancy_code.specs.Tried.{tried, NoneTried}
+use Rattle.fancy_code.proofs.TriedLemmas.{ArePassed, passed_over, answer_passed}
 use Rattle.fancy_machine.proofs.MachineSearch.{gone_untried}
 
 -- positions that are not tried, where nothing is found, count nothing

@@ -1,12 +1,12 @@
 -- A way stops, and ends a region.
 use Rattle.std.proofs.Common.{◌≡◌, ℕ, ◌-◌, Some, [], ◌∷◌, Bool, true, false, List, length, drop, refl, sym, ap, ◌∙◌, subst, true≢false}
 use Rattle.std.specs.Prelude.{slice_index_or}
-use Rattle.fancy_engine.specs.declared.runner.Next.{Next}
-use Rattle.fancy_engine.specs.declared.runner.Next.TheVariants.{On, Dead, Found}
-use Rattle.fancy_engine.specs.declared.slot.Slot.{Slot}
+use Rattle.fancy_code.specs.declared.step.Next.{Next}
+use Rattle.fancy_code.specs.declared.step.Next.TheVariants.{On, Dead, Found}
+use Rattle.fancy_code.specs.declared.slot.Slot.{Slot}
 use Rattle.fancy_machine.specs.declared.log.Write.{Write}
-use Rattle.fancy_engine.specs.Context.{State}
-use Rattle.fancy_engine.specs.Run.{Raw, Note, Stop, fetched, Go}
+use Rattle.fancy_code.specs.Context.{State}
+use Rattle.fancy_code.specs.Run.{Raw, Note, Stop, fetched, Go}
 use Rattle.fancy_machine.specs.declared.layer.Layer.{Layer}
 use Rattle.fancy_machine.specs.declared.layer.Kind.{Kind}
 use Rattle.fancy_machine.specs.declared.layer.Kind.TheVariants as k

@@ -4,7 +4,7 @@ use Rattle.std.proofs.lemmas.List.{take-append-drop, map-set, set-get_or, length
 use Rattle.std.proofs.lemmas.List.Elements.{filter-append}
 use Rattle.std.proofs.lemmas.List.Sums.{sum_by-le}
 use Rattle.std.proofs.lemmas.Bool.{le-leb, lt-leb, leb-true, ltb-true, ltb-false}
-use Rattle.fancy_engine.specs.declared.slot.Slot.{Slot}
+use Rattle.fancy_code.specs.declared.slot.Slot.{Slot}
 use Rattle.fancy_machine.specs.declared.log.Cell.{Cell}
 use Rattle.fancy_machine.specs.declared.log.Write.{Write}
 use Rattle.fancy_machine.specs.declared.layer.Layer.{Layer}
@@ -14,8 +14,8 @@ use Rattle.fancy_machine.specs.Frames.{Frame}
 use Rattle.fancy_machine.specs.Log.{cell_slot, cell_level, empty_cell, old_cell, old_slot, old_level, undone_by, is_kept, lowered, Climbs, writes_allowed, IsUnwritten}
 use Rattle.fancy_machine.specs.Layers.{spot_of, frame_by, frame_at, frames_of, saves, branches_in, Rises, depth, IsLog}
 use Rattle.fancy_machine.proofs.LogLemmas.{undone_over, undone-map, length-undone, climbs_push, climbs_take, climbs_drop, climbs_sum, climbs_within, climbs_given, climbs_same, climbs_kept, lowered_is, min_all}
-use Rattle.fancy_engine.specs.Threads.{empty_slot}
-use Rattle.fancy_engine.proofs.ThreadsLemmas.{map-replicate}
+use Rattle.fancy_code.specs.Thread.{empty_slot}
+use Rattle.fancy_code.proofs.ThreadLemmas.{map-replicate}
 use Rattle.fancy_machine.proofs.LayerLemmas.{rises_le, rises_more, rises_below, frames_shift}
 
 abbrev part : Layer → ℕ → ℕ

@@ -2,7 +2,7 @@
 use Rattle.std.specs.Prelude.{◌≡◌, ◌≤◌, ℕ, max, List, Option}
 use Rattle.fancy_input.specs.declared.last_lines.LastLines.{LastLines}
 use Rattle.fancy_input.specs.declared.span.Span.{Span}
-use Rattle.fancy_engine.specs.Search.{Query, context_of}
+use Rattle.fancy_code.specs.Search.{Query, context_of}
 use Rattle.fancy_machine.specs.declared.attempt.Attempt.{Attempt}
 use Rattle.fancy_machine.specs.declared.search.Cache.{Cache}
 use Rattle.fancy_machine.specs.Attempt.{attempt_context}

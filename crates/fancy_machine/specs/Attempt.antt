@@ -1,15 +1,15 @@
 -- What an attempt sees, what it accepts, and what a step of it does.
 use Rattle.std.specs.Prelude.{◌≡◌, ℕ, Bool, true, false, Some, None, not, ◌&&◌, ◌||◌, List, Option, ◌==◌}
 use Rattle.fancy_tree.specs.declared.tree.Meaning.{Meaning}
-use Rattle.fancy_engine.specs.declared.code.Instr.{Instr}
-use Rattle.fancy_engine.specs.declared.runner.Next.{Next}
-use Rattle.fancy_engine.specs.Code.{instrs_of, instr_in}
-use Rattle.fancy_engine.specs.Context.{Context, State}
-use Rattle.fancy_engine.specs.Events.{Event}
-use Rattle.fancy_engine.specs.Search.{is_match_boundary}
-use Rattle.fancy_engine.specs.Run.{Raw, Go, run, instr_at}
+use Rattle.fancy_code.specs.declared.code.Instr.{Instr}
+use Rattle.fancy_code.specs.declared.step.Next.{Next}
+use Rattle.fancy_code.specs.Code.{instrs_of, instr_in}
+use Rattle.fancy_code.specs.Context.{Context, State}
+use Rattle.fancy_code.specs.Events.{Event}
+use Rattle.fancy_code.specs.Search.{is_match_boundary}
+use Rattle.fancy_code.specs.Run.{Raw, Go, run, instr_at}
 use Rattle.fancy_machine.specs.Frames.{Spot, Held}
-use Rattle.fancy_engine.specs.Runner.{events_of}
+use Rattle.fancy_code.specs.Thread.{events_of}
 use Rattle.fancy_machine.specs.Machine.{left, after, IsStep, Crowded, Turned, taken_outcome, final, returns_to, marks_to}
 use Rattle.fancy_machine.specs.declared.attempt.Attempt.{Attempt}
 

@@ -1,8 +1,8 @@
 -- The layers of a search as frames.
 use Rattle.std.specs.Prelude.{◌≡◌, ℕ, suc, ◌+◌, ◌≤◌, Bool, true, false, if◌then◌else◌, nat_le, ◌==◌, Option, Some, None, List, [], ◌∷◌, map, length, drop, replicate, reverse}
-use Rattle.fancy_engine.specs.declared.slot.Slot.{Slot}
-use Rattle.fancy_engine.specs.Context.{State}
-use Rattle.fancy_engine.specs.Threads.{slot_span, slot_from}
+use Rattle.fancy_code.specs.declared.slot.Slot.{Slot}
+use Rattle.fancy_code.specs.Context.{State}
+use Rattle.fancy_code.specs.Thread.{slot_span, slot_from}
 use Rattle.fancy_machine.specs.declared.layer.Layer.{Layer}
 use Rattle.fancy_machine.specs.declared.layer.Kind.{Kind}
 use Rattle.fancy_machine.specs.declared.layer.Kind.TheVariants as k

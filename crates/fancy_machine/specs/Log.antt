@@ -1,7 +1,7 @@
 -- What is known of the groups, and the log of what was known before.
 use Rattle.std.specs.Prelude.{◌≡◌, ℕ, suc, ◌*◌, ◌<◌, Bool, nat_lt, List, [], ◌∷◌, length, map, replicate, slice_set, slice_index_or}
-use Rattle.fancy_engine.specs.Threads.{empty_slot}
-use Rattle.fancy_engine.specs.declared.slot.Slot.{Slot}
+use Rattle.fancy_code.specs.Thread.{empty_slot}
+use Rattle.fancy_code.specs.declared.slot.Slot.{Slot}
 use Rattle.fancy_machine.specs.declared.log.Cell.{Cell}
 use Rattle.fancy_machine.specs.declared.log.Write.{Write}
 

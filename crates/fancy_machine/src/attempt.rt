@@ -3,24 +3,24 @@
 ghost use Rattle.std.specs.Prelude.{◌≡◌, ◌≢◌, ◌+◌, ◌<◌, ◌≤◌, [], ℕ, Option, Err, IfOk, IfErr, OnOk};
 ghost use Rattle.fancy_tree.specs.Pattern.{Pattern};
 ghost use Rattle.fancy_input.specs.LastLines.{KnowsLastLines};
-ghost use Rattle.fancy_engine.specs.Queries.{query_of};
-ghost use Rattle.fancy_engine.specs.Search.{continues_from};
-ghost use Rattle.fancy_engine.specs.Work.{steps_of, returns_of, stepped_within, IsWithin, IsSpent, HasWorkLeft, AddsUnits};
+ghost use Rattle.fancy_code.specs.Queries.{query_of};
+ghost use Rattle.fancy_code.specs.Search.{continues_from};
+ghost use Rattle.fancy_code.specs.Work.{steps_of, returns_of, stepped_within, IsWithin, IsSpent, HasWorkLeft, AddsUnits};
 ghost use Rattle.fancy_machine.specs.Asked.{Serves};
 ghost use Rattle.fancy_machine.specs.Attempt.{accepts, code_in, state_if_found, IsFull, TurnsTo, outcome_from, returns_from, marks_from};
-ghost use Rattle.fancy_engine.specs.Runner.{IsKnown};
+ghost use Rattle.fancy_code.specs.Thread.{IsKnown};
 ghost use Rattle.fancy_machine.specs.Units.{CountsUnits};
 ghost use Rattle.fancy_machine.specs.Machine.{after};
 
 use crate::best::Best;
 use crate::step::step;
 use crate::trail::Trail;
-use fancy_engine::code::Code;
-use fancy_engine::options::{SearchOptions, is_match_boundary};
-use fancy_engine::reading::SuppressedEnds;
-use fancy_engine::refusal::SearchRefusal;
-use fancy_engine::runner::Next;
-use fancy_engine::work::Work;
+use fancy_code::code::Code;
+use fancy_code::options::{SearchOptions, is_match_boundary};
+use fancy_code::reading::SuppressedEnds;
+use fancy_code::refusal::SearchRefusal;
+use fancy_code::step::Next;
+use fancy_code::work::Work;
 use fancy_input::input::Request;
 use fancy_input::last_lines::LastLines;
 

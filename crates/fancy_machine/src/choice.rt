@@ -8,9 +8,9 @@ ghost use Rattle.fancy_machine.specs.Machine.{within_at};
 use crate::attempt::Attempt;
 use crate::layer::Kind;
 use crate::trail::Trail;
-use fancy_engine::code::Instr;
-use fancy_engine::refusal::SearchRefusal;
-use fancy_engine::runner::Next;
+use fancy_code::code::Instr;
+use fancy_code::refusal::SearchRefusal;
+use fancy_code::step::Next;
 
 /// Saves the second of two ways, and goes on by the first.
 pub(crate) fn split(trail: &mut Trail, first: usize, second: usize) -> Result<Next, SearchRefusal>

@@ -2,15 +2,15 @@
 
 ghost use Rattle.std.specs.Prelude.{◌≡◌};
 ghost use Rattle.fancy_input.specs.LastLines.{KnowsLastLines};
-ghost use Rattle.fancy_engine.specs.Context.{continues};
+ghost use Rattle.fancy_code.specs.Context.{continues};
 ghost use Rattle.fancy_machine.specs.Attempt.{attempt_context, FollowsInstr};
 ghost use Rattle.fancy_machine.specs.Machine.{WentIf};
 
 use crate::attempt::Attempt;
 use crate::trail::Trail;
-use fancy_engine::code::Instr;
-use fancy_engine::reading::holds_at;
-use fancy_engine::runner::Next;
+use fancy_code::code::Instr;
+use fancy_code::reading::holds_at;
+use fancy_code::step::Next;
 use fancy_input::last_lines::LastLines;
 use fancy_tree::tree::Assertion;
 
@@ -52,7 +52,7 @@ pub(crate) fn assert_at(
 }
 
 /// Whether `\G` holds at a place.
-#[tactic(auto, unfolding(fancy_engine::specs::Context::continues))]
+#[tactic(auto, unfolding(fancy_code::specs::Context::continues))]
 fn is_continued(attempt: &Attempt, place: usize) -> bool
     ensures { result ≡ continues (attempt_context attempt.now) place }
 {

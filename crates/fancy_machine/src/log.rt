@@ -6,10 +6,10 @@
 //! are left out of the log, but for the first ones since the branch that is the last one then.
 
 ghost use Rattle.std.specs.Prelude.{◌≡◌, ◌≤◌, map, length, take, drop, filter, replicate, OnOk, vec_len, slice_set, slice_index_or, is_some, ℕ};
-ghost use Rattle.fancy_engine.specs.Threads.{slot_span};
+ghost use Rattle.fancy_code.specs.Thread.{slot_span};
 ghost use Rattle.fancy_machine.specs.Log.{cell_slot, cell_level, empty_cell, old_cell, undone_by, is_kept, lowered};
 
-use fancy_engine::slot::{EMPTY, Slot};
+use fancy_code::slot::{EMPTY, Slot};
 use std::alloc::AllocError;
 
 /// What is known of a group.

@@ -2,8 +2,8 @@
 
 ghost use Rattle.std.specs.Prelude.{◌≡◌, ◌-◌, ◌<◌, Option};
 ghost use Rattle.fancy_tree.specs.Sets.{has};
-ghost use Rattle.fancy_engine.specs.Instructions.{edges_in};
-ghost use Rattle.fancy_engine.specs.Context.{past_item};
+ghost use Rattle.fancy_code.specs.Instructions.{edges_in};
+ghost use Rattle.fancy_code.specs.Context.{past_item};
 ghost use Rattle.fancy_machine.specs.Attempt.{attempt_context, FollowsInstr};
 ghost use Rattle.fancy_machine.specs.Machine.{MovedTo, RecalledTo};
 
@@ -11,8 +11,8 @@ use crate::attempt::Attempt;
 use crate::texts::past_span;
 use crate::trail::Trail;
 use crate::units::units_back;
-use fancy_engine::code::Instr;
-use fancy_engine::runner::{Next, past_character, past_member, past_raw_byte};
+use fancy_code::code::Instr;
+use fancy_code::step::{Next, past_character, past_member, past_raw_byte};
 use fancy_tree::char_set::CharSet;
 
 /// Goes on at a place, if there is one by the limit.

@@ -1,26 +1,27 @@
 //! Searches by the machine.
 
 ghost use Rattle.std.specs.Prelude.{◌≡◌, ◌+◌, ◌-◌, ◌<◌, ◌≤◌, true, false, [], Option, Some, None, Err, IfOk, IfSome, length, slice_index_or};
-ghost use Rattle.fancy_engine.specs.Compile.{IsCodeOf};
+ghost use Rattle.fancy_code.specs.Compile.{IsCodeOf};
 ghost use Rattle.fancy_input.specs.LastLines.{KnowsLastLines};
 ghost use Rattle.fancy_input.specs.Requests.{effective_start};
-ghost use Rattle.fancy_engine.specs.Search.{Query, search, attempt, returns, choices, returns_at, choices_at};
-ghost use Rattle.fancy_engine.specs.Seen.{IsNextCandidate};
-ghost use Rattle.fancy_engine.specs.Tried.{tried, NoneTried};
-ghost use Rattle.fancy_engine.specs.Work.{steps_of, returns_of, HasRoom, IsWithin, IsSpent};
-ghost use Rattle.fancy_engine.specs.Queries.{query_of, answer_with};
+ghost use Rattle.fancy_code.specs.Search.{Query, search, attempt, returns, choices, returns_at, choices_at};
+ghost use Rattle.fancy_code.specs.Seen.{IsNextCandidate};
+ghost use Rattle.fancy_code.specs.Tried.{tried, NoneTried};
+ghost use Rattle.fancy_code.specs.Work.{steps_of, returns_of, HasRoom, IsWithin, IsSpent};
+ghost use Rattle.fancy_code.specs.Queries.{query_of, answer_with};
 ghost use Rattle.fancy_machine.specs.Asked.{Serves, HeedsLimit, branches_allowed, groups_held, lines_held};
 ghost use Rattle.fancy_machine.specs.Log.{writes_allowed};
 
 use crate::attempt::Attempt;
 use crate::best::Best;
 use crate::trail::Trail;
-use fancy_engine::code::Code;
-use fancy_engine::found::Found;
-use fancy_engine::options::{SearchOptions, is_match_boundary};
-use fancy_engine::refusal::SearchRefusal;
-use fancy_engine::search::{next_candidate, ready_last_lines};
-use fancy_engine::work::Work;
+use fancy_code::candidates::next_candidate;
+use fancy_code::code::Code;
+use fancy_code::found::Found;
+use fancy_code::options::{SearchOptions, is_match_boundary};
+use fancy_code::reading::ready_last_lines;
+use fancy_code::refusal::SearchRefusal;
+use fancy_code::work::Work;
 use fancy_input::input::Request;
 use fancy_input::last_lines::LastLines;
 use fancy_input::span::Span;

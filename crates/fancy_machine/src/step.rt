@@ -2,7 +2,7 @@
 
 ghost use Rattle.std.specs.Prelude.{◌≡◌, ◌≢◌, Err, IfOk};
 ghost use Rattle.fancy_input.specs.LastLines.{KnowsLastLines};
-ghost use Rattle.fancy_engine.specs.Work.{returns_of, stepped_within, IsWithin, IsSpent, HasWorkLeft, AddsUnits};
+ghost use Rattle.fancy_code.specs.Work.{returns_of, stepped_within, IsWithin, IsSpent, HasWorkLeft, AddsUnits};
 ghost use Rattle.fancy_machine.specs.Attempt.{IsFull, StepsTo};
 ghost use Rattle.fancy_machine.specs.Units.{CountsUnits, units_ahead};
 
@@ -12,10 +12,10 @@ use crate::condition::{assert_at, test_continued, test_taken};
 use crate::read::{go_back, read_character, read_member, read_raw_byte, recall};
 use crate::texts::text_len;
 use crate::trail::Trail;
-use fancy_engine::code::Instr;
-use fancy_engine::refusal::SearchRefusal;
-use fancy_engine::runner::Next;
-use fancy_engine::work::Work;
+use fancy_code::code::Instr;
+use fancy_code::refusal::SearchRefusal;
+use fancy_code::step::Next;
+use fancy_code::work::Work;
 use fancy_input::last_lines::LastLines;
 
 /// Follows the instruction that comes next. The units that it goes over are counted before it does.

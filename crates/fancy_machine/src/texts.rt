@@ -1,13 +1,13 @@
 //! The text of a group once more.
 
 ghost use Rattle.std.specs.Prelude.{◌≡◌, take, drop, length};
-ghost use Rattle.fancy_engine.specs.Backreference.{past_text, past_letters, past_characters, past_span, shares_folding};
-ghost use Rattle.fancy_engine.specs.Context.{Context, past_item};
+ghost use Rattle.fancy_code.specs.Backreference.{past_text, past_letters, past_characters, past_span, shares_folding};
+ghost use Rattle.fancy_code.specs.Context.{Context, past_item};
 ghost use Rattle.fancy_machine.specs.Attempt.{reading};
 ghost use Rattle.fancy_machine.specs.Units.{text_len};
 ghost use Rattle.fancy_tree.specs.declared.tree.Meaning.{Meaning as MeaningIs};
 
-use fancy_engine::runner::past_raw_byte;
+use fancy_code::step::past_raw_byte;
 use fancy_input::characters::character_at;
 use fancy_input::span::Span;
 use fancy_tree::tree::Meaning;

@@ -1,9 +1,9 @@
 //! The way that the machine follows, with the branches that it saved and the regions that are open.
 
 ghost use Rattle.std.specs.Prelude.{◌≡◌, ◌≢◌, ◌-◌, ◌≤◌, [], ◌∷◌, Err, Some, map, length, drop, replicate, OnOk, slice_index, true, is_some};
-ghost use Rattle.fancy_engine.specs.Context.{group_span};
-ghost use Rattle.fancy_engine.specs.Threads.{empty_slot, slot_span};
-ghost use Rattle.fancy_engine.specs.Work.{returns_of};
+ghost use Rattle.fancy_code.specs.Context.{group_span};
+ghost use Rattle.fancy_code.specs.Thread.{empty_slot, slot_span};
+ghost use Rattle.fancy_code.specs.Work.{returns_of};
 ghost use Rattle.fancy_machine.specs.Log.{cell_slot, writes_allowed};
 ghost use Rattle.fancy_machine.specs.Frames.{saved};
 ghost use Rattle.fancy_machine.specs.Layers.{spot_of, outcome_of, frame_by, saves};
@@ -11,10 +11,10 @@ ghost use Rattle.fancy_machine.specs.Machine.{at_instr, at_place, written, opene
 
 use crate::layer::{Kind, Layer, cut, is_ended, is_saved, region_by};
 use crate::log::{Cell, Write, begin_cells, cell_at, forget_levels, has_span, thin, undo};
-use fancy_engine::refusal::SearchRefusal;
-use fancy_engine::runner::Next;
-use fancy_engine::slot::Slot;
-use fancy_engine::work::Work;
+use fancy_code::refusal::SearchRefusal;
+use fancy_code::slot::Slot;
+use fancy_code::step::Next;
+use fancy_code::work::Work;
 use fancy_input::span::Span;
 use std::alloc::{AllocError, Global};
 use std::marker::Model;

@@ -1,7 +1,7 @@
 //! Parts of the engines that no public call shows by itself.
 
 use crate::asking::check;
-use fancy_engine::compile::compile;
+use fancy_code::compile::compile;
 use fancy_machine::units::units_back;
 use fancy_tree::tree::{Meaning, RepeatKind, Tree};
 

@@ -1,7 +1,7 @@
 -- Members of a set that may not start at a position are passed over, and have no answer there.
 use Rattle.std.proofs.Common.{◌≡◌, ℕ, ◌+◌, ◌<◌, ◌≤◌, Bool, true, false, List, Option, Some, None, IfSome, is_some, slice_get, take, inl, inr, refl, sym, ap, subst, ◌∙◌, arith, true≢false}
 use Rattle.std.proofs.lemmas.Bool.Decides.{leb_tells}
-use Rattle.fancy_engine.specs.Search.{answer_at}
+use Rattle.fancy_code.specs.Search.{answer_at}
 use Rattle.fancy_search.proofs.StartLemmas.{none_before}
 use Rattle.fancy_core.specs.declared.regex.Regex.{Regex}
 use Rattle.fancy_core.specs.RegexStarts.{regex_may_start}

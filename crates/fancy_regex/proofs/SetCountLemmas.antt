@@ -6,15 +6,15 @@ use Rattle.std.proofs.lemmas.List.Sums.{sum_by_more, sum_by-take-le}
 use Rattle.std.proofs.lemmas.Option.{slice_get_within, slice_get_cases, get_or_from_slice_get}
 use Rattle.fancy_input.specs.declared.input.Request.{Request}
 use Rattle.fancy_input.specs.Requests.{effective_start}
-use Rattle.fancy_engine.specs.declared.code.Code.{Code}
-use Rattle.fancy_engine.specs.declared.notes.KeptTable.{KeptTable}
-use Rattle.fancy_engine.specs.Code.{worth_of}
-use Rattle.fancy_engine.specs.Context.{option_to}
-use Rattle.fancy_engine.specs.KeptTable.{IsKept, steps_from, taken_again}
-use Rattle.fancy_engine.specs.Marking.{sum_to}
-use Rattle.fancy_engine.proofs.KeptTableLemmas.{fewer_ahead}
-use Rattle.fancy_engine.proofs.MarkingLemmas.{times_le, either_side}
-use Rattle.fancy_engine.proofs.SumLemmas.{sum_le, sum_less}
+use Rattle.fancy_code.specs.declared.code.Code.{Code}
+use Rattle.fancy_runner.specs.declared.notes.KeptTable.{KeptTable}
+use Rattle.fancy_code.specs.Code.{worth_of}
+use Rattle.fancy_code.specs.Context.{option_to}
+use Rattle.fancy_runner.specs.KeptTable.{IsKept, steps_from, taken_again}
+use Rattle.fancy_code.specs.Marking.{sum_to}
+use Rattle.fancy_runner.proofs.KeptTableLemmas.{fewer_ahead}
+use Rattle.fancy_code.proofs.MarkingLemmas.{times_le, either_side}
+use Rattle.fancy_code.proofs.SumLemmas.{sum_le, sum_less}
 use Rattle.fancy_search.specs.declared.cache.AttemptNotes.{AttemptNotes}
 use Rattle.fancy_search.specs.declared.program.Program.{Program}
 use Rattle.fancy_search.specs.KeptTables.{KeepsNotes, notes_again}

@@ -5,7 +5,7 @@ use Rattle.fancy_tree.specs.declared.error.Error.{Error}
 use Rattle.fancy_tree.specs.declared.error.Error.TheVariants.{Memory}
 use Rattle.fancy_input.specs.declared.span.Span.{Span}
 use Rattle.fancy_input.specs.Spans.{from_to}
-use Rattle.fancy_engine.specs.Search.{Answer, answer_at, attempt, span_of}
+use Rattle.fancy_code.specs.Search.{Answer, answer_at, attempt, span_of}
 use Rattle.fancy_search.specs.Groups.{span_at, spans_of}
 use Rattle.fancy_core.specs.declared.regex.Regex.{Regex}
 use Rattle.fancy_core.specs.Limited.{AllowsAt}

@@ -1,8 +1,8 @@
 -- The longest match at a place, as the members are gone through.
 use Rattle.std.proofs.Common.{◌≡◌, ℕ, ◌+◌, ◌<◌, ◌≤◌, false, Option, Some, None, slice_get, take, length, inl, inr, refl, sym, subst, ◌∙◌, arith, true≢false}
 use Rattle.std.proofs.lemmas.Bool.Decides.{leb_tells}
-use Rattle.fancy_engine.specs.declared.found.Found.{Found}
-use Rattle.fancy_engine.specs.Search.{Answer}
+use Rattle.fancy_code.specs.declared.found.Found.{Found}
+use Rattle.fancy_code.specs.Search.{Answer}
 use Rattle.fancy_search.specs.declared.cache.Cache.{Cache}
 use Rattle.fancy_search.specs.Cached.{found_at}
 use Rattle.fancy_core.specs.declared.regex.Regex.{Regex}

@@ -5,9 +5,9 @@ use Rattle.std.proofs.lemmas.Option.{none-some, same_Some}
 use Rattle.fancy_input.specs.declared.input.Request.{Request}
 use Rattle.fancy_core.specs.declared.regex.Regex.{Regex}
 use Rattle.fancy_core.specs.Regexes.{program_in}
-use Rattle.fancy_engine.proofs.MarkingLemmas.{either_side}
+use Rattle.fancy_code.proofs.MarkingLemmas.{either_side}
 use Rattle.fancy_search.specs.declared.cache.AttemptNotes.{AttemptNotes}
-use Rattle.fancy_engine.specs.declared.found.Found.{Found}
+use Rattle.fancy_code.specs.declared.found.Found.{Found}
 use Rattle.fancy_search.specs.KeptTables.{KeepsNotes, kept_from}
 use Rattle.fancy_search.proofs.KeptTablesLemmas.{noted_later}
 use Rattle.fancy_regex.specs.SetMembers.{SetQuery}

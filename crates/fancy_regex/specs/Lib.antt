@@ -35,15 +35,15 @@ pub use Rattle.fancy_template.specs.Appended
 pub use Rattle.fancy_template.specs.Marks
 pub use Rattle.fancy_template.specs.Expanders
 pub use Rattle.fancy_template.specs.Checks
-pub use Rattle.fancy_engine.specs.Context
-pub use Rattle.fancy_engine.specs.Search
-pub use Rattle.fancy_engine.specs.Answers
-pub use Rattle.fancy_engine.specs.Work
-pub use Rattle.fancy_engine.specs.Laws as MeaningLaws
-pub use Rattle.fancy_engine.specs.Examples
+pub use Rattle.fancy_code.specs.Context
+pub use Rattle.fancy_code.specs.Search
+pub use Rattle.fancy_code.specs.Answers
+pub use Rattle.fancy_code.specs.Work
+pub use Rattle.fancy_code.specs.Laws as MeaningLaws
+pub use Rattle.fancy_code.specs.Examples
 pub use Rattle.fancy_bytes.specs.Sets as ByteMembers
 pub use Rattle.fancy_bytes.specs.Iterations as ByteIterations
-pub use Rattle.fancy_laws.specs.Bytes as ByteLaws
+pub use Rattle.fancy_code.specs.ByteLaws
 pub use Rattle.fancy_search.specs.Options
 pub use Rattle.fancy_search.specs.Starts
 pub use Rattle.fancy_search.specs.Compiled

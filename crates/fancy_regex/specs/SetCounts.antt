@@ -1,9 +1,9 @@
 -- How many steps the search of a set takes: at most as many as searches with each of its members alone.
 use Rattle.std.specs.Prelude.{◌≡◌, ◌≤◌, ◌+◌, ◌-◌, ◌*◌, ℕ, true, All, List, Option, Some, None, sum_by, min, length, slice_get}
 use Rattle.fancy_input.specs.declared.input.Request.{Request}
-use Rattle.fancy_engine.specs.Context.{option_to}
-use Rattle.fancy_engine.specs.Marking.{sum_to}
-use Rattle.fancy_engine.specs.Work.{steps_of, returns_of}
+use Rattle.fancy_code.specs.Context.{option_to}
+use Rattle.fancy_code.specs.Marking.{sum_to}
+use Rattle.fancy_code.specs.Work.{steps_of, returns_of}
 use Rattle.fancy_core.specs.declared.regex.Regex.{Regex}
 use Rattle.fancy_core.specs.Limited.{most_steps_of}
 use Rattle.fancy_core.specs.Regexes.{easy_in, length_in, program_in}

@@ -1,7 +1,7 @@
 -- Lemmas on what an iteration has left.
 use Rattle.std.proofs.Common.{arith, ℕ, suc, ◌≤◌, ◌≡◌, Bool, true, false, not, ◌&&◌, nat_eq, max, List, [], ◌∷◌, Option, None, Some, MatchOption, option_map, if◌then◌else◌, refl, sym, subst, ◌∙◌, true≢false}
 use Rattle.std.proofs.lemmas.Grind.{common_steps}
-use Rattle.fancy_engine.specs.Search.{Answer}
+use Rattle.fancy_code.specs.Search.{Answer}
 use Rattle.fancy_search.specs.MatchList.{Scan, MatchItem, start_of, stop_of, is_empty_item, item_of, answer, unless_empty_at, start_unless_empty_at, next_after, search_start_after, items_from, end_from, Sound, Lies}
 use Rattle.fancy_search.specs.Remaining.{Standing, standing_after, upcoming, search_start, items_left, items_end, PassesOver, AllowsNext, AllowsStep, AllowsUpTo}
 use Rattle.fancy_search.proofs.MatchListLemmas.{LiesFrom, answer_lies, items_after, items_none, end_after, end_none}

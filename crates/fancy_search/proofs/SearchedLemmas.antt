@@ -4,33 +4,33 @@ use Rattle.std.proofs.Math.Logic.{∥∥₁_elim}
 use Rattle.std.proofs.Props.{props}
 use Rattle.fancy_tree.specs.declared.tree.Meaning.{Meaning}
 use Rattle.fancy_bytes.specs.Firsts.{AreStartBytes}
-use Rattle.fancy_engine.specs.Seen.{NoneMayStart}
-use Rattle.fancy_engine.proofs.TriedLemmas.{none_found, none_may_start, not_seeking}
-use Rattle.fancy_engine.specs.Tried.{tried, NoneTried}
+use Rattle.fancy_code.specs.Seen.{NoneMayStart}
+use Rattle.fancy_code.proofs.TriedLemmas.{none_found, none_may_start, not_seeking}
+use Rattle.fancy_code.specs.Tried.{tried, NoneTried}
 use Rattle.fancy_bytes.specs.Items.{includes}
 use Rattle.fancy_bytes.specs.Lacks.{includes_all}
 use Rattle.fancy_search.specs.Options.{meaning_in}
 use Rattle.fancy_bytes.specs.Required.{required_bytes}
 use Rattle.fancy_bytes.proofs.BoolLemmas.{some_found, parts_of, and_never}
 use Rattle.fancy_bytes.proofs.LackLemmas.{stands_included, lacks_one}
-use Rattle.fancy_engine.proofs.SkipLemmas.{lacking_is_none}
-use Rattle.fancy_engine.specs.Events.{Event, returns_in}
+use Rattle.fancy_code.proofs.SkipLemmas.{lacking_is_none}
+use Rattle.fancy_code.specs.Events.{Event, returns_in}
 use Rattle.fancy_input.specs.Requests.{positions}
 use Rattle.fancy_search.specs.SearchCounts.{TriesNothing, lacks_required, is_hopeless, tried_by, returns_taken}
-use Rattle.fancy_engine.specs.Search.{Query, Answer, search, attempt, answer_at, is_match_boundary, gone_through, gone_from, returns}
-use Rattle.fancy_engine.specs.Queries.{answer_with}
-use Rattle.fancy_engine.specs.declared.found.Found.{Found}
+use Rattle.fancy_code.specs.Search.{Query, Answer, search, attempt, answer_at, is_match_boundary, gone_through, gone_from, returns}
+use Rattle.fancy_code.specs.Queries.{answer_with}
+use Rattle.fancy_code.specs.declared.found.Found.{Found}
 use Rattle.fancy_search.specs.Cached.{IsCleanlyFound}
 use Rattle.fancy_input.specs.declared.span.Span.{Span}
-use Rattle.fancy_engine.specs.Placed.{has_keep_start_in_look_around}
+use Rattle.fancy_code.specs.Placed.{has_keep_start_in_look_around}
 use Rattle.fancy_input.specs.declared.input.Request.{Request}
 use Rattle.fancy_input.specs.Requests.{effective_start}
-use Rattle.fancy_engine.proofs.AttemptLemmas.{anchored_at, anchored_easy}
-use Rattle.fancy_engine.proofs.ClassifyLemmas.{easy_code}
+use Rattle.fancy_code.proofs.AttemptLemmas.{anchored_at, anchored_easy}
+use Rattle.fancy_code.proofs.ClassifyLemmas.{easy_code}
 use Rattle.fancy_search.specs.declared.program.Program.{Program}
 use Rattle.fancy_search.specs.Programs.{program_options, program_pattern, program_is_easy, asked_of}
 use Rattle.fancy_search.proofs.ProgramSizeLemmas.{parts_of_easy}
-use Rattle.fancy_engine.proofs.FoundLemmas.{answer_within, attempt_within}
+use Rattle.fancy_code.proofs.FoundLemmas.{answer_within, attempt_within}
 
 -- an equation of answers has at most one proof, so that it may rest on a fact of which only the existence is known
 pub known : {P : Type 0} (a b : Option Answer) → ∥ P ∥₁ → (P → a ≡ b) → a ≡ b

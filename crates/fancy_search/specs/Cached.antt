@@ -2,9 +2,10 @@
 use Rattle.std.specs.Prelude.{◌≡◌, ℕ, List, Option, None, IsTrue, replicate}
 use Rattle.fancy_input.specs.Places.{is_boundary}
 use Rattle.fancy_input.specs.declared.span.Span.{Span}
-use Rattle.fancy_engine.specs.Search.{Query, Answer, search, attempt}
-use Rattle.fancy_engine.specs.declared.found.Found.{Found}
-use Rattle.fancy_engine.specs.Queries.{groups_in, answer_with}
+use Rattle.fancy_code.specs.Search.{Query, Answer, search, attempt}
+use Rattle.fancy_code.specs.declared.found.Found.{Found}
+use Rattle.fancy_runner.specs.Groups.{groups_in}
+use Rattle.fancy_code.specs.Queries.{answer_with}
 use Rattle.fancy_machine.specs.Asked.{groups_held}
 use Rattle.fancy_search.specs.declared.cache.Engine.{Engine}
 use Rattle.fancy_search.specs.declared.cache.Engine.TheVariants.{Runner, Machine, Automaton}

@@ -1,9 +1,9 @@
 -- Which code the automaton follows.
 use Rattle.std.specs.Prelude.{◌≡◌, ℕ, true}
 use Rattle.fancy_automaton.specs.Futures.{is_plain_instr}
-use Rattle.fancy_engine.specs.declared.code.Code.{Code}
-use Rattle.fancy_engine.specs.Code.{instrs_of}
-use Rattle.fancy_engine.specs.Run.{instr_at}
+use Rattle.fancy_code.specs.declared.code.Code.{Code}
+use Rattle.fancy_code.specs.Code.{instrs_of}
+use Rattle.fancy_code.specs.Run.{instr_at}
 
 -- an automaton follows each instruction of the code
 abbrev pub FollowsEach : Code → Type 0

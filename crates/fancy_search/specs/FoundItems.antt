@@ -1,7 +1,7 @@
 -- What a search of an iteration found, with the groups that it left in its cache.
 use Rattle.std.specs.Prelude.{ℕ, Bool, List, Option, Result}
 use Rattle.fancy_tree.specs.declared.error.Error.{Error}
-use Rattle.fancy_engine.specs.declared.found.Found.{Found}
+use Rattle.fancy_code.specs.declared.found.Found.{Found}
 use Rattle.fancy_search.specs.declared.program.Program.{Program}
 use Rattle.fancy_search.specs.declared.cache.Cache.{Cache}
 use Rattle.fancy_search.specs.declared.searcher.FoundItem.{FoundItem}

@@ -3,8 +3,8 @@ use Rattle.std.specs.Prelude.{◌≡◌, ◌≤◌, ◌==◌, ℕ, Bool, true, L
 use Rattle.std.specs.List.{range_with_len}
 use Rattle.fancy_input.specs.Places.{is_boundary}
 use Rattle.fancy_input.specs.declared.span.Span.{Span}
-use Rattle.fancy_engine.specs.Context.{group_span}
-use Rattle.fancy_engine.specs.Search.{Answer, span_of}
+use Rattle.fancy_code.specs.Context.{group_span}
+use Rattle.fancy_code.specs.Search.{Answer, span_of}
 
 -- the span of one group, if it took part
 abbrev pub span_of_group : Answer → ℕ → Option Span

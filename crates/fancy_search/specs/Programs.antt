@@ -5,8 +5,8 @@ use Rattle.fancy_tree.specs.GroupNames.{names_of}
 use Rattle.fancy_tree.specs.Pattern.{Pattern}
 use Rattle.fancy_tree.specs.Text.{Text}
 use Rattle.fancy_input.specs.declared.input.Request.{Request}
-use Rattle.fancy_engine.specs.CodeLength.{code_len}
-use Rattle.fancy_engine.specs.Search.{Sought, Query}
+use Rattle.fancy_code.specs.CodeLength.{code_len}
+use Rattle.fancy_code.specs.Search.{Sought, Query}
 use Rattle.fancy_search.specs.declared.options.Options.{Options}
 use Rattle.fancy_search.specs.declared.program.Program.{Program}
 use Rattle.fancy_search.specs.Options.{meaning_in, is_easy_under}

@@ -3,18 +3,18 @@
 ghost use Rattle.std.specs.Prelude.{◌≡◌, ℕ, List, [], None, true, slice_index_or};
 ghost use Rattle.fancy_automaton.specs.Cells.{IsWithin};
 ghost use Rattle.fancy_automaton.specs.Remembered.{Remembers};
-ghost use Rattle.fancy_engine.specs.declared.code.Code.{Code};
-ghost use Rattle.fancy_engine.specs.Work.{steps_of, returns_of};
+ghost use Rattle.fancy_code.specs.declared.code.Code.{Code};
+ghost use Rattle.fancy_code.specs.Work.{steps_of, returns_of};
 
 use fancy_automaton::cells::Cells;
 use fancy_bytes::lacking::KnownBytes;
-use fancy_engine::found::Found;
-use fancy_engine::notes::{KeptTable, Notes};
-use fancy_engine::search as runner;
-use fancy_engine::work::Work;
+use fancy_code::found::Found;
+use fancy_code::work::Work;
 use fancy_input::input::Request;
 use fancy_input::span::Span;
 use fancy_machine::search as machine;
+use fancy_runner::notes::{KeptTable, Notes};
+use fancy_runner::search as runner;
 use std::alloc::Global;
 
 /// Which engine served a search.

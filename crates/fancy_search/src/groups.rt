@@ -6,7 +6,7 @@ ghost use Rattle.fancy_search.specs.Groups.{spans_of, span_of_group};
 ghost use Rattle.fancy_search.specs.Cached.{found_at};
 
 use crate::cache::Cache;
-use fancy_engine::found::Found;
+use fancy_code::found::Found;
 use fancy_input::span::Span;
 use std::alloc::{AllocError, Global};
 

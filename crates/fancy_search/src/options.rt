@@ -6,8 +6,8 @@ ghost use Rattle.fancy_tree.specs.Pattern.{pattern_of};
 ghost use Rattle.fancy_search.specs.Options.{by_default, meaning_in, dialect_of, is_easy_under, search_options};
 ghost use Rattle.fancy_search.specs.ProgramSize.{passes};
 
-use fancy_engine::classify::is_easy;
-use fancy_engine::options::SearchOptions;
+use fancy_code::classify::is_easy;
+use fancy_code::options::SearchOptions;
 use fancy_syntax::flags::Flags;
 use fancy_syntax::parse::ParseOptions;
 use fancy_tree::tree::{BytesMode, Meaning, Tree};

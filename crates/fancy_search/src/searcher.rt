@@ -14,8 +14,8 @@ ghost use Rattle.fancy_search.specs.Remaining.{standing_after, EndsUnlessOk, IfI
 use crate::cache::{Cache, Kept};
 use crate::program::Program;
 use fancy_bytes::lacking::KnownBytes;
-use fancy_engine::found::Found;
-use fancy_engine::work::Work;
+use fancy_code::found::Found;
+use fancy_code::work::Work;
 use fancy_input::input::{Haystack, Input, Request};
 use fancy_input::regex_input::RegexInput;
 use fancy_tree::error::{Error, Result};

@@ -4,8 +4,8 @@ ghost use Rattle.std.specs.Prelude.{◌≡◌, true};
 ghost use Rattle.fancy_search.specs.Followed.{FollowsEach};
 
 use fancy_automaton::plain::is_plain;
-use fancy_engine::branches::WIDE;
-use fancy_engine::code::Code;
+use fancy_code::branches::WIDE;
+use fancy_code::code::Code;
 
 /// Whether the code opens with many branches, one of which is taken at each position: an alternation of that many, or as
 /// many repeats in a row that may consume nothing. With fewer the runner is as fast as the automaton: it takes some

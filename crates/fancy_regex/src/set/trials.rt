@@ -15,10 +15,10 @@ ghost use Rattle.fancy_input.specs.Requests.{effective_start};
 ghost use Rattle.fancy_search.specs.Cached.{IsAttemptIn};
 ghost use Rattle.fancy_search.specs.KeptTables.{kept_from};
 
+use fancy_code::found::Found;
 use fancy_core::attempt::{attempt_at, find_at};
 use fancy_core::captures::Captures;
 use fancy_core::regex::Regex;
-use fancy_engine::found::Found;
 use fancy_input::input::{Input, Request};
 use fancy_input::regex_input::RegexInput;
 use fancy_search::cache::{AttemptCache, AttemptNotes};

@@ -3,7 +3,7 @@
 ghost use Rattle.std.specs.Prelude.{◌≡◌, ◌≤◌, ◌<◌, ◌+◌, ◌⊎◌, IfOk, IfErr, IfSome, Some, length, slice_get};
 ghost use Rattle.fancy_bytes.specs.Lacks.{AreKnown};
 ghost use Rattle.fancy_input.specs.Inputs.{haystack_in, request_in};
-ghost use Rattle.fancy_engine.specs.Queries.{answer_with};
+ghost use Rattle.fancy_code.specs.Queries.{answer_with};
 ghost use Rattle.fancy_search.specs.Cached.{cached_groups};
 ghost use Rattle.fancy_search.specs.KeptTables.{kept_from};
 ghost use Rattle.fancy_regex.specs.LongestMatches.{asked_in_bytes, end_so_far, IsLongestIfAny, IsTokenGiven};
@@ -13,11 +13,11 @@ ghost use Rattle.fancy_regex.specs.TokenLists.{IsUnmatched, IsRefusedByMember, t
 ghost use Rattle.fancy_regex.specs.Trials.{AreNotedFrom};
 ghost use Rattle.fancy_regex.specs.Tokens.{found_by_member, KeepLimits, KeepsLimitAt};
 
-use crate::set::trials::Trials;
 use crate::set::{RegexSet, RegexSetMatch};
+use crate::set::trials::Trials;
 use crate::tokens::token::Token;
+use fancy_code::found::Found;
 use fancy_core::attempt::captures_found;
-use fancy_engine::found::Found;
 use fancy_input::input::{Input, Request};
 use fancy_input::lines::byte_at;
 use fancy_input::regex_input::RegexInput;

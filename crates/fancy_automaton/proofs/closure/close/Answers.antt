@@ -1,6 +1,6 @@
 use Rattle.std.proofs.Common.{◌≡◌, ◌∙◌, refl, ap, length, reverse, arith, false}
 use Rattle.std.proofs.lemmas.List.{length-replicate}
-use Rattle.fancy_engine.specs.CodeLength.{code_len}
+use Rattle.fancy_code.specs.CodeLength.{code_len}
 use Rattle.fancy_automaton.specs.Ways.{marked, first_end}
 use Rattle.fancy_automaton.proofs.MarkLemmas.{marked_le, marked-replicate}
 use Rattle.fancy_automaton.proofs.ClosingLemmas.{close_first, close_over, closing_popped}

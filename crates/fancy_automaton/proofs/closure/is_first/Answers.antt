@@ -1,7 +1,7 @@
 use Rattle.std.proofs.Common.{◌≡◌, ◌∙◌, Bool, List, ap, sym, subst, length-set, true, false}
 use Rattle.std.proofs.lemmas.Bool.{not-false}
 use Rattle.std.specs.Prelude.{slice_index_or}
-use Rattle.fancy_engine.proofs.TableLemmas.{member-set}
+use Rattle.fancy_code.proofs.MarkingLemmas.{member-set}
 use Rattle.fancy_automaton.proofs.MarkLemmas.{marked-new}
 use Rattle.fancy_automaton.proofs.closure.is_first.Goals as goal
 use Rattle.std.proofs.Common.{length}

@@ -1,9 +1,9 @@
 use Rattle.std.proofs.Common.{◌∙◌, refl, sym, ap, subst, option_map}
-use Rattle.fancy_engine.specs.Code.{instrs_of}
-use Rattle.fancy_engine.specs.Run.{instr_at}
-use Rattle.fancy_engine.specs.Reading.{unit_read}
-use Rattle.fancy_engine.proofs.InstructionLemmas.{length-instrs_of}
-use Rattle.fancy_engine.proofs.RunnerSteps.{past_end}
+use Rattle.fancy_code.specs.Code.{instrs_of}
+use Rattle.fancy_code.specs.Run.{instr_at}
+use Rattle.fancy_code.specs.Reading.{unit_read}
+use Rattle.fancy_code.proofs.InstructionLemmas.{length-instrs_of}
+use Rattle.fancy_code.proofs.RunMore.{past_end}
 use Rattle.fancy_automaton.specs.declared.way.Way.{Way}
 use Rattle.fancy_automaton.specs.declared.way.Effect.{Effect}
 use Rattle.fancy_automaton.specs.Ways.{Obeys, effect_of}

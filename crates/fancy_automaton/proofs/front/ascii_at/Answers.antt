@@ -2,7 +2,7 @@ use Rattle.std.proofs.Common.{◌<◌, ◌+◌, ◌≤◌, ◌∙◌, Bool, Some
 use Rattle.std.specs.Prelude.{if◌then◌else◌}
 use Rattle.std.proofs.lemmas.Bool.{le-leb}
 use Rattle.std.proofs.lemmas.Option.{slice_get-get_or}
-use Rattle.fancy_engine.proofs.ReadingLemmas.{low_unit}
+use Rattle.fancy_code.proofs.ReadingLemmas.{low_unit}
 use Rattle.fancy_automaton.specs.Futures.{cut}
 use Rattle.fancy_automaton.proofs.GoingLemmas.{unit_is}
 use Rattle.fancy_automaton.proofs.front.ascii_at.Goals as goal

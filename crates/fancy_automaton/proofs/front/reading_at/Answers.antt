@@ -1,7 +1,7 @@
 use Rattle.std.proofs.Common.{◌∙◌, Bool, Some, None, sym, ap}
 use Rattle.std.specs.Prelude.{if◌then◌else◌}
 use Rattle.std.proofs.lemmas.Bool.{le-leb, lt-leb}
-use Rattle.fancy_engine.specs.Reading.{unit_read}
+use Rattle.fancy_code.specs.Reading.{unit_read}
 use Rattle.fancy_automaton.specs.Futures.{cut}
 use Rattle.fancy_automaton.proofs.GoingLemmas.{unit_is}
 use Rattle.fancy_automaton.proofs.front.reading_at.Goals as goal

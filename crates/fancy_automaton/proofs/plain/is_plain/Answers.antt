@@ -1,6 +1,6 @@
 use Rattle.std.proofs.Common.{arith, refl}
-use Rattle.fancy_engine.specs.Code.{instrs_of}
-use Rattle.fancy_engine.proofs.InstructionLemmas.{length-instrs_of}
+use Rattle.fancy_code.specs.Code.{instrs_of}
+use Rattle.fancy_code.proofs.InstructionLemmas.{length-instrs_of}
 use Rattle.fancy_automaton.proofs.PlainLemmas.{plain_all}
 use Rattle.fancy_automaton.proofs.plain.is_plain.Goals as goal
 

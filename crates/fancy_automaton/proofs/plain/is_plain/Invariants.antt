@@ -1,4 +1,4 @@
-use Rattle.fancy_engine.specs.Code.{instrs_of}
+use Rattle.fancy_code.specs.Code.{instrs_of}
 use Rattle.fancy_automaton.proofs.PlainLemmas.{PlainBelow}
 use Rattle.fancy_automaton.proofs.plain.is_plain.Given as goal
 

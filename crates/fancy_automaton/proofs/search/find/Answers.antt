@@ -2,13 +2,13 @@ use Rattle.std.proofs.Common.{◌≡◌, ℕ, ◌+◌, ◌-◌, ◌∙◌, Bool,
 use Rattle.fancy_input.specs.declared.span.Span.{Span}
 use Rattle.std.specs.Prelude.{min, if◌then◌else◌}
 use Rattle.fancy_input.specs.Requests.{positions, effective_start}
-use Rattle.fancy_engine.specs.Queries.{query_of, unfiltered, answer_with}
-use Rattle.fancy_engine.specs.Reading.{search_context}
-use Rattle.fancy_engine.specs.Search.{answer_from, search}
-use Rattle.fancy_engine.specs.Seen.{NoneMayStart}
-use Rattle.fancy_engine.specs.declared.reading.SuppressedEnds.{SuppressedEnds}
-use Rattle.fancy_engine.specs.declared.runner.Attempt.{Attempt}
-use Rattle.fancy_engine.proofs.RunnerSearch.{positions_none, search_over}
+use Rattle.fancy_code.specs.Queries.{query_of, unfiltered, answer_with}
+use Rattle.fancy_code.specs.Reading.{search_context}
+use Rattle.fancy_code.specs.Search.{answer_from, search}
+use Rattle.fancy_code.specs.Seen.{NoneMayStart}
+use Rattle.fancy_code.specs.declared.reading.SuppressedEnds.{SuppressedEnds}
+use Rattle.fancy_code.specs.declared.attempt.Attempt.{Attempt}
+use Rattle.fancy_code.proofs.PositionLemmas.{positions_none, search_over}
 use Rattle.fancy_automaton.specs.Search.{ends_in, ends_of}
 use Rattle.fancy_automaton.proofs.AnswerLemmas.{IsWhole, Deep, begun, found_by_ends, whole_is, leftmost_is, starts_none}
 use Rattle.fancy_automaton.proofs.SteadyLemmas.{steady}

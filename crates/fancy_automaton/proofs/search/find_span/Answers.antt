@@ -1,9 +1,9 @@
 use Rattle.std.proofs.Common.{◌+◌, ◌∙◌, [], ap, arith, option_map, refl}
 use Rattle.fancy_automaton.specs.Search.{ends_in}
-use Rattle.fancy_engine.specs.CodeLength.{code_len}
-use Rattle.fancy_engine.specs.Work.{steps_of}
+use Rattle.fancy_code.specs.CodeLength.{code_len}
+use Rattle.fancy_code.specs.Work.{steps_of}
 use Rattle.fancy_automaton.proofs.CellLemmas.{row_ways, row_within}
-use Rattle.fancy_engine.proofs.SkipLemmas.{starts_somewhere}
+use Rattle.fancy_code.proofs.SkipLemmas.{starts_somewhere}
 use Rattle.fancy_automaton.proofs.FrontLemmas.{front_first}
 use Rattle.fancy_automaton.proofs.GoingLemmas.{going_end, going_over, steps_more, steps_up}
 use Rattle.fancy_automaton.proofs.TrailLemmas.{some_found}

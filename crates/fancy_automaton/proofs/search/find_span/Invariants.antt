@@ -1,14 +1,14 @@
 use Rattle.std.proofs.Common.{◌≡◌, ◌+◌, ◌-◌, ◌*◌, ◌≤◌, [], false}
-use Rattle.fancy_engine.specs.CodeLength.{code_len}
-use Rattle.fancy_engine.specs.Seen.{NoneMayStart}
-use Rattle.fancy_engine.specs.Work.{steps_of, returns_of, units_of}
-use Rattle.fancy_automaton.specs.Cells.{IsWithin}
+use Rattle.fancy_code.specs.CodeLength.{code_len}
+use Rattle.fancy_code.specs.Seen.{NoneMayStart}
+use Rattle.fancy_code.specs.Work.{steps_of, returns_of, units_of}
+use Rattle.fancy_automaton.specs.Cells.{IsBounded}
 use Rattle.fancy_automaton.specs.Front.{IsFront, ways_of}
 use Rattle.fancy_automaton.proofs.search.find_span.Given as goal
 
 abbrev pub invariant-places : goal.invariant-places
 invariant-places l = record {
-  kept : IsWithin l.cells;
+  kept : IsBounded l.cells;
   front : IsFront l.attempt l.cells l.front l.place l.place;
   passed : l.attempt.base ≤ l.place;
   within : l.place ≤ l.attempt.last + 1;

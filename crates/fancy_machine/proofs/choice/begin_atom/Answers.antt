@@ -1,4 +1,4 @@
-use Rattle.fancy_engine.specs.Code.{instrs_of}
+use Rattle.fancy_code.specs.Code.{instrs_of}
 use Rattle.fancy_machine.specs.Attempt.{attempt_context}
 use Rattle.fancy_machine.proofs.MachineSteps.{entered}
 use Rattle.fancy_machine.proofs.choice.begin_atom.Goals as goal

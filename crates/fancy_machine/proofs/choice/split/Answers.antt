@@ -1,5 +1,5 @@
 use Rattle.std.proofs.Common.{Err, ap}
-use Rattle.fancy_engine.specs.Code.{instrs_of}
+use Rattle.fancy_code.specs.Code.{instrs_of}
 use Rattle.fancy_machine.specs.Attempt.{attempt_context}
 use Rattle.fancy_machine.proofs.RefusalLemmas.{passed_on}
 use Rattle.fancy_machine.proofs.MachineSteps.{parted, parted_crowded}

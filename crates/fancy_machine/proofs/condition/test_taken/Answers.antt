@@ -1,6 +1,6 @@
 use Rattle.std.proofs.Common.{refl}
-use Rattle.fancy_engine.specs.Instructions as i
-use Rattle.fancy_engine.specs.Code.{instrs_of}
+use Rattle.fancy_code.specs.Instructions as i
+use Rattle.fancy_code.specs.Code.{instrs_of}
 use Rattle.fancy_machine.specs.Attempt.{attempt_context}
 use Rattle.fancy_machine.proofs.MachineSteps.{went_by}
 use Rattle.fancy_machine.proofs.condition.test_taken.Goals as goal

@@ -1,13 +1,13 @@
 use Rattle.std.proofs.Common.{refl, ◌≡◌, ◌≤◌, ℕ, suc, ◌+◌, ◌-◌, ◌∙◌, Err, List, sym, ap, ap₂, subst, arith}
 use Rattle.fancy_input.specs.LastLines.{KnowsLastLines}
 use Rattle.fancy_input.specs.Requests.{positions, effective_start}
-use Rattle.fancy_engine.specs.declared.options.SearchOptions.{SearchOptions}
-use Rattle.fancy_engine.specs.Work.{IsWithin}
-use Rattle.fancy_engine.specs.Events.{marks_in, returns_in}
-use Rattle.fancy_engine.specs.Search.{answer_from, gone_from}
-use Rattle.fancy_engine.proofs.AttemptLemmas.{found_here, found_later}
-use Rattle.fancy_engine.proofs.RunnerSearch.{search_over, positions_none, positions_some}
-use Rattle.fancy_engine.specs.Tried.{tried}
+use Rattle.fancy_code.specs.declared.options.SearchOptions.{SearchOptions}
+use Rattle.fancy_code.specs.Work.{IsWithin}
+use Rattle.fancy_code.specs.Events.{marks_in, returns_in}
+use Rattle.fancy_code.specs.Search.{answer_from, gone_from}
+use Rattle.fancy_code.proofs.AttemptLemmas.{found_here, found_later}
+use Rattle.fancy_code.proofs.PositionLemmas.{search_over, positions_none, positions_some}
+use Rattle.fancy_code.specs.Tried.{tried}
 use Rattle.fancy_machine.proofs.MachineSearch.{asked_request, is_asked, gone_hit, gone_more, gone_counts, gone_over}
 use Rattle.fancy_machine.proofs.SeekLemmas.{goes_on, tried_somewhere}
 use Rattle.fancy_machine.proofs.RefusalLemmas.{passed_on}

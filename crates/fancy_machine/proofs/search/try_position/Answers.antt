@@ -1,6 +1,6 @@
 use Rattle.std.proofs.Common.{◌≡◌, ℕ, ◌∙◌, true, false, replicate, Some, Err, sym, ap, ap₂, arith}
-use Rattle.fancy_engine.specs.Events.{returns_in}
-use Rattle.fancy_engine.specs.Threads.{empty_slot}
+use Rattle.fancy_code.specs.Events.{returns_in}
+use Rattle.fancy_code.specs.Thread.{empty_slot}
 use Rattle.fancy_machine.specs.Layers.{spot_of}
 use Rattle.fancy_machine.proofs.MachineSearch.{admits, admits_is, begun_from, nothing_admitted, nothing_here, taken_here, missed_here}
 use Rattle.fancy_machine.proofs.RefusalLemmas.{passed_on}

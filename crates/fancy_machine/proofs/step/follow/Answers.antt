@@ -1,14 +1,14 @@
 use Rattle.std.proofs.Common.{◌≡◌, ℕ, List, ◌∷◌, [], Some, sym, refl, ap, ◌∙◌, subst}
 use Rattle.std.proofs.lemmas.Result.{IfOk-weaker}
 use Rattle.fancy_tree.specs.Sets.{has}
-use Rattle.fancy_engine.specs.declared.code.Code.{Code}
-use Rattle.fancy_engine.specs.declared.code.Instr.{Instr}
-use Rattle.fancy_engine.specs.Instructions as i
-use Rattle.fancy_engine.specs.Code.{instrs_of, instr_in, set_edges}
-use Rattle.fancy_engine.specs.Context.{past_item}
-use Rattle.fancy_engine.specs.Run.{Raw, Stop, instr_at}
-use Rattle.fancy_engine.proofs.InstructionLemmas.{length-instrs_of}
-use Rattle.fancy_engine.proofs.RunnerSteps.{past_end}
+use Rattle.fancy_code.specs.declared.code.Code.{Code}
+use Rattle.fancy_code.specs.declared.code.Instr.{Instr}
+use Rattle.fancy_code.specs.Instructions as i
+use Rattle.fancy_code.specs.Code.{instrs_of, instr_in, set_edges}
+use Rattle.fancy_code.specs.Context.{past_item}
+use Rattle.fancy_code.specs.Run.{Raw, Stop, instr_at}
+use Rattle.fancy_code.proofs.InstructionLemmas.{length-instrs_of}
+use Rattle.fancy_code.proofs.RunMore.{past_end}
 use Rattle.fancy_machine.specs.Attempt.{attempt_context, code_in}
 use Rattle.fancy_machine.specs.Machine.{IsStep}
 use Rattle.fancy_machine.proofs.MachineSteps.{stopped, failed, read_by, kept, opened, closed}

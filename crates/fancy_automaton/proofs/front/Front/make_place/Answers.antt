@@ -1,5 +1,5 @@
 use Rattle.std.proofs.Common.{[], ◌∷◌, ◌++◌, refl, subst, sym}
-use Rattle.fancy_engine.specs.declared.code.Code.{Code}
+use Rattle.fancy_code.specs.declared.code.Code.{Code}
 use Rattle.fancy_automaton.specs.Cells.{HasRow}
 use Rattle.fancy_automaton.specs.Front.{ways_of}
 use Rattle.fancy_automaton.proofs.FrontLemmas.{front_restarted}

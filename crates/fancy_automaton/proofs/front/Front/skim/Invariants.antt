@@ -1,5 +1,5 @@
 use Rattle.std.proofs.Common.{◌≡◌, ◌+◌, ◌-◌, ◌≤◌, true}
-use Rattle.fancy_engine.specs.Attempt.{may_end_in}
+use Rattle.fancy_code.specs.Attempt.{may_end_in}
 use Rattle.fancy_automaton.specs.Front.{IsFront}
 use Rattle.fancy_automaton.proofs.front.Front.skim.Given as goal
 

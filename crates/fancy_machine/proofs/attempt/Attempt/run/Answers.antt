@@ -1,5 +1,5 @@
 use Rattle.std.proofs.Common.{Err, refl, ◌∙◌, arith, ap}
-use Rattle.fancy_engine.specs.Work.{returns_of}
+use Rattle.fancy_code.specs.Work.{returns_of}
 use Rattle.fancy_machine.specs.Attempt.{code_in}
 use Rattle.fancy_machine.proofs.MachineLemmas.{search_on, smaller_on, search_found, search_back, smaller_back, search_end, search_refused, search_crowded, backed_err}
 use Rattle.fancy_machine.proofs.WorkLemmas.{steps_more, step_beyond, back_within}

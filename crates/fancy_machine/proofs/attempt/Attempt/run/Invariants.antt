@@ -1,8 +1,8 @@
 use Rattle.std.proofs.Common.{◌≡◌, ◌+◌, ◌≤◌}
 use Rattle.fancy_input.specs.LastLines.{KnowsLastLines}
-use Rattle.fancy_engine.specs.Work.{steps_of, returns_of, IsWithin}
+use Rattle.fancy_code.specs.Work.{steps_of, returns_of, IsWithin}
 use Rattle.fancy_machine.specs.Attempt.{accepts, code_in, outcome_from, returns_from, marks_from}
-use Rattle.fancy_engine.specs.Runner.{size_of}
+use Rattle.fancy_code.specs.Thread.{size_of}
 use Rattle.fancy_machine.specs.Machine.{Searching, left}
 use Rattle.fancy_machine.proofs.attempt.Attempt.run.Given as goal
 

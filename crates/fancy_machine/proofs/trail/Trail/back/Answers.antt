@@ -1,8 +1,8 @@
 use Rattle.std.proofs.Common.{◌≡◌, ◌≤◌, ◌-◌, ℕ, Bool, true, false, ◌++◌, [], take, ◌∙◌, List, ◌∷◌, length, map, drop, arith, ap, ap₂, sym, subst}
 use Rattle.std.proofs.lemmas.List.{length-take-le}
-use Rattle.fancy_engine.specs.declared.slot.Slot.{Slot}
+use Rattle.fancy_code.specs.declared.slot.Slot.{Slot}
 use Rattle.fancy_machine.specs.declared.log.Write.{Write}
-use Rattle.fancy_engine.specs.Work.{returns_of, went_back}
+use Rattle.fancy_code.specs.Work.{returns_of, went_back}
 use Rattle.fancy_machine.specs.declared.layer.Layer.{Layer}
 use Rattle.fancy_machine.specs.declared.log.Cell.{Cell}
 use Rattle.fancy_machine.specs.Frames.{Spot, Frame}

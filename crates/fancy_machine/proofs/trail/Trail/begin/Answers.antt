@@ -1,5 +1,5 @@
 use Rattle.std.proofs.Common.{◌∙◌, ap, arith, length, map, refl}
-use Rattle.fancy_engine.proofs.ThreadsLemmas.{map-replicate}
+use Rattle.fancy_code.proofs.ThreadLemmas.{map-replicate}
 use Rattle.fancy_machine.specs.Layers.{spot_of}
 use Rattle.fancy_machine.specs.Log.{cell_slot, empty_cell}
 use Rattle.fancy_machine.proofs.WriteLemmas.{begun_log}

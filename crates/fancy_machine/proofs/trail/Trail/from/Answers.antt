@@ -1,5 +1,5 @@
 use Rattle.std.proofs.Common.{List, ap, ◌∙◌, get_or, slice_index}
-use Rattle.fancy_engine.specs.Threads.{slot_from}
+use Rattle.fancy_code.specs.Thread.{slot_from}
 use Rattle.fancy_machine.specs.declared.log.Cell.{Cell}
 use Rattle.fancy_machine.specs.Frames.{Held}
 use Rattle.fancy_machine.specs.Log.{empty_cell}

@@ -1,6 +1,6 @@
 use Rattle.std.proofs.Common.{List, ap, ◌∙◌, get_or, is_some}
-use Rattle.fancy_engine.specs.Context.{group_span}
-use Rattle.fancy_engine.specs.Threads.{slot_span}
+use Rattle.fancy_code.specs.Context.{group_span}
+use Rattle.fancy_code.specs.Thread.{slot_span}
 use Rattle.fancy_machine.specs.declared.log.Cell.{Cell}
 use Rattle.fancy_machine.specs.Frames.{Held}
 use Rattle.fancy_machine.specs.Log.{empty_cell}

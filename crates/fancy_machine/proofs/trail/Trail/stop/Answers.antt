@@ -2,7 +2,7 @@ use Rattle.std.proofs.Common.{arith, map, sym, subst}
 use Rattle.fancy_machine.specs.Log.{cell_slot}
 use Rattle.fancy_machine.specs.Frames.{Held}
 use Rattle.fancy_machine.specs.Machine.{Stops, within_at, at_place}
-use Rattle.fancy_engine.specs.declared.runner.Next.TheVariants.{On}
+use Rattle.fancy_code.specs.declared.step.Next.TheVariants.{On}
 use Rattle.fancy_machine.proofs.RegionLemmas.{opens_top}
 use Rattle.fancy_machine.proofs.TrailStops.{stops_bare, stops_elsewhere, stops_atom, stops_condition, stops_look, stops_denial, no_branch}
 use Rattle.fancy_machine.proofs.trail.Trail.stop.Goals as goal

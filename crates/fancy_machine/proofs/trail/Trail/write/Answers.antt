@@ -1,6 +1,6 @@
 use Rattle.std.proofs.Common.{◌<◌, ◌∙◌, ap, arith, length, length-append, map, refl, sym, true≢false}
 use Rattle.std.proofs.lemmas.List.{get_or_read, get_or-map, map-set}
-use Rattle.fancy_engine.specs.Threads.{empty_slot}
+use Rattle.fancy_code.specs.Thread.{empty_slot}
 use Rattle.fancy_machine.specs.declared.log.Cell.{Cell}
 use Rattle.fancy_machine.specs.declared.log.Write.{Write}
 use Rattle.fancy_machine.specs.Frames.{Held}

@@ -1,7 +1,7 @@
 use Rattle.std.proofs.Common.{◌≡◌, ◌≤◌, ℕ, arith, length, map, subst, sym}
 use Rattle.std.proofs.lemmas.List.{length-map}
 use Rattle.std.proofs.Math.Nat.{mul-le-mul_right}
-use Rattle.fancy_engine.specs.Threads.{slot_span}
+use Rattle.fancy_code.specs.Thread.{slot_span}
 use Rattle.fancy_machine.specs.Frames.{Held, saved}
 use Rattle.fancy_machine.specs.Log.{cell_slot, writes_allowed}
 use Rattle.fancy_machine.specs.Layers.{branches_in}

@@ -1,5 +1,5 @@
 use Rattle.std.proofs.Common.{◌+◌, ◌≤◌, sym, ap, subst, ◌∙◌, arith}
-use Rattle.fancy_engine.specs.Queries.{answer_with}
+use Rattle.fancy_code.specs.Queries.{answer_with}
 use Rattle.fancy_search.specs.Cached.{cached_groups, found_at}
 use Rattle.fancy_regex.specs.LongestMatches.{end_so_far, IsLongest}
 use Rattle.fancy_regex.proofs.TrialLemmas.{reaches_short}

@@ -4,7 +4,7 @@ use Rattle.fancy_search.specs.Programs.{asked_of}
 use Rattle.fancy_search.proofs.ResultLemmas.{if_ok}
 use Rattle.fancy_search.proofs.SearchedLemmas.{ordered_at, inside_at, clean_at}
 use Rattle.fancy_search.proofs.KeptTablesLemmas.{noted_past}
-use Rattle.fancy_engine.proofs.KeptTableLemmas.{fewer_ahead}
+use Rattle.fancy_runner.proofs.KeptTableLemmas.{fewer_ahead}
 use Rattle.fancy_search.proofs.TriedAtLemmas.{untried_at, untaken_at}
 use Rattle.fancy_search.proofs.program.Program.attempt_at.Goals as goal
 

@@ -1,4 +1,4 @@
-use Rattle.fancy_engine.specs.Queries.{query_of}
+use Rattle.fancy_code.specs.Queries.{query_of}
 use Rattle.fancy_search.proofs.program.Program.backtrack.Given as goal
 
 abbrev pub ghost-search : goal.ghost-search

@@ -1,6 +1,6 @@
 use Rattle.std.proofs.Common.{◌≡◌, refl}
 use Rattle.std.proofs.Math.Logic.{∥∥₁_elim, ∥∥₁_prop}
-use Rattle.fancy_engine.specs.Compile.{IsCodeOf}
+use Rattle.fancy_code.specs.Compile.{IsCodeOf}
 use Rattle.fancy_search.specs.Programs.{program_pattern}
 use Rattle.fancy_search.proofs.program.Program.backtrack_at.Goals as goal
 

@@ -1,4 +1,4 @@
-use Rattle.fancy_engine.specs.Queries.{query_of}
+use Rattle.fancy_code.specs.Queries.{query_of}
 use Rattle.fancy_search.proofs.program.Program.backtrack_at.Given as goal
 
 abbrev pub ghost-attempt_at : goal.ghost-attempt_at

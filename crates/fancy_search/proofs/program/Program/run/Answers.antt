@@ -1,4 +1,4 @@
-use Rattle.fancy_engine.proofs.ClassifyLemmas.{easy_code}
+use Rattle.fancy_code.proofs.ClassifyLemmas.{easy_code}
 use Rattle.std.proofs.Common.{arith}
 use Rattle.fancy_search.proofs.SearchedLemmas.{known, nowhere}
 use Rattle.fancy_search.proofs.ProgramSizeLemmas.{parts_of_easy}

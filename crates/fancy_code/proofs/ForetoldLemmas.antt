@@ -1,0 +1,476 @@
+-- What code foretells of the bytes at the first places of what it consumes.
+use Rattle.std.proofs.Common.{◌≡◌, ℕ, zero, suc, ◌+◌, ◌-◌, ◌%◌, ◌<◌, ◌≤◌, ◌==◌, Bool, true, false, not, ◌&&◌, ◌||◌, ◌⊎◌, List, [], ◌∷◌, ◌++◌, length, drop, take, Option, Some, None, if◌then◌else◌, nat_le, nat_lt, inl, inr, refl, sym, ap, subst, ◌∙◌, arith, true≢false, slice_index, slice_set, get_or-drop, leb-true, eq-eqb, ne_eqb, eqb-true, replicate}
+use Rattle.std.proofs.lemmas.List.{length-replicate, length-take-le, get_or-take, get_or_append_left}
+use Rattle.std.proofs.lemmas.Bool.Decides.{nat_tests}
+use Rattle.std.proofs.lemmas.Bool.{cases_eq, cases_lt, le-leb}
+use Rattle.std.proofs.lemmas.Str.{length-encode, len_utf8_bounds}
+use Rattle.std.specs.Prelude.{IfSome}
+use Rattle.std.specs.Char.{len_utf8, encode_utf8}
+use Rattle.fancy_tree.specs.declared.tree.Meaning.{Meaning}
+use Rattle.fancy_tree.specs.declared.tree.Meaning.TheVariants.{Unicode, Bytes, AsciiText}
+use Rattle.fancy_tree.specs.declared.tree.Assertion.{Assertion}
+use Rattle.fancy_tree.specs.declared.tree.Assertion.TheVariants.{TextStart}
+use Rattle.fancy_tree.specs.Sets.{has, differ, is_odd}
+use Rattle.fancy_bytes.specs.Items.{encoding, only}
+use Rattle.fancy_bytes.specs.Sets.{ByteFlags, member}
+use Rattle.fancy_bytes.specs.Windows.{StandsFrom}
+use Rattle.fancy_bytes.proofs.BoolLemmas.{parts_of}
+use Rattle.fancy_bytes.specs.KeyTables.{NoneMayStand}
+use Rattle.fancy_code.specs.Branches.{AreBranches, Chooses, OpensTo, TestsTo}
+use Rattle.fancy_code.specs.declared.branches.Branches.{Branches}
+use Rattle.fancy_code.specs.declared.code.Code.{Code}
+use Rattle.fancy_code.specs.Code.{instrs_of}
+use Rattle.fancy_code.specs.Context.{Context, State, Unit_at, moved_to, with_capture, unit_in, unit_at, past_item, holds, option_to}
+use Rattle.fancy_code.specs.Forward.{EachOutcome}
+use Rattle.fancy_code.specs.Instructions.{Instruction, Fail, Character, Member, Assert, Split, Open, Close}
+use Rattle.fancy_code.specs.Run.{Raw, Note, Stop, Sign, choice_opened, returned, fetched, Go, AllStops, before, join, onward, instr_at, act, run, erase, Foretells}
+use Rattle.fancy_code.specs.Compile.{IsCodeOf, depth}
+use Rattle.fancy_code.specs.Foretold.{Foretold, AreForetold, IsAnchored, Wider, HasFrom, AreBytesOf}
+use Rattle.fancy_code.specs.Search.{Query, answer_at, context_of, initial}
+use Rattle.fancy_code.proofs.BeginLemmas.{accepted_holds}
+use Rattle.fancy_code.proofs.OpenLemmas.{unit_wide}
+use Rattle.fancy_code.proofs.RunMore.{past_end}
+use Rattle.fancy_code.proofs.SearchLemmas.{is-no_answer}
+use Rattle.fancy_code.proofs.SeenLemmas.{unit_item, only_one}
+use Rattle.fancy_code.proofs.WholeCode.{program_gives}
+
+-- what each stop says
+
+stops_all : (P : Type 0) → P → (w : List Raw) → AllStops (λ q s v. P) w
+stops_all P h [] = tt
+stops_all P h (Note m ∷ w) = stops_all P h w
+stops_all P h (Stop q s v ∷ w) = (h, stops_all P h w)
+
+pub foretells_all : (P : Type 0) → P → (o : Option (List Raw)) → Foretells P o
+foretells_all P h None = tt
+foretells_all P h (Some w) = stops_all P h w
+
+stops_imply : (P Q : Type 0) → (P → Q) → (w : List Raw) → AllStops (λ q s v. P) w → AllStops (λ q s v. Q) w
+stops_imply P Q f [] h = tt
+stops_imply P Q f (Note m ∷ w) h = stops_imply P Q f w h
+stops_imply P Q f (Stop q s v ∷ w) h = (f h.0, stops_imply P Q f w h.1)
+
+pub foretells_imply : (P Q : Type 0) → (P → Q) → (o : Option (List Raw)) → Foretells P o → Foretells Q o
+foretells_imply P Q f None h = tt
+foretells_imply P Q f (Some w) h = stops_imply P Q f w h
+
+stops_both : (P : Type 0) (a b : List Raw) → AllStops (λ q s v. P) a → AllStops (λ q s v. P) b → AllStops (λ q s v. P) (a ++ b)
+stops_both P [] b f g = g
+stops_both P (Note m ∷ a) b f g = stops_both P a b f g
+stops_both P (Stop q s v ∷ a) b f g = (f.0, stops_both P a b f.1 g)
+
+pub before_told : (P : Type 0) (m : Sign) (o : Option (List Raw)) → Foretells P o → Foretells P (before (Note m) o)
+before_told P m None f = tt
+before_told P m (Some w) f = f
+
+join_told : (P : Type 0) (o p : Option (List Raw)) → Foretells P o → Foretells P p → Foretells P (join o p)
+join_told P None p f g = tt
+join_told P (Some a) None f g = tt
+join_told P (Some a) (Some b) f g = stops_both P a (Note returned ∷ b) f g
+
+if_told : (P : Type 0) (c : Bool) (o : Option (List Raw)) → Foretells P o → Foretells P (if c then o else (Some []))
+if_told P true o f = f
+if_told P false o f = tt
+
+if_within : (P : Type 0) (limit q : ℕ) (c : Bool) (o : Option (List Raw)) → nat_le q limit ≡ c → (q ≤ limit → Foretells P o) → Foretells P (if c then o else (Some []))
+if_within P limit q true o e f = f (leb-true q limit e)
+if_within P limit q false o e f = tt
+
+pub onward_told : (P : Type 0) (limit : ℕ) (go : Go) (next : ℕ) (s : State) (v : List ℕ) (o : Option ℕ)
+    → ((q : ℕ) → o ≡ Some q → q ≤ limit → Foretells P (go next (moved_to s q) v)) → Foretells P (onward limit go next s v o)
+onward_told P limit go next s v None f = tt
+onward_told P limit go next s v (Some q) f = if_within P limit q (nat_le q limit) (go next (moved_to s q) v) refl (f q refl)
+
+-- the events of the outcomes
+outcomes_told : (P : Type 0) (w : List Raw) → AllStops (λ q s v. P) w → EachOutcome (λ t. P) (erase w)
+outcomes_told P [] h = tt
+outcomes_told P (Note choice_opened ∷ w) h = outcomes_told P w h
+outcomes_told P (Note returned ∷ w) h = outcomes_told P w h
+outcomes_told P (Note fetched ∷ w) h = outcomes_told P w h
+outcomes_told P (Stop q s v ∷ w) h = (h.0, outcomes_told P w h.1)
+
+-- an item, and where it ends
+
+pub record ItemAt (m : Meaning) (haystack : List ℕ) (test : ℕ → Bool) (p q : ℕ) : Type 0 where
+  pub code : ℕ
+  pub passes : test code ≡ true
+  pub rest : List ℕ
+  pub bytes : drop p haystack ≡ encoding m code ++ rest
+  pub ends : q ≡ p + length (encoding m code)
+
+item_where : (m : Meaning) (haystack : List ℕ) (test : ℕ → Bool) (p q : ℕ) (u : Unit_at) (b : Bool) → unit_in m haystack p ≡ Some u → test u.code ≡ b
+    → (if b then Some (p + u.width) else None) ≡ Some q → ItemAt m haystack test p q
+item_where m haystack test p q u true is passes e =
+    let h = unit_item haystack p m (only u.code) u is (eq-eqb u.code u.code refl) in
+    let same : h.code ≡ u.code = only_one u.code h.code h.passes in
+    let end : p + u.width ≡ q = cc in
+    record {
+      code = u.code;
+      passes = passes;
+      rest = h.rest;
+      bytes = h.bytes ∙ ap (λ (d : ℕ). encoding m d ++ h.rest) same;
+      ends = sym end ∙ ap (λ (n : ℕ). p + n) (unit_wide m haystack p u is);
+    }
+item_where m haystack test p q u false is passes e = cc
+
+item_if : (x : Context) (test : ℕ → Bool) (p q : ℕ) (o : Option Unit_at) → unit_in x.meaning x.haystack p ≡ o
+    → option_to o None (λ u. if test u.code then Some (p + u.width) else None) ≡ Some q → ItemAt x.meaning x.haystack test p q
+item_if x test p q None is e = cc
+item_if x test p q (Some u) is e = item_where x.meaning x.haystack test p q u (test u.code) is refl e
+
+pub item_at : (x : Context) (test : ℕ → Bool) (p q : ℕ) → past_item x test p ≡ Some q → ItemAt x.meaning x.haystack test p q
+unfolding past_item unit_at
+item_at x test p q e = item_if x test p q (unit_in x.meaning x.haystack p) refl e
+
+encoding_some : (m : Meaning) (c : ℕ) → 0 < length (encoding m c)
+encoding_some Unicode c = omega (arith, length-encode c, (len_utf8_bounds c).0)
+encoding_some Bytes c = omega arith
+encoding_some AsciiText c = omega (arith, length-encode c, (len_utf8_bounds c).0)
+
+-- a byte of an item
+item_byte : (haystack bytes rest : List ℕ) (p i : ℕ) → drop p haystack ≡ bytes ++ rest → i < length bytes → slice_index haystack (p + i) ≡ slice_index bytes i
+item_byte haystack bytes rest p i e lt = sym (get_or-drop p haystack i 0) ∙ ap (λ (l : List ℕ). slice_index l i) e ∙ get_or_append_left bytes rest 0 i lt
+
+truth : (b : Bool) → (b ≡ true) ⊎ (b ≡ false)
+truth true = inl refl
+truth false = inr refl
+
+off : (b : Bool) → not b ≡ true → b ≡ false
+off true e = absurd (true≢false (sym e))
+off false e = refl
+
+-- rows that have more
+
+pub wider_same : (old : List ByteFlags) → Wider old old
+wider_same old = record { shorter = omega arith; has = λ j b inside lt e. e }
+
+pub wider_both : (old mid new : List ByteFlags) → Wider old mid → Wider mid new → Wider old new
+wider_both old mid new f g = record {
+  shorter = omega (arith, f.shorter, g.shorter);
+  has = λ j b inside lt e. g.has j b inside lt (f.has j b (omega (arith, inside, g.shorter)) lt e);
+}
+
+pub wider_cut : (old : List ByteFlags) (n : ℕ) → n < length old → Wider old (take n old)
+wider_cut old n lt =
+    let size : length (take n old) ≡ n = length-take-le n old (omega (arith, lt)) in
+    record {
+      shorter = omega (arith, size, lt);
+      has = λ j b inside small e. ap (λ (s : ByteFlags). member s b) (get_or-take n old j [] (omega (arith, inside, size))) ∙ e;
+    }
+
+pub cut_length : (old : List ByteFlags) (n : ℕ) → n < length old → length (take n old) ≤ n
+cut_length old n lt = omega (arith, length-take-le n old (omega (arith, lt)))
+
+module _ (m : Meaning) (code : List Instruction) (from at : ℕ) (exact : Bool) (old new : List ByteFlags) (w : Wider old new) where
+  pub wider_told : Foretold code m old from exact at → Foretold code m new from exact at
+  wider_told f x limit n s v o p meant bytes low same here =
+      foretells_imply (StandsFrom old x.haystack limit o p) (StandsFrom new x.haystack limit o p)
+      (λ stands j later inside.
+      let b = stands j later (omega (arith, inside, w.shorter)) in
+      (b.0, w.has j (slice_index x.haystack (p + j)) inside (bytes (p + j)) b.1))
+      (run x limit code n at s v) (f x limit n s v o p meant bytes low same here)
+
+pub wider_has : (old new : List ByteFlags) (from : ℕ) (exact : Bool) (bytes : ByteFlags) → Wider old new → HasFrom old from exact bytes → HasFrom new from exact bytes
+wider_has old new from exact bytes w f j b low same inside lt e = w.has j b inside lt (f j b low same (omega (arith, inside, w.shorter)) lt e)
+
+module _ (m : Meaning) (code : List Instruction) (sets : List ByteFlags) where
+  -- past the row nothing is told
+  pub told_past : (from at : ℕ) (exact : Bool) → length sets ≤ from → Foretold code m sets from exact at
+  told_past from at exact le x limit n s v o p meant bytes low same here =
+      foretells_all (StandsFrom sets x.haystack limit o p) (λ j later inside. absurd (omega (arith, le, low, later, inside))) (run x limit code n at s v)
+
+  -- what is told by the instruction
+  abbrev Told : ℕ → ℕ → Bool → Instruction → Type 0
+  Told from at exact i =
+      (x : Context) (limit n : ℕ) (s : State) (v : List ℕ) (o p : ℕ) → x.meaning ≡ m → ((k : ℕ) → slice_index x.haystack k < 256)
+      → from ≤ o → (exact ≡ true → o ≡ from) → s.place ≡ p + o
+      → Foretells (StandsFrom sets x.haystack limit o p) (act x limit at i (run x limit code n) (run x (length x.haystack) code n) s v)
+
+  told_by : (from at : ℕ) (exact : Bool) (i : Instruction) → instr_at code at ≡ i → Told from at exact i → Foretold code m sets from exact at
+  told_by from at exact i is f x limit zero s v o p meant bytes low same here = tt
+  told_by from at exact i is f x limit (suc n) s v o p meant bytes low same here =
+      before_told (StandsFrom sets x.haystack limit o p) fetched (act x limit at (instr_at code at) (run x limit code n) (run x (length x.haystack) code n) s v)
+      (subst (λ (j : Instruction). Foretells (StandsFrom sets x.haystack limit o p) (act x limit at j (run x limit code n) (run x (length x.haystack) code n) s v)) (sym is)
+      (f x limit n s v o p meant bytes low same here))
+
+  pub told_fail : (from at : ℕ) (exact : Bool) → instr_at code at ≡ Fail → Foretold code m sets from exact at
+  told_fail from at exact is = told_by from at exact Fail is (λ x limit n s v o p meant bytes low same here. tt)
+
+  pub told_nowhere : (from at : ℕ) (exact : Bool) → length code ≤ at → Foretold code m sets from exact at
+  told_nowhere from at exact le = told_fail from at exact (past_end code at le)
+
+  pub told_assert : (from at : ℕ) (exact : Bool) (a : Assertion) (next : ℕ) → instr_at code at ≡ Assert a next → Foretold code m sets from exact next → Foretold code m sets from exact at
+  told_assert from at exact a next is f =
+      told_by from at exact (Assert a next) is
+      (λ x limit n s v o p meant bytes low same here.
+      if_told (StandsFrom sets x.haystack limit o p) (holds x a s.place) (run x limit code n next s v) (f x limit n s v o p meant bytes low same here))
+
+  pub told_open : (from at : ℕ) (exact : Bool) (group next : ℕ) → instr_at code at ≡ Open group next → Foretold code m sets from exact next → Foretold code m sets from exact at
+  told_open from at exact group next is f =
+      told_by from at exact (Open group next) is
+      (λ x limit n s v o p meant bytes low same here. f x limit n s (slice_set v group s.place) o p meant bytes low same here)
+
+  pub told_close : (from at : ℕ) (exact : Bool) (group next : ℕ) → instr_at code at ≡ Close group next → Foretold code m sets from exact next → Foretold code m sets from exact at
+  told_close from at exact group next is f =
+      told_by from at exact (Close group next) is
+      (λ x limit n s v o p meant bytes low same here. f x limit n (with_capture s group (slice_index v group)) v o p meant bytes low same here)
+
+  pub told_split : (from at : ℕ) (exact : Bool) (a b : ℕ) → instr_at code at ≡ Split a b → Foretold code m sets from exact a → Foretold code m sets from exact b
+      → Foretold code m sets from exact at
+  told_split from at exact a b is f g =
+      told_by from at exact (Split a b) is
+      (λ x limit n s v o p meant bytes low same here.
+      before_told (StandsFrom sets x.haystack limit o p) choice_opened (join (run x limit code n a s v) (run x limit code n b s v))
+      (join_told (StandsFrom sets x.haystack limit o p) (run x limit code n a s v) (run x limit code n b s v)
+      (f x limit n s v o p meant bytes low same here) (g x limit n s v o p meant bytes low same here)))
+
+  module _ (from next : ℕ) (exact wide : Bool) (test : ℕ → Bool) (bytes : ByteFlags) (are : AreBytesOf m test bytes wide) (has_them : HasFrom sets from (exact && not wide) bytes)
+      (after : Foretold code m sets (from + 1) (exact && not wide) next) where
+    -- an item's bytes stand, and then those of what follows
+    item_told : (x : Context) (limit n : ℕ) (s : State) (v : List ℕ) (o p : ℕ) → x.meaning ≡ m → ((k : ℕ) → slice_index x.haystack k < 256)
+        → from ≤ o → (exact ≡ true → o ≡ from) → s.place ≡ p + o
+        → Foretells (StandsFrom sets x.haystack limit o p) (onward limit (run x limit code n) next s v (past_item x test s.place))
+    item_told x limit n s v o p meant small low same here =
+        onward_told (StandsFrom sets x.haystack limit o p) limit (run x limit code n) next s v (past_item x test s.place)
+        (λ q past within.
+        let h = subst (λ (k : Meaning). ItemAt k x.haystack test s.place q) meant (item_at x test s.place q past) in
+        let size : ℕ = length (encoding m h.code) in
+        let some : 0 < size = encoding_some m h.code in
+        let one : (exact && not wide) ≡ true → (o ≡ from) × (size ≡ 1) =
+        (λ e. let parts = parts_of exact (not wide) e in (same parts.0, are.one h.code h.passes (off wide parts.1))) in
+        foretells_imply (StandsFrom sets x.haystack limit (o + size) p) (StandsFrom sets x.haystack limit o p)
+        (λ stands j later inside.
+        elim (cases_lt j (o + size)) [
+          | inl lt ↦
+              let i : ℕ = j - o in
+              let there : s.place + i ≡ p + j = omega (arith, here, later) in
+              let byte : slice_index x.haystack (p + j) ≡ slice_index (encoding m h.code) i =
+              ap (slice_index x.haystack) (sym there) ∙ item_byte x.haystack (encoding m h.code) h.rest s.place i h.bytes (omega (arith, lt, later)) in (
+                omega (arith, here, within, h.ends, lt),
+                has_them j (slice_index x.haystack (p + j)) (omega (arith, low, later)) (λ e. omega (arith, (one e).0, (one e).1, lt, later)) inside (small (p + j))
+                    (ap (member bytes) byte ∙ are.has h.code i h.passes (omega (arith, lt, later)) (subst (λ (b : ℕ). b < 256) byte (small (p + j)))),
+              )
+          | inr ge ↦ stands j ge inside
+        ])
+        (run x limit code n next (moved_to s q) v)
+        (after x limit n (moved_to s q) v (o + size) p meant small (omega (arith, low, some)) (λ e. omega (arith, (one e).0, (one e).1)) (omega (arith, h.ends, here))))
+
+    pub told_member : (at : ℕ) (edges : List ℕ) → instr_at code at ≡ Member edges next → test ≡ has edges → Foretold code m sets from exact at
+    told_member at edges is e =
+        told_by from at exact (Member edges next) is
+        (subst (λ (f : ℕ → Bool). (x : Context) (limit n : ℕ) (s : State) (v : List ℕ) (o p : ℕ) → x.meaning ≡ m → ((k : ℕ) → slice_index x.haystack k < 256)
+        → from ≤ o → (exact ≡ true → o ≡ from) → s.place ≡ p + o
+        → Foretells (StandsFrom sets x.haystack limit o p) (onward limit (run x limit code n) next s v (past_item x f s.place))) e item_told)
+
+    pub told_character : (at c : ℕ) → instr_at code at ≡ Character c next → test ≡ (λ d. d == c) → Foretold code m sets from exact at
+    told_character at c is e =
+        told_by from at exact (Character c next) is
+        (subst (λ (f : ℕ → Bool). (x : Context) (limit n : ℕ) (s : State) (v : List ℕ) (o p : ℕ) → x.meaning ≡ m → ((k : ℕ) → slice_index x.haystack k < 256)
+        → from ≤ o → (exact ≡ true → o ≡ from) → s.place ≡ p + o
+        → Foretells (StandsFrom sets x.haystack limit o p) (onward limit (run x limit code n) next s v (past_item x f s.place))) e item_told)
+
+-- from the first instruction on
+pub start_told : (code : Code) (sets : List ByteFlags) → Foretold (instrs_of code) code.meaning sets 0 true code.start → AreForetold sets code
+start_told code sets f x limit n s v meant bytes = f x limit n s v 0 s.place meant bytes (omega arith) (λ e. refl) (omega arith)
+
+-- nothing is found where a way that stops would say what does not hold
+module _ (q : Query) (code : Code) (is : IsCodeOf q.sought.pattern code) (meant : q.sought.meaning ≡ code.meaning) (inside : q.request.range_end ≤ length q.haystack) where
+  none_told : (P : Type 0) (p : ℕ) → p ≤ q.request.range_end
+      → Foretells P (run (context_of q) q.request.range_end (instrs_of code) (depth (length q.haystack) q.sought.pattern + 1) code.start (initial q p) (replicate code.groups 0))
+      → ¬ P → answer_at q p ≡ None
+  none_told P p le told never =
+      let g = program_gives (context_of q) q.request.range_end q.sought.pattern code is meant inside (initial q p) (replicate code.groups 0) le (length-replicate code.groups 0) in
+      is-no_answer q p
+      (λ h. never (accepted_holds q p (λ t. P) h (subst (EachOutcome (λ t. P)) g.2 (outcomes_told P g.0 (subst (Foretells P) g.1 told)))))
+
+  -- where a byte of each set does not stand
+  pub none_foretold : ((k : ℕ) → slice_index q.haystack k < 256) → (sets : List ByteFlags) → AreForetold sets code
+      → (p : ℕ) → p ≤ q.request.range_end → ¬ StandsFrom sets q.haystack q.request.range_end 0 p → answer_at q p ≡ None
+  none_foretold bytes sets f p le lacks =
+      none_told (StandsFrom sets q.haystack q.request.range_end 0 p) p le
+      (f (context_of q) q.request.range_end (depth (length q.haystack) q.sought.pattern + 1) (initial q p) (replicate code.groups 0) meant bytes) lacks
+
+  -- past the text's start, where each way goes on there alone
+  pub none_anchored : IsAnchored (instrs_of code) code.start → (p : ℕ) → p ≤ q.request.range_end → 0 < p → answer_at q p ≡ None
+  none_anchored f p le later =
+      none_told ⊥ p le (f (context_of q) q.request.range_end (depth (length q.haystack) q.sought.pattern + 1) (initial q p) (replicate code.groups 0) later) (λ h. h)
+
+-- where no alternative may match that the code opens with, no way of it stops
+
+module _ (code : List Instruction) (x : Context) (limit : ℕ) (s : State) (v : List ℕ) where
+  none_stops : (q : ℕ) (hs : List ℕ) → Chooses code q hs → ((j n : ℕ) → j < length hs → Foretells ⊥ (run x limit code n (slice_index hs j) s v)) → (n : ℕ) → Foretells ⊥ (run x limit code n q s v)
+  none_stops q [] chooses none n = absurd chooses
+  none_stops q (h ∷ hs) chooses none zero = tt
+  none_stops q (h ∷ hs) chooses none (suc n) =
+      elim chooses [
+        | inl last ↦ subst (λ (i : ℕ). Foretells ⊥ (run x limit code (suc n) i s v)) (sym last.1) (none 0 (suc n) (omega arith))
+        | inr more ↦
+            before_told ⊥ fetched (act x limit q (instr_at code q) (run x limit code n) (run x (length x.haystack) code n) s v)
+            (subst (λ (i : Instruction). Foretells ⊥ (act x limit q i (run x limit code n) (run x (length x.haystack) code n) s v)) (sym more.1)
+            (before_told ⊥ choice_opened (join (run x limit code n h s v) (run x limit code n more.0 s v))
+            (join_told ⊥ (run x limit code n h s v) (run x limit code n more.0 s v) (none 0 n (omega arith))
+            (none_stops more.0 hs more.2 (λ j m lt. none (suc j) m (omega (arith, lt))) n))))
+      ]
+
+-- nor does one of what comes before them
+
+module _ (code : List Instruction) (x : Context) (limit : ℕ) (s : State) where
+  none_opened : (o : Option ℕ) (q next : ℕ) → OpensTo code o q next → ((n : ℕ) (v : List ℕ) → Foretells ⊥ (run x limit code n next s v)) → (n : ℕ) (v : List ℕ) → Foretells ⊥ (run x limit code n q s v)
+  none_opened None q next same none n v = subst (λ (i : ℕ). Foretells ⊥ (run x limit code n i s v)) (sym same) (none n v)
+  none_opened (Some g) q next is none zero v = tt
+  none_opened (Some g) q next is none (suc n) v =
+      before_told ⊥ fetched (act x limit q (instr_at code q) (run x limit code n) (run x (length x.haystack) code n) s v)
+      (subst (λ (i : Instruction). Foretells ⊥ (act x limit q i (run x limit code n) (run x (length x.haystack) code n) s v)) (sym is) (none n (slice_set v g s.place)))
+
+  none_tested : (o : Option Assertion) (q next : ℕ) → TestsTo code o q next → ((n : ℕ) (v : List ℕ) → Foretells ⊥ (run x limit code n next s v)) → (n : ℕ) (v : List ℕ) → Foretells ⊥ (run x limit code n q s v)
+  none_tested None q next same none n v = subst (λ (i : ℕ). Foretells ⊥ (run x limit code n i s v)) (sym same) (none n v)
+  none_tested (Some a) q next is none zero v = tt
+  none_tested (Some a) q next is none (suc n) v =
+      before_told ⊥ fetched (act x limit q (instr_at code q) (run x limit code n) (run x (length x.haystack) code n) s v)
+      (subst (λ (i : Instruction). Foretells ⊥ (act x limit q i (run x limit code n) (run x (length x.haystack) code n) s v)) (sym is)
+      (if_told ⊥ (holds x a s.place) (run x limit code n next s v) (none n v)))
+
+module _ (q : Query) (code : Code) (is : IsCodeOf q.sought.pattern code) (meant : q.sought.meaning ≡ code.meaning) (inside : q.request.range_end ≤ length q.haystack) where
+  pub none_branched : ((k : ℕ) → slice_index q.haystack k < 256) → (b : Branches) → AreBranches b (instrs_of code) code.meaning code.start
+      → (p : ℕ) → p ≤ q.request.range_end → NoneMayStand b.table q.haystack q.request.range_end p → answer_at q p ≡ None
+  none_branched bytes b told p le none =
+      none_told q code is meant inside ⊥ p le
+      (none_tested (instrs_of code) (context_of q) q.request.range_end (initial q p) b.lead.test code.start told.leads.0 told.leads.1
+      (none_opened (instrs_of code) (context_of q) q.request.range_end (initial q p) b.lead.group told.leads.0 b.lead.at told.leads.2
+      (λ n v. none_stops (instrs_of code) (context_of q) q.request.range_end (initial q p) v b.lead.at b.heads.items told.chooses
+      (λ j m lt. told.told j lt (context_of q) q.request.range_end m (initial q p) v meant bytes (none j)) n))
+      (depth (length q.haystack) q.sought.pattern + 1) (replicate code.groups 0))
+      (λ h. h)
+
+-- code that goes on at the text's start alone
+
+module _ (code : List Instruction) where
+  abbrev AnchoredBy : ℕ → Instruction → Type 0
+  AnchoredBy at i =
+      (x : Context) (limit n : ℕ) (s : State) (v : List ℕ) → 0 < s.place → Foretells ⊥ (act x limit at i (run x limit code n) (run x (length x.haystack) code n) s v)
+
+  anchored_by : (at : ℕ) (i : Instruction) → instr_at code at ≡ i → AnchoredBy at i → IsAnchored code at
+  anchored_by at i is f x limit zero s v later = tt
+  anchored_by at i is f x limit (suc n) s v later =
+      before_told ⊥ fetched (act x limit at (instr_at code at) (run x limit code n) (run x (length x.haystack) code n) s v)
+      (subst (λ (j : Instruction). Foretells ⊥ (act x limit at j (run x limit code n) (run x (length x.haystack) code n) s v)) (sym is) (f x limit n s v later))
+
+  pub anchored_fail : (at : ℕ) → instr_at code at ≡ Fail → IsAnchored code at
+  anchored_fail at is = anchored_by at Fail is (λ x limit n s v later. tt)
+
+  pub anchored_nowhere : (at : ℕ) → length code ≤ at → IsAnchored code at
+  anchored_nowhere at le = anchored_fail at (past_end code at le)
+
+  start_fails : (x : Context) (p : ℕ) → 0 < p → holds x TextStart p ≡ false
+  unfolding holds
+  start_fails x p later = ap (λ (b : Bool). b && not x.start_text_off) (ne_eqb p 0 (λ e. omega (arith, e, later)))
+
+  pub anchored_start : (at next : ℕ) → instr_at code at ≡ Assert TextStart next → IsAnchored code at
+  anchored_start at next is =
+      anchored_by at (Assert TextStart next) is
+      (λ x limit n s v later. subst (λ (b : Bool). Foretells ⊥ (if b then (run x limit code n next s v) else (Some []))) (sym (start_fails x s.place later)) tt)
+
+  pub anchored_assert : (at : ℕ) (a : Assertion) (next : ℕ) → instr_at code at ≡ Assert a next → IsAnchored code next → IsAnchored code at
+  anchored_assert at a next is f =
+      anchored_by at (Assert a next) is (λ x limit n s v later. if_told ⊥ (holds x a s.place) (run x limit code n next s v) (f x limit n s v later))
+
+  pub anchored_open : (at group next : ℕ) → instr_at code at ≡ Open group next → IsAnchored code next → IsAnchored code at
+  anchored_open at group next is f = anchored_by at (Open group next) is (λ x limit n s v later. f x limit n s (slice_set v group s.place) later)
+
+  pub anchored_close : (at group next : ℕ) → instr_at code at ≡ Close group next → IsAnchored code next → IsAnchored code at
+  anchored_close at group next is f =
+      anchored_by at (Close group next) is (λ x limit n s v later. f x limit n (with_capture s group (slice_index v group)) v later)
+
+  pub anchored_split : (at a b : ℕ) → instr_at code at ≡ Split a b → IsAnchored code a → IsAnchored code b → IsAnchored code at
+  anchored_split at a b is f g =
+      anchored_by at (Split a b) is
+      (λ x limit n s v later.
+      before_told ⊥ choice_opened (join (run x limit code n a s v) (run x limit code n b s v))
+      (join_told ⊥ (run x limit code n a s v) (run x limit code n b s v) (f x limit n s v later) (g x limit n s v later)))
+
+-- bytes of items
+
+pub high_added : (i b : ℕ) (was now next : Bool) → 128 ≤ i → now ≡ (was || (nat_le 128 b && nat_lt b i)) → next ≡ (now || (b == i)) → next ≡ (was || (nat_le 128 b && nat_lt b (i + 1)))
+high_added i b was now next le before adds =
+    elim (cases_eq b i) [
+      | inl same ↦ grind (arith, nat_tests)
+      | inr other ↦ grind (arith, nat_tests)
+    ]
+
+-- each byte of a character past ASCII is above those of ASCII
+high_byte : (c i : ℕ) → 128 ≤ c → i < len_utf8 c → 128 ≤ slice_index (encode_utf8 c) i
+unfolding encode_utf8
+high_byte c zero high lt = grind (arith, nat_tests)
+high_byte c (suc zero) high lt = grind (arith, nat_tests)
+high_byte c (suc (suc zero)) high lt = grind (arith, nat_tests)
+high_byte c (suc (suc (suc zero))) high lt = grind (arith, nat_tests)
+high_byte c (suc (suc (suc (suc i)))) high lt = absurd (omega (arith, lt, (len_utf8_bounds c).1))
+
+pub low_text : (c : ℕ) → c < 128 → encode_utf8 c ≡ c ∷ []
+unfolding encode_utf8
+low_text c lt = grind (arith, nat_tests)
+
+-- an odd number of edges lies at or below each member, and so of all edges at or below a number past them
+odd_next : (n : ℕ) → is_odd (suc n) ≡ not (is_odd n)
+unfolding is_odd
+odd_next n = grind (arith, nat_tests)
+
+pub passed_edges : (es : List ℕ) (c : ℕ) → ((k : ℕ) → k < length es → slice_index es k ≤ c) → has es c ≡ is_odd (length es)
+unfolding has is_odd
+passed_edges [] c below = refl
+passed_edges (e ∷ es) c below =
+    ap (λ (b : Bool). differ b (has es c)) (le-leb e c (below 0 (omega arith)))
+    ∙ ap not (passed_edges es c (λ k lt. below (suc k) (omega (arith, lt))))
+    ∙ sym (odd_next (length es))
+
+pub none_past : (es : List ℕ) (c : ℕ) → (length es % 2 == 0) ≡ true → ((k : ℕ) → k < length es → slice_index es k ≤ 128) → 128 ≤ c → has es c ≡ false
+unfolding is_odd
+none_past es c even below past =
+    passed_edges es c (λ k lt. omega (arith, below k lt, past)) ∙ ap (λ (r : ℕ). r == 1) (eqb-true (length es % 2) 0 even)
+
+module _ (c : ℕ) (bytes : ByteFlags) (wide : Bool) (low : c < 256 → member bytes c ≡ true) (high : wide ≡ true → (b : ℕ) → 128 ≤ b → b < 256 → member bytes b ≡ true) where
+  text_has : (wide ≡ false → c < 128) → (i : ℕ) → i < length (encode_utf8 c) → slice_index (encode_utf8 c) i < 256 → member bytes (slice_index (encode_utf8 c) i) ≡ true
+  text_has small i inside lt =
+      elim (cases_lt c 128) [
+        | inl ascii ↦
+            let text : encode_utf8 c ≡ c ∷ [] = low_text c ascii in
+            let first : i ≡ 0 = omega (arith, inside, ap length text) in
+            let here : slice_index (encode_utf8 c) i ≡ c = ap (λ (l : List ℕ). slice_index l i) text ∙ ap (slice_index (c ∷ [])) first in
+            ap (member bytes) here ∙ low (omega (arith, ascii))
+        | inr past ↦
+            elim (truth wide) [
+              | inl broad ↦ high broad (slice_index (encode_utf8 c) i) (high_byte c i past (omega (arith, inside, length-encode c))) lt
+              | inr narrow ↦ absurd (omega (arith, small narrow, past))
+            ]
+      ]
+
+  text_one : (wide ≡ false → c < 128) → wide ≡ false → length (encode_utf8 c) ≡ 1
+  text_one small narrow = ap length (low_text c (small narrow))
+
+  byte_has : (i : ℕ) → i < length (c ∷ []) → slice_index (c ∷ []) i < 256 → member bytes (slice_index (c ∷ []) i) ≡ true
+  byte_has zero inside lt = low lt
+  byte_has (suc i) inside lt = absurd (omega (arith, inside))
+
+  -- the bytes of an item, of which there is one where it is not wide
+  pub item_has : (m : Meaning) → (wide ≡ false → (m ≡ Bytes) ⊎ (c < 128)) → (i : ℕ) → i < length (encoding m c) → slice_index (encoding m c) i < 256
+      → member bytes (slice_index (encoding m c) i) ≡ true
+  item_has Unicode small i inside lt = text_has (λ narrow. elim (small narrow) [ inl e ↦ cc | inr ascii ↦ ascii ]) i inside lt
+  item_has Bytes small i inside lt = byte_has i inside lt
+  item_has AsciiText small i inside lt = text_has (λ narrow. elim (small narrow) [ inl e ↦ cc | inr ascii ↦ ascii ]) i inside lt
+
+  pub item_one : (m : Meaning) → (wide ≡ false → (m ≡ Bytes) ⊎ (c < 128)) → wide ≡ false → length (encoding m c) ≡ 1
+  item_one Unicode small narrow = text_one (λ narrow. elim (small narrow) [ inl e ↦ cc | inr ascii ↦ ascii ]) narrow
+  item_one Bytes small narrow = refl
+  item_one AsciiText small narrow = text_one (λ narrow. elim (small narrow) [ inl e ↦ cc | inr ascii ↦ ascii ]) narrow
+
+pub are_bytes : (m : Meaning) (test : ℕ → Bool) (bytes : ByteFlags) (wide : Bool) → ((c : ℕ) → test c ≡ true → c < 256 → member bytes c ≡ true)
+    → (wide ≡ true → (b : ℕ) → 128 ≤ b → b < 256 → member bytes b ≡ true)
+    → ((c : ℕ) → test c ≡ true → wide ≡ false → (m ≡ Bytes) ⊎ (c < 128)) → AreBytesOf m test bytes wide
+are_bytes m test bytes wide low high small = record {
+  has = λ c i passes inside lt. item_has c bytes wide (low c passes) high m (small c passes) i inside lt;
+  one = λ c passes narrow. item_one c bytes wide (low c passes) high m (small c passes) narrow;
+}
+
+pub some_foretold : (code : Code) (o : Option (List ByteFlags)) (row : List ByteFlags) → IfSome o (λ r. r ≡ row) → AreForetold row code → IfSome o (λ sets. AreForetold sets code)
+some_foretold code None row same told = tt
+some_foretold code (Some r) row same told = subst (λ (sets : List ByteFlags). AreForetold sets code) (sym same) told

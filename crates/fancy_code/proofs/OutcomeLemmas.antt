@@ -1,0 +1,36 @@
+-- The outcomes of sequences and choices.
+use Rattle.std.proofs.Common.{◌≡◌, ℕ, List, [], ◌∷◌, ◌++◌, flat_map, refl, sym, ap, ◌∙◌, append-nil}
+use Rattle.fancy_tree.specs.Pattern.{Pattern, followed, or_else, in_sequence}
+use Rattle.fancy_code.specs.Context.{Context, State}
+use Rattle.fancy_code.specs.Events.{return, bind, outcomes_in}
+use Rattle.fancy_code.specs.Trace.{trace, outcomes}
+use Rattle.fancy_code.proofs.EventLemmas.{bind-bind, bind_same, bind-stay, outcomes-append, outcomes-bind}
+
+-- a sequence of two sequences is the one and then the other
+pub trace-in_sequence_append : (x : Context) (limit : ℕ) (ps qs : List Pattern) (s : State) →
+    trace x limit (in_sequence (ps ++ qs)) s ≡ bind (trace x limit (in_sequence ps) s) (trace x limit (in_sequence qs))
+unfolding trace
+trace-in_sequence_append x limit [] qs s = sym (append-nil _)
+trace-in_sequence_append x limit (p ∷ []) [] s = sym (bind-stay (trace x limit p s))
+trace-in_sequence_append x limit (p ∷ []) (q ∷ qs) s = refl
+trace-in_sequence_append x limit (p ∷ r ∷ ps) qs s =
+    bind_same (trace x limit p s) _ _ (trace-in_sequence_append x limit (r ∷ ps) qs)
+    ∙ sym (bind-bind (trace x limit p s) (trace x limit (in_sequence (r ∷ ps))) (trace x limit (in_sequence qs)))
+
+pub outcomes-followed : (x : Context) (limit : ℕ) (p q : Pattern) (s : State) →
+    outcomes x limit (followed p q) s ≡ flat_map (outcomes x limit q) (outcomes x limit p s)
+unfolding outcomes trace
+outcomes-followed x limit p q s = outcomes-bind (trace x limit p s) (trace x limit q)
+
+pub outcomes-or_else : (x : Context) (limit : ℕ) (p q : Pattern) (s : State) →
+    outcomes x limit (or_else p q) s ≡ outcomes x limit p s ++ outcomes x limit q s
+unfolding outcomes trace
+outcomes-or_else x limit p q s = outcomes-append (trace x limit p s) (return ∷ trace x limit q s)
+
+pub outcomes-in_sequence_append : (x : Context) (limit : ℕ) (ps qs : List Pattern) (s : State) →
+    outcomes x limit (in_sequence (ps ++ qs)) s
+    ≡ flat_map (outcomes x limit (in_sequence qs)) (outcomes x limit (in_sequence ps) s)
+unfolding outcomes
+outcomes-in_sequence_append x limit ps qs s =
+    ap outcomes_in (trace-in_sequence_append x limit ps qs s)
+    ∙ outcomes-bind (trace x limit (in_sequence ps) s) (trace x limit (in_sequence qs))

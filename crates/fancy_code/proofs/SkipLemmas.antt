@@ -1,0 +1,68 @@
+-- Positions that may be passed over.
+use Rattle.std.proofs.Common.{◌≡◌, ℕ, zero, suc, ◌+◌, ◌-◌, ◌<◌, ◌≤◌, Bool, true, false, not, List, Option, Some, None, refl, sym, ap, ap₂, subst, ◌∙◌, arith, le_refl, slice_index, true≢false}
+use Rattle.std.proofs.lemmas.Option.{get_or_from_slice_get}
+use Rattle.fancy_input.specs.Requests.{effective_start, positions}
+use Rattle.fancy_code.specs.Search.{Query, answer_at, answer_from, search, context_of, initial}
+use Rattle.fancy_code.proofs.SearchLemmas.{is-no_answer, all_none}
+use Rattle.fancy_code.proofs.PositionLemmas.{search_miss}
+use Rattle.fancy_bytes.specs.Firsts.{nullable, first_bytes, AreStartBytes}
+use Rattle.fancy_bytes.specs.Sets.{ByteFlags, member}
+use Rattle.fancy_bytes.proofs.BoolLemmas.{parts_of}
+use Rattle.fancy_bytes.specs.Required.{required_bytes}
+use Rattle.fancy_code.specs.Seen.{MayStart, MayNotStart, NoneMayStart}
+use Rattle.fancy_code.specs.Stands.{SeesBefore, Stands, NoneSeen}
+use Rattle.fancy_code.proofs.BeginLemmas.{attempt_begins, accepted_holds}
+use Rattle.fancy_code.proofs.RequireLemmas.{trace_requires}
+
+-- what a search does at a position that it passes over
+pub none_here : (q : Query) (p : ℕ) → nullable q.sought.pattern ≡ false → ¬ SeesBefore q.haystack q.request.range_end (first_bytes q.sought.meaning q.sought.pattern) p → answer_at q p ≡ None
+none_here q p never unseen = is-no_answer q p (λ h. unseen (attempt_begins q p never h))
+
+-- positions without an answer may be passed over
+pub skip_none : (q : Query) (d n m p r : ℕ) → n ≡ d + m → r ≡ p + d → ((k : ℕ) → p ≤ k → k < r → answer_at q k ≡ None) → answer_from q n p ≡ answer_from q m r
+skip_none q zero n m p r count to none =
+    let same : n ≡ m = omega arith in
+    let there : p ≡ r = omega arith in
+    ap₂ (answer_from q) same there
+skip_none q (suc d) n m p r count to none =
+    search_miss q n (d + m) p (omega arith) (none p (le_refl p) (omega arith))
+    ∙ skip_none q d (d + m) m (p + 1) r refl (omega arith) (λ k a b. none k (omega arith) b)
+
+pub skips_lose_nothing : (q : Query) (d n p : ℕ) → nullable q.sought.pattern ≡ false →
+    NoneSeen q.haystack q.request.range_end (first_bytes q.sought.meaning q.sought.pattern) p (p + d) → answer_from q (d + n) p ≡ answer_from q n (p + d)
+skips_lose_nothing q d n p never unseen = skip_none q d (d + n) n p (p + d) refl refl (λ k a b. none_here q k never (unseen k a b))
+
+-- where a required byte stands nowhere, no attempt finds anything
+pub lacking_at : (q : Query) (b : ℕ) → required_bytes q.sought.meaning q.sought.pattern b ≡ true → ¬ Stands q.haystack b → (p : ℕ) → answer_at q p ≡ None
+lacking_at q b e lacks p =
+    is-no_answer q p
+    (λ h. lacks (accepted_holds q p (λ t. Stands q.haystack b) h (trace_requires (context_of q) b q.sought.pattern e q.request.range_end (initial q p))))
+
+pub lacking_is_none : (q : Query) (b : ℕ) → required_bytes q.sought.meaning q.sought.pattern b ≡ true → ¬ Stands q.haystack b → search q ≡ None
+lacking_is_none q b e lacks = all_none q (positions q.request) (effective_start q.request) (λ k from to. lacking_at q b e lacks k)
+
+off : (b : Bool) → not b ≡ true → b ≡ false
+off true e = absurd (true≢false (sym e))
+off false e = refl
+
+-- a match that may start at p is no match that may not
+pub starts_somewhere : (starts : Option ByteFlags) (haystack : List ℕ) (range_end p : ℕ) → MayStart starts haystack range_end p → MayNotStart starts haystack range_end p → ⊥
+starts_somewhere None haystack range_end p may never = never
+starts_somewhere (Some set) haystack range_end p may never = true≢false (sym may.1 ∙ never may.0)
+
+module _ (q : Query) (starts : Option ByteFlags) (is : AreStartBytes q.sought.meaning q.sought.pattern starts) (bytes : (k : ℕ) → slice_index q.haystack k < 256) where
+  -- nothing is found where no match starts
+  pub none_starts : (p : ℕ) → MayNotStart starts q.haystack q.request.range_end p → answer_at q p ≡ None
+  none_starts = by starts is where
+    by : (o : Option ByteFlags) → AreStartBytes q.sought.meaning q.sought.pattern o → (p : ℕ) → MayNotStart o q.haystack q.request.range_end p → answer_at q p ≡ None
+    by None has p never = absurd never
+    by (Some set) has p unseen =
+        none_here q p (off (nullable q.sought.pattern) (parts_of (not (nullable q.sought.pattern)) _ has.0).0)
+        (λ h.
+        let same : slice_index q.haystack p ≡ h.1.byte = get_or_from_slice_get q.haystack p h.1.byte 0 h.1.stands in
+        let small : h.1.byte < 256 = subst (λ (b : ℕ). b < 256) same (bytes p) in
+        true≢false (sym (has.1 h.1.byte small ∙ h.1.passes) ∙ sym (ap (member set) same) ∙ unseen h.0))
+
+  -- positions where no match starts may be passed over
+  pub starts_passed : (n m p r : ℕ) → p ≤ r → n ≡ (r - p) + m → NoneMayStart starts q.haystack q.request.range_end p r → answer_from q n p ≡ answer_from q m r
+  starts_passed n m p r le count none = skip_none q (r - p) n m p r count (omega arith) (λ k from before. none_starts k (none k from before))

@@ -1,0 +1,15 @@
+use Rattle.std.proofs.Common.{◌≡◌, ◌<◌, [], length, sym, subst, ◌∙◌, arith}
+use Rattle.fancy_bytes.specs.Sets.{ByteFlags}
+use Rattle.fancy_bytes.specs.Windows.{set_at}
+use Rattle.fancy_code.specs.Choices.{BeginsAmong}
+use Rattle.fancy_code.specs.Code.{instrs_of}
+use Rattle.fancy_code.proofs.ChoosingLemmas.{by_first, first_default, some_sets}
+use Rattle.fancy_code.proofs.choosing.beginning_of.Goals as goal
+
+pub returns : goal.returns
+returns c =
+    let sets = c.in_ok-sets.sets.items in
+    let some : 0 < length sets = some_sets sets _ (omega (arith, c.in_ok-sets.sets.ok.0)) c.if-is_empty.ensures in
+    let same : c.replace.result ≡ set_at sets 0 = c.replace.ensures.value ∙ c.index_mut.ensures.value ∙ first_default sets c.index_mut.result.now [] some in
+    subst (λ (set : ByteFlags). BeginsAmong (instrs_of c.args.code.now) c.args.code.now.meaning set c.args.at) (sym same)
+    (by_first (instrs_of c.args.code.now) c.args.code.now.meaning sets c.args.at c.in_ok-sets.ensures some)

@@ -1,0 +1,19 @@
+use Rattle.std.proofs.Common.{sym, ◌∙◌}
+use Rattle.fancy_code.proofs.prefilter.with_starts.Goals as goal
+
+pub returns-in-Some-clause-is : goal.returns-in-Some-clause-is
+returns-in-Some-clause-is c p is =
+    let same = c.with_branches.ensures in
+    record {
+      entry = is.entry;
+      means = rw (same.meaning, same.instrs) is.means;
+      begins = is.begins ∙ sym same.start;
+      matching = rw same.instrs is.matching;
+      failing = rw same.instrs is.failing;
+      numbered = rw same.groups is.numbered;
+      starts = rw (same.meaning, same.start_bytes) is.starts;
+      opens = rw (same.meaning, same.literal) is.opens;
+      foretold = rw (same.prefilter, same.meaning, same.instrs, same.start) is.foretold;
+      anchored = λ e. rw (same.instrs, same.start) (is.anchored (sym same.anchored ∙ e));
+      branched = rw (same.branches, same.instrs, same.meaning, same.start) (rw c.in-Some.is at c.in_ok-branches.ensures.are);
+    }

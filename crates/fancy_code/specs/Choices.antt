@@ -1,0 +1,52 @@
+-- Which ways of a choice are to be gone at a place, by the byte that stands there.
+use Rattle.std.specs.Prelude.{◌≡◌, ℕ, ◌<◌, Bool, true, false, List, [], ◌∷◌, Option, Some, None, slice_get, slice_index}
+use Rattle.fancy_tree.specs.declared.tree.Meaning.{Meaning}
+use Rattle.fancy_bytes.specs.Sets.{ByteFlags, member}
+use Rattle.fancy_code.specs.Context.{Context, State}
+use Rattle.fancy_code.specs.Instructions.{Instruction, Split}
+use Rattle.fancy_code.specs.Run.{Raw, Note, Stop, instr_at, run}
+use Rattle.fancy_code.specs.declared.choice.Beginnings.{Beginnings}
+use Rattle.fancy_code.specs.declared.choice.Choice.{Choice}
+use Rattle.fancy_code.specs.declared.choice.Choice.TheVariants.{Both, First, Second}
+
+-- whether a way stops
+abbrev pub has_stop : List Raw → Bool
+has_stop [] = false
+has_stop (Note m ∷ w) = has_stop w
+has_stop (Stop q s v ∷ w) = true
+
+-- whether one does, where the events are known
+abbrev pub stops : Option (List Raw) → Bool
+stops None = false
+stops (Some w) = has_stop w
+
+-- No way of the code stops from q on where it begins at a byte that is not in the set.
+abbrev pub BeginsAmong : List Instruction → Meaning → ByteFlags → ℕ → Type 0
+BeginsAmong code m set q =
+    (x : Context) (limit n : ℕ) (s : State) (v : List ℕ) → x.meaning ≡ m → ((k : ℕ) → slice_index x.haystack k < 256)
+    → member set (slice_index x.haystack s.place) ≡ false → stops (run x limit code n q s v) ≡ false
+
+-- where there is a choice at q, its ways begin by these sets
+abbrev pub BeginAt : List Instruction → Meaning → Beginnings → ℕ → Type 0
+BeginAt code m b q = (first second : ℕ) → instr_at code q ≡ Split first second → BeginsAmong code m b.first first × BeginsAmong code m b.second second
+
+-- one for each of the first instructions, or for none
+abbrev pub AreBeginnings : List Beginnings → List Instruction → Meaning → Type 0
+AreBeginnings all code m = (q : ℕ) (b : Beginnings) → slice_get all q ≡ Some b → BeginAt code m b q
+
+-- no way of the code stops from q on, if it begins at the place
+abbrev pub StopsNowhere : List Instruction → Meaning → List ℕ → ℕ → ℕ → Type 0
+StopsNowhere code m haystack place q =
+    (x : Context) (limit n : ℕ) (s : State) (v : List ℕ) → x.meaning ≡ m → x.haystack ≡ haystack → s.place ≡ place → stops (run x limit code n q s v) ≡ false
+
+-- a way that is left out stops nowhere
+abbrev pub LeavesOut : List Instruction → Meaning → List ℕ → ℕ → Choice → ℕ → ℕ → Type 0
+LeavesOut code m haystack place Both first second = Unit {0}
+LeavesOut code m haystack place First first second = StopsNowhere code m haystack place second
+LeavesOut code m haystack place Second first second = StopsNowhere code m haystack place first
+
+-- a way is left out where its set does not have the byte
+abbrev pub ChosenBy : Choice → Bool → Bool → Type 0
+ChosenBy Both first second = Unit {0}
+ChosenBy First first second = second ≡ false
+ChosenBy Second first second = first ≡ false

@@ -1,0 +1,49 @@
+-- Which bytes stand at the first places of what code consumes from an instruction on.
+use Rattle.std.specs.Prelude.{◌≡◌, ℕ, ◌+◌, ◌<◌, ◌≤◌, Bool, true, false, List, length, Some, slice_get, slice_index}
+use Rattle.std.specs.Global.{Vec}
+use Rattle.fancy_tree.specs.declared.tree.Meaning.{Meaning}
+use Rattle.fancy_bytes.specs.Items.{encoding}
+use Rattle.fancy_bytes.specs.Sets.{ByteFlags, member}
+use Rattle.fancy_bytes.specs.Windows.{set_at, StandsFrom}
+use Rattle.fancy_code.specs.Code.{instrs_of}
+use Rattle.fancy_code.specs.Context.{Context, State}
+use Rattle.fancy_code.specs.Instructions.{Instruction}
+use Rattle.fancy_code.specs.Run.{Foretells, run}
+use Rattle.fancy_code.specs.declared.code.Code.{Code}
+
+-- The code goes on at an instruction o places after the window's beginning, o being `from` or more, and exactly `from` where it is told so. Where a way stops from there, a byte of each set from that number on stands in the window.
+abbrev pub Foretold : List Instruction → Meaning → List ByteFlags → ℕ → Bool → ℕ → Type 0
+Foretold code m sets from exact at =
+    (x : Context) (limit n : ℕ) (s : State) (v : List ℕ) (o p : ℕ) → x.meaning ≡ m → ((k : ℕ) → slice_index x.haystack k < 256)
+    → from ≤ o → (exact ≡ true → o ≡ from) → s.place ≡ p + o
+    → Foretells (StandsFrom sets x.haystack limit o p) (run x limit code n at s v)
+
+-- Where a way of the code stops, a byte of each set stands in the window that begins where it was begun.
+abbrev pub AreForetold : List ByteFlags → Code → Type 0
+AreForetold sets code =
+    (x : Context) (limit n : ℕ) (s : State) (v : List ℕ) → x.meaning ≡ code.meaning → ((k : ℕ) → slice_index x.haystack k < 256)
+    → Foretells (StandsFrom sets x.haystack limit 0 s.place) (run x limit (instrs_of code) n code.start s v)
+
+-- The code goes on from an instruction at the text's start alone: at no other place does a way stop from there.
+abbrev pub IsAnchored : List Instruction → ℕ → Type 0
+IsAnchored code at = (x : Context) (limit n : ℕ) (s : State) (v : List ℕ) → 0 < s.place → Foretells ⊥ (run x limit code n at s v)
+
+-- The row has no more sets, and each of them has what it had.
+pub record Wider (old new : List ByteFlags) : Type 0 where
+  pub shorter : length new ≤ length old
+  pub has : (j b : ℕ) → j < length new → b < 256 → member (set_at old j) b ≡ true → member (set_at new j) b ≡ true
+
+-- Each set from a number on has these bytes; where it is told so, that one alone.
+abbrev pub HasFrom : List ByteFlags → ℕ → Bool → ByteFlags → Type 0
+HasFrom sets from exact bytes =
+    (j b : ℕ) → from ≤ j → (exact ≡ true → j ≡ from) → j < length sets → b < 256 → member bytes b ≡ true → member (set_at sets j) b ≡ true
+
+-- The items that pass a test have these bytes, and one alone where they are not wide.
+pub record AreBytesOf (m : Meaning) (test : ℕ → Bool) (bytes : ByteFlags) (wide : Bool) : Type 0 where
+  pub has : (c i : ℕ) → test c ≡ true → i < length (encoding m c) → slice_index (encoding m c) i < 256 → member bytes (slice_index (encoding m c) i) ≡ true
+  pub one : (c : ℕ) → test c ≡ true → wide ≡ false → length (encoding m c) ≡ 1
+
+-- one row for each of these instructions: the sets of the bytes at the first places of what is consumed from it on
+pub record AreRows (code : List Instruction) (m : Meaning) (heads : List ℕ) (rows : List (Vec ByteFlags)) : Type 0 where
+  pub count : length rows ≡ length heads
+  pub each : (number : ℕ) (row : Vec ByteFlags) → slice_get rows number ≡ Some row → Foretold code m row.items 0 true (slice_index heads number)

@@ -1,0 +1,25 @@
+//! What a pattern finds in a haystack: its definition, its code, and what all engines share.
+#![tactic(auto)]
+
+pub mod attempt;
+pub mod branches;
+mod branching;
+pub mod byte_laws;
+pub mod candidates;
+pub mod choice;
+mod choosing;
+pub mod classify;
+pub mod code;
+pub mod compile;
+mod emitter;
+pub mod found;
+pub mod laws;
+mod marking;
+pub mod options;
+mod prefilter;
+pub mod reading;
+pub mod refusal;
+pub mod slot;
+pub mod step;
+pub mod text;
+pub mod work;

@@ -1,9 +1,0 @@
-use Rattle.std.proofs.Common.{◌≤◌}
-use Rattle.fancy_engine.specs.Marking.{IsNumbered}
-use Rattle.fancy_engine.proofs.marking.numbers_of.Given as goal
-
-abbrev pub invariant-loop-at : goal.invariant-loop-at
-invariant-loop-at l = record {
-  numbered : IsNumbered l.numbers.items l.width;
-  few : l.width ≤ l.at;
-}

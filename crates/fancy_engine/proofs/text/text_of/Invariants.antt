@@ -1,6 +1,0 @@
-use Rattle.fancy_engine.specs.Code.{instrs_of}
-use Rattle.fancy_engine.specs.Texts.{ConsumesTo}
-use Rattle.fancy_engine.proofs.text.text_of.Given as goal
-
-abbrev pub invariant-loop : goal.invariant-loop
-invariant-loop l = ConsumesTo (instrs_of l.code) l.code.meaning l.bytes.items l.head l.at

@@ -1,0 +1,15 @@
+pub mod TableLemmas
+pub mod MarkLemmas
+pub mod ThreadsLemmas
+pub mod RowLemmas
+pub mod Hits
+pub mod RunnerSteps
+pub mod RunnerLemmas
+pub mod SweepLemmas
+pub mod SavedLemmas
+pub mod SweepsLemmas
+pub mod KeptTableLemmas
+pub mod LimitLemmas
+pub mod ChoiceLemmas
+pub mod BranchLemmas
+pub mod PassedLemmas

@@ -1,0 +1,13 @@
+pub mod Runner
+pub mod Table
+pub mod Threads
+pub mod Attempt
+pub mod Sweep
+pub mod Saved
+pub mod Backlog
+pub mod Refusals
+pub mod Rows
+pub mod Sweeps
+pub mod Groups
+pub mod KeptTable
+pub mod NextOpening

@@ -1,0 +1,14 @@
+//! The runner, the engine for easy patterns: it follows each pair of an instruction and a place at most once.
+#![tactic(auto)]
+
+mod backlog;
+pub mod notes;
+pub mod pair;
+pub mod refusal;
+mod row;
+pub mod runner;
+pub mod search;
+mod start;
+mod sweep;
+pub mod table;
+pub mod threads;

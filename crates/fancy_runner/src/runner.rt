@@ -1,0 +1,329 @@
+//! The runner, which follows each pair of an instruction with a mark and a place at most once.
+
+ghost use Rattle.std.specs.Prelude.{◌≡◌, ◌+◌, ◌-◌, ◌^◌, ◌<◌, ◌≤◌, ◌≢◌, ◌⊎◌, ◌++◌, ℕ, List, Option, None, Err, true, false, length, IfOk, IfSome};
+ghost use Rattle.fancy_code.specs.Context.{State, holds};
+ghost use Rattle.fancy_code.specs.Code.{weight_of, due_of, cost_of, marks_of};
+ghost use Rattle.fancy_runner.specs.Runner.{burden, found_state, Stacked, Grown, Moved, Tested, AllWithin, Spends, Progresses};
+ghost use Rattle.fancy_code.specs.CodeLength.{code_len};
+ghost use Rattle.fancy_code.specs.Run.{instr_at};
+ghost use Rattle.fancy_code.specs.Compile.{IsEasyInstr, AreEasy};
+ghost use Rattle.fancy_code.specs.Work.{steps_of, returns_of, stepped_within, RunsWithin, IsSpent, HasWorkLeft};
+ghost use Rattle.fancy_input.specs.LastLines.{KnowsLastLines};
+ghost use Rattle.fancy_code.specs.declared.slot.Slot.{Slot};
+ghost use Rattle.fancy_code.specs.Thread.{Thread};
+ghost use Rattle.fancy_runner.specs.Threads.{thread_of, begun_at, AreFresh};
+ghost use Rattle.fancy_runner.specs.Sweep.{AllPast, SweepingIn, SweptIn};
+ghost use Rattle.fancy_code.specs.Attempt.{context_in, instrs_in};
+ghost use Rattle.fancy_runner.specs.Attempt.{stack_in, current_in, saved_in, threads_in, threads_left_in, bits_in, owed_in, ahead_in, marks_in, KnownIn, AllFailedIn, FailedPastIn, first_accepted_in, SteppedIn, RunningIn, VisitedIn};
+
+use crate::pair::Pair;
+use crate::refusal::RunnerRefusal;
+use crate::sweep::follow_by_place;
+use crate::table::Table;
+use crate::threads::Threads;
+use fancy_code::attempt::Attempt;
+use fancy_code::choice::Choice;
+use fancy_code::code::Instr;
+use fancy_code::options::is_match_boundary;
+use fancy_code::reading::holds_at;
+use fancy_code::step::{Next, past_character, past_member, past_raw_byte};
+use fancy_code::work::Work;
+use fancy_input::last_lines::LastLines;
+use fancy_tree::tree::Assertion;
+use std::alloc::AllocError;
+
+/// Goes on at a place, if there is one by the limit.
+fn advance(pair: &mut Pair, next: usize, place: Option<usize>, limit: usize) -> Next
+    requires { IfSome place (λ p. pair.old.place ≤ p) }
+    ensures moved { (slots : List Slot) → Moved result limit place next (thread_of pair.old slots) (thread_of pair.new slots) }
+    ensures goes { result ≡ Next.On → pair.new.at ≡ next }
+    ensures forth { pair.old.place ≤ pair.new.place }
+    ensures within { pair.old.place ≤ limit → pair.new.place ≤ limit }
+    ensures found { result ≢ Next.Found }
+{
+    match place {
+        Some(place) if place <= limit => {
+            *pair = Pair { at: next, place };
+            Next::On
+        }
+        _ => Next::Dead,
+    }
+}
+
+/// Goes on past a test of the place, if that holds.
+fn pass_test(
+    attempt: &Attempt,
+    pair: &mut Pair,
+    assertion: Assertion,
+    next: usize,
+    last_lines: &mut LastLines,
+) -> Next
+    requires { KnowsLastLines attempt.now.haystack.now last_lines.old }
+    ensures tested { Tested result (holds (context_in attempt.now) assertion pair.old.place) next pair.old pair.new }
+    ensures goes { result ≡ Next.On → pair.new.at ≡ next }
+    ensures stays { pair.new.place ≡ pair.old.place }
+    ensures found { result ≢ Next.Found }
+    ensures known { KnowsLastLines attempt.now.haystack.now last_lines.new }
+{
+    let meaning = attempt.code.meaning;
+    let suppressed = attempt.suppressed;
+    let place = pair.place;
+    if holds_at(
+        attempt.haystack,
+        meaning,
+        suppressed,
+        assertion,
+        place,
+        last_lines,
+    ) {
+        pair.at = next;
+        Next::On
+    } else {
+        Next::Dead
+    }
+}
+
+/// Follows one instruction, which is fetched once.
+#[inline(always)]
+fn step(
+    attempt: &Attempt,
+    pair: &mut Pair,
+    threads: &mut Threads,
+    last_lines: &mut LastLines,
+    work: &mut Work,
+) -> Result<Next, AllocError>
+    requires inside { attempt.now.last ≤ length attempt.now.haystack.now }
+    requires here { pair.old.at < code_len attempt.now.code.now }
+    requires easy { IsEasyInstr (instr_at (instrs_in attempt.now) pair.old.at) }
+    requires last_lines { KnowsLastLines attempt.now.haystack.now last_lines.old }
+    ensures stepped { IfOk result (λ next. (kept deep : ℕ)
+        → KnownIn attempt.now kept deep (stack_in attempt.now pair.old threads.old)
+        → SteppedIn attempt.now kept deep next
+        (stack_in attempt.now pair.old threads.old) (stack_in attempt.now pair.new threads.new)) }
+    ensures forth { IfOk result (λ _. pair.old.place ≤ pair.new.place) }
+    ensures within { IfOk result (λ _. pair.old.place ≤ attempt.now.last → pair.new.place ≤ attempt.now.last) }
+    ensures stacked { IfOk result (λ next. Stacked next (current_in attempt.now pair.old threads.old)
+        (saved_in attempt.now threads.old) (saved_in attempt.now threads.new)) }
+    ensures spends { IfOk result (λ next. Spends next
+        (cost_of attempt.now.code.now (instr_at (instrs_in attempt.now) pair.old.at))
+        (burden attempt.now.code.now (saved_in attempt.now threads.old))
+        (burden attempt.now.code.now (saved_in attempt.now threads.new))
+        (due_of attempt.now.code.now pair.new.at)) }
+    ensures found { IfOk result (λ next. next ≡ Next.Found → pair.new ≡ pair.old) }
+    ensures work { work.new ≡ stepped_within work.old }
+    ensures last_lines { KnowsLastLines attempt.now.haystack.now last_lines.new }
+{
+    let code = attempt.code;
+    let haystack = attempt.haystack;
+    let place = pair.place;
+    match code.fetch(pair.at, work) {
+        Instr::Match => Ok(Next::Found),
+        Instr::Fail => Ok(Next::Dead),
+        Instr::Character(character, next) => {
+            let past = past_character(haystack, code.meaning, *character, place);
+            Ok(advance(pair, *next, past, attempt.last))
+        }
+        Instr::Member(set, next) => {
+            let past = past_member(haystack, code.meaning, code.set(*set), place);
+            Ok(advance(pair, *next, past, attempt.last))
+        }
+        Instr::RawByte(byte, next) => {
+            let past = past_raw_byte(haystack, *byte, place);
+            Ok(advance(pair, *next, past, attempt.last))
+        }
+        Instr::Assert(assertion, next) => {
+            Ok(pass_test(attempt, pair, *assertion, *next, last_lines))
+        }
+        Instr::Split(first, second) => {
+            match code.choice_at(pair.at, haystack, place) {
+                Choice::Both => {
+                    threads.save(*pair, *second)?;
+                    pair.at = *first;
+                }
+                Choice::First => pair.at = *first,
+                Choice::Second => pair.at = *second,
+            }
+            Ok(Next::On)
+        }
+        Instr::Open(group, next) => {
+            threads.open_group(*pair, *group)?;
+            pair.at = *next;
+            Ok(Next::On)
+        }
+        Instr::Close(group, next) => {
+            threads.close_group(*pair, *group)?;
+            pair.at = *next;
+            Ok(Next::On)
+        }
+        _ => unreachable!(),
+    }
+}
+
+/// Whether a pair is to be followed: its instruction has no mark, or that was not made at this place. It is made then.
+fn is_new(attempt: &Attempt, pair: Pair, table: &mut Table) -> bool
+    requires here { pair.at < code_len attempt.now.code.now }
+    requires low { attempt.now.base ≤ pair.place }
+    requires high { pair.place ≤ attempt.now.last }
+    requires room { bits_in attempt.now ≤ length table.old }
+    requires small { length table.old < 2 ^ 64 }
+    ensures seen { result ≡ false → marks_in attempt.now table.old pair.at pair.place ≡ true }
+    ensures same { result ≡ false → table.new ≡ table.old }
+    ensures adds { (q row : ℕ) → marks_of attempt.now.code.now table.new q row ≡ true
+        → (marks_of attempt.now.code.now table.old q row ≡ true) ⊎ ((q ≡ pair.at) × (row ≡ pair.place - attempt.now.base)) }
+    ensures left { result ≡ true → owed_in attempt.now table.new + weight_of attempt.now.code.now pair.at
+        ≤ owed_in attempt.now table.old + due_of attempt.now.code.now pair.at }
+    ensures room { length table.new ≡ length table.old }
+{
+    let Some(number) = attempt.code.mark_number(pair.at) else {
+        return true;
+    };
+    table.mark((pair.place - attempt.base) * attempt.code.marks() + number)
+}
+
+/// Follows a pair, if it is new. A pair that was marked before has nothing to give, whatever the captures.
+/// No step is taken where the attempt's limit is spent.
+#[inline(always)]
+pub(crate) fn visit(
+    attempt: &Attempt,
+    pair: &mut Pair,
+    threads: &mut Threads,
+    table: &mut Table,
+    last_lines: &mut LastLines,
+    work: &mut Work,
+) -> Result<Next, RunnerRefusal>
+    requires inside { attempt.now.last ≤ length attempt.now.haystack.now }
+    requires easy { AreEasy (instrs_in attempt.now) }
+    requires within { AllWithin attempt.now.base attempt.now.last (threads_in attempt.now pair.old threads.old) }
+    requires room { bits_in attempt.now ≤ length table.old }
+    requires small { length table.old < 2 ^ 64 }
+    requires last_lines { KnowsLastLines attempt.now.haystack.now last_lines.old }
+    ensures visited { IfOk result (λ next. (low kept deep : ℕ) (goal : Option State) → attempt.now.base ≤ low
+        → AllWithin low attempt.now.last (threads_in attempt.now pair.old threads.old)
+        → RunningIn attempt.now low kept deep goal table.old (stack_in attempt.now pair.old threads.old)
+        → VisitedIn attempt.now low kept deep next goal table.new (stack_in attempt.now pair.new threads.new)) }
+    ensures swept { IfOk result (λ next. (low kept deep : ℕ) (goal found : Option State) (front back : List Thread)
+        → attempt.now.base ≤ low → AllWithin low attempt.now.last (threads_in attempt.now pair.old threads.old)
+        → AllPast pair.old.place front
+        → SweepingIn attempt.now low kept deep goal table.old (front ++ (threads_in attempt.now pair.old threads.old ++ back)) found
+        → SweptIn attempt.now low kept deep next goal table.new front (stack_in attempt.now pair.new threads.new) back found) }
+    ensures forth { IfOk result (λ _. pair.old.place ≤ pair.new.place) }
+    ensures found { IfOk result (λ next. next ≡ Next.Found → pair.new.place ≡ pair.old.place) }
+    ensures grown { IfOk result (λ _. Grown pair.old.place (saved_in attempt.now threads.old) (saved_in attempt.now threads.new)) }
+    ensures progress { IfOk result (λ next. Progresses next
+        (ahead_in attempt.now table.old (threads_in attempt.now pair.old threads.old))
+        (ahead_in attempt.now table.new (threads_left_in attempt.now next pair.new threads.new))
+        (length (saved_in attempt.now threads.old)) (length (saved_in attempt.now threads.new))) }
+    ensures within { IfOk result (λ _. (low : ℕ)
+        → AllWithin low attempt.now.last (threads_in attempt.now pair.old threads.old)
+        → AllWithin low attempt.now.last (threads_in attempt.now pair.new threads.new)) }
+    ensures room { length table.new ≡ length table.old }
+    ensures spent { IfOk result (λ next. steps_of work.new
+        + ahead_in attempt.now table.new (threads_left_in attempt.now next pair.new threads.new)
+        ≤ steps_of work.old + ahead_in attempt.now table.old (threads_in attempt.now pair.old threads.old)) }
+    ensures bounded { steps_of work.new
+        ≤ steps_of work.old + ahead_in attempt.now table.old (threads_in attempt.now pair.old threads.old) }
+    ensures steps { steps_of work.old ≤ steps_of work.new }
+    ensures returns { returns_of work.new ≡ returns_of work.old }
+    ensures ticks { pair.old.at < code_len attempt.now.code.now
+        → marks_in attempt.now table.old pair.old.at pair.old.place ≡ false
+        → HasWorkLeft attempt.now.step_limit work.old → work.new ≡ stepped_within work.old }
+    ensures tally { IfOk result (λ _. steps_of work.new < usize.MAX
+        → length (saved_in attempt.now threads.new) + steps_of work.old
+        ≤ length (saved_in attempt.now threads.old) + steps_of work.new) }
+    ensures last_lines { KnowsLastLines attempt.now.haystack.now last_lines.new }
+    ensures heeds { RunsWithin attempt.now.step_limit work.old work.new }
+    ensures limited { result ≡ Err RunnerRefusal.Steps → IsSpent attempt.now.step_limit work.new }
+{
+    if pair.at >= attempt.code.len() {
+        return Ok(Next::Dead);
+    }
+    if !is_new(attempt, *pair, table) {
+        return Ok(Next::Dead);
+    }
+    if work.is_spent(attempt.step_limit) {
+        return Err(RunnerRefusal::Steps);
+    }
+    match step(attempt, pair, threads, last_lines, work)? {
+        Next::On => Ok(Next::On),
+        Next::Dead => Ok(Next::Dead),
+        Next::Found => {
+            if is_match_boundary(attempt.on_boundaries, attempt.haystack, pair.place) {
+                Ok(Next::Found)
+            } else {
+                Ok(Next::Dead)
+            }
+        }
+    }
+}
+
+/// The place of the first accepted outcome of one attempt, which begins at `start`; its slots then stand in `threads`. The
+/// table is kept from the attempts before: what they marked from the start's place on gives nothing. Where an outcome is
+/// found, what is marked past it gives nothing, whatever the groups, so that a later search can keep that. There are at most
+/// as many steps, also up to a refusal, as are due at the start and as the marks are worth that are made.
+///
+/// # Errors
+///
+/// `RunnerRefusal::Memory` where memory runs out, and `RunnerRefusal::Steps` where one more step would pass the attempt's limit.
+pub fn follow(
+    attempt: &Attempt,
+    start: Pair,
+    threads: &mut Threads,
+    table: &mut Table,
+    last_lines: &mut LastLines,
+    work: &mut Work,
+) -> Result<Option<usize>, RunnerRefusal>
+    requires inside { attempt.now.last ≤ length attempt.now.haystack.now }
+    requires easy { AreEasy (instrs_in attempt.now) }
+    requires low { attempt.now.base ≤ start.place }
+    requires high { start.place ≤ attempt.now.last }
+    requires fresh { AreFresh threads.old }
+    requires room { bits_in attempt.now ≤ length table.old }
+    requires small { length table.old < 2 ^ 64 }
+    requires last_lines { KnowsLastLines attempt.now.haystack.now last_lines.old }
+    ensures answer { IfOk result (λ end. (kept deep : ℕ)
+        → KnownIn attempt.now kept deep (begun_at start threads.old.slots)
+        → AllFailedIn attempt.now start.place deep table.old
+        → found_state kept end threads.new.slots
+        ≡ first_accepted_in attempt.now kept deep (begun_at start threads.old.slots)) }
+    ensures failed { IfOk result (λ end. (kept deep : ℕ)
+        → KnownIn attempt.now kept deep (begun_at start threads.old.slots)
+        → AllFailedIn attempt.now start.place deep table.old → end ≡ None
+        → AllFailedIn attempt.now start.place deep table.new) }
+    ensures past { IfOk result (λ end. IfSome end (λ place. (kept deep : ℕ)
+        → KnownIn attempt.now kept deep (begun_at start threads.old.slots)
+        → AllFailedIn attempt.now start.place deep table.old
+        → FailedPastIn attempt.now start.place deep place table.new)) }
+    ensures forth { IfOk result (λ end. IfSome end (λ place. start.place ≤ place)) }
+    ensures within { IfOk result (λ end. IfSome end (λ place. place ≤ attempt.now.last)) }
+    ensures room { length table.new ≡ length table.old }
+    ensures spent { IfOk result (λ _. steps_of work.new + owed_in attempt.now table.new
+        ≤ steps_of work.old + (due_of attempt.now.code.now start.at + owed_in attempt.now table.old)) }
+    ensures bounded { steps_of work.new
+        ≤ steps_of work.old + (due_of attempt.now.code.now start.at + owed_in attempt.now table.old) }
+    ensures steps { steps_of work.old ≤ steps_of work.new }
+    ensures returns { returns_of work.old ≤ returns_of work.new }
+    ensures paired { returns_of work.new - returns_of work.old ≤ steps_of work.new - steps_of work.old }
+    ensures last_lines { KnowsLastLines attempt.now.haystack.now last_lines.new }
+    ensures heeds { RunsWithin attempt.now.step_limit work.old work.new }
+    ensures limited { result ≡ Err RunnerRefusal.Steps → IsSpent attempt.now.step_limit work.new }
+{
+    let mut pair = start;
+    'pairs: loop {
+        match visit(attempt, &mut pair, threads, table, last_lines, work)? {
+            Next::On => {
+                if threads.is_long() {
+                    let end = follow_by_place(attempt, pair, threads, table, last_lines, work)?;
+                    return Ok(end);
+                }
+            }
+            Next::Dead => match threads.back(attempt.code, work) {
+                Some(branch) => pair = branch,
+                None => return Ok(None),
+            },
+            Next::Found => {
+                threads.settle(attempt.code);
+                return Ok(Some(pair.place));
+            }
+        }
+    }
+}

@@ -1,0 +1,373 @@
+//! Searches by the runner: their time is bounded by the product of the code's length and the text's.
+
+ghost use Rattle.std.specs.Prelude.{◌≡◌, ◌+◌, ◌-◌, ◌^◌, ◌<◌, ◌≤◌, ℕ, Bool, false, [], Some, None, length, replicate, slice_index_or, IfOk, IfErr, IfSome, IfNone, OnOk, Err, ◌≢◌, ◌⊎◌};
+ghost use Rattle.fancy_tree.specs.Pattern.{Pattern};
+ghost use Rattle.fancy_code.specs.Code.{instrs_of};
+ghost use Rattle.fancy_code.specs.CodeLength.{code_len};
+ghost use Rattle.fancy_runner.specs.Attempt.{bits_in, owed_in, AllFailedIn};
+ghost use Rattle.fancy_runner.specs.KeptTable.{IsKept, table_in, table_base, place_kept, past_tried, steps_from, steps_ahead, taken_again};
+ghost use Rattle.fancy_code.specs.Compile.{IsCodeOf, AreEasy};
+ghost use Rattle.fancy_code.specs.Search.{search};
+ghost use Rattle.fancy_input.specs.Requests.{effective_start};
+ghost use Rattle.fancy_bytes.specs.Openings.{NoneStandsBefore};
+ghost use Rattle.fancy_runner.specs.NextOpening.{IsNextOpening, openings_of};
+ghost use Rattle.fancy_code.specs.Seen.{NoneMayStart};
+ghost use Rattle.fancy_code.specs.Queries.{query_of, unfiltered, answer_with, most_steps};
+ghost use Rattle.fancy_runner.specs.Groups.{groups_in};
+ghost use Rattle.fancy_runner.specs.Refusals.{IsRunnersRefusal};
+ghost use Rattle.fancy_code.specs.Work.{steps_of, returns_of, RunsWithin, IsSpent, HasWorkFor};
+
+use crate::notes::{KeptTable, Notes};
+use crate::start::follow_start;
+use crate::table::Table;
+use crate::threads::Threads;
+use fancy_bytes::literal::Literal;
+use fancy_bytes::prefilter::Prefilter;
+use fancy_code::attempt::Attempt;
+use fancy_code::branches::Branches;
+use fancy_code::candidates::candidate_from;
+use fancy_code::code::Code;
+use fancy_code::found::Found;
+use fancy_code::options::{SearchOptions, is_match_boundary};
+use fancy_code::reading::ready_last_lines;
+use fancy_code::refusal::SearchRefusal;
+use fancy_code::work::Work;
+use fancy_input::input::Request;
+use fancy_input::span::Span;
+use std::alloc::Global;
+use std::mem;
+
+/// What searches work in, reused from one to the next, with the groups of the last match.
+#[derive(Drop)]
+pub struct Cache {
+    threads: Threads,
+    /// What the last search found out.
+    notes: Notes,
+}
+
+impl Cache {
+    /// It has no memory yet, which the searches take, and holds no group.
+    pub fn new(alloc: Global) -> Cache
+        ensures { groups_in result ≡ [] }
+    {
+        Cache {
+            threads: Threads::new(alloc),
+            notes: Notes::new(alloc),
+        }
+    }
+
+    /// Has the searches to come work with these notes, and gives those of the searches before. The groups stay.
+    pub fn swap_notes(&mut self, notes: &mut Notes)
+        ensures given { self.new ≡ record self.old { notes = notes.old } }
+        ensures taken { notes.new ≡ self.old.notes }
+    {
+        mem::swap(&mut self.notes, notes);
+    }
+
+    /// Where the group with this number stands in what the search before found, in byte offsets. `None` where the group
+    /// took no part, or there is none with this number. After a search that found nothing the answer means nothing.
+    pub fn group(&self, number: usize) -> Option<Span>
+        ensures { result ≡ slice_index_or (groups_in self.now) number None }
+    {
+        self.threads.slot(number).span
+    }
+}
+
+/// Begins the table anew, with the marks of each place from its base on. Where so many are no `usize`, memory is refused.
+fn begin_table(table: &mut Table, attempt: &Attempt) -> Result<(), SearchRefusal>
+    requires ordered { attempt.now.base ≤ attempt.now.last }
+    requires small { attempt.now.last < usize.MAX }
+    ensures clear { OnOk result (table.new ≡ replicate (bits_in attempt.now) false) }
+    ensures small { OnOk result (bits_in attempt.now < 2 ^ 64) }
+    ensures refused { IfErr result (λ e. e ≡ SearchRefusal.Memory) }
+{
+    let places = attempt.last - attempt.base + 1;
+    let Some(bits) = places.checked_mul(attempt.code.marks()) else {
+        return Err(SearchRefusal::Memory);
+    };
+    table.reset(bits)?;
+    Ok(())
+}
+
+/// Makes the table ready for a search that starts at `first`: where none is kept it begins anew. One that is kept loses the marks of
+/// that place, where these may lie on the way to the match before.
+fn ready_table(
+    table: &mut Table,
+    attempt: &Attempt,
+    first: usize,
+    kept: Option<KeptTable>,
+) -> Result<(), SearchRefusal>
+    requires begins { attempt.now.base ≤ first }
+    requires ordered { first ≤ attempt.now.last }
+    requires small { attempt.now.last < usize.MAX }
+    requires reached { IfSome kept (λ k. k.from ≤ first + 1) }
+    requires room { IfSome kept (λ _. length table.old ≡ bits_in attempt.now) }
+    requires short { IfSome kept (λ _. length table.old < 2 ^ 64) }
+    ensures failed { OnOk result ((deep : ℕ) → IfSome kept (λ k. AllFailedIn attempt.now k.from deep table.old)
+        → AllFailedIn attempt.now first deep table.new) }
+    ensures left { IfSome kept (λ _. OnOk result (owed_in attempt.now table.new
+        ≤ owed_in attempt.now table.old + taken_again kept attempt.now.code.now first)) }
+    ensures room { OnOk result (length table.new ≡ bits_in attempt.now) }
+    ensures small { OnOk result (length table.new < 2 ^ 64) }
+    ensures refused { IfErr result (λ e. e ≡ SearchRefusal.Memory) }
+{
+    let Some(kept) = kept else {
+        begin_table(table, attempt)?;
+        return Ok(());
+    };
+    if first < kept.from {
+        let marks = attempt.code.marks();
+        table.clear((first - attempt.base) * marks, marks);
+    }
+    Ok(())
+}
+
+/// The first position, from the one on and up to the last, at which the search by the runner goes on, past the last where there is
+/// none: where a match may start, and the text stands that each match begins with.
+#[inline]
+fn next_unfiltered(
+    code: &Code,
+    haystack: &[u8],
+    range_end: usize,
+    from: usize,
+    last: usize,
+) -> usize
+    requires ordered { from ≤ last + 1 }
+    requires last { last ≤ range_end }
+    requires inside { range_end ≤ length haystack.now }
+    ensures { IsNextOpening (openings_of code.now) haystack.now range_end from last result }
+{
+    let place = candidate_from(code, haystack, range_end, from, last);
+    match &code.literal {
+        None => place,
+        Some(literal) => literal_from(literal, haystack, range_end, place, last),
+    }
+}
+
+/// The same where all of the range is searched, by a scan for the bytes that stand at the first places of each match.
+#[inline(never)]
+fn next_filtered(
+    code: &Code,
+    prefilter: &Prefilter,
+    haystack: &[u8],
+    range_end: usize,
+    from: usize,
+) -> usize
+    requires ordered { from ≤ range_end + 1 }
+    requires inside { range_end ≤ length haystack.now }
+    requires prefilter { code.now.prefilter ≡ Some prefilter.now }
+    ensures { IsNextOpening (openings_of code.now) haystack.now range_end from range_end result }
+{
+    match prefilter.next_seen(haystack, from, range_end) {
+        None => range_end + 1,
+        Some(seen) => candidate_from(code, haystack, range_end, seen, range_end),
+    }
+}
+
+/// The same, by the alternatives that may match by their first bytes.
+#[inline(never)]
+fn next_branched(
+    code: &Code,
+    branches: &Branches,
+    haystack: &[u8],
+    range_end: usize,
+    from: usize,
+) -> usize
+    requires branches { code.now.branches ≡ Some branches.now }
+    requires ordered { from ≤ range_end + 1 }
+    requires inside { range_end ≤ length haystack.now }
+    ensures { IsNextOpening (openings_of code.now) haystack.now range_end from range_end result }
+{
+    match branches.table.next_seen(haystack, from, range_end) {
+        None => range_end + 1,
+        Some(seen) => candidate_from(code, haystack, range_end, seen, range_end),
+    }
+}
+
+/// The first position, from the one on and up to the last, at which the search by the runner goes on, past the last where there is
+/// none. A match that starts at the text's start alone is tried there alone.
+#[inline]
+fn next_opening(code: &Code, haystack: &[u8], range_end: usize, from: usize, last: usize) -> usize
+    requires ordered { from ≤ last + 1 }
+    requires last { last ≤ range_end }
+    requires inside { range_end ≤ length haystack.now }
+    ensures { IsNextOpening (openings_of code.now) haystack.now range_end from last result }
+{
+    if code.only_at_start && from > 0 {
+        return last + 1;
+    }
+    if last < range_end {
+        return next_unfiltered(code, haystack, range_end, from, last);
+    }
+    if let Some(branches) = &code.branches {
+        return next_branched(code, branches, haystack, range_end, from);
+    }
+    match &code.prefilter {
+        None => next_unfiltered(code, haystack, range_end, from, last),
+        Some(prefilter) => next_filtered(code, prefilter, haystack, range_end, from),
+    }
+}
+
+/// The first position, from one up to the last, where the text stands, past the last where there is none. A position past the last, or
+/// the last itself, is the answer as it is.
+#[inline(never)]
+fn literal_from(
+    literal: &Literal,
+    haystack: &[u8],
+    range_end: usize,
+    place: usize,
+    last: usize,
+) -> usize
+    requires within { place ≤ last + 1 }
+    requires last { last ≤ range_end }
+    requires inside { range_end ≤ length haystack.now }
+    ensures passed { place ≤ result }
+    ensures within { result ≤ last + 1 }
+    ensures none { NoneStandsBefore haystack.now range_end literal.now place result }
+{
+    if place >= last {
+        return place;
+    }
+    match literal.next_seen(haystack, place, range_end) {
+        Some(found) => found.min(last + 1),
+        None => last + 1,
+    }
+}
+
+/// The limit that the steps of a search are held to: none where it allows all that a search without a kept table can take.
+fn limit_to_heed(
+    code: &Code,
+    request: Request,
+    before: Option<KeptTable>,
+    limit: Option<usize>,
+    work: &Work,
+) -> Option<usize>
+    requires ordered { effective_start request ≤ request.range_end }
+    requires small { request.range_end < usize.MAX }
+    ensures limit { (result ≡ limit)
+        ⊎ ((result ≡ None) × ((before ≡ None) × HasWorkFor limit (most_steps code.now request) work.now)) }
+    ensures free { before ≡ None → HasWorkFor limit (most_steps code.now request) work.now → result ≡ None }
+{
+    if before.is_some() {
+        return limit;
+    }
+    let places = request.range_end - request.effective_start() + 1;
+    match code.len().checked_mul(places) {
+        Some(steps) if work.has_work_for(steps, limit) => None,
+        _ => limit,
+    }
+}
+
+/// Searches a haystack for the pattern of the code. Found is the first outcome at the least position, from the
+/// effective start on, which has one; its groups then stand in `cache`. Easy code has no `\G`, so the answer is the
+/// same with it on and off. Of the options `on_boundaries` and `overrides` are heeded: what is found is the first
+/// match and may be empty, and returns have no limit.
+///
+/// Without `kept` the table in `cache` begins anew, at the effective start. Several searches of one haystack by one code up to one
+/// end may keep it, each of which starts at the end of the match before, or where nothing was found at the last position that was
+/// tried, or later. `kept` then tells what the search before left in `cache`, and afterwards what this one leaves there. What they
+/// marked is not followed again, since it fails whatever the groups are; but the marks at the end of a match lie on the way to it, and
+/// are cleared. All these searches together take no more steps than one alone may take, and the code's length for each that starts
+/// where the match before ended. What they read of the line ends that close the haystack is not read again either.
+///
+/// What is done is added to the counts of `work`, after a refusal what was done up to it. They never begin anew here. No
+/// step is taken where no match may start at any position.
+///
+/// # Errors
+///
+/// `SearchRefusal::Memory` where memory runs out, and `SearchRefusal::Steps` where more work is needed than `step_limit` of the
+/// options allows, with what was done before. So a search without a kept table is not refused where the limit allows the code's
+/// length for each position of the searched text, its end among them. Nothing is kept after a refusal.
+pub fn search(
+    code: &Code,
+    haystack: &[u8],
+    request: Request,
+    options: SearchOptions,
+    kept: &mut Option<KeptTable>,
+    cache: &mut Cache,
+    work: &mut Work,
+) -> Result<Option<Found>, SearchRefusal>
+    requires inside { request.range_end ≤ length haystack.now }
+    requires easy { AreEasy (instrs_of code.now) }
+    requires kept { IfSome kept.old (λ k. IsKept code.now haystack.now request options
+        k (effective_start request) cache.old.notes) }
+    ensures answer { IfOk result (λ found. (p : Pattern) (on : Bool) → IsCodeOf p code.now
+        → answer_with (groups_in cache.new) found
+        ≡ search (query_of p code.now (unfiltered options) haystack.now request on)) }
+    ensures here { IfOk result (λ found. IfSome found (λ f. f.start ≡ f.position)) }
+    ensures ordered { IfOk result (λ found. IfSome found (λ f. effective_start request ≤ f.end)) }
+    ensures kept { IfOk result (λ found. IfSome kept.new (λ k. IsKept code.now haystack.now request options
+        k (place_kept found request) cache.new.notes)) }
+    ensures left { IfOk result (λ found. IfSome found (λ f. kept.new
+        ≡ Some (record { base = table_base kept.old request; from = f.end + 1 }))) }
+    ensures dropped { IfErr result (λ _. kept.new ≡ None) }
+    ensures steps { steps_of work.old ≤ steps_of work.new }
+    ensures bounded { steps_of work.new ≤ steps_of work.old
+        + (steps_from kept.old code.now request (effective_start request) (table_in cache.old)
+        + taken_again kept.old code.now (effective_start request)) }
+    ensures passed { IfOk result (λ found. IfNone found (steps_of work.new
+        + steps_from kept.new code.now request (past_tried request) (table_in cache.new)
+        ≤ steps_of work.old
+        + (steps_from kept.old code.now request (effective_start request) (table_in cache.old)
+        + taken_again kept.old code.now (effective_start request)))) }
+    ensures spent { IfOk result (λ found. IfSome found (λ f. steps_of work.new
+        + steps_ahead code.now request (table_base kept.old request) f.end (table_in cache.new)
+        ≤ steps_of work.old
+        + (steps_from kept.old code.now request (effective_start request) (table_in cache.old) + code_len code.now))) }
+    ensures idle { NoneMayStart code.now.start_bytes haystack.now request.range_end
+        (effective_start request) (request.range_end + 1)
+        → steps_of work.new ≡ steps_of work.old }
+    ensures returns { returns_of work.old ≤ returns_of work.new }
+    ensures paired { returns_of work.new - returns_of work.old ≤ steps_of work.new - steps_of work.old }
+    ensures refused { IfErr result IsRunnersRefusal }
+    ensures heeds { RunsWithin options.step_limit work.old work.new }
+    ensures limited { result ≡ Err SearchRefusal.Steps → IsSpent options.step_limit work.new }
+    ensures unlimited { kept.old ≡ None → HasWorkFor options.step_limit (most_steps code.now request) work.old
+        → result ≢ Err SearchRefusal.Steps }
+{
+    let first = request.effective_start();
+    if first > request.range_end {
+        return Ok(None);
+    }
+    let last = request.last_position();
+    let mut place = next_opening(code, haystack, request.range_end, first, last);
+    if place > last {
+        return Ok(None);
+    }
+    let before = kept.take();
+    let base = KeptTable::base(before, first);
+    let step_limit = limit_to_heed(code, request, before, options.step_limit, work);
+    let attempt = Attempt {
+        code,
+        haystack,
+        base,
+        last: request.range_end,
+        on_boundaries: options.on_boundaries,
+        suppressed: options.suppressed_ends(request),
+        step_limit,
+    };
+    let threads = &mut cache.threads;
+    let table = &mut cache.notes.table;
+    let last_lines = &mut cache.notes.last_lines;
+    ready_table(table, &attempt, first, before)?;
+    ready_last_lines(last_lines, haystack, before.is_some());
+    while place <= last {
+        if is_match_boundary(options.on_boundaries, haystack, place) {
+            match follow_start(&attempt, place, threads, table, last_lines, work)? {
+                Some(end) => {
+                    let from = end + 1;
+                    *kept = Some(KeptTable { base, from });
+                    return Ok(Some(Found {
+                        position: place,
+                        start: place,
+                        end,
+                    }));
+                }
+                None => {}
+            }
+        }
+        place = next_opening(code, haystack, request.range_end, place + 1, last);
+    }
+    *kept = Some(KeptTable { base, from: place });
+    Ok(None)
+}
