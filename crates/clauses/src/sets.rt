@@ -3,7 +3,7 @@
 //! `members_of` gives the patterns of a set, `asked_of_set` what they are asked, and `set_position` the least position where one
 //! of them matches.
 
-ghost use Rattle.std.specs.Prelude.{◌==◌, ◌↔◌, ◌≡◌, ◌≤◌, IfErr, IfNone, IfOk, IfSome, IsTrue, None, Some, [], length, option_map, string_bytes, ⊤};
+ghost use Rattle.std.specs.Prelude.{◌==◌, ◌↔◌, ◌≡◌, ◌≤◌, ℕ, IfErr, IfNone, IfOk, IfSome, IsTrue, None, Some, [], length, option_map, string_bytes, ⊤};
 ghost use Rattle.fancy_regex.specs.Builders.{options_of};
 ghost use Rattle.fancy_regex.specs.Captures.{searched_in};
 ghost use Rattle.fancy_regex.specs.Groups.{IsPart};
@@ -12,10 +12,12 @@ ghost use Rattle.fancy_regex.specs.Options.{by_default};
 ghost use Rattle.fancy_regex.specs.NextAnswers.{ByAnswer};
 ghost use Rattle.fancy_regex.specs.Remaining.{IfItem};
 ghost use Rattle.fancy_regex.specs.SetCounts.{AreAllEasy, most_steps_of_all};
+ghost use Rattle.fancy_regex.specs.SearchCounts.{IsOutOfSteps};
+ghost use Rattle.fancy_regex.specs.SetLimits.{AllowAllSteps, IsSpentForOne, ShareLimit};
 ghost use Rattle.fancy_regex.specs.SetMatches.{GivesMember, GivesRefusal, captures_of, haystack_of_set, match_span, members_to_come, next_member, pattern_index, position_of, question_of, request_of_set, set_of};
 ghost use Rattle.fancy_regex.specs.SetMembers.{RefusesSet, members_at, set_position};
 ghost use Rattle.fancy_regex.specs.Sets.{AreReadings, CanSearchAll, HaveOptions, RefusesFirst, asked_of_set, bytes_of_each, members_of};
-ghost use Rattle.fancy_regex.specs.Work.{returns_of, steps_of};
+ghost use Rattle.fancy_regex.specs.Work.{returns_of, steps_of, work_of};
 
 use fancy_regex::{
     Captures, Input, Regex, RegexInput, RegexOptionsBuilder, RegexSet, RegexSetMatch,
@@ -86,11 +88,14 @@ pub fn find_input<S: Input>(
     ensures items { IfOk result (λ m. IfSome m
         (λ x. members_to_come S.bytes x ≡ members_at (question_of S.bytes x) (position_of x))) }
     ensures refused { IfErr result (RefusesSet (asked_of_set set.now S.bytes input)) }
+    ensures unlimited { AreAllEasy (members_of set.now)
+        → AllowAllSteps (members_of set.now) (request_in input) → IsOutOfSteps result → ⊥ }
 {
     set.find_input(input)
 }
 
-/// The same, and how much this call did: where all patterns are easy, no more steps than searches with each of them alone may take.
+/// The same, and how much this call did: where all patterns are easy, no more steps than searches with each of them alone may take,
+/// and where all have one limit of work, no more work than that.
 pub fn find_input_counted<'r, S: Input>(
     set: &'r RegexSet,
     input: RegexInput<S>,
@@ -107,6 +112,10 @@ pub fn find_input_counted<'r, S: Input>(
     ensures steps { AreAllEasy (members_of set.now) → steps_of work.new
         ≤ most_steps_of_all (members_of set.now) (request_in input) }
     ensures returns { returns_of work.new ≤ steps_of work.new }
+    ensures limit { (most : ℕ) → ShareLimit most (members_of set.now) → work_of work.new ≤ most }
+    ensures spent { IsOutOfSteps result → IsSpentForOne (members_of set.now) work.new }
+    ensures unlimited { AreAllEasy (members_of set.now)
+        → AllowAllSteps (members_of set.now) (request_in input) → IsOutOfSteps result → ⊥ }
 {
     set.find_input_counted(input, work)
 }

@@ -8,3 +8,4 @@ pub mod FixedLemmas
 pub mod RefusedFromLemmas
 pub mod ReplaceLemmas
 pub mod AllowedLemmas
+pub mod AttemptWorkLemmas

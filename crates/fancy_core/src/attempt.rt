@@ -2,16 +2,17 @@
 
 ghost use Rattle.std.specs.Prelude.{◌≡◌, ◌≤◌, ◌+◌, true, IfOk, IfErr, IfSome, IfNone, length};
 ghost use Rattle.fancy_bytes.specs.Lacks.{AreKnown};
-ghost use Rattle.fancy_code.specs.Work.{steps_of, returns_of};
+ghost use Rattle.fancy_code.specs.Work.{steps_of, returns_of, units_of, IsWithin, IsSpent};
 ghost use Rattle.fancy_input.specs.Inputs.{haystack_in, request_in};
 ghost use Rattle.fancy_input.specs.Requests.{effective_start};
 ghost use Rattle.fancy_core.specs.Captures.{spans_if, spans_in, searched_in, found_by};
 ghost use Rattle.fancy_core.specs.Limited.{RefusesAt, AllowsAt};
-ghost use Rattle.fancy_core.specs.Regexes.{options_in, program_in, easy_in, group_count_in, query};
+ghost use Rattle.fancy_core.specs.Regexes.{options_in, program_in, easy_in, group_count_in, step_limit_in, query};
 ghost use Rattle.fancy_core.specs.Searches.{CanSearchInput, asked_by, groups_of_attempt};
 ghost use Rattle.fancy_search.specs.Cached.{IsAttemptIn, found_at};
 ghost use Rattle.fancy_search.specs.Groups.{AreCut, spans_of};
 ghost use Rattle.fancy_search.specs.KeptTables.{KeepsNotes, kept_from, notes_ahead, notes_again};
+ghost use Rattle.fancy_search.specs.SearchCounts.{IsOutOfSteps};
 ghost use Rattle.fancy_search.specs.Searching.{Suits};
 ghost use Rattle.fancy_tree.specs.declared.error.Error.TheVariants.{Memory};
 
@@ -39,7 +40,10 @@ use fancy_tree::error::Result;
 ///
 /// `cache` is that of one haystack, and `notes` are those of the regex in it. What attempts before found out is not followed again:
 /// each of those with this regex starts where the match before ended, or at the position after, or later. What is done is added to
-/// the counts in `cache`, after a refusal what was done up to it. It is refused as [`Regex::find_input`] is, for what the attempt takes.
+/// the counts in `cache`, after a refusal what was done up to it.
+///
+/// It is refused as [`Regex::find_input`] is, for the returns and the branches that the attempt takes. `RegexOptionsBuilder::step_limit`
+/// bounds what `cache` has counted, with this attempt.
 pub fn attempt_at<'r, S: Input>(
     regex: &'r Regex,
     input: RegexInput<S>,
@@ -61,6 +65,9 @@ pub fn attempt_at<'r, S: Input>(
         (steps_of cache.new.work + notes_ahead (program_in regex.now) (request_in input) (position + 1) notes.new ≤ steps_of cache.old.work
         + (notes_ahead (program_in regex.now) (request_in input) position notes.old + notes_again (program_in regex.now) position notes.old))) }
     ensures paired { returns_of cache.old.work ≤ steps_of cache.old.work → returns_of cache.new.work ≤ steps_of cache.new.work }
+    ensures limit { IsWithin (step_limit_in regex.now) cache.old.work → IsWithin (step_limit_in regex.now) cache.new.work }
+    ensures limited { IsOutOfSteps result → IsSpent (step_limit_in regex.now) cache.new.work }
+    ensures units { easy_in regex.now ≡ true → units_of cache.new.work ≡ units_of cache.old.work }
     ensures found { IfOk result (λ m. spans_if m ≡ groups_of_attempt (asked_by regex.now S.bytes input) position) }
     ensures within { IfOk result (λ m. IfSome m (λ c. searched_in c ≡ haystack_in input)) }
     ensures regex { IfOk result (λ m. IfSome m (λ c. found_by c ≡ regex.now)) }
@@ -102,6 +109,9 @@ fn capture_at<'r, S: Input>(
         (steps_of cache.new.work + notes_ahead (program_in regex.now) request (position + 1) notes.new ≤ steps_of cache.old.work
         + (notes_ahead (program_in regex.now) request position notes.old + notes_again (program_in regex.now) position notes.old))) }
     ensures paired { returns_of cache.old.work ≤ steps_of cache.old.work → returns_of cache.new.work ≤ steps_of cache.new.work }
+    ensures limit { IsWithin (step_limit_in regex.now) cache.old.work → IsWithin (step_limit_in regex.now) cache.new.work }
+    ensures limited { IsOutOfSteps result → IsSpent (step_limit_in regex.now) cache.new.work }
+    ensures units { easy_in regex.now ≡ true → units_of cache.new.work ≡ units_of cache.old.work }
     ensures found { IfOk result (λ m. spans_if m ≡ groups_of_attempt (query regex.now (S.bytes haystack) request) position) }
     ensures within { IfOk result (λ m. IfSome m (λ c. searched_in c ≡ haystack)) }
     ensures regex { IfOk result (λ m. IfSome m (λ c. found_by c ≡ regex.now)) }
@@ -120,7 +130,7 @@ fn capture_at<'r, S: Input>(
 /// `cache` then, and [`captures_found`] takes them from there. The position is a byte offset, and what is done is counted, as in
 /// [`attempt_at`].
 ///
-/// It is refused as [`Regex::find_input`] is, for what the attempt takes.
+/// It is refused as [`attempt_at`] is.
 pub fn find_at(
     regex: &Regex,
     haystack: &[u8],
@@ -143,15 +153,18 @@ pub fn find_at(
         (steps_of cache.new.work + notes_ahead (program_in regex.now) request (position + 1) notes.new ≤ steps_of cache.old.work
         + (notes_ahead (program_in regex.now) request position notes.old + notes_again (program_in regex.now) position notes.old))) }
     ensures paired { returns_of cache.old.work ≤ steps_of cache.old.work → returns_of cache.new.work ≤ steps_of cache.new.work }
+    ensures limit { IsWithin (step_limit_in regex.now) cache.old.work → IsWithin (step_limit_in regex.now) cache.new.work }
+    ensures limited { IsOutOfSteps result → IsSpent (step_limit_in regex.now) cache.new.work }
+    ensures units { easy_in regex.now ≡ true → units_of cache.new.work ≡ units_of cache.old.work }
     ensures found { IfOk result (λ m. IsAttemptIn m cache.new.engines (query regex.now haystack.now request) position) }
     ensures refused { IfErr result (λ e. RefusesAt regex.now (query regex.now haystack.now request) position e) }
     ensures allowed { IfOk result (λ _. AllowsAt regex.now (query regex.now haystack.now request) position) }
 {
-    let mut work = Work::new();
+    let mut work = Work::after(&cache.work);
     let found = regex
         .program
         .attempt_at(haystack, request, position, notes, cache, &mut work);
-    cache.work.add(&work);
+    cache.work.add_attempt(&work);
     found
 }
 

@@ -13,6 +13,14 @@ stepped_more w false = omega arith
 pub steps_more : (before after : Work) → AddsUnits (stepped_within before) after → steps_of before ≤ steps_of after
 steps_more before after adds = omega (arith, stepped_more before (nat_lt before.steps (2 ^ 64 - 1)), adds.steps)
 
+stepped_units : (w : Work) (b : Bool) → units_of (if b then stepped w else w) ≡ units_of w
+stepped_units w true = refl
+stepped_units w false = refl
+
+-- nor are units
+pub units_more : (before after : Work) → AddsUnits (stepped_within before) after → units_of before ≤ units_of after
+units_more before after adds = omega (arith, stepped_units before (nat_lt before.steps (2 ^ 64 - 1)), adds.units)
+
 stepped_beyond : (w : Work) (n : ℕ) (b : Bool) → nat_lt w.steps (2 ^ 64 - 1) ≡ b → n < 2 ^ 64 - 1 → n ≤ steps_of w → n + 1 ≤ steps_of (if b then stepped w else w)
 stepped_beyond w n true e small le = omega arith
 stepped_beyond w n false e small le = omega (arith, ltb-false w.steps (2 ^ 64 - 1) e)

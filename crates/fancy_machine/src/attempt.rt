@@ -5,7 +5,7 @@ ghost use Rattle.fancy_tree.specs.Pattern.{Pattern};
 ghost use Rattle.fancy_input.specs.LastLines.{KnowsLastLines};
 ghost use Rattle.fancy_code.specs.Queries.{query_of};
 ghost use Rattle.fancy_code.specs.Search.{continues_from};
-ghost use Rattle.fancy_code.specs.Work.{steps_of, returns_of, stepped_within, IsWithin, IsSpent, HasWorkLeft, AddsUnits};
+ghost use Rattle.fancy_code.specs.Work.{steps_of, returns_of, units_of, stepped_within, IsWithin, IsSpent, HasWorkLeft, AddsUnits};
 ghost use Rattle.fancy_machine.specs.Asked.{Serves};
 ghost use Rattle.fancy_machine.specs.Attempt.{accepts, code_in, state_if_found, IsFull, TurnsTo, outcome_from, returns_from, marks_from};
 ghost use Rattle.fancy_code.specs.Thread.{IsKnown};
@@ -164,6 +164,7 @@ impl<'a> Attempt<'a> {
         ensures fits { returns_of work.new ≤ limit }
         ensures steps { steps_of work.old ≤ steps_of work.new }
         ensures returns { returns_of work.old ≤ returns_of work.new }
+        ensures units { units_of work.old ≤ units_of work.new }
         ensures bounded { returns_of work.new ≤ returns_of work.old + returns_from self.now deep trail.old.now }
         ensures paired { returns_of work.old ≤ steps_of work.old → returns_of work.new ≤ steps_of work.new }
         ensures last_lines { KnowsLastLines self.now.haystack.now last_lines.new }

@@ -7,7 +7,7 @@ ghost use Rattle.fancy_input.specs.Requests.{effective_start};
 ghost use Rattle.fancy_code.specs.Search.{Query, search, attempt, returns, choices, returns_at, choices_at};
 ghost use Rattle.fancy_code.specs.Seen.{IsNextCandidate};
 ghost use Rattle.fancy_code.specs.Tried.{tried, NoneTried};
-ghost use Rattle.fancy_code.specs.Work.{steps_of, returns_of, HasRoom, IsWithin, IsSpent};
+ghost use Rattle.fancy_code.specs.Work.{steps_of, returns_of, units_of, HasRoom, IsWithin, IsSpent};
 ghost use Rattle.fancy_code.specs.Queries.{query_of, answer_with};
 ghost use Rattle.fancy_machine.specs.Asked.{Serves, HeedsLimit, branches_allowed, groups_held, lines_held};
 ghost use Rattle.fancy_machine.specs.Log.{writes_allowed};
@@ -197,6 +197,7 @@ pub fn attempt_at(
     ensures fits { returns_of work.new ≤ returns_of work.old + options.backtrack_limit }
     ensures steps { steps_of work.old ≤ steps_of work.new }
     ensures returns { returns_of work.old ≤ returns_of work.new }
+    ensures units { units_of work.old ≤ units_of work.new }
     ensures bounded { returns_of work.new ≤ returns_of work.old + returns_at q position }
     ensures paired { returns_of work.old ≤ steps_of work.old → returns_of work.new ≤ steps_of work.new }
     ensures crowded { result ≡ Err SearchRefusal.Choices → options.stack_limit < choices_at q position }
@@ -237,6 +238,7 @@ fn try_position(
     ensures fits { returns_of work.new ≤ limit }
     ensures steps { steps_of work.old ≤ steps_of work.new }
     ensures returns { returns_of work.old ≤ returns_of work.new }
+    ensures units { units_of work.old ≤ units_of work.new }
     ensures bounded { returns_of work.new ≤ returns_of work.old + returns_at q position }
     ensures paired { returns_of work.old ≤ steps_of work.old → returns_of work.new ≤ steps_of work.new }
     ensures last_lines { KnowsLastLines attempts.now.haystack.now (lines_held cache.new) }

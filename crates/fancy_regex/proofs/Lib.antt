@@ -12,6 +12,7 @@ pub mod TokenPickLemmas
 pub mod TokenLemmas
 pub mod TrialLemmas
 pub mod SetCountLemmas
+pub mod SetLimitLemmas
 pub mod TokenSearchLemmas
 pub mod TokenGivenLemmas
 pub mod SetExampleLemmas

@@ -7,6 +7,7 @@ pub mod SetMembers
 pub mod Candidates
 pub mod Trials
 pub mod SetCounts
+pub mod SetLimits
 pub mod Sets
 pub mod SetAnswers
 pub mod SetMatches

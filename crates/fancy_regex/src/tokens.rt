@@ -25,7 +25,8 @@ pub use token::Token;
 ///
 /// The list ends without an error at the range's end. Before it, a place at which no pattern gives a token gives
 /// `RuntimeError(Unmatched(place))`, and a pattern that is refused gives its refusal; either ends the list. Only patterns that may
-/// start with the byte at the place are tried, and those alone can refuse. A list that has ended stays ended, and
+/// start with the byte at the place are tried, and those alone can refuse. For each token the work begins anew that a
+/// `RegexOptionsBuilder::step_limit` bounds: what all patterns do at its place. A list that has ended stays ended, and
 /// [`Tokens::place`] tells where it ended.
 #[derive(Drop)]
 pub struct Tokens<'r, S: Haystack> {
@@ -53,7 +54,8 @@ impl RegexSet {
     /// the place, and not after it by a `\K`, and is not empty. Of several the longest is taken, and of those that are as long
     /// the one with the lowest index. Each pattern offers one match, the one that it prefers: `a|ab` offers `a`, also before a
     /// `b`. The range of the input and what it suppresses hold at each place, and `\G` holds there too; whether it is anchored
-    /// has no effect. No memory is taken until a token is asked for.
+    /// has no effect. No memory is taken until a token is asked for. A `RegexOptionsBuilder::step_limit` holds for each token: for
+    /// what all patterns do at its place.
     ///
     /// ```text
     /// let set = RegexSet::new(alloc, &["if", "[a-z]+", "[0-9]+", " +"])?;

@@ -4,7 +4,7 @@ ghost use Rattle.std.specs.Prelude.{◌≡◌, ℕ, List, [], None, true, slice_
 ghost use Rattle.fancy_automaton.specs.Cells.{IsWithin};
 ghost use Rattle.fancy_automaton.specs.Remembered.{Remembers};
 ghost use Rattle.fancy_code.specs.declared.code.Code.{Code};
-ghost use Rattle.fancy_code.specs.Work.{steps_of, returns_of};
+ghost use Rattle.fancy_code.specs.Work.{steps_of, returns_of, units_of};
 
 use fancy_automaton::cells::Cells;
 use fancy_bytes::lacking::KnownBytes;
@@ -132,6 +132,7 @@ impl AttemptCache {
         ensures known { (haystack : List ℕ) → AreKnown result.known haystack }
         ensures steps { steps_of result.work ≡ 0 }
         ensures returns { returns_of result.work ≡ 0 }
+        ensures units { units_of result.work ≡ 0 }
     {
         AttemptCache {
             engines: Cache::new(alloc),

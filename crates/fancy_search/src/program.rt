@@ -1,6 +1,7 @@
 //! A compiled pattern: the code that is searched with, and what decides how.
 
-ghost use Rattle.std.specs.Prelude.{◌≡◌, ◌≤◌, ◌<◌, ◌+◌, ◌*◌, ℕ, Bool, List, None, Some, IfOk, IfErr, IfSome, IfNone, IsTrue, IsUtf8, chars, true, false, length, string_bytes};
+ghost use Rattle.std.specs.Prelude.{◌≡◌, ◌≤◌, ◌<◌, ◌+◌, ◌*◌, ◌^◌, ℕ, Bool, List, None, Some, IfOk, IfErr, IfSome, IfNone, IsTrue, IsUtf8, chars, true, false, length, string_bytes};
+ghost use Rattle.std.specs.Option.{ForSome};
 ghost use Rattle.fancy_tree.specs.Pattern.{Pattern};
 ghost use Rattle.fancy_tree.specs.GroupNames.{names_of};
 ghost use Rattle.fancy_tree.specs.Modes.{keeps_characters};
@@ -13,7 +14,7 @@ ghost use Rattle.fancy_code.specs.Compile.{are_easy};
 ghost use Rattle.fancy_code.specs.Easy.{is_easy};
 ghost use Rattle.fancy_code.specs.Placed.{has_raw_byte, has_keep_start_in_look_around};
 ghost use Rattle.fancy_runner.specs.KeptTable.{table_base, table_in, place_kept, past_tried, steps_ahead, steps_from, taken_again};
-ghost use Rattle.fancy_code.specs.Work.{steps_of, returns_of};
+ghost use Rattle.fancy_code.specs.Work.{steps_of, returns_of, units_of};
 ghost use Rattle.fancy_code.specs.Tried.{NoneTried};
 ghost use Rattle.fancy_code.specs.Search.{search};
 ghost use Rattle.fancy_automaton.specs.Futures.{ArePlain};
@@ -75,6 +76,7 @@ pub struct Program {
     ghost decided: { easy ≡ is_easy_under options reading.0 },
     ghost followed: { plain ≡ true → FollowsEach code },
     ghost light: { is_easy reading.0 ≡ true → are_easy (instrs_of code) ≡ true },
+    pub ghost limited: { ForSome options.step_limit (λ most. most < 2 ^ 64) },
     ghost starts: { has_keep_start_in_look_around reading.0 ≡ false },
     ghost needed: { AreRequired (meaning_in options) reading.0 required },
     ghost whole: { keeps_characters options.bytes_mode ≡ true → has_raw_byte reading.0 ≡ false },
@@ -534,6 +536,8 @@ impl Program {
         ensures idle { tried_by self.now (asked_of self.now haystack.now request true) position ≡ false
             → steps_of work.new ≡ steps_of work.old }
         ensures returns { returns_of work.old ≤ returns_of work.new }
+        ensures units { units_of work.old ≤ units_of work.new }
+        ensures easy { program_is_easy self.now ≡ true → units_of work.new ≡ units_of work.old }
         ensures paired { returns_of work.new ≤ steps_of work.new }
         ensures within { HeedsStepLimit self.now work.old work.new }
         ensures limited { IsOutOfSteps result → HasNoStepsLeft self.now work.new }
@@ -580,6 +584,7 @@ impl Program {
             (steps_of work.new + notes_ahead self.now request (position + 1) notes.new
             ≤ steps_of work.old + (notes_ahead self.now request position notes.old + notes_again self.now position notes.old))) }
         ensures returns { returns_of work.old ≤ returns_of work.new }
+        ensures units { units_of work.new ≡ units_of work.old }
         ensures paired { returns_of work.new ≤ steps_of work.new }
         ensures within { HeedsStepLimit self.now work.old work.new }
         ensures limited { IsOutOfSteps result → HasNoStepsLeft self.now work.new }
@@ -658,6 +663,7 @@ impl Program {
             + (steps_from kept.old self.now.code request (effective_start request) (table_in cache.old.runner)
             + program_length self.now)) }
         ensures returns { returns_of work.old ≤ returns_of work.new }
+        ensures units { units_of work.new ≡ units_of work.old }
         ensures paired { returns_of work.new ≤ steps_of work.new }
         ensures within { HeedsStepLimit self.now work.old work.new }
         ensures limited { IsOutOfSteps result → HasNoStepsLeft self.now work.new }
@@ -738,6 +744,7 @@ impl Program {
         ensures answer { IfOk result (λ m. IsAttemptIn m cache.new (asked_of self.now haystack.now request true) position) }
         ensures steps { steps_of work.old ≤ steps_of work.new }
         ensures returns { returns_of work.old ≤ returns_of work.new }
+        ensures units { units_of work.old ≤ units_of work.new }
         ensures paired { returns_of work.new ≤ steps_of work.new }
         ensures within { HeedsStepLimit self.now work.old work.new }
         ensures limited { IsOutOfSteps result → HasNoStepsLeft self.now work.new }

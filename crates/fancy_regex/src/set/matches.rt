@@ -1,17 +1,19 @@
 //! The matches of a pattern set at the position where the first of its patterns matches.
 
-ghost use Rattle.std.specs.Prelude.{◌≡◌, ◌≤◌, ◌-◌, ◌↔◌, None, IfOk, IfErr, IfSome, length};
+ghost use Rattle.std.specs.Prelude.{◌≡◌, ◌≤◌, ◌-◌, ◌↔◌, ℕ, None, IfOk, IfErr, IfSome, length};
 ghost use Rattle.std.specs.Option.{ForSome};
 ghost use Rattle.std.specs.Iterator.{at_most};
 ghost use Rattle.std.proofs.Props.{props};
 ghost use Rattle.fancy_bytes.specs.Lacks.{AreKnown};
 ghost use Rattle.fancy_input.specs.Inputs.{haystack_in, request_in};
 ghost use Rattle.fancy_input.specs.Requests.{effective_start};
-ghost use Rattle.fancy_code.specs.Work.{steps_of, returns_of};
+ghost use Rattle.fancy_code.specs.Work.{steps_of, returns_of, work_of};
 ghost use Rattle.fancy_regex.specs.SetAnswers.{IsItemOf};
 ghost use Rattle.fancy_regex.specs.SetCounts.{AreAllEasy, most_steps_of_all};
+ghost use Rattle.fancy_regex.specs.SetLimits.{AllowAllSteps, IsSpentForOne, ShareLimit};
 ghost use Rattle.fancy_regex.specs.Sets.{members_of, asked_of_set, CanSearchAll};
 ghost use Rattle.fancy_regex.specs.Trials.{AreNotedFrom, next_asked};
+ghost use Rattle.fancy_search.specs.SearchCounts.{IsOutOfSteps};
 
 use crate::set::RegexSet;
 use crate::set::matched::RegexSetMatch;
@@ -26,7 +28,7 @@ use fancy_tree::error::Result;
 /// The matches of the patterns of a set at one position, in the order of their indices; made by [`RegexSet::find_input`].
 ///
 /// A pattern is searched when it is asked for. Where its attempt is refused, for want of memory or past its limits, the item is
-/// that refusal, and the next item is that of the next pattern.
+/// that refusal, and the next item is that of the next pattern. A `RegexOptionsBuilder::step_limit` counts on from the search.
 ///
 /// ```text
 /// // the set of `a` and `(?:(a|aa)+)\1` under backtrack_limit(0), on "aa"
@@ -66,7 +68,8 @@ impl RegexSet {
     /// ```
     ///
     /// It is refused as the first attempt is that is refused before a match was found, in the order of positions and then of
-    /// indices: for want of memory, or past the limits of that pattern. A pattern that was built with `RegexOptionsBuilder::seek`
+    /// indices: for want of memory, or past the limits of that pattern. Of these `RegexOptionsBuilder::step_limit` bounds what all
+    /// patterns did in this search, and so a whole search; the others bound the attempt. A pattern that was built with `RegexOptionsBuilder::seek`
     /// is not tried where its own searches pass a position over, and takes nothing of its limits there.
     pub fn find_input<S: Input>(
         &self,
@@ -77,6 +80,8 @@ impl RegexSet {
         ensures found { IfOk result
             (λ m. IfSome m (IsAnswerOfSet S.bytes self.now (haystack_in input) (request_in input))) }
         ensures refused { IfErr result (RefusesSet (asked_of_set self.now S.bytes input)) }
+        ensures unlimited { AreAllEasy (members_of self.now) → AllowAllSteps (members_of self.now) (request_in input)
+            → IsOutOfSteps result → ⊥ }
     {
         let mut work = Work::new();
         self.find_input_counted(input, &mut work)
@@ -93,7 +98,8 @@ impl RegexSet {
     /// work.steps()    // at most 5 times the code lengths of both
     /// ```
     ///
-    /// Where all patterns are easy, the steps are at most those that a search with each of them alone may take, added up.
+    /// Where all patterns are easy, the steps are at most those that a search with each of them alone may take, added up. Where all
+    /// patterns have the same `RegexOptionsBuilder::step_limit`, `work.work()` is at most that, also after a refusal.
     pub fn find_input_counted<S: Input>(
         &self,
         input: RegexInput<S>,
@@ -107,6 +113,10 @@ impl RegexSet {
         ensures steps { AreAllEasy (members_of self.now)
             → steps_of work.new ≤ most_steps_of_all (members_of self.now) (request_in input) }
         ensures returns { returns_of work.new ≤ steps_of work.new }
+        ensures limit { (most : ℕ) → ShareLimit most (members_of self.now) → work_of work.new ≤ most }
+        ensures spent { IsOutOfSteps result → IsSpentForOne (members_of self.now) work.new }
+        ensures unlimited { AreAllEasy (members_of self.now) → AllowAllSteps (members_of self.now) (request_in input)
+            → IsOutOfSteps result → ⊥ }
     {
         work.reset();
         let mut trials = Trials::new(*self.members.allocator());

@@ -10,7 +10,9 @@ ghost use Rattle.fancy_regex.specs.SetMembers.{has_answer_at, set_position, None
 ghost use Rattle.fancy_regex.specs.SetAnswers.{IsAnswerOf, IsFirstAnswer, IsFirstOfSet};
 ghost use Rattle.fancy_regex.specs.Sets.{members_of, asked_of_set, CanSearchAll};
 ghost use Rattle.fancy_regex.specs.SetCounts.{AreAllEasy, IsPaired, TakesSteps, most_steps_of_all, steps_in, steps_left_in};
+ghost use Rattle.fancy_regex.specs.SetLimits.{CountNoUnits, HeedLimits, IsSpentForOne};
 ghost use Rattle.fancy_regex.specs.Trials.{AreNotedFrom};
+ghost use Rattle.fancy_search.specs.SearchCounts.{IsOutOfSteps};
 
 use crate::set::RegexSet;
 use crate::set::trials::Trials;
@@ -44,6 +46,9 @@ impl RegexSet {
         ensures bounded { AreAllEasy (members_of self.now) → steps_in trials.new
             ≤ steps_in trials.old + most_steps_of_all (members_of self.now) (request_in input.now) }
         ensures paired { IsPaired trials.old → IsPaired trials.new }
+        ensures limit { HeedLimits (members_of self.now) trials.old trials.new }
+        ensures limited { IfSome result (λ a. IsOutOfSteps a.1.answer → IsSpentForOne (members_of self.now) trials.new.cache.work) }
+        ensures units { CountNoUnits (members_of self.now) trials.old trials.new }
         ensures none { IfNone result (set_position (asked_of_set self.now S.bytes input.now) ≡ None) }
         ensures first { IfSome result (λ a. IsFirstOfSet (asked_of_set self.now S.bytes input.now)
             (haystack_in input.now) a.0 a.1.index a.1.answer) }
@@ -82,6 +87,8 @@ impl RegexSet {
         ensures known { AreKnown trials.new.cache.known (S.bytes (haystack_in input.now)) }
         ensures noted { IfNone result (AreNotedFrom from (asked_of_set self.now S.bytes input.now) position trials.new) }
         ensures left { IfSome result (λ a. AreNotedFrom (a.index + 1) (asked_of_set self.now S.bytes input.now) position trials.new) }
+        ensures limit { HeedLimits (members_of self.now) trials.old trials.new }
+        ensures limited { IfSome result (λ a. IsOutOfSteps a.answer → IsSpentForOne (members_of self.now) trials.new.cache.work) }
         ensures none { IfNone result
             (NoneBetween (asked_of_set self.now S.bytes input.now) position from (length (members_of self.now))) }
         ensures first { IfSome result (λ a. IsFirstAnswer (asked_of_set self.now S.bytes input.now)
@@ -119,6 +126,9 @@ impl RegexSet {
             (steps_left_in (asked_of_set self.now S.bytes input.now) from position trials.old)
             (steps_left_in (asked_of_set self.now S.bytes input.now) 0 (position + 1) trials.new)) }
         ensures paired { IsPaired trials.old → IsPaired trials.new }
+        ensures limit { HeedLimits (members_of self.now) trials.old trials.new }
+        ensures limited { IfSome result (λ a. IsOutOfSteps a.answer → IsSpentForOne (members_of self.now) trials.new.cache.work) }
+        ensures units { CountNoUnits (members_of self.now) trials.old trials.new }
         ensures none { IfNone result
             (NoneBetween (asked_of_set self.now S.bytes input.now) position from (length (members_of self.now))) }
         ensures first { IfSome result (λ a. IsFirstAnswer (asked_of_set self.now S.bytes input.now)
@@ -178,6 +188,9 @@ impl RegexSet {
             (steps_left_in (asked_of_set self.now S.bytes input.now) index position trials.old)
             (steps_left_in (asked_of_set self.now S.bytes input.now) (index + 1) position trials.new)) }
         ensures paired { IsPaired trials.old → IsPaired trials.new }
+        ensures limit { HeedLimits (members_of self.now) trials.old trials.new }
+        ensures limited { IfSome result (λ a. IsOutOfSteps a → IsSpentForOne (members_of self.now) trials.new.cache.work) }
+        ensures units { CountNoUnits (members_of self.now) trials.old trials.new }
         ensures none { IfNone result
             (has_answer_at (asked_of_set self.now S.bytes input.now) position index ≡ false) }
         ensures some { IfSome result (λ a. IsAnswerOf (asked_of_set self.now S.bytes input.now)

@@ -8,12 +8,13 @@ ghost use Rattle.std.specs.Prelude.{◌≡◌, ◌≤◌, ◌<◌, ◌+◌, ℕ,
 ghost use Rattle.fancy_bytes.specs.Lacks.{AreKnown};
 ghost use Rattle.fancy_core.specs.Captures.{spans_if, searched_in, found_by};
 ghost use Rattle.fancy_core.specs.Limited.{RefusesAt, AllowsAt};
-ghost use Rattle.fancy_core.specs.Regexes.{easy_in, options_in, query};
+ghost use Rattle.fancy_core.specs.Regexes.{easy_in, options_in, query, step_limit_in};
 ghost use Rattle.fancy_core.specs.Searches.{CanSearchInput, asked_by, groups_of_attempt};
 ghost use Rattle.fancy_input.specs.Inputs.{haystack_in, request_in};
 ghost use Rattle.fancy_input.specs.Requests.{effective_start};
 ghost use Rattle.fancy_search.specs.Cached.{IsAttemptIn};
 ghost use Rattle.fancy_search.specs.KeptTables.{kept_from};
+ghost use Rattle.fancy_search.specs.SearchCounts.{IsOutOfSteps};
 
 use fancy_code::found::Found;
 use fancy_core::attempt::{attempt_at, find_at};
@@ -35,6 +36,7 @@ pub(crate) struct Trials {
 }
 
 impl Trials {
+    ghost use Rattle.fancy_code.specs.Work.{units_of, IsSpent, IsWithin};
     ghost use Rattle.fancy_regex.specs.SetCounts.{IsPaired, steps_in, steps_left};
     ghost use Rattle.fancy_regex.specs.Trials.{NotedAt, OthersStay, OthersStayBut, notes_at};
 
@@ -44,6 +46,7 @@ impl Trials {
         ensures known { (haystack : List ℕ) → AreKnown result.cache.known haystack }
         ensures steps { steps_in result ≡ 0 }
         ensures paired { IsPaired result }
+        ensures units { units_of result.cache.work ≡ 0 }
     {
         Trials {
             notes: Vec::new(alloc),
@@ -88,6 +91,10 @@ impl Trials {
             (steps_in self.new + steps_left member.now (request_in input) (position + 1) (notes_at self.new index)
             ≤ steps_in self.old + steps_left member.now (request_in input) position (notes_at self.old index))) }
         ensures paired { IsPaired self.old → IsPaired self.new }
+        ensures limit { IsWithin (step_limit_in member.now) self.old.cache.work
+            → IsWithin (step_limit_in member.now) self.new.cache.work }
+        ensures limited { IsOutOfSteps result → IsSpent (step_limit_in member.now) self.new.cache.work }
+        ensures units { easy_in member.now ≡ true → units_of self.new.cache.work ≡ units_of self.old.cache.work }
         ensures found { IfOk result (λ m. spans_if m ≡ groups_of_attempt (asked_by member.now S.bytes input) position) }
         ensures within { IfOk result (λ m. IfSome m (λ c. searched_in c ≡ haystack_in input)) }
         ensures regex { IfOk result (λ m. IfSome m (λ c. found_by c ≡ member.now)) }
@@ -117,6 +124,9 @@ impl Trials {
         ensures notes { IfOk result
             (λ m. NotedAt index member.now haystack.now request (kept_from m position) self.new) }
         ensures others { OthersStayBut index self.old self.new }
+        ensures limit { IsWithin (step_limit_in member.now) self.old.cache.work
+            → IsWithin (step_limit_in member.now) self.new.cache.work }
+        ensures limited { IsOutOfSteps result → IsSpent (step_limit_in member.now) self.new.cache.work }
         ensures found { IfOk result
             (λ m. IsAttemptIn m self.new.cache.engines (query member.now haystack.now request) position) }
         ensures refused { IfErr result (λ e. RefusesAt member.now (query member.now haystack.now request) position e) }

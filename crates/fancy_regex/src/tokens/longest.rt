@@ -1,12 +1,15 @@
 //! The longest match of the patterns of a set at one place.
 
-ghost use Rattle.std.specs.Prelude.{◌≡◌, ◌≤◌, ◌<◌, ◌+◌, ◌⊎◌, IfOk, IfErr, IfSome, Some, length, slice_get};
+ghost use Rattle.std.specs.Prelude.{◌≡◌, ◌≤◌, ◌<◌, ◌+◌, ◌⊎◌, ℕ, IfOk, IfErr, IfSome, Some, length, slice_get};
 ghost use Rattle.fancy_bytes.specs.Lacks.{AreKnown};
 ghost use Rattle.fancy_input.specs.Inputs.{haystack_in, request_in};
 ghost use Rattle.fancy_code.specs.Queries.{answer_with};
+ghost use Rattle.fancy_code.specs.Work.{work_of};
 ghost use Rattle.fancy_search.specs.Cached.{cached_groups};
 ghost use Rattle.fancy_search.specs.KeptTables.{kept_from};
+ghost use Rattle.fancy_search.specs.SearchCounts.{IsOutOfSteps};
 ghost use Rattle.fancy_regex.specs.LongestMatches.{asked_in_bytes, end_so_far, IsLongestIfAny, IsTokenGiven};
+ghost use Rattle.fancy_regex.specs.SetLimits.{HeedLimits, IsSpentForOne, ShareLimit};
 ghost use Rattle.fancy_regex.specs.SetMembers.{SetQuery};
 ghost use Rattle.fancy_regex.specs.Sets.{members_of, asked_of_set, CanSearchAll};
 ghost use Rattle.fancy_regex.specs.TokenLists.{IsUnmatched, IsRefusedByMember, token_span};
@@ -34,7 +37,7 @@ pub(crate) struct Longest {
 
 impl RegexSet {
     /// The token at a place before the end of the input's range. The longest match so far keeps its groups in the cache
-    /// `longest`.
+    /// `longest`. The counts of `trials` begin anew, so a limit of work holds for what all members do at this place.
     pub(crate) fn token_at<S: Input>(
         &self,
         input: &RegexInput<S>,
@@ -48,6 +51,8 @@ impl RegexSet {
         requires known { AreKnown trials.old.cache.known (S.bytes (haystack_in input.now)) }
         requires noted { AreNotedFrom 0 (asked_of_set self.now S.bytes input.now) place trials.old }
         ensures known { AreKnown trials.new.cache.known (S.bytes (haystack_in input.now)) }
+        ensures limit { (most : ℕ) → ShareLimit most (members_of self.now) → work_of trials.new.cache.work ≤ most }
+        ensures limited { IsOutOfSteps result → IsSpentForOne (members_of self.now) trials.new.cache.work }
         ensures noted { IfOk result (λ t. IfSome (token_span t)
             (λ s. AreNotedFrom 0 (asked_of_set self.now S.bytes input.now) s.end trials.new)) }
         ensures given { IfOk result
@@ -57,6 +62,7 @@ impl RegexSet {
         ensures refused { IfErr result (λ e. IsUnmatched (asked_of_set self.now S.bytes input.now) place e
             ⊎ IsRefusedByMember (asked_of_set self.now S.bytes input.now) place e) }
     {
+        trials.cache.work.reset();
         let haystack = input.haystack();
         let bytes = haystack.as_bytes();
         let found = self.longest_at(bytes, input.request(), place, trials, longest)?;
@@ -86,6 +92,8 @@ impl RegexSet {
         requires known { AreKnown trials.old.cache.known haystack.now }
         requires noted { AreNotedFrom 0 (asked_in_bytes self.now haystack.now request) place trials.old }
         ensures known { AreKnown trials.new.cache.known haystack.now }
+        ensures limit { HeedLimits (members_of self.now) trials.old trials.new }
+        ensures limited { IsOutOfSteps result → IsSpentForOne (members_of self.now) trials.new.cache.work }
         ensures noted { IfOk result
             (λ l. AreNotedFrom 0 (asked_in_bytes self.now haystack.now request) (end_so_far place l) trials.new) }
         ensures longest { IfOk result (λ l. IsLongestIfAny (asked_in_bytes self.now haystack.now request) place

@@ -2,7 +2,7 @@ use Rattle.std.proofs.Common.{Err, refl, ◌∙◌, arith, ap}
 use Rattle.fancy_code.specs.Work.{returns_of}
 use Rattle.fancy_machine.specs.Attempt.{code_in}
 use Rattle.fancy_machine.proofs.MachineLemmas.{search_on, smaller_on, search_found, search_back, smaller_back, search_end, search_refused, search_crowded, backed_err}
-use Rattle.fancy_machine.proofs.WorkLemmas.{steps_more, step_beyond, back_within}
+use Rattle.fancy_machine.proofs.WorkLemmas.{steps_more, units_more, step_beyond, back_within}
 use Rattle.fancy_machine.proofs.RefusalLemmas.{passed_on}
 use Rattle.fancy_machine.proofs.attempt.Attempt.run.Goals as goal
 
@@ -15,6 +15,7 @@ steps-preserved-in-On g c = record {
   room = omega (arith, c.turn.ensures.returns, c.steps.invariant.room);
   steps = omega (arith, steps_more c.steps.work c.turn.new.work c.turn.ensures.work, c.steps.invariant.steps);
   returns = omega (arith, c.turn.ensures.returns, c.steps.invariant.returns);
+  units = omega (arith, units_more c.steps.work c.turn.new.work c.turn.ensures.work, c.steps.invariant.units);
   paired = λ pairs. omega (arith, steps_more c.steps.work c.turn.new.work c.turn.ensures.work, c.turn.ensures.returns, c.steps.invariant.paired pairs);
   most = c.turn.ensures.most ∙ c.steps.invariant.most;
   within = λ _. c.turn.ensures.within (c.if-is_spent.ensures.open refl);
@@ -56,6 +57,7 @@ steps-preserved g c =
       room = rw b.2 (omega (arith, b.3));
       steps = rw b.2 (omega (arith, steps_more c.steps.work c.turn.new.work c.turn.ensures.work, c.steps.invariant.steps));
       returns = rw b.2 (omega (arith, c.turn.ensures.returns, c.steps.invariant.returns));
+      units = rw b.2 (omega (arith, units_more c.steps.work c.turn.new.work c.turn.ensures.work, c.steps.invariant.units));
       paired = λ pairs. rw b.2 (omega (arith, c.turn.ensures.returns, step_beyond c.steps.work c.turn.new.work (returns_of c.steps.work) c.turn.ensures.work (omega (arith, c.turn.ensures.returns, b.3, c.ranges.limit)) (c.steps.invariant.paired pairs)));
       most = b.1 ∙ c.turn.ensures.most ∙ c.steps.invariant.most;
       within = λ _. back_within _ c.turn.new.work c.back.new.work b.2 (c.turn.ensures.within (c.if-is_spent.ensures.open refl));

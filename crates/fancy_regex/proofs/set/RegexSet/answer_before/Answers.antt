@@ -1,4 +1,4 @@
-use Rattle.std.proofs.Common.{arith, length}
+use Rattle.std.proofs.Common.{◌∙◌, arith, length}
 use Rattle.fancy_regex.specs.Sets.{asked_of_set}
 use Rattle.fancy_regex.proofs.SetCandidateLemmas.{none_to, none_one_more}
 use Rattle.fancy_regex.proofs.SetCountLemmas.{left_on, left_skipped}
@@ -27,6 +27,8 @@ members-preserved g c =
       noted = c.in_default-answer_of.ensures.noted c.args.from c.members.invariant.noted;
       taken = λ easy. omega (arith, c.members.invariant.taken easy, c.in_default-answer_of.ensures.spent easy, left_skipped q c.members.from c.in-Some.index c.args.position c.members.trials later);
       paired = λ before. c.answer_of.ensures.paired (c.members.invariant.paired before);
+      limit = λ most all before. c.answer_of.ensures.limit most all (c.members.invariant.limit most all before);
+      units = λ easy. c.answer_of.ensures.units easy ∙ c.members.invariant.units easy;
       reached = omega (arith, first, later);
       none = none_one_more q c.args.position c.args.from c.in-Some.index
           (none_to q c.args.position c.args.next c.requires.byte c.args.from c.members.from c.in-Some.index c.members.invariant.none starter.none)
@@ -55,3 +57,9 @@ returns-clause-bounded g c easy = omega (arith, c.members.invariant.taken easy)
 pub returns-clause-spent : goal.returns-clause-spent
 returns-clause-spent g c easy =
     omega (arith, c.members.invariant.taken easy, left_on (asked_of_set c.args.self.now g.S.Haystack.bytes c.args.input.now) c.members.from c.args.position c.members.trials)
+
+pub returns-in-Some-answer_of-clause-limit : goal.returns-in-Some-answer_of-clause-limit
+returns-in-Some-answer_of-clause-limit g c most all before = c.answer_of.ensures.limit most all (c.members.invariant.limit most all before)
+
+pub returns-in-Some-answer_of-clause-units : goal.returns-in-Some-answer_of-clause-units
+returns-in-Some-answer_of-clause-units g c easy = c.answer_of.ensures.units easy ∙ c.members.invariant.units easy

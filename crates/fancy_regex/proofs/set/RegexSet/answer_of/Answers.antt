@@ -3,6 +3,7 @@ use Rattle.std.proofs.lemmas.Option.{slice_get_read}
 use Rattle.fancy_regex.specs.Sets.{asked_of_set}
 use Rattle.fancy_regex.proofs.TrialLemmas.{noted_past, noted_with}
 use Rattle.fancy_regex.proofs.SetCountLemmas.{easy_at, left_tried, part_left}
+use Rattle.fancy_regex.proofs.SetLimitLemmas.{heeds_of_member, no_units_of_member, out_as}
 use Rattle.fancy_regex.proofs.SetLemmas.{member_refuses, member_item}
 use Rattle.fancy_regex.proofs.set.RegexSet.answer_of.Goals as goal
 
@@ -70,3 +71,41 @@ returns-in-Ok-None-clause-spent g c easy =
     let q = asked_of_set c.args.self.now g.S.Haystack.bytes c.args.input.now in
     let spent = rw (c.in-Ok-None.field-0-is, c.again.ensures.request) at (c.in-Ok-None.ensures.spent (easy_at q.members c.args.index c.index.result.now easy is)) in
     left_tried q c.args.index c.args.position _ _ c.index.result.now c.args.trials.now c.attempt.new.self is c.attempt.ensures.others spent
+
+pub returns-in-Err-clause-limit : goal.returns-in-Err-clause-limit
+returns-in-Err-clause-limit g c =
+    heeds_of_member c.args.self.now.members.items c.args.index c.index.result.now c.args.trials.now c.attempt.new.self
+    (slice_get_read c.args.self.now.members.items _ c.args.index c.index.result.now refl c.requires.member c.index.ensures) c.attempt.ensures.limit
+
+pub returns-in-Err-clause-units : goal.returns-in-Err-clause-units
+returns-in-Err-clause-units g c =
+    no_units_of_member c.args.self.now.members.items c.args.index c.index.result.now c.args.trials.now c.attempt.new.self
+    (slice_get_read c.args.self.now.members.items _ c.args.index c.index.result.now refl c.requires.member c.index.ensures) c.attempt.ensures.units
+
+pub returns-in-Ok-Some-clause-limit : goal.returns-in-Ok-Some-clause-limit
+returns-in-Ok-Some-clause-limit g c =
+    heeds_of_member c.args.self.now.members.items c.args.index c.index.result.now c.args.trials.now c.attempt.new.self
+    (slice_get_read c.args.self.now.members.items _ c.args.index c.index.result.now refl c.requires.member c.index.ensures) c.attempt.ensures.limit
+
+pub returns-in-Ok-Some-clause-units : goal.returns-in-Ok-Some-clause-units
+returns-in-Ok-Some-clause-units g c =
+    no_units_of_member c.args.self.now.members.items c.args.index c.index.result.now c.args.trials.now c.attempt.new.self
+    (slice_get_read c.args.self.now.members.items _ c.args.index c.index.result.now refl c.requires.member c.index.ensures) c.attempt.ensures.units
+
+pub returns-in-Ok-None-clause-limit : goal.returns-in-Ok-None-clause-limit
+returns-in-Ok-None-clause-limit g c =
+    heeds_of_member c.args.self.now.members.items c.args.index c.index.result.now c.args.trials.now c.attempt.new.self
+    (slice_get_read c.args.self.now.members.items _ c.args.index c.index.result.now refl c.requires.member c.index.ensures) c.attempt.ensures.limit
+
+pub returns-in-Ok-None-clause-units : goal.returns-in-Ok-None-clause-units
+returns-in-Ok-None-clause-units g c =
+    no_units_of_member c.args.self.now.members.items c.args.index c.index.result.now c.args.trials.now c.attempt.new.self
+    (slice_get_read c.args.self.now.members.items _ c.args.index c.index.result.now refl c.requires.member c.index.ensures) c.attempt.ensures.units
+
+pub returns-in-Err-clause-limited : goal.returns-in-Err-clause-limited
+returns-in-Err-clause-limited g c out = record {
+  index = c.args.index;
+  member = c.index.result.now;
+  is = slice_get_read c.args.self.now.members.items _ c.args.index c.index.result.now refl c.requires.member c.index.ensures;
+  spent = c.in-Err.ensures.limited (out_as c.in-Err.error out);
+}

@@ -1,7 +1,8 @@
-use Rattle.std.proofs.Common.{refl, subst}
-use Rattle.fancy_input.specs.Inputs.{haystack_in}
+use Rattle.std.proofs.Common.{refl, subst, arith}
+use Rattle.fancy_input.specs.Inputs.{haystack_in, request_in}
 use Rattle.fancy_regex.specs.Sets.{asked_of_set}
 use Rattle.fancy_regex.specs.SetAnswers.{IsFirstOfSet}
+use Rattle.fancy_regex.proofs.SetLimitLemmas.{none_spent, passed_on, spent_for_one_as}
 use Rattle.fancy_regex.proofs.SetLemmas.{stands_first, has_all_left, stands_not_nowhere}
 use Rattle.fancy_regex.proofs.set.RegexSet.find_input_counted.Goals as goal
 
@@ -26,3 +27,31 @@ returns-clause-found g c =
 
 pub first_answer-first-requires-clause-known : goal.first_answer-first-requires-clause-known
 first_answer-first-requires-clause-known g c = c.new-trials.ensures.known _
+
+pub returns-clause-limit : goal.returns-clause-limit
+returns-clause-limit g c most all =
+    let done = c.first_answer-first.ensures.limit most all (omega (arith, c.new-trials.ensures.steps, c.new-trials.ensures.units)) in
+    omega (arith, done, c.add.ensures.alone (omega (arith, c.reset.ensures.steps, c.reset.ensures.units)))
+
+pub returns-in_default-clause-limit : goal.returns-in_default-clause-limit
+returns-in_default-clause-limit g c most all =
+    let done = c.first_answer-first.ensures.limit most all (omega (arith, c.new-trials.ensures.steps, c.new-trials.ensures.units)) in
+    omega (arith, done, c.add.ensures.alone (omega (arith, c.reset.ensures.steps, c.reset.ensures.units)))
+
+pub returns-in_err-captures-clause-limit : goal.returns-in_err-captures-clause-limit
+returns-in_err-captures-clause-limit g c most all =
+    let done = c.first_answer-first.ensures.limit most all (omega (arith, c.new-trials.ensures.steps, c.new-trials.ensures.units)) in
+    omega (arith, done, c.add.ensures.alone (omega (arith, c.reset.ensures.steps, c.reset.ensures.units)))
+
+pub returns-in_err-captures-clause-spent : goal.returns-in_err-captures-clause-spent
+returns-in_err-captures-clause-spent g c out =
+    spent_for_one_as c.args.self.now.members.items c.first_answer-first.new.trials.cache.work c.add.new.self (c.add.ensures.alone (omega (arith, c.reset.ensures.steps, c.reset.ensures.units)))
+    (c.in-Some.ensures.limited (passed_on c.from_residual.result _ c.from_residual.ensures.1 out c.in-Some.first.answer c.in_err-captures.was))
+
+pub returns-in_err-captures-clause-unlimited : goal.returns-in_err-captures-clause-unlimited
+returns-in_err-captures-clause-unlimited g c easy allows out =
+    none_spent c.args.self.now.members.items (request_in c.args.input) c.add.new.self allows
+    (omega (arith, c.first_answer-first.ensures.bounded easy, c.new-trials.ensures.steps, c.add.ensures.within, c.reset.ensures.steps))
+    (omega (arith, c.first_answer-first.ensures.units easy, c.new-trials.ensures.units, c.add.ensures.units, c.reset.ensures.units))
+    (spent_for_one_as c.args.self.now.members.items c.first_answer-first.new.trials.cache.work c.add.new.self (c.add.ensures.alone (omega (arith, c.reset.ensures.steps, c.reset.ensures.units)))
+    (c.in-Some.ensures.limited (passed_on c.from_residual.result _ c.from_residual.ensures.1 out c.in-Some.first.answer c.in_err-captures.was)))

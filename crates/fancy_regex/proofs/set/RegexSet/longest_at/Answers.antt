@@ -4,6 +4,7 @@ use Rattle.std.proofs.lemmas.Result.{err_from_is_err_and}
 use Rattle.fancy_regex.specs.LongestMatches.{asked_in_bytes, end_so_far}
 use Rattle.fancy_search.specs.KeptTables.{kept_from}
 use Rattle.fancy_regex.proofs.SetCandidateLemmas.{starts_there}
+use Rattle.fancy_regex.proofs.SetLimitLemmas.{heeds_of_member, passed_on}
 use Rattle.fancy_regex.proofs.TrialLemmas.{noted_past, tried_below, tried_all}
 use Rattle.fancy_regex.proofs.TokenSearchLemmas.{passed_over, limits_over, limits_more}
 use Rattle.fancy_regex.proofs.TokenGivenLemmas.{found_as_attempted, limit_kept}
@@ -36,6 +37,8 @@ members-preserved c =
     let is = slice_get_read s.members.items _ index member refl inside c.index.ensures in
     let limit = limit_kept q p index member is c.in_ok-found.ensures.allowed in
     record {
+      limit = λ most all before.
+          heeds_of_member s.members.items index member c.members.trials c.find.new.self is c.find.ensures.limit most all (c.members.invariant.limit most all before);
       known = c.find.ensures.known;
       below = tried_below q p c.members.from index (kept_from c.in_ok-found.found p) (end_so_far p c.members.best) (end_so_far p c.longer-best.result) member c.members.trials c.find.new.self
           starter.reached is c.find.ensures.others c.in_ok-found.ensures.notes (c.longer-best.ensures.reaches c.members.invariant.forth) c.longer-best.ensures.forth (let forth = c.longer-best.ensures.forth in omega (arith, forth, c.members.invariant.forth))
@@ -69,3 +72,19 @@ find-requires-clause-notes c =
     let s = c.args.self.now in
     let starter = c.in-Some.ensures in
     c.members.invariant.above c.in-Some.index c.index.result.now starter.reached (slice_get_read s.members.items _ c.in-Some.index c.index.result.now refl starter.inside c.index.ensures)
+
+pub returns-in_err-found-clause-limit : goal.returns-in_err-found-clause-limit
+returns-in_err-found-clause-limit c most all before =
+    let s = c.args.self.now in
+    let is = slice_get_read s.members.items _ c.in-Some.index c.index.result.now refl c.in-Some.ensures.inside c.index.ensures in
+    heeds_of_member s.members.items c.in-Some.index c.index.result.now c.members.trials c.find.new.self is c.find.ensures.limit most all (c.members.invariant.limit most all before)
+
+pub returns-in_err-found-clause-limited : goal.returns-in_err-found-clause-limited
+returns-in_err-found-clause-limited c out =
+    let s = c.args.self.now in
+    record {
+      index = c.in-Some.index;
+      member = c.index.result.now;
+      is = slice_get_read s.members.items _ c.in-Some.index c.index.result.now refl c.in-Some.ensures.inside c.index.ensures;
+      spent = c.find.ensures.limited (passed_on c.from_residual.result _ c.from_residual.ensures.1 out c.find.result c.in_err-found.was);
+    }

@@ -15,6 +15,7 @@ use Rattle.fancy_regex.specs.SetMatches.{captures_of}
 use Rattle.fancy_regex.specs.SetMembers.{SetQuery, IsMemberItem}
 use Rattle.fancy_regex.specs.Sets.{members_of, asked_of_set}
 use Rattle.fancy_regex.specs.Tokens.{placed_at, found_by_member, KeepLimits}
+use Rattle.fancy_regex.proofs.SetLimitLemmas.{passed_on}
 use Rattle.fancy_regex.proofs.SetLemmas.{item_is_matched}
 use Rattle.fancy_regex.proofs.TokenSearchLemmas.{all_gone, none_gone}
 use Rattle.fancy_regex.proofs.TokenGivenLemmas.{whole_span, found_by_that, item_of_found, out_of_memory_at}
@@ -128,3 +129,19 @@ returns-clause-noted g c =
     let noted = subst (λ (x : SetQuery). AreNotedFrom 0 x (end_so_far p c.in_ok-found.found) c.longest_at.new.trials) same c.in_ok-found.ensures.noted in
     subst (λ o. IfSome o (λ s. AreNotedFrom 0 q s.end c.longest_at.new.trials)) (sym span)
     (subst (λ x. AreNotedFrom 0 q (end_so_far p x) c.longest_at.new.trials) c.in-Some.is noted)
+
+pub returns-clause-limit : goal.returns-clause-limit
+returns-clause-limit g c most all = c.longest_at.ensures.limit most all (omega (arith, c.reset.ensures.steps, c.reset.ensures.units))
+
+pub returns-in_default-clause-limit : goal.returns-in_default-clause-limit
+returns-in_default-clause-limit g c most all = c.longest_at.ensures.limit most all (omega (arith, c.reset.ensures.steps, c.reset.ensures.units))
+
+pub returns-in_err-captures-clause-limit : goal.returns-in_err-captures-clause-limit
+returns-in_err-captures-clause-limit g c most all = c.longest_at.ensures.limit most all (omega (arith, c.reset.ensures.steps, c.reset.ensures.units))
+
+pub returns-in_err-found-clause-limit : goal.returns-in_err-found-clause-limit
+returns-in_err-found-clause-limit g c most all = c.longest_at.ensures.limit most all (omega (arith, c.reset.ensures.steps, c.reset.ensures.units))
+
+pub returns-in_err-found-clause-limited : goal.returns-in_err-found-clause-limited
+returns-in_err-found-clause-limited g c out =
+    c.longest_at.ensures.limited (passed_on c.from_residual.result _ c.from_residual.ensures.1 out c.longest_at.result c.in_err-found.was)

@@ -57,3 +57,9 @@ returns-clause-spent c easy = absurd (true≢false (sym easy ∙ sym c.args.self
 pub returns-clause-notes : goal.returns-clause-notes
 returns-clause-notes c =
     if_ok _ _ (λ m e. noted_past c.args.self.now c.args.haystack.now c.args.request c.args.position c.args.notes.now m (ordered_at (asked_of c.args.self.now c.args.haystack.now c.args.request true) c.args.position (cached_groups c.backtrack_at.new.cache) c.requires.inside c.requires.ends c.args.self.now.starts m e) c.requires.notes) c.backtrack_at.result c.backtrack_at.ensures.answer
+
+pub returns-clause-easy : goal.returns-clause-easy
+returns-clause-easy c easy = absurd (true≢false (sym easy ∙ sym c.args.self.now.decided ∙ c.if-self.false))
+
+pub returns-then-self-clause-units : goal.returns-then-self-clause-units
+returns-then-self-clause-units c = omega (arith, c.run_at.ensures.units)

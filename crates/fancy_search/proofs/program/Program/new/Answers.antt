@@ -1,4 +1,4 @@
-use Rattle.std.proofs.Common.{refl, sym, ◌∙◌, ◌+◌, ap, subst, inl, inr, arith}
+use Rattle.std.proofs.Common.{rules, refl, sym, ◌∙◌, ◌+◌, ap, subst, inl, inr, arith}
 use Rattle.fancy_syntax.specs.Dialect.{DialectOptions}
 use Rattle.fancy_tree.specs.GroupNames.{names_of}
 use Rattle.fancy_search.specs.Compiled.{IsSpelled}
@@ -53,6 +53,7 @@ invariant_of-result c = record {
   decided = c.is_easy-easy.ensures;
   followed = c.is_worth_following-plain.ensures;
   light = c.in_ok-code.ensures.easy;
+  limited = search rules;
   starts = kept_accepted (c.in_ok-tree.ensures.accepted.0);
   needed = rw (sym c.meaning-2.ensures) c.in_ok-required.ensures;
   whole = λ e. bytes_accepted (ap (λ (o : DialectOptions). o.keeps_characters) c.parse_options.ensures ∙ e) (c.in_ok-tree.ensures.accepted.0);

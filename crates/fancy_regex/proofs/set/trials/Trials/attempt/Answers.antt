@@ -1,7 +1,9 @@
-use Rattle.std.proofs.Common.{◌+◌, ◌<◌, refl, ap, set, length, arith}
+use Rattle.std.proofs.Common.{◌+◌, ◌<◌, refl, sym, ap, subst, ◌∙◌, set, length, arith}
 use Rattle.std.proofs.lemmas.Option.{slice_get_read}
 use Rattle.fancy_input.specs.Inputs.{haystack_in, request_in}
-use Rattle.fancy_core.specs.Regexes.{program_in}
+use Rattle.fancy_core.specs.Regexes.{program_in, step_limit_in}
+use Rattle.fancy_code.specs.Work.{units_of, IsWithin}
+use Rattle.fancy_search.specs.declared.cache.AttemptCache.{AttemptCache}
 use Rattle.fancy_search.proofs.KeptTablesLemmas.{none_so}
 use Rattle.fancy_search.proofs.ResultLemmas.{if_ok, if_ok_both}
 use Rattle.fancy_regex.specs.SetMembers.{asked_alone}
@@ -46,3 +48,15 @@ returns-clause-spent g c easy =
     (λ kept less. omega (arith, now, stays, after, less, none_again_after (program_in c.args.member.now) (g.S.Haystack.bytes (haystack_in c.args.input)) (request_in c.args.input) c.args.position c.attempt_at.new.notes kept, ap (λ w. w.work.steps) c.reach.ensures.cache))
     m noted spent)
     c.attempt_at.result c.attempt_at.ensures.notes (c.attempt_at.ensures.spent easy)
+
+pub returns-clause-limit : goal.returns-clause-limit
+returns-clause-limit g c within = c.attempt_at.ensures.limit (subst (λ (k : AttemptCache). IsWithin (step_limit_in c.args.member.now) k.work) (sym c.reach.ensures.cache) within)
+
+pub returns-in_err-reach-clause-limit : goal.returns-in_err-reach-clause-limit
+returns-in_err-reach-clause-limit g c within = subst (λ (k : AttemptCache). IsWithin (step_limit_in c.args.member.now) k.work) (sym c.reach.ensures.cache) within
+
+pub returns-clause-units : goal.returns-clause-units
+returns-clause-units g c easy = c.attempt_at.ensures.units easy ∙ ap (λ k. units_of k.work) c.reach.ensures.cache
+
+pub returns-in_err-reach-clause-units : goal.returns-in_err-reach-clause-units
+returns-in_err-reach-clause-units g c easy = ap (λ k. units_of k.work) c.reach.ensures.cache

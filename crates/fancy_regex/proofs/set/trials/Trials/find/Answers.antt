@@ -1,5 +1,8 @@
-use Rattle.std.proofs.Common.{refl, set, arith}
+use Rattle.std.proofs.Common.{refl, sym, subst, set, arith}
 use Rattle.std.proofs.lemmas.Option.{slice_get_read}
+use Rattle.fancy_code.specs.Work.{IsWithin}
+use Rattle.fancy_core.specs.Regexes.{step_limit_in}
+use Rattle.fancy_search.specs.declared.cache.AttemptCache.{AttemptCache}
 use Rattle.fancy_search.proofs.ResultLemmas.{if_ok}
 use Rattle.fancy_regex.specs.SetMembers.{asked_alone}
 use Rattle.fancy_regex.proofs.TrialLemmas.{noted_still, noted_now, stay_but, get_set_other}
@@ -21,3 +24,9 @@ returns-clause-others c = stay_but c.args.index c.args.self.now c.reach.new.self
 
 pub returns-in_err-reach-clause-others : goal.returns-in_err-reach-clause-others
 returns-in_err-reach-clause-others c k apart = c.reach.ensures.others k
+
+pub returns-clause-limit : goal.returns-clause-limit
+returns-clause-limit c within = c.find_at.ensures.limit (subst (λ (k : AttemptCache). IsWithin (step_limit_in c.args.member.now) k.work) (sym c.reach.ensures.cache) within)
+
+pub returns-in_err-reach-clause-limit : goal.returns-in_err-reach-clause-limit
+returns-in_err-reach-clause-limit c within = subst (λ (k : AttemptCache). IsWithin (step_limit_in c.args.member.now) k.work) (sym c.reach.ensures.cache) within
