@@ -183,6 +183,7 @@ impl Work {
         ensures units { units_of self.new
             ≡ min (units_of self.old + (units_of attempt.now - min (work_of self.old) usize.MAX)) usize.MAX }
         ensures uncounted { units_of attempt.now ≡ min (work_of self.old) usize.MAX → units_of self.new ≡ units_of self.old }
+        ensures grows { work_of self.old ≤ work_of self.new }
         ensures within { steps_of self.new ≤ steps_of self.old + steps_of attempt.now }
         ensures paired { returns_of self.old ≤ steps_of self.old → returns_of attempt.now ≤ steps_of attempt.now
             → returns_of self.new ≤ steps_of self.new }

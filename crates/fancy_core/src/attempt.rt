@@ -2,7 +2,7 @@
 
 ghost use Rattle.std.specs.Prelude.{◌≡◌, ◌≤◌, ◌+◌, true, IfOk, IfErr, IfSome, IfNone, length};
 ghost use Rattle.fancy_bytes.specs.Lacks.{AreKnown};
-ghost use Rattle.fancy_code.specs.Work.{steps_of, returns_of, units_of, IsWithin, IsSpent};
+ghost use Rattle.fancy_code.specs.Work.{steps_of, returns_of, units_of, work_of, IsWithin, IsSpent};
 ghost use Rattle.fancy_input.specs.Inputs.{haystack_in, request_in};
 ghost use Rattle.fancy_input.specs.Requests.{effective_start};
 ghost use Rattle.fancy_core.specs.Captures.{spans_if, spans_in, searched_in, found_by};
@@ -68,6 +68,7 @@ pub fn attempt_at<'r, S: Input>(
     ensures limit { IsWithin (step_limit_in regex.now) cache.old.work → IsWithin (step_limit_in regex.now) cache.new.work }
     ensures limited { IsOutOfSteps result → IsSpent (step_limit_in regex.now) cache.new.work }
     ensures units { easy_in regex.now ≡ true → units_of cache.new.work ≡ units_of cache.old.work }
+    ensures grows { work_of cache.old.work ≤ work_of cache.new.work }
     ensures found { IfOk result (λ m. spans_if m ≡ groups_of_attempt (asked_by regex.now S.bytes input) position) }
     ensures within { IfOk result (λ m. IfSome m (λ c. searched_in c ≡ haystack_in input)) }
     ensures regex { IfOk result (λ m. IfSome m (λ c. found_by c ≡ regex.now)) }
@@ -112,6 +113,7 @@ fn capture_at<'r, S: Input>(
     ensures limit { IsWithin (step_limit_in regex.now) cache.old.work → IsWithin (step_limit_in regex.now) cache.new.work }
     ensures limited { IsOutOfSteps result → IsSpent (step_limit_in regex.now) cache.new.work }
     ensures units { easy_in regex.now ≡ true → units_of cache.new.work ≡ units_of cache.old.work }
+    ensures grows { work_of cache.old.work ≤ work_of cache.new.work }
     ensures found { IfOk result (λ m. spans_if m ≡ groups_of_attempt (query regex.now (S.bytes haystack) request) position) }
     ensures within { IfOk result (λ m. IfSome m (λ c. searched_in c ≡ haystack)) }
     ensures regex { IfOk result (λ m. IfSome m (λ c. found_by c ≡ regex.now)) }
@@ -156,6 +158,7 @@ pub fn find_at(
     ensures limit { IsWithin (step_limit_in regex.now) cache.old.work → IsWithin (step_limit_in regex.now) cache.new.work }
     ensures limited { IsOutOfSteps result → IsSpent (step_limit_in regex.now) cache.new.work }
     ensures units { easy_in regex.now ≡ true → units_of cache.new.work ≡ units_of cache.old.work }
+    ensures grows { work_of cache.old.work ≤ work_of cache.new.work }
     ensures found { IfOk result (λ m. IsAttemptIn m cache.new.engines (query regex.now haystack.now request) position) }
     ensures refused { IfErr result (λ e. RefusesAt regex.now (query regex.now haystack.now request) position e) }
     ensures allowed { IfOk result (λ _. AllowsAt regex.now (query regex.now haystack.now request) position) }

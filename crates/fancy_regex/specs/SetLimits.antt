@@ -31,3 +31,7 @@ HeedLimits members old new = (most : ℕ) → ShareLimit most members → work_o
 -- where all members are easy, no units are counted
 abbrev pub CountNoUnits : List Regex → Trials → Trials → Type 0
 CountNoUnits members old new = AreAllEasy members → units_of new.cache.work ≡ units_of old.cache.work
+
+-- what was counted stays counted
+abbrev pub KeepsWork : Trials → Trials → Type 0
+KeepsWork old new = work_of old.cache.work ≤ work_of new.cache.work

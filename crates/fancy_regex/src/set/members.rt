@@ -10,7 +10,7 @@ ghost use Rattle.fancy_regex.specs.SetMembers.{has_answer_at, set_position, None
 ghost use Rattle.fancy_regex.specs.SetAnswers.{IsAnswerOf, IsFirstAnswer, IsFirstOfSet};
 ghost use Rattle.fancy_regex.specs.Sets.{members_of, asked_of_set, CanSearchAll};
 ghost use Rattle.fancy_regex.specs.SetCounts.{AreAllEasy, IsPaired, TakesSteps, most_steps_of_all, steps_in, steps_left_in};
-ghost use Rattle.fancy_regex.specs.SetLimits.{CountNoUnits, HeedLimits, IsSpentForOne};
+ghost use Rattle.fancy_regex.specs.SetLimits.{CountNoUnits, HeedLimits, KeepsWork, IsSpentForOne};
 ghost use Rattle.fancy_regex.specs.Trials.{AreNotedFrom};
 ghost use Rattle.fancy_search.specs.SearchCounts.{IsOutOfSteps};
 
@@ -47,6 +47,7 @@ impl RegexSet {
             ≤ steps_in trials.old + most_steps_of_all (members_of self.now) (request_in input.now) }
         ensures paired { IsPaired trials.old → IsPaired trials.new }
         ensures limit { HeedLimits (members_of self.now) trials.old trials.new }
+        ensures grows { KeepsWork trials.old trials.new }
         ensures limited { IfSome result (λ a. IsOutOfSteps a.1.answer → IsSpentForOne (members_of self.now) trials.new.cache.work) }
         ensures units { CountNoUnits (members_of self.now) trials.old trials.new }
         ensures none { IfNone result (set_position (asked_of_set self.now S.bytes input.now) ≡ None) }
@@ -88,6 +89,7 @@ impl RegexSet {
         ensures noted { IfNone result (AreNotedFrom from (asked_of_set self.now S.bytes input.now) position trials.new) }
         ensures left { IfSome result (λ a. AreNotedFrom (a.index + 1) (asked_of_set self.now S.bytes input.now) position trials.new) }
         ensures limit { HeedLimits (members_of self.now) trials.old trials.new }
+        ensures grows { KeepsWork trials.old trials.new }
         ensures limited { IfSome result (λ a. IsOutOfSteps a.answer → IsSpentForOne (members_of self.now) trials.new.cache.work) }
         ensures none { IfNone result
             (NoneBetween (asked_of_set self.now S.bytes input.now) position from (length (members_of self.now))) }
@@ -127,6 +129,7 @@ impl RegexSet {
             (steps_left_in (asked_of_set self.now S.bytes input.now) 0 (position + 1) trials.new)) }
         ensures paired { IsPaired trials.old → IsPaired trials.new }
         ensures limit { HeedLimits (members_of self.now) trials.old trials.new }
+        ensures grows { KeepsWork trials.old trials.new }
         ensures limited { IfSome result (λ a. IsOutOfSteps a.answer → IsSpentForOne (members_of self.now) trials.new.cache.work) }
         ensures units { CountNoUnits (members_of self.now) trials.old trials.new }
         ensures none { IfNone result
@@ -189,6 +192,7 @@ impl RegexSet {
             (steps_left_in (asked_of_set self.now S.bytes input.now) (index + 1) position trials.new)) }
         ensures paired { IsPaired trials.old → IsPaired trials.new }
         ensures limit { HeedLimits (members_of self.now) trials.old trials.new }
+        ensures grows { KeepsWork trials.old trials.new }
         ensures limited { IfSome result (λ a. IsOutOfSteps a → IsSpentForOne (members_of self.now) trials.new.cache.work) }
         ensures units { CountNoUnits (members_of self.now) trials.old trials.new }
         ensures none { IfNone result

@@ -38,6 +38,7 @@ pub(crate) struct Trials {
 impl Trials {
     ghost use Rattle.fancy_code.specs.Work.{units_of, IsSpent, IsWithin};
     ghost use Rattle.fancy_regex.specs.SetCounts.{IsPaired, steps_in, steps_left};
+    ghost use Rattle.fancy_regex.specs.SetLimits.{KeepsWork};
     ghost use Rattle.fancy_regex.specs.Trials.{NotedAt, OthersStay, OthersStayBut, notes_at};
 
     /// No member was tried yet, and no memory is taken.
@@ -94,6 +95,7 @@ impl Trials {
         ensures limit { IsWithin (step_limit_in member.now) self.old.cache.work
             → IsWithin (step_limit_in member.now) self.new.cache.work }
         ensures limited { IsOutOfSteps result → IsSpent (step_limit_in member.now) self.new.cache.work }
+        ensures grows { KeepsWork self.old self.new }
         ensures units { easy_in member.now ≡ true → units_of self.new.cache.work ≡ units_of self.old.cache.work }
         ensures found { IfOk result (λ m. spans_if m ≡ groups_of_attempt (asked_by member.now S.bytes input) position) }
         ensures within { IfOk result (λ m. IfSome m (λ c. searched_in c ≡ haystack_in input)) }
@@ -127,6 +129,7 @@ impl Trials {
         ensures limit { IsWithin (step_limit_in member.now) self.old.cache.work
             → IsWithin (step_limit_in member.now) self.new.cache.work }
         ensures limited { IsOutOfSteps result → IsSpent (step_limit_in member.now) self.new.cache.work }
+        ensures grows { KeepsWork self.old self.new }
         ensures found { IfOk result
             (λ m. IsAttemptIn m self.new.cache.engines (query member.now haystack.now request) position) }
         ensures refused { IfErr result (λ e. RefusesAt member.now (query member.now haystack.now request) position e) }

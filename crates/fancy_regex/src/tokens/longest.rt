@@ -9,7 +9,7 @@ ghost use Rattle.fancy_search.specs.Cached.{cached_groups};
 ghost use Rattle.fancy_search.specs.KeptTables.{kept_from};
 ghost use Rattle.fancy_search.specs.SearchCounts.{IsOutOfSteps};
 ghost use Rattle.fancy_regex.specs.LongestMatches.{asked_in_bytes, end_so_far, IsLongestIfAny, IsTokenGiven};
-ghost use Rattle.fancy_regex.specs.SetLimits.{HeedLimits, IsSpentForOne, ShareLimit};
+ghost use Rattle.fancy_regex.specs.SetLimits.{HeedLimits, IsSpentForOne, KeepsWork, ShareLimit};
 ghost use Rattle.fancy_regex.specs.SetMembers.{SetQuery};
 ghost use Rattle.fancy_regex.specs.Sets.{members_of, asked_of_set, CanSearchAll};
 ghost use Rattle.fancy_regex.specs.TokenLists.{IsUnmatched, IsRefusedByMember, token_span};
@@ -93,6 +93,7 @@ impl RegexSet {
         requires noted { AreNotedFrom 0 (asked_in_bytes self.now haystack.now request) place trials.old }
         ensures known { AreKnown trials.new.cache.known haystack.now }
         ensures limit { HeedLimits (members_of self.now) trials.old trials.new }
+        ensures grows { KeepsWork trials.old trials.new }
         ensures limited { IsOutOfSteps result → IsSpentForOne (members_of self.now) trials.new.cache.work }
         ensures noted { IfOk result
             (λ l. AreNotedFrom 0 (asked_in_bytes self.now haystack.now request) (end_so_far place l) trials.new) }

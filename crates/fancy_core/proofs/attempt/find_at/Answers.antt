@@ -22,3 +22,6 @@ pub returns-clause-units : goal.returns-clause-units
 returns-clause-units c easy =
     let same = c.attempt_at-found.ensures.counted in
     c.add_attempt.ensures.uncounted (rw same (c.attempt_at-found.ensures.easy easy ∙ c.after-work.ensures.units)) ∙ ap units_of same
+
+pub returns-clause-grows : goal.returns-clause-grows
+returns-clause-grows c = rw c.attempt_at-found.ensures.counted at c.add_attempt.ensures.grows

@@ -27,6 +27,7 @@ members-preserved g c =
       noted = c.in_default-answer_of.ensures.noted c.args.from c.members.invariant.noted;
       taken = λ easy. omega (arith, c.members.invariant.taken easy, c.in_default-answer_of.ensures.spent easy, left_skipped q c.members.from c.in-Some.index c.args.position c.members.trials later);
       paired = λ before. c.answer_of.ensures.paired (c.members.invariant.paired before);
+      grows = (let more = c.answer_of.ensures.grows in omega (arith, more, c.members.invariant.grows));
       limit = λ most all before. c.answer_of.ensures.limit most all (c.members.invariant.limit most all before);
       units = λ easy. c.answer_of.ensures.units easy ∙ c.members.invariant.units easy;
       reached = omega (arith, first, later);

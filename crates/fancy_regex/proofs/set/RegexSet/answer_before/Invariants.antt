@@ -4,7 +4,7 @@ use Rattle.fancy_input.specs.Inputs.{haystack_in}
 use Rattle.fancy_regex.specs.SetMembers.{NoneBetween}
 use Rattle.fancy_regex.specs.Sets.{asked_of_set}
 use Rattle.fancy_regex.specs.SetCounts.{IsPaired, TakesSteps, steps_left_in}
-use Rattle.fancy_regex.specs.SetLimits.{CountNoUnits, HeedLimits}
+use Rattle.fancy_regex.specs.SetLimits.{CountNoUnits, HeedLimits, KeepsWork}
 use Rattle.fancy_regex.specs.Trials.{AreNotedFrom}
 use Rattle.fancy_regex.proofs.set.RegexSet.answer_before.Given as goal
 
@@ -17,6 +17,7 @@ invariant-members g l = record {
       (steps_left_in (asked_of_set l.self g.S.Haystack.bytes l.input) l.from l.position l.trials);
   paired : IsPaired l.fn.trials → IsPaired l.trials;
   limit : HeedLimits l.self.members.items l.fn.trials l.trials;
+  grows : KeepsWork l.fn.trials l.trials;
   units : CountNoUnits l.self.members.items l.fn.trials l.trials;
   reached : l.fn.from ≤ l.from;
   none : NoneBetween (asked_of_set l.self g.S.Haystack.bytes l.input) l.position l.fn.from l.from;

@@ -13,6 +13,7 @@ loop-position-preserved g c = record {
   noted = noted_on (asked_of_set c.args.self.now g.S.Haystack.bytes c.args.input.now) (λ k. 0 ≤ k) c.loop-position.position (c.loop-position.position + 1) c.answer_before.new.trials (omega arith) (if_none _ c.answer_before.result c.in_default.not-Some c.answer_before.ensures.noted);
   taken = λ easy. omega (arith, c.loop-position.invariant.taken easy, if_none _ c.answer_before.result c.in_default.not-Some c.answer_before.ensures.spent easy);
   paired = λ before. c.answer_before.ensures.paired (c.loop-position.invariant.paired before);
+  grows = (let more = c.answer_before.ensures.grows in omega (arith, more, c.loop-position.invariant.grows));
   limit = λ most all before. c.answer_before.ensures.limit most all (c.loop-position.invariant.limit most all before);
   units = λ easy. c.answer_before.ensures.units easy ∙ c.loop-position.invariant.units easy;
   passed = passed_more (asked_of_set c.args.self.now g.S.Haystack.bytes c.args.input.now) c.loop-position.position c.answer_before.result c.in_default.not-Some c.answer_before.ensures.none c.loop-position.invariant.passed;
@@ -33,6 +34,7 @@ loop-position-init g c = record {
       let first = c.effective_start-first.ensures ∙ ap effective_start c.request-request.ensures.value in
       omega (arith, subst (λ (p : ℕ). steps_left_in q 0 p c.args.trials.now ≤ most_steps_of_all q.members q.request) (sym first) (left_at_first q c.args.trials.now c.requires.fresh));
   paired = λ before. before;
+  grows = omega arith;
   limit = λ most all before. before;
   units = λ easy. refl;
   passed = search rules;

@@ -37,6 +37,7 @@ members-preserved c =
     let is = slice_get_read s.members.items _ index member refl inside c.index.ensures in
     let limit = limit_kept q p index member is c.in_ok-found.ensures.allowed in
     record {
+      grows = (let more = c.find.ensures.grows in omega (arith, more, c.members.invariant.grows));
       limit = λ most all before.
           heeds_of_member s.members.items index member c.members.trials c.find.new.self is c.find.ensures.limit most all (c.members.invariant.limit most all before);
       known = c.find.ensures.known;

@@ -1,8 +1,8 @@
-use Rattle.std.proofs.Common.{◌+◌, ◌<◌, refl, sym, ap, subst, ◌∙◌, set, length, arith}
+use Rattle.std.proofs.Common.{◌+◌, ◌<◌, ◌≤◌, refl, sym, ap, subst, ◌∙◌, set, length, arith}
 use Rattle.std.proofs.lemmas.Option.{slice_get_read}
 use Rattle.fancy_input.specs.Inputs.{haystack_in, request_in}
 use Rattle.fancy_core.specs.Regexes.{program_in, step_limit_in}
-use Rattle.fancy_code.specs.Work.{units_of, IsWithin}
+use Rattle.fancy_code.specs.Work.{units_of, IsWithin, work_of}
 use Rattle.fancy_search.specs.declared.cache.AttemptCache.{AttemptCache}
 use Rattle.fancy_search.proofs.KeptTablesLemmas.{none_so}
 use Rattle.fancy_search.proofs.ResultLemmas.{if_ok, if_ok_both}
@@ -60,3 +60,9 @@ returns-clause-units g c easy = c.attempt_at.ensures.units easy ∙ ap (λ k. un
 
 pub returns-in_err-reach-clause-units : goal.returns-in_err-reach-clause-units
 returns-in_err-reach-clause-units g c easy = ap (λ k. units_of k.work) c.reach.ensures.cache
+
+pub returns-clause-grows : goal.returns-clause-grows
+returns-clause-grows g c = subst (λ (k : AttemptCache). work_of k.work ≤ work_of c.attempt_at.new.cache.work) c.reach.ensures.cache c.attempt_at.ensures.grows
+
+pub returns-in_err-reach-clause-grows : goal.returns-in_err-reach-clause-grows
+returns-in_err-reach-clause-grows g c = omega (arith, ap (λ k. work_of k.work) c.reach.ensures.cache)

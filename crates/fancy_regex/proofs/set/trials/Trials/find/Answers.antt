@@ -1,6 +1,6 @@
-use Rattle.std.proofs.Common.{refl, sym, subst, set, arith}
+use Rattle.std.proofs.Common.{◌≤◌, refl, sym, ap, subst, set, arith}
 use Rattle.std.proofs.lemmas.Option.{slice_get_read}
-use Rattle.fancy_code.specs.Work.{IsWithin}
+use Rattle.fancy_code.specs.Work.{IsWithin, work_of}
 use Rattle.fancy_core.specs.Regexes.{step_limit_in}
 use Rattle.fancy_search.specs.declared.cache.AttemptCache.{AttemptCache}
 use Rattle.fancy_search.proofs.ResultLemmas.{if_ok}
@@ -30,3 +30,9 @@ returns-clause-limit c within = c.find_at.ensures.limit (subst (λ (k : AttemptC
 
 pub returns-in_err-reach-clause-limit : goal.returns-in_err-reach-clause-limit
 returns-in_err-reach-clause-limit c within = subst (λ (k : AttemptCache). IsWithin (step_limit_in c.args.member.now) k.work) (sym c.reach.ensures.cache) within
+
+pub returns-clause-grows : goal.returns-clause-grows
+returns-clause-grows c = subst (λ (k : AttemptCache). work_of k.work ≤ work_of c.find_at.new.cache.work) c.reach.ensures.cache c.find_at.ensures.grows
+
+pub returns-in_err-reach-clause-grows : goal.returns-in_err-reach-clause-grows
+returns-in_err-reach-clause-grows c = omega (arith, ap (λ k. work_of k.work) c.reach.ensures.cache)
