@@ -1,36 +1,23 @@
--- A search that seeks: what it passes over is of no matter.
-use Rattle.std.proofs.Common.{◌≡◌, ℕ, zero, suc, ◌+◌, ◌-◌, ◌<◌, ◌≤◌, Bool, true, false, List, None, refl, sym, ap, ap₂, ◌∙◌, subst, arith, le_refl, slice_index, true≢false}
+-- What a search passes over: it is of no matter.
+use Rattle.std.proofs.Common.{◌≡◌, ℕ, ◌+◌, ◌-◌, ◌<◌, ◌≤◌, Bool, true, false, not, ◌||◌, List, length, Option, Some, None, refl, sym, ap, ◌∙◌, subst, arith, slice_index, true≢false}
 use Rattle.std.proofs.Math.Logic.{∥∥₁_elim}
 use Rattle.std.proofs.Props.{props}
 use Rattle.fancy_input.specs.declared.input.Request.{Request}
 use Rattle.fancy_input.specs.Requests.{effective_start}
+use Rattle.fancy_bytes.specs.Sets.{ByteFlags, member}
 use Rattle.fancy_code.specs.declared.code.Code.{Code}
 use Rattle.fancy_code.specs.declared.options.SearchOptions.{SearchOptions}
 use Rattle.fancy_code.specs.Compile.{IsCodeOf}
 use Rattle.fancy_code.specs.Events.{marks_in, returns_in}
 use Rattle.fancy_code.specs.Queries.{query_of}
-use Rattle.fancy_code.specs.Search.{Query, answer_at, answer_from, gone_from}
+use Rattle.fancy_code.specs.Search.{Query, answer_from, gone_from}
 use Rattle.fancy_code.specs.Seen.{IsNextCandidate}
-use Rattle.fancy_code.specs.Tried.{tried, NoneTried}
-use Rattle.fancy_code.proofs.TriedLemmas.{ArePassed, passed_over, answer_passed}
-use Rattle.fancy_machine.proofs.MachineSearch.{gone_untried}
-
--- positions that are not tried, where nothing is found, count nothing
-gone_on : (q : Query) (tries : ℕ → Bool) (d n m p r : ℕ) → n ≡ d + m → r ≡ p + d → ((k : ℕ) → p ≤ k → k < r → tries k ≡ false) → ((k : ℕ) → p ≤ k → k < r → answer_at q k ≡ None)
-    → gone_from q tries n p ≡ gone_from q tries m r
-gone_on q tries zero n m p r count to untried none =
-    let same : n ≡ m = omega arith in
-    let there : p ≡ r = omega arith in
-    ap₂ (gone_from q tries) same there
-gone_on q tries (suc d) n m p r count to untried none =
-    gone_untried q tries n (d + m) p (omega arith) (untried p (le_refl p) (omega arith)) (none p (le_refl p) (omega arith))
-    ∙ gone_on q tries d (d + m) m (p + 1) r refl (omega arith) (λ k a b. untried k (omega arith) b) (λ k a b. none k (omega arith) b)
-
--- the search goes on where it goes on trying
-gone_passed : (q : Query) (seek : Bool) (from last place : ℕ) → ArePassed q seek from last place
-    → gone_from q (tried seek q) (last + 1 - from) from ≡ gone_from q (tried seek q) (last + 1 - place) place
-gone_passed q seek from last place over =
-    gone_on q (tried seek q) (place - from) (last + 1 - from) (last + 1 - place) from place (omega (arith, over.passed, over.within)) (omega (arith, over.passed)) over.untried over.none
+use Rattle.fancy_code.specs.Tried.{may_begin, tried, NoneTried}
+use Rattle.fancy_code.proofs.SkipLemmas.{skip_none}
+use Rattle.fancy_code.proofs.TriedLemmas.{passed_over}
+use Rattle.fancy_prices.specs.Entries.{AreEntries, IsNextEntry, IsPassed}
+use Rattle.fancy_prices.specs.Prices.{CostsNothingAt, IsPriceAt}
+use Rattle.fancy_prices.proofs.SumOfPrices.{goes_past, untried_costs_nothing, priced_costs_nothing}
 
 -- The search goes on from the one place as it does from the other, which is tried, if it is one of the search.
 pub record GoesOn (q : Query) (seek : Bool) (from last place : ℕ) : Type 0 where
@@ -39,19 +26,59 @@ pub record GoesOn (q : Query) (seek : Bool) (from last place : ℕ) : Type 0 whe
   pub returns : returns_in (gone_from q (tried seek q) (last + 1 - from) from) ≡ returns_in (gone_from q (tried seek q) (last + 1 - place) place)
   pub marks : marks_in (gone_from q (tried seek q) (last + 1 - from) from) ≡ marks_in (gone_from q (tried seek q) (last + 1 - place) place)
 
+-- it does where the positions between them cost nothing
+module _ (q : Query) (seek : Bool) (from last place : ℕ) (passed : from ≤ place) (within : place ≤ last + 1) where
+  goes_on_past : (place ≤ last → tried seek q place ≡ true) → ((k : ℕ) → from ≤ k → k < place → CostsNothingAt q (tried seek q) k) → GoesOn q seek from last place
+  goes_on_past tries free =
+      let count : last + 1 - from ≡ place - from + (last + 1 - place) = omega (arith, passed, within) in
+      let to : place ≡ from + (place - from) = omega (arith, passed) in
+      let counts = goes_past q (tried seek q) (place - from) (last + 1 - from) (last + 1 - place) from place count to free in
+      record {
+        tries = tries;
+        answer = skip_none q (place - from) (last + 1 - from) (last + 1 - place) from place count to (λ k low high. (free k low high).none);
+        returns = counts.1;
+        marks = counts.0;
+      }
+
 -- what the search passes over, by its arguments
 module _ (q : Query) (code : Code) (options : SearchOptions) (haystack : List ℕ) (request : Request) (continues : Bool) (is : q ≡ query_of q.sought.pattern code options haystack request continues)
-    (some : ∥ IsCodeOf q.sought.pattern code ∥₁) (bytes : (k : ℕ) → slice_index haystack k < 256) (from last place : ℕ) (ordered : from ≤ last + 1)
-    (sought : options.seek ≡ true → IsNextCandidate code.start_bytes haystack request.range_end from last place) (each : options.seek ≡ false → place ≡ from) where
-  over : IsCodeOf q.sought.pattern code → ArePassed q options.seek from last place
-  over = passed_over q code options haystack request continues is bytes from last place ordered sought each
+    (some : ∥ IsCodeOf q.sought.pattern code ∥₁) (bytes : (k : ℕ) → slice_index haystack k < 256) (inside : request.range_end ≤ length haystack)
+    (entries : Option ByteFlags) (are : AreEntries entries code) (from last place : ℕ) (ordered : from ≤ last + 1)
+    (sought : options.seek ≡ true → IsNextCandidate code.start_bytes haystack request.range_end from last place)
+    (each : options.seek ≡ false → IsNextEntry entries haystack request.range_end from last place) where
+  -- where no attempt must be made, it costs nothing
+  price_of : IsCodeOf q.sought.pattern code → (k : ℕ) → IsPassed entries haystack request.range_end k → IsPriceAt q k 0 0
+  price_of of k = by entries are where
+    here : haystack ≡ q.haystack
+    here = sym (ap (λ (r : Query). r.haystack) is)
+
+    ends : request.range_end ≡ q.request.range_end
+    ends = sym (ap (λ (r : Query). r.request.range_end) is)
+
+    by : (o : Option ByteFlags) → AreEntries o code → IsPassed o haystack request.range_end k → IsPriceAt q k 0 0
+    by None told gone = absurd gone
+    by (Some set) told gone =
+        told q of (ap (λ (r : Query). r.sought.meaning) is) (omega (arith, inside, ends, ap length here)) k (omega (arith, gone.0, ends))
+        (subst (λ (h : List ℕ). slice_index h k < 256) here (bytes k)) (subst (λ (h : List ℕ). member set (slice_index h k) ≡ false) here gone.1)
+
+  on : IsCodeOf q.sought.pattern code → GoesOn q options.seek from last place
+  on of = by options.seek refl where
+    by : (b : Bool) → options.seek ≡ b → GoesOn q options.seek from last place
+    by true e =
+        let over = passed_over q code options haystack request continues is bytes from last place ordered sought (λ off. absurd (true≢false (sym e ∙ off))) of in
+        goes_on_past q options.seek from last place over.passed over.within over.starts
+        (λ k low high. untried_costs_nothing q (tried options.seek q) k (over.untried k low high) (over.none k low high))
+    by false e =
+        let next = each e in
+        goes_on_past q options.seek from last place next.passed next.within (λ le. ap (λ (b : Bool). not b || may_begin q place) e)
+        (λ k low high. priced_costs_nothing q (tried options.seek q) k (price_of of k (next.none k low high)))
 
   pub goes_on : GoesOn q options.seek from last place
   goes_on = record {
-    tries = λ le. ∥∥₁_elim some (hlevel props) (λ of. (over of).starts le);
-    answer = ∥∥₁_elim some (hlevel props) (λ of. answer_passed q options.seek from last place (over of));
-    returns = ∥∥₁_elim some (hlevel props) (λ of. ap returns_in (gone_passed q options.seek from last place (over of)));
-    marks = ∥∥₁_elim some (hlevel props) (λ of. ap marks_in (gone_passed q options.seek from last place (over of)));
+    tries = λ le. ∥∥₁_elim some (hlevel props) (λ of. (on of).tries le);
+    answer = ∥∥₁_elim some (hlevel props) (λ of. (on of).answer);
+    returns = ∥∥₁_elim some (hlevel props) (λ of. (on of).returns);
+    marks = ∥∥₁_elim some (hlevel props) (λ of. (on of).marks);
   }
 
 -- a position that is tried is one of them

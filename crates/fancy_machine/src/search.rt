@@ -9,6 +9,7 @@ ghost use Rattle.fancy_code.specs.Seen.{IsNextCandidate};
 ghost use Rattle.fancy_code.specs.Tried.{tried, NoneTried};
 ghost use Rattle.fancy_code.specs.Work.{steps_of, returns_of, units_of, HasRoom, IsWithin, IsSpent};
 ghost use Rattle.fancy_code.specs.Queries.{query_of, answer_with};
+ghost use Rattle.fancy_prices.specs.Entries.{AreEntries, IsNextEntry, entry_bytes};
 ghost use Rattle.fancy_machine.specs.Asked.{Serves, HeedsLimit, branches_allowed, groups_held, lines_held};
 ghost use Rattle.fancy_machine.specs.Log.{writes_allowed};
 
@@ -25,6 +26,7 @@ use fancy_code::work::Work;
 use fancy_input::input::Request;
 use fancy_input::last_lines::LastLines;
 use fancy_input::span::Span;
+use fancy_prices::entries::Entries;
 use std::alloc::Global;
 
 /// What searches work in, reused from one to the next, with the groups of the last match.
@@ -72,7 +74,8 @@ impl Cache {
 /// longest match is asked for, all returns of that attempt count.
 ///
 /// Where the options say so, it seeks: positions at which no byte stands that a match may start with are passed over, and
-/// nothing counts there. The answer is the same, and no step is taken where no position is left.
+/// nothing counts there. The answer is the same, and no step is taken where no position is left. Where it does not seek, positions
+/// are passed over at which an attempt would find nothing, and neither save a branch nor take one: `entries` tells them.
 ///
 /// Where `is_kept` says so, `cache` holds what the search before read of the line ends that close the same haystack, and they are
 /// not read again.
@@ -88,6 +91,7 @@ impl Cache {
 /// backreferences compare.
 pub fn search(
     code: &Code,
+    entries: &Entries,
     haystack: &[u8],
     request: Request,
     options: SearchOptions,
@@ -102,6 +106,7 @@ pub fn search(
     requires inside { request.range_end ≤ length haystack.now }
     requires room { HasRoom (returns_of work.old) options.backtrack_limit }
     requires kept { is_kept ≡ true → KnowsLastLines haystack.now (lines_held cache.old) }
+    requires entries { AreEntries (entry_bytes entries.now) code.now }
     ensures answer { IfOk result (λ found. answer_with (groups_held cache.new) found ≡ search q) }
     ensures kept { IfOk result (λ found. IfSome found (λ _. KnowsLastLines haystack.now (lines_held cache.new))) }
     ensures count { IfOk result (λ _. returns_of work.new ≡ returns_of work.old + returns q (tried options.seek q)) }
@@ -125,43 +130,61 @@ pub fn search(
     }
     let attempt = Attempt::new(code, haystack, request, options, continues);
     let limit = work.returns() + options.backtrack_limit;
-    let seek = options.seek;
     let range_end = request.range_end;
     let last = request.last_position();
+    let positions = Positions {
+        code,
+        entries,
+        haystack,
+        range_end,
+        seek: options.seek,
+        last,
+    };
     ready_last_lines(&mut cache.last_lines, attempt.haystack, is_kept);
-    let mut place = next_tried(code, haystack, range_end, seek, first, last);
+    let mut place = positions.next(first);
     while place <= last {
         let found = try_position(&attempt, place, range_end, limit, cache, work)?;
         if let Some(found) = found {
             return Ok(Some(found));
         }
-        place = next_tried(code, haystack, range_end, seek, place + 1, last);
+        place = positions.next(place + 1);
     }
     Ok(None)
 }
 
-/// The first position, from the one on and up to the last, that a search tries, past the last where there is none: where it
-/// seeks, one where a match may start, and else the one itself.
-#[inline]
-fn next_tried(
-    code: &Code,
-    haystack: &[u8],
+/// The positions at which a search makes an attempt.
+#[derive(Clone, Copy)]
+struct Positions<'a> {
+    code: &'a Code,
+    entries: &'a Entries,
+    haystack: &'a [u8],
+    /// Where the searched range ends.
     range_end: usize,
+    /// Whether it seeks: positions are passed over at which no match may start.
     seek: bool,
-    from: usize,
+    /// The last position.
     last: usize,
-) -> usize
-    requires ordered { from ≤ last + 1 }
-    requires last { last ≤ range_end }
-    requires inside { range_end ≤ length haystack.now }
-    ensures passed { from ≤ result }
-    ensures sought { seek ≡ true → IsNextCandidate code.now.start_bytes haystack.now range_end from last result }
-    ensures each { seek ≡ false → result ≡ from }
-{
-    if seek {
-        return next_candidate(code, haystack, range_end, from, last);
+}
+
+impl Positions<'_> {
+    /// The first of them from a position on, past the last where there is none.
+    #[inline]
+    fn next(&self, from: usize) -> usize
+        requires ordered { from ≤ self.now.last + 1 }
+        requires last { self.now.last ≤ self.now.range_end }
+        requires inside { self.now.range_end ≤ length self.now.haystack.now }
+        ensures passed { from ≤ result }
+        ensures sought { self.now.seek ≡ true
+            → IsNextCandidate self.now.code.now.start_bytes self.now.haystack.now self.now.range_end from self.now.last result }
+        ensures each { self.now.seek ≡ false
+            → IsNextEntry (entry_bytes self.now.entries.now) self.now.haystack.now self.now.range_end from self.now.last result }
+    {
+        if self.seek {
+            return next_candidate(self.code, self.haystack, self.range_end, from, self.last);
+        }
+        self.entries
+            .next(self.haystack, self.range_end, from, self.last)
     }
-    from
 }
 
 /// Makes one attempt alone, at a position from the effective start on. What is found is what [`search`] would take at this

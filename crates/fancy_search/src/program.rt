@@ -20,6 +20,7 @@ ghost use Rattle.fancy_code.specs.Search.{search};
 ghost use Rattle.fancy_automaton.specs.Futures.{ArePlain};
 ghost use Rattle.fancy_automaton.specs.Search.{KeepsPlaces};
 ghost use Rattle.fancy_bytes.specs.Lacks.{AreKnown, AreRequired};
+ghost use Rattle.fancy_prices.specs.Entries.{AreEntries, entry_bytes};
 ghost use Rattle.fancy_search.specs.Readings.{Reading, one_reading};
 ghost use Rattle.fancy_search.specs.Followed.{FollowsEach};
 ghost use Rattle.fancy_search.specs.Compiled.{IsSpelled};
@@ -42,6 +43,7 @@ use fancy_code::work::Work;
 use fancy_input::input::Request;
 use fancy_input::lines::byte_at;
 use fancy_machine::search as machine;
+use fancy_prices::entries::Entries;
 use fancy_runner::notes::KeptTable;
 use fancy_runner::search as runner;
 use fancy_syntax::parse::{Parsed, parse_with};
@@ -69,6 +71,8 @@ pub struct Program {
     plain: bool,
     /// The bytes that every haystack with a match has.
     required: RequiredBytes,
+    /// The bytes at which the machine must make an attempt.
+    entries: Entries,
     pub ghost reading: { Reading options (string_bytes text) } by { one_reading options (string_bytes text) },
     pub ghost compiled: { ∥ IsCompiled reading.0 code (names_of names) ∥₁ },
     ghost meant: { code.meaning ≡ meaning_in options },
@@ -79,6 +83,7 @@ pub struct Program {
     pub ghost limited: { ForSome options.step_limit (λ most. most < 2 ^ 64) },
     ghost starts: { has_keep_start_in_look_around reading.0 ≡ false },
     ghost needed: { AreRequired (meaning_in options) reading.0 required },
+    ghost entered: { AreEntries (entry_bytes entries) code },
     ghost whole: { keeps_characters options.bytes_mode ≡ true → has_raw_byte reading.0 ≡ false },
 }
 
@@ -92,6 +97,16 @@ fn error_of(refusal: SearchRefusal) -> Error
         SearchRefusal::Choices => Error::RuntimeError(RuntimeError::StackOverflow),
         SearchRefusal::Steps => Error::RuntimeError(RuntimeError::StepLimitExceeded),
     }
+}
+
+/// The bytes at which the machine must make an attempt. Nothing is told of the code of an easy pattern, which it does not serve.
+fn entries_of(code: &Code, easy: bool) -> Entries
+    ensures { AreEntries (entry_bytes result) code.now }
+{
+    if easy {
+        return Entries::all();
+    }
+    Entries::of(code)
 }
 
 impl Program {
@@ -127,6 +142,7 @@ impl Program {
         }
         let plain = is_worth_following(&code);
         let required = RequiredBytes::new(alloc, &tree, options.meaning())?;
+        let entries = entries_of(&code, easy);
         let text = String::from_str(alloc, pattern)?;
         Ok(Program {
             options,
@@ -136,6 +152,7 @@ impl Program {
             easy,
             plain,
             required,
+            entries,
         })
     }
 
@@ -717,7 +734,15 @@ impl Program {
         let machine = &mut cache.machine;
         let options = self.options.for_search();
         match machine::search(
-            &self.code, haystack, request, options, continues, is_kept, machine, work,
+            &self.code,
+            &self.entries,
+            haystack,
+            request,
+            options,
+            continues,
+            is_kept,
+            machine,
+            work,
         ) {
             Ok(found) => Ok(found),
             Err(refusal) => Err(error_of(refusal)),

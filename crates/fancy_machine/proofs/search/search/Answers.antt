@@ -30,13 +30,13 @@ loop-place-init g c =
     let first : effective_start g.q.request ≡ c.effective_start-first.result = ap effective_start r ∙ sym c.effective_start-first.ensures in
     let events = ap₂ (gone_from g.q (tried c.args.options.seek g.q)) tries first in
     let ordered : c.effective_start-first.result ≤ c.last_position-last.result + 1 = omega (arith, c.last_position-last.ensures.count, c.effective_start-first.ensures, positions_some c.args.request (omega (arith, c.effective_start-first.ensures))) in
-    let on = goes_on g.q c.args.code.now c.args.options c.args.haystack.now c.args.request c.args.continues c.requires.0 c.requires.1.0 (λ k. omega (arith, c.type_inv.haystack k)) c.effective_start-first.result c.last_position-last.result c.next_tried-place.result ordered c.next_tried-place.ensures.sought c.next_tried-place.ensures.each in
+    let on = goes_on g.q c.args.code.now c.args.options c.args.haystack.now c.args.request c.args.continues c.requires.0 c.requires.1.0 (λ k. omega (arith, c.type_inv.haystack k)) c.requires.1.1.0 c.args.entries.now.bytes c.requires.1.1.1.1.1 c.effective_start-first.result c.last_position-last.result c.next-place.result ordered c.next-place.ensures.sought c.next-place.ensures.each in
     record {
       left = ap₂ (answer_from g.q) tries first ∙ on.answer;
       count = omega (arith, ap returns_in events, on.returns);
       room = omega (arith, ap marks_in events, on.marks);
       tries = on.tries;
-      passed = omega (arith, c.next_tried-place.ensures.passed, c.effective_start-first.ensures);
+      passed = omega (arith, c.next-place.ensures.passed, c.effective_start-first.ensures);
       idle = λ none. refl;
       fits = omega arith;
       steps = omega arith;
@@ -48,7 +48,7 @@ loop-place-init g c =
     }
 
 pub ready_last_lines-requires : goal.ready_last_lines-requires
-ready_last_lines-requires g c kept = subst (λ (h : List ℕ). KnowsLastLines h c.args.cache.now.last_lines) (sym c.new-attempt.ensures.haystack) (c.requires.1.1.1.1 kept)
+ready_last_lines-requires g c kept = subst (λ (h : List ℕ). KnowsLastLines h c.args.cache.now.last_lines) (sym c.new-attempt.ensures.haystack) (c.requires.1.1.1.1.0 kept)
 
 pub returns-in-Some-clause-kept : goal.returns-in-Some-clause-kept
 returns-in-Some-clause-kept g c = subst (λ (h : List ℕ). KnowsLastLines h c.try_position.new.cache.last_lines) c.new-attempt.ensures.haystack c.try_position.ensures.last_lines
@@ -100,13 +100,13 @@ loop-place-preserved g c =
     let a = rw c.in_default.is at c.in_ok-found.ensures.answer in
     let counts = gone_counts g.q (tried c.args.options.seek g.q) (c.last_position-last.result + 1 - c.loop-place.place) (c.last_position-last.result + 1 - (c.loop-place.place + 1)) c.loop-place.place one (c.loop-place.invariant.tries (omega (arith, c.loop-place-test.true))) (sym a) in
     let ordered : c.loop-place.place + 1 ≤ c.last_position-last.result + 1 = omega (arith, c.loop-place-test.true) in
-    let on = goes_on g.q c.args.code.now c.args.options c.args.haystack.now c.args.request c.args.continues c.requires.0 c.requires.1.0 (λ k. omega (arith, c.type_inv.haystack k)) (c.loop-place.place + 1) c.last_position-last.result c.next_tried-place-in-loop-place.result ordered c.next_tried-place-in-loop-place.ensures.sought c.next_tried-place-in-loop-place.ensures.each in
+    let on = goes_on g.q c.args.code.now c.args.options c.args.haystack.now c.args.request c.args.continues c.requires.0 c.requires.1.0 (λ k. omega (arith, c.type_inv.haystack k)) c.requires.1.1.0 c.args.entries.now.bytes c.requires.1.1.1.1.1 (c.loop-place.place + 1) c.last_position-last.result c.next-place-in-loop-place.result ordered c.next-place-in-loop-place.ensures.sought c.next-place-in-loop-place.ensures.each in
     record {
       left = c.loop-place.invariant.left ∙ found_later g.q (c.last_position-last.result + 1 - c.loop-place.place) (c.last_position-last.result + 1 - (c.loop-place.place + 1)) c.loop-place.place one (sym a) ∙ on.answer;
       count = omega (arith, c.in_ok-found.ensures.count, counts.0, c.loop-place.invariant.count, on.returns);
       room = omega (arith, counts.1, c.loop-place.invariant.room, on.marks);
       tries = on.tries;
-      passed = omega (arith, c.next_tried-place-in-loop-place.ensures.passed, c.loop-place.invariant.passed);
+      passed = omega (arith, c.next-place-in-loop-place.ensures.passed, c.loop-place.invariant.passed);
       idle = λ none. absurd (tried_somewhere g.q c.args.options.seek c.args.request c.loop-place.place (asked_request g.q g.q.sought.pattern c.args.code.now c.args.options c.args.haystack.now c.args.request c.args.continues c.requires.0) none c.loop-place.invariant.passed (omega (arith, c.loop-place-test.true, c.last_position-last.ensures.inside)) (c.loop-place.invariant.tries (omega (arith, c.loop-place-test.true))));
       fits = omega (arith, c.returns.ensures, c.try_position.ensures.fits);
       steps = omega (arith, c.try_position.ensures.steps, c.loop-place.invariant.steps);

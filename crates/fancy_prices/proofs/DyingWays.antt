@@ -1,0 +1,213 @@
+-- What each instruction costs where the ways from it die.
+use Rattle.std.proofs.Common.{◌≡◌, ℕ, zero, suc, ◌+◌, ◌<◌, ◌≤◌, ◌==◌, Bool, true, false, List, [], ◌∷◌, length, Option, Some, None, if◌then◌else◌, nat_le, refl, sym, ap, ◌∙◌, subst, arith, slice_get, slice_index, slice_set, ne_eqb}
+use Rattle.fancy_tree.specs.declared.tree.Meaning.{Meaning}
+use Rattle.fancy_tree.specs.declared.tree.Assertion.{Assertion}
+use Rattle.fancy_tree.specs.Sets.{has}
+use Rattle.fancy_code.specs.Context.{Context, State, holds, moved_to, option_to, past_byte, past_item, units_back, with_capture}
+use Rattle.fancy_code.specs.Events.{any, ends_look}
+use Rattle.fancy_code.specs.Instructions.{Instruction, Fail, Match, Commit, Assert, Back, Character, Close, Enter, Keep, Look, Member, Open, RawByte}
+use Rattle.fancy_code.specs.Run.{Raw, Note, Stop, choice_opened, returned, fetched, Go, before, guard, fenced, onward, resume, instr_at, act, run}
+use Rattle.fancy_code.proofs.RunMore.{past_end}
+use Rattle.fancy_prices.specs.Prices.{CostsIn, Costs, Dies, IsQuietIn, Quiet, IsQuiet, BeginsNone}
+use Rattle.fancy_prices.proofs.BeginLemmas.{no_item}
+
+read : (m r : ℕ) (o : Option (List Raw)) → Costs m r o → Costs m r (before (Note fetched) o)
+read m r None h = tt
+read m r (Some w) h = h
+
+-- where a region's body dies, nothing follows
+module _ (found : Go) (wanted : State → Bool) where
+  opened : (m r : ℕ) (o : Option (List Raw)) → Costs m r o → Costs (suc m) r (before (Note choice_opened) o)
+  opened m r None h = tt
+  opened m r (Some w) h = (m, refl, h)
+
+  gone_back : (m r : ℕ) (o : Option (List Raw)) → Costs m r o → Costs m (suc r) (before (Note returned) o)
+  gone_back m r None h = tt
+  gone_back m r (Some w) h = (r, refl, h)
+
+  guard_missed : (m r : ℕ) (w : List Raw) → CostsIn m r w → Costs m r (guard found wanted (Some []) w)
+  guard_missed m r [] h = h
+  guard_missed m r (Note choice_opened ∷ w) h =
+      subst (λ (k : ℕ). Costs k r (before (Note choice_opened) (guard found wanted (Some []) w))) (sym h.1)
+      (opened h.0 r (guard found wanted (Some []) w) (guard_missed h.0 r w h.2))
+  guard_missed m r (Note returned ∷ w) h =
+      subst (λ (k : ℕ). Costs m k (before (Note returned) (guard found wanted (Some []) w))) (sym h.1)
+      (gone_back m h.0 (guard found wanted (Some []) w) (guard_missed m h.0 w h.2))
+  guard_missed m r (Note fetched ∷ w) h = read m r (guard found wanted (Some []) w) (guard_missed m r w h)
+  guard_missed m r (Stop q s v ∷ w) h = absurd h
+
+  fenced_missed : (m r : ℕ) (o : Option (List Raw)) → Costs m r o → Costs m r (fenced found wanted (Some []) o)
+  fenced_missed m r None h = tt
+  fenced_missed m r (Some w) h = guard_missed m r w h
+
+  -- where a body is quiet, and what follows dies without an event, so does the whole
+  module _ (free : (q : ℕ) (s : State) (v : List ℕ) → Costs 0 0 (found q s v)) where
+    either_free : (b : Bool) (o p : Option (List Raw)) → Costs 0 0 o → Costs 0 0 p → Costs 0 0 (if b then o else p)
+    either_free true o p f g = f
+    either_free false o p f g = g
+
+    guard_quiet : (w : List Raw) → IsQuietIn w → Costs 0 0 (guard found wanted (Some []) w)
+    guard_quiet [] h = (refl, refl)
+    guard_quiet (Note choice_opened ∷ w) h = absurd h
+    guard_quiet (Note returned ∷ w) h = absurd h
+    guard_quiet (Note fetched ∷ w) h = read 0 0 (guard found wanted (Some []) w) (guard_quiet w h)
+    guard_quiet (Stop q s v ∷ w) h = either_free (wanted s) (found q s v) (guard found wanted (Some []) w) (free q s v) (guard_quiet w h)
+
+    fenced_quiet : (o : Option (List Raw)) → Quiet o → Costs 0 0 (fenced found wanted (Some []) o)
+    fenced_quiet None h = tt
+    fenced_quiet (Some w) h = guard_quiet w h
+
+-- another byte stands there
+no_raw_byte : (x : Context) (byte here p : ℕ) → (here ≡ byte → ⊥) → slice_get x.haystack p ≡ Some here → past_byte x byte p ≡ None
+unfolding past_byte
+no_raw_byte x byte here p other stands =
+    ap (λ (o : Option ℕ). option_to o None (λ b. if b == byte then Some (p + 1) else None)) stands
+    ∙ ap (λ (b : Bool). if b then Some (p + 1) else None) (ne_eqb here byte other)
+
+module _ (code : List Instruction) (meaning : Meaning) (here : ℕ) where
+  abbrev DiesBy : ℕ → ℕ → ℕ → Instruction → Type 0
+  DiesBy m r at i =
+      (x : Context) (limit n : ℕ) (s : State) (v : List ℕ) → x.meaning ≡ meaning → slice_get x.haystack s.place ≡ Some here
+      → Costs m r (act x limit at i (run x limit code n) (run x (length x.haystack) code n) s v)
+
+  dies_by : (m r at : ℕ) (i : Instruction) → instr_at code at ≡ i → DiesBy m r at i → Dies code meaning here m r at
+  dies_by m r at i is h x limit zero s v meant stands = tt
+  dies_by m r at i is h x limit (suc n) s v meant stands =
+      read m r (act x limit at (instr_at code at) (run x limit code n) (run x (length x.haystack) code n) s v)
+      (subst (λ (j : Instruction). Costs m r (act x limit at j (run x limit code n) (run x (length x.haystack) code n) s v)) (sym is) (h x limit n s v meant stands))
+
+  pub dies_fail : (at : ℕ) → instr_at code at ≡ Fail → Dies code meaning here 0 0 at
+  dies_fail at is = dies_by 0 0 at Fail is (λ x limit n s v meant stands. (refl, refl))
+
+  pub dies_nowhere : (at : ℕ) → length code ≤ at → Dies code meaning here 0 0 at
+  dies_nowhere at le = dies_fail at (past_end code at le)
+
+  pub dies_open : (m r at group next : ℕ) → instr_at code at ≡ Open group next → Dies code meaning here m r next → Dies code meaning here m r at
+  dies_open m r at group next is h = dies_by m r at (Open group next) is (λ x limit n s v meant stands. h x limit n s (slice_set v group s.place) meant stands)
+
+  pub dies_close : (m r at group next : ℕ) → instr_at code at ≡ Close group next → Dies code meaning here m r next → Dies code meaning here m r at
+  dies_close m r at group next is h =
+      dies_by m r at (Close group next) is (λ x limit n s v meant stands. h x limit n (with_capture s group (slice_index v group)) v meant stands)
+
+  pub dies_keep : (m r at next : ℕ) → instr_at code at ≡ Keep next → Dies code meaning here m r next → Dies code meaning here m r at
+  dies_keep m r at next is h = dies_by m r at (Keep next) is (λ x limit n s v meant stands. h x limit n (record s { kept = s.place }) v meant stands)
+
+  -- a test that may hold or not: what follows dies without an event, as the test does
+  pub dies_assert : (at : ℕ) (a : Assertion) (next : ℕ) → instr_at code at ≡ Assert a next → Dies code meaning here 0 0 next → Dies code meaning here 0 0 at
+  dies_assert at a next is h =
+      dies_by 0 0 at (Assert a next) is (λ x limit n s v meant stands. by (holds x a s.place) (run x limit code n next s v) (h x limit n s v meant stands)) where
+        by : (b : Bool) (o : Option (List Raw)) → Costs 0 0 o → Costs 0 0 (if b then o else (Some []))
+        by true o g = g
+        by false o g = (refl, refl)
+
+  pub dies_enter : (m r at body : ℕ) → instr_at code at ≡ Enter body → Dies code meaning here m r body → Dies code meaning here m r at
+  dies_enter m r at body is h =
+      dies_by m r at (Enter body) is
+      (λ x limit n s v meant stands. fenced_missed (run x limit code n) any m r (run x limit code n body s v) (h x limit n s v meant stands))
+
+  -- a look-around whose body dies
+  pub dies_look : (behind : Bool) (m r at body next : ℕ) → instr_at code at ≡ Look behind body next → Dies code meaning here m r body → Dies code meaning here m r at
+  dies_look behind m r at body next is h =
+      dies_by m r at (Look behind body next) is
+      (λ x limit n s v meant stands.
+      fenced_missed (resume (run x limit code n) next s.place) (ends_look behind s.place) m r (run x (length x.haystack) code n body s v)
+      (h x (length x.haystack) n s v meant stands))
+
+  -- and one that may find something or not: what follows dies without an event, as the look-around does
+  pub dies_look_quiet : (behind : Bool) (at body next : ℕ) → instr_at code at ≡ Look behind body next → IsQuiet code body → Dies code meaning here 0 0 next → Dies code meaning here 0 0 at
+  dies_look_quiet behind at body next is quiet h =
+      dies_by 0 0 at (Look behind body next) is
+      (λ x limit n s v meant stands.
+      fenced_quiet (resume (run x limit code n) next s.place) (ends_look behind s.place) (λ q t y. h x limit n (moved_to t s.place) y meant stands)
+      (run x (length x.haystack) code n body s v) (quiet x (length x.haystack) n s v))
+
+  -- no item of the instruction begins with the byte that stands there
+  module _ (at next : ℕ) (test : ℕ → Bool) (never : BeginsNone meaning test here) where
+    none_read : (x : Context) (limit n : ℕ) (s : State) (v : List ℕ) → x.meaning ≡ meaning → slice_get x.haystack s.place ≡ Some here
+        → Costs 0 0 (onward limit (run x limit code n) next s v (past_item x test s.place))
+    none_read x limit n s v meant stands =
+        subst (λ (o : Option ℕ). Costs 0 0 (onward limit (run x limit code n) next s v o))
+        (sym (no_item x test s.place here (subst (λ (m : Meaning). BeginsNone m test here) (sym meant) never) stands)) (refl, refl)
+
+    pub dies_member : (edges : List ℕ) → instr_at code at ≡ Member edges next → test ≡ has edges → Dies code meaning here 0 0 at
+    dies_member edges is e =
+        dies_by 0 0 at (Member edges next) is
+        (λ x limit n s v meant stands.
+        subst (λ (g : ℕ → Bool). Costs 0 0 (onward limit (run x limit code n) next s v (past_item x g s.place))) e (none_read x limit n s v meant stands))
+
+  pub dies_character : (at c next : ℕ) → instr_at code at ≡ Character c next → BeginsNone meaning (λ d. d == c) here → Dies code meaning here 0 0 at
+  dies_character at c next is never = dies_by 0 0 at (Character c next) is (none_read at next (λ d. d == c) never)
+
+  pub dies_raw_byte : (at byte next : ℕ) → instr_at code at ≡ RawByte byte next → (here ≡ byte → ⊥) → Dies code meaning here 0 0 at
+  dies_raw_byte at byte next is other =
+      dies_by 0 0 at (RawByte byte next) is
+      (λ x limit n s v meant stands.
+      subst (λ (o : Option ℕ). Costs 0 0 (onward limit (run x limit code n) next s v o)) (sym (no_raw_byte x byte here s.place other stands)) (refl, refl))
+
+-- no mark and no return
+
+read_quiet : (o : Option (List Raw)) → Quiet o → Quiet (before (Note fetched) o)
+read_quiet None h = tt
+read_quiet (Some w) h = h
+
+if_quiet : (b : Bool) (o : Option (List Raw)) → Quiet o → Quiet (if b then o else (Some []))
+if_quiet true o h = h
+if_quiet false o h = tt
+
+onward_quiet : (limit : ℕ) (go : Go) (next : ℕ) (s : State) (v : List ℕ) → ((t : State) → Quiet (go next t v)) → (o : Option ℕ) → Quiet (onward limit go next s v o)
+onward_quiet limit go next s v h None = tt
+onward_quiet limit go next s v h (Some p) = if_quiet (nat_le p limit) (go next (moved_to s p) v) (h (moved_to s p))
+
+back_quiet : (go : Go) (next : ℕ) (s : State) (v : List ℕ) → ((t : State) → Quiet (go next t v)) → (o : Option ℕ) → Quiet (option_to o (Some []) (λ p. go next (moved_to s p) v))
+back_quiet go next s v h None = tt
+back_quiet go next s v h (Some p) = h (moved_to s p)
+
+module _ (code : List Instruction) where
+  abbrev QuietBy : ℕ → Instruction → Type 0
+  QuietBy at i = (x : Context) (limit n : ℕ) (s : State) (v : List ℕ) → Quiet (act x limit at i (run x limit code n) (run x (length x.haystack) code n) s v)
+
+  quiet_by : (at : ℕ) (i : Instruction) → instr_at code at ≡ i → QuietBy at i → IsQuiet code at
+  quiet_by at i is h x limit zero s v = tt
+  quiet_by at i is h x limit (suc n) s v =
+      read_quiet (act x limit at (instr_at code at) (run x limit code n) (run x (length x.haystack) code n) s v)
+      (subst (λ (j : Instruction). Quiet (act x limit at j (run x limit code n) (run x (length x.haystack) code n) s v)) (sym is) (h x limit n s v))
+
+  pub quiet_match : (at : ℕ) → instr_at code at ≡ Match → IsQuiet code at
+  quiet_match at is = quiet_by at Match is (λ x limit n s v. tt)
+
+  pub quiet_fail : (at : ℕ) → instr_at code at ≡ Fail → IsQuiet code at
+  quiet_fail at is = quiet_by at Fail is (λ x limit n s v. tt)
+
+  pub quiet_nowhere : (at : ℕ) → length code ≤ at → IsQuiet code at
+  quiet_nowhere at le = quiet_fail at (past_end code at le)
+
+  pub quiet_commit : (at next : ℕ) → instr_at code at ≡ Commit next → IsQuiet code at
+  quiet_commit at next is = quiet_by at (Commit next) is (λ x limit n s v. tt)
+
+  pub quiet_character : (at c next : ℕ) → instr_at code at ≡ Character c next → IsQuiet code next → IsQuiet code at
+  quiet_character at c next is h =
+      quiet_by at (Character c next) is
+      (λ x limit n s v. onward_quiet limit (run x limit code n) next s v (λ t. h x limit n t v) (past_item x (λ d. d == c) s.place))
+
+  pub quiet_member : (at : ℕ) (edges : List ℕ) (next : ℕ) → instr_at code at ≡ Member edges next → IsQuiet code next → IsQuiet code at
+  quiet_member at edges next is h =
+      quiet_by at (Member edges next) is
+      (λ x limit n s v. onward_quiet limit (run x limit code n) next s v (λ t. h x limit n t v) (past_item x (has edges) s.place))
+
+  pub quiet_raw_byte : (at byte next : ℕ) → instr_at code at ≡ RawByte byte next → IsQuiet code next → IsQuiet code at
+  quiet_raw_byte at byte next is h =
+      quiet_by at (RawByte byte next) is
+      (λ x limit n s v. onward_quiet limit (run x limit code n) next s v (λ t. h x limit n t v) (past_byte x byte s.place))
+
+  pub quiet_back : (at units next : ℕ) → instr_at code at ≡ Back units next → IsQuiet code next → IsQuiet code at
+  quiet_back at units next is h =
+      quiet_by at (Back units next) is (λ x limit n s v. back_quiet (run x limit code n) next s v (λ t. h x limit n t v) (units_back x units s.place))
+
+  pub quiet_assert : (at : ℕ) (a : Assertion) (next : ℕ) → instr_at code at ≡ Assert a next → IsQuiet code next → IsQuiet code at
+  quiet_assert at a next is h = quiet_by at (Assert a next) is (λ x limit n s v. if_quiet (holds x a s.place) (run x limit code n next s v) (h x limit n s v))
+
+  pub quiet_open : (at group next : ℕ) → instr_at code at ≡ Open group next → IsQuiet code next → IsQuiet code at
+  quiet_open at group next is h = quiet_by at (Open group next) is (λ x limit n s v. h x limit n s (slice_set v group s.place))
+
+  pub quiet_close : (at group next : ℕ) → instr_at code at ≡ Close group next → IsQuiet code next → IsQuiet code at
+  quiet_close at group next is h = quiet_by at (Close group next) is (λ x limit n s v. h x limit n (with_capture s group (slice_index v group)) v)

@@ -1,0 +1,6 @@
+pub mod PriceLemmas
+pub mod SumOfPrices
+pub mod BeginLemmas
+pub mod DyingWays
+pub mod EntryLemmas
+pub mod FlagLemmas

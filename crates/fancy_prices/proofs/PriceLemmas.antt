@@ -1,0 +1,84 @@
+-- Ways that die, and what they cost.
+use Rattle.std.proofs.Common.{◌≡◌, ℕ, zero, suc, ◌+◌, ◌<◌, ◌≤◌, Bool, true, false, ◌&&◌, ◌⊎◌, inl, inr, List, [], ◌∷◌, ◌++◌, length, Option, Some, None, if◌then◌else◌, refl, sym, ap, ◌∙◌, subst, arith, true≢false, filter, slice_get, slice_index, replicate}
+use Rattle.std.proofs.lemmas.List.{length-replicate}
+use Rattle.fancy_code.specs.declared.code.Code.{Code}
+use Rattle.fancy_code.specs.Code.{instrs_of}
+use Rattle.fancy_code.specs.Compile.{IsCodeOf, depth}
+use Rattle.fancy_code.specs.Context.{State}
+use Rattle.fancy_code.specs.Events.{Event, mark, return, outcome, marks_in, returns_in, outcomes_in}
+use Rattle.fancy_code.specs.Run.{Raw, Note, Stop, choice_opened, returned, fetched, erase, run}
+use Rattle.fancy_code.specs.Search.{Query, accepted, answer_at, answer_from, before_accepted, context_of, first_one, gone_from, gone_through, initial, longest_one, trace_at}
+use Rattle.fancy_code.specs.Trace.{outcomes}
+use Rattle.fancy_code.proofs.WholeCode.{program_gives}
+use Rattle.fancy_prices.specs.Prices.{CostsIn, Costs, Dies, IsPriceAt}
+
+-- without a stop there is no outcome
+costs_in : (m r : ℕ) (w : List Raw) → CostsIn m r w → (outcomes_in (erase w) ≡ []) × (marks_in (erase w) ≡ m) × (returns_in (erase w) ≡ r)
+costs_in m r [] h = (refl, sym h.0, sym h.1)
+costs_in m r (Note choice_opened ∷ w) h =
+    let c = costs_in h.0 r w h.2 in (c.0, omega (arith, c.1, h.1), c.2)
+costs_in m r (Note returned ∷ w) h =
+    let c = costs_in m h.0 w h.2 in (c.0, c.1, omega (arith, c.2, h.1))
+costs_in m r (Note fetched ∷ w) h = costs_in m r w h
+costs_in m r (Stop q s v ∷ w) h = absurd h
+
+-- events without an outcome
+none_before : (ok : State → Bool) (es : List Event) → outcomes_in es ≡ [] → before_accepted ok es ≡ es
+none_before ok [] h = refl
+none_before ok (mark ∷ es) h = ap (λ (fs : List Event). mark ∷ fs) (none_before ok es h)
+none_before ok (return ∷ es) h = ap (λ (fs : List Event). return ∷ fs) (none_before ok es h)
+none_before ok (outcome s ∷ es) h = absurd (some_none s (outcomes_in es) h) where
+  some_none : (s : State) (ss : List State) → (s ∷ ss) ≡ [] → ⊥
+  some_none s ss e = true≢false (ap is_cons e) where
+    is_cons : List State → Bool
+    is_cons [] = false
+    is_cons (t ∷ ts) = true
+
+module _ (q : Query) (p : ℕ) (none : outcomes_in (trace_at q p) ≡ []) where
+  no_answer : answer_at q p ≡ None
+  unfolding answer_at outcomes
+  no_answer = by q.sought.longest where
+    by : (b : Bool) → (if b then longest_one (filter (accepted q p) (outcomes_in (trace_at q p))) else first_one (filter (accepted q p) (outcomes_in (trace_at q p)))) ≡ None
+    by true = ap (λ (ss : List State). longest_one (filter (accepted q p) ss)) none
+    by false = ap (λ (ss : List State). first_one (filter (accepted q p) ss)) none
+
+  all_gone : gone_through q p ≡ trace_at q p
+  unfolding gone_through
+  all_gone = by q.sought.longest where
+    by : (b : Bool) → (if b then trace_at q p else before_accepted (accepted q p) (trace_at q p)) ≡ trace_at q p
+    by true = refl
+    by false = none_before (accepted q p) (trace_at q p) none
+
+-- What the code costs where it dies is what the attempt goes through.
+pub costs_counted : (q : Query) (code : Code) → IsCodeOf q.sought.pattern code → q.sought.meaning ≡ code.meaning → q.request.range_end ≤ length q.haystack
+    → (p m r : ℕ) → p ≤ q.request.range_end
+    → Costs m r (run (context_of q) q.request.range_end (instrs_of code) (depth (length q.haystack) q.sought.pattern + 1) code.start (initial q p) (replicate code.groups 0))
+    → IsPriceAt q p m r
+costs_counted q code is meant inside p m r le costs =
+    let g = program_gives (context_of q) q.request.range_end q.sought.pattern code is meant inside (initial q p) (replicate code.groups 0) le (length-replicate code.groups 0) in
+    let c = costs_in m r g.0 (subst (Costs m r) g.1 costs) in
+    let none : outcomes_in (trace_at q p) ≡ [] = ap outcomes_in (sym g.2) ∙ c.0 in
+    record {
+      none = no_answer q p none;
+      marks = ap marks_in (all_gone q p none ∙ sym g.2) ∙ c.1;
+      returns = ap returns_in (all_gone q p none ∙ sym g.2) ∙ c.2;
+    }
+
+-- What is told by the byte at p, where an attempt begins: what the code counts there is what the attempt counts.
+pub told_counted : (q : Query) (code : Code) → IsCodeOf q.sought.pattern code → q.sought.meaning ≡ code.meaning → q.request.range_end ≤ length q.haystack
+    → (here p m r : ℕ) → Dies (instrs_of code) code.meaning here m r code.start → p ≤ q.request.range_end → slice_get q.haystack p ≡ Some here → IsPriceAt q p m r
+told_counted q code is meant inside here p m r dies le stands =
+    costs_counted q code is meant inside p m r le
+    (dies (context_of q) q.request.range_end (depth (length q.haystack) q.sought.pattern + 1) (initial q p) (replicate code.groups 0) meant stands)
+
+pub returns-append : (a b : List Event) → returns_in (a ++ b) ≡ returns_in a + returns_in b
+returns-append [] b = omega arith
+returns-append (mark ∷ a) b = returns-append a b
+returns-append (return ∷ a) b = omega (arith, returns-append a b)
+returns-append (outcome s ∷ a) b = returns-append a b
+
+pub marks-append : (a b : List Event) → marks_in (a ++ b) ≡ marks_in a + marks_in b
+marks-append [] b = omega arith
+marks-append (mark ∷ a) b = omega (arith, marks-append a b)
+marks-append (return ∷ a) b = marks-append a b
+marks-append (outcome s ∷ a) b = marks-append a b

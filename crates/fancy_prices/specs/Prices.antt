@@ -1,0 +1,65 @@
+-- What code costs where all of its ways die, and what the byte at a place tells of that.
+use Rattle.std.specs.Prelude.{◌≡◌, ℕ, zero, suc, ◌+◌, ◌<◌, ◌≤◌, Bool, true, ◌&&◌, List, [], ◌∷◌, Option, Some, None, if◌then◌else◌, slice_get, slice_index}
+use Rattle.fancy_tree.specs.declared.tree.Meaning.{Meaning}
+use Rattle.fancy_bytes.specs.Items.{encoding}
+use Rattle.fancy_code.specs.Context.{Context, State}
+use Rattle.fancy_code.specs.Events.{Event, marks_in, returns_in}
+use Rattle.fancy_code.specs.Instructions.{Instruction}
+use Rattle.fancy_code.specs.Run.{Raw, Note, Stop, choice_opened, returned, fetched, run}
+use Rattle.fancy_code.specs.Search.{Query, answer_at, gone_through, is_match_boundary}
+
+-- no way stops, and there are so many marks and returns
+abbrev pub CostsIn : ℕ → ℕ → List Raw → Type 0
+CostsIn m r [] = (m ≡ 0) × (r ≡ 0)
+CostsIn m r (Note choice_opened ∷ w) = (k : ℕ) × (m ≡ suc k) × CostsIn k r w
+CostsIn m r (Note returned ∷ w) = (k : ℕ) × (r ≡ suc k) × CostsIn m k w
+CostsIn m r (Note fetched ∷ w) = CostsIn m r w
+CostsIn m r (Stop q s v ∷ w) = ⊥
+
+-- Where the events are known no way stops, and there are so many marks and returns.
+abbrev pub Costs : ℕ → ℕ → Option (List Raw) → Type 0
+Costs m r None = Unit {0}
+Costs m r (Some w) = CostsIn m r w
+
+-- ways may stop, but there is no mark and no return
+abbrev pub IsQuietIn : List Raw → Type 0
+IsQuietIn [] = Unit {0}
+IsQuietIn (Note choice_opened ∷ w) = ⊥
+IsQuietIn (Note returned ∷ w) = ⊥
+IsQuietIn (Note fetched ∷ w) = IsQuietIn w
+IsQuietIn (Stop q s v ∷ w) = IsQuietIn w
+
+-- the same where the events may be unknown
+abbrev pub Quiet : Option (List Raw) → Type 0
+Quiet None = Unit {0}
+Quiet (Some w) = IsQuietIn w
+
+-- From q on the code has no mark and no return, wherever it goes on.
+abbrev pub IsQuiet : List Instruction → ℕ → Type 0
+IsQuiet code q = (x : Context) (limit n : ℕ) (s : State) (v : List ℕ) → Quiet (run x limit code n q s v)
+
+-- From q on the code dies where this byte stands before the limit, and counts so many marks and returns, whatever else there is.
+abbrev pub Dies : List Instruction → Meaning → ℕ → ℕ → ℕ → ℕ → Type 0
+Dies code meaning here m r q =
+    (x : Context) (limit n : ℕ) (s : State) (v : List ℕ) → x.meaning ≡ meaning → slice_get x.haystack s.place ≡ Some here
+    → Costs m r (run x limit code n q s v)
+
+-- no item that passes the test begins with the byte
+abbrev pub BeginsNone : Meaning → (ℕ → Bool) → ℕ → Type 0
+BeginsNone meaning test byte = (c : ℕ) → test c ≡ true → slice_index (encoding meaning c) 0 ≡ byte → ⊥
+
+-- the attempt at p finds nothing, and goes through so many marks and returns
+pub record IsPriceAt (q : Query) (p m r : ℕ) : Type 0 where
+  pub none : answer_at q p ≡ None
+  pub marks : marks_in (gone_through q p) ≡ m
+  pub returns : returns_in (gone_through q p) ≡ r
+
+-- what an attempt at p counts, where a match may begin there and it is tried
+abbrev pub counted : Query → (ℕ → Bool) → ℕ → List Event
+counted q tries p = if is_match_boundary q.sought.on_boundaries q.haystack p && tries p then gone_through q p else []
+
+-- nothing is found at p, and what a search counts there is nothing
+pub record CostsNothingAt (q : Query) (tries : ℕ → Bool) (p : ℕ) : Type 0 where
+  pub none : answer_at q p ≡ None
+  pub marks : marks_in (counted q tries p) ≡ 0
+  pub returns : returns_in (counted q tries p) ≡ 0

@@ -1,0 +1,115 @@
+//! Where the code dies at once, by the byte that stands there: it opens no choice, and takes none back.
+
+ghost use Rattle.std.specs.Prelude.{◌≡◌, ℕ, ◌≤◌, ◌==◌, Bool, true, false};
+ghost use Rattle.fancy_tree.specs.Sets.{has};
+ghost use Rattle.fancy_code.specs.Code.{instrs_of};
+ghost use Rattle.fancy_code.specs.Instructions.{edges_in};
+ghost use Rattle.fancy_prices.specs.Prices.{BeginsNone, Dies, IsQuiet};
+
+use fancy_code::code::{Code, Instr};
+use fancy_tree::char_set::CharSet;
+use fancy_tree::tree::Meaning;
+
+/// Whether each member of a set is ASCII, by its edges.
+fn is_ascii(edges: &[u32]) -> bool
+    ensures { result ≡ true → (c : ℕ) → 128 ≤ c → has edges.now c ≡ false }
+{
+    for edge in edges {
+        if *edge > 0x80 {
+            return false;
+        }
+    }
+    edges.len() % 2 == 0
+}
+
+/// Whether an item may begin with a byte: `is_item` tells whether there is one with the byte's own number, and `is_wide` whether
+/// there is one past ASCII.
+fn may_begin(meaning: Meaning, byte: u8, is_item: bool, is_wide: bool) -> bool
+    ensures { (test : ℕ → Bool) → test byte ≡ is_item
+        → (is_wide ≡ false → (c : ℕ) → 128 ≤ c → test c ≡ false)
+        → result ≡ false → BeginsNone meaning test byte }
+{
+    match meaning {
+        Meaning::Bytes => is_item,
+        Meaning::Unicode | Meaning::AsciiText => {
+            if byte < 0x80 {
+                is_item
+            } else {
+                is_wide && byte >= 0xC0
+            }
+        }
+    }
+}
+
+/// Whether an item with this code may begin with a byte.
+fn may_begin_character(character: char, meaning: Meaning, byte: u8) -> bool
+    ensures { result ≡ false → BeginsNone meaning (λ d. d == character) byte }
+{
+    let code = character as u32;
+    may_begin(meaning, byte, byte as u32 == code, code >= 0x80)
+}
+
+/// Whether an item of a set may begin with a byte.
+fn may_begin_member(set: &CharSet, meaning: Meaning, byte: u8) -> bool
+    ensures { result ≡ false → BeginsNone meaning (has (edges_in set.now)) byte }
+{
+    let is_item = set.contains(byte as u32);
+    may_begin(meaning, byte, is_item, !is_ascii(set.edges()))
+}
+
+/// Whether the code from an instruction on opens no choice and takes none back, whatever stands there. It is not told where the code
+/// is not followed so deep.
+#[cycle(quiet)]
+fn is_quiet(code: &Code, at: usize, deep: usize) -> bool
+    ensures { result ≡ true → IsQuiet (instrs_of code.now) at }
+{
+    if at >= code.len() {
+        return true;
+    }
+    if deep == 0 {
+        return false;
+    }
+    let deep = deep - 1;
+    match code.instr(at) {
+        Instr::Match | Instr::Fail | Instr::Commit(_) => true,
+        Instr::Character(_, next) | Instr::Member(_, next) | Instr::RawByte(_, next) => {
+            is_quiet(code, *next, deep)
+        }
+        Instr::Assert(_, next) | Instr::Open(_, next) | Instr::Close(_, next) => {
+            is_quiet(code, *next, deep)
+        }
+        Instr::Back(_, next) => is_quiet(code, *next, deep),
+        _ => false,
+    }
+}
+
+/// Whether the code from an instruction on dies where this byte stands, opens no choice and takes none back. It is not told where the
+/// code is not followed so deep.
+#[cycle(free)]
+pub(crate) fn is_free(code: &Code, at: usize, byte: u8, deep: usize) -> bool
+    ensures { result ≡ true → Dies (instrs_of code.now) code.now.meaning byte 0 0 at }
+{
+    if at >= code.len() {
+        return true;
+    }
+    if deep == 0 {
+        return false;
+    }
+    let deep = deep - 1;
+    match code.instr(at) {
+        Instr::Fail => true,
+        Instr::Character(character, _) => !may_begin_character(*character, code.meaning, byte),
+        Instr::Member(set, _) => !may_begin_member(code.set(*set), code.meaning, byte),
+        Instr::RawByte(raw, _) => *raw != byte,
+        Instr::Assert(_, next) | Instr::Open(_, next) | Instr::Close(_, next) => {
+            is_free(code, *next, byte, deep)
+        }
+        Instr::Keep(next) => is_free(code, *next, byte, deep),
+        Instr::Enter(body) => is_free(code, *body, byte, deep),
+        Instr::Look(_, body, next) => {
+            is_free(code, *body, byte, deep)
+                || (is_quiet(code, *body, deep) && is_free(code, *next, byte, deep))
+        }
+        _ => false,
+    }
+}
