@@ -1,5 +1,5 @@
 -- What each member of a set leaves of the limits of work, and what of it the whole search leaves.
-use Rattle.std.proofs.Common.{◌≡◌, ◌+◌, ◌<◌, ◌≤◌, ℕ, true, List, Result, Ok, Err, Option, Some, None, refl, sym, ◌∙◌, ap, subst, arith, slice_get}
+use Rattle.std.proofs.Common.{◌≡◌, ◌<◌, ◌≤◌, ℕ, true, List, Result, Ok, Err, Option, Some, None, refl, sym, ◌∙◌, ap, subst, arith, slice_get}
 use Rattle.std.specs.Prelude.{IsErrAnd}
 use Rattle.std.proofs.lemmas.Option.{slice_get_within, get_or_from_slice_get}
 use Rattle.std.specs.Option.{ForSome}
@@ -10,7 +10,7 @@ use Rattle.fancy_code.specs.Work.{steps_of, units_of, work_of, IsSpent, IsWithin
 use Rattle.fancy_core.specs.declared.regex.Regex.{Regex}
 use Rattle.fancy_core.specs.Regexes.{easy_in, step_limit_in}
 use Rattle.fancy_search.specs.SearchCounts.{IsOutOfSteps}
-use Rattle.fancy_regex.specs.SetCounts.{AreAllEasy, most_steps_of_all}
+use Rattle.fancy_regex.specs.SetCounts.{most_steps_of_all}
 use Rattle.fancy_regex.specs.SetLimits.{AllowAllSteps, CountNoUnits, HeedLimits, IsSpentForOne, ShareLimit}
 use Rattle.fancy_regex.specs.declared.set.trials.Trials.{Trials}
 use Rattle.fancy_regex.proofs.SetCountLemmas.{easy_at}

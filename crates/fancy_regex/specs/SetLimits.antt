@@ -1,5 +1,5 @@
 -- What a limit of work bounds in a set: all that its members do together.
-use Rattle.std.specs.Prelude.{◌≡◌, ◌≤◌, ◌<◌, ℕ, All, List, Option, Some, slice_get}
+use Rattle.std.specs.Prelude.{◌≡◌, ◌≤◌, ◌<◌, ℕ, All, List, Some, slice_get}
 use Rattle.std.specs.Option.{ForSome}
 use Rattle.fancy_input.specs.declared.input.Request.{Request}
 use Rattle.fancy_code.specs.declared.work.Work.{Work}

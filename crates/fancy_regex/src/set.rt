@@ -81,7 +81,8 @@ impl RegexSet {
         Ok(RegexSet::from_regexes(members))
     }
 
-    /// The set of these regexes, in their order. Each keeps its own options and limits, and no memory is taken.
+    /// The set of these regexes, in their order. Each keeps its own options and limits, and no memory is taken. What all of them do in
+    /// a search counts for the [`RegexOptionsBuilder::step_limit`] of each.
     ///
     /// ```text
     /// let mut members = Vec::new(alloc);

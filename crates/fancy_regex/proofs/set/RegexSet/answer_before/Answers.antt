@@ -64,3 +64,9 @@ returns-in-Some-answer_of-clause-limit g c most all before = c.answer_of.ensures
 
 pub returns-in-Some-answer_of-clause-units : goal.returns-in-Some-answer_of-clause-units
 returns-in-Some-answer_of-clause-units g c easy = c.answer_of.ensures.units easy ∙ c.members.invariant.units easy
+
+pub returns-in-Some-answer_of-clause-limited : goal.returns-in-Some-answer_of-clause-limited
+returns-in-Some-answer_of-clause-limited g c = c.in-Some-answer_of.ensures.limited
+
+pub returns-in-Some-answer_of-clause-grows : goal.returns-in-Some-answer_of-clause-grows
+returns-in-Some-answer_of-clause-grows g c = let more = c.answer_of.ensures.grows in omega (arith, more, c.members.invariant.grows)

@@ -39,3 +39,15 @@ loop-position-init g c = record {
   units = λ easy. refl;
   passed = search rules;
 }
+
+pub returns-in-Some-clause-limit : goal.returns-in-Some-clause-limit
+returns-in-Some-clause-limit g c most all before = c.answer_before.ensures.limit most all (c.loop-position.invariant.limit most all before)
+
+pub returns-in-Some-clause-limited : goal.returns-in-Some-clause-limited
+returns-in-Some-clause-limited g c = c.in-Some.ensures.limited
+
+pub returns-in-Some-clause-units : goal.returns-in-Some-clause-units
+returns-in-Some-clause-units g c easy = c.answer_before.ensures.units easy ∙ c.loop-position.invariant.units easy
+
+pub returns-in-Some-clause-grows : goal.returns-in-Some-clause-grows
+returns-in-Some-clause-grows g c = let more = c.answer_before.ensures.grows in omega (arith, more, c.loop-position.invariant.grows)

@@ -89,3 +89,6 @@ returns-in_err-found-clause-limited c out =
       is = slice_get_read s.members.items _ c.in-Some.index c.index.result.now refl c.in-Some.ensures.inside c.index.ensures;
       spent = c.find.ensures.limited (passed_on c.from_residual.result _ c.from_residual.ensures.1 out c.find.result c.in_err-found.was);
     }
+
+pub returns-in_err-found-clause-grows : goal.returns-in_err-found-clause-grows
+returns-in_err-found-clause-grows c = let more = c.find.ensures.grows in omega (arith, more, c.members.invariant.grows)
