@@ -10,7 +10,7 @@ use Rattle.fancy_code.specs.Work.{steps_of}
 use Rattle.fancy_code.specs.declared.found.Found.{Found}
 use Rattle.fancy_runner.specs.declared.notes.KeptTable.{KeptTable}
 use Rattle.fancy_code.specs.declared.work.Work.{Work}
-use Rattle.fancy_automaton.specs.Cells.{IsWithin}
+use Rattle.fancy_automaton.specs.Cells.{IsBounded}
 use Rattle.fancy_automaton.specs.Remembered.{Remembers}
 use Rattle.fancy_machine.specs.Asked.{lines_held}
 use Rattle.fancy_search.specs.declared.cache.AttemptNotes.{AttemptNotes}
@@ -79,7 +79,7 @@ notes_again program place notes = taken_again notes.kept program.code place
 
 -- The steps that the automaton remembers are of the program's code.
 abbrev pub KeepsSteps : Program → Cache → Type 0
-KeepsSteps program cache = Remembers cache.cells program.code × IsWithin cache.cells
+KeepsSteps program cache = Remembers cache.cells program.code × IsBounded cache.cells
 
 -- What the machine read of the last lines is true of the haystack.
 abbrev pub KeepsLines : List ℕ → Cache → Type 0

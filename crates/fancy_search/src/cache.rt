@@ -1,7 +1,7 @@
 //! What searches work in, by whichever engine.
 
 ghost use Rattle.std.specs.Prelude.{◌≡◌, ℕ, List, [], None, true, slice_index_or};
-ghost use Rattle.fancy_automaton.specs.Cells.{IsWithin};
+ghost use Rattle.fancy_automaton.specs.Cells.{IsBounded};
 ghost use Rattle.fancy_automaton.specs.Remembered.{Remembers};
 ghost use Rattle.fancy_code.specs.declared.code.Code.{Code};
 ghost use Rattle.fancy_code.specs.Work.{steps_of, returns_of, units_of};
@@ -200,8 +200,8 @@ impl Cache {
 
     /// Makes the automaton's steps ready: those of the searches before, where they are kept, and else none.
     pub(crate) fn ready_steps(&mut self, are_kept: bool)
-        requires within { are_kept ≡ true → IsWithin self.old.cells }
-        ensures within { IsWithin self.new.cells }
+        requires within { are_kept ≡ true → IsBounded self.old.cells }
+        ensures within { IsBounded self.new.cells }
         ensures all { (code : Code) → (are_kept ≡ true → Remembers self.old.cells code) → Remembers self.new.cells code }
         ensures others { self.new ≡ record self.old { cells = self.new.cells; read_past = self.new.read_past } }
     {

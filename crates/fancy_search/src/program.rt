@@ -21,6 +21,7 @@ ghost use Rattle.fancy_automaton.specs.Futures.{ArePlain};
 ghost use Rattle.fancy_automaton.specs.Search.{KeepsPlaces};
 ghost use Rattle.fancy_bytes.specs.Lacks.{AreKnown, AreRequired};
 ghost use Rattle.fancy_prices.specs.Entries.{AreEntries, entry_bytes};
+ghost use Rattle.fancy_search.specs.Entered.{entered_once};
 ghost use Rattle.fancy_search.specs.Readings.{Reading, one_reading};
 ghost use Rattle.fancy_search.specs.Followed.{FollowsEach};
 ghost use Rattle.fancy_search.specs.Compiled.{IsSpelled};
@@ -83,7 +84,7 @@ pub struct Program {
     pub ghost limited: { ForSome options.step_limit (λ most. most < 2 ^ 64) },
     ghost starts: { has_keep_start_in_look_around reading.0 ≡ false },
     ghost needed: { AreRequired (meaning_in options) reading.0 required },
-    ghost entered: { AreEntries (entry_bytes entries) code },
+    ghost entered: { AreEntries (entry_bytes entries) code } by { entered_once (entry_bytes entries) code },
     ghost whole: { keeps_characters options.bytes_mode ≡ true → has_raw_byte reading.0 ≡ false },
 }
 
