@@ -1,9 +1,10 @@
 use Rattle.std.proofs.Common.{refl, subst, arith}
+use Rattle.std.proofs.lemmas.Result.{err_from_is_err_and}
 use Rattle.fancy_input.specs.Inputs.{haystack_in, request_in}
 use Rattle.fancy_regex.specs.Sets.{asked_of_set}
 use Rattle.fancy_regex.specs.SetAnswers.{IsFirstOfSet}
 use Rattle.fancy_regex.proofs.SetLimitLemmas.{none_spent, passed_on, spent_for_one_as}
-use Rattle.fancy_regex.proofs.SetLemmas.{stands_first, has_all_left, stands_not_nowhere}
+use Rattle.fancy_regex.proofs.SetLemmas.{stands_first, has_all_left, set_refused, stands_not_nowhere}
 use Rattle.fancy_regex.proofs.set.RegexSet.find_input_counted.Goals as goal
 
 pub returns-clause-none : goal.returns-clause-none
@@ -42,6 +43,13 @@ pub returns-in_err-captures-clause-limit : goal.returns-in_err-captures-clause-l
 returns-in_err-captures-clause-limit g c most all =
     let done = c.first_answer-first.ensures.limit most all (omega (arith, c.new-trials.ensures.steps, c.new-trials.ensures.units)) in
     omega (arith, done, c.add.ensures.alone (omega (arith, c.reset.ensures.steps, c.reset.ensures.units)))
+
+pub returns-in_err-captures-clause-refused : goal.returns-in_err-captures-clause-refused
+returns-in_err-captures-clause-refused g c =
+    let q = asked_of_set c.args.self.now g.S.Haystack.bytes c.args.input in
+    let first = subst (IsFirstOfSet q (haystack_in c.args.input) c.in-Some.position c.in-Some.first.index) c.in_err-captures.was c.in-Some.ensures.first in
+    let e = err_from_is_err_and c.from_residual.result c.from_residual.ensures.1 in
+    rw (e.1, e.2) (set_refused q (haystack_in c.args.input) c.in-Some.position c.in-Some.first.index _ first)
 
 pub returns-in_err-captures-clause-spent : goal.returns-in_err-captures-clause-spent
 returns-in_err-captures-clause-spent g c out =
