@@ -16,8 +16,8 @@ ghost use Rattle.fancy_regex.specs.TokenLists.{IsUnmatched, IsRefusedByMember, t
 ghost use Rattle.fancy_regex.specs.Trials.{AreNotedFrom};
 ghost use Rattle.fancy_regex.specs.Tokens.{found_by_member, KeepLimits, KeepsLimitAt};
 
-use crate::set::{RegexSet, RegexSetMatch};
 use crate::set::trials::Trials;
+use crate::set::{RegexSet, RegexSetMatch};
 use crate::tokens::token::Token;
 use fancy_code::found::Found;
 use fancy_core::attempt::captures_found;
