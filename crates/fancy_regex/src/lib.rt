@@ -29,7 +29,7 @@ pub use escapes::escape;
 pub use fancy_bytes::byte_set::ByteSet;
 pub use fancy_bytes::members::Members;
 pub use fancy_code::work::Work;
-pub use fancy_code::{byte_laws as byte_laws, laws as meaning_laws};
+pub use fancy_code::{byte_laws, laws as meaning_laws};
 pub use fancy_core::captures::{Captures, SubCaptureMatches};
 pub use fancy_core::iter::{CaptureMatches, Matches};
 pub use fancy_core::names::CaptureNames;
