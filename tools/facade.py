@@ -18,7 +18,7 @@ LANGUAGE = set(
     "Self Item Result Option String Vec Global CowStr Range AllocError AllocFailed FnMut Drop Sized Copy Formatter Write".split()
 )
 
-REEXPORT = re.compile(r"^pub use (\w+)(?:::([\w:]+))?::(?:\{([^}]*)\}|(\w+))(?: as (\w+))?;", re.M)
+REEXPORT = re.compile(r"^pub use (\w+)(?:::[\w:]+)?::(?:\{([^}]*)\}|(\w+(?: as \w+)?));", re.M)
 GHOST_USE = re.compile(r"ghost use (Rattle\.fancy_\w+\.specs\.[\w.]+?)\.\{([^}]*)\};")
 OWNER = re.compile(r"^(?:impl\b|pub trait \w+)")
 FUNCTION = re.compile(r"^(\s*)(pub )?(?:final )?fn (\w+)")
@@ -28,12 +28,14 @@ GHOST = re.compile(r"^\s*ghost (?!use)(\w+)")
 def re_exports():
     """The names that `fancy_regex` has, each with its crate, and the files whose public functions it has as laws."""
     names, laws = {}, [FACADE / "src/laws.rt"]
-    for root, _, several, single, other in REEXPORT.findall((FACADE / "src/lib.rt").read_text()):
+    for root, several, single in REEXPORT.findall((FACADE / "src/lib.rt").read_text()):
         crate = root if (CRATES / root).is_dir() else FACADE.name
-        if other:
-            laws.append(CRATES / crate / "src" / f"{single}.rt")
-        else:
-            names |= {name.strip(): crate for name in (several or single).split(",")}
+        for name in (one.partition(" as ")[0].strip() for one in (several or single).split(",")):
+            module = CRATES / crate / "src" / f"{name}.rt"
+            if module.exists():
+                laws.append(module)
+            else:
+                names[name] = crate
     return names, laws
 
 
