@@ -1,6 +1,6 @@
 use Rattle.std.proofs.Common.{arith, rules, refl, ◌≡◌, Some, Ok}
 use Rattle.fancy_search.proofs.KeptTablesLemmas.{keeps_nothing, keeps_on}
-use Rattle.fancy_search_tests.proofs.lists.steps_of_list.Goals as goal
+use Rattle.fancy_list_tests.proofs.lists.steps_of_list.Goals as goal
 
 pub matches-preserved : goal.matches-preserved
 matches-preserved g c =
