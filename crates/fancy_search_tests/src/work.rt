@@ -349,12 +349,14 @@ const NOT_CROWDED: &[CountRow] = &[
 ];
 
 /// Searches by each engine, and the units that they go over: a look-behind of two characters goes two back at each place where it is
-/// tried, also where the text's start is passed, and a backreference compares the bytes of its group's text.
+/// tried, also where the text's start is passed, and a backreference compares the bytes of its group's text. Where no `c` stands
+/// `(?<=ab)c` is not tried.
 const WORKS: &[WorkRow] = &[
     (CHARACTERS, "a|ab", "xab", Some((1, 2)), 0),
     (CHARACTERS, "(?:a|b|ab)*bc", "abababac", None, 0),
     (CHARACTERS, "(?:(a)|b)*c", "ababc", Some((0, 5)), 0),
-    (CHARACTERS, "(?<=ab)c", "abc", Some((2, 3)), 6),
+    (CHARACTERS, "(?<=ab)[a-c]", "abc", Some((2, 3)), 6),
+    (CHARACTERS, "(?<=ab)c", "abc", Some((2, 3)), 2),
     (SEEKING, "(?<=ab)c", "abc", Some((2, 3)), 2),
     (CHARACTERS, "(ab)\\1", "abab", Some((0, 4)), 2),
     (CHARACTERS, "(?i)(ab)\\1", "abAB", Some((0, 4)), 2),
