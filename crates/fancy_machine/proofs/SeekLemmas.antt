@@ -1,10 +1,10 @@
 -- What a search passes over: it is of no matter.
-use Rattle.std.proofs.Common.{◌≡◌, ℕ, ◌+◌, ◌-◌, ◌<◌, ◌≤◌, Bool, true, false, not, ◌||◌, List, length, Option, Some, None, refl, sym, ap, ◌∙◌, subst, arith, slice_index, true≢false}
+use Rattle.std.proofs.Common.{◌≡◌, ℕ, ◌+◌, ◌-◌, ◌<◌, ◌≤◌, Bool, true, false, not, ◌||◌, List, length, refl, sym, ap, ◌∙◌, subst, arith, slice_index, true≢false}
 use Rattle.std.proofs.Math.Logic.{∥∥₁_elim}
 use Rattle.std.proofs.Props.{props}
 use Rattle.fancy_input.specs.declared.input.Request.{Request}
 use Rattle.fancy_input.specs.Requests.{effective_start}
-use Rattle.fancy_bytes.specs.Sets.{ByteFlags, member}
+use Rattle.fancy_input.specs.Lines.{byte_before}
 use Rattle.fancy_code.specs.declared.code.Code.{Code}
 use Rattle.fancy_code.specs.declared.options.SearchOptions.{SearchOptions}
 use Rattle.fancy_code.specs.Compile.{IsCodeOf}
@@ -15,7 +15,7 @@ use Rattle.fancy_code.specs.Seen.{IsNextCandidate}
 use Rattle.fancy_code.specs.Tried.{may_begin, tried, NoneTried}
 use Rattle.fancy_code.proofs.SkipLemmas.{skip_none}
 use Rattle.fancy_code.proofs.TriedLemmas.{passed_over}
-use Rattle.fancy_prices.specs.Entries.{AreEntries, IsNextEntry, IsPassed}
+use Rattle.fancy_prices.specs.Entries.{AreEntries, EntryTest, IsNextEntry, IsPassed}
 use Rattle.fancy_prices.specs.Prices.{CostsNothingAt, IsPriceAt}
 use Rattle.fancy_prices.proofs.SumOfPrices.{goes_past, untried_costs_nothing, priced_costs_nothing}
 
@@ -43,23 +43,20 @@ module _ (q : Query) (seek : Bool) (from last place : ℕ) (passed : from ≤ pl
 -- what the search passes over, by its arguments
 module _ (q : Query) (code : Code) (options : SearchOptions) (haystack : List ℕ) (request : Request) (continues : Bool) (is : q ≡ query_of q.sought.pattern code options haystack request continues)
     (some : ∥ IsCodeOf q.sought.pattern code ∥₁) (bytes : (k : ℕ) → slice_index haystack k < 256) (inside : request.range_end ≤ length haystack)
-    (entries : Option ByteFlags) (are : AreEntries entries code) (from last place : ℕ) (ordered : from ≤ last + 1)
+    (entry : EntryTest) (are : AreEntries entry code) (from last place : ℕ) (ordered : from ≤ last + 1)
     (sought : options.seek ≡ true → IsNextCandidate code.start_bytes haystack request.range_end from last place)
-    (each : options.seek ≡ false → IsNextEntry entries haystack request.range_end from last place) where
+    (each : options.seek ≡ false → IsNextEntry entry haystack request.range_end from last place) where
   -- where no attempt must be made, it costs nothing
-  price_of : IsCodeOf q.sought.pattern code → (k : ℕ) → IsPassed entries haystack request.range_end k → IsPriceAt q k 0 0
-  price_of of k = by entries are where
-    here : haystack ≡ q.haystack
-    here = sym (ap (λ (r : Query). r.haystack) is)
+  price_of : IsCodeOf q.sought.pattern code → (k : ℕ) → IsPassed entry haystack request.range_end k → IsPriceAt q k 0 0
+  price_of of k passed =
+      are q of (ap (λ (r : Query). r.sought.meaning) is) (omega (arith, inside, ends, ap length here)) (λ p. subst (λ (h : List ℕ). slice_index h p < 256) here (bytes p))
+      k (omega (arith, passed.0, ends)) (subst (λ (h : List ℕ). entry (byte_before h k) (slice_index h k) ≡ false) here passed.1)
+    where
+      here : haystack ≡ q.haystack
+      here = sym (ap (λ (r : Query). r.haystack) is)
 
-    ends : request.range_end ≡ q.request.range_end
-    ends = sym (ap (λ (r : Query). r.request.range_end) is)
-
-    by : (o : Option ByteFlags) → AreEntries o code → IsPassed o haystack request.range_end k → IsPriceAt q k 0 0
-    by None told gone = absurd gone
-    by (Some set) told gone =
-        told q of (ap (λ (r : Query). r.sought.meaning) is) (omega (arith, inside, ends, ap length here)) k (omega (arith, gone.0, ends))
-        (subst (λ (h : List ℕ). slice_index h k < 256) here (bytes k)) (subst (λ (h : List ℕ). member set (slice_index h k) ≡ false) here gone.1)
+      ends : request.range_end ≡ q.request.range_end
+      ends = sym (ap (λ (r : Query). r.request.range_end) is)
 
   on : IsCodeOf q.sought.pattern code → GoesOn q options.seek from last place
   on of = by options.seek refl where

@@ -9,7 +9,7 @@ ghost use Rattle.fancy_code.specs.Seen.{IsNextCandidate};
 ghost use Rattle.fancy_code.specs.Tried.{tried, NoneTried};
 ghost use Rattle.fancy_code.specs.Work.{steps_of, returns_of, units_of, HasRoom, IsWithin, IsSpent};
 ghost use Rattle.fancy_code.specs.Queries.{query_of, answer_with};
-ghost use Rattle.fancy_prices.specs.Entries.{AreEntries, IsNextEntry, entry_bytes};
+ghost use Rattle.fancy_prices.specs.Entries.{AreEntries, IsNextEntry, is_entry};
 ghost use Rattle.fancy_machine.specs.Asked.{Serves, HeedsLimit, branches_allowed, groups_held, lines_held};
 ghost use Rattle.fancy_machine.specs.Log.{writes_allowed};
 
@@ -106,7 +106,7 @@ pub fn search(
     requires inside { request.range_end ≤ length haystack.now }
     requires room { HasRoom (returns_of work.old) options.backtrack_limit }
     requires kept { is_kept ≡ true → KnowsLastLines haystack.now (lines_held cache.old) }
-    requires entries { AreEntries (entry_bytes entries.now) code.now }
+    requires entries { AreEntries (is_entry entries.now) code.now }
     ensures answer { IfOk result (λ found. answer_with (groups_held cache.new) found ≡ search q) }
     ensures kept { IfOk result (λ found. IfSome found (λ _. KnowsLastLines haystack.now (lines_held cache.new))) }
     ensures count { IfOk result (λ _. returns_of work.new ≡ returns_of work.old + returns q (tried options.seek q)) }
@@ -177,7 +177,7 @@ impl Positions<'_> {
         ensures sought { self.now.seek ≡ true
             → IsNextCandidate self.now.code.now.start_bytes self.now.haystack.now self.now.range_end from self.now.last result }
         ensures each { self.now.seek ≡ false
-            → IsNextEntry (entry_bytes self.now.entries.now) self.now.haystack.now self.now.range_end from self.now.last result }
+            → IsNextEntry (is_entry self.now.entries.now) self.now.haystack.now self.now.range_end from self.now.last result }
     {
         if self.seek {
             return next_candidate(self.code, self.haystack, self.range_end, from, self.last);

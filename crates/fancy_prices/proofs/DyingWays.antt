@@ -1,5 +1,5 @@
 -- What each instruction costs where the ways from it die.
-use Rattle.std.proofs.Common.{◌≡◌, ℕ, zero, suc, ◌+◌, ◌<◌, ◌≤◌, ◌==◌, Bool, true, false, List, [], ◌∷◌, length, Option, Some, None, if◌then◌else◌, nat_le, refl, sym, ap, ◌∙◌, subst, arith, slice_get, slice_index, slice_set, ne_eqb}
+use Rattle.std.proofs.Common.{◌≡◌, ℕ, zero, suc, ◌+◌, ◌≤◌, ◌==◌, Bool, true, false, List, [], ◌∷◌, length, Option, Some, None, if◌then◌else◌, nat_le, refl, sym, ap, ◌∙◌, subst, slice_get, slice_index, slice_set, ne_eqb, true≢false}
 use Rattle.fancy_tree.specs.declared.tree.Meaning.{Meaning}
 use Rattle.fancy_tree.specs.declared.tree.Assertion.{Assertion}
 use Rattle.fancy_tree.specs.Sets.{has}
@@ -8,6 +8,9 @@ use Rattle.fancy_code.specs.Events.{any, ends_look}
 use Rattle.fancy_code.specs.Instructions.{Instruction, Fail, Match, Commit, Assert, Back, Character, Close, Enter, Keep, Look, Member, Open, RawByte}
 use Rattle.fancy_code.specs.Run.{Raw, Note, Stop, choice_opened, returned, fetched, Go, before, guard, fenced, onward, resume, instr_at, act, run}
 use Rattle.fancy_code.proofs.RunMore.{past_end}
+use Rattle.fancy_prices.specs.declared.facts.Before.{Before}
+use Rattle.fancy_prices.specs.declared.facts.Facts.{Facts}
+use Rattle.fancy_prices.specs.Facts.{FailsWith, Stands}
 use Rattle.fancy_prices.specs.Prices.{CostsIn, Costs, Dies, IsQuietIn, Quiet, IsQuiet, BeginsNone}
 use Rattle.fancy_prices.proofs.BeginLemmas.{no_item}
 
@@ -64,49 +67,57 @@ no_raw_byte x byte here p other stands =
     ap (λ (o : Option ℕ). option_to o None (λ b. if b == byte then Some (p + 1) else None)) stands
     ∙ ap (λ (b : Bool). if b then Some (p + 1) else None) (ne_eqb here byte other)
 
-module _ (code : List Instruction) (meaning : Meaning) (here : ℕ) where
+module _ (code : List Instruction) (meaning : Meaning) (f : Facts) where
   abbrev DiesBy : ℕ → ℕ → ℕ → Instruction → Type 0
   DiesBy m r at i =
-      (x : Context) (limit n : ℕ) (s : State) (v : List ℕ) → x.meaning ≡ meaning → slice_get x.haystack s.place ≡ Some here
+      (x : Context) (limit n : ℕ) (s : State) (v : List ℕ) → x.meaning ≡ meaning → Stands f x.haystack s.place
       → Costs m r (act x limit at i (run x limit code n) (run x (length x.haystack) code n) s v)
 
-  dies_by : (m r at : ℕ) (i : Instruction) → instr_at code at ≡ i → DiesBy m r at i → Dies code meaning here m r at
+  dies_by : (m r at : ℕ) (i : Instruction) → instr_at code at ≡ i → DiesBy m r at i → Dies code meaning f m r at
   dies_by m r at i is h x limit zero s v meant stands = tt
   dies_by m r at i is h x limit (suc n) s v meant stands =
       read m r (act x limit at (instr_at code at) (run x limit code n) (run x (length x.haystack) code n) s v)
       (subst (λ (j : Instruction). Costs m r (act x limit at j (run x limit code n) (run x (length x.haystack) code n) s v)) (sym is) (h x limit n s v meant stands))
 
-  pub dies_fail : (at : ℕ) → instr_at code at ≡ Fail → Dies code meaning here 0 0 at
+  pub dies_fail : (at : ℕ) → instr_at code at ≡ Fail → Dies code meaning f 0 0 at
   dies_fail at is = dies_by 0 0 at Fail is (λ x limit n s v meant stands. (refl, refl))
 
-  pub dies_nowhere : (at : ℕ) → length code ≤ at → Dies code meaning here 0 0 at
+  pub dies_nowhere : (at : ℕ) → length code ≤ at → Dies code meaning f 0 0 at
   dies_nowhere at le = dies_fail at (past_end code at le)
 
-  pub dies_open : (m r at group next : ℕ) → instr_at code at ≡ Open group next → Dies code meaning here m r next → Dies code meaning here m r at
+  pub dies_open : (m r at group next : ℕ) → instr_at code at ≡ Open group next → Dies code meaning f m r next → Dies code meaning f m r at
   dies_open m r at group next is h = dies_by m r at (Open group next) is (λ x limit n s v meant stands. h x limit n s (slice_set v group s.place) meant stands)
 
-  pub dies_close : (m r at group next : ℕ) → instr_at code at ≡ Close group next → Dies code meaning here m r next → Dies code meaning here m r at
+  pub dies_close : (m r at group next : ℕ) → instr_at code at ≡ Close group next → Dies code meaning f m r next → Dies code meaning f m r at
   dies_close m r at group next is h =
       dies_by m r at (Close group next) is (λ x limit n s v meant stands. h x limit n (with_capture s group (slice_index v group)) v meant stands)
 
-  pub dies_keep : (m r at next : ℕ) → instr_at code at ≡ Keep next → Dies code meaning here m r next → Dies code meaning here m r at
+  pub dies_keep : (m r at next : ℕ) → instr_at code at ≡ Keep next → Dies code meaning f m r next → Dies code meaning f m r at
   dies_keep m r at next is h = dies_by m r at (Keep next) is (λ x limit n s v meant stands. h x limit n (record s { kept = s.place }) v meant stands)
 
   -- a test that may hold or not: what follows dies without an event, as the test does
-  pub dies_assert : (at : ℕ) (a : Assertion) (next : ℕ) → instr_at code at ≡ Assert a next → Dies code meaning here 0 0 next → Dies code meaning here 0 0 at
+  pub dies_assert : (at : ℕ) (a : Assertion) (next : ℕ) → instr_at code at ≡ Assert a next → Dies code meaning f 0 0 next → Dies code meaning f 0 0 at
   dies_assert at a next is h =
       dies_by 0 0 at (Assert a next) is (λ x limit n s v meant stands. by (holds x a s.place) (run x limit code n next s v) (h x limit n s v meant stands)) where
         by : (b : Bool) (o : Option (List Raw)) → Costs 0 0 o → Costs 0 0 (if b then o else (Some []))
         by true o g = g
         by false o g = (refl, refl)
 
-  pub dies_enter : (m r at body : ℕ) → instr_at code at ≡ Enter body → Dies code meaning here m r body → Dies code meaning here m r at
+  -- a test that fails
+  pub dies_failed : (at : ℕ) (a : Assertion) (next : ℕ) → instr_at code at ≡ Assert a next → FailsWith a f → Dies code meaning f 0 0 at
+  dies_failed at a next is fails =
+      dies_by 0 0 at (Assert a next) is (λ x limit n s v meant stands. by (holds x a s.place) (run x limit code n next s v) (fails x s.place stands)) where
+        by : (b : Bool) (o : Option (List Raw)) → b ≡ false → Costs 0 0 (if b then o else (Some []))
+        by true o e = absurd (true≢false e)
+        by false o e = (refl, refl)
+
+  pub dies_enter : (m r at body : ℕ) → instr_at code at ≡ Enter body → Dies code meaning f m r body → Dies code meaning f m r at
   dies_enter m r at body is h =
       dies_by m r at (Enter body) is
       (λ x limit n s v meant stands. fenced_missed (run x limit code n) any m r (run x limit code n body s v) (h x limit n s v meant stands))
 
   -- a look-around whose body dies
-  pub dies_look : (behind : Bool) (m r at body next : ℕ) → instr_at code at ≡ Look behind body next → Dies code meaning here m r body → Dies code meaning here m r at
+  pub dies_look : (behind : Bool) (m r at body next : ℕ) → instr_at code at ≡ Look behind body next → Dies code meaning f m r body → Dies code meaning f m r at
   dies_look behind m r at body next is h =
       dies_by m r at (Look behind body next) is
       (λ x limit n s v meant stands.
@@ -114,7 +125,7 @@ module _ (code : List Instruction) (meaning : Meaning) (here : ℕ) where
       (h x (length x.haystack) n s v meant stands))
 
   -- and one that may find something or not: what follows dies without an event, as the look-around does
-  pub dies_look_quiet : (behind : Bool) (at body next : ℕ) → instr_at code at ≡ Look behind body next → IsQuiet code body → Dies code meaning here 0 0 next → Dies code meaning here 0 0 at
+  pub dies_look_quiet : (behind : Bool) (at body next : ℕ) → instr_at code at ≡ Look behind body next → IsQuiet code body → Dies code meaning f 0 0 next → Dies code meaning f 0 0 at
   dies_look_quiet behind at body next is quiet h =
       dies_by 0 0 at (Look behind body next) is
       (λ x limit n s v meant stands.
@@ -122,27 +133,27 @@ module _ (code : List Instruction) (meaning : Meaning) (here : ℕ) where
       (run x (length x.haystack) code n body s v) (quiet x (length x.haystack) n s v))
 
   -- no item of the instruction begins with the byte that stands there
-  module _ (at next : ℕ) (test : ℕ → Bool) (never : BeginsNone meaning test here) where
-    none_read : (x : Context) (limit n : ℕ) (s : State) (v : List ℕ) → x.meaning ≡ meaning → slice_get x.haystack s.place ≡ Some here
+  module _ (at next : ℕ) (test : ℕ → Bool) (never : BeginsNone meaning test f.here) where
+    none_read : (x : Context) (limit n : ℕ) (s : State) (v : List ℕ) → x.meaning ≡ meaning → Stands f x.haystack s.place
         → Costs 0 0 (onward limit (run x limit code n) next s v (past_item x test s.place))
     none_read x limit n s v meant stands =
         subst (λ (o : Option ℕ). Costs 0 0 (onward limit (run x limit code n) next s v o))
-        (sym (no_item x test s.place here (subst (λ (m : Meaning). BeginsNone m test here) (sym meant) never) stands)) (refl, refl)
+        (sym (no_item x test s.place f.here (subst (λ (m : Meaning). BeginsNone m test f.here) (sym meant) never) stands.here)) (refl, refl)
 
-    pub dies_member : (edges : List ℕ) → instr_at code at ≡ Member edges next → test ≡ has edges → Dies code meaning here 0 0 at
+    pub dies_member : (edges : List ℕ) → instr_at code at ≡ Member edges next → test ≡ has edges → Dies code meaning f 0 0 at
     dies_member edges is e =
         dies_by 0 0 at (Member edges next) is
         (λ x limit n s v meant stands.
         subst (λ (g : ℕ → Bool). Costs 0 0 (onward limit (run x limit code n) next s v (past_item x g s.place))) e (none_read x limit n s v meant stands))
 
-  pub dies_character : (at c next : ℕ) → instr_at code at ≡ Character c next → BeginsNone meaning (λ d. d == c) here → Dies code meaning here 0 0 at
+  pub dies_character : (at c next : ℕ) → instr_at code at ≡ Character c next → BeginsNone meaning (λ d. d == c) f.here → Dies code meaning f 0 0 at
   dies_character at c next is never = dies_by 0 0 at (Character c next) is (none_read at next (λ d. d == c) never)
 
-  pub dies_raw_byte : (at byte next : ℕ) → instr_at code at ≡ RawByte byte next → (here ≡ byte → ⊥) → Dies code meaning here 0 0 at
+  pub dies_raw_byte : (at byte next : ℕ) → instr_at code at ≡ RawByte byte next → (f.here ≡ byte → ⊥) → Dies code meaning f 0 0 at
   dies_raw_byte at byte next is other =
       dies_by 0 0 at (RawByte byte next) is
       (λ x limit n s v meant stands.
-      subst (λ (o : Option ℕ). Costs 0 0 (onward limit (run x limit code n) next s v o)) (sym (no_raw_byte x byte here s.place other stands)) (refl, refl))
+      subst (λ (o : Option ℕ). Costs 0 0 (onward limit (run x limit code n) next s v o)) (sym (no_raw_byte x byte f.here s.place other stands.here)) (refl, refl))
 
 -- no mark and no return
 
@@ -211,3 +222,8 @@ module _ (code : List Instruction) where
 
   pub quiet_close : (at group next : ℕ) → instr_at code at ≡ Close group next → IsQuiet code next → IsQuiet code at
   quiet_close at group next is h = quiet_by at (Close group next) is (λ x limit n s v. h x limit n (with_capture s group (slice_index v group)) v)
+
+-- what dies by less that is told dies by more
+pub dies_told : (code : List Instruction) (meaning : Meaning) (here : ℕ) (before : Option Before) (m r at : ℕ) → Dies code meaning (record { here = here; before = None }) m r at
+    → Dies code meaning (record { here = here; before = before }) m r at
+dies_told code meaning here before m r at dies x limit n s v meant stands = dies x limit n s v meant (record { here = stands.here; before = tt })

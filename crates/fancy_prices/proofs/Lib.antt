@@ -4,3 +4,4 @@ pub mod BeginLemmas
 pub mod DyingWays
 pub mod EntryLemmas
 pub mod FlagLemmas
+pub mod FactLemmas

@@ -1,5 +1,5 @@
 -- Ways that die, and what they cost.
-use Rattle.std.proofs.Common.{◌≡◌, ℕ, zero, suc, ◌+◌, ◌<◌, ◌≤◌, Bool, true, false, ◌&&◌, ◌⊎◌, inl, inr, List, [], ◌∷◌, ◌++◌, length, Option, Some, None, if◌then◌else◌, refl, sym, ap, ◌∙◌, subst, arith, true≢false, filter, slice_get, slice_index, replicate}
+use Rattle.std.proofs.Common.{◌≡◌, ℕ, ◌+◌, ◌≤◌, Bool, true, false, List, [], ◌∷◌, ◌++◌, length, None, if◌then◌else◌, refl, sym, ap, ◌∙◌, subst, arith, true≢false, filter, replicate}
 use Rattle.std.proofs.lemmas.List.{length-replicate}
 use Rattle.fancy_code.specs.declared.code.Code.{Code}
 use Rattle.fancy_code.specs.Code.{instrs_of}
@@ -7,9 +7,11 @@ use Rattle.fancy_code.specs.Compile.{IsCodeOf, depth}
 use Rattle.fancy_code.specs.Context.{State}
 use Rattle.fancy_code.specs.Events.{Event, mark, return, outcome, marks_in, returns_in, outcomes_in}
 use Rattle.fancy_code.specs.Run.{Raw, Note, Stop, choice_opened, returned, fetched, erase, run}
-use Rattle.fancy_code.specs.Search.{Query, accepted, answer_at, answer_from, before_accepted, context_of, first_one, gone_from, gone_through, initial, longest_one, trace_at}
+use Rattle.fancy_code.specs.Search.{Query, accepted, answer_at, before_accepted, context_of, first_one, gone_through, initial, longest_one, trace_at}
 use Rattle.fancy_code.specs.Trace.{outcomes}
 use Rattle.fancy_code.proofs.WholeCode.{program_gives}
+use Rattle.fancy_prices.specs.declared.facts.Facts.{Facts}
+use Rattle.fancy_prices.specs.Facts.{Stands}
 use Rattle.fancy_prices.specs.Prices.{CostsIn, Costs, Dies, IsPriceAt}
 
 -- without a stop there is no outcome
@@ -64,10 +66,10 @@ costs_counted q code is meant inside p m r le costs =
       returns = ap returns_in (all_gone q p none ∙ sym g.2) ∙ c.2;
     }
 
--- What is told by the byte at p, where an attempt begins: what the code counts there is what the attempt counts.
+-- What is told of p, where an attempt begins: what the code counts there is what the attempt counts.
 pub told_counted : (q : Query) (code : Code) → IsCodeOf q.sought.pattern code → q.sought.meaning ≡ code.meaning → q.request.range_end ≤ length q.haystack
-    → (here p m r : ℕ) → Dies (instrs_of code) code.meaning here m r code.start → p ≤ q.request.range_end → slice_get q.haystack p ≡ Some here → IsPriceAt q p m r
-told_counted q code is meant inside here p m r dies le stands =
+    → (f : Facts) (p m r : ℕ) → Dies (instrs_of code) code.meaning f m r code.start → p ≤ q.request.range_end → Stands f q.haystack p → IsPriceAt q p m r
+told_counted q code is meant inside f p m r dies le stands =
     costs_counted q code is meant inside p m r le
     (dies (context_of q) q.request.range_end (depth (length q.haystack) q.sought.pattern + 1) (initial q p) (replicate code.groups 0) meant stands)
 

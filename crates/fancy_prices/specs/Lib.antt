@@ -1,2 +1,3 @@
+pub mod Facts
 pub mod Prices
 pub mod Entries

@@ -1,11 +1,13 @@
--- What code costs where all of its ways die, and what the byte at a place tells of that.
-use Rattle.std.specs.Prelude.{◌≡◌, ℕ, zero, suc, ◌+◌, ◌<◌, ◌≤◌, Bool, true, ◌&&◌, List, [], ◌∷◌, Option, Some, None, if◌then◌else◌, slice_get, slice_index}
+-- What code costs where all of its ways die, and what is told of a place tells of that.
+use Rattle.std.specs.Prelude.{◌≡◌, ℕ, suc, Bool, true, ◌&&◌, List, [], ◌∷◌, Option, Some, None, if◌then◌else◌, slice_index}
 use Rattle.fancy_tree.specs.declared.tree.Meaning.{Meaning}
 use Rattle.fancy_bytes.specs.Items.{encoding}
 use Rattle.fancy_code.specs.Context.{Context, State}
 use Rattle.fancy_code.specs.Events.{Event, marks_in, returns_in}
 use Rattle.fancy_code.specs.Instructions.{Instruction}
 use Rattle.fancy_code.specs.Run.{Raw, Note, Stop, choice_opened, returned, fetched, run}
+use Rattle.fancy_prices.specs.declared.facts.Facts.{Facts}
+use Rattle.fancy_prices.specs.Facts.{Stands}
 use Rattle.fancy_code.specs.Search.{Query, answer_at, gone_through, is_match_boundary}
 
 -- no way stops, and there are so many marks and returns
@@ -38,10 +40,10 @@ Quiet (Some w) = IsQuietIn w
 abbrev pub IsQuiet : List Instruction → ℕ → Type 0
 IsQuiet code q = (x : Context) (limit n : ℕ) (s : State) (v : List ℕ) → Quiet (run x limit code n q s v)
 
--- From q on the code dies where this byte stands before the limit, and counts so many marks and returns, whatever else there is.
-abbrev pub Dies : List Instruction → Meaning → ℕ → ℕ → ℕ → ℕ → Type 0
-Dies code meaning here m r q =
-    (x : Context) (limit n : ℕ) (s : State) (v : List ℕ) → x.meaning ≡ meaning → slice_get x.haystack s.place ≡ Some here
+-- From q on the code dies where the facts hold, and counts so many marks and returns, whatever else there is.
+abbrev pub Dies : List Instruction → Meaning → Facts → ℕ → ℕ → ℕ → Type 0
+Dies code meaning f m r q =
+    (x : Context) (limit n : ℕ) (s : State) (v : List ℕ) → x.meaning ≡ meaning → Stands f x.haystack s.place
     → Costs m r (run x limit code n q s v)
 
 -- no item that passes the test begins with the byte

@@ -1,12 +1,14 @@
 //! The positions at which a search must enter the code: at each other one an attempt finds nothing, and costs nothing.
 
-ghost use Rattle.std.specs.Prelude.{◌≡◌, ℕ, ◌+◌, ◌<◌, ◌≤◌, ◌==◌, Bool, true, false, length};
+ghost use Rattle.std.specs.Prelude.{◌≡◌, ℕ, ◌+◌, ◌<◌, ◌≤◌, ◌==◌, Bool, true, false, not, Some, length, slice_index, bit_and};
+ghost use Rattle.fancy_input.specs.Lines.{byte_before};
 ghost use Rattle.fancy_code.specs.declared.code.Code.{Code};
-ghost use Rattle.fancy_code.specs.Code.{instrs_of};
-ghost use Rattle.fancy_bytes.specs.Sets.{ByteFlags, member};
-ghost use Rattle.fancy_prices.specs.Prices.{Dies};
-ghost use Rattle.fancy_prices.specs.Entries.{AreEntries, IsNextEntry, entry_bytes};
+ghost use Rattle.fancy_bytes.specs.Sets.{member};
+ghost use Rattle.fancy_prices.specs.declared.facts.Before.{Before};
+ghost use Rattle.fancy_prices.specs.Facts.{IsOfKind, bit_of};
+ghost use Rattle.fancy_prices.specs.Entries.{AreEntries, HasKind, IsNextEntry, TellsAfter, TellsKinds, is_after, is_entry};
 
+use crate::facts::{Before, Facts};
 use crate::free::is_free;
 use fancy_bytes::byte_set::ByteSet;
 use fancy_bytes::scan::Scan;
@@ -15,51 +17,134 @@ use fancy_code::code::Code;
 /// How many instructions are followed one after another.
 const DEPTH: usize = 48;
 
-/// The bytes at which an attempt must be made. Where another byte stands, within the searched range, an attempt finds nothing, and
-/// it opens no choice and takes none back.
+/// The positions at which an attempt must be made, told by the byte there and what stands before it. At each other one within the
+/// searched range an attempt finds nothing, and it opens no choice and takes none back.
 ///
 /// ```text
-/// Entries::of(&code)    // of the code of "(?>a+)b": the byte a
-/// Entries::of(&code)    // of the code of "a|b": any byte, since each attempt opens a choice
+/// Entries::of(&code)    // of the code of "(?>a+)b": where the byte a stands
+/// Entries::of(&code)    // of the code of "\b(?>a+)b": where the byte a stands after no ASCII letter
+/// Entries::of(&code)    // of the code of "a|b": any position, since each attempt opens a choice
 /// ```
 #[derive(Drop)]
 pub struct Entries {
-    // none where any byte is one
-    bytes: Option<Scan>,
+    // none where any position is one
+    told: Option<Told>,
 }
 
-/// The bytes at which an attempt with the code may cost something, or find a match.
-fn costly_bytes(code: &Code) -> ByteSet
-    ensures { (b : ℕ) → b < 256 → member result b ≡ false
-        → Dies (instrs_of code.now) code.now.meaning b 0 0 code.now.start }
+/// The bytes at which an attempt must be made, and after what.
+#[derive(Drop)]
+struct Told {
+    /// Those at which it must be made after something.
+    bytes: Scan,
+    /// After what, for each byte: the bits of the kinds.
+    after: [u8; 256],
+    /// The bit of the kind of each byte.
+    kinds: [u8; 256],
+}
+
+/// The bit of this kind where an attempt at the byte may cost something after it, or find a match; else no bit.
+fn costly_after(code: &Code, here: u8, kind: Before) -> u8
+    ensures { TellsAfter code.now here result kind }
+{
+    let facts = Facts {
+        here,
+        before: Some(kind),
+    };
+    if is_free(code, code.start, facts, DEPTH) {
+        return 0;
+    }
+    kind.bit()
+}
+
+/// The bits of the kinds after which an attempt at the byte may cost something, or find a match.
+fn costly_kinds(code: &Code, here: u8) -> u8
+    ensures { TellsKinds code.now here result }
+{
+    let facts = Facts { here, before: None };
+    if is_free(code, code.start, facts, DEPTH) {
+        return 0;
+    }
+    let at_start = costly_after(code, here, Before::Nothing);
+    let line_feed = costly_after(code, here, Before::LineFeed);
+    let carriage_return = costly_after(code, here, Before::CarriageReturn);
+    let word = costly_after(code, here, Before::Word);
+    let other = costly_after(code, here, Before::Other);
+    let wide = costly_after(code, here, Before::Wide);
+    at_start | line_feed | carriage_return | word | other | wide
+}
+
+/// The same for each byte.
+fn costly_kinds_of_each(code: &Code) -> [u8; 256]
+    ensures { (b : ℕ) → b < 256 → TellsKinds code.now b (slice_index result b) }
+{
+    let mut kinds = [0; 256];
+    for byte in 0..256u32 {
+        kinds[byte as usize] = costly_kinds(code, byte as u8);
+    }
+    kinds
+}
+
+/// The bit of the kind of each byte.
+fn kind_of_each() -> [u8; 256]
+    ensures { (b : ℕ) → b < 256 → HasKind (slice_index result b) (Some b) }
+{
+    let mut kinds = [0; 256];
+    for byte in 0..256u32 {
+        kinds[byte as usize] = Before::of(byte as u8).bit();
+    }
+    kinds
+}
+
+/// The bytes that have a bit.
+fn bytes_with_some(after: &[u8; 256]) -> ByteSet
+    ensures { (b : ℕ) → b < 256 → member result b ≡ false → slice_index after.now b ≡ 0 }
 {
     let mut bytes = ByteSet::new();
     for byte in 0..256u32 {
-        if !is_free(code, code.start, byte as u8, DEPTH) {
+        if after[byte as usize] != 0 {
             bytes.insert(byte as u8);
         }
     }
     bytes
 }
 
-impl Entries {
-    /// Any byte: nothing is told of the code.
-    pub fn all() -> Entries
-        ensures { (code : Code) → AreEntries (entry_bytes result) code }
+impl Told {
+    /// Whether an attempt must be made at a place where one of the bytes stands.
+    #[inline]
+    fn is_after(&self, haystack: &[u8], place: usize) -> bool
+        requires { place < length haystack.now }
+        ensures { result ≡ is_after self.now.after self.now.kinds (byte_before haystack.now place) (slice_index haystack.now place) }
     {
-        Entries { bytes: None }
+        let kind = if place == 0 {
+            Before::Nothing.bit()
+        } else {
+            self.kinds[haystack[place - 1] as usize]
+        };
+        self.after[haystack[place] as usize] & kind != 0
+    }
+}
+
+impl Entries {
+    /// Any position: nothing is told of the code.
+    pub fn all() -> Entries
+        ensures { (code : Code) → AreEntries (is_entry result) code }
+    {
+        Entries { told: None }
     }
 
     /// Those of an attempt with this code.
     pub fn of(code: &Code) -> Entries
-        ensures { AreEntries (entry_bytes result) code.now }
+        ensures { AreEntries (is_entry result) code.now }
     {
-        let bytes = costly_bytes(code);
-        if bytes.len() == 256 {
-            return Entries { bytes: None };
-        }
+        let after = costly_kinds_of_each(code);
+        let bytes = bytes_with_some(&after);
+        let kinds = kind_of_each();
         Entries {
-            bytes: Some(Scan::new(bytes)),
+            told: Some(Told {
+                bytes: Scan::new(bytes),
+                after,
+                kinds,
+            }),
         }
     }
 
@@ -70,18 +155,22 @@ impl Entries {
         requires ordered { from ≤ last + 1 }
         requires last { last ≤ range_end }
         requires inside { range_end ≤ length haystack.now }
-        ensures { IsNextEntry (entry_bytes self.now) haystack.now range_end from last result }
+        ensures { IsNextEntry (is_entry self.now) haystack.now range_end from last result }
     {
-        let Some(scan) = &self.bytes else {
+        let Some(told) = &self.told else {
             return from;
         };
         let end = (last + 1).min(range_end);
-        if from > end {
-            return from;
+        let mut place = from;
+        while place < end {
+            let Some(seen) = told.bytes.next_seen(haystack, place, end) else {
+                return end;
+            };
+            if told.is_after(haystack, seen) {
+                return seen;
+            }
+            place = seen + 1;
         }
-        match scan.next_seen(haystack, from, end) {
-            Some(place) => place,
-            None => end,
-        }
+        place
     }
 }

@@ -1,4 +1,4 @@
-//! Where the code dies at once, by the byte that stands there: it opens no choice, and takes none back.
+//! Where the code dies at once, by what is told of a position: it opens no choice, and takes none back.
 
 ghost use Rattle.std.specs.Prelude.{◌≡◌, ℕ, ◌≤◌, ◌==◌, Bool, true, false};
 ghost use Rattle.fancy_tree.specs.Sets.{has};
@@ -6,6 +6,7 @@ ghost use Rattle.fancy_code.specs.Code.{instrs_of};
 ghost use Rattle.fancy_code.specs.Instructions.{edges_in};
 ghost use Rattle.fancy_prices.specs.Prices.{BeginsNone, Dies, IsQuiet};
 
+use crate::facts::Facts;
 use fancy_code::code::{Code, Instr};
 use fancy_tree::char_set::CharSet;
 use fancy_tree::tree::Meaning;
@@ -83,11 +84,11 @@ fn is_quiet(code: &Code, at: usize, deep: usize) -> bool
     }
 }
 
-/// Whether the code from an instruction on dies where this byte stands, opens no choice and takes none back. It is not told where the
+/// Whether the code from an instruction on dies where the facts hold, opens no choice and takes none back. It is not told where the
 /// code is not followed so deep.
 #[cycle(free)]
-pub(crate) fn is_free(code: &Code, at: usize, byte: u8, deep: usize) -> bool
-    ensures { result ≡ true → Dies (instrs_of code.now) code.now.meaning byte 0 0 at }
+pub(crate) fn is_free(code: &Code, at: usize, facts: Facts, deep: usize) -> bool
+    ensures { result ≡ true → Dies (instrs_of code.now) code.now.meaning facts 0 0 at }
 {
     if at >= code.len() {
         return true;
@@ -98,17 +99,22 @@ pub(crate) fn is_free(code: &Code, at: usize, byte: u8, deep: usize) -> bool
     let deep = deep - 1;
     match code.instr(at) {
         Instr::Fail => true,
-        Instr::Character(character, _) => !may_begin_character(*character, code.meaning, byte),
-        Instr::Member(set, _) => !may_begin_member(code.set(*set), code.meaning, byte),
-        Instr::RawByte(raw, _) => *raw != byte,
-        Instr::Assert(_, next) | Instr::Open(_, next) | Instr::Close(_, next) => {
-            is_free(code, *next, byte, deep)
+        Instr::Character(character, _) => !may_begin_character(
+            *character,
+            code.meaning,
+            facts.here,
+        ),
+        Instr::Member(set, _) => !may_begin_member(code.set(*set), code.meaning, facts.here),
+        Instr::RawByte(raw, _) => *raw != facts.here,
+        Instr::Assert(assertion, next) => {
+            facts.fails(*assertion) || is_free(code, *next, facts, deep)
         }
-        Instr::Keep(next) => is_free(code, *next, byte, deep),
-        Instr::Enter(body) => is_free(code, *body, byte, deep),
+        Instr::Open(_, next) | Instr::Close(_, next) => { is_free(code, *next, facts, deep) }
+        Instr::Keep(next) => is_free(code, *next, facts, deep),
+        Instr::Enter(body) => is_free(code, *body, facts, deep),
         Instr::Look(_, body, next) => {
-            is_free(code, *body, byte, deep)
-                || (is_quiet(code, *body, deep) && is_free(code, *next, byte, deep))
+            is_free(code, *body, facts, deep)
+                || (is_quiet(code, *body, deep) && is_free(code, *next, facts, deep))
         }
         _ => false,
     }

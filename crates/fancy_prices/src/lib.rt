@@ -1,5 +1,6 @@
-//! What attempts with hard code cost where they die, told by the byte that stands at a position.
+//! What attempts with hard code cost where they die, told by the byte that stands at a position and what stands before it.
 #![tactic(auto)]
 
 pub mod entries;
+mod facts;
 mod free;

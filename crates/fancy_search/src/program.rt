@@ -20,7 +20,7 @@ ghost use Rattle.fancy_code.specs.Search.{search};
 ghost use Rattle.fancy_automaton.specs.Futures.{ArePlain};
 ghost use Rattle.fancy_automaton.specs.Search.{KeepsPlaces};
 ghost use Rattle.fancy_bytes.specs.Lacks.{AreKnown, AreRequired};
-ghost use Rattle.fancy_prices.specs.Entries.{AreEntries, entry_bytes};
+ghost use Rattle.fancy_prices.specs.Entries.{AreEntries, is_entry};
 ghost use Rattle.fancy_search.specs.Entered.{entered_once};
 ghost use Rattle.fancy_search.specs.Readings.{Reading, one_reading};
 ghost use Rattle.fancy_search.specs.Followed.{FollowsEach};
@@ -72,7 +72,7 @@ pub struct Program {
     plain: bool,
     /// The bytes that every haystack with a match has.
     required: RequiredBytes,
-    /// The bytes at which the machine must make an attempt.
+    /// The positions at which the machine must make an attempt.
     entries: Entries,
     pub ghost reading: { Reading options (string_bytes text) } by { one_reading options (string_bytes text) },
     pub ghost compiled: { ∥ IsCompiled reading.0 code (names_of names) ∥₁ },
@@ -84,7 +84,7 @@ pub struct Program {
     pub ghost limited: { ForSome options.step_limit (λ most. most < 2 ^ 64) },
     ghost starts: { has_keep_start_in_look_around reading.0 ≡ false },
     ghost needed: { AreRequired (meaning_in options) reading.0 required },
-    ghost entered: { AreEntries (entry_bytes entries) code } by { entered_once (entry_bytes entries) code },
+    ghost entered: { AreEntries (is_entry entries) code } by { entered_once (is_entry entries) code },
     ghost whole: { keeps_characters options.bytes_mode ≡ true → has_raw_byte reading.0 ≡ false },
 }
 
@@ -100,9 +100,9 @@ fn error_of(refusal: SearchRefusal) -> Error
     }
 }
 
-/// The bytes at which the machine must make an attempt. Nothing is told of the code of an easy pattern, which it does not serve.
+/// The positions at which the machine must make an attempt. Nothing is told of the code of an easy pattern, which it does not serve.
 fn entries_of(code: &Code, easy: bool) -> Entries
-    ensures { AreEntries (entry_bytes result) code.now }
+    ensures { AreEntries (is_entry result) code.now }
 {
     if easy {
         return Entries::all();

@@ -9,6 +9,7 @@ use Rattle.fancy_code.proofs.AttemptLemmas.{found_here, found_later}
 use Rattle.fancy_code.proofs.PositionLemmas.{search_over, positions_none, positions_some}
 use Rattle.fancy_code.specs.Tried.{tried}
 use Rattle.fancy_machine.proofs.MachineSearch.{asked_request, is_asked, gone_hit, gone_more, gone_counts, gone_over}
+use Rattle.fancy_prices.specs.Entries.{is_entry}
 use Rattle.fancy_machine.proofs.SeekLemmas.{goes_on, tried_somewhere}
 use Rattle.fancy_machine.proofs.RefusalLemmas.{passed_on}
 use Rattle.fancy_machine.proofs.search.search.Goals as goal
@@ -30,7 +31,7 @@ loop-place-init g c =
     let first : effective_start g.q.request ≡ c.effective_start-first.result = ap effective_start r ∙ sym c.effective_start-first.ensures in
     let events = ap₂ (gone_from g.q (tried c.args.options.seek g.q)) tries first in
     let ordered : c.effective_start-first.result ≤ c.last_position-last.result + 1 = omega (arith, c.last_position-last.ensures.count, c.effective_start-first.ensures, positions_some c.args.request (omega (arith, c.effective_start-first.ensures))) in
-    let on = goes_on g.q c.args.code.now c.args.options c.args.haystack.now c.args.request c.args.continues c.requires.0 c.requires.1.0 (λ k. omega (arith, c.type_inv.haystack k)) c.requires.1.1.0 c.args.entries.now.bytes c.requires.1.1.1.1.1 c.effective_start-first.result c.last_position-last.result c.next-place.result ordered c.next-place.ensures.sought c.next-place.ensures.each in
+    let on = goes_on g.q c.args.code.now c.args.options c.args.haystack.now c.args.request c.args.continues c.requires.0 c.requires.1.0 (λ k. omega (arith, c.type_inv.haystack k)) c.requires.1.1.0 (is_entry c.args.entries.now) c.requires.1.1.1.1.1 c.effective_start-first.result c.last_position-last.result c.next-place.result ordered c.next-place.ensures.sought c.next-place.ensures.each in
     record {
       left = ap₂ (answer_from g.q) tries first ∙ on.answer;
       count = omega (arith, ap returns_in events, on.returns);
@@ -100,7 +101,7 @@ loop-place-preserved g c =
     let a = rw c.in_default.is at c.in_ok-found.ensures.answer in
     let counts = gone_counts g.q (tried c.args.options.seek g.q) (c.last_position-last.result + 1 - c.loop-place.place) (c.last_position-last.result + 1 - (c.loop-place.place + 1)) c.loop-place.place one (c.loop-place.invariant.tries (omega (arith, c.loop-place-test.true))) (sym a) in
     let ordered : c.loop-place.place + 1 ≤ c.last_position-last.result + 1 = omega (arith, c.loop-place-test.true) in
-    let on = goes_on g.q c.args.code.now c.args.options c.args.haystack.now c.args.request c.args.continues c.requires.0 c.requires.1.0 (λ k. omega (arith, c.type_inv.haystack k)) c.requires.1.1.0 c.args.entries.now.bytes c.requires.1.1.1.1.1 (c.loop-place.place + 1) c.last_position-last.result c.next-place-in-loop-place.result ordered c.next-place-in-loop-place.ensures.sought c.next-place-in-loop-place.ensures.each in
+    let on = goes_on g.q c.args.code.now c.args.options c.args.haystack.now c.args.request c.args.continues c.requires.0 c.requires.1.0 (λ k. omega (arith, c.type_inv.haystack k)) c.requires.1.1.0 (is_entry c.args.entries.now) c.requires.1.1.1.1.1 (c.loop-place.place + 1) c.last_position-last.result c.next-place-in-loop-place.result ordered c.next-place-in-loop-place.ensures.sought c.next-place-in-loop-place.ensures.each in
     record {
       left = c.loop-place.invariant.left ∙ found_later g.q (c.last_position-last.result + 1 - c.loop-place.place) (c.last_position-last.result + 1 - (c.loop-place.place + 1)) c.loop-place.place one (sym a) ∙ on.answer;
       count = omega (arith, c.in_ok-found.ensures.count, counts.0, c.loop-place.invariant.count, on.returns);

@@ -1,0 +1,33 @@
+use Rattle.std.proofs.Common.{◌≡◌, Some}
+use Rattle.std.specs.Prelude.{bit_and}
+use Rattle.fancy_code.specs.Code.{instrs_of}
+use Rattle.fancy_prices.specs.declared.facts.Before.{Before}
+use Rattle.fancy_prices.specs.declared.facts.Before.TheVariants.{Nothing, LineFeed, CarriageReturn, Word, Other, Wide}
+use Rattle.fancy_prices.specs.Facts.{bit_of}
+use Rattle.fancy_prices.specs.Prices.{Dies}
+use Rattle.fancy_prices.proofs.DyingWays.{dies_told}
+use Rattle.fancy_prices.proofs.EntryLemmas.{lacks}
+use Rattle.fancy_prices.proofs.entries.costly_kinds.Goals as goal
+
+pub returns-then-is_free : goal.returns-then-is_free
+returns-then-is_free c kind e =
+    dies_told (instrs_of c.args.code.now) c.args.code.now.meaning c.args.here (Some kind) 0 0 c.args.code.now.start (c.is_free.ensures c.if-is_free.true)
+
+pub returns : goal.returns
+returns c kind e =
+    let wide = lacks kind _ c.costly_after-wide.result e in
+    let other = lacks kind _ c.costly_after-other.result wide.0 in
+    let word = lacks kind _ c.costly_after-word.result other.0 in
+    let carriage_return = lacks kind _ c.costly_after-carriage_return.result word.0 in
+    let line_feed = lacks kind c.costly_after-at_start.result c.costly_after-line_feed.result carriage_return.0 in
+    of kind line_feed.0 line_feed.1 carriage_return.1 word.1 other.1 wide.1 where
+      of : (k : Before) → bit_and c.costly_after-at_start.result (bit_of k) ≡ 0 → bit_and c.costly_after-line_feed.result (bit_of k) ≡ 0
+          → bit_and c.costly_after-carriage_return.result (bit_of k) ≡ 0 → bit_and c.costly_after-word.result (bit_of k) ≡ 0
+          → bit_and c.costly_after-other.result (bit_of k) ≡ 0 → bit_and c.costly_after-wide.result (bit_of k) ≡ 0
+          → Dies (instrs_of c.args.code.now) c.args.code.now.meaning (record { here = c.args.here; before = Some k }) 0 0 c.args.code.now.start
+      of Nothing n l r w o h = c.costly_after-at_start.ensures n
+      of LineFeed n l r w o h = c.costly_after-line_feed.ensures l
+      of CarriageReturn n l r w o h = c.costly_after-carriage_return.ensures r
+      of Word n l r w o h = c.costly_after-word.ensures w
+      of Other n l r w o h = c.costly_after-other.ensures o
+      of Wide n l r w o h = c.costly_after-wide.ensures h

@@ -1,0 +1,52 @@
+-- What is told where an attempt stands: the byte there, and what stands before it.
+use Prim.Native.Char.{code}
+use Rattle.std.specs.Prelude.{◌≡◌, ℕ, Bool, true, false, not, ◌&&◌, ◌||◌, nat_le, nat_lt, List, Option, Some, None, IfSome, slice_get}
+use Rattle.unicode.specs.Perl.{is_word_byte}
+use Rattle.fancy_tree.specs.declared.tree.Assertion.{Assertion}
+use Rattle.fancy_tree.specs.declared.tree.Meaning.{Meaning}
+use Rattle.fancy_input.specs.Lines.{byte_before, is_line_feed, is_carriage_return}
+use Rattle.fancy_code.specs.Context.{Context, holds, word_before, word_after}
+use Rattle.fancy_prices.specs.declared.facts.Before.{Before}
+use Rattle.fancy_prices.specs.declared.facts.Before.TheVariants.{Nothing, LineFeed, CarriageReturn, Word, Other, Wide}
+use Rattle.fancy_prices.specs.declared.facts.Facts.{Facts}
+
+-- a byte that passes the test
+abbrev pub IsByteOf : (ℕ → Bool) → Option ℕ → Type 0
+IsByteOf test o = (b : ℕ) × (o ≡ Some b) × (test b ≡ true)
+
+-- what stands before a place is of this kind
+abbrev pub IsOfKind : Before → Option ℕ → Type 0
+IsOfKind Nothing o = o ≡ None
+IsOfKind LineFeed o = o ≡ Some (code "\n")
+IsOfKind CarriageReturn o = o ≡ Some (code "\r")
+IsOfKind Word o = IsByteOf is_word_byte o
+IsOfKind Other o = IsByteOf (λ b. nat_lt b 0x80 && not (is_word_byte b || (is_line_feed (Some b) || is_carriage_return (Some b)))) o
+IsOfKind Wide o = IsByteOf (nat_le 0x80) o
+
+-- each kind has a bit of its own
+abbrev pub bit_of : Before → ℕ
+bit_of Nothing = 1
+bit_of LineFeed = 2
+bit_of CarriageReturn = 4
+bit_of Word = 8
+bit_of Other = 16
+bit_of Wide = 32
+
+-- the facts hold at a place
+pub record Stands (f : Facts) (haystack : List ℕ) (p : ℕ) : Type 0 where
+  pub here : slice_get haystack p ≡ Some f.here
+  pub before : IfSome f.before (λ kind. IsOfKind kind (byte_before haystack p))
+
+-- where the facts hold the assertion does not
+abbrev pub FailsWith : Assertion → Facts → Type 0
+FailsWith a f = (x : Context) (p : ℕ) → Stands f x.haystack p → holds x a p ≡ false
+
+-- if it is told, it is whether a word character stands before, in each meaning
+abbrev pub TellsBefore : Facts → Option Bool → Type 0
+TellsBefore f told =
+    IfSome told (λ word. (meaning : Meaning) (haystack : List ℕ) (p : ℕ) → Stands f haystack p → word_before meaning haystack p ≡ word)
+
+-- and whether one begins there
+abbrev pub TellsHere : Facts → Option Bool → Type 0
+TellsHere f told =
+    IfSome told (λ word. (meaning : Meaning) (haystack : List ℕ) (p : ℕ) → Stands f haystack p → word_after meaning haystack p ≡ word)

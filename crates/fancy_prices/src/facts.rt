@@ -1,0 +1,116 @@
+//! What is told where an attempt stands: the byte there, and what stands before it.
+
+ghost use Rattle.std.specs.Prelude.{◌≡◌, true, Some};
+ghost use Rattle.unicode.specs.Perl.{is_word_byte};
+ghost use Rattle.fancy_prices.specs.Facts.{FailsWith, IsOfKind, TellsBefore, TellsHere, bit_of};
+
+use fancy_tree::tree::{Assertion, Meaning};
+
+/// What stands before a position, in kinds that are told apart.
+#[derive(Clone, Copy)]
+pub enum Before {
+    /// Nothing: it is the text's start.
+    Nothing,
+    /// A line feed.
+    LineFeed,
+    /// A carriage return.
+    CarriageReturn,
+    /// An ASCII letter, a digit or `_`.
+    Word,
+    /// Another ASCII byte.
+    Other,
+    /// A byte past ASCII.
+    Wide,
+}
+
+/// What is told of a position.
+#[derive(Clone, Copy)]
+pub(crate) struct Facts {
+    /// The byte that stands there.
+    pub(crate) here: u8,
+    /// What stands before it. `None` where that is not told.
+    pub(crate) before: Option<Before>,
+}
+
+/// Whether a byte is an ASCII letter, a digit or `_`.
+fn is_word(byte: u8) -> bool
+    ensures { result ≡ is_word_byte byte }
+{
+    byte.is_ascii_alphanumeric() || byte == b'_'
+}
+
+impl Before {
+    /// The kind of a byte.
+    pub(crate) fn of(byte: u8) -> Before
+        ensures { IsOfKind result (Some byte) }
+    {
+        if byte >= 0x80 {
+            return Before::Wide;
+        }
+        if is_word(byte) {
+            return Before::Word;
+        }
+        match byte {
+            b'\n' => Before::LineFeed,
+            b'\r' => Before::CarriageReturn,
+            _ => Before::Other,
+        }
+    }
+
+    /// A bit that no other kind has.
+    pub(crate) fn bit(self) -> u8
+        ensures { result ≡ bit_of self }
+    {
+        match self {
+            Before::Nothing => 1,
+            Before::LineFeed => 2,
+            Before::CarriageReturn => 4,
+            Before::Word => 8,
+            Before::Other => 16,
+            Before::Wide => 32,
+        }
+    }
+}
+
+impl Facts {
+    /// Whether a word character stands before. `None` where that is not told.
+    fn is_word_before(self) -> Option<bool>
+        ensures { TellsBefore self result }
+    {
+        match self.before? {
+            Before::Wide => None,
+            Before::Word => Some(true),
+            Before::Nothing | Before::LineFeed | Before::CarriageReturn | Before::Other => {
+                Some(false)
+            }
+        }
+    }
+
+    /// Whether a word character begins there. `None` where that is not told.
+    fn is_word_here(self) -> Option<bool>
+        ensures { TellsHere self result }
+    {
+        if self.here < 0x80 {
+            return Some(is_word(self.here));
+        }
+        None
+    }
+
+    /// Whether an assertion fails. It is not told of each that does.
+    pub(crate) fn fails(self, assertion: Assertion) -> bool
+        ensures { result ≡ true → FailsWith assertion self }
+    {
+        let (Some(before), Some(here)) = (self.is_word_before(), self.is_word_here()) else {
+            return false;
+        };
+        match assertion {
+            Assertion::WordBoundary => before == here,
+            Assertion::NotWordBoundary => before != here,
+            Assertion::WordStart => before || !here,
+            Assertion::WordEnd => !before || here,
+            Assertion::WordStartHalf => before,
+            Assertion::WordEndHalf => here,
+            _ => false,
+        }
+    }
+}
