@@ -1,27 +1,27 @@
 -- What the byte at a place and the one before it tell of words.
-use Rattle.std.proofs.Common.{◌≡◌, ℕ, zero, suc, ◌<◌, Bool, true, false, not, ◌&&◌, List, [], ◌∷◌, Option, Some, None, IfSome, refl, sym, ap, ap₂, ◌∙◌, subst, arith, true≢false, nat_lt, slice_get}
+use Rattle.std.proofs.Common.{◌≡◌, ℕ, zero, suc, ◌<◌, Bool, true, false, not, ◌&&◌, ◌||◌, List, [], ◌∷◌, Option, Some, None, IfSome, refl, sym, ap, ap₂, ◌∙◌, subst, arith, true≢false, nat_lt, nat_le, ◌==◌, ne_eqb, slice_get}
 use Rattle.std.specs.Bool.{beq}
 use Rattle.std.proofs.lemmas.Bool.Decides.{nat_tests}
 use Rattle.unicode.specs.Perl.{is_word_byte}
 use Rattle.unicode.proofs.PerlLemmas.{is_word_char-ascii}
 use Rattle.fancy_tree.specs.declared.tree.Assertion.{Assertion}
-use Rattle.fancy_tree.specs.declared.tree.Assertion.TheVariants.{WordBoundary, NotWordBoundary, WordStart, WordEnd, WordStartHalf, WordEndHalf}
+use Rattle.fancy_tree.specs.declared.tree.Assertion.TheVariants.{TextStart, LineStart, LineStartCrlf, WordBoundary, NotWordBoundary, WordStart, WordEnd, WordStartHalf, WordEndHalf}
 use Rattle.fancy_tree.specs.declared.tree.Meaning.{Meaning}
 use Rattle.fancy_tree.specs.declared.tree.Meaning.TheVariants.{Unicode, Bytes, AsciiText}
 use Rattle.fancy_tree.specs.declared.named.Named.TheVariants.{Word}
 use Rattle.fancy_tree.specs.Named.{in_named_set}
 use Rattle.fancy_tree.specs.Sets.{differ}
-use Rattle.fancy_input.specs.Lines.{byte_before}
+use Rattle.fancy_input.specs.Lines.{byte_before, is_line_feed, is_carriage_return}
 use Rattle.fancy_input.specs.Places.{char_before}
 use Rattle.fancy_code.specs.Context.{Context, holds, is_word, code_before, word_before, word_after}
 use Rattle.fancy_code.proofs.ReadingLemmas.{low_after, low_before}
 use Rattle.fancy_code.proofs.WordCharacters.{ascii_word, unicode_word}
 use Rattle.fancy_prices.specs.declared.facts.Facts.{Facts}
 use Rattle.fancy_prices.specs.declared.facts.Before.{Before}
-use Rattle.fancy_prices.specs.declared.facts.Before.TheVariants.{LineFeed, CarriageReturn, Other}
+use Rattle.fancy_prices.specs.declared.facts.Before.TheVariants.{LineFeed, CarriageReturn, Other, Wide}
 use Rattle.fancy_prices.specs.declared.facts.Before.TheVariants as kinds
 use Rattle.fancy_prices.proofs.FlagLemmas.{both, neither}
-use Rattle.fancy_prices.specs.Facts.{IsOfKind, Stands, TellsBefore, TellsHere}
+use Rattle.fancy_prices.specs.Facts.{IsAlways, IsOfKind, Stands, TellsBefore, TellsHere}
 
 -- an ASCII byte is of a word in each meaning, or in none
 word_byte : (m : Meaning) (c : ℕ) → c < 128 → in_named_set m Word c ≡ is_word_byte c
@@ -152,3 +152,72 @@ module _ (f : Facts) (before here : Bool) (tells : TellsBefore f (Some before)) 
   pub end_half_fails : a ≡ WordEndHalf → here ≡ true → holds x a p ≡ false
   unfolding holds
   end_half_fails e word = by_word WordEndHalf e (ap not (is ∙ word))
+
+-- bytes of these kinds end no line
+pub word_in_line : IsAlways kinds.Word (λ b. not (is_line_feed (Some b) || is_carriage_return (Some b)))
+word_in_line o is = (is.0, is.1, by is.0 is.2) where
+  by : (b : ℕ) → is_word_byte b ≡ true → not (is_line_feed (Some b) || is_carriage_return (Some b)) ≡ true
+  by b e = grind (arith, nat_tests)
+
+pub other_in_line : IsAlways Other (λ b. not (is_line_feed (Some b) || is_carriage_return (Some b)))
+other_in_line o is = (is.0, is.1, by (is_word_byte is.0) (is_line_feed (Some is.0) || is_carriage_return (Some is.0)) (both (nat_lt is.0 128) _ is.2).1) where
+  by : (w e : Bool) → not (w || e) ≡ true → not e ≡ true
+  by true e h = absurd (true≢false (sym h))
+  by false e h = h
+
+pub wide_in_line : IsAlways Wide (λ b. not (is_line_feed (Some b) || is_carriage_return (Some b)))
+wide_in_line o is = (is.0, is.1, by is.0 is.2) where
+  by : (b : ℕ) → nat_le 0x80 b ≡ true → not (is_line_feed (Some b) || is_carriage_return (Some b)) ≡ true
+  by b e = grind (arith, nat_tests)
+
+-- nothing is asked of the byte
+pub anything : (k : Before) (test : ℕ → Bool) → IsAlways k test → IsAlways k (λ b. true)
+anything k test always o is = let b = always o is in (b.0, b.1, refl)
+
+pub line_feed_stands : IsAlways LineFeed (λ b. true)
+line_feed_stands o is = (10, is, refl)
+
+-- a carriage return ends a line, but is no line feed
+pub carriage_return_is : IsAlways CarriageReturn (λ b. not (is_line_feed (Some b)))
+carriage_return_is o is = (13, is, refl)
+
+-- what ends no line is no line feed
+pub no_feed : (k : Before) → IsAlways k (λ b. not (is_line_feed (Some b) || is_carriage_return (Some b))) → IsAlways k (λ b. not (is_line_feed (Some b)))
+no_feed k always o is = let b = always o is in (b.0, b.1, by (is_line_feed (Some b.0)) (is_carriage_return (Some b.0)) b.2) where
+  by : (a b : Bool) → not (a || b) ≡ true → not a ≡ true
+  by true b h = h
+  by false b h = refl
+
+-- where something stands before it is not the text's start
+not_at_start : (h : List ℕ) (p b : ℕ) → byte_before h p ≡ Some b → (p == 0) ≡ false
+not_at_start h zero b e = cc
+not_at_start h (suc p) b e = ne_eqb (suc p) 0 (λ z. cc)
+
+unset : (b : Bool) → not b ≡ true → b ≡ false
+unset true e = absurd (true≢false (sym e))
+unset false e = refl
+
+module _ (f : Facts) (k : Before) (before : f.before ≡ Some k) (a : Assertion) (x : Context) (p : ℕ) (stands : Stands f x.haystack p) where
+  pub text_start_fails : a ≡ TextStart → IsAlways k (λ b. true) → holds x a p ≡ false
+  unfolding holds
+  text_start_fails e always =
+      let b = always (byte_before x.haystack p) (kind_before f k before x.haystack p stands) in
+      ap (λ (c : Assertion). holds x c p) e ∙ ap (λ (s : Bool). s && not x.start_text_off) (not_at_start x.haystack p b.0 b.1)
+
+  pub line_start_fails : a ≡ LineStart → IsAlways k (λ b. not (is_line_feed (Some b))) → holds x a p ≡ false
+  unfolding holds
+  line_start_fails e always =
+      let b = always (byte_before x.haystack p) (kind_before f k before x.haystack p stands) in
+      ap (λ (c : Assertion). holds x c p) e
+      ∙ ap₂ (λ (s l : Bool). s || l) (not_at_start x.haystack p b.0 b.1) (ap is_line_feed b.1 ∙ unset (is_line_feed (Some b.0)) b.2)
+
+  pub line_start_crlf_fails : a ≡ LineStartCrlf → IsAlways k (λ b. not (is_line_feed (Some b) || is_carriage_return (Some b))) → holds x a p ≡ false
+  unfolding holds
+  line_start_crlf_fails e always =
+      let b = always (byte_before x.haystack p) (kind_before f k before x.haystack p stands) in
+      let none = neither (is_line_feed (Some b.0)) _ _ refl (unset _ b.2) in
+      let feed : is_line_feed (byte_before x.haystack p) ≡ false = ap is_line_feed b.1 ∙ none.0 in
+      let return : is_carriage_return (byte_before x.haystack p) ≡ false = ap is_carriage_return b.1 ∙ none.1 in
+      ap (λ (c : Assertion). holds x c p) e
+      ∙ ap₂ (λ (s l : Bool). s || (l || (is_carriage_return (byte_before x.haystack p) && not (is_line_feed (slice_get x.haystack p))))) (not_at_start x.haystack p b.0 b.1) feed
+      ∙ ap (λ (c : Bool). c && not (is_line_feed (slice_get x.haystack p))) return

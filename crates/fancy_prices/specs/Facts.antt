@@ -23,6 +23,10 @@ IsOfKind Word o = IsByteOf is_word_byte o
 IsOfKind Other o = IsByteOf (λ b. nat_lt b 0x80 && not (is_word_byte b || (is_line_feed (Some b) || is_carriage_return (Some b)))) o
 IsOfKind Wide o = IsByteOf (nat_le 0x80) o
 
+-- what is of the kind is a byte that passes the test
+abbrev pub IsAlways : Before → (ℕ → Bool) → Type 0
+IsAlways kind test = (o : Option ℕ) → IsOfKind kind o → IsByteOf test o
+
 -- each kind has a bit of its own
 abbrev pub bit_of : Before → ℕ
 bit_of Nothing = 1

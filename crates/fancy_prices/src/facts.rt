@@ -1,8 +1,9 @@
 //! What is told where an attempt stands: the byte there, and what stands before it.
 
-ghost use Rattle.std.specs.Prelude.{◌≡◌, true, Some};
+ghost use Rattle.std.specs.Prelude.{◌≡◌, true, not, ◌||◌, Some};
+ghost use Rattle.fancy_input.specs.Lines.{is_line_feed, is_carriage_return};
 ghost use Rattle.unicode.specs.Perl.{is_word_byte};
-ghost use Rattle.fancy_prices.specs.Facts.{FailsWith, IsOfKind, TellsBefore, TellsHere, bit_of};
+ghost use Rattle.fancy_prices.specs.Facts.{FailsWith, IsAlways, IsOfKind, TellsBefore, TellsHere, bit_of};
 
 use fancy_tree::tree::{Assertion, Meaning};
 
@@ -57,6 +58,40 @@ impl Before {
         }
     }
 
+    /// Whether something stands before.
+    fn is_byte(self) -> bool
+        ensures { result ≡ true → IsAlways self (λ _. true) }
+    {
+        match self {
+            Before::Nothing => false,
+            Before::LineFeed
+            | Before::CarriageReturn
+            | Before::Word
+            | Before::Other
+            | Before::Wide => true,
+        }
+    }
+
+    /// Whether something stands before, and is no line feed.
+    fn is_no_line_feed(self) -> bool
+        ensures { result ≡ true → IsAlways self (λ b. not (is_line_feed (Some b))) }
+    {
+        match self {
+            Before::Nothing | Before::LineFeed => false,
+            Before::CarriageReturn | Before::Word | Before::Other | Before::Wide => true,
+        }
+    }
+
+    /// Whether something stands before, and is neither a line feed nor a carriage return.
+    fn is_in_line(self) -> bool
+        ensures { result ≡ true → IsAlways self (λ b. not (is_line_feed (Some b) || is_carriage_return (Some b))) }
+    {
+        match self {
+            Before::Nothing | Before::LineFeed | Before::CarriageReturn => false,
+            Before::Word | Before::Other | Before::Wide => true,
+        }
+    }
+
     /// A bit that no other kind has.
     pub(crate) fn bit(self) -> u8
         ensures { result ≡ bit_of self }
@@ -98,6 +133,28 @@ impl Facts {
 
     /// Whether an assertion fails. It is not told of each that does.
     pub(crate) fn fails(self, assertion: Assertion) -> bool
+        ensures { result ≡ true → FailsWith assertion self }
+    {
+        self.fails_by_start(assertion) || self.fails_by_words(assertion)
+    }
+
+    /// Whether an assertion of the text's start, or of a line's start, fails.
+    fn fails_by_start(self, assertion: Assertion) -> bool
+        ensures { result ≡ true → FailsWith assertion self }
+    {
+        let Some(before) = self.before else {
+            return false;
+        };
+        match assertion {
+            Assertion::TextStart => before.is_byte(),
+            Assertion::LineStart => before.is_no_line_feed(),
+            Assertion::LineStartCrlf => before.is_in_line(),
+            _ => false,
+        }
+    }
+
+    /// Whether an assertion of words fails.
+    fn fails_by_words(self, assertion: Assertion) -> bool
         ensures { result ≡ true → FailsWith assertion self }
     {
         let (Some(before), Some(here)) = (self.is_word_before(), self.is_word_here()) else {

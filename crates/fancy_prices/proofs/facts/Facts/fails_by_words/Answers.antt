@@ -1,5 +1,5 @@
 use Rattle.fancy_prices.proofs.FactLemmas.{boundary_fails, no_boundary_fails, start_fails_before, start_fails_here, end_fails_before, end_fails_here, start_half_fails, end_half_fails}
-use Rattle.fancy_prices.proofs.facts.Facts.fails.Goals as goal
+use Rattle.fancy_prices.proofs.facts.Facts.fails_by_words.Goals as goal
 
 pub returns-in-WordBoundary : goal.returns-in-WordBoundary
 returns-in-WordBoundary c e x p stands =

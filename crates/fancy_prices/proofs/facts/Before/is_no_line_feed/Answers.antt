@@ -1,0 +1,22 @@
+use Rattle.std.proofs.Common.{◌≡◌, Bool, ℕ, inl, inr, sym, subst}
+use Rattle.fancy_prices.specs.declared.facts.Before.{Before}
+use Rattle.fancy_prices.specs.declared.facts.Before.TheVariants.{CarriageReturn, Word, Other, Wide}
+use Rattle.fancy_prices.specs.Facts.{IsAlways}
+use Rattle.fancy_prices.proofs.FactLemmas.{carriage_return_is, word_in_line, other_in_line, wide_in_line, no_feed}
+use Rattle.fancy_prices.proofs.facts.Before.is_no_line_feed.Goals as goal
+
+pub returns-in-CarriageReturn : goal.returns-in-CarriageReturn
+returns-in-CarriageReturn c t =
+    elim c.in-CarriageReturn.is [
+      | inl e ↦ of CarriageReturn e carriage_return_is
+      | inr others ↦ elim others [
+        | inl e ↦ of Word e (no_feed Word word_in_line)
+        | inr others ↦ elim others [
+          | inl e ↦ of Other e (no_feed Other other_in_line)
+          | inr e ↦ of Wide e (no_feed Wide wide_in_line)
+        ]
+      ]
+    ]
+  where
+    of : {test : ℕ → Bool} (k : Before) → c.args.self ≡ k → IsAlways k test → IsAlways c.args.self test
+    of {test} k e always = subst (λ (j : Before). IsAlways j test) (sym e) always
