@@ -12,7 +12,7 @@ use Rattle.fancy_code.specs.Context.{Context, past_item}
 use Rattle.fancy_code.proofs.ForetoldLemmas.{item_at, low_text}
 use Rattle.fancy_prices.specs.Prices.{BeginsNone}
 
-encoding_some : (m : Meaning) (c : ℕ) → 0 < length (encoding m c)
+pub encoding_some : (m : Meaning) (c : ℕ) → 0 < length (encoding m c)
 encoding_some Unicode c = omega (arith, length-encode c, (len_utf8_bounds c).0)
 encoding_some Bytes c = omega arith
 encoding_some AsciiText c = omega (arith, length-encode c, (len_utf8_bounds c).0)

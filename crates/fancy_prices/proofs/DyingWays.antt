@@ -14,7 +14,7 @@ use Rattle.fancy_prices.specs.Facts.{FailsWith, Stands}
 use Rattle.fancy_prices.specs.Prices.{CostsIn, Costs, Dies, IsQuietIn, Quiet, IsQuiet, BeginsNone}
 use Rattle.fancy_prices.proofs.BeginLemmas.{no_item}
 
-read : (m r : ℕ) (o : Option (List Raw)) → Costs m r o → Costs m r (before (Note fetched) o)
+pub read : (m r : ℕ) (o : Option (List Raw)) → Costs m r o → Costs m r (before (Note fetched) o)
 read m r None h = tt
 read m r (Some w) h = h
 
@@ -73,7 +73,7 @@ module _ (code : List Instruction) (meaning : Meaning) (f : Facts) where
       (x : Context) (limit n : ℕ) (s : State) (v : List ℕ) → x.meaning ≡ meaning → Stands f x.haystack s.place
       → Costs m r (act x limit at i (run x limit code n) (run x (length x.haystack) code n) s v)
 
-  dies_by : (m r at : ℕ) (i : Instruction) → instr_at code at ≡ i → DiesBy m r at i → Dies code meaning f m r at
+  pub dies_by : (m r at : ℕ) (i : Instruction) → instr_at code at ≡ i → DiesBy m r at i → Dies code meaning f m r at
   dies_by m r at i is h x limit zero s v meant stands = tt
   dies_by m r at i is h x limit (suc n) s v meant stands =
       read m r (act x limit at (instr_at code at) (run x limit code n) (run x (length x.haystack) code n) s v)

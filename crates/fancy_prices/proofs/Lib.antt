@@ -5,3 +5,4 @@ pub mod DyingWays
 pub mod EntryLemmas
 pub mod FlagLemmas
 pub mod FactLemmas
+pub mod BehindLemmas

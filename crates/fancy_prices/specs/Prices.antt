@@ -1,5 +1,5 @@
 -- What code costs where all of its ways die, and what is told of a place tells of that.
-use Rattle.std.specs.Prelude.{◌≡◌, ℕ, suc, Bool, true, ◌&&◌, List, [], ◌∷◌, Option, Some, None, if◌then◌else◌, slice_index}
+use Rattle.std.specs.Prelude.{◌≡◌, ℕ, suc, ◌-◌, ◌==◌, Bool, true, false, ◌&&◌, List, [], ◌∷◌, length, Option, Some, None, if◌then◌else◌, slice_index}
 use Rattle.fancy_tree.specs.declared.tree.Meaning.{Meaning}
 use Rattle.fancy_bytes.specs.Items.{encoding}
 use Rattle.fancy_code.specs.Context.{Context, State}
@@ -7,7 +7,9 @@ use Rattle.fancy_code.specs.Events.{Event, marks_in, returns_in}
 use Rattle.fancy_code.specs.Instructions.{Instruction}
 use Rattle.fancy_code.specs.Run.{Raw, Note, Stop, choice_opened, returned, fetched, run}
 use Rattle.fancy_prices.specs.declared.facts.Facts.{Facts}
-use Rattle.fancy_prices.specs.Facts.{Stands}
+use Rattle.fancy_prices.specs.declared.facts.Before.{Before}
+use Rattle.fancy_prices.specs.Facts.{IsOfKind, Stands}
+use Rattle.fancy_input.specs.Lines.{byte_before}
 use Rattle.fancy_code.specs.Search.{Query, answer_at, gone_through, is_match_boundary}
 
 -- no way stops, and there are so many marks and returns
@@ -39,6 +41,37 @@ Quiet (Some w) = IsQuietIn w
 -- From q on the code has no mark and no return, wherever it goes on.
 abbrev pub IsQuiet : List Instruction → ℕ → Type 0
 IsQuiet code q = (x : Context) (limit n : ℕ) (s : State) (v : List ℕ) → Quiet (run x limit code n q s v)
+
+-- no way stops as wanted, and there is no mark and no return
+abbrev pub MissesIn : (State → Bool) → List Raw → Type 0
+MissesIn wanted [] = Unit {0}
+MissesIn wanted (Note choice_opened ∷ w) = ⊥
+MissesIn wanted (Note returned ∷ w) = ⊥
+MissesIn wanted (Note fetched ∷ w) = MissesIn wanted w
+MissesIn wanted (Stop q s v ∷ w) = (wanted s ≡ false) × MissesIn wanted w
+
+-- the same where the events may be unknown
+abbrev pub Misses : (State → Bool) → Option (List Raw) → Type 0
+Misses wanted None = Unit {0}
+Misses wanted (Some w) = MissesIn wanted w
+
+-- From q on the code has no mark and no return, and stops at no place behind what is of this kind.
+abbrev pub StopsNeverBehind : List Instruction → Before → ℕ → Type 0
+StopsNeverBehind code kind q =
+    (x : Context) (limit n : ℕ) (s : State) (v : List ℕ) (p : ℕ) → IsOfKind kind (byte_before x.haystack p)
+    → Misses (λ t. t.place == p) (run x limit code n q s v)
+
+-- the code from q on is looked for behind a place, where what stands before is told, and stops nowhere behind it
+abbrev pub MissesBehind : List Instruction → Bool → Facts → ℕ → Type 0
+MissesBehind code behind f q = (kind : Before) × (behind ≡ true) × (f.before ≡ Some kind) × StopsNeverBehind code kind q
+
+-- the last byte of an item
+abbrev pub last_byte : Meaning → ℕ → ℕ
+last_byte meaning c = slice_index (encoding meaning c) (length (encoding meaning c) - 1)
+
+-- an item with this code ends with no byte of the kind
+abbrev pub EndsOtherwise : Before → ℕ → Type 0
+EndsOtherwise kind c = (meaning : Meaning) → IsOfKind kind (Some (last_byte meaning c)) → ⊥
 
 -- From q on the code dies where the facts hold, and counts so many marks and returns, whatever else there is.
 abbrev pub Dies : List Instruction → Meaning → Facts → ℕ → ℕ → ℕ → Type 0

@@ -1,8 +1,9 @@
 //! What is told where an attempt stands: the byte there, and what stands before it.
 
-ghost use Rattle.std.specs.Prelude.{◌≡◌, true, not, ◌||◌, Some};
+ghost use Rattle.std.specs.Prelude.{◌≡◌, ℕ, ◌<◌, ◌≤◌, true, false, not, ◌||◌, Some};
 ghost use Rattle.fancy_input.specs.Lines.{is_line_feed, is_carriage_return};
 ghost use Rattle.unicode.specs.Perl.{is_word_byte};
+ghost use Rattle.fancy_prices.specs.Prices.{EndsOtherwise};
 ghost use Rattle.fancy_prices.specs.Facts.{FailsWith, IsAlways, IsOfKind, TellsBefore, TellsHere, bit_of};
 
 use fancy_tree::tree::{Assertion, Meaning};
@@ -90,6 +91,40 @@ impl Before {
             Before::Nothing | Before::LineFeed | Before::CarriageReturn => false,
             Before::Word | Before::Other | Before::Wide => true,
         }
+    }
+
+    /// Whether an ASCII byte may be of this kind.
+    fn may_be(self, byte: u8) -> bool
+        ensures { result ≡ false → byte < 128 → IsOfKind self (Some byte) → ⊥ }
+    {
+        match self {
+            Before::Nothing | Before::Wide => false,
+            Before::LineFeed => byte == b'\n',
+            Before::CarriageReturn => byte == b'\r',
+            Before::Word => is_word(byte),
+            Before::Other => true,
+        }
+    }
+
+    /// Whether a byte past ASCII is of this kind.
+    fn is_wide(self) -> bool
+        ensures { result ≡ false → (b : ℕ) → 128 ≤ b → IsOfKind self (Some b) → ⊥ }
+    {
+        match self {
+            Before::Wide => true,
+            _ => false,
+        }
+    }
+
+    /// Whether a character may end with a byte of this kind.
+    pub(crate) fn may_end(self, character: char) -> bool
+        ensures { result ≡ false → EndsOtherwise self character }
+    {
+        let code = character as u32;
+        if code < 0x80 {
+            return self.may_be(code as u8);
+        }
+        self.is_wide()
     }
 
     /// A bit that no other kind has.

@@ -3,10 +3,11 @@
 ghost use Rattle.std.specs.Prelude.{◌≡◌, ℕ, ◌≤◌, ◌==◌, Bool, true, false};
 ghost use Rattle.fancy_tree.specs.Sets.{has};
 ghost use Rattle.fancy_code.specs.Code.{instrs_of};
-ghost use Rattle.fancy_code.specs.Instructions.{edges_in};
-ghost use Rattle.fancy_prices.specs.Prices.{BeginsNone, Dies, IsQuiet};
+ghost use Rattle.fancy_code.specs.Instructions.{Match, edges_in};
+ghost use Rattle.fancy_code.specs.Run.{instr_at};
+ghost use Rattle.fancy_prices.specs.Prices.{BeginsNone, Dies, IsQuiet, MissesBehind, StopsNeverBehind};
 
-use crate::facts::Facts;
+use crate::facts::{Before, Facts};
 use fancy_code::code::{Code, Instr};
 use fancy_tree::char_set::CharSet;
 use fancy_tree::tree::Meaning;
@@ -84,6 +85,51 @@ fn is_quiet(code: &Code, at: usize, deep: usize) -> bool
     }
 }
 
+/// Whether the code has `Match` there.
+fn is_match(code: &Code, at: usize) -> bool
+    ensures { result ≡ true → instr_at (instrs_of code.now) at ≡ Match }
+{
+    if at >= code.len() {
+        return false;
+    }
+    match code.instr(at) {
+        Instr::Match => true,
+        _ => false,
+    }
+}
+
+/// Whether the code from an instruction on opens no choice, takes none back, and stops behind nothing of this kind, since the last
+/// character cannot end so. It is not told where the code is not followed so deep, nor of each last item.
+#[cycle(never)]
+fn stops_never_behind(code: &Code, at: usize, kind: Before, deep: usize) -> bool
+    ensures { result ≡ true → StopsNeverBehind (instrs_of code.now) kind at }
+{
+    if at >= code.len() || deep == 0 {
+        return false;
+    }
+    let deep = deep - 1;
+    match code.instr(at) {
+        Instr::Back(_, next) => stops_never_behind(code, *next, kind, deep),
+        Instr::Character(character, next) => {
+            if is_match(code, *next) {
+                return !kind.may_end(*character);
+            }
+            stops_never_behind(code, *next, kind, deep)
+        }
+        _ => false,
+    }
+}
+
+/// Whether a look-around looks behind, and its body stops nowhere behind what stands before.
+fn misses_behind(code: &Code, behind: bool, body: usize, facts: Facts, deep: usize) -> bool
+    ensures { result ≡ true → MissesBehind (instrs_of code.now) behind facts body }
+{
+    let Some(kind) = facts.before else {
+        return false;
+    };
+    behind && stops_never_behind(code, body, kind, deep)
+}
+
 /// Whether the code from an instruction on dies where the facts hold, opens no choice and takes none back. It is not told where the
 /// code is not followed so deep.
 #[cycle(free)]
@@ -112,7 +158,10 @@ pub(crate) fn is_free(code: &Code, at: usize, facts: Facts, deep: usize) -> bool
         Instr::Open(_, next) | Instr::Close(_, next) => { is_free(code, *next, facts, deep) }
         Instr::Keep(next) => is_free(code, *next, facts, deep),
         Instr::Enter(body) => is_free(code, *body, facts, deep),
-        Instr::Look(_, body, next) => {
+        Instr::Look(behind, body, next) => {
+            if misses_behind(code, *behind, *body, facts, deep) {
+                return true;
+            }
             is_free(code, *body, facts, deep)
                 || (is_quiet(code, *body, deep) && is_free(code, *next, facts, deep))
         }

@@ -1,10 +1,11 @@
-use Rattle.std.proofs.Common.{sym, ap, not, ◌∙◌, arith, inl, inr, true≢false, eq-eqb}
+use Rattle.std.proofs.Common.{Bool, sym, ap, not, ◌∙◌, arith, inl, inr, true≢false, eq-eqb}
 use Rattle.fancy_tree.specs.Sets.{has}
 use Rattle.fancy_code.specs.Code.{instrs_of, instr_in}
-use Rattle.fancy_code.specs.Instructions.{edges_in}
+use Rattle.fancy_code.specs.Instructions.{Look, edges_in}
 use Rattle.fancy_code.proofs.InstructionLemmas.{length-instrs_of}
 use Rattle.fancy_prices.proofs.FlagLemmas.{off}
 use Rattle.fancy_prices.proofs.DyingWays.{dies_nowhere, dies_character, dies_member, dies_raw_byte, dies_keep, dies_enter, dies_look, dies_look_quiet, dies_assert, dies_failed, dies_open, dies_close}
+use Rattle.fancy_prices.proofs.BehindLemmas.{dies_behind}
 use Rattle.fancy_prices.proofs.free.+free.Goals as goal
 
 pub returns-then-at-len : goal.returns-then-at-len
@@ -32,11 +33,11 @@ returns-in-Enter t c e = dies_enter (instrs_of c.args.code.now) c.args.code.now.
 
 pub returns-then-is_free : goal.returns-then-is_free
 returns-then-is_free t c e =
-    dies_look (instrs_of c.args.code.now) c.args.code.now.meaning c.args.facts c.in-Look.field-0 0 0 c.args.at c.in-Look.body c.in-Look.next (sym c.instr.ensures.instr ∙ ap (instr_in c.args.code.now) c.in-Look.is) (c.is_free-in-Look.ensures e)
+    dies_look (instrs_of c.args.code.now) c.args.code.now.meaning c.args.facts c.in-Look.behind 0 0 c.args.at c.in-Look.body c.in-Look.next (sym c.instr.ensures.instr ∙ ap (instr_in c.args.code.now) c.in-Look.is) (c.is_free-in-Look.ensures e)
 
 pub returns-then-is_quiet : goal.returns-then-is_quiet
 returns-then-is_quiet t c e =
-    dies_look_quiet (instrs_of c.args.code.now) c.args.code.now.meaning c.args.facts c.in-Look.field-0 c.args.at c.in-Look.body c.in-Look.next (sym c.instr.ensures.instr ∙ ap (instr_in c.args.code.now) c.in-Look.is)
+    dies_look_quiet (instrs_of c.args.code.now) c.args.code.now.meaning c.args.facts c.in-Look.behind c.args.at c.in-Look.body c.in-Look.next (sym c.instr.ensures.instr ∙ ap (instr_in c.args.code.now) c.in-Look.is)
     (c.is_quiet.ensures c.if-is_quiet.true) (c.is_free-then-is_quiet.ensures e)
 
 pub returns-then-fails : goal.returns-then-fails
@@ -55,3 +56,9 @@ returns-in-Open t c e =
       | inl o ↦ dies_open (instrs_of c.args.code.now) c.args.code.now.meaning c.args.facts 0 0 c.args.at o.0 c.in-Open.next (sym c.instr.ensures.instr ∙ ap (instr_in c.args.code.now) o.1) (c.is_free-in-Open.ensures e)
       | inr o ↦ dies_close (instrs_of c.args.code.now) c.args.code.now.meaning c.args.facts 0 0 c.args.at o.0 c.in-Open.next (sym c.instr.ensures.instr ∙ ap (instr_in c.args.code.now) o.1) (c.is_free-in-Open.ensures e)
     ]
+
+pub returns-then-misses_behind : goal.returns-then-misses_behind
+returns-then-misses_behind t c e =
+    let misses = c.misses_behind.ensures c.if-misses_behind.true in
+    dies_behind (instrs_of c.args.code.now) c.args.code.now.meaning c.args.facts misses.0 c.args.at c.in-Look.body c.in-Look.next
+    (sym c.instr.ensures.instr ∙ ap (instr_in c.args.code.now) c.in-Look.is ∙ ap (λ (b : Bool). Look b c.in-Look.body c.in-Look.next) misses.1) misses.2 misses.3
