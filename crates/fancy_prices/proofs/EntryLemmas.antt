@@ -25,6 +25,15 @@ own_bit Word e = cc
 own_bit Other e = cc
 own_bit Wide e = cc
 
+-- all have theirs among six
+pub all_bits : (k : Before) → bit_and 63 (bit_of k) ≡ 0 → ⊥
+all_bits Nothing e = cc
+all_bits LineFeed e = cc
+all_bits CarriageReturn e = cc
+all_bits Word e = cc
+all_bits Other e = cc
+all_bits Wide e = cc
+
 -- neither number has a bit that the two together lack
 module _ (a b i m : ℕ) (power : 2 ^ i ≡ m) (some : (n : ℕ) → n * m ≡ 0 → n ≡ 0) (none : 0 * m ≡ 0) where
   at : (n : ℕ) → bit_and n m ≡ bit_at n i * m

@@ -9,13 +9,16 @@ ghost use Rattle.fancy_prices.specs.Facts.{IsOfKind, bit_of};
 ghost use Rattle.fancy_prices.specs.Entries.{AreEntries, HasKind, IsNextEntry, TellsAfter, TellsKinds, is_after, is_entry};
 
 use crate::facts::{Before, Facts};
-use crate::free::is_free;
+use crate::free::{is_free, tests_before};
 use fancy_bytes::byte_set::ByteSet;
 use fancy_bytes::scan::Scan;
 use fancy_code::code::Code;
 
 /// How many instructions are followed one after another.
 const DEPTH: usize = 48;
+
+/// The bits of all kinds.
+const ALL_KINDS: u8 = 0b11_1111;
 
 /// The positions at which an attempt must be made, told by the byte there and what stands before it. At each other one within the
 /// searched range an attempt finds nothing, and it opens no choice and takes none back.
@@ -56,13 +59,17 @@ fn costly_after(code: &Code, here: u8, kind: Before) -> u8
     kind.bit()
 }
 
-/// The bits of the kinds after which an attempt at the byte may cost something, or find a match.
-fn costly_kinds(code: &Code, here: u8) -> u8
+/// The bits of the kinds after which an attempt at the byte may cost something, or find a match. They are all or none unless each kind
+/// is asked for.
+fn costly_kinds(code: &Code, here: u8, by_kinds: bool) -> u8
     ensures { TellsKinds code.now here result }
 {
     let facts = Facts { here, before: None };
     if is_free(code, code.start, facts, DEPTH) {
         return 0;
+    }
+    if !by_kinds {
+        return ALL_KINDS;
     }
     let at_start = costly_after(code, here, Before::Nothing);
     let line_feed = costly_after(code, here, Before::LineFeed);
@@ -77,9 +84,10 @@ fn costly_kinds(code: &Code, here: u8) -> u8
 fn costly_kinds_of_each(code: &Code) -> [u8; 256]
     ensures { (b : ℕ) → b < 256 → TellsKinds code.now b (slice_index result b) }
 {
+    let by_kinds = tests_before(code, code.start, DEPTH);
     let mut kinds = [0; 256];
     for byte in 0..256u32 {
-        kinds[byte as usize] = costly_kinds(code, byte as u8);
+        kinds[byte as usize] = costly_kinds(code, byte as u8, by_kinds);
     }
     kinds
 }
@@ -93,6 +101,16 @@ fn kind_of_each() -> [u8; 256]
         kinds[byte as usize] = Before::of(byte as u8).bit();
     }
     kinds
+}
+
+/// Whether each byte has the bits of all kinds. No answer rests on it.
+fn are_full(after: &[u8; 256]) -> bool {
+    for byte in 0..256u32 {
+        if after[byte as usize] != ALL_KINDS {
+            return false;
+        }
+    }
+    true
 }
 
 /// The bytes that have a bit.
@@ -137,6 +155,9 @@ impl Entries {
         ensures { AreEntries (is_entry result) code.now }
     {
         let after = costly_kinds_of_each(code);
+        if are_full(&after) {
+            return Entries::all();
+        }
         let bytes = bytes_with_some(&after);
         let kinds = kind_of_each();
         Entries {

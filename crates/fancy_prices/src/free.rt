@@ -85,6 +85,25 @@ fn is_quiet(code: &Code, at: usize, deep: usize) -> bool
     }
 }
 
+/// Whether what stands before may tell that the code from an instruction on dies: there is an assertion or a look-behind that it may
+/// begin with. No answer rests on it.
+#[cycle(tests)]
+pub(crate) fn tests_before(code: &Code, at: usize, deep: usize) -> bool {
+    if at >= code.len() || deep == 0 {
+        return false;
+    }
+    let deep = deep - 1;
+    match code.instr(at) {
+        Instr::Assert(_, _) => true,
+        Instr::Open(_, next) | Instr::Close(_, next) => tests_before(code, *next, deep),
+        Instr::Keep(next) | Instr::Enter(next) => tests_before(code, *next, deep),
+        Instr::Look(behind, body, next) => {
+            *behind || tests_before(code, *body, deep) || tests_before(code, *next, deep)
+        }
+        _ => false,
+    }
+}
+
 /// Whether the code has `Match` there.
 fn is_match(code: &Code, at: usize) -> bool
     ensures { result ≡ true → instr_at (instrs_of code.now) at ≡ Match }

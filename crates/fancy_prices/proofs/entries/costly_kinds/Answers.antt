@@ -6,12 +6,15 @@ use Rattle.fancy_prices.specs.declared.facts.Before.TheVariants.{Nothing, LineFe
 use Rattle.fancy_prices.specs.Facts.{bit_of}
 use Rattle.fancy_prices.specs.Prices.{Dies}
 use Rattle.fancy_prices.proofs.DyingWays.{dies_told}
-use Rattle.fancy_prices.proofs.EntryLemmas.{lacks}
+use Rattle.fancy_prices.proofs.EntryLemmas.{all_bits, lacks}
 use Rattle.fancy_prices.proofs.entries.costly_kinds.Goals as goal
 
 pub returns-then-is_free : goal.returns-then-is_free
 returns-then-is_free c kind e =
     dies_told (instrs_of c.args.code.now) c.args.code.now.meaning c.args.here (Some kind) 0 0 c.args.code.now.start (c.is_free.ensures c.if-is_free.true)
+
+pub returns-then-not-by_kinds : goal.returns-then-not-by_kinds
+returns-then-not-by_kinds c kind e = absurd (all_bits kind e)
 
 pub returns : goal.returns
 returns c kind e =

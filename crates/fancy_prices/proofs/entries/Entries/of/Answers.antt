@@ -8,3 +8,6 @@ returns c =
     entries_of c.new.result c.costly_kinds_of_each-after.result c.kind_of_each-kinds.result c.args.code.now
     (subst (λ (s : ByteFlags). (b : ℕ) → b < 256 → member s b ≡ false → slice_index c.costly_kinds_of_each-after.result b ≡ 0) (sym c.new.ensures) c.bytes_with_some-bytes.ensures)
     c.costly_kinds_of_each-after.ensures c.kind_of_each-kinds.ensures
+
+pub returns-then-are_full : goal.returns-then-are_full
+returns-then-are_full c = c.all.ensures c.args.code.now
