@@ -249,6 +249,7 @@ impl Code {
     }
 
     /// The instruction with this number. Each call counts as one step, as far as the number of steps goes.
+    #[inline]
     pub fn fetch(&self, at: usize, work: &mut Work) -> &Instr
         requires within { at < code_len self.now }
         ensures instr { instr_in self.now result.now ≡ instr_at (instrs_of self.now) at }
@@ -260,6 +261,7 @@ impl Code {
     }
 
     /// The instruction with this number. The call counts as no step.
+    #[inline]
     pub fn instr(&self, at: usize) -> &Instr
         requires within { at < code_len self.now }
         ensures instr { instr_in self.now result.now ≡ instr_at (instrs_of self.now) at }
@@ -285,6 +287,7 @@ impl Code {
     }
 
     /// The set with this number, which an instruction has.
+    #[inline]
     pub fn set(&self, number: usize) -> &CharSet
         requires { number < sets_len self.now }
         ensures { edges_in result.now ≡ set_edges self.now number }
@@ -293,6 +296,7 @@ impl Code {
     }
 
     /// The number of the instruction's mark, among those of a place; `None` where it has none.
+    #[inline]
     pub fn mark_number(&self, at: usize) -> Option<usize>
         requires { at < code_len self.now }
         ensures { result ≡ number_of self.now at }
@@ -301,6 +305,7 @@ impl Code {
     }
 
     /// What is due where a thread goes on at the instruction.
+    #[inline]
     pub fn due(&self, at: usize) -> usize
         ensures { result ≡ due_of self.now at }
     {
@@ -315,6 +320,7 @@ impl Code {
     }
 
     /// How many instructions there are.
+    #[inline]
     pub fn len(&self) -> usize
         ensures { result ≡ code_len self.now }
     {

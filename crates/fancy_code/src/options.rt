@@ -43,6 +43,7 @@ impl SearchOptions {
 }
 
 /// Whether a match may begin or end at a place, a byte offset: anywhere, or on character boundaries alone.
+#[inline]
 pub fn is_match_boundary(on_boundaries: bool, haystack: &[u8], place: usize) -> bool
     ensures { result ≡ is_match_boundary on_boundaries haystack.now place }
 {

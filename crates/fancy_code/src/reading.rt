@@ -158,6 +158,7 @@ fn is_wide_word_after(haystack: &[u8], meaning: Meaning, place: usize) -> bool
 }
 
 /// Whether an assertion holds at a place, a byte offset. It reads the whole haystack.
+#[inline]
 pub fn holds_at(
     haystack: &[u8],
     meaning: Meaning,

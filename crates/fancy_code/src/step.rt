@@ -22,6 +22,7 @@ pub enum Next {
 }
 
 /// The place after the character at `place`, if it is this one.
+#[inline]
 pub fn past_character(
     haystack: &[u8],
     meaning: Meaning,
@@ -60,6 +61,7 @@ pub fn past_member(haystack: &[u8], meaning: Meaning, set: &CharSet, place: usiz
 }
 
 /// The place after the byte at `place`, if it is this one.
+#[inline]
 pub fn past_raw_byte(haystack: &[u8], byte: u8, place: usize) -> Option<usize>
     ensures past { (meaning : Meaning) (suppressed : SuppressedEnds) (from : ℕ)
         → result ≡ past_byte (search_context haystack.now meaning suppressed from) byte place }

@@ -73,6 +73,7 @@ impl Work {
     }
 
     /// How many saved branches were taken: the returns, which `RegexOptionsBuilder::backtrack_limit` limits.
+    #[inline]
     pub fn returns(&self) -> usize
         ensures { result ≡ returns_of self.now }
     {
@@ -95,6 +96,7 @@ impl Work {
     }
 
     /// Whether all work is done that a limit allows, if there is one.
+    #[inline]
     pub fn is_spent(&self, limit: Option<usize>) -> bool
         ensures spent { result ≡ true → IsSpent limit self.now }
         ensures open { result ≡ false → HasWorkLeft limit self.now }
@@ -123,6 +125,7 @@ impl Work {
 
     /// Counts so many units, as far as the number goes, and returns `true`. Where a limit allows fewer, it counts those, and returns
     /// `false`.
+    #[inline]
     pub fn count_units(&mut self, units: usize, limit: Option<usize>) -> bool
         ensures adds { AddsUnits self.old self.new }
         ensures counted { result ≡ true → units_of self.old + units < 2 ^ 64 → units_of self.new ≡ units_of self.old + units }
@@ -144,6 +147,7 @@ impl Work {
     }
 
     /// Counts one fetch, as far as the number goes.
+    #[inline]
     pub fn count_step_within(&mut self)
         ensures { self.new ≡ stepped_within self.old }
     {
@@ -153,6 +157,7 @@ impl Work {
     }
 
     /// Counts one saved branch that was taken.
+    #[inline]
     pub fn count_return(&mut self)
         requires { returns_of self.old < usize.MAX }
         ensures { self.new ≡ went_back self.old }
@@ -197,6 +202,7 @@ impl Work {
 
     /// Counts one saved branch that was taken, as far as both numbers go: where the steps are full, no return is
     /// counted.
+    #[inline]
     pub fn count_return_within(&mut self)
         ensures { self.new ≡ went_back_within self.old }
     {
