@@ -49,6 +49,14 @@ pub record AddsUnits (before after : Work) : Type 0 where
   pub steps : steps_of after ≡ steps_of before
   pub returns : returns_of after ≡ returns_of before
 
+-- at most so many returns were counted, and a step for each, as far as the number of steps goes, and no units
+pub record AddsReturns (count : ℕ) (before after : Work) : Type 0 where
+  pub returns : returns_of before ≤ returns_of after
+  pub most : returns_of after ≤ returns_of before + count
+  pub steps : steps_of before ≤ steps_of after
+  pub units : units_of after ≡ units_of before
+  pub paired : returns_of before ≤ steps_of before → returns_of after ≤ steps_of after
+
 -- so many more can be counted, where a usize holds their number at all
 abbrev pub HasRoom : ℕ → ℕ → Type 0
 HasRoom count more = more < 2 ^ 64 → count + more < 2 ^ 64

@@ -1,7 +1,9 @@
 //! The counts of a search: its steps and its returns.
 
-ghost use Rattle.std.specs.Prelude.{◌≡◌, ◌+◌, ◌-◌, ◌<◌, ◌≤◌, ◌^◌, ◌↔◌, IsTrue, min, true, false};
-ghost use Rattle.fancy_code.specs.Work.{steps_of, returns_of, units_of, work_of, stepped_within, went_back, went_back_within, IsWithin, IsSpent, HasWorkLeft, HasWorkFor, AddsUnits};
+ghost use Rattle.std.specs.Prelude.{◌≡◌, ◌≢◌, ◌+◌, ◌-◌, ◌<◌, ◌≤◌, ◌^◌, ◌↔◌, IsTrue, IfSome, OnOk, None, Err, min, true, false};
+ghost use Rattle.fancy_code.specs.Work.{steps_of, returns_of, units_of, work_of, stepped_within, went_back, went_back_within, IsWithin, IsSpent, HasWorkLeft, HasWorkFor, AddsUnits, AddsReturns};
+
+use crate::refusal::SearchRefusal;
 
 /// How much was done since the counts began: the fetches of instructions, the saved branches that were taken, and the units that were
 /// gone over within one instruction.
@@ -163,6 +165,68 @@ impl Work {
         ensures { self.new ≡ went_back self.old }
     {
         self.returns += 1;
+    }
+
+    /// How much work a limit leaves, the most there is where no limit is set.
+    fn work_left(&self, limit: Option<usize>) -> usize
+        ensures limited { IfSome limit (λ most. result ≡ most - work_of self.now) }
+        ensures open { limit ≡ None → result ≡ usize.MAX }
+    {
+        match limit {
+            None => usize::MAX,
+            Some(most) => most.saturating_sub(self.steps.saturating_add(self.units)),
+        }
+    }
+
+    /// Counts so many saved branches that were taken, and a step for each, as far as the number of steps goes.
+    fn add_returns(&mut self, count: usize)
+        requires { returns_of self.old + count ≤ usize.MAX }
+        ensures returns { returns_of self.new ≡ returns_of self.old + count }
+        ensures steps { steps_of self.new ≡ min (steps_of self.old + count) usize.MAX }
+        ensures units { units_of self.new ≡ units_of self.old }
+        ensures adds { AddsReturns count self.old self.new }
+    {
+        self.returns += count;
+        self.steps = self.steps.saturating_add(count);
+    }
+
+    /// Counts so many saved branches that were taken, and a step for each, as far as the number of steps goes. Where a limit of
+    /// returns or of work allows fewer, it counts those that both allow.
+    ///
+    /// # Errors
+    ///
+    /// `SearchRefusal::Returns` where the limit of returns allows fewer, and `SearchRefusal::Steps` where that of work does and allows
+    /// fewer than the other.
+    #[inline]
+    pub fn count_returns(
+        &mut self,
+        count: usize,
+        limit: usize,
+        step_limit: Option<usize>,
+    ) -> Result<(), SearchRefusal>
+        requires { returns_of self.old ≤ limit }
+        ensures counted { OnOk result (returns_of self.new ≡ returns_of self.old + count) }
+        ensures adds { AddsReturns count self.old self.new }
+        ensures fits { returns_of self.new ≤ limit }
+        ensures stopped { result ≡ Err SearchRefusal.Returns → returns_of self.new ≡ limit }
+        ensures refused { result ≡ Err SearchRefusal.Returns → limit < returns_of self.old + count }
+        ensures limited { result ≡ Err SearchRefusal.Steps → IsSpent step_limit self.new }
+        ensures within { IsWithin step_limit self.old → IsWithin step_limit self.new }
+        ensures saved { result ≢ Err SearchRefusal.Choices }
+        ensures held { result ≢ Err SearchRefusal.Memory }
+    {
+        let returns = limit - self.returns;
+        let work = self.work_left(step_limit);
+        if count <= returns && count <= work {
+            self.add_returns(count);
+            return Ok(());
+        }
+        if returns <= work {
+            self.add_returns(returns);
+            return Err(SearchRefusal::Returns);
+        }
+        self.add_returns(work);
+        Err(SearchRefusal::Steps)
     }
 
     /// Adds what was counted apart, each count as far as the number goes.
