@@ -37,7 +37,3 @@ some_sets (s ∷ sets) n e h = omega arith
 pub first_default : (sets : List ByteFlags) (d e : ByteFlags) → 0 < length sets → slice_index_or sets 0 d ≡ slice_index_or sets 0 e
 first_default [] d e some = absurd (omega (arith, some))
 first_default (s ∷ sets) d e some = refl
-
--- where all bytes are members
-pub by_all : (code : List Instruction) (m : Meaning) (set : ByteFlags) (q : ℕ) → ((b : ℕ) → b < 256 → member set b ≡ true) → BeginsAmong code m set q
-by_all code m set q all x limit n s v meant bytes lacks = absurd (true≢false (sym (all (slice_index x.haystack s.place) (bytes s.place)) ∙ lacks))

@@ -49,10 +49,6 @@ keeps_set a b m j le k q i z h =
     let lt : q < length a = slice_get_within a q i h in
     get_set_other b m q i j (λ e. let bad : ⊥ = omega arith in bad) (k q i z h)
 
--- what stands in a code stands in all that extends a code which kept it
-pub has_later : (c c' : List Instruction) (from q : ℕ) (i : Instruction) → Keeps c c' → from ≤ q → Has c q i → (later : List Instruction) → Extends from c' later → Has later q i
-has_later c c' from q i k le h later x = x q i le (k q i (omega arith) h)
-
 pub both_later : (c c' : List Instruction) (from : ℕ) (entry : Entry) (i j : Instruction) → Keeps c c' → from ≤ entry.moved → from ≤ entry.still → HasBoth c entry i j
     → (later : List Instruction) → Extends from c' later → HasBoth later entry i j
 both_later c c' from entry i j k lm ls h later x = (x entry.moved i lm (k entry.moved i (omega arith) h.0), x entry.still j ls (k entry.still j (omega arith) h.1))

@@ -247,17 +247,6 @@ pub star_kept : (c0 c1 c2 c3 c4 : List Instruction) (moved : ℕ) (j : Instructi
 star_kept c0 c1 c2 c3 c4 moved j k l e le m =
     keeps_on c0 c3 c4 (subst (λ (c : List Instruction). Keeps c0 c) (sym e) (keeps_set c0 c2 moved j le (keeps_on c0 c1 c2 k l))) m
 
--- an item of a set
-pub member_emitted : (m : Meaning) → (edges : List ℕ) (from : ℕ) (code : List Instruction) (next entry : Entry)
-    → from ≤ entry.moved → entry.still ≡ entry.moved → Has code entry.moved (i.Member edges next.moved) → Emitted m (member_of edges) from code next entry
-member_emitted m edges from code next entry le both has later x = (x entry.moved _ le has, both)
-
--- a set and a literal under flag `i` have the same code
-pub set_emitted : (m : Meaning) (t : Tree) (set : Set) → (t ≡ Member set) ⊎ (t ≡ InAnyCase set) → (from : ℕ) (code : List Instruction) (next entry : Entry)
-    → Emitted m (member_of (edges_of set)) from code next entry → Emitted m (pattern_of t) from code next entry
-set_emitted m t set (inl e) from code next entry h = subst (λ (p : Pattern). Emitted m p from code next entry) (sym (ap pattern_of e ∙ pattern-Member set)) h
-set_emitted m t set (inr e) from code next entry h = subst (λ (p : Pattern). Emitted m p from code next entry) (sym (ap pattern_of e ∙ pattern-InAnyCase set)) h
-
 -- the code keeps the text that its pattern opens with
 pub opens_with : (m n : Meaning) (p : Pattern) (kept given : Option (List ℕ)) → kept ≡ given → n ≡ m → IfSome given (λ text. text ≡ opening m p) → IfSome kept (λ text. text ≡ opening n p)
 opens_with m n p kept given is same told = rw (is, same) told

@@ -141,15 +141,6 @@ off false e = refl
 
 -- rows that have more
 
-pub wider_same : (old : List ByteFlags) → Wider old old
-wider_same old = record { shorter = omega arith; has = λ j b inside lt e. e }
-
-pub wider_both : (old mid new : List ByteFlags) → Wider old mid → Wider mid new → Wider old new
-wider_both old mid new f g = record {
-  shorter = omega (arith, f.shorter, g.shorter);
-  has = λ j b inside lt e. g.has j b inside lt (f.has j b (omega (arith, inside, g.shorter)) lt e);
-}
-
 pub wider_cut : (old : List ByteFlags) (n : ℕ) → n < length old → Wider old (take n old)
 wider_cut old n lt =
     let size : length (take n old) ≡ n = length-take-le n old (omega (arith, lt)) in
@@ -169,9 +160,6 @@ module _ (m : Meaning) (code : List Instruction) (from at : ℕ) (exact : Bool) 
       let b = stands j later (omega (arith, inside, w.shorter)) in
       (b.0, w.has j (slice_index x.haystack (p + j)) inside (bytes (p + j)) b.1))
       (run x limit code n at s v) (f x limit n s v o p meant bytes low same here)
-
-pub wider_has : (old new : List ByteFlags) (from : ℕ) (exact : Bool) (bytes : ByteFlags) → Wider old new → HasFrom old from exact bytes → HasFrom new from exact bytes
-wider_has old new from exact bytes w f j b low same inside lt e = w.has j b inside lt (f j b low same (omega (arith, inside, w.shorter)) lt e)
 
 module _ (m : Meaning) (code : List Instruction) (sets : List ByteFlags) where
   -- past the row nothing is told

@@ -27,14 +27,6 @@ edges_at-left sets more n h =
     let within : n < length (map edges_in sets) = omega (arith, h, length-map sets edges_in) in
     ap (λ (es : List (List ℕ)). get_or es n []) (map-append edges_in sets more) ∙ get_or_append_left (map edges_in sets) (map edges_in more) [] n within
 
-pub edges_at-seam : (sets all : List CharSet) (s : CharSet) (n : ℕ) → all ≡ sets ++ s ∷ [] → n ≡ length sets → edges_at all n ≡ edges_in s
-edges_at-seam sets all s n e same =
-    let at : n ≡ length (map edges_in sets) = omega (arith, same, length-map sets edges_in) in
-    ap (λ (y : List CharSet). edges_at y n) e
-    ∙ ap (λ (es : List (List ℕ)). get_or es n []) (map-append edges_in sets (s ∷ []))
-    ∙ ap (λ (q : ℕ). get_or (map edges_in sets ++ edges_in s ∷ []) q []) at
-    ∙ get_or-append_seam (map edges_in sets) (edges_in s) [] []
-
 with_set-left : (sets more : List CharSet) (j : Instr) → is_known (length sets) j ≡ true → with_set (sets ++ more) j ≡ with_set sets j
 with_set-left sets more coded.Match k = refl
 with_set-left sets more coded.Fail k = refl
@@ -130,12 +122,6 @@ known_written n code all at j e k l = ap (are_known n) e ∙ known_set n code at
 pub with_sets-written : (sets : List CharSet) (code all : List Instr) (at : ℕ) (j : Instr) → all ≡ set code at j → with_sets sets all ≡ set (with_sets sets code) at (with_set sets j)
 with_sets-written sets code all at j e = ap (with_sets sets) e ∙ map-set (with_set sets) code at j
 
--- an instruction is read
-pub with_sets-read : (sets : List CharSet) (code : List Instr) (at : ℕ) (j : Instr) → at < length (with_sets sets code) → j ≡ get_or code at j → with_set sets j ≡ instr_at (with_sets sets code) at
-with_sets-read sets code at j h e =
-    let within : at < length code = omega (arith, h, length-map code (with_set sets)) in
-    ap (with_set sets) e ∙ sym (get_or-map (with_set sets) code at j _ within)
-
 known_at : (n : ℕ) (code : List Instr) (at : ℕ) (d : Instr) → at < length code → are_known n code ≡ true → is_known n (get_or code at d) ≡ true
 known_at n [] at d h k = absurd (omega arith)
 known_at n (i ∷ code) zero d h k = (and_parts (is_known n i) (are_known n code) k).0
@@ -147,7 +133,3 @@ pub set_is_there : (sets : List CharSet) (code : List Instr) (at : ℕ) (j : Ins
 set_is_there sets code at j h e k number next is =
     ltb-true number (length sets)
     (subst (λ (i : Instr). is_known (length sets) i ≡ true) (sym e ∙ is) (known_at (length sets) code at j h k))
-
--- the edges of a set that was read
-pub edges_read : (sets : List CharSet) (n : ℕ) (s : CharSet) → n < length sets → s ≡ get_or sets n s → edges_in s ≡ edges_at sets n
-edges_read sets n s h e = ap edges_in e ∙ sym (get_or-map edges_in sets n s [] h)

@@ -306,9 +306,3 @@ each_more xs ys n len e each k lt =
           subst (λ (j : ℕ). slice_index_or (xs ++ Some n ∷ []) j None ≡ Some k) (sym at)
           (get_or-append_seam xs (Some n) [] None ∙ ap Some (sym len ∙ sym at))
     ])
-
-pub numbered_new : (xs : List (Option ℕ)) (w : ℕ) → xs ≡ [] → IsNumbered xs w
-numbered_new xs w e = subst (λ (ys : List (Option ℕ)). IsNumbered ys w) (sym e) (record {
-  below = λ q k h. absurd (none-some k h);
-  apart = λ q r k h g. absurd (none-some k h);
-})

@@ -16,21 +16,3 @@ trace-in_sequence_append x limit (p ∷ []) (q ∷ qs) s = refl
 trace-in_sequence_append x limit (p ∷ r ∷ ps) qs s =
     bind_same (trace x limit p s) _ _ (trace-in_sequence_append x limit (r ∷ ps) qs)
     ∙ sym (bind-bind (trace x limit p s) (trace x limit (in_sequence (r ∷ ps))) (trace x limit (in_sequence qs)))
-
-pub outcomes-followed : (x : Context) (limit : ℕ) (p q : Pattern) (s : State) →
-    outcomes x limit (followed p q) s ≡ flat_map (outcomes x limit q) (outcomes x limit p s)
-unfolding outcomes trace
-outcomes-followed x limit p q s = outcomes-bind (trace x limit p s) (trace x limit q)
-
-pub outcomes-or_else : (x : Context) (limit : ℕ) (p q : Pattern) (s : State) →
-    outcomes x limit (or_else p q) s ≡ outcomes x limit p s ++ outcomes x limit q s
-unfolding outcomes trace
-outcomes-or_else x limit p q s = outcomes-append (trace x limit p s) (return ∷ trace x limit q s)
-
-pub outcomes-in_sequence_append : (x : Context) (limit : ℕ) (ps qs : List Pattern) (s : State) →
-    outcomes x limit (in_sequence (ps ++ qs)) s
-    ≡ flat_map (outcomes x limit (in_sequence qs)) (outcomes x limit (in_sequence ps) s)
-unfolding outcomes
-outcomes-in_sequence_append x limit ps qs s =
-    ap outcomes_in (trace-in_sequence_append x limit ps qs s)
-    ∙ outcomes-bind (trace x limit (in_sequence ps) s) (trace x limit (in_sequence qs))

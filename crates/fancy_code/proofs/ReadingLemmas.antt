@@ -78,10 +78,6 @@ module _ (haystack : List ℕ) (meaning : Meaning) (suppressed : SuppressedEnds)
   unfolding holds
   holds_word_end_half = refl
 
-pub byte_before-is : (haystack : List ℕ) (p : ℕ) → p ≢ 0 → byte_before haystack p ≡ slice_get haystack (p - 1)
-byte_before-is haystack zero h = absurd (h refl)
-byte_before-is haystack (suc p) h = ap (slice_get haystack) (let e : p ≡ suc p - 1 = omega arith in e)
-
 pub or_left : (a b : Bool) → a ≡ true → a ≡ (a || b)
 or_left true b e = refl
 or_left false b e = cc

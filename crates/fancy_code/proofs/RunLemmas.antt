@@ -43,11 +43,6 @@ given_join P o p t u f g =
 pub gives_nothing : (P : Ends) (o : Option (List Raw)) → o ≡ Some [] → Given P o []
 gives_nothing P o e = ([], e, refl, tt)
 
--- an instruction goes on where c holds, and fails elsewhere
-pub given_if : (P : Ends) (c : Bool) (o : Option (List Raw)) (t : List Event) → (c ≡ true → Given P o t) → Given P (if c then o else (Some [])) (if c then t else [])
-given_if P true o t g = g refl
-given_if P false o t g = gives_nothing P (Some []) refl
-
 -- a region: its body's ways stop as Q says, and from a stop that is wanted the code gives what k says
 module _ (P Q : Ends) (found : Go) (wanted : State → Bool) (missed : Option (List Raw)) (k : Walk) (m : List Event) (other : Given P missed m)
     (after : (q : ℕ) (r : State) (u : List ℕ) → Q q r u → Given P (found q r u) (k r)) where

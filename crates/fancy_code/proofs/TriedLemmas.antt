@@ -84,11 +84,6 @@ module _ (q : Query) (bytes : (k : ℕ) → slice_index q.haystack k < 256) wher
         none = λ k low high. absurd (none_between k from place same low high);
       }
 
--- positions that are passed over are of no matter to the answer
-pub answer_passed : (q : Query) (seek : Bool) (from last place : ℕ) → ArePassed q seek from last place → answer_from q (last + 1 - from) from ≡ answer_from q (last + 1 - place) place
-answer_passed q seek from last place over =
-    skip_none q (place - from) (last + 1 - from) (last + 1 - place) from place (omega (arith, over.passed, over.within)) (omega (arith, over.passed)) over.none
-
 -- the same by the arguments of a search
 pub passed_over : (q : Query) (code : Code) (options : SearchOptions) (haystack : List ℕ) (request : Request) (continues : Bool) → q ≡ query_of q.sought.pattern code options haystack request continues
     → ((k : ℕ) → slice_index haystack k < 256) → (from last place : ℕ) → from ≤ last + 1

@@ -57,11 +57,6 @@ step_within : (limit : Option ℕ) (before after : Work) → units_of after ≡ 
 step_within None before after units one left = tt
 step_within (Some most) before after units one left = omega (arith, units, one, left)
 
-pub runs_step : (limit : Option ℕ) (before after : Work) → HasWorkLeft limit before → after ≡ stepped_within before → RunsWithin limit before after
-runs_step limit before after left is =
-    let one = one_step before after is in
-    record { units = one.units; within = λ _. step_within limit before after one.units one.one left }
-
 -- a return is no work
 pub runs_back : (limit : Option ℕ) (before after : Work) → after ≡ went_back_within before → RunsWithin limit before after
 runs_back limit before after is =
