@@ -10,7 +10,7 @@ steps_of w = w.steps
 abbrev pub returns_of : Work → ℕ
 returns_of w = w.returns
 
--- units that were gone over within one instruction: by look-behinds, and by comparisons of texts
+-- units that were gone over within one step: by look-behinds, by comparisons of texts, and by loops of one item
 abbrev pub units_of : Work → ℕ
 units_of w = w.units
 
@@ -56,6 +56,7 @@ pub record AddsReturns (count : ℕ) (before after : Work) : Type 0 where
   pub steps : steps_of before ≤ steps_of after
   pub units : units_of after ≡ units_of before
   pub paired : returns_of before ≤ steps_of before → returns_of after ≤ steps_of after
+  pub ahead : returns_of before < steps_of before → returns_of after < 2 ^ 64 - 1 → returns_of after < steps_of after
 
 -- so many more can be counted, where a usize holds their number at all
 abbrev pub HasRoom : ℕ → ℕ → Type 0

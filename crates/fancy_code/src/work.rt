@@ -6,7 +6,7 @@ ghost use Rattle.fancy_code.specs.Work.{steps_of, returns_of, units_of, work_of,
 use crate::refusal::SearchRefusal;
 
 /// How much was done since the counts began: the fetches of instructions, the saved branches that were taken, and the units that were
-/// gone over within one instruction.
+/// gone over within one step.
 ///
 /// The counts of a search only grow, and there is no second copy of them.
 ///
@@ -82,8 +82,8 @@ impl Work {
         self.returns
     }
 
-    /// How many units were gone over within one instruction: those that look-behinds went back, and the bytes of the texts that
-    /// backreferences compared. An easy search goes over none.
+    /// How many units were gone over within one step: those that look-behinds went back, the bytes of the texts that backreferences
+    /// compared, and the items that a loop of one item read together. An easy search goes over none.
     pub fn units(&self) -> usize
         ensures { result ≡ units_of self.now }
     {
