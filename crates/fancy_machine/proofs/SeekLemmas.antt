@@ -8,6 +8,7 @@ use Rattle.fancy_input.specs.Lines.{byte_before}
 use Rattle.fancy_code.specs.declared.code.Code.{Code}
 use Rattle.fancy_code.specs.declared.options.SearchOptions.{SearchOptions}
 use Rattle.fancy_code.specs.Compile.{IsCodeOf}
+use Rattle.fancy_code.specs.Context.{Context}
 use Rattle.fancy_code.specs.Events.{marks_in, returns_in}
 use Rattle.fancy_code.specs.Queries.{query_of}
 use Rattle.fancy_code.specs.Search.{Query, answer_from, gone_from}
@@ -15,8 +16,11 @@ use Rattle.fancy_code.specs.Seen.{IsNextCandidate}
 use Rattle.fancy_code.specs.Tried.{may_begin, tried, NoneTried}
 use Rattle.fancy_code.proofs.SkipLemmas.{skip_none}
 use Rattle.fancy_code.proofs.TriedLemmas.{passed_over}
-use Rattle.fancy_prices.specs.Entries.{AreEntries, EntryTest, IsNextEntry, IsPassed}
-use Rattle.fancy_prices.specs.Prices.{CostsNothingAt, IsPriceAt}
+use Rattle.fancy_prices.specs.declared.price.Price.{Price}
+use Rattle.fancy_prices.specs.Entries.{AreEntries, EntryTest, IsNextEntry, IsPassed, IsToldAt}
+use Rattle.fancy_prices.specs.Prices.{CostsAt, CostsNothingAt}
+use Rattle.fancy_machine.specs.declared.attempt.Attempt.{Attempt}
+use Rattle.fancy_machine.specs.Asked.{Serves}
 use Rattle.fancy_prices.proofs.SumOfPrices.{goes_past, untried_costs_nothing, priced_costs_nothing}
 
 -- The search goes on from the one place as it does from the other, which is tried, if it is one of the search.
@@ -46,11 +50,11 @@ module _ (q : Query) (code : Code) (options : SearchOptions) (haystack : List �
     (entry : EntryTest) (are : AreEntries entry code) (from last place : ℕ) (ordered : from ≤ last + 1)
     (sought : options.seek ≡ true → IsNextCandidate code.start_bytes haystack request.range_end from last place)
     (each : options.seek ≡ false → IsNextEntry entry haystack request.range_end from last place) where
-  -- where no attempt must be made, it costs nothing
-  price_of : IsCodeOf q.sought.pattern code → (k : ℕ) → IsPassed entry haystack request.range_end k → IsPriceAt q k 0 0
+  -- what an attempt costs that is told to cost nothing
+  price_of : IsCodeOf q.sought.pattern code → (k : ℕ) → (passed : IsPassed entry haystack request.range_end k) → CostsAt q k passed.0
   price_of of k passed =
       are q of (ap (λ (r : Query). r.sought.meaning) is) (omega (arith, inside, ends, ap length here)) (λ p. subst (λ (h : List ℕ). slice_index h p < 256) here (bytes p))
-      k (omega (arith, passed.0, ends)) (subst (λ (h : List ℕ). entry (byte_before h k) (slice_index h k) ≡ false) here passed.1)
+      k (omega (arith, passed.1.0, ends)) passed.0 (subst (λ (h : List ℕ). entry (byte_before h k) (slice_index h k) passed.0) here passed.1.1)
     where
       here : haystack ≡ q.haystack
       here = sym (ap (λ (r : Query). r.haystack) is)
@@ -68,7 +72,7 @@ module _ (q : Query) (code : Code) (options : SearchOptions) (haystack : List �
     by false e =
         let next = each e in
         goes_on_past q options.seek from last place next.passed next.within (λ le. ap (λ (b : Bool). not b || may_begin q place) e)
-        (λ k low high. priced_costs_nothing q (tried options.seek q) k (price_of of k (next.none k low high)))
+        (λ k low high. let passed = next.none k low high in priced_costs_nothing q (tried options.seek q) k passed.0 (price_of of k passed) passed.2)
 
   pub goes_on : GoesOn q options.seek from last place
   goes_on = record {
@@ -77,6 +81,24 @@ module _ (q : Query) (code : Code) (options : SearchOptions) (haystack : List �
     returns = ∥∥₁_elim some (hlevel props) (λ of. (on of).returns);
     marks = ∥∥₁_elim some (hlevel props) (λ of. (on of).marks);
   }
+
+-- what an attempt costs, where that is told
+pub told_costs : (q : Query) (a : Attempt) → Serves a q → ∥ IsCodeOf q.sought.pattern a.code.now ∥₁ → q.request.range_end ≤ length q.haystack → ((k : ℕ) → slice_index a.haystack.now k < 256)
+    → (entry : EntryTest) → AreEntries entry a.code.now → (range_end : ℕ) → range_end ≡ q.request.range_end → (p : ℕ) (c : Price) → IsToldAt entry a.haystack.now range_end p c → CostsAt q p c
+told_costs q a serves some inside bytes entry are range_end range p c told =
+    record {
+      none = ∥∥₁_elim some (hlevel props) (λ of. (costs of).none);
+      marks = ∥∥₁_elim some (hlevel props) (λ of. (costs of).marks);
+      returns = ∥∥₁_elim some (hlevel props) (λ of. (costs of).returns);
+    }
+  where
+    here : a.haystack.now ≡ q.haystack
+    here = ap (λ (x : Context). x.haystack) serves.context
+
+    costs : IsCodeOf q.sought.pattern a.code.now → CostsAt q p c
+    costs of =
+        are q of (sym (ap (λ (x : Context). x.meaning) serves.context)) inside (λ k. subst (λ (h : List ℕ). slice_index h k < 256) here (bytes k))
+        p (omega (arith, told.0, range)) c (subst (λ (h : List ℕ). entry (byte_before h p) (slice_index h p) c) here told.1)
 
 -- a position that is tried is one of them
 pub tried_somewhere : (q : Query) (seek : Bool) (request : Request) (p : ℕ) → q.request ≡ request → NoneTried seek q → effective_start request ≤ p → p ≤ request.range_end → tried seek q p ≡ true → ⊥

@@ -1,6 +1,6 @@
 //! Searches by the machine.
 
-ghost use Rattle.std.specs.Prelude.{◌≡◌, ◌+◌, ◌-◌, ◌<◌, ◌≤◌, true, false, [], Option, Some, None, Err, IfOk, IfSome, length, slice_index_or};
+ghost use Rattle.std.specs.Prelude.{◌≡◌, ℕ, ◌+◌, ◌-◌, ◌<◌, ◌≤◌, true, false, [], Option, Some, None, Err, IfOk, IfSome, length, slice_index, slice_index_or};
 ghost use Rattle.fancy_code.specs.Compile.{IsCodeOf};
 ghost use Rattle.fancy_input.specs.LastLines.{KnowsLastLines};
 ghost use Rattle.fancy_input.specs.Requests.{effective_start};
@@ -143,7 +143,7 @@ pub fn search(
     ready_last_lines(&mut cache.last_lines, attempt.haystack, is_kept);
     let mut place = positions.next(first);
     while place <= last {
-        let found = try_position(&attempt, place, range_end, limit, cache, work)?;
+        let found = pass_or_try(&attempt, &positions, place, limit, cache, work)?;
         if let Some(found) = found {
             return Ok(Some(found));
         }
@@ -185,6 +185,59 @@ impl Positions<'_> {
         self.entries
             .next(self.haystack, self.range_end, from, self.last)
     }
+}
+
+/// Passes over a position where it is told that an attempt finds nothing, and counts the returns of one. At another position it makes
+/// the attempt, and also where that would save more branches than may be saved at one time.
+#[inline]
+fn pass_or_try(
+    attempts: &Attempt,
+    positions: &Positions,
+    position: usize,
+    limit: usize,
+    cache: &mut Cache,
+    work: &mut Work,
+) -> Result<Option<Found>, SearchRefusal>
+    ghost q: { Query }
+    requires serves { Serves attempts.now q }
+    requires groups { q.sought.groups ≡ attempts.now.code.now.groups }
+    requires code { ∥ IsCodeOf q.sought.pattern attempts.now.code.now ∥₁ }
+    requires range { positions.now.range_end ≡ q.request.range_end }
+    requires inside { q.request.range_end ≤ length q.haystack }
+    requires ends { position ≤ q.request.range_end }
+    requires room { returns_of work.old ≤ limit }
+    requires last_lines { KnowsLastLines attempts.now.haystack.now (lines_held cache.old) }
+    requires entries { AreEntries (is_entry positions.now.entries.now) attempts.now.code.now }
+    requires bytes { (k : ℕ) → slice_index attempts.now.haystack.now k < 256 }
+    ensures answer { IfOk result (λ found. answer_with (groups_held cache.new) found ≡ attempt q position) }
+    ensures count { IfOk result (λ _. returns_of work.new ≡ returns_of work.old + returns_at q position) }
+    ensures refused { result ≡ Err SearchRefusal.Returns → limit < returns_of work.old + returns_at q position }
+    ensures stopped { result ≡ Err SearchRefusal.Returns → returns_of work.new ≡ limit }
+    ensures fits { returns_of work.new ≤ limit }
+    ensures steps { steps_of work.old ≤ steps_of work.new }
+    ensures returns { returns_of work.old ≤ returns_of work.new }
+    ensures bounded { returns_of work.new ≤ returns_of work.old + returns_at q position }
+    ensures paired { returns_of work.old ≤ steps_of work.old → returns_of work.new ≤ steps_of work.new }
+    ensures last_lines { KnowsLastLines attempts.now.haystack.now (lines_held cache.new) }
+    ensures crowded { result ≡ Err SearchRefusal.Choices → attempts.now.options.stack_limit < choices_at q position }
+    ensures heeds { HeedsLimit attempts.now.options.stack_limit cache.old cache.new }
+    ensures within { IsWithin attempts.now.options.step_limit work.old
+        → IsWithin attempts.now.options.step_limit work.new }
+    ensures limited { result ≡ Err SearchRefusal.Steps
+        → IsSpent attempts.now.options.step_limit work.new }
+{
+    let range_end = positions.range_end;
+    if let Some(price) = positions
+        .entries
+        .price(attempts.haystack, range_end, position)
+    {
+        if price.marks as usize <= attempts.options.stack_limit {
+            let step_limit = attempts.options.step_limit;
+            work.count_returns(price.returns as usize, limit, step_limit)?;
+            return Ok(None);
+        }
+    }
+    try_position(attempts, position, range_end, limit, cache, work)
 }
 
 /// Makes one attempt alone, at a position from the effective start on. What is found is what [`search`] would take at this

@@ -1,48 +1,88 @@
 -- What each instruction costs where the ways from it die.
-use Rattle.std.proofs.Common.{◌≡◌, ℕ, zero, suc, ◌+◌, ◌≤◌, ◌==◌, Bool, true, false, List, [], ◌∷◌, length, Option, Some, None, if◌then◌else◌, nat_le, refl, sym, ap, ◌∙◌, subst, slice_get, slice_index, slice_set, ne_eqb, true≢false}
+use Rattle.std.proofs.Common.{◌≡◌, ℕ, zero, suc, ◌+◌, ◌≤◌, ◌==◌, Bool, true, false, List, [], ◌∷◌, ◌++◌, length, Option, Some, None, if◌then◌else◌, nat_le, refl, sym, ap, ◌∙◌, subst, arith, slice_get, slice_index, slice_set, ne_eqb, true≢false}
 use Rattle.fancy_tree.specs.declared.tree.Meaning.{Meaning}
 use Rattle.fancy_tree.specs.declared.tree.Assertion.{Assertion}
 use Rattle.fancy_tree.specs.Sets.{has}
 use Rattle.fancy_code.specs.Context.{Context, State, holds, moved_to, option_to, past_byte, past_item, units_back, with_capture}
 use Rattle.fancy_code.specs.Events.{any, ends_look}
-use Rattle.fancy_code.specs.Instructions.{Instruction, Fail, Match, Commit, Assert, Back, Character, Close, Enter, Keep, Look, Member, Open, RawByte}
-use Rattle.fancy_code.specs.Run.{Raw, Note, Stop, choice_opened, returned, fetched, Go, before, guard, fenced, onward, resume, instr_at, act, run}
+use Rattle.fancy_code.specs.Instructions.{Instruction, Fail, Match, Commit, Assert, Back, Character, Close, Deny, Enter, Keep, Look, Member, Open, RawByte, Split}
+use Rattle.fancy_code.specs.Run.{Raw, Note, Stop, choice_opened, returned, fetched, Go, before, join, guard, fenced, halt, onward, resume, instr_at, act, run}
 use Rattle.fancy_code.proofs.RunMore.{past_end}
 use Rattle.fancy_prices.specs.declared.facts.Before.{Before}
 use Rattle.fancy_prices.specs.declared.facts.Facts.{Facts}
 use Rattle.fancy_prices.specs.Facts.{FailsWith, Stands}
-use Rattle.fancy_prices.specs.Prices.{CostsIn, Costs, Dies, IsQuietIn, Quiet, IsQuiet, BeginsNone}
+use Rattle.fancy_prices.specs.Prices.{MissesIn, Misses, Costs, Dies, FindsNone, IsQuietIn, Quiet, IsQuiet, BeginsNone}
 use Rattle.fancy_prices.proofs.BeginLemmas.{no_item}
 
-pub read : (m r : ℕ) (o : Option (List Raw)) → Costs m r o → Costs m r (before (Note fetched) o)
-read m r None h = tt
-read m r (Some w) h = h
+pub costs_same : (wanted : State → Bool) (m r k l : ℕ) (o : Option (List Raw)) → m ≡ k → r ≡ l → Misses wanted m r o → Misses wanted k l o
+costs_same wanted m r k l o e f h = subst (λ (i : ℕ). Misses wanted k i o) f (subst (λ (i : ℕ). Misses wanted i r o) e h)
 
--- where a region's body dies, nothing follows
-module _ (found : Go) (wanted : State → Bool) where
-  opened : (m r : ℕ) (o : Option (List Raw)) → Costs m r o → Costs (suc m) r (before (Note choice_opened) o)
+module _ (wanted : State → Bool) where
+  append : (m r k l : ℕ) (a b : List Raw) → MissesIn wanted m r a → MissesIn wanted k l b → MissesIn wanted (m + k) (r + suc l) (a ++ Note returned ∷ b)
+  append m r k l [] b ha hb = (l, omega (arith, ha.1), subst (λ (i : ℕ). MissesIn wanted i l b) (omega (arith, ha.0)) hb)
+  append m r k l (Note choice_opened ∷ a) b ha hb = (ha.0 + k, omega (arith, ha.1), append ha.0 r k l a b ha.2 hb)
+  append m r k l (Note returned ∷ a) b ha hb = (ha.0 + suc l, omega (arith, ha.1), append m ha.0 k l a b ha.2 hb)
+  append m r k l (Note fetched ∷ a) b ha hb = append m r k l a b ha hb
+  append m r k l (Stop q s v ∷ a) b ha hb = (ha.0, append m r k l a b ha.1 hb)
+
+  -- two ways of a choice
+  pub joined : (m r k l : ℕ) (o p : Option (List Raw)) → Misses wanted m r o → Misses wanted k l p → Misses wanted (m + k) (r + suc l) (join o p)
+  joined m r k l None p ha hb = tt
+  joined m r k l (Some a) None ha hb = tt
+  joined m r k l (Some a) (Some b) ha hb = append m r k l a b ha hb
+
+  pub opened : (m r : ℕ) (o : Option (List Raw)) → Misses wanted m r o → Misses wanted (suc m) r (before (Note choice_opened) o)
   opened m r None h = tt
   opened m r (Some w) h = (m, refl, h)
 
-  gone_back : (m r : ℕ) (o : Option (List Raw)) → Costs m r o → Costs m (suc r) (before (Note returned) o)
+  pub gone_back : (m r : ℕ) (o : Option (List Raw)) → Misses wanted m r o → Misses wanted m (suc r) (before (Note returned) o)
   gone_back m r None h = tt
   gone_back m r (Some w) h = (r, refl, h)
 
-  guard_missed : (m r : ℕ) (w : List Raw) → CostsIn m r w → Costs m r (guard found wanted (Some []) w)
-  guard_missed m r [] h = h
-  guard_missed m r (Note choice_opened ∷ w) h =
-      subst (λ (k : ℕ). Costs k r (before (Note choice_opened) (guard found wanted (Some []) w))) (sym h.1)
-      (opened h.0 r (guard found wanted (Some []) w) (guard_missed h.0 r w h.2))
-  guard_missed m r (Note returned ∷ w) h =
-      subst (λ (k : ℕ). Costs m k (before (Note returned) (guard found wanted (Some []) w))) (sym h.1)
-      (gone_back m h.0 (guard found wanted (Some []) w) (guard_missed m h.0 w h.2))
-  guard_missed m r (Note fetched ∷ w) h = read m r (guard found wanted (Some []) w) (guard_missed m r w h)
-  guard_missed m r (Stop q s v ∷ w) h = absurd h
+  pub read_on : (m r : ℕ) (o : Option (List Raw)) → Misses wanted m r o → Misses wanted m r (before (Note fetched) o)
+  read_on m r None h = tt
+  read_on m r (Some w) h = h
 
-  fenced_missed : (m r : ℕ) (o : Option (List Raw)) → Costs m r o → Costs m r (fenced found wanted (Some []) o)
-  fenced_missed m r None h = tt
-  fenced_missed m r (Some w) h = guard_missed m r w h
+  -- where no way stops, none stops as wanted
+  pub none_wanted : (m r : ℕ) (o : Option (List Raw)) → Costs m r o → Misses wanted m r o
+  none_wanted m r None h = tt
+  none_wanted m r (Some w) h = by m r w h where
+    by : (m r : ℕ) (w : List Raw) → MissesIn any m r w → MissesIn wanted m r w
+    by m r [] h = h
+    by m r (Note choice_opened ∷ w) h = (h.0, h.1, by h.0 r w h.2)
+    by m r (Note returned ∷ w) h = (h.0, h.1, by m h.0 w h.2)
+    by m r (Note fetched ∷ w) h = by m r w h
+    by m r (Stop q s v ∷ w) h = absurd (true≢false h.0)
 
+pub read : (m r : ℕ) (o : Option (List Raw)) → Costs m r o → Costs m r (before (Note fetched) o)
+read = read_on any
+
+-- where a region's body finds nothing, what is missed follows
+module _ (found : Go) (wanted : State → Bool) (missed : Option (List Raw)) (k l : ℕ) (h : Costs k l missed) where
+  pass_by : (b : Bool) (m r : ℕ) (a o : Option (List Raw)) → b ≡ false → Costs m r o → Costs m r (if b then a else o)
+  pass_by b m r a o e g = subst (λ (c : Bool). Costs m r (if c then a else o)) (sym e) g
+
+  guard_missed : (m r : ℕ) (w : List Raw) → MissesIn wanted m r w → Costs (m + k) (r + l) (guard found wanted missed w)
+  guard_missed m r [] g = costs_same any k l (m + k) (r + l) missed (omega (arith, g.0)) (omega (arith, g.1)) h
+  guard_missed m r (Note choice_opened ∷ w) g =
+      costs_same any (suc (g.0 + k)) (r + l) (m + k) (r + l) (before (Note choice_opened) (guard found wanted missed w)) (omega (arith, g.1)) refl
+      (opened any (g.0 + k) (r + l) (guard found wanted missed w) (guard_missed g.0 r w g.2))
+  guard_missed m r (Note returned ∷ w) g =
+      costs_same any (m + k) (suc (g.0 + l)) (m + k) (r + l) (before (Note returned) (guard found wanted missed w)) refl (omega (arith, g.1))
+      (gone_back any (m + k) (g.0 + l) (guard found wanted missed w) (guard_missed m g.0 w g.2))
+  guard_missed m r (Note fetched ∷ w) g = read (m + k) (r + l) (guard found wanted missed w) (guard_missed m r w g)
+  guard_missed m r (Stop q s v ∷ w) g = pass_by (wanted s) (m + k) (r + l) (found q s v) (guard found wanted missed w) g.0 (guard_missed m r w g.1)
+
+  pub fenced_missed : (m r : ℕ) (o : Option (List Raw)) → Misses wanted m r o → Costs (m + k) (r + l) (fenced found wanted missed o)
+  fenced_missed m r None g = tt
+  fenced_missed m r (Some w) g = guard_missed m r w g
+
+-- and where nothing follows, it costs what the body does
+pub fenced_none : (found : Go) (wanted : State → Bool) (m r : ℕ) (o : Option (List Raw)) → Misses wanted m r o → Costs m r (fenced found wanted (Some []) o)
+fenced_none found wanted m r o h =
+    costs_same any (m + 0) (r + 0) m r (fenced found wanted (Some []) o) (omega arith) (omega arith) (fenced_missed found wanted (Some []) 0 0 (refl, refl) m r o h)
+
+module _ (found : Go) (wanted : State → Bool) where
   -- where a body is quiet, and what follows dies without an event, so does the whole
   module _ (free : (q : ℕ) (s : State) (v : List ℕ) → Costs 0 0 (found q s v)) where
     either_free : (b : Bool) (o p : Option (List Raw)) → Costs 0 0 o → Costs 0 0 p → Costs 0 0 (if b then o else p)
@@ -114,15 +154,38 @@ module _ (code : List Instruction) (meaning : Meaning) (f : Facts) where
   pub dies_enter : (m r at body : ℕ) → instr_at code at ≡ Enter body → Dies code meaning f m r body → Dies code meaning f m r at
   dies_enter m r at body is h =
       dies_by m r at (Enter body) is
-      (λ x limit n s v meant stands. fenced_missed (run x limit code n) any m r (run x limit code n body s v) (h x limit n s v meant stands))
+      (λ x limit n s v meant stands. fenced_none (run x limit code n) any m r (run x limit code n body s v) (h x limit n s v meant stands))
 
-  -- a look-around whose body dies
-  pub dies_look : (behind : Bool) (m r at body next : ℕ) → instr_at code at ≡ Look behind body next → Dies code meaning f m r body → Dies code meaning f m r at
+  -- two ways that die
+  pub dies_split : (m r k l at a b : ℕ) → instr_at code at ≡ Split a b → Dies code meaning f m r a → Dies code meaning f k l b → Dies code meaning f (suc (m + k)) (r + suc l) at
+  dies_split m r k l at a b is g h =
+      dies_by (suc (m + k)) (r + suc l) at (Split a b) is
+      (λ x limit n s v meant stands.
+      opened any (m + k) (r + suc l) (join (run x limit code n a s v) (run x limit code n b s v))
+      (joined any m r k l (run x limit code n a s v) (run x limit code n b s v) (g x limit n s v meant stands) (h x limit n s v meant stands)))
+
+  -- the body of a look-around that dies
+  pub finds_none : (behind : Bool) (m r body : ℕ) → Dies code meaning f m r body → FindsNone code meaning behind f m r body
+  finds_none behind m r body h x limit n s v meant stands = none_wanted (ends_look behind s.place) m r (run x limit code n body s v) (h x limit n s v meant stands)
+
+  -- a look-around whose body finds nothing
+  pub dies_look : (behind : Bool) (m r at body next : ℕ) → instr_at code at ≡ Look behind body next → FindsNone code meaning behind f m r body → Dies code meaning f m r at
   dies_look behind m r at body next is h =
       dies_by m r at (Look behind body next) is
       (λ x limit n s v meant stands.
-      fenced_missed (resume (run x limit code n) next s.place) (ends_look behind s.place) m r (run x (length x.haystack) code n body s v)
+      fenced_none (resume (run x limit code n) next s.place) (ends_look behind s.place) m r (run x (length x.haystack) code n body s v)
       (h x (length x.haystack) n s v meant stands))
+
+  -- a negated one whose body finds nothing, if what follows dies
+  pub dies_deny : (behind : Bool) (m r k l at body next : ℕ) → instr_at code at ≡ Deny behind body next → FindsNone code meaning behind f m r body → Dies code meaning f k l next
+      → Dies code meaning f (suc (m + k)) (r + suc l) at
+  dies_deny behind m r k l at body next is g h =
+      dies_by (suc (m + k)) (r + suc l) at (Deny behind body next) is
+      (λ x limit n s v meant stands.
+      opened any (m + k) (r + suc l) (fenced halt (ends_look behind s.place) (before (Note returned) (run x limit code n next s v)) (run x (length x.haystack) code n body s v))
+      (fenced_missed halt (ends_look behind s.place) (before (Note returned) (run x limit code n next s v)) k (suc l)
+      (gone_back any k l (run x limit code n next s v) (h x limit n s v meant stands)) m r (run x (length x.haystack) code n body s v)
+      (g x (length x.haystack) n s v meant stands)))
 
   -- and one that may find something or not: what follows dies without an event, as the look-around does
   pub dies_look_quiet : (behind : Bool) (at body next : ℕ) → instr_at code at ≡ Look behind body next → IsQuiet code body → Dies code meaning f 0 0 next → Dies code meaning f 0 0 at

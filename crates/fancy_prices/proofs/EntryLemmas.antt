@@ -1,20 +1,29 @@
 -- The positions at which an attempt must be made, by what the code costs at the others.
-use Rattle.std.proofs.Common.{◌≡◌, ℕ, zero, suc, ◌+◌, ◌^◌, ◌*◌, ◌<◌, ◌==◌, Bool, true, false, not, ◌&&◌, List, length, Option, Some, None, IfSome, refl, sym, ap, subst, ◌∙◌, arith, true≢false, slice_get, slice_index, slice_set, inl, inr, get_or-set_same, get_or-set_other, ne_eqb}
-use Rattle.std.specs.Prelude.{bit_and, bit_or, max}
+use Rattle.std.proofs.Common.{◌≡◌, ℕ, zero, suc, ◌+◌, ◌^◌, ◌*◌, ◌<◌, ◌≤◌, ◌==◌, Bool, true, false, not, ◌&&◌, List, [], ◌∷◌, length, Option, Some, None, IfSome, refl, sym, ap, subst, ◌∙◌, arith, true≢false, slice_get, slice_index, slice_set, ◌⊎◌, inl, inr, get_or-set_same, get_or-set_other, ne_eqb}
+use Rattle.std.specs.Prelude.{bit_and, bit_or, max, slice_index_or}
 use Rattle.std.specs.Int.Bits.{and_zero_l}
 use Rattle.std.specs.Int.{bit_at}
-use Rattle.std.proofs.lemmas.Bool.{cases_eq}
+use Rattle.std.proofs.lemmas.Bool.{cases_eq, cases_lt}
 use Rattle.std.proofs.lemmas.Nat.Bits.{and_pow, bit_at_or}
-use Rattle.std.proofs.lemmas.Option.{slice_get-get_or}
+use Rattle.std.proofs.lemmas.Option.{IfSome_then, slice_get-get_or}
 use Rattle.fancy_input.specs.Lines.{byte_before}
 use Rattle.fancy_bytes.specs.Sets.{ByteFlags, member}
+use Rattle.fancy_bytes.specs.Seeks.{IsNextSeen, NoneSeenBefore}
 use Rattle.fancy_code.specs.declared.code.Code.{Code}
+use Rattle.fancy_code.specs.Code.{instrs_of}
+use Rattle.fancy_code.specs.Compile.{IsCodeOf}
+use Rattle.fancy_code.specs.Search.{Query}
 use Rattle.fancy_prices.specs.declared.facts.Before.{Before}
 use Rattle.fancy_prices.specs.declared.facts.Before.TheVariants.{Nothing, LineFeed, CarriageReturn, Word, Other, Wide}
-use Rattle.fancy_prices.specs.Facts.{bit_of}
-use Rattle.fancy_prices.specs.Entries.{AreEntries, HasKind, TellsKinds, is_after, kind_before}
+use Rattle.fancy_prices.specs.declared.entries.Prices.{Prices}
+use Rattle.fancy_prices.specs.declared.entries.Told.{Told}
+use Rattle.fancy_prices.specs.declared.price.Price.{Price}
+use Rattle.fancy_prices.specs.Facts.{IsOfKind, bit_of}
+use Rattle.fancy_prices.specs.Prices.{CostsAt, IsNothing}
+use Rattle.fancy_prices.specs.Entries.{AreEntries, CostsWithout, HasKind, HaveKinds, IsPassed, TellsByte, TellsKinds, TellsRow, bit_before, is_after, is_told, kind_before, price_in, price_told}
+use Rattle.fancy_prices.proofs.DyingWays.{dies_told}
 use Rattle.fancy_prices.proofs.BeginLemmas.{get_index}
-use Rattle.fancy_prices.proofs.PriceLemmas.{told_counted}
+use Rattle.fancy_prices.proofs.PriceLemmas.{price_costs, told_counted}
 
 -- a kind has its own bit
 pub own_bit : (k : Before) → bit_and (bit_of k) (bit_of k) ≡ 0 → ⊥
@@ -24,15 +33,6 @@ own_bit CarriageReturn e = cc
 own_bit Word e = cc
 own_bit Other e = cc
 own_bit Wide e = cc
-
--- all have theirs among six
-pub all_bits : (k : Before) → bit_and 63 (bit_of k) ≡ 0 → ⊥
-all_bits Nothing e = cc
-all_bits LineFeed e = cc
-all_bits CarriageReturn e = cc
-all_bits Word e = cc
-all_bits Other e = cc
-all_bits Wide e = cc
 
 -- neither number has a bit that the two together lack
 module _ (a b i m : ℕ) (power : 2 ^ i ≡ m) (some : (n : ℕ) → n * m ≡ 0 → n ≡ 0) (none : 0 * m ≡ 0) where
@@ -56,11 +56,12 @@ lacks Other a b e = lacks_bit a b 4 16 refl (λ n z. omega (arith, z)) refl e
 lacks Wide a b e = lacks_bit a b 5 32 refl (λ n z. omega (arith, z)) refl e
 
 -- one more item that is as it should be
-pub one_more : (P : ℕ → ℕ → Type 0) (items : List ℕ) (i v : ℕ) → i < length items → P i v → ((b : ℕ) → b < i → P b (slice_index items b)) → (b : ℕ) → b < i + 1 → P b (slice_index (slice_set items i v) b)
-one_more P items i v within is below b lt =
+pub one_more : {A : Type 0} (d : A) (P : ℕ → A → Type 0) (items : List A) (i : ℕ) (v : A) → i < length items → P i v → ((b : ℕ) → b < i → P b (slice_index_or items b d))
+    → (b : ℕ) → b < i + 1 → P b (slice_index_or (slice_set items i v) b d)
+one_more d P items i v within is below b lt =
     elim (cases_eq b i) [
-      | inl same ↦ subst (λ (k : ℕ). P k (slice_index (slice_set items i v) k)) (sym same) (subst (P i) (sym (get_or-set_same items i v 0 within)) is)
-      | inr other ↦ subst (P b) (sym (get_or-set_other items i b v 0 other)) (below b (omega (arith, lt, other)))
+      | inl same ↦ subst (λ (k : ℕ). P k (slice_index_or (slice_set items i v) k d)) (sym same) (subst (P i) (sym (get_or-set_same items i v d within)) is)
+      | inr other ↦ subst (P b) (sym (get_or-set_other items i b v d other)) (below b (omega (arith, lt, other)))
     ]
 
 -- a byte stands at each place inside
@@ -76,9 +77,13 @@ small_before : (h : List ℕ) (p : ℕ) → ((k : ℕ) → slice_index h k < 256
 small_before h zero small = tt
 small_before h (suc p) small = small_at h p small (slice_get h p) refl
 
-kind_has : (kinds : List ℕ) → ((b : ℕ) → b < 256 → HasKind (slice_index kinds b) (Some b)) → (o : Option ℕ) → IfSome o (λ b. b < 256) → HasKind (kind_before kinds o) o
-kind_has kinds own None lt = (Nothing, refl, refl)
-kind_has kinds own (Some b) lt = own b lt
+bit_has : (kinds : List ℕ) → ((b : ℕ) → b < 256 → HasKind (slice_index kinds b) (Some b)) → (o : Option ℕ) → IfSome o (λ b. b < 256) → HasKind (bit_before kinds o) o
+bit_has kinds own None lt = (Nothing, refl, refl)
+bit_has kinds own (Some b) lt = own b lt
+
+kind_is : (kinds : List Before) → HaveKinds kinds → (o : Option ℕ) → IfSome o (λ b. b < 256) → IsOfKind (kind_before kinds o) o
+kind_is kinds have None lt = refl
+kind_is kinds have (Some b) lt = have b lt
 
 -- nothing is tested past a failed test, and the other fails where the first does not
 no_bit : (m : Bool) (x : ℕ) → (m && not (x == 0)) ≡ false → (m ≡ false → x ≡ 0) → x ≡ 0
@@ -89,17 +94,88 @@ no_bit true x e none =
       | inr other ↦ absurd (true≢false (sym (ap not (ne_eqb x 0 other)) ∙ e))
     ]
 
-module _ (bytes : ByteFlags) (after kinds : List ℕ) (code : Code)
+-- what a scan passes over
+module _ (e : Option Told) (t : Told) (is : e ≡ Some t) (h : List ℕ) (range_end from place : ℕ) (earlier : (k : ℕ) → from ≤ k → k < place → IsPassed (is_told e) h range_end k) where
+  passed_here : (k : ℕ) → k < range_end → (member t.bytes (slice_index h k) && is_after t.after t.kinds (byte_before h k) (slice_index h k)) ≡ false → IsPassed (is_told e) h range_end k
+  passed_here k lt none =
+      let nothing : Price = record { marks = 0; returns = 0 } in
+      (nothing, (lt, subst (λ (o : Option Told). is_told o (byte_before h k) (slice_index h k) nothing) (sym is) (inr (none, (refl, refl)))), (refl, refl))
+
+  pub passed_unseen : (to : ℕ) → to ≤ range_end → NoneSeenBefore t.bytes h place to → (k : ℕ) → from ≤ k → k < to → IsPassed (is_told e) h range_end k
+  passed_unseen to inside none k low high =
+      elim (cases_lt k place) [
+        | inl before ↦ earlier k low before
+        | inr later ↦ passed_here k (omega (arith, high, inside)) (ap (λ (b : Bool). b && is_after t.after t.kinds (byte_before h k) (slice_index h k)) (none k later high))
+      ]
+
+  pub passed_seen : (to seen : ℕ) → to ≤ range_end → IsNextSeen t.bytes h place to seen → is_after t.after t.kinds (byte_before h seen) (slice_index h seen) ≡ false
+      → (k : ℕ) → from ≤ k → k < seen + 1 → IsPassed (is_told e) h range_end k
+  passed_seen to seen inside next none k low high =
+      elim (cases_eq k seen) [
+        | inl same ↦ subst (IsPassed (is_told e) h range_end) (sym same)
+            (passed_here seen (omega (arith, next.within, inside)) (ap (λ (b : Bool). member t.bytes (slice_index h seen) && b) none ∙ never (member t.bytes (slice_index h seen))))
+        | inr other ↦ passed_unseen seen (omega (arith, next.within, inside)) next.none k low (omega (arith, high, other))
+      ]
+    where
+      never : (b : Bool) → (b && false) ≡ false
+      never true = refl
+      never false = refl
+
+-- the same row after each kind
+pub same_rows : (code : Code) (row : List (Option Price)) → TellsRow code None row → TellsKinds code (row ∷ row ∷ row ∷ row ∷ row ∷ row ∷ [])
+same_rows code row tells kind b lt = by kind where
+  told : (k : Before) → TellsByte code (Some k) b (slice_index_or row b None)
+  told k =
+      IfSome_then (slice_index_or row b None) (tells b lt)
+      (λ c dies. (dies_told (instrs_of code) code.meaning b (Some k) c.marks c.returns code.start dies.0, dies.1))
+
+  by : (k : Before) → TellsByte code (Some k) b (price_in (row ∷ row ∷ row ∷ row ∷ row ∷ row ∷ []) k b)
+  by Nothing = told Nothing
+  by LineFeed = told LineFeed
+  by CarriageReturn = told CarriageReturn
+  by Word = told Word
+  by Other = told Other
+  by Wide = told Wide
+
+module _ (bytes : ByteFlags) (after kinds : List ℕ) (prices : Option Prices) (rows : List (List (Option Price))) (code : Code) (tells : TellsKinds code rows)
     (none : (b : ℕ) → b < 256 → member bytes b ≡ false → slice_index after b ≡ 0)
-    (tells : (b : ℕ) → b < 256 → TellsKinds code b (slice_index after b))
-    (own : (b : ℕ) → b < 256 → HasKind (slice_index kinds b) (Some b)) where
-  pub entries_of : AreEntries (λ before here. member bytes here && is_after after kinds before here) code
-  entries_of q is meant inside small p lt passed =
-      let here = slice_index q.haystack p in
-      let kind = kind_has kinds own (byte_before q.haystack p) (small_before q.haystack p small) in
-      let no : bit_and (slice_index after here) (kind_before kinds (byte_before q.haystack p)) ≡ 0 =
-      no_bit (member bytes here) (bit_and (slice_index after here) (kind_before kinds (byte_before q.haystack p))) passed
-      (λ lacking. ap (λ (x : ℕ). bit_and x (kind_before kinds (byte_before q.haystack p))) (none here (small p) lacking) ∙ and_zero_l (kind_before kinds (byte_before q.haystack p))) in
-      told_counted q code is meant inside (record { here = here; before = Some kind.0 }) p 0 0
-      (tells here (small p) kind.0 (ap (bit_and (slice_index after here)) (sym kind.2) ∙ no)) (omega (arith, lt))
-      (record { here = stands_there q.haystack p (omega (arith, lt, inside)); before = kind.1 })
+    (without : (b : ℕ) → b < 256 → (kind : Before) → CostsWithout rows b (slice_index after b) kind)
+    (own : (b : ℕ) → b < 256 → HasKind (slice_index kinds b) (Some b))
+    (kept : IfSome prices (λ t. HaveKinds t.kinds × (t.rows ≡ rows))) where
+  module _ (q : Query) (is : IsCodeOf q.sought.pattern code) (meant : q.sought.meaning ≡ code.meaning) (inside : q.request.range_end ≤ length q.haystack)
+      (small : (k : ℕ) → slice_index q.haystack k < 256) (p : ℕ) (lt : p < q.request.range_end) where
+    abbrev here : ℕ
+    here = slice_index q.haystack p
+
+    abbrev before : Option ℕ
+    before = byte_before q.haystack p
+
+    costs_at : (kind : Before) → IsOfKind kind before → (c : Price) → price_in rows kind here ≡ Some c → CostsAt q p c
+    costs_at kind of c e =
+        let tell : TellsByte code (Some kind) here (Some c) = subst (TellsByte code (Some kind) here) e (tells kind here (small p)) in
+        price_costs q p c
+        (told_counted q code is meant inside (record { here = here; before = Some kind }) p c.marks c.returns tell.0 (omega (arith, lt))
+        (record { here = stands_there q.haystack p (omega (arith, lt, inside)); before = of })) tell.1
+
+    by_price : (o : Option Prices) → IfSome o (λ t. HaveKinds t.kinds × (t.rows ≡ rows)) → (c : Price) → price_told o before here ≡ Some c → CostsAt q p c
+    by_price None are c e = cc
+    by_price (Some t) are c e =
+        costs_at (kind_before t.kinds before) (kind_is t.kinds are.0 before (small_before q.haystack p small)) c
+        (subst (λ (l : List (List (Option Price))). price_in l (kind_before t.kinds before) here ≡ Some c) are.1 e)
+
+    by_bits : (member bytes here && is_after after kinds before here) ≡ false → (c : Price) → IsNothing c → CostsAt q p c
+    by_bits passed c is_nothing =
+        let kind = bit_has kinds own before (small_before q.haystack p small) in
+        let no : bit_and (slice_index after here) (bit_before kinds before) ≡ 0 =
+        no_bit (member bytes here) (bit_and (slice_index after here) (bit_before kinds before)) passed
+        (λ lacking. ap (λ (x : ℕ). bit_and x (bit_before kinds before)) (none here (small p) lacking) ∙ and_zero_l (bit_before kinds before)) in
+        let free = without here (small p) kind.0 (ap (bit_and (slice_index after here)) (sym kind.2) ∙ no) in
+        let costs = costs_at kind.0 kind.1 free.0 free.1 in
+        record { none = costs.none; marks = omega (arith, costs.marks, free.2.0); returns = costs.returns ∙ free.2.1 ∙ sym is_nothing.1 }
+
+  pub entries_of : AreEntries (λ before here c. (price_told prices before here ≡ Some c) ⊎ (((member bytes here && is_after after kinds before here) ≡ false) × IsNothing c)) code
+  entries_of q is meant inside small p lt c told =
+      elim told [
+        | inl priced ↦ by_price q is meant inside small p lt prices kept c priced
+        | inr passed ↦ by_bits q is meant inside small p lt passed.0 c passed.1
+      ]

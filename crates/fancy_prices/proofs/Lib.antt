@@ -6,3 +6,4 @@ pub mod EntryLemmas
 pub mod FlagLemmas
 pub mod FactLemmas
 pub mod BehindLemmas
+pub mod PriceForms

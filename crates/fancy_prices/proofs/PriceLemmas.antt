@@ -1,28 +1,31 @@
 -- Ways that die, and what they cost.
-use Rattle.std.proofs.Common.{◌≡◌, ℕ, ◌+◌, ◌≤◌, Bool, true, false, List, [], ◌∷◌, ◌++◌, length, None, if◌then◌else◌, refl, sym, ap, ◌∙◌, subst, arith, true≢false, filter, replicate}
+use Rattle.std.proofs.Common.{◌≡◌, ℕ, ◌+◌, ◌≤◌, ◌==◌, Bool, true, false, not, ◌||◌, nat_le, List, [], ◌∷◌, ◌++◌, length, None, if◌then◌else◌, refl, sym, ap, ◌∙◌, subst, arith, true≢false, filter, replicate, slice_index}
 use Rattle.std.proofs.lemmas.List.{length-replicate}
+use Rattle.fancy_input.specs.Places.{is_boundary, is_continuation}
 use Rattle.fancy_code.specs.declared.code.Code.{Code}
 use Rattle.fancy_code.specs.Code.{instrs_of}
 use Rattle.fancy_code.specs.Compile.{IsCodeOf, depth}
 use Rattle.fancy_code.specs.Context.{State}
-use Rattle.fancy_code.specs.Events.{Event, mark, return, outcome, marks_in, returns_in, outcomes_in}
+use Rattle.fancy_code.specs.Events.{Event, any, mark, return, outcome, marks_in, returns_in, outcomes_in}
 use Rattle.fancy_code.specs.Run.{Raw, Note, Stop, choice_opened, returned, fetched, erase, run}
-use Rattle.fancy_code.specs.Search.{Query, accepted, answer_at, before_accepted, context_of, first_one, gone_through, initial, longest_one, trace_at}
+use Rattle.fancy_code.specs.Search.{Query, accepted, answer_at, before_accepted, context_of, first_one, gone_at, gone_through, initial, is_match_boundary, longest_one, trace_at}
 use Rattle.fancy_code.specs.Trace.{outcomes}
 use Rattle.fancy_code.proofs.WholeCode.{program_gives}
 use Rattle.fancy_prices.specs.declared.facts.Facts.{Facts}
+use Rattle.fancy_prices.specs.declared.price.Price.{Price}
 use Rattle.fancy_prices.specs.Facts.{Stands}
-use Rattle.fancy_prices.specs.Prices.{CostsIn, Costs, Dies, IsPriceAt}
+use Rattle.fancy_prices.specs.Prices.{MissesIn, Costs, CostsAt, Dies, IsNothing, IsPriceAt}
+use Rattle.fancy_prices.proofs.FlagLemmas.{neither, on}
 
 -- without a stop there is no outcome
-costs_in : (m r : ℕ) (w : List Raw) → CostsIn m r w → (outcomes_in (erase w) ≡ []) × (marks_in (erase w) ≡ m) × (returns_in (erase w) ≡ r)
+costs_in : (m r : ℕ) (w : List Raw) → MissesIn any m r w → (outcomes_in (erase w) ≡ []) × (marks_in (erase w) ≡ m) × (returns_in (erase w) ≡ r)
 costs_in m r [] h = (refl, sym h.0, sym h.1)
 costs_in m r (Note choice_opened ∷ w) h =
     let c = costs_in h.0 r w h.2 in (c.0, omega (arith, c.1, h.1), c.2)
 costs_in m r (Note returned ∷ w) h =
     let c = costs_in m h.0 w h.2 in (c.0, c.1, omega (arith, c.2, h.1))
 costs_in m r (Note fetched ∷ w) h = costs_in m r w h
-costs_in m r (Stop q s v ∷ w) h = absurd h
+costs_in m r (Stop q s v ∷ w) h = absurd (true≢false h.0)
 
 -- events without an outcome
 none_before : (ok : State → Bool) (es : List Event) → outcomes_in es ≡ [] → before_accepted ok es ≡ es
@@ -72,6 +75,28 @@ pub told_counted : (q : Query) (code : Code) → IsCodeOf q.sought.pattern code 
 told_counted q code is meant inside f p m r dies le stands =
     costs_counted q code is meant inside p m r le
     (dies (context_of q) q.request.range_end (depth (length q.haystack) q.sought.pattern + 1) (initial q p) (replicate code.groups 0) meant stands)
+
+-- no match may begin within a character
+within_character : (on_boundaries : Bool) (h : List ℕ) (p : ℕ) → is_match_boundary on_boundaries h p ≡ false → is_continuation (slice_index h p) ≡ true
+within_character on_boundaries h p e =
+    let no_boundary = neither (not on_boundaries) (is_boundary h p) _ refl e in
+    let inside = neither (p == 0) (nat_le (length h) p || not (is_continuation (slice_index h p))) _ refl no_boundary.1 in
+    on (is_continuation (slice_index h p)) (neither (nat_le (length h) p) (not (is_continuation (slice_index h p))) _ refl inside.1).1
+
+-- an attempt costs what it goes through, and nothing where no match may begin
+pub price_costs : (q : Query) (p : ℕ) (c : Price) → IsPriceAt q p c.marks c.returns → (is_continuation (slice_index q.haystack p) ≡ true → IsNothing c) → CostsAt q p c
+price_costs q p c price inner = by (is_match_boundary q.sought.on_boundaries q.haystack p) refl where
+  counts : (b : Bool) → is_match_boundary q.sought.on_boundaries q.haystack p ≡ b → gone_at q p ≡ (if b then gone_through q p else [])
+  counts b e = ap (λ (a : Bool). if a then gone_through q p else []) e
+
+  by : (b : Bool) → is_match_boundary q.sought.on_boundaries q.haystack p ≡ b → CostsAt q p c
+  by true e = record { none = price.none; marks = omega (arith, ap marks_in (counts true e), price.marks); returns = ap returns_in (counts true e) ∙ price.returns }
+  by false e =
+      record {
+        none = price.none;
+        marks = omega (arith, ap marks_in (counts false e));
+        returns = ap returns_in (counts false e) ∙ sym (inner (within_character q.sought.on_boundaries q.haystack p e)).1;
+      }
 
 pub returns-append : (a b : List Event) → returns_in (a ++ b) ≡ returns_in a + returns_in b
 returns-append [] b = omega arith

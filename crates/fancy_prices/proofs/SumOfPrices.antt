@@ -1,10 +1,11 @@
 -- A search that passes over places that cost nothing.
-use Rattle.std.proofs.Common.{◌≡◌, ℕ, zero, suc, ◌+◌, ◌<◌, ◌≤◌, Bool, true, false, ◌&&◌, [], ◌++◌, Option, None, if◌then◌else◌, refl, sym, ap, ap₂, ◌∙◌, subst, arith, le_refl}
+use Rattle.std.proofs.Common.{◌≡◌, ℕ, zero, suc, ◌+◌, ◌<◌, ◌≤◌, Bool, true, false, ◌&&◌, List, [], ◌++◌, Option, None, if◌then◌else◌, refl, sym, ap, ap₂, ◌∙◌, subst, arith, le_refl}
 use Rattle.std.specs.Prelude.{is_some}
 use Rattle.fancy_code.specs.Context.{State}
-use Rattle.fancy_code.specs.Events.{marks_in, returns_in}
+use Rattle.fancy_code.specs.Events.{Event, marks_in, returns_in}
 use Rattle.fancy_code.specs.Search.{Query, answer_at, gone_from, gone_through, is_match_boundary}
-use Rattle.fancy_prices.specs.Prices.{counted, CostsNothingAt, IsPriceAt}
+use Rattle.fancy_prices.specs.declared.price.Price.{Price}
+use Rattle.fancy_prices.specs.Prices.{counted, CostsAt, CostsNothingAt, IsNothing}
 use Rattle.fancy_prices.proofs.PriceLemmas.{marks-append, returns-append}
 
 module _ (q : Query) (tries : ℕ → Bool) where
@@ -41,15 +42,12 @@ module _ (q : Query) (tries : ℕ → Bool) (p : ℕ) where
         by true = refl
         by false = refl
 
-  -- nor does one whose attempt goes through no mark and no return
-  pub priced_costs_nothing : IsPriceAt q p 0 0 → CostsNothingAt q tries p
-  priced_costs_nothing price =
-      let tried = is_match_boundary q.sought.on_boundaries q.haystack p && tries p in
-      record { none = price.none; marks = marks_by tried; returns = returns_by tried } where
-        marks_by : (b : Bool) → marks_in (if b then gone_through q p else []) ≡ 0
-        marks_by true = price.marks
-        marks_by false = refl
-
-        returns_by : (b : Bool) → returns_in (if b then gone_through q p else []) ≡ 0
-        returns_by true = price.returns
-        returns_by false = refl
+  -- nor does one whose attempt costs nothing
+  pub priced_costs_nothing : (c : Price) → CostsAt q p c → IsNothing c → CostsNothingAt q tries p
+  priced_costs_nothing c costs is =
+      let may = is_match_boundary q.sought.on_boundaries q.haystack p in
+      record { none = costs.none; marks = by marks_in refl may (tries p) (omega (arith, costs.marks, is.0)); returns = by returns_in refl may (tries p) (costs.returns ∙ is.1) } where
+        by : (count : List Event → ℕ) → count [] ≡ 0 → (a b : Bool) → count (if a then gone_through q p else []) ≡ 0 → count (if a && b then gone_through q p else []) ≡ 0
+        by count none true true e = e
+        by count none true false e = none
+        by count none false b e = none

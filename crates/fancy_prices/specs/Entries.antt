@@ -1,63 +1,101 @@
 -- The positions at which a search must make an attempt.
-use Rattle.std.specs.Prelude.{◌≡◌, ℕ, ◌+◌, ◌<◌, ◌≤◌, ◌==◌, Bool, true, false, not, ◌&&◌, List, length, Option, Some, None, slice_index, bit_and}
+use Rattle.std.specs.Prelude.{◌≡◌, ℕ, ◌+◌, ◌<◌, ◌≤◌, ◌==◌, ◌⊎◌, Bool, true, false, not, ◌&&◌, List, [], length, Option, Some, None, IfSome, slice_index, slice_index_or, bit_and}
 use Rattle.fancy_input.specs.Lines.{byte_before}
+use Rattle.fancy_input.specs.Places.{is_continuation}
 use Rattle.fancy_bytes.specs.Sets.{member}
 use Rattle.fancy_code.specs.declared.code.Code.{Code}
 use Rattle.fancy_code.specs.Code.{instrs_of}
 use Rattle.fancy_code.specs.Compile.{IsCodeOf}
 use Rattle.fancy_code.specs.Search.{Query}
 use Rattle.fancy_prices.specs.declared.entries.Entries.{Entries}
+use Rattle.fancy_prices.specs.declared.entries.Prices.{Prices}
 use Rattle.fancy_prices.specs.declared.entries.Told.{Told}
 use Rattle.fancy_prices.specs.declared.facts.Before.{Before}
 use Rattle.fancy_prices.specs.declared.facts.Before.TheVariants.{Nothing}
-use Rattle.fancy_prices.specs.Facts.{IsOfKind, bit_of}
-use Rattle.fancy_prices.specs.Prices.{Dies, IsPriceAt}
+use Rattle.fancy_prices.specs.declared.price.Price.{Price}
+use Rattle.fancy_prices.specs.Facts.{IsOfKind, bit_of, number_of}
+use Rattle.fancy_prices.specs.Prices.{CostsAt, Dies, IsNothing}
 
--- whether an attempt must be made, by what stands before a position and the byte there
-abbrev pub EntryTest : Type 0
-EntryTest = Option ℕ → ℕ → Bool
+-- what is told of an attempt, by what stands before a position and the byte there: it finds nothing, and costs this
+abbrev pub EntryTest : Type 1
+EntryTest = Option ℕ → ℕ → Price → Type 0
+
+-- the kind of what stands before, by the kinds of bytes
+abbrev pub kind_before : List Before → Option ℕ → Before
+kind_before kinds None = Nothing
+kind_before kinds (Some b) = slice_index_or kinds b Nothing
+
+-- the price in the row of the kind, for this byte
+abbrev pub price_in : List (List (Option Price)) → Before → ℕ → Option Price
+price_in rows kind here = slice_index_or (slice_index_or rows (number_of kind) []) here None
+
+abbrev pub price_after : List Before → List (List (Option Price)) → Option ℕ → ℕ → Option Price
+price_after kinds rows before here = price_in rows (kind_before kinds before) here
+
+abbrev pub price_told : Option Prices → Option ℕ → ℕ → Option Price
+price_told None before here = None
+price_told (Some t) before here = price_after t.kinds t.rows before here
 
 -- the bit of the kind of what stands before, by the bits of the kinds of bytes
-abbrev pub kind_before : List ℕ → Option ℕ → ℕ
-kind_before kinds None = bit_of Nothing
-kind_before kinds (Some b) = slice_index kinds b
+abbrev pub bit_before : List ℕ → Option ℕ → ℕ
+bit_before kinds None = bit_of Nothing
+bit_before kinds (Some b) = slice_index kinds b
 
 -- the bits that the byte has include that of what stands before
-abbrev pub is_after : List ℕ → List ℕ → EntryTest
-is_after after kinds before here = not (bit_and (slice_index after here) (kind_before kinds before) == 0)
+abbrev pub is_after : List ℕ → List ℕ → Option ℕ → ℕ → Bool
+is_after after kinds before here = not (bit_and (slice_index after here) (bit_before kinds before) == 0)
 
+-- the price is in a row, or nothing where the byte is none of those at which an attempt costs something after what stands before
 abbrev pub is_told : Option Told → EntryTest
-is_told None before here = true
-is_told (Some t) before here = member t.bytes here && is_after t.after t.kinds before here
+is_told None before here c = ⊥
+is_told (Some t) before here c =
+    (price_told t.prices before here ≡ Some c) ⊎ (((member t.bytes here && is_after t.after t.kinds before here) ≡ false) × IsNothing c)
 
 abbrev pub is_entry : Entries → EntryTest
 is_entry e = is_told e.told
+
+-- where the price is told an attempt at this byte dies after what is of the kind, and costs that, and nothing within a character
+abbrev pub TellsByte : Code → Option Before → ℕ → Option Price → Type 0
+TellsByte code before here price =
+    IfSome price (λ c. Dies (instrs_of code) code.meaning (record { here = here; before = before }) c.marks c.returns code.start
+    × (is_continuation here ≡ true → IsNothing c))
+
+-- so it is for each byte
+abbrev pub TellsRow : Code → Option Before → List (Option Price) → Type 0
+TellsRow code before row = (b : ℕ) → b < 256 → TellsByte code before b (slice_index_or row b None)
+
+-- and after each kind
+abbrev pub TellsKinds : Code → List (List (Option Price)) → Type 0
+TellsKinds code rows = (kind : Before) → TellsRow code (Some kind) (slice_index_or rows (number_of kind) [])
+
+-- without the bit of the kind, an attempt at this byte costs nothing after what is of the kind
+abbrev pub CostsWithout : List (List (Option Price)) → ℕ → ℕ → Before → Type 0
+CostsWithout rows here bits kind = bit_and bits (bit_of kind) ≡ 0 → (c : Price) × (price_in rows kind here ≡ Some c) × IsNothing c
 
 -- the bit is that of the kind of what stands before
 abbrev pub HasKind : ℕ → Option ℕ → Type 0
 HasKind bit before = (kind : Before) × IsOfKind kind before × (bit ≡ bit_of kind)
 
--- without the bit of the kind, an attempt at this byte dies after what is of the kind, and costs no mark and no return
-abbrev pub TellsAfter : Code → ℕ → ℕ → Before → Type 0
-TellsAfter code here bits kind =
-    bit_and bits (bit_of kind) ≡ 0 → Dies (instrs_of code) code.meaning (record { here = here; before = Some kind }) 0 0 code.start
+-- each byte has its kind
+abbrev pub HaveKinds : List Before → Type 0
+HaveKinds kinds = (b : ℕ) → b < 256 → IsOfKind (slice_index_or kinds b Nothing) (Some b)
 
--- so it is for each kind
-abbrev pub TellsKinds : Code → ℕ → ℕ → Type 0
-TellsKinds code here bits = (kind : Before) → TellsAfter code here bits kind
-
--- Where no attempt must be made, within the range, an attempt with the code finds nothing, and costs no mark and no return.
+-- Where a price is told, within the range, an attempt with the code finds nothing, and costs that.
 abbrev pub AreEntries : EntryTest → Code → Type 0
 AreEntries entry code =
     (q : Query) → IsCodeOf q.sought.pattern code → q.sought.meaning ≡ code.meaning → q.request.range_end ≤ length q.haystack
     → ((k : ℕ) → slice_index q.haystack k < 256)
-    → (p : ℕ) → p < q.request.range_end → entry (byte_before q.haystack p) (slice_index q.haystack p) ≡ false → IsPriceAt q p 0 0
+    → (p : ℕ) → p < q.request.range_end → (c : Price) → entry (byte_before q.haystack p) (slice_index q.haystack p) c → CostsAt q p c
 
--- no attempt must be made at p, which is within the range
+-- this is told of p, which is within the range
+abbrev pub IsToldAt : EntryTest → List ℕ → ℕ → ℕ → Price → Type 0
+IsToldAt entry haystack range_end p c = (p < range_end) × entry (byte_before haystack p) (slice_index haystack p) c
+
+-- an attempt at p costs nothing
 abbrev pub IsPassed : EntryTest → List ℕ → ℕ → ℕ → Type 0
-IsPassed entry haystack range_end p = (p < range_end) × (entry (byte_before haystack p) (slice_index haystack p) ≡ false)
+IsPassed entry haystack range_end p = (c : Price) × IsToldAt entry haystack range_end p c × IsNothing c
 
--- p is a position, from the one on and up to the other, or past both, before which no attempt must be made from the one on
+-- p is a position, from the one on and up to the other, or past both, before which attempts cost nothing from the one on
 pub record IsNextEntry (entry : EntryTest) (haystack : List ℕ) (range_end from last p : ℕ) : Type 0 where
   pub passed : from ≤ p
   pub within : p ≤ last + 1

@@ -36,6 +36,15 @@ bit_of Word = 8
 bit_of Other = 16
 bit_of Wide = 32
 
+-- each kind has a number of its own
+abbrev pub number_of : Before → ℕ
+number_of Nothing = 0
+number_of LineFeed = 1
+number_of CarriageReturn = 2
+number_of Word = 3
+number_of Other = 4
+number_of Wide = 5
+
 -- the facts hold at a place
 pub record Stands (f : Facts) (haystack : List ℕ) (p : ℕ) : Type 0 where
   pub here : slice_get haystack p ≡ Some f.here

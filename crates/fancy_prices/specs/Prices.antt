@@ -1,29 +1,38 @@
 -- What code costs where all of its ways die, and what is told of a place tells of that.
-use Rattle.std.specs.Prelude.{◌≡◌, ℕ, suc, ◌-◌, ◌==◌, Bool, true, false, ◌&&◌, List, [], ◌∷◌, length, Option, Some, None, if◌then◌else◌, slice_index}
+use Rattle.std.specs.Prelude.{◌≡◌, ℕ, suc, ◌-◌, ◌≤◌, ◌==◌, Bool, true, false, ◌&&◌, List, [], ◌∷◌, length, Option, Some, None, if◌then◌else◌, slice_index}
 use Rattle.fancy_tree.specs.declared.tree.Meaning.{Meaning}
 use Rattle.fancy_bytes.specs.Items.{encoding}
 use Rattle.fancy_code.specs.Context.{Context, State}
-use Rattle.fancy_code.specs.Events.{Event, marks_in, returns_in}
+use Rattle.fancy_code.specs.Events.{Event, any, ends_look, marks_in, returns_in}
 use Rattle.fancy_code.specs.Instructions.{Instruction}
 use Rattle.fancy_code.specs.Run.{Raw, Note, Stop, choice_opened, returned, fetched, run}
 use Rattle.fancy_prices.specs.declared.facts.Facts.{Facts}
 use Rattle.fancy_prices.specs.declared.facts.Before.{Before}
+use Rattle.fancy_prices.specs.declared.price.Price.{Price}
 use Rattle.fancy_prices.specs.Facts.{IsOfKind, Stands}
 use Rattle.fancy_input.specs.Lines.{byte_before}
-use Rattle.fancy_code.specs.Search.{Query, answer_at, gone_through, is_match_boundary}
+use Rattle.fancy_code.specs.Search.{Query, answer_at, choices_at, gone_through, is_match_boundary, returns_at}
 
--- no way stops, and there are so many marks and returns
-abbrev pub CostsIn : ℕ → ℕ → List Raw → Type 0
-CostsIn m r [] = (m ≡ 0) × (r ≡ 0)
-CostsIn m r (Note choice_opened ∷ w) = (k : ℕ) × (m ≡ suc k) × CostsIn k r w
-CostsIn m r (Note returned ∷ w) = (k : ℕ) × (r ≡ suc k) × CostsIn m k w
-CostsIn m r (Note fetched ∷ w) = CostsIn m r w
-CostsIn m r (Stop q s v ∷ w) = ⊥
+-- no choice is opened
+abbrev pub IsNothing : Price → Type 0
+IsNothing c = (c.marks ≡ 0) × (c.returns ≡ 0)
+
+-- no way stops as wanted, and there are so many marks and returns
+abbrev pub MissesIn : (State → Bool) → ℕ → ℕ → List Raw → Type 0
+MissesIn wanted m r [] = (m ≡ 0) × (r ≡ 0)
+MissesIn wanted m r (Note choice_opened ∷ w) = (k : ℕ) × (m ≡ suc k) × MissesIn wanted k r w
+MissesIn wanted m r (Note returned ∷ w) = (k : ℕ) × (r ≡ suc k) × MissesIn wanted m k w
+MissesIn wanted m r (Note fetched ∷ w) = MissesIn wanted m r w
+MissesIn wanted m r (Stop q s v ∷ w) = (wanted s ≡ false) × MissesIn wanted m r w
+
+-- the same where the events may be unknown
+abbrev pub Misses : (State → Bool) → ℕ → ℕ → Option (List Raw) → Type 0
+Misses wanted m r None = Unit {0}
+Misses wanted m r (Some w) = MissesIn wanted m r w
 
 -- Where the events are known no way stops, and there are so many marks and returns.
 abbrev pub Costs : ℕ → ℕ → Option (List Raw) → Type 0
-Costs m r None = Unit {0}
-Costs m r (Some w) = CostsIn m r w
+Costs m r o = Misses any m r o
 
 -- ways may stop, but there is no mark and no return
 abbrev pub IsQuietIn : List Raw → Type 0
@@ -42,28 +51,17 @@ Quiet (Some w) = IsQuietIn w
 abbrev pub IsQuiet : List Instruction → ℕ → Type 0
 IsQuiet code q = (x : Context) (limit n : ℕ) (s : State) (v : List ℕ) → Quiet (run x limit code n q s v)
 
--- no way stops as wanted, and there is no mark and no return
-abbrev pub MissesIn : (State → Bool) → List Raw → Type 0
-MissesIn wanted [] = Unit {0}
-MissesIn wanted (Note choice_opened ∷ w) = ⊥
-MissesIn wanted (Note returned ∷ w) = ⊥
-MissesIn wanted (Note fetched ∷ w) = MissesIn wanted w
-MissesIn wanted (Stop q s v ∷ w) = (wanted s ≡ false) × MissesIn wanted w
-
--- the same where the events may be unknown
-abbrev pub Misses : (State → Bool) → Option (List Raw) → Type 0
-Misses wanted None = Unit {0}
-Misses wanted (Some w) = MissesIn wanted w
-
--- From q on the code has no mark and no return, and stops at no place behind what is of this kind.
-abbrev pub StopsNeverBehind : List Instruction → Before → ℕ → Type 0
-StopsNeverBehind code kind q =
+-- From q on the code counts so many marks and returns, and stops at no place behind what is of this kind.
+abbrev pub StopsNeverBehind : List Instruction → Before → ℕ → ℕ → ℕ → Type 0
+StopsNeverBehind code kind m r q =
     (x : Context) (limit n : ℕ) (s : State) (v : List ℕ) (p : ℕ) → IsOfKind kind (byte_before x.haystack p)
-    → Misses (λ t. t.place == p) (run x limit code n q s v)
+    → Misses (λ t. t.place == p) m r (run x limit code n q s v)
 
--- the code from q on is looked for behind a place, where what stands before is told, and stops nowhere behind it
-abbrev pub MissesBehind : List Instruction → Bool → Facts → ℕ → Type 0
-MissesBehind code behind f q = (kind : Before) × (behind ≡ true) × (f.before ≡ Some kind) × StopsNeverBehind code kind q
+-- Where the facts hold the code from q on, which a look-around looks for, is not found, and counts so many marks and returns.
+abbrev pub FindsNone : List Instruction → Meaning → Bool → Facts → ℕ → ℕ → ℕ → Type 0
+FindsNone code meaning behind f m r q =
+    (x : Context) (limit n : ℕ) (s : State) (v : List ℕ) → x.meaning ≡ meaning → Stands f x.haystack s.place
+    → Misses (ends_look behind s.place) m r (run x limit code n q s v)
 
 -- the last byte of an item
 abbrev pub last_byte : Meaning → ℕ → ℕ
@@ -88,6 +86,12 @@ pub record IsPriceAt (q : Query) (p m r : ℕ) : Type 0 where
   pub none : answer_at q p ≡ None
   pub marks : marks_in (gone_through q p) ≡ m
   pub returns : returns_in (gone_through q p) ≡ r
+
+-- an attempt at p finds nothing, and costs no more choices than that and so many returns
+pub record CostsAt (q : Query) (p : ℕ) (c : Price) : Type 0 where
+  pub none : answer_at q p ≡ None
+  pub marks : choices_at q p ≤ c.marks
+  pub returns : returns_at q p ≡ c.returns
 
 -- what an attempt at p counts, where a match may begin there and it is tried
 abbrev pub counted : Query → (ℕ → Bool) → ℕ → List Event

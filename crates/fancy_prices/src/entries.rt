@@ -1,15 +1,16 @@
-//! The positions at which a search must enter the code: at each other one an attempt finds nothing, and costs nothing.
+//! The positions at which a search must enter the code: at each other one an attempt finds nothing, and what it costs is told.
 
-ghost use Rattle.std.specs.Prelude.{◌≡◌, ℕ, ◌+◌, ◌<◌, ◌≤◌, ◌==◌, Bool, true, false, not, Some, length, slice_index, bit_and};
+ghost use Rattle.std.specs.Prelude.{◌≡◌, ℕ, ◌+◌, ◌<◌, ◌≤◌, true, false, Some, IfSome, length, slice_index};
 ghost use Rattle.fancy_input.specs.Lines.{byte_before};
+ghost use Rattle.fancy_input.specs.Places.{is_continuation};
 ghost use Rattle.fancy_code.specs.declared.code.Code.{Code};
 ghost use Rattle.fancy_bytes.specs.Sets.{member};
 ghost use Rattle.fancy_prices.specs.declared.facts.Before.{Before};
-ghost use Rattle.fancy_prices.specs.Facts.{IsOfKind, bit_of};
-ghost use Rattle.fancy_prices.specs.Entries.{AreEntries, HasKind, IsNextEntry, TellsAfter, TellsKinds, is_after, is_entry};
+ghost use Rattle.fancy_prices.specs.Entries.{AreEntries, CostsWithout, HasKind, HaveKinds, IsNextEntry, IsToldAt, TellsByte, TellsKinds, TellsRow, is_after, is_entry, price_after};
 
 use crate::facts::{Before, Facts};
-use crate::free::{is_free, tests_before};
+use crate::free::{price_of, tests_before};
+use crate::price::Price;
 use fancy_bytes::byte_set::ByteSet;
 use fancy_bytes::scan::Scan;
 use fancy_code::code::Code;
@@ -21,12 +22,12 @@ const DEPTH: usize = 48;
 const ALL_KINDS: u8 = 0b11_1111;
 
 /// The positions at which an attempt must be made, told by the byte there and what stands before it. At each other one within the
-/// searched range an attempt finds nothing, and it opens no choice and takes none back.
+/// searched range an attempt finds nothing, and what it costs is told: how many choices it opens, and how many it takes back.
 ///
 /// ```text
 /// Entries::of(&code)    // of the code of "(?>a+)b": where the byte a stands
 /// Entries::of(&code)    // of the code of "\b(?>a+)b": where the byte a stands after no ASCII letter
-/// Entries::of(&code)    // of the code of "a|b": any position, since each attempt opens a choice
+/// Entries::of(&code)    // of the code of "a|b": where one of them stands; at other bytes there is a choice, which is taken back
 /// ```
 #[derive(Drop)]
 pub struct Entries {
@@ -34,66 +35,111 @@ pub struct Entries {
     told: Option<Told>,
 }
 
-/// The bytes at which an attempt must be made, and after what.
+/// What is told of attempts.
 #[derive(Drop)]
 struct Told {
-    /// Those at which it must be made after something.
+    /// The bytes at which an attempt costs something, or may find a match, after something.
     bytes: Scan,
     /// After what, for each byte: the bits of the kinds.
     after: [u8; 256],
     /// The bit of the kind of each byte.
     kinds: [u8; 256],
+    // none where nothing is told of those attempts
+    prices: Option<Prices>,
 }
 
-/// The bit of this kind where an attempt at the byte may cost something after it, or find a match; else no bit.
-fn costly_after(code: &Code, here: u8, kind: Before) -> u8
-    ensures { TellsAfter code.now here result kind }
-{
-    let facts = Facts {
-        here,
-        before: Some(kind),
-    };
-    if is_free(code, code.start, facts, DEPTH) {
-        return 0;
-    }
-    kind.bit()
+/// What attempts cost, by what stands before and the byte at which they are made.
+#[derive(Drop)]
+struct Prices {
+    /// The kind of each byte.
+    kinds: [Before; 256],
+    /// For each kind of what stands before, by its number, and each byte.
+    rows: [[Option<Price>; 256]; 6],
 }
 
-/// The bits of the kinds after which an attempt at the byte may cost something, or find a match. They are all or none unless each kind
-/// is asked for.
-fn costly_kinds(code: &Code, here: u8, by_kinds: bool) -> u8
-    ensures { TellsKinds code.now here result }
+/// Whether a byte continues a character of UTF-8.
+fn is_continuation(byte: u8) -> bool
+    ensures { result ≡ is_continuation byte }
 {
-    let facts = Facts { here, before: None };
-    if is_free(code, code.start, facts, DEPTH) {
-        return 0;
+    byte >= 0x80 && byte < 0xC0
+}
+
+/// What an attempt costs that is made at the byte, if it is told that it finds nothing. Of one within a character nothing is told but
+/// that it costs nothing, since in text none is made there.
+fn price_at(code: &Code, here: u8, before: Option<Before>) -> Option<Price>
+    ensures { TellsByte code.now before here result }
+{
+    let price = price_of(code, code.start, Facts { here, before }, DEPTH)?;
+    if is_continuation(here) {
+        return price.if_nothing();
     }
-    if !by_kinds {
-        return ALL_KINDS;
+    Some(price)
+}
+
+/// The same for each byte.
+fn prices_after(code: &Code, before: Option<Before>) -> [Option<Price>; 256]
+    ensures { TellsRow code.now before result }
+{
+    let mut row = [None; 256];
+    for byte in 0..256u32 {
+        row[byte as usize] = price_at(code, byte as u8, before);
     }
-    let at_start = costly_after(code, here, Before::Nothing);
-    let line_feed = costly_after(code, here, Before::LineFeed);
-    let carriage_return = costly_after(code, here, Before::CarriageReturn);
-    let word = costly_after(code, here, Before::Word);
-    let other = costly_after(code, here, Before::Other);
-    let wide = costly_after(code, here, Before::Wide);
+    row
+}
+
+/// The same after what is of each kind. Each kind is asked for alone only where the code may test what stands before.
+fn rows_of(code: &Code) -> [[Option<Price>; 256]; 6]
+    ensures { TellsKinds code.now result }
+{
+    if !tests_before(code, code.start, DEPTH) {
+        return [prices_after(code, None); 6];
+    }
+    [
+        prices_after(code, Some(Before::Nothing)),
+        prices_after(code, Some(Before::LineFeed)),
+        prices_after(code, Some(Before::CarriageReturn)),
+        prices_after(code, Some(Before::Word)),
+        prices_after(code, Some(Before::Other)),
+        prices_after(code, Some(Before::Wide)),
+    ]
+}
+
+/// The bit of this kind where an attempt at the byte costs something after it, or may find a match; else no bit.
+fn costly_after(rows: &[[Option<Price>; 256]; 6], here: u8, kind: Before) -> u8
+    ensures { CostsWithout rows.now here result kind }
+{
+    match rows[kind.number()][here as usize] {
+        Some(price) => if price.is_nothing() { 0 } else { kind.bit() },
+        None => kind.bit(),
+    }
+}
+
+/// The bits of the kinds after which it does.
+fn costly_kinds(rows: &[[Option<Price>; 256]; 6], here: u8) -> u8
+    ensures { (kind : Before) → CostsWithout rows.now here result kind }
+{
+    let at_start = costly_after(rows, here, Before::Nothing);
+    let line_feed = costly_after(rows, here, Before::LineFeed);
+    let carriage_return = costly_after(rows, here, Before::CarriageReturn);
+    let word = costly_after(rows, here, Before::Word);
+    let other = costly_after(rows, here, Before::Other);
+    let wide = costly_after(rows, here, Before::Wide);
     at_start | line_feed | carriage_return | word | other | wide
 }
 
 /// The same for each byte.
-fn costly_kinds_of_each(code: &Code) -> [u8; 256]
-    ensures { (b : ℕ) → b < 256 → TellsKinds code.now b (slice_index result b) }
+fn costly_kinds_of_each(rows: &[[Option<Price>; 256]; 6]) -> [u8; 256]
+    ensures { (b : ℕ) → b < 256 → (kind : Before) → CostsWithout rows.now b (slice_index result b) kind }
 {
-    let by_kinds = tests_before(code, code.start, DEPTH);
     let mut kinds = [0; 256];
     for byte in 0..256u32 {
-        kinds[byte as usize] = costly_kinds(code, byte as u8, by_kinds);
+        kinds[byte as usize] = costly_kinds(rows, byte as u8);
     }
     kinds
 }
 
 /// The bit of the kind of each byte.
-fn kind_of_each() -> [u8; 256]
+fn bit_of_each() -> [u8; 256]
     ensures { (b : ℕ) → b < 256 → HasKind (slice_index result b) (Some b) }
 {
     let mut kinds = [0; 256];
@@ -101,6 +147,42 @@ fn kind_of_each() -> [u8; 256]
         kinds[byte as usize] = Before::of(byte as u8).bit();
     }
     kinds
+}
+
+/// The kind of each byte.
+fn kind_of_each() -> [Before; 256]
+    ensures { HaveKinds result }
+{
+    let mut kinds = [Before::Nothing; 256];
+    for byte in 0..256u32 {
+        kinds[byte as usize] = Before::of(byte as u8);
+    }
+    kinds
+}
+
+/// Whether some attempt is told that costs something. No answer rests on it.
+fn are_priced(rows: &[[Option<Price>; 256]; 6]) -> bool {
+    for row in rows {
+        for price in row {
+            if let Some(price) = price {
+                if !price.is_nothing() {
+                    return true;
+                }
+            }
+        }
+    }
+    false
+}
+
+/// The prices, if there are some beside nothing.
+fn prices_in(rows: [[Option<Price>; 256]; 6]) -> Option<Prices>
+    ensures { IfSome result (λ p. HaveKinds p.kinds × (p.rows ≡ rows)) }
+{
+    if !are_priced(&rows) {
+        return None;
+    }
+    let kinds = kind_of_each();
+    Some(Prices { kinds, rows })
 }
 
 /// Whether each byte has the bits of all kinds. No answer rests on it.
@@ -127,7 +209,7 @@ fn bytes_with_some(after: &[u8; 256]) -> ByteSet
 }
 
 impl Told {
-    /// Whether an attempt must be made at a place where one of the bytes stands.
+    /// Whether an attempt costs something, or may find a match, at a place where one of the bytes stands.
     #[inline]
     fn is_after(&self, haystack: &[u8], place: usize) -> bool
         requires { place < length haystack.now }
@@ -139,6 +221,22 @@ impl Told {
             self.kinds[haystack[place - 1] as usize]
         };
         self.after[haystack[place] as usize] & kind != 0
+    }
+}
+
+impl Prices {
+    /// What an attempt costs at a place where a byte stands, if that is told.
+    #[inline]
+    fn at(&self, haystack: &[u8], place: usize) -> Option<Price>
+        requires { place < length haystack.now }
+        ensures { result ≡ price_after self.now.kinds self.now.rows (byte_before haystack.now place) (slice_index haystack.now place) }
+    {
+        let kind = if place == 0 {
+            Before::Nothing
+        } else {
+            self.kinds[haystack[place - 1] as usize]
+        };
+        self.rows[kind.number()][haystack[place] as usize]
     }
 }
 
@@ -154,23 +252,45 @@ impl Entries {
     pub fn of(code: &Code) -> Entries
         ensures { AreEntries (is_entry result) code.now }
     {
-        let after = costly_kinds_of_each(code);
-        if are_full(&after) {
+        let rows = rows_of(code);
+        let after = costly_kinds_of_each(&rows);
+        let prices = prices_in(rows);
+        if prices.is_none() && are_full(&after) {
             return Entries::all();
         }
         let bytes = bytes_with_some(&after);
-        let kinds = kind_of_each();
+        let kinds = bit_of_each();
         Entries {
             told: Some(Told {
                 bytes: Scan::new(bytes),
                 after,
                 kinds,
+                prices,
             }),
         }
     }
 
-    /// The first position, from the one on and up to the last, at which an attempt must be made, or past the last where there is none.
-    /// The end of the range is always one.
+    /// What an attempt costs at a place, if it is told that it finds nothing there. `None` at the end of the range, and where the
+    /// attempt must be made.
+    #[inline]
+    pub fn price(&self, haystack: &[u8], range_end: usize, place: usize) -> Option<Price>
+        requires inside { range_end ≤ length haystack.now }
+        ensures { IfSome result (λ p. IsToldAt (is_entry self.now) haystack.now range_end place p) }
+    {
+        let Some(told) = &self.told else {
+            return None;
+        };
+        let Some(prices) = &told.prices else {
+            return None;
+        };
+        if place >= range_end {
+            return None;
+        }
+        prices.at(haystack, place)
+    }
+
+    /// The first position, from the one on and up to the last, at which an attempt may find something or costs something, or past the
+    /// last where there is none. The end of the range is always one.
     #[inline]
     pub fn next(&self, haystack: &[u8], range_end: usize, from: usize, last: usize) -> usize
         requires ordered { from ≤ last + 1 }

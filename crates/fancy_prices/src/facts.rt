@@ -4,7 +4,7 @@ ghost use Rattle.std.specs.Prelude.{◌≡◌, ℕ, ◌<◌, ◌≤◌, true, fa
 ghost use Rattle.fancy_input.specs.Lines.{is_line_feed, is_carriage_return};
 ghost use Rattle.unicode.specs.Perl.{is_word_byte};
 ghost use Rattle.fancy_prices.specs.Prices.{EndsOtherwise};
-ghost use Rattle.fancy_prices.specs.Facts.{FailsWith, IsAlways, IsOfKind, TellsBefore, TellsHere, bit_of};
+ghost use Rattle.fancy_prices.specs.Facts.{FailsWith, IsAlways, IsOfKind, TellsBefore, TellsHere, bit_of, number_of};
 
 use fancy_tree::tree::{Assertion, Meaning};
 
@@ -94,7 +94,7 @@ impl Before {
     }
 
     /// Whether an ASCII byte may be of this kind.
-    fn may_be(self, byte: u8) -> bool
+    pub(crate) fn may_be(self, byte: u8) -> bool
         ensures { result ≡ false → byte < 128 → IsOfKind self (Some byte) → ⊥ }
     {
         match self {
@@ -102,12 +102,22 @@ impl Before {
             Before::LineFeed => byte == b'\n',
             Before::CarriageReturn => byte == b'\r',
             Before::Word => is_word(byte),
-            Before::Other => true,
+            Before::Other => !(is_word(byte) || byte == b'\n' || byte == b'\r'),
+        }
+    }
+
+    /// Whether an ASCII byte is of this kind.
+    pub(crate) fn is_ascii(self) -> bool
+        ensures { result ≡ false → (b : ℕ) → b < 128 → IsOfKind self (Some b) → ⊥ }
+    {
+        match self {
+            Before::Nothing | Before::Wide => false,
+            Before::LineFeed | Before::CarriageReturn | Before::Word | Before::Other => true,
         }
     }
 
     /// Whether a byte past ASCII is of this kind.
-    fn is_wide(self) -> bool
+    pub(crate) fn is_wide(self) -> bool
         ensures { result ≡ false → (b : ℕ) → 128 ≤ b → IsOfKind self (Some b) → ⊥ }
     {
         match self {
@@ -138,6 +148,22 @@ impl Before {
             Before::Word => 8,
             Before::Other => 16,
             Before::Wide => 32,
+        }
+    }
+
+    /// The number of the kind.
+    #[inline]
+    pub(crate) fn number(self) -> usize
+        ensures number { result ≡ number_of self }
+        ensures below { result < 6 }
+    {
+        match self {
+            Before::Nothing => 0,
+            Before::LineFeed => 1,
+            Before::CarriageReturn => 2,
+            Before::Word => 3,
+            Before::Other => 4,
+            Before::Wide => 5,
         }
     }
 }

@@ -1,13 +1,16 @@
-//! Where the code dies at once, by what is told of a position: it opens no choice, and takes none back.
+//! Where the code dies, by what is told of a position: how many choices it opens, and how many it takes back.
 
-ghost use Rattle.std.specs.Prelude.{◌≡◌, ℕ, ◌≤◌, ◌==◌, Bool, true, false};
+ghost use Rattle.std.specs.Prelude.{◌≡◌, ℕ, ◌<◌, ◌≤◌, ◌==◌, Bool, true, false, IfSome};
 ghost use Rattle.fancy_tree.specs.Sets.{has};
 ghost use Rattle.fancy_code.specs.Code.{instrs_of};
-ghost use Rattle.fancy_code.specs.Instructions.{Match, edges_in};
+ghost use Rattle.fancy_code.specs.CodeLength.{code_len};
+ghost use Rattle.fancy_code.specs.CodeLength.{code_len};
+ghost use Rattle.fancy_code.specs.Instructions.{Look, Match, edges_in};
 ghost use Rattle.fancy_code.specs.Run.{instr_at};
-ghost use Rattle.fancy_prices.specs.Prices.{BeginsNone, Dies, IsQuiet, MissesBehind, StopsNeverBehind};
+ghost use Rattle.fancy_prices.specs.Prices.{BeginsNone, Dies, EndsOtherwise, FindsNone, IsQuiet, StopsNeverBehind};
 
 use crate::facts::{Before, Facts};
+use crate::price::Price;
 use fancy_code::code::{Code, Instr};
 use fancy_tree::char_set::CharSet;
 use fancy_tree::tree::Meaning;
@@ -86,19 +89,23 @@ fn is_quiet(code: &Code, at: usize, deep: usize) -> bool
 }
 
 /// Whether what stands before may tell that the code from an instruction on dies: there is an assertion or a look-behind that it may
-/// begin with. No answer rests on it.
+/// begin with. No answer rests on it. Of choices one in another few are followed.
 #[cycle(tests)]
 pub(crate) fn tests_before(code: &Code, at: usize, deep: usize) -> bool {
     if at >= code.len() || deep == 0 {
         return false;
     }
+    let halved = deep / 2;
     let deep = deep - 1;
     match code.instr(at) {
         Instr::Assert(_, _) => true,
         Instr::Open(_, next) | Instr::Close(_, next) => tests_before(code, *next, deep),
         Instr::Keep(next) | Instr::Enter(next) => tests_before(code, *next, deep),
-        Instr::Look(behind, body, next) => {
-            *behind || tests_before(code, *body, deep) || tests_before(code, *next, deep)
+        Instr::Split(first, second) => {
+            tests_before(code, *first, halved) || tests_before(code, *second, deep)
+        }
+        Instr::Look(behind, body, next) | Instr::Deny(behind, body, next) => {
+            *behind || tests_before(code, *body, halved) || tests_before(code, *next, deep)
         }
         _ => false,
     }
@@ -117,73 +124,162 @@ fn is_match(code: &Code, at: usize) -> bool
     }
 }
 
-/// Whether the code from an instruction on opens no choice, takes none back, and stops behind nothing of this kind, since the last
-/// character cannot end so. It is not told where the code is not followed so deep, nor of each last item.
+/// Whether an item of a set may end with a byte of this kind.
+fn may_end_member(kind: Before, set: &CharSet) -> bool
+    ensures { result ≡ false → (c : ℕ) → has (edges_in set.now) c ≡ true → EndsOtherwise kind c }
+{
+    if kind.is_wide() && !is_ascii(set.edges()) {
+        return true;
+    }
+    if !kind.is_ascii() {
+        return false;
+    }
+    for byte in 0..128u32 {
+        if set.contains(byte) && kind.may_be(byte as u8) {
+            return true;
+        }
+    }
+    false
+}
+
+/// What the code from an instruction on costs where it stops behind nothing of this kind, since the last item of each way cannot end
+/// so. `None` where that is not told: the code is not followed so deep, or an item may end so.
 #[cycle(never)]
-fn stops_never_behind(code: &Code, at: usize, kind: Before, deep: usize) -> bool
-    ensures { result ≡ true → StopsNeverBehind (instrs_of code.now) kind at }
+fn stops_never_behind(code: &Code, at: usize, kind: Before, deep: usize) -> Option<Price>
+    ensures { IfSome result (λ p. StopsNeverBehind (instrs_of code.now) kind p.marks p.returns at) }
 {
     if at >= code.len() || deep == 0 {
-        return false;
+        return None;
     }
     let deep = deep - 1;
     match code.instr(at) {
-        Instr::Back(_, next) => stops_never_behind(code, *next, kind, deep),
+        Instr::Back(_, next) => stops_never_behind(code, *next, kind, deep)?.if_nothing(),
         Instr::Character(character, next) => {
             if is_match(code, *next) {
-                return !kind.may_end(*character);
+                return Price::nothing_if(!kind.may_end(*character));
             }
-            stops_never_behind(code, *next, kind, deep)
+            stops_never_behind(code, *next, kind, deep)?.if_nothing()
         }
-        _ => false,
+        Instr::Member(set, next) => {
+            if is_match(code, *next) {
+                return Price::nothing_if(!may_end_member(kind, code.set(*set)));
+            }
+            stops_never_behind(code, *next, kind, deep)?.if_nothing()
+        }
+        Instr::Split(first, second) => {
+            let first = stops_never_behind(code, *first, kind, deep)?;
+            first.or(stops_never_behind(code, *second, kind, deep)?)
+        }
+        _ => None,
     }
 }
 
-/// Whether a look-around looks behind, and its body stops nowhere behind what stands before.
-fn misses_behind(code: &Code, behind: bool, body: usize, facts: Facts, deep: usize) -> bool
-    ensures { result ≡ true → MissesBehind (instrs_of code.now) behind facts body }
+/// What the body of a look-around costs where it finds nothing. `None` where that is not told.
+#[cycle(price)]
+fn price_of_body(code: &Code, behind: bool, body: usize, facts: Facts, deep: usize) -> Option<Price>
+    ensures { IfSome result (λ p. FindsNone (instrs_of code.now) code.now.meaning behind facts p.marks p.returns body) }
 {
-    let Some(kind) = facts.before else {
-        return false;
-    };
-    behind && stops_never_behind(code, body, kind, deep)
+    if deep == 0 {
+        return None;
+    }
+    let deep = deep - 1;
+    if behind {
+        if let Some(kind) = facts.before {
+            if let Some(price) = stops_never_behind(code, body, kind, deep) {
+                return Some(price);
+            }
+        }
+    }
+    price_of(code, body, facts, deep)
+}
+
+/// What a look-around costs that dies, with what follows it. `None` where that is not told.
+#[cycle(price)]
+fn price_of_look(
+    code: &Code,
+    behind: bool,
+    body: usize,
+    next: usize,
+    facts: Facts,
+    deep: usize,
+) -> Option<Price>
+    ensures { IfSome result (λ p. (at : ℕ) → instr_at (instrs_of code.now) at ≡ Look behind body next
+        → Dies (instrs_of code.now) code.now.meaning facts p.marks p.returns at) }
+{
+    if deep == 0 {
+        return None;
+    }
+    let deep = deep - 1;
+    if let Some(price) = price_of_body(code, behind, body, facts, deep) {
+        return Some(price);
+    }
+    if is_quiet(code, body, deep) {
+        return price_of(code, next, facts, deep)?.if_nothing();
+    }
+    None
+}
+
+/// What the code from an instruction on costs where the facts hold and it dies. `None` where it is not told that it does: the code is
+/// not followed so deep, or it costs too much.
+#[cycle(price)]
+pub(crate) fn price_of(code: &Code, at: usize, facts: Facts, deep: usize) -> Option<Price>
+    ensures { IfSome result (λ p. Dies (instrs_of code.now) code.now.meaning facts p.marks p.returns at) }
+{
+    if at >= code.len() {
+        return Some(Price::nothing());
+    }
+    if deep == 0 {
+        return None;
+    }
+    let deep = deep - 1;
+    match code.instr(at) {
+        Instr::Fail => Some(Price::nothing()),
+        Instr::Character(_, _) | Instr::Member(_, _) | Instr::RawByte(_, _) => {
+            Price::nothing_if(begins_otherwise(code, at, facts))
+        }
+        Instr::Assert(assertion, next) => {
+            if facts.fails(*assertion) {
+                return Some(Price::nothing());
+            }
+            price_of(code, *next, facts, deep)?.if_nothing()
+        }
+        Instr::Open(_, next) | Instr::Close(_, next) => price_of(code, *next, facts, deep),
+        Instr::Keep(next) | Instr::Enter(next) => price_of(code, *next, facts, deep),
+        Instr::Split(first, second) => {
+            let first = price_of(code, *first, facts, deep)?;
+            first.or(price_of(code, *second, facts, deep)?)
+        }
+        Instr::Look(behind, body, next) => price_of_look(code, *behind, *body, *next, facts, deep),
+        Instr::Deny(behind, body, next) => {
+            let next = price_of(code, *next, facts, deep)?;
+            price_of_body(code, *behind, *body, facts, deep)?.or(next)
+        }
+        _ => None,
+    }
+}
+
+/// Whether no item that the instruction reads begins with the byte that stands there.
+fn begins_otherwise(code: &Code, at: usize, facts: Facts) -> bool
+    requires { at < code_len code.now }
+    ensures { result ≡ true → Dies (instrs_of code.now) code.now.meaning facts 0 0 at }
+{
+    match code.instr(at) {
+        Instr::Character(character, _) => {
+            !may_begin_character(*character, code.meaning, facts.here)
+        }
+        Instr::Member(set, _) => !may_begin_member(code.set(*set), code.meaning, facts.here),
+        Instr::RawByte(raw, _) => *raw != facts.here,
+        _ => false,
+    }
 }
 
 /// Whether the code from an instruction on dies where the facts hold, opens no choice and takes none back. It is not told where the
 /// code is not followed so deep.
-#[cycle(free)]
 pub(crate) fn is_free(code: &Code, at: usize, facts: Facts, deep: usize) -> bool
     ensures { result ≡ true → Dies (instrs_of code.now) code.now.meaning facts 0 0 at }
 {
-    if at >= code.len() {
-        return true;
-    }
-    if deep == 0 {
-        return false;
-    }
-    let deep = deep - 1;
-    match code.instr(at) {
-        Instr::Fail => true,
-        Instr::Character(character, _) => !may_begin_character(
-            *character,
-            code.meaning,
-            facts.here,
-        ),
-        Instr::Member(set, _) => !may_begin_member(code.set(*set), code.meaning, facts.here),
-        Instr::RawByte(raw, _) => *raw != facts.here,
-        Instr::Assert(assertion, next) => {
-            facts.fails(*assertion) || is_free(code, *next, facts, deep)
-        }
-        Instr::Open(_, next) | Instr::Close(_, next) => { is_free(code, *next, facts, deep) }
-        Instr::Keep(next) => is_free(code, *next, facts, deep),
-        Instr::Enter(body) => is_free(code, *body, facts, deep),
-        Instr::Look(behind, body, next) => {
-            if misses_behind(code, *behind, *body, facts, deep) {
-                return true;
-            }
-            is_free(code, *body, facts, deep)
-                || (is_quiet(code, *body, deep) && is_free(code, *next, facts, deep))
-        }
-        _ => false,
+    match price_of(code, at, facts, deep) {
+        Some(price) => price.is_nothing(),
+        None => false,
     }
 }

@@ -4,3 +4,4 @@
 pub mod entries;
 mod facts;
 mod free;
+pub mod price;

@@ -1,4 +1,4 @@
-use Rattle.std.proofs.Common.{refl, ◌≡◌, ◌≤◌, ℕ, suc, ◌+◌, ◌-◌, ◌∙◌, Err, List, sym, ap, ap₂, subst, arith}
+use Rattle.std.proofs.Common.{refl, ◌≡◌, ◌<◌, ◌≤◌, ℕ, suc, ◌+◌, ◌-◌, ◌∙◌, Err, List, sym, ap, ap₂, subst, arith, slice_index}
 use Rattle.fancy_input.specs.LastLines.{KnowsLastLines}
 use Rattle.fancy_input.specs.Requests.{positions, effective_start}
 use Rattle.fancy_code.specs.declared.options.SearchOptions.{SearchOptions}
@@ -9,7 +9,7 @@ use Rattle.fancy_code.proofs.AttemptLemmas.{found_here, found_later}
 use Rattle.fancy_code.proofs.PositionLemmas.{search_over, positions_none, positions_some}
 use Rattle.fancy_code.specs.Tried.{tried}
 use Rattle.fancy_machine.proofs.MachineSearch.{asked_request, is_asked, gone_hit, gone_more, gone_counts, gone_over}
-use Rattle.fancy_prices.specs.Entries.{is_entry}
+use Rattle.fancy_prices.specs.Entries.{AreEntries, is_entry}
 use Rattle.fancy_machine.proofs.SeekLemmas.{goes_on, tried_somewhere}
 use Rattle.fancy_machine.proofs.RefusalLemmas.{passed_on}
 use Rattle.fancy_machine.proofs.search.search.Goals as goal
@@ -52,12 +52,14 @@ pub ready_last_lines-requires : goal.ready_last_lines-requires
 ready_last_lines-requires g c kept = subst (λ (h : List ℕ). KnowsLastLines h c.args.cache.now.last_lines) (sym c.new-attempt.ensures.haystack) (c.requires.1.1.1.1.0 kept)
 
 pub returns-in-Some-clause-kept : goal.returns-in-Some-clause-kept
-returns-in-Some-clause-kept g c = subst (λ (h : List ℕ). KnowsLastLines h c.try_position.new.cache.last_lines) c.new-attempt.ensures.haystack c.try_position.ensures.last_lines
+returns-in-Some-clause-kept g c = subst (λ (h : List ℕ). KnowsLastLines h c.pass_or_try.new.cache.last_lines) c.new-attempt.ensures.haystack c.pass_or_try.ensures.last_lines
 
-pub try_position-requires : goal.try_position-requires
-try_position-requires g c =
+pub pass_or_try-requires : goal.pass_or_try-requires
+pass_or_try-requires g c =
     let k = is_asked g.q g.q.sought.pattern c.args.code.now c.args.options c.args.haystack.now c.args.request c.args.continues c.requires.0 c.new-attempt.result c.new-attempt.ensures.code c.new-attempt.ensures.serves c.requires.1.0 c.requires.1.1.0 c.loop-place.place (omega (arith, c.last_position-last.ensures.inside)) in
-    (k.serves, (k.groups, (k.coded, (k.range, (k.inside, (k.ends, (omega (arith, c.returns.ensures, c.loop-place.invariant.fits), c.loop-place.invariant.last_lines)))))))
+    let bytes = subst (λ (h : List ℕ). (k : ℕ) → slice_index h k < 256) (sym c.new-attempt.ensures.haystack) (λ k. omega (arith, c.type_inv.haystack k)) in
+    let entries = subst (AreEntries (is_entry c.args.entries.now)) (sym c.new-attempt.ensures.code) c.requires.1.1.1.1.1 in
+    (k.serves, (k.groups, (k.coded, (k.range, (k.inside, (k.ends, (omega (arith, c.returns.ensures, c.loop-place.invariant.fits), (c.loop-place.invariant.last_lines, (entries, bytes)))))))))
 
 pub returns-in_err-found-clause-refused : goal.returns-in_err-found-clause-refused
 returns-in_err-found-clause-refused g c e =
@@ -70,7 +72,7 @@ pub returns-in_err-found-clause-bounded : goal.returns-in_err-found-clause-bound
 returns-in_err-found-clause-bounded g c =
     let one : (c.last_position-last.result + 1 - c.loop-place.place) ≡ suc (c.last_position-last.result + 1 - (c.loop-place.place + 1)) = omega (arith, c.loop-place-test.true) in
     let more = gone_more g.q (tried c.args.options.seek g.q) (c.last_position-last.result + 1 - c.loop-place.place) (c.last_position-last.result + 1 - (c.loop-place.place + 1)) c.loop-place.place one (c.loop-place.invariant.tries (omega (arith, c.loop-place-test.true))) in
-    omega (arith, c.try_position.ensures.bounded, more.0, c.loop-place.invariant.count)
+    omega (arith, c.pass_or_try.ensures.bounded, more.0, c.loop-place.invariant.count)
 
 pub returns-in_err-found-clause-crowded : goal.returns-in_err-found-clause-crowded
 returns-in_err-found-clause-crowded g c e =
@@ -109,14 +111,14 @@ loop-place-preserved g c =
       tries = on.tries;
       passed = omega (arith, c.next-place-in-loop-place.ensures.passed, c.loop-place.invariant.passed);
       idle = λ none. absurd (tried_somewhere g.q c.args.options.seek c.args.request c.loop-place.place (asked_request g.q g.q.sought.pattern c.args.code.now c.args.options c.args.haystack.now c.args.request c.args.continues c.requires.0) none c.loop-place.invariant.passed (omega (arith, c.loop-place-test.true, c.last_position-last.ensures.inside)) (c.loop-place.invariant.tries (omega (arith, c.loop-place-test.true))));
-      fits = omega (arith, c.returns.ensures, c.try_position.ensures.fits);
-      steps = omega (arith, c.try_position.ensures.steps, c.loop-place.invariant.steps);
-      returns = omega (arith, c.try_position.ensures.returns, c.loop-place.invariant.returns);
-      paired = λ pairs. c.try_position.ensures.paired (c.loop-place.invariant.paired pairs);
-      last_lines = c.try_position.ensures.last_lines;
-      heeds = omega (arith, c.try_position.ensures.heeds, c.loop-place.invariant.heeds, ap (λ o. o.stack_limit) c.new-attempt.ensures.options);
-      within = λ is. subst (λ (o : SearchOptions). IsWithin o.step_limit c.try_position.new.work) c.new-attempt.ensures.options
-          (c.try_position.ensures.within (subst (λ (o : SearchOptions). IsWithin o.step_limit c.loop-place.work) (sym c.new-attempt.ensures.options) (c.loop-place.invariant.within is)));
+      fits = omega (arith, c.returns.ensures, c.pass_or_try.ensures.fits);
+      steps = omega (arith, c.pass_or_try.ensures.steps, c.loop-place.invariant.steps);
+      returns = omega (arith, c.pass_or_try.ensures.returns, c.loop-place.invariant.returns);
+      paired = λ pairs. c.pass_or_try.ensures.paired (c.loop-place.invariant.paired pairs);
+      last_lines = c.pass_or_try.ensures.last_lines;
+      heeds = omega (arith, c.pass_or_try.ensures.heeds, c.loop-place.invariant.heeds, ap (λ o. o.stack_limit) c.new-attempt.ensures.options);
+      within = λ is. subst (λ (o : SearchOptions). IsWithin o.step_limit c.pass_or_try.new.work) c.new-attempt.ensures.options
+          (c.pass_or_try.ensures.within (subst (λ (o : SearchOptions). IsWithin o.step_limit c.loop-place.work) (sym c.new-attempt.ensures.options) (c.loop-place.invariant.within is)));
     }
 
 pub returns-clause-answer : goal.returns-clause-answer

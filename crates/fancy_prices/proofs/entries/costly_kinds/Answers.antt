@@ -1,20 +1,13 @@
-use Rattle.std.proofs.Common.{◌≡◌, Some}
+use Rattle.std.proofs.Common.{◌≡◌, ℕ, Some}
 use Rattle.std.specs.Prelude.{bit_and}
-use Rattle.fancy_code.specs.Code.{instrs_of}
 use Rattle.fancy_prices.specs.declared.facts.Before.{Before}
 use Rattle.fancy_prices.specs.declared.facts.Before.TheVariants.{Nothing, LineFeed, CarriageReturn, Word, Other, Wide}
+use Rattle.fancy_prices.specs.declared.price.Price.{Price}
 use Rattle.fancy_prices.specs.Facts.{bit_of}
-use Rattle.fancy_prices.specs.Prices.{Dies}
-use Rattle.fancy_prices.proofs.DyingWays.{dies_told}
-use Rattle.fancy_prices.proofs.EntryLemmas.{all_bits, lacks}
+use Rattle.fancy_prices.specs.Prices.{IsNothing}
+use Rattle.fancy_prices.specs.Entries.{price_in}
+use Rattle.fancy_prices.proofs.EntryLemmas.{lacks}
 use Rattle.fancy_prices.proofs.entries.costly_kinds.Goals as goal
-
-pub returns-then-is_free : goal.returns-then-is_free
-returns-then-is_free c kind e =
-    dies_told (instrs_of c.args.code.now) c.args.code.now.meaning c.args.here (Some kind) 0 0 c.args.code.now.start (c.is_free.ensures c.if-is_free.true)
-
-pub returns-then-not-by_kinds : goal.returns-then-not-by_kinds
-returns-then-not-by_kinds c kind e = absurd (all_bits kind e)
 
 pub returns : goal.returns
 returns c kind e =
@@ -27,7 +20,7 @@ returns c kind e =
       of : (k : Before) → bit_and c.costly_after-at_start.result (bit_of k) ≡ 0 → bit_and c.costly_after-line_feed.result (bit_of k) ≡ 0
           → bit_and c.costly_after-carriage_return.result (bit_of k) ≡ 0 → bit_and c.costly_after-word.result (bit_of k) ≡ 0
           → bit_and c.costly_after-other.result (bit_of k) ≡ 0 → bit_and c.costly_after-wide.result (bit_of k) ≡ 0
-          → Dies (instrs_of c.args.code.now) c.args.code.now.meaning (record { here = c.args.here; before = Some k }) 0 0 c.args.code.now.start
+          → (p : Price) × (price_in c.args.rows.now k c.args.here ≡ Some p) × IsNothing p
       of Nothing n l r w o h = c.costly_after-at_start.ensures n
       of LineFeed n l r w o h = c.costly_after-line_feed.ensures l
       of CarriageReturn n l r w o h = c.costly_after-carriage_return.ensures r

@@ -1,5 +1,7 @@
 use Rattle.std.proofs.Common.{ℕ, Some, ◌∙◌, arith, length-set}
-use Rattle.fancy_prices.specs.Entries.{HasKind}
+use Rattle.fancy_prices.specs.declared.facts.Before.{Before}
+use Rattle.fancy_prices.specs.declared.facts.Before.TheVariants.{Nothing}
+use Rattle.fancy_prices.specs.Facts.{IsOfKind}
 use Rattle.fancy_prices.proofs.EntryLemmas.{one_more}
 use Rattle.fancy_prices.proofs.entries.kind_of_each.Goals as goal
 
@@ -8,8 +10,8 @@ loop-byte-preserved c =
     let size = c.loop-byte.invariant.size in
     record {
       size = length-set c.loop-byte.kinds c.loop-byte.byte _ ∙ size;
-      below = one_more (λ (b v : ℕ). HasKind v (Some b)) c.loop-byte.kinds c.loop-byte.byte _ (omega (arith, size, c.loop-byte-test.true))
-          (c.of.result, c.of.ensures, c.bit.ensures) c.loop-byte.invariant.below;
+      below = one_more Nothing (λ (b : ℕ) (k : Before). IsOfKind k (Some b)) c.loop-byte.kinds c.loop-byte.byte _ (omega (arith, size, c.loop-byte-test.true))
+          c.of.ensures c.loop-byte.invariant.below;
     }
 
 pub returns : goal.returns
