@@ -74,8 +74,8 @@ impl Cache {
 /// longest match is asked for, all returns of that attempt count.
 ///
 /// Where the options say so, it seeks: positions at which no byte stands that a match may start with are passed over, and
-/// nothing counts there. The answer is the same, and no step is taken where no position is left. Where it does not seek, positions
-/// are passed over at which an attempt would find nothing, and neither save a branch nor take one: `entries` tells them.
+/// nothing counts there. The answer is the same, and no step is taken where no position is left. No attempt is made where `entries`
+/// tells that it would find nothing, and what it would cost: its returns are counted, and a step for each.
 ///
 /// Where `is_kept` says so, `cache` holds what the search before read of the line ends that close the same haystack, and they are
 /// not read again.

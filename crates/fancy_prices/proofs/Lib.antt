@@ -7,3 +7,4 @@ pub mod FlagLemmas
 pub mod FactLemmas
 pub mod BehindLemmas
 pub mod PriceForms
+pub mod FoundBehind

@@ -1,15 +1,16 @@
 -- What code costs where all of its ways die, and what is told of a place tells of that.
-use Rattle.std.specs.Prelude.{◌≡◌, ℕ, suc, ◌-◌, ◌≤◌, ◌==◌, Bool, true, false, ◌&&◌, List, [], ◌∷◌, length, Option, Some, None, if◌then◌else◌, slice_index}
+use Rattle.std.specs.Prelude.{◌≡◌, ℕ, suc, ◌-◌, ◌≤◌, ◌==◌, Bool, true, false, ◌&&◌, List, [], ◌∷◌, length, Option, Some, None, if◌then◌else◌, nat_lt, slice_index}
 use Rattle.fancy_tree.specs.declared.tree.Meaning.{Meaning}
 use Rattle.fancy_bytes.specs.Items.{encoding}
 use Rattle.fancy_code.specs.Context.{Context, State}
 use Rattle.fancy_code.specs.Events.{Event, any, ends_look, marks_in, returns_in}
-use Rattle.fancy_code.specs.Instructions.{Instruction}
-use Rattle.fancy_code.specs.Run.{Raw, Note, Stop, choice_opened, returned, fetched, run}
+use Rattle.fancy_code.specs.Instructions.{Instruction, Back, Match, Member}
+use Rattle.fancy_code.specs.Run.{Raw, Note, Stop, choice_opened, returned, fetched, instr_at, run}
 use Rattle.fancy_prices.specs.declared.facts.Facts.{Facts}
 use Rattle.fancy_prices.specs.declared.facts.Before.{Before}
 use Rattle.fancy_prices.specs.declared.price.Price.{Price}
-use Rattle.fancy_prices.specs.Facts.{IsOfKind, Stands}
+use Rattle.fancy_tree.specs.Sets.{has}
+use Rattle.fancy_prices.specs.Facts.{IsAlways, IsOfKind, Stands}
 use Rattle.fancy_input.specs.Lines.{byte_before}
 use Rattle.fancy_code.specs.Search.{Query, answer_at, choices_at, gone_through, is_match_boundary, returns_at}
 
@@ -56,6 +57,33 @@ abbrev pub StopsNeverBehind : List Instruction → Before → ℕ → ℕ → �
 StopsNeverBehind code kind m r q =
     (x : Context) (limit n : ℕ) (s : State) (v : List ℕ) (p : ℕ) → IsOfKind kind (byte_before x.haystack p)
     → Misses (λ t. t.place == p) m r (run x limit code n q s v)
+
+-- the code reads an item and stops, and each byte of this kind is such an item
+abbrev pub ReadsEach : List Instruction → Before → ℕ → Type 0
+ReadsEach code kind q =
+    (edges : List ℕ) × (next : ℕ) × (instr_at code q ≡ Member edges next) × (instr_at code next ≡ Match)
+    × IsAlways kind (λ b. nat_lt b 128 && has edges b)
+
+-- the same once it went back over one item
+abbrev pub FindsBehind : List Instruction → Before → ℕ → Type 0
+FindsBehind code kind q = (item : ℕ) × (instr_at code q ≡ Back 1 item) × ReadsEach code kind item
+
+-- the code from q on is looked for behind a place, where it is told by what stands before that it is found
+abbrev pub IsDenied : List Instruction → Bool → Facts → ℕ → Type 0
+IsDenied code behind f q = (kind : Before) × (behind ≡ true) × (f.before ≡ Some kind) × FindsBehind code kind q
+
+-- the first way that stops does so as wanted, and before that there is no mark and no return
+abbrev pub MeetsIn : (State → Bool) → List Raw → Type 0
+MeetsIn wanted [] = ⊥
+MeetsIn wanted (Note choice_opened ∷ w) = ⊥
+MeetsIn wanted (Note returned ∷ w) = ⊥
+MeetsIn wanted (Note fetched ∷ w) = MeetsIn wanted w
+MeetsIn wanted (Stop q s v ∷ w) = wanted s ≡ true
+
+-- the same where the events may be unknown
+abbrev pub Meets : (State → Bool) → Option (List Raw) → Type 0
+Meets wanted None = Unit {0}
+Meets wanted (Some w) = MeetsIn wanted w
 
 -- Where the facts hold the code from q on, which a look-around looks for, is not found, and counts so many marks and returns.
 abbrev pub FindsNone : List Instruction → Meaning → Bool → Facts → ℕ → ℕ → ℕ → Type 0

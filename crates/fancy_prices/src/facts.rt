@@ -1,6 +1,6 @@
 //! What is told where an attempt stands: the byte there, and what stands before it.
 
-ghost use Rattle.std.specs.Prelude.{◌≡◌, ℕ, ◌<◌, ◌≤◌, true, false, not, ◌||◌, Some};
+ghost use Rattle.std.specs.Prelude.{◌≡◌, ℕ, ◌<◌, ◌≤◌, true, false, not, ◌||◌, nat_lt, Some};
 ghost use Rattle.fancy_input.specs.Lines.{is_line_feed, is_carriage_return};
 ghost use Rattle.unicode.specs.Perl.{is_word_byte};
 ghost use Rattle.fancy_prices.specs.Prices.{EndsOtherwise};
@@ -108,7 +108,8 @@ impl Before {
 
     /// Whether an ASCII byte is of this kind.
     pub(crate) fn is_ascii(self) -> bool
-        ensures { result ≡ false → (b : ℕ) → b < 128 → IsOfKind self (Some b) → ⊥ }
+        ensures none { result ≡ false → (b : ℕ) → b < 128 → IsOfKind self (Some b) → ⊥ }
+        ensures each { result ≡ true → IsAlways self (λ b. nat_lt b 128) }
     {
         match self {
             Before::Nothing | Before::Wide => false,

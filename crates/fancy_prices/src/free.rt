@@ -1,13 +1,14 @@
 //! Where the code dies, by what is told of a position: how many choices it opens, and how many it takes back.
 
-ghost use Rattle.std.specs.Prelude.{◌≡◌, ℕ, ◌<◌, ◌≤◌, ◌==◌, Bool, true, false, IfSome};
+ghost use Rattle.std.specs.Prelude.{◌≡◌, ℕ, ◌<◌, ◌≤◌, ◌==◌, ◌&&◌, Bool, true, false, nat_lt, IfSome};
 ghost use Rattle.fancy_tree.specs.Sets.{has};
 ghost use Rattle.fancy_code.specs.Code.{instrs_of};
 ghost use Rattle.fancy_code.specs.CodeLength.{code_len};
 ghost use Rattle.fancy_code.specs.CodeLength.{code_len};
 ghost use Rattle.fancy_code.specs.Instructions.{Look, Match, edges_in};
 ghost use Rattle.fancy_code.specs.Run.{instr_at};
-ghost use Rattle.fancy_prices.specs.Prices.{BeginsNone, Dies, EndsOtherwise, FindsNone, IsQuiet, StopsNeverBehind};
+ghost use Rattle.fancy_prices.specs.Facts.{IsAlways};
+ghost use Rattle.fancy_prices.specs.Prices.{BeginsNone, Dies, EndsOtherwise, FindsBehind, FindsNone, IsDenied, IsQuiet, ReadsEach, StopsNeverBehind};
 
 use crate::facts::{Before, Facts};
 use crate::price::Price;
@@ -174,6 +175,59 @@ fn stops_never_behind(code: &Code, at: usize, kind: Before, deep: usize) -> Opti
     }
 }
 
+/// Whether each byte of this kind is ASCII, and by itself an item of the set.
+fn is_each_member(kind: Before, set: &CharSet) -> bool
+    ensures { result ≡ true → IsAlways kind (λ b. nat_lt b 128 && has (edges_in set.now) b) }
+{
+    if !kind.is_ascii() {
+        return false;
+    }
+    for byte in 0..128u32 {
+        if kind.may_be(byte as u8) && !set.contains(byte) {
+            return false;
+        }
+    }
+    true
+}
+
+/// Whether the code reads an item of a set and stops, and each byte of this kind is such an item.
+fn reads_each(code: &Code, at: usize, kind: Before) -> bool
+    ensures { result ≡ true → ReadsEach (instrs_of code.now) kind at }
+{
+    if at >= code.len() {
+        return false;
+    }
+    match code.instr(at) {
+        Instr::Member(set, next) => {
+            is_match(code, *next) && is_each_member(kind, code.set(*set))
+        }
+        _ => false,
+    }
+}
+
+/// Whether the code goes back over one item and finds it, behind each byte of this kind.
+fn finds_behind(code: &Code, at: usize, kind: Before) -> bool
+    ensures { result ≡ true → FindsBehind (instrs_of code.now) kind at }
+{
+    if at >= code.len() {
+        return false;
+    }
+    match code.instr(at) {
+        Instr::Back(units, item) => *units == 1 && reads_each(code, *item, kind),
+        _ => false,
+    }
+}
+
+/// Whether a negated look-around is told to find its body.
+fn is_denied(code: &Code, behind: bool, body: usize, facts: Facts) -> bool
+    ensures { result ≡ true → IsDenied (instrs_of code.now) behind facts body }
+{
+    let Some(kind) = facts.before else {
+        return false;
+    };
+    behind && finds_behind(code, body, kind)
+}
+
 /// What the body of a look-around costs where it finds nothing. `None` where that is not told.
 #[cycle(price)]
 fn price_of_body(code: &Code, behind: bool, body: usize, facts: Facts, deep: usize) -> Option<Price>
@@ -251,6 +305,9 @@ pub(crate) fn price_of(code: &Code, at: usize, facts: Facts, deep: usize) -> Opt
         }
         Instr::Look(behind, body, next) => price_of_look(code, *behind, *body, *next, facts, deep),
         Instr::Deny(behind, body, next) => {
+            if is_denied(code, *behind, *body, facts) {
+                return Some(Price::denied());
+            }
             let next = price_of(code, *next, facts, deep)?;
             price_of_body(code, *behind, *body, facts, deep)?.or(next)
         }

@@ -26,6 +26,16 @@ impl Price {
         }
     }
 
+    /// It opens one choice, and takes none back.
+    pub(crate) fn denied() -> Price
+        ensures { (result.marks ≡ 1) × (result.returns ≡ 0) }
+    {
+        Price {
+            marks: 1,
+            returns: 0,
+        }
+    }
+
     /// Nothing, if that is told.
     pub(crate) fn nothing_if(told: bool) -> Option<Price>
         ensures { IfSome result (λ p. IsNothing p × (told ≡ true)) }

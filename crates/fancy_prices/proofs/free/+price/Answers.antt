@@ -8,6 +8,7 @@ use Rattle.fancy_prices.specs.Prices.{Dies, FindsNone}
 use Rattle.fancy_prices.proofs.PriceForms.{chosen, same_price, still_nothing, told_nothing}
 use Rattle.fancy_prices.proofs.DyingWays.{dies_assert, dies_close, dies_deny, dies_enter, dies_keep, dies_look, dies_look_quiet, dies_nowhere, dies_open, dies_split, finds_none}
 use Rattle.fancy_prices.proofs.BehindLemmas.{none_behind}
+use Rattle.fancy_prices.proofs.FoundBehind.{dies_denied}
 use Rattle.fancy_prices.proofs.free.+price.Goals as goal
 
 pub price_of-returns-then-at-len : goal.price_of-returns-then-at-len
@@ -33,6 +34,12 @@ price_of-returns-in_ok-price_of-in-Split t c =
 pub price_of-returns-in-Look : goal.price_of-returns-in-Look
 price_of-returns-in-Look t c =
     IfSome_then c.price_of_look.result c.price_of_look.ensures (λ p dies. dies c.args.at (sym c.instr.ensures.instr ∙ ap (instr_in c.args.code.now) c.in-Look.is))
+
+pub price_of-returns-then-is_denied : goal.price_of-returns-then-is_denied
+price_of-returns-then-is_denied t c =
+    same_price (λ (m r : ℕ). Dies (instrs_of c.args.code.now) c.args.code.now.meaning c.args.facts m r c.args.at) c.denied.result 1 0 c.denied.ensures.0 c.denied.ensures.1
+    (dies_denied (instrs_of c.args.code.now) c.args.code.now.meaning c.args.facts c.in-Deny.behind c.args.at c.in-Deny.body c.in-Deny.next
+    (sym c.instr.ensures.instr ∙ ap (instr_in c.args.code.now) c.in-Deny.is) (c.is_denied.ensures c.if-is_denied.true))
 
 pub price_of-returns-in_ok-price_of_body-in-Deny : goal.price_of-returns-in_ok-price_of_body-in-Deny
 price_of-returns-in_ok-price_of_body-in-Deny t c =

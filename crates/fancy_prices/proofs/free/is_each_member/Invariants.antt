@@ -1,0 +1,8 @@
+use Rattle.std.proofs.Common.{◌≡◌, ◌<◌, ℕ, true, Some}
+use Rattle.fancy_tree.specs.Sets.{has}
+use Rattle.fancy_code.specs.Instructions.{edges_in}
+use Rattle.fancy_prices.specs.Facts.{IsOfKind}
+use Rattle.fancy_prices.proofs.free.is_each_member.Given as goal
+
+abbrev pub invariant-loop-byte : goal.invariant-loop-byte
+invariant-loop-byte l = (b : ℕ) → b < l.byte → IsOfKind l.kind (Some b) → has (edges_in l.set) b ≡ true
