@@ -1,5 +1,5 @@
 -- Look-behinds whose last item cannot end where they must.
-use Rattle.std.proofs.Common.{◌≡◌, ℕ, zero, suc, ◌+◌, ◌-◌, ◌<◌, ◌≤◌, ◌==◌, Bool, true, false, List, [], ◌∷◌, ◌++◌, length, drop, Option, Some, None, if◌then◌else◌, nat_le, refl, sym, ap, ◌∙◌, subst, arith, slice_index, ne_eqb, eqb-true, get_or-drop}
+use Rattle.std.proofs.Common.{◌≡◌, ℕ, zero, suc, ◌+◌, ◌-◌, ◌<◌, ◌≤◌, ◌==◌, Bool, true, false, List, [], ◌++◌, length, drop, Option, Some, None, if◌then◌else◌, nat_le, refl, sym, ap, ◌∙◌, subst, arith, slice_index, ne_eqb, eqb-true, get_or-drop}
 use Rattle.std.specs.Char.{encode_utf8}
 use Rattle.std.proofs.lemmas.Bool.Decides.{nat_tests}
 use Rattle.std.proofs.lemmas.List.{get_or_append_left, length-drop, length-append}

@@ -121,13 +121,17 @@ module _ (e : Option Told) (t : Told) (is : e ≡ Some t) (h : List ℕ) (range_
       never true = refl
       never false = refl
 
+-- what is told without what stands before
+pub told_after : (code : Code) (row : List (Option Price)) → TellsRow code None row → (k : Before) → TellsRow code (Some k) row
+told_after code row tells k b lt =
+    IfSome_then (slice_index_or row b None) (tells b lt)
+    (λ c dies. (dies_told (instrs_of code) code.meaning b (Some k) c.marks c.returns code.start dies.0, dies.1))
+
 -- the same row after each kind
 pub same_rows : (code : Code) (row : List (Option Price)) → TellsRow code None row → TellsKinds code (row ∷ row ∷ row ∷ row ∷ row ∷ row ∷ [])
 same_rows code row tells kind b lt = by kind where
   told : (k : Before) → TellsByte code (Some k) b (slice_index_or row b None)
-  told k =
-      IfSome_then (slice_index_or row b None) (tells b lt)
-      (λ c dies. (dies_told (instrs_of code) code.meaning b (Some k) c.marks c.returns code.start dies.0, dies.1))
+  told k = told_after code row tells k b lt
 
   by : (k : Before) → TellsByte code (Some k) b (price_in (row ∷ row ∷ row ∷ row ∷ row ∷ row ∷ []) k b)
   by Nothing = told Nothing

@@ -1,6 +1,6 @@
 //! The positions at which a search must enter the code: at each other one an attempt finds nothing, and what it costs is told.
 
-ghost use Rattle.std.specs.Prelude.{◌≡◌, ℕ, ◌+◌, ◌<◌, ◌≤◌, true, false, Some, IfSome, length, slice_index};
+ghost use Rattle.std.specs.Prelude.{◌≡◌, ℕ, ◌+◌, ◌<◌, ◌≤◌, true, false, None, Some, IfSome, length, slice_index};
 ghost use Rattle.fancy_input.specs.Lines.{byte_before};
 ghost use Rattle.fancy_input.specs.Places.{is_continuation};
 ghost use Rattle.fancy_code.specs.declared.code.Code.{Code};
@@ -76,13 +76,27 @@ fn price_at(code: &Code, here: u8, before: Option<Before>) -> Option<Price>
     Some(price)
 }
 
-/// The same for each byte.
-fn prices_after(code: &Code, before: Option<Before>) -> [Option<Price>; 256]
-    ensures { TellsRow code.now before result }
+/// The same for each byte, where what stands before is not told.
+fn plain_prices(code: &Code) -> [Option<Price>; 256]
+    ensures { TellsRow code.now None result }
 {
     let mut row = [None; 256];
     for byte in 0..256u32 {
-        row[byte as usize] = price_at(code, byte as u8, before);
+        row[byte as usize] = price_at(code, byte as u8, None);
+    }
+    row
+}
+
+/// The same after what is of this kind. It is asked only of bytes of which nothing is told without that.
+fn prices_after(code: &Code, plain: &[Option<Price>; 256], kind: Before) -> [Option<Price>; 256]
+    requires { TellsRow code.now None plain.now }
+    ensures { TellsRow code.now (Some kind) result }
+{
+    let mut row = *plain;
+    for byte in 0..256u32 {
+        if row[byte as usize].is_none() {
+            row[byte as usize] = price_at(code, byte as u8, Some(kind));
+        }
     }
     row
 }
@@ -91,16 +105,17 @@ fn prices_after(code: &Code, before: Option<Before>) -> [Option<Price>; 256]
 fn rows_of(code: &Code) -> [[Option<Price>; 256]; 6]
     ensures { TellsKinds code.now result }
 {
+    let plain = plain_prices(code);
     if !tests_before(code, code.start, DEPTH) {
-        return [prices_after(code, None); 6];
+        return [plain; 6];
     }
     [
-        prices_after(code, Some(Before::Nothing)),
-        prices_after(code, Some(Before::LineFeed)),
-        prices_after(code, Some(Before::CarriageReturn)),
-        prices_after(code, Some(Before::Word)),
-        prices_after(code, Some(Before::Other)),
-        prices_after(code, Some(Before::Wide)),
+        prices_after(code, &plain, Before::Nothing),
+        prices_after(code, &plain, Before::LineFeed),
+        prices_after(code, &plain, Before::CarriageReturn),
+        prices_after(code, &plain, Before::Word),
+        prices_after(code, &plain, Before::Other),
+        prices_after(code, &plain, Before::Wide),
     ]
 }
 

@@ -1,4 +1,4 @@
-use Rattle.std.proofs.Common.{◌≡◌, ℕ, Some}
+use Rattle.std.proofs.Common.{◌≡◌, Some}
 use Rattle.std.specs.Prelude.{bit_and}
 use Rattle.fancy_prices.specs.declared.facts.Before.{Before}
 use Rattle.fancy_prices.specs.declared.facts.Before.TheVariants.{Nothing, LineFeed, CarriageReturn, Word, Other, Wide}

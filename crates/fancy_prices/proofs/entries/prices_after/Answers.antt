@@ -1,15 +1,5 @@
-use Rattle.std.proofs.Common.{None, ◌∙◌, arith, length-set}
-use Rattle.fancy_prices.specs.Entries.{TellsByte}
-use Rattle.fancy_prices.proofs.EntryLemmas.{one_more}
+use Rattle.fancy_prices.proofs.EntryLemmas.{told_after}
 use Rattle.fancy_prices.proofs.entries.prices_after.Goals as goal
 
-pub loop-byte-preserved : goal.loop-byte-preserved
-loop-byte-preserved c =
-    let size = c.loop-byte.invariant.size in
-    record {
-      size = length-set c.loop-byte.row c.loop-byte.byte _ ∙ size;
-      below = one_more None (TellsByte c.args.code.now c.args.before) c.loop-byte.row c.loop-byte.byte _ (omega (arith, size, c.loop-byte-test.true)) c.price_at.ensures c.loop-byte.invariant.below;
-    }
-
-pub returns : goal.returns
-returns c b lt = c.loop-byte.invariant.below b (omega (arith, lt, c.loop-byte-test.false))
+pub loop-byte-init : goal.loop-byte-init
+loop-byte-init c = record { size = c.told-plain; tells = told_after c.args.code.now c.args.plain.now c.requires c.args.kind }

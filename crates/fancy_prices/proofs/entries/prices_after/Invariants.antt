@@ -1,10 +1,9 @@
-use Rattle.std.proofs.Common.{◌≡◌, ◌<◌, ℕ, None, length}
-use Rattle.std.specs.Prelude.{slice_index_or}
-use Rattle.fancy_prices.specs.Entries.{TellsByte}
+use Rattle.std.proofs.Common.{◌≡◌, Some, length}
+use Rattle.fancy_prices.specs.Entries.{TellsRow}
 use Rattle.fancy_prices.proofs.entries.prices_after.Given as goal
 
 abbrev pub invariant-loop-byte : goal.invariant-loop-byte
 invariant-loop-byte l = record {
   size : length l.row ≡ 256;
-  below : (b : ℕ) → b < l.byte → TellsByte l.fn.code l.fn.before b (slice_index_or l.row b None);
+  tells : TellsRow l.fn.code (Some l.kind) l.row;
 }

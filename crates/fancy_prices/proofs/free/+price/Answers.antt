@@ -4,7 +4,7 @@ use Rattle.fancy_code.specs.Code.{instrs_of, instr_in}
 use Rattle.fancy_code.specs.Instructions.{Look}
 use Rattle.fancy_code.specs.Run.{instr_at}
 use Rattle.fancy_code.proofs.InstructionLemmas.{length-instrs_of}
-use Rattle.fancy_prices.specs.Prices.{Dies, FindsNone}
+use Rattle.fancy_prices.specs.Prices.{Dies}
 use Rattle.fancy_prices.proofs.PriceForms.{chosen, same_price, still_nothing, told_nothing}
 use Rattle.fancy_prices.proofs.DyingWays.{dies_assert, dies_close, dies_deny, dies_enter, dies_keep, dies_look, dies_look_quiet, dies_nowhere, dies_open, dies_split, finds_none}
 use Rattle.fancy_prices.proofs.BehindLemmas.{none_behind}

@@ -1,9 +1,8 @@
-use Rattle.std.proofs.Common.{◌≡◌, ◌<◌, ℕ, List, Some, true, false, inl, inr, sym, ap, subst, arith, true≢false, ◌∙◌}
+use Rattle.std.proofs.Common.{◌≡◌, ℕ, List, Some, false, inl, inr, sym, subst, arith, true≢false, ◌∙◌}
 use Rattle.std.proofs.lemmas.Bool.{cases_lt}
 use Rattle.fancy_tree.specs.Sets.{has}
-use Rattle.fancy_code.specs.Instructions.{edges_in}
 use Rattle.fancy_prices.specs.Facts.{IsOfKind}
-use Rattle.fancy_prices.specs.Prices.{EndsOtherwise, last_byte}
+use Rattle.fancy_prices.specs.Prices.{last_byte}
 use Rattle.fancy_prices.proofs.BehindLemmas.{high_last, low_last}
 use Rattle.fancy_prices.proofs.free.may_end_member.Goals as goal
 use Rattle.fancy_prices.proofs.free.may_end_member.Goals.{else-is_wide-via-then-is_wide+else-not-is_ascii, else-is_wide-via-else-is_wide}
