@@ -106,6 +106,31 @@ impl Before {
         }
     }
 
+    /// A byte before which no ASCII byte is of this kind.
+    pub(crate) fn low_start(self) -> u32
+        ensures { (b : ℕ) → b < 128 → IsOfKind self (Some b) → result ≤ b }
+    {
+        match self {
+            Before::LineFeed => 10,
+            Before::CarriageReturn => 13,
+            Before::Word => 48,
+            Before::Nothing | Before::Other | Before::Wide => 0,
+        }
+    }
+
+    /// A byte from which on no ASCII byte is of this kind.
+    pub(crate) fn low_end(self) -> u32
+        ensures most { result ≤ 128 }
+        ensures end { (b : ℕ) → b < 128 → IsOfKind self (Some b) → b < result }
+    {
+        match self {
+            Before::LineFeed => 11,
+            Before::CarriageReturn => 14,
+            Before::Word => 123,
+            Before::Nothing | Before::Other | Before::Wide => 128,
+        }
+    }
+
     /// Whether an ASCII byte is of this kind.
     pub(crate) fn is_ascii(self) -> bool
         ensures none { result ≡ false → (b : ℕ) → b < 128 → IsOfKind self (Some b) → ⊥ }

@@ -135,7 +135,7 @@ fn may_end_member(kind: Before, set: &CharSet) -> bool
     if !kind.is_ascii() {
         return false;
     }
-    for byte in 0..128u32 {
+    for byte in kind.low_start()..kind.low_end() {
         if set.contains(byte) && kind.may_be(byte as u8) {
             return true;
         }
@@ -182,7 +182,7 @@ fn is_each_member(kind: Before, set: &CharSet) -> bool
     if !kind.is_ascii() {
         return false;
     }
-    for byte in 0..128u32 {
+    for byte in kind.low_start()..kind.low_end() {
         if kind.may_be(byte as u8) && !set.contains(byte) {
             return false;
         }

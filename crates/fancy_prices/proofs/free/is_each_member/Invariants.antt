@@ -5,4 +5,4 @@ use Rattle.fancy_prices.specs.Facts.{IsOfKind}
 use Rattle.fancy_prices.proofs.free.is_each_member.Given as goal
 
 abbrev pub invariant-loop-byte : goal.invariant-loop-byte
-invariant-loop-byte l = (b : ℕ) → b < l.byte → IsOfKind l.kind (Some b) → has (edges_in l.set) b ≡ true
+invariant-loop-byte l = (b : ℕ) → b < 128 → b < l.byte → IsOfKind l.kind (Some b) → has (edges_in l.set) b ≡ true
