@@ -1,5 +1,5 @@
 -- A way stops, and ends a region.
-use Rattle.std.proofs.Common.{◌≡◌, ℕ, ◌-◌, Some, [], ◌∷◌, Bool, true, false, List, length, drop, refl, sym, ap, ◌∙◌, subst, true≢false}
+use Rattle.std.proofs.Common.{◌≡◌, ◌≢◌, ◌<◌, ℕ, ◌-◌, Some, [], ◌∷◌, Bool, true, false, List, length, take, arith, refl, sym, ap, ◌∙◌, subst, true≢false}
 use Rattle.std.specs.Prelude.{slice_index_or}
 use Rattle.fancy_code.specs.declared.step.Next.{Next}
 use Rattle.fancy_code.specs.declared.step.Next.TheVariants.{On, Dead, Found}
@@ -12,8 +12,8 @@ use Rattle.fancy_machine.specs.declared.layer.Kind.{Kind}
 use Rattle.fancy_machine.specs.declared.layer.Kind.TheVariants as k
 use Rattle.fancy_machine.specs.Frames.{Spot, Region, Frame, Held, Within, Atom, LookAround, Denial, Condition}
 use Rattle.fancy_machine.specs.Layers.{frame_by, spot_at, frames_of, is_region, KnowRegions}
-use Rattle.fancy_machine.specs.Machine.{Stops, IsStep, finish, HasInnermost, ends_kind, wanted_by, within_at, at_place}
-use Rattle.fancy_machine.proofs.RegionLemmas.{bare_by, opens_top}
+use Rattle.fancy_machine.specs.Machine.{Stops, IsStep, finish, IsBare, HasInnermost, ends_kind, wanted_by, within_at, at_place}
+use Rattle.fancy_machine.proofs.RegionLemmas.{bare_by, opens_top, innermost_same, not_bare, region_frame}
 use Rattle.fancy_machine.proofs.MachineSteps.{stop_bare, stop_elsewhere, stop_atom, stop_look, stop_denial, stop_condition}
 
 -- the region of a layer that a way does not end
@@ -24,6 +24,22 @@ unended (k.Look behind) x s e = (LookAround behind x.at x.state.place x.limit, r
 unended (k.Denial behind) x s e = (Denial behind x, refl, sym e)
 unended k.Condition x s e = absurd (true≢false (sym e))
 
+-- a trail that has an open region is left by it
+module _ (held : Held) (n : Spot) (log : List Write) (slots : List Slot) (ls : List Layer) (most top : ℕ) (is : record { now = n; frames = frames_of log slots ls; most = most } ≡ held) (know : KnowRegions 0 0 ls top) (some : IsBare held.frames → ⊥) where
+  one_open : top ≢ 0
+  one_open none = some (subst (λ (h : Held). IsBare h.frames) is (bare_by log slots top ls know none))
+
+  pub opened_within : (0 < top) × (top - 1 < length ls)
+  opened_within = (omega (arith, one_open), omega (arith, (opens_top log slots top ls know one_open).0, one_open))
+
+  -- below the innermost region are the layers that were there before it
+  pub leaves_top : (x : Layer) → x ≡ slice_index_or ls (top - 1) x → (r : Region) (rest : List Frame) → HasInnermost held.frames r rest → frames_of log slots (take (top - 1) ls) ≡ rest
+  leaves_top x at r rest h =
+      let o = (opens_top log slots top ls know one_open).1 x at in
+      let p = region_frame x.kind (spot_at log slots x) o.0 in
+      innermost_same (frames_of log slots ls) rest (frames_of log slots (take (top - 1) ls)) p.0 r (o.1 p.0 p.1)
+      (subst (λ (g : Held). HasInnermost g.frames r rest) (sym is) h)
+
 module _ (held : Held) (n : Spot) (log : List Write) (slots : List Slot) (ls : List Layer) (most top : ℕ) (is : record { now = n; frames = frames_of log slots ls; most = most } ≡ held) (know : KnowRegions 0 0 ls top) (q : ℕ) where
   pub stops_bare : top ≡ 0 → Stops Found q held held.now held.frames
   stops_bare none =
@@ -32,7 +48,7 @@ module _ (held : Held) (n : Spot) (log : List Write) (slots : List Slot) (ls : L
 
   -- the frames below the innermost region
   abbrev below : List Frame
-  below = drop (length (frames_of log slots ls) - (top - 1)) (frames_of log slots ls)
+  below = frames_of log slots (take (top - 1) ls)
 
   module _ (x : Layer) (at : x ≡ slice_index_or ls (top - 1) x) (some : top ≡ 0 → ⊥) where
     opens : (p : Region) → frame_by x.kind (spot_at log slots x) ≡ Within p → HasInnermost (frames_of log slots ls) p below
@@ -48,11 +64,17 @@ module _ (held : Held) (n : Spot) (log : List Write) (slots : List Slot) (ls : L
     pub no_branch : {A : Type 0} → x.kind ≡ k.Branch → A
     no_branch e = absurd (true≢false (sym ((opens_top log slots top ls know some).1 x at).0 ∙ ap is_region e))
 
+    pub is_open : IsBare held.frames → ⊥
+    is_open =
+        let r = region_frame x.kind (spot_at log slots x) ((opens_top log slots top ls know some).1 x at).0 in
+        subst (λ (h : Held). IsBare h.frames → ⊥) is (not_bare (frames_of log slots ls) below r.0 (opens r.0 r.1))
+
     -- it was left
-    module _ (new : Held) (same : new.now ≡ held.now) (low : new.frames ≡ drop (length held.frames - (top - 1)) held.frames) where
+    module _ (new : Held) (same : new.now ≡ held.now) (low : (r : Region) (rest : List Frame) → HasInnermost held.frames r rest → new.frames ≡ rest) where
       within : (p : Region) → frame_by x.kind (spot_at log slots x) ≡ Within p → HasInnermost held.frames p new.frames
-      within p e = subst (λ (h : Held). HasInnermost h.frames p new.frames) is
-          (subst (HasInnermost (frames_of log slots ls) p) (ap (λ (h : Held). drop (length h.frames - (top - 1)) h.frames) is ∙ sym low) (opens p e))
+      within p e =
+          let inner : HasInnermost held.frames p below = subst (λ (h : Held). HasInnermost h.frames p below) is (opens p e) in
+          subst (HasInnermost held.frames p) (sym (low p below inner)) inner
 
       -- what is done with the way from there
       by : (next : Next) (go_on : Spot → Spot) → ((go : ℕ → Go) (u : List Raw) → finish go held.frames (Some (Stop q held.now.state held.now.starts ∷ [])) ≡ Some u

@@ -1,5 +1,5 @@
 -- What the log is once a trail was changed.
-use Rattle.std.proofs.Common.{◌≡◌, ℕ, zero, suc, ◌+◌, ◌-◌, ◌*◌, ◌<◌, ◌≤◌, ◌⊎◌, inl, inr, min, Bool, true, false, nat_lt, nat_le, List, [], ◌∷◌, ◌++◌, All, length, map, take, drop, filter, replicate, reverse, set, get_or, if◌then◌else◌, refl, sym, ap, ap₂, ◌∙◌, subst, append_assoc, append-nil, mul_comm, arith}
+use Rattle.std.proofs.Common.{◌≡◌, ℕ, zero, suc, ◌+◌, ◌-◌, ◌*◌, ◌<◌, ◌≤◌, ◌⊎◌, inl, inr, min, Bool, true, false, nat_lt, nat_le, Some, List, [], ◌∷◌, ◌++◌, All, length, map, take, drop, filter, replicate, set, get_or, if◌then◌else◌, refl, sym, ap, ◌∙◌, subst, append_assoc, append-nil, mul_comm, arith}
 use Rattle.std.proofs.lemmas.List.{take-append-drop, map-set, set-get_or, length-set, length-take-le, length-append, length-map, length-drop, get_or-map, get_or-drop, get_or-replicate, length-replicate}
 use Rattle.std.proofs.lemmas.List.Elements.{filter-append}
 use Rattle.std.proofs.lemmas.List.Sums.{sum_by-le}
@@ -12,27 +12,27 @@ use Rattle.fancy_machine.specs.declared.layer.Kind.{Kind}
 use Rattle.fancy_machine.specs.declared.layer.Kind.TheVariants as k
 use Rattle.fancy_machine.specs.Frames.{Frame}
 use Rattle.fancy_machine.specs.Log.{cell_slot, cell_level, empty_cell, old_cell, old_slot, old_level, undone_by, is_kept, lowered, Climbs, writes_allowed, IsUnwritten}
-use Rattle.fancy_machine.specs.Layers.{spot_of, frame_by, frame_at, frames_of, saves, branches_in, Rises, depth, IsLog}
+use Rattle.fancy_machine.specs.Layers.{spot_of, frames_by, frames_at, stacked, frames_of, saves, is_region, earlier, saved_by, branches_in, less_one, TookLast, Rises, depth, IsLog}
 use Rattle.fancy_machine.proofs.LogLemmas.{undone_over, undone-map, length-undone, climbs_push, climbs_take, climbs_drop, climbs_sum, climbs_within, climbs_given, climbs_same, climbs_kept, lowered_is, min_all}
 use Rattle.fancy_code.specs.Thread.{empty_slot}
 use Rattle.fancy_code.proofs.ThreadLemmas.{map-replicate}
-use Rattle.fancy_machine.proofs.LayerLemmas.{rises_le, rises_more, rises_below, frames_shift}
+use Rattle.fancy_machine.proofs.LayerLemmas.{rises_le, rises_more, rises_below, frames_shift, unsaved}
 
 abbrev part : Layer → ℕ → ℕ
-part l n = if nat_le l.log n then saves l.kind else 0
+part l n = if nat_le l.log n then saved_by l else 0
 
-part_le : (l : Layer) (i : ℕ) → part l i ≤ saves l.kind
+part_le : (l : Layer) (i : ℕ) → part l i ≤ saved_by l
 part_le l i = by (nat_le l.log i) where
-  by : (b : Bool) → (if b then saves l.kind else 0) ≤ saves l.kind
+  by : (b : Bool) → (if b then saved_by l else 0) ≤ saved_by l
   by true = omega arith
   by false = omega arith
 
 -- a layer that was made later does not count, and one that was made by then does
 part_none : (l : Layer) (i : ℕ) → i < l.log → part l i ≡ 0
-part_none l i lt = ap (λ (b : Bool). if b then saves l.kind else 0) (lt-leb l.log i lt)
+part_none l i lt = ap (λ (b : Bool). if b then saved_by l else 0) (lt-leb l.log i lt)
 
-part_all : (l : Layer) (i : ℕ) → l.log ≤ i → part l i ≡ saves l.kind
-part_all l i le = ap (λ (b : Bool). if b then saves l.kind else 0) (le-leb l.log i le)
+part_all : (l : Layer) (i : ℕ) → l.log ≤ i → part l i ≡ saved_by l
+part_all l i le = ap (λ (b : Bool). if b then saved_by l else 0) (le-leb l.log i le)
 
 depth_le : (ls : List Layer) (i : ℕ) → depth ls i ≤ branches_in ls
 depth_le [] i = omega arith
@@ -63,46 +63,49 @@ depth_rest zero ls i = omega (arith, depth_le ls i)
 depth_rest (suc j) [] i = omega arith
 depth_rest (suc j) (l ∷ ls) i = omega (arith, depth_rest j ls i)
 
-depth-append : (ls : List Layer) (l : Layer) (i : ℕ) → depth (ls ++ l ∷ []) i ≡ depth ls i + part l i
-depth-append [] l i = omega arith
-depth-append (d ∷ ls) l i = omega (arith, depth-append ls l i)
+depth-append : (ls ks : List Layer) (i : ℕ) → depth (ls ++ ks) i ≡ depth ls i + depth ks i
+depth-append [] ks i = omega arith
+depth-append (d ∷ ls) ks i = omega (arith, depth-append ls ks i)
 
 -- a layer that saves no branch stands for no slots
-frame_unsaved : (j : Kind) (at limit place kept : ℕ) (s t : List Slot) → saves j ≡ 0 → frame_by j (spot_of at limit place kept s) ≡ frame_by j (spot_of at limit place kept t)
-frame_unsaved k.Branch at limit place kept s t none = absurd (omega (arith, none))
-frame_unsaved k.Atom at limit place kept s t none = refl
-frame_unsaved (k.Look behind) at limit place kept s t none = refl
-frame_unsaved (k.Denial behind) at limit place kept s t none = absurd (omega (arith, none))
-frame_unsaved k.Condition at limit place kept s t none = absurd (omega (arith, none))
+frames_unsaved : (l : Layer) (s t : List Slot) → saved_by l ≡ 0 → frames_by l.kind (earlier l) (spot_of l.at l.limit l.place l.kept s) ≡ frames_by l.kind (earlier l) (spot_of l.at l.limit l.place l.kept t)
+frames_unsaved l s t none = by (earlier l) l.kind (omega (arith, none)) (omega (arith, none)) where
+  by : (n : ℕ) (j : Kind) → n ≡ 0 → saves j ≡ 0 → frames_by j n (spot_of l.at l.limit l.place l.kept s) ≡ frames_by j n (spot_of l.at l.limit l.place l.kept t)
+  by (suc n) j e none = absurd (omega (arith, e))
+  by zero k.Branch e none = absurd (omega (arith, none))
+  by zero k.Atom e none = refl
+  by zero (k.Look behind) e none = refl
+  by zero (k.Denial behind) e none = absurd (omega (arith, none))
+  by zero k.Condition e none = absurd (omega (arith, none))
 
 module _ (g : ℕ) (x : Slot) (log : List Write) (slots : List Slot) where
-  abbrev before : Layer → Frame
-  before = frame_at log slots
+  abbrev before : Layer → List Frame
+  before = frames_at log slots
 
-  abbrev now : Layer → Frame
-  now = frame_at log (set slots g x)
+  abbrev now : Layer → List Frame
+  now = frames_at log (set slots g x)
 
-  unsaved_same : (ls : List Layer) → branches_in ls ≡ 0 → map now ls ≡ map before ls
-  unsaved_same [] none = refl
-  unsaved_same (l ∷ ls) none =
-      ap₂ (λ (f : Frame) (fs : List Frame). f ∷ fs) (frame_unsaved l.kind l.at l.limit l.place l.kept _ _ (omega (arith, none))) (unsaved_same ls (omega (arith, none)))
+  unsaved_same : (fs : List Frame) (ls : List Layer) → branches_in ls ≡ 0 → stacked now fs ls ≡ stacked before fs ls
+  unsaved_same fs [] none = refl
+  unsaved_same fs (l ∷ ls) none =
+      ap (λ (gs : List Frame). stacked now (gs ++ fs) ls) (frames_unsaved l _ _ (omega (arith, none))) ∙ unsaved_same (before l ++ fs) ls (omega (arith, none))
 
   module _ (i : ℕ) (d : Write) (lt : i < length log) (to : (get_or log i d).group ≡ g) where
-    over_same : (ls : List Layer) → depth ls i ≡ branches_in ls → map now ls ≡ map before ls
-    over_same [] all = refl
-    over_same (l ∷ ls) all =
-        ap₂ (λ (f : Frame) (fs : List Frame). f ∷ fs) (by (nat_le l.log i) refl) (over_same ls (omega (arith, all, part_le l i, depth_le ls i)))
+    over_same : (fs : List Frame) (ls : List Layer) → depth ls i ≡ branches_in ls → stacked now fs ls ≡ stacked before fs ls
+    over_same fs [] all = refl
+    over_same fs (l ∷ ls) all =
+        ap (λ (gs : List Frame). stacked now (gs ++ fs) ls) (by (nat_le l.log i) refl) ∙ over_same (before l ++ fs) ls (omega (arith, all, part_le l i, depth_le ls i))
       where
         by : (b : Bool) → nat_le l.log i ≡ b → now l ≡ before l
         by true e =
             let le : l.log ≤ i = leb-true l.log i e in
             let at : i ≡ l.log + (i - l.log) = omega (arith, le) in
-            ap (λ (s : List Slot). frame_by l.kind (spot_of l.at l.limit l.place l.kept s))
+            ap (λ (s : List Slot). frames_by l.kind (earlier l) (spot_of l.at l.limit l.place l.kept s))
             (undone_over old_slot slots (drop l.log log) (i - l.log) g x d (omega (arith, lt, le, length-drop l.log log))
             (ap (λ (w : Write). w.group) (get_or-drop l.log log (i - l.log) d ∙ ap (λ (m : ℕ). get_or log m d) (sym at)) ∙ to))
         by false e =
-            let none : part l i ≡ 0 = ap (λ (b : Bool). if b then saves l.kind else 0) e in
-            frame_unsaved l.kind l.at l.limit l.place l.kept _ _ (omega (arith, none, all, depth_le ls i))
+            let none : part l i ≡ 0 = ap (λ (b : Bool). if b then saved_by l else 0) e in
+            frames_unsaved l _ _ (omega (arith, none, all, depth_le ls i))
 
 abbrev d : Write
 d = record { group = 0; old = empty_cell }
@@ -110,10 +113,10 @@ d = record { group = 0; old = empty_cell }
 -- no frame depends on what stands now in a group that was logged since the last branch was saved
 frames_over : (ls : List Layer) (log : List Write) (slots : List Slot) (count g : ℕ) (levels : List ℕ) (x : Slot) → Climbs (depth ls) 0 (replicate count 0) log levels → g < count → get_or levels g 0 ≡ branches_in ls
     → frames_of log (set slots g x) ls ≡ frames_of log slots ls
-frames_over ls log slots count g levels x c lt full = ap reverse (by (climbs_given (depth ls) 0 g (replicate count 0) levels log d c (omega (arith, lt, length-replicate {A = ℕ} count 0)))) where
-  by : (get_or levels g 0 ≡ get_or (replicate count 0) g 0) ⊎ ((i : ℕ) × (i < length log) × ((get_or log i d).group ≡ g) × (depth ls (0 + i) ≡ get_or levels g 0)) → map (frame_at log (set slots g x)) ls ≡ map (frame_at log slots) ls
-  by (inl e) = unsaved_same g x log slots ls (sym full ∙ e ∙ get_or-replicate count g 0 0 lt)
-  by (inr i) = over_same g x log slots i.0 d i.1 i.2 ls (ap (depth ls) (omega arith) ∙ i.3 ∙ full)
+frames_over ls log slots count g levels x c lt full = by (climbs_given (depth ls) 0 g (replicate count 0) levels log d c (omega (arith, lt, length-replicate {A = ℕ} count 0))) where
+  by : (get_or levels g 0 ≡ get_or (replicate count 0) g 0) ⊎ ((i : ℕ) × (i < length log) × ((get_or log i d).group ≡ g) × (depth ls (0 + i) ≡ get_or levels g 0)) → frames_of log (set slots g x) ls ≡ frames_of log slots ls
+  by (inl e) = unsaved_same g x log slots [] ls (sym full ∙ e ∙ get_or-replicate count g 0 0 lt)
+  by (inr i) = over_same g x log slots i.0 d i.1 i.2 [] ls (ap (depth ls) (omega arith) ∙ i.3 ∙ full)
 
 -- The log of layers that stay, where those above are dropped: `done` are the writes of it that were looked at, and `rest` the others.
 module _ (ls : List Layer) (b r count : ℕ) (deeper : ℕ → ℕ) (slots : List Slot) (all : branches_in ls ≡ b) (rises : Rises 0 ls r) (deep : (i : ℕ) → r ≤ i → b ≤ deeper i) where
@@ -262,32 +265,45 @@ module _ (ls : List Layer) (log : List Write) (cells : List Cell) (rises : Rises
   pub saved_log : (all : List Layer) (l : Layer) → all ≡ ls ++ l ∷ [] → l.log ≡ length log → IsLog all log cells
   saved_log all l e made =
       climbs_same (depth ls) (depth all) (length log) 0 (replicate (length cells) 0) (map cell_level cells) log
-      (λ i below. sym (ap (λ (ks : List Layer). depth ks i) e ∙ depth-append ls l i ∙ omega_zero i below)) (omega arith) is
+      (λ i below. omega (arith, ap (λ (ks : List Layer). depth ks i) e, depth-append ls (l ∷ []) i, part_none l i (omega (arith, below, made)))) (omega arith) is
+
+-- the last branch of the last layer was taken
+module _ (all fewer : List Layer) (l : Layer) (t : TookLast (Some l) all fewer) (log : List Write) (cells : List Cell) (is : IsLog all log cells) where
+  -- what it saved counts at none of the writes up to its own, or never, if that is nothing
+  took_depth : (i : ℕ) → ((m : Layer) → m.log ≡ l.log → saved_by m ≤ saved_by l → part m i ≡ 0) → depth all i ≡ depth fewer i
+  took_depth i none =
+      omega (
+        arith,
+        ap (λ (ks : List Layer). depth ks i) t.1,
+        depth-append t.0 (l ∷ []) i,
+        none l refl (omega arith),
+        ap (λ (ks : List Layer). depth ks i) t.2,
+        depth-append t.0 (less_one l) i,
+        by (nat_lt 0 (earlier l)),
+      )
     where
-      omega_zero : (i : ℕ) → i < length log → depth ls i + part l i ≡ depth ls i
-      omega_zero i below = omega (arith, part_none l i (omega (arith, below, made)))
+      by : (b : Bool) → depth (if b then record l { place = l.place - 1 } ∷ [] else []) i ≡ 0
+      by true = omega (arith, none (record l { place = l.place - 1 }) refl (fewer_saved (is_region l.kind)))
+        where
+          fewer_saved : (b : Bool) → saves l.kind + (if b then 0 else l.place - 1 - l.from) ≤ saves l.kind + (if b then 0 else l.place - l.from)
+          fewer_saved true = omega arith
+          fewer_saved false = omega arith
+      by false = refl
 
--- a layer is dropped that saves no branch
-pub unsaved_log : (all ls : List Layer) (l : Layer) (log : List Write) (cells : List Cell) → all ≡ ls ++ l ∷ [] → saves l.kind ≡ 0 → IsLog all log cells → IsLog ls log cells
-unsaved_log all ls l log cells e none is =
-    climbs_same (depth all) (depth ls) (length log) 0 (replicate (length cells) 0) (map cell_level cells) log
-    (λ i below. ap (λ (ks : List Layer). depth ks i) e ∙ depth-append ls l i ∙ same i) (omega arith) is
-  where
-    same : (i : ℕ) → depth ls i + part l i ≡ depth ls i
-    same i = omega (arith, part_le l i, none)
+  -- it saved none
+  pub unsaved_log : saves l.kind ≡ 0 → IsLog fewer log cells
+  unsaved_log none =
+      climbs_same (depth all) (depth fewer) (length log) 0 (replicate (length cells) 0) (map cell_level cells) log
+      (λ i below. took_depth i (λ m at le. omega (arith, part_le m i, le, unsaved l none))) (omega arith) is
 
--- a layer is dropped, and what was written since it was made is undone
-pub undone_log : (all ls : List Layer) (l : Layer) (log : List Write) (cells : List Cell) → all ≡ ls ++ l ∷ [] → l.log ≤ length log → IsLog all log cells
-    → IsLog ls (take l.log log) (undone_by old_cell cells (drop l.log log))
-undone_log all ls l log cells e le is =
-    subst (λ (n : ℕ). Climbs (depth ls) 0 (replicate n 0) (take l.log log) (map cell_level (undone_by old_cell cells (drop l.log log)))) (sym (length-undone old_cell cells (drop l.log log)))
-    (subst (Climbs (depth ls) 0 (replicate (length cells) 0) (take l.log log)) (sym (undone-map cell_level old_cell cells (drop l.log log)))
-    (climbs_same (depth all) (depth ls) l.log 0 (replicate (length cells) 0) (undone_by old_level (map cell_level cells) (drop l.log log)) (take l.log log)
-    (λ i below. ap (λ (ks : List Layer). depth ks i) e ∙ depth-append ls l i ∙ same i below) (omega (arith, length-take-le l.log log le))
-    (climbs_take (depth all) 0 l.log (replicate (length cells) 0) (map cell_level cells) log is)))
-  where
-    same : (i : ℕ) → i < l.log → depth ls i + part l i ≡ depth ls i
-    same i below = omega (arith, part_none l i below)
+  -- and what was written since it was made is undone
+  pub undone_log : l.log ≤ length log → IsLog fewer (take l.log log) (undone_by old_cell cells (drop l.log log))
+  undone_log le =
+      subst (λ (n : ℕ). Climbs (depth fewer) 0 (replicate n 0) (take l.log log) (map cell_level (undone_by old_cell cells (drop l.log log)))) (sym (length-undone old_cell cells (drop l.log log)))
+      (subst (Climbs (depth fewer) 0 (replicate (length cells) 0) (take l.log log)) (sym (undone-map cell_level old_cell cells (drop l.log log)))
+      (climbs_same (depth all) (depth fewer) l.log 0 (replicate (length cells) 0) (undone_by old_level (map cell_level cells) (drop l.log log)) (take l.log log)
+      (λ i below. took_depth i (λ m at few. part_none m i (omega (arith, below, at)))) (omega (arith, length-take-le l.log log le))
+      (climbs_take (depth all) 0 l.log (replicate (length cells) 0) (map cell_level cells) log is)))
 
 -- no write was logged
 pub begun_log : (cells : List Cell) → cells ≡ replicate (length cells) empty_cell → IsLog [] [] cells

@@ -1,7 +1,7 @@
 -- The layers of a search as frames.
-use Rattle.std.specs.Prelude.{◌≡◌, ℕ, suc, ◌+◌, ◌≤◌, Bool, true, false, if◌then◌else◌, nat_le, ◌==◌, Option, Some, None, List, [], ◌∷◌, map, length, drop, replicate, reverse}
+use Rattle.std.specs.Prelude.{◌≡◌, ℕ, zero, suc, ◌+◌, ◌-◌, ◌≤◌, Bool, true, false, if◌then◌else◌, nat_le, nat_lt, ◌==◌, Option, Some, None, List, [], ◌∷◌, ◌++◌, map, length, drop, replicate}
 use Rattle.fancy_code.specs.declared.slot.Slot.{Slot}
-use Rattle.fancy_code.specs.Context.{State}
+use Rattle.fancy_code.specs.Context.{State, moved_to}
 use Rattle.fancy_code.specs.Thread.{slot_span, slot_from}
 use Rattle.fancy_machine.specs.declared.layer.Layer.{Layer}
 use Rattle.fancy_machine.specs.declared.layer.Kind.{Kind}
@@ -51,20 +51,51 @@ is_region (k.Look behind) = true
 is_region (k.Denial behind) = true
 is_region k.Condition = true
 
+-- at how many places before its own a layer saves a branch too
+abbrev pub earlier : Layer → ℕ
+earlier l = if is_region l.kind then 0 else l.place - l.from
+
+-- how many branches a layer saves
+abbrev pub saved_by : Layer → ℕ
+saved_by l = saves l.kind + earlier l
+
 abbrev pub branches_in : List Layer → ℕ
 branches_in [] = 0
-branches_in (l ∷ ls) = saves l.kind + branches_in ls
+branches_in (l ∷ ls) = saved_by l + branches_in ls
+
+-- the same way one place before
+abbrev pub one_before : Spot → Spot
+one_before x = record x { state = moved_to x.state (x.state.place - 1) }
+
+-- the frames of this kind for a way and for those at each of n places before, the way's own first
+abbrev pub frames_by : Kind → ℕ → Spot → List Frame
+frames_by j zero x = frame_by j x ∷ []
+frames_by j (suc n) x = frame_by j x ∷ frames_by j n (one_before x)
 
 -- the way of a layer, with the slots that there were when it was made
 abbrev pub spot_at : List Write → List Slot → Layer → Spot
 spot_at log slots l = spot_of l.at l.limit l.place l.kept (undone_by old_slot slots (drop l.log log))
 
-abbrev pub frame_at : List Write → List Slot → Layer → Frame
-frame_at log slots l = frame_by l.kind (spot_at log slots l)
+abbrev pub frames_at : List Write → List Slot → Layer → List Frame
+frames_at log slots l = frames_by l.kind (earlier l) (spot_at log slots l)
+
+-- the frames of these layers, where `of` tells those of each: the last layer's first, and `fs` below them all
+abbrev pub stacked : (Layer → List Frame) → List Frame → List Layer → List Frame
+stacked of fs [] = fs
+stacked of fs (l ∷ ls) = stacked of (of l ++ fs) ls
 
 -- the layers as frames, the last one first
 abbrev pub frames_of : List Write → List Slot → List Layer → List Frame
-frames_of log slots ls = reverse (map (frame_at log slots) ls)
+frames_of log slots ls = stacked (frames_at log slots) [] ls
+
+-- what stays of a layer once the branch at its place is taken: those before it, if it saves such
+abbrev pub less_one : Layer → List Layer
+less_one l = if nat_lt 0 (earlier l) then record l { place = l.place - 1 } ∷ [] else []
+
+-- the last of the layers is answered, if there is one, and of it stays what its last branch leaves
+abbrev pub TookLast : Option Layer → List Layer → List Layer → Type 0
+TookLast None all fewer = (all ≡ []) × (fewer ≡ all)
+TookLast (Some l) all fewer = (rest : List Layer) × (all ≡ rest ++ l ∷ []) × (fewer ≡ rest ++ less_one l)
 
 -- the log was at least lo writes long when the first of these layers was made, no shorter for each next one, and is n writes long now, or longer
 abbrev pub Rises : ℕ → List Layer → ℕ → Type 0
@@ -74,7 +105,7 @@ Rises lo (l ∷ ls) n = (lo ≤ l.log) × Rises l.log ls n
 -- how many branches these layers had saved when write n was logged
 abbrev pub depth : List Layer → ℕ → ℕ
 depth [] n = 0
-depth (l ∷ ls) n = (if nat_le l.log n then saves l.kind else 0) + depth ls n
+depth (l ∷ ls) n = (if nat_le l.log n then saved_by l else 0) + depth ls n
 
 -- The log led from cells that nothing was written to to these, and each of its writes was to a group that had none since the last branch was saved.
 abbrev pub IsLog : List Layer → List Write → List Cell → Type 0

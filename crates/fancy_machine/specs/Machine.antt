@@ -1,5 +1,5 @@
 -- What the machine still has before it.
-use Rattle.std.specs.Prelude.{◌≡◌, ℕ, suc, ◌+◌, ◌<◌, ◌≤◌, ◌⊎◌, Bool, true, false, List, [], ◌∷◌, length, Option, Some, None, Result, Ok, Err, if◌then◌else◌, ◌==◌, not, ◌&&◌, nat_lt, slice_index, slice_set}
+use Rattle.std.specs.Prelude.{◌≡◌, ℕ, zero, suc, ◌+◌, ◌<◌, ◌≤◌, ◌⊎◌, Bool, true, false, List, [], ◌∷◌, length, Option, Some, None, Result, Ok, Err, if◌then◌else◌, ◌==◌, not, ◌&&◌, nat_lt, slice_index, slice_set}
 use Rattle.fancy_code.specs.declared.step.Next.{Next}
 use Rattle.fancy_code.specs.declared.step.Next.TheVariants.{On, Dead, Found}
 use Rattle.fancy_code.specs.declared.refusal.SearchRefusal.{SearchRefusal}
@@ -35,6 +35,11 @@ kept_at q x = record x { at = q; state = record x.state { kept = x.state.place }
 
 abbrev pub within_at : ℕ → ℕ → Spot → Spot
 within_at q l x = record x { at = q; limit = l }
+
+-- a branch is saved at each of n places from p on, where it goes on at q; the last place's is taken first
+abbrev pub saved_run : ℕ → ℕ → ℕ → Spot → List Frame → List Frame
+saved_run q p zero x fs = fs
+saved_run q p (suc n) x fs = Saved (at_place q (p + n) x) ∷ saved_run q p n x fs
 
 -- what moving on to a place does, if there is one by the limit
 abbrev pub MovedTo : Next → ℕ → Option ℕ → Spot → Spot → Type 0

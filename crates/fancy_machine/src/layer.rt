@@ -1,7 +1,7 @@
 //! What the machine keeps below the way that it follows.
 
 ghost use Rattle.std.specs.Prelude.{◌≡◌, ◌≤◌, take, vec_len, if◌then◌else◌, ◌==◌, true};
-ghost use Rattle.fancy_machine.specs.Layers.{saves, is_one, branches_in, region_by};
+ghost use Rattle.fancy_machine.specs.Layers.{saves, is_one, earlier, branches_in, region_by, TookLast};
 ghost use Rattle.fancy_machine.specs.Machine.{ends_kind};
 
 /// What a layer is.
@@ -19,12 +19,16 @@ pub enum Kind {
     Condition,
 }
 
-/// A saved branch, or a region that is open: a way, with the length that the log had then, and where the region round it is.
+/// A region that is open, or saved branches: a way, with the length that the log had then, and where the region round it is.
+/// The branches of one layer stand at consecutive places, one at each, and are otherwise the same. The last place's is taken
+/// first.
 #[derive(Clone, Copy, PartialEq, Eq, Debug)]
 pub struct Layer {
     pub kind: Kind,
     /// Where the way, or what follows a look-around, goes on.
     pub at: usize,
+    /// Where the first of its branches stands, a byte offset; `place` is that of the last. What is no `Branch` has one place.
+    pub from: usize,
     /// A byte offset.
     pub place: usize,
     /// Where the match starts, as a byte offset.
@@ -70,6 +74,16 @@ pub(crate) fn is_saved(kind: Kind) -> bool
     }
 }
 
+/// At how many places before its own a layer saves a branch too.
+fn earlier(layer: Layer) -> usize
+    ensures { result ≡ earlier layer }
+{
+    match layer.kind {
+        Kind::Branch => layer.place.saturating_sub(layer.from),
+        Kind::Atom | Kind::Look(_) | Kind::Denial(_) | Kind::Condition => 0,
+    }
+}
+
 /// How many layers stand up to the innermost region, where this layer is the last of so many.
 pub(crate) fn region_by(layer: Layer, count: usize) -> usize
     ensures { result ≡ region_by count layer }
@@ -92,8 +106,30 @@ pub(crate) fn cut(layers: &mut Vec<Layer>, branches: &mut usize, len: usize)
         let Some(layer) = layers.pop() else {
             return;
         };
+        *branches -= earlier(layer);
         if is_saved(layer.kind) {
             *branches -= 1;
         }
     }
+}
+
+/// Takes the last layer, or the last branch of it where it saves more: then the layer stays with the others. It is answered as
+/// it stood.
+pub(crate) fn take_last(layers: &mut Vec<Layer>) -> Option<Layer>
+    ensures { TookLast result layers.old.items layers.new.items }
+{
+    let len = layers.len();
+    if len == 0 {
+        return None;
+    }
+    let layer = layers[len - 1];
+    if earlier(layer) > 0 {
+        layers[len - 1] = Layer {
+            place: layer.place - 1,
+            ..layer
+        };
+    } else {
+        layers.pop();
+    }
+    Some(layer)
 }

@@ -1,15 +1,15 @@
 //! The way that the machine follows, with the branches that it saved and the regions that are open.
 
-ghost use Rattle.std.specs.Prelude.{◌≡◌, ◌≢◌, ◌-◌, ◌≤◌, [], ◌∷◌, Err, Some, map, length, drop, replicate, OnOk, slice_index, true, is_some};
+ghost use Rattle.std.specs.Prelude.{◌≡◌, ◌≢◌, ◌+◌, ◌<◌, ◌≤◌, ◌↔◌, List, [], ◌∷◌, Err, Some, map, length, replicate, IsTrue, OnOk, slice_index, true, is_some};
 ghost use Rattle.fancy_code.specs.Context.{group_span};
 ghost use Rattle.fancy_code.specs.Thread.{empty_slot, slot_span};
 ghost use Rattle.fancy_code.specs.Work.{returns_of};
 ghost use Rattle.fancy_machine.specs.Log.{cell_slot, writes_allowed};
-ghost use Rattle.fancy_machine.specs.Frames.{saved};
+ghost use Rattle.fancy_machine.specs.Frames.{Frame, Region, saved};
 ghost use Rattle.fancy_machine.specs.Layers.{spot_of, outcome_of, frame_by, saves};
-ghost use Rattle.fancy_machine.specs.Machine.{at_instr, at_place, written, opened_at, closed_at, kept_at, within_at, Stops, TookBranch};
+ghost use Rattle.fancy_machine.specs.Machine.{at_instr, at_place, written, opened_at, closed_at, kept_at, within_at, saved_run, IsBare, HasInnermost, Stops, TookBranch};
 
-use crate::layer::{Kind, Layer, cut, is_ended, is_saved, region_by};
+use crate::layer::{Kind, Layer, cut, is_ended, is_saved, region_by, take_last};
 use crate::log::{Cell, Write, begin_cells, cell_at, forget_levels, has_span, thin, undo};
 use fancy_code::refusal::SearchRefusal;
 use fancy_code::slot::Slot;
@@ -243,6 +243,7 @@ impl Trail {
         let layer = Layer {
             kind,
             at,
+            from: self.place,
             place: self.place,
             kept: self.kept,
             limit: self.limit,
@@ -270,6 +271,7 @@ impl Trail {
         let layer = Layer {
             kind,
             at,
+            from: self.place,
             place: self.place,
             kept: self.kept,
             limit: self.limit,
@@ -279,6 +281,43 @@ impl Trail {
         self.layers.push(layer)?;
         self.branches += 1;
         self.region = region_by(layer, self.layers.len());
+        Ok(())
+    }
+
+    /// Whether so many more branches may be saved.
+    pub fn has_room_for(&self, count: usize) -> bool
+        ensures { IsTrue result ↔ (saved self.now.frames + count ≤ self.now.most) }
+    {
+        count <= self.most - self.branches
+    }
+
+    /// Saves a branch at each of so many places, from a byte offset on: the last place's is taken first. One layer stands for
+    /// them all. It is refused with `Choices` where so many may not be saved.
+    pub fn save_run(&mut self, at: usize, from: usize, count: usize) -> Result<(), SearchRefusal>
+        requires some { 0 < count }
+        requires fits { from + count ≤ usize.MAX }
+        ensures now { self.new.now ≡ self.old.now }
+        ensures saved { OnOk result (self.new.frames ≡ saved_run at from count self.old.now self.old.frames) }
+        ensures refused { result ≢ Err SearchRefusal.Returns }
+        ensures unlimited { result ≢ Err SearchRefusal.Steps }
+        ensures full { result ≡ Err SearchRefusal.Choices → self.old.most < saved self.old.frames + count }
+        ensures most { self.new.most ≡ self.old.most }
+    {
+        if !self.has_room_for(count) {
+            return Err(SearchRefusal::Choices);
+        }
+        let layer = Layer {
+            kind: Kind::Branch,
+            at,
+            from,
+            place: from + (count - 1),
+            kept: self.kept,
+            limit: self.limit,
+            log: self.log.len(),
+            region: self.region,
+        };
+        self.layers.push(layer)?;
+        self.branches += count;
         Ok(())
     }
 
@@ -341,15 +380,16 @@ impl Trail {
         self.write(group, slot)
     }
 
-    /// Keeps the lowest layers, so many, and of the log what they ask for: all of it, where no saved branch is dropped.
-    fn leave(&mut self, len: usize)
+    /// Leaves the innermost region, and drops the branches that were saved since it began. Of the log it keeps what the layers
+    /// below ask for: all of it, where no saved branch is dropped.
+    fn leave(&mut self)
+        requires { IsBare self.old.frames → ⊥ }
         ensures now { self.new.now ≡ self.old.now }
-        ensures frames { self.new.frames ≡ drop (length self.old.frames - len) self.old.frames }
+        ensures left { (region : Region) (rest : List Frame)
+            → HasInnermost self.old.frames region rest → self.new.frames ≡ rest }
         ensures most { self.new.most ≡ self.old.most }
     {
-        if len >= self.layers.len() {
-            return;
-        }
+        let len = self.region - 1;
         let lowest = self.layers[len];
         let saved = self.branches;
         cut(&mut self.layers, &mut self.branches, len);
@@ -372,7 +412,7 @@ impl Trail {
         if !is_ended(layer.kind, layer.place, self.place) {
             return Next::Dead;
         }
-        self.leave(top - 1);
+        self.leave();
         match layer.kind {
             Kind::Branch => Next::Dead,
             Kind::Atom => {
@@ -402,7 +442,7 @@ impl Trail {
         ensures most { self.new.most ≡ self.old.most }
     {
         'layers: loop {
-            let Some(layer) = self.layers.pop() else {
+            let Some(layer) = take_last(&mut self.layers) else {
                 return Ok(false);
             };
             self.region = layer.region;

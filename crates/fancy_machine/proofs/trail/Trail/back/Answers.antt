@@ -1,4 +1,4 @@
-use Rattle.std.proofs.Common.{◌≡◌, ◌≤◌, ◌-◌, ℕ, Bool, true, false, ◌++◌, [], take, ◌∙◌, List, ◌∷◌, length, map, drop, arith, ap, ap₂, sym, subst}
+use Rattle.std.proofs.Common.{◌≡◌, ◌≤◌, ◌-◌, ℕ, Bool, true, false, Some, take, ◌∙◌, List, ◌∷◌, length, map, drop, arith, ap, ap₂, sym, subst}
 use Rattle.std.proofs.lemmas.List.{length-take-le}
 use Rattle.fancy_code.specs.declared.slot.Slot.{Slot}
 use Rattle.fancy_machine.specs.declared.log.Write.{Write}
@@ -6,12 +6,12 @@ use Rattle.fancy_code.specs.Work.{returns_of, went_back}
 use Rattle.fancy_machine.specs.declared.layer.Layer.{Layer}
 use Rattle.fancy_machine.specs.declared.log.Cell.{Cell}
 use Rattle.fancy_machine.specs.Frames.{Spot, Frame}
-use Rattle.fancy_machine.specs.Layers.{saves, is_one, branches_in, IsLog, spot_of, spot_at, frame_at, frames_of, Rises, KnowRegions}
+use Rattle.fancy_machine.specs.Layers.{saves, is_one, branches_in, IsLog, spot_of, spot_at, frame_by, frames_of, TookLast, Rises, KnowRegions}
 use Rattle.fancy_machine.specs.Machine.{IsSpent, Takes}
-use Rattle.fancy_machine.proofs.LayerLemmas.{counted_snoc, saves_one, saves_none, rises_pop, rises_more, frames_snoc, frames_undone, takes_by, takes_past, spent_past, unspent_past}
+use Rattle.fancy_machine.proofs.LayerLemmas.{saves_one, saves_none, took_branches, took_frames, took_rises, rises_more, frames_undone, takes_by, takes_past, spent_past, unspent_by, unspent_past}
 use Rattle.fancy_machine.specs.Log.{cell_slot, old_cell, old_slot, undone_by, IsUnwritten}
 use Rattle.fancy_machine.proofs.LogLemmas.{undone-map}
-use Rattle.fancy_machine.proofs.RegionLemmas.{regions_pop}
+use Rattle.fancy_machine.proofs.RegionLemmas.{took_regions}
 use Rattle.fancy_machine.proofs.WriteLemmas.{unsaved_log, undone_log, undone_unwritten}
 use Rattle.fancy_machine.proofs.trail.Trail.back.Goals as goal
 
@@ -20,16 +20,16 @@ layers-preserved c =
     let l = c.in-Some.layer in
     let log = c.layers.self-inside.log.items in
     let slots = map cell_slot c.layers.self-inside.cells.items in
-    let rest = c.pop.new.self.items in
-    let e : frames_of log slots c.layers.self-inside.layers.items ≡ frame_at log slots l ∷ frames_of log slots rest = ap (frames_of log slots) c.in-Some.ensures.items ∙ frames_snoc log slots rest l in
-    let r = rises_pop 0 (length log) rest l (subst (λ (ls : List Layer). Rises 0 ls (length log)) c.in-Some.ensures.items c.layers.invariant.rises) in
+    let rest = c.take_last.new.layers.items in
+    let e : frames_of log slots c.layers.self-inside.layers.items ≡ frame_by l.kind (spot_at log slots l) ∷ frames_of log slots rest = took_frames c.layers.self-inside.layers.items rest l c.in-Some.ensures log slots in
+    let r = took_rises c.layers.self-inside.layers.items rest l c.in-Some.ensures (length log) c.layers.invariant.rises in
     record {
-      branches = omega (arith, c.layers.invariant.branches, counted_snoc _ _ l c.in-Some.ensures.items, saves_none l.kind c.if-not-is_saved.ensures);
+      branches = omega (arith, c.layers.invariant.branches, took_branches c.layers.self-inside.layers.items rest l c.in-Some.ensures, saves_none l.kind c.if-not-is_saved.ensures);
       few = c.layers.invariant.few;
       rises = rises_more 0 l.log (length log) rest r.1 r.0;
-      knows = regions_pop 0 0 _ rest l (subst (λ (ls : List Layer). KnowRegions 0 0 ls c.layers.self-inside.region) c.in-Some.ensures.items c.layers.invariant.knows);
+      knows = took_regions c.layers.self-inside.layers.items rest l _ c.in-Some.ensures c.layers.invariant.knows;
       unwritten = c.layers.invariant.unwritten;
-      logged = unsaved_log c.layers.self-inside.layers.items rest l log c.layers.self-inside.cells.items c.in-Some.ensures.items (saves_none l.kind c.if-not-is_saved.ensures) c.layers.invariant.logged;
+      logged = unsaved_log c.layers.self-inside.layers.items rest l c.in-Some.ensures log c.layers.self-inside.cells.items c.layers.invariant.logged (saves_none l.kind c.if-not-is_saved.ensures);
       most = c.layers.invariant.most;
       work = c.layers.invariant.work;
       takes = λ y more t. c.layers.invariant.takes y more (subst (λ (fs : List Frame). Takes fs y more) (sym e) (takes_past l.kind (spot_at log slots l) y _ more c.if-not-is_saved.ensures t));
@@ -39,54 +39,72 @@ layers-preserved c =
 
 pub overflow_sub-self : goal.overflow_sub-self
 overflow_sub-self c =
-    omega (arith, c.layers.invariant.branches, counted_snoc _ _ c.in-Some.layer c.in-Some.ensures.items, saves_one c.in-Some.layer.kind c.if-not-is_saved.ensures)
+    omega (arith, c.layers.invariant.branches, took_branches c.layers.self-inside.layers.items c.take_last.new.layers.items c.in-Some.layer c.in-Some.ensures, saves_one c.in-Some.layer.kind c.if-not-is_saved.ensures)
 
 pub undo-requires : goal.undo-requires
 undo-requires c =
     let l = c.in-Some.layer in
     let log = c.layers.self-inside.log.items in
-    let r = rises_pop 0 (length log) c.pop.new.self.items l (subst (λ (ls : List Layer). Rises 0 ls (length log)) c.in-Some.ensures.items c.layers.invariant.rises) in
+    let r = took_rises c.layers.self-inside.layers.items c.take_last.new.layers.items l c.in-Some.ensures (length log) c.layers.invariant.rises in
     omega (arith, r.1, c.layers.self-inside.log.ok.0)
 
 -- the trail without its last branch, once what was written since that was saved is undone
-popped : (n most top : ℕ) (written : Bool) (all rest : List Layer) (l : Layer) (log : List Write) (cells : List Cell) → all ≡ rest ++ l ∷ [] → true ≡ is_one (saves l.kind) → n ≡ branches_in all → n ≤ most
+popped : (n most top : ℕ) (written : Bool) (all rest : List Layer) (l : Layer) (log : List Write) (cells : List Cell) → TookLast (Some l) all rest → true ≡ is_one (saves l.kind) → n ≡ branches_in all → n ≤ most
     → Rises 0 all (length log) → KnowRegions 0 0 all top → IsLog all log cells → (written ≡ false → IsUnwritten log cells) → (less : List Write) (old : List Cell) → less ≡ take l.log log → old ≡ undone_by old_cell cells (drop l.log log)
     → (n - 1 ≡ branches_in rest) × (n - 1 ≤ most) × Rises 0 rest (length less) × KnowRegions 0 0 rest l.region × IsLog rest less old × (written ≡ false → IsUnwritten less old)
 popped n most top written all rest l log cells e one count le rises knows is clean less old less_is old_is =
-    let r = rises_pop 0 (length log) rest l (subst (λ (ls : List Layer). Rises 0 ls (length log)) e rises) in (
-      omega (arith, count, counted_snoc rest all l e, saves_one l.kind one),
+    let r = took_rises all rest l e (length log) rises in (
+      omega (arith, count, took_branches all rest l e, saves_one l.kind one),
       omega (arith, le),
       rises_more 0 l.log (length less) rest (omega (arith, ap length less_is, length-take-le l.log log r.1)) r.0,
-      regions_pop 0 0 top rest l (subst (λ (ls : List Layer). KnowRegions 0 0 ls top) e knows),
-      rw (less_is, old_is) (undone_log all rest l log cells e r.1 is),
+      took_regions all rest l top e knows,
+      rw (less_is, old_is) (undone_log all rest l e log cells is r.1),
       λ w. undone_unwritten l.log log less cells old less_is old_is (clean w),
+    )
+
+pub invariant_of-self : goal.invariant_of-self
+invariant_of-self c =
+    let i = c.layers.invariant in
+    rw c.in_default.ensures.1 (i.branches, i.few, i.rises, i.knows, i.logged, i.unwritten)
+
+pub returns-then-returns-limit-clause-took : goal.returns-then-returns-limit-clause-took
+returns-then-returns-limit-clause-took c =
+    let l = c.in-Some.layer in
+    let i = c.layers.invariant in
+    let log = c.layers.self-inside.log.items in
+    let slots = map cell_slot c.layers.self-inside.cells.items in
+    let rest = c.take_last.new.layers.items in
+    let e : frames_of log slots c.layers.self-inside.layers.items ≡ frame_by l.kind (spot_at log slots l) ∷ frames_of log slots rest = took_frames c.layers.self-inside.layers.items rest l c.in-Some.ensures log slots in (
+      λ t. unspent_by l.kind (spot_at log slots l) (frames_of log slots rest) c.if-not-is_saved.ensures (subst IsSpent e (i.unspent t)),
+      omega (arith, c.requires, c.if-returns-limit.true, c.returns.ensures, ap returns_of i.work),
+      i.work,
     )
 
 pub invariant_of-self-then-returns-limit : goal.invariant_of-self-then-returns-limit
 invariant_of-self-then-returns-limit c =
     let i = c.layers.invariant in
-    popped _ _ _ _ _ _ c.in-Some.layer _ _ c.in-Some.ensures.items c.if-not-is_saved.ensures i.branches i.few i.rises i.knows i.logged i.unwritten _ _ c.undo.ensures.log c.undo.ensures.cells
+    popped _ _ _ _ _ _ c.in-Some.layer _ _ c.in-Some.ensures c.if-not-is_saved.ensures i.branches i.few i.rises i.knows i.logged i.unwritten _ _ c.undo.ensures.log c.undo.ensures.cells
 
 pub invariant_of-self-in-layers : goal.invariant_of-self-in-layers
 invariant_of-self-in-layers c =
     let i = c.layers.invariant in
-    popped _ _ _ _ _ _ c.in-Some.layer _ _ c.in-Some.ensures.items c.if-not-is_saved.ensures i.branches i.few i.rises i.knows i.logged i.unwritten _ _ c.undo.ensures.log c.undo.ensures.cells
+    popped _ _ _ _ _ _ c.in-Some.layer _ _ c.in-Some.ensures c.if-not-is_saved.ensures i.branches i.few i.rises i.knows i.logged i.unwritten _ _ c.undo.ensures.log c.undo.ensures.cells
 
 pub returns-in-layers-clause-took : goal.returns-in-layers-clause-took
 returns-in-layers-clause-took c =
     let l = c.in-Some.layer in
     let log = c.layers.self-inside.log.items in
     let slots = map cell_slot c.layers.self-inside.cells.items in
-    let rest = c.pop.new.self.items in
+    let rest = c.take_last.new.layers.items in
     let new = map cell_slot c.undo.new.cells.items in
-    let r = rises_pop 0 (length log) rest l (subst (λ (ls : List Layer). Rises 0 ls (length log)) c.in-Some.ensures.items c.layers.invariant.rises) in
-    let e : frames_of log slots c.layers.self-inside.layers.items ≡ frame_at log slots l ∷ frames_of log slots rest = ap (frames_of log slots) c.in-Some.ensures.items ∙ frames_snoc log slots rest l in
+    let r = took_rises c.layers.self-inside.layers.items rest l c.in-Some.ensures (length log) c.layers.invariant.rises in
+    let e : frames_of log slots c.layers.self-inside.layers.items ≡ frame_by l.kind (spot_at log slots l) ∷ frames_of log slots rest = took_frames c.layers.self-inside.layers.items rest l c.in-Some.ensures log slots in
     let back : new ≡ undone_by old_slot slots (drop l.log log) = ap (map cell_slot) c.undo.ensures.cells ∙ undone-map cell_slot old_cell c.layers.self-inside.cells.items (drop l.log log) in
     let below : frames_of c.undo.new.log.items new rest ≡ frames_of log slots rest = ap₂ (λ (g : List Write) (s : List Slot). frames_of g s rest) c.undo.ensures.log back ∙ frames_undone slots log l.log rest r.0 r.1 in
     let here : spot_of l.at l.limit l.place l.kept new ≡ spot_at log slots l = ap (spot_of l.at l.limit l.place l.kept) back in (
       c.layers.invariant.takes _ _ (subst (λ (fs : List Frame). Takes fs (spot_of l.at l.limit l.place l.kept new) (frames_of c.undo.new.log.items new rest)) (sym e)
-          (subst (λ (y : Spot). Takes (frame_at log slots l ∷ frames_of log slots rest) y (frames_of c.undo.new.log.items new rest)) (sym here)
-          (subst (λ (fs : List Frame). Takes (frame_at log slots l ∷ frames_of log slots rest) (spot_at log slots l) fs) (sym below)
+          (subst (λ (y : Spot). Takes (frame_by l.kind (spot_at log slots l) ∷ frames_of log slots rest) y (frames_of c.undo.new.log.items new rest)) (sym here)
+          (subst (λ (fs : List Frame). Takes (frame_by l.kind (spot_at log slots l) ∷ frames_of log slots rest) (spot_at log slots l) fs) (sym below)
           (takes_by l.kind (spot_at log slots l) (frames_of log slots rest) c.if-not-is_saved.ensures)))),
       c.layers.invariant.most,
       c.count_return.ensures ∙ ap went_back c.layers.invariant.work,

@@ -1,7 +1,10 @@
 use Rattle.fancy_machine.specs.Log.{cell_slot}
-use Rattle.std.proofs.Common.{map, arith, refl}
+use Rattle.std.proofs.Common.{◌∷◌, ◌∙◌, ap, map, arith, refl}
 use Rattle.fancy_machine.specs.declared.layer.Layer.{Layer}
-use Rattle.fancy_machine.proofs.LayerLemmas.{counted_snoc, saved_frames}
+use Rattle.fancy_machine.specs.Frames.{Held}
+use Rattle.fancy_machine.specs.Layers.{frame_by}
+use Rattle.fancy_machine.specs.Machine.{at_instr}
+use Rattle.fancy_machine.proofs.LayerLemmas.{alone, counted_snoc, frames_made, saved_frames}
 use Rattle.fancy_machine.proofs.RegionLemmas.{pushed}
 use Rattle.fancy_machine.proofs.WriteLemmas.{saved_log}
 use Rattle.fancy_machine.proofs.trail.Trail.save.Goals as goal
@@ -13,12 +16,18 @@ returns-then-self-clause-full c _ =
 
 pub invariant_of-self-2 : goal.invariant_of-self-2
 invariant_of-self-2 c =
-    let l : Layer = record { kind = c.args.kind; at = c.args.at; place = c.self.inside.place; kept = c.self.inside.kept; limit = c.self.inside.limit; log = c.len.result; region = c.self.inside.region } in
+    let l : Layer = record { kind = c.args.kind; at = c.args.at; from = c.self.inside.place; place = c.self.inside.place; kept = c.self.inside.kept; limit = c.self.inside.limit; log = c.len.result; region = c.self.inside.region } in
     let p = pushed _ _ c.len-2.result c.self.inside.layers.items c.push.new.self.items l c.in_ok-push.ensures.items c.self.invariant.2 c.self.invariant.3 (omega (arith, c.len.ensures, c.self.inside.log.ok.0)) refl (omega (arith, c.len-2.ensures)) in (
-      omega (arith, c.self.invariant.0, counted_snoc _ _ l c.in_ok-push.ensures.items, c.requires),
+      omega (arith, c.self.invariant.0, counted_snoc _ _ l c.in_ok-push.ensures.items, alone l refl, c.requires),
       omega (arith, c.if-self.false),
       p.0,
       rw c.region_by-self-inside.ensures p.1,
       saved_log c.self.inside.layers.items c.self.inside.log.items c.self.inside.cells.items c.self.invariant.2 c.self.invariant.4 c.push.new.self.items l c.in_ok-push.ensures.items (omega (arith, c.len.ensures, c.self.inside.log.ok.0)),
       c.self.invariant.5,
     )
+
+pub returns-clause-saved : goal.returns-clause-saved
+returns-clause-saved c =
+    let l : Layer = record { kind = c.args.kind; at = c.args.at; from = c.self.inside.place; place = c.self.inside.place; kept = c.self.inside.kept; limit = c.self.inside.limit; log = c.len.result; region = c.self.inside.region } in
+    frames_made c.self.inside.log.items (map cell_slot c.self.inside.cells.items) c.self.inside.layers.items c.push.new.self.items l 0 c.in_ok-push.ensures.items (omega (arith, c.len.ensures, c.self.inside.log.ok.0)) (alone l refl)
+    ∙ ap (λ (h : Held). frame_by c.args.kind (at_instr c.args.at h.now) ∷ h.frames) c.self.view_is

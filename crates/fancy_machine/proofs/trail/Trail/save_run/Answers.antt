@@ -1,0 +1,43 @@
+use Rattle.std.proofs.Common.{◌≡◌, ◌≤◌, ◌+◌, ◌-◌, ◌∙◌, ℕ, ap, arith, map, refl, subst, sym}
+use Rattle.fancy_machine.specs.declared.layer.Layer.{Layer}
+use Rattle.fancy_machine.specs.declared.layer.Kind.TheVariants as k
+use Rattle.fancy_machine.specs.Log.{cell_slot}
+use Rattle.fancy_machine.specs.Frames.{Held, saved}
+use Rattle.fancy_machine.specs.Layers.{earlier, spot_of, frames_of}
+use Rattle.fancy_machine.specs.Machine.{saved_run}
+use Rattle.fancy_machine.proofs.LayerLemmas.{counted_snoc, frames_made, run_frames, saved_frames}
+use Rattle.fancy_machine.proofs.RegionLemmas.{pushed}
+use Rattle.fancy_machine.proofs.WriteLemmas.{saved_log}
+use Rattle.fancy_machine.proofs.trail.Trail.save_run.Goals as goal
+
+-- what there is room for
+room : (h held : Held) (n branches : ℕ) → h ≡ held → saved h.frames ≡ branches → saved held.frames + n ≤ held.most → branches + n ≤ h.most
+room h held n branches is count le = omega (arith, subst (λ (g : Held). saved g.frames + n ≤ g.most) (sym is) le, count)
+
+pub overflow_add-self : goal.overflow_add-self
+overflow_add-self c =
+    let n = saved_frames c.self.inside.log.items (map cell_slot c.self.inside.cells.items) c.self.inside.layers.items in
+    omega (arith, room _ c.args.self.now c.args.count _ c.self.view_is (n ∙ sym c.self.invariant.0) (c.if-not-has_room_for.ensures.0 refl), c.self.ranges)
+
+pub invariant_of-self-2 : goal.invariant_of-self-2
+invariant_of-self-2 c =
+    let l : Layer = record { kind = k.Branch; at = c.args.at; from = c.args.from; place = c.args.from + (c.args.count - 1); kept = c.self.inside.kept; limit = c.self.inside.limit; log = c.len.result; region = c.self.inside.region } in
+    let n = saved_frames c.self.inside.log.items (map cell_slot c.self.inside.cells.items) c.self.inside.layers.items in
+    let p = pushed _ _ _ c.self.inside.layers.items c.push.new.self.items l c.in_ok-push.ensures.items c.self.invariant.2 c.self.invariant.3 (omega (arith, c.len.ensures, c.self.inside.log.ok.0)) refl refl in (
+      omega (arith, c.self.invariant.0, counted_snoc _ _ l c.in_ok-push.ensures.items, c.requires.some),
+      room _ c.args.self.now c.args.count _ c.self.view_is (n ∙ sym c.self.invariant.0) (c.if-not-has_room_for.ensures.0 refl),
+      p.0,
+      p.1,
+      saved_log c.self.inside.layers.items c.self.inside.log.items c.self.inside.cells.items c.self.invariant.2 c.self.invariant.4 c.push.new.self.items l c.in_ok-push.ensures.items (omega (arith, c.len.ensures, c.self.inside.log.ok.0)),
+      c.self.invariant.5,
+    )
+
+pub returns-clause-saved : goal.returns-clause-saved
+returns-clause-saved c =
+    let l : Layer = record { kind = k.Branch; at = c.args.at; from = c.args.from; place = c.args.from + (c.args.count - 1); kept = c.self.inside.kept; limit = c.self.inside.limit; log = c.len.result; region = c.self.inside.region } in
+    let slots = map cell_slot c.self.inside.cells.items in
+    let below = frames_of c.self.inside.log.items slots c.self.inside.layers.items in
+    let run : earlier l ≡ c.args.count - 1 = omega arith in
+    frames_made c.self.inside.log.items slots c.self.inside.layers.items c.push.new.self.items l (c.args.count - 1) c.in_ok-push.ensures.items (omega (arith, c.len.ensures, c.self.inside.log.ok.0)) run
+    ∙ run_frames c.args.at c.args.from c.args.count (c.args.count - 1) (spot_of c.self.inside.at c.self.inside.limit c.self.inside.place c.self.inside.kept slots) below (omega (arith, c.requires.some))
+    ∙ ap (λ (h : Held). saved_run c.args.at c.args.from c.args.count h.now h.frames) c.self.view_is
