@@ -30,7 +30,7 @@ pub rises_push : (lo n m : ℕ) (ls : List Layer) (l : Layer) → Rises lo ls n 
 rises_push lo n m [] l r e le = (omega (arith, r, e), omega (arith, e))
 rises_push lo n m (d ∷ ls) l r e le = (r.0, rises_push d.log n m ls l r.1 e le)
 
-pub rises_pop : (lo n : ℕ) (ls : List Layer) (l : Layer) → Rises lo (ls ++ l ∷ []) n → Rises lo ls l.log × (l.log ≤ n)
+rises_pop : (lo n : ℕ) (ls : List Layer) (l : Layer) → Rises lo (ls ++ l ∷ []) n → Rises lo ls l.log × (l.log ≤ n)
 rises_pop lo n [] l r = (r.0, r.1)
 rises_pop lo n (d ∷ ls) l r = let s = rises_pop d.log n ls l r.1 in ((r.0, s.0), s.1)
 
@@ -67,7 +67,7 @@ frames_undone slots log n ls r le =
     sym (frames_shift slots (take n log) (drop n log) ls (subst (Rises 0 ls) (sym (length-take-le n log le)) r))
     ∙ ap (λ (all : List Write). frames_of all slots ls) (take-append-drop n log)
 
-pub stacked-append : (f : Layer → List Frame) (fs : List Frame) (ls ks : List Layer) → stacked f fs (ls ++ ks) ≡ stacked f (stacked f fs ls) ks
+stacked-append : (f : Layer → List Frame) (fs : List Frame) (ls ks : List Layer) → stacked f fs (ls ++ ks) ≡ stacked f (stacked f fs ls) ks
 stacked-append f fs [] ks = refl
 stacked-append f fs (l ∷ ls) ks = stacked-append f (f l ++ fs) ls ks
 
@@ -79,7 +79,7 @@ frames_made log slots ls all l n e made run =
     ∙ ap₂ (λ (m : ℕ) (s : List Slot). frames_by l.kind m (spot_of l.at l.limit l.place l.kept s) ++ frames_of log slots ls) run
     (ap (undone_by old_slot slots) (drop_all l.log log (omega (arith, made))))
 
-pub branches-append : (ls ks : List Layer) → branches_in (ls ++ ks) ≡ branches_in ls + branches_in ks
+branches-append : (ls ks : List Layer) → branches_in (ls ++ ks) ≡ branches_in ls + branches_in ks
 branches-append [] ks = omega arith
 branches-append (d ∷ ls) ks = omega (arith, branches-append ls ks)
 

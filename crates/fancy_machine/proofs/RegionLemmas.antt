@@ -1,5 +1,5 @@
 -- The innermost region of the layers.
-use Rattle.std.proofs.Common.{◌≡◌, ◌≢◌, ℕ, zero, suc, ◌+◌, ◌-◌, ◌<◌, ◌≤◌, ◌⊎◌, inl, inr, Bool, true, false, Some, List, [], ◌∷◌, ◌++◌, length, take, append-nil, length-append, refl, sym, ap, ◌∙◌, subst, arith, true≢false}
+use Rattle.std.proofs.Common.{◌≡◌, ℕ, zero, suc, ◌+◌, ◌-◌, ◌<◌, ◌≤◌, ◌⊎◌, inl, inr, Bool, true, false, Some, List, [], ◌∷◌, ◌++◌, length, take, append-nil, length-append, refl, sym, ap, ◌∙◌, subst, arith, true≢false}
 use Rattle.std.specs.Prelude.{nat_lt, slice_index_or, if◌then◌else◌}
 use Rattle.fancy_machine.specs.declared.layer.Layer.{Layer}
 use Rattle.fancy_machine.specs.declared.layer.Kind.{Kind}
@@ -23,7 +23,7 @@ pushed n top m ls items l e rises know at inner count = (
   subst (λ (ks : List Layer). KnowRegions 0 0 ks (region_by m l)) (sym e) (regions_push 0 0 m top ls l know inner (omega (arith, count, ap length e, length-append ls (l ∷ [])))),
 )
 
-pub regions_pop : (n inner top : ℕ) (ls : List Layer) (l : Layer) → KnowRegions n inner (ls ++ l ∷ []) top → KnowRegions n inner ls l.region
+regions_pop : (n inner top : ℕ) (ls : List Layer) (l : Layer) → KnowRegions n inner (ls ++ l ∷ []) top → KnowRegions n inner ls l.region
 regions_pop n inner top [] l r = sym r.0
 regions_pop n inner top (d ∷ ls) l r = (r.0, regions_pop (suc n) (region_by (suc n) d) top ls l r.1)
 
