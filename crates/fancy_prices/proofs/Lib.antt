@@ -6,5 +6,6 @@ pub mod EntryLemmas
 pub mod FlagLemmas
 pub mod FactLemmas
 pub mod BehindLemmas
+pub mod SplitLemmas
 pub mod PriceForms
 pub mod FoundBehind

@@ -5,3 +5,5 @@ pub mod entries;
 mod facts;
 mod free;
 pub mod price;
+pub mod prices;
+pub mod splits;

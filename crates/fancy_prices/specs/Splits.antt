@@ -1,0 +1,67 @@
+-- The choices of code, and what bytes tell of their ways.
+use Rattle.std.specs.Prelude.{◌≡◌, ℕ, suc, ◌+◌, ◌<◌, Bool, true, false, List, Option, Some, None, slice_get, slice_index_or}
+use Rattle.fancy_tree.specs.declared.tree.Meaning.{Meaning}
+use Rattle.fancy_bytes.specs.Sets.{ByteFlags, member}
+use Rattle.fancy_code.specs.declared.code.Code.{Code}
+use Rattle.fancy_code.specs.Code.{instrs_of}
+use Rattle.fancy_code.specs.Context.{Context, State, Unit_at, moved_to, unit_in}
+use Rattle.fancy_code.specs.Instructions.{Instruction, Split}
+use Rattle.fancy_code.specs.Run.{Note, fetched, before, instr_at, run}
+use Rattle.fancy_prices.specs.declared.facts.Facts.{Facts}
+use Rattle.fancy_prices.specs.declared.splits.ToldSplit.{ToldSplit}
+use Rattle.fancy_prices.specs.declared.splits.Splits.{Splits}
+use Rattle.fancy_prices.specs.Prices.{Dies}
+
+-- an item of one byte
+abbrev pub single : ℕ → Unit_at
+single b = record { code = b; width = 1 }
+
+-- wherever the byte stands, it is an item by itself
+abbrev pub IsAlone : Meaning → ℕ → Type 0
+IsAlone meaning b = (haystack : List ℕ) (p : ℕ) → slice_get haystack p ≡ Some b → unit_in meaning haystack p ≡ Some (single b)
+
+-- each byte of the set is by itself an item that passes the test
+abbrev pub AreItems : Meaning → (ℕ → Bool) → ByteFlags → Type 0
+AreItems meaning test set = (b : ℕ) → b < 256 → member set b ≡ true → IsAlone meaning b × (test b ≡ true)
+
+-- Where the byte b stands before the limit, the code at q reads it, and goes on at `back` after it.
+abbrev pub ReadsByte : List Instruction → Meaning → ℕ → ℕ → ℕ → Type 0
+ReadsByte code meaning b q back =
+    (x : Context) (limit n : ℕ) (s : State) (v : List ℕ) → x.meaning ≡ meaning → slice_get x.haystack s.place ≡ Some b → s.place < limit
+    → run x limit code (suc n) q s v ≡ before (Note fetched) (run x limit code n back (moved_to s (s.place + 1)) v)
+
+-- so it is of each byte of the set
+abbrev pub ReadsEach : List Instruction → Meaning → ByteFlags → ℕ → ℕ → Type 0
+ReadsEach code meaning set q back = (b : ℕ) → b < 256 → member set b ≡ true → ReadsByte code meaning b q back
+
+-- the byte stands at a place, and nothing is told of what stands before it
+abbrev pub byte_alone : ℕ → Facts
+byte_alone b = record { here = b; before = None }
+
+-- Where a byte stands that is not in the set, the code from q on dies, and costs no mark and no return.
+abbrev pub BeginsAt : List Instruction → Meaning → ByteFlags → ℕ → Type 0
+BeginsAt code meaning set q = (b : ℕ) → b < 256 → member set b ≡ false → Dies code meaning (byte_alone b) 0 0 q
+
+-- no byte is in both sets
+abbrev pub AreApart : ByteFlags → ByteFlags → Type 0
+AreApart set other = (b : ℕ) → b < 256 → member set b ≡ true → member other b ≡ false
+
+-- At this instruction stands a choice. Where it has items, the first way reads each of them and comes back.
+pub record IsToldSplit (code : List Instruction) (meaning : Meaning) (at : ℕ) (l : ToldSplit) : Type 0 where
+  pub splits : instr_at code at ≡ Split l.first l.second
+  pub reads : ReadsEach code meaning l.items l.first at
+  pub misses : BeginsAt code meaning l.begins l.first
+  pub leaves : BeginsAt code meaning l.leaves l.second
+  pub apart : l.apart ≡ true → AreApart l.items l.leaves
+
+-- each choice that has a number stands at an instruction that it is noted for
+abbrev pub AreNoted : (ℕ → ToldSplit → Type 0) → List (Option ℕ) → List ToldSplit → Type 0
+AreNoted stands numbers splits = (at number : ℕ) (l : ToldSplit) → slice_index_or numbers at None ≡ Some number → slice_get splits number ≡ Some l → stands at l
+
+-- the choice is noted for the instruction
+abbrev pub IsNoted : Splits → ℕ → ToldSplit → Type 0
+IsNoted l at o = (number : ℕ) × (slice_index_or l.numbers.items at None ≡ Some number) × (slice_get l.splits.items number ≡ Some o)
+
+-- each choice that is noted is one, at the instruction that it is noted for
+abbrev pub AreSplits : Splits → Code → Type 0
+AreSplits l code = AreNoted (IsToldSplit (instrs_of code) code.meaning) l.numbers.items l.splits.items

@@ -1,0 +1,10 @@
+-- What is told of attempts with a code.
+use Rattle.fancy_code.specs.declared.code.Code.{Code}
+use Rattle.fancy_prices.specs.declared.prices.Prices.{Prices}
+use Rattle.fancy_prices.specs.Entries.{AreEntries, is_entry}
+use Rattle.fancy_prices.specs.Splits.{AreSplits}
+
+-- the entries and the choices are those of the code
+pub record ArePrices (p : Prices) (code : Code) : Type 0 where
+  pub entries : AreEntries (is_entry p.entries) code
+  pub splits : AreSplits p.splits code

@@ -1,0 +1,259 @@
+//! The choices of code, and the bytes that tell what their ways do.
+
+ghost use Rattle.std.specs.Prelude.{◌≡◌, ℕ, ◌<◌, ◌==◌, true, IfOk, IfSome};
+ghost use Rattle.fancy_tree.specs.Sets.{has};
+ghost use Rattle.fancy_bytes.specs.Sets.{IsSetOf, member};
+ghost use Rattle.fancy_code.specs.declared.code.Code.{Code};
+ghost use Rattle.fancy_code.specs.Code.{instrs_of};
+ghost use Rattle.fancy_code.specs.Instructions.{edges_in};
+ghost use Rattle.fancy_prices.specs.Splits.{AreApart, AreItems, AreSplits, BeginsAt, IsAlone, IsToldSplit, IsNoted, ReadsEach};
+
+use crate::facts::Facts;
+use crate::free::is_free;
+use fancy_bytes::byte_set::ByteSet;
+use fancy_code::code::{Code, Instr};
+use fancy_tree::char_set::CharSet;
+use fancy_tree::tree::Meaning;
+use std::alloc::{AllocError, Global};
+
+/// The most choices that are noted. For each it is asked of 256 bytes, twice, what the code does where the byte stands.
+const MOST: usize = 128;
+
+/// How many instructions are followed one after another.
+const DEPTH: usize = 48;
+
+/// A choice of code, and at which bytes its ways may go on. It may be a loop of one item: its first way reads an item, and comes back
+/// to the choice.
+///
+/// ```text
+/// [a-z]*b    // its items are the bytes a to z, with which alone they begin; what follows may go on at the byte b alone
+/// a|b        // no loop; the first way may go on at the byte a alone, the second one at b alone
+/// ```
+#[derive(Drop)]
+pub struct ToldSplit {
+    /// The number of the instruction that the first way begins at.
+    pub first: usize,
+    /// The number of the one that the second way begins at, which is what follows a loop.
+    pub second: usize,
+    /// Whether it is a loop that reads items of one byte.
+    pub is_loop: bool,
+    /// Whether the second way cannot go on where an item of one byte stands.
+    pub apart: bool,
+    // bytes that are an item by themselves
+    items: ByteSet,
+    // bytes at which the first way may cost something, or find a match
+    begins: ByteSet,
+    // the same of the second way
+    leaves: ByteSet,
+}
+
+impl ToldSplit {
+    /// Whether the byte is an item by itself. In text by characters that is told of ASCII alone, and of a loop of one raw byte.
+    #[inline]
+    pub fn is_item(&self, byte: u8) -> bool
+        ensures { result ≡ member self.now.items byte }
+    {
+        self.items.contains(byte)
+    }
+
+    /// Whether the first way may cost something, or find a match, where the byte stands: an item of a loop may begin there.
+    #[inline]
+    pub fn may_begin(&self, byte: u8) -> bool
+        ensures { result ≡ member self.now.begins byte }
+    {
+        self.begins.contains(byte)
+    }
+
+    /// Whether the second way may cost something, or find a match, where the byte stands.
+    #[inline]
+    pub fn may_leave(&self, byte: u8) -> bool
+        ensures { result ≡ member self.now.leaves byte }
+    {
+        self.leaves.contains(byte)
+    }
+}
+
+/// The choices of a code, by the number of their instruction: the first 128 of which something is told.
+#[derive(Drop)]
+pub struct Splits {
+    // at an instruction the number of its choice, as far as the last one's instruction
+    numbers: Vec<Option<u8>>,
+    splits: Vec<ToldSplit>,
+}
+
+/// The set of one byte.
+fn only(byte: u8) -> ByteSet
+    ensures { IsSetOf (λ b. b == byte) result }
+{
+    let mut bytes = ByteSet::new();
+    bytes.insert(byte);
+    bytes
+}
+
+/// Whether a byte can be an item by itself: an ASCII one, and any where items are bytes.
+fn is_alone(meaning: Meaning, byte: u8) -> bool
+    ensures { result ≡ true → IsAlone meaning byte }
+{
+    match meaning {
+        Meaning::Bytes => true,
+        Meaning::Unicode | Meaning::AsciiText => byte < 0x80,
+    }
+}
+
+/// The byte that is the character by itself, if there is one.
+fn bytes_of_character(character: char, meaning: Meaning) -> ByteSet
+    ensures { AreItems meaning (λ d. d == character) result }
+{
+    let code = character as u32;
+    if code < 256 && is_alone(meaning, code as u8) {
+        return only(code as u8);
+    }
+    ByteSet::new()
+}
+
+/// The bytes that are a member by themselves.
+fn bytes_of_set(set: &CharSet, meaning: Meaning) -> ByteSet
+    ensures { AreItems meaning (has (edges_in set.now)) result }
+{
+    let mut items = ByteSet::new();
+    for byte in 0..256u32 {
+        if is_alone(meaning, byte as u8) && set.contains(byte) {
+            items.insert(byte as u8);
+        }
+    }
+    items
+}
+
+/// The bytes that are by themselves an item that an instruction reads before it goes on at `back`. There are none where it reads no
+/// item, or goes on elsewhere.
+fn items_of(code: &Code, at: usize, back: usize) -> ByteSet
+    ensures { ReadsEach (instrs_of code.now) code.now.meaning result at back }
+{
+    if at >= code.len() {
+        return ByteSet::new();
+    }
+    match code.instr(at) {
+        Instr::Character(character, next) if *next == back => {
+            bytes_of_character(*character, code.meaning)
+        }
+        Instr::Member(set, next) if *next == back => bytes_of_set(code.set(*set), code.meaning),
+        Instr::RawByte(byte, next) if *next == back => only(*byte),
+        _ => ByteSet::new(),
+    }
+}
+
+/// Whether the code from an instruction on opens a choice before it reads anything. No answer rests on it.
+#[cycle(opens)]
+fn opens_choice(code: &Code, at: usize, deep: usize) -> bool {
+    if at >= code.len() || deep == 0 {
+        return false;
+    }
+    let deep = deep - 1;
+    match code.instr(at) {
+        Instr::Split(_, _) | Instr::Deny(_, _, _) | Instr::Test(_, _) => true,
+        Instr::Open(_, next) | Instr::Close(_, next) => opens_choice(code, *next, deep),
+        Instr::Keep(next) | Instr::Enter(next) => opens_choice(code, *next, deep),
+        _ => false,
+    }
+}
+
+/// The bytes at which the code from an instruction on may cost something, or find a match: each of them, where it opens a choice.
+fn begins_of(code: &Code, at: usize) -> ByteSet
+    ensures { BeginsAt (instrs_of code.now) code.now.meaning result at }
+{
+    if opens_choice(code, at, DEPTH) {
+        return ByteSet::all();
+    }
+    let mut bytes = ByteSet::new();
+    for here in 0..256u32 {
+        let facts = Facts {
+            here: here as u8,
+            before: None,
+        };
+        if !is_free(code, at, facts, DEPTH) {
+            bytes.insert(here as u8);
+        }
+    }
+    bytes
+}
+
+/// Whether no byte is in both sets.
+fn are_apart(items: &ByteSet, leaves: &ByteSet) -> bool
+    ensures { result ≡ true → AreApart items.now leaves.now }
+{
+    for byte in 0..256u32 {
+        if items.contains(byte as u8) && leaves.contains(byte as u8) {
+            return false;
+        }
+    }
+    true
+}
+
+/// The choice at an instruction, if there is one of which something is told: it reads items of one byte, or its first way cannot go on
+/// at each byte.
+fn split_at(code: &Code, at: usize) -> Option<ToldSplit>
+    ensures { IfSome result (λ l. IsToldSplit (instrs_of code.now) code.now.meaning at l) }
+{
+    let ways = code.ways(at)?;
+    let items = items_of(code, ways.first, at);
+    let is_loop = !items.is_empty();
+    let begins = begins_of(code, ways.first);
+    if !is_loop && begins.len() == 256 {
+        return None;
+    }
+    let leaves = begins_of(code, ways.second);
+    Some(ToldSplit {
+        first: ways.first,
+        second: ways.second,
+        is_loop,
+        apart: are_apart(&items, &leaves),
+        items,
+        begins,
+        leaves,
+    })
+}
+
+impl Splits {
+    /// None: nothing is told of the code.
+    pub fn none(alloc: Global) -> Splits
+        ensures { (code : Code) → AreSplits result code }
+    {
+        Splits {
+            numbers: Vec::new(alloc),
+            splits: Vec::new(alloc),
+        }
+    }
+
+    /// The first 128 choices of a code of which something is told.
+    ///
+    /// It is refused where memory runs out.
+    pub fn of(alloc: Global, code: &Code) -> Result<Splits, AllocError>
+        ensures { IfOk result (λ splits. AreSplits splits code.now) }
+    {
+        let mut numbers = Vec::new(alloc);
+        let mut splits = Vec::new(alloc);
+        for at in 0..code.len() {
+            if splits.len() == MOST {
+                break;
+            }
+            let Some(found) = split_at(code, at) else {
+                continue;
+            };
+            numbers.resize(at, None)?;
+            numbers.push(Some(splits.len() as u8))?;
+            splits.push(found)?;
+        }
+        Ok(Splits { numbers, splits })
+    }
+
+    /// The choice at an instruction, if it is noted.
+    #[inline]
+    pub fn at(&self, at: usize) -> Option<&ToldSplit>
+        ensures { IfSome result (λ l. IsNoted self.now at l.now) }
+    {
+        let Some(Some(number)) = self.numbers.get(at) else {
+            return None;
+        };
+        self.splits.get(*number as usize)
+    }
+}
