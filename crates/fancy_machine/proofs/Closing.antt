@@ -7,7 +7,7 @@ use Rattle.fancy_code.specs.Run.{Raw, Note, Stop, Sign, returned, Go, before, jo
 use Rattle.fancy_machine.specs.Frames.{Spot, Region, Frame, Atom, LookAround, Denial, Condition, Saved, Within, saved}
 use Rattle.fancy_machine.specs.Machine.{IsBare, HasInnermost, IsSpent, Takes, wanted_by, after, found_of, missed_of, finish, left}
 
-join_note : (m : Sign) (o p : Option (List Raw)) → join (before (Note m) o) p ≡ before (Note m) (join o p)
+pub join_note : (m : Sign) (o p : Option (List Raw)) → join (before (Note m) o) p ≡ before (Note m) (join o p)
 join_note m None p = refl
 join_note m (Some w) None = refl
 join_note m (Some w) (Some x) = refl
@@ -47,7 +47,7 @@ module _ (go : ℕ → Go) where
   finish_known (Saved x ∷ fs) o w h = let k = finish_known fs _ w h in join_some o (after go x) k.0 k.1
   finish_known (Within r ∷ fs) o w h = let k = finish_known fs _ w h in fenced_some (found_of go r) (wanted_by r) (missed_of go r) o k.0 k.1
 
-  take_branch : (fs : List Frame) (o : Option (List Raw)) (w : List Raw) → finish go fs (before (Note returned) o) ≡ Some w
+  pub take_branch : (fs : List Frame) (o : Option (List Raw)) (w : List Raw) → finish go fs (before (Note returned) o) ≡ Some w
       → (rest : List Raw) × (finish go fs o ≡ Some rest) × (w ≡ Note returned ∷ rest)
   take_branch fs o w h = before_some (Note returned) _ w (sym (finish_note fs returned o) ∙ h)
 

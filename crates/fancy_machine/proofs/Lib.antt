@@ -13,3 +13,4 @@ pub mod SeekLemmas
 pub mod BackLemmas
 pub mod RecallLemmas
 pub mod RefusalLemmas
+pub mod PassLemmas

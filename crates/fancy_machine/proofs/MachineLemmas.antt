@@ -1,18 +1,21 @@
 -- What an attempt still has before it.
-use Rattle.std.proofs.Common.{◌≡◌, ℕ, suc, ◌+◌, ◌<◌, Bool, true, false, List, [], ◌∷◌, Option, Some, None, refl, sym, ap, ap₂, ◌∙◌, subst, inl, inr, arith, length, not, ◌&&◌}
+use Rattle.std.proofs.Common.{◌≡◌, ℕ, suc, ◌+◌, ◌<◌, ◌≤◌, Bool, true, false, List, [], ◌∷◌, Option, Some, None, refl, sym, ap, ap₂, ◌∙◌, subst, inl, inr, arith, length, not, ◌&&◌}
 use Rattle.std.specs.Prelude.{if◌then◌else◌}
 use Rattle.fancy_code.specs.declared.step.Next.TheVariants.{On, Dead, Found}
 use Rattle.fancy_code.specs.Context.{State}
 use Rattle.fancy_code.specs.Run.{Raw, Note, Stop, fetched, Go, erase}
 use Rattle.fancy_machine.specs.Frames.{Spot, Frame, Held, saved}
 use Rattle.fancy_code.specs.Thread.{size_of, IsKnown, events_of}
-use Rattle.fancy_machine.specs.Machine.{IsSpent, Takes, left, after, IsStep, Crowded, Turned, Fewer, Searching, betters, better, taken_outcome, final, returns_to, marks_to}
-use Rattle.std.specs.Prelude.{Err}
+use Rattle.fancy_machine.specs.Machine.{IsSpent, Takes, left, after, finish, IsStep, Crowded, Turned, Fewer, Searching, betters, better, taken_outcome, final, returns_to, marks_to}
+use Rattle.std.specs.Prelude.{Result, Ok, Err, IfOk}
 use Rattle.fancy_code.specs.declared.work.Work.{Work}
 use Rattle.fancy_code.specs.declared.refusal.SearchRefusal.{SearchRefusal}
 use Rattle.fancy_code.specs.declared.refusal.SearchRefusal.TheVariants.{Memory, Returns, Choices, Steps}
 use Rattle.fancy_code.specs.Work.{returns_of}
 use Rattle.fancy_machine.specs.Machine.{TookBranch}
+use Rattle.fancy_code.specs.declared.step.Next.{Next}
+use Rattle.fancy_machine.specs.declared.attempt.Attempt.{Attempt}
+use Rattle.fancy_machine.specs.Attempt.{Advanced, IsFull, IsOverfull, Seeks, SeeksBack, TurnsTo, accepts, code_in, size_ahead, size_behind}
 use Rattle.fancy_machine.proofs.Closing.{finish_back, finish_spent, finish_unspent, saved_taken}
 
 module _ (go : ℕ → Go) (longest : Bool) (ok : State → Bool) (best : Option State) (w : List Raw) (x : Spot) (fs : List Frame) (y : Spot) (gs : List Frame) where
@@ -84,12 +87,6 @@ module _ (go : ℕ → Go) (longest : Bool) (ok : State → Bool) (best : Option
             }),
       )
 
-pub better_new : (best : Option State) (s : State) → betters best s.place ≡ true → better best s ≡ Some s
-better_new best s e = ap (λ (c : Bool). if c then Some s else best) e
-
-pub better_old : (best : Option State) (s : State) → betters best s.place ≡ false → better best s ≡ best
-better_old best s e = ap (λ (c : Bool). if c then Some s else best) e
-
 known_some : (o : Option (List Raw)) → IsKnown o → (w : List Raw) × (o ≡ Some w) × (events_of o ≡ erase w)
 known_some None k = absurd k
 known_some (Some w) k = (w, refl, refl)
@@ -125,39 +122,53 @@ module _ (go : ℕ → Go) (longest : Bool) (ok : State → Bool) where
     pub search_found : Turned go longest ok Found s.rest best fs y now gs → (Some y.state ≡ goal) × (r ≡ total)
     search_found t = (sym t.0 ∙ s.answer, omega (arith, t.1, s.count))
 
-    pub search_back : (z : Spot) (hs : List Frame) → Turned go longest ok Dead s.rest best fs y now gs → Takes gs z hs → Searching longest ok goal total choices (left go z hs) hs now (r + 1)
-    search_back z hs t k =
-        let b = finish_back go gs hs z t.0 t.1 k in
+    pub search_dead : Turned go longest ok Dead s.rest best fs y now gs → Searching longest ok goal total choices (finish go gs (Some [])) gs now r
+    search_dead t = record {
+      rest = t.0;
+      known = t.1;
+      answer = sym t.2.answer ∙ s.answer;
+      count = omega (arith, t.2.count, s.count);
+      room = omega (arith, t.2.room, s.room);
+    }
+
+    pub smaller_dead : Turned go longest ok Dead s.rest best fs y now gs → size_of (finish go gs (Some [])) < size_of (left go x fs)
+    smaller_dead t = let a = ap size_of t.1 in let b = ap size_of s.known in omega (arith, t.2.shorter, a, b)
+
+  -- the way is dead
+  module _ (goal : Option State) (total choices : ℕ) (gs : List Frame) (now : Option State) (r : ℕ) (s : Searching longest ok goal total choices (finish go gs (Some [])) gs now r) where
+    pub search_back : (z : Spot) (hs : List Frame) → Takes gs z hs → Searching longest ok goal total choices (left go z hs) hs now (r + 1)
+    search_back z hs k =
+        let b = finish_back go gs hs z s.rest s.known k in
         let e = ap erase b.2 in
-        let c : returns_to (final longest ok) (erase t.0) ≡ suc (returns_to (final longest ok) (erase b.0)) = ap (returns_to (final longest ok)) e in
-        let m : marks_to (final longest ok) (erase t.0) ≡ marks_to (final longest ok) (erase b.0) = ap (marks_to (final longest ok)) e in
+        let c : returns_to (final longest ok) (erase s.rest) ≡ suc (returns_to (final longest ok) (erase b.0)) = ap (returns_to (final longest ok)) e in
+        let m : marks_to (final longest ok) (erase s.rest) ≡ marks_to (final longest ok) (erase b.0) = ap (marks_to (final longest ok)) e in
         record {
           rest = b.0;
           known = b.1;
-          answer = sym (ap (taken_outcome longest ok now) e) ∙ sym t.2.answer ∙ s.answer;
-          count = omega (arith, t.2.count, s.count, c);
-          room = omega (arith, t.2.room, s.room, m, saved_taken gs hs z k);
+          answer = sym (ap (taken_outcome longest ok now) e) ∙ s.answer;
+          count = omega (arith, s.count, c);
+          room = omega (arith, s.room, m, saved_taken gs hs z k);
         }
 
-    pub smaller_back : (z : Spot) (hs : List Frame) → Turned go longest ok Dead s.rest best fs y now gs → Takes gs z hs → size_of (left go z hs) < size_of (left go x fs)
-    smaller_back z hs t k =
-        let b = finish_back go gs hs z t.0 t.1 k in
-        let c : length t.0 ≡ suc (length b.0) = ap length b.2 in
+    pub smaller_back : (z : Spot) (hs : List Frame) → Takes gs z hs → size_of (left go z hs) < size_of (finish go gs (Some []))
+    smaller_back z hs k =
+        let b = finish_back go gs hs z s.rest s.known k in
+        let c : length s.rest ≡ suc (length b.0) = ap length b.2 in
         let d = ap size_of b.1 in
         let e = ap size_of s.known in
-        omega (arith, t.2.shorter, c, d, e)
+        omega (arith, c, d, e)
 
-    pub search_end : Turned go longest ok Dead s.rest best fs y now gs → IsSpent gs → (now ≡ goal) × (r ≡ total)
-    search_end t k =
-        let e = ap erase (finish_spent go gs t.0 t.1 k) in
-        let c : returns_to (final longest ok) (erase t.0) ≡ 0 = ap (returns_to (final longest ok)) e in
-        (sym (ap (taken_outcome longest ok now) e) ∙ sym t.2.answer ∙ s.answer, omega (arith, t.2.count, s.count, c))
+    pub search_end : IsSpent gs → (now ≡ goal) × (r ≡ total)
+    search_end k =
+        let e = ap erase (finish_spent go gs s.rest s.known k) in
+        let c : returns_to (final longest ok) (erase s.rest) ≡ 0 = ap (returns_to (final longest ok)) e in
+        (sym (ap (taken_outcome longest ok now) e) ∙ s.answer, omega (arith, s.count, c))
 
-    pub search_refused : Turned go longest ok Dead s.rest best fs y now gs → (IsSpent gs → ⊥) → r < total
-    search_refused t k =
-        let b = finish_unspent go gs t.0 t.1 k in
-        let c : returns_to (final longest ok) (erase t.0) ≡ suc (returns_to (final longest ok) (erase b.0)) = ap (λ (l : List Raw). returns_to (final longest ok) (erase l)) b.1 in
-        omega (arith, t.2.count, s.count, c)
+    pub search_refused : (IsSpent gs → ⊥) → r < total
+    search_refused k =
+        let b = finish_unspent go gs s.rest s.known k in
+        let c : returns_to (final longest ok) (erase s.rest) ≡ suc (returns_to (final longest ok) (erase b.0)) = ap (λ (l : List Raw). returns_to (final longest ok) (erase l)) b.1 in
+        omega (arith, s.count, c)
 
   pub search_crowded : (most : ℕ) (goal : Option State) (total choices : ℕ) (x : Spot) (fs : List Frame) (best : Option State) (r : ℕ)
       (s : Searching longest ok goal total choices (left go x fs) fs best r) → Crowded most s.rest fs → most < choices
@@ -171,3 +182,37 @@ backed_err Memory limit old new before after b = absurd b
 backed_err Choices limit old new before after b = absurd b
 backed_err Steps limit old new before after b = absurd b
 backed_err Returns limit old new before after b = b
+
+-- what is told of what there is, if there is an answer
+pub told_ok : {A E : Type 0} {P Q : A → Type 0} (o : Result A E) → ((x : A) → P x → Q x) → IfOk o P → IfOk o Q
+told_ok (Ok x) f told = f x told
+told_ok (Err e) f told = tt
+
+-- an attempt goes on by one turn, which takes no return
+module _ (a : Attempt) (old : Held) (best : Option State) (new : Held) (now : Option State) (deep : ℕ) (goal : Option State) (total choices r : ℕ)
+    (s : Seeks a deep goal total choices old best r) where
+  pub advanced : (next : Next) → TurnsTo a next old best new now → (t : ℕ) → t ≡ 0 → Advanced a deep goal total choices (size_ahead a deep old) next new now (r + t)
+  advanced next turned t none = by next (turned deep s.rest s.known) where
+    same : r ≡ r + t
+    same = omega (arith, none)
+
+    by : (n : Next) → Turned (code_in a deep) a.options.longest (accepts a) n s.rest best old.frames new.now now new.frames
+        → Advanced a deep goal total choices (size_ahead a deep old) n new now (r + t)
+    by On u = (
+      subst (Seeks a deep goal total choices new now) same (search_on (code_in a deep) a.options.longest (accepts a) goal total choices old.now old.frames best r s new.now new.frames now u),
+      smaller_on (code_in a deep) a.options.longest (accepts a) goal total choices old.now old.frames best r s new.now new.frames now u,
+    )
+    by Dead u = (
+      subst (SeeksBack a deep goal total choices new now) same (search_dead (code_in a deep) a.options.longest (accepts a) goal total choices old.now old.frames best r s new.now new.frames now u),
+      smaller_dead (code_in a deep) a.options.longest (accepts a) goal total choices old.now old.frames best r s new.now new.frames now u,
+    )
+    by Found u =
+        let found = search_found (code_in a deep) a.options.longest (accepts a) goal total choices old.now old.frames best r s new.now new.frames now u in
+        (found.0, omega (arith, found.1, same))
+
+  pub overfull : IsFull a old → old.most < choices
+  overfull full = search_crowded (code_in a deep) a.options.longest (accepts a) old.most goal total choices old.now old.frames best r s (full deep s.rest s.known)
+
+  -- it took no more returns than it takes in all
+  pub taken : r ≤ total
+  taken = omega (arith, s.count)

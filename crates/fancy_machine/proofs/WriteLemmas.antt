@@ -309,10 +309,6 @@ module _ (all fewer : List Layer) (l : Layer) (t : TookLast (Some l) all fewer) 
 pub begun_log : (cells : List Cell) → cells ≡ replicate (length cells) empty_cell → IsLog [] [] cells
 begun_log cells empty = sym (ap (map cell_level) empty ∙ map-replicate cell_level (length cells) empty_cell)
 
--- where no write was logged, no cell has a level
-pub unlogged_cells : (ls : List Layer) (log : List Write) (cells : List Cell) → IsLog ls log cells → log ≡ [] → IsLog [] [] cells
-unlogged_cells ls log cells is none = subst (λ (ws : List Write). Climbs (depth ls) 0 (replicate (length cells) 0) ws (map cell_level cells)) none is
-
 none_undone : (n : ℕ) (cells : List Cell) → (take {A = Write} n [] ≡ []) × (undone_by old_cell cells (drop {A = Write} n []) ≡ cells)
 none_undone zero cells = (refl, refl)
 none_undone (suc n) cells = (refl, refl)

@@ -5,6 +5,7 @@ use Rattle.fancy_input.specs.declared.span.Span.{Span}
 use Rattle.fancy_code.specs.Search.{Query, context_of}
 use Rattle.fancy_machine.specs.declared.attempt.Attempt.{Attempt}
 use Rattle.fancy_machine.specs.declared.search.Cache.{Cache}
+use Rattle.fancy_machine.specs.declared.seen.Seen.{Seen}
 use Rattle.fancy_machine.specs.Attempt.{attempt_context}
 
 -- the attempt sees what the query shows, and accepts by the same options
@@ -20,7 +21,11 @@ groups_held cache = cache.trail.now.state.captures
 
 -- what the search before read of the line ends that close the haystack
 abbrev pub lines_held : Cache → LastLines
-lines_held cache = cache.last_lines
+lines_held cache = cache.seen.last_lines
+
+-- what its attempts found out of the haystack
+abbrev pub seen_held : Cache → Seen
+seen_held cache = cache.seen
 
 -- how many branches the machine may have saved at one time, so far
 abbrev pub branches_allowed : Cache → ℕ

@@ -1,5 +1,5 @@
 -- What an attempt sees, what it accepts, and what a step of it does.
-use Rattle.std.specs.Prelude.{◌≡◌, ℕ, Bool, true, false, Some, None, not, ◌&&◌, ◌||◌, List, Option, ◌==◌}
+use Rattle.std.specs.Prelude.{◌≡◌, ℕ, ◌+◌, ◌<◌, ◌≤◌, Bool, true, false, Some, None, not, ◌&&◌, ◌||◌, List, [], Option, ◌==◌}
 use Rattle.fancy_tree.specs.declared.tree.Meaning.{Meaning}
 use Rattle.fancy_code.specs.declared.code.Instr.{Instr}
 use Rattle.fancy_code.specs.declared.step.Next.{Next}
@@ -9,9 +9,13 @@ use Rattle.fancy_code.specs.Events.{Event}
 use Rattle.fancy_code.specs.Search.{is_match_boundary}
 use Rattle.fancy_code.specs.Run.{Raw, Go, run, instr_at}
 use Rattle.fancy_machine.specs.Frames.{Spot, Held}
-use Rattle.fancy_code.specs.Thread.{events_of}
-use Rattle.fancy_machine.specs.Machine.{left, after, IsStep, Crowded, Turned, taken_outcome, final, returns_to, marks_to}
+use Rattle.fancy_code.specs.Thread.{events_of, size_of}
+use Rattle.fancy_code.specs.declared.step.Next.TheVariants.{On, Dead, Found}
+use Rattle.fancy_machine.specs.Machine.{left, after, IsStep, Crowded, Turned, Searching, finish, taken_outcome, final, returns_to, marks_to}
 use Rattle.fancy_machine.specs.declared.attempt.Attempt.{Attempt}
+use Rattle.fancy_machine.specs.declared.seen.Seen.{Seen}
+use Rattle.fancy_input.specs.LastLines.{KnowsLastLines}
+use Rattle.fancy_machine.specs.Runs.{KnowsRun}
 
 -- the context x, but over this haystack, which is read with this meaning
 abbrev pub reading : List ℕ → Meaning → Context → Context
@@ -76,7 +80,50 @@ returns_from a deep x = returns_to (final a.options.longest (accepts a)) (events
 abbrev pub marks_from : Attempt → ℕ → Spot → ℕ
 marks_from a deep x = marks_to (final a.options.longest (accepts a)) (events_from a deep x)
 
+-- What an attempt still has before it, from where its trail stands, with the best outcome and the returns so far: this answer, so many returns in
+-- all, and so many choices at most.
+abbrev pub Seeks : Attempt → ℕ → Option State → ℕ → ℕ → Held → Option State → ℕ → Type 0
+Seeks a deep goal total choices h best returns =
+    Searching a.options.longest (accepts a) goal total choices (left (code_in a deep) h.now h.frames) h.frames best returns
+
+-- the same where the way of its trail is dead, and what was saved is left
+abbrev pub SeeksBack : Attempt → ℕ → Option State → ℕ → ℕ → Held → Option State → ℕ → Type 0
+SeeksBack a deep goal total choices h best returns =
+    Searching a.options.longest (accepts a) goal total choices (finish (code_in a deep) h.frames (Some [])) h.frames best returns
+
+-- how much is before it, and how much where the way is dead
+abbrev pub size_ahead : Attempt → ℕ → Held → ℕ
+size_ahead a deep h = size_of (left (code_in a deep) h.now h.frames)
+
+abbrev pub size_behind : Attempt → ℕ → Held → ℕ
+size_behind a deep h = size_of (finish (code_in a deep) h.frames (Some []))
+
+-- what an attempt has before it where it went on, and had so much before it then
+abbrev pub Advanced : Attempt → ℕ → Option State → ℕ → ℕ → ℕ → Next → Held → Option State → ℕ → Type 0
+Advanced a deep goal total choices size On h best returns = Seeks a deep goal total choices h best returns × (size_ahead a deep h < size)
+Advanced a deep goal total choices size Dead h best returns = SeeksBack a deep goal total choices h best returns × (size_behind a deep h < size)
+Advanced a deep goal total choices size Found h best returns = (Some h.now.state ≡ goal) × (returns ≡ total)
+
+-- Going on led from the trail `old` to `new`, and took so many returns; `best` was the best outcome before it, and `now` is the best one after it.
+abbrev pub Advances : Attempt → Next → ℕ → Held → Option State → Held → Option State → Type 0
+Advances a next returns old best new now =
+    (deep : ℕ) (goal : Option State) (total choices r : ℕ) → Seeks a deep goal total choices old best r
+    → Advanced a deep goal total choices (size_ahead a deep old) next new now (r + returns)
+
+-- No attempt takes fewer returns in all than these, if it had so many before it went on from the trail.
+abbrev pub TakesAtLeast : Attempt → ℕ → ℕ → Held → Option State → Type 0
+TakesAtLeast a before returns h best = (deep : ℕ) (goal : Option State) (total choices : ℕ) → Seeks a deep goal total choices h best before → returns ≤ total
+
+-- The attempt has more choices than its trail may save.
+abbrev pub IsOverfull : Attempt → Held → Option State → Type 0
+IsOverfull a h best = (deep : ℕ) (goal : Option State) (total choices r : ℕ) → Seeks a deep goal total choices h best r → h.most < choices
+
 -- the state that an attempt stands at, if it found one
 abbrev pub state_if_found : Bool → Spot → Option State
 state_if_found false x = None
 state_if_found true x = Some x.state
+
+-- what is remembered of the haystack of the attempts is true
+pub record KnowsSeen (a : Attempt) (s : Seen) : Type 0 where
+  pub lines : KnowsLastLines a.haystack.now s.last_lines
+  pub run : KnowsRun a.splits.now a.haystack.now s.last_run

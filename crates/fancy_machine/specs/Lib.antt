@@ -5,3 +5,4 @@ pub mod Machine
 pub mod Attempt
 pub mod Asked
 pub mod Units
+pub mod Runs

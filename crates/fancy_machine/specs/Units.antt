@@ -1,8 +1,8 @@
 -- The units that one step goes over: they count as work, beside the step.
-use Rattle.std.specs.Prelude.{◌≡◌, ℕ, ◌+◌, ◌-◌, ◌^◌, ◌<◌, Option, Some, None}
+use Rattle.std.specs.Prelude.{◌≡◌, ℕ, ◌+◌, ◌-◌, ◌^◌, ◌<◌, ◌≤◌, Option, Some, None}
 use Rattle.fancy_input.specs.declared.span.Span.{Span}
 use Rattle.fancy_code.specs.declared.work.Work.{Work}
-use Rattle.fancy_code.specs.Work.{units_of}
+use Rattle.fancy_code.specs.Work.{steps_of, returns_of, units_of}
 use Rattle.fancy_code.specs.Code.{instrs_of}
 use Rattle.fancy_code.specs.Context.{State, group_span}
 use Rattle.fancy_code.specs.Instructions.{Instruction, Match, Fail, Character, Member, RawByte, Assert, Split, Open, Close, Enter, Commit, Look, Deny, Test, Back, Recall, Keep, Continue, Taken}
@@ -40,6 +40,14 @@ units_in s (Taken group next) = 0
 -- the same for the instruction that comes next
 abbrev pub units_ahead : Attempt → Spot → ℕ
 units_ahead a x = units_in x.state (instr_at (instrs_of a.code.now) x.at)
+
+-- No count is lower than before. Where returns were no more than steps they still are, and there is a step for one return more.
+pub record CountsOn (before after : Work) : Type 0 where
+  pub steps : steps_of before ≤ steps_of after
+  pub returns : returns_of before ≤ returns_of after
+  pub units : units_of before ≤ units_of after
+  pub paired : returns_of before ≤ steps_of before → returns_of after ≤ steps_of after
+  pub ahead : returns_of before ≤ steps_of before → returns_of after < 2 ^ 64 - 1 → returns_of after < steps_of after
 
 -- so many units were counted, where a usize holds their number at all
 abbrev pub CountsUnits : ℕ → Work → Work → Type 0

@@ -1,18 +1,18 @@
 //! One attempt: a walk through the code from a position, which goes back to the saved branches.
 
-ghost use Rattle.std.specs.Prelude.{◌≡◌, ◌≢◌, ◌+◌, ◌<◌, ◌≤◌, [], ℕ, Option, Err, IfOk, IfErr, OnOk};
+ghost use Rattle.std.specs.Prelude.{◌≡◌, ◌≢◌, ◌+◌, ◌-◌, ◌<◌, ◌≤◌, [], ℕ, Option, Err, IfOk, IfErr, OnOk};
 ghost use Rattle.fancy_tree.specs.Pattern.{Pattern};
 ghost use Rattle.fancy_input.specs.LastLines.{KnowsLastLines};
 ghost use Rattle.fancy_code.specs.Queries.{query_of};
 ghost use Rattle.fancy_code.specs.Search.{continues_from};
 ghost use Rattle.fancy_code.specs.Work.{steps_of, returns_of, units_of, stepped_within, IsWithin, IsSpent, HasWorkLeft, AddsUnits};
-ghost use Rattle.fancy_machine.specs.Asked.{Serves};
-ghost use Rattle.fancy_machine.specs.Attempt.{accepts, code_in, state_if_found, IsFull, TurnsTo, outcome_from, returns_from, marks_from};
 ghost use Rattle.fancy_code.specs.Thread.{IsKnown};
-ghost use Rattle.fancy_machine.specs.Units.{CountsUnits};
-ghost use Rattle.fancy_machine.specs.Machine.{after};
+ghost use Rattle.fancy_prices.specs.Splits.{AreSplits};
+ghost use Rattle.fancy_prices.specs.Once.{splits_once};
 
 use crate::best::Best;
+use crate::runs::pass;
+use crate::seen::Seen;
 use crate::step::step;
 use crate::trail::Trail;
 use fancy_code::code::Code;
@@ -23,6 +23,7 @@ use fancy_code::step::Next;
 use fancy_code::work::Work;
 use fancy_input::input::Request;
 use fancy_input::last_lines::LastLines;
+use fancy_prices::splits::Splits;
 
 /// The attempts of one search: the code that they follow, the haystack, and what they accept there.
 #[derive(Drop)]
@@ -34,6 +35,9 @@ pub(crate) struct Attempt<'a> {
     /// The ends of the text that do not count as such.
     pub(crate) suppressed: SuppressedEnds,
     pub(crate) options: SearchOptions,
+    /// The choices of the code of which bytes tell something.
+    pub(crate) splits: &'a Splits,
+    ghost told: { AreSplits splits.now code.now } by { splits_once splits.now code.now },
 }
 
 /// Where `\G` holds: at the first position of the search, or nowhere.
@@ -49,14 +53,21 @@ fn continues_from(continues: bool, overrides: bool, request: Request) -> Option<
 }
 
 impl<'a> Attempt<'a> {
+    ghost use Rattle.fancy_machine.specs.Asked.{Serves};
+    ghost use Rattle.fancy_machine.specs.Attempt.{KnowsSeen, accepts, code_in, state_if_found, IsFull, TurnsTo, Advances, TakesAtLeast, IsOverfull, outcome_from, returns_from, marks_from};
+    ghost use Rattle.fancy_machine.specs.Units.{CountsOn, CountsUnits};
+    ghost use Rattle.fancy_machine.specs.Machine.{after};
+
     /// The attempts of a search, in which `\G` is on or off.
     pub(crate) fn new(
         code: &'a Code,
+        splits: &'a Splits,
         haystack: &'a [u8],
         request: Request,
         options: SearchOptions,
         continues: bool,
     ) -> Attempt<'a>
+        requires { AreSplits splits.now code.now }
         ensures code { result.code.now ≡ code.now }
         ensures options { result.options ≡ options }
         ensures haystack { result.haystack.now ≡ haystack.now }
@@ -68,6 +79,7 @@ impl<'a> Attempt<'a> {
             continues: continues_from(continues, options.overrides, request),
             suppressed: options.suppressed_ends(request),
             options,
+            splits,
         }
     }
 
@@ -137,6 +149,39 @@ impl<'a> Attempt<'a> {
         }
     }
 
+    /// Goes on: by a choice that is told, with all items that it reads, or by one instruction. The returns that it takes are added to those of
+    /// `work`, and none is taken past the limit.
+    fn advance(
+        &self,
+        trail: &mut Trail,
+        best: &mut Best,
+        limit: usize,
+        seen: &mut Seen,
+        work: &mut Work,
+    ) -> Result<Next, SearchRefusal>
+        requires room { returns_of work.old ≤ limit }
+        requires seen { KnowsSeen self.now seen.old }
+        ensures advanced { IfOk result (λ next.
+            Advances self.now next (returns_of work.new - returns_of work.old) trail.old best.old trail.new best.new) }
+        ensures bounded { TakesAtLeast self.now (returns_of work.old) (returns_of work.new) trail.old best.old }
+        ensures refused { result ≡ Err SearchRefusal.Returns
+            → TakesAtLeast self.now (returns_of work.old) (limit + 1) trail.old best.old }
+        ensures stopped { result ≡ Err SearchRefusal.Returns → returns_of work.new ≡ limit }
+        ensures fits { returns_of work.new ≤ limit }
+        ensures crowded { result ≡ Err SearchRefusal.Choices → IsOverfull self.now trail.old best.old }
+        ensures most { trail.new.most ≡ trail.old.most }
+        ensures counts { CountsOn work.old work.new }
+        ensures within { HasWorkLeft self.now.options.step_limit work.old
+            → IsWithin self.now.options.step_limit work.new }
+        ensures limited { result ≡ Err SearchRefusal.Steps → IsSpent self.now.options.step_limit work.new }
+        ensures seen { KnowsSeen self.now seen.new }
+    {
+        if let Some(split) = self.splits.at(trail.at()) {
+            return pass(self, split, trail, limit, &mut seen.last_run, work);
+        }
+        self.turn(trail, best, &mut seen.last_lines, work)
+    }
+
     /// One attempt, from where the trail stands: whether it has an accepted outcome. The first one is where the trail
     /// then stands, or where the longest is asked for the first of those that end last, which `best` kept meanwhile.
     /// The returns of the attempt are added to those of `work`, also up to a refusal, and none is done past the limit. So are the steps
@@ -146,7 +191,7 @@ impl<'a> Attempt<'a> {
         trail: &mut Trail,
         best: &mut Best,
         limit: usize,
-        last_lines: &mut LastLines,
+        seen: &mut Seen,
         work: &mut Work,
     ) -> Result<bool, SearchRefusal>
         ghost deep: { ℕ }
@@ -154,7 +199,7 @@ impl<'a> Attempt<'a> {
         requires fresh { trail.old.frames ≡ [] }
         requires most { trail.old.most ≡ self.now.options.stack_limit }
         requires room { returns_of work.old ≤ limit }
-        requires last_lines { KnowsLastLines self.now.haystack.now last_lines.old }
+        requires seen { KnowsSeen self.now seen.old }
         ensures answer { IfOk result (λ found. state_if_found found trail.new.now ≡ outcome_from self.now deep trail.old.now) }
         ensures count { IfOk result (λ _. returns_of work.new
             ≡ returns_of work.old + returns_from self.now deep trail.old.now) }
@@ -167,7 +212,7 @@ impl<'a> Attempt<'a> {
         ensures units { units_of work.old ≤ units_of work.new }
         ensures bounded { returns_of work.new ≤ returns_of work.old + returns_from self.now deep trail.old.now }
         ensures paired { returns_of work.old ≤ steps_of work.old → returns_of work.new ≤ steps_of work.new }
-        ensures last_lines { KnowsLastLines self.now.haystack.now last_lines.new }
+        ensures seen { KnowsSeen self.now seen.new }
         ensures crowded { result ≡ Err SearchRefusal.Choices → trail.old.most < marks_from self.now deep trail.old.now }
         ensures most { trail.new.most ≡ self.now.options.stack_limit }
         ensures within { IsWithin self.now.options.step_limit work.old
@@ -180,7 +225,7 @@ impl<'a> Attempt<'a> {
             if work.is_spent(step_limit) {
                 return Err(SearchRefusal::Steps);
             }
-            let next = self.turn(trail, best, last_lines, work)?;
+            let next = self.advance(trail, best, limit, seen, work)?;
             match next {
                 Next::On => {}
                 Next::Found => return Ok(true),

@@ -10,11 +10,15 @@ ghost use Rattle.fancy_code.specs.Tried.{tried, NoneTried};
 ghost use Rattle.fancy_code.specs.Work.{steps_of, returns_of, units_of, HasRoom, IsWithin, IsSpent};
 ghost use Rattle.fancy_code.specs.Queries.{query_of, answer_with};
 ghost use Rattle.fancy_prices.specs.Entries.{AreEntries, IsNextEntry, is_entry};
-ghost use Rattle.fancy_machine.specs.Asked.{Serves, HeedsLimit, branches_allowed, groups_held, lines_held};
+ghost use Rattle.fancy_prices.specs.Told.{ArePrices};
+ghost use Rattle.fancy_machine.specs.Asked.{Serves, HeedsLimit, branches_allowed, groups_held, lines_held, seen_held};
+ghost use Rattle.fancy_machine.specs.Attempt.{KnowsSeen};
 ghost use Rattle.fancy_machine.specs.Log.{writes_allowed};
 
 use crate::attempt::Attempt;
 use crate::best::Best;
+use crate::runs::LastRun;
+use crate::seen::Seen;
 use crate::trail::Trail;
 use fancy_code::candidates::next_candidate;
 use fancy_code::code::Code;
@@ -27,6 +31,7 @@ use fancy_input::input::Request;
 use fancy_input::last_lines::LastLines;
 use fancy_input::span::Span;
 use fancy_prices::entries::Entries;
+use fancy_prices::prices::Prices;
 use std::alloc::Global;
 
 /// What searches work in, reused from one to the next, with the groups of the last match.
@@ -35,8 +40,8 @@ pub struct Cache {
     trail: Trail,
     /// The best outcome of an attempt so far, where the longest is asked for.
     best: Best,
-    /// What was read of the line ends that close the haystack of the last search.
-    last_lines: LastLines,
+    /// What was found out of the haystack of the last search.
+    seen: Seen,
 }
 
 impl Cache {
@@ -48,7 +53,10 @@ impl Cache {
         Cache {
             trail: Trail::new(alloc),
             best: Best::new(alloc),
-            last_lines: LastLines::new(b""),
+            seen: Seen {
+                last_lines: LastLines::new(b""),
+                last_run: LastRun::none(),
+            },
         }
     }
 
@@ -74,7 +82,7 @@ impl Cache {
 /// longest match is asked for, all returns of that attempt count.
 ///
 /// Where the options say so, it seeks: positions at which no byte stands that a match may start with are passed over, and
-/// nothing counts there. The answer is the same, and no step is taken where no position is left. No attempt is made where `entries`
+/// nothing counts there. The answer is the same, and no step is taken where no position is left. No attempt is made where `prices`
 /// tells that it would find nothing, and what it would cost: its returns are counted, and a step for each.
 ///
 /// Where `is_kept` says so, `cache` holds what the search before read of the line ends that close the same haystack, and they are
@@ -87,11 +95,11 @@ impl Cache {
 ///
 /// `SearchRefusal::Memory` where memory runs out, `SearchRefusal::Returns` where the search takes more returns than the options
 /// allow, `SearchRefusal::Choices` where it would save more branches at once than they allow, and `SearchRefusal::Steps` where the
-/// counts of `work` would pass the limit of steps that they set: its steps, the units that look-behinds go back, and the bytes that
-/// backreferences compare.
+/// counts of `work` would pass the limit of steps that they set: its steps, the units that look-behinds go back, the bytes that
+/// backreferences compare, and the items that loops read.
 pub fn search(
     code: &Code,
-    entries: &Entries,
+    prices: &Prices,
     haystack: &[u8],
     request: Request,
     options: SearchOptions,
@@ -106,7 +114,7 @@ pub fn search(
     requires inside { request.range_end ≤ length haystack.now }
     requires room { HasRoom (returns_of work.old) options.backtrack_limit }
     requires kept { is_kept ≡ true → KnowsLastLines haystack.now (lines_held cache.old) }
-    requires entries { AreEntries (is_entry entries.now) code.now }
+    requires prices { ArePrices prices.now code.now }
     ensures answer { IfOk result (λ found. answer_with (groups_held cache.new) found ≡ search q) }
     ensures kept { IfOk result (λ found. IfSome found (λ _. KnowsLastLines haystack.now (lines_held cache.new))) }
     ensures count { IfOk result (λ _. returns_of work.new ≡ returns_of work.old + returns q (tried options.seek q)) }
@@ -128,19 +136,20 @@ pub fn search(
     if first > request.range_end {
         return Ok(None);
     }
-    let attempt = Attempt::new(code, haystack, request, options, continues);
+    let attempt = Attempt::new(code, &prices.splits, haystack, request, options, continues);
     let limit = work.returns() + options.backtrack_limit;
     let range_end = request.range_end;
     let last = request.last_position();
     let positions = Positions {
         code,
-        entries,
+        entries: &prices.entries,
         haystack,
         range_end,
         seek: options.seek,
         last,
     };
-    ready_last_lines(&mut cache.last_lines, attempt.haystack, is_kept);
+    cache.seen.last_run = LastRun::none();
+    ready_last_lines(&mut cache.seen.last_lines, attempt.haystack, is_kept);
     let mut place = positions.next(first);
     while place <= last {
         let found = pass_or_try(&attempt, &positions, place, limit, cache, work)?;
@@ -206,7 +215,7 @@ fn pass_or_try(
     requires inside { q.request.range_end ≤ length q.haystack }
     requires ends { position ≤ q.request.range_end }
     requires room { returns_of work.old ≤ limit }
-    requires last_lines { KnowsLastLines attempts.now.haystack.now (lines_held cache.old) }
+    requires seen { KnowsSeen attempts.now (seen_held cache.old) }
     requires entries { AreEntries (is_entry positions.now.entries.now) attempts.now.code.now }
     requires bytes { (k : ℕ) → slice_index attempts.now.haystack.now k < 256 }
     ensures answer { IfOk result (λ found. answer_with (groups_held cache.new) found ≡ attempt q position) }
@@ -218,7 +227,7 @@ fn pass_or_try(
     ensures returns { returns_of work.old ≤ returns_of work.new }
     ensures bounded { returns_of work.new ≤ returns_of work.old + returns_at q position }
     ensures paired { returns_of work.old ≤ steps_of work.old → returns_of work.new ≤ steps_of work.new }
-    ensures last_lines { KnowsLastLines attempts.now.haystack.now (lines_held cache.new) }
+    ensures seen { KnowsSeen attempts.now (seen_held cache.new) }
     ensures crowded { result ≡ Err SearchRefusal.Choices → attempts.now.options.stack_limit < choices_at q position }
     ensures heeds { HeedsLimit attempts.now.options.stack_limit cache.old cache.new }
     ensures within { IsWithin attempts.now.options.step_limit work.old
@@ -250,6 +259,7 @@ fn pass_or_try(
 /// As those of [`search`], of this attempt alone.
 pub fn attempt_at(
     code: &Code,
+    prices: &Prices,
     haystack: &[u8],
     request: Request,
     options: SearchOptions,
@@ -264,6 +274,7 @@ pub fn attempt_at(
     requires inside { request.range_end ≤ length haystack.now }
     requires starts { effective_start request ≤ position }
     requires ends { position ≤ request.range_end }
+    requires prices { ArePrices prices.now code.now }
     requires room { HasRoom (returns_of work.old) options.backtrack_limit }
     ensures answer { IfOk result (λ found. answer_with (groups_held cache.new) found ≡ attempt q position) }
     ensures count { IfOk result (λ _. returns_of work.new ≡ returns_of work.old + returns_at q position) }
@@ -281,9 +292,10 @@ pub fn attempt_at(
     ensures within { IsWithin options.step_limit work.old → IsWithin options.step_limit work.new }
     ensures limited { result ≡ Err SearchRefusal.Steps → IsSpent options.step_limit work.new }
 {
-    let attempt = Attempt::new(code, haystack, request, options, continues);
+    let attempt = Attempt::new(code, &prices.splits, haystack, request, options, continues);
     let limit = work.returns() + options.backtrack_limit;
-    ready_last_lines(&mut cache.last_lines, attempt.haystack, false);
+    cache.seen.last_run = LastRun::none();
+    ready_last_lines(&mut cache.seen.last_lines, attempt.haystack, false);
     try_position(&attempt, position, request.range_end, limit, cache, work)
 }
 
@@ -306,7 +318,7 @@ fn try_position(
     requires inside { q.request.range_end ≤ length q.haystack }
     requires ends { position ≤ q.request.range_end }
     requires room { returns_of work.old ≤ limit }
-    requires last_lines { KnowsLastLines attempts.now.haystack.now (lines_held cache.old) }
+    requires seen { KnowsSeen attempts.now (seen_held cache.old) }
     ensures answer { IfOk result (λ found. answer_with (groups_held cache.new) found ≡ attempt q position) }
     ensures count { IfOk result (λ _. returns_of work.new ≡ returns_of work.old + returns_at q position) }
     ensures refused { result ≡ Err SearchRefusal.Returns → limit < returns_of work.old + returns_at q position }
@@ -317,7 +329,7 @@ fn try_position(
     ensures units { units_of work.old ≤ units_of work.new }
     ensures bounded { returns_of work.new ≤ returns_of work.old + returns_at q position }
     ensures paired { returns_of work.old ≤ steps_of work.old → returns_of work.new ≤ steps_of work.new }
-    ensures last_lines { KnowsLastLines attempts.now.haystack.now (lines_held cache.new) }
+    ensures seen { KnowsSeen attempts.now (seen_held cache.new) }
     ensures crowded { result ≡ Err SearchRefusal.Choices → attempts.now.options.stack_limit < choices_at q position }
     ensures heeds { HeedsLimit attempts.now.options.stack_limit cache.old cache.new }
     ensures within { IsWithin attempts.now.options.step_limit work.old
@@ -332,7 +344,7 @@ fn try_position(
     let trail = &mut cache.trail;
     let most = attempts.options.stack_limit;
     trail.begin(code.start, position, range_end, code.groups, most)?;
-    let found = attempts.run(trail, &mut cache.best, limit, &mut cache.last_lines, work)?;
+    let found = attempts.run(trail, &mut cache.best, limit, &mut cache.seen, work)?;
     if found {
         return Ok(Some(Found {
             position,

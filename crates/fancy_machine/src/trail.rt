@@ -1,6 +1,6 @@
 //! The way that the machine follows, with the branches that it saved and the regions that are open.
 
-ghost use Rattle.std.specs.Prelude.{◌≡◌, ◌≢◌, ◌+◌, ◌<◌, ◌≤◌, ◌↔◌, List, [], ◌∷◌, Err, Some, map, length, replicate, IsTrue, OnOk, slice_index, true, is_some};
+ghost use Rattle.std.specs.Prelude.{◌≡◌, ◌^◌, ◌≢◌, ◌+◌, ◌<◌, ◌≤◌, ◌↔◌, List, [], ◌∷◌, Err, Some, map, length, replicate, IsTrue, OnOk, slice_index, true, is_some};
 ghost use Rattle.fancy_code.specs.Context.{group_span};
 ghost use Rattle.fancy_code.specs.Thread.{empty_slot, slot_span};
 ghost use Rattle.fancy_code.specs.Work.{returns_of};
@@ -292,10 +292,9 @@ impl Trail {
     }
 
     /// Saves a branch at each of so many places, from a byte offset on: the last place's is taken first. One layer stands for
-    /// them all. It is refused with `Choices` where so many may not be saved.
+    /// them all, and there is none where there are no places. It is refused with `Choices` where so many may not be saved.
     pub fn save_run(&mut self, at: usize, from: usize, count: usize) -> Result<(), SearchRefusal>
-        requires some { 0 < count }
-        requires fits { from + count ≤ usize.MAX }
+        requires fits { from + count ≤ 2 ^ 64 }
         ensures now { self.new.now ≡ self.old.now }
         ensures saved { OnOk result (self.new.frames ≡ saved_run at from count self.old.now self.old.frames) }
         ensures refused { result ≢ Err SearchRefusal.Returns }
@@ -303,6 +302,9 @@ impl Trail {
         ensures full { result ≡ Err SearchRefusal.Choices → self.old.most < saved self.old.frames + count }
         ensures most { self.new.most ≡ self.old.most }
     {
+        if count == 0 {
+            return Ok(());
+        }
         if !self.has_room_for(count) {
             return Err(SearchRefusal::Choices);
         }

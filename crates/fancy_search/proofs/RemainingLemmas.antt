@@ -95,23 +95,3 @@ not_passed k st i j e h p =
     let same : i ≡ j = cc in
     let there : nat_eq (stop_of j) st.start ≡ true = rw p.there (nat_same st.start) in
     true≢false (sym (rw (p.skips, p.empty, there) refl) ∙ subst (λ (x : MatchItem). (st.skips_empty && (is_empty_item x && nat_eq (stop_of x) st.start)) ≡ false) same h)
-
-pub allows_none : (allows : ℕ → Bool → Type 0) (k : Scan) (st : Standing) → answer k st.start st.continues ≡ None → allows st.start st.continues → AllowsNext allows k st
-allows_none allows k st e first = record { first = first; next = λ j p. absurd (none_is_some j e p.found) } where
-  none_is_some : (j : MatchItem) → answer k st.start st.continues ≡ None → answer k st.start st.continues ≡ Some j → ⊥
-  none_is_some j e f = cc
-
-pub allows_kept : (allows : ℕ → Bool → Type 0) (k : Scan) (st : Standing) (i : MatchItem) → answer k st.start st.continues ≡ Some i → (st.skips_empty && (is_empty_item i && nat_eq (stop_of i) st.start)) ≡ false → allows st.start st.continues → AllowsNext allows k st
-allows_kept allows k st i e h first = record { first = first; next = λ j p. absurd (not_passed k st i j e h p) }
-
--- where no more may be taken, nothing is searched
-pub allows_no_more : (allows : ℕ → Bool → Type 0) (k : Scan) (st : Standing) (is : List MatchItem) → AllowsUpTo allows k (Some 0) st is
-allows_no_more allows k st is = tt
-
--- one item more
-pub allows_more : (allows : ℕ → Bool → Type 0) (k : Scan) (n : ℕ) (st : Standing) (i : MatchItem) (is : List MatchItem) → AllowsStep allows k st → AllowsUpTo allows k (Some n) (standing_after k i) is → AllowsUpTo allows k (Some (suc n)) st (i ∷ is)
-allows_more allows k n st i is step later = (step, later)
-
-at_from : (k : Scan) (s : ℕ) (c : Bool) (o : Option Answer) → MatchOption (option_map (item_of (max s k.floor) c) o) Unit (λ i. s ≤ i.from)
-at_from k s c None = tt
-at_from k s c (Some x) = grind (arith, common_steps)

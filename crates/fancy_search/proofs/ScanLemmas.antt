@@ -41,10 +41,6 @@ few_turns program text haystack r ended continues skips_empty range short e f h 
     let few : length (program_matches program text haystack r) ≤ suc r.range_end = few_matches (scan program text haystack r) r.start (scan_sound program text haystack r range) in
     rw (e, f, h) (omega (arith, few, range, short))
 
-pub next_place_clean : (text : Bool) (haystack : List ℕ) (i : ℕ) → text ≡ true → IsTrue (is_boundary haystack (next_place text haystack i))
-next_place_clean true haystack i e = next_place_boundary haystack i
-next_place_clean false haystack i e = cc
-
 pub search_after : (program : Program) (haystack : List ℕ) (r : Request) (c : Bool) (f : Answer) → r.range_end ≤ length haystack → search (asked_of program haystack r c) ≡ Some f → r.start ≤ f.state.kept
 search_after program haystack r c f range e = let l : effective_start r ≤ f.state.kept = (search_lies program haystack r c f range e).0 in grind (arith, common_steps)
 

@@ -85,10 +85,6 @@ both_are : (a b : Bool) → a ≡ true → b ≡ true → (a && b) ≡ true
 both_are true b e f = f
 both_are false b e f = absurd (true≢false (sym e))
 
--- a pattern that does not seek is never hopeless
-pub not_hopeless : (r : Program) (q : Query) → (program_options r).seek ≡ false → is_hopeless r q ≡ false
-not_hopeless r q e = ap (λ (b : Bool). b && lacks_required q) e
-
 -- nor one whose required bytes stand
 pub stands_all : (r : Program) (q : Query) → lacks_required q ≡ false → is_hopeless r q ≡ false
 stands_all r q e = ap (λ (b : Bool). (program_options r).seek && b) e ∙ and_never (program_options r).seek
@@ -99,9 +95,6 @@ hopeless r q e f = both_are (program_options r).seek (lacks_required q) e f
 denied : (b c : Bool) → (b ≡ true → c ≡ true) → c ≡ false → b ≡ false
 denied true c to e = absurd (true≢false (sym (to refl) ∙ e))
 denied false c to e = refl
-
-pub unlooked : (r : Program) (looks : Bool) → ((program_options r).seek ≡ true → looks ≡ true) → looks ≡ false → (program_options r).seek ≡ false
-unlooked r looks to e = denied (program_options r).seek looks to e
 
 -- a search that is not hopeless tries the positions where a match may begin
 pub tried_all : (r : Program) (q : Query) → is_hopeless r q ≡ false → tried_by r q ≡ tried (program_options r).seek q

@@ -57,14 +57,6 @@ untried_at r q p range e = ap (option_map (λ s. record { position = p; state = 
   by true false true l b never = absurd (true≢false never)
   by true false false l b never = none_before q p (begins_by_next q p range ∙ b)
 
--- a program that does not seek tries each position
-pub tries_each : (r : Program) (q : Query) (p : ℕ) → (program_options r).seek ≡ false → true ≡ tried_by r q p
-tries_each r q p e = ap (λ (seek : Bool). not (seek && lacks_required q) && (not seek || may_begin q p)) (sym e)
-
--- one that seeks tries none where no match may start, and elsewhere each unless a required byte is lacking
-pub tries_none : (r : Program) (q : Query) (p : ℕ) → (program_options r).seek ≡ true → may_begin q p ≡ false → false ≡ tried_by r q p
-tries_none r q p e never = rw (e, never) (sym (and_never (not (lacks_required q))))
-
 pub tries_unless : (r : Program) (q : Query) (p : ℕ) → (program_options r).seek ≡ true → may_begin q p ≡ true → (lacking : Bool) → lacking ≡ lacks_required q → not lacking ≡ tried_by r q p
 tries_unless r q p e may true l = rw (e, may, ← l) refl
 tries_unless r q p e may false l = rw (e, may, ← l) refl

@@ -1,7 +1,6 @@
 pub mod Options
 pub mod PatternCode
 pub mod Readings
-pub mod Entered
 pub mod Compiled
 pub mod CompiledCode
 pub mod Followed

@@ -35,8 +35,8 @@ pub struct Options {
     pub backtrack_limit: usize,
     /// How many branches a search for a hard pattern may have saved at one time.
     pub stack_limit: usize,
-    /// How much work a search may do, if that is limited: its steps, the units that look-behinds go back, and the bytes of texts that
-    /// backreferences compare.
+    /// How much work a search may do, if that is limited: its steps, the units that look-behinds go back, the bytes of texts that
+    /// backreferences compare, and the items that loops of one item read together.
     pub step_limit: Option<usize>,
     /// How many instructions a hard pattern's code may have, if that is limited.
     pub max_prog_size: Option<usize>,

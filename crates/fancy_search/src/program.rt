@@ -20,8 +20,8 @@ ghost use Rattle.fancy_code.specs.Search.{search};
 ghost use Rattle.fancy_automaton.specs.Futures.{ArePlain};
 ghost use Rattle.fancy_automaton.specs.Search.{KeepsPlaces};
 ghost use Rattle.fancy_bytes.specs.Lacks.{AreKnown, AreRequired};
-ghost use Rattle.fancy_prices.specs.Entries.{AreEntries, is_entry};
-ghost use Rattle.fancy_search.specs.Entered.{entered_once};
+ghost use Rattle.fancy_prices.specs.Told.{ArePrices};
+ghost use Rattle.fancy_prices.specs.Once.{prices_once};
 ghost use Rattle.fancy_search.specs.Readings.{Reading, one_reading};
 ghost use Rattle.fancy_search.specs.Followed.{FollowsEach};
 ghost use Rattle.fancy_search.specs.Compiled.{IsSpelled};
@@ -44,14 +44,14 @@ use fancy_code::work::Work;
 use fancy_input::input::Request;
 use fancy_input::lines::byte_at;
 use fancy_machine::search as machine;
-use fancy_prices::entries::Entries;
+use fancy_prices::prices::Prices;
 use fancy_runner::notes::KeptTable;
 use fancy_runner::search as runner;
 use fancy_syntax::parse::{Parsed, parse_with};
 use fancy_tree::error::{CompileError, Error, Result, RuntimeError};
 use fancy_tree::name::Names;
 use fancy_tree::tree::Meaning;
-use std::alloc::Global;
+use std::alloc::{AllocError, Global};
 
 /// A haystack of fewer bytes is short.
 const SHORT_HAYSTACK: usize = 256;
@@ -72,8 +72,8 @@ pub struct Program {
     plain: bool,
     /// The bytes that every haystack with a match has.
     required: RequiredBytes,
-    /// The positions at which the machine must make an attempt.
-    entries: Entries,
+    /// What is told of the machine's attempts.
+    prices: Prices,
     pub ghost reading: { Reading options (string_bytes text) } by { one_reading options (string_bytes text) },
     pub ghost compiled: { ∥ IsCompiled reading.0 code (names_of names) ∥₁ },
     ghost meant: { code.meaning ≡ meaning_in options },
@@ -84,7 +84,7 @@ pub struct Program {
     pub ghost limited: { ForSome options.step_limit (λ most. most < 2 ^ 64) },
     ghost starts: { has_keep_start_in_look_around reading.0 ≡ false },
     ghost needed: { AreRequired (meaning_in options) reading.0 required },
-    ghost entered: { AreEntries (is_entry entries) code } by { entered_once (is_entry entries) code },
+    ghost priced: { ArePrices prices code } by { prices_once prices code },
     ghost whole: { keeps_characters options.bytes_mode ≡ true → has_raw_byte reading.0 ≡ false },
 }
 
@@ -100,14 +100,14 @@ fn error_of(refusal: SearchRefusal) -> Error
     }
 }
 
-/// The positions at which the machine must make an attempt. Nothing is told of the code of an easy pattern, which it does not serve.
-fn entries_of(code: &Code, easy: bool) -> Entries
-    ensures { AreEntries (is_entry result) code.now }
+/// What is told of the machine's attempts. Nothing is told of the code of an easy pattern, which it does not serve.
+fn prices_of(alloc: Global, code: &Code, easy: bool) -> std::result::Result<Prices, AllocError>
+    ensures { IfOk result (λ prices. ArePrices prices code.now) }
 {
     if easy {
-        return Entries::all();
+        return Ok(Prices::none(alloc));
     }
-    Entries::of(code)
+    Prices::of(alloc, code)
 }
 
 impl Program {
@@ -143,7 +143,7 @@ impl Program {
         }
         let plain = is_worth_following(&code);
         let required = RequiredBytes::new(alloc, &tree, options.meaning())?;
-        let entries = entries_of(&code, easy);
+        let prices = prices_of(alloc, &code, easy)?;
         let text = String::from_str(alloc, pattern)?;
         Ok(Program {
             options,
@@ -153,7 +153,7 @@ impl Program {
             easy,
             plain,
             required,
-            entries,
+            prices,
         })
     }
 
@@ -736,7 +736,7 @@ impl Program {
         let options = self.options.for_search();
         match machine::search(
             &self.code,
-            &self.entries,
+            &self.prices,
             haystack,
             request,
             options,
@@ -782,7 +782,15 @@ impl Program {
         let machine = &mut cache.machine;
         let options = self.options.for_search();
         match machine::attempt_at(
-            &self.code, haystack, request, options, true, position, machine, work,
+            &self.code,
+            &self.prices,
+            haystack,
+            request,
+            options,
+            true,
+            position,
+            machine,
+            work,
         ) {
             Ok(found) => Ok(found),
             Err(refusal) => Err(error_of(refusal)),

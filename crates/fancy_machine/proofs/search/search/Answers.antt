@@ -31,7 +31,7 @@ loop-place-init g c =
     let first : effective_start g.q.request ≡ c.effective_start-first.result = ap effective_start r ∙ sym c.effective_start-first.ensures in
     let events = ap₂ (gone_from g.q (tried c.args.options.seek g.q)) tries first in
     let ordered : c.effective_start-first.result ≤ c.last_position-last.result + 1 = omega (arith, c.last_position-last.ensures.count, c.effective_start-first.ensures, positions_some c.args.request (omega (arith, c.effective_start-first.ensures))) in
-    let on = goes_on g.q c.args.code.now c.args.options c.args.haystack.now c.args.request c.args.continues c.requires.0 c.requires.1.0 (λ k. omega (arith, c.type_inv.haystack k)) c.requires.1.1.0 (is_entry c.args.entries.now) c.requires.1.1.1.1.1 c.effective_start-first.result c.last_position-last.result c.next-place.result ordered c.next-place.ensures.sought c.next-place.ensures.each in
+    let on = goes_on g.q c.args.code.now c.args.options c.args.haystack.now c.args.request c.args.continues c.requires.0 c.requires.1.0 (λ k. omega (arith, c.type_inv.haystack k)) c.requires.1.1.0 (is_entry c.args.prices.now.entries) c.requires.1.1.1.1.1.entries c.effective_start-first.result c.last_position-last.result c.next-place.result ordered c.next-place.ensures.sought c.next-place.ensures.each in
     record {
       left = ap₂ (answer_from g.q) tries first ∙ on.answer;
       count = omega (arith, ap returns_in events, on.returns);
@@ -43,23 +43,23 @@ loop-place-init g c =
       steps = omega arith;
       returns = omega arith;
       paired = λ pairs. pairs;
-      last_lines = c.ready_last_lines.ensures;
+      seen = record { lines = c.ready_last_lines.ensures; run = c.none-cache.ensures c.new-attempt.result.splits.now c.new-attempt.result.haystack.now };
       heeds = omega arith;
       within = λ is. is;
     }
 
 pub ready_last_lines-requires : goal.ready_last_lines-requires
-ready_last_lines-requires g c kept = subst (λ (h : List ℕ). KnowsLastLines h c.args.cache.now.last_lines) (sym c.new-attempt.ensures.haystack) (c.requires.1.1.1.1.0 kept)
+ready_last_lines-requires g c kept = subst (λ (h : List ℕ). KnowsLastLines h c.args.cache.now.seen.last_lines) (sym c.new-attempt.ensures.haystack) (c.requires.1.1.1.1.0 kept)
 
 pub returns-in-Some-clause-kept : goal.returns-in-Some-clause-kept
-returns-in-Some-clause-kept g c = subst (λ (h : List ℕ). KnowsLastLines h c.pass_or_try.new.cache.last_lines) c.new-attempt.ensures.haystack c.pass_or_try.ensures.last_lines
+returns-in-Some-clause-kept g c = subst (λ (h : List ℕ). KnowsLastLines h c.pass_or_try.new.cache.seen.last_lines) c.new-attempt.ensures.haystack c.pass_or_try.ensures.seen.lines
 
 pub pass_or_try-requires : goal.pass_or_try-requires
 pass_or_try-requires g c =
     let k = is_asked g.q g.q.sought.pattern c.args.code.now c.args.options c.args.haystack.now c.args.request c.args.continues c.requires.0 c.new-attempt.result c.new-attempt.ensures.code c.new-attempt.ensures.serves c.requires.1.0 c.requires.1.1.0 c.loop-place.place (omega (arith, c.last_position-last.ensures.inside)) in
     let bytes = subst (λ (h : List ℕ). (k : ℕ) → slice_index h k < 256) (sym c.new-attempt.ensures.haystack) (λ k. omega (arith, c.type_inv.haystack k)) in
-    let entries = subst (AreEntries (is_entry c.args.entries.now)) (sym c.new-attempt.ensures.code) c.requires.1.1.1.1.1 in
-    (k.serves, (k.groups, (k.coded, (k.range, (k.inside, (k.ends, (omega (arith, c.returns.ensures, c.loop-place.invariant.fits), (c.loop-place.invariant.last_lines, (entries, bytes)))))))))
+    let entries = subst (AreEntries (is_entry c.args.prices.now.entries)) (sym c.new-attempt.ensures.code) c.requires.1.1.1.1.1.entries in
+    (k.serves, (k.groups, (k.coded, (k.range, (k.inside, (k.ends, (omega (arith, c.returns.ensures, c.loop-place.invariant.fits), (c.loop-place.invariant.seen, (entries, bytes)))))))))
 
 pub returns-in_err-found-clause-refused : goal.returns-in_err-found-clause-refused
 returns-in_err-found-clause-refused g c e =
@@ -103,7 +103,7 @@ loop-place-preserved g c =
     let a = rw c.in_default.is at c.in_ok-found.ensures.answer in
     let counts = gone_counts g.q (tried c.args.options.seek g.q) (c.last_position-last.result + 1 - c.loop-place.place) (c.last_position-last.result + 1 - (c.loop-place.place + 1)) c.loop-place.place one (c.loop-place.invariant.tries (omega (arith, c.loop-place-test.true))) (sym a) in
     let ordered : c.loop-place.place + 1 ≤ c.last_position-last.result + 1 = omega (arith, c.loop-place-test.true) in
-    let on = goes_on g.q c.args.code.now c.args.options c.args.haystack.now c.args.request c.args.continues c.requires.0 c.requires.1.0 (λ k. omega (arith, c.type_inv.haystack k)) c.requires.1.1.0 (is_entry c.args.entries.now) c.requires.1.1.1.1.1 (c.loop-place.place + 1) c.last_position-last.result c.next-place-in-loop-place.result ordered c.next-place-in-loop-place.ensures.sought c.next-place-in-loop-place.ensures.each in
+    let on = goes_on g.q c.args.code.now c.args.options c.args.haystack.now c.args.request c.args.continues c.requires.0 c.requires.1.0 (λ k. omega (arith, c.type_inv.haystack k)) c.requires.1.1.0 (is_entry c.args.prices.now.entries) c.requires.1.1.1.1.1.entries (c.loop-place.place + 1) c.last_position-last.result c.next-place-in-loop-place.result ordered c.next-place-in-loop-place.ensures.sought c.next-place-in-loop-place.ensures.each in
     record {
       left = c.loop-place.invariant.left ∙ found_later g.q (c.last_position-last.result + 1 - c.loop-place.place) (c.last_position-last.result + 1 - (c.loop-place.place + 1)) c.loop-place.place one (sym a) ∙ on.answer;
       count = omega (arith, c.in_ok-found.ensures.count, counts.0, c.loop-place.invariant.count, on.returns);
@@ -115,7 +115,7 @@ loop-place-preserved g c =
       steps = omega (arith, c.pass_or_try.ensures.steps, c.loop-place.invariant.steps);
       returns = omega (arith, c.pass_or_try.ensures.returns, c.loop-place.invariant.returns);
       paired = λ pairs. c.pass_or_try.ensures.paired (c.loop-place.invariant.paired pairs);
-      last_lines = c.pass_or_try.ensures.last_lines;
+      seen = c.pass_or_try.ensures.seen;
       heeds = omega (arith, c.pass_or_try.ensures.heeds, c.loop-place.invariant.heeds, ap (λ o. o.stack_limit) c.new-attempt.ensures.options);
       within = λ is. subst (λ (o : SearchOptions). IsWithin o.step_limit c.pass_or_try.new.work) c.new-attempt.ensures.options
           (c.pass_or_try.ensures.within (subst (λ (o : SearchOptions). IsWithin o.step_limit c.loop-place.work) (sym c.new-attempt.ensures.options) (c.loop-place.invariant.within is)));

@@ -2,10 +2,10 @@ use Rattle.std.proofs.Common.{◌≡◌, ◌+◌, ◌-◌, ◌≤◌, true}
 use Rattle.fancy_code.specs.Events.{marks_in, returns_in}
 use Rattle.fancy_code.specs.Search.{search, returns, choices, answer_from, gone_from}
 use Rattle.fancy_input.specs.Requests.{effective_start}
-use Rattle.fancy_input.specs.LastLines.{KnowsLastLines}
 use Rattle.fancy_code.specs.Work.{steps_of, returns_of, IsWithin}
 use Rattle.fancy_code.specs.Tried.{tried, NoneTried}
 use Rattle.fancy_machine.specs.Asked.{HeedsLimit}
+use Rattle.fancy_machine.specs.Attempt.{KnowsSeen}
 use Rattle.fancy_machine.proofs.search.search.Given as goal
 
 abbrev pub invariant-loop-place : goal.invariant-loop-place
@@ -20,7 +20,7 @@ invariant-loop-place g l = record {
   steps : steps_of l.fn.work ≤ steps_of l.work;
   returns : returns_of l.fn.work ≤ returns_of l.work;
   paired : returns_of l.fn.work ≤ steps_of l.fn.work → returns_of l.work ≤ steps_of l.work;
-  last_lines : KnowsLastLines l.attempt.haystack.now l.cache.last_lines;
+  seen : KnowsSeen l.attempt l.cache.seen;
   heeds : HeedsLimit l.fn.options.stack_limit l.fn.cache l.cache;
   within : IsWithin l.fn.options.step_limit l.fn.work → IsWithin l.fn.options.step_limit l.work;
 }

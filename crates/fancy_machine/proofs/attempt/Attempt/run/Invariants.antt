@@ -1,7 +1,6 @@
 use Rattle.std.proofs.Common.{◌≡◌, ◌+◌, ◌≤◌}
-use Rattle.fancy_input.specs.LastLines.{KnowsLastLines}
 use Rattle.fancy_code.specs.Work.{steps_of, returns_of, units_of, IsWithin}
-use Rattle.fancy_machine.specs.Attempt.{accepts, code_in, outcome_from, returns_from, marks_from}
+use Rattle.fancy_machine.specs.Attempt.{KnowsSeen, accepts, code_in, outcome_from, returns_from, marks_from}
 use Rattle.fancy_code.specs.Thread.{size_of}
 use Rattle.fancy_machine.specs.Machine.{Searching, left}
 use Rattle.fancy_machine.proofs.attempt.Attempt.run.Given as goal
@@ -17,7 +16,7 @@ invariant-steps g l = record {
   paired : returns_of l.fn.work ≤ steps_of l.fn.work → returns_of l.work ≤ steps_of l.work;
   most : l.trail.most ≡ l.fn.trail.most;
   within : IsWithin l.self.options.step_limit l.fn.work → IsWithin l.self.options.step_limit l.work;
-  last_lines : KnowsLastLines l.self.haystack.now l.last_lines;
+  seen : KnowsSeen l.self l.seen;
 }
 
 abbrev pub decreases-steps : goal.decreases-steps

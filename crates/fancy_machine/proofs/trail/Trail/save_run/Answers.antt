@@ -24,7 +24,7 @@ invariant_of-self-2 c =
     let l : Layer = record { kind = k.Branch; at = c.args.at; from = c.args.from; place = c.args.from + (c.args.count - 1); kept = c.self.inside.kept; limit = c.self.inside.limit; log = c.len.result; region = c.self.inside.region } in
     let n = saved_frames c.self.inside.log.items (map cell_slot c.self.inside.cells.items) c.self.inside.layers.items in
     let p = pushed _ _ _ c.self.inside.layers.items c.push.new.self.items l c.in_ok-push.ensures.items c.self.invariant.2 c.self.invariant.3 (omega (arith, c.len.ensures, c.self.inside.log.ok.0)) refl refl in (
-      omega (arith, c.self.invariant.0, counted_snoc _ _ l c.in_ok-push.ensures.items, c.requires.some),
+      omega (arith, c.self.invariant.0, counted_snoc _ _ l c.in_ok-push.ensures.items, c.if-count-eq0.false),
       room _ c.args.self.now c.args.count _ c.self.view_is (n ∙ sym c.self.invariant.0) (c.if-not-has_room_for.ensures.0 refl),
       p.0,
       p.1,
@@ -39,5 +39,5 @@ returns-clause-saved c =
     let below = frames_of c.self.inside.log.items slots c.self.inside.layers.items in
     let run : earlier l ≡ c.args.count - 1 = omega arith in
     frames_made c.self.inside.log.items slots c.self.inside.layers.items c.push.new.self.items l (c.args.count - 1) c.in_ok-push.ensures.items (omega (arith, c.len.ensures, c.self.inside.log.ok.0)) run
-    ∙ run_frames c.args.at c.args.from c.args.count (c.args.count - 1) (spot_of c.self.inside.at c.self.inside.limit c.self.inside.place c.self.inside.kept slots) below (omega (arith, c.requires.some))
+    ∙ run_frames c.args.at c.args.from c.args.count (c.args.count - 1) (spot_of c.self.inside.at c.self.inside.limit c.self.inside.place c.self.inside.kept slots) below (omega (arith, c.if-count-eq0.false))
     ∙ ap (λ (h : Held). saved_run c.args.at c.args.from c.args.count h.now h.frames) c.self.view_is

@@ -12,7 +12,7 @@ pub search-requires : goal.search-requires
 search-requires g c =
     let of : g.p ≡ program_pattern c.args.self.now = c.requires.1.0 in
     let coded : ∥ IsCodeOf (program_pattern c.args.self.now) c.args.self.now.code ∥₁ = ∥∥₁_elim c.args.self.now.compiled ∥∥₁_prop (λ compiled. ∣ compiled.coded ∣₁) in
-    (refl, (rw of coded, (c.requires.0, (rw c.for_search-options.ensures c.requires.1.1.1.1.0.1, (c.requires.1.1.1.1.1, c.args.self.now.entered)))))
+    (refl, (rw of coded, (c.requires.0, (rw c.for_search-options.ensures c.requires.1.1.1.1.0.1, (c.requires.1.1.1.1.1, c.args.self.now.priced)))))
 
 pub returns-in-Ok-clause-answer : goal.returns-in-Ok-clause-answer
 returns-in-Ok-clause-answer g c =

@@ -56,7 +56,7 @@ invariant_of-result c = record {
   limited = search rules;
   starts = kept_accepted (c.in_ok-tree.ensures.accepted.0);
   needed = rw (sym c.meaning-2.ensures) c.in_ok-required.ensures;
-  entered = c.entries_of-entries.ensures;
+  priced = c.in_ok-prices.ensures;
   whole = λ e. bytes_accepted (ap (λ (o : DialectOptions). o.keeps_characters) c.parse_options.ensures ∙ e) (c.in_ok-tree.ensures.accepted.0);
 }
 

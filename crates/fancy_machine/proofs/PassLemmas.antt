@@ -1,0 +1,340 @@
+-- A loop of one item, passed in one step.
+use Rattle.std.proofs.Common.{◌≡◌, ◌≢◌, ℕ, zero, suc, ◌+◌, ◌-◌, ◌<◌, ◌≤◌, Bool, true, false, List, [], ◌∷◌, length, Option, Some, None, refl, sym, ap, ap₂, ◌∙◌, subst, arith, slice_index, inl, inr, true≢false}
+use Rattle.std.specs.Prelude.{slice_get}
+use Rattle.std.proofs.lemmas.Option.{same_Some, slice_get-get_or}
+use Rattle.std.proofs.lemmas.Bool.{cases_eq}
+use Rattle.fancy_bytes.specs.Sets.{member}
+use Rattle.fancy_tree.specs.declared.tree.Meaning.{Meaning}
+use Rattle.fancy_code.specs.Context.{Context, State, moved_to}
+use Rattle.fancy_code.specs.Instructions.{Instruction}
+use Rattle.fancy_code.specs.Instructions as i
+use Rattle.fancy_code.specs.Events.{any}
+use Rattle.fancy_code.specs.Run.{Raw, Note, Stop, Sign, choice_opened, returned, fetched, Go, before, join, erase, instr_at, run}
+use Rattle.fancy_code.specs.Thread.{size_of}
+use Rattle.fancy_code.proofs.RunMore.{run_more}
+use Rattle.fancy_prices.specs.declared.splits.ToldSplit.{ToldSplit}
+use Rattle.fancy_prices.specs.declared.splits.Splits.{Splits}
+use Rattle.fancy_prices.specs.Splits.{AreApart, IsToldSplit, IsNoted, ReadsByte, byte_alone}
+use Rattle.fancy_prices.specs.Prices.{Costs, MissesIn, Dies}
+use Rattle.fancy_code.specs.Code.{instrs_of}
+use Rattle.fancy_code.specs.declared.step.Next.TheVariants.{On, Dead, Found}
+use Rattle.fancy_machine.specs.declared.attempt.Attempt.{Attempt}
+use Rattle.fancy_machine.specs.Attempt.{attempt_context, accepts, code_in, Seeks, SeeksBack, Advanced, size_ahead, size_behind}
+use Rattle.fancy_machine.specs.Frames.{Spot, Frame, Held, Saved, saved}
+use Rattle.fancy_machine.specs.Machine.{after, finish, left, at_instr, at_place, saved_run, Searching, taken_outcome, final, returns_to, marks_to}
+use Rattle.fancy_machine.specs.declared.runs.LastRun.{LastRun}
+use Rattle.fancy_machine.specs.Runs.{HasItems, DieFrom, KnowsRun, Lacks, Stands}
+use Rattle.fancy_machine.proofs.Closing.{before_some, finish_known, finish_note, join_nothing, join_note, take_branch}
+use Rattle.fancy_machine.proofs.MachineSteps.{acts}
+
+-- What is left after w is `rest`: between them no way stops, and there are so many marks and returns.
+pub record Passed (marks returns : ℕ) (w rest : List Raw) : Type 0 where
+  pub answer : (longest : Bool) (ok : State → Bool) (best : Option State) → taken_outcome longest ok best (erase w) ≡ taken_outcome longest ok best (erase rest)
+  pub returned_so : (ok : State → Bool) → returns_to ok (erase w) ≡ returns + returns_to ok (erase rest)
+  pub marked_so : (ok : State → Bool) → marks_to ok (erase w) ≡ marks + marks_to ok (erase rest)
+  pub shorter : marks + length rest ≤ length w
+
+passed_none : (w : List Raw) → Passed 0 0 w w
+passed_none w = record { answer = λ l ok b. refl; returned_so = λ ok. omega arith; marked_so = λ ok. omega arith; shorter = omega arith }
+
+passed_then : {m n r t k l : ℕ} {u v w : List Raw} → Passed m r u v → Passed n t v w → k ≡ m + n → l ≡ r + t → Passed k l u w
+passed_then f g marks returns = record {
+  answer = λ l ok b. f.answer l ok b ∙ g.answer l ok b;
+  returned_so = λ ok. omega (arith, f.returned_so ok, g.returned_so ok, returns);
+  marked_so = λ ok. omega (arith, f.marked_so ok, g.marked_so ok, marks);
+  shorter = omega (arith, f.shorter, g.shorter, marks);
+}
+
+passed_fetch : (w rest : List Raw) → w ≡ Note fetched ∷ rest → Passed 0 0 w rest
+passed_fetch w rest e = subst (λ (l : List Raw). Passed 0 0 l rest) (sym e)
+    (record { answer = λ l ok b. refl; returned_so = λ ok. omega arith; marked_so = λ ok. omega arith; shorter = omega arith })
+
+passed_mark : (w rest : List Raw) → w ≡ Note choice_opened ∷ rest → Passed 1 0 w rest
+passed_mark w rest e = subst (λ (l : List Raw). Passed 1 0 l rest) (sym e)
+    (record { answer = λ l ok b. refl; returned_so = λ ok. omega arith; marked_so = λ ok. omega arith; shorter = omega arith })
+
+passed_return : (w rest : List Raw) → w ≡ Note returned ∷ rest → Passed 0 1 w rest
+passed_return w rest e = subst (λ (l : List Raw). Passed 0 1 l rest) (sym e)
+    (record { answer = λ l ok b. refl; returned_so = λ ok. omega arith; marked_so = λ ok. omega arith; shorter = omega arith })
+
+module _ (cx : Context) (code : List Instruction) (deep : ℕ) where
+  abbrev go : ℕ → Go
+  go l = run cx l code deep
+
+  -- a choice is met
+  at_split : (x : Spot) (fs : List Frame) (w : List Raw) (a b : ℕ) → left go x fs ≡ Some w → instr_at code x.at ≡ i.Split a b
+      → (rest : List Raw) × (left go (at_instr a x) (Saved (at_instr b x) ∷ fs) ≡ Some rest) × Passed 1 0 w rest
+  at_split x fs w a b known e =
+      let u = acts cx code deep x fs w known (i.Split a b) e in
+      let o = join (go x.limit a x.state x.starts) (go x.limit b x.state x.starts) in
+      let v = before_some (Note choice_opened) _ u.0 (sym (finish_note go fs choice_opened o) ∙ u.1) in
+      (v.0, v.1, passed_then (passed_fetch w u.0 u.2) (passed_mark u.0 v.0 v.2) (omega arith) (omega arith))
+
+  -- an item is read
+  at_byte : (y : Spot) (gs : List Frame) (w : List Raw) (b back : ℕ) → left go y gs ≡ Some w → ReadsByte code cx.meaning b y.at back
+      → slice_get cx.haystack y.state.place ≡ Some b → y.state.place < y.limit
+      → (rest : List Raw) × (left go (at_place back (y.state.place + 1) y) gs ≡ Some rest) × Passed 0 0 w rest
+  at_byte y gs w b back known reads here lt =
+      let k = finish_known go gs (after go y) w known in
+      let z = at_place back (y.state.place + 1) y in
+      let more = run_more cx y.limit code deep y.at y.state y.starts k.0 k.1 in
+      let is : after go y ≡ before (Note fetched) (after go z) = k.1 ∙ sym more ∙ reads cx y.limit deep y.state y.starts refl here lt in
+      let v = before_some (Note fetched) _ w (sym (ap (finish go gs) is ∙ finish_note go gs fetched (after go z)) ∙ known) in
+      (v.0, v.1, passed_fetch w v.0 v.2)
+
+  -- what costs nothing ends, and what was saved follows
+  free_back : (u : List Raw) → MissesIn any 0 0 u → (fs : List Frame) (o : Option (List Raw)) (w : List Raw) → finish go fs (join (Some u) o) ≡ Some w
+      → (rest : List Raw) × (finish go fs o ≡ Some rest) × Passed 0 1 w rest
+  free_back [] c fs o w h = let t = take_branch go fs o w (sym (ap (finish go fs) (join_nothing o)) ∙ h) in (t.0, t.1, passed_return w t.0 t.2)
+  free_back (Note fetched ∷ u) c fs o w h =
+      let v = before_some (Note fetched) _ w (sym (ap (finish go fs) (join_note fetched (Some u) o) ∙ finish_note go fs fetched (join (Some u) o)) ∙ h) in
+      let t = free_back u c fs o v.0 v.1 in
+      (t.0, t.1, passed_then (passed_fetch w v.0 v.2) t.2 (omega arith) (omega arith))
+  free_back (Note choice_opened ∷ u) c fs o w h = absurd (omega (arith, c.1))
+  free_back (Note returned ∷ u) c fs o w h = absurd (omega (arith, c.1))
+  free_back (Stop q s v ∷ u) c fs o w h = absurd (true≢false c.0)
+
+  -- the same where nothing was saved for it
+  free_dead : (u : List Raw) → MissesIn any 0 0 u → (fs : List Frame) (w : List Raw) → finish go fs (Some u) ≡ Some w
+      → (rest : List Raw) × (finish go fs (Some []) ≡ Some rest) × Passed 0 0 w rest
+  free_dead [] c fs w h = (w, h, passed_none w)
+  free_dead (Note fetched ∷ u) c fs w h =
+      let v = before_some (Note fetched) _ w (sym (finish_note go fs fetched (Some u)) ∙ h) in
+      let t = free_dead u c fs v.0 v.1 in
+      (t.0, t.1, passed_then (passed_fetch w v.0 v.2) t.2 (omega arith) (omega arith))
+  free_dead (Note choice_opened ∷ u) c fs w h = absurd (omega (arith, c.1))
+  free_dead (Note returned ∷ u) c fs w h = absurd (omega (arith, c.1))
+  free_dead (Stop q s v ∷ u) c fs w h = absurd (true≢false c.0)
+
+  -- a way that dies where a byte stands
+  costs : (y : Spot) (b : ℕ) (u : List Raw) → Dies code cx.meaning (byte_alone b) 0 0 y.at → slice_get cx.haystack y.state.place ≡ Some b → after go y ≡ Some u → MissesIn any 0 0 u
+  costs y b u dies here is = subst (Costs 0 0) is (dies cx y.limit deep y.state y.starts refl (record { here = here; before = tt }))
+
+  at_dead_end : (y z : Spot) (fs : List Frame) (w : List Raw) (b : ℕ) → left go y (Saved z ∷ fs) ≡ Some w → Dies code cx.meaning (byte_alone b) 0 0 y.at
+      → slice_get cx.haystack y.state.place ≡ Some b → (rest : List Raw) × (left go z fs ≡ Some rest) × Passed 0 1 w rest
+  at_dead_end y z fs w b known dies here =
+      let k = finish_known go (Saved z ∷ fs) (after go y) w known in
+      free_back k.0 (costs y b k.0 dies here k.1) fs (after go z) w (sym (ap (finish go (Saved z ∷ fs)) k.1) ∙ known)
+
+  at_last_end : (y : Spot) (fs : List Frame) (w : List Raw) (b : ℕ) → left go y fs ≡ Some w → Dies code cx.meaning (byte_alone b) 0 0 y.at
+      → slice_get cx.haystack y.state.place ≡ Some b → (rest : List Raw) × (finish go fs (Some []) ≡ Some rest) × Passed 0 0 w rest
+  at_last_end y fs w b known dies here =
+      let k = finish_known go fs (after go y) w known in
+      free_dead k.0 (costs y b k.0 dies here k.1) fs w (sym (ap (finish go fs) k.1) ∙ known)
+
+  module _ (l : ToldSplit) (x : Spot) (fs : List Frame) (is : IsToldSplit code cx.meaning x.at l) where
+    -- at the loop, and at what follows it, after so many items
+    abbrev turn : ℕ → Spot
+    turn n = at_place x.at (x.state.place + n) x
+
+    abbrev item : ℕ → Spot
+    item n = at_place l.first (x.state.place + n) x
+
+    abbrev rest_of : ℕ → Spot
+    rest_of n = at_place l.second (x.state.place + n) x
+
+    abbrev run_saved : ℕ → List Frame
+    run_saved n = saved_run l.second x.state.place n x fs
+
+    -- one more choice after so many items
+    one_choice : (n : ℕ) (w : List Raw) → left go (turn n) (run_saved n) ≡ Some w → (rest : List Raw) × (left go (item n) (run_saved (suc n)) ≡ Some rest) × Passed 1 0 w rest
+    one_choice n w known = at_split (turn n) (run_saved n) w l.first l.second known is.splits
+
+    -- so many items are read
+    items_read : (n : ℕ) (w : List Raw) → left go x fs ≡ Some w → HasItems l cx.haystack x.state.place n → ((k : ℕ) → k < n → x.state.place + k < x.limit)
+        → (rest : List Raw) × (left go (turn n) (run_saved n) ≡ Some rest) × Passed n 0 w rest
+    items_read zero w known items fits =
+        let e : x.state.place ≡ x.state.place + 0 = omega arith in
+        (w, subst (λ (p : ℕ). left go (at_place x.at p x) fs ≡ Some w) e known, passed_none w)
+    items_read (suc n) w known items fits =
+        let before = items_read n w known (λ k lt. items k (omega (arith, lt))) (λ k lt. fits k (omega (arith, lt))) in
+        let met = one_choice n before.0 before.1 in
+        let here = items n (omega arith) in
+        let read = at_byte (item n) (run_saved (suc n)) met.0 here.0 x.at met.1 (is.reads here.0 here.2 here.3) here.1 (fits n (omega arith)) in
+        let e : x.state.place + n + 1 ≡ x.state.place + suc n = omega arith in (
+          read.0,
+          subst (λ (p : ℕ). left go (at_place x.at p x) (run_saved (suc n)) ≡ Some read.0) e read.1,
+          passed_then {r = 0} (passed_then {l = 0} before.2 met.2 refl (omega arith)) read.2 (omega arith) (omega arith),
+        )
+
+    -- and then one more choice
+    pub read_on : (n : ℕ) (w : List Raw) → left go x fs ≡ Some w → HasItems l cx.haystack x.state.place n → ((k : ℕ) → k < n → x.state.place + k < x.limit)
+        → (rest : List Raw) × (left go (item n) (run_saved (suc n)) ≡ Some rest) × Passed (n + 1) 0 w rest
+    read_on n w known items fits =
+        let all = items_read n w known items fits in
+        let met = one_choice n all.0 all.1 in
+        (met.0, met.1, passed_then all.2 met.2 refl (omega arith))
+
+    -- what follows dies at the last of these places, down to the place k
+    back_over : (j n k : ℕ) → n ≡ j + k → (w : List Raw) → left go (rest_of n) (run_saved n) ≡ Some w → ((i : ℕ) → k < i → i ≤ n → Lacks l.leaves cx.haystack (x.state.place + i))
+        → (rest : List Raw) × (left go (rest_of k) (run_saved k) ≡ Some rest) × Passed 0 j w rest
+    back_over zero n k e w known dies =
+        let same : n ≡ k = omega (arith, e) in
+        (w, subst (λ (i : ℕ). left go (rest_of i) (run_saved i) ≡ Some w) same known, passed_none w)
+    back_over (suc j) zero k e w known dies = absurd (omega (arith, e))
+    back_over (suc j) (suc m) k e w known dies =
+        let d = dies (suc m) (omega (arith, e)) (omega arith) in
+        let back = at_dead_end (rest_of (suc m)) (rest_of m) (run_saved m) w d.0 known (is.leaves d.0 d.2 d.3) d.1 in
+        let more = back_over j m k (omega (arith, e)) back.0 back.1 (λ i low high. dies i low (omega (arith, high))) in
+        (more.0, more.1, passed_then back.2 more.2 (omega arith) (omega arith))
+
+    -- no further item stands after n of them, and what follows dies at the last of the places, down to the place k
+    module _ (n k : ℕ) (le : k ≤ n) (w : List Raw) (known : left go x fs ≡ Some w) (items : HasItems l cx.haystack x.state.place n) (fits : (k : ℕ) → k < n → x.state.place + k < x.limit)
+        (stuck : Lacks l.begins cx.haystack (x.state.place + n)) (dies : (i : ℕ) → k < i → i ≤ n → Lacks l.leaves cx.haystack (x.state.place + i)) where
+      pub gone_back : (rest : List Raw) × (left go (rest_of k) (run_saved k) ≡ Some rest) × Passed (n + 1) (1 + (n - k)) w rest
+      gone_back =
+          let read = read_on n w known items fits in
+          let end = at_dead_end (item n) (rest_of n) (run_saved n) read.0 stuck.0 read.1 (is.misses stuck.0 stuck.2 stuck.3) stuck.1 in
+          let back = back_over (n - k) n k (omega (arith, le)) end.0 end.1 dies in
+          (back.0, back.1, passed_then (passed_then read.2 end.2 refl refl) back.2 (omega arith) (omega arith))
+
+    -- and at the first place too
+    pub gone_dead : (n : ℕ) (w : List Raw) → left go x fs ≡ Some w → HasItems l cx.haystack x.state.place n → ((k : ℕ) → k < n → x.state.place + k < x.limit)
+        → Lacks l.begins cx.haystack (x.state.place + n) → ((i : ℕ) → i ≤ n → Lacks l.leaves cx.haystack (x.state.place + i))
+        → (rest : List Raw) × (finish go fs (Some []) ≡ Some rest) × Passed (n + 1) (n + 1) w rest
+    gone_dead n w known items fits stuck dies =
+        let back = gone_back n 0 (omega arith) w known items fits stuck (λ i low high. dies i high) in
+        let d = dies 0 (omega arith) in
+        let last = at_last_end (rest_of 0) fs back.0 d.0 back.1 (is.leaves d.0 d.2 d.3) d.1 in
+        (last.0, last.1, passed_then back.2 last.2 (omega arith) (omega arith))
+
+-- a run saves a branch at each of its places
+pub saved_by_run : (q p n : ℕ) (x : Spot) (fs : List Frame) → saved (saved_run q p n x fs) ≡ n + saved fs
+saved_by_run q p zero x fs = omega arith
+saved_by_run q p (suc n) x fs = omega (arith, saved_by_run q p n x fs)
+
+-- what an attempt seeks it seeks in what is left
+module _ (longest : Bool) (ok : State → Bool) (goal : Option State) (total choices : ℕ) (best : Option State) (r : ℕ) (o : Option (List Raw)) (fs : List Frame)
+    (s : Searching longest ok goal total choices o fs best r) (m t : ℕ) (p : Option (List Raw)) (gs : List Frame) (rest : List Raw) (known : p ≡ Some rest)
+    (passed : Passed m t s.rest rest) where
+  pub seeks_on : saved gs ≤ saved fs + m → Searching longest ok goal total choices p gs best (r + t)
+  seeks_on le = record {
+    rest = rest;
+    known = known;
+    answer = sym (passed.answer longest ok best) ∙ s.answer;
+    count = omega (arith, passed.returned_so (final longest ok), s.count);
+    room = omega (arith, passed.marked_so (final longest ok), s.room, le);
+  }
+
+  pub fewer_on : 0 < m → size_of p < size_of o
+  fewer_on some = let a = ap size_of known in let b = ap size_of s.known in omega (arith, passed.shorter, some, a, b)
+
+  pub returns_to_come : r + t ≤ total
+  returns_to_come = omega (arith, passed.returned_so (final longest ok), s.count)
+
+  pub choices_to_come : saved fs + m ≤ choices
+  choices_to_come = omega (arith, passed.marked_so (final longest ok), s.room)
+
+-- an attempt that stands at a loop, where so many items stand
+module _ (a : Attempt) (l : ToldSplit) (h : Held) (n : ℕ) (is : IsToldSplit (instrs_of a.code.now) a.code.now.meaning h.now.at l)
+    (items : HasItems l a.haystack.now h.now.state.place n) (fits : 0 < n → h.now.state.place + n ≤ h.now.limit) (best : Option State) where
+  abbrev cx : Context
+  cx = attempt_context a
+
+  abbrev code : List Instruction
+  code = instrs_of a.code.now
+
+  inside : (k : ℕ) → k < n → h.now.state.place + k < h.now.limit
+  inside k lt = omega (arith, lt, fits (omega (arith, lt)))
+
+  module _ (deep : ℕ) (goal : Option State) (total choices r : ℕ) (s : Seeks a deep goal total choices h best r) where
+    abbrev read : (rest : List Raw) × (left (code_in a deep) (at_place l.first (h.now.state.place + n) h.now) (saved_run l.second h.now.state.place (suc n) h.now h.frames) ≡ Some rest)
+        × Passed (n + 1) 0 s.rest rest
+    read = read_on cx code deep l h.now h.frames is n s.rest s.known items inside
+
+    -- it reads them, and a further item may stand
+    pub reads_on : (new : Held) → new.now ≡ at_place l.first (h.now.state.place + n) h.now → new.frames ≡ saved_run l.second h.now.state.place (n + 1) h.now h.frames
+        → (t : ℕ) → t ≡ 0 → Advanced a deep goal total choices (size_ahead a deep h) On new best (r + t)
+    reads_on new now frames t none =
+        let f : new.frames ≡ saved_run l.second h.now.state.place (suc n) h.now h.frames = frames ∙ ap (λ (m : ℕ). saved_run l.second h.now.state.place m h.now h.frames) (let e : n + 1 ≡ suc n = omega arith in e) in
+        let known : left (code_in a deep) new.now new.frames ≡ Some read.0 = ap₂ (left (code_in a deep)) now f ∙ read.1 in
+        let saves = ap saved f in
+        let b = seeks_on a.options.longest (accepts a) goal total choices best r _ h.frames s (n + 1) 0 _ new.frames read.0 known read.2 (omega (arith, saves, saved_by_run l.second h.now.state.place (suc n) h.now h.frames)) in
+        let same : r + 0 ≡ r + t = omega (arith, none) in (
+          subst (λ (u : ℕ). Seeks a deep goal total choices new best u) same b,
+          fewer_on a.options.longest (accepts a) goal total choices best r _ h.frames s (n + 1) 0 _ new.frames read.0 known read.2 (omega arith),
+        )
+
+    pub many_choices : saved h.frames + (n + 1) ≤ choices
+    many_choices = choices_to_come a.options.longest (accepts a) goal total choices best r _ h.frames s (n + 1) 0 _ h.frames read.0 read.1 read.2
+
+    module _ (stuck : Lacks l.begins a.haystack.now (h.now.state.place + n)) where
+      -- it goes back to the place k
+      module _ (k : ℕ) (le : k ≤ n) (dies : (i : ℕ) → k < i → i ≤ n → Lacks l.leaves a.haystack.now (h.now.state.place + i)) where
+        abbrev back : (rest : List Raw) × (left (code_in a deep) (at_place l.second (h.now.state.place + k) h.now) (saved_run l.second h.now.state.place k h.now h.frames) ≡ Some rest)
+            × Passed (n + 1) (1 + (n - k)) s.rest rest
+        back = gone_back cx code deep l h.now h.frames is n k le s.rest s.known items inside stuck dies
+
+        pub goes_back : (new : Held) → new.now ≡ at_place l.second (h.now.state.place + k) h.now → new.frames ≡ saved_run l.second h.now.state.place k h.now h.frames
+            → (t : ℕ) → t ≡ 1 + (n - k) → Advanced a deep goal total choices (size_ahead a deep h) On new best (r + t)
+        goes_back new now frames t count =
+            let known : left (code_in a deep) new.now new.frames ≡ Some back.0 = ap₂ (left (code_in a deep)) now frames ∙ back.1 in
+            let saves = ap saved frames in
+            let b = seeks_on a.options.longest (accepts a) goal total choices best r _ h.frames s (n + 1) (1 + (n - k)) _ new.frames back.0 known back.2 (omega (arith, saves, saved_by_run l.second h.now.state.place k h.now h.frames, le)) in
+            let same : r + (1 + (n - k)) ≡ r + t = omega (arith, count) in (
+              subst (λ (u : ℕ). Seeks a deep goal total choices new best u) same b,
+              fewer_on a.options.longest (accepts a) goal total choices best r _ h.frames s (n + 1) (1 + (n - k)) _ new.frames back.0 known back.2 (omega arith),
+            )
+
+        pub returns_back : r + (1 + (n - k)) ≤ total
+        returns_back = returns_to_come a.options.longest (accepts a) goal total choices best r _ h.frames s (n + 1) (1 + (n - k)) _ h.frames back.0 back.1 back.2
+
+      -- what follows dies at each place
+      module _ (dies : (i : ℕ) → i ≤ n → Lacks l.leaves a.haystack.now (h.now.state.place + i)) where
+        abbrev dead : (rest : List Raw) × (finish (code_in a deep) h.frames (Some []) ≡ Some rest) × Passed (n + 1) (n + 1) s.rest rest
+        dead = gone_dead cx code deep l h.now h.frames is n s.rest s.known items inside stuck dies
+
+        pub is_dead : (new : Held) → new.frames ≡ h.frames → (t : ℕ) → t ≡ n + 1 → Advanced a deep goal total choices (size_ahead a deep h) Dead new best (r + t)
+        is_dead new frames t count =
+            let known : finish (code_in a deep) new.frames (Some []) ≡ Some dead.0 = ap (λ (fs : List Frame). finish (code_in a deep) fs (Some [])) frames ∙ dead.1 in
+            let saves = ap saved frames in
+            let b = seeks_on a.options.longest (accepts a) goal total choices best r _ h.frames s (n + 1) (n + 1) _ new.frames dead.0 known dead.2 (omega (arith, saves)) in
+            let same : r + (n + 1) ≡ r + t = omega (arith, count) in (
+              subst (λ (u : ℕ). SeeksBack a deep goal total choices new best u) same b,
+              fewer_on a.options.longest (accepts a) goal total choices best r _ h.frames s (n + 1) (n + 1) _ new.frames dead.0 known dead.2 (omega arith),
+            )
+
+        pub returns_dead : r + (n + 1) ≤ total
+        returns_dead = returns_to_come a.options.longest (accepts a) goal total choices best r _ h.frames s (n + 1) (n + 1) _ h.frames dead.0 dead.1 dead.2
+
+-- one more item of a run
+pub one_more_item : (l : ToldSplit) (h : List ℕ) (p q : ℕ) → p ≤ q → q < length h → HasItems l h p (q - p) → slice_index h q < 256 → member l.items (slice_index h q) ≡ true → HasItems l h p (q + 1 - p)
+one_more_item l h p q le lt items byte is k low =
+    elim (cases_eq k (q - p)) [
+      | inl same ↦ (let e : q ≡ p + k = omega (arith, same, le) in subst (Stands l.items h) e (slice_index h q, slice_get-get_or h q 0 lt, byte, is))
+      | inr other ↦ items k (omega (arith, low, other))
+    ]
+
+-- and one more place at which what follows dies
+pub one_more_death : (l : ToldSplit) (h : List ℕ) (p i n : ℕ) → DieFrom l h p (suc i) n → Lacks l.leaves h (p + i) → DieFrom l h p i n
+one_more_death l h p i n die lacks k low high =
+    elim (cases_eq k i) [
+      | inl same ↦ subst (λ (j : ℕ). Lacks l.leaves h (p + j)) (sym same) lacks
+      | inr other ↦ die k (omega (arith, low, other)) high
+    ]
+
+-- at the places of items nothing goes on where what follows is apart from them
+pub all_die : (l : ToldSplit) (h : List ℕ) (p n : ℕ) → HasItems l h p n → AreApart l.items l.leaves → Lacks l.leaves h (p + n) → DieFrom l h p 0 (n + 1)
+all_die l h p n items apart last k low high =
+    elim (cases_eq k n) [
+      | inl same ↦ subst (λ (j : ℕ). Lacks l.leaves h (p + j)) (sym same) last
+      | inr other ↦ (let s = items k (omega (arith, high, other)) in (s.0, s.1, s.2, apart s.0 s.2 s.3))
+    ]
+
+-- the items of a run that stand from one of its places on
+pub run_inside : (splits : Splits) (h : List ℕ) (r : LastRun) (at p : ℕ) (l : ToldSplit) → KnowsRun splits h r → IsNoted splits at l → r.at ≡ at → r.from ≤ p → p ≤ r.past → HasItems l h p (r.past - p)
+run_inside splits h r at p l known noted same low high k lt =
+    let e : r.from + (p - r.from + k) ≡ p + k = omega (arith, low) in
+    subst (Stands l.items h) e (known l (subst (λ (q : ℕ). IsNoted splits q l) (sym same) noted) (p - r.from + k) (omega (arith, low, high, lt)))
+
+-- one loop at most is noted for an instruction
+same_split : (splits : Splits) (at : ℕ) (l m : ToldSplit) → IsNoted splits at l → IsNoted splits at m → l ≡ m
+same_split splits at l m a b =
+    let n : a.0 ≡ b.0 = same_Some _ _ (sym a.1 ∙ b.1) in
+    same_Some _ _ (sym a.2 ∙ ap (slice_get splits.splits.items) n ∙ b.2)
+
+-- a run that was read is known
+pub run_known : (splits : Splits) (h : List ℕ) (at p n : ℕ) (l m : ToldSplit) → IsNoted splits at l → HasItems l h p n → IsNoted splits at m → HasItems m h p (p + n - p)
+run_known splits h at p n l m noted items other =
+    let e : n ≡ p + n - p = omega arith in
+    subst (HasItems m h p) e (subst (λ (o : ToldSplit). HasItems o h p n) (same_split splits at l m noted other) items)

@@ -1,0 +1,201 @@
+//! Choices of which bytes tell that a way dies at once: it is passed over, and counted. Where such a choice is a loop of one item, all
+//! items that stand are read in one step.
+
+ghost use Rattle.std.specs.Prelude.{◌≡◌, ◌+◌, ◌-◌, ◌^◌, ◌<◌, ◌≤◌, ℕ, List, true, false, length, Err, IfErr, IfOk, IfSome, Option};
+ghost use Rattle.fancy_code.specs.Context.{State};
+ghost use Rattle.fancy_code.specs.Work.{returns_of, AddsUnits, IsWithin, IsSpent, HasWorkLeft};
+ghost use Rattle.fancy_prices.specs.declared.splits.ToldSplit.{ToldSplit};
+ghost use Rattle.fancy_prices.specs.declared.splits.Splits.{Splits};
+ghost use Rattle.fancy_prices.specs.Splits.{AreApart, IsNoted};
+ghost use Rattle.fancy_machine.specs.Attempt.{Advances, IsOverfull, TakesAtLeast};
+ghost use Rattle.fancy_machine.specs.Runs.{HasItems, Lacks, DieFrom, KnowsRun};
+ghost use Rattle.fancy_machine.specs.Units.{CountsOn};
+
+use crate::attempt::Attempt;
+use crate::trail::Trail;
+use fancy_code::refusal::SearchRefusal;
+use fancy_code::step::Next;
+use fancy_code::work::Work;
+use fancy_prices::splits::ToldSplit;
+
+/// How many items of a loop stand one after another from a place on, each of them one byte, up to an end.
+fn run_len(split: &ToldSplit, haystack: &[u8], place: usize, end: usize) -> usize
+    requires inside { end ≤ length haystack.now }
+    ensures items { HasItems split.now haystack.now place result }
+    ensures within { result ≤ end - place }
+{
+    'items: for past in place..end {
+        if !split.is_item(haystack[past]) {
+            return past - place;
+        }
+    }
+    end.saturating_sub(place)
+}
+
+/// Whether an item may stand at a place; it may where no byte stands.
+fn may_stand(split: &ToldSplit, haystack: &[u8], place: usize) -> bool
+    ensures { result ≡ false → Lacks split.now.begins haystack.now place }
+{
+    match haystack.get(place) {
+        Some(byte) => split.may_begin(*byte),
+        None => true,
+    }
+}
+
+/// Whether what follows a loop may go on at a place; it may where no byte stands.
+fn may_leave(split: &ToldSplit, haystack: &[u8], place: usize) -> bool
+    ensures { result ≡ false → Lacks split.now.leaves haystack.now place }
+{
+    match haystack.get(place) {
+        Some(byte) => split.may_leave(*byte),
+        None => true,
+    }
+}
+
+/// Of the places from one on up to that after so many items, those up to the last at which what follows a loop may go on: how many
+/// they are.
+fn places_left(split: &ToldSplit, haystack: &[u8], from: usize, count: usize) -> usize
+    requires items { HasItems split.now haystack.now from count }
+    requires apart { split.now.apart ≡ true → AreApart split.now.items split.now.leaves }
+    requires fits { from + count < 2 ^ 64 }
+    ensures few { result ≤ count + 1 }
+    ensures dies { DieFrom split.now haystack.now from result (count + 1) }
+{
+    if may_leave(split, haystack, from + count) {
+        return count + 1;
+    }
+    if split.apart {
+        return 0;
+    }
+    'places: for index in (0..count).rev() {
+        if may_leave(split, haystack, from + index) {
+            return index + 1;
+        }
+    }
+    0
+}
+
+/// The run that was read last: from one place up to another stand items of the loop at an instruction, each of them one byte. So a
+/// later attempt does not read them again.
+#[derive(Clone, Copy, PartialEq, Eq, Debug)]
+pub(crate) struct LastRun {
+    at: usize,
+    from: usize,
+    past: usize,
+}
+
+impl LastRun {
+    /// No items.
+    pub(crate) fn none() -> LastRun
+        ensures { (splits : Splits) (haystack : List ℕ) → KnowsRun splits haystack result }
+    {
+        LastRun {
+            at: 0,
+            from: 0,
+            past: 0,
+        }
+    }
+
+    /// How many of its items stand from a place on, where that is one of its places, and it ends by an end.
+    fn items_from(self, at: usize, place: usize, end: usize) -> Option<usize>
+        ensures within { IfSome result (λ n. n ≤ end - place) }
+        ensures items { (splits : Splits) (haystack : List ℕ) (l : ToldSplit) → KnowsRun splits haystack self → IsNoted splits at l
+            → IfSome result (λ n. HasItems l haystack place n) }
+    {
+        if self.at == at && self.from <= place && place <= self.past && self.past <= end {
+            return Some(self.past - place);
+        }
+        None
+    }
+}
+
+/// Reads the items of a loop that stand where the trail does, each of them one byte, and counts them as units: how many they are. Those
+/// of the run that was read last are not read again.
+fn read_run(
+    attempt: &Attempt,
+    split: &ToldSplit,
+    trail: &Trail,
+    last_run: &mut LastRun,
+    work: &mut Work,
+) -> Result<usize, SearchRefusal>
+    requires noted { IsNoted attempt.now.splits.now trail.now.now.at split.now }
+    requires known { KnowsRun attempt.now.splits.now attempt.now.haystack.now last_run.old }
+    ensures items { IfOk result (λ n. HasItems split.now attempt.now.haystack.now trail.now.now.state.place n) }
+    ensures inside { IfOk result (λ n. n ≤ trail.now.now.limit - trail.now.now.state.place) }
+    ensures fits { IfOk result (λ n. trail.now.now.state.place + n < 2 ^ 64) }
+    ensures known { KnowsRun attempt.now.splits.now attempt.now.haystack.now last_run.new }
+    ensures adds { AddsUnits work.old work.new }
+    ensures within { IsWithin attempt.now.options.step_limit work.old
+        → IsWithin attempt.now.options.step_limit work.new }
+    ensures refused { IfErr result (λ why. why ≡ SearchRefusal.Steps) }
+    ensures limited { result ≡ Err SearchRefusal.Steps → IsSpent attempt.now.options.step_limit work.new }
+{
+    let from = trail.place();
+    if !split.is_loop {
+        return Ok(0);
+    }
+    let at = trail.at();
+    let end = trail.limit().min(attempt.haystack.len());
+    if let Some(count) = last_run.items_from(at, from, end) {
+        return Ok(count);
+    }
+    let count = run_len(split, attempt.haystack, from, end);
+    let past = from + count;
+    *last_run = LastRun { at, from, past };
+    attempt.count_units(count, work)?;
+    Ok(count)
+}
+
+/// Goes on at a choice that is told. A loop reads all items that stand, and saves a branch at each place. Where the first way dies, it
+/// goes back to the last place at which the second one may go on.
+pub(crate) fn pass(
+    attempt: &Attempt,
+    split: &ToldSplit,
+    trail: &mut Trail,
+    limit: usize,
+    last_run: &mut LastRun,
+    work: &mut Work,
+) -> Result<Next, SearchRefusal>
+    requires noted { IsNoted attempt.now.splits.now trail.old.now.at split.now }
+    requires known { KnowsRun attempt.now.splits.now attempt.now.haystack.now last_run.old }
+    requires room { returns_of work.old ≤ limit }
+    ensures advanced { IfOk result (λ next. (best : Option State)
+        → Advances attempt.now next (returns_of work.new - returns_of work.old) trail.old best trail.new best) }
+    ensures bounded { (best : Option State)
+        → TakesAtLeast attempt.now (returns_of work.old) (returns_of work.new) trail.old best }
+    ensures refused { result ≡ Err SearchRefusal.Returns → (best : Option State)
+        → TakesAtLeast attempt.now (returns_of work.old) (limit + 1) trail.old best }
+    ensures stopped { result ≡ Err SearchRefusal.Returns → returns_of work.new ≡ limit }
+    ensures fits { returns_of work.new ≤ limit }
+    ensures crowded { result ≡ Err SearchRefusal.Choices → (best : Option State)
+        → IsOverfull attempt.now trail.old best }
+    ensures most { trail.new.most ≡ trail.old.most }
+    ensures counts { CountsOn work.old work.new }
+    ensures within { HasWorkLeft attempt.now.options.step_limit work.old
+        → IsWithin attempt.now.options.step_limit work.new }
+    ensures limited { result ≡ Err SearchRefusal.Steps → IsSpent attempt.now.options.step_limit work.new }
+    ensures known { KnowsRun attempt.now.splits.now attempt.now.haystack.now last_run.new }
+{
+    work.count_step_within();
+    let count = read_run(attempt, split, trail, last_run, work)?;
+    let from = trail.place();
+    let place = from + count;
+    if may_stand(split, attempt.haystack, place) {
+        trail.save_run(split.second, from, count + 1)?;
+        trail.go_to(split.first, place);
+        return Ok(Next::On);
+    }
+    if !trail.has_room_for(count + 1) {
+        return Err(SearchRefusal::Choices);
+    }
+    let step_limit = attempt.options.step_limit;
+    let left = places_left(split, attempt.haystack, from, count);
+    if left == 0 {
+        work.count_returns(count + 1, limit, step_limit)?;
+        return Ok(Next::Dead);
+    }
+    work.count_returns(count + 2 - left, limit, step_limit)?;
+    trail.save_run(split.second, from, left - 1)?;
+    trail.go_to(split.second, from + (left - 1));
+    Ok(Next::On)
+}
