@@ -273,6 +273,23 @@ const PART_COUNTS: &[PartCountRow] = &[
     ),
     // nothing is done past the end
     (CHARACTERS, "a", "a", 2, (0, 1), (Some(None), Some(0), 0)),
+    // a loop's items end with the range, and what follows it reads past that; an independent model has counted the returns
+    (
+        CHARACTERS,
+        "a*(?=b)",
+        "aaab",
+        0,
+        (0, 2),
+        (Some(None), None, 6),
+    ),
+    (
+        CHARACTERS,
+        "a*(?=a)",
+        "aaaa",
+        0,
+        (1, 3),
+        (Some(Some((1, 3))), None, 1),
+    ),
 ];
 
 /// The same under `seek`.
@@ -350,18 +367,19 @@ const NOT_CROWDED: &[CountRow] = &[
 
 /// Searches by each engine, and the units that they go over: a look-behind of two characters goes two back at each place where it is
 /// tried, also where the text's start is passed, and a backreference compares the bytes of its group's text. Where no `c` stands
-/// `(?<=ab)c` is not tried.
+/// `(?<=ab)c` is not tried. The items that a loop reads together count too, and those of the run that was read last are not read again.
 const WORKS: &[WorkRow] = &[
     (CHARACTERS, "a|ab", "xab", Some((1, 2)), 0),
     (CHARACTERS, "(?:a|b|ab)*bc", "abababac", None, 0),
     (CHARACTERS, "(?:(a)|b)*c", "ababc", Some((0, 5)), 0),
-    (CHARACTERS, "(?<=ab)[a-c]", "abc", Some((2, 3)), 6),
+    (CHARACTERS, "(?<=ab)[a-c]", "abc", Some((2, 3)), 4),
     (CHARACTERS, "(?<=ab)c", "abc", Some((2, 3)), 2),
     (SEEKING, "(?<=ab)c", "abc", Some((2, 3)), 2),
     (CHARACTERS, "(ab)\\1", "abab", Some((0, 4)), 2),
     (CHARACTERS, "(?i)(ab)\\1", "abAB", Some((0, 4)), 2),
     (CHARACTERS, "(é)\\1", "éé", Some((0, 4)), 2),
-    (CHARACTERS, "a*+b", "aaaa", None, 0),
+    (CHARACTERS, "a*+b", "aaaa", None, 4),
+    (CHARACTERS, "a*+b", "aaxaa", None, 4),
     (CHARACTERS, "(?=a{3})b", "aaab", None, 0),
     (LONGEST, "a|ab", "xab", Some((1, 3)), 0),
 ];
