@@ -12,6 +12,8 @@ What a case may hold is told by features:
     sets       fre set
     tokens     fre tokens
     malformed  faulty patterns of the features that are asked for, and wrong words
+    runs       loops of one item and prices of attempts (runs.py): all patterns, or one in five
+               beside those of other features; all of these but malformed come with it
 """
 import random
 
@@ -20,9 +22,10 @@ import tree as T
 from dialect import Refused, Unknown
 from meaning import Explosion, Regex
 from program import run
+from runs import Runs
 
 FEATURES = ['core', 'groups', 'stars', 'easy', 'hard', 'keep', 'replace', 'sets',
-            'tokens', 'malformed']
+            'tokens', 'malformed', 'runs']
 LETTERS = 'aaaabbbccx'
 MIXED = 'abckKsSxX12_ -é\u00c9ß\u1e9e\u017f\u212aµμ日本😀Σσς\n'
 ALPHABET = sorted(set(LETTERS + MIXED + 'ABCyz0345.,;$#!()[]{}|*+?^\\/"\'<>@\t\r'))
@@ -67,11 +70,14 @@ def needs(p):
     return out
 
 
-class Gen:
+class Gen(Runs):
     """One stream of random cases."""
 
     def __init__(self, seed, features, options):
         self.r, self.on, self.options = random.Random(seed), set(features), options
+        self.of_runs, self.alone = False, self.on == {'runs'}
+        if self.has('runs'):
+            self.on |= set(FEATURES) - {'malformed'}
 
     def has(self, feature):
         """Is a feature asked for?"""
@@ -85,6 +91,9 @@ class Gen:
 
     def pattern(self):
         """A pattern, mostly accepted."""
+        self.of_runs = self.has('runs') and (self.alone or self.chance(0.2))
+        if self.of_runs:
+            return self.run_pattern()
         self.groups, self.names, self.loose = 0, [], self.chance(0.3)
         self.letters = LETTERS if self.chance(0.6) else LETTERS + MIXED
         flags = ''
@@ -318,7 +327,8 @@ class Gen:
             return text.swapcase() if e.fold and self.chance(0.5) else text
         if isinstance(e, T.Repeat):
             n = e.lo + r.choice((0, 0, 1, 1, 2))
-            n = min(n if e.hi is None else min(n, e.hi), 4)
+            n += r.choice((0, 0, 4)) if self.of_runs else 0
+            n = min(n if e.hi is None else min(n, e.hi), 6 if self.of_runs else 4)
             return ''.join(self.sample(e.body, spans) for _ in range(n))
         if isinstance(e, T.Atomic):
             return self.sample(e.body, spans)
@@ -334,6 +344,8 @@ class Gen:
 
     def text(self, trees):
         """A haystack made of samples and noise."""
+        if self.of_runs:
+            return self.run_text(trees)
         out = []
         for _ in range(self.r.choice((1, 1, 2, 3))):
             if self.chance(0.4):

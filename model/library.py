@@ -8,12 +8,13 @@ import random
 import re
 import subprocess
 import sys
+import unicodedata
 from dataclasses import replace
 
 import templates
 from cases import Gen, needs
 from dialect import ASCII_MODE, UNICODE, UNICODE_BYTES, Options, Refused, Unknown
-from meaning import Counts, Explosion, Input, Limit, Regex, RegexSet
+from meaning import Counts, Explosion, Input, Limit, Regex, RegexSet, decode_all
 from templates import Expander
 
 HERE = os.path.dirname(os.path.abspath(__file__))
@@ -87,11 +88,27 @@ def letters_of(options):
     """The options as both programs read them."""
     out = "".join(letter for name, letter in LETTERS.items() if getattr(options, name))
     out += {UNICODE: "", ASCII_MODE: "a", UNICODE_BYTES: "b"}[options.bytes_mode] + ("" if options.unicode_mode else "U")
-    if options.backtrack_limit < 10:
+    if options.backtrack_limit != Options.backtrack_limit:
         out += f",B{options.backtrack_limit}"
-    if options.stack_limit < 10:
+    if options.stack_limit != Options.stack_limit:
         out += f",K{options.stack_limit}"
     return out or "-"
+
+
+def limited(r, regex, given):
+    """Options under which a search takes exactly the returns or the saved branches that it may, or one too many, or far more."""
+    options = replace(regex.options, backtrack_limit=Options.backtrack_limit, stack_limit=Options.stack_limit)
+    counts = Counts()
+    try:
+        Regex(regex.pattern.text, options).search(given, counts=counts)
+    except Explosion:
+        pass                            # (the counts so far are more than the limits may be)
+    if r.random() < .75:
+        most = r.choice((counts.returns, counts.returns - 1, counts.returns - 1, r.randrange(counts.returns + 1)))
+        options = replace(options, backtrack_limit=max(0, most))
+    if r.random() < .4:
+        options = replace(options, stack_limit=max(0, r.choice((counts.held, counts.held, counts.held - 1, r.randrange(6)))))
+    return options
 
 
 def haystack_of(r, makes, regex):
@@ -105,8 +122,14 @@ def haystack_of(r, makes, regex):
         return data, True
     for _ in range(r.choice((0, 1, 1, 2))):
         at = r.randrange(len(data) + 1)
-        data = data[:at] + r.choice(ODD) + data[at + r.randrange(2):]
+        odd = data[:at] + r.choice(ODD) * r.choice((1, 1, 5)) + data[at + r.randrange(2):]
+        data = odd if is_old(odd) else data
     return data, False
+
+
+def is_old(data):
+    """Whether Python knows each character of the bytes. One that is newer may come of an odd byte within another."""
+    return all(it is None or unicodedata.category(chr(it[0])) != "Cn" for it in decode_all(data))
 
 
 def input_of(r, data, is_text):
@@ -178,10 +201,16 @@ def range_case(r, makes):
         return f"{line} text 0 - - 0111  {regex.encode().hex()}", refused
     data, is_text = haystack_of(r, makes, regex)
     given = input_of(r, data, is_text)
+    if makes.has("runs") and r.random() < .7 and can_search(regex, given):
+        regex = Regex(regex.pattern.text, limited(r, regex, given))
+        line = letters_of(regex.options)
     first, last = given.range or ("-", "-")
     switches = "".join("01"[it] for it in (given.anchored, given.start_text, given.end_text, given.continue_from_previous_match_end))
     words = (line, "text" if is_text else "bytes", given.start, first, last, switches, data.hex(), regex.pattern.text.encode().hex())
-    return " ".join(map(str, words)), items_of_range(regex, given)
+    items = items_of_range(regex, given)
+    if makes.has("runs") and items[0] in ("?cannot", "0 returns") and r.random() < .6:
+        return None                     # nothing is counted
+    return " ".join(map(str, words)), items
 
 
 def items_of_range(regex, given):
@@ -247,6 +276,10 @@ def call_case(r, makes):
     if regex.options.bytes_mode != UNICODE and r.random() < .9:
         text = "".join(it for it in text if it.isascii())
     number = r.choice((0, 0, 1, 2, 3)) if call != "expand" else r.randrange(2)
+    given = Input.of(text, start=number if call != "expand" else 0)
+    if makes.has("runs") and r.random() < .5 and can_search(regex, given):
+        options = limited(r, regex, given)
+        members, letters = [Regex(it.pattern.text, options) for it in members], letters_of(options)
     patterns = [it.pattern.text for it in members]
     line = " ".join((call, letters, str(number), ",".join(it.encode().hex() for it in (text, template, *patterns))))
     return line, Calls(members, text, template, number).items(call)
