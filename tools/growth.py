@@ -62,7 +62,13 @@ def rows():
         groups = ''.join('(?<n%d>)' % number for number in range(size))
         yield 'a template of so many names', size, in_fre('replace', groups, 'x', ''.join('${n%d}' % number for number in range(size)))
     for size in (25000, 50000, 100000):
-        yield 'find a*+b in a within 1,000,000 steps', size, find('-,W1000000', 'a*+b', 'a' * size)
+        yield 'find (?:ab)*+c in ab within 1,000,000 steps', size, find('-,W1000000', '(?:ab)*+c', 'ab' * (size // 2))
+        for pattern in ('a*+b', '(?>a*)b', '\\w++@', '[^"]*+"', '(?<!a)a*+b', '(?>a+)+b', '[a-z]++\\d++x'):
+            yield 'find %s in a' % pattern, size, find('-', pattern, 'a' * size)
+        yield 'find (?>a*)(?>b*)c in ab', size, find('-', '(?>a*)(?>b*)c', 'ab' * (size // 2))
+        yield 'find \\s++$ in blanks before an x', size, find('-', '\\s++$', ' ' * size + 'x')
+        yield 'find "[^"\\n]*+" in lines that each begin with a quote', size, find('-', '"[^"\\n]*+"', '"abc def\n' * (size // 9))
+        yield 'find "[^"\\n]*+" in a line of a that begins with a quote', size, find('-', '"[^"\\n]*+"', '"' + 'a' * size + '\n"')
     for size in (4000, 8000, 16000):
         yield 'find (?:(?=(a)*+)a)* in a', size, in_fre('find', '(?:(?=(a)*+)a)*', 'a' * size)
     for size in (20000, 40000, 80000):

@@ -35,7 +35,7 @@ CALLS = {
     "searches": {
         "Regex": "is_match is_match_input find find_from_pos find_input captures captures_from_pos captures_input can_search "
         "find_input_counted",
-        "Work": "new after steps returns units work reset is_spent has_work_for add add_attempt count_step_within count_return count_return_within count_units",
+        "Work": "new after steps returns units work reset is_spent has_work_for add add_attempt count_step_within count_return count_returns count_return_within count_units",
     },
     "lists": {
         "Regex": "find_iter find_iter_input captures_iter captures_iter_input split splitn",

@@ -231,17 +231,17 @@ impl RegexOptionsBuilder {
 
     /// How much work a search may do, before it is refused as `RuntimeError(StepLimitExceeded)`. No limit by default.
     ///
-    /// The work is what takes time, whatever the pattern: its steps, the units that its look-behinds go back, and the bytes of the
-    /// texts that its backreferences compare (`Work::work`). Easy patterns heed it too ([`Regex::is_easy`]), but a search for one
-    /// is never refused where the limit is at least [`Regex::code_len`] times the searched length plus one. In lists, splits and
-    /// replacements it holds for each search.
+    /// The work is what takes time, whatever the pattern: its steps, the units that its look-behinds go back, the bytes of the texts
+    /// that its backreferences compare, and the items that its loops of one item read together (`Work::work`). Easy patterns heed it
+    /// too ([`Regex::is_easy`]), but a search for one is never refused where the limit is at least [`Regex::code_len`] times the
+    /// searched length plus one. In lists, splits and replacements it holds for each search.
     ///
     /// In a set it holds for a whole search, with the matches that are asked for after it, and in a list of tokens for each token: what
     /// all patterns of the set do counts together. Each pattern is refused past its own limit.
     ///
     /// ```text
-    /// let regex = RegexOptionsBuilder::new().step_limit(100_000).build(pattern)?;    // of `a*+b`
-    /// regex.find(row)    // of 10,000 `a`: Err(RuntimeError(StepLimitExceeded)), where more than 100,000,000 steps find nothing
+    /// let regex = RegexOptionsBuilder::new().step_limit(100_000).build(pattern)?;    // of `(?:ab)*+c`
+    /// regex.find(row)    // of 10,000 `ab`: Err(RuntimeError(StepLimitExceeded)), where more than 100,000,000 steps find nothing
     /// ```
     pub fn step_limit(&mut self, limit: usize) -> &mut Self
         ensures same { result.ghost_name ≡ self.entry.ghost_name }
