@@ -36,7 +36,7 @@ REFUSED, BY_NAMES, BY_A_LIMIT = "refused", "refused by names alone", "refused by
 PROVED, UNCOMPILED, UNAPPLIED, UNKNOWN = "still proved", "does not compile", "does not apply", "no verdict"
 OUTCOMES = (REFUSED, BY_NAMES, BY_A_LIMIT, PROVED, UNCOMPILED, UNAPPLIED, UNKNOWN)
 GOAL = re.compile(r"(?:\d: error: |is not proved .*\()`([\w+-]+)`")
-FUNCTION = re.compile(r"^(?:fn|impl|struct|enum|trait) \w+::(.*): not proved", re.M)
+FUNCTION = re.compile(r"^(?:fn|impl|struct|enum|trait) \w+::(.*): (?:not proved|no proof)", re.M)
 # An error in a proof file that cites what the edit took away.
 OF_A_NAME = re.compile(r"(?:\./)?proofs/\S+ error: .*(?:has no field|is not in scope|has no `|was not admitted)")
 ERROR = re.compile(r"^(?!note: )\S+:\d+:\d+: error", re.M)
@@ -95,7 +95,7 @@ def outcome_of(status, said):
         return UNCOMPILED
     if status == 3 and LIMIT.search(said):
         return BY_A_LIMIT
-    if status != 1 or ": not proved" not in said:
+    if status != 1 or not FUNCTION.search(said):
         return UNKNOWN
     errors = [line for line in said.splitlines() if ERROR.match(line)]
     if errors and all(OF_A_NAME.match(line) for line in errors) and not re.search(r"is not proved .*\(`", said):
