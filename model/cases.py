@@ -333,7 +333,7 @@ class Gen(Runs):
         if isinstance(e, T.Atomic):
             return self.sample(e.body, spans)
         if isinstance(e, T.Look):
-            return self.sample(e.body, spans) if self.chance(0.3) else ''
+            return self.sample(e.body, spans) if self.chance(0.6 if self.of_runs else 0.3) else ''
         if isinstance(e, T.Cond):
             if isinstance(e.test, T.GroupTest):
                 return self.sample(e.yes if e.test.group in spans else e.no, spans)

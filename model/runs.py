@@ -26,8 +26,8 @@ class Runs:
     def run_pattern(self):
         """A pattern, mostly hard."""
         self.groups, self.names, self.letters = 0, [], self.r.choice(PALETTES)
-        fronts = ''.join(self.run_front(1) for _ in range(self.r.choice((0, 0, 1, 1, 2))))
-        pattern = fronts + self.run_alt(self.r.choice((0, 0, 1, 1, 2)))
+        fronts = ''.join(self.run_front(1) for _ in range(self.r.choice((0, 1, 1, 1, 2))))
+        pattern = fronts + self.run_alt(self.r.choice((0, 0, 0, 1, 2)))
         return self.made_hard(pattern) if self.chance(0.6) else pattern
 
     def made_hard(self, pattern):
@@ -94,11 +94,11 @@ class Runs:
     def run_front(self, _depth):
         """What tells a price at the begin of a pattern."""
         n = self.r.random()
-        if n < 0.3:
+        if n < 0.25:
             return self.r.choice(ASSERTIONS)
-        if n < 0.65:
+        if n < 0.7:
             return '(?<%s%s)' % (self.r.choice('=!!'), '|'.join(self.run_behind() for _ in range(self.r.choice((1, 1, 1, 2, 3)))))
-        if n < 0.85:
+        if n < 0.88:
             items = [self.run_item() for _ in range(self.r.choice((1, 2, 2, 3)))]
             if self.chance(0.1):
                 items *= self.r.choice((4, 8, 16, 17))
@@ -112,7 +112,7 @@ class Runs:
         """A branch of a look-behind."""
         if self.chance(0.15):
             return self.r.choice(WORDS)
-        part = ''.join(self.run_item() for _ in range(self.r.choice((1, 1, 1, 2, 2, 3))))
+        part = ''.join(self.run_item() for _ in range(self.r.choice((1, 1, 1, 1, 2, 3))))
         return self.r.choice(ASSERTIONS) + part if self.chance(0.08) else part
 
     # ------------------------------------------------------------ texts
