@@ -98,7 +98,7 @@ saved_frame (k.Denial behind) x = refl
 saved_frame k.Condition x = refl
 
 -- a layer that saves branches at more places saves one at each
-run_saves : (l : Layer) (n : ℕ) → earlier l ≡ suc n → saves l.kind ≡ 1
+pub run_saves : (l : Layer) (n : ℕ) → earlier l ≡ suc n → saves l.kind ≡ 1
 run_saves l n e = by l.kind e where
   by : (j : Kind) → (if is_region j then 0 else l.place - l.from) ≡ suc n → saves j ≡ 1
   by k.Branch e = refl
@@ -141,7 +141,7 @@ module _ (l : Layer) where
   abbrev shorter : Layer
   shorter = record l { place = l.place - 1 }
 
-  earlier_less : (n : ℕ) → earlier l ≡ suc n → earlier shorter ≡ n
+  pub earlier_less : (n : ℕ) → earlier l ≡ suc n → earlier shorter ≡ n
   earlier_less n e = by (is_region l.kind) e where
     by : (b : Bool) → (if b then 0 else l.place - l.from) ≡ suc n → (if b then 0 else l.place - 1 - l.from) ≡ n
     by true e = absurd (omega (arith, e))

@@ -14,3 +14,4 @@ pub mod BackLemmas
 pub mod RecallLemmas
 pub mod RefusalLemmas
 pub mod PassLemmas
+pub mod DropLemmas

@@ -1,13 +1,13 @@
 -- What an attempt still has before it.
-use Rattle.std.proofs.Common.{◌≡◌, ℕ, suc, ◌+◌, ◌<◌, ◌≤◌, Bool, true, false, List, [], ◌∷◌, Option, Some, None, refl, sym, ap, ap₂, ◌∙◌, subst, inl, inr, arith, length, not, ◌&&◌}
+use Rattle.std.proofs.Common.{◌≡◌, ℕ, suc, ◌+◌, ◌-◌, ◌<◌, ◌≤◌, Bool, true, false, List, [], ◌∷◌, Option, Some, None, refl, sym, ap, ap₂, ◌∙◌, subst, inl, inr, arith, length, not, ◌&&◌}
 use Rattle.std.specs.Prelude.{if◌then◌else◌}
 use Rattle.fancy_code.specs.declared.step.Next.TheVariants.{On, Dead, Found}
 use Rattle.fancy_code.specs.Context.{State}
 use Rattle.fancy_code.specs.Run.{Raw, Note, Stop, fetched, Go, erase}
 use Rattle.fancy_machine.specs.Frames.{Spot, Frame, Held, saved}
 use Rattle.fancy_code.specs.Thread.{size_of, IsKnown, events_of}
-use Rattle.fancy_machine.specs.Machine.{IsSpent, Takes, left, after, finish, IsStep, Crowded, Turned, Fewer, Searching, betters, better, taken_outcome, final, returns_to, marks_to}
-use Rattle.std.specs.Prelude.{Result, Ok, Err, IfOk}
+use Rattle.fancy_machine.specs.Machine.{IsSpent, Takes, left, after, finish, IsStep, Crowded, Turned, Fewer, Searching, better, taken_outcome, final, returns_to, marks_to}
+use Rattle.std.specs.Prelude.{Result, Ok, Err, IfOk, OnOk}
 use Rattle.fancy_code.specs.declared.work.Work.{Work}
 use Rattle.fancy_code.specs.declared.refusal.SearchRefusal.{SearchRefusal}
 use Rattle.fancy_code.specs.declared.refusal.SearchRefusal.TheVariants.{Memory, Returns, Choices, Steps}
@@ -15,7 +15,7 @@ use Rattle.fancy_code.specs.Work.{returns_of}
 use Rattle.fancy_machine.specs.Machine.{TookBranch}
 use Rattle.fancy_code.specs.declared.step.Next.{Next}
 use Rattle.fancy_machine.specs.declared.attempt.Attempt.{Attempt}
-use Rattle.fancy_machine.specs.Attempt.{Advanced, IsFull, IsOverfull, Seeks, SeeksBack, TurnsTo, accepts, code_in, size_ahead, size_behind}
+use Rattle.fancy_machine.specs.Attempt.{Advanced, BackTakes, GoesBack, PassesBack, IsFull, Seeks, SeeksBack, TurnsTo, accepts, code_in, size_ahead}
 use Rattle.fancy_machine.proofs.Closing.{finish_back, finish_spent, finish_unspent, saved_taken}
 
 module _ (go : ℕ → Go) (longest : Bool) (ok : State → Bool) (best : Option State) (w : List Raw) (x : Spot) (fs : List Frame) (y : Spot) (gs : List Frame) where
@@ -188,6 +188,11 @@ pub told_ok : {A E : Type 0} {P Q : A → Type 0} (o : Result A E) → ((x : A) 
 told_ok (Ok x) f told = f x told
 told_ok (Err e) f told = tt
 
+-- the same of what holds whatever the answer is
+pub held_ok : {A E : Type 0} {P Q : Type 0} (o : Result A E) → (P → Q) → OnOk o P → OnOk o Q
+held_ok (Ok x) f held = f held
+held_ok (Err e) f held = tt
+
 -- an attempt goes on by one turn, which takes no return
 module _ (a : Attempt) (old : Held) (best : Option State) (new : Held) (now : Option State) (deep : ℕ) (goal : Option State) (total choices r : ℕ)
     (s : Seeks a deep goal total choices old best r) where
@@ -216,3 +221,35 @@ module _ (a : Attempt) (old : Held) (best : Option State) (new : Held) (now : Op
   -- it took no more returns than it takes in all
   pub taken : r ≤ total
   taken = omega (arith, s.count)
+
+-- an attempt goes back from the trail `mid`, where it passed over branches that were saved last before
+module _ (a : Attempt) (limit : ℕ) (old mid new : Held) (before between after : Work) (passes : PassesBack a (returns_of between - returns_of before) old mid) (le : returns_of before ≤ returns_of between) where
+  pub goes_back_then : (o : Result Bool SearchRefusal) → TookBranch o limit mid new between after → IfOk o (λ taken. GoesBack a taken (returns_of after - returns_of before) old new)
+  goes_back_then (Err e) took = tt
+  goes_back_then (Ok false) took = λ deep goal total choices r best s.
+      let p = passes deep goal total choices r best s in
+      let end = search_end (code_in a deep) a.options.longest (accepts a) goal total choices mid.frames best _ p.0 took.0 in
+      (end.0, omega (arith, end.1, ap returns_of took.1))
+  goes_back_then (Ok true) took = λ deep goal total choices r best s.
+      let p = passes deep goal total choices r best s in
+      let same : r + (returns_of between - returns_of before) + 1 ≡ r + (returns_of after - returns_of before) = omega (arith, ap returns_of took.2, le) in (
+        subst (λ (u : ℕ). Seeks a deep goal total choices new best u) same
+            (search_back (code_in a deep) a.options.longest (accepts a) goal total choices mid.frames best _ p.0 new.now new.frames took.0),
+        omega (arith, p.1, smaller_back (code_in a deep) a.options.longest (accepts a) goal total choices mid.frames best _ p.0 new.now new.frames took.0),
+      )
+
+  pub back_takes_then : BackTakes a (returns_of before) (returns_of between) old → (o : Result Bool SearchRefusal) → TookBranch o limit mid new between after → BackTakes a (returns_of before) (returns_of after) old
+  back_takes_then takes (Err e) took = λ deep goal total choices best s.
+      omega (arith, takes deep goal total choices best s, ap returns_of (backed_err e limit mid new between after took).2)
+  back_takes_then takes (Ok false) took = λ deep goal total choices best s. omega (arith, takes deep goal total choices best s, ap returns_of took.1)
+  back_takes_then takes (Ok true) took = λ deep goal total choices best s.
+      let p = passes deep goal total choices (returns_of before) best s in
+      let on = search_back (code_in a deep) a.options.longest (accepts a) goal total choices mid.frames best _ p.0 new.now new.frames took.0 in
+      omega (arith, on.count, ap returns_of took.2, le)
+
+  pub back_refused_then : (o : Result Bool SearchRefusal) → TookBranch o limit mid new between after → o ≡ Err Returns → BackTakes a (returns_of before) (limit + 1) old
+  back_refused_then o took e = λ deep goal total choices best s.
+      let k = backed_err Returns limit mid new between after (subst (λ (r : Result Bool SearchRefusal). TookBranch r limit mid new between after) e took) in
+      let p = passes deep goal total choices (returns_of before) best s in
+      let lt = search_refused (code_in a deep) a.options.longest (accepts a) goal total choices mid.frames best _ p.0 k.0 in
+      omega (arith, lt, k.1, le)

@@ -1,15 +1,14 @@
 -- A loop of one item, passed in one step.
-use Rattle.std.proofs.Common.{◌≡◌, ◌≢◌, ℕ, zero, suc, ◌+◌, ◌-◌, ◌<◌, ◌≤◌, Bool, true, false, List, [], ◌∷◌, length, Option, Some, None, refl, sym, ap, ap₂, ◌∙◌, subst, arith, slice_index, inl, inr, true≢false}
+use Rattle.std.proofs.Common.{◌≡◌, ℕ, zero, suc, ◌+◌, ◌-◌, ◌<◌, ◌≤◌, Bool, true, List, [], ◌∷◌, length, Option, Some, refl, sym, ap, ap₂, ◌∙◌, subst, arith, slice_index, inl, inr, true≢false}
 use Rattle.std.specs.Prelude.{slice_get}
 use Rattle.std.proofs.lemmas.Option.{same_Some, slice_get-get_or}
 use Rattle.std.proofs.lemmas.Bool.{cases_eq}
 use Rattle.fancy_bytes.specs.Sets.{member}
-use Rattle.fancy_tree.specs.declared.tree.Meaning.{Meaning}
-use Rattle.fancy_code.specs.Context.{Context, State, moved_to}
+use Rattle.fancy_code.specs.Context.{Context, State}
 use Rattle.fancy_code.specs.Instructions.{Instruction}
 use Rattle.fancy_code.specs.Instructions as i
 use Rattle.fancy_code.specs.Events.{any}
-use Rattle.fancy_code.specs.Run.{Raw, Note, Stop, Sign, choice_opened, returned, fetched, Go, before, join, erase, instr_at, run}
+use Rattle.fancy_code.specs.Run.{Raw, Note, Stop, choice_opened, returned, fetched, Go, before, join, erase, instr_at, run}
 use Rattle.fancy_code.specs.Thread.{size_of}
 use Rattle.fancy_code.proofs.RunMore.{run_more}
 use Rattle.fancy_prices.specs.declared.splits.ToldSplit.{ToldSplit}
@@ -17,10 +16,10 @@ use Rattle.fancy_prices.specs.declared.splits.Splits.{Splits}
 use Rattle.fancy_prices.specs.Splits.{AreApart, IsToldSplit, IsNoted, ReadsByte, byte_alone}
 use Rattle.fancy_prices.specs.Prices.{Costs, MissesIn, Dies}
 use Rattle.fancy_code.specs.Code.{instrs_of}
-use Rattle.fancy_code.specs.declared.step.Next.TheVariants.{On, Dead, Found}
+use Rattle.fancy_code.specs.declared.step.Next.TheVariants.{On, Dead}
 use Rattle.fancy_machine.specs.declared.attempt.Attempt.{Attempt}
-use Rattle.fancy_machine.specs.Attempt.{attempt_context, accepts, code_in, Seeks, SeeksBack, Advanced, size_ahead, size_behind}
-use Rattle.fancy_machine.specs.Frames.{Spot, Frame, Held, Saved, saved}
+use Rattle.fancy_machine.specs.Attempt.{attempt_context, accepts, code_in, BackTakes, DieFirst, PassesBack, Seeks, SeeksBack, Advanced, size_ahead}
+use Rattle.fancy_machine.specs.Frames.{Spot, Frame, Held, Saved, Within, saved}
 use Rattle.fancy_machine.specs.Machine.{after, finish, left, at_instr, at_place, saved_run, Searching, taken_outcome, final, returns_to, marks_to}
 use Rattle.fancy_machine.specs.declared.runs.LastRun.{LastRun}
 use Rattle.fancy_machine.specs.Runs.{HasItems, DieFrom, KnowsRun, Lacks, Stands}
@@ -121,6 +120,14 @@ module _ (cx : Context) (code : List Instruction) (deep : ℕ) where
   at_last_end y fs w b known dies here =
       let k = finish_known go fs (after go y) w known in
       free_dead k.0 (costs y b k.0 dies here k.1) fs w (sym (ap (finish go fs) k.1) ∙ known)
+
+  -- the branch that was saved last dies where a byte stands
+  pub branch_dies : (y : Spot) (fs : List Frame) (w : List Raw) (b : ℕ) → finish go (Saved y ∷ fs) (Some []) ≡ Some w → Dies code cx.meaning (byte_alone b) 0 0 y.at
+      → slice_get cx.haystack y.state.place ≡ Some b → (rest : List Raw) × (finish go fs (Some []) ≡ Some rest) × Passed 0 1 w rest
+  branch_dies y fs w b known dies here =
+      let t = take_branch go fs (after go y) w (sym (ap (finish go fs) (join_nothing (after go y))) ∙ known) in
+      let last = at_last_end y fs t.0 b t.1 dies here in
+      (last.0, last.1, passed_then (passed_return w t.0 t.2) last.2 (omega arith) (omega arith))
 
   module _ (l : ToldSplit) (x : Spot) (fs : List Frame) (is : IsToldSplit code cx.meaning x.at l) where
     -- at the loop, and at what follows it, after so many items
@@ -224,6 +231,41 @@ module _ (longest : Bool) (ok : State → Bool) (goal : Option State) (total cho
 
   pub choices_to_come : saved fs + m ≤ choices
   choices_to_come = omega (arith, passed.marked_so (final longest ok), s.room)
+
+-- an attempt whose way is dead, and that passes over branches that die at once
+module _ (a : Attempt) where
+  branches_die : (deep n : ℕ) (fs gs : List Frame) (w : List Raw) → finish (code_in a deep) fs (Some []) ≡ Some w → DieFirst a n fs gs
+      → (rest : List Raw) × (finish (code_in a deep) gs (Some []) ≡ Some rest) × Passed 0 n w rest
+  branches_die deep zero fs gs w known dies = (w, sym (ap (λ (hs : List Frame). finish (code_in a deep) hs (Some [])) dies) ∙ known, passed_none w)
+  branches_die deep (suc n) [] gs w known dies = absurd dies
+  branches_die deep (suc n) (Saved y ∷ fs) gs w known dies =
+      let one = branch_dies (attempt_context a) (instrs_of a.code.now) deep y fs w dies.0.0 known dies.0.2 dies.0.1 in
+      let more = branches_die deep n fs gs one.0 one.1 dies.1 in
+      (more.0, more.1, passed_then one.2 more.2 (omega arith) (omega arith))
+  branches_die deep (suc n) (Within r ∷ fs) gs w known dies = absurd dies
+
+  fewer_saved : (n : ℕ) (fs gs : List Frame) → DieFirst a n fs gs → saved gs ≤ saved fs
+  fewer_saved zero fs gs dies = omega (arith, ap saved dies)
+  fewer_saved (suc n) [] gs dies = absurd dies
+  fewer_saved (suc n) (Saved y ∷ fs) gs dies = omega (arith, fewer_saved n fs gs dies.1)
+  fewer_saved (suc n) (Within r ∷ fs) gs dies = absurd dies
+
+  module _ (n : ℕ) (old new : Held) (dies : DieFirst a n old.frames new.frames) where
+    pub passes_back : (t : ℕ) → t ≡ n → PassesBack a t old new
+    passes_back t is deep goal total choices r best s =
+        let d = branches_die deep n old.frames new.frames s.rest s.known dies in
+        let same : r + n ≡ r + t = omega (arith, is) in
+        let before = ap size_of s.known in
+        let now = ap size_of d.1 in (
+          subst (λ (u : ℕ). SeeksBack a deep goal total choices new best u) same
+              (seeks_on a.options.longest (accepts a) goal total choices best r _ old.frames s 0 n _ new.frames d.0 d.1 d.2 (omega (arith, fewer_saved n old.frames new.frames dies))),
+          omega (arith, d.2.shorter, before, now),
+        )
+
+    pub back_takes : (before returns : ℕ) → returns ≤ before + n → BackTakes a before returns old
+    back_takes before returns le deep goal total choices best s =
+        let d = branches_die deep n old.frames new.frames s.rest s.known dies in
+        omega (arith, le, returns_to_come a.options.longest (accepts a) goal total choices best before _ old.frames s 0 n _ new.frames d.0 d.1 d.2)
 
 -- an attempt that stands at a loop, where so many items stand
 module _ (a : Attempt) (l : ToldSplit) (h : Held) (n : ℕ) (is : IsToldSplit (instrs_of a.code.now) a.code.now.meaning h.now.at l)

@@ -1,5 +1,5 @@
 -- What an attempt sees, what it accepts, and what a step of it does.
-use Rattle.std.specs.Prelude.{◌≡◌, ℕ, ◌+◌, ◌<◌, ◌≤◌, Bool, true, false, Some, None, not, ◌&&◌, ◌||◌, List, [], Option, ◌==◌}
+use Rattle.std.specs.Prelude.{◌≡◌, ℕ, zero, suc, ◌∷◌, slice_get, ◌+◌, ◌<◌, ◌≤◌, Bool, true, false, Some, None, not, ◌&&◌, ◌||◌, List, [], Option, ◌==◌}
 use Rattle.fancy_tree.specs.declared.tree.Meaning.{Meaning}
 use Rattle.fancy_code.specs.declared.code.Instr.{Instr}
 use Rattle.fancy_code.specs.declared.step.Next.{Next}
@@ -8,7 +8,9 @@ use Rattle.fancy_code.specs.Context.{Context, State}
 use Rattle.fancy_code.specs.Events.{Event}
 use Rattle.fancy_code.specs.Search.{is_match_boundary}
 use Rattle.fancy_code.specs.Run.{Raw, Go, run, instr_at}
-use Rattle.fancy_machine.specs.Frames.{Spot, Held}
+use Rattle.fancy_prices.specs.Prices.{Dies}
+use Rattle.fancy_prices.specs.Splits.{byte_alone}
+use Rattle.fancy_machine.specs.Frames.{Spot, Held, Frame, Saved, Within}
 use Rattle.fancy_code.specs.Thread.{events_of, size_of}
 use Rattle.fancy_code.specs.declared.step.Next.TheVariants.{On, Dead, Found}
 use Rattle.fancy_machine.specs.Machine.{left, after, IsStep, Crowded, Turned, Searching, finish, taken_outcome, final, returns_to, marks_to}
@@ -117,6 +119,38 @@ TakesAtLeast a before returns h best = (deep : ℕ) (goal : Option State) (total
 -- The attempt has more choices than its trail may save.
 abbrev pub IsOverfull : Attempt → Held → Option State → Type 0
 IsOverfull a h best = (deep : ℕ) (goal : Option State) (total choices r : ℕ) → Seeks a deep goal total choices h best r → h.most < choices
+
+-- The way from the instruction q on dies at once at a place, as the byte tells that stands there.
+abbrev pub DiesAt : Attempt → ℕ → ℕ → Type 0
+DiesAt a q p = (b : ℕ) × (slice_get a.haystack.now p ≡ Some b) × Dies (instrs_of a.code.now) a.code.now.meaning (byte_alone b) 0 0 q
+
+-- the frames gs are left of fs without the n branches that were saved last, and each of those dies at once
+abbrev pub DieFirst : Attempt → ℕ → List Frame → List Frame → Type 0
+DieFirst a zero fs gs = fs ≡ gs
+DieFirst a (suc n) [] gs = ⊥
+DieFirst a (suc n) (Saved x ∷ fs) gs = DiesAt a x.at x.state.place × DieFirst a n fs gs
+DieFirst a (suc n) (Within r ∷ fs) gs = ⊥
+
+-- The way is dead, and so are others that were saved, which took so many returns.
+abbrev pub PassesBack : Attempt → ℕ → Held → Held → Type 0
+PassesBack a returns old new =
+    (deep : ℕ) (goal : Option State) (total choices r : ℕ) (best : Option State) → SeeksBack a deep goal total choices old best r
+    → SeeksBack a deep goal total choices new best (r + returns) × (size_behind a deep new ≤ size_behind a deep old)
+
+-- what an attempt has before it where it went back, if it could, and had so much before it then
+abbrev pub WentBack : Attempt → ℕ → Option State → ℕ → ℕ → ℕ → Bool → Held → Option State → ℕ → Type 0
+WentBack a deep goal total choices size true h best returns = Seeks a deep goal total choices h best returns × (size_ahead a deep h < size)
+WentBack a deep goal total choices size false h best returns = (best ≡ goal) × (returns ≡ total)
+
+-- Going back led from the trail `old` to `new`, if a branch was left, and took so many returns.
+abbrev pub GoesBack : Attempt → Bool → ℕ → Held → Held → Type 0
+GoesBack a taken returns old new =
+    (deep : ℕ) (goal : Option State) (total choices r : ℕ) (best : Option State) → SeeksBack a deep goal total choices old best r
+    → WentBack a deep goal total choices (size_behind a deep old) taken new best (r + returns)
+
+-- No attempt takes fewer returns in all than these, if it had so many before it went back.
+abbrev pub BackTakes : Attempt → ℕ → ℕ → Held → Type 0
+BackTakes a before returns h = (deep : ℕ) (goal : Option State) (total choices : ℕ) (best : Option State) → SeeksBack a deep goal total choices h best before → returns ≤ total
 
 -- the state that an attempt stands at, if it found one
 abbrev pub state_if_found : Bool → Spot → Option State

@@ -49,6 +49,13 @@ pub record CountsOn (before after : Work) : Type 0 where
   pub paired : returns_of before ≤ steps_of before → returns_of after ≤ steps_of after
   pub ahead : returns_of before ≤ steps_of before → returns_of after < 2 ^ 64 - 1 → returns_of after < steps_of after
 
+-- No count is lower than before. Where there was a step for one return more, no return is without its step.
+pub record CountsBack (before after : Work) : Type 0 where
+  pub steps : steps_of before ≤ steps_of after
+  pub returns : returns_of before ≤ returns_of after
+  pub units : units_of before ≤ units_of after
+  pub paired : returns_of before ≤ steps_of before → (returns_of before < 2 ^ 64 - 1 → returns_of before < steps_of before) → returns_of after ≤ steps_of after
+
 -- so many units were counted, where a usize holds their number at all
 abbrev pub CountsUnits : ℕ → Work → Work → Type 0
 CountsUnits units before after = units_of before + units < 2 ^ 64 → units_of after ≡ units_of before + units

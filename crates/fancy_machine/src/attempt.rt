@@ -5,7 +5,7 @@ ghost use Rattle.fancy_tree.specs.Pattern.{Pattern};
 ghost use Rattle.fancy_input.specs.LastLines.{KnowsLastLines};
 ghost use Rattle.fancy_code.specs.Queries.{query_of};
 ghost use Rattle.fancy_code.specs.Search.{continues_from};
-ghost use Rattle.fancy_code.specs.Work.{steps_of, returns_of, units_of, stepped_within, IsWithin, IsSpent, HasWorkLeft, AddsUnits};
+ghost use Rattle.fancy_code.specs.Work.{steps_of, returns_of, units_of, stepped_within, IsWithin, IsSpent, HasWorkLeft, AddsReturns, AddsUnits};
 ghost use Rattle.fancy_code.specs.Thread.{IsKnown};
 ghost use Rattle.fancy_prices.specs.Splits.{AreSplits};
 ghost use Rattle.fancy_prices.specs.Once.{splits_once};
@@ -54,8 +54,8 @@ fn continues_from(continues: bool, overrides: bool, request: Request) -> Option<
 
 impl<'a> Attempt<'a> {
     ghost use Rattle.fancy_machine.specs.Asked.{Serves};
-    ghost use Rattle.fancy_machine.specs.Attempt.{KnowsSeen, accepts, code_in, state_if_found, IsFull, TurnsTo, Advances, TakesAtLeast, IsOverfull, outcome_from, returns_from, marks_from};
-    ghost use Rattle.fancy_machine.specs.Units.{CountsOn, CountsUnits};
+    ghost use Rattle.fancy_machine.specs.Attempt.{KnowsSeen, accepts, code_in, state_if_found, IsFull, TurnsTo, Advances, TakesAtLeast, IsOverfull, PassesBack, GoesBack, BackTakes, outcome_from, returns_from, marks_from};
+    ghost use Rattle.fancy_machine.specs.Units.{CountsBack, CountsOn, CountsUnits};
     ghost use Rattle.fancy_machine.specs.Machine.{after};
 
     /// The attempts of a search, in which `\G` is on or off.
@@ -182,6 +182,54 @@ impl<'a> Attempt<'a> {
         self.turn(trail, best, &mut seen.last_lines, work)
     }
 
+    /// Passes over branches that were saved last, at which bytes tell that the way dies at once. Each is one return, and none is taken
+    /// past the limit.
+    fn pass_back(
+        &self,
+        trail: &mut Trail,
+        limit: usize,
+        work: &mut Work,
+    ) -> Result<(), SearchRefusal>
+        requires room { returns_of work.old ≤ limit }
+        ensures passed { OnOk result (PassesBack self.now (returns_of work.new - returns_of work.old) trail.old trail.new) }
+        ensures bounded { BackTakes self.now (returns_of work.old) (returns_of work.new) trail.old }
+        ensures refused { result ≡ Err SearchRefusal.Returns → BackTakes self.now (returns_of work.old) (limit + 1) trail.old }
+        ensures stopped { result ≡ Err SearchRefusal.Returns → returns_of work.new ≡ limit }
+        ensures fits { returns_of work.new ≤ limit }
+        ensures saved { result ≢ Err SearchRefusal.Choices }
+        ensures adds { AddsReturns (returns_of work.new - returns_of work.old) work.old work.new }
+        ensures most { trail.new.most ≡ trail.old.most }
+        ensures within { IsWithin self.now.options.step_limit work.old
+            → IsWithin self.now.options.step_limit work.new }
+        ensures limited { result ≡ Err SearchRefusal.Steps → IsSpent self.now.options.step_limit work.new }
+    {
+        if !trail.has_run() {
+            return Ok(());
+        }
+        let passed = trail.pass_over(self);
+        work.count_returns(passed, limit, self.options.step_limit)
+    }
+
+    /// Takes the branch that was saved last, once it passed over those that die at once: whether there is one. The returns are added
+    /// to those of `work`, and none is taken past the limit.
+    fn back(&self, trail: &mut Trail, limit: usize, work: &mut Work) -> Result<bool, SearchRefusal>
+        requires room { returns_of work.old ≤ limit }
+        ensures back { IfOk result (λ taken. GoesBack self.now taken (returns_of work.new - returns_of work.old) trail.old trail.new) }
+        ensures bounded { BackTakes self.now (returns_of work.old) (returns_of work.new) trail.old }
+        ensures refused { result ≡ Err SearchRefusal.Returns → BackTakes self.now (returns_of work.old) (limit + 1) trail.old }
+        ensures stopped { result ≡ Err SearchRefusal.Returns → returns_of work.new ≡ limit }
+        ensures fits { returns_of work.new ≤ limit }
+        ensures saved { result ≢ Err SearchRefusal.Choices }
+        ensures counts { CountsBack work.old work.new }
+        ensures most { trail.new.most ≡ trail.old.most }
+        ensures within { IsWithin self.now.options.step_limit work.old
+            → IsWithin self.now.options.step_limit work.new }
+        ensures limited { result ≡ Err SearchRefusal.Steps → IsSpent self.now.options.step_limit work.new }
+    {
+        self.pass_back(trail, limit, work)?;
+        trail.back(limit, work)
+    }
+
     /// One attempt, from where the trail stands: whether it has an accepted outcome. The first one is where the trail
     /// then stands, or where the longest is asked for the first of those that end last, which `best` kept meanwhile.
     /// The returns of the attempt are added to those of `work`, also up to a refusal, and none is done past the limit. So are the steps
@@ -230,7 +278,7 @@ impl<'a> Attempt<'a> {
                 Next::On => {}
                 Next::Found => return Ok(true),
                 Next::Dead => {
-                    let taken = trail.back(limit, work)?;
+                    let taken = self.back(trail, limit, work)?;
                     if !taken {
                         return Ok(best.give(trail));
                     }

@@ -25,6 +25,8 @@ pub enum Kind {
 #[derive(Clone, Copy, PartialEq, Eq, Debug)]
 pub struct Layer {
     pub kind: Kind,
+    /// The number of the instruction that made it. No answer rests on it.
+    pub by: usize,
     /// Where the way, or what follows a look-around, goes on.
     pub at: usize,
     /// Where the first of its branches stands, a byte offset; `place` is that of the last. What is no `Branch` has one place.
@@ -75,7 +77,7 @@ pub(crate) fn is_saved(kind: Kind) -> bool
 }
 
 /// At how many places before its own a layer saves a branch too.
-fn earlier(layer: Layer) -> usize
+pub(crate) fn earlier(layer: Layer) -> usize
     ensures { result ≡ earlier layer }
 {
     match layer.kind {

@@ -7,11 +7,13 @@ ghost use Rattle.fancy_code.specs.Work.{returns_of, AddsUnits, IsWithin, IsSpent
 ghost use Rattle.fancy_prices.specs.declared.splits.ToldSplit.{ToldSplit};
 ghost use Rattle.fancy_prices.specs.declared.splits.Splits.{Splits};
 ghost use Rattle.fancy_prices.specs.Splits.{AreApart, IsNoted};
-ghost use Rattle.fancy_machine.specs.Attempt.{Advances, IsOverfull, TakesAtLeast};
+ghost use Rattle.fancy_machine.specs.Attempt.{Advances, DiesAt, IsOverfull, TakesAtLeast};
+ghost use Rattle.fancy_machine.specs.Layers.{earlier};
 ghost use Rattle.fancy_machine.specs.Runs.{HasItems, Lacks, DieFrom, KnowsRun};
 ghost use Rattle.fancy_machine.specs.Units.{CountsOn};
 
 use crate::attempt::Attempt;
+use crate::layer::{Kind, Layer, earlier};
 use crate::trail::Trail;
 use fancy_code::refusal::SearchRefusal;
 use fancy_code::step::Next;
@@ -198,4 +200,26 @@ pub(crate) fn pass(
     trail.save_run(split.second, from, left - 1)?;
     trail.go_to(split.second, from + (left - 1));
     Ok(Next::On)
+}
+
+/// At how many places of a layer of branches, those that are taken first, bytes tell that the way dies at once.
+pub(crate) fn places_dead(attempt: &Attempt, layer: Layer) -> usize
+    requires { earlier layer < usize.MAX }
+    ensures few { result ≤ earlier layer + 1 }
+    ensures branches { 0 < result → layer.kind ≡ Kind.Branch }
+    ensures dead { (k : ℕ) → k < result → DiesAt attempt.now layer.at (layer.place - k) }
+{
+    let Some(split) = attempt.splits.at(layer.by) else {
+        return 0;
+    };
+    if layer.kind != Kind::Branch || split.second != layer.at {
+        return 0;
+    }
+    let earlier = earlier(layer);
+    'places: for past in 0..earlier + 1 {
+        if may_leave(split, attempt.haystack, layer.place - past) {
+            return past;
+        }
+    }
+    earlier + 1
 }

@@ -7,10 +7,13 @@ ghost use Rattle.fancy_code.specs.Work.{returns_of};
 ghost use Rattle.fancy_machine.specs.Log.{cell_slot, writes_allowed};
 ghost use Rattle.fancy_machine.specs.Frames.{Frame, Region, saved};
 ghost use Rattle.fancy_machine.specs.Layers.{spot_of, outcome_of, frame_by, saves};
+ghost use Rattle.fancy_machine.specs.Attempt.{DieFirst};
 ghost use Rattle.fancy_machine.specs.Machine.{at_instr, at_place, written, opened_at, closed_at, kept_at, within_at, saved_run, IsBare, HasInnermost, Stops, TookBranch};
 
-use crate::layer::{Kind, Layer, cut, is_ended, is_saved, region_by, take_last};
+use crate::attempt::Attempt;
+use crate::layer::{Kind, Layer, cut, earlier, is_ended, is_saved, region_by, take_last};
 use crate::log::{Cell, Write, begin_cells, cell_at, forget_levels, has_span, thin, undo};
+use crate::runs::places_dead;
 use fancy_code::refusal::SearchRefusal;
 use fancy_code::slot::Slot;
 use fancy_code::step::Next;
@@ -242,6 +245,7 @@ impl Trail {
     {
         let layer = Layer {
             kind,
+            by: self.at,
             at,
             from: self.place,
             place: self.place,
@@ -270,6 +274,7 @@ impl Trail {
         }
         let layer = Layer {
             kind,
+            by: self.at,
             at,
             from: self.place,
             place: self.place,
@@ -310,6 +315,7 @@ impl Trail {
         }
         let layer = Layer {
             kind: Kind::Branch,
+            by: self.at,
             at,
             from,
             place: from + (count - 1),
@@ -435,6 +441,41 @@ impl Trail {
             }
             Kind::Denial(_) => Next::Dead,
         }
+    }
+
+    /// Whether the layer that was made last may save branches at more places than one.
+    pub(crate) fn has_run(&self) -> bool {
+        let len = self.layers.len();
+        len > 0 && self.layers[len - 1].place != self.layers[len - 1].from
+    }
+
+    /// Passes over branches that were saved last, at which bytes tell that the way dies at once: how many they are.
+    #[inline(never)]
+    pub(crate) fn pass_over(&mut self, attempt: &Attempt) -> usize
+        ensures passed { DieFirst attempt.now result self.old.frames self.new.frames }
+        ensures most { self.new.most ≡ self.old.most }
+    {
+        let len = self.layers.len();
+        if len == 0 {
+            return 0;
+        }
+        let layer = self.layers[len - 1];
+        let dead = places_dead(attempt, layer);
+        if dead == 0 {
+            return 0;
+        }
+        self.region = layer.region;
+        self.branches -= dead;
+        undo(&mut self.cells, &mut self.log, layer.log);
+        if dead <= earlier(layer) {
+            self.layers[len - 1] = Layer {
+                place: layer.place - dead,
+                ..layer
+            };
+        } else {
+            self.layers.pop();
+        }
+        dead
     }
 
     /// Takes the branch that was saved last, which is one return, and goes back to what was written then.

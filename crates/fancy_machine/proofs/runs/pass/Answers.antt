@@ -1,6 +1,6 @@
 use Rattle.fancy_machine.specs.Frames.{saved}
-use Rattle.std.proofs.Common.{true≢false, sym, ◌∙◌, ◌-◌, ◌+◌, ◌≤◌, ◌<◌, ◌≡◌, ℕ, suc, Err, ap, arith, refl, subst}
-use Rattle.fancy_machine.specs.Runs.{HasItems, DieFrom, Lacks}
+use Rattle.std.proofs.Common.{true≢false, sym, ◌∙◌, ◌-◌, ◌+◌, ◌≤◌, ℕ, Err, ap, arith, refl, subst}
+use Rattle.fancy_machine.specs.Runs.{HasItems}
 use Rattle.fancy_machine.proofs.RefusalLemmas.{passed_on}
 use Rattle.fancy_machine.proofs.WorkLemmas.{returns_same}
 use Rattle.fancy_machine.proofs.PassLemmas.{reads_on, many_choices, goes_back, returns_back, is_dead, returns_dead}

@@ -1,4 +1,4 @@
-use Rattle.std.proofs.Common.{Err, ap, sym, ◌∙◌, arith}
+use Rattle.std.proofs.Common.{Err, ap, sym, arith}
 use Rattle.fancy_prices.specs.Entries.{is_entry}
 use Rattle.fancy_machine.proofs.MachineSearch.{missed_here}
 use Rattle.fancy_machine.proofs.RefusalLemmas.{passed_on}

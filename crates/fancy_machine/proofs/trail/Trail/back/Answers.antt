@@ -1,18 +1,16 @@
-use Rattle.std.proofs.Common.{◌≡◌, ◌≤◌, ◌-◌, ℕ, Bool, true, false, Some, take, ◌∙◌, List, ◌∷◌, length, map, drop, arith, ap, ap₂, sym, subst}
-use Rattle.std.proofs.lemmas.List.{length-take-le}
+use Rattle.std.proofs.Common.{◌≡◌, ◌∙◌, List, ◌∷◌, length, map, drop, arith, ap, ap₂, sym, subst}
 use Rattle.fancy_code.specs.declared.slot.Slot.{Slot}
 use Rattle.fancy_machine.specs.declared.log.Write.{Write}
 use Rattle.fancy_code.specs.Work.{returns_of, went_back}
-use Rattle.fancy_machine.specs.declared.layer.Layer.{Layer}
-use Rattle.fancy_machine.specs.declared.log.Cell.{Cell}
 use Rattle.fancy_machine.specs.Frames.{Spot, Frame}
-use Rattle.fancy_machine.specs.Layers.{saves, is_one, branches_in, IsLog, spot_of, spot_at, frame_by, frames_of, TookLast, Rises, KnowRegions}
+use Rattle.fancy_machine.specs.Layers.{spot_of, spot_at, frame_by, frames_of}
 use Rattle.fancy_machine.specs.Machine.{IsSpent, Takes}
 use Rattle.fancy_machine.proofs.LayerLemmas.{saves_one, saves_none, took_branches, took_frames, took_rises, rises_more, frames_undone, takes_by, takes_past, spent_past, unspent_by, unspent_past}
-use Rattle.fancy_machine.specs.Log.{cell_slot, old_cell, old_slot, undone_by, IsUnwritten}
+use Rattle.fancy_machine.specs.Log.{cell_slot, old_cell, old_slot, undone_by}
 use Rattle.fancy_machine.proofs.LogLemmas.{undone-map}
 use Rattle.fancy_machine.proofs.RegionLemmas.{took_regions}
-use Rattle.fancy_machine.proofs.WriteLemmas.{unsaved_log, undone_log, undone_unwritten}
+use Rattle.fancy_machine.proofs.WriteLemmas.{unsaved_log}
+use Rattle.fancy_machine.proofs.DropLemmas.{popped}
 use Rattle.fancy_machine.proofs.trail.Trail.back.Goals as goal
 
 pub layers-preserved : goal.layers-preserved
@@ -48,20 +46,6 @@ undo-requires c =
     let r = took_rises c.layers.self-inside.layers.items c.take_last.new.layers.items l c.in-Some.ensures (length log) c.layers.invariant.rises in
     omega (arith, r.1, c.layers.self-inside.log.ok.0)
 
--- the trail without its last branch, once what was written since that was saved is undone
-popped : (n most top : ℕ) (written : Bool) (all rest : List Layer) (l : Layer) (log : List Write) (cells : List Cell) → TookLast (Some l) all rest → true ≡ is_one (saves l.kind) → n ≡ branches_in all → n ≤ most
-    → Rises 0 all (length log) → KnowRegions 0 0 all top → IsLog all log cells → (written ≡ false → IsUnwritten log cells) → (less : List Write) (old : List Cell) → less ≡ take l.log log → old ≡ undone_by old_cell cells (drop l.log log)
-    → (n - 1 ≡ branches_in rest) × (n - 1 ≤ most) × Rises 0 rest (length less) × KnowRegions 0 0 rest l.region × IsLog rest less old × (written ≡ false → IsUnwritten less old)
-popped n most top written all rest l log cells e one count le rises knows is clean less old less_is old_is =
-    let r = took_rises all rest l e (length log) rises in (
-      omega (arith, count, took_branches all rest l e, saves_one l.kind one),
-      omega (arith, le),
-      rises_more 0 l.log (length less) rest (omega (arith, ap length less_is, length-take-le l.log log r.1)) r.0,
-      took_regions all rest l top e knows,
-      rw (less_is, old_is) (undone_log all rest l e log cells is r.1),
-      λ w. undone_unwritten l.log log less cells old less_is old_is (clean w),
-    )
-
 pub invariant_of-self : goal.invariant_of-self
 invariant_of-self c =
     let i = c.layers.invariant in
@@ -83,12 +67,12 @@ returns-then-returns-limit-clause-took c =
 pub invariant_of-self-then-returns-limit : goal.invariant_of-self-then-returns-limit
 invariant_of-self-then-returns-limit c =
     let i = c.layers.invariant in
-    popped _ _ _ _ _ _ c.in-Some.layer _ _ c.in-Some.ensures c.if-not-is_saved.ensures i.branches i.few i.rises i.knows i.logged i.unwritten _ _ c.undo.ensures.log c.undo.ensures.cells
+    popped _ _ _ _ _ _ c.in-Some.layer _ _ c.in-Some.ensures c.if-not-is_saved.ensures (i.branches, i.few, i.rises, i.knows, i.logged, i.unwritten) _ _ c.undo.ensures.log c.undo.ensures.cells
 
 pub invariant_of-self-in-layers : goal.invariant_of-self-in-layers
 invariant_of-self-in-layers c =
     let i = c.layers.invariant in
-    popped _ _ _ _ _ _ c.in-Some.layer _ _ c.in-Some.ensures c.if-not-is_saved.ensures i.branches i.few i.rises i.knows i.logged i.unwritten _ _ c.undo.ensures.log c.undo.ensures.cells
+    popped _ _ _ _ _ _ c.in-Some.layer _ _ c.in-Some.ensures c.if-not-is_saved.ensures (i.branches, i.few, i.rises, i.knows, i.logged, i.unwritten) _ _ c.undo.ensures.log c.undo.ensures.cells
 
 pub returns-in-layers-clause-took : goal.returns-in-layers-clause-took
 returns-in-layers-clause-took c =

@@ -21,7 +21,7 @@ overflow_add-self c =
 
 pub invariant_of-self-2 : goal.invariant_of-self-2
 invariant_of-self-2 c =
-    let l : Layer = record { kind = k.Branch; at = c.args.at; from = c.args.from; place = c.args.from + (c.args.count - 1); kept = c.self.inside.kept; limit = c.self.inside.limit; log = c.len.result; region = c.self.inside.region } in
+    let l : Layer = record { kind = k.Branch; by = c.self.inside.at; at = c.args.at; from = c.args.from; place = c.args.from + (c.args.count - 1); kept = c.self.inside.kept; limit = c.self.inside.limit; log = c.len.result; region = c.self.inside.region } in
     let n = saved_frames c.self.inside.log.items (map cell_slot c.self.inside.cells.items) c.self.inside.layers.items in
     let p = pushed _ _ _ c.self.inside.layers.items c.push.new.self.items l c.in_ok-push.ensures.items c.self.invariant.2 c.self.invariant.3 (omega (arith, c.len.ensures, c.self.inside.log.ok.0)) refl refl in (
       omega (arith, c.self.invariant.0, counted_snoc _ _ l c.in_ok-push.ensures.items, c.if-count-eq0.false),
@@ -34,7 +34,7 @@ invariant_of-self-2 c =
 
 pub returns-clause-saved : goal.returns-clause-saved
 returns-clause-saved c =
-    let l : Layer = record { kind = k.Branch; at = c.args.at; from = c.args.from; place = c.args.from + (c.args.count - 1); kept = c.self.inside.kept; limit = c.self.inside.limit; log = c.len.result; region = c.self.inside.region } in
+    let l : Layer = record { kind = k.Branch; by = c.self.inside.at; at = c.args.at; from = c.args.from; place = c.args.from + (c.args.count - 1); kept = c.self.inside.kept; limit = c.self.inside.limit; log = c.len.result; region = c.self.inside.region } in
     let slots = map cell_slot c.self.inside.cells.items in
     let below = frames_of c.self.inside.log.items slots c.self.inside.layers.items in
     let run : earlier l ≡ c.args.count - 1 = omega arith in

@@ -1,0 +1,17 @@
+use Rattle.std.proofs.Common.{arith}
+use Rattle.fancy_machine.proofs.MachineLemmas.{held_ok}
+use Rattle.fancy_machine.proofs.PassLemmas.{passes_back, back_takes}
+use Rattle.fancy_machine.proofs.attempt.Attempt.pass_back.Goals as goal
+
+pub returns-clause-passed : goal.returns-clause-passed
+returns-clause-passed c =
+    held_ok c.count_returns.result
+    (λ counted. passes_back c.args.self.now c.pass_over-passed.result c.args.trail.now c.pass_over-passed.new.self c.pass_over-passed.ensures.passed _ (omega (arith, counted))) c.count_returns.ensures.counted
+
+pub returns-clause-bounded : goal.returns-clause-bounded
+returns-clause-bounded c =
+    back_takes c.args.self.now c.pass_over-passed.result c.args.trail.now c.pass_over-passed.new.self c.pass_over-passed.ensures.passed _ _ c.count_returns.ensures.adds.most
+
+pub returns-clause-refused : goal.returns-clause-refused
+returns-clause-refused c e =
+    back_takes c.args.self.now c.pass_over-passed.result c.args.trail.now c.pass_over-passed.new.self c.pass_over-passed.ensures.passed _ _ (omega (arith, c.count_returns.ensures.refused e))
