@@ -14,4 +14,6 @@ pub mod BackLemmas
 pub mod RecallLemmas
 pub mod RefusalLemmas
 pub mod PassLemmas
+pub mod CloseLemmas
+pub mod LoopLemmas
 pub mod DropLemmas

@@ -1,5 +1,5 @@
 -- A loop of one item, passed in one step.
-use Rattle.std.proofs.Common.{◌≡◌, ℕ, zero, suc, ◌+◌, ◌-◌, ◌<◌, ◌≤◌, Bool, true, List, [], ◌∷◌, length, Option, Some, refl, sym, ap, ap₂, ◌∙◌, subst, arith, slice_index, inl, inr, true≢false}
+use Rattle.std.proofs.Common.{◌≡◌, ℕ, zero, suc, ◌+◌, ◌-◌, ◌<◌, ◌≤◌, Bool, true, List, [], ◌∷◌, length, Option, Some, None, refl, sym, ap, ap₂, ◌∙◌, subst, arith, slice_index, inl, inr, true≢false}
 use Rattle.std.specs.Prelude.{slice_get}
 use Rattle.std.proofs.lemmas.Option.{same_Some, slice_get-get_or}
 use Rattle.std.proofs.lemmas.Bool.{cases_eq}
@@ -13,7 +13,7 @@ use Rattle.fancy_code.specs.Thread.{size_of}
 use Rattle.fancy_code.proofs.RunMore.{run_more}
 use Rattle.fancy_prices.specs.declared.splits.ToldSplit.{ToldSplit}
 use Rattle.fancy_prices.specs.declared.splits.Splits.{Splits}
-use Rattle.fancy_prices.specs.Splits.{AreApart, IsToldSplit, IsNoted, ReadsByte, byte_alone}
+use Rattle.fancy_prices.specs.Splits.{AreApart, DiesPast, IsToldSplit, IsNoted, ReadsByte, byte_alone}
 use Rattle.fancy_prices.specs.Prices.{Costs, MissesIn, Dies}
 use Rattle.fancy_code.specs.Code.{instrs_of}
 use Rattle.fancy_code.specs.declared.step.Next.TheVariants.{On, Dead}
@@ -22,7 +22,7 @@ use Rattle.fancy_machine.specs.Attempt.{attempt_context, accepts, code_in, BackT
 use Rattle.fancy_machine.specs.Frames.{Spot, Frame, Held, Saved, Within, saved}
 use Rattle.fancy_machine.specs.Machine.{after, finish, left, at_instr, at_place, saved_run, Searching, taken_outcome, final, returns_to, marks_to}
 use Rattle.fancy_machine.specs.declared.runs.LastRun.{LastRun}
-use Rattle.fancy_machine.specs.Runs.{HasItems, DieFrom, KnowsRun, Lacks, Stands}
+use Rattle.fancy_machine.specs.Runs.{HasItems, IsStuck, DieFrom, KnowsRun, Lacks, Stands}
 use Rattle.fancy_machine.proofs.Closing.{before_some, finish_known, finish_note, join_nothing, join_note, take_branch}
 use Rattle.fancy_machine.proofs.MachineSteps.{acts}
 
@@ -33,10 +33,10 @@ pub record Passed (marks returns : ℕ) (w rest : List Raw) : Type 0 where
   pub marked_so : (ok : State → Bool) → marks_to ok (erase w) ≡ marks + marks_to ok (erase rest)
   pub shorter : marks + length rest ≤ length w
 
-passed_none : (w : List Raw) → Passed 0 0 w w
+pub passed_none : (w : List Raw) → Passed 0 0 w w
 passed_none w = record { answer = λ l ok b. refl; returned_so = λ ok. omega arith; marked_so = λ ok. omega arith; shorter = omega arith }
 
-passed_then : {m n r t k l : ℕ} {u v w : List Raw} → Passed m r u v → Passed n t v w → k ≡ m + n → l ≡ r + t → Passed k l u w
+pub passed_then : {m n r t k l : ℕ} {u v w : List Raw} → Passed m r u v → Passed n t v w → k ≡ m + n → l ≡ r + t → Passed k l u w
 passed_then f g marks returns = record {
   answer = λ l ok b. f.answer l ok b ∙ g.answer l ok b;
   returned_so = λ ok. omega (arith, f.returned_so ok, g.returned_so ok, returns);
@@ -44,7 +44,7 @@ passed_then f g marks returns = record {
   shorter = omega (arith, f.shorter, g.shorter, marks);
 }
 
-passed_fetch : (w rest : List Raw) → w ≡ Note fetched ∷ rest → Passed 0 0 w rest
+pub passed_fetch : (w rest : List Raw) → w ≡ Note fetched ∷ rest → Passed 0 0 w rest
 passed_fetch w rest e = subst (λ (l : List Raw). Passed 0 0 l rest) (sym e)
     (record { answer = λ l ok b. refl; returned_so = λ ok. omega arith; marked_so = λ ok. omega arith; shorter = omega arith })
 
@@ -61,7 +61,7 @@ module _ (cx : Context) (code : List Instruction) (deep : ℕ) where
   go l = run cx l code deep
 
   -- a choice is met
-  at_split : (x : Spot) (fs : List Frame) (w : List Raw) (a b : ℕ) → left go x fs ≡ Some w → instr_at code x.at ≡ i.Split a b
+  pub at_split : (x : Spot) (fs : List Frame) (w : List Raw) (a b : ℕ) → left go x fs ≡ Some w → instr_at code x.at ≡ i.Split a b
       → (rest : List Raw) × (left go (at_instr a x) (Saved (at_instr b x) ∷ fs) ≡ Some rest) × Passed 1 0 w rest
   at_split x fs w a b known e =
       let u = acts cx code deep x fs w known (i.Split a b) e in
@@ -70,7 +70,7 @@ module _ (cx : Context) (code : List Instruction) (deep : ℕ) where
       (v.0, v.1, passed_then (passed_fetch w u.0 u.2) (passed_mark u.0 v.0 v.2) (omega arith) (omega arith))
 
   -- an item is read
-  at_byte : (y : Spot) (gs : List Frame) (w : List Raw) (b back : ℕ) → left go y gs ≡ Some w → ReadsByte code cx.meaning b y.at back
+  pub at_byte : (y : Spot) (gs : List Frame) (w : List Raw) (b back : ℕ) → left go y gs ≡ Some w → ReadsByte code cx.meaning b y.at back
       → slice_get cx.haystack y.state.place ≡ Some b → y.state.place < y.limit
       → (rest : List Raw) × (left go (at_place back (y.state.place + 1) y) gs ≡ Some rest) × Passed 0 0 w rest
   at_byte y gs w b back known reads here lt =
@@ -106,14 +106,19 @@ module _ (cx : Context) (code : List Instruction) (deep : ℕ) where
   free_dead (Stop q s v ∷ u) c fs w h = absurd (true≢false c.0)
 
   -- a way that dies where a byte stands
-  costs : (y : Spot) (b : ℕ) (u : List Raw) → Dies code cx.meaning (byte_alone b) 0 0 y.at → slice_get cx.haystack y.state.place ≡ Some b → after go y ≡ Some u → MissesIn any 0 0 u
+  pub costs : (y : Spot) (b : ℕ) (u : List Raw) → Dies code cx.meaning (byte_alone b) 0 0 y.at → slice_get cx.haystack y.state.place ≡ Some b → after go y ≡ Some u → MissesIn any 0 0 u
   costs y b u dies here is = subst (Costs 0 0) is (dies cx y.limit deep y.state y.starts refl (record { here = here; before = tt }))
+
+  -- a way that costs nothing and dies, where a branch was saved
+  pub at_end : (y z : Spot) (fs : List Frame) (w : List Raw) → left go y (Saved z ∷ fs) ≡ Some w → ((u : List Raw) → after go y ≡ Some u → MissesIn any 0 0 u)
+      → (rest : List Raw) × (left go z fs ≡ Some rest) × Passed 0 1 w rest
+  at_end y z fs w known free =
+      let k = finish_known go (Saved z ∷ fs) (after go y) w known in
+      free_back k.0 (free k.0 k.1) fs (after go z) w (sym (ap (finish go (Saved z ∷ fs)) k.1) ∙ known)
 
   at_dead_end : (y z : Spot) (fs : List Frame) (w : List Raw) (b : ℕ) → left go y (Saved z ∷ fs) ≡ Some w → Dies code cx.meaning (byte_alone b) 0 0 y.at
       → slice_get cx.haystack y.state.place ≡ Some b → (rest : List Raw) × (left go z fs ≡ Some rest) × Passed 0 1 w rest
-  at_dead_end y z fs w b known dies here =
-      let k = finish_known go (Saved z ∷ fs) (after go y) w known in
-      free_back k.0 (costs y b k.0 dies here k.1) fs (after go z) w (sym (ap (finish go (Saved z ∷ fs)) k.1) ∙ known)
+  at_dead_end y z fs w b known dies here = at_end y z fs w known (λ u is. costs y b u dies here is)
 
   at_last_end : (y : Spot) (fs : List Frame) (w : List Raw) (b : ℕ) → left go y fs ≡ Some w → Dies code cx.meaning (byte_alone b) 0 0 y.at
       → slice_get cx.haystack y.state.place ≡ Some b → (rest : List Raw) × (finish go fs (Some []) ≡ Some rest) × Passed 0 0 w rest
@@ -128,6 +133,15 @@ module _ (cx : Context) (code : List Instruction) (deep : ℕ) where
       let t = take_branch go fs (after go y) w (sym (ap (finish go fs) (join_nothing (after go y))) ∙ known) in
       let last = at_last_end y fs t.0 b t.1 dies here in
       (last.0, last.1, passed_then (passed_return w t.0 t.2) last.2 (omega arith) (omega arith))
+
+  -- the first way of a choice, where it is stuck
+  pub stuck_costs : (l : ToldSplit) (at : ℕ) → IsToldSplit code cx.meaning at l → (y : Spot) → y.at ≡ l.first → IsStuck l cx.haystack y.limit y.state.place
+      → (u : List Raw) → after go y ≡ Some u → MissesIn any 0 0 u
+  stuck_costs l at is y first stuck u e =
+      elim stuck [
+        | inl lacks ↦ costs y lacks.0 u (subst (Dies code cx.meaning (byte_alone lacks.0) 0 0) (sym first) (is.misses lacks.0 lacks.2 lacks.3)) lacks.1 e
+        | inr past ↦ subst (Costs 0 0) e (subst (DiesPast code) (sym first) (is.ends past.0) cx y.limit deep y.state y.starts past.1)
+      ]
 
   module _ (l : ToldSplit) (x : Spot) (fs : List Frame) (is : IsToldSplit code cx.meaning x.at l) where
     -- at the loop, and at what follows it, after so many items
@@ -148,16 +162,16 @@ module _ (cx : Context) (code : List Instruction) (deep : ℕ) where
     one_choice n w known = at_split (turn n) (run_saved n) w l.first l.second known is.splits
 
     -- so many items are read
-    items_read : (n : ℕ) (w : List Raw) → left go x fs ≡ Some w → HasItems l cx.haystack x.state.place n → ((k : ℕ) → k < n → x.state.place + k < x.limit)
+    items_read : (n : ℕ) (w : List Raw) → left go x fs ≡ Some w → (0 < n → l.group ≡ None) → HasItems l cx.haystack x.state.place n → ((k : ℕ) → k < n → x.state.place + k < x.limit)
         → (rest : List Raw) × (left go (turn n) (run_saved n) ≡ Some rest) × Passed n 0 w rest
-    items_read zero w known items fits =
+    items_read zero w known alone items fits =
         let e : x.state.place ≡ x.state.place + 0 = omega arith in
         (w, subst (λ (p : ℕ). left go (at_place x.at p x) fs ≡ Some w) e known, passed_none w)
-    items_read (suc n) w known items fits =
-        let before = items_read n w known (λ k lt. items k (omega (arith, lt))) (λ k lt. fits k (omega (arith, lt))) in
+    items_read (suc n) w known alone items fits =
+        let before = items_read n w known (λ some. alone (omega arith)) (λ k lt. items k (omega (arith, lt))) (λ k lt. fits k (omega (arith, lt))) in
         let met = one_choice n before.0 before.1 in
         let here = items n (omega arith) in
-        let read = at_byte (item n) (run_saved (suc n)) met.0 here.0 x.at met.1 (is.reads here.0 here.2 here.3) here.1 (fits n (omega arith)) in
+        let read = at_byte (item n) (run_saved (suc n)) met.0 here.0 x.at met.1 (is.reads (alone (omega arith)) here.0 here.2 here.3) here.1 (fits n (omega arith)) in
         let e : x.state.place + n + 1 ≡ x.state.place + suc n = omega arith in (
           read.0,
           subst (λ (p : ℕ). left go (at_place x.at p x) (run_saved (suc n)) ≡ Some read.0) e read.1,
@@ -165,10 +179,10 @@ module _ (cx : Context) (code : List Instruction) (deep : ℕ) where
         )
 
     -- and then one more choice
-    pub read_on : (n : ℕ) (w : List Raw) → left go x fs ≡ Some w → HasItems l cx.haystack x.state.place n → ((k : ℕ) → k < n → x.state.place + k < x.limit)
+    pub read_on : (n : ℕ) (w : List Raw) → left go x fs ≡ Some w → (0 < n → l.group ≡ None) → HasItems l cx.haystack x.state.place n → ((k : ℕ) → k < n → x.state.place + k < x.limit)
         → (rest : List Raw) × (left go (item n) (run_saved (suc n)) ≡ Some rest) × Passed (n + 1) 0 w rest
-    read_on n w known items fits =
-        let all = items_read n w known items fits in
+    read_on n w known alone items fits =
+        let all = items_read n w known alone items fits in
         let met = one_choice n all.0 all.1 in
         (met.0, met.1, passed_then all.2 met.2 refl (omega arith))
 
@@ -186,21 +200,21 @@ module _ (cx : Context) (code : List Instruction) (deep : ℕ) where
         (more.0, more.1, passed_then back.2 more.2 (omega arith) (omega arith))
 
     -- no further item stands after n of them, and what follows dies at the last of the places, down to the place k
-    module _ (n k : ℕ) (le : k ≤ n) (w : List Raw) (known : left go x fs ≡ Some w) (items : HasItems l cx.haystack x.state.place n) (fits : (k : ℕ) → k < n → x.state.place + k < x.limit)
-        (stuck : Lacks l.begins cx.haystack (x.state.place + n)) (dies : (i : ℕ) → k < i → i ≤ n → Lacks l.leaves cx.haystack (x.state.place + i)) where
+    module _ (n k : ℕ) (le : k ≤ n) (w : List Raw) (known : left go x fs ≡ Some w) (alone : 0 < n → l.group ≡ None) (items : HasItems l cx.haystack x.state.place n)
+        (fits : (k : ℕ) → k < n → x.state.place + k < x.limit) (stuck : IsStuck l cx.haystack x.limit (x.state.place + n)) (dies : (i : ℕ) → k < i → i ≤ n → Lacks l.leaves cx.haystack (x.state.place + i)) where
       pub gone_back : (rest : List Raw) × (left go (rest_of k) (run_saved k) ≡ Some rest) × Passed (n + 1) (1 + (n - k)) w rest
       gone_back =
-          let read = read_on n w known items fits in
-          let end = at_dead_end (item n) (rest_of n) (run_saved n) read.0 stuck.0 read.1 (is.misses stuck.0 stuck.2 stuck.3) stuck.1 in
+          let read = read_on n w known alone items fits in
+          let end = at_end (item n) (rest_of n) (run_saved n) read.0 read.1 (stuck_costs l x.at is (item n) refl stuck) in
           let back = back_over (n - k) n k (omega (arith, le)) end.0 end.1 dies in
           (back.0, back.1, passed_then (passed_then read.2 end.2 refl refl) back.2 (omega arith) (omega arith))
 
     -- and at the first place too
-    pub gone_dead : (n : ℕ) (w : List Raw) → left go x fs ≡ Some w → HasItems l cx.haystack x.state.place n → ((k : ℕ) → k < n → x.state.place + k < x.limit)
-        → Lacks l.begins cx.haystack (x.state.place + n) → ((i : ℕ) → i ≤ n → Lacks l.leaves cx.haystack (x.state.place + i))
+    pub gone_dead : (n : ℕ) (w : List Raw) → left go x fs ≡ Some w → (0 < n → l.group ≡ None) → HasItems l cx.haystack x.state.place n → ((k : ℕ) → k < n → x.state.place + k < x.limit)
+        → IsStuck l cx.haystack x.limit (x.state.place + n) → ((i : ℕ) → i ≤ n → Lacks l.leaves cx.haystack (x.state.place + i))
         → (rest : List Raw) × (finish go fs (Some []) ≡ Some rest) × Passed (n + 1) (n + 1) w rest
-    gone_dead n w known items fits stuck dies =
-        let back = gone_back n 0 (omega arith) w known items fits stuck (λ i low high. dies i high) in
+    gone_dead n w known alone items fits stuck dies =
+        let back = gone_back n 0 (omega arith) w known alone items fits stuck (λ i low high. dies i high) in
         let d = dies 0 (omega arith) in
         let last = at_last_end (rest_of 0) fs back.0 d.0 back.1 (is.leaves d.0 d.2 d.3) d.1 in
         (last.0, last.1, passed_then back.2 last.2 (omega arith) (omega arith))
@@ -266,78 +280,6 @@ module _ (a : Attempt) where
     back_takes before returns le deep goal total choices best s =
         let d = branches_die deep n old.frames new.frames s.rest s.known dies in
         omega (arith, le, returns_to_come a.options.longest (accepts a) goal total choices best before _ old.frames s 0 n _ new.frames d.0 d.1 d.2)
-
--- an attempt that stands at a loop, where so many items stand
-module _ (a : Attempt) (l : ToldSplit) (h : Held) (n : ℕ) (is : IsToldSplit (instrs_of a.code.now) a.code.now.meaning h.now.at l)
-    (items : HasItems l a.haystack.now h.now.state.place n) (fits : 0 < n → h.now.state.place + n ≤ h.now.limit) (best : Option State) where
-  abbrev cx : Context
-  cx = attempt_context a
-
-  abbrev code : List Instruction
-  code = instrs_of a.code.now
-
-  inside : (k : ℕ) → k < n → h.now.state.place + k < h.now.limit
-  inside k lt = omega (arith, lt, fits (omega (arith, lt)))
-
-  module _ (deep : ℕ) (goal : Option State) (total choices r : ℕ) (s : Seeks a deep goal total choices h best r) where
-    abbrev read : (rest : List Raw) × (left (code_in a deep) (at_place l.first (h.now.state.place + n) h.now) (saved_run l.second h.now.state.place (suc n) h.now h.frames) ≡ Some rest)
-        × Passed (n + 1) 0 s.rest rest
-    read = read_on cx code deep l h.now h.frames is n s.rest s.known items inside
-
-    -- it reads them, and a further item may stand
-    pub reads_on : (new : Held) → new.now ≡ at_place l.first (h.now.state.place + n) h.now → new.frames ≡ saved_run l.second h.now.state.place (n + 1) h.now h.frames
-        → (t : ℕ) → t ≡ 0 → Advanced a deep goal total choices (size_ahead a deep h) On new best (r + t)
-    reads_on new now frames t none =
-        let f : new.frames ≡ saved_run l.second h.now.state.place (suc n) h.now h.frames = frames ∙ ap (λ (m : ℕ). saved_run l.second h.now.state.place m h.now h.frames) (let e : n + 1 ≡ suc n = omega arith in e) in
-        let known : left (code_in a deep) new.now new.frames ≡ Some read.0 = ap₂ (left (code_in a deep)) now f ∙ read.1 in
-        let saves = ap saved f in
-        let b = seeks_on a.options.longest (accepts a) goal total choices best r _ h.frames s (n + 1) 0 _ new.frames read.0 known read.2 (omega (arith, saves, saved_by_run l.second h.now.state.place (suc n) h.now h.frames)) in
-        let same : r + 0 ≡ r + t = omega (arith, none) in (
-          subst (λ (u : ℕ). Seeks a deep goal total choices new best u) same b,
-          fewer_on a.options.longest (accepts a) goal total choices best r _ h.frames s (n + 1) 0 _ new.frames read.0 known read.2 (omega arith),
-        )
-
-    pub many_choices : saved h.frames + (n + 1) ≤ choices
-    many_choices = choices_to_come a.options.longest (accepts a) goal total choices best r _ h.frames s (n + 1) 0 _ h.frames read.0 read.1 read.2
-
-    module _ (stuck : Lacks l.begins a.haystack.now (h.now.state.place + n)) where
-      -- it goes back to the place k
-      module _ (k : ℕ) (le : k ≤ n) (dies : (i : ℕ) → k < i → i ≤ n → Lacks l.leaves a.haystack.now (h.now.state.place + i)) where
-        abbrev back : (rest : List Raw) × (left (code_in a deep) (at_place l.second (h.now.state.place + k) h.now) (saved_run l.second h.now.state.place k h.now h.frames) ≡ Some rest)
-            × Passed (n + 1) (1 + (n - k)) s.rest rest
-        back = gone_back cx code deep l h.now h.frames is n k le s.rest s.known items inside stuck dies
-
-        pub goes_back : (new : Held) → new.now ≡ at_place l.second (h.now.state.place + k) h.now → new.frames ≡ saved_run l.second h.now.state.place k h.now h.frames
-            → (t : ℕ) → t ≡ 1 + (n - k) → Advanced a deep goal total choices (size_ahead a deep h) On new best (r + t)
-        goes_back new now frames t count =
-            let known : left (code_in a deep) new.now new.frames ≡ Some back.0 = ap₂ (left (code_in a deep)) now frames ∙ back.1 in
-            let saves = ap saved frames in
-            let b = seeks_on a.options.longest (accepts a) goal total choices best r _ h.frames s (n + 1) (1 + (n - k)) _ new.frames back.0 known back.2 (omega (arith, saves, saved_by_run l.second h.now.state.place k h.now h.frames, le)) in
-            let same : r + (1 + (n - k)) ≡ r + t = omega (arith, count) in (
-              subst (λ (u : ℕ). Seeks a deep goal total choices new best u) same b,
-              fewer_on a.options.longest (accepts a) goal total choices best r _ h.frames s (n + 1) (1 + (n - k)) _ new.frames back.0 known back.2 (omega arith),
-            )
-
-        pub returns_back : r + (1 + (n - k)) ≤ total
-        returns_back = returns_to_come a.options.longest (accepts a) goal total choices best r _ h.frames s (n + 1) (1 + (n - k)) _ h.frames back.0 back.1 back.2
-
-      -- what follows dies at each place
-      module _ (dies : (i : ℕ) → i ≤ n → Lacks l.leaves a.haystack.now (h.now.state.place + i)) where
-        abbrev dead : (rest : List Raw) × (finish (code_in a deep) h.frames (Some []) ≡ Some rest) × Passed (n + 1) (n + 1) s.rest rest
-        dead = gone_dead cx code deep l h.now h.frames is n s.rest s.known items inside stuck dies
-
-        pub is_dead : (new : Held) → new.frames ≡ h.frames → (t : ℕ) → t ≡ n + 1 → Advanced a deep goal total choices (size_ahead a deep h) Dead new best (r + t)
-        is_dead new frames t count =
-            let known : finish (code_in a deep) new.frames (Some []) ≡ Some dead.0 = ap (λ (fs : List Frame). finish (code_in a deep) fs (Some [])) frames ∙ dead.1 in
-            let saves = ap saved frames in
-            let b = seeks_on a.options.longest (accepts a) goal total choices best r _ h.frames s (n + 1) (n + 1) _ new.frames dead.0 known dead.2 (omega (arith, saves)) in
-            let same : r + (n + 1) ≡ r + t = omega (arith, count) in (
-              subst (λ (u : ℕ). SeeksBack a deep goal total choices new best u) same b,
-              fewer_on a.options.longest (accepts a) goal total choices best r _ h.frames s (n + 1) (n + 1) _ new.frames dead.0 known dead.2 (omega arith),
-            )
-
-        pub returns_dead : r + (n + 1) ≤ total
-        returns_dead = returns_to_come a.options.longest (accepts a) goal total choices best r _ h.frames s (n + 1) (n + 1) _ h.frames dead.0 dead.1 dead.2
 
 -- one more item of a run
 pub one_more_item : (l : ToldSplit) (h : List ℕ) (p q : ℕ) → p ≤ q → q < length h → HasItems l h p (q - p) → slice_index h q < 256 → member l.items (slice_index h q) ≡ true → HasItems l h p (q + 1 - p)

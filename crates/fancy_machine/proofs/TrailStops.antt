@@ -12,7 +12,7 @@ use Rattle.fancy_machine.specs.declared.layer.Kind.{Kind}
 use Rattle.fancy_machine.specs.declared.layer.Kind.TheVariants as k
 use Rattle.fancy_machine.specs.Frames.{Spot, Region, Frame, Held, Within, Atom, LookAround, Denial, Condition}
 use Rattle.fancy_machine.specs.Layers.{frame_by, spot_at, frames_of, is_region, KnowRegions}
-use Rattle.fancy_machine.specs.Machine.{Stops, IsStep, finish, IsBare, HasInnermost, ends_kind, wanted_by, within_at, at_place}
+use Rattle.fancy_machine.specs.Machine.{Stops, IsStep, finish, IsBare, IsEndedByAny, HasInnermost, ends_kind, wanted_by, within_at, at_place}
 use Rattle.fancy_machine.proofs.RegionLemmas.{bare_by, opens_top, innermost_same, not_bare, region_frame}
 use Rattle.fancy_machine.proofs.MachineSteps.{stop_bare, stop_elsewhere, stop_atom, stop_look, stop_denial, stop_condition}
 
@@ -23,6 +23,14 @@ unended k.Atom x s e = absurd (true≢false (sym e))
 unended (k.Look behind) x s e = (LookAround behind x.at x.state.place x.limit, refl, sym e)
 unended (k.Denial behind) x s e = (Denial behind x, refl, sym e)
 unended k.Condition x s e = absurd (true≢false (sym e))
+
+-- a region that each way that stops ends
+any_ended : (j : Kind) (x : Spot) → is_region j ≡ true → ((from p : ℕ) → ends_kind j from p ≡ true) → (r : Region) × (frame_by j x ≡ Within r) × ((s : State) → wanted_by r s ≡ true)
+any_ended k.Branch x e any = absurd (true≢false (sym e))
+any_ended k.Atom x e any = (Atom x.limit, refl, λ s. refl)
+any_ended (k.Look behind) x e any = (LookAround behind x.at x.state.place x.limit, refl, λ s. any x.state.place s.place)
+any_ended (k.Denial behind) x e any = (Denial behind x, refl, λ s. any x.state.place s.place)
+any_ended k.Condition x e any = (Condition x, refl, λ s. refl)
 
 -- a trail that has an open region is left by it
 module _ (held : Held) (n : Spot) (log : List Write) (slots : List Slot) (ls : List Layer) (most top : ℕ) (is : record { now = n; frames = frames_of log slots ls; most = most } ≡ held) (know : KnowRegions 0 0 ls top) (some : IsBare held.frames → ⊥) where
@@ -68,6 +76,12 @@ module _ (held : Held) (n : Spot) (log : List Write) (slots : List Slot) (ls : L
     is_open =
         let r = region_frame x.kind (spot_at log slots x) ((opens_top log slots top ls know some).1 x at).0 in
         subst (λ (h : Held). IsBare h.frames → ⊥) is (not_bare (frames_of log slots ls) below r.0 (opens r.0 r.1))
+
+    -- each way that stops ends the innermost one
+    pub ended_by_any : ((from p : ℕ) → ends_kind x.kind from p ≡ true) → IsEndedByAny held.frames
+    ended_by_any any =
+        let r = any_ended x.kind (spot_at log slots x) ((opens_top log slots top ls know some).1 x at).0 any in
+        subst (λ (h : Held). IsEndedByAny h.frames) is (r.0, below, opens r.0 r.1, r.2)
 
     -- it was left
     module _ (new : Held) (same : new.now ≡ held.now) (low : (r : Region) (rest : List Frame) → HasInnermost held.frames r rest → new.frames ≡ rest) where

@@ -100,6 +100,10 @@ wanted_by (LookAround behind next p l) = ends_look behind p
 wanted_by (Denial behind x) = ends_look behind x.state.place
 wanted_by (Condition x) = any
 
+-- each way that stops ends the innermost region
+abbrev pub IsEndedByAny : List Frame → Type 0
+IsEndedByAny fs = (r : Region) × (rest : List Frame) × HasInnermost fs r rest × ((s : State) → wanted_by r s ≡ true)
+
 -- `go` tells what the code gives where consumed text ends by a limit
 module _ (go : ℕ → Go) where
   abbrev pub after : Spot → Option (List Raw)

@@ -1,9 +1,12 @@
 -- Where the items of a loop stand, and where what follows it dies.
-use Rattle.std.specs.Prelude.{◌≡◌, ℕ, ◌+◌, ◌-◌, ◌<◌, ◌≤◌, true, false, List, Some, slice_get}
+use Rattle.std.specs.Prelude.{◌≡◌, ℕ, zero, suc, ◌+◌, ◌-◌, ◌^◌, ◌<◌, ◌≤◌, ◌⊎◌, true, false, List, Option, Some, None, slice_get}
 use Rattle.fancy_bytes.specs.Sets.{ByteFlags, member}
 use Rattle.fancy_prices.specs.declared.splits.ToldSplit.{ToldSplit}
 use Rattle.fancy_prices.specs.declared.splits.Splits.{Splits}
-use Rattle.fancy_prices.specs.Splits.{IsNoted}
+use Rattle.fancy_prices.specs.Splits.{IsNoted, IsPast}
+use Rattle.fancy_machine.specs.declared.runs.Run.{Run}
+use Rattle.fancy_machine.specs.Frames.{Spot, Frame, Held}
+use Rattle.fancy_machine.specs.Machine.{at_place, opened_at, closed_at, IsEndedByAny}
 use Rattle.fancy_machine.specs.declared.runs.LastRun.{LastRun}
 
 -- a byte of these stands at a place
@@ -13,6 +16,20 @@ Stands bytes haystack p = (b : ℕ) × (slice_get haystack p ≡ Some b) × (b <
 -- a byte stands at a place, and it is none of these
 abbrev pub Lacks : ByteFlags → List ℕ → ℕ → Type 0
 Lacks bytes haystack p = (b : ℕ) × (slice_get haystack p ≡ Some b) × (b < 256) × (member bytes b ≡ false)
+
+-- the first way of a choice dies at a place, where consumed text ends by a limit: a byte tells it, or nothing is consumed any more, and it reads an item
+abbrev pub IsStuck : ToldSplit → List ℕ → ℕ → ℕ → Type 0
+IsStuck l haystack limit p = Lacks l.begins haystack p ⊎ ((l.is_loop ≡ true) × IsPast haystack limit p)
+
+-- the way past an item of one byte, in a group if there is one
+abbrev pub past_one : Option ℕ → Spot → Spot
+past_one None x = at_place x.at (x.state.place + 1) x
+past_one (Some g) x = closed_at g x.at (at_place x.at (x.state.place + 1) (opened_at g x.at x))
+
+-- the way past so many of them
+abbrev pub past_items : Option ℕ → ℕ → Spot → Spot
+past_items group zero x = x
+past_items group (suc n) x = past_items group n (past_one group x)
 
 -- from a place on so many items of the loop stand one after another, each of them one byte
 abbrev pub HasItems : ToldSplit → List ℕ → ℕ → ℕ → Type 0
@@ -25,3 +42,22 @@ DieFrom l haystack place low high = (k : ℕ) → low ≤ k → k < high → Lac
 -- what is remembered of the run that was read last is true
 abbrev pub KnowsRun : Splits → List ℕ → LastRun → Type 0
 KnowsRun splits haystack r = (l : ToldSplit) → IsNoted splits r.at l → HasItems l haystack r.from (r.past - r.from)
+
+-- so many items from a place on are the last ones of the run that was read for the loop at an instruction
+abbrev pub IsPartOf : LastRun → ℕ → ℕ → ℕ → Type 0
+IsPartOf r at place n = (r.at ≡ at) × (r.from ≤ place) × (place + n ≡ r.past)
+
+-- the second way of a choice stops at once, and that ends the innermost region
+abbrev pub Closes : ToldSplit → List Frame → Type 0
+Closes l fs = IsEndedByAny fs × ((next : ℕ) × (l.stop ≡ Some next))
+
+-- What was read at a choice is true. Where items stand in a group there are some only if the first way dies after them, and the second one closes.
+pub record IsRun (l : ToldSplit) (haystack : List ℕ) (h : Held) (r : Run) : Type 0 where
+  pub items : HasItems l haystack h.now.state.place r.count
+  pub inside : r.count ≤ h.now.limit - h.now.state.place
+  pub fits : h.now.state.place + r.count < 2 ^ 64
+  pub short : r.count + 2 < 2 ^ 64
+  pub stuck : r.is_stuck ≡ true → IsStuck l haystack h.now.limit (h.now.state.place + r.count)
+  pub goes : r.is_stuck ≡ false → 0 < r.count → l.group ≡ None
+  pub closes : r.closes ≡ true → Closes l h.frames
+  pub stays : r.closes ≡ false → 0 < r.count → l.group ≡ None

@@ -1,6 +1,6 @@
 //! What the machine keeps below the way that it follows.
 
-ghost use Rattle.std.specs.Prelude.{◌≡◌, ◌≤◌, take, vec_len, if◌then◌else◌, ◌==◌, true};
+ghost use Rattle.std.specs.Prelude.{◌≡◌, ◌≤◌, ℕ, take, vec_len, if◌then◌else◌, ◌==◌, true};
 ghost use Rattle.fancy_machine.specs.Layers.{saves, is_one, earlier, branches_in, region_by, TookLast};
 ghost use Rattle.fancy_machine.specs.Machine.{ends_kind};
 
@@ -63,6 +63,17 @@ pub(crate) fn is_ended(kind: Kind, from: usize, place: usize) -> bool
         Kind::Look(behind) => ends(behind, from, place),
         Kind::Denial(behind) => ends(behind, from, place),
         Kind::Condition => true,
+    }
+}
+
+/// Whether each way that stops ends the region of a layer of this kind.
+pub(crate) fn is_ended_by_any(kind: Kind) -> bool
+    ensures { result ≡ true → (from p : ℕ) → ends_kind kind from p ≡ true }
+{
+    match kind {
+        Kind::Atom | Kind::Condition => true,
+        Kind::Look(behind) | Kind::Denial(behind) => !behind,
+        Kind::Branch => false,
     }
 }
 

@@ -1,7 +1,7 @@
 //! Choices of which bytes tell that a way dies at once: it is passed over, and counted. Where such a choice is a loop of one item, all
-//! items that stand are read in one step.
+//! items that stand are read in one step. Where what follows the loop closes a region, as in a possessive repeat, no branch is saved.
 
-ghost use Rattle.std.specs.Prelude.{◌≡◌, ◌+◌, ◌-◌, ◌^◌, ◌<◌, ◌≤◌, ℕ, List, true, false, length, Err, IfErr, IfOk, IfSome, Option};
+ghost use Rattle.std.specs.Prelude.{◌≡◌, ◌+◌, ◌-◌, ◌^◌, ◌<◌, ◌≤◌, ◌⊎◌, ℕ, List, if◌then◌else◌, true, false, length, Err, IfErr, IfOk, IfSome, Option};
 ghost use Rattle.fancy_code.specs.Context.{State};
 ghost use Rattle.fancy_code.specs.Work.{returns_of, AddsUnits, IsWithin, IsSpent, HasWorkLeft};
 ghost use Rattle.fancy_prices.specs.declared.splits.ToldSplit.{ToldSplit};
@@ -9,8 +9,8 @@ ghost use Rattle.fancy_prices.specs.declared.splits.Splits.{Splits};
 ghost use Rattle.fancy_prices.specs.Splits.{AreApart, IsNoted};
 ghost use Rattle.fancy_machine.specs.Attempt.{Advances, DiesAt, IsOverfull, TakesAtLeast};
 ghost use Rattle.fancy_machine.specs.Layers.{earlier};
-ghost use Rattle.fancy_machine.specs.Runs.{HasItems, Lacks, DieFrom, KnowsRun};
-ghost use Rattle.fancy_machine.specs.Units.{CountsOn};
+ghost use Rattle.fancy_machine.specs.Runs.{HasItems, IsStuck, Lacks, DieFrom, KnowsRun, IsPartOf, IsRun};
+ghost use Rattle.fancy_machine.specs.Units.{CountsOn, CountsUnits};
 
 use crate::attempt::Attempt;
 use crate::layer::{Kind, Layer, earlier};
@@ -34,13 +34,14 @@ fn run_len(split: &ToldSplit, haystack: &[u8], place: usize, end: usize) -> usiz
     end.saturating_sub(place)
 }
 
-/// Whether an item may stand at a place; it may where no byte stands.
-fn may_stand(split: &ToldSplit, haystack: &[u8], place: usize) -> bool
-    ensures { result ≡ false → Lacks split.now.begins haystack.now place }
+/// Whether the first way may go on at a place, where consumed text ends by a limit. No item of a loop stands where nothing is consumed
+/// any more.
+fn may_stand(split: &ToldSplit, haystack: &[u8], limit: usize, place: usize) -> bool
+    ensures { result ≡ false → IsStuck split.now haystack.now limit place }
 {
     match haystack.get(place) {
-        Some(byte) => split.may_begin(*byte),
-        None => true,
+        Some(byte) => split.may_begin(*byte) && !(split.is_loop && limit <= place),
+        None => !split.is_loop,
     }
 }
 
@@ -54,22 +55,43 @@ fn may_leave(split: &ToldSplit, haystack: &[u8], place: usize) -> bool
     }
 }
 
-/// Of the places from one on up to that after so many items, those up to the last at which what follows a loop may go on: how many
-/// they are.
-fn places_left(split: &ToldSplit, haystack: &[u8], from: usize, count: usize) -> usize
-    requires items { HasItems split.now haystack.now from count }
+/// What was read at a choice.
+#[derive(Clone, Copy, PartialEq, Eq, Debug)]
+pub(crate) struct Run {
+    /// How many items of a loop stand, each of them one byte.
+    count: usize,
+    /// Whether the first way dies after them.
+    is_stuck: bool,
+    /// Whether the second way ends the region that it stands in, so that no branch at an earlier place is taken.
+    closes: bool,
+}
+
+impl Run {
+    /// How many branches are saved at places that are passed over.
+    fn saved(self, places: usize) -> usize
+        ensures { result ≡ (if self.closes then 0 else places) }
+    {
+        if self.closes { 0 } else { places }
+    }
+}
+
+/// Of the places from one on up to that after all items, those up to the last at which what follows a loop may go on: how many they
+/// are.
+fn places_left(split: &ToldSplit, haystack: &[u8], from: usize, run: Run) -> usize
+    requires items { HasItems split.now haystack.now from run.count }
     requires apart { split.now.apart ≡ true → AreApart split.now.items split.now.leaves }
-    requires fits { from + count < 2 ^ 64 }
-    ensures few { result ≤ count + 1 }
-    ensures dies { DieFrom split.now haystack.now from result (count + 1) }
+    requires fits { from + run.count < 2 ^ 64 }
+    ensures few { result ≤ run.count + 1 }
+    ensures dies { DieFrom split.now haystack.now from result (run.count + 1) }
+    ensures closes { run.closes ≡ true → result ≡ run.count + 1 }
 {
-    if may_leave(split, haystack, from + count) {
-        return count + 1;
+    if run.closes || may_leave(split, haystack, from + run.count) {
+        return run.count + 1;
     }
     if split.apart {
         return 0;
     }
-    'places: for index in (0..count).rev() {
+    'places: for index in (0..run.count).rev() {
         if may_leave(split, haystack, from + index) {
             return index + 1;
         }
@@ -101,6 +123,7 @@ impl LastRun {
     /// How many of its items stand from a place on, where that is one of its places, and it ends by an end.
     fn items_from(self, at: usize, place: usize, end: usize) -> Option<usize>
         ensures within { IfSome result (λ n. n ≤ end - place) }
+        ensures part { IfSome result (λ n. IsPartOf self at place n) }
         ensures items { (splits : Splits) (haystack : List ℕ) (l : ToldSplit) → KnowsRun splits haystack self → IsNoted splits at l
             → IfSome result (λ n. HasItems l haystack place n) }
     {
@@ -125,12 +148,15 @@ fn read_run(
     ensures items { IfOk result (λ n. HasItems split.now attempt.now.haystack.now trail.now.now.state.place n) }
     ensures inside { IfOk result (λ n. n ≤ trail.now.now.limit - trail.now.now.state.place) }
     ensures fits { IfOk result (λ n. trail.now.now.state.place + n < 2 ^ 64) }
+    ensures short { IfOk result (λ n. n + 2 < 2 ^ 64) }
     ensures known { KnowsRun attempt.now.splits.now attempt.now.haystack.now last_run.new }
     ensures adds { AddsUnits work.old work.new }
     ensures within { IsWithin attempt.now.options.step_limit work.old
         → IsWithin attempt.now.options.step_limit work.new }
     ensures refused { IfErr result (λ why. why ≡ SearchRefusal.Steps) }
     ensures limited { result ≡ Err SearchRefusal.Steps → IsSpent attempt.now.options.step_limit work.new }
+    ensures counted { IfOk result (λ n. IsPartOf last_run.old trail.now.now.at trail.now.now.state.place n
+        ⊎ CountsUnits n work.old work.new) }
 {
     let from = trail.place();
     if !split.is_loop {
@@ -142,14 +168,56 @@ fn read_run(
         return Ok(count);
     }
     let count = run_len(split, attempt.haystack, from, end);
-    let past = from + count;
-    *last_run = LastRun { at, from, past };
-    attempt.count_units(count, work)?;
+    if count > 0 {
+        let past = from + count;
+        *last_run = LastRun { at, from, past };
+        attempt.count_units(count, work)?;
+    }
     Ok(count)
 }
 
+/// Reads the items of a loop that stand where the trail does. Those that stand in a group are read only where the first way dies after
+/// them, and the second one ends its region: else the group holds another one at each place.
+fn read_ahead(
+    attempt: &Attempt,
+    split: &ToldSplit,
+    trail: &Trail,
+    last_run: &mut LastRun,
+    work: &mut Work,
+) -> Result<Run, SearchRefusal>
+    requires noted { IsNoted attempt.now.splits.now trail.now.now.at split.now }
+    requires known { KnowsRun attempt.now.splits.now attempt.now.haystack.now last_run.old }
+    ensures run { IfOk result (λ run. IsRun split.now attempt.now.haystack.now trail.now run) }
+    ensures known { KnowsRun attempt.now.splits.now attempt.now.haystack.now last_run.new }
+    ensures adds { AddsUnits work.old work.new }
+    ensures within { IsWithin attempt.now.options.step_limit work.old
+        → IsWithin attempt.now.options.step_limit work.new }
+    ensures refused { IfErr result (λ why. why ≡ SearchRefusal.Steps) }
+    ensures limited { result ≡ Err SearchRefusal.Steps → IsSpent attempt.now.options.step_limit work.new }
+{
+    let from = trail.place();
+    let closes = split.stop.is_some() && trail.closes_at_any_stop();
+    if split.group.is_some() && !closes {
+        let is_stuck = !may_stand(split, attempt.haystack, trail.limit(), from);
+        return Ok(Run {
+            count: 0,
+            is_stuck,
+            closes,
+        });
+    }
+    let count = read_run(attempt, split, trail, last_run, work)?;
+    let is_stuck = !may_stand(split, attempt.haystack, trail.limit(), from + count);
+    let one_by_one = split.group.is_some() && !is_stuck;
+    Ok(Run {
+        count: if one_by_one { 0 } else { count },
+        is_stuck,
+        closes,
+    })
+}
+
 /// Goes on at a choice that is told. A loop reads all items that stand, and saves a branch at each place. Where the first way dies, it
-/// goes back to the last place at which the second one may go on.
+/// goes back to the last place at which the second one may go on. That is the last place of all where the second way closes the region
+/// that it stands in, and then no branch is saved, since none would be taken.
 pub(crate) fn pass(
     attempt: &Attempt,
     split: &ToldSplit,
@@ -179,26 +247,25 @@ pub(crate) fn pass(
     ensures known { KnowsRun attempt.now.splits.now attempt.now.haystack.now last_run.new }
 {
     work.count_step_within();
-    let count = read_run(attempt, split, trail, last_run, work)?;
+    let read = read_ahead(attempt, split, trail, last_run, work)?;
     let from = trail.place();
-    let place = from + count;
-    if may_stand(split, attempt.haystack, place) {
-        trail.save_run(split.second, from, count + 1)?;
-        trail.go_to(split.first, place);
+    if !read.is_stuck {
+        trail.save_run(split.second, from, read.count + 1)?;
+        trail.go_to(split.first, from + read.count);
         return Ok(Next::On);
     }
-    if !trail.has_room_for(count + 1) {
+    if !trail.has_room_for(read.count + 1) {
         return Err(SearchRefusal::Choices);
     }
     let step_limit = attempt.options.step_limit;
-    let left = places_left(split, attempt.haystack, from, count);
+    let left = places_left(split, attempt.haystack, from, read);
     if left == 0 {
-        work.count_returns(count + 1, limit, step_limit)?;
+        work.count_returns(read.count + 1, limit, step_limit)?;
         return Ok(Next::Dead);
     }
-    work.count_returns(count + 2 - left, limit, step_limit)?;
-    trail.save_run(split.second, from, left - 1)?;
-    trail.go_to(split.second, from + (left - 1));
+    work.count_returns(read.count + 2 - left, limit, step_limit)?;
+    trail.save_run(split.second, from, read.saved(left - 1))?;
+    trail.read_items(split.group, left - 1, split.second)?;
     Ok(Next::On)
 }
 

@@ -8,10 +8,13 @@ ghost use Rattle.fancy_machine.specs.Log.{cell_slot, writes_allowed};
 ghost use Rattle.fancy_machine.specs.Frames.{Frame, Region, saved};
 ghost use Rattle.fancy_machine.specs.Layers.{spot_of, outcome_of, frame_by, saves};
 ghost use Rattle.fancy_machine.specs.Attempt.{DieFirst};
-ghost use Rattle.fancy_machine.specs.Machine.{at_instr, at_place, written, opened_at, closed_at, kept_at, within_at, saved_run, IsBare, HasInnermost, Stops, TookBranch};
+ghost use Rattle.fancy_machine.specs.Machine.{at_instr, at_place, written, opened_at, closed_at, kept_at, within_at, saved_run, IsBare, IsEndedByAny, HasInnermost, Stops, TookBranch};
+ghost use Rattle.fancy_machine.specs.Runs.{past_items};
 
 use crate::attempt::Attempt;
-use crate::layer::{Kind, Layer, cut, earlier, is_ended, is_saved, region_by, take_last};
+use crate::layer::{
+    Kind, Layer, cut, earlier, is_ended, is_ended_by_any, is_saved, region_by, take_last,
+};
 use crate::log::{Cell, Write, begin_cells, cell_at, forget_levels, has_span, thin, undo};
 use crate::runs::places_dead;
 use fancy_code::refusal::SearchRefusal;
@@ -386,6 +389,39 @@ impl Trail {
         };
         self.at = next;
         self.write(group, slot)
+    }
+
+    /// Reads so many items of one byte each, in a group if there is one, and goes on at another instruction.
+    pub(crate) fn read_items(
+        &mut self,
+        group: Option<usize>,
+        count: usize,
+        next: usize,
+    ) -> Result<(), AllocError>
+        requires fits { self.old.now.state.place + count < 2 ^ 64 }
+        ensures now { OnOk result (self.new.now ≡ at_instr next (past_items group count self.old.now)) }
+        ensures frames { OnOk result (self.new.frames ≡ self.old.frames) }
+        ensures most { self.new.most ≡ self.old.most }
+    {
+        let past = self.place + count;
+        if let Some(group) = group {
+            if count > 0 {
+                self.go_to(next, past - 1);
+                self.open_group(group, next)?;
+                self.go_to(next, past);
+                return self.close_group(group, next);
+            }
+        }
+        self.go_to(next, past);
+        Ok(())
+    }
+
+    /// Whether a region is open, and each way that stops ends the innermost one.
+    pub(crate) fn closes_at_any_stop(&self) -> bool
+        ensures { result ≡ true → IsEndedByAny self.now.frames }
+    {
+        let top = self.region;
+        top > 0 && is_ended_by_any(self.layers[top - 1].kind)
     }
 
     /// Leaves the innermost region, and drops the branches that were saved since it began. Of the log it keeps what the layers

@@ -9,3 +9,4 @@ pub mod BehindLemmas
 pub mod SplitLemmas
 pub mod PriceForms
 pub mod FoundBehind
+pub mod LoopLemmas

@@ -1,16 +1,16 @@
 -- The choices of code, and what bytes tell of their ways.
-use Rattle.std.specs.Prelude.{◌≡◌, ℕ, suc, ◌+◌, ◌<◌, Bool, true, false, List, Option, Some, None, slice_get, slice_index_or}
+use Rattle.std.specs.Prelude.{◌≡◌, ℕ, suc, ◌+◌, ◌<◌, ◌≤◌, ◌⊎◌, Bool, true, false, List, [], ◌∷◌, length, Option, Some, None, slice_get, slice_index, slice_index_or, slice_set}
 use Rattle.fancy_tree.specs.declared.tree.Meaning.{Meaning}
 use Rattle.fancy_bytes.specs.Sets.{ByteFlags, member}
 use Rattle.fancy_code.specs.declared.code.Code.{Code}
 use Rattle.fancy_code.specs.Code.{instrs_of}
-use Rattle.fancy_code.specs.Context.{Context, State, Unit_at, moved_to, unit_in}
+use Rattle.fancy_code.specs.Context.{Context, State, Unit_at, moved_to, unit_in, with_capture}
 use Rattle.fancy_code.specs.Instructions.{Instruction, Split}
-use Rattle.fancy_code.specs.Run.{Note, fetched, before, instr_at, run}
+use Rattle.fancy_code.specs.Run.{Note, Stop, fetched, before, instr_at, run}
 use Rattle.fancy_prices.specs.declared.facts.Facts.{Facts}
 use Rattle.fancy_prices.specs.declared.splits.ToldSplit.{ToldSplit}
 use Rattle.fancy_prices.specs.declared.splits.Splits.{Splits}
-use Rattle.fancy_prices.specs.Prices.{Dies}
+use Rattle.fancy_prices.specs.Prices.{Costs, Dies}
 
 -- an item of one byte
 abbrev pub single : ℕ → Unit_at
@@ -34,6 +34,30 @@ ReadsByte code meaning b q back =
 abbrev pub ReadsEach : List Instruction → Meaning → ByteFlags → ℕ → ℕ → Type 0
 ReadsEach code meaning set q back = (b : ℕ) → b < 256 → member set b ≡ true → ReadsByte code meaning b q back
 
+-- Where the byte b stands before the limit, the code at q opens the group g, reads the byte, closes the group, and goes on at `back`.
+abbrev pub ReadsByteIn : List Instruction → Meaning → ℕ → ℕ → ℕ → ℕ → Type 0
+ReadsByteIn code meaning g b q back =
+    (x : Context) (limit n : ℕ) (s : State) (v : List ℕ) → x.meaning ≡ meaning → slice_get x.haystack s.place ≡ Some b → s.place < limit
+    → run x limit code (suc (suc (suc n))) q s v
+    ≡ before (Note fetched) (before (Note fetched) (before (Note fetched)
+    (run x limit code n back (with_capture (moved_to s (s.place + 1)) g (slice_index (slice_set v g s.place) g)) (slice_set v g s.place))))
+
+-- so it is of each byte of the set
+abbrev pub ReadsEachIn : List Instruction → Meaning → ByteFlags → ℕ → ℕ → ℕ → Type 0
+ReadsEachIn code meaning set g q back = (b : ℕ) → b < 256 → member set b ≡ true → ReadsByteIn code meaning g b q back
+
+-- nothing is consumed from this place on
+abbrev pub IsPast : List ℕ → ℕ → ℕ → Type 0
+IsPast haystack limit p = (limit ≤ p) ⊎ (length haystack ≤ p)
+
+-- there the code from q on dies, and costs no mark and no return
+abbrev pub DiesPast : List Instruction → ℕ → Type 0
+DiesPast code q = (x : Context) (limit n : ℕ) (s : State) (v : List ℕ) → IsPast x.haystack limit s.place → Costs 0 0 (run x limit code n q s v)
+
+-- A way that comes to q stops at once, and what is round the region that it stands in goes on at `next`.
+abbrev pub StopsAt : List Instruction → ℕ → ℕ → Type 0
+StopsAt code q next = (x : Context) (limit n : ℕ) (s : State) (v : List ℕ) → run x limit code (suc n) q s v ≡ Some (Note fetched ∷ Stop next s v ∷ [])
+
 -- the byte stands at a place, and nothing is told of what stands before it
 abbrev pub byte_alone : ℕ → Facts
 byte_alone b = record { here = b; before = None }
@@ -46,10 +70,13 @@ BeginsAt code meaning set q = (b : ℕ) → b < 256 → member set b ≡ false �
 abbrev pub AreApart : ByteFlags → ByteFlags → Type 0
 AreApart set other = (b : ℕ) → b < 256 → member set b ≡ true → member other b ≡ false
 
--- At this instruction stands a choice. Where it has items, the first way reads each of them and comes back.
+-- At this instruction stands a choice. Where it has items, the first way reads each of them, in a group if there is one, and comes back.
 pub record IsToldSplit (code : List Instruction) (meaning : Meaning) (at : ℕ) (l : ToldSplit) : Type 0 where
   pub splits : instr_at code at ≡ Split l.first l.second
-  pub reads : ReadsEach code meaning l.items l.first at
+  pub reads : l.group ≡ None → ReadsEach code meaning l.items l.first at
+  pub reads_in : (g : ℕ) → l.group ≡ Some g → ReadsEachIn code meaning l.items g l.first at
+  pub ends : l.is_loop ≡ true → DiesPast code l.first
+  pub stops : (next : ℕ) → l.stop ≡ Some next → StopsAt code l.second next
   pub misses : BeginsAt code meaning l.begins l.first
   pub leaves : BeginsAt code meaning l.leaves l.second
   pub apart : l.apart ≡ true → AreApart l.items l.leaves

@@ -1,12 +1,12 @@
 //! The choices of code, and the bytes that tell what their ways do.
 
-ghost use Rattle.std.specs.Prelude.{◌≡◌, ℕ, ◌<◌, ◌==◌, true, IfOk, IfSome};
+ghost use Rattle.std.specs.Prelude.{◌≡◌, ℕ, ◌<◌, ◌==◌, true, false, Some, None, IfOk, IfSome};
 ghost use Rattle.fancy_tree.specs.Sets.{has};
 ghost use Rattle.fancy_bytes.specs.Sets.{IsSetOf, member};
 ghost use Rattle.fancy_code.specs.declared.code.Code.{Code};
 ghost use Rattle.fancy_code.specs.Code.{instrs_of};
 ghost use Rattle.fancy_code.specs.Instructions.{edges_in};
-ghost use Rattle.fancy_prices.specs.Splits.{AreApart, AreItems, AreSplits, BeginsAt, IsAlone, IsToldSplit, IsNoted, ReadsEach};
+ghost use Rattle.fancy_prices.specs.Splits.{AreApart, AreItems, AreSplits, BeginsAt, DiesPast, IsAlone, IsToldSplit, IsNoted, ReadsEach, ReadsEachIn, StopsAt};
 
 use crate::facts::Facts;
 use crate::free::is_free;
@@ -22,11 +22,12 @@ const MOST: usize = 128;
 /// How many instructions are followed one after another.
 const DEPTH: usize = 48;
 
-/// A choice of code, and at which bytes its ways may go on. It may be a loop of one item: its first way reads an item, and comes back
-/// to the choice.
+/// A choice of code, and at which bytes its ways may go on. It may be a loop of one item: its first way reads an item, by itself or in
+/// a group, and comes back to the choice.
 ///
 /// ```text
 /// [a-z]*b    // its items are the bytes a to z, with which alone they begin; what follows may go on at the byte b alone
+/// (a)*+b     // its item is the byte a, in a group; what follows it closes the region of the possessive repeat
 /// a|b        // no loop; the first way may go on at the byte a alone, the second one at b alone
 /// ```
 #[derive(Drop)]
@@ -35,8 +36,13 @@ pub struct ToldSplit {
     pub first: usize,
     /// The number of the one that the second way begins at, which is what follows a loop.
     pub second: usize,
-    /// Whether it is a loop that reads items of one byte.
+    /// Whether it is a loop of one item.
     pub is_loop: bool,
+    /// The group that holds each item of the loop, if one does.
+    pub group: Option<usize>,
+    /// Where the second way stops at once, as at the end of an atomic group, the number of the instruction at which what is round that
+    /// goes on.
+    pub stop: Option<usize>,
     /// Whether the second way cannot go on where an item of one byte stands.
     pub apart: bool,
     // bytes that are an item by themselves
@@ -124,21 +130,119 @@ fn bytes_of_set(set: &CharSet, meaning: Meaning) -> ByteSet
     items
 }
 
-/// The bytes that are by themselves an item that an instruction reads before it goes on at `back`. There are none where it reads no
-/// item, or goes on elsewhere.
-fn items_of(code: &Code, at: usize, back: usize) -> ByteSet
-    ensures { ReadsEach (instrs_of code.now) code.now.meaning result at back }
+/// What reads an item, before it goes on elsewhere.
+#[derive(Drop)]
+struct Reader {
+    /// Whether it is one item that is read, which may be one byte.
+    is_item: bool,
+    /// The group that holds it, if one does.
+    group: Option<usize>,
+    /// The bytes that are such an item by themselves.
+    items: ByteSet,
+}
+
+impl Reader {
+    /// What reads no item.
+    fn none() -> Reader
+        ensures none { result.is_item ≡ false }
+        ensures alone { result.group ≡ None }
+        ensures reads { (code : Code) (at back : ℕ) → ReadsEach (instrs_of code) code.meaning result.items at back }
+    {
+        Reader {
+            is_item: false,
+            group: None,
+            items: ByteSet::new(),
+        }
+    }
+
+    /// What reads an item by itself.
+    fn alone(items: ByteSet) -> Reader
+        ensures alone { result.group ≡ None }
+        ensures items { result.items ≡ items }
+    {
+        Reader {
+            is_item: !items.is_empty(),
+            group: None,
+            items,
+        }
+    }
+}
+
+/// The item that an instruction reads before it goes on at `back`, if it does that.
+fn reader_at(code: &Code, at: usize, back: usize) -> Reader
+    ensures alone { result.group ≡ None }
+    ensures reads { ReadsEach (instrs_of code.now) code.now.meaning result.items at back }
+    ensures ends { result.is_item ≡ true → DiesPast (instrs_of code.now) at }
 {
     if at >= code.len() {
-        return ByteSet::new();
+        return Reader::none();
     }
     match code.instr(at) {
         Instr::Character(character, next) if *next == back => {
-            bytes_of_character(*character, code.meaning)
+            Reader::alone(bytes_of_character(*character, code.meaning))
         }
-        Instr::Member(set, next) if *next == back => bytes_of_set(code.set(*set), code.meaning),
-        Instr::RawByte(byte, next) if *next == back => only(*byte),
-        _ => ByteSet::new(),
+        Instr::Member(set, next) if *next == back => {
+            Reader::alone(bytes_of_set(code.set(*set), code.meaning))
+        }
+        Instr::RawByte(byte, next) if *next == back => Reader::alone(only(*byte)),
+        _ => Reader::none(),
+    }
+}
+
+/// Where an instruction goes on once it has read an item, if it reads one.
+fn past_item(code: &Code, at: usize) -> Option<usize> {
+    if at >= code.len() {
+        return None;
+    }
+    match code.instr(at) {
+        Instr::Character(_, next) | Instr::Member(_, next) | Instr::RawByte(_, next) => Some(*next),
+        _ => None,
+    }
+}
+
+/// The item that the code from an instruction on reads before it goes on at `back`, by itself or in a group, if it does that.
+fn reader_of(code: &Code, at: usize, back: usize) -> Reader
+    ensures alone { result.group ≡ None → ReadsEach (instrs_of code.now) code.now.meaning result.items at back }
+    ensures within { (g : ℕ) → result.group ≡ Some g
+        → ReadsEachIn (instrs_of code.now) code.now.meaning result.items g at back }
+    ensures ends { result.is_item ≡ true → DiesPast (instrs_of code.now) at }
+{
+    if at >= code.len() {
+        return Reader::none();
+    }
+    let Instr::Open(group, inner) = code.instr(at) else {
+        return reader_at(code, at, back);
+    };
+    let Some(last) = past_item(code, *inner) else {
+        return Reader::none();
+    };
+    if last >= code.len() {
+        return Reader::none();
+    }
+    match code.instr(last) {
+        Instr::Close(closed, next) if *closed == *group && *next == back => {
+            let reader = reader_at(code, *inner, last);
+            Reader {
+                is_item: reader.is_item,
+                group: Some(*group),
+                items: reader.items,
+            }
+        }
+        _ => Reader::none(),
+    }
+}
+
+/// Where what is round a region goes on, if a way that comes to an instruction stops there at once.
+fn stop_at(code: &Code, at: usize) -> Option<usize>
+    ensures { IfSome result (λ next. StopsAt (instrs_of code.now) at next) }
+{
+    if at >= code.len() {
+        return None;
+    }
+    match code.instr(at) {
+        Instr::Match => Some(at),
+        Instr::Commit(next) => Some(*next),
+        _ => None,
     }
 }
 
@@ -189,25 +293,26 @@ fn are_apart(items: &ByteSet, leaves: &ByteSet) -> bool
     true
 }
 
-/// The choice at an instruction, if there is one of which something is told: it reads items of one byte, or its first way cannot go on
-/// at each byte.
+/// The choice at an instruction, if there is one of which something is told: it is a loop of one item, or its first way cannot go on at
+/// each byte.
 fn split_at(code: &Code, at: usize) -> Option<ToldSplit>
     ensures { IfSome result (λ l. IsToldSplit (instrs_of code.now) code.now.meaning at l) }
 {
     let ways = code.ways(at)?;
-    let items = items_of(code, ways.first, at);
-    let is_loop = !items.is_empty();
+    let reader = reader_of(code, ways.first, at);
     let begins = begins_of(code, ways.first);
-    if !is_loop && begins.len() == 256 {
+    if !reader.is_item && begins.len() == 256 {
         return None;
     }
     let leaves = begins_of(code, ways.second);
     Some(ToldSplit {
         first: ways.first,
         second: ways.second,
-        is_loop,
-        apart: are_apart(&items, &leaves),
-        items,
+        is_loop: reader.is_item,
+        group: reader.group,
+        stop: stop_at(code, ways.second),
+        apart: are_apart(&reader.items, &leaves),
+        items: reader.items,
         begins,
         leaves,
     })

@@ -10,9 +10,9 @@ pub returns-in_err-count_units-clause-known : goal.returns-in_err-count_units-cl
 returns-in_err-count_units-clause-known c other noted =
     run_known c.args.attempt.now.splits.now c.args.attempt.now.haystack.now c.at-at.result c.place-from.result c.run_len-count.result c.args.split.now other (subst (λ (q : ℕ). IsNoted c.args.attempt.now.splits.now q c.args.split.now) (sym c.at-at.ensures) c.requires.noted) c.run_len-count.ensures.items noted
 
-pub returns-clause-items : goal.returns-clause-items
-returns-clause-items c = rw c.place-from.ensures at c.run_len-count.ensures.items
+pub returns-in_ok-count_units-clause-items : goal.returns-in_ok-count_units-clause-items
+returns-in_ok-count_units-clause-items c = rw c.place-from.ensures at c.run_len-count.ensures.items
 
-pub returns-clause-known : goal.returns-clause-known
-returns-clause-known c other noted =
+pub returns-in_ok-count_units-clause-known : goal.returns-in_ok-count_units-clause-known
+returns-in_ok-count_units-clause-known c other noted =
     run_known c.args.attempt.now.splits.now c.args.attempt.now.haystack.now c.at-at.result c.place-from.result c.run_len-count.result c.args.split.now other (subst (λ (q : ℕ). IsNoted c.args.attempt.now.splits.now q c.args.split.now) (sym c.at-at.ensures) c.requires.noted) c.run_len-count.ensures.items noted

@@ -1,0 +1,44 @@
+use Rattle.std.proofs.Common.{◌≡◌, ℕ, suc, ◌+◌, ◌-◌, ◌<◌, Option, Some, None, refl, sym, ap, ◌∙◌, arith}
+use Rattle.std.proofs.lemmas.Result.{on_ok_weaker}
+use Rattle.fancy_machine.specs.Frames.{Spot, Held}
+use Rattle.fancy_machine.specs.Machine.{at_instr, at_place, closed_at, opened_at}
+use Rattle.fancy_machine.specs.Runs.{past_items}
+use Rattle.fancy_machine.proofs.CloseLemmas.{alone_items, group_items}
+use Rattle.fancy_machine.proofs.trail.Trail.read_items.Goals as goal
+use Rattle.fancy_machine.proofs.trail.Trail.read_items.Goals.{in-Some+else-count-gt0, in_default}
+
+-- the last item of some is read in its group
+last_item : (x y z t : Spot) (g next place count : ℕ) (group : Option ℕ) → group ≡ Some g → 0 < count → place ≡ x.state.place → y ≡ at_place next (place + count - 1) x → z ≡ opened_at g next y
+    → t ≡ at_place next (place + count) z → closed_at g next t ≡ at_instr next (past_items group count x)
+last_item x y z t g next place count group is some here first opened second =
+    let n = count - 1 in
+    let last : place + count - 1 ≡ x.state.place + n = omega (arith, some, here) in
+    let end : place + count ≡ x.state.place + suc n = omega (arith, some, here) in
+    let same : suc n ≡ count = omega (arith, some) in
+    ap (closed_at g next) (second ∙ ap (at_place next (place + count)) (opened ∙ ap (opened_at g next) first))
+    ∙ ap (λ (p : ℕ). closed_at g next (at_place next (place + count) (opened_at g next (at_place next p x)))) last
+    ∙ ap (λ (p : ℕ). closed_at g next (at_place next p (opened_at g next (at_place next (x.state.place + n) x)))) end
+    ∙ sym (group_items g next n x)
+    ∙ ap (λ (m : ℕ). at_instr next (past_items (Some g) m x)) same
+    ∙ ap (λ (o : Option ℕ). at_instr next (past_items o count x)) (sym is)
+
+pub returns-then-count-gt0-clause-now : goal.returns-then-count-gt0-clause-now
+returns-then-count-gt0-clause-now c =
+    on_ok_weaker c.close_group.result
+    (λ e. e
+    ∙ last_item c.args.self.now.now c.go_to.new.self.now c.open_group.new.self.now c.go_to-then-count-gt0.new.self.now c.in-Some.group c.args.next c.self.inside.place c.args.count c.args.group
+    c.in-Some.is c.if-count-gt0.true (ap (λ (h : Held). h.now.state.place) c.self.view_is) c.go_to.ensures.now c.in_ok-open_group.ensures.now c.go_to-then-count-gt0.ensures.now)
+    c.close_group.ensures.now
+
+pub returns-clause-now : goal.returns-clause-now
+returns-clause-now c =
+    c.go_to-2.ensures.now
+    ∙ ap (λ (p : ℕ). at_place c.args.next (p + c.args.count) c.args.self.now.now) (ap (λ (h : Held). h.now.state.place) c.self.view_is)
+    ∙ sym (alone_items c.args.group c.args.count c.args.next c.args.self.now.now alone)
+  where
+    alone : 0 < c.args.count → c.args.group ≡ None
+    alone some =
+        elim c.match-group.branch [
+          | in-Some+else-count-gt0 w ↦ absurd (omega (arith, some, w.if-count-gt0.false))
+          | in_default w ↦ w.in_default.is
+        ]
