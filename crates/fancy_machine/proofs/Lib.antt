@@ -17,3 +17,4 @@ pub mod PassLemmas
 pub mod CloseLemmas
 pub mod LoopLemmas
 pub mod DropLemmas
+pub mod FrontLemmas

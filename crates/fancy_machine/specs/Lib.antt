@@ -6,3 +6,4 @@ pub mod Attempt
 pub mod Asked
 pub mod Units
 pub mod Runs
+pub mod Front

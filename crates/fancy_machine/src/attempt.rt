@@ -71,6 +71,7 @@ impl<'a> Attempt<'a> {
         ensures code { result.code.now ≡ code.now }
         ensures options { result.options ≡ options }
         ensures haystack { result.haystack.now ≡ haystack.now }
+        ensures splits { result.splits.now ≡ splits.now }
         ensures serves { (p : Pattern) → Serves result (query_of p code.now options haystack.now request continues) }
     {
         Attempt {

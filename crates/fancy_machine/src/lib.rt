@@ -5,6 +5,7 @@ mod attempt;
 mod best;
 mod choice;
 mod condition;
+mod front;
 mod layer;
 mod log;
 mod read;

@@ -34,19 +34,27 @@ fn run_len(split: &ToldSplit, haystack: &[u8], place: usize, end: usize) -> usiz
     end.saturating_sub(place)
 }
 
+/// Whether the byte at a place lets the first way go on; it may where no byte stands.
+pub(crate) fn may_begin(split: &ToldSplit, haystack: &[u8], place: usize) -> bool
+    ensures { result ≡ false → Lacks split.now.begins haystack.now place }
+{
+    match haystack.get(place) {
+        Some(byte) => split.may_begin(*byte),
+        None => true,
+    }
+}
+
 /// Whether the first way may go on at a place, where consumed text ends by a limit. No item of a loop stands where nothing is consumed
 /// any more.
 fn may_stand(split: &ToldSplit, haystack: &[u8], limit: usize, place: usize) -> bool
     ensures { result ≡ false → IsStuck split.now haystack.now limit place }
 {
-    match haystack.get(place) {
-        Some(byte) => split.may_begin(*byte) && !(split.is_loop && limit <= place),
-        None => !split.is_loop,
-    }
+    let is_past = limit <= place || haystack.len() <= place;
+    !(is_past && split.is_loop) && may_begin(split, haystack, place)
 }
 
 /// Whether what follows a loop may go on at a place; it may where no byte stands.
-fn may_leave(split: &ToldSplit, haystack: &[u8], place: usize) -> bool
+pub(crate) fn may_leave(split: &ToldSplit, haystack: &[u8], place: usize) -> bool
     ensures { result ≡ false → Lacks split.now.leaves haystack.now place }
 {
     match haystack.get(place) {
@@ -129,6 +137,19 @@ impl LastRun {
     {
         if self.at == at && self.from <= place && place <= self.past && self.past <= end {
             return Some(self.past - place);
+        }
+        None
+    }
+
+    /// Where it ends, where it is one of the loop at an instruction, and one of its items stands at a place.
+    #[inline]
+    pub(crate) fn past_of(self, at: usize, place: usize) -> Option<usize>
+        ensures past { IfSome result (λ past. place < past) }
+        ensures items { (splits : Splits) (haystack : List ℕ) (l : ToldSplit) → KnowsRun splits haystack self → IsNoted splits at l
+            → IfSome result (λ past. HasItems l haystack place (past - place)) }
+    {
+        if self.at == at && self.from <= place && place < self.past {
+            return Some(self.past);
         }
         None
     }

@@ -1,6 +1,6 @@
 //! Searches by the machine.
 
-ghost use Rattle.std.specs.Prelude.{◌≡◌, ℕ, ◌+◌, ◌-◌, ◌<◌, ◌≤◌, true, false, [], Option, Some, None, Err, IfOk, IfSome, length, slice_index, slice_index_or};
+ghost use Rattle.std.specs.Prelude.{◌≡◌, ◌≢◌, ℕ, ◌+◌, ◌-◌, ◌<◌, ◌≤◌, true, false, [], Option, Some, None, Err, IfOk, IfSome, length, slice_index, slice_index_or};
 ghost use Rattle.fancy_code.specs.Compile.{IsCodeOf};
 ghost use Rattle.fancy_input.specs.LastLines.{KnowsLastLines};
 ghost use Rattle.fancy_input.specs.Requests.{effective_start};
@@ -10,13 +10,17 @@ ghost use Rattle.fancy_code.specs.Tried.{tried, NoneTried};
 ghost use Rattle.fancy_code.specs.Work.{steps_of, returns_of, units_of, HasRoom, IsWithin, IsSpent};
 ghost use Rattle.fancy_code.specs.Queries.{query_of, answer_with};
 ghost use Rattle.fancy_prices.specs.Entries.{AreEntries, IsNextEntry, is_entry};
+ghost use Rattle.fancy_prices.specs.Front.{IsFront};
 ghost use Rattle.fancy_prices.specs.Told.{ArePrices};
 ghost use Rattle.fancy_machine.specs.Asked.{Serves, HeedsLimit, branches_allowed, groups_held, lines_held, seen_held};
 ghost use Rattle.fancy_machine.specs.Attempt.{KnowsSeen};
+ghost use Rattle.fancy_machine.specs.Front.{GoesPast, returns_ahead};
 ghost use Rattle.fancy_machine.specs.Log.{writes_allowed};
+ghost use Rattle.fancy_machine.specs.Runs.{KnowsRun};
 
 use crate::attempt::Attempt;
 use crate::best::Best;
+use crate::front::{positions_to_pass, returns_over};
 use crate::runs::LastRun;
 use crate::seen::Seen;
 use crate::trail::Trail;
@@ -31,6 +35,7 @@ use fancy_input::input::Request;
 use fancy_input::last_lines::LastLines;
 use fancy_input::span::Span;
 use fancy_prices::entries::Entries;
+use fancy_prices::front::Front;
 use fancy_prices::prices::Prices;
 use std::alloc::Global;
 
@@ -143,6 +148,7 @@ pub fn search(
     let positions = Positions {
         code,
         entries: &prices.entries,
+        front: prices.front,
         haystack,
         range_end,
         seek: options.seek,
@@ -156,7 +162,9 @@ pub fn search(
         if let Some(found) = found {
             return Ok(Some(found));
         }
-        place = positions.next(place + 1);
+        let run = cache.seen.last_run;
+        let from = pass_run(&attempt, &positions, place + 1, limit, run, work)?;
+        place = positions.next(from);
     }
     Ok(None)
 }
@@ -166,6 +174,8 @@ pub fn search(
 struct Positions<'a> {
     code: &'a Code,
     entries: &'a Entries,
+    /// The loop that attempts come to, where an item of it stands.
+    front: Option<Front>,
     haystack: &'a [u8],
     /// Where the searched range ends.
     range_end: usize,
@@ -194,6 +204,58 @@ impl Positions<'_> {
         self.entries
             .next(self.haystack, self.range_end, from, self.last)
     }
+}
+
+/// Passes over the positions from one on that are within the run that was read last, where attempts find nothing, and counts their
+/// returns: the position after them. A search that seeks passes over none.
+#[inline]
+fn pass_run(
+    attempts: &Attempt,
+    positions: &Positions,
+    from: usize,
+    limit: usize,
+    last_run: LastRun,
+    work: &mut Work,
+) -> Result<usize, SearchRefusal>
+    ghost q: { Query }
+    requires serves { Serves attempts.now q }
+    requires code { ∥ IsCodeOf q.sought.pattern attempts.now.code.now ∥₁ }
+    requires last { positions.now.last ≤ q.request.range_end }
+    requires inside { q.request.range_end ≤ length q.haystack }
+    requires ordered { from ≤ positions.now.last + 1 }
+    requires room { returns_of work.old ≤ limit }
+    requires known { KnowsRun attempts.now.splits.now attempts.now.haystack.now last_run }
+    requires front { IfSome positions.now.front
+        (IsFront attempts.now.splits.now attempts.now.code.now attempts.now.code.now.start) }
+    ensures passed { IfOk result (λ on. GoesPast q positions.now.seek positions.now.last from on
+        (returns_of work.new - returns_of work.old)) }
+    ensures refused { result ≡ Err SearchRefusal.Returns
+        → limit < returns_of work.old + returns_ahead q positions.now.seek positions.now.last from }
+    ensures stopped { result ≡ Err SearchRefusal.Returns → returns_of work.new ≡ limit }
+    ensures saved { result ≢ Err SearchRefusal.Choices }
+    ensures fits { returns_of work.new ≤ limit }
+    ensures steps { steps_of work.old ≤ steps_of work.new }
+    ensures returns { returns_of work.old ≤ returns_of work.new }
+    ensures bounded { returns_of work.new
+        ≤ returns_of work.old + returns_ahead q positions.now.seek positions.now.last from }
+    ensures paired { returns_of work.old ≤ steps_of work.old → returns_of work.new ≤ steps_of work.new }
+    ensures within { IsWithin attempts.now.options.step_limit work.old
+        → IsWithin attempts.now.options.step_limit work.new }
+    ensures limited { result ≡ Err SearchRefusal.Steps
+        → IsSpent attempts.now.options.step_limit work.new }
+{
+    let Some(front) = positions.front else {
+        return Ok(from);
+    };
+    if positions.seek {
+        return Ok(from);
+    }
+    let Some(items) = positions_to_pass(attempts, front, last_run, positions.last, from) else {
+        return Ok(from);
+    };
+    let returns = returns_over(front.before.returns, items);
+    work.count_returns(returns, limit, attempts.options.step_limit)?;
+    Ok(from + items)
 }
 
 /// Passes over a position where it is told that an attempt finds nothing, and counts the returns of one. At another position it makes

@@ -10,3 +10,4 @@ pub mod SplitLemmas
 pub mod PriceForms
 pub mod FoundBehind
 pub mod LoopLemmas
+pub mod FrontLemmas

@@ -1,6 +1,7 @@
 -- What is told of code holds in one way at most.
 use Rattle.std.specs.Prelude.{◌≡◌, ℕ, suc, true, false, List, [], ◌∷◌, Option, Some, None}
 use Rattle.std.proofs.Props.{props}
+use mathlib.Core.HLevel.{is_prop→PathP}
 use Rattle.fancy_code.specs.declared.code.Code.{Code}
 use Rattle.fancy_code.specs.Events.{any}
 use Rattle.fancy_code.specs.Run.{Raw, Note, Stop, choice_opened, returned, fetched}
@@ -10,25 +11,31 @@ use Rattle.fancy_prices.specs.Splits.{AreSplits}
 use Rattle.fancy_prices.specs.Prices.{Costs, MissesIn}
 use Rattle.fancy_prices.specs.Told.{ArePrices}
 
-one_more : (k : ℕ) → 0 ≡ suc k → ⊥
-one_more k e = cc
-
 none_wanted : true ≡ false → ⊥
 none_wanted e = cc
 
-free_in_once : (w : List Raw) → IsProp (MissesIn any 0 0 w)
-free_in_once [] = hlevel props
-free_in_once (Note choice_opened ∷ w) = λ a b. absurd (one_more a.0 a.1)
-free_in_once (Note returned ∷ w) = λ a b. absurd (one_more a.0 a.1)
-free_in_once (Note fetched ∷ w) = free_in_once w
-free_in_once (Stop q s v ∷ w) = λ a b. absurd (none_wanted a.0)
+one_less : (m k l : ℕ) → m ≡ suc k → m ≡ suc l → k ≡ l
+one_less m k l e f = cc
 
-free_once : (o : Option (List Raw)) → IsProp (Costs 0 0 o)
-free_once None = hlevel props
-free_once (Some w) = free_in_once w
+-- what is so of one less is so in one way, if it is so of each number
+less_once : (P : ℕ → Type 0) → ((k : ℕ) → IsProp (P k)) → (m : ℕ) → IsProp ((k : ℕ) × (m ≡ suc k) × P k)
+less_once P once m = λ a b i.
+    let p = one_less m a.0 b.0 a.1 b.1 in
+    (p i, is_prop→PathP (λ j. m ≡ suc (p j)) (λ j. hlevel props) a.1 b.1 i, is_prop→PathP (λ j. P (p j)) (λ j. once (p j)) a.2 b.2 i)
+
+misses_once : (m r : ℕ) (w : List Raw) → IsProp (MissesIn any m r w)
+misses_once m r [] = hlevel props
+misses_once m r (Note choice_opened ∷ w) = less_once (λ k. MissesIn any k r w) (λ k. misses_once k r w) m
+misses_once m r (Note returned ∷ w) = less_once (λ k. MissesIn any m k w) (λ k. misses_once m k w) r
+misses_once m r (Note fetched ∷ w) = misses_once m r w
+misses_once m r (Stop q s v ∷ w) = λ a b. absurd (none_wanted a.0)
+
+costs_once : (m r : ℕ) (o : Option (List Raw)) → IsProp (Costs m r o)
+costs_once m r None = hlevel props
+costs_once m r (Some w) = misses_once m r w
 
 pub splits_once : (l : Splits) (code : Code) → IsProp (AreSplits l code)
-splits_once l code = hlevel (props, free_once)
+splits_once l code = hlevel (props, costs_once)
 
 pub prices_once : (p : Prices) (code : Code) → IsProp (ArePrices p code)
-prices_once p code = hlevel (props, free_once)
+prices_once p code = hlevel (props, costs_once)

@@ -58,7 +58,7 @@ struct Prices {
 }
 
 /// Whether a byte continues a character of UTF-8.
-fn is_continuation(byte: u8) -> bool
+pub(crate) fn is_continuation(byte: u8) -> bool
     ensures { result ≡ is_continuation byte }
 {
     byte >= 0x80 && byte < 0xC0

@@ -4,6 +4,7 @@
 pub mod entries;
 mod facts;
 mod free;
+pub mod front;
 pub mod price;
 pub mod prices;
 pub mod splits;

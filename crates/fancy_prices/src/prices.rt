@@ -5,6 +5,7 @@ ghost use Rattle.fancy_code.specs.declared.code.Code.{Code};
 ghost use Rattle.fancy_prices.specs.Told.{ArePrices};
 
 use crate::entries::Entries;
+use crate::front::Front;
 use crate::splits::Splits;
 use fancy_code::code::Code;
 use std::alloc::{AllocError, Global};
@@ -16,6 +17,8 @@ pub struct Prices {
     pub entries: Entries,
     /// Its choices, and at which bytes their ways may go on.
     pub splits: Splits,
+    /// The loop that attempts come to, where an item of it stands.
+    pub front: Option<Front>,
 }
 
 impl Prices {
@@ -26,6 +29,7 @@ impl Prices {
         Prices {
             entries: Entries::all(),
             splits: Splits::none(alloc),
+            front: None,
         }
     }
 
@@ -35,9 +39,12 @@ impl Prices {
     pub fn of(alloc: Global, code: &Code) -> Result<Prices, AllocError>
         ensures { IfOk result (λ prices. ArePrices prices code.now) }
     {
+        let splits = Splits::of(alloc, code)?;
+        let front = Front::of(code, &splits);
         Ok(Prices {
             entries: Entries::of(code),
-            splits: Splits::of(alloc, code)?,
+            splits,
+            front,
         })
     }
 }

@@ -132,13 +132,13 @@ fn bytes_of_set(set: &CharSet, meaning: Meaning) -> ByteSet
 
 /// What reads an item, before it goes on elsewhere.
 #[derive(Drop)]
-struct Reader {
+pub(crate) struct Reader {
     /// Whether it is one item that is read, which may be one byte.
-    is_item: bool,
+    pub(crate) is_item: bool,
     /// The group that holds it, if one does.
-    group: Option<usize>,
+    pub(crate) group: Option<usize>,
     /// The bytes that are such an item by themselves.
-    items: ByteSet,
+    pub(crate) items: ByteSet,
 }
 
 impl Reader {
@@ -169,7 +169,7 @@ impl Reader {
 }
 
 /// The item that an instruction reads before it goes on at `back`, if it does that.
-fn reader_at(code: &Code, at: usize, back: usize) -> Reader
+pub(crate) fn reader_at(code: &Code, at: usize, back: usize) -> Reader
     ensures alone { result.group ≡ None }
     ensures reads { ReadsEach (instrs_of code.now) code.now.meaning result.items at back }
     ensures ends { result.is_item ≡ true → DiesPast (instrs_of code.now) at }

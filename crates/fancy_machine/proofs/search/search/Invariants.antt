@@ -30,3 +30,6 @@ decreases-loop-place g l = l.last + 1 - l.place
 
 abbrev pub ghost-pass_or_try : goal.ghost-pass_or_try
 ghost-pass_or_try g a = g.q
+
+abbrev pub ghost-pass_run : goal.ghost-pass_run
+ghost-pass_run g a = g.q
