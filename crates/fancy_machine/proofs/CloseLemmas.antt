@@ -1,9 +1,8 @@
 -- Items of a loop, where what follows them closes the innermost region: the branches at their places are never taken.
-use Rattle.std.proofs.Common.{◌≡◌, ℕ, zero, suc, ◌+◌, ◌<◌, ◌≤◌, Bool, true, List, [], ◌∷◌, ◌++◌, Option, Some, None, refl, sym, ap, ap₂, ◌∙◌, subst, arith, slice_index, slice_set}
-use Rattle.std.specs.Prelude.{slice_get, if◌then◌else◌}
+use Rattle.std.proofs.Common.{◌≡◌, ℕ, zero, suc, ◌+◌, ◌<◌, Bool, true, List, [], ◌∷◌, ◌++◌, Option, Some, None, refl, sym, ap, ◌∙◌, subst, arith, slice_index, slice_set}
+use Rattle.std.specs.Prelude.{if◌then◌else◌}
 use Rattle.std.proofs.lemmas.List.{set-set}
 use Rattle.std.proofs.lemmas.Option.{none-some}
-use Rattle.fancy_bytes.specs.Sets.{member}
 use Rattle.fancy_input.specs.declared.span.Span.{Span}
 use Rattle.fancy_input.specs.Spans.{from_to}
 use Rattle.fancy_code.specs.Context.{Context, State}

@@ -1,5 +1,5 @@
 -- A loop of one item, passed in one step.
-use Rattle.std.proofs.Common.{◌≡◌, ℕ, zero, suc, ◌+◌, ◌-◌, ◌<◌, ◌≤◌, Bool, true, List, [], ◌∷◌, length, Option, Some, None, refl, sym, ap, ap₂, ◌∙◌, subst, arith, slice_index, inl, inr, true≢false}
+use Rattle.std.proofs.Common.{◌≡◌, ℕ, zero, suc, ◌+◌, ◌-◌, ◌<◌, ◌≤◌, Bool, true, List, [], ◌∷◌, length, Option, Some, None, refl, sym, ap, ◌∙◌, subst, arith, slice_index, inl, inr, true≢false}
 use Rattle.std.specs.Prelude.{slice_get}
 use Rattle.std.proofs.lemmas.Option.{same_Some, slice_get-get_or}
 use Rattle.std.proofs.lemmas.Bool.{cases_eq}
@@ -16,9 +16,8 @@ use Rattle.fancy_prices.specs.declared.splits.Splits.{Splits}
 use Rattle.fancy_prices.specs.Splits.{AreApart, DiesPast, IsToldSplit, IsNoted, ReadsByte, byte_alone}
 use Rattle.fancy_prices.specs.Prices.{Costs, MissesIn, Dies}
 use Rattle.fancy_code.specs.Code.{instrs_of}
-use Rattle.fancy_code.specs.declared.step.Next.TheVariants.{On, Dead}
 use Rattle.fancy_machine.specs.declared.attempt.Attempt.{Attempt}
-use Rattle.fancy_machine.specs.Attempt.{attempt_context, accepts, code_in, BackTakes, DieFirst, PassesBack, Seeks, SeeksBack, Advanced, size_ahead}
+use Rattle.fancy_machine.specs.Attempt.{attempt_context, accepts, code_in, BackTakes, DieFirst, PassesBack, SeeksBack}
 use Rattle.fancy_machine.specs.Frames.{Spot, Frame, Held, Saved, Within, saved}
 use Rattle.fancy_machine.specs.Machine.{after, finish, left, at_instr, at_place, saved_run, Searching, taken_outcome, final, returns_to, marks_to}
 use Rattle.fancy_machine.specs.declared.runs.LastRun.{LastRun}

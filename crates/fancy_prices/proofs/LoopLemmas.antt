@@ -1,5 +1,5 @@
 -- Loops of one item: where nothing is consumed any more they end, and what follows them may stop at once.
-use Rattle.std.proofs.Common.{◌≡◌, ℕ, zero, suc, ◌+◌, ◌<◌, ◌≤◌, ◌==◌, Bool, true, false, inl, inr, List, [], length, drop, Option, Some, None, if◌then◌else◌, nat_le, leb-true, refl, sym, ap, ◌∙◌, subst, arith, slice_get, slice_set, length-append}
+use Rattle.std.proofs.Common.{◌≡◌, ℕ, zero, suc, ◌+◌, ◌<◌, ◌≤◌, ◌==◌, Bool, true, false, inl, inr, List, [], length, Option, Some, None, if◌then◌else◌, nat_le, leb-true, refl, sym, ap, ◌∙◌, subst, arith, slice_get, slice_set, length-append}
 use Rattle.std.proofs.lemmas.Bool.{false_from_ne_true}
 use Rattle.std.proofs.lemmas.List.{length-drop}
 use Rattle.std.proofs.lemmas.Option.{none-some, slice_get_within}
@@ -9,7 +9,7 @@ use Rattle.fancy_bytes.specs.Sets.{ByteFlags}
 use Rattle.fancy_tree.specs.declared.tree.Meaning.{Meaning}
 use Rattle.fancy_code.specs.Context.{Context, State, moved_to, option_to, past_byte, past_item}
 use Rattle.fancy_code.specs.Instructions.{Instruction, Character, Close, Commit, Match, Member, Open, RawByte}
-use Rattle.fancy_code.specs.Run.{Raw, Note, fetched, Go, act, before, instr_at, onward, run}
+use Rattle.fancy_code.specs.Run.{Note, fetched, Go, act, before, instr_at, onward, run}
 use Rattle.fancy_code.proofs.ForetoldLemmas.{item_at}
 use Rattle.fancy_prices.specs.Prices.{Costs}
 use Rattle.fancy_prices.specs.Splits.{DiesPast, IsPast, ReadsEach, ReadsEachIn, StopsAt}

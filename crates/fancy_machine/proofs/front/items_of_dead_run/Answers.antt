@@ -1,6 +1,11 @@
-use Rattle.std.proofs.Common.{◌≡◌, ◌+◌, ◌-◌, arith, subst}
+use Rattle.std.proofs.Common.{◌≡◌, ◌+◌, ◌-◌, ℕ, false, Option, Some, None, arith, refl, sym, ◌∙◌, subst, true≢false}
+use Rattle.std.specs.Prelude.{is_some}
 use Rattle.fancy_machine.specs.Runs.{Lacks}
 use Rattle.fancy_machine.proofs.front.items_of_dead_run.Goals as goal
+
+none_there : (o : Option ℕ) → is_some o ≡ false → o ≡ None
+none_there None e = refl
+none_there (Some g) e = absurd (true≢false e)
 
 pub returns : goal.returns
 returns c =
@@ -15,6 +20,6 @@ returns c =
         ends = subst (Lacks split.begins haystack) e (c.may_begin.ensures c.if-may_begin.false);
         stuck = subst (Lacks split.leaves haystack) e (c.may_leave.ensures c.if-may_leave.false);
         apart = c.if-not-split.false;
-        alone = c.if-is_some.false;
+        alone = none_there split.group (sym c.is_some.ensures ∙ c.if-is_some.false);
       },
     )

@@ -1,7 +1,5 @@
-use Rattle.std.proofs.Common.{map, arith, subst}
+use Rattle.std.proofs.Common.{map, arith}
 use Rattle.fancy_machine.specs.Log.{cell_slot}
-use Rattle.fancy_machine.specs.Frames.{Held}
-use Rattle.fancy_machine.specs.Machine.{IsEndedByAny}
 use Rattle.fancy_machine.proofs.RegionLemmas.{opens_top}
 use Rattle.fancy_machine.proofs.TrailStops.{ended_by_any}
 use Rattle.fancy_machine.proofs.trail.Trail.closes_at_any_stop.Goals as goal
