@@ -69,8 +69,14 @@ class Runs:
         return self.r.choice(SETS)
 
     def run_loop(self, _depth):
-        """A loop of an item."""
-        return self.run_item() + self.r.choice(LOOPS)
+        """A loop of an item, which may stand in a group, or end the region that it stands in."""
+        item, loop = self.run_item(), self.r.choice(LOOPS)
+        if self.chance(0.2):
+            self.groups += 1
+            item = '(%s)' % item
+        if self.chance(0.15):
+            return '%s%s%s%s)' % (self.r.choice(('(?>', '(?=', '(?!', '(?:')), self.run_item() * self.chance(0.3), item, loop)
+        return item + loop
 
     def run_twice(self, _depth):
         """Loops of one item twice."""

@@ -1,7 +1,8 @@
 //! What may be relied on: each public call of `fancy_regex`, with all that its contract promises.
 //!
 //! Each function here makes one call and hands its answer on. Its clauses are the promise: which value, when each refusal comes,
-//! and what stands after it. They name `fancy_regex` alone. If the library promised less, this crate would not be proved.
+//! and what stands after it. But for [`memory`] they name `fancy_regex` alone. If the library promised less, this crate would not be
+//! proved.
 //!
 //! | To | See |
 //! |---|---|
@@ -18,6 +19,7 @@
 //! | read an error | [`errors`] |
 //! | read a regex | [`regexes`] |
 //! | see what a search costs | [`costs`] |
+//! | see what a search of a hard pattern keeps | [`memory`] |
 //! | see with which bytes a match begins, and which it needs | [`byte_sets`] |
 //! | reason further | [`laws`] |
 //!
@@ -34,6 +36,7 @@ pub mod inputs;
 pub mod laws;
 pub mod lists;
 pub mod matches;
+pub mod memory;
 pub mod options;
 pub mod regexes;
 pub mod replacements;
