@@ -36,6 +36,7 @@ fn items_of_dead_run(
 
 /// How many positions may be passed over from one on: attempts there find nothing, and what they count is told. There are none where
 /// the first attempt would save more branches than may be saved at one time.
+#[inline(never)]
 pub(crate) fn positions_to_pass(
     attempt: &Attempt,
     front: Front,

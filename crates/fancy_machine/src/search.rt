@@ -16,7 +16,6 @@ ghost use Rattle.fancy_machine.specs.Asked.{Serves, HeedsLimit, branches_allowed
 ghost use Rattle.fancy_machine.specs.Attempt.{KnowsSeen};
 ghost use Rattle.fancy_machine.specs.Front.{GoesPast, returns_ahead};
 ghost use Rattle.fancy_machine.specs.Log.{writes_allowed};
-ghost use Rattle.fancy_machine.specs.Runs.{KnowsRun};
 
 use crate::attempt::Attempt;
 use crate::best::Best;
@@ -148,7 +147,7 @@ pub fn search(
     let positions = Positions {
         code,
         entries: &prices.entries,
-        front: prices.front,
+        front: &prices.front,
         haystack,
         range_end,
         seek: options.seek,
@@ -162,8 +161,7 @@ pub fn search(
         if let Some(found) = found {
             return Ok(Some(found));
         }
-        let run = cache.seen.last_run;
-        let from = pass_run(&attempt, &positions, place + 1, limit, run, work)?;
+        let from = pass_run(&attempt, &positions, place + 1, limit, &cache.seen, work)?;
         place = positions.next(from);
     }
     Ok(None)
@@ -175,7 +173,7 @@ struct Positions<'a> {
     code: &'a Code,
     entries: &'a Entries,
     /// The loop that attempts come to, where an item of it stands.
-    front: Option<Front>,
+    front: &'a Option<Front>,
     haystack: &'a [u8],
     /// Where the searched range ends.
     range_end: usize,
@@ -208,13 +206,12 @@ impl Positions<'_> {
 
 /// Passes over the positions from one on that are within the run that was read last, where attempts find nothing, and counts their
 /// returns: the position after them. A search that seeks passes over none.
-#[inline]
 fn pass_run(
     attempts: &Attempt,
     positions: &Positions,
     from: usize,
     limit: usize,
-    last_run: LastRun,
+    seen: &Seen,
     work: &mut Work,
 ) -> Result<usize, SearchRefusal>
     ghost q: { Query }
@@ -224,8 +221,8 @@ fn pass_run(
     requires inside { q.request.range_end ≤ length q.haystack }
     requires ordered { from ≤ positions.now.last + 1 }
     requires room { returns_of work.old ≤ limit }
-    requires known { KnowsRun attempts.now.splits.now attempts.now.haystack.now last_run }
-    requires front { IfSome positions.now.front
+    requires seen { KnowsSeen attempts.now seen.now }
+    requires front { IfSome positions.now.front.now
         (IsFront attempts.now.splits.now attempts.now.code.now attempts.now.code.now.start) }
     ensures passed { IfOk result (λ on. GoesPast q positions.now.seek positions.now.last from on
         (returns_of work.new - returns_of work.old)) }
@@ -250,7 +247,8 @@ fn pass_run(
     if positions.seek {
         return Ok(from);
     }
-    let Some(items) = positions_to_pass(attempts, front, last_run, positions.last, from) else {
+    let last = positions.last;
+    let Some(items) = positions_to_pass(attempts, *front, seen.last_run, last, from) else {
         return Ok(from);
     };
     let returns = returns_over(front.before.returns, items);

@@ -69,7 +69,7 @@ pass_run-requires g c =
     let k = is_asked g.q g.q.sought.pattern c.args.code.now c.args.options c.args.haystack.now c.args.request c.args.continues c.requires.0 c.new-attempt.result c.new-attempt.ensures.code c.new-attempt.ensures.serves c.requires.1.0 c.requires.1.1.0 c.loop-place.place (omega (arith, c.last_position-last.ensures.inside)) in
     let of_splits = subst (λ (l : Splits). IfSome c.args.prices.now.front (IsFront l c.args.code.now c.args.code.now.start)) (sym c.new-attempt.ensures.splits) c.requires.1.1.1.1.1.front in
     let front = subst (λ (o : Code). IfSome c.args.prices.now.front (IsFront c.new-attempt.result.splits.now o o.start)) (sym c.new-attempt.ensures.code) of_splits in
-    (k.serves, (k.coded, (omega (arith, c.last_position-last.ensures.inside, k.range), (k.inside, (omega (arith, c.loop-place-test.true), (c.pass_or_try.ensures.fits, (c.pass_or_try.ensures.seen.run, front)))))))
+    (k.serves, (k.coded, (omega (arith, c.last_position-last.ensures.inside, k.range), (k.inside, (omega (arith, c.loop-place-test.true), (c.pass_or_try.ensures.fits, (c.pass_or_try.ensures.seen, front)))))))
 
 pub returns-in_err-found-clause-refused : goal.returns-in_err-found-clause-refused
 returns-in_err-found-clause-refused g c e =
