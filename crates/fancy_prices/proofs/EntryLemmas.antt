@@ -14,7 +14,7 @@ use Rattle.fancy_code.specs.Code.{instrs_of}
 use Rattle.fancy_code.specs.Compile.{IsCodeOf}
 use Rattle.fancy_code.specs.Search.{Query}
 use Rattle.fancy_prices.specs.declared.facts.Before.{Before}
-use Rattle.fancy_prices.specs.declared.facts.Before.TheVariants.{Nothing, LineFeed, CarriageReturn, Word, Other, Wide}
+use Rattle.fancy_prices.specs.declared.facts.Before.TheVariants.{Nothing, LineFeed, CarriageReturn, Letter, Digit, Blank, Other, Wide}
 use Rattle.fancy_prices.specs.declared.entries.Prices.{Prices}
 use Rattle.fancy_prices.specs.declared.entries.Told.{Told}
 use Rattle.fancy_prices.specs.declared.price.Price.{Price}
@@ -30,7 +30,9 @@ pub own_bit : (k : Before) → bit_and (bit_of k) (bit_of k) ≡ 0 → ⊥
 own_bit Nothing e = cc
 own_bit LineFeed e = cc
 own_bit CarriageReturn e = cc
-own_bit Word e = cc
+own_bit Letter e = cc
+own_bit Digit e = cc
+own_bit Blank e = cc
 own_bit Other e = cc
 own_bit Wide e = cc
 
@@ -51,9 +53,11 @@ pub lacks : (k : Before) (a b : ℕ) → bit_and (bit_or a b) (bit_of k) ≡ 0 �
 lacks Nothing a b e = lacks_bit a b 0 1 refl (λ n z. omega (arith, z)) refl e
 lacks LineFeed a b e = lacks_bit a b 1 2 refl (λ n z. omega (arith, z)) refl e
 lacks CarriageReturn a b e = lacks_bit a b 2 4 refl (λ n z. omega (arith, z)) refl e
-lacks Word a b e = lacks_bit a b 3 8 refl (λ n z. omega (arith, z)) refl e
-lacks Other a b e = lacks_bit a b 4 16 refl (λ n z. omega (arith, z)) refl e
-lacks Wide a b e = lacks_bit a b 5 32 refl (λ n z. omega (arith, z)) refl e
+lacks Letter a b e = lacks_bit a b 3 8 refl (λ n z. omega (arith, z)) refl e
+lacks Digit a b e = lacks_bit a b 4 16 refl (λ n z. omega (arith, z)) refl e
+lacks Blank a b e = lacks_bit a b 5 32 refl (λ n z. omega (arith, z)) refl e
+lacks Other a b e = lacks_bit a b 6 64 refl (λ n z. omega (arith, z)) refl e
+lacks Wide a b e = lacks_bit a b 7 128 refl (λ n z. omega (arith, z)) refl e
 
 -- one more item that is as it should be
 pub one_more : {A : Type 0} (d : A) (P : ℕ → A → Type 0) (items : List A) (i : ℕ) (v : A) → i < length items → P i v → ((b : ℕ) → b < i → P b (slice_index_or items b d))
@@ -128,16 +132,18 @@ told_after code row tells k b lt =
     (λ c dies. (dies_told (instrs_of code) code.meaning b (Some k) c.marks c.returns code.start dies.0, dies.1))
 
 -- the same row after each kind
-pub same_rows : (code : Code) (row : List (Option Price)) → TellsRow code None row → TellsKinds code (row ∷ row ∷ row ∷ row ∷ row ∷ row ∷ [])
+pub same_rows : (code : Code) (row : List (Option Price)) → TellsRow code None row → TellsKinds code (row ∷ row ∷ row ∷ row ∷ row ∷ row ∷ row ∷ row ∷ [])
 same_rows code row tells kind b lt = by kind where
   told : (k : Before) → TellsByte code (Some k) b (slice_index_or row b None)
   told k = told_after code row tells k b lt
 
-  by : (k : Before) → TellsByte code (Some k) b (price_in (row ∷ row ∷ row ∷ row ∷ row ∷ row ∷ []) k b)
+  by : (k : Before) → TellsByte code (Some k) b (price_in (row ∷ row ∷ row ∷ row ∷ row ∷ row ∷ row ∷ row ∷ []) k b)
   by Nothing = told Nothing
   by LineFeed = told LineFeed
   by CarriageReturn = told CarriageReturn
-  by Word = told Word
+  by Letter = told Letter
+  by Digit = told Digit
+  by Blank = told Blank
   by Other = told Other
   by Wide = told Wide
 

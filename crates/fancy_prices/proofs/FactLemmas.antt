@@ -1,6 +1,7 @@
 -- What the byte at a place and the one before it tell of words.
-use Rattle.std.proofs.Common.{◌≡◌, ℕ, zero, suc, ◌<◌, Bool, true, false, not, ◌&&◌, ◌||◌, List, [], ◌∷◌, Option, Some, None, IfSome, refl, sym, ap, ap₂, ◌∙◌, subst, arith, true≢false, nat_lt, nat_le, ◌==◌, ne_eqb, slice_get}
+use Rattle.std.proofs.Common.{◌≡◌, ℕ, zero, suc, ◌<◌, Bool, true, false, not, ◌&&◌, ◌||◌, List, [], ◌∷◌, Option, Some, None, IfSome, refl, sym, ap, ap₂, ◌∙◌, subst, arith, true≢false, nat_lt, nat_le, ◌==◌, ne_eqb, ltb-true, slice_get}
 use Rattle.std.specs.Bool.{beq}
+use Rattle.std.specs.Char.{is_ascii_digit}
 use Rattle.std.proofs.lemmas.Bool.Decides.{nat_tests}
 use Rattle.unicode.specs.Perl.{is_word_byte}
 use Rattle.unicode.proofs.PerlLemmas.{is_word_char-ascii}
@@ -18,10 +19,9 @@ use Rattle.fancy_code.proofs.ReadingLemmas.{low_after, low_before}
 use Rattle.fancy_code.proofs.WordCharacters.{ascii_word, unicode_word}
 use Rattle.fancy_prices.specs.declared.facts.Facts.{Facts}
 use Rattle.fancy_prices.specs.declared.facts.Before.{Before}
-use Rattle.fancy_prices.specs.declared.facts.Before.TheVariants.{LineFeed, CarriageReturn, Other, Wide}
-use Rattle.fancy_prices.specs.declared.facts.Before.TheVariants as kinds
-use Rattle.fancy_prices.proofs.FlagLemmas.{both, neither}
-use Rattle.fancy_prices.specs.Facts.{IsAlways, IsOfKind, Stands, TellsBefore, TellsHere}
+use Rattle.fancy_prices.specs.declared.facts.Before.TheVariants.{LineFeed, CarriageReturn, Letter, Digit, Blank, Other, Wide}
+use Rattle.fancy_prices.proofs.FlagLemmas.{both, neither, off}
+use Rattle.fancy_prices.specs.Facts.{IsAlways, IsOfKind, Stands, TellsBefore, TellsHere, is_blank}
 
 -- an ASCII byte is of a word in each meaning, or in none
 word_byte : (m : Meaning) (c : ℕ) → c < 128 → in_named_set m Word c ≡ is_word_byte c
@@ -29,8 +29,17 @@ word_byte Unicode c low = sym (unicode_word c (grind (arith, nat_tests))) ∙ is
 word_byte Bytes c low = sym (ascii_word c)
 word_byte AsciiText c low = sym (ascii_word c)
 
-pub word_low : (c : ℕ) → is_word_byte c ≡ true → c < 128
+word_low : (c : ℕ) → is_word_byte c ≡ true → c < 128
 word_low c h = grind (arith, nat_tests)
+
+digit_is_word : (c : ℕ) → is_ascii_digit c ≡ true → is_word_byte c ≡ true
+digit_is_word c h = grind (arith, nat_tests)
+
+blank_low : (c : ℕ) → is_blank c ≡ true → c < 128
+blank_low c h = grind (arith, nat_tests)
+
+blank_is_no_word : (c : ℕ) → is_blank c ≡ true → is_word_byte c ≡ false
+blank_is_no_word c h = grind (arith, nat_tests)
 
 -- a byte before a byte stands there as well
 get_down : (h : List ℕ) (p b : ℕ) → slice_get h (suc p) ≡ Some b → slice_get h p ≡ None → ⊥
@@ -63,22 +72,24 @@ module _ (m : Meaning) (h : List ℕ) (p : ℕ) where
   low_word_here b low e = ap (is_word m) (low_after m h p b low e) ∙ word_byte m b low
 
   -- a byte of these kinds
-  pub word_kind : IsOfKind kinds.Word (byte_before h p) → word_before m h p ≡ true
-  word_kind is = low_word_before is.0 (word_low is.0 is.2) is.1 ∙ is.2
+  word_stands : (b : ℕ) → is_word_byte b ≡ true → byte_before h p ≡ Some b → word_before m h p ≡ true
+  word_stands b word is = low_word_before b (word_low b word) is ∙ word
+
+  pub letter_kind : IsOfKind Letter (byte_before h p) → word_before m h p ≡ true
+  letter_kind is = word_stands is.0 (both (is_word_byte is.0) _ is.2).0 is.1
+
+  pub digit_kind : IsOfKind Digit (byte_before h p) → word_before m h p ≡ true
+  digit_kind is = word_stands is.0 (digit_is_word is.0 is.2) is.1
+
+  pub blank_kind : IsOfKind Blank (byte_before h p) → word_before m h p ≡ false
+  blank_kind is = low_word_before is.0 (blank_low is.0 is.2) is.1 ∙ blank_is_no_word is.0 is.2
 
   pub other_kind : IsOfKind Other (byte_before h p) → word_before m h p ≡ false
   other_kind is =
       let parts = both (nat_lt is.0 128) _ is.2 in
-      let low : is.0 < 128 = lower is.0 parts.0 in
-      low_word_before is.0 low is.1
-      ∙ (neither (is_word_byte is.0) _ _ refl (off_of _ parts.1)).0
-    where
-      lower : (b : ℕ) → nat_lt b 128 ≡ true → b < 128
-      lower b e = grind (arith, nat_tests)
-
-      off_of : (b : Bool) → not b ≡ true → b ≡ false
-      off_of true e = absurd (true≢false (sym e))
-      off_of false e = refl
+      let none = neither (is_word_byte is.0 || is_blank is.0) _ _ refl (off _ parts.1) in
+      low_word_before is.0 (ltb-true is.0 128 parts.0) is.1
+      ∙ (neither (is_word_byte is.0) _ _ refl none.0).0
 
   pub line_feed_kind : IsOfKind LineFeed (byte_before h p) → word_before m h p ≡ false
   line_feed_kind is = low_word_before 10 (omega arith) is
@@ -154,16 +165,29 @@ module _ (f : Facts) (before here : Bool) (tells : TellsBefore f (Some before)) 
   end_half_fails e word = by_word WordEndHalf e (ap not (is ∙ word))
 
 -- bytes of these kinds end no line
-pub word_in_line : IsAlways kinds.Word (λ b. not (is_line_feed (Some b) || is_carriage_return (Some b)))
-word_in_line o is = (is.0, is.1, by is.0 is.2) where
+pub letter_in_line : IsAlways Letter (λ b. not (is_line_feed (Some b) || is_carriage_return (Some b)))
+letter_in_line o is = (is.0, is.1, by is.0 (both (is_word_byte is.0) _ is.2).0) where
   by : (b : ℕ) → is_word_byte b ≡ true → not (is_line_feed (Some b) || is_carriage_return (Some b)) ≡ true
   by b e = grind (arith, nat_tests)
 
+pub digit_in_line : IsAlways Digit (λ b. not (is_line_feed (Some b) || is_carriage_return (Some b)))
+digit_in_line o is = (is.0, is.1, by is.0 is.2) where
+  by : (b : ℕ) → is_ascii_digit b ≡ true → not (is_line_feed (Some b) || is_carriage_return (Some b)) ≡ true
+  by b e = grind (arith, nat_tests)
+
+pub blank_in_line : IsAlways Blank (λ b. not (is_line_feed (Some b) || is_carriage_return (Some b)))
+blank_in_line o is = (is.0, is.1, by is.0 is.2) where
+  by : (b : ℕ) → is_blank b ≡ true → not (is_line_feed (Some b) || is_carriage_return (Some b)) ≡ true
+  by b e = grind (arith, nat_tests)
+
 pub other_in_line : IsAlways Other (λ b. not (is_line_feed (Some b) || is_carriage_return (Some b)))
-other_in_line o is = (is.0, is.1, by (is_word_byte is.0) (is_line_feed (Some is.0) || is_carriage_return (Some is.0)) (both (nat_lt is.0 128) _ is.2).1) where
-  by : (w e : Bool) → not (w || e) ≡ true → not e ≡ true
-  by true e h = absurd (true≢false (sym h))
-  by false e h = h
+other_in_line o is =
+    let inner = is_word_byte is.0 || is_blank is.0 in
+    (is.0, is.1, by inner (is_line_feed (Some is.0) || is_carriage_return (Some is.0)) (both (nat_lt is.0 128) _ is.2).1)
+  where
+    by : (w e : Bool) → not (w || e) ≡ true → not e ≡ true
+    by true e h = absurd (true≢false (sym h))
+    by false e h = h
 
 pub wide_in_line : IsAlways Wide (λ b. not (is_line_feed (Some b) || is_carriage_return (Some b)))
 wide_in_line o is = (is.0, is.1, by is.0 is.2) where
@@ -193,10 +217,6 @@ not_at_start : (h : List ℕ) (p b : ℕ) → byte_before h p ≡ Some b → (p 
 not_at_start h zero b e = cc
 not_at_start h (suc p) b e = ne_eqb (suc p) 0 (λ z. cc)
 
-unset : (b : Bool) → not b ≡ true → b ≡ false
-unset true e = absurd (true≢false (sym e))
-unset false e = refl
-
 module _ (f : Facts) (k : Before) (before : f.before ≡ Some k) (a : Assertion) (x : Context) (p : ℕ) (stands : Stands f x.haystack p) where
   pub text_start_fails : a ≡ TextStart → IsAlways k (λ b. true) → holds x a p ≡ false
   unfolding holds
@@ -209,13 +229,13 @@ module _ (f : Facts) (k : Before) (before : f.before ≡ Some k) (a : Assertion)
   line_start_fails e always =
       let b = always (byte_before x.haystack p) (kind_before f k before x.haystack p stands) in
       ap (λ (c : Assertion). holds x c p) e
-      ∙ ap₂ (λ (s l : Bool). s || l) (not_at_start x.haystack p b.0 b.1) (ap is_line_feed b.1 ∙ unset (is_line_feed (Some b.0)) b.2)
+      ∙ ap₂ (λ (s l : Bool). s || l) (not_at_start x.haystack p b.0 b.1) (ap is_line_feed b.1 ∙ off (is_line_feed (Some b.0)) b.2)
 
   pub line_start_crlf_fails : a ≡ LineStartCrlf → IsAlways k (λ b. not (is_line_feed (Some b) || is_carriage_return (Some b))) → holds x a p ≡ false
   unfolding holds
   line_start_crlf_fails e always =
       let b = always (byte_before x.haystack p) (kind_before f k before x.haystack p stands) in
-      let none = neither (is_line_feed (Some b.0)) _ _ refl (unset _ b.2) in
+      let none = neither (is_line_feed (Some b.0)) _ _ refl (off _ b.2) in
       let feed : is_line_feed (byte_before x.haystack p) ≡ false = ap is_line_feed b.1 ∙ none.0 in
       let return : is_carriage_return (byte_before x.haystack p) ≡ false = ap is_carriage_return b.1 ∙ none.1 in
       ap (λ (c : Assertion). holds x c p) e

@@ -19,7 +19,7 @@ use fancy_code::code::Code;
 const DEPTH: usize = 48;
 
 /// The bits of all kinds.
-const ALL_KINDS: u8 = 0b11_1111;
+const ALL_KINDS: u8 = 0b1111_1111;
 
 /// The positions at which an attempt must be made, told by the byte there and what stands before it. At each other one within the
 /// searched range an attempt finds nothing, and what it costs is told: how many choices it opens, and how many it takes back.
@@ -54,7 +54,7 @@ struct Prices {
     /// The kind of each byte.
     kinds: [Before; 256],
     /// For each kind of what stands before, by its number, and each byte.
-    rows: [[Option<Price>; 256]; 6],
+    rows: [[Option<Price>; 256]; 8],
 }
 
 /// Whether a byte continues a character of UTF-8.
@@ -102,25 +102,27 @@ fn prices_after(code: &Code, plain: &[Option<Price>; 256], kind: Before) -> [Opt
 }
 
 /// The same after what is of each kind. Each kind is asked for alone only where the code may test what stands before.
-fn rows_of(code: &Code) -> [[Option<Price>; 256]; 6]
+fn rows_of(code: &Code) -> [[Option<Price>; 256]; 8]
     ensures { TellsKinds code.now result }
 {
     let plain = plain_prices(code);
     if !tests_before(code, code.start, DEPTH) {
-        return [plain; 6];
+        return [plain; 8];
     }
     [
         prices_after(code, &plain, Before::Nothing),
         prices_after(code, &plain, Before::LineFeed),
         prices_after(code, &plain, Before::CarriageReturn),
-        prices_after(code, &plain, Before::Word),
+        prices_after(code, &plain, Before::Letter),
+        prices_after(code, &plain, Before::Digit),
+        prices_after(code, &plain, Before::Blank),
         prices_after(code, &plain, Before::Other),
         prices_after(code, &plain, Before::Wide),
     ]
 }
 
 /// The bit of this kind where an attempt at the byte costs something after it, or may find a match; else no bit.
-fn costly_after(rows: &[[Option<Price>; 256]; 6], here: u8, kind: Before) -> u8
+fn costly_after(rows: &[[Option<Price>; 256]; 8], here: u8, kind: Before) -> u8
     ensures { CostsWithout rows.now here result kind }
 {
     match rows[kind.number()][here as usize] {
@@ -130,20 +132,22 @@ fn costly_after(rows: &[[Option<Price>; 256]; 6], here: u8, kind: Before) -> u8
 }
 
 /// The bits of the kinds after which it does.
-fn costly_kinds(rows: &[[Option<Price>; 256]; 6], here: u8) -> u8
+fn costly_kinds(rows: &[[Option<Price>; 256]; 8], here: u8) -> u8
     ensures { (kind : Before) → CostsWithout rows.now here result kind }
 {
     let at_start = costly_after(rows, here, Before::Nothing);
     let line_feed = costly_after(rows, here, Before::LineFeed);
     let carriage_return = costly_after(rows, here, Before::CarriageReturn);
-    let word = costly_after(rows, here, Before::Word);
+    let letter = costly_after(rows, here, Before::Letter);
+    let digit = costly_after(rows, here, Before::Digit);
+    let blank = costly_after(rows, here, Before::Blank);
     let other = costly_after(rows, here, Before::Other);
     let wide = costly_after(rows, here, Before::Wide);
-    at_start | line_feed | carriage_return | word | other | wide
+    at_start | line_feed | carriage_return | letter | digit | blank | other | wide
 }
 
 /// The same for each byte.
-fn costly_kinds_of_each(rows: &[[Option<Price>; 256]; 6]) -> [u8; 256]
+fn costly_kinds_of_each(rows: &[[Option<Price>; 256]; 8]) -> [u8; 256]
     ensures { (b : ℕ) → b < 256 → (kind : Before) → CostsWithout rows.now b (slice_index result b) kind }
 {
     let mut kinds = [0; 256];
@@ -176,7 +180,7 @@ fn kind_of_each() -> [Before; 256]
 }
 
 /// Whether some attempt is told that costs something. No answer rests on it.
-fn are_priced(rows: &[[Option<Price>; 256]; 6]) -> bool {
+fn are_priced(rows: &[[Option<Price>; 256]; 8]) -> bool {
     for row in rows {
         for price in row {
             if let Some(price) = price {
@@ -190,7 +194,7 @@ fn are_priced(rows: &[[Option<Price>; 256]; 6]) -> bool {
 }
 
 /// The prices, if there are some beside nothing.
-fn prices_in(rows: [[Option<Price>; 256]; 6]) -> Option<Prices>
+fn prices_in(rows: [[Option<Price>; 256]; 8]) -> Option<Prices>
     ensures { IfSome result (λ p. HaveKinds p.kinds × (p.rows ≡ rows)) }
 {
     if !are_priced(&rows) {

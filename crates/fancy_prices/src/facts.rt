@@ -4,7 +4,7 @@ ghost use Rattle.std.specs.Prelude.{◌≡◌, ℕ, ◌<◌, ◌≤◌, true, fa
 ghost use Rattle.fancy_input.specs.Lines.{is_line_feed, is_carriage_return};
 ghost use Rattle.unicode.specs.Perl.{is_word_byte};
 ghost use Rattle.fancy_prices.specs.Prices.{EndsOtherwise};
-ghost use Rattle.fancy_prices.specs.Facts.{FailsWith, IsAlways, IsOfKind, TellsBefore, TellsHere, bit_of, number_of};
+ghost use Rattle.fancy_prices.specs.Facts.{FailsWith, IsAlways, IsOfKind, TellsBefore, TellsHere, bit_of, is_blank, number_of};
 
 use fancy_tree::tree::{Assertion, Meaning};
 
@@ -17,8 +17,12 @@ pub enum Before {
     LineFeed,
     /// A carriage return.
     CarriageReturn,
-    /// An ASCII letter, a digit or `_`.
-    Word,
+    /// An ASCII letter or `_`.
+    Letter,
+    /// An ASCII digit.
+    Digit,
+    /// A space, a tab, a vertical tab or a form feed.
+    Blank,
     /// Another ASCII byte.
     Other,
     /// A byte past ASCII.
@@ -41,6 +45,13 @@ fn is_word(byte: u8) -> bool
     byte.is_ascii_alphanumeric() || byte == b'_'
 }
 
+/// Whether a byte is ASCII white space that ends no line.
+fn is_blank(byte: u8) -> bool
+    ensures { result ≡ is_blank byte }
+{
+    byte == b' ' || byte == b'\t' || byte == 0x0B || byte == 0x0C
+}
+
 impl Before {
     /// The kind of a byte.
     pub(crate) fn of(byte: u8) -> Before
@@ -49,8 +60,14 @@ impl Before {
         if byte >= 0x80 {
             return Before::Wide;
         }
+        if byte.is_ascii_digit() {
+            return Before::Digit;
+        }
         if is_word(byte) {
-            return Before::Word;
+            return Before::Letter;
+        }
+        if is_blank(byte) {
+            return Before::Blank;
         }
         match byte {
             b'\n' => Before::LineFeed,
@@ -67,7 +84,9 @@ impl Before {
             Before::Nothing => false,
             Before::LineFeed
             | Before::CarriageReturn
-            | Before::Word
+            | Before::Letter
+            | Before::Digit
+            | Before::Blank
             | Before::Other
             | Before::Wide => true,
         }
@@ -79,7 +98,12 @@ impl Before {
     {
         match self {
             Before::Nothing | Before::LineFeed => false,
-            Before::CarriageReturn | Before::Word | Before::Other | Before::Wide => true,
+            Before::CarriageReturn
+            | Before::Letter
+            | Before::Digit
+            | Before::Blank
+            | Before::Other
+            | Before::Wide => true,
         }
     }
 
@@ -89,7 +113,7 @@ impl Before {
     {
         match self {
             Before::Nothing | Before::LineFeed | Before::CarriageReturn => false,
-            Before::Word | Before::Other | Before::Wide => true,
+            Before::Letter | Before::Digit | Before::Blank | Before::Other | Before::Wide => true,
         }
     }
 
@@ -101,8 +125,10 @@ impl Before {
             Before::Nothing | Before::Wide => false,
             Before::LineFeed => byte == b'\n',
             Before::CarriageReturn => byte == b'\r',
-            Before::Word => is_word(byte),
-            Before::Other => !(is_word(byte) || byte == b'\n' || byte == b'\r'),
+            Before::Letter => is_word(byte) && !byte.is_ascii_digit(),
+            Before::Digit => byte.is_ascii_digit(),
+            Before::Blank => is_blank(byte),
+            Before::Other => !(is_word(byte) || is_blank(byte) || byte == b'\n' || byte == b'\r'),
         }
     }
 
@@ -113,7 +139,9 @@ impl Before {
         match self {
             Before::LineFeed => 10,
             Before::CarriageReturn => 13,
-            Before::Word => 48,
+            Before::Letter => 65,
+            Before::Digit => 48,
+            Before::Blank => 9,
             Before::Nothing | Before::Other | Before::Wide => 0,
         }
     }
@@ -126,7 +154,9 @@ impl Before {
         match self {
             Before::LineFeed => 11,
             Before::CarriageReturn => 14,
-            Before::Word => 123,
+            Before::Letter => 123,
+            Before::Digit => 58,
+            Before::Blank => 33,
             Before::Nothing | Before::Other | Before::Wide => 128,
         }
     }
@@ -138,7 +168,12 @@ impl Before {
     {
         match self {
             Before::Nothing | Before::Wide => false,
-            Before::LineFeed | Before::CarriageReturn | Before::Word | Before::Other => true,
+            Before::LineFeed
+            | Before::CarriageReturn
+            | Before::Letter
+            | Before::Digit
+            | Before::Blank
+            | Before::Other => true,
         }
     }
 
@@ -171,9 +206,11 @@ impl Before {
             Before::Nothing => 1,
             Before::LineFeed => 2,
             Before::CarriageReturn => 4,
-            Before::Word => 8,
-            Before::Other => 16,
-            Before::Wide => 32,
+            Before::Letter => 8,
+            Before::Digit => 16,
+            Before::Blank => 32,
+            Before::Other => 64,
+            Before::Wide => 128,
         }
     }
 
@@ -181,15 +218,17 @@ impl Before {
     #[inline]
     pub(crate) fn number(self) -> usize
         ensures number { result ≡ number_of self }
-        ensures below { result < 6 }
+        ensures below { result < 8 }
     {
         match self {
             Before::Nothing => 0,
             Before::LineFeed => 1,
             Before::CarriageReturn => 2,
-            Before::Word => 3,
-            Before::Other => 4,
-            Before::Wide => 5,
+            Before::Letter => 3,
+            Before::Digit => 4,
+            Before::Blank => 5,
+            Before::Other => 6,
+            Before::Wide => 7,
         }
     }
 }
@@ -201,10 +240,12 @@ impl Facts {
     {
         match self.before? {
             Before::Wide => None,
-            Before::Word => Some(true),
-            Before::Nothing | Before::LineFeed | Before::CarriageReturn | Before::Other => {
-                Some(false)
-            }
+            Before::Letter | Before::Digit => Some(true),
+            Before::Nothing
+            | Before::LineFeed
+            | Before::CarriageReturn
+            | Before::Blank
+            | Before::Other => Some(false),
         }
     }
 

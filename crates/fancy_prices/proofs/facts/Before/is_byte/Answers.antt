@@ -1,8 +1,8 @@
 use Rattle.std.proofs.Common.{◌≡◌, Bool, ℕ, inl, inr, sym, subst}
 use Rattle.fancy_prices.specs.declared.facts.Before.{Before}
-use Rattle.fancy_prices.specs.declared.facts.Before.TheVariants.{LineFeed, CarriageReturn, Word, Other, Wide}
+use Rattle.fancy_prices.specs.declared.facts.Before.TheVariants.{LineFeed, CarriageReturn, Letter, Digit, Blank, Other, Wide}
 use Rattle.fancy_prices.specs.Facts.{IsAlways}
-use Rattle.fancy_prices.proofs.FactLemmas.{anything, line_feed_stands, carriage_return_is, word_in_line, other_in_line, wide_in_line}
+use Rattle.fancy_prices.proofs.FactLemmas.{anything, line_feed_stands, carriage_return_is, letter_in_line, digit_in_line, blank_in_line, other_in_line, wide_in_line}
 use Rattle.fancy_prices.proofs.facts.Before.is_byte.Goals as goal
 
 pub returns-in-LineFeed : goal.returns-in-LineFeed
@@ -12,10 +12,16 @@ returns-in-LineFeed c t =
       | inr others ↦ elim others [
         | inl e ↦ of CarriageReturn e (anything CarriageReturn _ carriage_return_is)
         | inr others ↦ elim others [
-          | inl e ↦ of Word e (anything Word _ word_in_line)
+          | inl e ↦ of Letter e (anything Letter _ letter_in_line)
           | inr others ↦ elim others [
-            | inl e ↦ of Other e (anything Other _ other_in_line)
-            | inr e ↦ of Wide e (anything Wide _ wide_in_line)
+            | inl e ↦ of Digit e (anything Digit _ digit_in_line)
+            | inr others ↦ elim others [
+              | inl e ↦ of Blank e (anything Blank _ blank_in_line)
+              | inr others ↦ elim others [
+                | inl e ↦ of Other e (anything Other _ other_in_line)
+                | inr e ↦ of Wide e (anything Wide _ wide_in_line)
+              ]
+            ]
           ]
         ]
       ]

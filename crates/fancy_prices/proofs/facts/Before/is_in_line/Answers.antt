@@ -1,17 +1,23 @@
 use Rattle.std.proofs.Common.{◌≡◌, Bool, ℕ, inl, inr, sym, subst}
 use Rattle.fancy_prices.specs.declared.facts.Before.{Before}
-use Rattle.fancy_prices.specs.declared.facts.Before.TheVariants.{Word, Other, Wide}
+use Rattle.fancy_prices.specs.declared.facts.Before.TheVariants.{Letter, Digit, Blank, Other, Wide}
 use Rattle.fancy_prices.specs.Facts.{IsAlways}
-use Rattle.fancy_prices.proofs.FactLemmas.{word_in_line, other_in_line, wide_in_line}
+use Rattle.fancy_prices.proofs.FactLemmas.{letter_in_line, digit_in_line, blank_in_line, other_in_line, wide_in_line}
 use Rattle.fancy_prices.proofs.facts.Before.is_in_line.Goals as goal
 
-pub returns-in-Word : goal.returns-in-Word
-returns-in-Word c t =
-    elim c.in-Word.is [
-      | inl e ↦ of Word e word_in_line
+pub returns-in-Letter : goal.returns-in-Letter
+returns-in-Letter c t =
+    elim c.in-Letter.is [
+      | inl e ↦ of Letter e letter_in_line
       | inr others ↦ elim others [
-        | inl e ↦ of Other e other_in_line
-        | inr e ↦ of Wide e wide_in_line
+        | inl e ↦ of Digit e digit_in_line
+        | inr others ↦ elim others [
+          | inl e ↦ of Blank e blank_in_line
+          | inr others ↦ elim others [
+            | inl e ↦ of Other e other_in_line
+            | inr e ↦ of Wide e wide_in_line
+          ]
+        ]
       ]
     ]
   where
