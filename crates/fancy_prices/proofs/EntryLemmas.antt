@@ -20,7 +20,7 @@ use Rattle.fancy_prices.specs.declared.entries.Told.{Told}
 use Rattle.fancy_prices.specs.declared.price.Price.{Price}
 use Rattle.fancy_prices.specs.Facts.{IsOfKind, bit_of}
 use Rattle.fancy_prices.specs.Prices.{CostsAt, IsNothing}
-use Rattle.fancy_prices.specs.Entries.{AreEntries, CostsWithout, HasKind, HaveKinds, IsPassed, TellsByte, TellsKinds, TellsRow, bit_before, is_after, is_told, kind_before, price_in, price_told}
+use Rattle.fancy_prices.specs.Entries.{AreEntries, ArePassed, CostsWithout, HasKind, HaveKinds, IsNextCostly, IsNextEntry, IsPassed, TellsByte, TellsKinds, TellsRow, bit_before, is_after, is_told, kind_before, price_in, price_told}
 use Rattle.fancy_prices.proofs.DyingWays.{dies_told}
 use Rattle.fancy_prices.proofs.BeginLemmas.{get_index}
 use Rattle.fancy_prices.proofs.PriceLemmas.{price_costs, told_counted}
@@ -98,32 +98,77 @@ no_bit true x e none =
       | inr other ↦ absurd (true≢false (sym (ap not (ne_eqb x 0 other)) ∙ e))
     ]
 
--- what a scan passes over
-module _ (e : Option Told) (t : Told) (is : e ≡ Some t) (h : List ℕ) (range_end from place : ℕ) (earlier : (k : ℕ) → from ≤ k → k < place → IsPassed (is_told e) h range_end k) where
-  passed_here : (k : ℕ) → k < range_end → (member t.bytes (slice_index h k) && is_after t.after t.kinds (byte_before h k) (slice_index h k)) ≡ false → IsPassed (is_told e) h range_end k
-  passed_here k lt none =
-      let nothing : Price = record { marks = 0; returns = 0 } in
-      (nothing, (lt, subst (λ (o : Option Told). is_told o (byte_before h k) (slice_index h k) nothing) (sym is) (inr (none, (refl, refl)))), (refl, refl))
+-- what is looked at, and has no bit of what stands before
+module _ (t : Told) (h : List ℕ) where
+  -- of a place past which the range ends
+  passed_here : (to k : ℕ) → k < to → (member t.bytes (slice_index h k) && is_after t.after t.kinds (byte_before h k) (slice_index h k)) ≡ false → IsPassed (is_told (Some t)) h to k
+  passed_here to k lt none = (record { marks = 0; returns = 0 }, (lt, inr (none, (refl, refl))), (refl, refl))
 
-  pub passed_unseen : (to : ℕ) → to ≤ range_end → NoneSeenBefore t.bytes h place to → (k : ℕ) → from ≤ k → k < to → IsPassed (is_told e) h range_end k
-  passed_unseen to inside none k low high =
+  never : (b : Bool) → (b && false) ≡ false
+  never true = refl
+  never false = refl
+
+  passed_after : (to k : ℕ) → k < to → is_after t.after t.kinds (byte_before h k) (slice_index h k) ≡ false → IsPassed (is_told (Some t)) h to k
+  passed_after to k lt none = passed_here to k lt (ap (λ (b : Bool). member t.bytes (slice_index h k) && b) none ∙ never (member t.bytes (slice_index h k)))
+
+  -- the range may end later
+  pub passed_within : (to end k : ℕ) → to ≤ end → IsPassed (is_told (Some t)) h to k → IsPassed (is_told (Some t)) h end k
+  passed_within to end k le passed = (passed.0, (omega (arith, passed.1.0, le), passed.1.1), passed.2)
+
+  pub passed_up_to : (from place to : ℕ) → place ≤ to → to ≤ place → ArePassed t h from place → ArePassed t h from to
+  passed_up_to from place to ordered all earlier k low high = passed_within place to k ordered (earlier k low (omega (arith, high, all)))
+
+  -- one place more
+  pub passed_one : (from place : ℕ) → ArePassed t h from place → is_after t.after t.kinds (byte_before h place) (slice_index h place) ≡ false → ArePassed t h from (place + 1)
+  passed_one from place earlier none k low high =
+      elim (cases_eq k place) [
+        | inl same ↦ subst (IsPassed (is_told (Some t)) h (place + 1)) (sym same) (passed_after (place + 1) place (omega arith) none)
+        | inr other ↦ passed_within place (place + 1) k (omega arith) (earlier k low (omega (arith, high, other)))
+      ]
+
+  -- what a scan passes over
+  pub passed_unseen : (from place to : ℕ) → place ≤ to → ArePassed t h from place → NoneSeenBefore t.bytes h place to → ArePassed t h from to
+  passed_unseen from place to ordered earlier none k low high =
       elim (cases_lt k place) [
-        | inl before ↦ earlier k low before
-        | inr later ↦ passed_here k (omega (arith, high, inside)) (ap (λ (b : Bool). b && is_after t.after t.kinds (byte_before h k) (slice_index h k)) (none k later high))
+        | inl before ↦ passed_within place to k ordered (earlier k low before)
+        | inr later ↦ passed_here to k high (ap (λ (b : Bool). b && is_after t.after t.kinds (byte_before h k) (slice_index h k)) (none k later high))
       ]
 
-  pub passed_seen : (to seen : ℕ) → to ≤ range_end → IsNextSeen t.bytes h place to seen → is_after t.after t.kinds (byte_before h seen) (slice_index h seen) ≡ false
-      → (k : ℕ) → from ≤ k → k < seen + 1 → IsPassed (is_told e) h range_end k
-  passed_seen to seen inside next none k low high =
-      elim (cases_eq k seen) [
-        | inl same ↦ subst (IsPassed (is_told e) h range_end) (sym same)
-            (passed_here seen (omega (arith, next.within, inside)) (ap (λ (b : Bool). member t.bytes (slice_index h seen) && b) none ∙ never (member t.bytes (slice_index h seen))))
-        | inr other ↦ passed_unseen seen (omega (arith, next.within, inside)) next.none k low (omega (arith, high, other))
-      ]
-    where
-      never : (b : Bool) → (b && false) ≡ false
-      never true = refl
-      never false = refl
+  pub passed_seen : (from place to seen : ℕ) → ArePassed t h from place → IsNextSeen t.bytes h place to seen → is_after t.after t.kinds (byte_before h seen) (slice_index h seen) ≡ false
+      → ArePassed t h from (seen + 1)
+  passed_seen from place to seen earlier next none = passed_one from seen (passed_unseen from place seen next.passed earlier next.none) none
+
+  -- what is looked at past other places
+  pub next_past : (from near to p : ℕ) → from ≤ near → ArePassed t h from near → IsNextCostly t h near to p → IsNextCostly t h from to p
+  next_past from near to p ordered earlier next =
+      record {
+        passed = omega (arith, ordered, next.passed);
+        within = next.within;
+        none = λ k low high. elim (cases_lt k near) [
+          | inl before ↦ passed_within near p k next.passed (earlier k low before)
+          | inr later ↦ next.none k later high
+        ];
+      }
+
+  pub next_entry : (e : Option Told) → e ≡ Some t → (range_end from last to p : ℕ) → to ≤ range_end → to ≤ last + 1 → IsNextCostly t h from to p → IsNextEntry (is_told e) h range_end from last p
+  next_entry e is range_end from last to p inside ends next =
+      record {
+        passed = next.passed;
+        within = omega (arith, next.within, ends);
+        none = λ k low high. subst (λ (o : Option Told). IsPassed (is_told o) h range_end k) (sym is)
+            (passed_within p range_end k (omega (arith, next.within, inside)) (next.none k low high));
+      }
+
+  -- the bits that the byte has, and that of what stands before, which has none of them
+  pub no_bit_here : (place kind : ℕ) → kind ≡ bit_before t.kinds (byte_before h place) → bit_and (slice_index t.after (slice_index h place)) kind ≡ 0
+      → is_after t.after t.kinds (byte_before h place) (slice_index h place) ≡ false
+  no_bit_here place kind is none = ap (λ (x : ℕ). not (x == 0)) (ap (bit_and (slice_index t.after (slice_index h place))) (sym is) ∙ none)
+
+  -- what stands before the next place is the byte here
+  pub bit_next : (place : ℕ) → place < length h → slice_index t.kinds (slice_index h place) ≡ bit_before t.kinds (byte_before h (place + 1))
+  bit_next place lt =
+      let next : place + 1 ≡ suc place = omega arith in
+      sym (ap (λ (p : ℕ). bit_before t.kinds (byte_before h p)) next ∙ ap (bit_before t.kinds) (stands_there h place lt))
 
 -- what is told without what stands before
 pub told_after : (code : Code) (row : List (Option Price)) → TellsRow code None row → (k : Before) → TellsRow code (Some k) row

@@ -100,3 +100,13 @@ pub record IsNextEntry (entry : EntryTest) (haystack : List ℕ) (range_end from
   pub passed : from ≤ p
   pub within : p ≤ last + 1
   pub none : (k : ℕ) → from ≤ k → k < p → IsPassed entry haystack range_end k
+
+-- of the places from the one on and before the other it is told that attempts cost nothing
+abbrev pub ArePassed : Told → List ℕ → ℕ → ℕ → Type 0
+ArePassed told haystack from to = (k : ℕ) → from ≤ k → k < to → IsPassed (is_told (Some told)) haystack to k
+
+-- p is a place, from the one on and up to the other, before which it is told so
+pub record IsNextCostly (told : Told) (haystack : List ℕ) (from to p : ℕ) : Type 0 where
+  pub passed : from ≤ p
+  pub within : p ≤ to
+  pub none : ArePassed told haystack from p

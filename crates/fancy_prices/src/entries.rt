@@ -1,12 +1,12 @@
 //! The positions at which a search must enter the code: at each other one an attempt finds nothing, and what it costs is told.
 
-ghost use Rattle.std.specs.Prelude.{◌≡◌, ℕ, ◌+◌, ◌<◌, ◌≤◌, true, false, None, Some, IfSome, length, slice_index};
+ghost use Rattle.std.specs.Prelude.{◌≡◌, ℕ, ◌+◌, ◌<◌, ◌≤◌, true, false, None, Some, IfSome, MatchOption, length, slice_index};
 ghost use Rattle.fancy_input.specs.Lines.{byte_before};
 ghost use Rattle.fancy_input.specs.Places.{is_continuation};
 ghost use Rattle.fancy_code.specs.declared.code.Code.{Code};
 ghost use Rattle.fancy_bytes.specs.Sets.{member};
 ghost use Rattle.fancy_prices.specs.declared.facts.Before.{Before};
-ghost use Rattle.fancy_prices.specs.Entries.{AreEntries, CostsWithout, HasKind, HaveKinds, IsNextEntry, IsToldAt, TellsByte, TellsKinds, TellsRow, is_after, is_entry, price_after};
+ghost use Rattle.fancy_prices.specs.Entries.{ArePassed, AreEntries, CostsWithout, HasKind, HaveKinds, IsNextEntry, IsNextCostly, IsToldAt, TellsByte, TellsKinds, TellsRow, bit_before, is_after, is_entry, price_after};
 
 use crate::facts::{Before, Facts};
 use crate::free::{price_of, tests_before};
@@ -17,6 +17,9 @@ use fancy_code::code::Code;
 
 /// How many instructions are followed one after another.
 const DEPTH: usize = 48;
+
+/// How many positions are looked at one at a time before a scan of many.
+const NEAR: usize = 16;
 
 /// The bits of all kinds.
 const ALL_KINDS: u8 = 0b1111_1111;
@@ -228,18 +231,79 @@ fn bytes_with_some(after: &[u8; 256]) -> ByteSet
 }
 
 impl Told {
+    /// The bit of the kind of what stands before a place.
+    #[inline]
+    fn kind_before(&self, haystack: &[u8], place: usize) -> u8
+        requires { place ≤ length haystack.now }
+        ensures { result ≡ bit_before self.now.kinds (byte_before haystack.now place) }
+    {
+        if place == 0 {
+            Before::Nothing.bit()
+        } else {
+            self.kinds[haystack[place - 1] as usize]
+        }
+    }
+
     /// Whether an attempt costs something, or may find a match, at a place where one of the bytes stands.
     #[inline]
     fn is_after(&self, haystack: &[u8], place: usize) -> bool
         requires { place < length haystack.now }
         ensures { result ≡ is_after self.now.after self.now.kinds (byte_before haystack.now place) (slice_index haystack.now place) }
     {
-        let kind = if place == 0 {
-            Before::Nothing.bit()
-        } else {
-            self.kinds[haystack[place - 1] as usize]
-        };
-        self.after[haystack[place] as usize] & kind != 0
+        self.after[haystack[place] as usize] & self.kind_before(haystack, place) != 0
+    }
+
+    /// Up to which place they are looked at one at a time, from one on: at none where a scan is for one byte, and as fast. No answer rests
+    /// on it.
+    #[inline]
+    fn near_end(&self, from: usize, to: usize) -> usize
+        requires { from ≤ to }
+        ensures passed { from ≤ result }
+        ensures within { result ≤ to }
+    {
+        if self.bytes.has_one() {
+            return from;
+        }
+        if to - from > NEAR { from + NEAR } else { to }
+    }
+
+    /// The first place, from the one on and before the other, at which an attempt may find something or costs something. They are looked
+    /// at one at a time.
+    #[inline]
+    fn next_near(&self, haystack: &[u8], from: usize, to: usize) -> Option<usize>
+        requires ordered { from ≤ to }
+        requires inside { to ≤ length haystack.now }
+        ensures { MatchOption result (ArePassed self.now haystack.now from to) (IsNextCostly self.now haystack.now from to) }
+    {
+        let mut kind = self.kind_before(haystack, from);
+        for place in from..to {
+            let byte = haystack[place] as usize;
+            if self.after[byte] & kind != 0 {
+                return Some(place);
+            }
+            kind = self.kinds[byte];
+        }
+        None
+    }
+
+    /// The same, or else the other place. They are looked at many at a time, which is slower where one stands near.
+    #[inline]
+    fn next_far(&self, haystack: &[u8], from: usize, to: usize) -> usize
+        requires ordered { from ≤ to }
+        requires inside { to ≤ length haystack.now }
+        ensures { IsNextCostly self.now haystack.now from to result }
+    {
+        let mut place = from;
+        while place < to {
+            let Some(seen) = self.bytes.next_seen(haystack, place, to) else {
+                return to;
+            };
+            if self.is_after(haystack, seen) {
+                return seen;
+            }
+            place = seen + 1;
+        }
+        to
     }
 }
 
@@ -321,16 +385,13 @@ impl Entries {
             return from;
         };
         let end = (last + 1).min(range_end);
-        let mut place = from;
-        while place < end {
-            let Some(seen) = told.bytes.next_seen(haystack, place, end) else {
-                return end;
-            };
-            if told.is_after(haystack, seen) {
-                return seen;
-            }
-            place = seen + 1;
+        if end <= from {
+            return from;
         }
-        place
+        let near = told.near_end(from, end);
+        match told.next_near(haystack, from, near) {
+            Some(place) => place,
+            None => told.next_far(haystack, near, end),
+        }
     }
 }
