@@ -185,7 +185,7 @@ struct Positions<'a> {
 
 impl Positions<'_> {
     /// The first of them from a position on, past the last where there is none.
-    #[inline]
+    #[inline(always)]
     fn next(&self, from: usize) -> usize
         requires ordered { from ≤ self.now.last + 1 }
         requires last { self.now.last ≤ self.now.range_end }

@@ -19,7 +19,7 @@ use fancy_code::code::Code;
 const DEPTH: usize = 48;
 
 /// How many positions are looked at one at a time before a scan of many.
-const NEAR: usize = 16;
+const NEAR: usize = 8;
 
 /// The bits of all kinds.
 const ALL_KINDS: u8 = 0b1111_1111;
@@ -286,7 +286,7 @@ impl Told {
         None
     }
 
-    /// The same, or else the other place. They are looked at many at a time, which is slower where one stands near.
+    /// The same, or else the other place. They are looked at by scans, many at a time, which is slower where one stands near.
     #[inline]
     fn next_far(&self, haystack: &[u8], from: usize, to: usize) -> usize
         requires ordered { from ≤ to }
@@ -304,6 +304,21 @@ impl Told {
             place = seen + 1;
         }
         to
+    }
+
+    /// The same, or else the other place. The near ones are looked at one at a time, and past them many at a time. It is a call of its
+    /// own, since most often there is one at the place where it would begin.
+    #[inline(never)]
+    fn next_ahead(&self, haystack: &[u8], from: usize, to: usize) -> usize
+        requires ordered { from ≤ to }
+        requires inside { to ≤ length haystack.now }
+        ensures { IsNextCostly self.now haystack.now from to result }
+    {
+        let near = self.near_end(from, to);
+        match self.next_near(haystack, from, near) {
+            Some(place) => place,
+            None => self.next_far(haystack, near, to),
+        }
     }
 }
 
@@ -374,7 +389,7 @@ impl Entries {
 
     /// The first position, from the one on and up to the last, at which an attempt may find something or costs something, or past the
     /// last where there is none. The end of the range is always one.
-    #[inline]
+    #[inline(always)]
     pub fn next(&self, haystack: &[u8], range_end: usize, from: usize, last: usize) -> usize
         requires ordered { from ≤ last + 1 }
         requires last { last ≤ range_end }
@@ -385,13 +400,9 @@ impl Entries {
             return from;
         };
         let end = (last + 1).min(range_end);
-        if end <= from {
+        if end <= from || told.is_after(haystack, from) {
             return from;
         }
-        let near = told.near_end(from, end);
-        match told.next_near(haystack, from, near) {
-            Some(place) => place,
-            None => told.next_far(haystack, near, end),
-        }
+        told.next_ahead(haystack, from + 1, end)
     }
 }
