@@ -253,20 +253,6 @@ impl Told {
         self.after[haystack[place] as usize] & self.kind_before(haystack, place) != 0
     }
 
-    /// Up to which place they are looked at one at a time, from one on: at none where a scan is for one byte, and as fast. No answer rests
-    /// on it.
-    #[inline]
-    fn near_end(&self, from: usize, to: usize) -> usize
-        requires { from ≤ to }
-        ensures passed { from ≤ result }
-        ensures within { result ≤ to }
-    {
-        if self.bytes.has_one() {
-            return from;
-        }
-        if to - from > NEAR { from + NEAR } else { to }
-    }
-
     /// The first place, from the one on and before the other, at which an attempt may find something or costs something. They are looked
     /// at one at a time.
     #[inline]
@@ -314,7 +300,7 @@ impl Told {
         requires inside { to ≤ length haystack.now }
         ensures { IsNextCostly self.now haystack.now from to result }
     {
-        let near = self.near_end(from, to);
+        let near = from + (to - from).min(NEAR);
         match self.next_near(haystack, from, near) {
             Some(place) => place,
             None => self.next_far(haystack, near, to),
@@ -400,7 +386,13 @@ impl Entries {
             return from;
         };
         let end = (last + 1).min(range_end);
-        if end <= from || told.is_after(haystack, from) {
+        if end <= from {
+            return from;
+        }
+        if told.bytes.has_one() {
+            return told.next_far(haystack, from, end);
+        }
+        if told.is_after(haystack, from) {
             return from;
         }
         told.next_ahead(haystack, from + 1, end)
