@@ -145,7 +145,8 @@ impl LastRun {
     #[inline]
     pub(crate) fn past_of(self, at: usize, place: usize) -> Option<usize>
         ensures past { IfSome result (λ past. place < past) }
-        ensures items { (splits : Splits) (haystack : List ℕ) (l : ToldSplit) → KnowsRun splits haystack self → IsNoted splits at l
+        ensures items { (splits : Splits) (haystack : List ℕ) (l : ToldSplit)
+            → KnowsRun splits haystack self → IsNoted splits at l
             → IfSome result (λ past. HasItems l haystack place (past - place)) }
     {
         if self.at == at && self.from <= place && place < self.past {

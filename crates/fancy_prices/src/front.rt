@@ -50,7 +50,8 @@ fn dies_at_each(code: &Code, at: usize, split: &ToldSplit) -> bool
 
 /// Whether each item of a loop that is one byte is in a set.
 fn are_among(split: &ToldSplit, items: &ByteSet) -> bool
-    ensures { result ≡ true → (b : ℕ) → b < 256 → member split.now.items b ≡ true → member items.now b ≡ true }
+    ensures { result ≡ true → (b : ℕ) → b < 256 → member split.now.items b ≡ true
+        → member items.now b ≡ true }
 {
     for byte in 0..256u32 {
         if split.is_item(byte as u8) && !items.contains(byte as u8) {
