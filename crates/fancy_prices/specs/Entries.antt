@@ -1,5 +1,6 @@
 -- The positions at which a search must make an attempt.
-use Rattle.std.specs.Prelude.{◌≡◌, ℕ, ◌+◌, ◌<◌, ◌≤◌, ◌==◌, ◌⊎◌, Bool, true, false, not, ◌&&◌, List, [], length, Option, Some, None, IfSome, slice_index, slice_index_or, bit_and}
+use Rattle.std.specs.Prelude.{◌≡◌, ℕ, ◌+◌, ◌<◌, ◌≤◌, ◌==◌, ◌⊎◌, Bool, true, false, not, ◌&&◌, List, [], length, Option, Some, None, IfSome, slice_index, slice_index_or, bit_and, Box}
+use Rattle.std.specs.Global.{Global}
 use Rattle.fancy_input.specs.Lines.{byte_before}
 use Rattle.fancy_input.specs.Places.{is_continuation}
 use Rattle.fancy_bytes.specs.Sets.{member}
@@ -15,6 +16,11 @@ use Rattle.fancy_prices.specs.declared.facts.Before.TheVariants.{Nothing}
 use Rattle.fancy_prices.specs.declared.price.Price.{Price}
 use Rattle.fancy_prices.specs.Facts.{IsOfKind, bit_of, number_of}
 use Rattle.fancy_prices.specs.Prices.{CostsAt, Dies, IsNothing}
+
+-- what is told, out of its box
+abbrev pub unboxed : Option (Box Told Global) → Option Told
+unboxed None = None
+unboxed (Some b) = Some b.value
 
 -- what is told of an attempt, by what stands before a position and the byte there: it finds nothing, and costs this
 abbrev pub EntryTest : Type 1
@@ -52,7 +58,7 @@ is_told (Some t) before here c =
     (price_told t.prices before here ≡ Some c) ⊎ (((member t.bytes here && is_after t.after t.kinds before here) ≡ false) × IsNothing c)
 
 abbrev pub is_entry : Entries → EntryTest
-is_entry e = is_told e.told
+is_entry e = is_told (unboxed e.told)
 
 -- where the price is told an attempt at this byte dies after what is of the kind, and costs that, and nothing within a character
 abbrev pub TellsByte : Code → Option Before → ℕ → Option Price → Type 0

@@ -1,12 +1,12 @@
 //! The positions at which a search must enter the code: at each other one an attempt finds nothing, and what it costs is told.
 
-ghost use Rattle.std.specs.Prelude.{◌≡◌, ℕ, ◌+◌, ◌<◌, ◌≤◌, true, false, None, Some, IfSome, MatchOption, length, slice_index};
+ghost use Rattle.std.specs.Prelude.{◌≡◌, ℕ, ◌+◌, ◌<◌, ◌≤◌, true, false, None, Some, IfOk, IfSome, MatchOption, length, slice_index};
 ghost use Rattle.fancy_input.specs.Lines.{byte_before};
 ghost use Rattle.fancy_input.specs.Places.{is_continuation};
 ghost use Rattle.fancy_code.specs.declared.code.Code.{Code};
 ghost use Rattle.fancy_bytes.specs.Sets.{member};
 ghost use Rattle.fancy_prices.specs.declared.facts.Before.{Before};
-ghost use Rattle.fancy_prices.specs.Entries.{ArePassed, AreEntries, CostsWithout, HasKind, HaveKinds, IsNextEntry, IsNextCostly, IsToldAt, TellsByte, TellsKinds, TellsRow, bit_before, is_after, is_entry, price_after};
+ghost use Rattle.fancy_prices.specs.Entries.{ArePassed, AreEntries, CostsWithout, HasKind, HaveKinds, IsNextEntry, IsNextCostly, IsToldAt, TellsByte, TellsKinds, TellsRow, bit_before, is_after, is_entry, price_after, unboxed};
 
 use crate::facts::{Before, Facts};
 use crate::free::{price_of, tests_before};
@@ -14,6 +14,7 @@ use crate::price::Price;
 use fancy_bytes::byte_set::ByteSet;
 use fancy_bytes::scan::Scan;
 use fancy_code::code::Code;
+use std::alloc::{AllocError, Global};
 
 /// How many instructions are followed one after another.
 const DEPTH: usize = 48;
@@ -28,14 +29,14 @@ const ALL_KINDS: u8 = 0b1111_1111;
 /// searched range an attempt finds nothing, and what it costs is told: how many choices it opens, and how many it takes back.
 ///
 /// ```text
-/// Entries::of(&code)    // of the code of "(?>a+)b": where the byte a stands
-/// Entries::of(&code)    // of the code of "\b(?>a+)b": where the byte a stands after no ASCII letter
-/// Entries::of(&code)    // of the code of "a|b": where one of them stands; at other bytes there is a choice, which is taken back
+/// Entries::of(alloc, &code)    // of the code of "(?>a+)b": where the byte a stands
+/// Entries::of(alloc, &code)    // of the code of "\b(?>a+)b": where the byte a stands after no ASCII letter
+/// Entries::of(alloc, &code)    // of the code of "a|b": where one of them stands; at other bytes there is a choice, which is taken back
 /// ```
 #[derive(Drop)]
 pub struct Entries {
-    // none where any position is one
-    told: Option<Told>,
+    // none where any position is one; boxed, since it is large, and a pattern is moved while it is built
+    told: Option<Box<Told>>,
 }
 
 /// What is told of attempts.
@@ -333,24 +334,38 @@ impl Entries {
     }
 
     /// Those of an attempt with this code.
-    pub fn of(code: &Code) -> Entries
-        ensures { AreEntries (is_entry result) code.now }
+    ///
+    /// It is refused where memory runs out.
+    pub fn of(alloc: Global, code: &Code) -> Result<Entries, AllocError>
+        ensures { IfOk result (λ entries. AreEntries (is_entry entries) code.now) }
     {
         let rows = rows_of(code);
         let after = costly_kinds_of_each(&rows);
         let prices = prices_in(rows);
         if prices.is_none() && are_full(&after) {
-            return Entries::all();
+            return Ok(Entries::all());
         }
         let bytes = bytes_with_some(&after);
         let kinds = bit_of_each();
-        Entries {
-            told: Some(Told {
-                bytes: Scan::new(bytes),
-                after,
-                kinds,
-                prices,
-            }),
+        let told = Told {
+            bytes: Scan::new(bytes),
+            after,
+            kinds,
+            prices,
+        };
+        Ok(Entries {
+            told: Some(Box::new(alloc, told)?),
+        })
+    }
+
+    /// What is told of attempts, if something is.
+    #[inline]
+    fn told(&self) -> Option<&Told>
+        ensures { IfSome result (λ t. unboxed self.now.told ≡ Some t.now) }
+    {
+        match &self.told {
+            Some(told) => Some(&**told),
+            None => None,
         }
     }
 
@@ -361,7 +376,7 @@ impl Entries {
         requires inside { range_end ≤ length haystack.now }
         ensures { IfSome result (λ p. IsToldAt (is_entry self.now) haystack.now range_end place p) }
     {
-        let Some(told) = &self.told else {
+        let Some(told) = self.told() else {
             return None;
         };
         let Some(prices) = &told.prices else {
@@ -382,7 +397,7 @@ impl Entries {
         requires inside { range_end ≤ length haystack.now }
         ensures { IsNextEntry (is_entry self.now) haystack.now range_end from last result }
     {
-        let Some(told) = &self.told else {
+        let Some(told) = self.told() else {
             return from;
         };
         let end = (last + 1).min(range_end);

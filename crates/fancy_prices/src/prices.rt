@@ -42,7 +42,7 @@ impl Prices {
         let splits = Splits::of(alloc, code)?;
         let front = Front::of(code, &splits);
         Ok(Prices {
-            entries: Entries::of(code),
+            entries: Entries::of(alloc, code)?,
             splits,
             front,
         })
