@@ -1,5 +1,5 @@
 -- An attempt at a choice that is told: what it seeks once it read the items of a loop, or passed over a way that dies.
-use Rattle.std.proofs.Common.{◌≡◌, ℕ, suc, ◌+◌, ◌-◌, ◌<◌, ◌≤◌, Bool, true, false, List, [], Option, Some, None, refl, sym, ap, ap₂, ◌∙◌, subst, arith}
+use Rattle.std.proofs.Common.{true≢false, ◌^◌, ◌≡◌, ℕ, suc, ◌+◌, ◌-◌, ◌<◌, ◌≤◌, Bool, true, false, List, [], Option, Some, None, refl, sym, ap, ap₂, ◌∙◌, subst, arith}
 use Rattle.std.specs.Prelude.{if◌then◌else◌}
 use Rattle.fancy_code.specs.Context.{Context, State}
 use Rattle.fancy_code.specs.Code.{instrs_of}
@@ -13,9 +13,23 @@ use Rattle.fancy_machine.specs.declared.runs.Run.{Run}
 use Rattle.fancy_machine.specs.Attempt.{attempt_context, accepts, code_in, Seeks, SeeksBack, Advanced, size_ahead}
 use Rattle.fancy_machine.specs.Frames.{Frame, Held, Spot, saved}
 use Rattle.fancy_machine.specs.Machine.{finish, left, at_instr, at_place, saved_run}
-use Rattle.fancy_machine.specs.Runs.{DieFrom, IsRun, past_items}
+use Rattle.fancy_machine.specs.Runs.{DieFrom, IsRun, IsStuck, past_items}
 use Rattle.fancy_machine.proofs.PassLemmas.{Passed, passed_none, passed_then, read_on, gone_back, gone_dead, saved_by_run, seeks_on, fewer_on, returns_to_come, choices_to_come}
 use Rattle.fancy_machine.proofs.CloseLemmas.{alone_items, closed}
+
+-- no items were read at a choice
+pub no_items : (l : ToldSplit) (haystack : List ℕ) (h : Held) (stuck : Bool) → h.now.state.place < 2 ^ 64 → (stuck ≡ true → IsStuck l haystack h.now.limit h.now.state.place)
+    → IsRun l haystack h (record { count = 0; is_stuck = stuck; closes = false })
+no_items l haystack h stuck fits is = record {
+  items = λ k lt. absurd (omega (arith, lt));
+  inside = omega arith;
+  fits = omega (arith, fits);
+  short = omega arith;
+  stuck = λ e. let here : h.now.state.place ≡ h.now.state.place + 0 = omega arith in subst (IsStuck l haystack h.now.limit) here (is e);
+  goes = λ e some. absurd (omega (arith, some));
+  closes = λ e. absurd (true≢false (sym e));
+  stays = λ e some. absurd (omega (arith, some));
+}
 
 -- an attempt that stands at a choice, and read ahead there
 module _ (a : Attempt) (l : ToldSplit) (h : Held) (run : Run) (is : IsToldSplit (instrs_of a.code.now) a.code.now.meaning h.now.at l) (read : IsRun l a.haystack.now h run) (best : Option State) where

@@ -25,6 +25,10 @@ stepped_returns w false = refl
 pub returns_same : (before mid after : Work) → mid ≡ stepped_within before → AddsUnits mid after → returns_of after ≡ returns_of before
 returns_same before mid after is adds = adds.returns ∙ ap returns_of is ∙ stepped_returns before (nat_lt before.steps (2 ^ 64 - 1))
 
+-- a step is no return
+pub returns_of_step : (before after : Work) → after ≡ stepped_within before → returns_of after ≡ returns_of before
+returns_of_step before after is = ap returns_of is ∙ stepped_returns before (nat_lt before.steps (2 ^ 64 - 1))
+
 stepped_beyond : (w : Work) (n : ℕ) (b : Bool) → nat_lt w.steps (2 ^ 64 - 1) ≡ b → n < 2 ^ 64 - 1 → n ≤ steps_of w → n + 1 ≤ steps_of (if b then stepped w else w)
 stepped_beyond w n true e small le = omega arith
 stepped_beyond w n false e small le = omega (arith, ltb-false w.steps (2 ^ 64 - 1) e)

@@ -50,7 +50,7 @@ fn may_stand(split: &ToldSplit, haystack: &[u8], limit: usize, place: usize) -> 
     ensures { result ≡ false → IsStuck split.now haystack.now limit place }
 {
     let is_past = limit <= place || haystack.len() <= place;
-    !(is_past && split.is_loop) && may_begin(split, haystack, place)
+    may_begin(split, haystack, place) && !(is_past && split.is_loop)
 }
 
 /// Whether what follows a loop may go on at a place; it may where no byte stands.
@@ -237,6 +237,50 @@ fn read_ahead(
     })
 }
 
+/// Goes on at a choice that is told and is no loop. Where bytes tell that a way dies at once it is passed over.
+fn choose(
+    attempt: &Attempt,
+    split: &ToldSplit,
+    trail: &mut Trail,
+    limit: usize,
+    work: &mut Work,
+) -> Result<Next, SearchRefusal>
+    requires noted { IsNoted attempt.now.splits.now trail.old.now.at split.now }
+    requires room { returns_of work.old ≤ limit }
+    ensures advanced { IfOk result (λ next. (best : Option State)
+        → Advances attempt.now next (returns_of work.new - returns_of work.old) trail.old best trail.new best) }
+    ensures bounded { (best : Option State)
+        → TakesAtLeast attempt.now (returns_of work.old) (returns_of work.new) trail.old best }
+    ensures refused { result ≡ Err SearchRefusal.Returns → (best : Option State)
+        → TakesAtLeast attempt.now (returns_of work.old) (limit + 1) trail.old best }
+    ensures stopped { result ≡ Err SearchRefusal.Returns → returns_of work.new ≡ limit }
+    ensures fits { returns_of work.new ≤ limit }
+    ensures crowded { result ≡ Err SearchRefusal.Choices → (best : Option State)
+        → IsOverfull attempt.now trail.old best }
+    ensures most { trail.new.most ≡ trail.old.most }
+    ensures counts { CountsOn work.old work.new }
+    ensures within { HasWorkLeft attempt.now.options.step_limit work.old
+        → IsWithin attempt.now.options.step_limit work.new }
+    ensures limited { result ≡ Err SearchRefusal.Steps → IsSpent attempt.now.options.step_limit work.new }
+{
+    work.count_step_within();
+    let place = trail.place();
+    if may_begin(split, attempt.haystack, place) {
+        trail.save_run(split.second, place, 1)?;
+        trail.go(split.first);
+        return Ok(Next::On);
+    }
+    if !trail.has_room_for(1) {
+        return Err(SearchRefusal::Choices);
+    }
+    work.count_returns(1, limit, attempt.options.step_limit)?;
+    if !may_leave(split, attempt.haystack, place) {
+        return Ok(Next::Dead);
+    }
+    trail.go(split.second);
+    Ok(Next::On)
+}
+
 /// Goes on at a choice that is told. A loop reads all items that stand, and saves a branch at each place. Where the first way dies, it
 /// goes back to the last place at which the second one may go on. That is the last place of all where the second way closes the region
 /// that it stands in, and then no branch is saved, since none would be taken.
@@ -268,6 +312,9 @@ pub(crate) fn pass(
     ensures limited { result ≡ Err SearchRefusal.Steps → IsSpent attempt.now.options.step_limit work.new }
     ensures known { KnowsRun attempt.now.splits.now attempt.now.haystack.now last_run.new }
 {
+    if !split.is_loop {
+        return choose(attempt, split, trail, limit, work);
+    }
     work.count_step_within();
     let read = read_ahead(attempt, split, trail, last_run, work)?;
     let from = trail.place();
