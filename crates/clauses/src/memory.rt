@@ -27,7 +27,8 @@ pub fn writes(cache: &Cache) -> usize
     cache.writes()
 }
 
-/// A search lets no more branches be saved at one time than its options allow.
+/// A search lets no more branches be saved at one time than its options allow, or than a search before it in the same cache was
+/// let.
 pub fn heeds(
     code: &Code,
     prices: &Prices,
