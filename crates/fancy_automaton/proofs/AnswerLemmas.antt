@@ -15,7 +15,7 @@ use Rattle.fancy_code.specs.Thread.{empty_slot, slot_span, state_of, starts_of}
 use Rattle.fancy_code.proofs.EasyCode.{Alike, BothAlike, run_both}
 use Rattle.fancy_code.proofs.EasyContinues.{continued_at}
 use Rattle.fancy_code.proofs.ThreadLemmas.{map-replicate}
-use Rattle.fancy_code.specs.Seen.{MayNotStart}
+use Rattle.fancy_prefilter.specs.Seen.{MayNotStart}
 use Rattle.fancy_code.proofs.SkipLemmas.{none_starts}
 use Rattle.fancy_bytes.specs.Firsts.{AreStartBytes}
 use Rattle.fancy_tree.specs.declared.tree.Meaning.{Meaning}
@@ -121,10 +121,10 @@ module _ (q : Query) (code : Code) (is : IsCodeOf q.sought.pattern code) (groups
 
   -- nothing is found where no match may start
   pub starts_none : ((k : ℕ) → slice_index q.haystack k < 256) → (p : ℕ) → p ≤ q.request.range_end → Good p ≡ true
-      → MayNotStart code.start_bytes q.haystack q.request.range_end p → end_at Good x q.request.range_end (instrs_of code) Deep p code.start ≡ None
+      → MayNotStart code.prefilter.starts q.haystack q.request.range_end p → end_at Good x q.request.range_end (instrs_of code) Deep p code.start ≡ None
   starts_none bytes p le may never =
       end_is p le may
-      ∙ ap (option_map place_of) (none_starts q code.start_bytes (subst (λ (m : Meaning). AreStartBytes m q.sought.pattern code.start_bytes) (sym meant) is.starts) bytes p never)
+      ∙ ap (option_map place_of) (none_starts q code.prefilter.starts (subst (λ (m : Meaning). AreStartBytes m q.sought.pattern code.prefilter.starts) (sym meant) is.starts) bytes p never)
 
   -- no group takes part in a match, which starts at its position
   whole_at : (p : ℕ) (s : State) → p ≤ q.request.range_end → Good p ≡ true → answer_at q p ≡ Some s → IsUntouched (replicate code.groups None) p s

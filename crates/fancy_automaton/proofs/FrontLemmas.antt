@@ -9,7 +9,7 @@ use Rattle.fancy_code.specs.declared.reading.Reading.{Reading}
 use Rattle.fancy_code.specs.declared.attempt.Attempt.{Attempt}
 use Rattle.fancy_code.specs.Attempt.{context_in, instrs_in, may_end_in}
 use Rattle.fancy_code.specs.Reading.{unit_read}
-use Rattle.fancy_code.specs.Seen.{NoneMayStart}
+use Rattle.fancy_prefilter.specs.Seen.{NoneMayStart}
 use Rattle.fancy_automaton.specs.declared.cells.Cell.{Cell}
 use Rattle.fancy_automaton.specs.declared.cells.Cells.{Cells}
 use Rattle.fancy_automaton.specs.declared.front.Front.{Front}
@@ -113,7 +113,7 @@ module _ (a : Attempt) (cells : Cells) (f : Front) where
 
   -- where no way waits, places are passed over where no match may start
   pub front_skips : (place resume : ℕ) → ways_of cells f ≡ [] → place ≤ resume → resume ≤ a.last + 1
-      → NoneMayStart a.code.now.start_bytes a.haystack.now a.last place resume → IsFront a cells f place place → IsFront a cells f resume resume
+      → NoneMayStart a.code.now.prefilter.starts a.haystack.now a.last place resume → IsFront a cells f place place → IsFront a cells f resume resume
   front_skips place resume idle ahead within none is =
       front_by place resume place resume is
       (going_idle a _ _ _ place resume ahead within (no_items (starts_of cells f) (is.going.even ∙ ap length idle)) (λ k low high. inr (none k low high)) is.going)

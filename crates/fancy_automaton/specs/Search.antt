@@ -10,7 +10,7 @@ use Rattle.fancy_code.specs.declared.found.Found.{Found}
 use Rattle.fancy_code.specs.declared.attempt.Attempt.{Attempt}
 use Rattle.fancy_code.specs.Attempt.{context_in, instrs_in, may_end_in}
 use Rattle.fancy_code.specs.Search.{Answer}
-use Rattle.fancy_code.specs.Seen.{MayNotStart}
+use Rattle.fancy_prefilter.specs.Seen.{MayNotStart}
 use Rattle.fancy_automaton.specs.Ways.{AllKnown}
 use Rattle.fancy_automaton.specs.Futures.{end_at, known_at, leftmost}
 use Rattle.fancy_automaton.specs.Steps.{waiting, first_tagged_end}
@@ -42,13 +42,13 @@ begun_if (Some s) xs y = xs
 
 -- no match may begin there, by the bytes that matches start at, or since matches begin elsewhere
 abbrev pub Passes : Attempt → ℕ → Type 0
-Passes a k = (may_end_in a k ≡ false) ⊎ MayNotStart a.code.now.start_bytes a.haystack.now a.last k
+Passes a k = (may_end_in a k ≡ false) ⊎ MayNotStart a.code.now.prefilter.starts a.haystack.now a.last k
 
 module _ (a : Attempt) (deep : ℕ) where
   -- what the code gives from each start is known, and nothing where no match may begin
   pub record BegunIn : Type 0 where
     pub known : Begun (may_end_in a) (context_in a) a.last (instrs_in a) deep a.code.now.start
-    pub starts : (k : ℕ) → k ≤ a.last → may_end_in a k ≡ true → MayNotStart a.code.now.start_bytes a.haystack.now a.last k
+    pub starts : (k : ℕ) → k ≤ a.last → may_end_in a k ≡ true → MayNotStart a.code.now.prefilter.starts a.haystack.now a.last k
         → end_at (may_end_in a) (context_in a) a.last (instrs_in a) deep k a.code.now.start ≡ None
 
   abbrev pub leftmost_in : ℕ → ℕ → Option (ℕ × ℕ)

@@ -4,7 +4,7 @@ ghost use Rattle.std.specs.Prelude.{◌≡◌, ◌+◌, ◌<◌, ◌≤◌, ℕ,
 ghost use Rattle.fancy_code.specs.Attempt.{context_in, instrs_in, may_end_in};
 ghost use Rattle.fancy_code.specs.CodeLength.{code_len};
 ghost use Rattle.fancy_code.specs.Reading.{unit_read};
-ghost use Rattle.fancy_code.specs.Seen.{MayStart};
+ghost use Rattle.fancy_prefilter.specs.Seen.{MayStart};
 ghost use Rattle.fancy_code.specs.Work.{steps_of, returns_of, units_of};
 ghost use Rattle.fancy_code.specs.declared.code.Code.{Code};
 ghost use Rattle.fancy_code.specs.declared.attempt.Attempt.{Attempt};
@@ -19,12 +19,12 @@ use crate::trail::{
     Hit, Trail, VISITS, Visit, note_hit, row_at, settled, span_of, start_at, starts_in,
 };
 use fancy_code::attempt::Attempt;
-use fancy_code::candidates::next_candidate;
 use fancy_code::code::Code;
 use fancy_code::options::is_match_boundary;
 use fancy_code::reading::{Reading, read_at};
 use fancy_code::work::Work;
 use fancy_input::span::Span;
+use fancy_prefilter::candidates::next_candidate;
 use std::alloc::AllocError;
 use std::mem;
 
@@ -424,7 +424,7 @@ impl Front {
         requires front { IsFront attempt.now cells.now self.now place place }
         ensures front { IsFront attempt.now cells.now self.now result result }
         ensures stands { tried ≡ false → ways_of cells.now self.now ≡ [] → result ≤ attempt.now.last
-            → MayStart attempt.now.code.now.start_bytes attempt.now.haystack.now attempt.now.last result }
+            → MayStart attempt.now.code.now.prefilter.starts attempt.now.haystack.now attempt.now.last result }
         ensures forth { place ≤ result }
         ensures ends { result ≤ attempt.now.last + 1 }
     {
@@ -435,7 +435,7 @@ impl Front {
         }
         if !self.has_waiting(cells) {
             return next_candidate(
-                attempt.code,
+                &attempt.code.prefilter,
                 attempt.haystack,
                 attempt.last,
                 place,

@@ -9,7 +9,7 @@ ghost use Rattle.fancy_code.specs.CodeLength.{code_len};
 ghost use Rattle.fancy_code.specs.Compile.{IsCodeOf};
 ghost use Rattle.fancy_code.specs.Queries.{query_of, unfiltered, answer_with, most_steps};
 ghost use Rattle.fancy_code.specs.Search.{search};
-ghost use Rattle.fancy_code.specs.Seen.{NoneMayStart};
+ghost use Rattle.fancy_prefilter.specs.Seen.{NoneMayStart};
 ghost use Rattle.fancy_code.specs.Work.{steps_of, returns_of, units_of};
 ghost use Rattle.fancy_automaton.specs.Cells.{IsFor, IsBounded};
 ghost use Rattle.fancy_automaton.specs.Futures.{ArePlain};
@@ -47,7 +47,7 @@ fn find_span(
     ensures steps { steps_of work.old ≤ steps_of work.new }
     ensures bounded { steps_of work.new
         ≤ steps_of work.old + code_len attempt.now.code.now * (attempt.now.last + 1 - attempt.now.base) }
-    ensures idle { NoneMayStart attempt.now.code.now.start_bytes attempt.now.haystack.now attempt.now.last
+    ensures idle { NoneMayStart attempt.now.code.now.prefilter.starts attempt.now.haystack.now attempt.now.last
         attempt.now.base (attempt.now.last + 1)
         → steps_of work.new ≡ steps_of work.old }
     ensures returns { returns_of work.new ≡ returns_of work.old }
@@ -102,7 +102,7 @@ pub fn find(
     ensures all { IsFor cells.new code.now }
     ensures steps { steps_of work.old ≤ steps_of work.new }
     ensures bounded { steps_of work.new ≤ steps_of work.old + most_steps code.now request }
-    ensures idle { NoneMayStart code.now.start_bytes haystack.now request.range_end
+    ensures idle { NoneMayStart code.now.prefilter.starts haystack.now request.range_end
         (effective_start request) (request.range_end + 1)
         → steps_of work.new ≡ steps_of work.old }
     ensures returns { returns_of work.new ≡ returns_of work.old }

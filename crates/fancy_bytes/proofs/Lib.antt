@@ -3,11 +3,5 @@ pub mod SetLemmas
 pub mod ItemLemmas
 pub mod ListLemmas
 pub mod EdgeLemmas
-pub mod ScanLemmas
 pub mod LackLemmas
 pub mod OpeningLemmas
-pub mod WindowLemmas
-pub mod LaneLemmas
-pub mod MarkLemmas
-pub mod ProbeLemmas
-pub mod KeyLemmas

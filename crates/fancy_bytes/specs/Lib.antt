@@ -1,15 +1,8 @@
 pub mod Sets
 pub mod Iterations
-pub mod Seeks
 pub mod Items
 pub mod Firsts
 pub mod Required
 pub mod Lists
 pub mod Lacks
 pub mod Openings
-pub mod Windows
-pub mod HalfTables
-pub mod Probes
-pub mod Keys
-pub mod LastKeys
-pub mod KeyTables

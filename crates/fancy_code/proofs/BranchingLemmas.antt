@@ -4,15 +4,15 @@ use Rattle.std.specs.Global.{Vec}
 use Rattle.std.specs.Option.{unwrap_or, is_some}
 use Rattle.std.specs.Prelude.{slice_get}
 use Rattle.fancy_tree.specs.declared.tree.Meaning.{Meaning}
-use Rattle.fancy_bytes.specs.KeyTables.{MissesNoRow}
+use Rattle.fancy_prefilter.specs.KeyTables.{MissesNoRow}
 use Rattle.fancy_bytes.specs.Sets.{ByteFlags}
-use Rattle.fancy_bytes.specs.Windows.{StandsFrom}
+use Rattle.fancy_prefilter.specs.Windows.{StandsFrom}
 use Rattle.fancy_code.specs.Branches.{AreBranches, Chooses, HasLead, SplitsTo}
 use Rattle.fancy_code.specs.Foretold.{AreRows}
 use Rattle.fancy_code.specs.Instructions.{Instruction, Split}
 use Rattle.fancy_code.specs.Run.{instr_at, run}
 use Rattle.fancy_code.specs.Texts.{AreTexts}
-use Rattle.fancy_code.specs.declared.branches.Branches.{Branches}
+use Rattle.fancy_prefilter.specs.declared.branches.Branches.{Branches}
 use Rattle.fancy_code.proofs.ForetoldLemmas.{foretells_imply}
 
 -- the splits that code begins with

@@ -1,17 +1,15 @@
 -- What one more piece of code makes of what was emitted before.
-use Rattle.std.proofs.Common.{◌≡◌, ℕ, ◌+◌, ◌^◌, ◌<◌, ◌≤◌, Bool, true, false, ◌&&◌, List, [], ◌∷◌, length, map, drop, get_or, sum_by, Option, Some, None, IfSome, Vec, Global, refl, sym, ap, ◌∙◌, subst, arith, add-one, ◌⊎◌, inl, inr}
+use Rattle.std.proofs.Common.{◌≡◌, ℕ, ◌+◌, ◌^◌, ◌<◌, ◌≤◌, Bool, true, false, ◌&&◌, List, [], ◌∷◌, length, map, drop, get_or, sum_by, Option, Some, None, Vec, Global, refl, sym, ap, ◌∙◌, subst, arith, add-one}
 use Rattle.std.specs.Prelude.{slice_set}
 use Rattle.std.proofs.lemmas.List.{length-map, get_or-map}
 use Rattle.std.proofs.lemmas.List.Sums.{sum_by-cons, get_or-le-sum_by}
 use Rattle.fancy_bytes.specs.Openings.{opening}
 use Rattle.fancy_tree.specs.declared.tree.Meaning.{Meaning}
 use Rattle.fancy_tree.specs.declared.tree.Tree.{Tree}
-use Rattle.fancy_tree.specs.declared.tree.Tree.TheVariants.{Member, InAnyCase, Concat, Alternation}
-use Rattle.fancy_tree.specs.Pattern.{Pattern, member_of, group, or_else, last_branch, look_ahead, look_behind, conditional, in_sequence, in_choice, pattern_of}
+use Rattle.fancy_tree.specs.declared.tree.Tree.TheVariants.{Concat, Alternation}
+use Rattle.fancy_tree.specs.Pattern.{Pattern, group, or_else, last_branch, look_ahead, look_behind, conditional, in_sequence, in_choice, pattern_of}
 use Rattle.fancy_tree.specs.Sizes.{nodes, size, is_empty}
-use Rattle.fancy_tree.specs.Members.{edges_of}
-use Rattle.fancy_tree.specs.declared.set.Set.{Set}
-use Rattle.fancy_tree.proofs.PatternLemmas.{pattern-Member, pattern-InAnyCase, pattern-Concat, pattern-Alternation}
+use Rattle.fancy_tree.proofs.PatternLemmas.{pattern-Concat, pattern-Alternation}
 use Rattle.fancy_tree.proofs.PartLemmas.{parts_from}
 use Rattle.fancy_tree.proofs.SizeLemmas.{nodes-in_sequence, nodes-in_choice}
 use Rattle.fancy_code.specs.Instructions.{Instruction}
@@ -246,7 +244,3 @@ star_emitted m greedy p from n moved still c2 c3 c4 next turn en body e lt k has
 pub star_kept : (c0 c1 c2 c3 c4 : List Instruction) (moved : ℕ) (j : Instruction) → Keeps c0 c1 → Keeps c1 c2 → c3 ≡ slice_set c2 moved j → length c0 ≤ moved → Keeps c3 c4 → Keeps c0 c4
 star_kept c0 c1 c2 c3 c4 moved j k l e le m =
     keeps_on c0 c3 c4 (subst (λ (c : List Instruction). Keeps c0 c) (sym e) (keeps_set c0 c2 moved j le (keeps_on c0 c1 c2 k l))) m
-
--- the code keeps the text that its pattern opens with
-pub opens_with : (m n : Meaning) (p : Pattern) (kept given : Option (List ℕ)) → kept ≡ given → n ≡ m → IfSome given (λ text. text ≡ opening m p) → IfSome kept (λ text. text ≡ opening n p)
-opens_with m n p kept given is same told = rw (is, same) told

@@ -2,8 +2,7 @@
 use Rattle.std.proofs.Common.{◌≡◌, ℕ, zero, suc, ◌<◌, ◌≤◌, Bool, true, false, ◌&&◌, List, [], ◌∷◌, ◌++◌, length, map, get_or, set, refl, sym, ap, ap₂, ◌∙◌, subst, arith}
 use Rattle.std.specs.Prelude.{if◌then◌else◌}
 use Rattle.std.proofs.lemmas.Bool.{and_parts, ltb-true, lt-ltb}
-use Rattle.std.proofs.lemmas.List.{length-map, get_or-map, get_or_append_left, map-append, map-set, length-append}
-use Rattle.std.proofs.Math.Seq.{get_or-append_seam}
+use Rattle.std.proofs.lemmas.List.{length-map, get_or_append_left, map-append, map-set, length-append}
 use Rattle.fancy_tree.specs.declared.char_set.CharSet.{CharSet}
 use Rattle.fancy_code.specs.declared.code.Code.{Code}
 use Rattle.fancy_code.specs.declared.code.Instr.{Instr}
@@ -11,7 +10,6 @@ use Rattle.fancy_code.specs.declared.code.Instr.TheVariants as coded
 use Rattle.fancy_code.specs.Code.{instrs_of}
 use Rattle.fancy_code.specs.CodeLength.{code_len}
 use Rattle.fancy_code.specs.Instructions.{Instruction, Member, edges_in, edges_at, with_set, with_sets, is_known, are_known}
-use Rattle.fancy_code.specs.Run.{instr_at}
 
 -- an instruction has one place, whether its set stands in it or not
 pub length-instrs_of : (c : Code) → length (instrs_of c) ≡ code_len c

@@ -41,6 +41,7 @@ pub mod BeginLemmas
 pub mod RequireLemmas
 pub mod SkipLemmas
 pub mod TriedLemmas
+pub mod PassedLemmas
 pub mod ForetoldLemmas
 pub mod ChoosingLemmas
 pub mod TextLemmas

@@ -1,10 +1,10 @@
 -- The outcomes of sequences and choices.
-use Rattle.std.proofs.Common.{◌≡◌, ℕ, List, [], ◌∷◌, ◌++◌, flat_map, refl, sym, ap, ◌∙◌, append-nil}
-use Rattle.fancy_tree.specs.Pattern.{Pattern, followed, or_else, in_sequence}
+use Rattle.std.proofs.Common.{◌≡◌, ℕ, List, [], ◌∷◌, ◌++◌, refl, sym, ◌∙◌, append-nil}
+use Rattle.fancy_tree.specs.Pattern.{Pattern, in_sequence}
 use Rattle.fancy_code.specs.Context.{Context, State}
-use Rattle.fancy_code.specs.Events.{return, bind, outcomes_in}
-use Rattle.fancy_code.specs.Trace.{trace, outcomes}
-use Rattle.fancy_code.proofs.EventLemmas.{bind-bind, bind_same, bind-stay, outcomes-append, outcomes-bind}
+use Rattle.fancy_code.specs.Events.{bind}
+use Rattle.fancy_code.specs.Trace.{trace}
+use Rattle.fancy_code.proofs.EventLemmas.{bind-bind, bind_same, bind-stay}
 
 -- a sequence of two sequences is the one and then the other
 pub trace-in_sequence_append : (x : Context) (limit : ℕ) (ps qs : List Pattern) (s : State) →

@@ -1,5 +1,5 @@
 -- Positions that may be passed over.
-use Rattle.std.proofs.Common.{◌≡◌, ℕ, zero, suc, ◌+◌, ◌-◌, ◌<◌, ◌≤◌, Bool, true, false, not, List, Option, Some, None, refl, sym, ap, ap₂, subst, ◌∙◌, arith, le_refl, slice_index, true≢false}
+use Rattle.std.proofs.Common.{◌≡◌, ℕ, zero, suc, ◌+◌, ◌-◌, ◌<◌, ◌≤◌, Bool, true, false, not, Option, Some, None, refl, sym, ap, ap₂, subst, ◌∙◌, arith, le_refl, slice_index, true≢false}
 use Rattle.std.proofs.lemmas.Option.{get_or_from_slice_get}
 use Rattle.fancy_input.specs.Requests.{effective_start, positions}
 use Rattle.fancy_code.specs.Search.{Query, answer_at, answer_from, search, context_of, initial}
@@ -9,7 +9,7 @@ use Rattle.fancy_bytes.specs.Firsts.{nullable, first_bytes, AreStartBytes}
 use Rattle.fancy_bytes.specs.Sets.{ByteFlags, member}
 use Rattle.fancy_bytes.proofs.BoolLemmas.{parts_of}
 use Rattle.fancy_bytes.specs.Required.{required_bytes}
-use Rattle.fancy_code.specs.Seen.{MayStart, MayNotStart, NoneMayStart}
+use Rattle.fancy_prefilter.specs.Seen.{MayNotStart, NoneMayStart}
 use Rattle.fancy_code.specs.Stands.{SeesBefore, Stands, NoneSeen}
 use Rattle.fancy_code.proofs.BeginLemmas.{attempt_begins, accepted_holds}
 use Rattle.fancy_code.proofs.RequireLemmas.{trace_requires}
@@ -44,11 +44,6 @@ lacking_is_none q b e lacks = all_none q (positions q.request) (effective_start 
 off : (b : Bool) → not b ≡ true → b ≡ false
 off true e = absurd (true≢false (sym e))
 off false e = refl
-
--- a match that may start at p is no match that may not
-pub starts_somewhere : (starts : Option ByteFlags) (haystack : List ℕ) (range_end p : ℕ) → MayStart starts haystack range_end p → MayNotStart starts haystack range_end p → ⊥
-starts_somewhere None haystack range_end p may never = never
-starts_somewhere (Some set) haystack range_end p may never = true≢false (sym may.1 ∙ never may.0)
 
 module _ (q : Query) (starts : Option ByteFlags) (is : AreStartBytes q.sought.meaning q.sought.pattern starts) (bytes : (k : ℕ) → slice_index q.haystack k < 256) where
   -- nothing is found where no match starts

@@ -1,9 +1,8 @@
 -- The text that code consumes first, an instruction at a time.
-use Rattle.std.proofs.Common.{◌≡◌, ℕ, zero, suc, ◌+◌, ◌<◌, ◌≤◌, ◌==◌, Bool, List, [], ◌∷◌, ◌++◌, length, drop, Option, Some, None, if◌then◌else◌, refl, sym, ap, subst, ◌∙◌, arith, slice_index, eq-eqb, eqb-true, append_assoc}
+use Rattle.std.proofs.Common.{◌≡◌, ℕ, zero, suc, ◌+◌, ◌<◌, ◌≤◌, ◌==◌, Bool, List, [], ◌∷◌, ◌++◌, length, drop, Option, Some, None, if◌then◌else◌, refl, sym, ap, subst, ◌∙◌, arith, eq-eqb, eqb-true, append_assoc}
 use Rattle.std.specs.Prelude.{slice_get}
 use Rattle.std.proofs.lemmas.Bool.{le-leb}
 use Rattle.std.proofs.lemmas.List.{append-nil}
-use Rattle.std.proofs.lemmas.Option.{slice_get-get_or}
 use Rattle.fancy_tree.specs.declared.tree.Meaning.{Meaning}
 use Rattle.fancy_tree.specs.declared.tree.Meaning.TheVariants.{Unicode, Bytes, AsciiText}
 use Rattle.fancy_bytes.specs.Items.{encoding}
@@ -14,21 +13,9 @@ use Rattle.fancy_code.specs.Instructions.{Instruction, Character, Match}
 use Rattle.fancy_code.specs.Run.{Raw, Note, Go, fetched, Foretells, act, before, instr_at, onward, run}
 use Rattle.fancy_code.specs.Thread.{IsKnown, events_of}
 use Rattle.fancy_code.specs.Texts.{GivesEvents, BeginsWith, EndsWith, ConsumesTo}
-use Rattle.fancy_code.proofs.ForetoldLemmas.{before_told, onward_told, foretells_all, foretells_imply, item_at, low_text}
+use Rattle.fancy_code.proofs.ForetoldLemmas.{before_told, onward_told, foretells_all, foretells_imply, item_at}
+use Rattle.fancy_prefilter.proofs.ItemBytesLemmas.{low_text}
 use Rattle.fancy_code.proofs.ReadingLemmas.{low_unit}
-
--- a text that stands, by its bytes
-
-pub stands_by : (haystack : List ℕ) (end : ℕ) (text : List ℕ) (p : ℕ) → end ≤ length haystack → p + length text ≤ end
-    → ((j : ℕ) → j < length text → slice_index haystack (p + j) ≡ slice_index text j) → StandsBefore haystack end text p
-stands_by haystack end [] p within fits same = tt
-stands_by haystack end (b ∷ bs) p within fits same =
-    let here : p ≡ p + 0 = omega arith in (
-      omega (arith, fits),
-      slice_get-get_or haystack p 0 (omega (arith, fits, within)) ∙ ap Some (ap (slice_index haystack) here ∙ same 0 (omega arith)),
-      stands_by haystack end bs (p + 1) within (omega (arith, fits))
-          (λ j lt. let there : p + 1 + j ≡ p + suc j = omega arith in ap (slice_index haystack) there ∙ same (suc j) (omega (arith, lt))),
-    )
 
 -- an ASCII character is its byte
 

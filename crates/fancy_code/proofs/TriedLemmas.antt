@@ -11,10 +11,10 @@ use Rattle.fancy_code.specs.declared.code.Code.{Code}
 use Rattle.fancy_code.specs.declared.options.SearchOptions.{SearchOptions}
 use Rattle.fancy_code.specs.Compile.{IsCodeOf}
 use Rattle.fancy_code.specs.Queries.{query_of}
-use Rattle.fancy_code.specs.Search.{Query, answer_at, answer_from, search}
-use Rattle.fancy_code.specs.Seen.{MayStart, MayNotStart, NoneMayStart, IsNextCandidate}
+use Rattle.fancy_code.specs.Search.{Query, answer_at, search}
+use Rattle.fancy_prefilter.specs.Seen.{MayStart, MayNotStart, NoneMayStart, IsNextCandidate}
 use Rattle.fancy_code.specs.Tried.{may_begin, tried, NoneTried}
-use Rattle.fancy_code.proofs.SkipLemmas.{none_here, none_starts, skip_none}
+use Rattle.fancy_code.proofs.SkipLemmas.{none_here, none_starts}
 use Rattle.fancy_code.proofs.SearchLemmas.{all_none}
 
 -- The positions from the one on and before the other are not tried, and nothing is found there; the other is tried, if it is one of the search.
@@ -87,14 +87,14 @@ module _ (q : Query) (bytes : (k : ℕ) → slice_index q.haystack k < 256) wher
 -- the same by the arguments of a search
 pub passed_over : (q : Query) (code : Code) (options : SearchOptions) (haystack : List ℕ) (request : Request) (continues : Bool) → q ≡ query_of q.sought.pattern code options haystack request continues
     → ((k : ℕ) → slice_index haystack k < 256) → (from last place : ℕ) → from ≤ last + 1
-    → (options.seek ≡ true → IsNextCandidate code.start_bytes haystack request.range_end from last place) → (options.seek ≡ false → place ≡ from)
+    → (options.seek ≡ true → IsNextCandidate code.prefilter.starts haystack request.range_end from last place) → (options.seek ≡ false → place ≡ from)
     → IsCodeOf q.sought.pattern code → ArePassed q options.seek from last place
 passed_over q code options haystack request continues is bytes from last place ordered sought each of =
     let here : haystack ≡ q.haystack = sym (ap (λ (r : Query). r.haystack) is) in
     let meant : code.meaning ≡ q.sought.meaning = sym (ap (λ (r : Query). r.sought.meaning) is) in
-    are_passed q (subst (λ (h : List ℕ). (k : ℕ) → slice_index h k < 256) here bytes) code.start_bytes
-    (subst (λ (m : Meaning). AreStartBytes m q.sought.pattern code.start_bytes) meant of.starts) options.seek from last place ordered
-    (λ yes. subst (λ (r : Query). IsNextCandidate code.start_bytes r.haystack r.request.range_end from last place) (sym is) (sought yes)) each
+    are_passed q (subst (λ (h : List ℕ). (k : ℕ) → slice_index h k < 256) here bytes) code.prefilter.starts
+    (subst (λ (m : Meaning). AreStartBytes m q.sought.pattern code.prefilter.starts) meant of.starts) options.seek from last place ordered
+    (λ yes. subst (λ (r : Query). IsNextCandidate code.prefilter.starts r.haystack r.request.range_end from last place) (sym is) (sought yes)) each
 
 denied : (b : Bool) → not b ≡ true → b ≡ false
 denied true e = absurd (true≢false (sym e))

@@ -2,15 +2,15 @@
 use Rattle.std.specs.Prelude.{◌≡◌, ℕ, ◌+◌, ◌<◌, ◌≤◌, ◌⊎◌, List, [], ◌∷◌, length, Option, Some, None, slice_index}
 use Rattle.fancy_tree.specs.declared.tree.Assertion.{Assertion}
 use Rattle.fancy_tree.specs.declared.tree.Meaning.{Meaning}
-use Rattle.fancy_bytes.specs.Keys.{AreBelow}
-use Rattle.fancy_bytes.specs.KeyTables.{MayStand}
+use Rattle.fancy_prefilter.specs.Keys.{AreBelow}
+use Rattle.fancy_prefilter.specs.KeyTables.{MayStand}
 use Rattle.fancy_code.specs.Context.{Context, State}
 use Rattle.fancy_code.specs.Instructions.{Instruction, Assert, Split, Open}
 use Rattle.fancy_code.specs.Marking.{due_in}
 use Rattle.fancy_code.specs.Run.{Foretells, instr_at, run}
 use Rattle.fancy_code.specs.Texts.{AreTexts}
-use Rattle.fancy_code.specs.declared.branches.Branches.{Branches}
-use Rattle.fancy_code.specs.declared.branches.Lead.{Lead}
+use Rattle.fancy_prefilter.specs.declared.branches.Branches.{Branches}
+use Rattle.fancy_prefilter.specs.declared.branches.Lead.{Lead}
 
 -- A test of the place leads from q to the next instruction. Without one these are the same.
 abbrev pub TestsTo : List Instruction → Option Assertion → ℕ → ℕ → Type 0

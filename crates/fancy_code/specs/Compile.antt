@@ -14,6 +14,7 @@ use Rattle.fancy_tree.specs.declared.tree.Meaning.{Meaning}
 use Rattle.fancy_tree.specs.Sizes.{size, is_empty}
 use Rattle.fancy_code.specs.Code.{instrs_of}
 use Rattle.fancy_code.specs.Branches.{AreBranches}
+use Rattle.fancy_prefilter.specs.Prefilters.{text_in, window_in, branches_in}
 use Rattle.fancy_code.specs.Foretold.{AreForetold, IsAnchored}
 use Rattle.fancy_code.specs.Run.{instr_at}
 
@@ -240,6 +241,10 @@ abbrev mutual
 abbrev pub Below : ℕ → List ℕ → List ℕ → Type 0
 Below lo v u = (length v ≡ length u) × ((k : ℕ) → k < lo → slice_index u k ≡ slice_index v k)
 
+-- where alternatives are told that the code opens with, it opens with them
+abbrev pub HasBranches : Code → Type 0
+HasBranches code = IfSome (branches_in code.prefilter.opening) (λ b. AreBranches b (instrs_of code) code.meaning code.start)
+
 -- the code is that of the pattern
 pub record IsCodeOf (p : Pattern) (code : Code) : Type 0 where
   pub entry : Entry
@@ -248,11 +253,11 @@ pub record IsCodeOf (p : Pattern) (code : Code) : Type 0 where
   pub matching : Has (instrs_of code) 0 i.Match
   pub failing : Has (instrs_of code) 1 i.Fail
   pub numbered : Numbered 0 code.groups p
-  pub starts : AreStartBytes code.meaning p code.start_bytes
-  pub opens : IfSome code.literal (λ text. text ≡ opening code.meaning p)
-  pub foretold : IfSome code.prefilter (λ sets. AreForetold sets code)
-  pub anchored : code.only_at_start ≡ true → IsAnchored (instrs_of code) code.start
-  pub branched : IfSome code.branches (λ b. AreBranches b (instrs_of code) code.meaning code.start)
+  pub starts : AreStartBytes code.meaning p code.prefilter.starts
+  pub opens : IfSome (text_in code.prefilter.opening) (λ text. text ≡ opening code.meaning p)
+  pub foretold : IfSome (window_in code.prefilter.opening) (λ sets. AreForetold sets code)
+  pub anchored : code.prefilter.only_at_start ≡ true → IsAnchored (instrs_of code) code.start
+  pub branched : HasBranches code
 
 -- An instruction that reads neither captures nor where groups began, and that ends no way early.
 abbrev pub IsEasyInstr : Instruction → Type 0

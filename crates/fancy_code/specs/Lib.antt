@@ -24,7 +24,6 @@ pub mod Compile
 pub mod Answers
 pub mod Forward
 pub mod Stands
-pub mod Seen
 pub mod Tried
 pub mod Placed
 pub mod Laws

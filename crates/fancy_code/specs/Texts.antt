@@ -6,7 +6,7 @@ use Rattle.fancy_code.specs.Context.{Context, State, moved_to}
 use Rattle.fancy_code.specs.Events.{Event, outcome}
 use Rattle.fancy_code.specs.Instructions.{Instruction}
 use Rattle.fancy_code.specs.Run.{Raw, Foretells, erase, run}
-use Rattle.fancy_code.specs.declared.text.Text.{Text}
+use Rattle.fancy_prefilter.specs.declared.text.Text.{Text}
 
 -- where the events are known, they are these
 abbrev pub GivesEvents : List Event → Option (List Raw) → Type 0

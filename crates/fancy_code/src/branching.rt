@@ -7,12 +7,13 @@ ghost use Rattle.fancy_code.specs.Foretold.{AreRows};
 ghost use Rattle.fancy_code.specs.Instructions.{Instruction};
 ghost use Rattle.fancy_code.specs.Texts.{AreTexts};
 
-use crate::branches::{Branches, Lead, WIDE};
 use crate::code::{Code, Instr};
 use crate::prefilter::sets_of;
-use crate::text::{Text, text_of};
+use crate::text::text_of;
 use fancy_bytes::byte_set::ByteSet;
-use fancy_bytes::key_table::KeyTable;
+use fancy_prefilter::branches::{Branches, Lead, WIDE};
+use fancy_prefilter::key_table::KeyTable;
+use fancy_prefilter::text::Text;
 use fancy_tree::tree::Assertion;
 use std::alloc::{AllocError, Global};
 

@@ -1,19 +1,17 @@
 //! The code of a pattern: instructions that say where they go on.
 
-ghost use Rattle.std.specs.Prelude.{◌≡◌, ◌<◌, ℕ, None, Some, false, IsTrue, length};
+ghost use Rattle.std.specs.Prelude.{◌≡◌, ◌<◌, ℕ, None, IsTrue, length};
 ghost use Rattle.std.specs.Option.{ForSome};
+ghost use Rattle.fancy_prefilter.specs.Prefilters.{branches_in};
 ghost use Rattle.fancy_code.specs.Branches.{ArePaid};
 ghost use Rattle.fancy_code.specs.Choices.{AreBeginnings};
 ghost use Rattle.fancy_code.specs.Instructions.{are_known, edges_in, with_sets};
 ghost use Rattle.fancy_code.specs.Marking.{IsPaid};
 
-use crate::branches::Branches;
 use crate::choice::{Beginnings, Choice};
 use crate::marking::Marking;
 use crate::work::Work;
-use fancy_bytes::literal::Literal;
-use fancy_bytes::prefilter::Prefilter;
-use fancy_bytes::scan::Scan;
+use fancy_prefilter::prefilter::Prefilter;
 use fancy_tree::char_set::CharSet;
 use fancy_tree::tree::{Assertion, Meaning};
 
@@ -108,21 +106,14 @@ pub struct Code {
     pub groups: usize,
     /// What one item consumes.
     pub meaning: Meaning,
-    /// The bytes that a match starts with. `None` where it may start anywhere.
-    pub start_bytes: Option<Scan>,
-    /// The text of two bytes or more that each match begins with, where it was tried. `None` where there is no such text.
-    pub literal: Option<Literal>,
-    /// The sets of the bytes that stand at the first places of each match, where that tells more than its first byte.
-    pub prefilter: Option<Prefilter>,
-    /// Each match starts at the text's start.
-    pub only_at_start: bool,
-    /// The alternatives that the code opens with, where there are many, and their first bytes tell them apart.
-    pub branches: Option<Branches>,
+    /// What tells where matches may begin.
+    pub prefilter: Prefilter,
     ghost known: { IsTrue (are_known (length sets.items) instrs.items) },
     ghost marked: { length marking.numbers.items ≡ length instrs.items },
     ghost paid: { IsPaid (with_sets sets.items instrs.items) marking.numbers.items marking.weights.items start },
     ghost begun: { AreBeginnings beginnings.items (with_sets sets.items instrs.items) meaning },
-    ghost branches_paid: { ForSome branches (λ b. ArePaid b marking.numbers.items marking.weights.items start) },
+    ghost branches_paid: { ForSome (branches_in prefilter.opening) (λ b. ArePaid b marking.numbers.items
+        marking.weights.items start) },
 }
 
 impl Code {
@@ -142,21 +133,17 @@ impl Code {
         start: usize,
         groups: usize,
         meaning: Meaning,
-        start_bytes: Option<Scan>,
-        literal: Option<Literal>,
+        prefilter: Prefilter,
     ) -> Code
         requires known { IsTrue (are_known (length sets.items) instrs.items) }
         requires marked { length marking.numbers.items ≡ length instrs.items }
         requires paid { IsPaid (with_sets sets.items instrs.items) marking.numbers.items marking.weights.items start }
+        requires branches { branches_in prefilter.opening ≡ None }
         ensures instrs { instrs_of result ≡ with_sets sets.items instrs.items }
         ensures start { result.start ≡ start }
         ensures groups { result.groups ≡ groups }
         ensures meaning { result.meaning ≡ meaning }
-        ensures start_bytes { result.start_bytes ≡ start_bytes }
-        ensures literal { result.literal ≡ literal }
-        ensures prefilter { result.prefilter ≡ None }
-        ensures anchored { result.only_at_start ≡ false }
-        ensures branches { result.branches ≡ None }
+        ensures prefilter { result.prefilter ≡ prefilter }
     {
         let alloc = *instrs.allocator();
         Code {
@@ -167,40 +154,7 @@ impl Code {
             start,
             groups,
             meaning,
-            start_bytes,
-            literal,
-            prefilter: None,
-            only_at_start: false,
-            branches: None,
-        }
-    }
-
-    /// The same code, with the alternatives that it opens with.
-    pub(crate) fn with_branches(self, branches: Branches) -> Code
-        requires { ArePaid branches self.marking.numbers.items self.marking.weights.items self.start }
-        ensures instrs { instrs_of result ≡ instrs_of self }
-        ensures start { result.start ≡ self.start }
-        ensures groups { result.groups ≡ self.groups }
-        ensures meaning { result.meaning ≡ self.meaning }
-        ensures start_bytes { result.start_bytes ≡ self.start_bytes }
-        ensures literal { result.literal ≡ self.literal }
-        ensures prefilter { result.prefilter ≡ self.prefilter }
-        ensures anchored { result.only_at_start ≡ self.only_at_start }
-        ensures branches { result.branches ≡ Some branches }
-    {
-        Code {
-            instrs: self.instrs,
-            sets: self.sets,
-            marking: self.marking,
-            beginnings: self.beginnings,
-            start: self.start,
-            groups: self.groups,
-            meaning: self.meaning,
-            start_bytes: self.start_bytes,
-            literal: self.literal,
-            prefilter: self.prefilter,
-            only_at_start: self.only_at_start,
-            branches: Some(branches),
+            prefilter,
         }
     }
 
@@ -211,11 +165,7 @@ impl Code {
         ensures start { result.start ≡ self.start }
         ensures groups { result.groups ≡ self.groups }
         ensures meaning { result.meaning ≡ self.meaning }
-        ensures start_bytes { result.start_bytes ≡ self.start_bytes }
-        ensures literal { result.literal ≡ self.literal }
         ensures prefilter { result.prefilter ≡ self.prefilter }
-        ensures anchored { result.only_at_start ≡ self.only_at_start }
-        ensures branches { result.branches ≡ self.branches }
     {
         Code {
             instrs: self.instrs,
@@ -225,11 +175,7 @@ impl Code {
             start: self.start,
             groups: self.groups,
             meaning: self.meaning,
-            start_bytes: self.start_bytes,
-            literal: self.literal,
             prefilter: self.prefilter,
-            only_at_start: self.only_at_start,
-            branches: self.branches,
         }
     }
 

@@ -17,8 +17,7 @@ use crate::classify::is_easy;
 use crate::code::{Code, Entry, FAIL, Instr, MATCH};
 use crate::emitter::Emitter;
 use crate::prefilter::with_starts;
-use fancy_bytes::literal::opening_literal;
-use fancy_bytes::scan::start_scan;
+use fancy_prefilter::prefilter::Prefilter;
 use fancy_tree::char_set::CharSet;
 use fancy_tree::measure::are_empty;
 use fancy_tree::set::Set;
@@ -548,9 +547,8 @@ fn compile_alone(
         still: MATCH,
     };
     let entry = emit(&mut code, meaning, tree, stop)?;
-    let start_bytes = start_scan(tree, meaning);
-    let literal = opening_literal(alloc, tree, meaning)?;
-    let code = code.into_code(entry.moved, groups, meaning, start_bytes, literal)?;
+    let prefilter = Prefilter::new(alloc, tree, meaning)?;
+    let code = code.into_code(entry.moved, groups, meaning, prefilter)?;
     Ok(code)
 }
 

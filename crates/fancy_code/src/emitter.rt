@@ -1,14 +1,14 @@
 //! The code of a pattern while it is made.
 
-ghost use Rattle.std.specs.Prelude.{◌≡◌, ◌+◌, ◌<◌, IfOk, IfSome, IsTrue, true, length, slice_set, false};
+ghost use Rattle.std.specs.Prelude.{◌≡◌, ◌+◌, ◌<◌, IfOk, IfSome, IsTrue, true, length, slice_set, None};
 ghost use Rattle.fancy_tree.specs.Pattern.{member_of, backreference};
 ghost use Rattle.fancy_tree.specs.Members.{edges_of};
+ghost use Rattle.fancy_prefilter.specs.Prefilters.{branches_in};
 ghost use Rattle.fancy_code.specs.Instructions.{are_known, is_known, edges_at};
 
 use crate::code::{Code, Entry, Instr};
 use crate::marking::Marking;
-use fancy_bytes::literal::Literal;
-use fancy_bytes::scan::Scan;
+use fancy_prefilter::prefilter::Prefilter;
 use fancy_tree::char_set::CharSet;
 use fancy_tree::set::Set;
 use fancy_tree::tree::Meaning;
@@ -217,18 +217,14 @@ impl Emitter {
         start: usize,
         groups: usize,
         meaning: Meaning,
-        start_bytes: Option<Scan>,
-        literal: Option<Literal>,
+        prefilter: Prefilter,
     ) -> Result<Code, AllocError>
+        requires { branches_in prefilter.opening ≡ None }
         ensures instrs { IfOk result (λ code. instrs_of code ≡ emitted self) }
         ensures start { IfOk result (λ code. code.start ≡ start) }
         ensures groups { IfOk result (λ code. code.groups ≡ groups) }
         ensures meaning { IfOk result (λ code. code.meaning ≡ meaning) }
-        ensures start_bytes { IfOk result (λ code. code.start_bytes ≡ start_bytes) }
-        ensures literal { IfOk result (λ code. code.literal ≡ literal) }
-        ensures prefilter { IfOk result (λ code. code.prefilter ≡ None) }
-        ensures anchored { IfOk result (λ code. code.only_at_start ≡ false) }
-        ensures branches { IfOk result (λ code. code.branches ≡ None) }
+        ensures prefilter { IfOk result (λ code. code.prefilter ≡ prefilter) }
     {
         let marking = Marking::new(self.allocator(), &self.instrs, start)?;
         Ok(Code::new(
@@ -238,8 +234,7 @@ impl Emitter {
             start,
             groups,
             meaning,
-            start_bytes,
-            literal,
+            prefilter,
         ))
     }
 }

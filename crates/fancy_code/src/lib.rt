@@ -2,10 +2,8 @@
 #![tactic(auto)]
 
 pub mod attempt;
-pub mod branches;
 mod branching;
 pub mod byte_laws;
-pub mod candidates;
 pub mod choice;
 mod choosing;
 pub mod classify;
@@ -21,5 +19,5 @@ pub mod reading;
 pub mod refusal;
 pub mod slot;
 pub mod step;
-pub mod text;
+mod text;
 pub mod work;

@@ -1,21 +1,20 @@
 //! Where a match may start, by the code of the pattern: at the text's start alone, or where some bytes stand at its first places.
 
-ghost use Rattle.std.specs.Prelude.{◌≡◌, ◌==◌, ◌&&◌, ◌⊎◌, not, ℕ, ◌<◌, ◌≤◌, ◌+◌, nat_le, true, false, length, IfOk, IfSome};
+ghost use Rattle.std.specs.Prelude.{◌≡◌, ◌&&◌, not, ◌<◌, ◌+◌, true, length, IfOk, IfSome};
 ghost use Rattle.fancy_tree.specs.Pattern.{Pattern};
-ghost use Rattle.fancy_tree.specs.Sets.{has};
-ghost use Rattle.fancy_bytes.specs.Sets.{AddsBytes, member};
+ghost use Rattle.fancy_prefilter.specs.Rows.{HasFrom, Wider};
 ghost use Rattle.fancy_code.specs.Code.{instrs_of};
-ghost use Rattle.fancy_code.specs.CodeLength.{code_len};
 ghost use Rattle.fancy_code.specs.Compile.{IsCodeOf};
-ghost use Rattle.fancy_code.specs.Foretold.{AreBytesOf, AreForetold, Foretold, HasFrom, IsAnchored, Wider};
-ghost use Rattle.fancy_code.specs.Instructions.{edges_in};
+ghost use Rattle.fancy_code.specs.Foretold.{AreForetold, Foretold, IsAnchored};
 
 use crate::branching::branches_of;
 use crate::code::{Code, Instr};
 use fancy_bytes::byte_set::ByteSet;
-use fancy_bytes::prefilter::Prefilter;
-use fancy_tree::char_set::CharSet;
-use fancy_tree::tree::{Assertion, Meaning};
+use fancy_prefilter::items::{Item, item_of_character, item_of_set};
+use fancy_prefilter::prefilter::Opening;
+use fancy_prefilter::rows::{add_bytes, are_telling, empty_sets};
+use fancy_prefilter::window::Window;
+use fancy_tree::tree::Assertion;
 use std::alloc::{AllocError, Global};
 
 /// At how many places bytes are told at most.
@@ -26,117 +25,6 @@ const DEPTH: usize = 48;
 
 /// How many instructions are followed in all.
 const FOLLOWED: usize = 192;
-
-/// A set of bytes tells something where it has at most so many that are ASCII: most texts have the others at most places.
-const FEW: usize = 16;
-
-/// The bytes that an item may have.
-#[derive(Drop)]
-struct Item {
-    bytes: ByteSet,
-    /// It may have more than one.
-    wide: bool,
-}
-
-/// Whether each member of a set is ASCII, by its edges.
-fn is_ascii(edges: &[u32]) -> bool
-    ensures { result ≡ true → (c : ℕ) → 128 ≤ c → has edges.now c ≡ false }
-{
-    for edge in edges {
-        if *edge > 0x80 {
-            return false;
-        }
-    }
-    edges.len() % 2 == 0
-}
-
-/// Whether items may have more than one byte: where they are characters, and not all of them ASCII.
-fn is_wide(meaning: Meaning, are_ascii: bool) -> bool
-    ensures { result ≡ false → (meaning ≡ Meaning.Bytes) ⊎ (are_ascii ≡ true) }
-{
-    match meaning {
-        Meaning::Bytes => false,
-        Meaning::Unicode | Meaning::AsciiText => !are_ascii,
-    }
-}
-
-/// Adds the bytes that characters past ASCII consist of.
-fn add_high(bytes: &mut ByteSet)
-    ensures { AddsBytes (λ b. nat_le 128 b) bytes.old bytes.new }
-{
-    for byte in 128..256u32 {
-        bytes.insert(byte as u8);
-    }
-}
-
-/// An item that has these bytes, and those of characters past ASCII where it may have more than one.
-fn item_with(bytes: ByteSet, wide: bool) -> Item
-    ensures wide { result.wide ≡ wide }
-    ensures kept { (b : ℕ) → b < 256 → member bytes b ≡ true → member result.bytes b ≡ true }
-    ensures high { wide ≡ true → (b : ℕ) → 128 ≤ b → b < 256 → member result.bytes b ≡ true }
-{
-    let mut bytes = bytes;
-    if wide {
-        add_high(&mut bytes);
-    }
-    Item { bytes, wide }
-}
-
-/// The byte with this number alone, if there is one.
-fn byte_alone(code: u32) -> ByteSet
-    ensures { code < 256 → member result code ≡ true }
-{
-    let mut bytes = ByteSet::new();
-    if code < 256 {
-        bytes.insert(code as u8);
-    }
-    bytes
-}
-
-/// The bytes whose numbers are members of a set.
-fn bytes_of(set: &CharSet) -> ByteSet
-    ensures { (b : ℕ) → b < 256 → has (edges_in set.now) b ≡ true → member result b ≡ true }
-{
-    let mut bytes = ByteSet::new();
-    for byte in 0..256u32 {
-        if set.contains(byte) {
-            bytes.insert(byte as u8);
-        }
-    }
-    bytes
-}
-
-/// The bytes of a set's items.
-fn item_of_set(set: &CharSet, meaning: Meaning) -> Item
-    ensures { AreBytesOf meaning (has (edges_in set.now)) result.bytes result.wide }
-{
-    let wide = is_wide(meaning, is_ascii(set.edges()));
-    item_with(bytes_of(set), wide)
-}
-
-/// The bytes of one item.
-fn item_of_character(character: char, meaning: Meaning) -> Item
-    ensures { AreBytesOf meaning (λ d. d == character) result.bytes result.wide }
-{
-    let code = character as u32;
-    let wide = is_wide(meaning, code < 0x80);
-    item_with(byte_alone(code), wide)
-}
-
-/// Adds bytes to each set from a number on; where that is told, to that one alone.
-fn add_bytes(sets: &mut Vec<ByteSet>, from: usize, exact: bool, bytes: &ByteSet)
-    ensures wider { Wider sets.old.items sets.new.items }
-    ensures has { HasFrom sets.new.items from exact bytes.now }
-{
-    let end = if exact {
-        sets.len().min(from.saturating_add(1))
-    } else {
-        sets.len()
-    };
-    for j in from..end {
-        sets[j] = sets[j].union(bytes);
-    }
-}
 
 /// Where the code goes on.
 #[derive(Clone, Copy)]
@@ -262,48 +150,6 @@ fn is_anchored(code: &Code, at: usize, deep: usize, left: &mut usize) -> bool
     }
 }
 
-/// How many of the bytes are ASCII.
-fn count_ascii(set: &ByteSet) -> usize {
-    let mut count = 0usize;
-    for byte in 0..128u32 {
-        if set.contains(byte as u8) {
-            count = count.saturating_add(1);
-        }
-    }
-    count
-}
-
-/// Whether the sets tell more than the first of them alone: another has few bytes.
-fn are_telling(sets: &[ByteSet]) -> bool {
-    for j in 1..sets.len() {
-        if count_ascii(&sets[j]) <= FEW {
-            return true;
-        }
-    }
-    false
-}
-
-/// Whether a search would scan for sets of bytes: not where each match begins with one text, or one byte, for which it scans
-/// faster, nor where a match may begin with any byte.
-fn is_worth_filtering(code: &Code) -> bool {
-    if code.literal.is_some() {
-        return false;
-    }
-    match &code.start_bytes {
-        None => false,
-        Some(scan) => !scan.has_one(),
-    }
-}
-
-/// So many sets without bytes.
-fn empty_sets(alloc: Global, places: usize) -> Result<Vec<ByteSet>, AllocError> {
-    let mut sets = Vec::with_capacity(alloc, places)?;
-    for _ in 0..places {
-        sets.push(ByteSet::new())?;
-    }
-    Ok(sets)
-}
-
 /// The sets of the bytes that may stand at so many first places of what the code consumes from an instruction on, as far as they are
 /// told where so many instructions are followed at most, of which those are taken away that were. It is refused where memory runs out.
 pub(crate) fn sets_within(
@@ -339,30 +185,18 @@ pub(crate) fn sets_of(
 }
 
 /// The sets of the bytes that may stand at the first places of a match, made ready for scans, if they tell something.
-fn prefilter_of(alloc: Global, code: &Code) -> Result<Option<Prefilter>, AllocError>
-    ensures { IfOk result (λ f. IfSome f (λ sets. AreForetold sets code.now)) }
+fn window_of(alloc: Global, code: &Code) -> Result<Option<Window>, AllocError>
+    ensures { IfOk result (λ w. IfSome w (λ sets. AreForetold sets code.now)) }
 {
-    if !is_worth_filtering(code) {
+    if !code.prefilter.is_worth_window() {
         return Ok(None);
     }
     let sets = sets_of(alloc, code, code.start, PLACES)?;
     if !are_telling(&sets) {
         return Ok(None);
     }
-    let prefilter = Prefilter::new(alloc, sets)?;
-    Ok(prefilter)
-}
-
-/// The same code, with the sets of the bytes that may stand at the first places of a match, if they tell something.
-fn with_prefilter(alloc: Global, code: Code) -> Result<Code, AllocError>
-    ensures instrs { IfOk result (λ c. instrs_of c ≡ instrs_of code) }
-    ensures groups { IfOk result (λ c. c.groups ≡ code.groups) }
-    ensures meaning { IfOk result (λ c. c.meaning ≡ code.meaning) }
-    ensures is { IfOk result (λ c. (p : Pattern) → IsCodeOf p code → IsCodeOf p c) }
-{
-    let mut code = code;
-    code.prefilter = prefilter_of(alloc, &code)?;
-    Ok(code)
+    let window = Window::new(alloc, sets)?;
+    Ok(window)
 }
 
 /// The same code, with what tells where a match may start.
@@ -375,11 +209,16 @@ pub(crate) fn with_starts(alloc: Global, code: Code) -> Result<Code, AllocError>
     let mut code = code;
     let mut left = FOLLOWED;
     if is_anchored(&code, code.start, DEPTH, &mut left) {
-        code.only_at_start = true;
+        code.prefilter.only_at_start = true;
         return Ok(code);
     }
-    match branches_of(alloc, &code)? {
-        Some(branches) => Ok(code.with_branches(branches)),
-        None => with_prefilter(alloc, code),
+    if let Some(branches) = branches_of(alloc, &code)? {
+        code.prefilter.opening = Opening::Words(branches);
+        return Ok(code);
     }
+    let Some(window) = window_of(alloc, &code)? else {
+        return Ok(code);
+    };
+    code.prefilter.opening = Opening::Window(window);
+    Ok(code)
 }

@@ -12,7 +12,7 @@ use Rattle.fancy_code.specs.Context.{Context}
 use Rattle.fancy_code.specs.Events.{marks_in, returns_in}
 use Rattle.fancy_code.specs.Queries.{query_of}
 use Rattle.fancy_code.specs.Search.{Query, answer_from, gone_from}
-use Rattle.fancy_code.specs.Seen.{IsNextCandidate}
+use Rattle.fancy_prefilter.specs.Seen.{IsNextCandidate}
 use Rattle.fancy_code.specs.Tried.{may_begin, tried, NoneTried}
 use Rattle.fancy_code.proofs.SkipLemmas.{skip_none}
 use Rattle.fancy_code.proofs.TriedLemmas.{passed_over}
@@ -48,7 +48,7 @@ module _ (q : Query) (seek : Bool) (from last place : ℕ) (passed : from ≤ pl
 module _ (q : Query) (code : Code) (options : SearchOptions) (haystack : List ℕ) (request : Request) (continues : Bool) (is : q ≡ query_of q.sought.pattern code options haystack request continues)
     (some : ∥ IsCodeOf q.sought.pattern code ∥₁) (bytes : (k : ℕ) → slice_index haystack k < 256) (inside : request.range_end ≤ length haystack)
     (entry : EntryTest) (are : AreEntries entry code) (from last place : ℕ) (ordered : from ≤ last + 1)
-    (sought : options.seek ≡ true → IsNextCandidate code.start_bytes haystack request.range_end from last place)
+    (sought : options.seek ≡ true → IsNextCandidate code.prefilter.starts haystack request.range_end from last place)
     (each : options.seek ≡ false → IsNextEntry entry haystack request.range_end from last place) where
   -- what an attempt costs that is told to cost nothing
   price_of : IsCodeOf q.sought.pattern code → (k : ℕ) → (passed : IsPassed entry haystack request.range_end k) → CostsAt q k passed.0

@@ -5,7 +5,7 @@ ghost use Rattle.fancy_code.specs.Compile.{IsCodeOf};
 ghost use Rattle.fancy_input.specs.LastLines.{KnowsLastLines};
 ghost use Rattle.fancy_input.specs.Requests.{effective_start};
 ghost use Rattle.fancy_code.specs.Search.{Query, search, attempt, returns, choices, returns_at, choices_at};
-ghost use Rattle.fancy_code.specs.Seen.{IsNextCandidate};
+ghost use Rattle.fancy_prefilter.specs.Seen.{IsNextCandidate};
 ghost use Rattle.fancy_code.specs.Tried.{tried, NoneTried};
 ghost use Rattle.fancy_code.specs.Work.{steps_of, returns_of, units_of, HasRoom, IsWithin, IsSpent};
 ghost use Rattle.fancy_code.specs.Queries.{query_of, answer_with};
@@ -23,7 +23,6 @@ use crate::front::{positions_to_pass, returns_over};
 use crate::runs::LastRun;
 use crate::seen::Seen;
 use crate::trail::Trail;
-use fancy_code::candidates::next_candidate;
 use fancy_code::code::Code;
 use fancy_code::found::Found;
 use fancy_code::options::{SearchOptions, is_match_boundary};
@@ -33,6 +32,7 @@ use fancy_code::work::Work;
 use fancy_input::input::Request;
 use fancy_input::last_lines::LastLines;
 use fancy_input::span::Span;
+use fancy_prefilter::candidates::next_candidate;
 use fancy_prices::entries::Entries;
 use fancy_prices::front::Front;
 use fancy_prices::prices::Prices;
@@ -192,12 +192,18 @@ impl Positions<'_> {
         requires inside { self.now.range_end ≤ length self.now.haystack.now }
         ensures passed { from ≤ result }
         ensures sought { self.now.seek ≡ true
-            → IsNextCandidate self.now.code.now.start_bytes self.now.haystack.now self.now.range_end from self.now.last result }
+            → IsNextCandidate self.now.code.now.prefilter.starts self.now.haystack.now self.now.range_end from self.now.last result }
         ensures each { self.now.seek ≡ false
             → IsNextEntry (is_entry self.now.entries.now) self.now.haystack.now self.now.range_end from self.now.last result }
     {
         if self.seek {
-            return next_candidate(self.code, self.haystack, self.range_end, from, self.last);
+            return next_candidate(
+                &self.code.prefilter,
+                self.haystack,
+                self.range_end,
+                from,
+                self.last,
+            );
         }
         self.entries
             .next(self.haystack, self.range_end, from, self.last)

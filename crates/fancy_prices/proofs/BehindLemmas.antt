@@ -13,7 +13,8 @@ use Rattle.fancy_code.specs.Events.{ends_look}
 use Rattle.fancy_tree.specs.Sets.{has}
 use Rattle.fancy_code.specs.Instructions.{Instruction, Match, Back, Character, Member, Split}
 use Rattle.fancy_code.specs.Run.{Raw, Go, join, onward, instr_at, act, run}
-use Rattle.fancy_code.proofs.ForetoldLemmas.{ItemAt, item_at, low_text}
+use Rattle.fancy_prefilter.proofs.ItemBytesLemmas.{low_text}
+use Rattle.fancy_code.proofs.ForetoldLemmas.{ItemAt, item_at}
 use Rattle.fancy_prices.specs.declared.facts.Before.{Before}
 use Rattle.fancy_prices.specs.declared.facts.Facts.{Facts}
 use Rattle.fancy_prices.specs.Facts.{IsOfKind}

@@ -12,8 +12,8 @@ use crate::facts::{Before, Facts};
 use crate::free::{price_of, tests_before};
 use crate::price::Price;
 use fancy_bytes::byte_set::ByteSet;
-use fancy_bytes::scan::Scan;
 use fancy_code::code::Code;
+use fancy_prefilter::scan::Scan;
 use std::alloc::{AllocError, Global};
 
 /// How many instructions are followed one after another.

@@ -13,20 +13,9 @@ ghost use Rattle.fancy_prices.specs.Prices.{BeginsNone, Dies, EndsOtherwise, Fin
 use crate::facts::{Before, Facts};
 use crate::price::Price;
 use fancy_code::code::{Code, Instr};
+use fancy_prefilter::items::is_ascii;
 use fancy_tree::char_set::CharSet;
 use fancy_tree::tree::Meaning;
-
-/// Whether each member of a set is ASCII, by its edges.
-fn is_ascii(edges: &[u32]) -> bool
-    ensures { result ≡ true → (c : ℕ) → 128 ≤ c → has edges.now c ≡ false }
-{
-    for edge in edges {
-        if *edge > 0x80 {
-            return false;
-        }
-    }
-    edges.len() % 2 == 0
-}
 
 /// Whether an item may begin with a byte: `is_item` tells whether there is one with the byte's own number, and `is_wide` whether
 /// there is one past ASCII.

@@ -5,9 +5,9 @@ use Rattle.std.specs.Prelude.{replicate}
 use Rattle.std.proofs.lemmas.Bool.{cases_lt}
 use Rattle.std.proofs.lemmas.List.{map-set}
 use Rattle.std.proofs.lemmas.Option.{get_or_from_slice_get}
-use Rattle.fancy_bytes.specs.Keys.{IsAmong, RiseBetween}
+use Rattle.fancy_prefilter.specs.Keys.{IsAmong, RiseBetween}
 use Rattle.fancy_bytes.specs.Openings.{StandsBefore}
-use Rattle.fancy_bytes.specs.KeyTables.{MayStand}
+use Rattle.fancy_prefilter.specs.KeyTables.{MayStand}
 use Rattle.fancy_input.specs.declared.span.Span.{Span}
 use Rattle.fancy_tree.specs.declared.tree.Assertion.{Assertion}
 use Rattle.fancy_code.specs.Attempt.{instrs_in, context_in, may_end_in}
@@ -22,8 +22,8 @@ use Rattle.fancy_code.specs.Thread.{Known, thread_run, events_of, first_accepted
 use Rattle.fancy_runner.specs.Runner.{Parted, found_state}
 use Rattle.fancy_code.specs.Texts.{IsTextOf}
 use Rattle.fancy_runner.specs.Threads.{slot_at, begun_slot, with_group}
-use Rattle.fancy_code.specs.declared.text.Text.{Text}
-use Rattle.fancy_code.specs.declared.branches.Branches.{Branches}
+use Rattle.fancy_prefilter.specs.declared.text.Text.{Text}
+use Rattle.fancy_prefilter.specs.declared.branches.Branches.{Branches}
 use Rattle.fancy_code.specs.declared.attempt.Attempt.{Attempt}
 use Rattle.fancy_code.specs.declared.slot.Slot.{Slot}
 use Rattle.fancy_code.proofs.ForetoldLemmas.{foretells_imply}

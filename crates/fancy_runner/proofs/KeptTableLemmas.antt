@@ -1,5 +1,5 @@
 -- A table, and what was read of the last lines, that are kept from one search to the next.
-use Rattle.std.proofs.Common.{◌≡◌, ℕ, ◌+◌, ◌-◌, ◌*◌, ◌^◌, ◌<◌, ◌≤◌, Bool, true, false, List, Option, Some, None, length, refl, sym, ap, ◌∙◌, subst, arith}
+use Rattle.std.proofs.Common.{◌≡◌, ℕ, ◌+◌, ◌-◌, ◌*◌, ◌^◌, ◌<◌, ◌≤◌, Bool, true, false, List, Option, Some, None, length, refl, sym, ap, subst, arith}
 use Rattle.std.specs.Prelude.{IfSome, is_some, nat_lt, if◌then◌else◌}
 use Rattle.std.proofs.lemmas.Bool.{true≢false, lt-ltb}
 use Rattle.fancy_tree.specs.Pattern.{Pattern}
@@ -18,7 +18,7 @@ use Rattle.fancy_code.specs.Code.{instrs_of, width_of, due_of, worth_of, owed_of
 use Rattle.fancy_code.specs.CodeLength.{code_len}
 use Rattle.fancy_code.specs.Compile.{IsCodeOf, depth}
 use Rattle.fancy_code.specs.Reading.{search_context, suppressed_ends}
-use Rattle.fancy_runner.specs.Runner.{AllFailed, FailedPast}
+use Rattle.fancy_runner.specs.Runner.{AllFailed}
 use Rattle.fancy_code.specs.Search.{is_match_boundary}
 use Rattle.fancy_runner.specs.KeptTable.{marks_from, base_of, IsKept, steps_ahead, steps_from, taken_again}
 use Rattle.fancy_code.proofs.InstructionLemmas.{length-instrs_of}

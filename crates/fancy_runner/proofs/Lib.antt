@@ -12,4 +12,3 @@ pub mod KeptTableLemmas
 pub mod LimitLemmas
 pub mod ChoiceLemmas
 pub mod BranchLemmas
-pub mod PassedLemmas

@@ -10,4 +10,3 @@ pub mod Rows
 pub mod Sweeps
 pub mod Groups
 pub mod KeptTable
-pub mod NextOpening

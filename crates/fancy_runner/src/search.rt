@@ -9,9 +9,7 @@ ghost use Rattle.fancy_runner.specs.KeptTable.{IsKept, table_in, table_base, pla
 ghost use Rattle.fancy_code.specs.Compile.{IsCodeOf, AreEasy};
 ghost use Rattle.fancy_code.specs.Search.{search};
 ghost use Rattle.fancy_input.specs.Requests.{effective_start};
-ghost use Rattle.fancy_bytes.specs.Openings.{NoneStandsBefore};
-ghost use Rattle.fancy_runner.specs.NextOpening.{IsNextOpening, openings_of};
-ghost use Rattle.fancy_code.specs.Seen.{NoneMayStart};
+ghost use Rattle.fancy_prefilter.specs.Seen.{NoneMayStart};
 ghost use Rattle.fancy_code.specs.Queries.{query_of, unfiltered, answer_with, most_steps};
 ghost use Rattle.fancy_runner.specs.Groups.{groups_in};
 ghost use Rattle.fancy_runner.specs.Refusals.{IsRunnersRefusal};
@@ -21,11 +19,7 @@ use crate::notes::{KeptTable, Notes};
 use crate::start::follow_start;
 use crate::table::Table;
 use crate::threads::Threads;
-use fancy_bytes::literal::Literal;
-use fancy_bytes::prefilter::Prefilter;
 use fancy_code::attempt::Attempt;
-use fancy_code::branches::Branches;
-use fancy_code::candidates::candidate_from;
 use fancy_code::code::Code;
 use fancy_code::found::Found;
 use fancy_code::options::{SearchOptions, is_match_boundary};
@@ -34,6 +28,7 @@ use fancy_code::refusal::SearchRefusal;
 use fancy_code::work::Work;
 use fancy_input::input::Request;
 use fancy_input::span::Span;
+use fancy_prefilter::candidates::next_opening;
 use std::alloc::Global;
 use std::mem;
 
@@ -122,118 +117,6 @@ fn ready_table(
     Ok(())
 }
 
-/// The first position, from the one on and up to the last, at which the search by the runner goes on, past the last where there is
-/// none: where a match may start, and the text stands that each match begins with.
-#[inline]
-fn next_unfiltered(
-    code: &Code,
-    haystack: &[u8],
-    range_end: usize,
-    from: usize,
-    last: usize,
-) -> usize
-    requires ordered { from ≤ last + 1 }
-    requires last { last ≤ range_end }
-    requires inside { range_end ≤ length haystack.now }
-    ensures { IsNextOpening (openings_of code.now) haystack.now range_end from last result }
-{
-    let place = candidate_from(code, haystack, range_end, from, last);
-    match &code.literal {
-        None => place,
-        Some(literal) => literal_from(literal, haystack, range_end, place, last),
-    }
-}
-
-/// The same where all of the range is searched, by a scan for the bytes that stand at the first places of each match.
-#[inline(never)]
-fn next_filtered(
-    code: &Code,
-    prefilter: &Prefilter,
-    haystack: &[u8],
-    range_end: usize,
-    from: usize,
-) -> usize
-    requires ordered { from ≤ range_end + 1 }
-    requires inside { range_end ≤ length haystack.now }
-    requires prefilter { code.now.prefilter ≡ Some prefilter.now }
-    ensures { IsNextOpening (openings_of code.now) haystack.now range_end from range_end result }
-{
-    match prefilter.next_seen(haystack, from, range_end) {
-        None => range_end + 1,
-        Some(seen) => candidate_from(code, haystack, range_end, seen, range_end),
-    }
-}
-
-/// The same, by the alternatives that may match by their first bytes.
-#[inline(never)]
-fn next_branched(
-    code: &Code,
-    branches: &Branches,
-    haystack: &[u8],
-    range_end: usize,
-    from: usize,
-) -> usize
-    requires branches { code.now.branches ≡ Some branches.now }
-    requires ordered { from ≤ range_end + 1 }
-    requires inside { range_end ≤ length haystack.now }
-    ensures { IsNextOpening (openings_of code.now) haystack.now range_end from range_end result }
-{
-    match branches.table.next_seen(haystack, from, range_end) {
-        None => range_end + 1,
-        Some(seen) => candidate_from(code, haystack, range_end, seen, range_end),
-    }
-}
-
-/// The first position, from the one on and up to the last, at which the search by the runner goes on, past the last where there is
-/// none. A match that starts at the text's start alone is tried there alone.
-#[inline]
-fn next_opening(code: &Code, haystack: &[u8], range_end: usize, from: usize, last: usize) -> usize
-    requires ordered { from ≤ last + 1 }
-    requires last { last ≤ range_end }
-    requires inside { range_end ≤ length haystack.now }
-    ensures { IsNextOpening (openings_of code.now) haystack.now range_end from last result }
-{
-    if code.only_at_start && from > 0 {
-        return last + 1;
-    }
-    if last < range_end {
-        return next_unfiltered(code, haystack, range_end, from, last);
-    }
-    if let Some(branches) = &code.branches {
-        return next_branched(code, branches, haystack, range_end, from);
-    }
-    match &code.prefilter {
-        None => next_unfiltered(code, haystack, range_end, from, last),
-        Some(prefilter) => next_filtered(code, prefilter, haystack, range_end, from),
-    }
-}
-
-/// The first position, from one up to the last, where the text stands, past the last where there is none. A position past the last, or
-/// the last itself, is the answer as it is.
-#[inline(never)]
-fn literal_from(
-    literal: &Literal,
-    haystack: &[u8],
-    range_end: usize,
-    place: usize,
-    last: usize,
-) -> usize
-    requires within { place ≤ last + 1 }
-    requires last { last ≤ range_end }
-    requires inside { range_end ≤ length haystack.now }
-    ensures passed { place ≤ result }
-    ensures within { result ≤ last + 1 }
-    ensures none { NoneStandsBefore haystack.now range_end literal.now place result }
-{
-    if place >= last {
-        return place;
-    }
-    match literal.next_seen(haystack, place, range_end) {
-        Some(found) => found.min(last + 1),
-        None => last + 1,
-    }
-}
-
 /// The limit that the steps of a search are held to: none where it allows all that a search without a kept table can take.
 fn limit_to_heed(
     code: &Code,
@@ -314,7 +197,7 @@ pub fn search(
         + steps_ahead code.now request (table_base kept.old request) f.end (table_in cache.new)
         ≤ steps_of work.old
         + (steps_from kept.old code.now request (effective_start request) (table_in cache.old) + code_len code.now))) }
-    ensures idle { NoneMayStart code.now.start_bytes haystack.now request.range_end
+    ensures idle { NoneMayStart code.now.prefilter.starts haystack.now request.range_end
         (effective_start request) (request.range_end + 1)
         → steps_of work.new ≡ steps_of work.old }
     ensures returns { returns_of work.old ≤ returns_of work.new }
@@ -330,7 +213,7 @@ pub fn search(
         return Ok(None);
     }
     let last = request.last_position();
-    let mut place = next_opening(code, haystack, request.range_end, first, last);
+    let mut place = next_opening(&code.prefilter, haystack, request.range_end, first, last);
     if place > last {
         return Ok(None);
     }
@@ -366,7 +249,13 @@ pub fn search(
                 None => {}
             }
         }
-        place = next_opening(code, haystack, request.range_end, place + 1, last);
+        place = next_opening(
+            &code.prefilter,
+            haystack,
+            request.range_end,
+            place + 1,
+            last,
+        );
     }
     *kept = Some(KeptTable { base, from: place });
     Ok(None)

@@ -5,7 +5,7 @@ ghost use Rattle.fancy_code.specs.Attempt.{instrs_in};
 ghost use Rattle.fancy_runner.specs.Attempt.{first_accepted_in, begins_in, begins_with, passes_in, bits_in, owed_in, KnownIn, AllFailedIn, FailedPastIn};
 ghost use Rattle.fancy_code.specs.Branches.{AreBranches, ArePaid};
 ghost use Rattle.fancy_code.specs.Code.{due_of};
-ghost use Rattle.fancy_code.specs.Compile.{AreEasy};
+ghost use Rattle.fancy_code.specs.Compile.{AreEasy, HasBranches};
 ghost use Rattle.fancy_runner.specs.Runner.{found_state};
 ghost use Rattle.fancy_code.specs.Texts.{IsTextOf};
 ghost use Rattle.fancy_code.specs.Work.{steps_of, returns_of, RunsWithin, IsSpent};
@@ -17,12 +17,13 @@ use crate::runner::follow;
 use crate::table::Table;
 use crate::threads::Threads;
 use fancy_code::attempt::Attempt;
-use fancy_code::branches::Branches;
 use fancy_code::options::is_match_boundary;
 use fancy_code::reading::holds_at;
-use fancy_code::text::Text;
 use fancy_code::work::Work;
 use fancy_input::last_lines::LastLines;
+use fancy_prefilter::branches::Branches;
+use fancy_prefilter::prefilter::Opening;
+use fancy_prefilter::text::Text;
 use fancy_tree::tree::Assertion;
 
 /// An attempt at a place from an instruction on, with no group written but one that begins there, if one does.
@@ -255,16 +256,16 @@ pub(crate) fn follow_start(
     requires last_lines { KnowsLastLines attempt.now.haystack.now last_lines.old }
     ensures answer { IfOk result (λ end. (kept deep : ℕ)
         → ((k : ℕ) → slice_index attempt.now.haystack.now k < 256)
-        → IfSome attempt.now.code.now.branches (λ b. AreBranches b (instrs_in attempt.now) attempt.now.code.now.meaning attempt.now.code.now.start)
+        → HasBranches attempt.now.code.now
         → KnownIn attempt.now kept deep (begins_in attempt.now attempt.now.code.now.start place) → AllFailedIn attempt.now place deep table.old
         → found_state kept end threads.new.slots
         ≡ first_accepted_in attempt.now kept deep (begins_in attempt.now attempt.now.code.now.start place)) }
     ensures failed { IfOk result (λ end. (kept deep : ℕ)
-        → IfSome attempt.now.code.now.branches (λ b. AreBranches b (instrs_in attempt.now) attempt.now.code.now.meaning attempt.now.code.now.start)
+        → HasBranches attempt.now.code.now
         → KnownIn attempt.now kept deep (begins_in attempt.now attempt.now.code.now.start place) → AllFailedIn attempt.now place deep table.old
         → end ≡ None → AllFailedIn attempt.now place deep table.new) }
     ensures past { IfOk result (λ end. IfSome end (λ stop. (kept deep : ℕ)
-        → IfSome attempt.now.code.now.branches (λ b. AreBranches b (instrs_in attempt.now) attempt.now.code.now.meaning attempt.now.code.now.start)
+        → HasBranches attempt.now.code.now
         → KnownIn attempt.now kept deep (begins_in attempt.now attempt.now.code.now.start place) → AllFailedIn attempt.now place deep table.old
         → FailedPastIn attempt.now place deep stop table.new)) }
     ensures forth { IfOk result (λ end. IfSome end (λ stop. place ≤ stop)) }
@@ -282,20 +283,20 @@ pub(crate) fn follow_start(
     ensures limited { result ≡ Err RunnerRefusal.Steps → IsSpent attempt.now.step_limit work.new }
 {
     forget_behind(attempt, place, table);
-    match &attempt.code.branches {
-        None => {
+    match &attempt.code.prefilter.opening {
+        Opening::Words(branches) => {
+            if !passes_test(attempt, branches.lead.test, place, last_lines) {
+                return Ok(None);
+            }
+            let end = follow_branches(attempt, branches, place, threads, table, last_lines, work)?;
+            Ok(end)
+        }
+        _ => {
             let start = Pair {
                 at: attempt.code.start,
                 place,
             };
             let end = follow_from(attempt, None, start, threads, table, last_lines, work)?;
-            Ok(end)
-        }
-        Some(branches) => {
-            if !passes_test(attempt, branches.lead.test, place, last_lines) {
-                return Ok(None);
-            }
-            let end = follow_branches(attempt, branches, place, threads, table, last_lines, work)?;
             Ok(end)
         }
     }

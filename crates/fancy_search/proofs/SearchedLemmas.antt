@@ -4,7 +4,7 @@ use Rattle.std.proofs.Math.Logic.{∥∥₁_elim}
 use Rattle.std.proofs.Props.{props}
 use Rattle.fancy_tree.specs.declared.tree.Meaning.{Meaning}
 use Rattle.fancy_bytes.specs.Firsts.{AreStartBytes}
-use Rattle.fancy_code.specs.Seen.{NoneMayStart}
+use Rattle.fancy_prefilter.specs.Seen.{NoneMayStart}
 use Rattle.fancy_code.proofs.TriedLemmas.{none_found, none_may_start, not_seeking}
 use Rattle.fancy_code.specs.Tried.{tried, NoneTried}
 use Rattle.fancy_bytes.specs.Items.{includes}
@@ -126,11 +126,11 @@ none_tried r q groups hopeful none (Some f) e = let no : Some _ ≡ None = e ∙
 
 -- where an easy program tries no position, no match may start at any
 pub nowhere : (r : Program) (haystack : List ℕ) (request : Request) (on : Bool) (before after : ℕ) → ((k : ℕ) → slice_index haystack k < 256) → NoneTried (program_options r).seek (asked_of r haystack request on)
-    → (NoneMayStart r.code.start_bytes haystack request.range_end (effective_start request) (request.range_end + 1) → after ≡ before) → after ≡ before
+    → (NoneMayStart r.code.prefilter.starts haystack request.range_end (effective_start request) (request.range_end + 1) → after ≡ before) → after ≡ before
 nowhere r haystack request on before after bytes none idle =
     ∥∥₁_elim r.compiled (hlevel props) (λ compiled.
     let q = asked_of r haystack request on in
-    idle (none_may_start q bytes r.code.start_bytes (subst (λ (m : Meaning). AreStartBytes m q.sought.pattern r.code.start_bytes) r.meant compiled.coded.starts) (not_seeking (program_options r).seek q none)))
+    idle (none_may_start q bytes r.code.prefilter.starts (subst (λ (m : Meaning). AreStartBytes m q.sought.pattern r.code.prefilter.starts) r.meant compiled.coded.starts) (not_seeking (program_options r).seek q none)))
 
 -- of an easy program the search that is anchored at a position is the attempt there
 pub attempted : (r : Program) (haystack : List ℕ) (request : Request) (p : ℕ) → program_is_easy r ≡ true → request.range_end ≤ length haystack → effective_start request ≤ p → p ≤ request.range_end

@@ -63,20 +63,20 @@ none_before q p e =
 
 -- whether a match of a program's pattern may start
 module _ (s : Program) where
-  of_program : {P : Type 0} → IsProp P → (AreStartBytes (meaning_in (program_options s)) (program_pattern s) s.code.start_bytes → P) → P
+  of_program : {P : Type 0} → IsProp P → (AreStartBytes (meaning_in (program_options s)) (program_pattern s) s.code.prefilter.starts → P) → P
   of_program h f =
       ∥∥₁_elim s.compiled h
-      (λ compiled. f (subst (λ (m : Meaning). AreStartBytes m (program_pattern s) s.code.start_bytes) s.meant compiled.coded.starts))
+      (λ compiled. f (subst (λ (m : Meaning). AreStartBytes m (program_pattern s) s.code.prefilter.starts) s.meant compiled.coded.starts))
 
-  told : (o : Option ByteFlags) → s.code.start_bytes ≡ o → {P : Type 0} → IsProp P → (AreStartBytes (meaning_in (program_options s)) (program_pattern s) o → P) → P
+  told : (o : Option ByteFlags) → s.code.prefilter.starts ≡ o → {P : Type 0} → IsProp P → (AreStartBytes (meaning_in (program_options s)) (program_pattern s) o → P) → P
   told o e h f = of_program h (λ is. f (subst (AreStartBytes (meaning_in (program_options s)) (program_pattern s)) e is))
 
-  pub program_anywhere : (next : Option ℕ) → s.code.start_bytes ≡ None → true ≡ may_start (meaning_in (program_options s)) (program_pattern s) next
+  pub program_anywhere : (next : Option ℕ) → s.code.prefilter.starts ≡ None → true ≡ may_start (meaning_in (program_options s)) (program_pattern s) next
   program_anywhere next e = told None e (hlevel props) (starts_anywhere (meaning_in (program_options s)) (program_pattern s) next)
 
-  pub program_at_end : (set : ByteFlags) (next : Option ℕ) → s.code.start_bytes ≡ Some set → next ≡ None → false ≡ may_start (meaning_in (program_options s)) (program_pattern s) next
+  pub program_at_end : (set : ByteFlags) (next : Option ℕ) → s.code.prefilter.starts ≡ Some set → next ≡ None → false ≡ may_start (meaning_in (program_options s)) (program_pattern s) next
   program_at_end set next e end = rw end (told (Some set) e (hlevel props) (starts_before_byte (meaning_in (program_options s)) (program_pattern s) set))
 
-  pub program_at_byte : (set : ByteFlags) (next : Option ℕ) (byte : ℕ) (b : Bool) → byte < 256 → s.code.start_bytes ≡ Some set → next ≡ Some byte → b ≡ member set byte
+  pub program_at_byte : (set : ByteFlags) (next : Option ℕ) (byte : ℕ) (b : Bool) → byte < 256 → s.code.prefilter.starts ≡ Some set → next ≡ Some byte → b ≡ member set byte
       → b ≡ may_start (meaning_in (program_options s)) (program_pattern s) next
   program_at_byte set next byte b small e here is = rw (here, is) (told (Some set) e (hlevel props) (starts_at_member (meaning_in (program_options s)) (program_pattern s) set byte small))

@@ -199,7 +199,7 @@ impl Program {
     pub fn may_start_before(&self, next: Option<u8>) -> bool
         ensures { result ≡ may_start (meaning_in (program_options self.now)) (program_pattern self.now) next }
     {
-        match &self.code.start_bytes {
+        match &self.code.prefilter.starts {
             None => true,
             Some(starts) => match next {
                 None => false,
@@ -504,9 +504,9 @@ impl Program {
     /// begins with where the haystack is short, and where it is not since a match starts at its start alone.
     fn ends_soon(&self, haystack: &[u8]) -> bool {
         if haystack.len() < SHORT_HAYSTACK {
-            self.code.literal.is_some()
+            self.code.prefilter.has_text()
         } else {
-            self.code.only_at_start
+            self.code.prefilter.only_at_start
         }
     }
 

@@ -4,8 +4,8 @@ ghost use Rattle.std.specs.Prelude.{◌≡◌, true};
 ghost use Rattle.fancy_search.specs.Followed.{FollowsEach};
 
 use fancy_automaton::plain::is_plain;
-use fancy_code::branches::WIDE;
 use fancy_code::code::Code;
+use fancy_prefilter::branches::WIDE;
 
 /// Whether the code opens with many branches, one of which is taken at each position: an alternation of that many, or as
 /// many repeats in a row that may consume nothing. With fewer the runner is as fast as the automaton: it takes some
@@ -26,7 +26,7 @@ fn opens_wide(code: &Code) -> bool {
 pub(crate) fn is_worth_following(code: &Code) -> bool
     ensures { result ≡ true → FollowsEach code.now }
 {
-    if code.branches.is_some() || !opens_wide(code) {
+    if code.prefilter.has_words() || !opens_wide(code) {
         return false;
     }
     is_plain(code)

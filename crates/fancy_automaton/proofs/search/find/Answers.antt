@@ -5,7 +5,7 @@ use Rattle.fancy_input.specs.Requests.{positions, effective_start}
 use Rattle.fancy_code.specs.Queries.{query_of, unfiltered, answer_with}
 use Rattle.fancy_code.specs.Reading.{search_context}
 use Rattle.fancy_code.specs.Search.{answer_from, search}
-use Rattle.fancy_code.specs.Seen.{NoneMayStart}
+use Rattle.fancy_prefilter.specs.Seen.{NoneMayStart}
 use Rattle.fancy_code.specs.declared.reading.SuppressedEnds.{SuppressedEnds}
 use Rattle.fancy_code.specs.declared.attempt.Attempt.{Attempt}
 use Rattle.fancy_code.proofs.PositionLemmas.{positions_none, search_over}
@@ -50,8 +50,8 @@ returns-clause-answer c p on is =
 
 pub returns-clause-idle : goal.returns-clause-idle
 returns-clause-idle c none =
-    c.find_span.ensures.idle (subst (λ (k : ℕ). NoneMayStart c.args.code.now.start_bytes c.args.haystack.now c.args.request.range_end k (c.args.request.range_end + 1)) (sym c.effective_start-first.ensures) none)
+    c.find_span.ensures.idle (subst (λ (k : ℕ). NoneMayStart c.args.code.now.prefilter.starts c.args.haystack.now c.args.request.range_end k (c.args.request.range_end + 1)) (sym c.effective_start-first.ensures) none)
 
 pub returns-in_err-found-clause-idle : goal.returns-in_err-found-clause-idle
 returns-in_err-found-clause-idle c none =
-    c.find_span.ensures.idle (subst (λ (k : ℕ). NoneMayStart c.args.code.now.start_bytes c.args.haystack.now c.args.request.range_end k (c.args.request.range_end + 1)) (sym c.effective_start-first.ensures) none)
+    c.find_span.ensures.idle (subst (λ (k : ℕ). NoneMayStart c.args.code.now.prefilter.starts c.args.haystack.now c.args.request.range_end k (c.args.request.range_end + 1)) (sym c.effective_start-first.ensures) none)

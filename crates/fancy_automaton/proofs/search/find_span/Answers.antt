@@ -3,7 +3,7 @@ use Rattle.fancy_automaton.specs.Search.{ends_in}
 use Rattle.fancy_code.specs.CodeLength.{code_len}
 use Rattle.fancy_code.specs.Work.{steps_of}
 use Rattle.fancy_automaton.proofs.CellLemmas.{row_ways, row_within}
-use Rattle.fancy_code.proofs.SkipLemmas.{starts_somewhere}
+use Rattle.fancy_prefilter.proofs.NextLemmas.{starts_somewhere}
 use Rattle.fancy_automaton.proofs.FrontLemmas.{front_first}
 use Rattle.fancy_automaton.proofs.GoingLemmas.{going_end, going_over, steps_more, steps_up}
 use Rattle.fancy_automaton.proofs.TrailLemmas.{some_found}
@@ -59,7 +59,7 @@ places-preserved c = record {
       (omega (arith, c.places.invariant.passed, c.seek-place.ensures.forth)) c.in_ok-place.ensures.forth
       (steps_up (code_len c.args.attempt.now.code.now) c.args.attempt.now.base c.places.place c.seek-place.result (steps_of c.args.work.now) (steps_of c.places.work) c.seek-place.ensures.forth c.places.invariant.bounded)
       c.pass.ensures.bounded;
-  idle = λ none. absurd (starts_somewhere c.args.attempt.now.code.now.start_bytes c.args.attempt.now.haystack.now c.args.attempt.now.last c.seek-place.result
+  idle = λ none. absurd (starts_somewhere c.args.attempt.now.code.now.prefilter.starts c.args.attempt.now.haystack.now c.args.attempt.now.last c.seek-place.result
       (c.seek-place.ensures.stands (c.places.invariant.idle none).2 (c.places.invariant.idle none).0 (omega (arith, c.if-place-attempt.false))) (none c.seek-place.result (omega (arith, c.places.invariant.passed, c.seek-place.ensures.forth)) (omega (arith, c.if-place-attempt.false))));
   returns = c.pass.ensures.returns ∙ c.places.invariant.returns;
   units = c.pass.ensures.units ∙ c.places.invariant.units;
@@ -73,5 +73,5 @@ returns-then-place-attempt-clause-idle c none = (c.places.invariant.idle none).1
 
 pub returns-in_err-place-clause-idle : goal.returns-in_err-place-clause-idle
 returns-in_err-place-clause-idle c none =
-    absurd (starts_somewhere c.args.attempt.now.code.now.start_bytes c.args.attempt.now.haystack.now c.args.attempt.now.last c.seek-place.result
+    absurd (starts_somewhere c.args.attempt.now.code.now.prefilter.starts c.args.attempt.now.haystack.now c.args.attempt.now.last c.seek-place.result
     (c.seek-place.ensures.stands (c.places.invariant.idle none).2 (c.places.invariant.idle none).0 (omega (arith, c.if-place-attempt.false))) (none c.seek-place.result (omega (arith, c.places.invariant.passed, c.seek-place.ensures.forth)) (omega (arith, c.if-place-attempt.false))))

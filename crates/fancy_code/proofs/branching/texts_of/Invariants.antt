@@ -2,7 +2,7 @@ use Rattle.std.proofs.Common.{◌≡◌, ℕ, length}
 use Rattle.std.specs.Prelude.{Some, slice_get, slice_index}
 use Rattle.fancy_code.specs.Code.{instrs_of}
 use Rattle.fancy_code.specs.Texts.{IsTextOf}
-use Rattle.fancy_code.specs.declared.text.Text.{Text}
+use Rattle.fancy_prefilter.specs.declared.text.Text.{Text}
 use Rattle.fancy_code.proofs.branching.texts_of.Given as goal
 
 abbrev pub invariant-loop-number : goal.invariant-loop-number

@@ -11,9 +11,9 @@ returns-clause-is c p is =
       matching = rw same.instrs is.matching;
       failing = rw same.instrs is.failing;
       numbered = rw same.groups is.numbered;
-      starts = rw (same.meaning, same.start_bytes) is.starts;
-      opens = rw (same.meaning, same.literal) is.opens;
+      starts = rw (same.meaning, same.prefilter) is.starts;
+      opens = rw (same.meaning, same.prefilter) is.opens;
       foretold = rw (same.prefilter, same.meaning, same.instrs, same.start) is.foretold;
-      anchored = λ e. rw (same.instrs, same.start) (is.anchored (sym same.anchored ∙ e));
-      branched = rw (same.branches, same.instrs, same.meaning, same.start) is.branched;
+      anchored = rw (same.prefilter, same.instrs, same.start) is.anchored;
+      branched = rw (same.prefilter, same.instrs, same.meaning, same.start) is.branched;
     }

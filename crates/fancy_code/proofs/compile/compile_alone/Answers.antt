@@ -1,7 +1,6 @@
 use Rattle.std.proofs.Common.{rules, arith, ℕ, ◌+◌, ◌≡◌, sym, ap, ◌∙◌, true≢false}
-use Rattle.fancy_tree.specs.Pattern.{pattern_of}
+use Rattle.fancy_prefilter.specs.declared.prefilter.Prefilter.{Prefilter}
 use Rattle.fancy_code.specs.Instructions as i
-use Rattle.fancy_code.proofs.CompileLemmas.{opens_with}
 use Rattle.fancy_code.proofs.compile.compile_alone.Goals as goal
 
 pub returns-clause-code : goal.returns-clause-code
@@ -18,9 +17,9 @@ returns-clause-code c = record {
       rw c.in_ok-code.ensures.instrs
       (c.in_ok-entry.ensures.kept 1 i.Fail (omega arith) (rw second at c.in_ok-put-2.ensures.stands));
   numbered = search rules;
-  starts = search rules;
-  opens = opens_with _ _ (pattern_of c.args.tree.now) _ _ c.in_ok-code.ensures.literal c.in_ok-code.ensures.meaning c.in_ok-literal.ensures;
-  foretold = rw c.in_ok-code.ensures.prefilter tt;
-  branched = rw c.in_ok-code.ensures.branches tt;
-  anchored = λ e. absurd (true≢false (sym e ∙ c.in_ok-code.ensures.anchored));
+  starts = rw (c.in_ok-code.ensures.meaning, c.in_ok-code.ensures.prefilter) c.in_ok-prefilter.ensures.starts;
+  opens = rw (c.in_ok-code.ensures.meaning, c.in_ok-code.ensures.prefilter) c.in_ok-prefilter.ensures.text;
+  foretold = rw (c.in_ok-code.ensures.prefilter, c.in_ok-prefilter.ensures.window) tt;
+  branched = rw (c.in_ok-code.ensures.prefilter, c.in_ok-prefilter.ensures.branches) tt;
+  anchored = λ e. absurd (true≢false (sym e ∙ ap (λ (f : Prefilter). f.only_at_start) c.in_ok-code.ensures.prefilter ∙ c.in_ok-prefilter.ensures.anchored));
 }

@@ -2,7 +2,8 @@ use Rattle.std.proofs.Common.{Bool, List, length, sym, ap, subst, ◌+◌, ◌<�
 use Rattle.fancy_tree.specs.Sets.{has}
 use Rattle.fancy_bytes.specs.Sets.{ByteFlags}
 use Rattle.fancy_code.specs.Code.{instrs_of, instr_in}
-use Rattle.fancy_code.specs.Foretold.{Foretold, Wider}
+use Rattle.fancy_prefilter.specs.Rows.{Wider}
+use Rattle.fancy_code.specs.Foretold.{Foretold}
 use Rattle.fancy_code.specs.Instructions.{edges_in}
 use Rattle.fancy_code.proofs.InstructionLemmas.{length-instrs_of}
 use Rattle.fancy_code.proofs.ForetoldLemmas.{told_past, told_nowhere, told_character, told_member, told_assert, told_open, told_close, told_split, wider_told, wider_cut, cut_length}

@@ -13,7 +13,7 @@ use Rattle.fancy_runner.specs.KeptTable.{table_in, marks_from, base_of, steps_ah
 use Rattle.fancy_code.proofs.MarkingLemmas.{later_starts}
 use Rattle.fancy_runner.proofs.KeptTableLemmas.{failed_later, told_later, kept_begins, kept_reached, kept_room, kept_small, kept_last_lines, kept_failed, kept_after, ahead_ready, ahead_after, fewer_ahead, again_paid}
 use Rattle.fancy_code.proofs.PositionLemmas.{deep, attempt_known, attempt_answer, search_hit, search_miss, search_skip, search_over, positions_none, first_thread}
-use Rattle.fancy_runner.proofs.PassedLemmas.{openings_passed}
+use Rattle.fancy_code.proofs.PassedLemmas.{openings_passed}
 use Rattle.fancy_code.proofs.WorkLemmas.{runs_from_start, runs_on, runs_same}
 use Rattle.fancy_runner.proofs.LimitLemmas.{runs_heeded}
 use Rattle.fancy_runner.proofs.search.search.Goals as goal

@@ -7,7 +7,7 @@ use Rattle.fancy_code.specs.Queries.{query_of, unfiltered}
 use Rattle.fancy_runner.specs.KeptTable.{table_in, steps_from, taken_again}
 use Rattle.fancy_input.specs.LastLines.{KnowsLastLines}
 use Rattle.fancy_input.specs.Requests.{effective_start}
-use Rattle.fancy_code.specs.Seen.{NoneMayStart}
+use Rattle.fancy_prefilter.specs.Seen.{NoneMayStart}
 use Rattle.fancy_code.specs.Search.{search, answer_from}
 use Rattle.fancy_code.specs.Work.{steps_of, returns_of, RunsWithin}
 use Rattle.fancy_runner.proofs.search.search.Given as goal
@@ -20,8 +20,8 @@ invariant-loop-place l = record {
   passed : l.first ≤ l.place;
   within : l.place ≤ l.last + 1;
   dropped : l.kept ≡ None;
-  starts : l.place ≤ l.last → ¬ NoneMayStart l.code.start_bytes l.haystack l.fn.request.range_end (effective_start l.fn.request) (l.fn.request.range_end + 1);
-  idle : NoneMayStart l.code.start_bytes l.haystack l.fn.request.range_end (effective_start l.fn.request) (l.fn.request.range_end + 1) → steps_of l.work ≡ steps_of l.fn.work;
+  starts : l.place ≤ l.last → ¬ NoneMayStart l.code.prefilter.starts l.haystack l.fn.request.range_end (effective_start l.fn.request) (l.fn.request.range_end + 1);
+  idle : NoneMayStart l.code.prefilter.starts l.haystack l.fn.request.range_end (effective_start l.fn.request) (l.fn.request.range_end + 1) → steps_of l.work ≡ steps_of l.fn.work;
   failed : (p : Pattern) → IsCodeOf p l.code → AllFailedIn l.attempt l.place (depth (length l.haystack) p + 1) l.table;
   room : length l.table ≡ bits_in l.attempt;
   small : length l.table < 2 ^ 64;

@@ -1,5 +1,5 @@
 use Rattle.std.proofs.Common.{◌≡◌, ◌∙◌, length, sym, arith}
-use Rattle.fancy_bytes.proofs.OpeningLemmas.{text_within}
+use Rattle.fancy_prefilter.proofs.StandsLemmas.{text_within}
 use Rattle.fancy_runner.proofs.BranchLemmas.{text_none, text_missed, text_found}
 use Rattle.fancy_runner.proofs.start.follow_text.Goals as goal
 

@@ -1,5 +1,0 @@
-use Rattle.std.proofs.Common.{length}
-use Rattle.fancy_bytes.proofs.key_table.+gather.Given as goal
-
-abbrev pub decreases-gather : goal.decreases-gather
-decreases-gather l = length l.sets.now

@@ -1,6 +1,0 @@
-use Rattle.std.proofs.Common.{◌≡◌, ℕ, ◌<◌, ◌≤◌, false}
-use Rattle.fancy_bytes.specs.Sets.{member}
-use Rattle.fancy_bytes.proofs.key_table.has_class.Given as goal
-
-abbrev pub invariant-loop-byte : goal.invariant-loop-byte
-invariant-loop-byte l = (b : ℕ) → 128 ≤ b → b < l.byte → member l.set b ≡ false

@@ -1,7 +1,0 @@
-use Rattle.std.proofs.Common.{◌≡◌, ◌+◌, ◌<◌, ℕ, true, slice_index}
-use Rattle.fancy_bytes.specs.Sets.{member}
-use Rattle.fancy_bytes.specs.Windows.{set_at}
-use Rattle.fancy_bytes.proofs.prefilter.Prefilter.stands_at.Given as goal
-
-abbrev pub invariant-loop-j : goal.invariant-loop-j
-invariant-loop-j l = (i : ℕ) → i < l.j → member (set_at l.self i) (slice_index l.haystack (l.place + i)) ≡ true

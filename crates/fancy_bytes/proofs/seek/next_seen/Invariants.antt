@@ -1,5 +1,0 @@
-use Rattle.fancy_bytes.specs.Seeks.{NoneSeenBefore}
-use Rattle.fancy_bytes.proofs.seek.next_seen.Given as goal
-
-abbrev pub invariant-loop-place : goal.invariant-loop-place
-invariant-loop-place l = NoneSeenBefore l.set l.haystack l.from l.place

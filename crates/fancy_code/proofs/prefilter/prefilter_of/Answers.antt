@@ -1,7 +1,0 @@
-use Rattle.fancy_code.proofs.ForetoldLemmas.{some_foretold, start_told}
-use Rattle.fancy_code.proofs.prefilter.prefilter_of.Goals as goal
-
-pub returns : goal.returns
-returns c =
-    some_foretold c.args.code.now c.in_ok-prefilter.prefilter c.in_ok-sets.sets.items c.in_ok-prefilter.ensures
-    (start_told c.args.code.now c.in_ok-sets.sets.items c.in_ok-sets.ensures)

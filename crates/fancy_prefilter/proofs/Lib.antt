@@ -1,0 +1,9 @@
+pub mod ScanLemmas
+pub mod WindowLemmas
+pub mod LaneLemmas
+pub mod MarkLemmas
+pub mod ProbeLemmas
+pub mod KeyLemmas
+pub mod StandsLemmas
+pub mod ItemBytesLemmas
+pub mod NextLemmas

@@ -1,0 +1,68 @@
+-- Where a search goes on to, by what tells where no match starts.
+use Rattle.std.proofs.Common.{◌≡◌, ℕ, ◌+◌, ◌<◌, ◌≤◌, true, inl, inr, List, Option, Some, None, sym, subst, ◌∙◌, arith, true≢false}
+use Rattle.std.proofs.lemmas.Bool.{cases_lt}
+use Rattle.fancy_bytes.specs.Sets.{ByteFlags}
+use Rattle.fancy_prefilter.specs.NextOpening.{LacksOpening, StartsNot, by_byte, by_start, by_opening, IsNextOpening}
+use Rattle.fancy_prefilter.specs.Seen.{MayStart, MayNotStart, IsNextCandidate}
+use Rattle.fancy_prefilter.specs.declared.prefilter.Opening.{Opening}
+use Rattle.fancy_prefilter.specs.declared.prefilter.Prefilter.{Prefilter}
+
+-- a match that may start at p is no match that may not
+pub starts_somewhere : (starts : Option ByteFlags) (haystack : List ℕ) (range_end p : ℕ) → MayStart starts haystack range_end p → MayNotStart starts haystack range_end p → ⊥
+starts_somewhere None haystack range_end p may never = never
+starts_somewhere (Some set) haystack range_end p may never = true≢false (sym may.1 ∙ never may.0)
+
+-- what each match opens with does not stand
+pub lacks_told : (f : Prefilter) (o : Opening) (haystack : List ℕ) (range_end p : ℕ) → f.opening ≡ o → LacksOpening o haystack range_end p → StartsNot f haystack range_end p
+lacks_told f o haystack range_end p is lacks = by_opening (subst (λ (told : Opening). LacksOpening told haystack range_end p) (sym is) lacks)
+
+module _ (f : Prefilter) (haystack : List ℕ) (range_end from last place : ℕ) (next : IsNextCandidate f.starts haystack range_end from last place) where
+  -- where nothing else is told, the search goes on where a match may start
+  pub next_first : IsNextOpening f haystack range_end from last place
+  next_first = record {
+    passed = next.passed;
+    within = next.within;
+    some = λ le none. starts_somewhere f.starts haystack range_end place (next.stands le) (none place next.passed (omega (arith, le)));
+    none = λ k low high. by_byte (next.none k low high);
+  }
+
+  -- and else where what each match opens with stands, if there is a place that the first byte allows
+  pub next_text : (p : ℕ) → place ≤ p → p ≤ last + 1 → ((k : ℕ) → place ≤ k → k < p → StartsNot f haystack range_end k) → IsNextOpening f haystack range_end from last p
+  next_text p later within lacks = record {
+    passed = omega (arith, next.passed, later);
+    within = within;
+    some = λ le none.
+        let to : place ≤ last = omega (arith, le, later) in
+        starts_somewhere f.starts haystack range_end place (next.stands to) (none place next.passed (omega (arith, to)));
+    none = λ k low high. elim (cases_lt k place) [
+      | inl lt ↦ by_byte (next.none k low lt)
+      | inr ge ↦ lacks k ge high
+    ];
+  }
+
+module _ (f : Prefilter) (haystack : List ℕ) (range_end from last : ℕ) where
+  -- where no match starts before a place, the search goes on where one may start from there on
+  pub next_seen : (seen place : ℕ) → from ≤ seen → ((k : ℕ) → from ≤ k → k < seen → StartsNot f haystack range_end k) → IsNextCandidate f.starts haystack range_end seen last place
+      → IsNextOpening f haystack range_end from last place
+  next_seen seen place later none next = record {
+    passed = omega (arith, next.passed, later);
+    within = next.within;
+    some = λ le never. starts_somewhere f.starts haystack range_end place (next.stands le) (never place (omega (arith, next.passed, later)) (omega (arith, le)));
+    none = λ k low high. elim (cases_lt k seen) [
+      | inl lt ↦ none k low lt
+      | inr ge ↦ by_byte (next.none k ge high)
+    ];
+  }
+
+  -- where none starts at any place, there is no such place
+  pub next_nowhere : from ≤ last + 1 → ((k : ℕ) → from ≤ k → StartsNot f haystack range_end k) → IsNextOpening f haystack range_end from last (last + 1)
+  next_nowhere ordered none = record {
+    passed = ordered;
+    within = omega arith;
+    some = λ le never. absurd (omega (arith, le));
+    none = λ k low high. none k low;
+  }
+
+  -- past the text's start there is none for a match that starts there alone
+  pub next_past : from ≤ last + 1 → f.only_at_start ≡ true → 0 < from → IsNextOpening f haystack range_end from last (last + 1)
+  next_past ordered only later = next_nowhere ordered (λ k low. by_start only (omega (arith, low, later)))

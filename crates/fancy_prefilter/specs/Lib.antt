@@ -1,0 +1,11 @@
+pub mod Seeks
+pub mod Windows
+pub mod HalfTables
+pub mod Probes
+pub mod Keys
+pub mod LastKeys
+pub mod KeyTables
+pub mod Rows
+pub mod Prefilters
+pub mod Seen
+pub mod NextOpening

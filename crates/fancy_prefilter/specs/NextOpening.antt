@@ -1,0 +1,29 @@
+-- Where a search goes on to, by all that tells where no match starts.
+use Rattle.std.specs.Prelude.{◌≡◌, ℕ, ◌+◌, ◌<◌, ◌≤◌, true, List}
+use Rattle.fancy_bytes.specs.Openings.{StandsBefore}
+use Rattle.fancy_prefilter.specs.Windows.{StandsFrom}
+use Rattle.fancy_prefilter.specs.KeyTables.{NoneMayStand}
+use Rattle.fancy_prefilter.specs.Seen.{MayNotStart, NoneMayStart}
+use Rattle.fancy_prefilter.specs.declared.prefilter.Opening.{Opening}
+use Rattle.fancy_prefilter.specs.declared.prefilter.Opening.TheVariants.{Untold, Text, Window, Words}
+use Rattle.fancy_prefilter.specs.declared.prefilter.Prefilter.{Prefilter}
+
+-- What each match opens with does not stand at p: not the text, in the window a byte of some set not, or by their table none of the alternatives.
+abbrev pub LacksOpening : Opening → List ℕ → ℕ → ℕ → Type 0
+LacksOpening Untold haystack range_end p = ⊥
+LacksOpening (Text text) haystack range_end p = ¬ StandsBefore haystack range_end text p
+LacksOpening (Window sets) haystack range_end p = ¬ StandsFrom sets haystack range_end 0 p
+LacksOpening (Words b) haystack range_end p = NoneMayStand b.table haystack range_end p
+
+-- no match starts at p: by its first byte, since it would start past the text's start, or by what it opens with
+pub data StartsNot (f : Prefilter) (haystack : List ℕ) (range_end p : ℕ) : Type 0 where
+  by_byte : MayNotStart f.starts haystack range_end p → StartsNot f haystack range_end p
+  by_start : f.only_at_start ≡ true → 0 < p → StartsNot f haystack range_end p
+  by_opening : LacksOpening f.opening haystack range_end p → StartsNot f haystack range_end p
+
+-- p is a place, from the one on and up to the other, at which a search may go on, since no match starts before it; or it is past both. Where no match starts by its first byte, it is past both.
+pub record IsNextOpening (f : Prefilter) (haystack : List ℕ) (range_end from last p : ℕ) : Type 0 where
+  pub passed : from ≤ p
+  pub within : p ≤ last + 1
+  pub some : p ≤ last → ¬ NoneMayStart f.starts haystack range_end from (last + 1)
+  pub none : (k : ℕ) → from ≤ k → k < p → StartsNot f haystack range_end k

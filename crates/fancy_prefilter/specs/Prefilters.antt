@@ -1,0 +1,27 @@
+-- What each match opens with.
+use Rattle.std.specs.Prelude.{ℕ, List, Option, Some, None}
+use Rattle.fancy_bytes.specs.Sets.{ByteFlags}
+use Rattle.fancy_prefilter.specs.declared.branches.Branches.{Branches}
+use Rattle.fancy_prefilter.specs.declared.prefilter.Opening.{Opening}
+use Rattle.fancy_prefilter.specs.declared.prefilter.Opening.TheVariants.{Untold, Text, Window, Words}
+
+-- the text that each match opens with, if that is told
+abbrev pub text_in : Opening → Option (List ℕ)
+text_in Untold = None
+text_in (Text text) = Some text
+text_in (Window sets) = None
+text_in (Words b) = None
+
+-- the sets of the bytes that stand at the first places of each match, if these are told
+abbrev pub window_in : Opening → Option (List ByteFlags)
+window_in Untold = None
+window_in (Text text) = None
+window_in (Window sets) = Some sets
+window_in (Words b) = None
+
+-- the alternatives one of which each match opens with, if these are told
+abbrev pub branches_in : Opening → Option Branches
+branches_in Untold = None
+branches_in (Text text) = None
+branches_in (Window sets) = None
+branches_in (Words b) = Some b

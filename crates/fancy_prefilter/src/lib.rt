@@ -1,0 +1,18 @@
+//! Where a match may begin: what tells it, and the scans of haystacks by that.
+#![tactic(auto)]
+
+pub mod branches;
+pub mod candidates;
+mod half_tables;
+pub mod items;
+pub mod key_scan;
+pub mod key_table;
+pub mod literal;
+mod marks;
+pub mod prefilter;
+mod probes;
+pub mod rows;
+pub mod scan;
+pub mod seek;
+pub mod text;
+pub mod window;

@@ -1,0 +1,92 @@
+//! What tells where matches may begin.
+
+ghost use Rattle.std.specs.Prelude.{◌≡◌, None, false, IfOk, IfSome};
+ghost use Rattle.fancy_tree.specs.Pattern.{pattern_of};
+ghost use Rattle.fancy_bytes.specs.Firsts.{AreStartBytes};
+ghost use Rattle.fancy_bytes.specs.Openings.{opening};
+ghost use Rattle.fancy_prefilter.specs.Prefilters.{branches_in, text_in, window_in};
+
+use crate::branches::Branches;
+use crate::literal::{Literal, opening_literal};
+use crate::scan::{Scan, start_scan};
+use crate::window::Window;
+use fancy_tree::tree::{Meaning, Tree};
+use std::alloc::{AllocError, Global};
+
+/// What each match opens with, besides its first byte.
+#[derive(Drop)]
+pub enum Opening {
+    /// That is not told.
+    Untold,
+    /// This text, of two bytes or more.
+    Text(Literal),
+    /// A byte of each of these sets, at its first places.
+    Window(Window),
+    /// One of these alternatives: there are many, and their first bytes tell them apart.
+    Words(Branches),
+}
+
+/// What tells where matches may begin.
+#[derive(Drop)]
+pub struct Prefilter {
+    /// The bytes that a match starts with. `None` where it may start anywhere.
+    pub starts: Option<Scan>,
+    /// Each match starts at the text's start.
+    pub only_at_start: bool,
+    /// What each match opens with.
+    pub opening: Opening,
+}
+
+/// The text that whatever the pattern matches opens with, if there is one of two bytes or more. It is refused where memory
+/// runs out.
+fn text_opening(alloc: Global, tree: &Tree, meaning: Meaning) -> Result<Opening, AllocError>
+    ensures text { IfOk result (λ o. IfSome (text_in o) (λ text. text ≡ opening meaning (pattern_of tree.now))) }
+    ensures window { IfOk result (λ o. window_in o ≡ None) }
+    ensures branches { IfOk result (λ o. branches_in o ≡ None) }
+{
+    match opening_literal(alloc, tree, meaning)? {
+        None => Ok(Opening::Untold),
+        Some(literal) => Ok(Opening::Text(literal)),
+    }
+}
+
+impl Prefilter {
+    /// What a pattern tells of where its matches begin. It is refused where memory runs out.
+    pub fn new(alloc: Global, tree: &Tree, meaning: Meaning) -> Result<Prefilter, AllocError>
+        ensures starts { IfOk result (λ f. AreStartBytes meaning (pattern_of tree.now) f.starts) }
+        ensures anchored { IfOk result (λ f. f.only_at_start ≡ false) }
+        ensures text { IfOk result (λ f. IfSome (text_in f.opening) (λ text. text ≡ opening meaning (pattern_of tree.now))) }
+        ensures window { IfOk result (λ f. window_in f.opening ≡ None) }
+        ensures branches { IfOk result (λ f. branches_in f.opening ≡ None) }
+    {
+        let starts = start_scan(tree, meaning);
+        let opening = text_opening(alloc, tree, meaning)?;
+        Ok(Prefilter {
+            starts,
+            only_at_start: false,
+            opening,
+        })
+    }
+
+    /// Whether a search would scan for a window: not where each match opens with one text, or starts with one byte, for which
+    /// it scans faster, nor where a match may start with any byte.
+    pub fn is_worth_window(&self) -> bool {
+        if self.has_text() {
+            return false;
+        }
+        match &self.starts {
+            None => false,
+            Some(scan) => !scan.has_one(),
+        }
+    }
+
+    /// Whether each match opens with a text that is told.
+    pub fn has_text(&self) -> bool {
+        matches!(self.opening, Opening::Text(_))
+    }
+
+    /// Whether each match opens with one of many alternatives that are told.
+    pub fn has_words(&self) -> bool {
+        matches!(self.opening, Opening::Words(_))
+    }
+}

@@ -1,0 +1,55 @@
+//! Rows of sets of bytes, one for each of the first places of a match, while they are made.
+
+ghost use Rattle.std.specs.Prelude.{◌≡◌};
+ghost use Rattle.fancy_prefilter.specs.Rows.{HasFrom, Wider};
+
+use fancy_bytes::byte_set::ByteSet;
+use std::alloc::{AllocError, Global};
+
+/// A set of bytes tells something where it has at most so many that are ASCII: most texts have the others at most places.
+const FEW: usize = 16;
+
+/// So many sets without bytes.
+pub fn empty_sets(alloc: Global, places: usize) -> Result<Vec<ByteSet>, AllocError> {
+    let mut sets = Vec::with_capacity(alloc, places)?;
+    for _ in 0..places {
+        sets.push(ByteSet::new())?;
+    }
+    Ok(sets)
+}
+
+/// Adds bytes to each set from a number on; where that is told, to that one alone.
+pub fn add_bytes(sets: &mut Vec<ByteSet>, from: usize, exact: bool, bytes: &ByteSet)
+    ensures wider { Wider sets.old.items sets.new.items }
+    ensures has { HasFrom sets.new.items from exact bytes.now }
+{
+    let end = if exact {
+        sets.len().min(from.saturating_add(1))
+    } else {
+        sets.len()
+    };
+    for j in from..end {
+        sets[j] = sets[j].union(bytes);
+    }
+}
+
+/// How many of the bytes are ASCII.
+fn count_ascii(set: &ByteSet) -> usize {
+    let mut count = 0usize;
+    for byte in 0..128u32 {
+        if set.contains(byte as u8) {
+            count = count.saturating_add(1);
+        }
+    }
+    count
+}
+
+/// Whether the sets tell more than the first of them alone: another has few bytes.
+pub fn are_telling(sets: &[ByteSet]) -> bool {
+    for j in 1..sets.len() {
+        if count_ascii(&sets[j]) <= FEW {
+            return true;
+        }
+    }
+    false
+}
