@@ -13,4 +13,6 @@ pub mod GoingLemmas
 pub mod SteadyLemmas
 pub mod TrailLemmas
 pub mod FrontLemmas
+pub mod HopLemmas
+pub mod TransitionLemmas
 pub mod RememberedLemmas

@@ -10,6 +10,7 @@ use Rattle.fancy_automaton.specs.declared.way.Way.{Way}
 use Rattle.fancy_automaton.specs.declared.cells.Cell.{Cell}
 use Rattle.fancy_automaton.specs.declared.cells.Cells.{Cells}
 use Rattle.fancy_automaton.specs.Steps.{IsStep, at_of, from_of}
+use Rattle.fancy_automaton.specs.Transitions.{AreTold}
 
 abbrev pub items_or : Option (Vec ℕ) → List ℕ
 items_or None = []
@@ -70,8 +71,11 @@ most_cells = 16_384
 pub record IsBounded (a : Cells) : Type 0 where
   pub rows : length a.rows.lists.items ≤ most_rows
   pub cells : length a.cells.items ≤ most_cells
+  -- and the table tells nothing else
+  pub told : AreTold a.cells.items a.table.entries.items
 
 -- and one more step with its two rows is not too much
 pub record HasPlace (a : Cells) : Type 0 where
   pub rows : length a.rows.lists.items + 2 ≤ most_rows
   pub cells : length a.cells.items + 1 ≤ most_cells
+  pub told : AreTold a.cells.items a.table.entries.items

@@ -4,6 +4,9 @@ use Rattle.fancy_input.specs.declared.span.Span.{Span}
 use Rattle.fancy_code.specs.declared.attempt.Attempt.{Attempt}
 use Rattle.fancy_automaton.specs.declared.cells.Cells.{Cells}
 use Rattle.fancy_automaton.specs.declared.front.Front.{Front}
+use Rattle.fancy_automaton.specs.declared.hop.Stand.{Stand}
+use Rattle.fancy_automaton.specs.declared.trail.Hit.{Hit}
+use Rattle.fancy_automaton.specs.declared.trail.Trail.{Trail}
 use Rattle.fancy_automaton.specs.Cells.{IsFor, HasRow, ways_at}
 use Rattle.fancy_automaton.specs.Search.{Going}
 use Rattle.fancy_automaton.specs.Trail.{starts_in, found_in_trail, AllVisited, HitIn}
@@ -19,6 +22,10 @@ starts_of cells f = starts_in cells.cells.items f.trail
 -- what was found
 abbrev pub found_of : Cells → Front → Option Span
 found_of cells f = found_in_trail cells.cells.items f.trail f.hit
+
+-- how far a search has come that stands there
+abbrev pub front_at : Stand → Trail → Option Hit → Front
+front_at at trail hit = record { next = at.next; begun = at.begun; trail = trail; hit = hit }
 
 -- The rows that a search holds are those of the ways that wait at `resume`, and no match may begin from `place` to there.
 pub record IsFront (a : Attempt) (cells : Cells) (f : Front) (place resume : ℕ) : Type 0 where

@@ -4,6 +4,7 @@ pub mod Futures
 pub mod Steps
 pub mod Joins
 pub mod Search
+pub mod Transitions
 pub mod Cells
 pub mod Trail
 pub mod Front

@@ -8,6 +8,7 @@ ghost use Rattle.fancy_code.specs.Work.{steps_of, returns_of, units_of};
 ghost use Rattle.fancy_code.specs.declared.code.Code.{Code};
 ghost use Rattle.fancy_automaton.specs.Steps.{IsStep, at_of, from_of};
 ghost use Rattle.fancy_automaton.specs.Trail.{came_at};
+ghost use Rattle.fancy_automaton.specs.Transitions.{AreTold, IsEntry, ascii};
 ghost use Rattle.fancy_automaton.specs.Cells.{KeepsRows, KeepsCells, HasRow, HasCell, HasPlace, IsFor, IsCell, IsBounded, ways_at};
 
 use crate::hints::Hints;
@@ -16,6 +17,7 @@ use crate::marks::Marks;
 use crate::rows::{Rows, Target, are_same, copied, intern, intern_one, target_of};
 use crate::step::{Step, step_from};
 use crate::trail::Trail;
+use crate::transitions::{Entry, Transition, Transitions};
 use crate::way::Way;
 use fancy_code::code::Code;
 use fancy_code::reading::Reading;
@@ -55,6 +57,9 @@ const ROW_BYTES: usize = 160;
 /// A step takes about so many bytes, with its hints and without the ways that it leads to.
 const CELL_BYTES: usize = 240;
 
+/// Numbers below this are told by the table.
+const SMALL: usize = 4_294_967_296;
+
 /// An instruction of a row takes so many bytes, and so does a way that a step leads to.
 const WAY_BYTES: usize = 8;
 
@@ -68,7 +73,9 @@ pub struct Cells {
     pub rows: Rows,
     /// The steps.
     pub cells: Vec<Cell>,
-    /// The numbers of steps, by their row and what is read.
+    /// The steps on ASCII characters, by their row and the character.
+    pub table: Transitions,
+    /// The numbers of the other steps, by their row and what is read.
     pub hints: Hints,
     /// The number of the row without an instruction, where it is one; that is tested.
     pub nothing: usize,
@@ -99,6 +106,7 @@ impl Cells {
             alloc,
             rows: Rows::new(alloc),
             cells: Vec::new(alloc),
+            table: Transitions::new(alloc),
             hints: Hints::new(alloc),
             nothing: 0,
             alone: 0,
@@ -144,6 +152,7 @@ impl Cells {
     {
         self.rows.clear();
         self.cells.clear();
+        self.table.clear();
         self.held = 0;
     }
 
@@ -250,9 +259,33 @@ fn tested_cell(
     Some(k)
 }
 
-/// The number of the step from a row on what is read, if a hint leads to it.
+/// The byte, if that is an ASCII character.
 #[inline(always)]
-pub(crate) fn remembered(cells: &Cells, row: usize, reading: Option<Reading>) -> Option<usize>
+fn ascii_byte(reading: Option<Reading>) -> Option<u8>
+    ensures { IfSome result (λ b. (b < 128) × (reading ≡ Some (ascii b))) }
+{
+    let reading = reading?;
+    if reading.code >= 0x80 || reading.width != 1 {
+        return None;
+    }
+    Some(reading.code as u8)
+}
+
+/// The number of the step from a row on an ASCII character, if the table tells it.
+fn told(cells: &Cells, row: usize, byte: u8) -> Option<usize>
+    requires told { AreTold cells.now.cells.items cells.now.table.entries.items }
+    requires row { row < 4_294_967_296 }
+    requires ascii { byte < 128 }
+    ensures { IfSome result (λ k. HasCell cells.now.cells.items k row (Some (ascii byte))) }
+{
+    match cells.table.at(row, byte) {
+        Entry::Unknown => None,
+        Entry::Quiet(step) | Entry::Matching(step) => Some(step.cell as usize),
+    }
+}
+
+/// The number of the step from a row on what is read, if a hint leads to it.
+fn hinted(cells: &Cells, row: usize, reading: Option<Reading>) -> Option<usize>
     ensures { IfSome result (λ k. HasCell cells.now.cells.items k row reading) }
 {
     let key = cell_key(row, reading);
@@ -262,11 +295,25 @@ pub(crate) fn remembered(cells: &Cells, row: usize, reading: Option<Reading>) ->
     }
 }
 
-/// Leaves hints for all steps.
+/// The number of the step from a row on what is read, if it is remembered.
+pub(crate) fn remembered(cells: &Cells, row: usize, reading: Option<Reading>) -> Option<usize>
+    requires within { IsBounded cells.now }
+    requires row { row < length cells.now.rows.lists.items }
+    ensures { IfSome result (λ k. HasCell cells.now.cells.items k row reading) }
+{
+    match ascii_byte(reading) {
+        Some(byte) => told(cells, row, byte),
+        None => hinted(cells, row, reading),
+    }
+}
+
+/// Leaves hints for all steps that the table does not tell.
 fn hint_all(hints: &mut Hints, cells: &[Cell]) {
     for k in 0..cells.len() {
         let cell = &cells[k];
-        hints.leave(cell_key(cell.row, cell.reading), k);
+        if ascii_byte(cell.reading).is_none() {
+            hints.leave(cell_key(cell.row, cell.reading), k);
+        }
     }
 }
 
@@ -285,6 +332,49 @@ fn hint_cell(
     hints.widen(alloc)?;
     hint_all(hints, cells);
     Ok(())
+}
+
+/// The entry of the step with this number.
+fn entry_of(cells: &[Cell], k: usize) -> Entry
+    requires { k < length cells.now }
+    ensures { (row byte : ℕ) → HasCell cells.now k row (Some (ascii byte)) → IsEntry cells.now row byte result }
+{
+    let cell = &cells[k];
+    if k >= SMALL || cell.next >= SMALL || cell.begun >= SMALL {
+        return Entry::Unknown;
+    }
+    let step = Transition {
+        cell: k as u32,
+        next: cell.next as u32,
+        begun: cell.begun as u32,
+    };
+    match cell.matched {
+        None => Entry::Quiet(step),
+        Some(_) => Entry::Matching(step),
+    }
+}
+
+/// Notes the step with this number, so that it is found again.
+fn note(
+    alloc: Global,
+    table: &mut Transitions,
+    hints: &mut Hints,
+    cells: &[Cell],
+    k: usize,
+) -> Result<(), AllocError>
+    requires { k < length cells.now }
+    ensures { AreTold cells.now table.old.entries.items → AreTold cells.now table.new.entries.items }
+{
+    let cell = &cells[k];
+    match ascii_byte(cell.reading) {
+        None => hint_cell(alloc, hints, cells, cell_key(cell.row, cell.reading), k),
+        Some(byte) => {
+            if cell.row >= SMALL {
+                return Ok(());
+            }
+            table.note(cell.row, byte, entry_of(cells, k))
+        }
+    }
 }
 
 /// Whether the row of the first instruction alone is where it is looked for.
@@ -344,6 +434,7 @@ pub(crate) fn origin(code: &Code, cells: &mut Cells) -> Result<Target, AllocErro
 /// The number of the step of the way that begins, where that is the last of these ways, there are others before it, and what it
 /// does by itself on what is read is remembered.
 fn begun_cell(code: &Code, cells: &Cells, ways: &[usize], reading: Option<Reading>) -> Option<usize>
+    requires within { IsBounded cells.now }
     ensures more { IfSome result (λ _. 0 < length ways.now) }
     ensures last { IfSome result (λ _. ways.now ≡ take (length ways.now - 1) ways.now ++ code.now.start ∷ []) }
     ensures alone { IfSome result (λ _. HasRow cells.now.rows.lists.items cells.now.alone (code.now.start ∷ [])) }
@@ -427,6 +518,7 @@ fn step_of(
     work: &mut Work,
 ) -> Result<Step, AllocError>
     requires row { row < length cells.now.rows.lists.items }
+    requires within { IsBounded cells.now }
     requires all { IsFor cells.now code.now }
     ensures step { IfOk result (λ s. IsStep (instrs_of code.now) (ways_at cells.now.rows.lists.items row)
         (option_map unit_read reading) s.next.items s.matched) }
@@ -488,11 +580,11 @@ pub(crate) fn step_at(
     let k = cells.cells.len();
     cells.held = cells.held.saturating_add(cell.came.len());
     cells.cells.push(cell)?;
-    hint_cell(
+    note(
         cells.alloc,
+        &mut cells.table,
         &mut cells.hints,
         &cells.cells,
-        cell_key(row, reading),
         k,
     )?;
     Ok(k)

@@ -15,6 +15,7 @@ ghost use Rattle.fancy_automaton.specs.Futures.{ArePlain, unit_by, place_after};
 ghost use Rattle.fancy_automaton.specs.Search.{Steady};
 
 use crate::cells::{Cells, origin, remembered, restart, step_at};
+use crate::hop::{Stand, run};
 use crate::trail::{
     Hit, Trail, VISITS, Visit, note_hit, row_at, settled, span_of, start_at, starts_in,
 };
@@ -259,6 +260,7 @@ impl Front {
         requires reading { option_map unit_read reading ≡ unit_by (context_in attempt.now) attempt.now.last place }
         requires fits { IfSome reading (λ r. place + r.width ≤ attempt.now.last) }
         requires small { attempt.now.last < usize.MAX }
+        requires kept { IsBounded cells.now }
         requires front { IsFront attempt.now cells.now self.old place place }
         ensures front { IfOk result (λ next. IsFront attempt.now cells.now self.new next next) }
         ensures forth { IfOk result (λ next. place ≤ next) }
@@ -282,40 +284,15 @@ impl Front {
         Ok(place_after(place, reading, attempt.last))
     }
 
-    /// The same as `glide`, which calls it where no ASCII character is read.
-    #[inline(never)]
-    fn glide_wide(
-        &mut self,
-        attempt: &Attempt,
-        cells: &Cells,
-        place: usize,
-    ) -> Result<usize, AllocError>
-        requires within { place ≤ attempt.now.last }
-        requires inside { attempt.now.last ≤ length attempt.now.haystack.now }
-        requires plain { ArePlain (instrs_in attempt.now) }
-        requires steady { Steady attempt.now }
-        requires good { may_end_in attempt.now place ≡ true }
-        requires front { IsFront attempt.now cells.now self.old place place }
-        ensures front { IfOk result (λ next. IsFront attempt.now cells.now self.new next next) }
-        ensures forth { IfOk result (λ next. place ≤ next) }
-        ensures ends { IfOk result (λ next. next ≤ attempt.now.last + 1) }
-        ensures visits { length self.old.trail.visits.items ≤ most_visits
-            → length self.new.trail.visits.items ≤ most_visits }
-    {
-        let reading = reading_at(attempt, place);
-        let next = self.take(attempt, cells, place, reading)?;
-        Ok(next)
-    }
-
-    /// Takes the step at a place if it is remembered, and the trail has room for it. The answer is the place where the ways
-    /// wait then, a byte offset; it is the same place where no step was taken. An ASCII character is looked for first.
-    #[inline(always)]
+    /// Takes the step at a place if no ASCII character is read there, the step is remembered, and the trail has room for it. The
+    /// answer is the place where the ways wait then, a byte offset; it is the same place where no step was taken.
     fn glide(&mut self, attempt: &Attempt, cells: &Cells, place: usize) -> Result<usize, AllocError>
         requires within { place ≤ attempt.now.last }
         requires inside { attempt.now.last ≤ length attempt.now.haystack.now }
         requires plain { ArePlain (instrs_in attempt.now) }
         requires steady { Steady attempt.now }
         requires good { may_end_in attempt.now place ≡ true }
+        requires kept { IsBounded cells.now }
         requires front { IsFront attempt.now cells.now self.old place place }
         ensures front { IfOk result (λ next. IsFront attempt.now cells.now self.new next next) }
         ensures forth { IfOk result (λ next. place ≤ next) }
@@ -323,19 +300,15 @@ impl Front {
         ensures visits { length self.old.trail.visits.items ≤ most_visits
             → length self.new.trail.visits.items ≤ most_visits }
     {
-        match ascii_at(attempt, place) {
-            Some(reading) => {
-                let next = self.take(attempt, cells, place, Some(reading))?;
-                Ok(next)
-            }
-            None => {
-                let next = self.glide_wide(attempt, cells, place)?;
-                Ok(next)
-            }
+        if ascii_at(attempt, place).is_some() {
+            return Ok(place);
         }
+        let reading = reading_at(attempt, place);
+        let next = self.take(attempt, cells, place, reading)?;
+        Ok(next)
     }
 
-    /// Takes steps that are remembered, as long as some way waits. The answer is the place where the ways wait then, a byte
+    /// Takes steps that are remembered, on characters past ASCII, as long as some way waits. The answer is the place where the ways wait then, a byte
     /// offset. What is read leads from a place where a match may begin and end to the next, so no place is tested on the way.
     fn skim(&mut self, attempt: &Attempt, cells: &Cells, place: usize) -> Result<usize, AllocError>
         requires within { place ≤ attempt.now.last }
@@ -343,6 +316,7 @@ impl Front {
         requires plain { ArePlain (instrs_in attempt.now) }
         requires steady { Steady attempt.now }
         requires good { may_end_in attempt.now place ≡ true }
+        requires kept { IsBounded cells.now }
         requires front { IsFront attempt.now cells.now self.old place place }
         ensures front { IfOk result (λ next. IsFront attempt.now cells.now self.new next next) }
         ensures forth { IfOk result (λ next. place ≤ next) }
@@ -360,6 +334,30 @@ impl Front {
                 return Ok(at);
             }
         }
+    }
+
+    /// Takes steps on ASCII characters that the table tells. The answer is the place where the ways wait then, a byte offset.
+    fn hop(&mut self, attempt: &Attempt, cells: &Cells, place: usize) -> Result<usize, AllocError>
+        requires within { place ≤ attempt.now.last }
+        requires inside { attempt.now.last ≤ length attempt.now.haystack.now }
+        requires plain { ArePlain (instrs_in attempt.now) }
+        requires steady { Steady attempt.now }
+        requires good { may_end_in attempt.now place ≡ true }
+        requires kept { IsBounded cells.now }
+        requires front { IsFront attempt.now cells.now self.old place place }
+        ensures front { IfOk result (λ next. IsFront attempt.now cells.now self.new next next) }
+        ensures forth { IfOk result (λ next. place ≤ next) }
+        ensures ends { IfOk result (λ next. next ≤ attempt.now.last) }
+    {
+        let from = Stand {
+            place,
+            next: self.next,
+            begun: self.begun,
+        };
+        let to = run(attempt, cells, from, &mut self.trail, &mut self.hit)?;
+        self.next = to.next;
+        self.begun = to.begun;
+        Ok(to.place)
     }
 
     /// Goes past a place. The answer is the next place that is to be passed, a byte offset.
@@ -389,6 +387,10 @@ impl Front {
         if !is_match_boundary(attempt.on_boundaries, attempt.haystack, place) {
             return Ok(place + 1);
         }
+        let hopped = self.hop(attempt, cells, place)?;
+        if hopped > place {
+            return Ok(hopped);
+        }
         let skimmed = self.skim(attempt, cells, place)?;
         if skimmed > place {
             return Ok(skimmed);
@@ -401,6 +403,8 @@ impl Front {
     /// it is remembered on all that is read between matches, other rows need not follow that way again.
     fn learns(&self, attempt: &Attempt, cells: &Cells, place: usize) -> bool
         requires row { self.now.next < length cells.now.rows.lists.items }
+        requires begun { self.now.begun < length cells.now.rows.lists.items }
+        requires kept { IsBounded cells.now }
         requires inside { attempt.now.last ≤ length attempt.now.haystack.now }
     {
         if self.hit.is_some() {
@@ -420,6 +424,7 @@ impl Front {
     /// not remembered.
     pub fn seek(&self, attempt: &Attempt, cells: &Cells, place: usize, tried: bool) -> usize
         requires within { place ≤ attempt.now.last + 1 }
+        requires kept { IsBounded cells.now }
         requires inside { attempt.now.last ≤ length attempt.now.haystack.now }
         requires front { IsFront attempt.now cells.now self.now place place }
         ensures front { IsFront attempt.now cells.now self.now result result }

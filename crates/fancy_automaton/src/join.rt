@@ -37,7 +37,7 @@ fn add(code: &Code, way: Way, next: &mut Vec<Way>, marks: &mut Marks) -> Result<
 }
 
 /// Appends ways, but for those whose instructions have a mark.
-fn add_all(
+pub(crate) fn add_all(
     code: &Code,
     ways: &[Way],
     next: &mut Vec<Way>,

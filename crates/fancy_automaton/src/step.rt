@@ -8,6 +8,7 @@ ghost use Rattle.fancy_code.specs.Reading.{unit_read};
 ghost use Rattle.fancy_automaton.specs.Steps.{IsStep, waiting};
 
 use crate::closure::close;
+use crate::join::add_all;
 use crate::marks::Marks;
 use crate::way::Way;
 use fancy_code::code::Code;
@@ -60,8 +61,11 @@ pub(crate) fn step_from(
     ensures units { units_of work.new ≡ units_of work.old }
 {
     let mut stack = load(alloc, ways)?;
-    let mut next = Vec::with_capacity(alloc, ways.len())?;
+    let mut reached = Vec::with_capacity(alloc, ways.len())?;
     marks.reset(code.len())?;
-    let matched = close(code, reading, &mut stack, &mut next, marks, work)?;
+    let matched = close(code, reading, &mut stack, &mut reached, marks, work)?;
+    let mut next = Vec::with_capacity(alloc, reached.len())?;
+    marks.reset(code.len())?;
+    add_all(code, &reached, &mut next, marks)?;
     Ok(Step { next, matched })
 }

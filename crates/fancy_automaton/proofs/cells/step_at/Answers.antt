@@ -4,6 +4,8 @@ use Rattle.fancy_automaton.specs.declared.cells.Cell.{Cell}
 use Rattle.fancy_automaton.specs.Trail.{came_of}
 use Rattle.fancy_automaton.proofs.CellLemmas.{cell_last, cell_pushed, cells_more, grown, keeps_cells}
 use Rattle.fancy_automaton.specs.Cells.{IsCellOf}
+use Rattle.fancy_automaton.specs.Transitions.{AreTold}
+use Rattle.fancy_automaton.proofs.TransitionLemmas.{told_pushed}
 use Rattle.fancy_automaton.proofs.cells.step_at.Goals as goal
 
 pub returns-clause-all : goal.returns-clause-all
@@ -29,8 +31,8 @@ returns-in_err-push-clause-all c =
     subst (All (IsCellOf c.args.code.now c.computed.new.rows.lists.items)) (sym same)
     (keeps_cells c.args.code.now c.args.cells.now.rows.lists.items c.computed.new.rows.lists.items c.args.cells.now.cells.items c.computed.ensures.kept c.requires.all)
 
-pub returns-in_err-hint_cell-clause-all : goal.returns-in_err-hint_cell-clause-all
-returns-in_err-hint_cell-clause-all c =
+pub returns-in_err-note-clause-all : goal.returns-in_err-note-clause-all
+returns-in_err-note-clause-all c =
     cells_more c.args.code.now c.args.cells.now.rows.lists.items c.computed.new.rows.lists.items c.args.cells.now.cells.items c.push.new.self.items c.args.row c.args.reading c.in_ok-cell.cell
     c.computed.ensures.kept c.requires.all c.in_ok-push.ensures.items c.in_ok-cell.ensures.from c.in_ok-cell.ensures.on c.in_ok-cell.ensures.cell
 
@@ -41,5 +43,23 @@ returns-clause-counted c more few =
     let came : length (came_of (slice_get c.push.new.self.items c.len-k.result)) ≡ length c.in_ok-cell.cell.came.items = ap (λ (o : Option Cell). length (came_of o)) at in
     omega (arith, came, c.in_ok-cell.ensures.ways, c.in_ok-step.ensures.counted few)
 
-pub returns-in_err-hint_cell-clause-grown : goal.returns-in_err-hint_cell-clause-grown
-returns-in_err-hint_cell-clause-grown c = grown c.args.cells.now.cells.items c.push.new.self.items c.in_ok-cell.cell c.in_ok-push.ensures.items
+pub returns-in_err-note-clause-grown : goal.returns-in_err-note-clause-grown
+returns-in_err-note-clause-grown c = grown c.args.cells.now.cells.items c.push.new.self.items c.in_ok-cell.cell c.in_ok-push.ensures.items
+
+pub returns-clause-within : goal.returns-clause-within
+returns-clause-within c = record {
+  rows = omega (arith, c.in_ok-cell.ensures.more, c.requires.place.rows);
+  cells = omega (arith, c.requires.place.cells);
+  told = subst (λ (cells : List Cell). AreTold cells c.note.new.table.entries.items) c.deref.ensures.value
+      (c.note.ensures (subst (λ (cells : List Cell). AreTold cells c.args.cells.now.table.entries.items) (sym c.deref.ensures.value)
+      (told_pushed c.args.cells.now.cells.items c.push.new.self.items c.in_ok-cell.cell c.args.cells.now.table.entries.items c.in_ok-push.ensures.items c.requires.place.told)));
+}
+
+pub returns-in_err-note-clause-within : goal.returns-in_err-note-clause-within
+returns-in_err-note-clause-within c = record {
+  rows = omega (arith, c.in_ok-cell.ensures.more, c.requires.place.rows);
+  cells = omega (arith, c.requires.place.cells);
+  told = subst (λ (cells : List Cell). AreTold cells c.note.new.table.entries.items) c.deref.ensures.value
+      (c.note.ensures (subst (λ (cells : List Cell). AreTold cells c.args.cells.now.table.entries.items) (sym c.deref.ensures.value)
+      (told_pushed c.args.cells.now.cells.items c.push.new.self.items c.in_ok-cell.cell c.args.cells.now.table.entries.items c.in_ok-push.ensures.items c.requires.place.told)));
+}

@@ -18,3 +18,8 @@ pub advance-requires-clause-front : goal.advance-requires-clause-front
 advance-requires-clause-front c =
     let same : c.in_ok-skimmed.skimmed ≡ c.args.place = omega (arith, c.in_ok-skimmed.ensures.forth, c.if-skimmed-place.false) in
     subst (λ (p : ℕ). IsFront c.args.attempt.now c.args.cells.now c.skim.new.self p p) same c.in_ok-skimmed.ensures.front
+
+pub skim-requires-clause-front : goal.skim-requires-clause-front
+skim-requires-clause-front c =
+    let same : c.in_ok-hopped.hopped ≡ c.args.place = omega (arith, c.in_ok-hopped.ensures.forth, c.if-hopped-place.false) in
+    subst (λ (p : ℕ). IsFront c.args.attempt.now c.args.cells.now c.hop.new.self p p) same c.in_ok-hopped.ensures.front

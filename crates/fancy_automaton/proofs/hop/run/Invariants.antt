@@ -1,0 +1,15 @@
+use Rattle.std.proofs.Common.{◌-◌, ◌≡◌, ◌≤◌, true}
+use Rattle.fancy_code.specs.Attempt.{may_end_in}
+use Rattle.fancy_automaton.specs.Front.{IsFront, front_at}
+use Rattle.fancy_automaton.proofs.hop.run.Given as goal
+
+abbrev pub invariant-places : goal.invariant-places
+invariant-places l = record {
+  front : IsFront l.attempt l.cells (front_at l.at l.trail l.hit) l.at.place l.at.place;
+  good : may_end_in l.attempt l.at.place ≡ true;
+  passed : l.fn.from.place ≤ l.at.place;
+  within : l.at.place ≤ l.attempt.last;
+}
+
+abbrev pub decreases-places : goal.decreases-places
+decreases-places l = l.end - l.at.place

@@ -1,0 +1,143 @@
+//! The inner loop of a search: steps on ASCII characters, by the table.
+
+ghost use Rattle.std.specs.Prelude.{◌≡◌, ◌≤◌, ◌⊎◌, [], ℕ, true, Some, None, IfOk, IfSome, length, slice_get};
+ghost use Rattle.fancy_code.specs.Attempt.{instrs_in, may_end_in};
+ghost use Rattle.fancy_automaton.specs.Cells.{IsBounded};
+ghost use Rattle.fancy_automaton.specs.Front.{IsFront, front_at};
+ghost use Rattle.fancy_automaton.specs.Futures.{ArePlain};
+ghost use Rattle.fancy_automaton.specs.Search.{Steady};
+ghost use Rattle.fancy_automaton.specs.Trail.{hit_or};
+ghost use Rattle.fancy_automaton.specs.Transitions.{IsEntry, IsTransition, ascii};
+ghost use Rattle.fancy_automaton.specs.declared.cells.Cell.{Cell};
+ghost use Rattle.std.specs.Global.{Vec};
+
+use crate::cells::Cells;
+use crate::trail::{Hit, Trail, VISITS, Visit, note_hit, row_at, start_at};
+use crate::transitions::{Entry, Transition};
+use fancy_code::attempt::Attempt;
+use std::alloc::AllocError;
+
+/// Where a search stands.
+#[derive(Clone, Copy)]
+pub struct Stand {
+    /// The place, a byte offset.
+    pub place: usize,
+    /// The row of the ways that wait there.
+    pub next: usize,
+    /// That row with one more way, which begins there.
+    pub begun: usize,
+}
+
+/// Notes the match that an entry's step finds at a place, if it finds one. The answer is the step, if the entry has one.
+#[inline(always)]
+fn step_of(
+    entry: Entry,
+    cells: &Cells,
+    hit: &mut Option<Hit>,
+    visits: usize,
+    place: usize,
+) -> Option<Transition>
+    ensures none { result ≡ None → hit.new ≡ hit.old }
+    ensures told { (row byte : ℕ) → IsEntry cells.now.cells.items row byte entry
+        → IfSome result (λ t. IsTransition cells.now.cells.items row byte t) }
+    ensures found { (row byte : ℕ) → IsEntry cells.now.cells.items row byte entry
+        → IfSome result (λ t. (c : Cell) → slice_get cells.now.cells.items t.cell ≡ Some c
+        → hit.new ≡ hit_or hit.old c.matched visits place) }
+{
+    match entry {
+        Entry::Unknown => None,
+        Entry::Quiet(step) => Some(step),
+        Entry::Matching(step) => {
+            let k = step.cell as usize;
+            let cell = cells.cells.get(k)?;
+            note_hit(hit, cell.matched, visits, place);
+            Some(step)
+        }
+    }
+}
+
+/// A row without an instruction; where none is known, a number that no row has.
+fn idle_row(cells: &Cells) -> usize
+    requires { IsBounded cells.now }
+    ensures { (v : Vec ℕ) → slice_get cells.now.rows.lists.items result ≡ Some v → v.items ≡ [] }
+{
+    match cells.rows.lists.get(cells.nothing) {
+        None => usize::MAX,
+        Some(ways) => {
+            if ways.len() > 0 {
+                usize::MAX
+            } else {
+                cells.nothing
+            }
+        }
+    }
+}
+
+/// Forgets the trail where nothing was found and no way waits: no step of it is asked any more. The answer is whether no way
+/// waited before either, in the row `was`.
+#[inline(always)]
+fn forget(trail: &mut Trail, hit: Option<Hit>, was: usize, next: usize, idle: usize) -> bool
+    ensures { (trail.new ≡ trail.old) ⊎ ((next ≡ idle) × (hit ≡ None) × (trail.new.base.items ≡ [])
+        × (trail.new.visits.items ≡ [])) }
+{
+    if next != idle {
+        return false;
+    }
+    if hit.is_none() {
+        trail.clear();
+    }
+    was == idle
+}
+
+/// Takes steps that the table tells, on ASCII characters, until the trail has no more room, or no match can begin nor
+/// go on: there it is for a scan to find the next place. Each place that it comes to is one where a match may begin and end.
+#[inline(never)]
+pub(crate) fn run(
+    attempt: &Attempt,
+    cells: &Cells,
+    from: Stand,
+    trail: &mut Trail,
+    hit: &mut Option<Hit>,
+) -> Result<Stand, AllocError>
+    requires within { from.place ≤ attempt.now.last }
+    requires inside { attempt.now.last ≤ length attempt.now.haystack.now }
+    requires plain { ArePlain (instrs_in attempt.now) }
+    requires steady { Steady attempt.now }
+    requires good { may_end_in attempt.now from.place ≡ true }
+    requires kept { IsBounded cells.now }
+    requires front { IsFront attempt.now cells.now (front_at from trail.old hit.old) from.place from.place }
+    ensures front { IfOk result (λ to. IsFront attempt.now cells.now (front_at to trail.new hit.new) to.place to.place) }
+    ensures forth { IfOk result (λ to. from.place ≤ to.place) }
+    ensures ends { IfOk result (λ to. to.place ≤ attempt.now.last) }
+{
+    let room = VISITS.saturating_sub(trail.visits.len());
+    let end = attempt.last.min(from.place.saturating_add(room));
+    let idle = idle_row(cells);
+    let mut at = from;
+    let mut rests = false;
+    'places: while at.place < end && !rests {
+        let byte = attempt.haystack[at.place];
+        if byte >= 0x80 {
+            return Ok(at);
+        }
+        let row = row_at(*hit, at.next, at.begun);
+        let start = start_at(*hit, at.place);
+        let entry = cells.table.at(row, byte);
+        let visits = trail.visits.len();
+        let Some(step) = step_of(entry, cells, hit, visits, at.place) else {
+            return Ok(at);
+        };
+        trail.visits.push(Visit {
+            cell: step.cell as usize,
+            start,
+        })?;
+        let was = at.next;
+        at = Stand {
+            place: at.place + 1,
+            next: step.next as usize,
+            begun: step.begun as usize,
+        };
+        rests = forget(trail, *hit, was, at.next, idle);
+    }
+    Ok(at)
+}
