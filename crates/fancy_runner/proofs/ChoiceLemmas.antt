@@ -1,10 +1,7 @@
 -- Ways of a choice that are left out.
-use Rattle.std.proofs.Common.{◌≡◌, ℕ, ◌<◌, Bool, false, List, [], ◌∷◌, Option, Some, None, refl, sym, ap, ◌∙◌, subst, arith, true≢false}
-use Rattle.std.specs.Prelude.{slice_index}
+use Rattle.std.proofs.Common.{◌≡◌, ℕ, Bool, false, List, [], ◌∷◌, Option, Some, None, refl, ap, ◌∙◌, arith, true≢false}
 use Rattle.std.specs.Option.{option_or}
-use Rattle.fancy_tree.specs.declared.tree.Meaning.{Meaning}
-use Rattle.fancy_bytes.specs.Sets.{ByteFlags, member}
-use Rattle.fancy_code.specs.Choices.{has_stop, stops, BeginsAmong, StopsNowhere}
+use Rattle.fancy_code.specs.Choices.{has_stop, stops}
 use Rattle.fancy_code.specs.Context.{Context, State}
 use Rattle.fancy_code.specs.Events.{Event, return}
 use Rattle.fancy_code.specs.Instructions.{Instruction, Split}
@@ -14,13 +11,6 @@ use Rattle.fancy_runner.specs.Runner.{Parted, Went}
 use Rattle.fancy_runner.proofs.RunnerLemmas.{first_or}
 use Rattle.fancy_runner.proofs.RunnerSteps.{parted}
 use Rattle.fancy_runner.proofs.SweepLemmas.{or_nothing}
-
--- a way stops nowhere where its set does not have the byte
-pub stops_nowhere : (code : List Instruction) (m : Meaning) (set : ByteFlags) (q : ℕ) (haystack : List ℕ) (place : ℕ) → ((k : ℕ) → slice_index haystack k < 256)
-    → BeginsAmong code m set q → member set (slice_index haystack place) ≡ false → StopsNowhere code m haystack place q
-stops_nowhere code m set q haystack place bytes begins lacks x limit n s v meant same at =
-    begins x limit n s v meant (subst (λ (h : List ℕ). (k : ℕ) → slice_index h k < 256) (sym same) bytes)
-    (ap (λ (h : List ℕ). member set (slice_index h s.place)) same ∙ ap (λ (p : ℕ). member set (slice_index haystack p)) at ∙ lacks)
 
 -- where no way stops there is no outcome
 none_accepted_in : (ok : State → Bool) (w : List Raw) → has_stop w ≡ false → first_accepted ok (erase w) ≡ None

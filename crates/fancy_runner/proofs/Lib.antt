@@ -10,5 +10,6 @@ pub mod SavedLemmas
 pub mod SweepsLemmas
 pub mod KeptTableLemmas
 pub mod LimitLemmas
+pub mod RunLemmas
 pub mod ChoiceLemmas
 pub mod BranchLemmas

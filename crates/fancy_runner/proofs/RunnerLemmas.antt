@@ -1,5 +1,5 @@
 -- The runner, which follows each pair of an instruction with a mark and a place once.
-use Rattle.std.proofs.Common.{◌≡◌, ℕ, ◌+◌, ◌-◌, ◌<◌, ◌≤◌, ◌⊎◌, Bool, true, false, List, [], ◌∷◌, ◌++◌, Option, Some, None, refl, sym, ap, ap₂, ◌∙◌, subst, inl, inr, arith, append_assoc}
+use Rattle.std.proofs.Common.{◌≡◌, ℕ, ◌+◌, ◌-◌, ◌<◌, ◌≤◌, ◌⊎◌, Bool, true, false, List, [], ◌∷◌, ◌++◌, Option, Some, None, refl, sym, ap, ap₂, ◌∙◌, subst, inl, inr, length, arith, append_assoc}
 use Rattle.std.proofs.lemmas.List.{append-nil}
 use Rattle.std.specs.Prelude.{if◌then◌else◌, ◌||◌, is_some}
 use Rattle.std.specs.Option.{option_or}
@@ -11,21 +11,14 @@ use Rattle.fancy_code.specs.Events.{Event, mark, return, outcome, either}
 use Rattle.fancy_code.specs.Marking.{Marks}
 use Rattle.fancy_code.specs.Thread.{Thread, starts_of, state_of}
 use Rattle.fancy_code.specs.Thread.{events_of, size_of, Known, thread_run, first_accepted, ends_well, pair_run, rank}
-use Rattle.fancy_runner.specs.Runner.{AllKnown, pending, Stepped, Stacked, AllWithin, WasVisited, Hits, HitsBelow, Covers, AllFailed, FailedPast, Resting, Running}
+use Rattle.fancy_runner.specs.Runner.{AllKnown, Grown, pending, Stepped, AllWithin, WasVisited, Hits, HitsBelow, Covers, AllFailed, FailedPast, Resting, Running}
 use Rattle.fancy_code.specs.Compile.{AreEasy}
 use Rattle.fancy_code.proofs.EasyCode.{run_both}
 use Rattle.fancy_runner.proofs.Hits.{both_size, both_hits}
 
--- each thread stands within what is searched after a step
-pub within_on : (first last : ℕ) (t u : Thread) (ts us : List Thread) → AllWithin first last (t ∷ ts) → Stacked On t ts us → t.place ≤ u.place → u.place ≤ last
-    → AllWithin first last (u ∷ us)
-within_on first last t u ts us w stacked forth end =
-    elim stacked [
-      | inl same ↦ subst (λ (x : List Thread). AllWithin first last (u ∷ x)) (sym same) (omega (arith, w.0), end, w.2)
-      | inr more ↦
-          subst (λ (x : List Thread). AllWithin first last (u ∷ x)) (sym more.2)
-          (omega (arith, w.0), end, (omega (arith, w.0, more.1), omega (arith, w.1, more.1), w.2))
-    ]
+pub grown_length : (p : ℕ) (ts us : List Thread) → Grown p ts us → length us ≤ length ts + 1
+grown_length p ts us (inl same) = omega (arith, ap length same)
+grown_length p ts us (inr (b, at, more)) = omega (arith, ap length more)
 
 -- threads that stand from a place on stand from an earlier one on
 pub within_lower : (base low last : ℕ) (ts : List Thread) → base ≤ low → AllWithin low last ts → AllWithin base last ts

@@ -1,6 +1,6 @@
 -- The threads that a sweep has before it.
-use Rattle.std.proofs.Common.{◌≡◌, ℕ, Bool, List, [], ◌++◌, Option, Some, None, refl, sym, ap₂, ◌∙◌, subst}
-use Rattle.std.specs.Prelude.{IfSome}
+use Rattle.std.proofs.Common.{◌≡◌, ◌≤◌, ◌⊎◌, inl, inr, ℕ, Bool, List, [], ◌++◌, Option, Some, None, sym, ap₂, ◌∙◌, subst}
+use Rattle.fancy_code.specs.declared.slot.Slot.{Slot}
 use Rattle.std.proofs.lemmas.List.{append-nil}
 use Rattle.fancy_code.specs.declared.code.Code.{Code}
 use Rattle.fancy_runner.specs.declared.backlog.Backlog.{Backlog}
@@ -8,7 +8,8 @@ use Rattle.fancy_runner.specs.declared.pair.Pair.{Pair}
 use Rattle.fancy_runner.specs.declared.sweep.Sweep.{Sweep}
 use Rattle.fancy_code.specs.declared.attempt.Attempt.{Attempt}
 use Rattle.fancy_code.specs.Attempt.{context_in, instrs_in, may_end_in}
-use Rattle.fancy_runner.specs.Attempt.{marks_in, AllFailedIn, FailedPastIn}
+use Rattle.fancy_runner.specs.Attempt.{marks_in}
+use Rattle.fancy_runner.specs.Runs.{EndsIn, FailedTo}
 use Rattle.fancy_runner.specs.Backlog.{threads_in_backlog, TookOldest}
 use Rattle.fancy_code.specs.Compile.{AreEasy}
 use Rattle.fancy_code.specs.Context.{State}
@@ -34,9 +35,10 @@ pub took_all : (code : List Instruction) (o : Option Pair) (old new : Backlog) �
 took_all code None old new took = append-nil (threads_in_backlog code new) ∙ took.1 ∙ sym took.0
 took_all code (Some pair) old new took = sym took
 
-pub if_some : (o : Option ℕ) (P : ℕ → Type 0) → ((n : ℕ) → o ≡ Some n → P n) → IfSome o P
-if_some None P h = tt
-if_some (Some n) P h = h n refl
+-- what is found ends in what is searched, if it was found before or at a place there
+pub found_here : (a : Attempt) (low place : ℕ) (old new : Option ℕ) → (new ≡ old) ⊎ (new ≡ Some place) → low ≤ place → place ≤ a.last → EndsIn a low old → EndsIn a low new
+found_here a low place old new (inl same) from to ends = rw same ends
+found_here a low place old new (inr here) from to ends = rw here (from, to)
 
 -- a sweep that has no thread before it
 module _ (a : Attempt) (easy : AreEasy (instrs_in a)) (low kept deep : ℕ) (goal : Option State) (table : List Bool) (left : List Thread) (found : Option State)
@@ -47,12 +49,10 @@ module _ (a : Attempt) (easy : AreEasy (instrs_in a)) (low kept deep : ℕ) (goa
   pub ended_answer : found ≡ goal
   ended_answer = ended.answer
 
-  pub ended_failed : found ≡ None → AllFailedIn a low deep table
-  ended_failed e =
+  pub ended_left : (end : Option ℕ) (slots : List Slot) → found ≡ found_state kept end slots → FailedTo a low deep end table
+  ended_left None slots e =
       sweep_failed (may_end_in a) (context_in a) low a.last (instrs_in a) easy deep kept goal (marks_in a table)
       (subst (λ (f : Option State). SweepingIn a low kept deep goal table [] f) e ended)
-
-  pub ended_past : (t : State) → found ≡ Some t → FailedPastIn a low deep t.place table
-  ended_past t e =
-      sweep_past (may_end_in a) (context_in a) low a.last (instrs_in a) easy deep kept goal (marks_in a table) t
+  ended_left (Some stop) slots e =
+      sweep_past (may_end_in a) (context_in a) low a.last (instrs_in a) easy deep kept goal (marks_in a table) _
       (subst (λ (f : Option State). SweepingIn a low kept deep goal table [] f) e ended)

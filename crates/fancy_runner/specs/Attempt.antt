@@ -3,6 +3,8 @@ use Rattle.std.specs.Prelude.{ℕ, ◌+◌, ◌-◌, ◌*◌, Bool, true, List, 
 use Rattle.fancy_tree.specs.declared.tree.Assertion.{Assertion}
 use Rattle.fancy_code.specs.declared.attempt.Attempt.{Attempt}
 use Rattle.fancy_code.specs.declared.step.Next.{Next}
+use Rattle.fancy_prefilter.specs.declared.branches.Branches.{Branches}
+use Rattle.fancy_code.specs.Branches.{AreBranches}
 use Rattle.fancy_code.specs.Code.{width_of, marks_of, owed_of}
 use Rattle.fancy_runner.specs.Runner.{burden, threads_after, Stepped, AllFailed, FailedPast, Resting, Running, Visited}
 use Rattle.fancy_code.specs.Context.{State, holds}
@@ -28,6 +30,14 @@ module _ (a : Attempt) where
   -- the same where a group has begun at the place, if one does
   abbrev pub begins_with : Option ℕ → ℕ → ℕ → ThreadStack
   begins_with group at place = begun_at (record { at = at; place = place }) (with_group group place (replicate a.code.now.groups empty_slot))
+
+  -- the same at the instruction that these alternatives are led to from, with the group that leads them
+  abbrev pub begins_by : Branches → ℕ → ThreadStack
+  begins_by b place = begins_with b.lead.group b.lead.at place
+
+  -- the code opens with these alternatives
+  abbrev pub AreBranchesIn : Branches → Type 0
+  AreBranchesIn b = AreBranches b (instrs_in a) a.code.now.meaning a.code.now.start
 
   -- a test of the place holds, if there is one
   abbrev pub passes_in : Option Assertion → ℕ → Bool

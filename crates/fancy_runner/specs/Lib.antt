@@ -2,6 +2,7 @@ pub mod Runner
 pub mod Table
 pub mod Threads
 pub mod Attempt
+pub mod Runs
 pub mod Sweep
 pub mod Saved
 pub mod Backlog

@@ -1,5 +1,5 @@
 -- What the runner keeps true, which follows each pair of an instruction with a mark and a place at most once.
-use Rattle.std.specs.Prelude.{◌≡◌, ℕ, ◌+◌, ◌<◌, ◌≤◌, ◌⊎◌, Bool, true, false, List, [], ◌∷◌, ◌++◌, length, map, Option, Some, None, is_some}
+use Rattle.std.specs.Prelude.{◌≡◌, ◌≢◌, ℕ, ◌+◌, ◌<◌, ◌≤◌, ◌⊎◌, Bool, true, false, List, [], ◌∷◌, ◌++◌, length, map, Option, Some, None, is_some}
 use Rattle.fancy_code.specs.Instructions.{Instruction}
 use Rattle.fancy_code.specs.declared.step.Next.{Next}
 use Rattle.fancy_code.specs.declared.step.Next.TheVariants.{On, Dead, Found}
@@ -37,6 +37,11 @@ Tested On false next old new = ⊥
 Tested Dead true next old new = ⊥
 Tested Dead false next old new = new ≡ old
 Tested Found held next old new = ⊥
+
+-- nothing is found, and where the thread goes on it stands at the next instruction
+pub record GoesTo (next : Next) (at : ℕ) (new : Pair) : Type 0 where
+  pub on : next ≡ On → new.at ≡ at
+  pub found : next ≢ Found
 
 -- each thread stands at a place that is searched
 abbrev pub AllWithin : ℕ → ℕ → List Thread → Type 0

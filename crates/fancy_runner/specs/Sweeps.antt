@@ -8,7 +8,9 @@ use Rattle.fancy_runner.specs.Backlog.{threads_in_backlog}
 use Rattle.fancy_code.specs.Code.{instrs_of}
 use Rattle.fancy_runner.specs.Runner.{burden}
 use Rattle.fancy_code.specs.Context.{State}
-use Rattle.fancy_runner.specs.Runner.{found_state}
+use Rattle.fancy_runner.specs.Runner.{found_state, AllWithin}
+use Rattle.fancy_runner.specs.Sweep.{AreRising}
+use Rattle.fancy_code.specs.declared.attempt.Attempt.{Attempt}
 use Rattle.fancy_code.specs.Thread.{Thread}
 use Rattle.fancy_runner.specs.Threads.{thread_of}
 
@@ -32,6 +34,14 @@ found_in kept s = found_state kept s.found s.best.slots
 -- where the backlog has no thread taken out, it has none
 abbrev pub IsDrained : Code → Sweep → Type 0
 IsDrained code s = s.waiting ≡ None → threads_in_backlog (instrs_of code) s.backlog ≡ []
+
+-- All threads that are left stand at the place or past it, those of the backlog in the order of their places, and none was followed
+-- up to a later place.
+pub record WaitsFrom (a : Attempt) (place : ℕ) (s : Sweep) : Type 0 where
+  pub within : AllWithin place a.last (left_in_sweep a.code.now s)
+  pub rising : AreRising (backlog_in a.code.now s)
+  pub drained : IsDrained a.code.now s
+  pub empty : s.later ≡ []
 
 -- what is due for those of the row, and for those that wait for later places
 abbrev pub due_in_rows : Code → Sweep → ℕ

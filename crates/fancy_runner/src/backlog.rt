@@ -29,7 +29,8 @@ impl Backlog {
     /// All of the threads, of which the one that is followed stands at a pair.
     pub fn new(threads: &mut Threads, pair: Pair) -> Backlog
         ensures { (code : List Instruction) → threads_in_backlog code result
-            ≡ with_way (Some pair) (held_of code threads.old).slots (held_of code threads.old).saved }
+            ≡ with_way (Some pair) (held_of code threads.old).slots
+            (held_of code threads.old).saved }
     {
         Backlog {
             saved: threads.give_up(),

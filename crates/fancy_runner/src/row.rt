@@ -116,7 +116,8 @@ impl Row {
         code: &Code,
     ) -> Result<(), AllocError>
         ensures { OnOk result (self.new
-            ≡ thread_of pair (slots_after (instrs_of code.now) threads.now.passed threads.now.slots) ∷ self.old) }
+            ≡ thread_of pair (slots_after (instrs_of code.now) threads.now.passed threads.now.slots)
+            ∷ self.old) }
     {
         if let Some(slots) = threads.plain_slots() {
             return put(&mut self.waiting, &mut self.slots, pair, slots);

@@ -3,7 +3,7 @@
 ghost use Rattle.std.specs.Prelude.{◌≡◌, ◌+◌, ◌-◌, ◌^◌, ◌<◌, ◌≤◌, ◌≢◌, ◌⊎◌, ◌++◌, ℕ, List, Option, None, Err, true, false, length, IfOk, IfSome};
 ghost use Rattle.fancy_code.specs.Context.{State, holds};
 ghost use Rattle.fancy_code.specs.Code.{weight_of, due_of, cost_of, marks_of};
-ghost use Rattle.fancy_runner.specs.Runner.{burden, found_state, Stacked, Grown, Moved, Tested, AllWithin, Spends, Progresses};
+ghost use Rattle.fancy_runner.specs.Runner.{burden, found_state, Stacked, Grown, Moved, Tested, GoesTo, AllWithin, Spends, Progresses};
 ghost use Rattle.fancy_code.specs.CodeLength.{code_len};
 ghost use Rattle.fancy_code.specs.Run.{instr_at};
 ghost use Rattle.fancy_code.specs.Compile.{IsEasyInstr, AreEasy};
@@ -13,9 +13,11 @@ ghost use Rattle.fancy_code.specs.declared.slot.Slot.{Slot};
 ghost use Rattle.fancy_code.specs.Thread.{Thread};
 ghost use Rattle.fancy_runner.specs.Threads.{thread_of, begun_at, AreFresh};
 ghost use Rattle.fancy_runner.specs.Sweep.{AllPast, SweepingIn, SweptIn};
+ghost use Rattle.fancy_runner.specs.Runs.{HasRow, IsReadyFor, IsReadyAt, Saves, Ran, AnswersIn, LeavesIn, Attempted};
 ghost use Rattle.fancy_code.specs.Attempt.{context_in, instrs_in};
 ghost use Rattle.fancy_runner.specs.Attempt.{stack_in, current_in, saved_in, threads_in, threads_left_in, bits_in, owed_in, ahead_in, marks_in, KnownIn, AllFailedIn, FailedPastIn, first_accepted_in, SteppedIn, RunningIn, VisitedIn};
 
+use crate::notes::Notes;
 use crate::pair::Pair;
 use crate::refusal::RunnerRefusal;
 use crate::sweep::follow_by_place;
@@ -35,11 +37,11 @@ use std::alloc::AllocError;
 /// Goes on at a place, if there is one by the limit.
 fn advance(pair: &mut Pair, next: usize, place: Option<usize>, limit: usize) -> Next
     requires { IfSome place (λ p. pair.old.place ≤ p) }
-    ensures moved { (slots : List Slot) → Moved result limit place next (thread_of pair.old slots) (thread_of pair.new slots) }
-    ensures goes { result ≡ Next.On → pair.new.at ≡ next }
+    ensures moved { (slots : List Slot) → Moved result limit place next (thread_of pair.old slots)
+        (thread_of pair.new slots) }
+    ensures goes { GoesTo result next pair.new }
     ensures forth { pair.old.place ≤ pair.new.place }
     ensures within { pair.old.place ≤ limit → pair.new.place ≤ limit }
-    ensures found { result ≢ Next.Found }
 {
     match place {
         Some(place) if place <= limit => {
@@ -59,10 +61,10 @@ fn pass_test(
     last_lines: &mut LastLines,
 ) -> Next
     requires { KnowsLastLines attempt.now.haystack.now last_lines.old }
-    ensures tested { Tested result (holds (context_in attempt.now) assertion pair.old.place) next pair.old pair.new }
-    ensures goes { result ≡ Next.On → pair.new.at ≡ next }
+    ensures tested { Tested result (holds (context_in attempt.now) assertion pair.old.place)
+        next pair.old pair.new }
+    ensures goes { GoesTo result next pair.new }
     ensures stays { pair.new.place ≡ pair.old.place }
-    ensures found { result ≢ Next.Found }
     ensures known { KnowsLastLines attempt.now.haystack.now last_lines.new }
 {
     let meaning = attempt.code.meaning;
@@ -101,8 +103,10 @@ fn step(
         → SteppedIn attempt.now kept deep next
         (stack_in attempt.now pair.old threads.old) (stack_in attempt.now pair.new threads.new)) }
     ensures forth { IfOk result (λ _. pair.old.place ≤ pair.new.place) }
-    ensures within { IfOk result (λ _. pair.old.place ≤ attempt.now.last → pair.new.place ≤ attempt.now.last) }
-    ensures stacked { IfOk result (λ next. Stacked next (current_in attempt.now pair.old threads.old)
+    ensures within { IfOk result (λ _. pair.old.place ≤ attempt.now.last
+        → pair.new.place ≤ attempt.now.last) }
+    ensures stacked { IfOk result (λ next. Stacked next
+        (current_in attempt.now pair.old threads.old)
         (saved_in attempt.now threads.old) (saved_in attempt.now threads.new)) }
     ensures spends { IfOk result (λ next. Spends next
         (cost_of attempt.now.code.now (instr_at (instrs_in attempt.now) pair.old.at))
@@ -114,28 +118,24 @@ fn step(
     ensures last_lines { KnowsLastLines attempt.now.haystack.now last_lines.new }
 {
     let code = attempt.code;
-    let haystack = attempt.haystack;
-    let place = pair.place;
     match code.fetch(pair.at, work) {
         Instr::Match => Ok(Next::Found),
         Instr::Fail => Ok(Next::Dead),
         Instr::Character(character, next) => {
-            let past = past_character(haystack, code.meaning, *character, place);
+            let past = past_character(attempt.haystack, code.meaning, *character, pair.place);
             Ok(advance(pair, *next, past, attempt.last))
         }
         Instr::Member(set, next) => {
-            let past = past_member(haystack, code.meaning, code.set(*set), place);
+            let past = past_member(attempt.haystack, code.meaning, code.set(*set), pair.place);
             Ok(advance(pair, *next, past, attempt.last))
         }
         Instr::RawByte(byte, next) => {
-            let past = past_raw_byte(haystack, *byte, place);
+            let past = past_raw_byte(attempt.haystack, *byte, pair.place);
             Ok(advance(pair, *next, past, attempt.last))
         }
-        Instr::Assert(assertion, next) => {
-            Ok(pass_test(attempt, pair, *assertion, *next, last_lines))
-        }
+        Instr::Assert(test, next) => Ok(pass_test(attempt, pair, *test, *next, last_lines)),
         Instr::Split(first, second) => {
-            match code.choice_at(pair.at, haystack, place) {
+            match code.choice_at(pair.at, attempt.haystack, pair.place) {
                 Choice::Both => {
                     threads.save(*pair, *second)?;
                     pair.at = *first;
@@ -162,15 +162,14 @@ fn step(
 /// Whether a pair is to be followed: its instruction has no mark, or that was not made at this place. It is made then.
 fn is_new(attempt: &Attempt, pair: Pair, table: &mut Table) -> bool
     requires here { pair.at < code_len attempt.now.code.now }
-    requires low { attempt.now.base ≤ pair.place }
-    requires high { pair.place ≤ attempt.now.last }
-    requires room { bits_in attempt.now ≤ length table.old }
-    requires small { length table.old < 2 ^ 64 }
+    requires row { HasRow attempt.now pair.place table.old }
     ensures seen { result ≡ false → marks_in attempt.now table.old pair.at pair.place ≡ true }
     ensures same { result ≡ false → table.new ≡ table.old }
     ensures adds { (q row : ℕ) → marks_of attempt.now.code.now table.new q row ≡ true
-        → (marks_of attempt.now.code.now table.old q row ≡ true) ⊎ ((q ≡ pair.at) × (row ≡ pair.place - attempt.now.base)) }
-    ensures left { result ≡ true → owed_in attempt.now table.new + weight_of attempt.now.code.now pair.at
+        → (marks_of attempt.now.code.now table.old q row ≡ true)
+        ⊎ ((q ≡ pair.at) × (row ≡ pair.place - attempt.now.base)) }
+    ensures left { result ≡ true → owed_in attempt.now table.new
+        + weight_of attempt.now.code.now pair.at
         ≤ owed_in attempt.now table.old + due_of attempt.now.code.now pair.at }
     ensures room { length table.new ≡ length table.old }
 {
@@ -187,63 +186,62 @@ pub(crate) fn visit(
     attempt: &Attempt,
     pair: &mut Pair,
     threads: &mut Threads,
-    table: &mut Table,
-    last_lines: &mut LastLines,
+    notes: &mut Notes,
     work: &mut Work,
 ) -> Result<Next, RunnerRefusal>
-    requires inside { attempt.now.last ≤ length attempt.now.haystack.now }
-    requires easy { AreEasy (instrs_in attempt.now) }
-    requires within { AllWithin attempt.now.base attempt.now.last (threads_in attempt.now pair.old threads.old) }
-    requires room { bits_in attempt.now ≤ length table.old }
-    requires small { length table.old < 2 ^ 64 }
-    requires last_lines { KnowsLastLines attempt.now.haystack.now last_lines.old }
-    ensures visited { IfOk result (λ next. (low kept deep : ℕ) (goal : Option State) → attempt.now.base ≤ low
+    requires ready { IsReadyFor attempt.now (threads_in attempt.now pair.old threads.old)
+        notes.old }
+    ensures visited { IfOk result (λ next. (low kept deep : ℕ) (goal : Option State)
+        → attempt.now.base ≤ low
         → AllWithin low attempt.now.last (threads_in attempt.now pair.old threads.old)
-        → RunningIn attempt.now low kept deep goal table.old (stack_in attempt.now pair.old threads.old)
-        → VisitedIn attempt.now low kept deep next goal table.new (stack_in attempt.now pair.new threads.new)) }
-    ensures swept { IfOk result (λ next. (low kept deep : ℕ) (goal found : Option State) (front back : List Thread)
-        → attempt.now.base ≤ low → AllWithin low attempt.now.last (threads_in attempt.now pair.old threads.old)
+        → RunningIn attempt.now low kept deep goal notes.old.table
+        (stack_in attempt.now pair.old threads.old)
+        → VisitedIn attempt.now low kept deep next goal notes.new.table
+        (stack_in attempt.now pair.new threads.new)) }
+    ensures swept { IfOk result (λ next. (low kept deep : ℕ) (goal found : Option State)
+        (front back : List Thread)
+        → attempt.now.base ≤ low → AllWithin low attempt.now.last
+        (threads_in attempt.now pair.old threads.old)
         → AllPast pair.old.place front
-        → SweepingIn attempt.now low kept deep goal table.old (front ++ (threads_in attempt.now pair.old threads.old ++ back)) found
-        → SweptIn attempt.now low kept deep next goal table.new front (stack_in attempt.now pair.new threads.new) back found) }
+        → SweepingIn attempt.now low kept deep goal notes.old.table
+        (front ++ (threads_in attempt.now pair.old threads.old ++ back)) found
+        → SweptIn attempt.now low kept deep next goal notes.new.table front
+        (stack_in attempt.now pair.new threads.new) back found) }
     ensures forth { IfOk result (λ _. pair.old.place ≤ pair.new.place) }
     ensures found { IfOk result (λ next. next ≡ Next.Found → pair.new.place ≡ pair.old.place) }
-    ensures grown { IfOk result (λ _. Grown pair.old.place (saved_in attempt.now threads.old) (saved_in attempt.now threads.new)) }
+    ensures saves { IfOk result (λ _. Saves attempt.now pair.old.place threads.old threads.new
+        work.old work.new) }
     ensures progress { IfOk result (λ next. Progresses next
-        (ahead_in attempt.now table.old (threads_in attempt.now pair.old threads.old))
-        (ahead_in attempt.now table.new (threads_left_in attempt.now next pair.new threads.new))
+        (ahead_in attempt.now notes.old.table (threads_in attempt.now pair.old threads.old))
+        (ahead_in attempt.now notes.new.table
+        (threads_left_in attempt.now next pair.new threads.new))
         (length (saved_in attempt.now threads.old)) (length (saved_in attempt.now threads.new))) }
     ensures within { IfOk result (λ _. (low : ℕ)
         → AllWithin low attempt.now.last (threads_in attempt.now pair.old threads.old)
         → AllWithin low attempt.now.last (threads_in attempt.now pair.new threads.new)) }
-    ensures room { length table.new ≡ length table.old }
     ensures spent { IfOk result (λ next. steps_of work.new
-        + ahead_in attempt.now table.new (threads_left_in attempt.now next pair.new threads.new)
-        ≤ steps_of work.old + ahead_in attempt.now table.old (threads_in attempt.now pair.old threads.old)) }
-    ensures bounded { steps_of work.new
-        ≤ steps_of work.old + ahead_in attempt.now table.old (threads_in attempt.now pair.old threads.old) }
-    ensures steps { steps_of work.old ≤ steps_of work.new }
+        + ahead_in attempt.now notes.new.table
+        (threads_left_in attempt.now next pair.new threads.new)
+        ≤ steps_of work.old + ahead_in attempt.now notes.old.table
+        (threads_in attempt.now pair.old threads.old)) }
     ensures returns { returns_of work.new ≡ returns_of work.old }
     ensures ticks { pair.old.at < code_len attempt.now.code.now
-        → marks_in attempt.now table.old pair.old.at pair.old.place ≡ false
+        → marks_in attempt.now notes.old.table pair.old.at pair.old.place ≡ false
         → HasWorkLeft attempt.now.step_limit work.old → work.new ≡ stepped_within work.old }
-    ensures tally { IfOk result (λ _. steps_of work.new < usize.MAX
-        → length (saved_in attempt.now threads.new) + steps_of work.old
-        ≤ length (saved_in attempt.now threads.old) + steps_of work.new) }
-    ensures last_lines { KnowsLastLines attempt.now.haystack.now last_lines.new }
-    ensures heeds { RunsWithin attempt.now.step_limit work.old work.new }
-    ensures limited { result ≡ Err RunnerRefusal.Steps → IsSpent attempt.now.step_limit work.new }
+    ensures ran { Ran attempt.now (burden attempt.now.code.now
+        (threads_in attempt.now pair.old threads.old)) result
+        notes.old notes.new work.old work.new }
 {
     if pair.at >= attempt.code.len() {
         return Ok(Next::Dead);
     }
-    if !is_new(attempt, *pair, table) {
+    if !is_new(attempt, *pair, &mut notes.table) {
         return Ok(Next::Dead);
     }
     if work.is_spent(attempt.step_limit) {
         return Err(RunnerRefusal::Steps);
     }
-    match step(attempt, pair, threads, last_lines, work)? {
+    match step(attempt, pair, threads, &mut notes.last_lines, work)? {
         Next::On => Ok(Next::On),
         Next::Dead => Ok(Next::Dead),
         Next::Found => {
@@ -268,51 +266,24 @@ pub fn follow(
     attempt: &Attempt,
     start: Pair,
     threads: &mut Threads,
-    table: &mut Table,
-    last_lines: &mut LastLines,
+    notes: &mut Notes,
     work: &mut Work,
 ) -> Result<Option<usize>, RunnerRefusal>
-    requires inside { attempt.now.last ≤ length attempt.now.haystack.now }
-    requires easy { AreEasy (instrs_in attempt.now) }
-    requires low { attempt.now.base ≤ start.place }
-    requires high { start.place ≤ attempt.now.last }
+    requires ready { IsReadyAt attempt.now start.place notes.old }
     requires fresh { AreFresh threads.old }
-    requires room { bits_in attempt.now ≤ length table.old }
-    requires small { length table.old < 2 ^ 64 }
-    requires last_lines { KnowsLastLines attempt.now.haystack.now last_lines.old }
-    ensures answer { IfOk result (λ end. (kept deep : ℕ)
-        → KnownIn attempt.now kept deep (begun_at start threads.old.slots)
-        → AllFailedIn attempt.now start.place deep table.old
-        → found_state kept end threads.new.slots
-        ≡ first_accepted_in attempt.now kept deep (begun_at start threads.old.slots)) }
-    ensures failed { IfOk result (λ end. (kept deep : ℕ)
-        → KnownIn attempt.now kept deep (begun_at start threads.old.slots)
-        → AllFailedIn attempt.now start.place deep table.old → end ≡ None
-        → AllFailedIn attempt.now start.place deep table.new) }
-    ensures past { IfOk result (λ end. IfSome end (λ place. (kept deep : ℕ)
-        → KnownIn attempt.now kept deep (begun_at start threads.old.slots)
-        → AllFailedIn attempt.now start.place deep table.old
-        → FailedPastIn attempt.now start.place deep place table.new)) }
-    ensures forth { IfOk result (λ end. IfSome end (λ place. start.place ≤ place)) }
-    ensures within { IfOk result (λ end. IfSome end (λ place. place ≤ attempt.now.last)) }
-    ensures room { length table.new ≡ length table.old }
-    ensures spent { IfOk result (λ _. steps_of work.new + owed_in attempt.now table.new
-        ≤ steps_of work.old + (due_of attempt.now.code.now start.at + owed_in attempt.now table.old)) }
-    ensures bounded { steps_of work.new
-        ≤ steps_of work.old + (due_of attempt.now.code.now start.at + owed_in attempt.now table.old) }
-    ensures steps { steps_of work.old ≤ steps_of work.new }
-    ensures returns { returns_of work.old ≤ returns_of work.new }
-    ensures paired { returns_of work.new - returns_of work.old ≤ steps_of work.new - steps_of work.old }
-    ensures last_lines { KnowsLastLines attempt.now.haystack.now last_lines.new }
-    ensures heeds { RunsWithin attempt.now.step_limit work.old work.new }
-    ensures limited { result ≡ Err RunnerRefusal.Steps → IsSpent attempt.now.step_limit work.new }
+    ensures answer { IfOk result (λ end. AnswersIn attempt.now (begun_at start threads.old.slots)
+        notes.old.table end threads.new.slots) }
+    ensures left { IfOk result (λ end. LeavesIn attempt.now (begun_at start threads.old.slots)
+        notes.old.table end notes.new.table) }
+    ensures attempted { Attempted attempt.now start.place (due_of attempt.now.code.now start.at)
+        result notes.old notes.new work.old work.new }
 {
     let mut pair = start;
     'pairs: loop {
-        match visit(attempt, &mut pair, threads, table, last_lines, work)? {
+        match visit(attempt, &mut pair, threads, notes, work)? {
             Next::On => {
                 if threads.is_long() {
-                    let end = follow_by_place(attempt, pair, threads, table, last_lines, work)?;
+                    let end = follow_by_place(attempt, pair, threads, notes, work)?;
                     return Ok(end);
                 }
             }

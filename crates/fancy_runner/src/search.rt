@@ -15,10 +15,10 @@ ghost use Rattle.fancy_runner.specs.Groups.{groups_in};
 ghost use Rattle.fancy_runner.specs.Refusals.{IsRunnersRefusal};
 ghost use Rattle.fancy_code.specs.Work.{steps_of, returns_of, RunsWithin, IsSpent, HasWorkFor};
 
-use crate::notes::{KeptTable, Notes};
+pub use crate::notes::Cache;
+use crate::notes::KeptTable;
 use crate::start::follow_start;
 use crate::table::Table;
-use crate::threads::Threads;
 use fancy_code::attempt::Attempt;
 use fancy_code::code::Code;
 use fancy_code::found::Found;
@@ -27,65 +27,11 @@ use fancy_code::reading::ready_last_lines;
 use fancy_code::refusal::SearchRefusal;
 use fancy_code::work::Work;
 use fancy_input::input::Request;
-use fancy_input::span::Span;
 use fancy_prefilter::candidates::next_opening;
-use std::alloc::Global;
-use std::mem;
 
-/// What searches work in, reused from one to the next, with the groups of the last match.
-#[derive(Drop)]
-pub struct Cache {
-    threads: Threads,
-    /// What the last search found out.
-    notes: Notes,
-}
-
-impl Cache {
-    /// It has no memory yet, which the searches take, and holds no group.
-    pub fn new(alloc: Global) -> Cache
-        ensures { groups_in result ≡ [] }
-    {
-        Cache {
-            threads: Threads::new(alloc),
-            notes: Notes::new(alloc),
-        }
-    }
-
-    /// Has the searches to come work with these notes, and gives those of the searches before. The groups stay.
-    pub fn swap_notes(&mut self, notes: &mut Notes)
-        ensures given { self.new ≡ record self.old { notes = notes.old } }
-        ensures taken { notes.new ≡ self.old.notes }
-    {
-        mem::swap(&mut self.notes, notes);
-    }
-
-    /// Where the group with this number stands in what the search before found, in byte offsets. `None` where the group
-    /// took no part, or there is none with this number. After a search that found nothing the answer means nothing.
-    pub fn group(&self, number: usize) -> Option<Span>
-        ensures { result ≡ slice_index_or (groups_in self.now) number None }
-    {
-        self.threads.slot(number).span
-    }
-}
-
-/// Begins the table anew, with the marks of each place from its base on. Where so many are no `usize`, memory is refused.
-fn begin_table(table: &mut Table, attempt: &Attempt) -> Result<(), SearchRefusal>
-    requires ordered { attempt.now.base ≤ attempt.now.last }
-    requires small { attempt.now.last < usize.MAX }
-    ensures clear { OnOk result (table.new ≡ replicate (bits_in attempt.now) false) }
-    ensures small { OnOk result (bits_in attempt.now < 2 ^ 64) }
-    ensures refused { IfErr result (λ e. e ≡ SearchRefusal.Memory) }
-{
-    let places = attempt.last - attempt.base + 1;
-    let Some(bits) = places.checked_mul(attempt.code.marks()) else {
-        return Err(SearchRefusal::Memory);
-    };
-    table.reset(bits)?;
-    Ok(())
-}
-
-/// Makes the table ready for a search that starts at `first`: where none is kept it begins anew. One that is kept loses the marks of
-/// that place, where these may lie on the way to the match before.
+/// Makes the table ready for a search that starts at `first`: where none is kept it begins anew, with the marks of each place from its
+/// base on. Where so many are no `usize`, memory is refused. One that is kept loses the marks of that place, where these may lie on the
+/// way to the match before.
 fn ready_table(
     table: &mut Table,
     attempt: &Attempt,
@@ -98,7 +44,8 @@ fn ready_table(
     requires reached { IfSome kept (λ k. k.from ≤ first + 1) }
     requires room { IfSome kept (λ _. length table.old ≡ bits_in attempt.now) }
     requires short { IfSome kept (λ _. length table.old < 2 ^ 64) }
-    ensures failed { OnOk result ((deep : ℕ) → IfSome kept (λ k. AllFailedIn attempt.now k.from deep table.old)
+    ensures failed { OnOk result ((deep : ℕ) → IfSome kept
+        (λ k. AllFailedIn attempt.now k.from deep table.old)
         → AllFailedIn attempt.now first deep table.new) }
     ensures left { IfSome kept (λ _. OnOk result (owed_in attempt.now table.new
         ≤ owed_in attempt.now table.old + taken_again kept attempt.now.code.now first)) }
@@ -107,7 +54,11 @@ fn ready_table(
     ensures refused { IfErr result (λ e. e ≡ SearchRefusal.Memory) }
 {
     let Some(kept) = kept else {
-        begin_table(table, attempt)?;
+        let places = attempt.last - attempt.base + 1;
+        let Some(bits) = places.checked_mul(attempt.code.marks()) else {
+            return Err(SearchRefusal::Memory);
+        };
+        table.reset(bits)?;
         return Ok(());
     };
     if first < kept.from {
@@ -128,8 +79,10 @@ fn limit_to_heed(
     requires ordered { effective_start request ≤ request.range_end }
     requires small { request.range_end < usize.MAX }
     ensures limit { (result ≡ limit)
-        ⊎ ((result ≡ None) × ((before ≡ None) × HasWorkFor limit (most_steps code.now request) work.now)) }
-    ensures free { before ≡ None → HasWorkFor limit (most_steps code.now request) work.now → result ≡ None }
+        ⊎ ((result ≡ None) × ((before ≡ None) × HasWorkFor limit
+        (most_steps code.now request) work.now)) }
+    ensures free { before ≡ None → HasWorkFor limit (most_steps code.now request) work.now
+        → result ≡ None }
 {
     if before.is_some() {
         return limit;
@@ -139,6 +92,15 @@ fn limit_to_heed(
         Some(steps) if work.has_work_for(steps, limit) => None,
         _ => limit,
     }
+}
+
+/// What is wanted of a search.
+#[derive(Clone, Copy)]
+pub struct Wanted {
+    /// Where a match is wanted.
+    pub request: Request,
+    /// What it may be, and what the search may take.
+    pub options: SearchOptions,
 }
 
 /// Searches a haystack for the pattern of the code. Found is the first outcome at the least position, from the
@@ -164,50 +126,61 @@ fn limit_to_heed(
 pub fn search(
     code: &Code,
     haystack: &[u8],
-    request: Request,
-    options: SearchOptions,
+    wanted: Wanted,
     kept: &mut Option<KeptTable>,
     cache: &mut Cache,
     work: &mut Work,
 ) -> Result<Option<Found>, SearchRefusal>
-    requires inside { request.range_end ≤ length haystack.now }
+    requires inside { wanted.request.range_end ≤ length haystack.now }
     requires easy { AreEasy (instrs_of code.now) }
-    requires kept { IfSome kept.old (λ k. IsKept code.now haystack.now request options
-        k (effective_start request) cache.old.notes) }
+    requires kept { IfSome kept.old (λ k. IsKept code.now haystack.now wanted.request wanted.options
+        k (effective_start wanted.request) cache.old.notes) }
     ensures answer { IfOk result (λ found. (p : Pattern) (on : Bool) → IsCodeOf p code.now
         → answer_with (groups_in cache.new) found
-        ≡ search (query_of p code.now (unfiltered options) haystack.now request on)) }
+        ≡ search (query_of p code.now (unfiltered wanted.options) haystack.now wanted.request on)) }
     ensures here { IfOk result (λ found. IfSome found (λ f. f.start ≡ f.position)) }
-    ensures ordered { IfOk result (λ found. IfSome found (λ f. effective_start request ≤ f.end)) }
-    ensures kept { IfOk result (λ found. IfSome kept.new (λ k. IsKept code.now haystack.now request options
-        k (place_kept found request) cache.new.notes)) }
+    ensures ordered { IfOk result (λ found. IfSome found
+        (λ f. effective_start wanted.request ≤ f.end)) }
+    ensures kept { IfOk result (λ found. IfSome kept.new
+        (λ k. IsKept code.now haystack.now wanted.request wanted.options
+        k (place_kept found wanted.request) cache.new.notes)) }
     ensures left { IfOk result (λ found. IfSome found (λ f. kept.new
-        ≡ Some (record { base = table_base kept.old request; from = f.end + 1 }))) }
+        ≡ Some (record { base = table_base kept.old wanted.request; from = f.end + 1 }))) }
     ensures dropped { IfErr result (λ _. kept.new ≡ None) }
     ensures steps { steps_of work.old ≤ steps_of work.new }
     ensures bounded { steps_of work.new ≤ steps_of work.old
-        + (steps_from kept.old code.now request (effective_start request) (table_in cache.old)
-        + taken_again kept.old code.now (effective_start request)) }
+        + (steps_from kept.old code.now wanted.request (effective_start wanted.request)
+        (table_in cache.old)
+        + taken_again kept.old code.now (effective_start wanted.request)) }
     ensures passed { IfOk result (λ found. IfNone found (steps_of work.new
-        + steps_from kept.new code.now request (past_tried request) (table_in cache.new)
+        + steps_from kept.new code.now wanted.request (past_tried wanted.request)
+        (table_in cache.new)
         ≤ steps_of work.old
-        + (steps_from kept.old code.now request (effective_start request) (table_in cache.old)
-        + taken_again kept.old code.now (effective_start request)))) }
+        + (steps_from kept.old code.now wanted.request (effective_start wanted.request)
+        (table_in cache.old)
+        + taken_again kept.old code.now (effective_start wanted.request)))) }
     ensures spent { IfOk result (λ found. IfSome found (λ f. steps_of work.new
-        + steps_ahead code.now request (table_base kept.old request) f.end (table_in cache.new)
+        + steps_ahead code.now wanted.request (table_base kept.old wanted.request) f.end
+        (table_in cache.new)
         ≤ steps_of work.old
-        + (steps_from kept.old code.now request (effective_start request) (table_in cache.old) + code_len code.now))) }
-    ensures idle { NoneMayStart code.now.prefilter.starts haystack.now request.range_end
-        (effective_start request) (request.range_end + 1)
+        + (steps_from kept.old code.now wanted.request (effective_start wanted.request)
+        (table_in cache.old)
+        + code_len code.now))) }
+    ensures idle { NoneMayStart code.now.prefilter.starts haystack.now wanted.request.range_end
+        (effective_start wanted.request) (wanted.request.range_end + 1)
         → steps_of work.new ≡ steps_of work.old }
     ensures returns { returns_of work.old ≤ returns_of work.new }
-    ensures paired { returns_of work.new - returns_of work.old ≤ steps_of work.new - steps_of work.old }
+    ensures paired { returns_of work.new - returns_of work.old
+        ≤ steps_of work.new - steps_of work.old }
     ensures refused { IfErr result IsRunnersRefusal }
-    ensures heeds { RunsWithin options.step_limit work.old work.new }
-    ensures limited { result ≡ Err SearchRefusal.Steps → IsSpent options.step_limit work.new }
-    ensures unlimited { kept.old ≡ None → HasWorkFor options.step_limit (most_steps code.now request) work.old
+    ensures heeds { RunsWithin wanted.options.step_limit work.old work.new }
+    ensures limited { result ≡ Err SearchRefusal.Steps
+        → IsSpent wanted.options.step_limit work.new }
+    ensures unlimited { kept.old ≡ None → HasWorkFor wanted.options.step_limit
+        (most_steps code.now wanted.request) work.old
         → result ≢ Err SearchRefusal.Steps }
 {
+    let Wanted { request, options } = wanted;
     let first = request.effective_start();
     if first > request.range_end {
         return Ok(None);
@@ -219,7 +192,6 @@ pub fn search(
     }
     let before = kept.take();
     let base = KeptTable::base(before, first);
-    let step_limit = limit_to_heed(code, request, before, options.step_limit, work);
     let attempt = Attempt {
         code,
         haystack,
@@ -227,26 +199,20 @@ pub fn search(
         last: request.range_end,
         on_boundaries: options.on_boundaries,
         suppressed: options.suppressed_ends(request),
-        step_limit,
+        step_limit: limit_to_heed(code, request, before, options.step_limit, work),
     };
-    let threads = &mut cache.threads;
-    let table = &mut cache.notes.table;
-    let last_lines = &mut cache.notes.last_lines;
-    ready_table(table, &attempt, first, before)?;
-    ready_last_lines(last_lines, haystack, before.is_some());
+    ready_table(&mut cache.notes.table, &attempt, first, before)?;
+    ready_last_lines(&mut cache.notes.last_lines, haystack, before.is_some());
     while place <= last {
         if is_match_boundary(options.on_boundaries, haystack, place) {
-            match follow_start(&attempt, place, threads, table, last_lines, work)? {
-                Some(end) => {
-                    let from = end + 1;
-                    *kept = Some(KeptTable { base, from });
-                    return Ok(Some(Found {
-                        position: place,
-                        start: place,
-                        end,
-                    }));
-                }
-                None => {}
+            if let Some(end) = follow_start(&attempt, place, cache, work)? {
+                let from = end + 1;
+                *kept = Some(KeptTable { base, from });
+                return Ok(Some(Found {
+                    position: place,
+                    start: place,
+                    end,
+                }));
             }
         }
         place = next_opening(

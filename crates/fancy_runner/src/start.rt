@@ -2,8 +2,9 @@
 
 ghost use Rattle.std.specs.Prelude.{◌≡◌, ◌+◌, ◌-◌, ◌^◌, ◌<◌, ◌≤◌, ℕ, None, Err, length, slice_index, IfOk, IfSome};
 ghost use Rattle.fancy_code.specs.Attempt.{instrs_in};
-ghost use Rattle.fancy_runner.specs.Attempt.{first_accepted_in, begins_in, begins_with, passes_in, bits_in, owed_in, KnownIn, AllFailedIn, FailedPastIn};
-ghost use Rattle.fancy_code.specs.Branches.{AreBranches, ArePaid};
+ghost use Rattle.fancy_runner.specs.Attempt.{begins_in, begins_with, begins_by, AreBranchesIn, passes_in, bits_in, owed_in, AllFailedIn};
+ghost use Rattle.fancy_runner.specs.Runs.{HasRow, IsReadyAt, AnswersIn, LeavesIn, Attempted};
+ghost use Rattle.fancy_code.specs.Branches.{ArePaid};
 ghost use Rattle.fancy_code.specs.Code.{due_of};
 ghost use Rattle.fancy_code.specs.Compile.{AreEasy, HasBranches};
 ghost use Rattle.fancy_runner.specs.Runner.{found_state};
@@ -11,11 +12,11 @@ ghost use Rattle.fancy_code.specs.Texts.{IsTextOf};
 ghost use Rattle.fancy_code.specs.Work.{steps_of, returns_of, RunsWithin, IsSpent};
 ghost use Rattle.fancy_input.specs.LastLines.{KnowsLastLines};
 
+use crate::notes::Cache;
 use crate::pair::Pair;
 use crate::refusal::RunnerRefusal;
 use crate::runner::follow;
 use crate::table::Table;
-use crate::threads::Threads;
 use fancy_code::attempt::Attempt;
 use fancy_code::options::is_match_boundary;
 use fancy_code::reading::holds_at;
@@ -31,44 +32,22 @@ fn follow_from(
     attempt: &Attempt,
     group: Option<usize>,
     start: Pair,
-    threads: &mut Threads,
-    table: &mut Table,
-    last_lines: &mut LastLines,
+    cache: &mut Cache,
     work: &mut Work,
 ) -> Result<Option<usize>, RunnerRefusal>
-    requires inside { attempt.now.last ≤ length attempt.now.haystack.now }
-    requires easy { AreEasy (instrs_in attempt.now) }
-    requires low { attempt.now.base ≤ start.place }
-    requires high { start.place ≤ attempt.now.last }
-    requires room { bits_in attempt.now ≤ length table.old }
-    requires small { length table.old < 2 ^ 64 }
-    requires last_lines { KnowsLastLines attempt.now.haystack.now last_lines.old }
-    ensures answer { IfOk result (λ end. (kept deep : ℕ)
-        → KnownIn attempt.now kept deep (begins_with attempt.now group start.at start.place) → AllFailedIn attempt.now start.place deep table.old
-        → found_state kept end threads.new.slots
-        ≡ first_accepted_in attempt.now kept deep (begins_with attempt.now group start.at start.place)) }
-    ensures failed { IfOk result (λ end. (kept deep : ℕ)
-        → KnownIn attempt.now kept deep (begins_with attempt.now group start.at start.place) → AllFailedIn attempt.now start.place deep table.old
-        → end ≡ None → AllFailedIn attempt.now start.place deep table.new) }
-    ensures past { IfOk result (λ end. IfSome end (λ stop. (kept deep : ℕ)
-        → KnownIn attempt.now kept deep (begins_with attempt.now group start.at start.place) → AllFailedIn attempt.now start.place deep table.old
-        → FailedPastIn attempt.now start.place deep stop table.new)) }
-    ensures forth { IfOk result (λ end. IfSome end (λ stop. start.place ≤ stop)) }
-    ensures within { IfOk result (λ end. IfSome end (λ stop. stop ≤ attempt.now.last)) }
-    ensures room { length table.new ≡ length table.old }
-    ensures spent { IfOk result (λ _. steps_of work.new + owed_in attempt.now table.new
-        ≤ steps_of work.old + (due_of attempt.now.code.now start.at + owed_in attempt.now table.old)) }
-    ensures bounded { steps_of work.new
-        ≤ steps_of work.old + (due_of attempt.now.code.now start.at + owed_in attempt.now table.old) }
-    ensures steps { steps_of work.old ≤ steps_of work.new }
-    ensures returns { returns_of work.old ≤ returns_of work.new }
-    ensures paired { returns_of work.new - returns_of work.old ≤ steps_of work.new - steps_of work.old }
-    ensures last_lines { KnowsLastLines attempt.now.haystack.now last_lines.new }
-    ensures heeds { RunsWithin attempt.now.step_limit work.old work.new }
-    ensures limited { result ≡ Err RunnerRefusal.Steps → IsSpent attempt.now.step_limit work.new }
+    requires ready { IsReadyAt attempt.now start.place cache.old.notes }
+    ensures answer { IfOk result (λ end. AnswersIn attempt.now
+        (begins_with attempt.now group start.at start.place)
+        cache.old.notes.table end cache.new.threads.slots) }
+    ensures left { IfOk result (λ end. LeavesIn attempt.now
+        (begins_with attempt.now group start.at start.place)
+        cache.old.notes.table end cache.new.notes.table) }
+    ensures attempted { Attempted attempt.now start.place (due_of attempt.now.code.now start.at)
+        result cache.old.notes cache.new.notes work.old work.new }
 {
+    let threads = &mut cache.threads;
     threads.begin_with(attempt.code.groups, group, start.place)?;
-    follow(attempt, start, threads, table, last_lines, work)
+    follow(attempt, start, threads, &mut cache.notes, work)
 }
 
 /// The same of an alternative that begins with this text. Where that does not stand at the place, there is no outcome, and where it
@@ -78,54 +57,33 @@ fn follow_text(
     group: Option<usize>,
     start: Pair,
     text: &Text,
-    threads: &mut Threads,
-    table: &mut Table,
-    last_lines: &mut LastLines,
+    cache: &mut Cache,
     work: &mut Work,
 ) -> Result<Option<usize>, RunnerRefusal>
-    requires inside { attempt.now.last ≤ length attempt.now.haystack.now }
-    requires easy { AreEasy (instrs_in attempt.now) }
-    requires low { attempt.now.base ≤ start.place }
-    requires high { start.place ≤ attempt.now.last }
-    requires room { bits_in attempt.now ≤ length table.old }
-    requires small { length table.old < 2 ^ 64 }
-    requires last_lines { KnowsLastLines attempt.now.haystack.now last_lines.old }
-    ensures answer { IfOk result (λ end. (kept deep : ℕ)
-        → IsTextOf text.now (instrs_in attempt.now) attempt.now.code.now.meaning start.at
-        → KnownIn attempt.now kept deep (begins_with attempt.now group start.at start.place) → AllFailedIn attempt.now start.place deep table.old
-        → found_state kept end threads.new.slots
-        ≡ first_accepted_in attempt.now kept deep (begins_with attempt.now group start.at start.place)) }
-    ensures failed { IfOk result (λ end. (kept deep : ℕ)
-        → KnownIn attempt.now kept deep (begins_with attempt.now group start.at start.place) → AllFailedIn attempt.now start.place deep table.old
-        → end ≡ None → AllFailedIn attempt.now start.place deep table.new) }
-    ensures past { IfOk result (λ end. IfSome end (λ stop. (kept deep : ℕ)
-        → KnownIn attempt.now kept deep (begins_with attempt.now group start.at start.place) → AllFailedIn attempt.now start.place deep table.old
-        → FailedPastIn attempt.now start.place deep stop table.new)) }
-    ensures forth { IfOk result (λ end. IfSome end (λ stop. start.place ≤ stop)) }
-    ensures within { IfOk result (λ end. IfSome end (λ stop. stop ≤ attempt.now.last)) }
-    ensures room { length table.new ≡ length table.old }
-    ensures spent { IfOk result (λ _. steps_of work.new + owed_in attempt.now table.new
-        ≤ steps_of work.old + (due_of attempt.now.code.now start.at + owed_in attempt.now table.old)) }
-    ensures bounded { steps_of work.new
-        ≤ steps_of work.old + (due_of attempt.now.code.now start.at + owed_in attempt.now table.old) }
-    ensures steps { steps_of work.old ≤ steps_of work.new }
-    ensures returns { returns_of work.old ≤ returns_of work.new }
-    ensures paired { returns_of work.new - returns_of work.old ≤ steps_of work.new - steps_of work.old }
-    ensures last_lines { KnowsLastLines attempt.now.haystack.now last_lines.new }
-    ensures heeds { RunsWithin attempt.now.step_limit work.old work.new }
-    ensures limited { result ≡ Err RunnerRefusal.Steps → IsSpent attempt.now.step_limit work.new }
+    requires ready { IsReadyAt attempt.now start.place cache.old.notes }
+    ensures answer { IfOk result (λ end. IsTextOf text.now
+        (instrs_in attempt.now) attempt.now.code.now.meaning start.at
+        → AnswersIn attempt.now (begins_with attempt.now group start.at start.place)
+        cache.old.notes.table end cache.new.threads.slots) }
+    ensures left { IfOk result (λ end. LeavesIn attempt.now
+        (begins_with attempt.now group start.at start.place)
+        cache.old.notes.table end cache.new.notes.table) }
+    ensures attempted { Attempted attempt.now start.place (due_of attempt.now.code.now start.at)
+        result cache.old.notes cache.new.notes work.old work.new }
 {
     if !text.stands_at(attempt.haystack, start.place, attempt.last) {
         return Ok(None);
     }
     if !text.is_all {
-        return follow_from(attempt, group, start, threads, table, last_lines, work);
+        return follow_from(attempt, group, start, cache, work);
     }
     let end = start.place + text.bytes.len();
     if !is_match_boundary(attempt.on_boundaries, attempt.haystack, end) {
         return Ok(None);
     }
-    threads.begin_with(attempt.code.groups, group, start.place)?;
+    cache
+        .threads
+        .begin_with(attempt.code.groups, group, start.place)?;
     Ok(Some(end))
 }
 
@@ -135,47 +93,22 @@ fn follow_branches(
     attempt: &Attempt,
     branches: &Branches,
     place: usize,
-    threads: &mut Threads,
-    table: &mut Table,
-    last_lines: &mut LastLines,
+    cache: &mut Cache,
     work: &mut Work,
 ) -> Result<Option<usize>, RunnerRefusal>
-    requires inside { attempt.now.last ≤ length attempt.now.haystack.now }
-    requires easy { AreEasy (instrs_in attempt.now) }
-    requires low { attempt.now.base ≤ place }
-    requires high { place ≤ attempt.now.last }
-    requires room { bits_in attempt.now ≤ length table.old }
-    requires small { length table.old < 2 ^ 64 }
-    requires last_lines { KnowsLastLines attempt.now.haystack.now last_lines.old }
-    requires branches { ArePaid branches.now attempt.now.code.now.marking.numbers.items attempt.now.code.now.marking.weights.items
-        attempt.now.code.now.start }
-    ensures answer { IfOk result (λ end. (kept deep : ℕ)
-        → ((k : ℕ) → slice_index attempt.now.haystack.now k < 256)
-        → AreBranches branches.now (instrs_in attempt.now) attempt.now.code.now.meaning attempt.now.code.now.start
-        → KnownIn attempt.now kept deep (begins_with attempt.now branches.now.lead.group branches.now.lead.at place) → AllFailedIn attempt.now place deep table.old
-        → found_state kept end threads.new.slots
-        ≡ first_accepted_in attempt.now kept deep (begins_with attempt.now branches.now.lead.group branches.now.lead.at place)) }
-    ensures failed { IfOk result (λ end. (kept deep : ℕ)
-        → AreBranches branches.now (instrs_in attempt.now) attempt.now.code.now.meaning attempt.now.code.now.start
-        → KnownIn attempt.now kept deep (begins_with attempt.now branches.now.lead.group branches.now.lead.at place) → AllFailedIn attempt.now place deep table.old
-        → end ≡ None → AllFailedIn attempt.now place deep table.new) }
-    ensures past { IfOk result (λ end. IfSome end (λ stop. (kept deep : ℕ)
-        → AreBranches branches.now (instrs_in attempt.now) attempt.now.code.now.meaning attempt.now.code.now.start
-        → KnownIn attempt.now kept deep (begins_with attempt.now branches.now.lead.group branches.now.lead.at place) → AllFailedIn attempt.now place deep table.old
-        → FailedPastIn attempt.now place deep stop table.new)) }
-    ensures forth { IfOk result (λ end. IfSome end (λ stop. place ≤ stop)) }
-    ensures within { IfOk result (λ end. IfSome end (λ stop. stop ≤ attempt.now.last)) }
-    ensures room { length table.new ≡ length table.old }
-    ensures spent { IfOk result (λ _. steps_of work.new + owed_in attempt.now table.new
-        ≤ steps_of work.old + (due_of attempt.now.code.now attempt.now.code.now.start + owed_in attempt.now table.old)) }
-    ensures bounded { steps_of work.new
-        ≤ steps_of work.old + (due_of attempt.now.code.now attempt.now.code.now.start + owed_in attempt.now table.old) }
-    ensures steps { steps_of work.old ≤ steps_of work.new }
-    ensures returns { returns_of work.old ≤ returns_of work.new }
-    ensures paired { returns_of work.new - returns_of work.old ≤ steps_of work.new - steps_of work.old }
-    ensures last_lines { KnowsLastLines attempt.now.haystack.now last_lines.new }
-    ensures heeds { RunsWithin attempt.now.step_limit work.old work.new }
-    ensures limited { result ≡ Err RunnerRefusal.Steps → IsSpent attempt.now.step_limit work.new }
+    requires ready { IsReadyAt attempt.now place cache.old.notes }
+    requires branches { ArePaid branches.now attempt.now.code.now.marking.numbers.items
+        attempt.now.code.now.marking.weights.items attempt.now.code.now.start }
+    ensures answer { IfOk result (λ end. ((k : ℕ) → slice_index attempt.now.haystack.now k < 256)
+        → AreBranchesIn attempt.now branches.now
+        → AnswersIn attempt.now (begins_by attempt.now branches.now place)
+        cache.old.notes.table end cache.new.threads.slots) }
+    ensures left { IfOk result (λ end. AreBranchesIn attempt.now branches.now
+        → LeavesIn attempt.now (begins_by attempt.now branches.now place)
+        cache.old.notes.table end cache.new.notes.table) }
+    ensures attempted { Attempted attempt.now place
+        (due_of attempt.now.code.now attempt.now.code.now.start)
+        result cache.old.notes cache.new.notes work.old work.new }
 {
     let numbers = branches
         .table
@@ -187,9 +120,7 @@ fn follow_branches(
         let head = branches.heads[number];
         let start = Pair { at: head, place };
         let text = &branches.texts[number];
-        match follow_text(
-            attempt, group, start, text, threads, table, last_lines, work,
-        )? {
+        match follow_text(attempt, group, start, text, cache, work)? {
             Some(end) => return Ok(Some(end)),
             None => passed = number + 1,
         }
@@ -200,11 +131,9 @@ fn follow_branches(
 /// Forgets what was marked before a place, of which no attempt from there on asks.
 #[inline]
 fn forget_behind(attempt: &Attempt, place: usize, table: &mut Table)
-    requires low { attempt.now.base ≤ place }
-    requires high { place ≤ attempt.now.last }
-    requires room { bits_in attempt.now ≤ length table.old }
-    requires small { length table.old < 2 ^ 64 }
-    ensures failed { (deep : ℕ) → AllFailedIn attempt.now place deep table.old → AllFailedIn attempt.now place deep table.new }
+    requires row { HasRow attempt.now place table.old }
+    ensures failed { (deep : ℕ) → AllFailedIn attempt.now place deep table.old
+        → AllFailedIn attempt.now place deep table.new }
     ensures left { owed_in attempt.now table.new ≤ owed_in attempt.now table.old }
     ensures room { length table.new ≡ length table.old }
 {
@@ -242,53 +171,29 @@ fn passes_test(
 pub(crate) fn follow_start(
     attempt: &Attempt,
     place: usize,
-    threads: &mut Threads,
-    table: &mut Table,
-    last_lines: &mut LastLines,
+    cache: &mut Cache,
     work: &mut Work,
 ) -> Result<Option<usize>, RunnerRefusal>
-    requires inside { attempt.now.last ≤ length attempt.now.haystack.now }
-    requires easy { AreEasy (instrs_in attempt.now) }
-    requires low { attempt.now.base ≤ place }
-    requires high { place ≤ attempt.now.last }
-    requires room { bits_in attempt.now ≤ length table.old }
-    requires small { length table.old < 2 ^ 64 }
-    requires last_lines { KnowsLastLines attempt.now.haystack.now last_lines.old }
-    ensures answer { IfOk result (λ end. (kept deep : ℕ)
-        → ((k : ℕ) → slice_index attempt.now.haystack.now k < 256)
+    requires ready { IsReadyAt attempt.now place cache.old.notes }
+    ensures answer { IfOk result (λ end. ((k : ℕ) → slice_index attempt.now.haystack.now k < 256)
         → HasBranches attempt.now.code.now
-        → KnownIn attempt.now kept deep (begins_in attempt.now attempt.now.code.now.start place) → AllFailedIn attempt.now place deep table.old
-        → found_state kept end threads.new.slots
-        ≡ first_accepted_in attempt.now kept deep (begins_in attempt.now attempt.now.code.now.start place)) }
-    ensures failed { IfOk result (λ end. (kept deep : ℕ)
-        → HasBranches attempt.now.code.now
-        → KnownIn attempt.now kept deep (begins_in attempt.now attempt.now.code.now.start place) → AllFailedIn attempt.now place deep table.old
-        → end ≡ None → AllFailedIn attempt.now place deep table.new) }
-    ensures past { IfOk result (λ end. IfSome end (λ stop. (kept deep : ℕ)
-        → HasBranches attempt.now.code.now
-        → KnownIn attempt.now kept deep (begins_in attempt.now attempt.now.code.now.start place) → AllFailedIn attempt.now place deep table.old
-        → FailedPastIn attempt.now place deep stop table.new)) }
-    ensures forth { IfOk result (λ end. IfSome end (λ stop. place ≤ stop)) }
-    ensures within { IfOk result (λ end. IfSome end (λ stop. stop ≤ attempt.now.last)) }
-    ensures room { length table.new ≡ length table.old }
-    ensures spent { IfOk result (λ _. steps_of work.new + owed_in attempt.now table.new
-        ≤ steps_of work.old + (due_of attempt.now.code.now attempt.now.code.now.start + owed_in attempt.now table.old)) }
-    ensures bounded { steps_of work.new
-        ≤ steps_of work.old + (due_of attempt.now.code.now attempt.now.code.now.start + owed_in attempt.now table.old) }
-    ensures steps { steps_of work.old ≤ steps_of work.new }
-    ensures returns { returns_of work.old ≤ returns_of work.new }
-    ensures paired { returns_of work.new - returns_of work.old ≤ steps_of work.new - steps_of work.old }
-    ensures last_lines { KnowsLastLines attempt.now.haystack.now last_lines.new }
-    ensures heeds { RunsWithin attempt.now.step_limit work.old work.new }
-    ensures limited { result ≡ Err RunnerRefusal.Steps → IsSpent attempt.now.step_limit work.new }
+        → AnswersIn attempt.now (begins_in attempt.now attempt.now.code.now.start place)
+        cache.old.notes.table end cache.new.threads.slots) }
+    ensures left { IfOk result (λ end. HasBranches attempt.now.code.now
+        → LeavesIn attempt.now (begins_in attempt.now attempt.now.code.now.start place)
+        cache.old.notes.table end cache.new.notes.table) }
+    ensures attempted { Attempted attempt.now place
+        (due_of attempt.now.code.now attempt.now.code.now.start)
+        result cache.old.notes cache.new.notes work.old work.new }
 {
-    forget_behind(attempt, place, table);
+    forget_behind(attempt, place, &mut cache.notes.table);
     match &attempt.code.prefilter.opening {
         Opening::Words(branches) => {
+            let last_lines = &mut cache.notes.last_lines;
             if !passes_test(attempt, branches.lead.test, place, last_lines) {
                 return Ok(None);
             }
-            let end = follow_branches(attempt, branches, place, threads, table, last_lines, work)?;
+            let end = follow_branches(attempt, branches, place, cache, work)?;
             Ok(end)
         }
         _ => {
@@ -296,7 +201,7 @@ pub(crate) fn follow_start(
                 at: attempt.code.start,
                 place,
             };
-            let end = follow_from(attempt, None, start, threads, table, last_lines, work)?;
+            let end = follow_from(attempt, None, start, cache, work)?;
             Ok(end)
         }
     }

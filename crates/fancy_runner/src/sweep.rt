@@ -13,20 +13,20 @@ ghost use Rattle.fancy_runner.specs.Threads.{thread_of, with_way, held_of, AreFr
 ghost use Rattle.fancy_code.specs.Attempt.{instrs_in};
 ghost use Rattle.fancy_runner.specs.Attempt.{stack_in, saved_in, threads_in, threads_left_in, bits_in, owed_in, ahead_in, AllFailedIn, FailedPastIn, RunningIn};
 ghost use Rattle.fancy_runner.specs.Sweep.{AllPast, AreRising, SweepingIn, SweptIn, SweptTo};
-ghost use Rattle.fancy_runner.specs.Sweeps.{backlog_in, left_in_sweep, found_in, due_in_rows, IsDrained, KeepsBacklog, KeepsFound};
+ghost use Rattle.fancy_runner.specs.Sweeps.{backlog_in, left_in_sweep, found_in, due_in_rows, IsDrained, WaitsFrom, KeepsBacklog, KeepsFound};
+ghost use Rattle.fancy_runner.specs.Runs.{IsReadyFor, IsReadyAt, Saves, IsReadyFrom, Ran, EndsIn, FailedTo};
 
 use crate::backlog::Backlog;
+use crate::notes::Notes;
 use crate::pair::Pair;
 use crate::refusal::RunnerRefusal;
 use crate::row::Row;
 use crate::runner::visit;
-use crate::table::Table;
 use crate::threads::Threads;
 use fancy_code::attempt::Attempt;
 use fancy_code::code::Code;
 use fancy_code::step::Next;
 use fancy_code::work::Work;
-use fancy_input::last_lines::LastLines;
 use std::alloc::AllocError;
 use std::mem;
 
@@ -36,58 +36,58 @@ fn visit_here(
     pair: &mut Pair,
     threads: &mut Threads,
     later: &mut Row,
-    table: &mut Table,
-    last_lines: &mut LastLines,
+    notes: &mut Notes,
     work: &mut Work,
 ) -> Result<Next, RunnerRefusal>
-    requires inside { attempt.now.last ≤ length attempt.now.haystack.now }
-    requires easy { AreEasy (instrs_in attempt.now) }
-    requires within { AllWithin attempt.now.base attempt.now.last (threads_in attempt.now pair.old threads.old) }
-    requires room { bits_in attempt.now ≤ length table.old }
-    requires small { length table.old < 2 ^ 64 }
-    requires last_lines { KnowsLastLines attempt.now.haystack.now last_lines.old }
-    ensures swept { IfOk result (λ next. (low kept deep : ℕ) (goal found : Option State) (front back : List Thread)
-        → attempt.now.base ≤ low → AllWithin low attempt.now.last (threads_in attempt.now pair.old threads.old)
+    requires ready { IsReadyFor attempt.now (threads_in attempt.now pair.old threads.old)
+        notes.old }
+    ensures swept { IfOk result (λ next. (low kept deep : ℕ) (goal found : Option State)
+        (front back : List Thread)
+        → attempt.now.base ≤ low → AllWithin low attempt.now.last
+        (threads_in attempt.now pair.old threads.old)
         → AllPast pair.old.place front → AllPast pair.old.place later.old
-        → SweepingIn attempt.now low kept deep goal table.old
-        ((front ++ reverse later.old) ++ (threads_in attempt.now pair.old threads.old ++ back)) found
-        → SweptIn attempt.now low kept deep next goal table.new (front ++ reverse later.new)
+        → SweepingIn attempt.now low kept deep goal notes.old.table
+        ((front ++ reverse later.old) ++ (threads_in attempt.now pair.old threads.old
+        ++ back)) found
+        → SweptIn attempt.now low kept deep next goal notes.new.table (front ++ reverse later.new)
         (stack_in attempt.now pair.new threads.new) back found) }
-    ensures here { IfOk result (λ next. next ≡ Next.On → pair.new.place ≡ pair.old.place) }
-    ensures found { IfOk result (λ next. next ≡ Next.Found → pair.new.place ≡ pair.old.place) }
-    ensures grown { IfOk result (λ _. Grown pair.old.place (saved_in attempt.now threads.old) (saved_in attempt.now threads.new)) }
-    ensures past { IfOk result (λ _. AllPast pair.old.place later.old → AllPast pair.old.place later.new) }
-    ensures more { IfOk result (λ _. burden attempt.now.code.now later.old ≤ burden attempt.now.code.now later.new) }
-    ensures later { IfOk result (λ _. (low : ℕ) → low ≤ pair.old.place → AllWithin low attempt.now.last later.old
+    ensures here { IfOk result (λ next. next ≢ Next.Dead → pair.new.place ≡ pair.old.place) }
+    ensures saves { IfOk result (λ _. Saves attempt.now pair.old.place threads.old threads.new
+        work.old work.new) }
+    ensures past { IfOk result (λ _. AllPast pair.old.place later.old
+        → AllPast pair.old.place later.new) }
+    ensures more { IfOk result (λ _. burden attempt.now.code.now later.old
+        ≤ burden attempt.now.code.now later.new) }
+    ensures later { IfOk result (λ _. (low : ℕ) → low ≤ pair.old.place
+        → AllWithin low attempt.now.last later.old
         → AllWithin low attempt.now.last later.new) }
     ensures less { IfOk result (λ next. next ≡ Next.On
-        → 2 * ahead_in attempt.now table.new (threads_in attempt.now pair.new threads.new) + length (saved_in attempt.now threads.new)
-        < 2 * ahead_in attempt.now table.old (threads_in attempt.now pair.old threads.old) + length (saved_in attempt.now threads.old)) }
-    ensures no_more { IfOk result (λ next. next ≡ Next.Dead
-        → 2 * ahead_in attempt.now table.new (saved_in attempt.now threads.new)
+        → 2 * ahead_in attempt.now notes.new.table (threads_in attempt.now pair.new threads.new)
         + length (saved_in attempt.now threads.new)
-        ≤ 2 * ahead_in attempt.now table.old (threads_in attempt.now pair.old threads.old) + length (saved_in attempt.now threads.old)) }
-    ensures room { length table.new ≡ length table.old }
+        < 2 * ahead_in attempt.now notes.old.table (threads_in attempt.now pair.old threads.old)
+        + length (saved_in attempt.now threads.old)) }
+    ensures no_more { IfOk result (λ next. next ≡ Next.Dead
+        → 2 * ahead_in attempt.now notes.new.table (saved_in attempt.now threads.new)
+        + length (saved_in attempt.now threads.new)
+        ≤ 2 * ahead_in attempt.now notes.old.table (threads_in attempt.now pair.old threads.old)
+        + length (saved_in attempt.now threads.old)) }
     ensures spent { IfOk result (λ next. steps_of work.new + burden attempt.now.code.now later.new
-        + ahead_in attempt.now table.new (threads_left_in attempt.now next pair.new threads.new)
+        + ahead_in attempt.now notes.new.table
+        (threads_left_in attempt.now next pair.new threads.new)
         ≤ steps_of work.old + burden attempt.now.code.now later.old
-        + ahead_in attempt.now table.old (threads_in attempt.now pair.old threads.old)) }
+        + ahead_in attempt.now notes.old.table (threads_in attempt.now pair.old threads.old)) }
     ensures spent_here { IfOk result (λ next. steps_of work.new
-        + ahead_in attempt.now table.new (threads_left_in attempt.now next pair.new threads.new)
-        ≤ steps_of work.old + ahead_in attempt.now table.old (threads_in attempt.now pair.old threads.old)) }
-    ensures bounded { steps_of work.new
-        ≤ steps_of work.old + ahead_in attempt.now table.old (threads_in attempt.now pair.old threads.old) }
-    ensures steps { steps_of work.old ≤ steps_of work.new }
+        + ahead_in attempt.now notes.new.table
+        (threads_left_in attempt.now next pair.new threads.new)
+        ≤ steps_of work.old + ahead_in attempt.now notes.old.table
+        (threads_in attempt.now pair.old threads.old)) }
     ensures returns { returns_of work.new ≡ returns_of work.old }
-    ensures tally { IfOk result (λ _. steps_of work.new < usize.MAX
-        → length (saved_in attempt.now threads.new) + steps_of work.old
-        ≤ length (saved_in attempt.now threads.old) + steps_of work.new) }
-    ensures last_lines { KnowsLastLines attempt.now.haystack.now last_lines.new }
-    ensures heeds { RunsWithin attempt.now.step_limit work.old work.new }
-    ensures limited { result ≡ Err RunnerRefusal.Steps → IsSpent attempt.now.step_limit work.new }
+    ensures ran { Ran attempt.now (burden attempt.now.code.now
+        (threads_in attempt.now pair.old threads.old)) result
+        notes.old notes.new work.old work.new }
 {
     let place = pair.place;
-    match visit(attempt, pair, threads, table, last_lines, work)? {
+    match visit(attempt, pair, threads, notes, work)? {
         Next::On => {
             if pair.place == place {
                 return Ok(Next::On);
@@ -107,43 +107,35 @@ fn follow_here(
     start: Pair,
     threads: &mut Threads,
     later: &mut Row,
-    table: &mut Table,
-    last_lines: &mut LastLines,
+    notes: &mut Notes,
     work: &mut Work,
 ) -> Result<Option<usize>, RunnerRefusal>
-    requires inside { attempt.now.last ≤ length attempt.now.haystack.now }
-    requires easy { AreEasy (instrs_in attempt.now) }
-    requires low { attempt.now.base ≤ start.place }
-    requires high { start.place ≤ attempt.now.last }
+    requires ready { IsReadyAt attempt.now start.place notes.old }
     requires fresh { AreFresh threads.old }
-    requires room { bits_in attempt.now ≤ length table.old }
-    requires small { length table.old < 2 ^ 64 }
-    requires last_lines { KnowsLastLines attempt.now.haystack.now last_lines.old }
-    ensures swept { IfOk result (λ end. (low kept deep : ℕ) (goal found : Option State) (front back : List Thread)
-        → attempt.now.base ≤ low → low ≤ start.place → AllPast start.place front → AllPast start.place later.old
-        → SweepingIn attempt.now low kept deep goal table.old
+    ensures swept { IfOk result (λ end. (low kept deep : ℕ) (goal found : Option State)
+        (front back : List Thread)
+        → attempt.now.base ≤ low → low ≤ start.place → AllPast start.place front
+        → AllPast start.place later.old
+        → SweepingIn attempt.now low kept deep goal notes.old.table
         ((front ++ reverse later.old) ++ thread_of start threads.old.slots ∷ back) found
-        → SweptTo attempt.now low kept deep end goal table.new (front ++ reverse later.new) back threads.new.slots found) }
+        → SweptTo attempt.now low kept deep end goal notes.new.table (front ++ reverse later.new)
+        back threads.new.slots found) }
     ensures found { IfOk result (λ end. IfSome end (λ place. place ≡ start.place)) }
-    ensures past { IfOk result (λ _. AllPast start.place later.old → AllPast start.place later.new) }
-    ensures later { IfOk result (λ _. (low : ℕ) → low ≤ start.place → AllWithin low attempt.now.last later.old
+    ensures past { IfOk result (λ _. AllPast start.place later.old
+        → AllPast start.place later.new) }
+    ensures later { IfOk result (λ _. (low : ℕ) → low ≤ start.place
+        → AllWithin low attempt.now.last later.old
         → AllWithin low attempt.now.last later.new) }
-    ensures room { length table.new ≡ length table.old }
-    ensures spent { IfOk result (λ _. steps_of work.new + burden attempt.now.code.now later.new + owed_in attempt.now table.new
+    ensures spent { IfOk result (λ _. steps_of work.new + burden attempt.now.code.now later.new
+        + owed_in attempt.now notes.new.table
         ≤ steps_of work.old + burden attempt.now.code.now later.old
-        + (due_of attempt.now.code.now start.at + owed_in attempt.now table.old)) }
-    ensures bounded { steps_of work.new
-        ≤ steps_of work.old + (due_of attempt.now.code.now start.at + owed_in attempt.now table.old) }
-    ensures steps { steps_of work.old ≤ steps_of work.new }
-    ensures returns { returns_of work.old ≤ returns_of work.new }
-    ensures paired { returns_of work.new - returns_of work.old ≤ steps_of work.new - steps_of work.old }
-    ensures last_lines { KnowsLastLines attempt.now.haystack.now last_lines.new }
-    ensures heeds { RunsWithin attempt.now.step_limit work.old work.new }
-    ensures limited { result ≡ Err RunnerRefusal.Steps → IsSpent attempt.now.step_limit work.new }
+        + (due_of attempt.now.code.now start.at + owed_in attempt.now notes.old.table)) }
+    ensures ran { Ran attempt.now (due_of attempt.now.code.now start.at) result
+        notes.old notes.new work.old work.new }
 {
     let mut pair = start;
     'pairs: loop {
-        match visit_here(attempt, &mut pair, threads, later, table, last_lines, work)? {
+        match visit_here(attempt, &mut pair, threads, later, notes, work)? {
             Next::On => {}
             Next::Dead => match threads.back(attempt.code, work) {
                 Some(branch) => pair = branch,
@@ -180,7 +172,8 @@ impl Sweep {
     /// Begins with the threads of a search, of which the one that is followed stands at a pair. The oldest was taken out.
     fn new(code: &Code, threads: &mut Threads, pair: Pair) -> Sweep
         ensures backlog { backlog_in code.now result
-            ≡ with_way (Some pair) (held_of (instrs_of code.now) threads.old).slots (held_of (instrs_of code.now) threads.old).saved }
+            ≡ with_way (Some pair) (held_of (instrs_of code.now) threads.old).slots
+            (held_of (instrs_of code.now) threads.old).saved }
         ensures drained { IsDrained code.now result }
         ensures row { result.row ≡ [] }
         ensures later { result.later ≡ [] }
@@ -202,13 +195,17 @@ impl Sweep {
 
     /// Takes the oldest thread out of the backlog into the row, if it stands at the place.
     fn gather_one(&mut self, code: &Code, place: usize) -> Result<bool, AllocError>
-        ensures same { IfOk result (λ any. left_in_sweep code.now self.new ≡ left_in_sweep code.now self.old) }
+        ensures same { IfOk result (λ any. left_in_sweep code.now self.new
+            ≡ left_in_sweep code.now self.old) }
         ensures less { IfOk result (λ any. any ≡ true
             → length (backlog_in code.now self.new) + 1 ≡ length (backlog_in code.now self.old)) }
-        ensures rising { IfOk result (λ any. AreRising (backlog_in code.now self.old) → AreRising (backlog_in code.now self.new)) }
-        ensures past { IfOk result (λ any. any ≡ false → AreRising (backlog_in code.now self.old) → IsDrained code.now self.old
+        ensures rising { IfOk result (λ any. AreRising (backlog_in code.now self.old)
+            → AreRising (backlog_in code.now self.new)) }
+        ensures past { IfOk result (λ any. any ≡ false → AreRising (backlog_in code.now self.old)
+            → IsDrained code.now self.old
             → AllPast place (backlog_in code.now self.new)) }
-        ensures drained { IfOk result (λ any. IsDrained code.now self.old → IsDrained code.now self.new) }
+        ensures drained { IfOk result (λ any. IsDrained code.now self.old
+            → IsDrained code.now self.new) }
         ensures kept { KeepsFound self.old self.new }
     {
         let Some(pair) = self.waiting else {
@@ -226,7 +223,8 @@ impl Sweep {
     fn gather(&mut self, code: &Code, place: usize) -> Result<(), AllocError>
         requires drained { IsDrained code.now self.old }
         requires rising { AreRising (backlog_in code.now self.old) }
-        ensures same { IfOk result (λ _. left_in_sweep code.now self.new ≡ left_in_sweep code.now self.old) }
+        ensures same { IfOk result (λ _. left_in_sweep code.now self.new
+            ≡ left_in_sweep code.now self.old) }
         ensures rising { IfOk result (λ _. AreRising (backlog_in code.now self.new)) }
         ensures past { IfOk result (λ _. AllPast place (backlog_in code.now self.new)) }
         ensures drained { IfOk result (λ _. IsDrained code.now self.new) }
@@ -238,7 +236,8 @@ impl Sweep {
 
     /// Whether no thread is left.
     fn is_over(&self) -> bool
-        ensures over { result ≡ true → (code : Code) → IsDrained code self.now → left_in_sweep code self.now ≡ [] }
+        ensures over { result ≡ true → (code : Code) → IsDrained code self.now
+            → left_in_sweep code self.now ≡ [] }
         ensures open { result ≡ false → (code : Code) → left_in_sweep code self.now ≢ [] }
     {
         match self.waiting {
@@ -264,43 +263,36 @@ fn follow_one(
     place: usize,
     pair: Pair,
     sweep: &mut Sweep,
-    table: &mut Table,
-    last_lines: &mut LastLines,
+    notes: &mut Notes,
     work: &mut Work,
 ) -> Result<(), RunnerRefusal>
-    requires inside { attempt.now.last ≤ length attempt.now.haystack.now }
-    requires easy { AreEasy (instrs_in attempt.now) }
-    requires low { attempt.now.base ≤ place }
+    requires ready { IsReadyFrom attempt.now place notes.old }
     requires from { place ≤ pair.place }
     requires high { pair.place ≤ attempt.now.last }
     requires fresh { AreFresh sweep.old.threads }
-    requires room { bits_in attempt.now ≤ length table.old }
-    requires small { length table.old < 2 ^ 64 }
-    requires last_lines { KnowsLastLines attempt.now.haystack.now last_lines.old }
-    ensures swept { IfOk result (λ _. (low kept deep : ℕ) (goal : Option State) (front : List Thread)
+    ensures swept { IfOk result (λ _. (low kept deep : ℕ) (goal : Option State)
+        (front : List Thread)
         → attempt.now.base ≤ low → low ≤ place → AllPast place front → AllPast place sweep.old.later
-        → SweepingIn attempt.now low kept deep goal table.old
-        ((front ++ reverse sweep.old.later) ++ thread_of pair sweep.old.threads.slots ∷ sweep.old.row) (found_in kept sweep.old)
-        → SweepingIn attempt.now low kept deep goal table.new
+        → SweepingIn attempt.now low kept deep goal notes.old.table
+        ((front ++ reverse sweep.old.later) ++ thread_of pair sweep.old.threads.slots
+        ∷ sweep.old.row) (found_in kept sweep.old)
+        → SweepingIn attempt.now low kept deep goal notes.new.table
         ((front ++ reverse sweep.new.later) ++ sweep.new.row) (found_in kept sweep.new)) }
     ensures row { IfOk result (λ _. (sweep.new.row ≡ sweep.old.row) ⊎ (sweep.new.row ≡ [])) }
-    ensures past { IfOk result (λ _. AllPast place sweep.old.later → AllPast place sweep.new.later) }
-    ensures later { IfOk result (λ _. (low : ℕ) → low ≤ place → AllWithin low attempt.now.last sweep.old.later
+    ensures past { IfOk result (λ _. AllPast place sweep.old.later
+        → AllPast place sweep.new.later) }
+    ensures later { IfOk result (λ _. (low : ℕ) → low ≤ place
+        → AllWithin low attempt.now.last sweep.old.later
         → AllWithin low attempt.now.last sweep.new.later) }
-    ensures found { IfOk result (λ _. (sweep.new.found ≡ sweep.old.found) ⊎ (sweep.new.found ≡ Some place)) }
+    ensures found { IfOk result (λ _. (sweep.new.found ≡ sweep.old.found)
+        ⊎ (sweep.new.found ≡ Some place)) }
     ensures kept { KeepsBacklog sweep.old sweep.new }
-    ensures room { length table.new ≡ length table.old }
-    ensures spent { IfOk result (λ _. steps_of work.new + due_in_rows attempt.now.code.now sweep.new + owed_in attempt.now table.new
+    ensures spent { IfOk result (λ _. steps_of work.new + due_in_rows attempt.now.code.now sweep.new
+        + owed_in attempt.now notes.new.table
         ≤ steps_of work.old + due_in_rows attempt.now.code.now sweep.old
-        + (due_of attempt.now.code.now pair.at + owed_in attempt.now table.old)) }
-    ensures bounded { steps_of work.new
-        ≤ steps_of work.old + (due_of attempt.now.code.now pair.at + owed_in attempt.now table.old) }
-    ensures steps { steps_of work.old ≤ steps_of work.new }
-    ensures returns { returns_of work.old ≤ returns_of work.new }
-    ensures paired { returns_of work.new - returns_of work.old ≤ steps_of work.new - steps_of work.old }
-    ensures last_lines { KnowsLastLines attempt.now.haystack.now last_lines.new }
-    ensures heeds { RunsWithin attempt.now.step_limit work.old work.new }
-    ensures limited { result ≡ Err RunnerRefusal.Steps → IsSpent attempt.now.step_limit work.new }
+        + (due_of attempt.now.code.now pair.at + owed_in attempt.now notes.old.table)) }
+    ensures ran { Ran attempt.now (due_of attempt.now.code.now pair.at) result
+        notes.old notes.new work.old work.new }
 {
     if pair.place > place {
         sweep
@@ -313,8 +305,7 @@ fn follow_one(
         pair,
         &mut sweep.threads,
         &mut sweep.later,
-        table,
-        last_lines,
+        notes,
         work,
     )? {
         None => Ok(()),
@@ -332,40 +323,33 @@ fn follow_row(
     attempt: &Attempt,
     place: usize,
     sweep: &mut Sweep,
-    table: &mut Table,
-    last_lines: &mut LastLines,
+    notes: &mut Notes,
     work: &mut Work,
 ) -> Result<(), RunnerRefusal>
-    requires inside { attempt.now.last ≤ length attempt.now.haystack.now }
-    requires easy { AreEasy (instrs_in attempt.now) }
-    requires low { attempt.now.base ≤ place }
+    requires ready { IsReadyFrom attempt.now place notes.old }
     requires row { AllWithin place attempt.now.last sweep.old.row }
     requires empty { sweep.old.later ≡ [] }
-    requires room { bits_in attempt.now ≤ length table.old }
-    requires small { length table.old < 2 ^ 64 }
-    requires last_lines { KnowsLastLines attempt.now.haystack.now last_lines.old }
-    ensures swept { IfOk result (λ _. (low kept deep : ℕ) (goal : Option State) (front : List Thread)
+    ensures swept { IfOk result (λ _. (low kept deep : ℕ) (goal : Option State)
+        (front : List Thread)
         → attempt.now.base ≤ low → low ≤ place → AllPast place front
-        → SweepingIn attempt.now low kept deep goal table.old (front ++ sweep.old.row) (found_in kept sweep.old)
-        → SweepingIn attempt.now low kept deep goal table.new (front ++ sweep.new.row) (found_in kept sweep.new)) }
+        → SweepingIn attempt.now low kept deep goal notes.old.table (front ++ sweep.old.row)
+        (found_in kept sweep.old)
+        → SweepingIn attempt.now low kept deep goal notes.new.table (front ++ sweep.new.row)
+        (found_in kept sweep.new)) }
     ensures row { IfOk result (λ _. AllWithin (place + 1) attempt.now.last sweep.new.row) }
     ensures empty { IfOk result (λ _. sweep.new.later ≡ []) }
-    ensures found { IfOk result (λ _. (sweep.new.found ≡ sweep.old.found) ⊎ (sweep.new.found ≡ Some place)) }
+    ensures found { IfOk result (λ _. (sweep.new.found ≡ sweep.old.found)
+        ⊎ (sweep.new.found ≡ Some place)) }
     ensures kept { KeepsBacklog sweep.old sweep.new }
-    ensures room { length table.new ≡ length table.old }
-    ensures spent { IfOk result (λ _. steps_of work.new + (burden attempt.now.code.now sweep.new.row + owed_in attempt.now table.new)
-        ≤ steps_of work.old + (burden attempt.now.code.now sweep.old.row + owed_in attempt.now table.old)) }
-    ensures bounded { steps_of work.new
-        ≤ steps_of work.old + (burden attempt.now.code.now sweep.old.row + owed_in attempt.now table.old) }
-    ensures steps { steps_of work.old ≤ steps_of work.new }
-    ensures returns { returns_of work.old ≤ returns_of work.new }
-    ensures paired { returns_of work.new - returns_of work.old ≤ steps_of work.new - steps_of work.old }
-    ensures last_lines { KnowsLastLines attempt.now.haystack.now last_lines.new }
-    ensures heeds { RunsWithin attempt.now.step_limit work.old work.new }
-    ensures limited { result ≡ Err RunnerRefusal.Steps → IsSpent attempt.now.step_limit work.new }
+    ensures spent { IfOk result (λ _. steps_of work.new
+        + (burden attempt.now.code.now sweep.new.row + owed_in attempt.now notes.new.table)
+        ≤ steps_of work.old + (burden attempt.now.code.now sweep.old.row
+        + owed_in attempt.now notes.old.table)) }
+    ensures ran { Ran attempt.now (burden attempt.now.code.now sweep.old.row) result
+        notes.old notes.new work.old work.new }
 {
     'threads: while let Some(pair) = sweep.row.pop(&mut sweep.threads)? {
-        follow_one(attempt, place, pair, sweep, table, last_lines, work)?;
+        follow_one(attempt, place, pair, sweep, notes, work)?;
     }
     sweep.later.pass_all(&mut sweep.row)?;
     Ok(())
@@ -376,42 +360,30 @@ fn follow_place(
     attempt: &Attempt,
     place: usize,
     sweep: &mut Sweep,
-    table: &mut Table,
-    last_lines: &mut LastLines,
+    notes: &mut Notes,
     work: &mut Work,
 ) -> Result<(), RunnerRefusal>
-    requires inside { attempt.now.last ≤ length attempt.now.haystack.now }
-    requires easy { AreEasy (instrs_in attempt.now) }
-    requires low { attempt.now.base ≤ place }
-    requires within { AllWithin place attempt.now.last (left_in_sweep attempt.now.code.now sweep.old) }
-    requires rising { AreRising (backlog_in attempt.now.code.now sweep.old) }
-    requires drained { IsDrained attempt.now.code.now sweep.old }
-    requires empty { sweep.old.later ≡ [] }
-    requires room { bits_in attempt.now ≤ length table.old }
-    requires small { length table.old < 2 ^ 64 }
-    requires last_lines { KnowsLastLines attempt.now.haystack.now last_lines.old }
-    ensures swept { IfOk result (λ _. (low kept deep : ℕ) (goal : Option State) → attempt.now.base ≤ low → low ≤ place
-        → SweepingIn attempt.now low kept deep goal table.old (left_in_sweep attempt.now.code.now sweep.old) (found_in kept sweep.old)
-        → SweepingIn attempt.now low kept deep goal table.new (left_in_sweep attempt.now.code.now sweep.new) (found_in kept sweep.new)) }
-    ensures within { IfOk result (λ _. AllWithin (place + 1) attempt.now.last (left_in_sweep attempt.now.code.now sweep.new)) }
-    ensures rising { IfOk result (λ _. AreRising (backlog_in attempt.now.code.now sweep.new)) }
-    ensures drained { IfOk result (λ _. IsDrained attempt.now.code.now sweep.new) }
-    ensures empty { IfOk result (λ _. sweep.new.later ≡ []) }
-    ensures found { IfOk result (λ _. (sweep.new.found ≡ sweep.old.found) ⊎ (sweep.new.found ≡ Some place)) }
-    ensures room { length table.new ≡ length table.old }
-    ensures spent { IfOk result (λ _. steps_of work.new + ahead_in attempt.now table.new (left_in_sweep attempt.now.code.now sweep.new)
-        ≤ steps_of work.old + ahead_in attempt.now table.old (left_in_sweep attempt.now.code.now sweep.old)) }
-    ensures bounded { steps_of work.new
-        ≤ steps_of work.old + ahead_in attempt.now table.old (left_in_sweep attempt.now.code.now sweep.old) }
-    ensures steps { steps_of work.old ≤ steps_of work.new }
-    ensures returns { returns_of work.old ≤ returns_of work.new }
-    ensures paired { returns_of work.new - returns_of work.old ≤ steps_of work.new - steps_of work.old }
-    ensures last_lines { KnowsLastLines attempt.now.haystack.now last_lines.new }
-    ensures heeds { RunsWithin attempt.now.step_limit work.old work.new }
-    ensures limited { result ≡ Err RunnerRefusal.Steps → IsSpent attempt.now.step_limit work.new }
+    requires ready { IsReadyFrom attempt.now place notes.old }
+    requires waits { WaitsFrom attempt.now place sweep.old }
+    ensures swept { IfOk result (λ _. (low kept deep : ℕ) (goal : Option State)
+        → attempt.now.base ≤ low → low ≤ place
+        → SweepingIn attempt.now low kept deep goal notes.old.table
+        (left_in_sweep attempt.now.code.now sweep.old) (found_in kept sweep.old)
+        → SweepingIn attempt.now low kept deep goal notes.new.table
+        (left_in_sweep attempt.now.code.now sweep.new) (found_in kept sweep.new)) }
+    ensures waits { IfOk result (λ _. WaitsFrom attempt.now (place + 1) sweep.new) }
+    ensures found { IfOk result (λ _. (sweep.new.found ≡ sweep.old.found)
+        ⊎ (sweep.new.found ≡ Some place)) }
+    ensures spent { IfOk result (λ _. steps_of work.new
+        + ahead_in attempt.now notes.new.table (left_in_sweep attempt.now.code.now sweep.new)
+        ≤ steps_of work.old + ahead_in attempt.now notes.old.table
+        (left_in_sweep attempt.now.code.now sweep.old)) }
+    ensures ran { Ran attempt.now (burden attempt.now.code.now
+        (left_in_sweep attempt.now.code.now sweep.old)) result
+        notes.old notes.new work.old work.new }
 {
     sweep.gather(attempt.code, place)?;
-    follow_row(attempt, place, sweep, table, last_lines, work)?;
+    follow_row(attempt, place, sweep, notes, work)?;
     Ok(())
 }
 
@@ -422,43 +394,29 @@ pub(crate) fn follow_by_place(
     attempt: &Attempt,
     pair: Pair,
     threads: &mut Threads,
-    table: &mut Table,
-    last_lines: &mut LastLines,
+    notes: &mut Notes,
     work: &mut Work,
 ) -> Result<Option<usize>, RunnerRefusal>
-    requires inside { attempt.now.last ≤ length attempt.now.haystack.now }
-    requires easy { AreEasy (instrs_in attempt.now) }
-    requires within { AllWithin attempt.now.base attempt.now.last (threads_in attempt.now pair threads.old) }
+    requires ready { IsReadyFor attempt.now (threads_in attempt.now pair threads.old) notes.old }
     requires rising { AreRising (threads_in attempt.now pair threads.old) }
-    requires room { bits_in attempt.now ≤ length table.old }
-    requires small { length table.old < 2 ^ 64 }
-    requires last_lines { KnowsLastLines attempt.now.haystack.now last_lines.old }
-    ensures answer { IfOk result (λ end. (low kept deep : ℕ) (goal : Option State) → attempt.now.base ≤ low
+    ensures answer { IfOk result (λ end. (low kept deep : ℕ) (goal : Option State)
+        → attempt.now.base ≤ low
         → AllWithin low attempt.now.last (threads_in attempt.now pair threads.old)
-        → RunningIn attempt.now low kept deep goal table.old (stack_in attempt.now pair threads.old)
+        → RunningIn attempt.now low kept deep goal notes.old.table
+        (stack_in attempt.now pair threads.old)
         → found_state kept end threads.new.slots ≡ goal) }
-    ensures failed { IfOk result (λ end. (low kept deep : ℕ) (goal : Option State) → attempt.now.base ≤ low
+    ensures left { IfOk result (λ end. (low kept deep : ℕ) (goal : Option State)
+        → attempt.now.base ≤ low
         → AllWithin low attempt.now.last (threads_in attempt.now pair threads.old)
-        → RunningIn attempt.now low kept deep goal table.old (stack_in attempt.now pair threads.old)
-        → end ≡ None → AllFailedIn attempt.now low deep table.new) }
-    ensures past { IfOk result (λ end. (stop : ℕ) → end ≡ Some stop → (low kept deep : ℕ) (goal : Option State) → attempt.now.base ≤ low
+        → RunningIn attempt.now low kept deep goal notes.old.table
+        (stack_in attempt.now pair threads.old)
+        → FailedTo attempt.now low deep end notes.new.table) }
+    ensures ends { IfOk result (λ end. (low : ℕ)
         → AllWithin low attempt.now.last (threads_in attempt.now pair threads.old)
-        → RunningIn attempt.now low kept deep goal table.old (stack_in attempt.now pair threads.old)
-        → FailedPastIn attempt.now low deep stop table.new) }
-    ensures forth { IfOk result (λ end. (stop : ℕ) → end ≡ Some stop → (low : ℕ)
-        → AllWithin low attempt.now.last (threads_in attempt.now pair threads.old) → low ≤ stop) }
-    ensures within { IfOk result (λ end. (stop : ℕ) → end ≡ Some stop → stop ≤ attempt.now.last) }
-    ensures room { length table.new ≡ length table.old }
-    ensures spent { IfOk result (λ _. steps_of work.new + owed_in attempt.now table.new
-        ≤ steps_of work.old + ahead_in attempt.now table.old (threads_in attempt.now pair threads.old)) }
-    ensures bounded { steps_of work.new
-        ≤ steps_of work.old + ahead_in attempt.now table.old (threads_in attempt.now pair threads.old) }
-    ensures steps { steps_of work.old ≤ steps_of work.new }
-    ensures returns { returns_of work.old ≤ returns_of work.new }
-    ensures paired { returns_of work.new - returns_of work.old ≤ steps_of work.new - steps_of work.old }
-    ensures last_lines { KnowsLastLines attempt.now.haystack.now last_lines.new }
-    ensures heeds { RunsWithin attempt.now.step_limit work.old work.new }
-    ensures limited { result ≡ Err RunnerRefusal.Steps → IsSpent attempt.now.step_limit work.new }
+        → EndsIn attempt.now low end) }
+    ensures ran { Ran attempt.now (burden attempt.now.code.now
+        (threads_in attempt.now pair threads.old)) result
+        notes.old notes.new work.old work.new }
 {
     let mut sweep = Sweep::new(attempt.code, threads, pair);
     let Some(first) = sweep.waiting else {
@@ -469,8 +427,8 @@ pub(crate) fn follow_by_place(
         if sweep.is_over() {
             return Ok(sweep.finish(threads));
         }
-        follow_place(attempt, place, &mut sweep, table, last_lines, work)?;
+        follow_place(attempt, place, &mut sweep, notes, work)?;
     }
-    follow_place(attempt, last, &mut sweep, table, last_lines, work)?;
+    follow_place(attempt, last, &mut sweep, notes, work)?;
     Ok(sweep.finish(threads))
 }

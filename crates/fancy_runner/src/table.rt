@@ -65,7 +65,8 @@ impl Model for Table {
 
     ghost view = { λ t. bits_of (with_gone t.gone t.words.items) t.pairs };
 
-    ghost invariant = { λ t. (t.pairs ≤ 64 * vec_capacity t.words) × (t.gone + vec_len t.words ≤ vec_capacity t.words) };
+    ghost invariant = { λ t. (t.pairs ≤ 64 * vec_capacity t.words)
+        × (t.gone + vec_len t.words ≤ vec_capacity t.words) };
 }
 
 impl Table {

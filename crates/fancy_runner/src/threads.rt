@@ -59,7 +59,8 @@ fn end_group(slots: &mut Vec<Slot>, group: usize, place: usize)
 
 /// Writes the slot of the group that begins or ends at a pair, if one does.
 pub(crate) fn write_group(slots: &mut Vec<Slot>, code: &Code, pair: Pair)
-    ensures { slots.new.items ≡ slots_past (instr_at (instrs_of code.now) pair.at) pair.place slots.old.items }
+    ensures { slots.new.items ≡ slots_past (instr_at
+        (instrs_of code.now) pair.at) pair.place slots.old.items }
 {
     if pair.at >= code.len() {
         return;
@@ -73,7 +74,8 @@ pub(crate) fn write_group(slots: &mut Vec<Slot>, code: &Code, pair: Pair)
 
 /// Writes the slots of the groups that begin and end at pairs, the first pair first.
 fn write_groups(slots: &mut Vec<Slot>, code: &Code, pairs: &[Pair])
-    ensures { slots.new.items ≡ slots_after (instrs_of code.now) (reverse pairs.now) slots.old.items }
+    ensures { slots.new.items ≡ slots_after (instrs_of code.now)
+        (reverse pairs.now) slots.old.items }
 {
     'pairs: for n in 0..pairs.len() {
         write_group(slots, code, pairs[n]);
@@ -98,7 +100,8 @@ pub(crate) fn way_from(code: &Code, pair: Pair) -> Option<Pair>
 
 /// Takes pairs away, the last one first, up to a choice, and returns the other way from there.
 fn take_way(code: &Code, passed: &mut Vec<Pair>) -> Option<Pair>
-    ensures { TookWay (instrs_of code.now) result (reverse passed.old.items) (reverse passed.new.items) }
+    ensures { TookWay (instrs_of code.now) result (reverse passed.old.items)
+        (reverse passed.new.items) }
 {
     'passed: while let Some(pair) = passed.pop() {
         if let Some(way) = way_from(code, pair) {
@@ -158,7 +161,8 @@ impl Model for Threads {
       passed = reverse w.passed.items;
     } };
 
-    ghost invariant = { λ w. w.written ≡ false → w.slots.items ≡ replicate (length w.slots.items) empty_slot };
+    ghost invariant = { λ w. w.written ≡ false
+        → w.slots.items ≡ replicate (length w.slots.items) empty_slot };
 }
 
 impl Threads {
@@ -198,7 +202,8 @@ impl Threads {
         group: Option<usize>,
         place: usize,
     ) -> Result<(), AllocError>
-        ensures slots { OnOk result (self.new.slots ≡ with_group group place (replicate count empty_slot)) }
+        ensures slots { OnOk result (self.new.slots
+            ≡ with_group group place (replicate count empty_slot)) }
         ensures fresh { OnOk result (AreFresh self.new) }
     {
         self.begin(count)?;
@@ -338,7 +343,8 @@ impl Threads {
 
     /// Copies the slots of the thread that is followed.
     pub(crate) fn copy_slots(&self, code: &Code, out: &mut Vec<Slot>) -> Result<(), AllocError>
-        ensures { OnOk result (out.new.items ≡ slots_after (instrs_of code.now) self.now.passed self.now.slots) }
+        ensures { OnOk result (out.new.items ≡ slots_after
+            (instrs_of code.now) self.now.passed self.now.slots) }
     {
         out.clear();
         out.extend_from_slice(&self.slots)?;

@@ -692,7 +692,8 @@ impl Program {
         cache.served = Engine::Runner;
         let runner = &mut cache.runner;
         let options = self.options.for_search();
-        match runner::search(&self.code, haystack, request, options, kept, runner, work) {
+        let wanted = runner::Wanted { request, options };
+        match runner::search(&self.code, haystack, wanted, kept, runner, work) {
             Ok(found) => Ok(found),
             Err(refusal) => Err(error_of(refusal)),
         }

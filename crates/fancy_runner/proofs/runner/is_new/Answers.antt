@@ -18,11 +18,11 @@ returns-clause-left c new =
     let row : ℕ = c.args.pair.place - c.args.attempt.now.base in
     let rows : ℕ = c.args.attempt.now.last - c.args.attempt.now.base + 1 in
     let has : number_of c.args.attempt.now.code.now c.args.pair.at ≡ Some c.in-Some.number = sym c.mark_number.ensures ∙ c.in-Some.is in
-    let row_in : row < rows = omega (arith, c.requires.low, c.requires.high) in
+    let row_in : row < rows = omega (arith, c.requires.row.low, c.requires.row.high) in
     rw (c.mark.ensures.after, c.marks.ensures)
     (let less = left_less marking.numbers.items marking.weights.items marking.width c.args.table.now c.args.pair.at c.in-Some.number row has
     (code_len c.args.attempt.now.code.now) rows c.requires.here row_in
-    (bit_inside row rows c.in-Some.number marking.width _ row_in (marking.numbered.below _ _ has) c.requires.room)
+    (bit_inside row rows c.in-Some.number marking.width _ row_in (marking.numbered.below _ _ has) c.requires.row.room)
     (not-true _ (rw (c.marks.ensures) at (sym c.mark.ensures.new ∙ new))) in
     omega (arith, less))
 
@@ -32,5 +32,5 @@ mark-requires c =
     let row : ℕ = c.args.pair.place - c.args.attempt.now.base in
     let rows : ℕ = c.args.attempt.now.last - c.args.attempt.now.base + 1 in
     let has : number_of c.args.attempt.now.code.now c.args.pair.at ≡ Some c.in-Some.number = sym c.mark_number.ensures ∙ c.in-Some.is in
-    let row_in : row < rows = omega (arith, c.requires.low, c.requires.high) in
-    rw c.marks.ensures (bit_inside row rows c.in-Some.number marking.width _ row_in (marking.numbered.below _ _ has) c.requires.room)
+    let row_in : row < rows = omega (arith, c.requires.row.low, c.requires.row.high) in
+    rw c.marks.ensures (bit_inside row rows c.in-Some.number marking.width _ row_in (marking.numbered.below _ _ has) c.requires.row.room)

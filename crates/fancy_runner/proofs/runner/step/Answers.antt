@@ -42,7 +42,7 @@ returns-in-RawByte-clause-stepped c kept deep known =
 
 pub returns-in-Assert-clause-stepped : goal.returns-in-Assert-clause-stepped
 returns-in-Assert-clause-stepped c kept deep known =
-    tested (context_in c.args.attempt.now) c.args.attempt.now.last (instrs_in c.args.attempt.now) deep kept (current_in c.args.attempt.now c.args.pair.now c.args.threads.now) known c.pass_test.result _ c.in-Assert.assertion c.in-Assert.next c.pass_test.new.pair (saved_in c.args.attempt.now c.args.threads.now)
+    tested (context_in c.args.attempt.now) c.args.attempt.now.last (instrs_in c.args.attempt.now) deep kept (current_in c.args.attempt.now c.args.pair.now c.args.threads.now) known c.pass_test.result _ c.in-Assert.test c.in-Assert.next c.pass_test.new.pair (saved_in c.args.attempt.now c.args.threads.now)
     (sym c.fetch.ensures.instr ∙ ap (instr_in c.args.attempt.now.code.now) c.in-Assert.is) refl c.pass_test.ensures.tested
 
 pub returns-in_ok-save-in-Both-clause-stepped : goal.returns-in_ok-save-in-Both-clause-stepped

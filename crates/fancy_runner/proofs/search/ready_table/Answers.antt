@@ -9,7 +9,7 @@ use Rattle.fancy_runner.proofs.search.ready_table.Goals as goal
 pub returns-in_default-clause-failed : goal.returns-in_default-clause-failed
 returns-in_default-clause-failed c deep failed q i seen hit =
     let marking = c.args.attempt.now.code.now.marking in
-    marks_none marking.numbers.items marking.weights.items marking.width c.begin_table.new.table (unmarked_table c.begin_table.new.table _ c.in_ok-begin_table.ensures.clear) q (i - c.args.attempt.now.base) seen.1
+    marks_none marking.numbers.items marking.weights.items marking.width c.reset.new.self (unmarked_table c.reset.new.self _ c.in_ok-reset.ensures) q (i - c.args.attempt.now.base) seen.1
 
 pub returns-then-first-kept-clause-failed : goal.returns-then-first-kept-clause-failed
 returns-then-first-kept-clause-failed c deep failed q i seen hit =

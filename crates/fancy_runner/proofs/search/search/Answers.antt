@@ -7,35 +7,37 @@ use Rattle.fancy_code.specs.Code.{instrs_of, due_of, owed_of}
 use Rattle.fancy_code.specs.Queries.{query_of, unfiltered}
 use Rattle.fancy_code.specs.Reading.{search_context}
 use Rattle.fancy_code.specs.Search.{answer_from, is_match_boundary}
-use Rattle.fancy_code.specs.Work.{steps_of, returns_of}
+use Rattle.fancy_code.specs.Work.{steps_of}
 use Rattle.fancy_code.specs.Compile.{depth}
 use Rattle.fancy_runner.specs.KeptTable.{table_in, marks_from, base_of, steps_ahead}
 use Rattle.fancy_code.proofs.MarkingLemmas.{later_starts}
 use Rattle.fancy_runner.proofs.KeptTableLemmas.{failed_later, told_later, kept_begins, kept_reached, kept_room, kept_small, kept_last_lines, kept_failed, kept_after, ahead_ready, ahead_after, fewer_ahead, again_paid}
 use Rattle.fancy_code.proofs.PositionLemmas.{deep, attempt_known, attempt_answer, search_hit, search_miss, search_skip, search_over, positions_none, first_thread}
 use Rattle.fancy_code.proofs.PassedLemmas.{openings_passed}
-use Rattle.fancy_code.proofs.WorkLemmas.{runs_from_start, runs_on, runs_same}
+use Rattle.fancy_code.proofs.WorkLemmas.{runs_on}
+use Rattle.fancy_runner.proofs.RunLemmas.{worked_none, worked_now}
+use Rattle.fancy_runner.specs.declared.notes.Cache.{Cache}
 use Rattle.fancy_runner.proofs.LimitLemmas.{runs_heeded}
 use Rattle.fancy_runner.proofs.search.search.Goals as goal
-use Rattle.fancy_runner.proofs.search.search.Goals.{then-is_match_boundary+in_ok-end+in-None, else-is_match_boundary}
+use Rattle.fancy_runner.proofs.search.search.Goals.{then-is_match_boundary+in_ok-end+in_default, else-is_match_boundary}
 
 pub returns-then-first-request-clause-answer : goal.returns-then-first-request-clause-answer
 returns-then-first-request-clause-answer c p on is =
-    sym (search_over (query_of p c.args.code.now (unfiltered c.args.options) c.args.haystack.now c.args.request on) _ _ (positions_none c.args.request (omega (arith, c.effective_start-first.ensures))))
+    sym (search_over (query_of p c.args.code.now (unfiltered c.args.wanted.options) c.args.haystack.now c.args.wanted.request on) _ _ (positions_none c.args.wanted.request (omega (arith, c.effective_start-first.ensures))))
 
 pub returns-then-place-last-clause-answer : goal.returns-then-place-last-clause-answer
 returns-then-place-last-clause-answer c p on is =
-    sym (ap₂ (answer_from (query_of p c.args.code.now (unfiltered c.args.options) c.args.haystack.now c.args.request on)) (sym c.last_position-last.ensures.count ∙ ap (λ (n : ℕ). c.last_position-last.result + 1 - n) (sym c.effective_start-first.ensures)) (sym c.effective_start-first.ensures)
-    ∙ openings_passed (query_of p c.args.code.now (unfiltered c.args.options) c.args.haystack.now c.args.request on) c.args.code.now is refl c.requires.inside (λ k. omega (arith, c.type_inv.haystack k)) (c.last_position-last.result + 1 - c.effective_start-first.result) (0) c.effective_start-first.result c.next_opening-place.result c.next_opening-place.ensures.passed (omega (arith, c.next_opening-place.ensures.within, c.last_position-last.ensures.inside)) (omega (arith, c.next_opening-place.ensures.within, c.next_opening-place.ensures.passed)) c.next_opening-place.ensures.none
-    ∙ search_over (query_of p c.args.code.now (unfiltered c.args.options) c.args.haystack.now c.args.request on) 0 _ refl)
+    sym (ap₂ (answer_from (query_of p c.args.code.now (unfiltered c.args.wanted.options) c.args.haystack.now c.args.wanted.request on)) (sym c.last_position-last.ensures.count ∙ ap (λ (n : ℕ). c.last_position-last.result + 1 - n) (sym c.effective_start-first.ensures)) (sym c.effective_start-first.ensures)
+    ∙ openings_passed (query_of p c.args.code.now (unfiltered c.args.wanted.options) c.args.haystack.now c.args.wanted.request on) c.args.code.now is refl c.requires.inside (λ k. omega (arith, c.type_inv.haystack k)) (c.last_position-last.result + 1 - c.effective_start-first.result) (0) c.effective_start-first.result c.next_opening-place.result c.next_opening-place.ensures.passed (omega (arith, c.next_opening-place.ensures.within, c.last_position-last.ensures.inside)) (omega (arith, c.next_opening-place.ensures.within, c.next_opening-place.ensures.passed)) c.next_opening-place.ensures.none
+    ∙ search_over (query_of p c.args.code.now (unfiltered c.args.wanted.options) c.args.haystack.now c.args.wanted.request on) 0 _ refl)
 
 pub loop-place-init : goal.loop-place-init
 loop-place-init c =
-    let based : c.base-base.result ≤ c.effective_start-first.result = kept_begins c.args.code.now c.args.haystack.now c.args.request c.args.options c.effective_start-first.result c.base-base.result c.suppressed_ends.result c.effective_start-first.ensures c.suppressed_ends.ensures c.args.kept.now c.args.cache.now.notes c.requires.kept (c.base-base.ensures ∙ ap (λ (o : Option KeptTable). base_of o c.effective_start-first.result) c.take-before.ensures.value) in
+    let based : c.base-base.result ≤ c.effective_start-first.result = kept_begins c.args.code.now c.args.haystack.now c.args.wanted.request c.args.wanted.options c.effective_start-first.result c.base-base.result c.suppressed_ends.result c.effective_start-first.ensures c.suppressed_ends.ensures c.args.kept.now c.args.cache.now.notes c.requires.kept (c.base-base.ensures ∙ ap (λ (o : Option KeptTable). base_of o c.effective_start-first.result) c.take-before.ensures.value) in
     record {
       left = λ p on is.
-          ap₂ (answer_from (query_of p c.args.code.now (unfiltered c.args.options) c.args.haystack.now c.args.request on)) (sym c.last_position-last.ensures.count ∙ ap (λ (n : ℕ). c.last_position-last.result + 1 - n) (sym c.effective_start-first.ensures)) (sym c.effective_start-first.ensures)
-          ∙ openings_passed (query_of p c.args.code.now (unfiltered c.args.options) c.args.haystack.now c.args.request on) c.args.code.now is refl c.requires.inside (λ k. omega (arith, c.type_inv.haystack k)) (c.last_position-last.result + 1 - c.effective_start-first.result) (c.last_position-last.result + 1 - c.next_opening-place.result) c.effective_start-first.result c.next_opening-place.result c.next_opening-place.ensures.passed (omega (arith, c.next_opening-place.ensures.within, c.last_position-last.ensures.inside)) (omega (arith, c.next_opening-place.ensures.passed, c.next_opening-place.ensures.within)) c.next_opening-place.ensures.none;
+          ap₂ (answer_from (query_of p c.args.code.now (unfiltered c.args.wanted.options) c.args.haystack.now c.args.wanted.request on)) (sym c.last_position-last.ensures.count ∙ ap (λ (n : ℕ). c.last_position-last.result + 1 - n) (sym c.effective_start-first.ensures)) (sym c.effective_start-first.ensures)
+          ∙ openings_passed (query_of p c.args.code.now (unfiltered c.args.wanted.options) c.args.haystack.now c.args.wanted.request on) c.args.code.now is refl c.requires.inside (λ k. omega (arith, c.type_inv.haystack k)) (c.last_position-last.result + 1 - c.effective_start-first.result) (c.last_position-last.result + 1 - c.next_opening-place.result) c.effective_start-first.result c.next_opening-place.result c.next_opening-place.ensures.passed (omega (arith, c.next_opening-place.ensures.within, c.last_position-last.ensures.inside)) (omega (arith, c.next_opening-place.ensures.passed, c.next_opening-place.ensures.within)) c.next_opening-place.ensures.none;
       begins = omega (arith, c.next_opening-place.ensures.passed, based);
       passed = c.next_opening-place.ensures.passed;
       within = c.next_opening-place.ensures.within;
@@ -43,36 +45,32 @@ loop-place-init c =
       starts = λ le none. c.next_opening-place.ensures.some le (λ k low high. none k (omega (arith, low, c.effective_start-first.ensures)) (omega (arith, high, c.last_position-last.ensures.inside)));
       idle = λ none. refl;
       failed = λ p is.
-          failed_later (is_match_boundary c.args.options.on_boundaries c.args.haystack.now) (search_context c.args.haystack.now c.args.code.now.meaning c.suppressed_ends.result c.base-base.result) c.effective_start-first.result c.next_opening-place.result c.args.request.range_end (instrs_of c.args.code.now) (depth (length c.args.haystack.now) p + 1) (marks_from c.args.code.now c.base-base.result c.ready_table.new.table) c.next_opening-place.ensures.passed
-          (c.in_ok-ready_table.ensures.failed (depth (length c.args.haystack.now) p + 1) (rw c.take-before.ensures.value (kept_failed c.args.code.now c.args.haystack.now c.args.request c.args.options c.effective_start-first.result c.base-base.result c.suppressed_ends.result c.effective_start-first.ensures c.suppressed_ends.ensures c.args.kept.now c.args.cache.now.notes c.requires.kept (c.base-base.ensures ∙ ap (λ (o : Option KeptTable). base_of o c.effective_start-first.result) c.take-before.ensures.value) p is)));
+          failed_later (is_match_boundary c.args.wanted.options.on_boundaries c.args.haystack.now) (search_context c.args.haystack.now c.args.code.now.meaning c.suppressed_ends.result c.base-base.result) c.effective_start-first.result c.next_opening-place.result c.args.wanted.request.range_end (instrs_of c.args.code.now) (depth (length c.args.haystack.now) p + 1) (marks_from c.args.code.now c.base-base.result c.ready_table.new.table) c.next_opening-place.ensures.passed
+          (c.in_ok-ready_table.ensures.failed (depth (length c.args.haystack.now) p + 1) (rw c.take-before.ensures.value (kept_failed c.args.code.now c.args.haystack.now c.args.wanted.request c.args.wanted.options c.effective_start-first.result c.base-base.result c.suppressed_ends.result c.effective_start-first.ensures c.suppressed_ends.ensures c.args.kept.now c.args.cache.now.notes c.requires.kept (c.base-base.ensures ∙ ap (λ (o : Option KeptTable). base_of o c.effective_start-first.result) c.take-before.ensures.value) p is)));
       room = c.in_ok-ready_table.ensures.room;
       small = c.in_ok-ready_table.ensures.small;
-      steps = omega arith;
-      spent = omega (arith, ahead_ready c.args.code.now c.args.haystack.now c.args.request c.args.options c.effective_start-first.result c.base-base.result c.suppressed_ends.result c.effective_start-first.ensures c.suppressed_ends.ensures c.args.kept.now (table_in c.args.cache.now) c.ready_table.new.table (c.args.request.range_end + 1 - c.next_opening-place.result) (c.base-base.ensures ∙ ap (λ (o : Option KeptTable). base_of o c.effective_start-first.result) c.take-before.ensures.value) (omega (arith, c.if-first-request.false)) (omega (arith, c.next_opening-place.ensures.passed)) (rw c.take-before.ensures.value at c.in_ok-ready_table.ensures.left));
-      returns = omega arith;
-      paired = omega arith;
-      last_lines = c.ready_last_lines.ensures;
-      heeds = runs_from_start _ _;
+      spent = omega (arith, ahead_ready c.args.code.now c.args.haystack.now c.args.wanted.request c.args.wanted.options c.effective_start-first.result c.base-base.result c.suppressed_ends.result c.effective_start-first.ensures c.suppressed_ends.ensures c.args.kept.now (table_in c.args.cache.now) c.ready_table.new.table (c.args.wanted.request.range_end + 1 - c.next_opening-place.result) (c.base-base.ensures ∙ ap (λ (o : Option KeptTable). base_of o c.effective_start-first.result) c.take-before.ensures.value) (omega (arith, c.if-first-request.false)) (omega (arith, c.next_opening-place.ensures.passed)) (rw c.take-before.ensures.value at c.in_ok-ready_table.ensures.left));
+      worked = worked_none c.ready_last_lines.ensures;
     }
 
 pub returns-in-Some-clause-answer : goal.returns-in-Some-clause-answer
 returns-in-Some-clause-answer c p on is =
-    let known = attempt_known (query_of p c.args.code.now (unfiltered c.args.options) c.args.haystack.now c.args.request on) c.args.code.now is refl refl refl refl c.requires.inside (search_context c.args.haystack.now c.args.code.now.meaning c.suppressed_ends.result c.base-base.result) (Some c.base-base.result) (ap (λ (s : SuppressedEnds). search_context c.args.haystack.now c.args.code.now.meaning s c.base-base.result) c.suppressed_ends.ensures) c.requires.easy c.loop-place.place (first_thread c.args.code.now c.loop-place.place) refl (omega (arith, c.last_position-last.ensures.inside, c.loop-place-test.true)) in
-    let is_answer = attempt_answer (query_of p c.args.code.now (unfiltered c.args.options) c.args.haystack.now c.args.request on) c.args.code.now is refl refl refl refl c.requires.inside (search_context c.args.haystack.now c.args.code.now.meaning c.suppressed_ends.result c.base-base.result) (Some c.base-base.result) (ap (λ (s : SuppressedEnds). search_context c.args.haystack.now c.args.code.now.meaning s c.base-base.result) c.suppressed_ends.ensures) c.requires.easy c.loop-place.place (first_thread c.args.code.now c.loop-place.place) refl (omega (arith, c.last_position-last.ensures.inside, c.loop-place-test.true)) (sym c.is_match_boundary.ensures ∙ c.if-is_match_boundary.true) in
-    let found = rw c.in-Some.is at (c.in_ok-end.ensures.answer c.loop-place.place (deep (query_of p c.args.code.now (unfiltered c.args.options) c.args.haystack.now c.args.request on) c.args.code.now is refl refl refl refl c.requires.inside (search_context c.args.haystack.now c.args.code.now.meaning c.suppressed_ends.result c.base-base.result) (Some c.base-base.result) (ap (λ (s : SuppressedEnds). search_context c.args.haystack.now c.args.code.now.meaning s c.base-base.result) c.suppressed_ends.ensures)) (λ k. omega (arith, c.type_inv.haystack k)) is.branched) in
+    let known = attempt_known (query_of p c.args.code.now (unfiltered c.args.wanted.options) c.args.haystack.now c.args.wanted.request on) c.args.code.now is refl refl refl refl c.requires.inside (search_context c.args.haystack.now c.args.code.now.meaning c.suppressed_ends.result c.base-base.result) (Some c.base-base.result) (ap (λ (s : SuppressedEnds). search_context c.args.haystack.now c.args.code.now.meaning s c.base-base.result) c.suppressed_ends.ensures) c.requires.easy c.loop-place.place (first_thread c.args.code.now c.loop-place.place) refl (omega (arith, c.last_position-last.ensures.inside, c.loop-place-test.true)) in
+    let is_answer = attempt_answer (query_of p c.args.code.now (unfiltered c.args.wanted.options) c.args.haystack.now c.args.wanted.request on) c.args.code.now is refl refl refl refl c.requires.inside (search_context c.args.haystack.now c.args.code.now.meaning c.suppressed_ends.result c.base-base.result) (Some c.base-base.result) (ap (λ (s : SuppressedEnds). search_context c.args.haystack.now c.args.code.now.meaning s c.base-base.result) c.suppressed_ends.ensures) c.requires.easy c.loop-place.place (first_thread c.args.code.now c.loop-place.place) refl (omega (arith, c.last_position-last.ensures.inside, c.loop-place-test.true)) (sym c.is_match_boundary.ensures ∙ c.if-is_match_boundary.true) in
+    let found = rw c.in-Some.is at (c.in_ok-end.ensures.answer (λ k. omega (arith, c.type_inv.haystack k)) is.branched c.loop-place.place (deep (query_of p c.args.code.now (unfiltered c.args.wanted.options) c.args.haystack.now c.args.wanted.request on) c.args.code.now is refl refl refl refl c.requires.inside (search_context c.args.haystack.now c.args.code.now.meaning c.suppressed_ends.result c.base-base.result) (Some c.base-base.result) (ap (λ (s : SuppressedEnds). search_context c.args.haystack.now c.args.code.now.meaning s c.base-base.result) c.suppressed_ends.ensures))) in
     (sym (c.loop-place.invariant.left p on is
-    ∙ search_hit (query_of p c.args.code.now (unfiltered c.args.options) c.args.haystack.now c.args.request on) (c.last_position-last.result + 1 - c.loop-place.place) (c.last_position-last.result + 1 - (c.loop-place.place + 1)) c.loop-place.place (omega (arith, c.loop-place-test.true)) _ (sym is_answer ∙ sym (found known (c.loop-place.invariant.failed p is)))))
+    ∙ search_hit (query_of p c.args.code.now (unfiltered c.args.wanted.options) c.args.haystack.now c.args.wanted.request on) (c.last_position-last.result + 1 - c.loop-place.place) (c.last_position-last.result + 1 - (c.loop-place.place + 1)) c.loop-place.place (omega (arith, c.loop-place-test.true)) _ (sym is_answer ∙ sym (found known (c.loop-place.invariant.failed p is)))))
 
 pub loop-place-preserved : goal.loop-place-preserved
 loop-place-preserved c =
     elim c.if-is_match_boundary.branch [
-      | then-is_match_boundary+in_ok-end+in-None w ↦ record {
+      | then-is_match_boundary+in_ok-end+in_default w ↦ record {
         left = λ p on is.
-            (let is_answer = attempt_answer (query_of p c.args.code.now (unfiltered c.args.options) c.args.haystack.now c.args.request on) c.args.code.now is refl refl refl refl c.requires.inside (search_context c.args.haystack.now c.args.code.now.meaning c.suppressed_ends.result c.base-base.result) (Some c.base-base.result) (ap (λ (s : SuppressedEnds). search_context c.args.haystack.now c.args.code.now.meaning s c.base-base.result) c.suppressed_ends.ensures) c.requires.easy c.loop-place.place (first_thread c.args.code.now c.loop-place.place) refl (omega (arith, c.last_position-last.ensures.inside, c.loop-place-test.true)) (sym c.is_match_boundary.ensures ∙ w.if-is_match_boundary.true) in
-            let found = rw w.in-None.is at (w.in_ok-end.ensures.answer c.loop-place.place (deep (query_of p c.args.code.now (unfiltered c.args.options) c.args.haystack.now c.args.request on) c.args.code.now is refl refl refl refl c.requires.inside (search_context c.args.haystack.now c.args.code.now.meaning c.suppressed_ends.result c.base-base.result) (Some c.base-base.result) (ap (λ (s : SuppressedEnds). search_context c.args.haystack.now c.args.code.now.meaning s c.base-base.result) c.suppressed_ends.ensures)) (λ k. omega (arith, c.type_inv.haystack k)) is.branched) in
+            (let is_answer = attempt_answer (query_of p c.args.code.now (unfiltered c.args.wanted.options) c.args.haystack.now c.args.wanted.request on) c.args.code.now is refl refl refl refl c.requires.inside (search_context c.args.haystack.now c.args.code.now.meaning c.suppressed_ends.result c.base-base.result) (Some c.base-base.result) (ap (λ (s : SuppressedEnds). search_context c.args.haystack.now c.args.code.now.meaning s c.base-base.result) c.suppressed_ends.ensures) c.requires.easy c.loop-place.place (first_thread c.args.code.now c.loop-place.place) refl (omega (arith, c.last_position-last.ensures.inside, c.loop-place-test.true)) (sym c.is_match_boundary.ensures ∙ w.if-is_match_boundary.true) in
+            let found = rw w.in_default.is at (w.in_ok-end.ensures.answer (λ k. omega (arith, c.type_inv.haystack k)) is.branched c.loop-place.place (deep (query_of p c.args.code.now (unfiltered c.args.wanted.options) c.args.haystack.now c.args.wanted.request on) c.args.code.now is refl refl refl refl c.requires.inside (search_context c.args.haystack.now c.args.code.now.meaning c.suppressed_ends.result c.base-base.result) (Some c.base-base.result) (ap (λ (s : SuppressedEnds). search_context c.args.haystack.now c.args.code.now.meaning s c.base-base.result) c.suppressed_ends.ensures))) in
             c.loop-place.invariant.left p on is
-            ∙ search_miss (query_of p c.args.code.now (unfiltered c.args.options) c.args.haystack.now c.args.request on) (c.last_position-last.result + 1 - c.loop-place.place) (c.last_position-last.result + 1 - (c.loop-place.place + 1)) c.loop-place.place (omega (arith, c.loop-place-test.true)) (sym is_answer ∙ sym (found (attempt_known (query_of p c.args.code.now (unfiltered c.args.options) c.args.haystack.now c.args.request on) c.args.code.now is refl refl refl refl c.requires.inside (search_context c.args.haystack.now c.args.code.now.meaning c.suppressed_ends.result c.base-base.result) (Some c.base-base.result) (ap (λ (s : SuppressedEnds). search_context c.args.haystack.now c.args.code.now.meaning s c.base-base.result) c.suppressed_ends.ensures) c.requires.easy c.loop-place.place (first_thread c.args.code.now c.loop-place.place) refl (omega (arith, c.last_position-last.ensures.inside, c.loop-place-test.true))) (c.loop-place.invariant.failed p is)))
-            ∙ openings_passed (query_of p c.args.code.now (unfiltered c.args.options) c.args.haystack.now c.args.request on) c.args.code.now is refl c.requires.inside (λ k. omega (arith, c.type_inv.haystack k)) (c.last_position-last.result + 1 - (c.loop-place.place + 1)) (c.last_position-last.result + 1 - c.next_opening-place-in-loop-place.result) (c.loop-place.place + 1) c.next_opening-place-in-loop-place.result c.next_opening-place-in-loop-place.ensures.passed (omega (arith, c.next_opening-place-in-loop-place.ensures.within, c.last_position-last.ensures.inside)) (omega (arith, c.next_opening-place-in-loop-place.ensures.passed, c.next_opening-place-in-loop-place.ensures.within, c.loop-place-test.true)) c.next_opening-place-in-loop-place.ensures.none);
+            ∙ search_miss (query_of p c.args.code.now (unfiltered c.args.wanted.options) c.args.haystack.now c.args.wanted.request on) (c.last_position-last.result + 1 - c.loop-place.place) (c.last_position-last.result + 1 - (c.loop-place.place + 1)) c.loop-place.place (omega (arith, c.loop-place-test.true)) (sym is_answer ∙ sym (found (attempt_known (query_of p c.args.code.now (unfiltered c.args.wanted.options) c.args.haystack.now c.args.wanted.request on) c.args.code.now is refl refl refl refl c.requires.inside (search_context c.args.haystack.now c.args.code.now.meaning c.suppressed_ends.result c.base-base.result) (Some c.base-base.result) (ap (λ (s : SuppressedEnds). search_context c.args.haystack.now c.args.code.now.meaning s c.base-base.result) c.suppressed_ends.ensures) c.requires.easy c.loop-place.place (first_thread c.args.code.now c.loop-place.place) refl (omega (arith, c.last_position-last.ensures.inside, c.loop-place-test.true))) (c.loop-place.invariant.failed p is)))
+            ∙ openings_passed (query_of p c.args.code.now (unfiltered c.args.wanted.options) c.args.haystack.now c.args.wanted.request on) c.args.code.now is refl c.requires.inside (λ k. omega (arith, c.type_inv.haystack k)) (c.last_position-last.result + 1 - (c.loop-place.place + 1)) (c.last_position-last.result + 1 - c.next_opening-place-in-loop-place.result) (c.loop-place.place + 1) c.next_opening-place-in-loop-place.result c.next_opening-place-in-loop-place.ensures.passed (omega (arith, c.next_opening-place-in-loop-place.ensures.within, c.last_position-last.ensures.inside)) (omega (arith, c.next_opening-place-in-loop-place.ensures.passed, c.next_opening-place-in-loop-place.ensures.within, c.loop-place-test.true)) c.next_opening-place-in-loop-place.ensures.none);
         begins = omega (arith, c.loop-place.invariant.begins, c.next_opening-place-in-loop-place.ensures.passed);
         passed = omega (arith, c.loop-place.invariant.passed, c.next_opening-place-in-loop-place.ensures.passed);
         within = c.next_opening-place-in-loop-place.ensures.within;
@@ -80,24 +78,20 @@ loop-place-preserved c =
         starts = λ le none. c.loop-place.invariant.starts (omega (arith, c.loop-place-test.true)) none;
         idle = λ none. absurd (c.loop-place.invariant.starts (omega (arith, c.loop-place-test.true)) none);
         failed = λ p is.
-            rw w.table-is
-            (failed_later (is_match_boundary c.args.options.on_boundaries c.args.haystack.now) (search_context c.args.haystack.now c.args.code.now.meaning c.suppressed_ends.result c.base-base.result) c.loop-place.place c.next_opening-place-in-loop-place.result c.args.request.range_end (instrs_of c.args.code.now) (depth (length c.args.haystack.now) p + 1) (marks_from c.args.code.now c.base-base.result w.follow_start.new.table) (omega (arith, c.next_opening-place-in-loop-place.ensures.passed))
-            (w.in_ok-end.ensures.failed c.loop-place.place (deep (query_of p c.args.code.now (unfiltered c.args.options) c.args.haystack.now c.args.request true) c.args.code.now is refl refl refl refl c.requires.inside (search_context c.args.haystack.now c.args.code.now.meaning c.suppressed_ends.result c.base-base.result) (Some c.base-base.result) (ap (λ (s : SuppressedEnds). search_context c.args.haystack.now c.args.code.now.meaning s c.base-base.result) c.suppressed_ends.ensures)) is.branched (attempt_known (query_of p c.args.code.now (unfiltered c.args.options) c.args.haystack.now c.args.request true) c.args.code.now is refl refl refl refl c.requires.inside (search_context c.args.haystack.now c.args.code.now.meaning c.suppressed_ends.result c.base-base.result) (Some c.base-base.result) (ap (λ (s : SuppressedEnds). search_context c.args.haystack.now c.args.code.now.meaning s c.base-base.result) c.suppressed_ends.ensures) c.requires.easy c.loop-place.place (first_thread c.args.code.now c.loop-place.place) refl (omega (arith, c.last_position-last.ensures.inside, c.loop-place-test.true))) (c.loop-place.invariant.failed p is) w.in-None.is));
-        room = ap length w.table-is ∙ w.follow_start.ensures.room ∙ c.loop-place.invariant.room;
-        small = omega (arith, ap length w.table-is, w.follow_start.ensures.room, c.loop-place.invariant.small);
-        steps = omega (arith, ap steps_of w.work-is, w.follow_start.ensures.steps, c.loop-place.invariant.steps);
-        spent = (let fewer = later_starts (c.args.request.range_end + 1 - c.loop-place.place) (c.args.request.range_end + 1 - c.next_opening-place-in-loop-place.result) (due_of c.args.code.now c.args.code.now.start) (omega (arith, c.next_opening-place-in-loop-place.ensures.passed, c.loop-place-test.true, c.last_position-last.ensures.inside)) in
-            omega (arith, ap (owed_of c.args.code.now (c.args.request.range_end - c.base-base.result + 1)) w.table-is, ap steps_of w.work-is, w.in_ok-end.ensures.spent, fewer, c.loop-place.invariant.spent));
-        returns = omega (arith, ap returns_of w.work-is, w.follow_start.ensures.returns, c.loop-place.invariant.returns);
-        paired = omega (arith, ap returns_of w.work-is, ap steps_of w.work-is, w.follow_start.ensures.paired, w.follow_start.ensures.steps, w.follow_start.ensures.returns, c.loop-place.invariant.steps, c.loop-place.invariant.returns, c.loop-place.invariant.paired);
-        last_lines = rw w.last_lines-is w.follow_start.ensures.last_lines;
-        heeds = runs_on _ _ _ _ c.loop-place.invariant.heeds (runs_on _ _ _ _ w.follow_start.ensures.heeds (runs_same _ _ _ w.work-is));
+            rw w.cache-is
+            (failed_later (is_match_boundary c.args.wanted.options.on_boundaries c.args.haystack.now) (search_context c.args.haystack.now c.args.code.now.meaning c.suppressed_ends.result c.base-base.result) c.loop-place.place c.next_opening-place-in-loop-place.result c.args.wanted.request.range_end (instrs_of c.args.code.now) (depth (length c.args.haystack.now) p + 1) (marks_from c.args.code.now c.base-base.result w.follow_start.new.cache.notes.table) (omega (arith, c.next_opening-place-in-loop-place.ensures.passed))
+            ((rw w.in_default.is at w.in_ok-end.ensures.left) is.branched c.loop-place.place (deep (query_of p c.args.code.now (unfiltered c.args.wanted.options) c.args.haystack.now c.args.wanted.request true) c.args.code.now is refl refl refl refl c.requires.inside (search_context c.args.haystack.now c.args.code.now.meaning c.suppressed_ends.result c.base-base.result) (Some c.base-base.result) (ap (λ (s : SuppressedEnds). search_context c.args.haystack.now c.args.code.now.meaning s c.base-base.result) c.suppressed_ends.ensures)) (attempt_known (query_of p c.args.code.now (unfiltered c.args.wanted.options) c.args.haystack.now c.args.wanted.request true) c.args.code.now is refl refl refl refl c.requires.inside (search_context c.args.haystack.now c.args.code.now.meaning c.suppressed_ends.result c.base-base.result) (Some c.base-base.result) (ap (λ (s : SuppressedEnds). search_context c.args.haystack.now c.args.code.now.meaning s c.base-base.result) c.suppressed_ends.ensures) c.requires.easy c.loop-place.place (first_thread c.args.code.now c.loop-place.place) refl (omega (arith, c.last_position-last.ensures.inside, c.loop-place-test.true))) (c.loop-place.invariant.failed p is)));
+        room = ap (λ (x : Cache). length x.notes.table) w.cache-is ∙ w.follow_start.ensures.attempted.ran.worked.room ∙ c.loop-place.invariant.room;
+        small = omega (arith, ap (λ (x : Cache). length x.notes.table) w.cache-is, w.follow_start.ensures.attempted.ran.worked.room, c.loop-place.invariant.small);
+        spent = (let fewer = later_starts (c.args.wanted.request.range_end + 1 - c.loop-place.place) (c.args.wanted.request.range_end + 1 - c.next_opening-place-in-loop-place.result) (due_of c.args.code.now c.args.code.now.start) (omega (arith, c.next_opening-place-in-loop-place.ensures.passed, c.loop-place-test.true, c.last_position-last.ensures.inside)) in
+            omega (arith, ap (owed_of c.args.code.now (c.args.wanted.request.range_end - c.base-base.result + 1)) (ap table_in w.cache-is), ap steps_of w.work-is, w.follow_start.ensures.attempted.ran.paid, fewer, c.loop-place.invariant.spent));
+        worked = worked_now (ap (λ (x : Cache). x.notes) w.cache-is) w.work-is c.loop-place.invariant.worked w.follow_start.ensures.attempted.ran.worked;
       }
       | else-is_match_boundary w ↦ record {
         left = λ p on is.
             c.loop-place.invariant.left p on is
-            ∙ search_miss (query_of p c.args.code.now (unfiltered c.args.options) c.args.haystack.now c.args.request on) (c.last_position-last.result + 1 - c.loop-place.place) (c.last_position-last.result + 1 - (c.loop-place.place + 1)) c.loop-place.place (omega (arith, c.loop-place-test.true)) (search_skip (query_of p c.args.code.now (unfiltered c.args.options) c.args.haystack.now c.args.request on) c.loop-place.place refl (sym c.is_match_boundary.ensures ∙ w.if-is_match_boundary.false))
-            ∙ openings_passed (query_of p c.args.code.now (unfiltered c.args.options) c.args.haystack.now c.args.request on) c.args.code.now is refl c.requires.inside (λ k. omega (arith, c.type_inv.haystack k)) (c.last_position-last.result + 1 - (c.loop-place.place + 1)) (c.last_position-last.result + 1 - c.next_opening-place-in-loop-place.result) (c.loop-place.place + 1) c.next_opening-place-in-loop-place.result c.next_opening-place-in-loop-place.ensures.passed (omega (arith, c.next_opening-place-in-loop-place.ensures.within, c.last_position-last.ensures.inside)) (omega (arith, c.next_opening-place-in-loop-place.ensures.passed, c.next_opening-place-in-loop-place.ensures.within, c.loop-place-test.true)) c.next_opening-place-in-loop-place.ensures.none;
+            ∙ search_miss (query_of p c.args.code.now (unfiltered c.args.wanted.options) c.args.haystack.now c.args.wanted.request on) (c.last_position-last.result + 1 - c.loop-place.place) (c.last_position-last.result + 1 - (c.loop-place.place + 1)) c.loop-place.place (omega (arith, c.loop-place-test.true)) (search_skip (query_of p c.args.code.now (unfiltered c.args.wanted.options) c.args.haystack.now c.args.wanted.request on) c.loop-place.place refl (sym c.is_match_boundary.ensures ∙ w.if-is_match_boundary.false))
+            ∙ openings_passed (query_of p c.args.code.now (unfiltered c.args.wanted.options) c.args.haystack.now c.args.wanted.request on) c.args.code.now is refl c.requires.inside (λ k. omega (arith, c.type_inv.haystack k)) (c.last_position-last.result + 1 - (c.loop-place.place + 1)) (c.last_position-last.result + 1 - c.next_opening-place-in-loop-place.result) (c.loop-place.place + 1) c.next_opening-place-in-loop-place.result c.next_opening-place-in-loop-place.ensures.passed (omega (arith, c.next_opening-place-in-loop-place.ensures.within, c.last_position-last.ensures.inside)) (omega (arith, c.next_opening-place-in-loop-place.ensures.passed, c.next_opening-place-in-loop-place.ensures.within, c.loop-place-test.true)) c.next_opening-place-in-loop-place.ensures.none;
         begins = omega (arith, c.loop-place.invariant.begins, c.next_opening-place-in-loop-place.ensures.passed);
         passed = omega (arith, c.loop-place.invariant.passed, c.next_opening-place-in-loop-place.ensures.passed);
         within = c.next_opening-place-in-loop-place.ensures.within;
@@ -105,83 +99,79 @@ loop-place-preserved c =
         starts = λ le none. c.loop-place.invariant.starts (omega (arith, c.loop-place-test.true)) none;
         idle = λ none. absurd (c.loop-place.invariant.starts (omega (arith, c.loop-place-test.true)) none);
         failed = λ p is.
-            rw w.table-is
-            (failed_later (is_match_boundary c.args.options.on_boundaries c.args.haystack.now) (search_context c.args.haystack.now c.args.code.now.meaning c.suppressed_ends.result c.base-base.result) c.loop-place.place c.next_opening-place-in-loop-place.result c.args.request.range_end (instrs_of c.args.code.now) (depth (length c.args.haystack.now) p + 1) (marks_from c.args.code.now c.base-base.result c.loop-place.table) (omega (arith, c.next_opening-place-in-loop-place.ensures.passed)) (c.loop-place.invariant.failed p is));
-        room = ap length w.table-is ∙ c.loop-place.invariant.room;
-        small = omega (arith, ap length w.table-is, c.loop-place.invariant.small);
-        steps = omega (arith, ap steps_of w.work-is, c.loop-place.invariant.steps);
-        spent = (let fewer = later_starts (c.args.request.range_end + 1 - c.loop-place.place) (c.args.request.range_end + 1 - c.next_opening-place-in-loop-place.result) (due_of c.args.code.now c.args.code.now.start) (omega (arith, c.next_opening-place-in-loop-place.ensures.passed, c.loop-place-test.true, c.last_position-last.ensures.inside)) in
-            omega (arith, ap (owed_of c.args.code.now (c.args.request.range_end - c.base-base.result + 1)) w.table-is, ap steps_of w.work-is, fewer, c.loop-place.invariant.spent));
-        returns = omega (arith, ap returns_of w.work-is, c.loop-place.invariant.returns);
-        paired = omega (arith, ap returns_of w.work-is, ap steps_of w.work-is, c.loop-place.invariant.paired);
-        last_lines = rw w.last_lines-is c.loop-place.invariant.last_lines;
-        heeds = runs_on _ _ _ _ c.loop-place.invariant.heeds (runs_same _ _ _ w.work-is);
+            rw w.cache-is
+            (failed_later (is_match_boundary c.args.wanted.options.on_boundaries c.args.haystack.now) (search_context c.args.haystack.now c.args.code.now.meaning c.suppressed_ends.result c.base-base.result) c.loop-place.place c.next_opening-place-in-loop-place.result c.args.wanted.request.range_end (instrs_of c.args.code.now) (depth (length c.args.haystack.now) p + 1) (marks_from c.args.code.now c.base-base.result c.loop-place.cache.notes.table) (omega (arith, c.next_opening-place-in-loop-place.ensures.passed)) (c.loop-place.invariant.failed p is));
+        room = ap (λ (x : Cache). length x.notes.table) w.cache-is ∙ c.loop-place.invariant.room;
+        small = omega (arith, ap (λ (x : Cache). length x.notes.table) w.cache-is, c.loop-place.invariant.small);
+        spent = (let fewer = later_starts (c.args.wanted.request.range_end + 1 - c.loop-place.place) (c.args.wanted.request.range_end + 1 - c.next_opening-place-in-loop-place.result) (due_of c.args.code.now c.args.code.now.start) (omega (arith, c.next_opening-place-in-loop-place.ensures.passed, c.loop-place-test.true, c.last_position-last.ensures.inside)) in
+            omega (arith, ap (owed_of c.args.code.now (c.args.wanted.request.range_end - c.base-base.result + 1)) (ap table_in w.cache-is), ap steps_of w.work-is, fewer, c.loop-place.invariant.spent));
+        worked = worked_now (ap (λ (x : Cache). x.notes) w.cache-is) w.work-is c.loop-place.invariant.worked (worked_none c.loop-place.invariant.worked.last_lines);
       }
     ]
 
 pub returns-clause-answer : goal.returns-clause-answer
-returns-clause-answer c p on is = sym (c.loop-place.invariant.left p on is ∙ search_over (query_of p c.args.code.now (unfiltered c.args.options) c.args.haystack.now c.args.request on) _ _ (omega arith))
+returns-clause-answer c p on is = sym (c.loop-place.invariant.left p on is ∙ search_over (query_of p c.args.code.now (unfiltered c.args.wanted.options) c.args.haystack.now c.args.wanted.request on) _ _ (omega arith))
 
 pub ready_table-requires-clause-begins : goal.ready_table-requires-clause-begins
-ready_table-requires-clause-begins c = kept_begins c.args.code.now c.args.haystack.now c.args.request c.args.options c.effective_start-first.result c.base-base.result c.suppressed_ends.result c.effective_start-first.ensures c.suppressed_ends.ensures c.args.kept.now c.args.cache.now.notes c.requires.kept (c.base-base.ensures ∙ ap (λ (o : Option KeptTable). base_of o c.effective_start-first.result) c.take-before.ensures.value)
+ready_table-requires-clause-begins c = kept_begins c.args.code.now c.args.haystack.now c.args.wanted.request c.args.wanted.options c.effective_start-first.result c.base-base.result c.suppressed_ends.result c.effective_start-first.ensures c.suppressed_ends.ensures c.args.kept.now c.args.cache.now.notes c.requires.kept (c.base-base.ensures ∙ ap (λ (o : Option KeptTable). base_of o c.effective_start-first.result) c.take-before.ensures.value)
 
 pub ready_table-requires-clause-reached : goal.ready_table-requires-clause-reached
-ready_table-requires-clause-reached c = rw c.take-before.ensures.value (kept_reached c.args.code.now c.args.haystack.now c.args.request c.args.options c.effective_start-first.result c.base-base.result c.suppressed_ends.result c.effective_start-first.ensures c.suppressed_ends.ensures c.args.kept.now c.args.cache.now.notes c.requires.kept)
+ready_table-requires-clause-reached c = rw c.take-before.ensures.value (kept_reached c.args.code.now c.args.haystack.now c.args.wanted.request c.args.wanted.options c.effective_start-first.result c.base-base.result c.suppressed_ends.result c.effective_start-first.ensures c.suppressed_ends.ensures c.args.kept.now c.args.cache.now.notes c.requires.kept)
 
 pub ready_table-requires-clause-room : goal.ready_table-requires-clause-room
-ready_table-requires-clause-room c = rw c.take-before.ensures.value (kept_room c.args.code.now c.args.haystack.now c.args.request c.args.options c.effective_start-first.result c.base-base.result c.suppressed_ends.result c.effective_start-first.ensures c.suppressed_ends.ensures c.args.kept.now c.args.cache.now.notes c.requires.kept (c.base-base.ensures ∙ ap (λ (o : Option KeptTable). base_of o c.effective_start-first.result) c.take-before.ensures.value))
+ready_table-requires-clause-room c = rw c.take-before.ensures.value (kept_room c.args.code.now c.args.haystack.now c.args.wanted.request c.args.wanted.options c.effective_start-first.result c.base-base.result c.suppressed_ends.result c.effective_start-first.ensures c.suppressed_ends.ensures c.args.kept.now c.args.cache.now.notes c.requires.kept (c.base-base.ensures ∙ ap (λ (o : Option KeptTable). base_of o c.effective_start-first.result) c.take-before.ensures.value))
 
 pub ready_table-requires-clause-short : goal.ready_table-requires-clause-short
-ready_table-requires-clause-short c = rw c.take-before.ensures.value (kept_small c.args.code.now c.args.haystack.now c.args.request c.args.options c.effective_start-first.result c.base-base.result c.suppressed_ends.result c.effective_start-first.ensures c.suppressed_ends.ensures c.args.kept.now c.args.cache.now.notes c.requires.kept)
+ready_table-requires-clause-short c = rw c.take-before.ensures.value (kept_small c.args.code.now c.args.haystack.now c.args.wanted.request c.args.wanted.options c.effective_start-first.result c.base-base.result c.suppressed_ends.result c.effective_start-first.ensures c.suppressed_ends.ensures c.args.kept.now c.args.cache.now.notes c.requires.kept)
 
 pub ready_last_lines-requires : goal.ready_last_lines-requires
-ready_last_lines-requires c some = kept_last_lines c.args.code.now c.args.haystack.now c.args.request c.args.options c.effective_start-first.result c.base-base.result c.suppressed_ends.result c.effective_start-first.ensures c.suppressed_ends.ensures c.args.kept.now c.args.cache.now.notes c.requires.kept (ap is_some (sym c.take-before.ensures.value) ∙ sym c.is_some.ensures ∙ some)
+ready_last_lines-requires c some = kept_last_lines c.args.code.now c.args.haystack.now c.args.wanted.request c.args.wanted.options c.effective_start-first.result c.base-base.result c.suppressed_ends.result c.effective_start-first.ensures c.suppressed_ends.ensures c.args.kept.now c.args.cache.now.notes c.requires.kept (ap is_some (sym c.take-before.ensures.value) ∙ sym c.is_some.ensures ∙ some)
 
 pub returns-clause-bounded : goal.returns-clause-bounded
 returns-clause-bounded c = omega (arith, c.loop-place.invariant.spent)
 
 pub returns-in_err-end-clause-bounded : goal.returns-in_err-end-clause-bounded
 returns-in_err-end-clause-bounded c =
-    let fewer = later_starts (c.args.request.range_end + 1 - c.loop-place.place) (c.args.request.range_end + 1 - (c.loop-place.place + 1)) (due_of c.args.code.now c.args.code.now.start) (omega (arith, c.loop-place-test.true, c.last_position-last.ensures.inside)) in
-    omega (arith, c.follow_start.ensures.bounded, fewer, c.loop-place.invariant.spent)
+    let fewer = later_starts (c.args.wanted.request.range_end + 1 - c.loop-place.place) (c.args.wanted.request.range_end + 1 - (c.loop-place.place + 1)) (due_of c.args.code.now c.args.code.now.start) (omega (arith, c.loop-place-test.true, c.last_position-last.ensures.inside)) in
+    omega (arith, c.follow_start.ensures.attempted.ran.paid, fewer, c.loop-place.invariant.spent)
 
 pub returns-in-Some-clause-bounded : goal.returns-in-Some-clause-bounded
 returns-in-Some-clause-bounded c =
-    let fewer = later_starts (c.args.request.range_end + 1 - c.loop-place.place) (c.args.request.range_end + 1 - (c.loop-place.place + 1)) (due_of c.args.code.now c.args.code.now.start) (omega (arith, c.loop-place-test.true, c.last_position-last.ensures.inside)) in
-    omega (arith, c.follow_start.ensures.bounded, fewer, c.loop-place.invariant.spent)
+    let fewer = later_starts (c.args.wanted.request.range_end + 1 - c.loop-place.place) (c.args.wanted.request.range_end + 1 - (c.loop-place.place + 1)) (due_of c.args.code.now c.args.code.now.start) (omega (arith, c.loop-place-test.true, c.last_position-last.ensures.inside)) in
+    omega (arith, c.follow_start.ensures.attempted.ran.paid, fewer, c.loop-place.invariant.spent)
 
 pub returns-in-Some-clause-spent : goal.returns-in-Some-clause-spent
 returns-in-Some-clause-spent c =
-    let after = ahead_after c.args.code.now c.args.haystack.now c.args.request c.args.options c.effective_start-first.result c.base-base.result c.suppressed_ends.result c.effective_start-first.ensures c.suppressed_ends.ensures c.loop-place.place c.in-Some.end c.follow_start.new.table (rw c.in-Some.is at c.in_ok-end.ensures.forth) in
-    let same = ap (λ (b : ℕ). steps_ahead c.args.code.now c.args.request b c.in-Some.end c.follow_start.new.table) ((c.base-base.ensures ∙ ap (λ (o : Option KeptTable). base_of o c.effective_start-first.result) c.take-before.ensures.value) ∙ ap (base_of c.args.kept.now) c.effective_start-first.ensures) in
-    omega (arith, after, same, c.in_ok-end.ensures.spent, c.loop-place.invariant.spent, again_paid c.args.kept.now c.args.code.now (effective_start c.args.request))
+    let after = ahead_after c.args.code.now c.args.haystack.now c.args.wanted.request c.args.wanted.options c.effective_start-first.result c.base-base.result c.suppressed_ends.result c.effective_start-first.ensures c.suppressed_ends.ensures c.loop-place.place c.in-Some.end c.follow_start.new.cache.notes.table ((rw c.in-Some.is at c.in_ok-end.ensures.attempted.ends).0) in
+    let same = ap (λ (b : ℕ). steps_ahead c.args.code.now c.args.wanted.request b c.in-Some.end c.follow_start.new.cache.notes.table) ((c.base-base.ensures ∙ ap (λ (o : Option KeptTable). base_of o c.effective_start-first.result) c.take-before.ensures.value) ∙ ap (base_of c.args.kept.now) c.effective_start-first.ensures) in
+    omega (arith, after, same, c.follow_start.ensures.attempted.ran.paid, c.loop-place.invariant.spent, again_paid c.args.kept.now c.args.code.now (effective_start c.args.wanted.request))
 
 pub returns-clause-passed : goal.returns-clause-passed
 returns-clause-passed c =
-    let after = ahead_after c.args.code.now c.args.haystack.now c.args.request c.args.options c.effective_start-first.result c.base-base.result c.suppressed_ends.result c.effective_start-first.ensures c.suppressed_ends.ensures c.loop-place.place (effective_start c.args.request + positions c.args.request) c.loop-place.table (omega (arith, c.loop-place.invariant.within, c.last_position-last.ensures.count)) in
+    let after = ahead_after c.args.code.now c.args.haystack.now c.args.wanted.request c.args.wanted.options c.effective_start-first.result c.base-base.result c.suppressed_ends.result c.effective_start-first.ensures c.suppressed_ends.ensures c.loop-place.place (effective_start c.args.wanted.request + positions c.args.wanted.request) c.loop-place.cache.notes.table (omega (arith, c.loop-place.invariant.within, c.last_position-last.ensures.count)) in
     omega (arith, after, c.loop-place.invariant.spent)
 
 pub returns-then-first-request-clause-passed : goal.returns-then-first-request-clause-passed
 returns-then-first-request-clause-passed c =
-    omega (arith, fewer_ahead c.args.kept.now c.args.code.now c.args.request (effective_start c.args.request) (effective_start c.args.request + positions c.args.request) (table_in c.args.cache.now) (omega arith))
+    omega (arith, fewer_ahead c.args.kept.now c.args.code.now c.args.wanted.request (effective_start c.args.wanted.request) (effective_start c.args.wanted.request + positions c.args.wanted.request) (table_in c.args.cache.now) (omega arith))
 
 pub returns-then-place-last-clause-passed : goal.returns-then-place-last-clause-passed
 returns-then-place-last-clause-passed c =
-    omega (arith, fewer_ahead c.args.kept.now c.args.code.now c.args.request (effective_start c.args.request) (effective_start c.args.request + positions c.args.request) (table_in c.args.cache.now) (omega arith))
+    omega (arith, fewer_ahead c.args.kept.now c.args.code.now c.args.wanted.request (effective_start c.args.wanted.request) (effective_start c.args.wanted.request + positions c.args.wanted.request) (table_in c.args.cache.now) (omega arith))
 
 pub returns-then-first-request-clause-kept : goal.returns-then-first-request-clause-kept
 returns-then-first-request-clause-kept c =
-    told_later c.args.code.now c.args.haystack.now c.args.request c.args.options c.args.kept.now (effective_start c.args.request) (effective_start c.args.request + (positions c.args.request - 1)) c.args.cache.now.notes (omega arith) c.requires.kept
+    told_later c.args.code.now c.args.haystack.now c.args.wanted.request c.args.wanted.options c.args.kept.now (effective_start c.args.wanted.request) (effective_start c.args.wanted.request + (positions c.args.wanted.request - 1)) c.args.cache.now.notes (omega arith) c.requires.kept
 
 pub returns-then-place-last-clause-kept : goal.returns-then-place-last-clause-kept
 returns-then-place-last-clause-kept c =
-    told_later c.args.code.now c.args.haystack.now c.args.request c.args.options c.args.kept.now (effective_start c.args.request) (effective_start c.args.request + (positions c.args.request - 1)) c.args.cache.now.notes (omega arith) c.requires.kept
+    told_later c.args.code.now c.args.haystack.now c.args.wanted.request c.args.wanted.options c.args.kept.now (effective_start c.args.wanted.request) (effective_start c.args.wanted.request + (positions c.args.wanted.request - 1)) c.args.cache.now.notes (omega arith) c.requires.kept
 
 pub returns-clause-kept : goal.returns-clause-kept
 returns-clause-kept c =
-    let based : c.base-base.result ≤ c.effective_start-first.result = kept_begins c.args.code.now c.args.haystack.now c.args.request c.args.options c.effective_start-first.result c.base-base.result c.suppressed_ends.result c.effective_start-first.ensures c.suppressed_ends.ensures c.args.kept.now c.args.cache.now.notes c.requires.kept (c.base-base.ensures ∙ ap (λ (o : Option KeptTable). base_of o c.effective_start-first.result) c.take-before.ensures.value) in
-    kept_after c.args.code.now c.args.haystack.now c.args.request c.args.options c.effective_start-first.result c.base-base.result c.suppressed_ends.result c.effective_start-first.ensures c.suppressed_ends.ensures c.args.kept.now c.loop-place.place (effective_start c.args.request + (positions c.args.request - 1)) _ (c.base-base.ensures ∙ ap (λ (o : Option KeptTable). base_of o c.effective_start-first.result) c.take-before.ensures.value) (omega (arith, based, c.effective_start-first.ensures)) (omega (arith, c.loop-place.invariant.within, c.last_position-last.ensures.count))
-    c.loop-place.invariant.room c.loop-place.invariant.small c.loop-place.invariant.failed c.loop-place.invariant.last_lines
+    let based : c.base-base.result ≤ c.effective_start-first.result = kept_begins c.args.code.now c.args.haystack.now c.args.wanted.request c.args.wanted.options c.effective_start-first.result c.base-base.result c.suppressed_ends.result c.effective_start-first.ensures c.suppressed_ends.ensures c.args.kept.now c.args.cache.now.notes c.requires.kept (c.base-base.ensures ∙ ap (λ (o : Option KeptTable). base_of o c.effective_start-first.result) c.take-before.ensures.value) in
+    kept_after c.args.code.now c.args.haystack.now c.args.wanted.request c.args.wanted.options c.effective_start-first.result c.base-base.result c.suppressed_ends.result c.effective_start-first.ensures c.suppressed_ends.ensures c.args.kept.now c.loop-place.place (effective_start c.args.wanted.request + (positions c.args.wanted.request - 1)) _ (c.base-base.ensures ∙ ap (λ (o : Option KeptTable). base_of o c.effective_start-first.result) c.take-before.ensures.value) (omega (arith, based, c.effective_start-first.ensures)) (omega (arith, c.loop-place.invariant.within, c.last_position-last.ensures.count))
+    c.loop-place.invariant.room c.loop-place.invariant.small c.loop-place.invariant.failed c.loop-place.invariant.worked.last_lines
 
 pub returns-in-Some-clause-left : goal.returns-in-Some-clause-left
 returns-in-Some-clause-left c =
@@ -189,13 +179,13 @@ returns-in-Some-clause-left c =
 
 pub returns-in-Some-clause-kept : goal.returns-in-Some-clause-kept
 returns-in-Some-clause-kept c =
-    kept_after c.args.code.now c.args.haystack.now c.args.request c.args.options c.effective_start-first.result c.base-base.result c.suppressed_ends.result c.effective_start-first.ensures c.suppressed_ends.ensures c.args.kept.now (c.in-Some.end + 1) c.in-Some.end _ (c.base-base.ensures ∙ ap (λ (o : Option KeptTable). base_of o c.effective_start-first.result) c.take-before.ensures.value) (omega (arith, c.loop-place.invariant.begins, rw c.in-Some.is at c.in_ok-end.ensures.forth)) (omega arith)
-    (c.follow_start.ensures.room ∙ c.loop-place.invariant.room)
-    (omega (arith, c.follow_start.ensures.room, c.loop-place.invariant.small))
-    (λ p is q i seen hit. (rw c.in-Some.is at c.in_ok-end.ensures.past) c.loop-place.place (depth (length c.args.haystack.now) p + 1) is.branched
-    (attempt_known (query_of p c.args.code.now (unfiltered c.args.options) c.args.haystack.now c.args.request true) c.args.code.now is refl refl refl refl c.requires.inside (search_context c.args.haystack.now c.args.code.now.meaning c.suppressed_ends.result c.base-base.result) (Some c.base-base.result) (ap (λ (s : SuppressedEnds). search_context c.args.haystack.now c.args.code.now.meaning s c.base-base.result) c.suppressed_ends.ensures) c.requires.easy c.loop-place.place (first_thread c.args.code.now c.loop-place.place) refl (omega (arith, c.last_position-last.ensures.inside, c.loop-place-test.true))) (c.loop-place.invariant.failed p is)
-    q i ((seen.0.0, omega (arith, seen.0.1, rw c.in-Some.is at c.in_ok-end.ensures.forth), seen.0.2), seen.1) (omega (arith, seen.0.1)) hit)
-    c.follow_start.ensures.last_lines
+    kept_after c.args.code.now c.args.haystack.now c.args.wanted.request c.args.wanted.options c.effective_start-first.result c.base-base.result c.suppressed_ends.result c.effective_start-first.ensures c.suppressed_ends.ensures c.args.kept.now (c.in-Some.end + 1) c.in-Some.end _ (c.base-base.ensures ∙ ap (λ (o : Option KeptTable). base_of o c.effective_start-first.result) c.take-before.ensures.value) (omega (arith, c.loop-place.invariant.begins, (rw c.in-Some.is at c.in_ok-end.ensures.attempted.ends).0)) (omega arith)
+    (c.follow_start.ensures.attempted.ran.worked.room ∙ c.loop-place.invariant.room)
+    (omega (arith, c.follow_start.ensures.attempted.ran.worked.room, c.loop-place.invariant.small))
+    (λ p is q i seen hit. (rw c.in-Some.is at c.in_ok-end.ensures.left) is.branched c.loop-place.place (depth (length c.args.haystack.now) p + 1)
+    (attempt_known (query_of p c.args.code.now (unfiltered c.args.wanted.options) c.args.haystack.now c.args.wanted.request true) c.args.code.now is refl refl refl refl c.requires.inside (search_context c.args.haystack.now c.args.code.now.meaning c.suppressed_ends.result c.base-base.result) (Some c.base-base.result) (ap (λ (s : SuppressedEnds). search_context c.args.haystack.now c.args.code.now.meaning s c.base-base.result) c.suppressed_ends.ensures) c.requires.easy c.loop-place.place (first_thread c.args.code.now c.loop-place.place) refl (omega (arith, c.last_position-last.ensures.inside, c.loop-place-test.true))) (c.loop-place.invariant.failed p is)
+    q i ((seen.0.0, omega (arith, seen.0.1, (rw c.in-Some.is at c.in_ok-end.ensures.attempted.ends).0), seen.0.2), seen.1) (omega (arith, seen.0.1)) hit)
+    c.follow_start.ensures.attempted.ran.worked.last_lines
 
 pub returns-in_err-end-clause-idle : goal.returns-in_err-end-clause-idle
 returns-in_err-end-clause-idle c none = absurd (c.loop-place.invariant.starts (omega (arith, c.loop-place-test.true)) none)
@@ -204,10 +194,25 @@ pub returns-in-Some-clause-idle : goal.returns-in-Some-clause-idle
 returns-in-Some-clause-idle c none = absurd (c.loop-place.invariant.starts (omega (arith, c.loop-place-test.true)) none)
 
 pub returns-clause-heeds : goal.returns-clause-heeds
-returns-clause-heeds c = runs_heeded _ _ _ _ c.args.code.now c.args.request _ c.take-before.ensures.value c.limit_to_heed-step_limit.ensures.limit (table_in c.args.cache.now) _ c.loop-place.invariant.heeds (returns-clause-bounded c)
+returns-clause-heeds c = runs_heeded _ _ _ _ c.args.code.now c.args.wanted.request _ c.take-before.ensures.value c.limit_to_heed.ensures.limit (table_in c.args.cache.now) _ c.loop-place.invariant.worked.heeds (returns-clause-bounded c)
 
 pub returns-in_err-end-clause-heeds : goal.returns-in_err-end-clause-heeds
-returns-in_err-end-clause-heeds c = runs_heeded _ _ _ _ c.args.code.now c.args.request _ c.take-before.ensures.value c.limit_to_heed-step_limit.ensures.limit (table_in c.args.cache.now) _ (runs_on _ _ _ _ c.loop-place.invariant.heeds c.follow_start.ensures.heeds) (returns-in_err-end-clause-bounded c)
+returns-in_err-end-clause-heeds c = runs_heeded _ _ _ _ c.args.code.now c.args.wanted.request _ c.take-before.ensures.value c.limit_to_heed.ensures.limit (table_in c.args.cache.now) _ (runs_on _ _ _ _ c.loop-place.invariant.worked.heeds c.follow_start.ensures.attempted.ran.worked.heeds) (returns-in_err-end-clause-bounded c)
 
 pub returns-in-Some-clause-heeds : goal.returns-in-Some-clause-heeds
-returns-in-Some-clause-heeds c = runs_heeded _ _ _ _ c.args.code.now c.args.request _ c.take-before.ensures.value c.limit_to_heed-step_limit.ensures.limit (table_in c.args.cache.now) _ (runs_on _ _ _ _ c.loop-place.invariant.heeds c.follow_start.ensures.heeds) (returns-in-Some-clause-bounded c)
+returns-in-Some-clause-heeds c = runs_heeded _ _ _ _ c.args.code.now c.args.wanted.request _ c.take-before.ensures.value c.limit_to_heed.ensures.limit (table_in c.args.cache.now) _ (runs_on _ _ _ _ c.loop-place.invariant.worked.heeds c.follow_start.ensures.attempted.ran.worked.heeds) (returns-in-Some-clause-bounded c)
+
+pub follow_start-requires : goal.follow_start-requires
+follow_start-requires c = record {
+  ready = record {
+    ready = record {
+      inside = c.requires.inside;
+      easy = c.requires.easy;
+      room = omega (arith, c.loop-place.invariant.room);
+      small = c.loop-place.invariant.small;
+      last_lines = c.loop-place.invariant.worked.last_lines;
+    };
+    low = c.loop-place.invariant.begins;
+    high = omega (arith, c.last_position-last.ensures.inside, c.loop-place-test.true);
+  };
+}

@@ -20,5 +20,5 @@ forget-requires c =
     let width = c.args.attempt.now.code.now.marking.width in
     let row : ℕ = c.args.place - c.args.attempt.now.base in
     let rows : ℕ = c.args.attempt.now.last - c.args.attempt.now.base + 1 in
-    let inside : row * width + width ≤ rows * width = row_inside row rows width (omega (arith, c.requires.high, c.requires.low)) in
-    rw c.marks.ensures (omega (arith, inside, c.requires.room))
+    let inside : row * width + width ≤ rows * width = row_inside row rows width (omega (arith, c.requires.row.high, c.requires.row.low)) in
+    rw c.marks.ensures (omega (arith, inside, c.requires.row.room))

@@ -1,6 +1,5 @@
-use Rattle.std.proofs.Common.{◌≡◌, ℕ, ◌+◌, ◌≤◌, ◌++◌, ◌∷◌, ◌∙◌, [], List, Option, inl, inr, refl, sym, ap, ap₂, subst, arith}
+use Rattle.std.proofs.Common.{rules, ◌≡◌, ℕ, ◌+◌, ◌≤◌, ◌++◌, ◌∷◌, ◌∙◌, [], List, Option, sym, ap, ap₂, subst, arith}
 use Rattle.std.proofs.lemmas.List.{append-nil}
-use Rattle.std.proofs.lemmas.Option.{none-some, same_Some}
 use Rattle.fancy_code.specs.Attempt.{context_in, instrs_in, may_end_in}
 use Rattle.fancy_runner.specs.Attempt.{marks_in, current_in, saved_in, threads_in}
 use Rattle.fancy_runner.specs.Backlog.{threads_in_backlog}
@@ -13,8 +12,8 @@ use Rattle.fancy_runner.specs.Threads.{KeptThreads, thread_of}
 use Rattle.fancy_runner.specs.declared.pair.Pair.{Pair}
 use Rattle.fancy_runner.proofs.SweepLemmas.{within_back, within_last, within_none, sweep_first}
 use Rattle.fancy_runner.proofs.RunnerLemmas.{within_lower}
-use Rattle.fancy_runner.proofs.SweepsLemmas.{ended_answer, ended_failed, ended_past}
-use Rattle.fancy_code.proofs.WorkLemmas.{runs_on, runs_from_start}
+use Rattle.fancy_runner.proofs.SweepsLemmas.{ended_answer, ended_left, found_here}
+use Rattle.fancy_runner.proofs.RunLemmas.{ready_on, worked_none, worked_on, ran_ok, ran_err}
 use Rattle.fancy_runner.proofs.sweep.follow_by_place.Goals as goal
 
 pub loop-place-init : goal.loop-place-init
@@ -32,26 +31,23 @@ loop-place-init c =
     λ low within. (within_back low c.args.attempt.now.last rest (first ∷ []) (subst (λ (x : List Thread). AllWithin low c.args.attempt.now.last x) one within)).0 in
     record {
       swept = λ low kept deep goal begins within r.
-          subst (λ (x : List Thread). SweepingIn c.args.attempt.now low kept deep goal c.args.table.now x (found_in kept s)) (sym all)
-          (subst (λ (o : Option ℕ). SweepingIn c.args.attempt.now low kept deep goal c.args.table.now threads (found_state kept o s.best.slots)) (sym c.new-sweep.ensures.found)
-          (sweep_first (may_end_in c.args.attempt.now) (context_in c.args.attempt.now) low c.args.attempt.now.last (instrs_in c.args.attempt.now) c.requires.easy deep kept goal (marks_in c.args.attempt.now c.args.table.now) (current_in c.args.attempt.now c.args.pair c.args.threads.now) (saved_in c.args.attempt.now c.args.threads.now) r));
+          subst (λ (x : List Thread). SweepingIn c.args.attempt.now low kept deep goal c.args.notes.now.table x (found_in kept s)) (sym all)
+          (subst (λ (o : Option ℕ). SweepingIn c.args.attempt.now low kept deep goal c.args.notes.now.table threads (found_state kept o s.best.slots)) (sym c.new-sweep.ensures.found)
+          (sweep_first (may_end_in c.args.attempt.now) (context_in c.args.attempt.now) low c.args.attempt.now.last (instrs_in c.args.attempt.now) c.requires.ready.ready.easy deep kept goal (marks_in c.args.attempt.now c.args.notes.now.table) (current_in c.args.attempt.now c.args.pair c.args.threads.now) (saved_in c.args.attempt.now c.args.threads.now) r));
       from = lowest;
-      base = lowest c.args.attempt.now.base c.requires.within;
-      within =
-          subst (λ (x : List Thread). AllWithin c.in-Some.first.place c.args.attempt.now.last x) (sym (all ∙ one))
-          (within_last c.args.attempt.now.base c.args.attempt.now.last rest first (subst (λ (x : List Thread). AreRising x) one c.requires.rising)
-          (subst (λ (x : List Thread). AllWithin c.args.attempt.now.base c.args.attempt.now.last x) one c.requires.within));
-      rising = subst (λ (x : List Thread). AreRising x) (sym c.new-sweep.ensures.backlog) c.requires.rising;
-      drained = c.new-sweep.ensures.drained;
-      empty = c.new-sweep.ensures.later;
-      found = λ stop is. absurd (none-some stop (sym c.new-sweep.ensures.found ∙ is));
-      room = refl;
+      base = lowest c.args.attempt.now.base c.requires.ready.within;
+      waits = record {
+        within =
+            subst (λ (x : List Thread). AllWithin c.in-Some.first.place c.args.attempt.now.last x) (sym (all ∙ one))
+            (within_last c.args.attempt.now.base c.args.attempt.now.last rest first (subst (λ (x : List Thread). AreRising x) one c.requires.rising)
+            (subst (λ (x : List Thread). AllWithin c.args.attempt.now.base c.args.attempt.now.last x) one c.requires.ready.within));
+        rising = subst (λ (x : List Thread). AreRising x) (sym c.new-sweep.ensures.backlog) c.requires.rising;
+        drained = c.new-sweep.ensures.drained;
+        empty = c.new-sweep.ensures.later;
+      };
+      found = λ low within. rw c.new-sweep.ensures.found tt;
       spent = omega (arith, ap (burden code) all);
-      steps = omega arith;
-      returns = omega arith;
-      paired = omega arith;
-      last_lines = c.requires.last_lines;
-      heeds = runs_from_start _ _;
+      worked = worked_none c.requires.ready.ready.last_lines;
     }
 
 pub loop-place-preserved : goal.loop-place-preserved
@@ -61,96 +57,67 @@ loop-place-preserved c =
           c.in_ok-follow_place.ensures.swept low kept deep goal begins (c.loop-place.invariant.from low within) (c.loop-place.invariant.swept low kept deep goal begins within r);
       from = λ low within. omega (arith, c.loop-place.invariant.from low within);
       base = omega (arith, c.loop-place.invariant.base);
-      within = c.in_ok-follow_place.ensures.within;
-      rising = c.in_ok-follow_place.ensures.rising;
-      drained = c.in_ok-follow_place.ensures.drained;
-      empty = c.in_ok-follow_place.ensures.empty;
-      found = λ stop is. elim c.in_ok-follow_place.ensures.found [
-        | inl same ↦ c.loop-place.invariant.found stop (sym same ∙ is)
-        | inr here ↦
-            let at : stop ≡ c.loop-place.place = same_Some _ _ (sym is ∙ here) in
-            (λ low within. omega (arith, at, c.loop-place.invariant.from low within), omega (arith, at, c.loop-place-test.true))
-      ];
-      room = c.follow_place.ensures.room ∙ c.loop-place.invariant.room;
+      waits = c.in_ok-follow_place.ensures.waits;
+      found = λ low within. found_here c.args.attempt.now low c.loop-place.place _ _ c.in_ok-follow_place.ensures.found (c.loop-place.invariant.from low within) (omega (arith, c.loop-place-test.true)) (c.loop-place.invariant.found low within);
       spent = omega (arith, c.in_ok-follow_place.ensures.spent, c.loop-place.invariant.spent);
-      steps = omega (arith, c.follow_place.ensures.steps, c.loop-place.invariant.steps);
-      returns = omega (arith, c.follow_place.ensures.returns, c.loop-place.invariant.returns);
-      paired = omega (arith, c.follow_place.ensures.paired, c.follow_place.ensures.steps, c.follow_place.ensures.returns, c.loop-place.invariant.steps, c.loop-place.invariant.returns, c.loop-place.invariant.paired);
-      last_lines = c.follow_place.ensures.last_lines;
-      heeds = runs_on _ _ _ _ c.loop-place.invariant.heeds c.follow_place.ensures.heeds;
+      worked = worked_on c.loop-place.invariant.worked c.follow_place.ensures.ran.worked;
     }
 
 pub returns-then-is_over-clause-answer : goal.returns-then-is_over-clause-answer
 returns-then-is_over-clause-answer c low kept deep goal begins within r =
     ap₂ (λ (o : Option ℕ) (t : KeptThreads). found_state kept o t.slots) c.finish.ensures.found c.finish.ensures.slots
-    ∙ ended_answer c.args.attempt.now c.requires.easy low kept deep goal c.loop-place.table (left_in_sweep c.args.attempt.now.code.now c.loop-place.sweep) (found_in kept c.loop-place.sweep)
-    (c.is_over.ensures.over c.if-is_over.true c.args.attempt.now.code.now c.loop-place.invariant.drained) (c.loop-place.invariant.swept low kept deep goal begins within r)
+    ∙ ended_answer c.args.attempt.now c.requires.ready.ready.easy low kept deep goal c.loop-place.notes.table (left_in_sweep c.args.attempt.now.code.now c.loop-place.sweep) (found_in kept c.loop-place.sweep)
+    (c.is_over.ensures.over c.if-is_over.true c.args.attempt.now.code.now c.loop-place.invariant.waits.drained) (c.loop-place.invariant.swept low kept deep goal begins within r)
 
-pub returns-then-is_over-clause-failed : goal.returns-then-is_over-clause-failed
-returns-then-is_over-clause-failed c low kept deep goal begins within r is =
-    ended_failed c.args.attempt.now c.requires.easy low kept deep goal c.loop-place.table (left_in_sweep c.args.attempt.now.code.now c.loop-place.sweep) (found_in kept c.loop-place.sweep)
-    (c.is_over.ensures.over c.if-is_over.true c.args.attempt.now.code.now c.loop-place.invariant.drained) (c.loop-place.invariant.swept low kept deep goal begins within r)
-    (ap (λ (o : Option ℕ). found_state kept o c.loop-place.sweep.best.slots) (sym c.finish.ensures.found ∙ is))
+pub returns-then-is_over-clause-left : goal.returns-then-is_over-clause-left
+returns-then-is_over-clause-left c low kept deep goal begins within r =
+    ended_left c.args.attempt.now c.requires.ready.ready.easy low kept deep goal c.loop-place.notes.table (left_in_sweep c.args.attempt.now.code.now c.loop-place.sweep) (found_in kept c.loop-place.sweep)
+    (c.is_over.ensures.over c.if-is_over.true c.args.attempt.now.code.now c.loop-place.invariant.waits.drained) (c.loop-place.invariant.swept low kept deep goal begins within r)
+    c.finish.result c.loop-place.sweep.best.slots (ap (λ (o : Option ℕ). found_state kept o c.loop-place.sweep.best.slots) (sym c.finish.ensures.found))
 
-pub returns-then-is_over-clause-past : goal.returns-then-is_over-clause-past
-returns-then-is_over-clause-past c stop is low kept deep goal begins within r =
-    ended_past c.args.attempt.now c.requires.easy low kept deep goal c.loop-place.table (left_in_sweep c.args.attempt.now.code.now c.loop-place.sweep) (found_in kept c.loop-place.sweep)
-    (c.is_over.ensures.over c.if-is_over.true c.args.attempt.now.code.now c.loop-place.invariant.drained) (c.loop-place.invariant.swept low kept deep goal begins within r)
-    _ (ap (λ (o : Option ℕ). found_state kept o c.loop-place.sweep.best.slots) (sym c.finish.ensures.found ∙ is))
-
-pub returns-then-is_over-clause-forth : goal.returns-then-is_over-clause-forth
-returns-then-is_over-clause-forth c stop is low within = (c.loop-place.invariant.found stop (sym c.finish.ensures.found ∙ is)).0 low within
-
-pub returns-then-is_over-clause-within : goal.returns-then-is_over-clause-within
-returns-then-is_over-clause-within c stop is = (c.loop-place.invariant.found stop (sym c.finish.ensures.found ∙ is)).1
+pub returns-then-is_over-clause-ends : goal.returns-then-is_over-clause-ends
+returns-then-is_over-clause-ends c low within = rw c.finish.ensures.found (c.loop-place.invariant.found low within)
 
 pub returns-clause-answer : goal.returns-clause-answer
 returns-clause-answer c low kept deep goal begins within r =
     ap₂ (λ (o : Option ℕ) (t : KeptThreads). found_state kept o t.slots) c.finish-2.ensures.found c.finish-2.ensures.slots
-    ∙ ended_answer c.args.attempt.now c.requires.easy low kept deep goal c.follow_place-2.new.table (left_in_sweep c.args.attempt.now.code.now c.follow_place-2.new.sweep) (found_in kept c.follow_place-2.new.sweep)
-    (within_none (c.args.attempt.now.last + 1) c.args.attempt.now.last (left_in_sweep c.args.attempt.now.code.now c.follow_place-2.new.sweep) (omega arith) c.in_ok-follow_place-2.ensures.within) (c.in_ok-follow_place-2.ensures.swept low kept deep goal begins (omega (arith, within.0, within.1)) (c.loop-place.invariant.swept low kept deep goal begins within r))
+    ∙ ended_answer c.args.attempt.now c.requires.ready.ready.easy low kept deep goal c.follow_place-2.new.notes.table (left_in_sweep c.args.attempt.now.code.now c.follow_place-2.new.sweep) (found_in kept c.follow_place-2.new.sweep)
+    (within_none (c.args.attempt.now.last + 1) c.args.attempt.now.last (left_in_sweep c.args.attempt.now.code.now c.follow_place-2.new.sweep) (omega arith) c.in_ok-follow_place-2.ensures.waits.within) (c.in_ok-follow_place-2.ensures.swept low kept deep goal begins (omega (arith, within.0, within.1)) (c.loop-place.invariant.swept low kept deep goal begins within r))
 
-pub returns-clause-failed : goal.returns-clause-failed
-returns-clause-failed c low kept deep goal begins within r is =
-    ended_failed c.args.attempt.now c.requires.easy low kept deep goal c.follow_place-2.new.table (left_in_sweep c.args.attempt.now.code.now c.follow_place-2.new.sweep) (found_in kept c.follow_place-2.new.sweep)
-    (within_none (c.args.attempt.now.last + 1) c.args.attempt.now.last (left_in_sweep c.args.attempt.now.code.now c.follow_place-2.new.sweep) (omega arith) c.in_ok-follow_place-2.ensures.within) (c.in_ok-follow_place-2.ensures.swept low kept deep goal begins (omega (arith, within.0, within.1)) (c.loop-place.invariant.swept low kept deep goal begins within r))
-    (ap (λ (o : Option ℕ). found_state kept o c.follow_place-2.new.sweep.best.slots) (sym c.finish-2.ensures.found ∙ is))
+pub returns-clause-left : goal.returns-clause-left
+returns-clause-left c low kept deep goal begins within r =
+    ended_left c.args.attempt.now c.requires.ready.ready.easy low kept deep goal c.follow_place-2.new.notes.table (left_in_sweep c.args.attempt.now.code.now c.follow_place-2.new.sweep) (found_in kept c.follow_place-2.new.sweep)
+    (within_none (c.args.attempt.now.last + 1) c.args.attempt.now.last (left_in_sweep c.args.attempt.now.code.now c.follow_place-2.new.sweep) (omega arith) c.in_ok-follow_place-2.ensures.waits.within) (c.in_ok-follow_place-2.ensures.swept low kept deep goal begins (omega (arith, within.0, within.1)) (c.loop-place.invariant.swept low kept deep goal begins within r))
+    c.finish-2.result c.follow_place-2.new.sweep.best.slots (ap (λ (o : Option ℕ). found_state kept o c.follow_place-2.new.sweep.best.slots) (sym c.finish-2.ensures.found))
 
-pub returns-clause-past : goal.returns-clause-past
-returns-clause-past c stop is low kept deep goal begins within r =
-    ended_past c.args.attempt.now c.requires.easy low kept deep goal c.follow_place-2.new.table (left_in_sweep c.args.attempt.now.code.now c.follow_place-2.new.sweep) (found_in kept c.follow_place-2.new.sweep)
-    (within_none (c.args.attempt.now.last + 1) c.args.attempt.now.last (left_in_sweep c.args.attempt.now.code.now c.follow_place-2.new.sweep) (omega arith) c.in_ok-follow_place-2.ensures.within) (c.in_ok-follow_place-2.ensures.swept low kept deep goal begins (omega (arith, within.0, within.1)) (c.loop-place.invariant.swept low kept deep goal begins within r))
-    _ (ap (λ (o : Option ℕ). found_state kept o c.follow_place-2.new.sweep.best.slots) (sym c.finish-2.ensures.found ∙ is))
+pub returns-clause-ends : goal.returns-clause-ends
+returns-clause-ends c low within =
+    rw c.finish-2.ensures.found (found_here c.args.attempt.now low c.args.attempt.now.last _ _ c.in_ok-follow_place-2.ensures.found (omega (arith, within.0, within.1)) (omega arith) (c.loop-place.invariant.found low within))
 
-pub returns-clause-forth : goal.returns-clause-forth
-returns-clause-forth c stop is low within =
-    let at = sym c.finish-2.ensures.found ∙ is in
-    elim c.in_ok-follow_place-2.ensures.found [
-      | inl same ↦ (c.loop-place.invariant.found stop (sym same ∙ at)).0 low within
-      | inr here ↦
-          let end : stop ≡ c.args.attempt.now.last = same_Some _ _ (sym at ∙ here) in
-          omega (arith, end, within.0, within.1)
-    ]
+pub follow_place-requires-2-clause-waits : goal.follow_place-requires-2-clause-waits
+follow_place-requires-2-clause-waits c =
+    let waits = c.loop-place.invariant.waits in
+    record {
+      within = within_lower c.args.attempt.now.last c.loop-place.place c.args.attempt.now.last (left_in_sweep c.args.attempt.now.code.now c.loop-place.sweep) (omega (arith, c.loop-place-test.false)) waits.within;
+      rising = waits.rising;
+      drained = waits.drained;
+      empty = waits.empty;
+    }
 
-pub returns-clause-within : goal.returns-clause-within
-returns-clause-within c stop is =
-    let at = sym c.finish-2.ensures.found ∙ is in
-    elim c.in_ok-follow_place-2.ensures.found [
-      | inl same ↦ (c.loop-place.invariant.found stop (sym same ∙ at)).1
-      | inr here ↦
-          let end : stop ≡ c.args.attempt.now.last = same_Some _ _ (sym at ∙ here) in
-          omega (arith, end)
-    ]
+pub follow_place-requires-clause-ready : goal.follow_place-requires-clause-ready
+follow_place-requires-clause-ready c = record { ready = ready_on c.requires.ready.ready c.loop-place.invariant.worked; low = c.loop-place.invariant.base }
 
-pub follow_place-requires-2-clause-within : goal.follow_place-requires-2-clause-within
-follow_place-requires-2-clause-within c =
-    within_lower c.args.attempt.now.last c.loop-place.place c.args.attempt.now.last (left_in_sweep c.args.attempt.now.code.now c.loop-place.sweep) (omega (arith, c.loop-place-test.false)) c.loop-place.invariant.within
+pub follow_place-requires-2-clause-ready : goal.follow_place-requires-2-clause-ready
+follow_place-requires-2-clause-ready c = record { ready = ready_on c.requires.ready.ready c.loop-place.invariant.worked; low = omega (arith, c.requires.ready.within.0, c.requires.ready.within.1) }
 
-pub returns-in_err-follow_place-clause-heeds : goal.returns-in_err-follow_place-clause-heeds
-returns-in_err-follow_place-clause-heeds c = runs_on _ _ _ _ c.loop-place.invariant.heeds c.follow_place.ensures.heeds
+pub returns-in_err-follow_place-clause-ran : goal.returns-in_err-follow_place-clause-ran
+returns-in_err-follow_place-clause-ran c = ran_err c.loop-place.invariant.worked c.follow_place.ensures.ran (search rules) (omega arith)
 
-pub returns-in_err-follow_place-2-clause-heeds : goal.returns-in_err-follow_place-2-clause-heeds
-returns-in_err-follow_place-2-clause-heeds c = runs_on _ _ _ _ c.loop-place.invariant.heeds c.follow_place-2.ensures.heeds
+pub returns-in_err-follow_place-2-clause-ran : goal.returns-in_err-follow_place-2-clause-ran
+returns-in_err-follow_place-2-clause-ran c = ran_err c.loop-place.invariant.worked c.follow_place-2.ensures.ran (search rules) (omega arith)
 
-pub returns-clause-heeds : goal.returns-clause-heeds
-returns-clause-heeds c = runs_on _ _ _ _ c.loop-place.invariant.heeds c.follow_place-2.ensures.heeds
+pub returns-then-is_over-clause-ran : goal.returns-then-is_over-clause-ran
+returns-then-is_over-clause-ran c = ran_ok c.loop-place.invariant.worked (omega arith)
+
+pub returns-clause-ran : goal.returns-clause-ran
+returns-clause-ran c = ran_ok (worked_on c.loop-place.invariant.worked c.follow_place-2.ensures.ran.worked) (omega arith)

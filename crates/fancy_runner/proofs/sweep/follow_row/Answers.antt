@@ -1,4 +1,4 @@
-use Rattle.std.proofs.Common.{◌≡◌, ◌+◌, ◌∷◌, ◌++◌, ◌∙◌, inl, inr, List, sym, ap, subst, append_assoc, arith}
+use Rattle.std.proofs.Common.{rules, ◌≡◌, ◌+◌, ◌∷◌, ◌++◌, ◌∙◌, inl, inr, List, sym, ap, subst, append_assoc, arith}
 use Rattle.std.specs.Prelude.{reverse}
 use Rattle.std.proofs.lemmas.List.{append-nil}
 use Rattle.fancy_runner.specs.Runner.{burden}
@@ -8,7 +8,7 @@ use Rattle.fancy_runner.specs.Sweeps.{found_in}
 use Rattle.fancy_code.specs.Thread.{Thread}
 use Rattle.fancy_runner.specs.Threads.{thread_of}
 use Rattle.fancy_runner.proofs.SweepLemmas.{past_reverse, within_reverse, within_past, burden_append, burden_reverse}
-use Rattle.fancy_code.proofs.WorkLemmas.{runs_on}
+use Rattle.fancy_runner.proofs.RunLemmas.{ready_on, worked_on, ran_ok, ran_err}
 use Rattle.fancy_runner.proofs.sweep.follow_row.Goals as goal
 
 pub threads-preserved : goal.threads-preserved
@@ -19,7 +19,7 @@ threads-preserved c =
     record {
       swept = λ low kept deep goal front begins from past s.
           c.in_ok-follow_one.ensures.swept low kept deep goal front begins from past c.threads.invariant.past
-          (subst (λ (x : List Thread). SweepingIn c.args.attempt.now low kept deep goal c.threads.table ((front ++ reverse c.threads.sweep.later) ++ x) (found_in kept c.threads.sweep)) row
+          (subst (λ (x : List Thread). SweepingIn c.args.attempt.now low kept deep goal c.threads.notes.table ((front ++ reverse c.threads.sweep.later) ++ x) (found_in kept c.threads.sweep)) row
           (c.threads.invariant.swept low kept deep goal front begins from past s));
       row = elim c.in_ok-follow_one.ensures.row [
         | inl same ↦ subst (λ (x : List Thread). AllWithin c.args.place c.args.attempt.now.last x) (sym same) all.2
@@ -35,13 +35,8 @@ threads-preserved c =
         backlog = c.follow_one.ensures.kept.backlog ∙ c.threads.invariant.kept.backlog;
         waiting = c.follow_one.ensures.kept.waiting ∙ c.threads.invariant.kept.waiting;
       };
-      room = c.follow_one.ensures.room ∙ c.threads.invariant.room;
       spent = omega (arith, ap (burden c.args.attempt.now.code.now) row, c.in_ok-follow_one.ensures.spent, c.threads.invariant.spent);
-      steps = omega (arith, c.follow_one.ensures.steps, c.threads.invariant.steps);
-      returns = omega (arith, c.follow_one.ensures.returns, c.threads.invariant.returns);
-      paired = omega (arith, c.follow_one.ensures.paired, c.follow_one.ensures.steps, c.follow_one.ensures.returns, c.threads.invariant.steps, c.threads.invariant.returns, c.threads.invariant.paired);
-      last_lines = c.follow_one.ensures.last_lines;
-      heeds = runs_on _ _ _ _ c.threads.invariant.heeds c.follow_one.ensures.heeds;
+      worked = worked_on c.threads.invariant.worked c.follow_one.ensures.ran.worked;
     }
 
 pub returns-clause-swept : goal.returns-clause-swept
@@ -51,7 +46,7 @@ returns-clause-swept c low kept deep goal front begins from past s =
     let same : front ++ c.pass_all.new.row ≡ (front ++ turned) ++ c.threads.sweep.row =
     ap (λ (x : List Thread). front ++ x) c.in_ok-pass_all.ensures.row ∙ sym (append_assoc front turned c.pop.new.self)
     ∙ ap (λ (x : List Thread). (front ++ turned) ++ x) (popped.1 ∙ sym popped.0) in
-    subst (λ (x : List Thread). SweepingIn c.args.attempt.now low kept deep goal c.threads.table x (found_in kept c.threads.sweep)) (sym same)
+    subst (λ (x : List Thread). SweepingIn c.args.attempt.now low kept deep goal c.threads.notes.table x (found_in kept c.threads.sweep)) (sym same)
     (c.threads.invariant.swept low kept deep goal front begins from past s)
 
 pub returns-clause-row : goal.returns-clause-row
@@ -72,5 +67,14 @@ returns-clause-spent c =
     let turned = reverse c.threads.sweep.later in
     omega (arith, ap (burden code) c.in_ok-pass_all.ensures.row, burden_append code turned c.pop.new.self, burden_reverse code c.threads.sweep.later, ap (burden code) popped.1, ap (burden code) popped.0, c.threads.invariant.spent)
 
-pub returns-in_err-follow_one-clause-heeds : goal.returns-in_err-follow_one-clause-heeds
-returns-in_err-follow_one-clause-heeds c = runs_on _ _ _ _ c.threads.invariant.heeds c.follow_one.ensures.heeds
+pub follow_one-requires-clause-ready : goal.follow_one-requires-clause-ready
+follow_one-requires-clause-ready c = record { ready = ready_on c.requires.ready.ready c.threads.invariant.worked; low = c.requires.ready.low }
+
+pub returns-in_err-follow_one-clause-ran : goal.returns-in_err-follow_one-clause-ran
+returns-in_err-follow_one-clause-ran c =
+    let popped = rw c.in-Some.is at c.in_ok-pair.ensures in
+    let row : c.threads.sweep.row ≡ thread_of c.in-Some.pair c.pop.new.threads.slots ∷ c.pop.new.self = popped.0 in
+    ran_err c.threads.invariant.worked c.follow_one.ensures.ran (search rules) (omega (arith, ap (burden c.args.attempt.now.code.now) row))
+
+pub returns-clause-ran : goal.returns-clause-ran
+returns-clause-ran c = ran_ok c.threads.invariant.worked (omega arith)

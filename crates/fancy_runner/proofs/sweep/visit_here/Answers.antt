@@ -15,14 +15,14 @@ pub returns-in_ok-push_current-in-On-clause-swept : goal.returns-in_ok-push_curr
 returns-in_ok-push_current-in-On-clause-swept c low kept deep goal found front back begins within past later s =
     let saved = saved_in c.args.attempt.now c.visit.new.threads in
     let current = current_in c.args.attempt.now c.visit.new.pair c.visit.new.threads in
-    let here : SweepingIn c.args.attempt.now low kept deep goal c.visit.new.table ((front ++ reverse c.args.later.now) ++ current ∷ (saved ++ back)) found =
+    let here : SweepingIn c.args.attempt.now low kept deep goal c.visit.new.notes.table ((front ++ reverse c.args.later.now) ++ current ∷ (saved ++ back)) found =
     rw c.in-On.is at (c.in_ok-visit.ensures.swept low kept deep goal found (front ++ reverse c.args.later.now) back begins within (past_both c.args.pair.now.place front c.args.later.now past later) s) in
-    subst (λ (x : List Thread). SweepingIn c.args.attempt.now low kept deep goal c.visit.new.table ((front ++ reverse x) ++ (saved ++ back)) found) (sym c.in_ok-push_current-in-On.ensures)
-    (subst (λ (x : List Thread). SweepingIn c.args.attempt.now low kept deep goal c.visit.new.table x found) (moved_over front c.args.later.now (saved ++ back) current) here)
+    subst (λ (x : List Thread). SweepingIn c.args.attempt.now low kept deep goal c.visit.new.notes.table ((front ++ reverse x) ++ (saved ++ back)) found) (sym c.in_ok-push_current-in-On.ensures)
+    (subst (λ (x : List Thread). SweepingIn c.args.attempt.now low kept deep goal c.visit.new.notes.table x found) (moved_over front c.args.later.now (saved ++ back) current) here)
 
 pub returns-in_ok-push_current-in-On-clause-later : goal.returns-in_ok-push_current-in-On-clause-later
 returns-in_ok-push_current-in-On-clause-later c low from all =
-    let within = c.in_ok-visit.ensures.within c.args.attempt.now.base c.requires.within in
+    let within = c.in_ok-visit.ensures.within c.args.attempt.now.base c.requires.ready.within in
     subst (λ (x : List Thread). AllWithin low c.args.attempt.now.last x) (sym c.in_ok-push_current-in-On.ensures) (omega (arith, from, c.in_ok-visit.ensures.forth), within.1, all)
 
 pub returns-in-Dead-clause-swept : goal.returns-in-Dead-clause-swept
