@@ -4,7 +4,7 @@ ghost use Rattle.std.specs.Prelude.{◌≡◌, ◌+◌, ◌-◌, ◌++◌, ◌�
 ghost use Rattle.fancy_code.specs.Code.{instrs_of};
 ghost use Rattle.fancy_code.specs.CodeLength.{code_len};
 ghost use Rattle.fancy_code.specs.Reading.{unit_read};
-ghost use Rattle.fancy_code.specs.Work.{steps_of, returns_of, units_of};
+ghost use Rattle.fancy_input.specs.Work.{steps_of, returns_of, units_of};
 ghost use Rattle.fancy_code.specs.declared.code.Code.{Code};
 ghost use Rattle.fancy_automaton.specs.Steps.{IsStep, at_of, from_of};
 ghost use Rattle.fancy_automaton.specs.Trail.{came_at};
@@ -21,7 +21,7 @@ use crate::transitions::{Entry, Transition, Transitions};
 use crate::way::Way;
 use fancy_code::code::Code;
 use fancy_code::reading::Reading;
-use fancy_code::work::Work;
+use fancy_input::work::Work;
 use std::alloc::{AllocError, Global};
 use std::mem;
 

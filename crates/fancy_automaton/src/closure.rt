@@ -4,7 +4,7 @@ ghost use Rattle.std.specs.Prelude.{◌≡◌, ◌+◌, ◌*◌, ◌<◌, ◌≤
 ghost use Rattle.std.specs.Option.{option_or};
 ghost use Rattle.fancy_code.specs.Code.{instrs_of};
 ghost use Rattle.fancy_code.specs.CodeLength.{code_len};
-ghost use Rattle.fancy_code.specs.Work.{steps_of, returns_of, units_of};
+ghost use Rattle.fancy_input.specs.Work.{steps_of, returns_of, units_of};
 ghost use Rattle.fancy_code.specs.Reading.{unit_read};
 ghost use Rattle.fancy_automaton.specs.Ways.{Ends, Solves, Closing, AllKnown, Visited, marked, first_end, match_end};
 
@@ -12,7 +12,7 @@ use crate::marks::Marks;
 use crate::way::{Effect, Way, effect_at};
 use fancy_code::code::Code;
 use fancy_code::reading::Reading;
-use fancy_code::work::Work;
+use fancy_input::work::Work;
 use std::alloc::AllocError;
 
 /// Marks an instruction, and says whether it had no mark.

@@ -10,7 +10,7 @@ ghost use Rattle.fancy_code.specs.Compile.{IsCodeOf};
 ghost use Rattle.fancy_code.specs.Queries.{query_of, unfiltered, answer_with, most_steps};
 ghost use Rattle.fancy_code.specs.Search.{search};
 ghost use Rattle.fancy_prefilter.specs.Seen.{NoneMayStart};
-ghost use Rattle.fancy_code.specs.Work.{steps_of, returns_of, units_of};
+ghost use Rattle.fancy_input.specs.Work.{steps_of, returns_of, units_of};
 ghost use Rattle.fancy_automaton.specs.Cells.{IsFor, IsBounded};
 ghost use Rattle.fancy_automaton.specs.Futures.{ArePlain};
 ghost use Rattle.fancy_automaton.specs.Search.{BegunIn, KeepsPlaces, Steady, at_position, ends_in, leftmost_in};
@@ -21,10 +21,10 @@ use fancy_code::attempt::Attempt;
 use fancy_code::code::Code;
 use fancy_code::found::Found;
 use fancy_code::options::SearchOptions;
-use fancy_code::refusal::SearchRefusal;
-use fancy_code::work::Work;
 use fancy_input::input::Request;
+use fancy_input::refusal::SearchRefusal;
 use fancy_input::span::Span;
+use fancy_input::work::Work;
 use std::alloc::AllocError;
 
 /// Where the leftmost match within the bounds begins and ends that is preferred there, if there is one.

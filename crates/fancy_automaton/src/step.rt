@@ -3,7 +3,7 @@
 ghost use Rattle.std.specs.Prelude.{◌≡◌, ◌+◌, ◌<◌, ◌≤◌, IfOk, None, [], option_map, reverse, length};
 ghost use Rattle.fancy_code.specs.Code.{instrs_of};
 ghost use Rattle.fancy_code.specs.CodeLength.{code_len};
-ghost use Rattle.fancy_code.specs.Work.{steps_of, returns_of, units_of};
+ghost use Rattle.fancy_input.specs.Work.{steps_of, returns_of, units_of};
 ghost use Rattle.fancy_code.specs.Reading.{unit_read};
 ghost use Rattle.fancy_automaton.specs.Steps.{IsStep, waiting};
 
@@ -13,7 +13,7 @@ use crate::marks::Marks;
 use crate::way::Way;
 use fancy_code::code::Code;
 use fancy_code::reading::Reading;
-use fancy_code::work::Work;
+use fancy_input::work::Work;
 use std::alloc::{AllocError, Global};
 
 /// What the ways that wait at a place come to where an item is read.

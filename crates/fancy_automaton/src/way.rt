@@ -4,13 +4,13 @@ ghost use Rattle.std.specs.Prelude.{◌≡◌, ◌+◌, ◌<◌, ◌≤◌, ℕ,
 ghost use Rattle.fancy_code.specs.Code.{instrs_of, instr_in, sets_len};
 ghost use Rattle.fancy_code.specs.CodeLength.{code_len};
 ghost use Rattle.fancy_code.specs.Run.{instr_at};
-ghost use Rattle.fancy_code.specs.Work.{steps_of, returns_of, units_of};
+ghost use Rattle.fancy_input.specs.Work.{steps_of, returns_of, units_of};
 ghost use Rattle.fancy_code.specs.Reading.{unit_read};
 ghost use Rattle.fancy_automaton.specs.Ways.{effect_of, reads_if};
 
 use fancy_code::code::{Code, Instr};
 use fancy_code::reading::Reading;
-use fancy_code::work::Work;
+use fancy_input::work::Work;
 
 /// A way at a place.
 #[derive(Clone, Copy, PartialEq, Eq, Debug)]

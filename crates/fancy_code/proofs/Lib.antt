@@ -1,6 +1,5 @@
 pub mod SumLemmas
 pub mod MarkingLemmas
-pub mod WorkLemmas
 pub mod ThreadLemmas
 pub mod ReadingLemmas
 pub mod WordCharacters

@@ -5,9 +5,9 @@ use Rattle.fancy_bytes.specs.Sets.{ByteFlags, member}
 use Rattle.fancy_code.specs.Context.{Context, State}
 use Rattle.fancy_code.specs.Instructions.{Instruction, Split}
 use Rattle.fancy_code.specs.Run.{Raw, Note, Stop, instr_at, run}
-use Rattle.fancy_code.specs.declared.choice.Beginnings.{Beginnings}
-use Rattle.fancy_code.specs.declared.choice.Choice.{Choice}
-use Rattle.fancy_code.specs.declared.choice.Choice.TheVariants.{Both, First, Second}
+use Rattle.fancy_prefilter.specs.declared.choice.Beginnings.{Beginnings}
+use Rattle.fancy_prefilter.specs.declared.choice.Choice.{Choice}
+use Rattle.fancy_prefilter.specs.declared.choice.Choice.TheVariants.{Both, First, Second}
 
 -- whether a way stops
 abbrev pub has_stop : List Raw → Bool
@@ -44,9 +44,3 @@ abbrev pub LeavesOut : List Instruction → Meaning → List ℕ → ℕ → Cho
 LeavesOut code m haystack place Both first second = Unit {0}
 LeavesOut code m haystack place First first second = StopsNowhere code m haystack place second
 LeavesOut code m haystack place Second first second = StopsNowhere code m haystack place first
-
--- a way is left out where its set does not have the byte
-abbrev pub ChosenBy : Choice → Bool → Bool → Type 0
-ChosenBy Both first second = Unit {0}
-ChosenBy First first second = second ≡ false
-ChosenBy Second first second = first ≡ false

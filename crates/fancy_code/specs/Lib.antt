@@ -4,7 +4,6 @@ pub mod Backreference
 pub mod Trace
 pub mod Search
 pub mod Literals
-pub mod Work
 pub mod Instructions
 pub mod Marking
 pub mod CodeLength

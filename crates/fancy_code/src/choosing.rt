@@ -6,10 +6,10 @@ ghost use Rattle.fancy_code.specs.Choices.{AreBeginnings, BeginAt, BeginsAmong};
 ghost use Rattle.fancy_code.specs.Code.{instrs_of};
 ghost use Rattle.fancy_code.specs.Compile.{IsCodeOf};
 
-use crate::choice::Beginnings;
 use crate::code::Code;
 use crate::prefilter::sets_within;
 use fancy_bytes::byte_set::ByteSet;
+use fancy_prefilter::choice::Beginnings;
 use std::alloc::{AllocError, Global};
 use std::mem;
 

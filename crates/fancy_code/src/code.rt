@@ -8,9 +8,9 @@ ghost use Rattle.fancy_code.specs.Choices.{AreBeginnings};
 ghost use Rattle.fancy_code.specs.Instructions.{are_known, edges_in, with_sets};
 ghost use Rattle.fancy_code.specs.Marking.{IsPaid};
 
-use crate::choice::{Beginnings, Choice};
 use crate::marking::Marking;
-use crate::work::Work;
+use fancy_input::work::Work;
+use fancy_prefilter::choice::{Beginnings, Choice};
 use fancy_prefilter::prefilter::Prefilter;
 use fancy_tree::char_set::CharSet;
 use fancy_tree::tree::{Assertion, Meaning};
@@ -123,7 +123,7 @@ impl Code {
     ghost use Rattle.fancy_code.specs.CodeLength.{code_len};
     ghost use Rattle.fancy_code.specs.Instructions.{Split};
     ghost use Rattle.fancy_code.specs.Run.{instr_at};
-    ghost use Rattle.fancy_code.specs.Work.{stepped_within};
+    ghost use Rattle.fancy_input.specs.Work.{stepped_within};
 
     /// These instructions with these sets, which begin at `start`.
     pub(crate) fn new(

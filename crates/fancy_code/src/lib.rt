@@ -4,7 +4,6 @@
 pub mod attempt;
 mod branching;
 pub mod byte_laws;
-pub mod choice;
 mod choosing;
 pub mod classify;
 pub mod code;
@@ -16,8 +15,6 @@ mod marking;
 pub mod options;
 mod prefilter;
 pub mod reading;
-pub mod refusal;
 pub mod slot;
 pub mod step;
 mod text;
-pub mod work;

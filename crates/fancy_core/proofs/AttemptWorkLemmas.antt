@@ -1,8 +1,8 @@
 -- What an attempt leaves of a limit of work, where what was done before it counts.
 use Rattle.std.proofs.Common.{◌≡◌, ◌+◌, ◌-◌, ◌^◌, ◌<◌, ◌≤◌, ℕ, Option, None, Some, min, refl, arith}
 use Rattle.std.specs.Option.{ForSome}
-use Rattle.fancy_code.specs.declared.work.Work.{Work}
-use Rattle.fancy_code.specs.Work.{steps_of, units_of, work_of, IsWithin, IsSpent}
+use Rattle.fancy_input.specs.declared.work.Work.{Work}
+use Rattle.fancy_input.specs.Work.{steps_of, units_of, work_of, IsWithin, IsSpent}
 
 -- an attempt began after what was done before, and what it did was added to that
 pub record IsAdded (before begun attempt after : Work) : Type 0 where

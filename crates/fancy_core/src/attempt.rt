@@ -2,7 +2,7 @@
 
 ghost use Rattle.std.specs.Prelude.{◌≡◌, ◌≤◌, ◌+◌, true, IfOk, IfErr, IfSome, IfNone, length};
 ghost use Rattle.fancy_bytes.specs.Lacks.{AreKnown};
-ghost use Rattle.fancy_code.specs.Work.{steps_of, returns_of, units_of, work_of, IsWithin, IsSpent};
+ghost use Rattle.fancy_input.specs.Work.{steps_of, returns_of, units_of, work_of, IsWithin, IsSpent};
 ghost use Rattle.fancy_input.specs.Inputs.{haystack_in, request_in};
 ghost use Rattle.fancy_input.specs.Requests.{effective_start};
 ghost use Rattle.fancy_core.specs.Captures.{spans_if, spans_in, searched_in, found_by};
@@ -19,9 +19,9 @@ ghost use Rattle.fancy_tree.specs.declared.error.Error.TheVariants.{Memory};
 use crate::captures::Captures;
 use crate::regex::Regex;
 use fancy_code::found::Found;
-use fancy_code::work::Work;
 use fancy_input::input::{Input, Request};
 use fancy_input::regex_input::RegexInput;
+use fancy_input::work::Work;
 use fancy_search::cache::{AttemptCache, AttemptNotes, Cache};
 use fancy_search::groups::groups_found;
 use fancy_tree::error::Result;

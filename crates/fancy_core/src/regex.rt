@@ -4,7 +4,7 @@ ghost use Rattle.std.specs.Prelude.{◌≡◌, ◌≤◌, ◌↔◌, ◌+◌, �
 ghost use Rattle.fancy_tree.specs.GroupNames.{names_of};
 ghost use Rattle.fancy_tree.specs.Sizes.{nodes};
 ghost use Rattle.fancy_input.specs.Inputs.{haystack_in, request_in};
-ghost use Rattle.fancy_code.specs.Work.{steps_of, returns_of, IsWithin, IsSpent};
+ghost use Rattle.fancy_input.specs.Work.{steps_of, returns_of, IsWithin, IsSpent};
 ghost use Rattle.fancy_code.specs.Search.{search};
 ghost use Rattle.fancy_code.specs.Answers.{HasNone};
 ghost use Rattle.fancy_search.specs.Compiled.{IsSpelled};
@@ -13,9 +13,9 @@ ghost use Rattle.fancy_search.specs.Programs.{program_pattern, program_options, 
 ghost use Rattle.fancy_search.specs.Searching.{Suits, StartsCleanly};
 
 use fancy_bytes::lacking::KnownBytes;
-use fancy_code::work::Work;
 use fancy_input::input::{Haystack, Input, Request};
 use fancy_input::regex_input::RegexInput;
+use fancy_input::work::Work;
 use fancy_search::cache::Cache;
 use fancy_search::options::Options;
 use fancy_search::program::Program;

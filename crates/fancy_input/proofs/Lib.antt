@@ -3,3 +3,4 @@ pub mod CharacterLemmas
 pub mod WidthLemmas
 pub mod LastLinesLemmas
 pub mod TextLemmas
+pub mod WorkLemmas

@@ -4,3 +4,4 @@ pub mod Requests
 pub mod Spans
 pub mod Lines
 pub mod LastLines
+pub mod Work

@@ -10,5 +10,7 @@ pub mod last_lines;
 pub mod lines;
 pub mod matches;
 pub mod places;
+pub mod refusal;
 pub mod regex_input;
 pub mod span;
+pub mod work;

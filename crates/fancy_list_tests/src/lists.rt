@@ -2,7 +2,7 @@
 //! search alone may take, and the code's length for each.
 
 ghost use Rattle.std.specs.Prelude.{◌≡◌, ◌≤◌, true};
-ghost use Rattle.fancy_code.specs.Work.{steps_of, returns_of};
+ghost use Rattle.fancy_input.specs.Work.{steps_of, returns_of};
 ghost use Rattle.fancy_search.specs.SearchCounts.{HasRoomFor};
 
 use crate::asking::{check, regex_of, repeated};

@@ -8,10 +8,10 @@ use Rattle.fancy_machine.specs.Frames.{Spot, Frame, Held, saved}
 use Rattle.fancy_code.specs.Thread.{size_of, IsKnown, events_of}
 use Rattle.fancy_machine.specs.Machine.{IsSpent, Takes, left, after, finish, IsStep, Crowded, Turned, Fewer, Searching, better, taken_outcome, final, returns_to, marks_to}
 use Rattle.std.specs.Prelude.{Result, Ok, Err, IfOk, OnOk}
-use Rattle.fancy_code.specs.declared.work.Work.{Work}
-use Rattle.fancy_code.specs.declared.refusal.SearchRefusal.{SearchRefusal}
-use Rattle.fancy_code.specs.declared.refusal.SearchRefusal.TheVariants.{Memory, Returns, Choices, Steps}
-use Rattle.fancy_code.specs.Work.{returns_of}
+use Rattle.fancy_input.specs.declared.work.Work.{Work}
+use Rattle.fancy_input.specs.declared.refusal.SearchRefusal.{SearchRefusal}
+use Rattle.fancy_input.specs.declared.refusal.SearchRefusal.TheVariants.{Memory, Returns, Choices, Steps}
+use Rattle.fancy_input.specs.Work.{returns_of}
 use Rattle.fancy_machine.specs.Machine.{TookBranch}
 use Rattle.fancy_code.specs.declared.step.Next.{Next}
 use Rattle.fancy_machine.specs.declared.attempt.Attempt.{Attempt}

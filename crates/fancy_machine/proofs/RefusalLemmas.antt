@@ -1,7 +1,7 @@
 -- A `?` passes a refusal on.
 use Rattle.std.proofs.Common.{◌≡◌, Result, Ok, Err, sym, ap, ◌∙◌}
 use Rattle.std.specs.Prelude.{IsErrAnd}
-use Rattle.fancy_code.specs.declared.refusal.SearchRefusal.{SearchRefusal}
+use Rattle.fancy_input.specs.declared.refusal.SearchRefusal.{SearchRefusal}
 
 abbrev refusal_in : {A : Type 0} → SearchRefusal → Result A SearchRefusal → SearchRefusal
 refusal_in d (Ok x) = d

@@ -2,8 +2,8 @@
 use Rattle.std.proofs.Common.{◌≡◌, ℕ, ◌+◌, ◌-◌, ◌^◌, ◌<◌, ◌≤◌, Bool, true, false, Option, Some, None, refl, ap, ◌∙◌, arith}
 use Rattle.std.proofs.lemmas.Bool.{ltb-false}
 use Rattle.std.specs.Prelude.{nat_lt, if◌then◌else◌}
-use Rattle.fancy_code.specs.declared.work.Work.{Work}
-use Rattle.fancy_code.specs.Work.{steps_of, returns_of, units_of, stepped, stepped_within, went_back, IsWithin, AddsUnits}
+use Rattle.fancy_input.specs.declared.work.Work.{Work}
+use Rattle.fancy_input.specs.Work.{steps_of, returns_of, units_of, stepped, stepped_within, went_back, IsWithin, AddsUnits}
 
 stepped_more : (w : Work) (b : Bool) → steps_of w ≤ steps_of (if b then stepped w else w)
 stepped_more w true = omega arith

@@ -2,11 +2,11 @@
 use Rattle.std.specs.Prelude.{◌≡◌, ℕ, zero, suc, ◌+◌, ◌<◌, ◌≤◌, ◌⊎◌, Bool, true, false, List, [], ◌∷◌, length, Option, Some, None, Result, Ok, Err, if◌then◌else◌, ◌==◌, not, ◌&&◌, nat_lt, slice_index, slice_set}
 use Rattle.fancy_code.specs.declared.step.Next.{Next}
 use Rattle.fancy_code.specs.declared.step.Next.TheVariants.{On, Dead, Found}
-use Rattle.fancy_code.specs.declared.refusal.SearchRefusal.{SearchRefusal}
-use Rattle.fancy_code.specs.declared.refusal.SearchRefusal.TheVariants.{Memory, Returns, Choices, Steps}
+use Rattle.fancy_input.specs.declared.refusal.SearchRefusal.{SearchRefusal}
+use Rattle.fancy_input.specs.declared.refusal.SearchRefusal.TheVariants.{Memory, Returns, Choices, Steps}
 use Rattle.fancy_code.specs.declared.slot.Slot.{Slot}
-use Rattle.fancy_code.specs.declared.work.Work.{Work}
-use Rattle.fancy_code.specs.Work.{returns_of, went_back}
+use Rattle.fancy_input.specs.declared.work.Work.{Work}
+use Rattle.fancy_input.specs.Work.{returns_of, went_back}
 use Rattle.fancy_code.specs.Context.{State, moved_to, with_capture}
 use Rattle.fancy_code.specs.Events.{Event, mark, return, outcome, any, ends_look}
 use Rattle.fancy_code.specs.Run.{Raw, Note, Stop, choice_opened, returned, fetched, Go, before, join, fenced, resume, halt, erase}

@@ -5,7 +5,7 @@ ghost use Rattle.fancy_tree.specs.Pattern.{Pattern};
 ghost use Rattle.fancy_input.specs.LastLines.{KnowsLastLines};
 ghost use Rattle.fancy_code.specs.Queries.{query_of};
 ghost use Rattle.fancy_code.specs.Search.{continues_from};
-ghost use Rattle.fancy_code.specs.Work.{steps_of, returns_of, units_of, stepped_within, IsWithin, IsSpent, HasWorkLeft, AddsReturns, AddsUnits};
+ghost use Rattle.fancy_input.specs.Work.{steps_of, returns_of, units_of, stepped_within, IsWithin, IsSpent, HasWorkLeft, AddsReturns, AddsUnits};
 ghost use Rattle.fancy_code.specs.Thread.{IsKnown};
 ghost use Rattle.fancy_prices.specs.Splits.{AreSplits};
 ghost use Rattle.fancy_prices.specs.Once.{splits_once};
@@ -18,11 +18,11 @@ use crate::trail::Trail;
 use fancy_code::code::Code;
 use fancy_code::options::{SearchOptions, is_match_boundary};
 use fancy_code::reading::SuppressedEnds;
-use fancy_code::refusal::SearchRefusal;
 use fancy_code::step::Next;
-use fancy_code::work::Work;
 use fancy_input::input::Request;
 use fancy_input::last_lines::LastLines;
+use fancy_input::refusal::SearchRefusal;
+use fancy_input::work::Work;
 use fancy_prices::splits::Splits;
 
 /// The attempts of one search: the code that they follow, the haystack, and what they accept there.

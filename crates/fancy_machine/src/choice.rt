@@ -9,8 +9,8 @@ use crate::attempt::Attempt;
 use crate::layer::Kind;
 use crate::trail::Trail;
 use fancy_code::code::Instr;
-use fancy_code::refusal::SearchRefusal;
 use fancy_code::step::Next;
+use fancy_input::refusal::SearchRefusal;
 
 /// Saves the second of two ways, and goes on by the first.
 pub(crate) fn split(trail: &mut Trail, first: usize, second: usize) -> Result<Next, SearchRefusal>

@@ -3,7 +3,7 @@
 
 ghost use Rattle.std.specs.Prelude.{◌≡◌, ◌+◌, ◌-◌, ◌^◌, ◌<◌, ◌≤◌, ◌⊎◌, ℕ, List, if◌then◌else◌, true, false, length, Err, IfErr, IfOk, IfSome, Option};
 ghost use Rattle.fancy_code.specs.Context.{State};
-ghost use Rattle.fancy_code.specs.Work.{returns_of, AddsUnits, IsWithin, IsSpent, HasWorkLeft};
+ghost use Rattle.fancy_input.specs.Work.{returns_of, AddsUnits, IsWithin, IsSpent, HasWorkLeft};
 ghost use Rattle.fancy_prices.specs.declared.splits.ToldSplit.{ToldSplit};
 ghost use Rattle.fancy_prices.specs.declared.splits.Splits.{Splits};
 ghost use Rattle.fancy_prices.specs.Splits.{AreApart, IsNoted};
@@ -15,9 +15,9 @@ ghost use Rattle.fancy_machine.specs.Units.{CountsOn, CountsUnits};
 use crate::attempt::Attempt;
 use crate::layer::{Kind, Layer, earlier};
 use crate::trail::Trail;
-use fancy_code::refusal::SearchRefusal;
 use fancy_code::step::Next;
-use fancy_code::work::Work;
+use fancy_input::refusal::SearchRefusal;
+use fancy_input::work::Work;
 use fancy_prices::splits::ToldSplit;
 
 /// How many items of a loop stand one after another from a place on, each of them one byte, up to an end.

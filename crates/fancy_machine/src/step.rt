@@ -2,7 +2,7 @@
 
 ghost use Rattle.std.specs.Prelude.{◌≡◌, ◌≢◌, Err, IfOk};
 ghost use Rattle.fancy_input.specs.LastLines.{KnowsLastLines};
-ghost use Rattle.fancy_code.specs.Work.{returns_of, stepped_within, IsWithin, IsSpent, HasWorkLeft, AddsUnits};
+ghost use Rattle.fancy_input.specs.Work.{returns_of, stepped_within, IsWithin, IsSpent, HasWorkLeft, AddsUnits};
 ghost use Rattle.fancy_machine.specs.Attempt.{IsFull, StepsTo};
 ghost use Rattle.fancy_machine.specs.Units.{CountsUnits, units_ahead};
 
@@ -13,10 +13,10 @@ use crate::read::{go_back, read_character, read_member, read_raw_byte, recall};
 use crate::texts::text_len;
 use crate::trail::Trail;
 use fancy_code::code::Instr;
-use fancy_code::refusal::SearchRefusal;
 use fancy_code::step::Next;
-use fancy_code::work::Work;
 use fancy_input::last_lines::LastLines;
+use fancy_input::refusal::SearchRefusal;
+use fancy_input::work::Work;
 
 /// Follows the instruction that comes next. The units that it goes over are counted before it does.
 fn follow(

@@ -3,7 +3,7 @@
 ghost use Rattle.std.specs.Prelude.{◌≡◌, ◌^◌, ◌≢◌, ◌+◌, ◌<◌, ◌≤◌, ◌↔◌, List, [], ◌∷◌, Err, Some, map, length, replicate, IsTrue, OnOk, slice_index, true, is_some};
 ghost use Rattle.fancy_code.specs.Context.{group_span};
 ghost use Rattle.fancy_code.specs.Thread.{empty_slot, slot_span};
-ghost use Rattle.fancy_code.specs.Work.{returns_of};
+ghost use Rattle.fancy_input.specs.Work.{returns_of};
 ghost use Rattle.fancy_machine.specs.Log.{cell_slot, writes_allowed};
 ghost use Rattle.fancy_machine.specs.Frames.{Frame, Region, saved};
 ghost use Rattle.fancy_machine.specs.Layers.{spot_of, outcome_of, frame_by, saves};
@@ -17,11 +17,11 @@ use crate::layer::{
 };
 use crate::log::{Cell, Write, begin_cells, cell_at, forget_levels, has_span, thin, undo};
 use crate::runs::places_dead;
-use fancy_code::refusal::SearchRefusal;
 use fancy_code::slot::Slot;
 use fancy_code::step::Next;
-use fancy_code::work::Work;
+use fancy_input::refusal::SearchRefusal;
 use fancy_input::span::Span;
+use fancy_input::work::Work;
 use std::alloc::{AllocError, Global};
 use std::marker::Model;
 use std::mem::swap;

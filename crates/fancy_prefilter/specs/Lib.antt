@@ -9,3 +9,4 @@ pub mod Rows
 pub mod Prefilters
 pub mod Seen
 pub mod NextOpening
+pub mod Chosen

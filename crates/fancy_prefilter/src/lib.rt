@@ -3,6 +3,7 @@
 
 pub mod branches;
 pub mod candidates;
+pub mod choice;
 mod half_tables;
 pub mod items;
 pub mod key_scan;

@@ -5,8 +5,8 @@ use Rattle.std.proofs.lemmas.Option.{slice_get_within, get_or_from_slice_get}
 use Rattle.std.specs.Option.{ForSome}
 use Rattle.fancy_tree.specs.declared.error.Error.{Error}
 use Rattle.fancy_input.specs.declared.input.Request.{Request}
-use Rattle.fancy_code.specs.declared.work.Work.{Work}
-use Rattle.fancy_code.specs.Work.{steps_of, units_of, work_of, IsSpent, IsWithin}
+use Rattle.fancy_input.specs.declared.work.Work.{Work}
+use Rattle.fancy_input.specs.Work.{steps_of, units_of, work_of, IsSpent, IsWithin}
 use Rattle.fancy_core.specs.declared.regex.Regex.{Regex}
 use Rattle.fancy_core.specs.Regexes.{easy_in, step_limit_in}
 use Rattle.fancy_search.specs.SearchCounts.{IsOutOfSteps}

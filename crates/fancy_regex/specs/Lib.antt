@@ -39,7 +39,7 @@ pub use Rattle.fancy_template.specs.Checks
 pub use Rattle.fancy_code.specs.Context
 pub use Rattle.fancy_code.specs.Search
 pub use Rattle.fancy_code.specs.Answers
-pub use Rattle.fancy_code.specs.Work
+pub use Rattle.fancy_input.specs.Work
 pub use Rattle.fancy_code.specs.Laws as MeaningLaws
 pub use Rattle.fancy_code.specs.Examples
 pub use Rattle.fancy_bytes.specs.Sets as ByteMembers

@@ -3,7 +3,7 @@ use Rattle.std.specs.Prelude.{◌≡◌, ◌≤◌, ◌+◌, ◌-◌, ◌*◌, �
 use Rattle.fancy_input.specs.declared.input.Request.{Request}
 use Rattle.fancy_code.specs.Context.{option_to}
 use Rattle.fancy_code.specs.Marking.{sum_to}
-use Rattle.fancy_code.specs.Work.{steps_of, returns_of}
+use Rattle.fancy_input.specs.Work.{steps_of, returns_of}
 use Rattle.fancy_core.specs.declared.regex.Regex.{Regex}
 use Rattle.fancy_core.specs.Limited.{most_steps_of}
 use Rattle.fancy_core.specs.Regexes.{easy_in, length_in, program_in}

@@ -2,8 +2,8 @@
 use Rattle.std.specs.Prelude.{◌≡◌, ◌≤◌, ◌<◌, ℕ, All, List, Some, slice_get}
 use Rattle.std.specs.Option.{ForSome}
 use Rattle.fancy_input.specs.declared.input.Request.{Request}
-use Rattle.fancy_code.specs.declared.work.Work.{Work}
-use Rattle.fancy_code.specs.Work.{units_of, work_of, IsSpent}
+use Rattle.fancy_input.specs.declared.work.Work.{Work}
+use Rattle.fancy_input.specs.Work.{units_of, work_of, IsSpent}
 use Rattle.fancy_core.specs.declared.regex.Regex.{Regex}
 use Rattle.fancy_core.specs.Regexes.{step_limit_in}
 use Rattle.fancy_regex.specs.SetCounts.{AreAllEasy, most_steps_of_all}

@@ -4,11 +4,11 @@ use Rattle.fancy_input.specs.Requests.{effective_start}
 use Rattle.fancy_input.specs.declared.input.Request.{Request}
 use Rattle.fancy_code.specs.declared.code.Code.{Code}
 use Rattle.fancy_runner.specs.declared.notes.KeptTable.{KeptTable}
-use Rattle.fancy_code.specs.declared.work.Work.{Work}
+use Rattle.fancy_input.specs.declared.work.Work.{Work}
 use Rattle.fancy_runner.specs.KeptTable.{steps_from, taken_again}
 use Rattle.fancy_code.specs.Queries.{most_steps}
-use Rattle.fancy_code.specs.Work.{steps_of, HasWorkFor, RunsWithin}
-use Rattle.fancy_code.proofs.WorkLemmas.{runs_all}
+use Rattle.fancy_input.specs.Work.{steps_of, HasWorkFor, RunsWithin}
+use Rattle.fancy_input.proofs.WorkLemmas.{runs_all}
 
 -- a search without a kept table takes a step for each pair, and no more
 fresh_steps : (kept : Option KeptTable) (code : Code) (request : Request) (table : List Bool) → kept ≡ None

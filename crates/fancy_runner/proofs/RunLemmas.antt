@@ -3,9 +3,9 @@ use Rattle.std.proofs.Common.{◌≡◌, ℕ, ◌∙◌, ◌+◌, ◌-◌, ◌�
 use Rattle.std.specs.Prelude.{Result, Ok, Err}
 use Rattle.fancy_input.specs.LastLines.{KnowsLastLines}
 use Rattle.fancy_code.specs.declared.attempt.Attempt.{Attempt}
-use Rattle.fancy_code.specs.declared.work.Work.{Work}
-use Rattle.fancy_code.specs.Work.{steps_of, returns_of, went_back_within}
-use Rattle.fancy_code.proofs.WorkLemmas.{one_return, runs_on, runs_back, runs_from_start}
+use Rattle.fancy_input.specs.declared.work.Work.{Work}
+use Rattle.fancy_input.specs.Work.{steps_of, returns_of, went_back_within}
+use Rattle.fancy_input.proofs.WorkLemmas.{one_return, runs_on, runs_back, runs_from_start}
 use Rattle.fancy_runner.specs.declared.notes.Notes.{Notes}
 use Rattle.fancy_runner.specs.declared.refusal.RunnerRefusal.{RunnerRefusal}
 use Rattle.fancy_runner.specs.declared.refusal.RunnerRefusal.TheVariants.{Steps}

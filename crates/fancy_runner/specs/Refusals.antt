@@ -1,8 +1,8 @@
 -- Why a search gives no answer.
 use Rattle.fancy_runner.specs.declared.refusal.RunnerRefusal.{RunnerRefusal}
 use Rattle.fancy_runner.specs.declared.refusal.RunnerRefusal.TheVariants as runner
-use Rattle.fancy_code.specs.declared.refusal.SearchRefusal.{SearchRefusal}
-use Rattle.fancy_code.specs.declared.refusal.SearchRefusal.TheVariants as search
+use Rattle.fancy_input.specs.declared.refusal.SearchRefusal.{SearchRefusal}
+use Rattle.fancy_input.specs.declared.refusal.SearchRefusal.TheVariants as search
 
 -- a refusal of the runner, as one of any search
 abbrev pub refusal_of : RunnerRefusal → SearchRefusal

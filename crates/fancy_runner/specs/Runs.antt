@@ -3,10 +3,10 @@ use Rattle.std.specs.Prelude.{◌≡◌, ℕ, ◌+◌, ◌-◌, ◌^◌, ◌<◌
 use Rattle.fancy_input.specs.LastLines.{KnowsLastLines}
 use Rattle.fancy_code.specs.declared.attempt.Attempt.{Attempt}
 use Rattle.fancy_code.specs.declared.slot.Slot.{Slot}
-use Rattle.fancy_code.specs.declared.work.Work.{Work}
+use Rattle.fancy_input.specs.declared.work.Work.{Work}
 use Rattle.fancy_code.specs.Attempt.{instrs_in}
 use Rattle.fancy_code.specs.Compile.{AreEasy}
-use Rattle.fancy_code.specs.Work.{steps_of, returns_of, RunsWithin, IsSpent}
+use Rattle.fancy_input.specs.Work.{steps_of, returns_of, RunsWithin, IsSpent}
 use Rattle.fancy_runner.specs.declared.notes.Notes.{Notes}
 use Rattle.fancy_runner.specs.declared.refusal.RunnerRefusal.{RunnerRefusal}
 use Rattle.fancy_runner.specs.declared.refusal.RunnerRefusal.TheVariants.{Steps}

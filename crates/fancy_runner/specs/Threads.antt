@@ -5,8 +5,8 @@ use Rattle.fancy_code.specs.Instructions.{Instruction, Split, Open, Close}
 use Rattle.fancy_code.specs.Run.{instr_at}
 use Rattle.fancy_code.specs.declared.slot.Slot.{Slot}
 use Rattle.fancy_runner.specs.declared.pair.Pair.{Pair}
-use Rattle.fancy_code.specs.declared.work.Work.{Work}
-use Rattle.fancy_code.specs.Work.{went_back_within}
+use Rattle.fancy_input.specs.declared.work.Work.{Work}
+use Rattle.fancy_input.specs.Work.{went_back_within}
 use Rattle.fancy_code.specs.Thread.{Thread, empty_slot}
 
 -- the thread that is followed, and those that were saved, the last one first

@@ -4,7 +4,7 @@ ghost use Rattle.std.specs.Prelude.{◌≡◌};
 ghost use Rattle.fancy_runner.specs.Refusals.{refusal_of};
 ghost use Rattle.fancy_runner.specs.declared.refusal.RunnerRefusal.TheVariants.{Memory as OutOfMemory};
 
-use fancy_code::refusal::SearchRefusal;
+use fancy_input::refusal::SearchRefusal;
 use std::alloc::{AllocError, AllocFailed};
 
 /// Why the runner gives no answer.

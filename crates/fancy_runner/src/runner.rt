@@ -7,7 +7,7 @@ ghost use Rattle.fancy_runner.specs.Runner.{burden, found_state, Stacked, Grown,
 ghost use Rattle.fancy_code.specs.CodeLength.{code_len};
 ghost use Rattle.fancy_code.specs.Run.{instr_at};
 ghost use Rattle.fancy_code.specs.Compile.{IsEasyInstr, AreEasy};
-ghost use Rattle.fancy_code.specs.Work.{steps_of, returns_of, stepped_within, RunsWithin, IsSpent, HasWorkLeft};
+ghost use Rattle.fancy_input.specs.Work.{steps_of, returns_of, stepped_within, RunsWithin, IsSpent, HasWorkLeft};
 ghost use Rattle.fancy_input.specs.LastLines.{KnowsLastLines};
 ghost use Rattle.fancy_code.specs.declared.slot.Slot.{Slot};
 ghost use Rattle.fancy_code.specs.Thread.{Thread};
@@ -24,13 +24,13 @@ use crate::sweep::follow_by_place;
 use crate::table::Table;
 use crate::threads::Threads;
 use fancy_code::attempt::Attempt;
-use fancy_code::choice::Choice;
 use fancy_code::code::Instr;
 use fancy_code::options::is_match_boundary;
 use fancy_code::reading::holds_at;
 use fancy_code::step::{Next, past_character, past_member, past_raw_byte};
-use fancy_code::work::Work;
 use fancy_input::last_lines::LastLines;
+use fancy_input::work::Work;
+use fancy_prefilter::choice::Choice;
 use fancy_tree::tree::Assertion;
 use std::alloc::AllocError;
 

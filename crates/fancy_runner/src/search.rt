@@ -13,7 +13,7 @@ ghost use Rattle.fancy_prefilter.specs.Seen.{NoneMayStart};
 ghost use Rattle.fancy_code.specs.Queries.{query_of, unfiltered, answer_with, most_steps};
 ghost use Rattle.fancy_runner.specs.Groups.{groups_in};
 ghost use Rattle.fancy_runner.specs.Refusals.{IsRunnersRefusal};
-ghost use Rattle.fancy_code.specs.Work.{steps_of, returns_of, RunsWithin, IsSpent, HasWorkFor};
+ghost use Rattle.fancy_input.specs.Work.{steps_of, returns_of, RunsWithin, IsSpent, HasWorkFor};
 
 pub use crate::notes::Cache;
 use crate::notes::KeptTable;
@@ -24,8 +24,8 @@ use fancy_code::code::Code;
 use fancy_code::found::Found;
 use fancy_code::options::{SearchOptions, is_match_boundary};
 use fancy_code::reading::ready_last_lines;
-use fancy_code::refusal::SearchRefusal;
-use fancy_code::work::Work;
+use fancy_input::refusal::SearchRefusal;
+use fancy_input::work::Work;
 use fancy_input::input::Request;
 use fancy_prefilter::candidates::next_opening;
 

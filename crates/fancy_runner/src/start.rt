@@ -9,7 +9,7 @@ ghost use Rattle.fancy_code.specs.Code.{due_of};
 ghost use Rattle.fancy_code.specs.Compile.{AreEasy, HasBranches};
 ghost use Rattle.fancy_runner.specs.Runner.{found_state};
 ghost use Rattle.fancy_code.specs.Texts.{IsTextOf};
-ghost use Rattle.fancy_code.specs.Work.{steps_of, returns_of, RunsWithin, IsSpent};
+ghost use Rattle.fancy_input.specs.Work.{steps_of, returns_of, RunsWithin, IsSpent};
 ghost use Rattle.fancy_input.specs.LastLines.{KnowsLastLines};
 
 use crate::notes::Cache;
@@ -20,8 +20,8 @@ use crate::table::Table;
 use fancy_code::attempt::Attempt;
 use fancy_code::options::is_match_boundary;
 use fancy_code::reading::holds_at;
-use fancy_code::work::Work;
 use fancy_input::last_lines::LastLines;
+use fancy_input::work::Work;
 use fancy_prefilter::branches::Branches;
 use fancy_prefilter::prefilter::Opening;
 use fancy_prefilter::text::Text;

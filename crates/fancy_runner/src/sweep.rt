@@ -6,7 +6,7 @@ ghost use Rattle.fancy_code.specs.Code.{due_of, instrs_of};
 ghost use Rattle.fancy_runner.specs.Runner.{burden, AllWithin, Grown, found_state};
 ghost use Rattle.fancy_code.specs.CodeLength.{code_len};
 ghost use Rattle.fancy_code.specs.Compile.{AreEasy};
-ghost use Rattle.fancy_code.specs.Work.{steps_of, returns_of, RunsWithin, IsSpent};
+ghost use Rattle.fancy_input.specs.Work.{steps_of, returns_of, RunsWithin, IsSpent};
 ghost use Rattle.fancy_input.specs.LastLines.{KnowsLastLines};
 ghost use Rattle.fancy_code.specs.Thread.{Thread};
 ghost use Rattle.fancy_runner.specs.Threads.{thread_of, with_way, held_of, AreFresh};
@@ -26,7 +26,7 @@ use crate::threads::Threads;
 use fancy_code::attempt::Attempt;
 use fancy_code::code::Code;
 use fancy_code::step::Next;
-use fancy_code::work::Work;
+use fancy_input::work::Work;
 use std::alloc::AllocError;
 use std::mem;
 

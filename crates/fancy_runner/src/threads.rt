@@ -11,8 +11,8 @@ ghost use Rattle.fancy_runner.specs.Threads.{slots_past, with_group, other_way, 
 use crate::pair::Pair;
 use fancy_code::code::{Code, Instr};
 use fancy_code::slot::{EMPTY, Slot};
-use fancy_code::work::Work;
 use fancy_input::span::Span;
+use fancy_input::work::Work;
 use std::alloc::{AllocError, Global};
 use std::marker::Model;
 use std::mem;

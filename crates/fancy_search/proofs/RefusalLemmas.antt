@@ -1,11 +1,11 @@
 -- What the refusal of an engine says of a search.
 use Rattle.std.proofs.Common.{◌≡◌, ◌<◌, ℕ, Option, Some, None, Bool, true, refl}
 use Rattle.std.specs.Prelude.{is_some}
-use Rattle.fancy_code.specs.declared.refusal.SearchRefusal.{SearchRefusal}
-use Rattle.fancy_code.specs.declared.refusal.SearchRefusal.TheVariants.{Memory, Returns, Choices, Steps}
-use Rattle.fancy_code.specs.declared.work.Work.{Work}
+use Rattle.fancy_input.specs.declared.refusal.SearchRefusal.{SearchRefusal}
+use Rattle.fancy_input.specs.declared.refusal.SearchRefusal.TheVariants.{Memory, Returns, Choices, Steps}
+use Rattle.fancy_input.specs.declared.work.Work.{Work}
 use Rattle.fancy_code.specs.Search.{Query}
-use Rattle.fancy_code.specs.Work.{IsSpent}
+use Rattle.fancy_input.specs.Work.{IsSpent}
 use Rattle.fancy_search.specs.declared.program.Program.{Program}
 use Rattle.fancy_search.specs.Programs.{program_limit, program_stack_limit, program_step_limit}
 use Rattle.fancy_search.specs.Refusals.{error_of}

@@ -6,10 +6,10 @@ use Rattle.fancy_input.specs.LastLines.{KnowsLastLines}
 use Rattle.fancy_input.specs.Requests.{effective_start}
 use Rattle.fancy_input.specs.declared.input.Request.{Request}
 use Rattle.fancy_runner.specs.KeptTable.{IsKept, table_in, steps_ahead, steps_from, taken_again}
-use Rattle.fancy_code.specs.Work.{steps_of}
+use Rattle.fancy_input.specs.Work.{steps_of}
 use Rattle.fancy_code.specs.declared.found.Found.{Found}
 use Rattle.fancy_runner.specs.declared.notes.KeptTable.{KeptTable}
-use Rattle.fancy_code.specs.declared.work.Work.{Work}
+use Rattle.fancy_input.specs.declared.work.Work.{Work}
 use Rattle.fancy_automaton.specs.Cells.{IsBounded}
 use Rattle.fancy_automaton.specs.Remembered.{Remembers}
 use Rattle.fancy_machine.specs.Asked.{lines_held}

@@ -8,8 +8,8 @@ use Rattle.fancy_tree.specs.declared.error.RuntimeError.{RuntimeError as Running
 use Rattle.fancy_tree.specs.declared.error.RuntimeError.TheVariants.{BacktrackLimitExceeded, StackOverflow, StepLimitExceeded, Unmatched}
 use Rattle.fancy_input.specs.declared.input.Request.{Request}
 use Rattle.fancy_input.specs.Requests.{effective_start}
-use Rattle.fancy_code.specs.declared.work.Work.{Work}
-use Rattle.fancy_code.specs.Work.{steps_of, returns_of, HasRoom, HasWorkFor, IsSpent, IsWithin}
+use Rattle.fancy_input.specs.declared.work.Work.{Work}
+use Rattle.fancy_input.specs.Work.{steps_of, returns_of, HasRoom, HasWorkFor, IsSpent, IsWithin}
 use Rattle.fancy_code.specs.Tried.{tried}
 use Rattle.fancy_code.specs.Search.{Query, returns, choices, returns_at, choices_at}
 use Rattle.fancy_search.specs.declared.program.Program.{Program}

@@ -4,14 +4,14 @@ ghost use Rattle.std.specs.Prelude.{◌≡◌, ℕ, List, [], None, true, slice_
 ghost use Rattle.fancy_automaton.specs.Cells.{IsBounded};
 ghost use Rattle.fancy_automaton.specs.Remembered.{Remembers};
 ghost use Rattle.fancy_code.specs.declared.code.Code.{Code};
-ghost use Rattle.fancy_code.specs.Work.{steps_of, returns_of, units_of};
+ghost use Rattle.fancy_input.specs.Work.{steps_of, returns_of, units_of};
 
 use fancy_automaton::cells::Cells;
 use fancy_bytes::lacking::KnownBytes;
 use fancy_code::found::Found;
-use fancy_code::work::Work;
 use fancy_input::input::Request;
 use fancy_input::span::Span;
+use fancy_input::work::Work;
 use fancy_machine::search as machine;
 use fancy_runner::notes::{KeptTable, Notes};
 use fancy_runner::search as runner;

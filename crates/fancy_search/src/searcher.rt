@@ -15,9 +15,9 @@ use crate::cache::{Cache, Kept};
 use crate::program::Program;
 use fancy_bytes::lacking::KnownBytes;
 use fancy_code::found::Found;
-use fancy_code::work::Work;
 use fancy_input::input::{Haystack, Input, Request};
 use fancy_input::regex_input::RegexInput;
+use fancy_input::work::Work;
 use fancy_tree::error::{Error, Result};
 
 /// What a search of an iteration found, the effective start that it was searched from, and whether `\G` was on. Its groups

@@ -7,7 +7,7 @@ ghost use Rattle.std.proofs.Props.{props};
 ghost use Rattle.fancy_bytes.specs.Lacks.{AreKnown};
 ghost use Rattle.fancy_input.specs.Inputs.{haystack_in, request_in};
 ghost use Rattle.fancy_input.specs.Requests.{effective_start};
-ghost use Rattle.fancy_code.specs.Work.{steps_of, returns_of, work_of};
+ghost use Rattle.fancy_input.specs.Work.{steps_of, returns_of, work_of};
 ghost use Rattle.fancy_regex.specs.SetAnswers.{IsItemOf};
 ghost use Rattle.fancy_regex.specs.SetCounts.{AreAllEasy, most_steps_of_all};
 ghost use Rattle.fancy_regex.specs.SetLimits.{AllowAllSteps, IsSpentForOne, ShareLimit};
@@ -19,10 +19,10 @@ use crate::set::RegexSet;
 use crate::set::matched::RegexSetMatch;
 use crate::set::members::MemberAnswer;
 use crate::set::trials::Trials;
-use fancy_code::work::Work;
 use fancy_core::captures::Captures;
 use fancy_input::input::{Haystack, Input};
 use fancy_input::regex_input::RegexInput;
+use fancy_input::work::Work;
 use fancy_tree::error::Result;
 
 /// The matches of the patterns of a set at one position, in the order of their indices; made by [`RegexSet::find_input`].

@@ -36,7 +36,7 @@ pub(crate) struct Trials {
 }
 
 impl Trials {
-    ghost use Rattle.fancy_code.specs.Work.{units_of, IsSpent, IsWithin};
+    ghost use Rattle.fancy_input.specs.Work.{units_of, IsSpent, IsWithin};
     ghost use Rattle.fancy_regex.specs.SetCounts.{IsPaired, steps_in, steps_left};
     ghost use Rattle.fancy_regex.specs.SetLimits.{KeepsWork};
     ghost use Rattle.fancy_regex.specs.Trials.{NotedAt, OthersStay, OthersStayBut, notes_at};

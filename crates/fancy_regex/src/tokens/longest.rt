@@ -4,7 +4,7 @@ ghost use Rattle.std.specs.Prelude.{◌≡◌, ◌≤◌, ◌<◌, ◌+◌, ◌�
 ghost use Rattle.fancy_bytes.specs.Lacks.{AreKnown};
 ghost use Rattle.fancy_input.specs.Inputs.{haystack_in, request_in};
 ghost use Rattle.fancy_code.specs.Queries.{answer_with};
-ghost use Rattle.fancy_code.specs.Work.{work_of};
+ghost use Rattle.fancy_input.specs.Work.{work_of};
 ghost use Rattle.fancy_search.specs.Cached.{cached_groups};
 ghost use Rattle.fancy_search.specs.KeptTables.{kept_from};
 ghost use Rattle.fancy_search.specs.SearchCounts.{IsOutOfSteps};

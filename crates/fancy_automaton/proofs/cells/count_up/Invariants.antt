@@ -1,5 +1,5 @@
 use Rattle.std.proofs.Common.{◌≡◌, ◌<◌, ◌≤◌}
-use Rattle.fancy_code.specs.Work.{steps_of, returns_of, units_of}
+use Rattle.fancy_input.specs.Work.{steps_of, returns_of, units_of}
 use Rattle.fancy_automaton.proofs.cells.count_up.Given as goal
 
 abbrev pub invariant-loop-step : goal.invariant-loop-step

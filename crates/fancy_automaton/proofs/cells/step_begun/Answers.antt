@@ -2,7 +2,7 @@ use Rattle.std.proofs.Common.{◌+◌, ◌∙◌, [], arith, map, option_map, re
 use Rattle.fancy_code.specs.Code.{instrs_of}
 use Rattle.fancy_code.specs.CodeLength.{code_len}
 use Rattle.fancy_code.specs.Reading.{unit_read}
-use Rattle.fancy_code.specs.Work.{steps_of}
+use Rattle.fancy_input.specs.Work.{steps_of}
 use Rattle.fancy_automaton.specs.Steps.{at_of}
 use Rattle.fancy_automaton.proofs.CellLemmas.{row_items}
 use Rattle.fancy_automaton.proofs.cells.step_begun.Goals as goal

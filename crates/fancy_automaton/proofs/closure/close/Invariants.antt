@@ -1,7 +1,7 @@
 use Rattle.std.proofs.Common.{ℕ, ◌≡◌, ◌+◌, ◌-◌, ◌*◌, ◌<◌, ◌≤◌, ◌^◌, Bool, None, [], length, reverse, option_map}
 use Rattle.fancy_code.specs.Code.{instrs_of}
 use Rattle.fancy_code.specs.CodeLength.{code_len}
-use Rattle.fancy_code.specs.Work.{steps_of, returns_of, units_of}
+use Rattle.fancy_input.specs.Work.{steps_of, returns_of, units_of}
 use Rattle.fancy_code.specs.Reading.{unit_read}
 use Rattle.fancy_automaton.specs.Ways.{Ends, Solves, Closing, AllKnown, marked, first_end}
 use Rattle.fancy_automaton.proofs.closure.close.Given as goal

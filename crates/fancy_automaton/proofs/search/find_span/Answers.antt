@@ -1,7 +1,7 @@
 use Rattle.std.proofs.Common.{◌+◌, ◌∙◌, [], ap, arith, option_map, refl}
 use Rattle.fancy_automaton.specs.Search.{ends_in}
 use Rattle.fancy_code.specs.CodeLength.{code_len}
-use Rattle.fancy_code.specs.Work.{steps_of}
+use Rattle.fancy_input.specs.Work.{steps_of}
 use Rattle.fancy_automaton.proofs.CellLemmas.{row_ways, row_within}
 use Rattle.fancy_prefilter.proofs.NextLemmas.{starts_somewhere}
 use Rattle.fancy_automaton.proofs.FrontLemmas.{front_first}

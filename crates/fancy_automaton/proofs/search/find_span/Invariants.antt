@@ -1,7 +1,7 @@
 use Rattle.std.proofs.Common.{◌≡◌, ◌+◌, ◌-◌, ◌*◌, ◌≤◌, [], false}
 use Rattle.fancy_code.specs.CodeLength.{code_len}
 use Rattle.fancy_prefilter.specs.Seen.{NoneMayStart}
-use Rattle.fancy_code.specs.Work.{steps_of, returns_of, units_of}
+use Rattle.fancy_input.specs.Work.{steps_of, returns_of, units_of}
 use Rattle.fancy_automaton.specs.Cells.{IsBounded}
 use Rattle.fancy_automaton.specs.Front.{IsFront, ways_of}
 use Rattle.fancy_automaton.proofs.search.find_span.Given as goal

@@ -1,8 +1,8 @@
 use Rattle.std.proofs.Common.{◌≡◌, ◌-◌, ◌^◌, Bool, true, false, refl, sym, subst}
 use Rattle.std.specs.Prelude.{nat_lt, if◌then◌else◌}
-use Rattle.fancy_code.specs.declared.work.Work.{Work}
-use Rattle.fancy_code.specs.Work.{units_of, stepped, stepped_within}
-use Rattle.fancy_code.proofs.WorkLemmas.{one_step}
+use Rattle.fancy_input.specs.declared.work.Work.{Work}
+use Rattle.fancy_input.specs.Work.{units_of, stepped, stepped_within}
+use Rattle.fancy_input.proofs.WorkLemmas.{one_step}
 use Rattle.fancy_automaton.proofs.way.effect_at.Goals as goal
 
 pub returns-clause-steps : goal.returns-clause-steps

@@ -2,7 +2,7 @@ use Rattle.std.proofs.Common.{ℕ, ◌∷◌, ◌∙◌, List, [], length, sym, 
 use Rattle.std.specs.Prelude.{slice_get}
 use Rattle.fancy_code.specs.Choices.{BeginAt}
 use Rattle.fancy_code.specs.Code.{instrs_of}
-use Rattle.fancy_code.specs.declared.choice.Beginnings.{Beginnings}
+use Rattle.fancy_prefilter.specs.declared.choice.Beginnings.{Beginnings}
 use Rattle.fancy_code.proofs.BranchingLemmas.{each_more}
 use Rattle.fancy_code.proofs.choosing.beginnings_of.Goals as goal
 

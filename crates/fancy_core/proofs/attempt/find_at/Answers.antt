@@ -1,5 +1,5 @@
 use Rattle.std.proofs.Common.{◌∙◌, ap}
-use Rattle.fancy_code.specs.Work.{units_of}
+use Rattle.fancy_input.specs.Work.{units_of}
 use Rattle.fancy_core.specs.Regexes.{step_limit_in}
 use Rattle.fancy_core.proofs.AttemptWorkLemmas.{added_within, added_spent}
 use Rattle.fancy_core.proofs.attempt.find_at.Goals as goal

@@ -1,6 +1,6 @@
 use Rattle.std.proofs.Common.{length, ◌+◌, ◌-◌, ◌≡◌, ◌≤◌}
 use Rattle.fancy_bytes.specs.Lacks.{AreKnown}
-use Rattle.fancy_code.specs.Work.{steps_of, returns_of}
+use Rattle.fancy_input.specs.Work.{steps_of, returns_of}
 use Rattle.fancy_input.specs.Requests.{effective_start}
 use Rattle.fancy_search.specs.KeptTables.{IsKeptIn}
 use Rattle.fancy_list_tests.proofs.lists.steps_of_list.Given as goal

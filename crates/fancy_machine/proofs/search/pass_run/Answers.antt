@@ -1,5 +1,5 @@
 use Rattle.std.proofs.Common.{◌≡◌, ◌+◌, ◌-◌, Err, ap, subst, arith}
-use Rattle.fancy_code.specs.Work.{returns_of}
+use Rattle.fancy_input.specs.Work.{returns_of}
 use Rattle.fancy_machine.specs.Front.{GoesPast, returns_over}
 use Rattle.fancy_machine.proofs.FrontLemmas.{passes_over}
 use Rattle.fancy_machine.proofs.RefusalLemmas.{passed_on}

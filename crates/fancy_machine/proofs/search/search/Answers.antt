@@ -3,7 +3,7 @@ use Rattle.fancy_input.specs.LastLines.{KnowsLastLines}
 use Rattle.fancy_input.specs.Requests.{positions, effective_start}
 use Rattle.fancy_code.specs.declared.code.Code.{Code}
 use Rattle.fancy_code.specs.declared.options.SearchOptions.{SearchOptions}
-use Rattle.fancy_code.specs.Work.{IsWithin}
+use Rattle.fancy_input.specs.Work.{IsWithin}
 use Rattle.fancy_code.specs.Events.{marks_in, returns_in}
 use Rattle.fancy_code.specs.Search.{answer_from, gone_from}
 use Rattle.fancy_code.proofs.AttemptLemmas.{found_here, found_later}

@@ -5,8 +5,8 @@ use Rattle.fancy_code.specs.Attempt.{context_in, instrs_in, may_end_in}
 use Rattle.fancy_runner.specs.Attempt.{marks_in, first_accepted_in, RestingIn, current_in, saved_in, threads_in}
 use Rattle.fancy_runner.specs.Runner.{AllWithin}
 use Rattle.fancy_runner.specs.Sweep.{AreRising}
-use Rattle.fancy_code.specs.Work.{steps_of}
-use Rattle.fancy_code.proofs.WorkLemmas.{one_return}
+use Rattle.fancy_input.specs.Work.{steps_of}
+use Rattle.fancy_input.proofs.WorkLemmas.{one_return}
 use Rattle.fancy_code.proofs.MarkingLemmas.{either_side}
 use Rattle.fancy_runner.proofs.SweepLemmas.{rising_next}
 use Rattle.fancy_runner.proofs.RunLemmas.{ready_on, worked_on, worked_same, worked_back, ran_ok, ran_err}

@@ -2,7 +2,7 @@ use Rattle.std.proofs.Common.{ℕ, ◌+◌, ◌-◌, ◌*◌, ◌^◌, ◌<◌, 
 use Rattle.fancy_runner.specs.Attempt.{KnownIn, AllFailedIn, RunningIn, first_accepted_in, owed_in, ahead_in, saved_in, stack_in, threads_in}
 use Rattle.fancy_code.specs.Code.{due_of}
 use Rattle.fancy_runner.specs.Threads.{begun_at}
-use Rattle.fancy_code.specs.Work.{steps_of, returns_of}
+use Rattle.fancy_input.specs.Work.{steps_of, returns_of}
 use Rattle.fancy_runner.specs.Runs.{Worked}
 use Rattle.fancy_runner.specs.Runner.{AllWithin}
 use Rattle.fancy_runner.specs.Sweep.{AreRising}

@@ -9,7 +9,7 @@ use Rattle.fancy_runner.proofs.RunnerSteps.{failed}
 use Rattle.fancy_code.proofs.RunMore.{past_end}
 use Rattle.fancy_runner.proofs.RunnerLemmas.{run_seen, run_dead, run_good, run_bad, run_on, past_found, same_table, adds_mark}
 use Rattle.fancy_runner.proofs.SweepLemmas.{sweep_known, sweep_seen, sweep_dead, sweep_bad, sweep_found, sweep_on}
-use Rattle.fancy_code.proofs.WorkLemmas.{one_step, spent_none_left}
+use Rattle.fancy_input.proofs.WorkLemmas.{one_step, spent_none_left}
 use Rattle.fancy_runner.proofs.RunnerLemmas.{grown_length}
 use Rattle.fancy_runner.proofs.runner.visit.Goals as goal
 

@@ -3,7 +3,7 @@ use Rattle.std.specs.Prelude.{slice_index}
 use Rattle.fancy_runner.specs.Attempt.{first_accepted_in, begins_by, begins_with, owed_in, AreBranchesIn, KnownIn, AllFailedIn}
 use Rattle.fancy_code.specs.Branches.{dues_in}
 use Rattle.fancy_code.specs.Code.{due_of}
-use Rattle.fancy_code.specs.Work.{steps_of}
+use Rattle.fancy_input.specs.Work.{steps_of}
 use Rattle.fancy_runner.specs.Runs.{Worked}
 use Rattle.fancy_runner.proofs.start.follow_branches.Given as goal
 

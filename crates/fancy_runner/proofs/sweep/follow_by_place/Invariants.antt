@@ -4,7 +4,7 @@ use Rattle.fancy_code.specs.Context.{State}
 use Rattle.fancy_runner.specs.Runner.{AllWithin}
 use Rattle.fancy_runner.specs.Sweep.{SweepingIn}
 use Rattle.fancy_runner.specs.Sweeps.{left_in_sweep, found_in, WaitsFrom}
-use Rattle.fancy_code.specs.Work.{steps_of}
+use Rattle.fancy_input.specs.Work.{steps_of}
 use Rattle.fancy_runner.specs.Runs.{Worked, EndsIn}
 use Rattle.fancy_runner.proofs.sweep.follow_by_place.Given as goal
 

@@ -3,8 +3,8 @@ use Rattle.std.specs.Prelude.{reverse}
 use Rattle.fancy_code.specs.Thread.{Thread}
 use Rattle.fancy_runner.specs.Attempt.{current_in, saved_in, threads_in}
 use Rattle.fancy_runner.specs.Sweep.{AllPast, AllAt, SweepingIn}
-use Rattle.fancy_code.specs.Work.{steps_of}
-use Rattle.fancy_code.proofs.WorkLemmas.{one_return}
+use Rattle.fancy_input.specs.Work.{steps_of}
+use Rattle.fancy_input.proofs.WorkLemmas.{one_return}
 use Rattle.fancy_runner.proofs.RunLemmas.{ready_on, worked_on, worked_same, worked_back, ran_ok, ran_err}
 use Rattle.fancy_code.proofs.MarkingLemmas.{either_side}
 use Rattle.fancy_runner.proofs.SweepLemmas.{at_within, at_next}

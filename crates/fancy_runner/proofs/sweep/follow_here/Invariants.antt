@@ -8,7 +8,7 @@ use Rattle.fancy_runner.specs.Runner.{AllWithin}
 use Rattle.fancy_runner.specs.Sweep.{AllPast, AllAt, SweepingIn}
 use Rattle.fancy_code.specs.Thread.{Thread}
 use Rattle.fancy_runner.specs.Threads.{thread_of}
-use Rattle.fancy_code.specs.Work.{steps_of, returns_of}
+use Rattle.fancy_input.specs.Work.{steps_of, returns_of}
 use Rattle.fancy_runner.specs.Runs.{Worked}
 use Rattle.fancy_runner.proofs.sweep.follow_here.Given as goal
 

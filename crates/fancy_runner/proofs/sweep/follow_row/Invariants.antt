@@ -7,7 +7,7 @@ use Rattle.fancy_runner.specs.Runner.{AllWithin}
 use Rattle.fancy_runner.specs.Sweep.{AllPast, SweepingIn}
 use Rattle.fancy_runner.specs.Sweeps.{found_in, due_in_rows, KeepsBacklog}
 use Rattle.fancy_code.specs.Thread.{Thread}
-use Rattle.fancy_code.specs.Work.{steps_of}
+use Rattle.fancy_input.specs.Work.{steps_of}
 use Rattle.fancy_runner.specs.Runs.{Worked}
 use Rattle.fancy_runner.proofs.sweep.follow_row.Given as goal
 

@@ -1,5 +1,5 @@
 use Rattle.std.proofs.Common.{◌≡◌, ◌+◌, ◌-◌, ◌∙◌, Err, refl, arith, ap}
-use Rattle.fancy_code.specs.Work.{returns_of}
+use Rattle.fancy_input.specs.Work.{returns_of}
 use Rattle.fancy_machine.proofs.RefusalLemmas.{passed_on}
 use Rattle.fancy_machine.proofs.attempt.Attempt.run.Goals as goal
 

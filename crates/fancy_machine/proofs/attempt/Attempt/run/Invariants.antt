@@ -1,5 +1,5 @@
 use Rattle.std.proofs.Common.{◌≡◌, ◌+◌, ◌≤◌}
-use Rattle.fancy_code.specs.Work.{steps_of, returns_of, units_of, IsWithin}
+use Rattle.fancy_input.specs.Work.{steps_of, returns_of, units_of, IsWithin}
 use Rattle.fancy_machine.specs.Attempt.{KnowsSeen, accepts, code_in, outcome_from, returns_from, marks_from}
 use Rattle.fancy_code.specs.Thread.{size_of}
 use Rattle.fancy_machine.specs.Machine.{Searching, left}

@@ -1,7 +1,7 @@
 use Rattle.std.proofs.Common.{◌≡◌, ◌∙◌, List, ◌∷◌, length, map, drop, arith, ap, ap₂, sym, subst}
 use Rattle.fancy_code.specs.declared.slot.Slot.{Slot}
 use Rattle.fancy_machine.specs.declared.log.Write.{Write}
-use Rattle.fancy_code.specs.Work.{returns_of, went_back}
+use Rattle.fancy_input.specs.Work.{returns_of, went_back}
 use Rattle.fancy_machine.specs.Frames.{Spot, Frame}
 use Rattle.fancy_machine.specs.Layers.{spot_of, spot_at, frame_by, frames_of}
 use Rattle.fancy_machine.specs.Machine.{IsSpent, Takes}

@@ -2,7 +2,7 @@ use Rattle.std.proofs.Common.{◌≡◌, ◌+◌, ◌<◌, ℕ, Err, refl, sym, 
 use Rattle.std.proofs.Math.Logic.{∥∥₁_elim, ∥∥₁_prop}
 use Rattle.fancy_code.specs.Compile.{IsCodeOf}
 use Rattle.fancy_code.specs.Search.{returns, choices}
-use Rattle.fancy_code.specs.Work.{returns_of}
+use Rattle.fancy_input.specs.Work.{returns_of}
 use Rattle.fancy_search.specs.Programs.{asked_of, program_pattern, program_limit, program_stack_limit}
 use Rattle.fancy_search.proofs.RefusalLemmas.{refuses_hard}
 use Rattle.fancy_search.proofs.SearchedLemmas.{tried_all}

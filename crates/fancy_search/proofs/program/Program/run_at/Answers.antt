@@ -2,7 +2,7 @@ use Rattle.std.proofs.Common.{◌≡◌, ◌∙◌, ◌+◌, ◌≤◌, ℕ, Opt
 use Rattle.fancy_input.specs.Requests.{effective_start}
 use Rattle.fancy_code.specs.declared.found.Found.{Found}
 use Rattle.fancy_runner.specs.KeptTable.{past_tried, place_kept, steps_from, taken_again, IsKept}
-use Rattle.fancy_code.specs.Work.{steps_of}
+use Rattle.fancy_input.specs.Work.{steps_of}
 use Rattle.fancy_search.specs.Cached.{IsAttemptIn, cached_groups}
 use Rattle.fancy_search.specs.KeptTables.{KeepsNotes, kept_from, notes_ahead, notes_again}
 use Rattle.fancy_search.specs.Options.{search_options}

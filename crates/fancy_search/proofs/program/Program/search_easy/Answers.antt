@@ -3,7 +3,7 @@ use Rattle.fancy_input.specs.Requests.{effective_start}
 use Rattle.fancy_search.specs.KeptTables.{KeepsTable, table_kept}
 use Rattle.fancy_search.proofs.KeptTablesLemmas.{if_some_at, found_table, found_spent, found_goes_on}
 use Rattle.fancy_runner.proofs.KeptTableLemmas.{again_paid}
-use Rattle.fancy_code.specs.Work.{steps_of}
+use Rattle.fancy_input.specs.Work.{steps_of}
 use Rattle.fancy_search.proofs.program.Program.search_easy.Goals as goal
 
 pub run-requires-clause-kept : goal.run-requires-clause-kept

@@ -2,7 +2,7 @@ use Rattle.std.proofs.Common.{◌+◌, ◌<◌, ◌≤◌, refl, sym, ap, subst,
 use Rattle.std.proofs.lemmas.Option.{slice_get_read}
 use Rattle.fancy_input.specs.Inputs.{haystack_in, request_in}
 use Rattle.fancy_core.specs.Regexes.{program_in, step_limit_in}
-use Rattle.fancy_code.specs.Work.{units_of, IsWithin, work_of}
+use Rattle.fancy_input.specs.Work.{units_of, IsWithin, work_of}
 use Rattle.fancy_search.specs.declared.cache.AttemptCache.{AttemptCache}
 use Rattle.fancy_search.proofs.KeptTablesLemmas.{none_so}
 use Rattle.fancy_search.proofs.ResultLemmas.{if_ok, if_ok_both}

@@ -1,6 +1,6 @@
 use Rattle.std.proofs.Common.{◌≤◌, refl, sym, ap, subst, set, arith}
 use Rattle.std.proofs.lemmas.Option.{slice_get_read}
-use Rattle.fancy_code.specs.Work.{IsWithin, work_of}
+use Rattle.fancy_input.specs.Work.{IsWithin, work_of}
 use Rattle.fancy_core.specs.Regexes.{step_limit_in}
 use Rattle.fancy_search.specs.declared.cache.AttemptCache.{AttemptCache}
 use Rattle.fancy_search.proofs.ResultLemmas.{if_ok}

@@ -1,6 +1,6 @@
 -- The numbers that a search counts.
 use Rattle.std.specs.Prelude.{ℕ, Option, Some, None, ◌≡◌, ◌+◌, ◌^◌, ◌-◌, ◌<◌, ◌≤◌, ◌&&◌, nat_lt, if◌then◌else◌}
-use Rattle.fancy_code.specs.declared.work.Work.{Work}
+use Rattle.fancy_input.specs.declared.work.Work.{Work}
 
 -- fetches of instructions
 abbrev pub steps_of : Work → ℕ

@@ -1,7 +1,7 @@
 //! The counts of a search: its steps and its returns.
 
 ghost use Rattle.std.specs.Prelude.{◌≡◌, ◌≢◌, ◌+◌, ◌-◌, ◌<◌, ◌≤◌, ◌^◌, ◌↔◌, IsTrue, IfSome, OnOk, None, Err, min, true, false};
-ghost use Rattle.fancy_code.specs.Work.{steps_of, returns_of, units_of, work_of, stepped_within, went_back, went_back_within, IsWithin, IsSpent, HasWorkLeft, HasWorkFor, AddsUnits, AddsReturns};
+ghost use Rattle.fancy_input.specs.Work.{steps_of, returns_of, units_of, work_of, stepped_within, went_back, went_back_within, IsWithin, IsSpent, HasWorkLeft, HasWorkFor, AddsUnits, AddsReturns};
 
 use crate::refusal::SearchRefusal;
 

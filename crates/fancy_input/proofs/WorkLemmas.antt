@@ -2,8 +2,8 @@
 use Rattle.std.proofs.Common.{◌≡◌, ◌+◌, ◌-◌, ◌^◌, ◌<◌, ◌≤◌, ◌&&◌, ◌∙◌, ℕ, Bool, true, false, Option, Some, None, refl, sym, subst, arith}
 use Rattle.std.proofs.lemmas.Bool.{ltb-true, ltb-false}
 use Rattle.std.specs.Prelude.{nat_lt, if◌then◌else◌}
-use Rattle.fancy_code.specs.declared.work.Work.{Work}
-use Rattle.fancy_code.specs.Work.{steps_of, returns_of, units_of, stepped, stepped_within, went_back, went_back_within, IsWithin, IsSpent, HasWorkLeft, HasWorkFor, RunsWithin}
+use Rattle.fancy_input.specs.declared.work.Work.{Work}
+use Rattle.fancy_input.specs.Work.{steps_of, returns_of, units_of, stepped, stepped_within, went_back, went_back_within, IsWithin, IsSpent, HasWorkLeft, HasWorkFor, RunsWithin}
 
 -- what a step adds
 pub record OneStep (before after : Work) : Type 0 where

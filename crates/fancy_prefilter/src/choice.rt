@@ -1,7 +1,7 @@
 //! Which ways of a choice are to be gone at a place, by the byte that stands there.
 
 ghost use Rattle.fancy_bytes.specs.Sets.{member};
-ghost use Rattle.fancy_code.specs.Choices.{ChosenBy};
+ghost use Rattle.fancy_prefilter.specs.Chosen.{ChosenBy};
 
 use fancy_bytes::byte_set::ByteSet;
 
@@ -41,7 +41,7 @@ impl Beginnings {
     }
 
     /// Whether they leave a way out for some byte.
-    pub(crate) fn are_telling(&self) -> bool {
+    pub fn are_telling(&self) -> bool {
         self.first.len() < 256 || self.second.len() < 256
     }
 }

@@ -1,7 +1,7 @@
 //! Why a search gives no answer.
 
 ghost use Rattle.std.specs.Prelude.{◌≡◌};
-ghost use Rattle.fancy_code.specs.declared.refusal.SearchRefusal.TheVariants.{Memory};
+ghost use Rattle.fancy_input.specs.declared.refusal.SearchRefusal.TheVariants.{Memory};
 
 use std::alloc::{AllocError, AllocFailed};
 
