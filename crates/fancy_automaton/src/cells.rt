@@ -48,11 +48,18 @@ pub const ROWS: usize = 32_768;
 /// The most steps that are kept.
 pub const CELLS: usize = 16_384;
 
-/// So many bytes the rows and the steps may take in any haystack, and in a longer one as many more as it is long.
+/// So many bytes the rows and the steps may take in any haystack, and in a longer one as many more as it is long, up to
+/// [`MORE_ROOM`].
 pub const ROOM: usize = 524_288;
 
-/// A row takes about so many bytes, with its hints and without its instructions.
+/// The most bytes that rows and steps may take more in a longer haystack.
+pub const MORE_ROOM: usize = 2_097_152;
+
+/// A row takes about so many bytes, with its hints and without its instructions and its entries in the table.
 const ROW_BYTES: usize = 160;
+
+/// An entry of the table takes so many bytes.
+const ENTRY_BYTES: usize = 16;
 
 /// A step takes about so many bytes, with its hints and without the ways that it leads to.
 const CELL_BYTES: usize = 240;
@@ -123,14 +130,16 @@ impl Cells {
         self.reached
     }
 
-    /// About how many bytes the rows and the steps take.
+    /// About how many bytes the rows, the steps and the table take.
     fn bytes(&self) -> usize {
         let ways = self.rows.held.saturating_add(self.held);
         let rows = self.rows.lists.len().saturating_mul(ROW_BYTES);
         let cells = self.cells.len().saturating_mul(CELL_BYTES);
+        let table = self.table.entries.len().saturating_mul(ENTRY_BYTES);
         ways.saturating_mul(WAY_BYTES)
             .saturating_add(rows)
             .saturating_add(cells)
+            .saturating_add(table)
     }
 
     /// Whether one more step may be one too many.

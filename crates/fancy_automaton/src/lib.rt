@@ -2,7 +2,7 @@
 //!
 //! At a place of the haystack a row of instructions waits, the preferred one first. A step follows each of them to the
 //! instructions that read an item, and leads to the row of those that go on after the item that is there. A step is
-//! computed once for a row and an item, and remembered in a cell. As long as nothing was found, one more way begins at each
+//! computed once for a row and an item, and remembered in a cell; on ASCII characters a table leads to it. As long as nothing was found, one more way begins at each
 //! place, as the last one of its row.
 //!
 //! The code of `a|ab` begins with a split. The row at 0 of `ab` is that instruction alone. On `a` the step leads to the row of

@@ -15,7 +15,7 @@ ghost use Rattle.fancy_automaton.specs.Cells.{IsFor, IsBounded};
 ghost use Rattle.fancy_automaton.specs.Futures.{ArePlain};
 ghost use Rattle.fancy_automaton.specs.Search.{BegunIn, KeepsPlaces, Steady, at_position, ends_in, leftmost_in};
 
-use crate::cells::{Cells, ROOM};
+use crate::cells::{Cells, MORE_ROOM, ROOM};
 use crate::front::Front;
 use fancy_code::attempt::Attempt;
 use fancy_code::code::Code;
@@ -122,7 +122,7 @@ pub fn find(
         suppressed: options.suppressed_ends(request),
         step_limit: None,
     };
-    cells.room = ROOM.saturating_add(haystack.len());
+    cells.room = ROOM.saturating_add(haystack.len().min(MORE_ROOM));
     let found = find_span(&attempt, cells, work)?;
     Ok(found_by(found))
 }

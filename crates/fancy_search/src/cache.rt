@@ -80,10 +80,6 @@ impl Kept {
     }
 }
 
-/// The fewest bytes that a search alone, or the first of a list, goes over where the automaton serves it: its steps are computed
-/// then, which takes longer than to run through a short text.
-const SHORT: usize = 256;
-
 /// A list leaves the automaton once its searches have read so many bytes past the ends of their matches, where each byte that
 /// they came on by makes up for [`MADE_UP`].
 const READ_PAST: usize = 1024;
@@ -183,15 +179,15 @@ impl Cache {
         }
     }
 
-    /// Whether a search is worth the automaton's steps: its text is not short, or the steps of searches before are kept, which did
+    /// Whether a search is worth the automaton's steps: its text is not shorter than `shortest`, or the steps of searches before are kept, which did
     /// not read much more than their list came on by.
-    pub(crate) fn is_worth_steps(&self, request: Request, kept: Kept) -> bool
+    pub(crate) fn is_worth_steps(&self, request: Request, kept: Kept, shortest: usize) -> bool
         ensures { result ≡ true → table_kept kept ≡ None }
     {
         match kept {
             Kept::Nothing => {
                 let searched = request.range_end.saturating_sub(request.effective_start());
-                searched >= SHORT
+                searched >= shortest
             }
             Kept::Steps => self.read_past <= READ_PAST,
             Kept::Table(_) | Kept::Lines => false,

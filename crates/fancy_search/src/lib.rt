@@ -3,8 +3,8 @@
 
 pub mod byte_sets;
 pub mod cache;
+mod following;
 pub mod groups;
 pub mod options;
 pub mod program;
 pub mod searcher;
-mod wide;

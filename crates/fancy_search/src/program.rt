@@ -32,8 +32,8 @@ ghost use Rattle.fancy_search.specs.ProgramSize.{IsRefusedUnder, RefusesPattern,
 ghost use Rattle.fancy_search.specs.Cached.{IsAnswerIn, IsAttemptIn, IsCleanlyFound};
 
 use crate::cache::{AttemptCache, AttemptNotes, Cache, Engine, Kept};
+use crate::following::{is_worth_following, shortest_followed};
 use crate::options::Options;
-use crate::wide::is_worth_following;
 use fancy_automaton::search as automaton;
 use fancy_bytes::lacking::{KnownBytes, RequiredBytes};
 use fancy_code::code::Code;
@@ -59,8 +59,8 @@ const SHORT_HAYSTACK: usize = 256;
 /// A pattern that was read and compiled under options.
 ///
 /// Which engine serves its searches is decided once: the memoised runner an easy pattern, and the backtracking machine a
-/// hard one. An easy pattern that opens with many branches, and whose code an automaton follows, is served by that in a text that
-/// is not short.
+/// hard one. An easy pattern whose code an automaton follows, and of whose matches little is told that a scan could go by, is served
+/// by that in a text that is not short.
 #[derive(Drop)]
 pub struct Program {
     options: Options,
@@ -70,6 +70,8 @@ pub struct Program {
     easy: bool,
     /// Whether the automaton is worth its steps, and follows the code.
     plain: bool,
+    /// The shortest text that the automaton serves, in bytes.
+    shortest: usize,
     /// The bytes that every haystack with a match has.
     required: RequiredBytes,
     /// What is told of the machine's attempts.
@@ -142,6 +144,7 @@ impl Program {
             return Err(Error::CompileError(CompileError::PatternTooComplex));
         }
         let plain = is_worth_following(&code);
+        let shortest = shortest_followed(&code);
         let required = RequiredBytes::new(alloc, &tree, options.meaning())?;
         let prices = prices_of(alloc, &code, easy)?;
         let text = String::from_str(alloc, pattern)?;
@@ -152,6 +155,7 @@ impl Program {
             names,
             easy,
             plain,
+            shortest,
             required,
             prices,
         })
@@ -410,7 +414,7 @@ impl Program {
         if request.anchored {
             return false;
         }
-        if !cache.is_worth_steps(request, kept) {
+        if !cache.is_worth_steps(request, kept, self.shortest) {
             return false;
         }
         self.can_follow(text)
