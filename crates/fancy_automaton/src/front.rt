@@ -348,6 +348,8 @@ impl Front {
         ensures front { IfOk result (λ next. IsFront attempt.now cells.now self.new next next) }
         ensures forth { IfOk result (λ next. place ≤ next) }
         ensures ends { IfOk result (λ next. next ≤ attempt.now.last) }
+        ensures visits { length self.old.trail.visits.items ≤ most_visits
+            → length self.new.trail.visits.items ≤ most_visits }
     {
         let from = Stand {
             place,

@@ -6,7 +6,7 @@ ghost use Rattle.fancy_automaton.specs.Cells.{IsBounded};
 ghost use Rattle.fancy_automaton.specs.Front.{IsFront, front_at};
 ghost use Rattle.fancy_automaton.specs.Futures.{ArePlain};
 ghost use Rattle.fancy_automaton.specs.Search.{Steady};
-ghost use Rattle.fancy_automaton.specs.Trail.{hit_or};
+ghost use Rattle.fancy_automaton.specs.Trail.{hit_or, most_visits};
 ghost use Rattle.fancy_automaton.specs.Transitions.{IsEntry, IsTransition, ascii};
 ghost use Rattle.fancy_automaton.specs.declared.cells.Cell.{Cell};
 ghost use Rattle.std.specs.Global.{Vec};
@@ -77,8 +77,9 @@ fn idle_row(cells: &Cells) -> usize
 /// waited before either, in the row `was`.
 #[inline(always)]
 fn forget(trail: &mut Trail, hit: Option<Hit>, was: usize, next: usize, idle: usize) -> bool
-    ensures { (trail.new ≡ trail.old) ⊎ ((next ≡ idle) × (hit ≡ None) × (trail.new.base.items ≡ [])
+    ensures forgot { (trail.new ≡ trail.old) ⊎ ((next ≡ idle) × (hit ≡ None) × (trail.new.base.items ≡ [])
         × (trail.new.visits.items ≡ [])) }
+    ensures fewer { length trail.new.visits.items ≤ length trail.old.visits.items }
 {
     if next != idle {
         return false;
@@ -109,6 +110,8 @@ pub(crate) fn run(
     ensures front { IfOk result (λ to. IsFront attempt.now cells.now (front_at to trail.new hit.new) to.place to.place) }
     ensures forth { IfOk result (λ to. from.place ≤ to.place) }
     ensures ends { IfOk result (λ to. to.place ≤ attempt.now.last) }
+    ensures visits { length trail.old.visits.items ≤ most_visits
+        → length trail.new.visits.items ≤ most_visits }
 {
     let room = VISITS.saturating_sub(trail.visits.len());
     let end = attempt.last.min(from.place.saturating_add(room));

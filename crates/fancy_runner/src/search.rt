@@ -24,9 +24,9 @@ use fancy_code::code::Code;
 use fancy_code::found::Found;
 use fancy_code::options::{SearchOptions, is_match_boundary};
 use fancy_code::reading::ready_last_lines;
+use fancy_input::input::Request;
 use fancy_input::refusal::SearchRefusal;
 use fancy_input::work::Work;
-use fancy_input::input::Request;
 use fancy_prefilter::candidates::next_opening;
 
 /// Makes the table ready for a search that starts at `first`: where none is kept it begins anew, with the marks of each place from its

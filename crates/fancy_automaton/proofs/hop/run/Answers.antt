@@ -14,6 +14,8 @@ places-init c = record {
   good = c.requires.good;
   passed = omega arith;
   within = c.requires.within;
+  visits = omega arith;
+  stops = λ more. absurd (omega (arith, more));
 }
 
 pub at-entry-requires : goal.at-entry-requires
@@ -51,7 +53,7 @@ places-preserved c =
     let size : c.len-visits.result ≡ length c.places.trail.visits.items = omega arith in
     let before : p < a.last = omega arith in record {
       front = front_forgot a cells (record { place = p + 1; next = step.next; begun = step.begun }) (record { base = c.places.trail.base; visits = c.push.new.self }) c.forget-rests.new.trail c.step_of.new.hit
-          c.idle_row-idle.result (p + 1) c.idle_row-idle.ensures c.forget-rests.ensures
+          c.idle_row-idle.result (p + 1) c.idle_row-idle.ensures c.forget-rests.ensures.forgot
           (front_hopped a c.requires.steady c.requires.plain cells f p row step c.start_at-start.result c.push.new.self c.step_of.new.hit
           before c.requires.inside c.if-byte-ge128.false c.places.invariant.good c.places.invariant.front (c.row_at-row.ensures cells.cells.items f.trail)
           (c.in-Some.ensures.told row _ entry) (c.start_at-start.ensures cells.cells.items f.trail) c.in_ok-push.ensures.items
@@ -59,6 +61,8 @@ places-preserved c =
       good = ascii_leads a p before c.requires.inside c.if-byte-ge128.false c.requires.steady c.places.invariant.good;
       passed = omega (arith, c.places.invariant.passed);
       within = omega (arith, before);
+      visits = omega (arith, c.forget-rests.ensures.fewer, c.in_ok-push.ensures.len, c.places.invariant.visits);
+      stops = λ more. omega arith;
     }
 
 pub returns-after-places-clause-front : goal.returns-after-places-clause-front

@@ -1,4 +1,4 @@
-use Rattle.std.proofs.Common.{◌-◌, ◌≡◌, ◌≤◌, true}
+use Rattle.std.proofs.Common.{◌-◌, ◌+◌, ◌≡◌, ◌<◌, ◌≤◌, length, true}
 use Rattle.fancy_code.specs.Attempt.{may_end_in}
 use Rattle.fancy_automaton.specs.Front.{IsFront, front_at}
 use Rattle.fancy_automaton.proofs.hop.run.Given as goal
@@ -9,6 +9,8 @@ invariant-places l = record {
   good : may_end_in l.attempt l.at.place ≡ true;
   passed : l.fn.from.place ≤ l.at.place;
   within : l.at.place ≤ l.attempt.last;
+  visits : length l.trail.visits.items + l.fn.from.place ≤ length l.fn.trail.visits.items + l.at.place;
+  stops : l.fn.from.place < l.at.place → l.at.place ≤ l.end;
 }
 
 abbrev pub decreases-places : goal.decreases-places
