@@ -17,6 +17,7 @@
 //! | ask several patterns | [`sets`] |
 //! | cut a text into tokens | [`tokens`] |
 //! | read an error | [`errors`] |
+//! | tell lines and columns, and explain an error | [`lines`] |
 //! | read a regex | [`regexes`] |
 //! | see what a search costs | [`costs`] |
 //! | see what a search of a hard pattern keeps | [`memory`] |
@@ -34,6 +35,7 @@ pub mod errors;
 pub mod groups;
 pub mod inputs;
 pub mod laws;
+pub mod lines;
 pub mod lists;
 pub mod matches;
 pub mod memory;

@@ -84,6 +84,22 @@ impl<'a> Cursor<'a> {
         Ok(ClassItem::NamedSet(which, negated))
     }
 
+    /// Reads a character, a range or the name of a set. Where it is refused the cursor stays before it.
+    pub(crate) fn item_here(&mut self, context: ClassContext) -> Result<ClassItem, ClassRefusal>
+        ensures value { ClassGivesValue itself (class_item context.meaning self.old.rest.now) result self.new.rest.now }
+        ensures progress { OnOk result (length self.new.rest.now < length self.old.rest.now) }
+        ensures forward { length self.new.rest.now ≤ length self.old.rest.now }
+    {
+        let start = self.rest;
+        match self.class_item(context) {
+            Ok(item) => Ok(item),
+            Err(refusal) => {
+                self.rest = start;
+                Err(refusal)
+            }
+        }
+    }
+
     /// Whether a nested class starts here.
     pub(crate) fn starts_class(&self) -> bool
         ensures value { result ≡ starts_class self.now.rest.now }

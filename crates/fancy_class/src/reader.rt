@@ -19,7 +19,8 @@ use fancy_tree::set::Set;
 const DEEPEST: u32 = 128;
 
 impl<'a> Cursor<'a> {
-    /// Reads the class that stands here.
+    /// Reads the class that stands here. Where it is refused the cursor stands at the fault: at the item, or at the bracket of a
+    /// class that is not closed, nested too deep, or complemented where that has no meaning.
     pub fn class(&mut self, context: ClassContext) -> Result<Set, ClassRefusal>
         requires { is_bracket self.old.rest.now ≡ true }
         ensures value { ClassGives members (ReadsClass context.meaning context.fold)
@@ -27,6 +28,7 @@ impl<'a> Cursor<'a> {
         ensures edges { ClassGives edges_of (ReadsEdges context.meaning context.fold)
             result self.old.rest.now self.new.rest.now }
         ensures progress { OnOk result (length self.new.rest.now < length self.old.rest.now) }
+        ensures forward { length self.new.rest.now ≤ length self.old.rest.now }
     {
         self.bracketed_class(context, DEEPEST)
     }
@@ -37,12 +39,16 @@ impl<'a> Cursor<'a> {
         requires { is_bracket self.old.rest.now ≡ true }
         ensures value { ClassGives members (ClassReading context.meaning context.fold room) result self.old.rest.now self.new.rest.now }
         ensures progress { OnOk result (length self.new.rest.now < length self.old.rest.now) }
+        ensures forward { length self.new.rest.now ≤ length self.old.rest.now }
     {
+        let start = self.rest;
         let negated = self.opening();
         if !may_negate(context.meaning, negated) {
+            self.rest = start;
             return Err(ClassRefusal::Invalid(ParseErrorKind::InvalidClass));
         }
         if room == 0 {
+            self.rest = start;
             return Err(ClassRefusal::Invalid(ParseErrorKind::RecursionExceeded));
         }
         let first = self.items(context, room - 1, true)?;
@@ -53,6 +59,7 @@ impl<'a> Cursor<'a> {
             chain.add(how, right)?;
         }
         if !is_at_any(self.rest, &[']']) {
+            self.rest = start;
             return Err(ClassRefusal::Invalid(ParseErrorKind::InvalidClass));
         }
         self.skip(1);
@@ -70,7 +77,7 @@ impl<'a> Cursor<'a> {
         mut first: bool,
     ) -> Result<Set, ClassRefusal>
         ensures value { ClassGives members (OperandItemsReading context.meaning context.fold room first none_of) result self.old.rest.now self.new.rest.now }
-        ensures forward { OnOk result (length self.new.rest.now ≤ length self.old.rest.now) }
+        ensures forward { length self.new.rest.now ≤ length self.old.rest.now }
     {
         let mut builder = ClassBuilder::new(context.alloc);
         'more: while !self.ends_operand(first) {
@@ -78,7 +85,7 @@ impl<'a> Cursor<'a> {
                 let nested = self.bracketed_class(context, room)?;
                 builder.add_class(nested)?;
             } else {
-                let item = self.class_item(context)?;
+                let item = self.item_here(context)?;
                 builder.add_item(item)?;
             }
             first = false;

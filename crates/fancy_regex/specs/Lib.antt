@@ -22,6 +22,8 @@ pub use Rattle.fancy_tree.specs.Sizes
 pub use Rattle.fancy_tree.specs.GroupNumbers
 pub use Rattle.fancy_tree.specs.Errors
 pub use Rattle.fancy_template.specs.Writers
+pub use Rattle.fancy_lines.specs.LineColumns
+pub use Rattle.fancy_explain.specs.Explained
 pub use Rattle.fancy_class.specs.Words
 pub use Rattle.fancy_syntax.specs.Dialect
 pub use Rattle.fancy_syntax.specs.Refusals

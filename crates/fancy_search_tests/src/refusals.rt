@@ -20,7 +20,7 @@ const DEEP: &[((&str, &str, &str), usize, Verdict)] = &[
     (
         ("[", "a", "]"),
         128,
-        Verdict::Fault(0, ParseErrorKind::RecursionExceeded),
+        Verdict::Fault(128, ParseErrorKind::RecursionExceeded),
     ),
     // in the innermost condition two parentheses are open besides those of the bodies round it
     (("(?(a)", "b", ")"), 127, TOO_DEEP),

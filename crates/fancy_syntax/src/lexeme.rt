@@ -350,13 +350,9 @@ impl<'a> Parser<'a> {
         ensures progress { OnOk result (length (text_left self.new) < length (text_left self.old)) }
     {
         let context = self.context();
-        let start = self.cursor.rest;
         match self.cursor.class(context) {
             Ok(set) => Ok(Tree::Member(set.shared())),
-            Err(refusal) => {
-                self.cursor.rest = start;
-                Err(self.class_error(refusal))
-            }
+            Err(refusal) => Err(self.class_error(refusal)),
         }
     }
 
