@@ -1,9 +1,9 @@
 -- Rows and the steps between them.
 use Rattle.std.proofs.Common.{◌≡◌, ℕ, zero, suc, ◌+◌, ◌<◌, List, [], ◌∷◌, ◌++◌, Option, Some, None, refl, sym, ap, ◌∙◌, subst, arith, length, map, take, get_or, All}
-use Rattle.std.specs.Prelude.{slice_get, option_map, slice_index}
-use Rattle.fancy_code.specs.declared.reading.Reading.{Reading}
+use Rattle.std.specs.Prelude.{slice_get, slice_index}
+use Rattle.fancy_alphabet.specs.declared.sight.Sight.{Sight}
 use Rattle.fancy_input.specs.declared.span.Span.{Span}
-use Rattle.fancy_code.specs.Reading.{unit_read}
+use Rattle.fancy_alphabet.specs.Sights.{seen_in}
 use Rattle.std.specs.Global.{Vec}
 use Rattle.std.proofs.lemmas.Option.{slice_get-get_or}
 use Rattle.fancy_code.specs.declared.code.Code.{Code}
@@ -45,11 +45,11 @@ keeps_cell code rows later c keeps is = record {
 pub keeps_cells : (code : Code) (rows later : List (Vec ℕ)) (cells : List Cell) → KeepsRows rows later → All (IsCellOf code rows) cells → All (IsCellOf code later) cells
 keeps_cells code rows later cells keeps all = λ k d lt. keeps_cell code rows later (get_or cells k d) keeps (all k d lt)
 
-pub cell_made : (code : Code) (rows later : List (Vec ℕ)) (row : ℕ) (reading : Option Reading) (next begun : ℕ) (ways : List ℕ) (after : List Way) (came : List ℕ) (matched : Option ℕ)
+pub cell_made : (code : Code) (rows later : List (Vec ℕ)) (row : ℕ) (sight : Sight) (next begun : ℕ) (ways : List ℕ) (after : List Way) (came : List ℕ) (matched : Option ℕ)
     → HasRow rows row ways → KeepsRows rows later → HasRow later next (map at_of after) → HasRow later begun (map at_of after ++ code.start ∷ []) → came ≡ map from_of after
-    → IsStep (instrs_of code) ways (option_map unit_read reading) after matched → (reading ≡ None → after ≡ [])
-    → IsCell code later row reading next begun came matched
-cell_made code rows later row reading next begun ways after came matched source keeps leads opens comes step halts = record {
+    → IsStep (instrs_of code) ways (seen_in sight) after matched → (sight.reading ≡ None → after ≡ [])
+    → IsCell code later row sight next begun came matched
+cell_made code rows later row sight next begun ways after came matched source keeps leads opens comes step halts = record {
   ways = ways;
   after = after;
   source = keeps_row rows later row ways keeps source;
@@ -60,9 +60,9 @@ cell_made code rows later row reading next begun ways after came matched source 
   halts = halts;
 }
 
-pub has_cell : (cells : List Cell) (k row : ℕ) (reading : Option Reading) (c d : Cell) → k < length cells → c ≡ get_or cells k d → c.row ≡ row → c.reading ≡ reading
-    → (x : Cell) × (slice_get cells k ≡ Some x) × (x.row ≡ row) × (x.reading ≡ reading)
-has_cell cells k row reading c d lt is r b = (c, slice_get-get_or cells k d lt ∙ ap Some (sym is), r, b)
+pub has_cell : (cells : List Cell) (k row : ℕ) (sight : Sight) (c d : Cell) → k < length cells → c ≡ get_or cells k d → c.row ≡ row → c.sight ≡ sight
+    → (x : Cell) × (slice_get cells k ≡ Some x) × (x.row ≡ row) × (x.sight ≡ sight)
+has_cell cells k row sight c d lt is r b = (c, slice_get-get_or cells k d lt ∙ ap Some (sym is), r, b)
 
 cell_end : (cells : List Cell) (c : Cell) → slice_get (cells ++ c ∷ []) (length cells) ≡ Some c
 cell_end [] c = refl
@@ -71,9 +71,9 @@ cell_end (x ∷ cells) c = cell_end cells c
 pub cell_last : (cells : List Cell) (c : Cell) (k : ℕ) → k ≡ length cells → slice_get (cells ++ c ∷ []) k ≡ Some c
 cell_last cells c k n = ap (slice_get (cells ++ c ∷ [])) n ∙ cell_end cells c
 
-pub cell_pushed : (cells later : List Cell) (k row : ℕ) (reading : Option Reading) (c : Cell) → later ≡ cells ++ c ∷ [] → k ≡ length cells → c.row ≡ row → c.reading ≡ reading
-    → (x : Cell) × (slice_get later k ≡ Some x) × (x.row ≡ row) × (x.reading ≡ reading)
-cell_pushed cells later k row reading c e n r b = (c, ap (λ (x : List Cell). slice_get x k) e ∙ ap (slice_get (cells ++ c ∷ [])) n ∙ cell_end cells c, r, b)
+pub cell_pushed : (cells later : List Cell) (k row : ℕ) (sight : Sight) (c : Cell) → later ≡ cells ++ c ∷ [] → k ≡ length cells → c.row ≡ row → c.sight ≡ sight
+    → (x : Cell) × (slice_get later k ≡ Some x) × (x.row ≡ row) × (x.sight ≡ sight)
+cell_pushed cells later k row sight c e n r b = (c, ap (λ (x : List Cell). slice_get x k) e ∙ ap (slice_get (cells ++ c ∷ [])) n ∙ cell_end cells c, r, b)
 
 -- one more cell is as true as the others
 cells_one : (P : Cell → Type 0) (cells : List Cell) (c : Cell) → All P cells → P c → (k : ℕ) (d : Cell) → k < length (cells ++ c ∷ []) → P (get_or (cells ++ c ∷ []) k d)
@@ -82,12 +82,12 @@ cells_one P [] c all is (suc k) d lt = absurd (omega arith)
 cells_one P (x ∷ cells) c all is zero d lt = all zero d (omega arith)
 cells_one P (x ∷ cells) c all is (suc k) d lt = cells_one P cells c (λ j e h. all (suc j) e (omega arith)) is k d (omega arith)
 
-pub cells_more : (code : Code) (rows later : List (Vec ℕ)) (cells more : List Cell) (row : ℕ) (reading : Option Reading) (c : Cell) → KeepsRows rows later → All (IsCellOf code rows) cells
-    → more ≡ cells ++ c ∷ [] → c.row ≡ row → c.reading ≡ reading → IsCell code later row reading c.next c.begun c.came.items c.matched → All (IsCellOf code later) more
-cells_more code rows later cells more row reading c keeps all e r b is =
+pub cells_more : (code : Code) (rows later : List (Vec ℕ)) (cells more : List Cell) (row : ℕ) (sight : Sight) (c : Cell) → KeepsRows rows later → All (IsCellOf code rows) cells
+    → more ≡ cells ++ c ∷ [] → c.row ≡ row → c.sight ≡ sight → IsCell code later row sight c.next c.begun c.came.items c.matched → All (IsCellOf code later) more
+cells_more code rows later cells more row sight c keeps all e r b is =
     subst (λ (x : List Cell). All (IsCellOf code later) x) (sym e)
     (cells_one (IsCellOf code later) cells c (keeps_cells code rows later cells keeps all)
-    (subst (λ (x : ℕ). IsCell code later x c.reading c.next c.begun c.came.items c.matched) (sym r) (subst (λ (x : Option Reading). IsCell code later row x c.next c.begun c.came.items c.matched) (sym b) is)))
+    (subst (λ (x : ℕ). IsCell code later x c.sight c.next c.begun c.came.items c.matched) (sym r) (subst (λ (x : Sight). IsCell code later row x c.next c.begun c.came.items c.matched) (sym b) is)))
 
 -- the ways of a row
 pub row_ways : (rows : List (Vec ℕ)) (r : ℕ) (ways : List ℕ) → HasRow rows r ways → ways_at rows r ≡ ways
@@ -120,16 +120,16 @@ starts_by starts [] = refl
 starts_by starts (l ∷ ls) = ap (λ (xs : List ℕ). slice_index starts l.from ∷ xs) (starts_by starts ls)
 
 -- a step that is remembered is true of the code
-pub cell_is : (code : Code) (rows : List (Vec ℕ)) (cells : List Cell) (k row : ℕ) (reading : Option Reading) (d : Cell) → All (IsCellOf code rows) cells
-    → ((x : Cell) × (slice_get cells k ≡ Some x) × (x.row ≡ row) × (x.reading ≡ reading)) → d ≡ get_or cells k d
-    → IsCell code rows row reading d.next d.begun d.came.items d.matched
-cell_is code rows cells k row reading d all h e =
+pub cell_is : (code : Code) (rows : List (Vec ℕ)) (cells : List Cell) (k row : ℕ) (sight : Sight) (d : Cell) → All (IsCellOf code rows) cells
+    → ((x : Cell) × (slice_get cells k ≡ Some x) × (x.row ≡ row) × (x.sight ≡ sight)) → d ≡ get_or cells k d
+    → IsCell code rows row sight d.next d.begun d.came.items d.matched
+cell_is code rows cells k row sight d all h e =
     let lt = get_within cells k h.0 h.1 in
     let both : Some d ≡ Some h.0 = ap Some e ∙ sym (slice_get-get_or cells k d lt) ∙ h.1 in
     let same : d ≡ h.0 = cc in
     let is : IsCellOf code rows d = subst (IsCellOf code rows) (sym e) (all k d lt) in
-    subst (λ (r : ℕ). IsCell code rows r reading d.next d.begun d.came.items d.matched) (ap (λ (x : Cell). x.row) same ∙ h.2)
-    (subst (λ (r : Option Reading). IsCell code rows d.row r d.next d.begun d.came.items d.matched) (ap (λ (x : Cell). x.reading) same ∙ h.3) is)
+    subst (λ (r : ℕ). IsCell code rows r sight d.next d.begun d.came.items d.matched) (ap (λ (x : Cell). x.row) same ∙ h.2)
+    (subst (λ (r : Sight). IsCell code rows d.row r d.next d.begun d.came.items d.matched) (ap (λ (x : Cell). x.sight) same ∙ h.3) is)
 
 get_left : {A : Type 0} (xs : List A) (y x : A) (k : ℕ) → slice_get xs k ≡ Some x → slice_get (xs ++ y ∷ []) k ≡ Some x
 get_left [] y x k e = cc
@@ -169,20 +169,24 @@ length-map f [] = refl
 length-map f (x ∷ xs) = ap suc (length-map f xs)
 
 -- what is remembered of the first instruction alone
-pub record IsAlone (code : Code) (rows : List (Vec ℕ)) (reading : Option Reading) (d : Cell) : Type 0 where
+pub record IsAlone (code : Code) (rows : List (Vec ℕ)) (sight : Sight) (d : Cell) : Type 0 where
   pub after : List Way
   pub leads : HasRow rows d.next (map at_of after)
-  pub step : IsStep (instrs_of code) (code.start ∷ []) (option_map unit_read reading) after d.matched
-  pub halts : reading ≡ None → after ≡ []
+  pub step : IsStep (instrs_of code) (code.start ∷ []) (seen_in sight) after d.matched
+  pub halts : sight.reading ≡ None → after ≡ []
 
-pub alone_is : (code : Code) (rows : List (Vec ℕ)) (cells : List Cell) (k alone : ℕ) (reading : Option Reading) (d : Cell) → All (IsCellOf code rows) cells
-    → ((x : Cell) × (slice_get cells k ≡ Some x) × (x.row ≡ alone) × (x.reading ≡ reading)) → d ≡ get_or cells k d → HasRow rows alone (code.start ∷ [])
-    → IsAlone code rows reading d
-alone_is code rows cells k alone reading d all h e one =
-    let is = cell_is code rows cells k alone reading d all h e in
+pub alone_is : (code : Code) (rows : List (Vec ℕ)) (cells : List Cell) (k alone : ℕ) (sight : Sight) (d : Cell) → All (IsCellOf code rows) cells
+    → ((x : Cell) × (slice_get cells k ≡ Some x) × (x.row ≡ alone) × (x.sight ≡ sight)) → d ≡ get_or cells k d → HasRow rows alone (code.start ∷ [])
+    → IsAlone code rows sight d
+alone_is code rows cells k alone sight d all h e one =
+    let is = cell_is code rows cells k alone sight d all h e in
     record {
       after = is.after;
       leads = is.leads;
-      step = subst (λ (ws : List ℕ). IsStep (instrs_of code) ws (option_map unit_read reading) is.after d.matched) (same_row rows alone is.ways (code.start ∷ []) is.source one) is.step;
+      step = subst (λ (ws : List ℕ). IsStep (instrs_of code) ws (seen_in sight) is.after d.matched) (same_row rows alone is.ways (code.start ∷ []) is.source one) is.step;
       halts = is.halts;
     }
+
+-- no step is remembered
+pub no_cells : (code : Code) (rows : List (Vec ℕ)) (cells : List Cell) → cells ≡ [] → All (IsCellOf code rows) cells
+no_cells code rows cells e k d lt = (let none = ap length e in absurd (omega (arith, lt, none)))

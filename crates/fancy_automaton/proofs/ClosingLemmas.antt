@@ -1,15 +1,18 @@
 -- Following the ways at one place: what may be dropped, and what may be put in a way's place.
 use Rattle.std.proofs.Common.{◌≡◌, ℕ, ◌+◌, ◌<◌, ◌⊎◌, Bool, true, false, List, [], ◌∷◌, ◌++◌, Option, Some, None, refl, sym, ap, ap₂, ◌∙◌, subst, inl, inr, arith, set, zero, suc, replicate, reverse, length}
 use Rattle.std.proofs.lemmas.List.{reverse-append}
-use Rattle.std.specs.Prelude.{is_some, slice_index_or}
+use Rattle.std.specs.Prelude.{is_some, slice_index_or, ◌==◌}
 use Rattle.std.specs.Option.{option_or}
 use Rattle.std.proofs.lemmas.Bool.{true≢false}
 use Rattle.fancy_code.proofs.MarkingLemmas.{member-set}
 use Rattle.fancy_automaton.specs.declared.way.Way.{Way}
-use Rattle.fancy_automaton.specs.declared.way.Effect.TheVariants as does
+use Rattle.fancy_alphabet.specs.declared.effect.Effect.TheVariants as does
 use Rattle.fancy_code.specs.Instructions.{Instruction, Match, Fail, Character, Member, RawByte, Assert, Split, Open, Close, Enter, Commit, Look, Deny, Test, Back, Recall, Keep, Continue, Taken}
 use Rattle.fancy_code.specs.Context.{Unit_at}
-use Rattle.fancy_automaton.specs.Ways.{effect_of, Ends, tagged, way_end, first_end, AllKnown, HasEnd, Below, Covers, Closing}
+use Rattle.fancy_tree.specs.Sets.{has}
+use Rattle.fancy_alphabet.specs.Sides.{holds_between}
+use Rattle.fancy_automaton.specs.Ways.{Ends, tagged, way_end, first_end, AllKnown, HasEnd, Below, Covers, Closing}
+use Rattle.fancy_alphabet.specs.Effects.{Seen, effect_of, moves_if, reads_where}
 
 or_none : (o : Option (ℕ × ℕ)) → option_or o None ≡ o
 or_none None = refl
@@ -144,6 +147,21 @@ module _ (ends later : Ends) (known beyond : ℕ → Bool) (rank : ℕ → ℕ) 
               covers_next marks more l ls ls adds (c.covers (or_left_none (first_end later next) (way_end ends l) both)) (λ r lt h. absurd (never h)) (λ r lt h. h));
         }
 
+    -- a way that goes on at the same place
+    pub close_moves : (marks more : List Bool) (next ls : List Way) (l m : Way) → Closing ends later known beyond rank goal marks next (l ∷ ls)
+        → Adds marks more l.at → m.from ≡ l.from → known m.at ≡ true → ends l.at ≡ ends m.at → rank m.at < rank l.at
+        → Closing ends later known beyond rank goal more next (m ∷ ls)
+    close_moves marks more next ls l m c adds from there e lower =
+        let same : way_end ends l ≡ way_end ends m = ap₂ tagged (sym from) e in
+        record {
+          all = (there, c.all.1);
+          reached = c.reached;
+          answer = sym (ap (λ (o : Option (ℕ × ℕ)). option_or (first_end later next) (option_or o (first_end ends ls))) same) ∙ c.answer;
+          covers = λ out. covers_next marks more l ls (m ∷ ls) adds (c.covers out)
+              (λ r lt h. (omega (arith, lower, lt), inl (sym (ap (λ (o : Option ℕ). is_some o) e) ∙ h)))
+              (λ r lt h. (omega (arith, lower, lt), inr h));
+        }
+
     -- a way that ends with an outcome hides those after it
     pub close_ended : (marks : List Bool) (next ls : List Way) (l : Way) (here : ℕ) → Closing ends later known beyond rank goal marks next (l ∷ ls)
         → ends l.at ≡ Some here → AllKnown beyond next × (option_or (first_end later next) (Some (l.from, here)) ≡ goal)
@@ -205,15 +223,22 @@ closing_popped ends later known beyond rank goal marks next items rest l e c =
     subst (Closing ends later known beyond rank goal marks next) (ap (λ (x : List Way). reverse x) e ∙ reverse-append rest (l ∷ [])) c
 
 -- where nothing is read, no way reads
-pub never_reads : (u : Option Unit_at) (j : Instruction) (n : ℕ) → u ≡ None → effect_of u j ≡ does.Reads n → ⊥
-never_reads u j n none h = reads j (sym (ap (λ (o : Option Unit_at). effect_of o j) none) ∙ h) where
-  reads : (j : Instruction) → effect_of None j ≡ does.Reads n → ⊥
+pub never_reads : (u : Seen) (j : Instruction) (n : ℕ) → u.unit ≡ None → effect_of u j ≡ does.Reads n → ⊥
+never_reads u j n none h = reads j h where
+  nothing : (test : ℕ → Bool) (next : ℕ) → reads_where u.unit test next ≡ does.Reads n → ⊥
+  nothing test next h = (let e : does.Fails ≡ does.Reads n = sym (ap (λ (o : Option Unit_at). reads_where o test next) none) ∙ h in cc)
+
+  moves : (b : Bool) (next : ℕ) → moves_if b next ≡ does.Reads n → ⊥
+  moves true next h = cc
+  moves false next h = cc
+
+  reads : (j : Instruction) → effect_of u j ≡ does.Reads n → ⊥
   reads Match h = cc
   reads Fail h = cc
-  reads (Character c next) h = cc
-  reads (Member edges next) h = cc
+  reads (Character c next) h = nothing (λ d. d == c) next h
+  reads (Member edges next) h = nothing (has edges) next h
   reads (RawByte byte next) h = cc
-  reads (Assert a next) h = cc
+  reads (Assert a next) h = moves (holds_between u.before u.after a) next h
   reads (Split a b) h = cc
   reads (Open group next) h = cc
   reads (Close group next) h = cc

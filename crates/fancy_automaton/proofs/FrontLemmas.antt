@@ -5,9 +5,8 @@ use Rattle.std.proofs.lemmas.Option.{slice_get-get_or}
 use Rattle.std.specs.Option.{option_or}
 use Rattle.std.specs.Global.{Vec}
 use Rattle.fancy_input.specs.declared.span.Span.{Span}
-use Rattle.fancy_code.specs.declared.reading.Reading.{Reading}
 use Rattle.fancy_code.specs.declared.attempt.Attempt.{Attempt}
-use Rattle.fancy_code.specs.Attempt.{context_in, instrs_in, may_end_in}
+use Rattle.fancy_code.specs.Attempt.{instrs_in, may_end_in}
 use Rattle.fancy_code.specs.Reading.{unit_read}
 use Rattle.fancy_prefilter.specs.Seen.{NoneMayStart}
 use Rattle.fancy_automaton.specs.declared.cells.Cell.{Cell}
@@ -19,15 +18,20 @@ use Rattle.fancy_automaton.specs.declared.trail.Hit.{Hit}
 use Rattle.fancy_automaton.specs.declared.trail.Trail.{Trail}
 use Rattle.fancy_automaton.specs.declared.trail.Visit.{Visit}
 use Rattle.fancy_automaton.specs.Cells.{IsFor, KeepsRows, KeepsCells, HasRow, HasCell, ways_at, row_if}
+use Rattle.fancy_alphabet.specs.Alike.{IsSeenLike}
 use Rattle.fancy_automaton.specs.Front.{IsFront, ways_of, starts_of, found_of}
-use Rattle.fancy_automaton.specs.Futures.{ArePlain, unit_by, place_after}
+use Rattle.fancy_automaton.specs.Futures.{ArePlain}
+use Rattle.fancy_alphabet.specs.Units.{place_after}
 use Rattle.fancy_automaton.specs.Search.{Steady, Going, begun_if, found_or}
 use Rattle.fancy_automaton.specs.Steps.{IsStep, at_of, start_in, span_by}
 use Rattle.fancy_automaton.specs.Trail.{starts_after, starts_in, began_by, found_at, found_in_trail, hit_or, known_hit, and_start, AllVisited, IsBeginning, HitIn}
+use Rattle.fancy_alphabet.specs.Sights.{seen_in}
 use Rattle.fancy_automaton.specs.Ways.{match_end}
+use Rattle.fancy_alphabet.specs.declared.sight.Sight.{Sight}
 use Rattle.fancy_automaton.proofs.CellLemmas.{row_ways, row_holds, row_later, row_here, cell_is, get_within}
-use Rattle.fancy_automaton.proofs.GoingLemmas.{going_first, going_step, going_same, going_on, going_idle, going_bad, not_read}
+use Rattle.fancy_automaton.proofs.GoingLemmas.{going_first, going_step, going_same, going_on, going_idle, going_bad}
 use Rattle.fancy_automaton.proofs.SearchLemmas.{no_items}
+use Rattle.fancy_automaton.proofs.StepLemmas.{step_alike}
 use Rattle.fancy_automaton.proofs.TrailLemmas.{told_by, starts_visited, visited_keep, visited_more, hit_in}
 
 -- the row of a place is one that is remembered
@@ -38,16 +42,16 @@ front_row a cells f place resume row is e =
     (row_here cells.rows.lists.items (found_of cells f) f.next f.begun a.code.now.start (ways_of cells f) is.waits is.opens)
 
 -- a step that is remembered, or computed, from the row of a place on what is read there
-module _ (a : Attempt) (steady : Steady a) (plain : ArePlain (instrs_in a)) (cells later : Cells) (f : Front) (place row : ℕ) (reading : Option Reading)
+module _ (a : Attempt) (steady : Steady a) (plain : ArePlain (instrs_in a)) (cells later : Cells) (f : Front) (place row : ℕ) (asked : Sight)
     (k : ℕ) (d : Cell) (start : Option ℕ) (visits : Vec Visit) (hit : Option Hit) (resume : ℕ)
     (within : place ≤ a.last) (good : may_end_in a place ≡ true) (is : IsFront a cells f place place) (rowed : row ≡ row_if (found_of cells f) f.next f.begun)
-    (read : option_map unit_read reading ≡ unit_by (context_in a) a.last place) (all : IsFor later a.code.now)
+    (like : IsSeenLike a place asked) (all : IsFor later a.code.now)
     (kept : KeepsRows cells.rows.lists.items later.rows.lists.items) (grown : KeepsCells cells.cells.items later.cells.items)
-    (has : HasCell later.cells.items k row reading) (there : d ≡ get_or later.cells.items k d)
+    (has : HasCell later.cells.items k row asked) (there : d ≡ get_or later.cells.items k d)
     (starts : (ss : List ℕ) → and_start start ss ≡ begun_if (found_of cells f) ss place)
     (more : visits.items ≡ f.trail.visits.items ++ record { cell = k; start = start } ∷ [])
     (found : hit ≡ hit_or f.hit d.matched (length f.trail.visits.items) place)
-    (after : resume ≡ place_after place (option_map unit_read reading)) where
+    (after : resume ≡ place_after place (option_map unit_read asked.reading)) where
   pub front_advanced : IsFront a later (record { next = d.next; begun = d.begun; trail = record { base = f.trail.base; visits = visits }; hit = hit }) (place + 1) resume
   front_advanced =
       let v : Visit = record { cell = k; start = start } in
@@ -56,18 +60,19 @@ module _ (a : Attempt) (steady : Steady a) (plain : ArePlain (instrs_in a)) (cel
       let before = found_of cells f in
       let now = found_at later.cells.items base visits.items hit in
       let stood : slice_get later.cells.items k ≡ Some d = slice_get-get_or later.cells.items k d (get_within later.cells.items k has.0 has.1) ∙ ap Some (sym there) in
-      let cell = cell_is a.code.now later.rows.lists.items later.cells.items k row reading d all has there in
+      let cell = cell_is a.code.now later.rows.lists.items later.cells.items k row asked d all.0 has there in
       let begun : List ℕ = begun_if before (starts_of cells f) place in
       let ways : List ℕ = begun_if before (ways_of cells f) a.code.now.start in
       let same : cell.ways ≡ ways = sym (row_ways later.rows.lists.items row cell.ways cell.source) ∙ row_later cells.rows.lists.items later.rows.lists.items row ways kept (front_row a cells f place place row is rowed) in
-      let step = subst (λ (ws : List ℕ). IsStep (instrs_in a) ws (option_map unit_read reading) cell.after d.matched) same cell.step in
+      let step = step_alike (instrs_in a) ways like.whole (seen_in asked) cell.after d.matched like.alike
+      (subst (λ (ws : List ℕ). IsStep (instrs_in a) ws (seen_in asked) cell.after d.matched) same cell.step) in
       let same_found : now ≡ found_at later.cells.items base (old ++ v ∷ []) (hit_or f.hit d.matched (length old) place) =
       ap₂ (λ (vs : List Visit) (h : Option Hit). found_at later.cells.items base vs h) more found in
       let told : (rest : Option (ℕ × ℕ)) → found_or now rest ≡ option_or (span_by begun (match_end d.matched place)) (found_or before rest) = λ rest.
       ap (λ (o : Option Span). found_or o rest) same_found
       ∙ told_by cells.cells.items later.cells.items grown base old is.visits v f.hit d.matched place is.hits starts rest in
-      let moved = going_step a steady plain (ways_of cells f) (starts_of cells f) before now place (option_map unit_read reading) cell.after d.matched within good read step
-      (λ none. cell.halts (not_read reading none)) told is.going in
+      let moved = going_step a steady plain (ways_of cells f) (starts_of cells f) before now place like.whole cell.after d.matched within good like.seen step
+      (λ none. cell.halts (like.ends none)) told is.going in
       let next : ways_at later.rows.lists.items d.next ≡ map at_of cell.after = row_ways later.rows.lists.items d.next (map at_of cell.after) cell.leads in
       let began : starts_after later.cells.items base visits.items ≡ map (start_in begun) cell.after =
       ap (starts_after later.cells.items base) more
@@ -76,7 +81,7 @@ module _ (a : Attempt) (steady : Steady a) (plain : ArePlain (instrs_in a)) (cel
         all = all;
         waits = row_holds later.rows.lists.items d.next (map at_of cell.after) cell.leads;
         opens = subst (λ (ws : List ℕ). HasRow later.rows.lists.items d.begun (ws ++ a.code.now.start ∷ [])) (sym next) cell.opens;
-        going = going_same a _ _ _ _ now now (place + 1) _ resume (sym next) (sym began) refl (sym after) moved;
+        going = going_same a _ _ _ _ now now (place + 1) _ resume (sym next) (sym began) refl (sym (after ∙ like.width)) moved;
         visits = subst (AllVisited later.cells.items) (sym more)
             (visited_more later.cells.items old v d stood (visited_keep cells.cells.items later.cells.items old grown is.visits));
         hits = subst (λ (vs : List Visit). HitIn vs hit) (sym more)

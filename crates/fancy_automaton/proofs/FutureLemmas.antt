@@ -5,16 +5,20 @@ use Rattle.std.specs.Option.{option_or}
 use Rattle.std.proofs.lemmas.Bool.{true≢false}
 use Rattle.fancy_tree.specs.Sets.{has}
 use Rattle.fancy_code.specs.Instructions.{Instruction, Match, Fail, Character, Member, RawByte, Assert, Split, Open, Close, Enter, Commit, Look, Deny, Test, Back, Recall, Keep, Continue, Taken}
-use Rattle.fancy_code.specs.Context.{Context, State, Unit_at, unit_at, past_item, moved_to, option_to}
+use Rattle.fancy_code.specs.Context.{Context, State, Unit_at, unit_at, past_item, moved_to, option_to, holds}
 use Rattle.fancy_code.specs.Events.{Event, mark, return, outcome, either}
 use Rattle.fancy_code.specs.Run.{Raw, Note, Stop, choice_opened, fetched, returned, before, join, onward, instr_at, act, run, erase}
 use Rattle.fancy_code.specs.Compile.{IsEasyInstr, AreEasy}
 use Rattle.fancy_code.specs.Thread.{events_of, size_of, first_accepted, ends_well, pair_run, rank}
 use Rattle.fancy_code.proofs.RunMore.{known_act}
-use Rattle.fancy_automaton.specs.declared.way.Effect.{Effect}
-use Rattle.fancy_automaton.specs.declared.way.Effect.TheVariants.{Fails, Reads, Splits}
-use Rattle.fancy_automaton.specs.Ways.{Obeys, Solves, effect_of, reads_if}
-use Rattle.fancy_automaton.specs.Futures.{ArePlain, IsPlainInstr, place_of, end_at, known_at, cut, unit_by, place_after}
+use Rattle.fancy_alphabet.specs.declared.effect.Effect.{Effect}
+use Rattle.fancy_alphabet.specs.declared.effect.Effect.TheVariants.{Fails, Reads, Splits}
+use Rattle.fancy_alphabet.specs.Sights.{IsSeen}
+use Rattle.fancy_automaton.specs.Ways.{Obeys, Solves}
+use Rattle.fancy_alphabet.specs.Effects.{Seen, effect_of, moves_if, reads_if, reads_where}
+use Rattle.fancy_alphabet.proofs.SightLemmas.{holds_seen}
+use Rattle.fancy_automaton.specs.Futures.{ArePlain, IsPlainInstr, place_of, end_at, known_at}
+use Rattle.fancy_alphabet.specs.Units.{cut, unit_by, place_after}
 
 erase_append : (a b : List Raw) → erase (a ++ b) ≡ erase a ++ erase b
 erase_append [] b = refl
@@ -137,34 +141,49 @@ module _ (good : ℕ → Bool) (x : Context) (limit : ℕ) (code : List Instruct
         p.4,
       )
 
-  obeys : ArePlain code → (q : ℕ) (j : Instruction) → instr_at code q ≡ j → KnownAt here q ≡ true
-      → Keeps (unit_by x limit here) (effect_of (unit_by x limit here) j) q
+  -- an instruction that reads an item
+  reads : (u : Option Unit_at) (test : ℕ → Bool) (q n : ℕ) → u ≡ unit_by x limit here → KnownAt here q ≡ true
+      → RunAt q ≡ before (Note fetched) (onward limit (run x limit code deep) n origin [] (past_item x test here))
+      → Keeps u (reads_where u test n) q
   unfolding past_item
-  obeys plain q Match e k =
+  reads u test q n e k w =
+      subst (λ (o : Option Unit_at). Keeps o (reads_where o test n) q) (sym e) (item (unit_at x here) (λ o. reads_where o test n) test q n refl (λ v. refl) k w)
+
+  -- an instruction that tests the place
+  moves : (u : Option Unit_at) (q n : ℕ) (b : Bool) → KnownAt here q ≡ true
+      → RunAt q ≡ before (Note fetched) (if b then (run x limit code deep n origin []) else (Some [])) → Keeps u (moves_if b n) q
+  moves u q n true k w = passes q n here k w
+  moves u q n false k w = nothing q w
+
+  obeys : ArePlain code → (s : Seen) → IsSeen x limit here s → (q : ℕ) (j : Instruction) → instr_at code q ≡ j → KnownAt here q ≡ true
+      → Keeps s.unit (effect_of s j) q
+  obeys plain s seen q Match e k =
       ap (λ (o : Option (List Raw)). end_in (events_of o)) (acted q Match k e) ∙ ap (λ (b : Bool). option_map place_of (if b then Some origin else None)) fine
-  obeys plain q Fail e k = nothing q (acted q Fail k e)
-  obeys plain q (Character c n) e k = item (unit_at x here) (λ u. effect_of u (Character c n)) (λ d. d == c) q n refl (λ u. refl) k (acted q (Character c n) k e)
-  obeys plain q (Member edges n) e k = item (unit_at x here) (λ u. effect_of u (Member edges n)) (has edges) q n refl (λ u. refl) k (acted q (Member edges n) k e)
-  obeys plain q (RawByte byte n) e k = absurd (subst IsPlainInstr e (plain q))
-  obeys plain q (Assert a n) e k = absurd (subst IsPlainInstr e (plain q))
-  obeys plain q (Split a b) e k = parts q a b k (acted q (Split a b) k e)
-  obeys plain q (Open g n) e k = absurd (subst IsPlainInstr e (plain q))
-  obeys plain q (Close g n) e k = absurd (subst IsPlainInstr e (plain q))
-  obeys plain q (Enter body) e k = absurd (subst IsPlainInstr e (plain q))
-  obeys plain q (Commit n) e k = absurd (subst IsPlainInstr e (plain q))
-  obeys plain q (Look behind body n) e k = absurd (subst IsPlainInstr e (plain q))
-  obeys plain q (Deny behind body n) e k = absurd (subst IsPlainInstr e (plain q))
-  obeys plain q (Test body other) e k = absurd (subst IsPlainInstr e (plain q))
-  obeys plain q (Back m n) e k = absurd (subst IsPlainInstr e (plain q))
-  obeys plain q (Recall folded number moved still) e k = absurd (subst IsPlainInstr e (plain q))
-  obeys plain q (Keep n) e k = absurd (subst IsPlainInstr e (plain q))
-  obeys plain q (Continue n) e k = absurd (subst IsPlainInstr e (plain q))
-  obeys plain q (Taken number n) e k = absurd (subst IsPlainInstr e (plain q))
+  obeys plain s seen q Fail e k = nothing q (acted q Fail k e)
+  obeys plain s seen q (Character c n) e k = reads s.unit (λ d. d == c) q n seen.unit k (acted q (Character c n) k e)
+  obeys plain s seen q (Member edges n) e k = reads s.unit (has edges) q n seen.unit k (acted q (Member edges n) k e)
+  obeys plain s seen q (RawByte byte n) e k = absurd (subst IsPlainInstr e (plain q))
+  obeys plain s seen q (Assert a n) e k =
+      subst (λ (b : Bool). Keeps s.unit (moves_if b n) q) (sym (holds_seen x limit here s seen a (subst IsPlainInstr e (plain q))))
+      (moves s.unit q n (holds x a here) k (acted q (Assert a n) k e))
+  obeys plain s seen q (Split a b) e k = parts q a b k (acted q (Split a b) k e)
+  obeys plain s seen q (Open g n) e k = absurd (subst IsPlainInstr e (plain q))
+  obeys plain s seen q (Close g n) e k = absurd (subst IsPlainInstr e (plain q))
+  obeys plain s seen q (Enter body) e k = absurd (subst IsPlainInstr e (plain q))
+  obeys plain s seen q (Commit n) e k = absurd (subst IsPlainInstr e (plain q))
+  obeys plain s seen q (Look behind body n) e k = absurd (subst IsPlainInstr e (plain q))
+  obeys plain s seen q (Deny behind body n) e k = absurd (subst IsPlainInstr e (plain q))
+  obeys plain s seen q (Test body other) e k = absurd (subst IsPlainInstr e (plain q))
+  obeys plain s seen q (Back m n) e k = absurd (subst IsPlainInstr e (plain q))
+  obeys plain s seen q (Recall folded number moved still) e k = absurd (subst IsPlainInstr e (plain q))
+  obeys plain s seen q (Keep n) e k = absurd (subst IsPlainInstr e (plain q))
+  obeys plain s seen q (Continue n) e k = absurd (subst IsPlainInstr e (plain q))
+  obeys plain s seen q (Taken number n) e k = absurd (subst IsPlainInstr e (plain q))
 
   -- so the ends at a place and after the unit that is read there are those of the code
-  pub solves : ArePlain code → Solves code (unit_by x limit here) here (Ends here) (Ends (After (unit_by x limit here)))
-      (KnownAt here) (KnownAt (After (unit_by x limit here))) RankAt
-  solves plain q k = obeys plain q (instr_at code q) refl k
+  pub solves : ArePlain code → (s : Seen) → IsSeen x limit here s → Solves code s here (Ends here) (Ends (After s.unit))
+      (KnownAt here) (KnownAt (After s.unit)) RankAt
+  solves plain s seen q k = obeys plain s seen q (instr_at code q) refl k
 
 easy_of : (i : Instruction) → IsPlainInstr i → IsEasyInstr i
 easy_of Match p = tt

@@ -5,16 +5,18 @@ use Rattle.std.specs.Option.{option_or}
 use Rattle.std.proofs.Math.Nat.{mul-le-mul_left}
 use Rattle.std.proofs.lemmas.Bool.Decides.{nat_tests}
 use Rattle.fancy_input.specs.declared.span.Span.{Span}
-use Rattle.fancy_code.specs.declared.reading.Reading.{Reading}
 use Rattle.fancy_code.specs.declared.attempt.Attempt.{Attempt}
 use Rattle.fancy_code.specs.Attempt.{context_in, instrs_in, may_end_in}
-use Rattle.fancy_code.specs.Context.{Unit_at, unit_at, unit_in}
-use Rattle.fancy_code.specs.Reading.{unit_read}
+use Rattle.fancy_code.specs.Context.{Unit_at, unit_in}
 use Rattle.fancy_automaton.specs.declared.way.Way.{Way}
+use Rattle.fancy_alphabet.specs.Sights.{IsSeen}
 use Rattle.fancy_automaton.specs.Ways.{match_end}
-use Rattle.fancy_automaton.specs.Futures.{ArePlain, end_at, start_end, cut, unit_by, place_after}
+use Rattle.fancy_alphabet.specs.Effects.{Seen}
+use Rattle.fancy_automaton.specs.Futures.{ArePlain, end_at, start_end}
+use Rattle.fancy_alphabet.specs.Units.{cut, place_after}
 use Rattle.fancy_automaton.specs.Steps.{IsStep, span_by, at_of, start_in}
 use Rattle.fancy_automaton.specs.Search.{BegunIn, Passes, UnderIn, leftmost_in, ends_in, found_or, begun_if, Steady, Going}
+use Rattle.fancy_alphabet.proofs.SightLemmas.{unit_is}
 use Rattle.fancy_automaton.proofs.SearchLemmas.{under_passed, under_moved, under_none, under_begun_if, under_step, left_over, no_items, same_length}
 
 found_none : (found : Option Span) → found_or found None ≡ option_map ends_in found
@@ -24,11 +26,6 @@ found_none (Some s) = refl
 module _ (a : Attempt) where
   abbrev Goes : List ℕ → List ℕ → Option Span → ℕ → ℕ → Type 0
   Goes ways starts found place resume = Going a ways starts found place resume
-
-  -- the unit is that of the meaning
-  pub unit_is : (p : ℕ) → unit_at (context_in a) p ≡ unit_in a.code.now.meaning a.haystack.now p
-  unfolding unit_at
-  unit_is p = refl
 
   pub going_first : (ways starts : List ℕ) (found : Option Span) → ways ≡ [] → starts ≡ [] → found ≡ None → Goes ways starts found a.base a.base
   going_first ways starts found w s f =
@@ -134,22 +131,22 @@ module _ (a : Attempt) where
 
   -- one place of the search
   pub going_step : Steady a → ArePlain (instrs_in a)
-      → (ways starts : List ℕ) (found after : Option Span) (place : ℕ) (u : Option Unit_at) (next : List Way) (matched : Option ℕ)
-      → place ≤ a.last → may_end_in a place ≡ true → u ≡ unit_by (context_in a) a.last place
-      → IsStep (instrs_in a) (begun_if found ways a.code.now.start) u next matched → (u ≡ None → next ≡ [])
+      → (ways starts : List ℕ) (found after : Option Span) (place : ℕ) (s : Seen) (next : List Way) (matched : Option ℕ)
+      → place ≤ a.last → may_end_in a place ≡ true → IsSeen (context_in a) a.last place s
+      → IsStep (instrs_in a) (begun_if found ways a.code.now.start) s next matched → (s.unit ≡ None → next ≡ [])
       → ((rest : Option (ℕ × ℕ)) → found_or after rest ≡ option_or (span_by (begun_if found starts place) (match_end matched place)) (found_or found rest))
       → Goes ways starts found place place
-      → Goes (map at_of next) (map (start_in (begun_if found starts place)) next) after (place + 1) (place_after place u)
-  going_step steady plain ways starts found after place u next matched within fine read step halts told g =
-      let is : u ≡ cut a.last place (unit_in a.code.now.meaning a.haystack.now place) = read ∙ ap (cut a.last place) (unit_is place) in
+      → Goes (map at_of next) (map (start_in (begun_if found starts place)) next) after (place + 1) (place_after place s.unit)
+  going_step steady plain ways starts found after place s next matched within fine seen step halts told g =
+      let is : s.unit ≡ cut a.last place (unit_in a.code.now.meaning a.haystack.now place) = seen.unit ∙ ap (cut a.last place) (unit_is a place) in
       let r = subst (Reaches place) (sym is) (reaches_cut steady place within fine (unit_in a.code.now.meaning a.haystack.now place) refl) in
       record {
         under = λ deep begun.
             (let now = under_begun_if (may_end_in a) (context_in a) a.last (instrs_in a) deep a.code.now.start _ found ways starts place (a.last + 1 - place) (a.last + 1 - (place + 1)) (omega arith) fine within begun.known (g.under deep begun) in
             let rest = leftmost_in a deep (a.last + 1 - (place + 1)) (place + 1) in
-            let after_it = under_step (may_end_in a) (context_in a) a.last (instrs_in a) deep a.code.now.start _ plain (begun_if found ways a.code.now.start) (begun_if found starts place) place u next matched (found_or found rest) fine
-            read step now in
-            subst (λ (o : Option (ℕ × ℕ)). UnderIn a deep (map at_of next) (map (start_in (begun_if found starts place)) next) (place_after place u) o) (sym (told rest)) after_it);
+            let after_it = under_step (may_end_in a) (context_in a) a.last (instrs_in a) deep a.code.now.start _ plain (begun_if found ways a.code.now.start) (begun_if found starts place) place s next matched (found_or found rest) fine
+            seen step now in
+            subst (λ (o : Option (ℕ × ℕ)). UnderIn a deep (map at_of next) (map (start_in (begun_if found starts place)) next) (place_after place s.unit) o) (sym (told rest)) after_it);
         even = same_length next (begun_if found starts place);
         ahead = r.0;
         inside = λ k low high. inl (r.1 k low high);
@@ -193,8 +190,3 @@ pub steps_up : (c first place next s before : ℕ) → place ≤ next → before
 steps_up c first place next s before le b =
     let up : c * (place - first) ≤ c * (next - first) = mul-le-mul_left c (omega (arith, le)) in
     omega (arith, up, b)
-
--- nothing is read where there is no reading
-pub not_read : (r : Option Reading) → option_map unit_read r ≡ None → r ≡ None
-not_read None e = refl
-not_read (Some x) e = cc

@@ -1,13 +1,13 @@
 -- The inner loop of a search: a step that the table tells.
-use Rattle.std.proofs.Common.{◌≡◌, ℕ, ◌+◌, ◌++◌, ◌∷◌, [], ◌<◌, ◌≤◌, ◌⊎◌, inl, inr, Bool, true, List, Option, Some, None, refl, sym, ap, ◌∙◌, subst, arith, length, get_or, option_map}
-use Rattle.std.specs.Prelude.{if◌then◌else◌, slice_get}
+use Rattle.std.proofs.Common.{◌≡◌, ℕ, suc, ◌+◌, ◌*◌, ◌++◌, ◌∷◌, [], ◌<◌, ◌≤◌, ◌⊎◌, inl, inr, true, List, Option, Some, None, refl, sym, ap, ◌∙◌, subst, arith, length}
+use Rattle.std.specs.Prelude.{slice_get}
 use Rattle.std.specs.Global.{Vec}
-use Rattle.std.proofs.lemmas.Bool.{le-leb}
-use Rattle.std.proofs.lemmas.Option.{slice_get-get_or, slice_get_cases}
-use Rattle.fancy_input.specs.declared.span.Span.{Span}
+use Rattle.std.proofs.lemmas.Option.{slice_get_cases}
+use Rattle.std.proofs.Math.Nat.{mul-le-mul}
 use Rattle.fancy_code.specs.declared.attempt.Attempt.{Attempt}
 use Rattle.fancy_code.specs.Attempt.{context_in, instrs_in, may_end_in}
-use Rattle.fancy_code.specs.Reading.{unit_read}
+use Rattle.fancy_code.specs.Context.{Context}
+use Rattle.fancy_input.specs.Lines.{byte_before}
 use Rattle.fancy_code.proofs.ReadingLemmas.{low_unit}
 use Rattle.fancy_automaton.specs.declared.cells.Cell.{Cell}
 use Rattle.fancy_automaton.specs.declared.cells.Cells.{Cells}
@@ -17,51 +17,73 @@ use Rattle.fancy_automaton.specs.declared.trail.Hit.{Hit}
 use Rattle.fancy_automaton.specs.declared.trail.Trail.{Trail}
 use Rattle.fancy_automaton.specs.declared.trail.Visit.{Visit}
 use Rattle.fancy_automaton.specs.declared.transitions.Transition.{Transition}
-use Rattle.fancy_automaton.specs.Cells.{ways_at, row_if}
+use Rattle.fancy_automaton.specs.Cells.{row_if}
+use Rattle.fancy_alphabet.specs.Classes.{IsFirst, first_of, sight_for}
+use Rattle.fancy_alphabet.specs.Sides.{number_of, seen_as, side_of, sides_of}
+use Rattle.fancy_alphabet.specs.declared.classes.Classes.{Classes}
+use Rattle.fancy_alphabet.specs.declared.classes.Column.{Column}
+use Rattle.fancy_alphabet.specs.declared.side.Side.{Side}
 use Rattle.fancy_automaton.specs.Front.{IsFront, front_at, found_of, ways_of}
-use Rattle.fancy_automaton.specs.Futures.{ArePlain, cut, unit_by}
+use Rattle.fancy_automaton.specs.Futures.{ArePlain}
 use Rattle.fancy_automaton.specs.Search.{Steady, begun_if}
 use Rattle.fancy_automaton.specs.Trail.{hit_or, and_start}
-use Rattle.fancy_automaton.specs.Transitions.{IsTransition, ascii}
-use Rattle.fancy_automaton.proofs.CellLemmas.{row_within}
+use Rattle.fancy_automaton.specs.Transitions.{IsTransition}
 use Rattle.fancy_automaton.proofs.FrontLemmas.{front_advanced, front_idle}
-use Rattle.fancy_automaton.proofs.GoingLemmas.{unit_is}
+use Rattle.fancy_automaton.proofs.CellLemmas.{get_within}
+use Rattle.fancy_alphabet.proofs.SideLemmas.{low_side_before}
+use Rattle.fancy_alphabet.proofs.NumberLemmas.{number_low, seen_low}
+use Rattle.fancy_alphabet.proofs.SightLemmas.{like_ascii}
 
-module _ (a : Attempt) (p : ℕ) (before : p < a.last) (inside : a.last ≤ length a.haystack.now) (low : get_or a.haystack.now p 0 < 128) where
-  -- an ASCII character is read there
-  pub ascii_read : option_map unit_read (Some (ascii (get_or a.haystack.now p 0))) ≡ unit_by (context_in a) a.last p
-  ascii_read =
-      let h = a.haystack.now in
-      let within : p + 1 ≤ a.last = omega (arith, before) in
-      let one = low_unit a.code.now.meaning h p (get_or h p 0) low (slice_get-get_or h p 0 (omega (arith, before, inside))) in
-      sym (ap (cut a.last p) (unit_is a p ∙ one) ∙ ap (λ (b : Bool). if b then Some (record { code = get_or h p 0; width = 1 }) else None) (le-leb (p + 1) a.last within))
+-- after an ASCII character a match may begin and end too
+pub ascii_leads : (a : Attempt) (p byte : ℕ) → p < a.last → byte < 128 → slice_get a.haystack.now p ≡ Some byte → Steady a → may_end_in a p ≡ true → may_end_in a (p + 1) ≡ true
+ascii_leads a p byte before low here steady good =
+    (steady p (record { code = byte; width = 1 }) (omega (arith, before)) good (low_unit a.code.now.meaning a.haystack.now p byte low here)).1
 
-  -- after it a match may begin and end too
-  pub ascii_leads : Steady a → may_end_in a p ≡ true → may_end_in a (p + 1) ≡ true
-  ascii_leads steady good =
-      let h = a.haystack.now in
-      let one = low_unit a.code.now.meaning h p (get_or h p 0) low (slice_get-get_or h p 0 (omega (arith, before, inside))) in
-      (steady p (record { code = get_or h p 0; width = 1 }) (omega (arith, before)) good one).1
+-- what follows an ASCII character begins at the column that is told
+pub first_after : (a : Attempt) (classes : Classes) (p byte : ℕ) (c : Column) → byte < 128 → slice_get a.haystack.now p ≡ Some byte → slice_get classes.columns.items byte ≡ Some c
+    → IsFirst (context_in a) (p + 1) classes c.following
+first_after a classes p byte c low here there =
+    let next : p + 1 ≡ suc p = omega arith in
+    (side_of byte, low_side_before (context_in a) (p + 1) byte low (ap (byte_before a.haystack.now) next ∙ here), classes.follows byte c there)
+
+-- what has a column is an ASCII character
+pub column_low : (classes : Classes) (byte : ℕ) (c : Column) → slice_get classes.columns.items byte ≡ Some c → byte < 128
+column_low classes byte c there =
+    let within = get_within classes.columns.items byte c there in
+    omega (arith, within, classes.ascii)
+
+-- a side that is told apart
+pub first_low : (x : Context) (p : ℕ) (classes : Classes) (first : ℕ) → IsFirst x p classes first → first < 4_294_967_296
+first_low x p classes first is =
+    let low : number_of (seen_as classes.tests is.0) ≤ 5 = number_low (seen_as classes.tests is.0) in
+    let most : number_of (seen_as classes.tests is.0) * length classes.members.items ≤ 5 * 128 = mul-le-mul low classes.few in
+    omega (arith, is.2, most)
 
 -- a step that the table tells
-pub front_hopped : (a : Attempt) → Steady a → ArePlain (instrs_in a) → (cells : Cells) (f : Front) (p row : ℕ) (t : Transition) (start : Option ℕ) (visits : Vec Visit) (hit : Option Hit)
-    → p < a.last → a.last ≤ length a.haystack.now → get_or a.haystack.now p 0 < 128 → may_end_in a p ≡ true → IsFront a cells f p p
-    → row ≡ row_if (found_of cells f) f.next f.begun → IsTransition cells.cells.items row (get_or a.haystack.now p 0) t
+pub front_hopped : (a : Attempt) → Steady a → ArePlain (instrs_in a) → (cells : Cells) (f : Front) (p row byte first : ℕ) (c : Column) (t : Transition) (start : Option ℕ) (visits : Vec Visit) (hit : Option Hit)
+    → p < a.last → slice_get a.haystack.now p ≡ Some byte → slice_get cells.table.classes.columns.items byte ≡ Some c → may_end_in a p ≡ true → IsFront a cells f p p
+    → IsFirst (context_in a) p cells.table.classes first → row ≡ row_if (found_of cells f) f.next f.begun
+    → ((before : Side) → number_of before < sides_of cells.table.classes.tests → first ≡ first_of cells.table.classes before
+    → IsTransition cells.cells.items row (sight_for cells.table.classes before byte) t)
     → ((ss : List ℕ) → and_start start ss ≡ begun_if (found_of cells f) ss p)
     → visits.items ≡ f.trail.visits.items ++ record { cell = t.cell; start = start } ∷ []
-    → ((c : Cell) → slice_get cells.cells.items t.cell ≡ Some c → hit ≡ hit_or f.hit c.matched (length f.trail.visits.items) p)
+    → ((d : Cell) → slice_get cells.cells.items t.cell ≡ Some d → hit ≡ hit_or f.hit d.matched (length f.trail.visits.items) p)
     → IsFront a cells (record { next = t.next; begun = t.begun; trail = record { base = f.trail.base; visits = visits }; hit = hit }) (p + 1) (p + 1)
-front_hopped a steady plain cells f p row t start visits hit before inside low good is rowed told starts more found =
+front_hopped a steady plain cells f p row byte first c t start visits hit before here column good is begins rowed tells starts more found =
+    let classes = cells.table.classes in
+    let side = seen_as classes.tests begins.0 in
+    let told = tells side (seen_low classes.tests begins.0) begins.2 in
+    let like = like_ascii a p classes is.all.1 begins.0 byte begins.1 (column_low classes byte c column) before here in
     elim (slice_get_cases cells.cells.items t.cell).1 [
       | inr past ↦ absurd (omega (arith, past.0, told.stands))
-      | inl here ↦ (
-          let c = here.0 in
-          let at : slice_get cells.cells.items t.cell ≡ Some c = here.2 in
-          let moved = front_advanced a steady plain cells cells f p row (Some (ascii (get_or a.haystack.now p 0))) t.cell c start visits hit (p + 1)
-          (omega (arith, before)) good is rowed (ascii_read a p before inside low) is.all (λ r v e. e) (λ k x e. e)
-          (c, at, told.from c at, told.on c at) (sym here.3) starts more (found c at) refl in
-          subst (λ (n : ℕ). IsFront a cells (record { next = n; begun = t.begun; trail = record { base = f.trail.base; visits = visits }; hit = hit }) (p + 1) (p + 1)) (told.next c at)
-          (subst (λ (n : ℕ). IsFront a cells (record { next = c.next; begun = n; trail = record { base = f.trail.base; visits = visits }; hit = hit }) (p + 1) (p + 1)) (told.begun c at) moved))
+      | inl there ↦ (
+          let d = there.0 in
+          let at : slice_get cells.cells.items t.cell ≡ Some d = there.2 in
+          let moved = front_advanced a steady plain cells cells f p row (sight_for classes side byte) t.cell d start visits hit (p + 1)
+          (omega (arith, before)) good is rowed like is.all (λ r v e. e) (λ k x e. e)
+          (d, at, told.from d at, told.on d at) (sym there.3) starts more (found d at) refl in
+          subst (λ (n : ℕ). IsFront a cells (record { next = n; begun = t.begun; trail = record { base = f.trail.base; visits = visits }; hit = hit }) (p + 1) (p + 1)) (told.next d at)
+          (subst (λ (n : ℕ). IsFront a cells (record { next = d.next; begun = n; trail = record { base = f.trail.base; visits = visits }; hit = hit }) (p + 1) (p + 1)) (told.begun d at) moved))
     ]
 
 -- where nothing was found and no way waits, the trail may be forgotten

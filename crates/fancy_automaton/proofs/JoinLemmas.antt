@@ -5,9 +5,9 @@ use Rattle.std.specs.Prelude.{slice_index_or, is_some}
 use Rattle.std.specs.Option.{option_or}
 use Rattle.std.proofs.lemmas.Bool.{true≢false}
 use Rattle.fancy_code.specs.Instructions.{Instruction}
-use Rattle.fancy_code.specs.Context.{Unit_at}
 use Rattle.fancy_automaton.specs.declared.way.Way.{Way}
 use Rattle.fancy_automaton.specs.Ways.{Ends, AllKnown, first_end, match_end, tagged, way_end}
+use Rattle.fancy_alphabet.specs.Effects.{Seen}
 use Rattle.fancy_automaton.specs.Steps.{IsStep, waiting, at_of}
 use Rattle.fancy_automaton.specs.Joins.{Thinned, all_from, match_from}
 use Rattle.fancy_automaton.proofs.ClosingLemmas.{first_append}
@@ -122,7 +122,7 @@ one_waits : (m : ℕ) (ways : List ℕ) (q n : ℕ) → n ≡ m + length ways �
 one_waits m [] q n e = ap (λ (k : ℕ). record { at = q; from = k } ∷ []) (let same : m ≡ n = omega (arith, e) in same)
 one_waits m (p ∷ ways) q n e = ap (λ (ws : List Way). record { at = p; from = m } ∷ ws) (one_waits (suc m) ways q n (omega (arith, e)))
 
-module _ (code : List Instruction) (ways : List ℕ) (q : ℕ) (u : Option Unit_at) (first : List Way) where
+module _ (code : List Instruction) (ways : List ℕ) (q : ℕ) (u : Seen) (first : List Way) where
   -- where one of the first ways ended with an outcome, the way that begins does not count
   pub step_hidden : (matched : Option ℕ) → is_some matched ≡ true → IsStep code ways u first matched → IsStep code (ways ++ q ∷ []) u first matched
   step_hidden matched some step here ends later known beyond rank solves all =

@@ -1,9 +1,9 @@
 pub mod MarkLemmas
 pub mod TurnLemmas
 pub mod ClosingLemmas
+pub mod StepLemmas
 pub mod FutureLemmas
 pub mod PlainLemmas
-pub mod StepLemmas
 pub mod JoinLemmas
 pub mod SearchLemmas
 pub mod UntouchedLemmas

@@ -1,16 +1,15 @@
 -- A cell is true of the code in both ways to say it.
 use Rattle.std.proofs.Common.{◌≡◌, ℕ, zero, suc, ◌<◌, Bool, List, [], ◌∷◌, ◌++◌, Option, refl, sym, ap, ap₂, ◌∙◌, subst, arith, length, map, get_or, All}
-use Rattle.std.specs.Prelude.{option_map}
 use Rattle.std.specs.Global.{Vec}
 use Rattle.fancy_code.specs.declared.code.Code.{Code}
 use Rattle.fancy_code.specs.Code.{instrs_of}
-use Rattle.fancy_code.specs.Context.{Unit_at}
 use Rattle.fancy_code.specs.Instructions.{Instruction}
-use Rattle.fancy_code.specs.Reading.{unit_read}
 use Rattle.fancy_automaton.specs.declared.way.Way.{Way}
 use Rattle.fancy_automaton.specs.declared.cells.Cell.{Cell}
 use Rattle.fancy_automaton.specs.declared.cells.Cells.{Cells}
 use Rattle.fancy_automaton.specs.Ways.{AllKnown}
+use Rattle.fancy_alphabet.specs.Effects.{Seen}
+use Rattle.fancy_alphabet.specs.Sights.{seen_in}
 use Rattle.fancy_automaton.specs.Steps.{IsStep, waiting, at_of, from_of}
 use Rattle.fancy_automaton.specs.Cells.{HasRow, IsCellOf, IsFor, ways_at}
 use Rattle.fancy_automaton.specs.Remembered.{ways_from, IsKnownAt, IsStepEach, IsRemembered, Remembers}
@@ -25,13 +24,13 @@ each_all : (known : ℕ → Bool) (ws : List Way) → All (IsKnownAt known) ws �
 each_all known [] each = tt
 each_all known (w ∷ ws) each = (each zero w (omega arith), each_all known ws (λ k d lt. each (suc k) d (omega arith)))
 
-step_each : (code : List Instruction) (ways : List ℕ) (u : Option Unit_at) (next : List Way) (matched : Option ℕ)
+step_each : (code : List Instruction) (ways : List ℕ) (u : Seen) (next : List Way) (matched : Option ℕ)
     → IsStep code ways u next matched → IsStepEach code ways u next matched
 step_each code ways u next matched is here ends later known beyond rank solves each =
     let told = is here ends later known beyond rank solves (each_all known (waiting 0 ways) each) in
     (all_each beyond next told.0, told.1)
 
-each_step : (code : List Instruction) (ways : List ℕ) (u : Option Unit_at) (next : List Way) (matched : Option ℕ)
+each_step : (code : List Instruction) (ways : List ℕ) (u : Seen) (next : List Way) (matched : Option ℕ)
     → IsStepEach code ways u next matched → IsStep code ways u next matched
 each_step code ways u next matched is here ends later known beyond rank solves all =
     let told = is here ends later known beyond rank solves (all_each known (waiting 0 ways) all) in
@@ -63,7 +62,7 @@ froms_of (q ∷ qs) (f ∷ came) e = ap (λ (xs : List ℕ). f ∷ xs) (froms_of
 
 remembered : (code : Code) (rows : List (Vec ℕ)) (c : Cell) → IsCellOf code rows c → IsRemembered code rows c
 remembered code rows c is =
-    let u : Option Unit_at = option_map unit_read c.reading in
+    let u : Seen = seen_in c.sight in
     let source : ways_at rows c.row ≡ is.ways = row_ways rows c.row is.ways is.source in
     let leads : ways_at rows c.next ≡ map at_of is.after = row_ways rows c.next (map at_of is.after) is.leads in
     let after : ways_from (ways_at rows c.next) c.came.items ≡ is.after = ap₂ ways_from leads is.comes ∙ from_after is.after in
@@ -88,12 +87,12 @@ recalled code rows c is =
       leads = subst (λ (ws : List ℕ). HasRow rows c.next ws) (sym ats) (row_at rows c.next is.leads);
       opens = subst (λ (ws : List ℕ). HasRow rows c.begun ws) (is.opens ∙ ap (λ (xs : List ℕ). xs ++ code.start ∷ []) (sym ats)) (row_at rows c.begun is.opened);
       comes = sym (froms_of (ways_at rows c.next) c.came.items is.even);
-      step = each_step (instrs_of code) (ways_at rows c.row) (option_map unit_read c.reading) (ways_from (ways_at rows c.next) c.came.items) c.matched is.step;
+      step = each_step (instrs_of code) (ways_at rows c.row) (seen_in c.sight) (ways_from (ways_at rows c.next) c.came.items) c.matched is.step;
       halts = λ e. ap (λ (ws : List ℕ). ways_from ws c.came.items) (is.halts e);
     }
 
 pub remembers : (a : Cells) (code : Code) → IsFor a code → Remembers a code
-remembers a code all = λ k d lt. remembered code a.rows.lists.items (get_or a.cells.items k d) (all k d lt)
+remembers a code all = (λ k d lt. remembered code a.rows.lists.items (get_or a.cells.items k d) (all.0 k d lt), all.1)
 
 pub recalls : (a : Cells) (code : Code) → Remembers a code → IsFor a code
-recalls a code all = λ k d lt. recalled code a.rows.lists.items (get_or a.cells.items k d) (all k d lt)
+recalls a code all = (λ k d lt. recalled code a.rows.lists.items (get_or a.cells.items k d) (all.0 k d lt), all.1)

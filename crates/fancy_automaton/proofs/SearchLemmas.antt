@@ -3,12 +3,15 @@ use Rattle.std.proofs.Common.{◌≡◌, ℕ, suc, ◌+◌, ◌≤◌, Bool, tru
 use Rattle.std.specs.Prelude.{if◌then◌else◌}
 use Rattle.std.specs.Option.{option_or}
 use Rattle.fancy_code.specs.Instructions.{Instruction}
-use Rattle.fancy_code.specs.Context.{Context, Unit_at}
+use Rattle.fancy_code.specs.Context.{Context}
 use Rattle.fancy_code.specs.Thread.{rank}
 use Rattle.fancy_input.specs.declared.span.Span.{Span}
 use Rattle.fancy_automaton.specs.declared.way.Way.{Way}
-use Rattle.fancy_automaton.specs.Ways.{tagged, first_end, match_end, AllKnown}
-use Rattle.fancy_automaton.specs.Futures.{ArePlain, end_at, known_at, unit_by, place_after, leftmost, start_end}
+use Rattle.fancy_alphabet.specs.Sights.{IsSeen}
+use Rattle.fancy_automaton.specs.Ways.{tagged, match_end, AllKnown}
+use Rattle.fancy_alphabet.specs.Effects.{Seen}
+use Rattle.fancy_automaton.specs.Futures.{ArePlain, end_at, known_at, leftmost, start_end}
+use Rattle.fancy_alphabet.specs.Units.{place_after}
 use Rattle.fancy_automaton.specs.Steps.{waiting, IsStep, span_by, first_tagged_end, at_of, start_in}
 use Rattle.fancy_automaton.specs.Search.{Begun, Under, begun_if, found_or}
 use Rattle.fancy_automaton.proofs.FutureLemmas.{solves}
@@ -85,21 +88,18 @@ module _ (good : ℕ → Bool) (x : Context) (limit : ℕ) (code : List Instruct
     under_passed found ways starts place resume n m e none u = under_rest ways starts resume _ _ (ap (found_or found) (left_none n m place e none)) u
 
     -- a step
-    pub under_step : ArePlain code → (ways starts : List ℕ) (place : ℕ) (u : Option Unit_at) (next : List Way) (matched : Option ℕ) (rest : Option (ℕ × ℕ)) → good place ≡ true
-        → u ≡ unit_by x limit place → IsStep code ways u next matched → Holds ways starts place rest
-        → Holds (map at_of next) (map (start_in starts) next) (place_after place u) (option_or (span_by starts (match_end matched place)) rest)
-    under_step plain ways starts place u next matched rest fine read step h =
-        let r = subst (λ (o : Option Unit_at). AllKnown (known_at good x limit code deep (place_after place o)) next
-        × (option_or (first_end (end_at good x limit code deep (place_after place o)) next) (match_end matched place)
-        ≡ first_end (end_at good x limit code deep place) (waiting 0 ways))) (sym read)
-        ((subst (λ (o : Option Unit_at). IsStep code ways o next matched) read step) place (end_at good x limit code deep place) (end_at good x limit code deep (place_after place (unit_by x limit place)))
-        (known_at good x limit code deep place) (known_at good x limit code deep (place_after place (unit_by x limit place))) (λ q. rank x limit code deep q place)
-        (solves good x limit code deep place fine plain) h.known) in
-        let e = span_step (end_at good x limit code deep place) (end_at good x limit code deep (place_after place u)) ways starts next matched place h.same r.1 in
+    pub under_step : ArePlain code → (ways starts : List ℕ) (place : ℕ) (s : Seen) (next : List Way) (matched : Option ℕ) (rest : Option (ℕ × ℕ)) → good place ≡ true
+        → IsSeen x limit place s → IsStep code ways s next matched → Holds ways starts place rest
+        → Holds (map at_of next) (map (start_in starts) next) (place_after place s.unit) (option_or (span_by starts (match_end matched place)) rest)
+    under_step plain ways starts place s next matched rest fine seen step h =
+        let after = place_after place s.unit in
+        let r = step place (end_at good x limit code deep place) (end_at good x limit code deep after) (known_at good x limit code deep place) (known_at good x limit code deep after)
+        (λ q. rank x limit code deep q place) (solves good x limit code deep place fine plain s seen) h.known in
+        let e = span_step (end_at good x limit code deep place) (end_at good x limit code deep after) ways starts next matched place h.same r.1 in
         record {
           same = same_length next starts;
-          known = known_after (known_at good x limit code deep (place_after place u)) next r.0;
-          answer = sym (or_assoc (first_tagged_end (end_at good x limit code deep (place_after place u)) (map at_of next) (map (start_in starts) next)) (span_by starts (match_end matched place)) rest)
+          known = known_after (known_at good x limit code deep after) next r.0;
+          answer = sym (or_assoc (first_tagged_end (end_at good x limit code deep after) (map at_of next) (map (start_in starts) next)) (span_by starts (match_end matched place)) rest)
               ∙ sym (ap (λ (o : Option (ℕ × ℕ)). option_or o rest) e) ∙ h.answer;
         }
 

@@ -2,10 +2,14 @@
 use Rattle.std.proofs.Common.{◌≡◌, ℕ, suc, ◌-◌, ◌<◌, ◌≤◌, Bool, true, List, [], ◌∷◌, ◌++◌, Option, Some, None, refl, sym, ap, ap₂, ◌∙◌, subst, arith, length, drop, reverse, get_or, drop-cons, append_assoc, length-append}
 use Rattle.std.proofs.lemmas.List.{reverse-append}
 use Rattle.fancy_automaton.specs.declared.way.Way.{Way}
+use Rattle.fancy_code.specs.Instructions.{Instruction}
+use Rattle.fancy_alphabet.specs.declared.effect.Effect.{Effect}
+use Rattle.fancy_alphabet.specs.Alike.{IsAlike}
 use Rattle.std.specs.Option.{option_or}
 use Rattle.std.specs.Prelude.{map, slice_index}
-use Rattle.fancy_automaton.specs.Ways.{Ends, tagged, first_end, way_end, match_end, AllKnown}
-use Rattle.fancy_automaton.specs.Steps.{waiting, span_by, first_tagged_end, at_of, start_in}
+use Rattle.fancy_automaton.specs.Ways.{Ends, tagged, first_end, way_end, match_end, AllKnown, Obeys}
+use Rattle.fancy_alphabet.specs.Effects.{Seen}
+use Rattle.fancy_automaton.specs.Steps.{IsStep, waiting, span_by, first_tagged_end, at_of, start_in}
 
 drop_length : (qs : List ℕ) → drop (length qs) qs ≡ []
 drop_length [] = refl
@@ -95,3 +99,9 @@ known_more known n (p ∷ qs) q k h = (k.0, known_more known (suc n) qs q k.1 h)
 
 pub known_begun : (known : ℕ → Bool) (qs : List ℕ) (q : ℕ) → AllKnown known (waiting 0 qs) → known q ≡ true → AllKnown known (waiting 0 (qs ++ q ∷ []))
 known_begun known qs q k h = known_more known 0 qs q k h
+
+-- a step on what the code treats alike
+pub step_alike : (code : List Instruction) (ways : List ℕ) (u v : Seen) (next : List Way) (matched : Option ℕ) → IsAlike code u v → IsStep code ways v next matched
+    → IsStep code ways u next matched
+step_alike code ways u v next matched alike step here ends later known beyond rank solves all =
+    step here ends later known beyond rank (λ q k. subst (λ (e : Effect). Obeys ends later known beyond rank e here q) (alike q) (solves q k)) all

@@ -1,44 +1,50 @@
 -- The table of a search.
-use Rattle.std.proofs.Common.{◌≡◌, ◌≢◌, ℕ, ◌+◌, ◌*◌, ◌-◌, ◌<◌, ◌≤◌, ◌⊎◌, inl, inr, [], ◌∷◌, ◌++◌, List, Option, Some, None, refl, sym, ap, ◌∙◌, subst, arith, length, get_or, set, replicate}
-use Rattle.std.specs.Prelude.{slice_get, IfSome}
+use Rattle.std.proofs.Common.{◌≡◌, ℕ, ◌+◌, ◌*◌, ◌-◌, ◌/◌, ◌<◌, ◌≤◌, ◌⊎◌, inl, inr, [], ◌∷◌, ◌++◌, List, Option, Some, refl, sym, ap, ap₂, ◌∙◌, subst, arith, length, get_or, set, replicate}
+use Rattle.std.specs.Prelude.{slice_get}
 use Rattle.std.proofs.lemmas.Bool.Decides.{eqb_tells, leb_tells}
 use Rattle.std.proofs.lemmas.List.{get_or-set_same, get_or-set_other, get_or_append_left, get_or-replicate, get_or_past, get_or-append_right, length-append, length-replicate}
 use Rattle.std.proofs.lemmas.Option.{slice_get_cases}
-use Rattle.fancy_code.specs.declared.reading.Reading.{Reading}
 use Rattle.fancy_automaton.specs.declared.cells.Cell.{Cell}
 use Rattle.fancy_automaton.specs.declared.transitions.Transition.{Transition}
 use Rattle.fancy_automaton.specs.declared.transitions.Entry.{Entry}
 use Rattle.fancy_automaton.specs.declared.transitions.Entry.TheVariants.{Unknown, Quiet, Matching}
-use Rattle.fancy_automaton.specs.Cells.{HasCell, KeepsCells}
+use Rattle.fancy_automaton.specs.declared.transitions.Transitions.{Transitions}
+use Rattle.fancy_alphabet.specs.declared.classes.Classes.{Classes}
+use Rattle.std.proofs.lemmas.Nat.{div-mul-add}
+use Rattle.fancy_alphabet.specs.Classes.{IsColumn, first_of, member_of, member_or, sight_for, sight_of}
+use Rattle.fancy_alphabet.specs.Sides.{number_of, sides_of}
+use Rattle.fancy_alphabet.specs.declared.classes.Column.{Column}
+use Rattle.fancy_alphabet.specs.declared.side.Side.{Side}
+use Rattle.fancy_alphabet.specs.declared.sight.Sight.{Sight}
+use Rattle.fancy_alphabet.proofs.NumberLemmas.{number_same}
+use Rattle.std.proofs.Math.Nat.{mul-le-mul_right}
+use Rattle.fancy_automaton.specs.Cells.{KeepsCells}
 use Rattle.fancy_automaton.proofs.CellLemmas.{grown}
-use Rattle.fancy_automaton.specs.Transitions.{AreTold, IsEntry, IsQuiet, IsTransition, ascii}
+use Rattle.fancy_automaton.specs.Transitions.{AreTold, IsEntry, IsTransition, entry_at}
 
--- what the table has of a row and a character
-pub told_entry : (cells : List Cell) (entries : List Entry) (row byte : ℕ) (e : Entry) → AreTold cells entries → byte < 128
-    → e ≡ get_or entries (row * 128 + byte) Unknown → IsEntry cells row byte e
-told_entry cells entries row byte Unknown told lt e = tt
-told_entry cells entries row byte (Quiet t) told lt e = told.quiet row byte t lt (sym e)
-told_entry cells entries row byte (Matching t) told lt e = told.matching row byte t lt (sym e)
+other_part : (p q a b w : ℕ) → p ≡ q → p * w + a ≡ q * w + b → a ≡ b
+other_part p q a b w e f =
+    let g : p * w ≡ q * w = ap (λ (n : ℕ). n * w) e in
+    omega (arith, f, g)
+
+-- what the table has of a row and a column
+pub told_entry : (cells : List Cell) (table : Transitions) (row column : ℕ) (sight : Sight) (e : Entry) → AreTold cells table → IsColumn table.classes sight column
+    → e ≡ entry_at table row column → IsEntry cells row sight e
+told_entry cells table row column sight Unknown told is e = tt
+told_entry cells table row column sight (Quiet t) told is e = told.quiet row column sight t is (sym e)
+told_entry cells table row column sight (Matching t) told is e = told.matching row column sight t is (sym e)
 
 -- nothing is told yet
-pub told_nothing : (cells : List Cell) (entries : List Entry) → entries ≡ [] → AreTold cells entries
-told_nothing cells entries none = record {
-  quiet = λ row byte t lt e. absurd (unknown_quiet t (sym (ap (λ es. get_or es (row * 128 + byte) Unknown) none) ∙ e));
-  matching = λ row byte t lt e. absurd (unknown_matching t (sym (ap (λ es. get_or es (row * 128 + byte) Unknown) none) ∙ e));
+pub told_nothing : (cells : List Cell) (table : Transitions) → table.entries.items ≡ [] → AreTold cells table
+told_nothing cells table none = record {
+  quiet = λ row column sight t is e. absurd (unknown_quiet t (sym (ap (λ es. get_or es (row * table.classes.width + column) Unknown) none) ∙ e));
+  matching = λ row column sight t is e. absurd (unknown_matching t (sym (ap (λ es. get_or es (row * table.classes.width + column) Unknown) none) ∙ e));
 } where
   unknown_quiet : (t : Transition) → get_or [] 0 Unknown ≡ Quiet t → ⊥
   unknown_quiet t e = cc
 
   unknown_matching : (t : Transition) → get_or [] 0 Unknown ≡ Matching t → ⊥
   unknown_matching t e = cc
-
--- the cell of a step
-pub told_cell : (cells : List Cell) (row byte : ℕ) (t : Transition) → IsTransition cells row byte t → HasCell cells t.cell row (Some (ascii byte))
-told_cell cells row byte t is =
-    elim (slice_get_cases cells t.cell).1 [
-      | inr past ↦ absurd (omega (arith, past.0, is.stands))
-      | inl here ↦ (here.0, here.2, is.from here.0 here.2, is.on here.0 here.2)
-    ]
 
 -- more cells
 module _ (cells later : List Cell) (grown : KeepsCells cells later) (longer : length cells ≤ length later) where
@@ -49,8 +55,8 @@ module _ (cells later : List Cell) (grown : KeepsCells cells later) (longer : le
         | inl here ↦ (let both : Some here.0 ≡ Some c = sym (grown k here.0 here.2) ∙ e in here.2 ∙ both)
       ]
 
-  more_transition : (row byte : ℕ) (t : Transition) → IsTransition cells row byte t → IsTransition later row byte t
-  more_transition row byte t is = record {
+  more_transition : (row : ℕ) (sight : Sight) (t : Transition) → IsTransition cells row sight t → IsTransition later row sight t
+  more_transition row sight t is = record {
     stands = omega (arith, is.stands, longer);
     from = λ c e. is.from c (stays t.cell is.stands c e);
     on = λ c e. is.on c (stays t.cell is.stands c e);
@@ -58,37 +64,87 @@ module _ (cells later : List Cell) (grown : KeepsCells cells later) (longer : le
     begun = λ c e. is.begun c (stays t.cell is.stands c e);
   }
 
-  pub told_more : (entries : List Entry) → AreTold cells entries → AreTold later entries
-  told_more entries told = record {
-    quiet = λ row byte t lt e.
-        (let q = told.quiet row byte t lt e in (more_transition row byte t q.0, λ c at. q.1 c (stays t.cell q.0.stands c at)));
-    matching = λ row byte t lt e. more_transition row byte t (told.matching row byte t lt e);
+  pub told_more : (table : Transitions) → AreTold cells table → AreTold later table
+  told_more table told = record {
+    quiet = λ row column sight t is e.
+        (let q = told.quiet row column sight t is e in (more_transition row sight t q.0, λ c at. q.1 c (stays t.cell q.0.stands c at)));
+    matching = λ row column sight t is e. more_transition row sight t (told.matching row column sight t is e);
   }
 
+-- the column of what is seen is one of the table
+pub column_within : (classes : Classes) (sight : Sight) (column : ℕ) → IsColumn classes sight column → column < classes.width
+column_within classes sight column is =
+    let n = number_of sight.before in
+    let w = length classes.members.items in
+    let up : (n + 1) * w ≤ sides_of classes.tests * w = mul-le-mul_right w (omega (arith, is.side)) in
+    let one : (n + 1) * w ≡ n * w + w = omega arith in
+    omega (arith, is.column, is.known, classes.wide, up, one)
+
+-- and nothing else is seen in it
+column_same : (classes : Classes) (a b : Sight) (column : ℕ) → IsColumn classes a column → IsColumn classes b column → a ≡ b
+column_same classes a b column is also =
+    let w = length classes.members.items in
+    let n = number_of a.before in
+    let m = number_of b.before in
+    let same : n * w + is.class ≡ m * w + also.class = sym is.column ∙ also.column in
+    let sides : n ≡ m = sym (div-mul-add n w is.class is.known) ∙ ap (λ (k : ℕ). k / w) same ∙ div-mul-add m w also.class also.known in
+    let classes_same : is.class ≡ also.class = other_part n m is.class also.class w sides same in
+    is.sight ∙ ap₂ (λ (s : Side) (c : ℕ). sight_of classes s (member_of classes c)) (number_same a.before b.before sides) classes_same ∙ sym also.sight
+
+-- the entry at a place among all
+abbrev entry_in : List Entry → Classes → ℕ → ℕ → Entry
+entry_in entries classes row column = get_or entries (row * classes.width + column) Unknown
+
+-- the same classes, and entries that the table told, or that are steps
+pub told_by : (cells : List Cell) (table later : Transitions) → later.classes ≡ table.classes → AreTold cells table
+    → ((row column : ℕ) (sight : Sight) → IsColumn table.classes sight column → (entry_in later.entries.items table.classes row column ≡ entry_at table row column)
+    ⊎ IsEntry cells row sight (entry_in later.entries.items table.classes row column)) → AreTold cells later
+told_by cells table later same told each = record {
+  quiet = λ row column sight t is e. there row column sight (Quiet t) (column_in sight column is) e (λ old. told.quiet row column sight t (column_in sight column is) old);
+  matching = λ row column sight t is e. there row column sight (Matching t) (column_in sight column is) e (λ old. told.matching row column sight t (column_in sight column is) old);
+} where
+  column_in : (sight : Sight) (column : ℕ) → IsColumn later.classes sight column → IsColumn table.classes sight column
+  column_in sight column is = subst (λ (k : Classes). IsColumn k sight column) same is
+
+  there : (row column : ℕ) (sight : Sight) (y : Entry) → IsColumn table.classes sight column → entry_at later row column ≡ y
+      → (entry_at table row column ≡ y → IsEntry cells row sight y) → IsEntry cells row sight y
+  there row column sight y is e old =
+      let now : entry_in later.entries.items table.classes row column ≡ y = subst (λ (k : Classes). entry_in later.entries.items k row column ≡ y) same e in
+      elim (each row column sight is) [
+        | inl kept ↦ old (sym kept ∙ now)
+        | inr told ↦ subst (IsEntry cells row sight) now told
+      ]
+
 -- the entries are the same
-pub told_same : (cells : List Cell) (entries later : List Entry) → ((i : ℕ) → get_or later i Unknown ≡ get_or entries i Unknown) → AreTold cells entries → AreTold cells later
-told_same cells entries later same told = record {
-  quiet = λ row byte t lt e. told.quiet row byte t lt (sym (same (row * 128 + byte)) ∙ e);
-  matching = λ row byte t lt e. told.matching row byte t lt (sym (same (row * 128 + byte)) ∙ e);
-}
+pub told_same : (cells : List Cell) (table later : Transitions) → later.classes ≡ table.classes
+    → ((i : ℕ) → get_or later.entries.items i Unknown ≡ get_or table.entries.items i Unknown) → AreTold cells table → AreTold cells later
+told_same cells table later classes same told = told_by cells table later classes told (λ row column sight is. inl (same (row * table.classes.width + column)))
 
 -- one entry is put in
-pub told_set : (cells : List Cell) (entries : List Entry) (row byte : ℕ) (x : Entry) → row * 128 + byte < length entries → byte < 128 → IsEntry cells row byte x
-    → AreTold cells entries → AreTold cells (set entries (row * 128 + byte) x)
-told_set cells entries row byte x within ascii is told = record {
-  quiet = λ r b t lt e. (by r b (Quiet t) lt e (λ e'. told.quiet r b t lt e'));
-  matching = λ r b t lt e. (by r b (Matching t) lt e (λ e'. told.matching r b t lt e'));
-} where
-  by : (r b : ℕ) (y : Entry) → b < 128 → get_or (set entries (row * 128 + byte) x) (r * 128 + b) Unknown ≡ y
-      → (get_or entries (r * 128 + b) Unknown ≡ y → IsEntry cells r b y) → IsEntry cells r b y
-  by r b y lt e old =
-      elim (eqb_tells (r * 128 + b) (row * 128 + byte)) [
+pub told_set : (cells : List Cell) (table later : Transitions) (row column : ℕ) (sight : Sight) (x : Entry) → later.classes ≡ table.classes
+    → later.entries.items ≡ set table.entries.items (row * table.classes.width + column) x
+    → row * table.classes.width + column < length table.entries.items → IsColumn table.classes sight column → IsEntry cells row sight x
+    → AreTold cells table → AreTold cells later
+told_set cells table later row column sight x classes put within is entry told = told_by cells table later classes told each where
+  each : (r b : ℕ) (seen : Sight) → IsColumn table.classes seen b → (entry_in later.entries.items table.classes r b ≡ entry_at table r b)
+      ⊎ IsEntry cells r seen (entry_in later.entries.items table.classes r b)
+  each r b seen also =
+      let w = table.classes.width in
+      let now : entry_in later.entries.items table.classes r b ≡ get_or (set table.entries.items (row * w + column) x) (r * w + b) Unknown =
+      ap (λ (es : List Entry). get_or es (r * w + b) Unknown) put in
+      elim (eqb_tells (r * w + b) (row * w + column)) [
         | inl same ↦ (
-            let rows : row ≡ r = omega (arith, same.1, lt, ascii) in
-            let bytes : byte ≡ b = omega (arith, same.1, rows) in
-            let there : x ≡ y = sym (get_or-set_same entries (row * 128 + byte) x Unknown within) ∙ ap (λ i. get_or (set entries (row * 128 + byte) x) i Unknown) (sym same.1) ∙ e in
-            subst (λ n. IsEntry cells r n y) bytes (subst (λ n. IsEntry cells n byte y) rows (subst (IsEntry cells row byte) there is)))
-        | inr other ↦ old (sym (get_or-set_other entries (row * 128 + byte) (r * 128 + b) x Unknown other.1) ∙ e)
+            let low = column_within table.classes sight column is in
+            let under = column_within table.classes seen b also in
+            let rows : row ≡ r = sym (div-mul-add row w column low) ∙ ap (λ (n : ℕ). n / w) (sym same.1) ∙ div-mul-add r w b under in
+            let columns : column ≡ b = other_part row r column b w rows (sym same.1) in
+            let sights : sight ≡ seen = column_same table.classes sight seen b (subst (IsColumn table.classes sight) columns is) also in
+            let there : x ≡ entry_in later.entries.items table.classes r b =
+            sym (get_or-set_same table.entries.items (row * w + column) x Unknown within) ∙ ap (λ (i : ℕ). get_or (set table.entries.items (row * w + column) x) i Unknown) (sym same.1) ∙ sym now in
+            inr (subst (λ (n : ℕ). IsEntry cells n seen (entry_in later.entries.items table.classes r b)) rows
+            (subst (λ (s : Sight). IsEntry cells row s (entry_in later.entries.items table.classes r b)) sights
+            (subst (IsEntry cells row sight) there entry))))
+        | inr away ↦ inl (now ∙ get_or-set_other table.entries.items (row * w + column) (r * w + b) x Unknown away.1)
       ]
 
 -- more entries, which tell nothing
@@ -109,7 +165,31 @@ told_wide entries later n e i =
           ]
 
 -- a cell is put behind the others
-pub told_pushed : (cells later : List Cell) (c : Cell) (entries : List Entry) → later ≡ cells ++ c ∷ [] → AreTold cells entries → AreTold later entries
-told_pushed cells later c entries e told =
+pub told_pushed : (cells later : List Cell) (c : Cell) (table : Transitions) → later ≡ cells ++ c ∷ [] → AreTold cells table → AreTold later table
+told_pushed cells later c table e told =
     let size = ap length e ∙ length-append cells (c ∷ []) in
-    told_more cells later (grown cells later c e) (omega (arith, size)) entries told
+    told_more cells later (grown cells later c e) (omega (arith, size)) table told
+
+-- what the table has of a row and a character, after a side that is told apart
+pub told_at : (cells : List Cell) (table : Transitions) (row first byte : ℕ) (c : Column) (before : Side) (e : Entry) → slice_get table.classes.columns.items byte ≡ Some c
+    → number_of before < sides_of table.classes.tests → first ≡ first_of table.classes before → e ≡ entry_at table row (first + c.class)
+    → AreTold cells table → IsEntry cells row (sight_for table.classes before byte) e
+told_at cells table row first byte c before e here seen begins is told =
+    told_entry cells table row (first + c.class) (sight_for table.classes before byte) e told
+    (record {
+      class = c.class;
+      known = table.classes.known byte c here;
+      side = seen;
+      sight = ap (λ (o : Option Column). sight_of table.classes before (member_or table.classes o byte)) here;
+      column = ap (λ (n : ℕ). n + c.class) begins;
+    }) is
+
+-- an entry is put in on a character that stands for its class
+pub told_noted : (cells : List Cell) (table made later : Transitions) (row column : ℕ) (sight : Sight) (x : Entry) → IsColumn table.classes sight column → made.classes ≡ table.classes
+    → ((i : ℕ) → get_or made.entries.items i Unknown ≡ get_or table.entries.items i Unknown)
+    → row * made.classes.width + made.classes.width ≤ length made.entries.items → later.classes ≡ made.classes
+    → later.entries.items ≡ set made.entries.items (row * made.classes.width + column) x → AreTold cells table → IsEntry cells row sight x → AreTold cells later
+told_noted cells table made later row column sight x is classes same room kept put told entry =
+    let there : IsColumn made.classes sight column = subst (λ (k : Classes). IsColumn k sight column) (sym classes) is in
+    let low = column_within made.classes sight column there in
+    told_set cells made later row column sight x kept put (omega (arith, room, low)) there entry (told_same cells table made classes same told)

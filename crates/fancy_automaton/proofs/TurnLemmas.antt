@@ -1,5 +1,5 @@
 -- Marks by the turn in which each number was marked last.
-use Rattle.std.proofs.Common.{◌≡◌, ℕ, zero, suc, ◌+◌, ◌<◌, ◌≤◌, Bool, true, false, eqb, not, List, [], ◌∷◌, length, replicate, get_or, set, take, refl, sym, ◌∙◌, ap, ap₂, arith, eq-eqb, ne_eqb, All}
+use Rattle.std.proofs.Common.{◌≡◌, ℕ, zero, suc, ◌<◌, ◌≤◌, Bool, true, false, eqb, List, [], ◌∷◌, length, replicate, get_or, set, take, refl, sym, ◌∙◌, ap, ap₂, arith, eq-eqb, ne_eqb, All}
 use Rattle.std.specs.Prelude.{slice_index_or}
 use Rattle.fancy_automaton.specs.Marks.{marks_of}
 

@@ -1,10 +1,10 @@
 -- Plain code moves the place alone: each way stops with the groups and the kept start that it began with.
-use Rattle.std.proofs.Common.{◌≡◌, ℕ, zero, suc, Bool, true, false, ◌==◌, List, [], ◌∷◌, ◌++◌, length, Option, Some, None, refl, subst}
+use Rattle.std.proofs.Common.{◌≡◌, ℕ, zero, suc, Bool, true, false, ◌==◌, List, [], ◌∷◌, ◌++◌, length, Option, Some, None, subst}
 use Rattle.std.specs.Prelude.{if◌then◌else◌, nat_le}
 use Rattle.fancy_tree.specs.Sets.{has}
 use Rattle.fancy_input.specs.declared.span.Span.{Span}
 use Rattle.fancy_code.specs.Instructions.{Instruction, Match, Fail, Character, Member, RawByte, Assert, Split, Open, Close, Enter, Commit, Look, Deny, Test, Back, Recall, Keep, Continue, Taken}
-use Rattle.fancy_code.specs.Context.{Context, State, moved_to, past_item}
+use Rattle.fancy_code.specs.Context.{Context, State, holds, moved_to, past_item}
 use Rattle.fancy_code.specs.Run.{Raw, Note, Stop, Sign, choice_opened, returned, fetched, Go, Ends, AllStops, before, join, onward, instr_at, act, run, erase}
 use Rattle.fancy_code.specs.Thread.{first_accepted}
 use Rattle.fancy_automaton.specs.Futures.{ArePlain, IsPlainInstr}
@@ -58,7 +58,7 @@ module _ (groups : List (Option Span)) (kept : ℕ) where
     act_leaves q (Character c next) go far k f s v is = onward_leaves limit go next s v (past_item x (λ d. d == c) s.place) f is
     act_leaves q (Member edges next) go far k f s v is = onward_leaves limit go next s v (past_item x (has edges) s.place) f is
     act_leaves q (RawByte byte next) go far k f s v is = absurd k
-    act_leaves q (Assert a next) go far k f s v is = absurd k
+    act_leaves q (Assert a next) go far k f s v is = if_leaves (holds x a s.place) (go next s v) (f next s v is)
     act_leaves q (Split a b) go far k f s v is = before_leaves choice_opened (join (go a s v) (go b s v)) (join_leaves (go a s v) (go b s v) (f a s v is) (f b s v is))
     act_leaves q (Open group next) go far k f s v is = absurd k
     act_leaves q (Close group next) go far k f s v is = absurd k

@@ -1,15 +1,16 @@
 -- What an automaton remembers: rows of waiting instructions, and steps between them.
-use Rattle.std.specs.Prelude.{◌≡◌, ◌+◌, ◌≤◌, ℕ, length, List, [], ◌∷◌, ◌++◌, Option, None, Some, All, map, option_map, slice_get}
+use Rattle.std.specs.Prelude.{◌≡◌, ◌+◌, ◌≤◌, ℕ, length, List, [], ◌∷◌, ◌++◌, Option, None, Some, All, map, slice_get}
 use Rattle.std.specs.Global.{Vec}
 use Rattle.fancy_input.specs.declared.span.Span.{Span}
 use Rattle.fancy_code.specs.declared.code.Code.{Code}
 use Rattle.fancy_code.specs.Code.{instrs_of}
-use Rattle.fancy_code.specs.declared.reading.Reading.{Reading}
-use Rattle.fancy_code.specs.Reading.{unit_read}
+use Rattle.fancy_alphabet.specs.declared.sight.Sight.{Sight}
 use Rattle.fancy_automaton.specs.declared.way.Way.{Way}
+use Rattle.fancy_alphabet.specs.Sights.{seen_in}
 use Rattle.fancy_automaton.specs.declared.cells.Cell.{Cell}
 use Rattle.fancy_automaton.specs.declared.cells.Cells.{Cells}
 use Rattle.fancy_automaton.specs.Steps.{IsStep, at_of, from_of}
+use Rattle.fancy_alphabet.specs.Classes.{AreClasses}
 use Rattle.fancy_automaton.specs.Transitions.{AreTold}
 
 abbrev pub items_or : Option (Vec ℕ) → List ℕ
@@ -32,8 +33,8 @@ KeepsCells cells later = (k : ℕ) (c : Cell) → slice_get cells k ≡ Some c �
 abbrev pub HasRow : List (Vec ℕ) → ℕ → List ℕ → Type 0
 HasRow rows r ways = (v : Vec ℕ) × (slice_get rows r ≡ Some v) × (v.items ≡ ways)
 
--- the step from a row on what is read, which leads to these ways in order
-pub record IsCell (code : Code) (rows : List (Vec ℕ)) (row : ℕ) (reading : Option Reading) (next begun : ℕ) (came : List ℕ) (matched : Option ℕ) : Type 0 where
+-- the step from a row on what is seen, which leads to these ways in order
+pub record IsCell (code : Code) (rows : List (Vec ℕ)) (row : ℕ) (sight : Sight) (next begun : ℕ) (came : List ℕ) (matched : Option ℕ) : Type 0 where
   pub ways : List ℕ
   pub after : List Way
   pub source : HasRow rows row ways
@@ -41,19 +42,19 @@ pub record IsCell (code : Code) (rows : List (Vec ℕ)) (row : ℕ) (reading : O
   -- with one more way, which begins there
   pub opens : HasRow rows begun (map at_of after ++ code.start ∷ [])
   pub comes : came ≡ map from_of after
-  pub step : IsStep (instrs_of code) ways (option_map unit_read reading) after matched
-  pub halts : reading ≡ None → after ≡ []
+  pub step : IsStep (instrs_of code) ways (seen_in sight) after matched
+  pub halts : sight.reading ≡ None → after ≡ []
 
 abbrev pub IsCellOf : Code → List (Vec ℕ) → Cell → Type 0
-IsCellOf code rows c = IsCell code rows c.row c.reading c.next c.begun c.came.items c.matched
+IsCellOf code rows c = IsCell code rows c.row c.sight c.next c.begun c.came.items c.matched
 
--- all that is remembered is true of the code
+-- all that is remembered is true of the code, and so are the classes
 abbrev pub IsFor : Cells → Code → Type 0
-IsFor a code = All (IsCellOf code a.rows.lists.items) a.cells.items
+IsFor a code = All (IsCellOf code a.rows.lists.items) a.cells.items × AreClasses a.table.classes (instrs_of code)
 
--- the step with this number is from this row on what is read
-abbrev pub HasCell : List Cell → ℕ → ℕ → Option Reading → Type 0
-HasCell cells k row reading = (c : Cell) × (slice_get cells k ≡ Some c) × (c.row ≡ row) × (c.reading ≡ reading)
+-- the step with this number is from this row on what is seen
+abbrev pub HasCell : List Cell → ℕ → ℕ → Sight → Type 0
+HasCell cells k row sight = (c : Cell) × (slice_get cells k ≡ Some c) × (c.row ≡ row) × (c.sight ≡ sight)
 
 -- the row of a place: where nothing was found, one more way begins there
 abbrev pub row_if : Option Span → ℕ → ℕ → ℕ
@@ -72,10 +73,10 @@ pub record IsBounded (a : Cells) : Type 0 where
   pub rows : length a.rows.lists.items ≤ most_rows
   pub cells : length a.cells.items ≤ most_cells
   -- and the table tells nothing else
-  pub told : AreTold a.cells.items a.table.entries.items
+  pub told : AreTold a.cells.items a.table
 
 -- and one more step with its two rows is not too much
 pub record HasPlace (a : Cells) : Type 0 where
   pub rows : length a.rows.lists.items + 2 ≤ most_rows
   pub cells : length a.cells.items + 1 ≤ most_cells
-  pub told : AreTold a.cells.items a.table.entries.items
+  pub told : AreTold a.cells.items a.table

@@ -1,20 +1,21 @@
 -- What the code gives from an instruction and a place: where the first accepted outcome ends.
-use Rattle.std.specs.Prelude.{ℕ, zero, suc, ◌+◌, Bool, List, Option, None, Some, option_map, is_some, nat_le, if◌then◌else◌, true, false}
+use Rattle.std.specs.Prelude.{◌≡◌, ℕ, zero, suc, ◌+◌, Bool, List, Option, None, option_map, is_some, if◌then◌else◌, true, false}
 use Rattle.std.specs.Option.{option_or}
 use Rattle.fancy_code.specs.Instructions.{Instruction, Match, Fail, Character, Member, RawByte, Assert, Split, Open, Close, Enter, Commit, Look, Deny, Test, Back, Recall, Keep, Continue, Taken}
-use Rattle.fancy_code.specs.Context.{Context, State, Unit_at, unit_at}
+use Rattle.fancy_code.specs.Context.{Context, State}
 use Rattle.fancy_code.specs.Run.{instr_at}
 use Rattle.fancy_code.specs.Thread.{first_accepted, ends_well, events_of, pair_run}
+use Rattle.fancy_alphabet.specs.Sides.{is_told_between}
 use Rattle.fancy_automaton.specs.Ways.{tagged}
 
--- an easy instruction that tests no place, reads no single byte, and begins and ends no group
+-- an easy instruction that reads no single byte, begins and ends no group, and does not test whether only empty lines follow
 abbrev pub IsPlainInstr : Instruction → Type 0
 IsPlainInstr Match = Unit {0}
 IsPlainInstr Fail = Unit {0}
 IsPlainInstr (Character c next) = Unit {0}
 IsPlainInstr (Member edges next) = Unit {0}
 IsPlainInstr (RawByte byte next) = ⊥
-IsPlainInstr (Assert a next) = ⊥
+IsPlainInstr (Assert a next) = is_told_between a ≡ true
 IsPlainInstr (Split a b) = Unit {0}
 IsPlainInstr (Open group next) = ⊥
 IsPlainInstr (Close group next) = ⊥
@@ -36,7 +37,7 @@ is_plain_instr Fail = true
 is_plain_instr (Character c next) = true
 is_plain_instr (Member edges next) = true
 is_plain_instr (RawByte byte next) = false
-is_plain_instr (Assert a next) = false
+is_plain_instr (Assert a next) = is_told_between a
 is_plain_instr (Split a b) = true
 is_plain_instr (Open group next) = false
 is_plain_instr (Close group next) = false
@@ -57,20 +58,6 @@ ArePlain code = (q : ℕ) → IsPlainInstr (instr_at code q)
 
 abbrev pub place_of : State → ℕ
 place_of s = s.place
-
--- the unit, where it ends by the limit
-abbrev pub cut : ℕ → ℕ → Option Unit_at → Option Unit_at
-cut limit here None = None
-cut limit here (Some u) = if nat_le (here + u.width) limit then Some u else None
-
--- the unit that is read at a place
-abbrev pub unit_by : Context → ℕ → ℕ → Option Unit_at
-unit_by x limit here = cut limit here (unit_at x here)
-
--- the place after it
-abbrev pub place_after : ℕ → Option Unit_at → ℕ
-place_after here None = here + 1
-place_after here (Some u) = here + u.width
 
 module _ (good : ℕ → Bool) (x : Context) (limit : ℕ) (code : List Instruction) (deep : ℕ) where
   -- at the place, from the instruction

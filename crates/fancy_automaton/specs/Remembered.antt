@@ -1,17 +1,18 @@
 -- What is remembered, told by what the cells hold alone, so that a struct may keep it as a fact.
-use Rattle.std.specs.Prelude.{◌≡◌, ◌<◌, ℕ, Bool, true, List, [], ◌∷◌, ◌++◌, Option, None, All, length, option_map}
+use Rattle.std.specs.Prelude.{◌≡◌, ◌<◌, ℕ, Bool, true, List, [], ◌∷◌, ◌++◌, Option, None, All, length}
 use Rattle.std.specs.Global.{Vec}
 use Rattle.std.specs.Option.{option_or}
 use Rattle.fancy_code.specs.declared.code.Code.{Code}
 use Rattle.fancy_code.specs.Code.{instrs_of}
-use Rattle.fancy_code.specs.Context.{Unit_at}
 use Rattle.fancy_code.specs.Instructions.{Instruction}
-use Rattle.fancy_code.specs.Reading.{unit_read}
 use Rattle.fancy_automaton.specs.declared.way.Way.{Way}
 use Rattle.fancy_automaton.specs.declared.cells.Cell.{Cell}
 use Rattle.fancy_automaton.specs.declared.cells.Cells.{Cells}
 use Rattle.fancy_automaton.specs.Ways.{Ends, Solves, first_end, match_end}
+use Rattle.fancy_alphabet.specs.Effects.{Seen}
+use Rattle.fancy_alphabet.specs.Sights.{seen_in}
 use Rattle.fancy_automaton.specs.Steps.{waiting}
+use Rattle.fancy_alphabet.specs.Classes.{AreClasses}
 use Rattle.fancy_automaton.specs.Cells.{ways_at}
 
 -- the ways at these instructions, each with the number of the way that it comes from
@@ -24,7 +25,7 @@ abbrev pub IsKnownAt : (ℕ → Bool) → Way → Type 0
 IsKnownAt known w = known w.at ≡ true
 
 -- the same step, where what is known is said of each way
-abbrev pub IsStepEach : List Instruction → List ℕ → Option Unit_at → List Way → Option ℕ → Type 0
+abbrev pub IsStepEach : List Instruction → List ℕ → Seen → List Way → Option ℕ → Type 0
 IsStepEach code ways u next matched =
     (here : ℕ) (ends later : Ends) (known beyond : ℕ → Bool) (rank : ℕ → ℕ) → Solves code u here ends later known beyond rank
     → All (IsKnownAt known) (waiting 0 ways)
@@ -38,9 +39,9 @@ pub record IsRemembered (code : Code) (rows : List (Vec ℕ)) (c : Cell) : Type 
   pub even : length c.came.items ≡ length (ways_at rows c.next)
   -- with one more way, which begins there
   pub opens : ways_at rows c.begun ≡ ways_at rows c.next ++ code.start ∷ []
-  pub step : IsStepEach (instrs_of code) (ways_at rows c.row) (option_map unit_read c.reading) (ways_from (ways_at rows c.next) c.came.items) c.matched
-  pub halts : c.reading ≡ None → ways_at rows c.next ≡ []
+  pub step : IsStepEach (instrs_of code) (ways_at rows c.row) (seen_in c.sight) (ways_from (ways_at rows c.next) c.came.items) c.matched
+  pub halts : c.sight.reading ≡ None → ways_at rows c.next ≡ []
 
--- all that is remembered is true of the code
+-- all that is remembered is true of the code, and so are the classes
 abbrev pub Remembers : Cells → Code → Type 0
-Remembers a code = All (IsRemembered code a.rows.lists.items) a.cells.items
+Remembers a code = All (IsRemembered code a.rows.lists.items) a.cells.items × AreClasses a.table.classes (instrs_of code)

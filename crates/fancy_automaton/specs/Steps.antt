@@ -2,9 +2,9 @@
 use Rattle.std.specs.Prelude.{◌≡◌, ℕ, suc, Bool, List, [], ◌∷◌, Option, None, Some, slice_index}
 use Rattle.std.specs.Option.{option_or}
 use Rattle.fancy_code.specs.Instructions.{Instruction}
-use Rattle.fancy_code.specs.Context.{Unit_at}
 use Rattle.fancy_automaton.specs.declared.way.Way.{Way}
 use Rattle.fancy_automaton.specs.Ways.{Ends, tagged, Solves, AllKnown, first_end, match_end}
+use Rattle.fancy_alphabet.specs.Effects.{Seen}
 
 -- the ways that wait at these instructions, by their numbers from n on
 abbrev pub waiting : ℕ → List ℕ → List Way
@@ -17,9 +17,9 @@ at_of w = w.at
 abbrev pub from_of : Way → ℕ
 from_of w = w.from
 
--- What a step means, with no haystack in sight: from these instructions, where `u` is read, the ways go on as `next` says, and one
+-- What a step means, with no haystack in sight: from these instructions, where `u` is seen, the ways go on as `next` says, and one
 -- ended with an outcome if `matched` has the number of the way that it came from.
-abbrev pub IsStep : List Instruction → List ℕ → Option Unit_at → List Way → Option ℕ → Type 0
+abbrev pub IsStep : List Instruction → List ℕ → Seen → List Way → Option ℕ → Type 0
 IsStep code ways u next matched =
     (here : ℕ) (ends later : Ends) (known beyond : ℕ → Bool) (rank : ℕ → ℕ) → Solves code u here ends later known beyond rank
     → AllKnown known (waiting 0 ways)

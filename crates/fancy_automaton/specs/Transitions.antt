@@ -1,20 +1,18 @@
 -- The table of a search: what is said there of a row and an ASCII character.
-use Rattle.std.specs.Prelude.{◌≡◌, ◌+◌, ◌*◌, ◌<◌, ℕ, List, Option, None, Some, get_or, length, slice_get}
-use Rattle.fancy_code.specs.declared.reading.Reading.{Reading}
+use Rattle.std.specs.Prelude.{◌≡◌, ◌+◌, ◌*◌, ◌<◌, ℕ, List, None, Some, get_or, length, slice_get}
+use Rattle.fancy_alphabet.specs.declared.sight.Sight.{Sight}
 use Rattle.fancy_automaton.specs.declared.cells.Cell.{Cell}
 use Rattle.fancy_automaton.specs.declared.transitions.Transition.{Transition}
+use Rattle.fancy_alphabet.specs.Classes.{IsColumn}
 use Rattle.fancy_automaton.specs.declared.transitions.Entry.{Entry}
+use Rattle.fancy_automaton.specs.declared.transitions.Transitions.{Transitions}
 use Rattle.fancy_automaton.specs.declared.transitions.Entry.TheVariants.{Unknown, Quiet, Matching}
 
--- an ASCII character
-abbrev pub ascii : ℕ → Reading
-ascii byte = record { code = byte; width = 1 }
-
--- The step is that of a cell from the row on the character.
-pub record IsTransition (cells : List Cell) (row byte : ℕ) (t : Transition) : Type 0 where
+-- The step is that of a cell from the row on what is seen.
+pub record IsTransition (cells : List Cell) (row : ℕ) (sight : Sight) (t : Transition) : Type 0 where
   pub stands : t.cell < length cells
   pub from : (c : Cell) → slice_get cells t.cell ≡ Some c → c.row ≡ row
-  pub on : (c : Cell) → slice_get cells t.cell ≡ Some c → c.reading ≡ Some (ascii byte)
+  pub on : (c : Cell) → slice_get cells t.cell ≡ Some c → c.sight ≡ sight
   pub next : (c : Cell) → slice_get cells t.cell ≡ Some c → c.next ≡ t.next
   pub begun : (c : Cell) → slice_get cells t.cell ≡ Some c → c.begun ≡ t.begun
 
@@ -22,14 +20,18 @@ pub record IsTransition (cells : List Cell) (row byte : ℕ) (t : Transition) : 
 abbrev pub IsQuiet : List Cell → Transition → Type 0
 IsQuiet cells t = (c : Cell) → slice_get cells t.cell ≡ Some c → c.matched ≡ None
 
-abbrev pub IsEntry : List Cell → ℕ → ℕ → Entry → Type 0
-IsEntry cells row byte Unknown = Unit {0}
-IsEntry cells row byte (Quiet t) = IsTransition cells row byte t × IsQuiet cells t
-IsEntry cells row byte (Matching t) = IsTransition cells row byte t
+abbrev pub IsEntry : List Cell → ℕ → Sight → Entry → Type 0
+IsEntry cells row sight Unknown = Unit {0}
+IsEntry cells row sight (Quiet t) = IsTransition cells row sight t × IsQuiet cells t
+IsEntry cells row sight (Matching t) = IsTransition cells row sight t
 
--- Each entry of the table is such a step.
-pub record AreTold (cells : List Cell) (entries : List Entry) : Type 0 where
-  pub quiet : (row byte : ℕ) (t : Transition) → byte < 128 → get_or entries (row * 128 + byte) Unknown ≡ Quiet t
-      → IsTransition cells row byte t × IsQuiet cells t
-  pub matching : (row byte : ℕ) (t : Transition) → byte < 128 → get_or entries (row * 128 + byte) Unknown ≡ Matching t
-      → IsTransition cells row byte t
+-- what the table has of a row and a column
+abbrev pub entry_at : Transitions → ℕ → ℕ → Entry
+entry_at table row column = get_or table.entries.items (row * table.classes.width + column) Unknown
+
+-- Each entry of the table is such a step, on what is seen in its column.
+pub record AreTold (cells : List Cell) (table : Transitions) : Type 0 where
+  pub quiet : (row column : ℕ) (sight : Sight) (t : Transition) → IsColumn table.classes sight column
+      → entry_at table row column ≡ Quiet t → IsTransition cells row sight t × IsQuiet cells t
+  pub matching : (row column : ℕ) (sight : Sight) (t : Transition) → IsColumn table.classes sight column
+      → entry_at table row column ≡ Matching t → IsTransition cells row sight t

@@ -1,42 +1,12 @@
 -- The ways at one place, in order of preference, and where the first accepted outcome of them ends.
-use Rattle.std.specs.Prelude.{◌≡◌, ℕ, suc, ◌<◌, ◌⊎◌, Bool, true, false, List, [], ◌∷◌, Option, None, Some, is_some, slice_index_or, if◌then◌else◌, ◌==◌}
+use Rattle.std.specs.Prelude.{◌≡◌, ℕ, suc, ◌<◌, ◌⊎◌, Bool, true, false, List, [], ◌∷◌, Option, None, Some, is_some, slice_index_or}
 use Rattle.std.specs.Option.{option_or}
-use Rattle.fancy_tree.specs.Sets.{has}
-use Rattle.fancy_code.specs.Instructions.{Instruction, Match, Fail, Character, Member, RawByte, Assert, Split, Open, Close, Enter, Commit, Look, Deny, Test, Back, Recall, Keep, Continue, Taken}
-use Rattle.fancy_code.specs.Context.{Unit_at}
+use Rattle.fancy_code.specs.Instructions.{Instruction}
 use Rattle.fancy_code.specs.Run.{instr_at}
+use Rattle.fancy_alphabet.specs.Effects.{Seen, effect_of}
 use Rattle.fancy_automaton.specs.declared.way.Way.{Way}
-use Rattle.fancy_automaton.specs.declared.way.Effect.{Effect}
-use Rattle.fancy_automaton.specs.declared.way.Effect.TheVariants as does
-
--- on after the item, if it passes
-abbrev pub reads_if : Bool → ℕ → Effect
-reads_if b next = if b then does.Reads next else does.Fails
-
--- What an instruction does where this is read. The tests of a place, the reading of a single byte, groups and the instructions of
--- hard patterns are none of an automaton's.
-abbrev pub effect_of : Option Unit_at → Instruction → Effect
-effect_of u Match = does.Ends
-effect_of u Fail = does.Fails
-effect_of None (Character c next) = does.Fails
-effect_of (Some u) (Character c next) = reads_if (u.code == c) next
-effect_of None (Member edges next) = does.Fails
-effect_of (Some u) (Member edges next) = reads_if (has edges u.code) next
-effect_of u (RawByte byte next) = does.Fails
-effect_of u (Assert a next) = does.Fails
-effect_of u (Split a b) = does.Splits a b
-effect_of u (Open group next) = does.Fails
-effect_of u (Close group next) = does.Fails
-effect_of u (Enter body) = does.Fails
-effect_of u (Commit next) = does.Fails
-effect_of u (Look behind body next) = does.Fails
-effect_of u (Deny behind body next) = does.Fails
-effect_of u (Test body other) = does.Fails
-effect_of u (Back n next) = does.Fails
-effect_of u (Recall folded number moved still) = does.Fails
-effect_of u (Keep next) = does.Fails
-effect_of u (Continue next) = does.Fails
-effect_of u (Taken number next) = does.Fails
+use Rattle.fancy_alphabet.specs.declared.effect.Effect.{Effect}
+use Rattle.fancy_alphabet.specs.declared.effect.Effect.TheVariants as does
 
 -- from an instruction on, where the first accepted outcome ends, at one place
 abbrev pub Ends : Type 0
@@ -77,6 +47,7 @@ module _ (ends later : Ends) (known beyond : ℕ → Bool) (rank : ℕ → ℕ) 
   Obeys does.Ends here q = ends q ≡ Some here
   Obeys does.Fails here q = ends q ≡ None
   Obeys (does.Reads next) here q = (beyond next ≡ true) × (ends q ≡ later next)
+  Obeys (does.Moves next) here q = (known next ≡ true) × (ends q ≡ ends next) × (rank next < rank q)
   Obeys (does.Splits a b) here q =
       (known a ≡ true) × (known b ≡ true) × (ends q ≡ option_or (ends a) (ends b)) × (rank a < rank q) × (rank b < rank q)
 
@@ -104,7 +75,7 @@ module _ (ends later : Ends) (known beyond : ℕ → Bool) (rank : ℕ → ℕ) 
   Visited false here from goal marks next stack = Closing goal marks next stack
   Visited true here from goal marks next stack = AllKnown beyond next × (option_or (first_end later next) (Some (from, here)) ≡ goal)
 
--- The ends are those of the code at the place `here`, where a match may end and `u` is read.
-abbrev pub Solves : List Instruction → Option Unit_at → ℕ → Ends → Ends → (ℕ → Bool) → (ℕ → Bool) → (ℕ → ℕ) → Type 0
+-- The ends are those of the code at the place `here`, where a match may end and `u` is seen.
+abbrev pub Solves : List Instruction → Seen → ℕ → Ends → Ends → (ℕ → Bool) → (ℕ → Bool) → (ℕ → ℕ) → Type 0
 Solves code u here ends later known beyond rank =
     (q : ℕ) → known q ≡ true → Obeys ends later known beyond rank (effect_of u (instr_at code q)) here q

@@ -1,14 +1,15 @@
 //! What an automaton remembers: steps that were computed, each of them true of the code.
 
-ghost use Rattle.std.specs.Prelude.{◌≡◌, ◌+◌, ◌-◌, ◌++◌, ◌∷◌, [], ◌<◌, ◌≤◌, ℕ, List, Option, None, true, IfOk, IfSome, map, min, length, option_map, take};
+ghost use Rattle.std.specs.Prelude.{◌≡◌, ◌+◌, ◌-◌, ◌++◌, ◌∷◌, [], ◌<◌, ◌≤◌, ℕ, List, Option, None, true, IfOk, IfSome, map, min, length, take};
 ghost use Rattle.fancy_code.specs.Code.{instrs_of};
 ghost use Rattle.fancy_code.specs.CodeLength.{code_len};
-ghost use Rattle.fancy_code.specs.Reading.{unit_read};
 ghost use Rattle.fancy_input.specs.Work.{steps_of, returns_of, units_of};
 ghost use Rattle.fancy_code.specs.declared.code.Code.{Code};
+ghost use Rattle.fancy_alphabet.specs.Alike.{IsSeenLike};
+ghost use Rattle.fancy_alphabet.specs.Sights.{seen_in};
 ghost use Rattle.fancy_automaton.specs.Steps.{IsStep, at_of, from_of};
 ghost use Rattle.fancy_automaton.specs.Trail.{came_at};
-ghost use Rattle.fancy_automaton.specs.Transitions.{AreTold, IsEntry, ascii};
+ghost use Rattle.fancy_automaton.specs.Transitions.{AreTold, IsEntry};
 ghost use Rattle.fancy_automaton.specs.Cells.{KeepsRows, KeepsCells, HasRow, HasCell, HasPlace, IsFor, IsCell, IsBounded, ways_at};
 
 use crate::hints::Hints;
@@ -19,19 +20,24 @@ use crate::step::{Step, step_from};
 use crate::trail::Trail;
 use crate::transitions::{Entry, Transition, Transitions};
 use crate::way::Way;
+use fancy_alphabet::alike::classes_of;
+use fancy_alphabet::classes::Classes;
+use fancy_alphabet::side::Side;
+use fancy_alphabet::sight::{Sight, ascii_at, sight_at};
+use fancy_code::attempt::Attempt;
 use fancy_code::code::Code;
 use fancy_code::reading::Reading;
 use fancy_input::work::Work;
 use std::alloc::{AllocError, Global};
 use std::mem;
 
-/// A step from a row of waiting instructions on what is read there.
+/// A step from a row of waiting instructions on what is seen there.
 #[derive(Drop)]
 pub struct Cell {
     /// The number of the row.
     pub row: usize,
-    /// What is read; `None` where the haystack, or what is searched of it, ends.
-    pub reading: Option<Reading>,
+    /// What is seen there.
+    pub sight: Sight,
     /// The row after what is read.
     pub next: usize,
     /// That row with one more way, which begins there.
@@ -80,9 +86,9 @@ pub struct Cells {
     pub rows: Rows,
     /// The steps.
     pub cells: Vec<Cell>,
-    /// The steps on ASCII characters, by their row and the character.
+    /// The steps on ASCII characters, by their row, what stands before, and the class of the character.
     pub table: Transitions,
-    /// The numbers of the other steps, by their row and what is read.
+    /// The numbers of the other steps, by their row and what is seen.
     pub hints: Hints,
     /// The number of the row without an instruction, where it is one; that is tested.
     pub nothing: usize,
@@ -150,8 +156,22 @@ impl Cells {
         self.rows.lists.len() > ROWS - 2 || self.cells.len() >= CELLS || self.bytes() >= self.room
     }
 
-    /// Forgets all, so that another code may be searched for. Hints that are left name nothing, or a later step, which is
-    /// tested.
+    /// Forgets all rows and steps. Hints that are left name nothing, or a later step, which is tested.
+    pub fn forget(&mut self)
+        ensures rows { self.new.rows.lists.items ≡ [] }
+        ensures cells { self.new.cells.items ≡ [] }
+        ensures entries { self.new.table.entries.items ≡ [] }
+        ensures place { HasPlace self.new }
+        ensures kept { IsBounded self.new }
+        ensures all { (code : Code) → IsFor self.old code → IsFor self.new code }
+    {
+        self.rows.clear();
+        self.cells.clear();
+        self.table.clear();
+        self.held = 0;
+    }
+
+    /// Forgets all, so that another code may be searched for.
     pub fn clear(&mut self)
         ensures rows { self.new.rows.lists.items ≡ [] }
         ensures cells { self.new.cells.items ≡ [] }
@@ -159,10 +179,8 @@ impl Cells {
         ensures kept { IsBounded self.new }
         ensures all { (code : Code) → IsFor self.new code }
     {
-        self.rows.clear();
-        self.cells.clear();
-        self.table.clear();
-        self.held = 0;
+        self.forget();
+        self.table.classes = Classes::new(self.alloc);
     }
 
     /// Forgets all where one more step may be one too many.
@@ -174,7 +192,7 @@ impl Cells {
         if !self.is_full() {
             return;
         }
-        self.clear();
+        self.forget();
     }
 }
 
@@ -189,24 +207,24 @@ fn origins(alloc: Global, next: &[Way]) -> Result<Vec<usize>, AllocError>
     Ok(came)
 }
 
-/// Puts a step from a row on what is read among the steps, with the rows that it leads to.
+/// Puts a step from a row on what is seen among the steps, with the rows that it leads to.
 fn computed(
     alloc: Global,
     code: &Code,
     rows: &mut Rows,
     row: usize,
-    reading: Option<Reading>,
+    sight: Sight,
     step: Step,
 ) -> Result<Cell, AllocError>
     requires row { row < length rows.old.lists.items }
-    requires step { IsStep (instrs_of code.now) (ways_at rows.old.lists.items row) (option_map unit_read reading)
+    requires step { IsStep (instrs_of code.now) (ways_at rows.old.lists.items row) (seen_in sight)
         step.next.items step.matched }
-    requires halts { reading ≡ None → step.next.items ≡ [] }
+    requires halts { sight.reading ≡ None → step.next.items ≡ [] }
     ensures kept { KeepsRows rows.old.lists.items rows.new.lists.items }
     ensures more { length rows.new.lists.items ≤ length rows.old.lists.items + 2 }
     ensures from { IfOk result (λ c. c.row ≡ row) }
-    ensures on { IfOk result (λ c. c.reading ≡ reading) }
-    ensures cell { IfOk result (λ c. IsCell code.now rows.new.lists.items row reading c.next c.begun c.came.items
+    ensures on { IfOk result (λ c. c.sight ≡ sight) }
+    ensures cell { IfOk result (λ c. IsCell code.now rows.new.lists.items row sight c.next c.begun c.came.items
         c.matched) }
     ensures ways { IfOk result (λ c. length c.came.items ≡ length step.next.items) }
 {
@@ -214,7 +232,7 @@ fn computed(
     let target = target_of(alloc, rows, code.start, &step.next)?;
     Ok(Cell {
         row,
-        reading,
+        sight,
         next: target.next,
         begun: target.begun,
         came,
@@ -222,14 +240,15 @@ fn computed(
     })
 }
 
-/// The key of the step from a row on what is read.
+/// The key of the step from a row on what is seen.
 #[inline(always)]
-fn cell_key(row: usize, reading: Option<Reading>) -> usize {
-    let code = match reading {
+fn cell_key(row: usize, sight: Sight) -> usize {
+    let code = match sight.reading {
         None => 0,
         Some(reading) => reading.code as usize,
     };
-    row.wrapping_mul(97).wrapping_add(code)
+    let sides = sight.before.number() * 6 + sight.after.number();
+    row.wrapping_mul(97).wrapping_add(code).wrapping_add(sides)
 }
 
 /// Whether the same is read.
@@ -244,15 +263,18 @@ fn is_same_reading(a: Option<Reading>, b: Option<Reading>) -> bool
     }
 }
 
-/// The step that a hint names, if it is from this row on what is read.
+/// Whether the same is seen.
 #[inline(always)]
-fn tested_cell(
-    cells: &[Cell],
-    hint: Option<usize>,
-    row: usize,
-    reading: Option<Reading>,
-) -> Option<usize>
-    ensures { IfSome result (λ k. HasCell cells.now k row reading) }
+fn is_same_sight(a: Sight, b: Sight) -> bool
+    ensures { result ≡ true → a ≡ b }
+{
+    a.before == b.before && a.after == b.after && is_same_reading(a.reading, b.reading)
+}
+
+/// The step that a hint names, if it is from this row on what is seen.
+#[inline(always)]
+fn tested_cell(cells: &[Cell], hint: Option<usize>, row: usize, sight: Sight) -> Option<usize>
+    ensures { IfSome result (λ k. HasCell cells.now k row sight) }
 {
     let k = hint?;
     if k >= cells.len() {
@@ -262,57 +284,77 @@ fn tested_cell(
     if cell.row != row {
         return None;
     }
-    if !is_same_reading(cell.reading, reading) {
+    if !is_same_sight(cell.sight, sight) {
         return None;
     }
     Some(k)
 }
 
-/// The byte, if that is an ASCII character.
-#[inline(always)]
-fn ascii_byte(reading: Option<Reading>) -> Option<u8>
-    ensures { IfSome result (λ b. (b < 128) × (reading ≡ Some (ascii b))) }
+/// What is seen at a place, as the code tells it apart: where an ASCII character is read, the one that stands for its class.
+pub(crate) fn seen_at(attempt: &Attempt, cells: &Cells, place: usize) -> Sight
+    requires within { place ≤ attempt.now.last }
+    requires inside { attempt.now.last ≤ length attempt.now.haystack.now }
+    ensures told { IsFor cells.now attempt.now.code.now
+        → IsSeenLike attempt.now place result }
 {
-    let reading = reading?;
-    if reading.code >= 0x80 || reading.width != 1 {
-        return None;
+    let classes = &cells.table.classes;
+    match ascii_at(attempt, place) {
+        None => sight_at(attempt, classes.tests, place),
+        Some(byte) => classes.sight(classes.tests.before(attempt, place), byte),
     }
-    Some(reading.code as u8)
 }
 
-/// The number of the step from a row on an ASCII character, if the table tells it.
-fn told(cells: &Cells, row: usize, byte: u8) -> Option<usize>
-    requires told { AreTold cells.now.cells.items cells.now.table.entries.items }
+/// The number of the step from a row on what is seen, an ASCII character, if the table tells it.
+fn told(cells: &Cells, row: usize, sight: Sight, byte: u8) -> Option<usize>
     requires row { row < 4_294_967_296 }
-    requires ascii { byte < 128 }
-    ensures { IfSome result (λ k. HasCell cells.now.cells.items k row (Some (ascii byte))) }
+    ensures { IfSome result (λ k. HasCell cells.now.cells.items k row sight) }
 {
-    match cells.table.at(row, byte) {
+    let classes = &cells.table.classes;
+    let column = classes.column(byte)?;
+    match cells.table.at(row, classes.first(sight.before), column) {
         Entry::Unknown => None,
-        Entry::Quiet(step) | Entry::Matching(step) => Some(step.cell as usize),
+        Entry::Quiet(step) | Entry::Matching(step) => {
+            tested_cell(&cells.cells, Some(step.cell as usize), row, sight)
+        }
     }
 }
 
-/// The number of the step from a row on what is read, if a hint leads to it.
-fn hinted(cells: &Cells, row: usize, reading: Option<Reading>) -> Option<usize>
-    ensures { IfSome result (λ k. HasCell cells.now.cells.items k row reading) }
+/// Whether the table tells the step from a row on an ASCII character, with what stands before it.
+pub(crate) fn is_told(cells: &Cells, row: usize, before: Side, byte: u8) -> bool
+    requires row { row < 4_294_967_296 }
 {
-    let key = cell_key(row, reading);
-    match tested_cell(&cells.cells, cells.hints.first(key), row, reading) {
-        Some(k) => Some(k),
-        None => tested_cell(&cells.cells, cells.hints.second(key), row, reading),
+    let classes = &cells.table.classes;
+    match classes.column(byte) {
+        None => false,
+        Some(column) => {
+            !matches!(
+                cells.table.at(row, classes.first(before), column),
+                Entry::Unknown
+            )
+        }
     }
 }
 
-/// The number of the step from a row on what is read, if it is remembered.
-pub(crate) fn remembered(cells: &Cells, row: usize, reading: Option<Reading>) -> Option<usize>
+/// The number of the step from a row on what is seen, if a hint leads to it.
+fn hinted(cells: &Cells, row: usize, sight: Sight) -> Option<usize>
+    ensures { IfSome result (λ k. HasCell cells.now.cells.items k row sight) }
+{
+    let key = cell_key(row, sight);
+    match tested_cell(&cells.cells, cells.hints.first(key), row, sight) {
+        Some(k) => Some(k),
+        None => tested_cell(&cells.cells, cells.hints.second(key), row, sight),
+    }
+}
+
+/// The number of the step from a row on what is seen, if it is remembered.
+pub(crate) fn remembered(cells: &Cells, row: usize, sight: Sight) -> Option<usize>
     requires within { IsBounded cells.now }
     requires row { row < length cells.now.rows.lists.items }
-    ensures { IfSome result (λ k. HasCell cells.now.cells.items k row reading) }
+    ensures { IfSome result (λ k. HasCell cells.now.cells.items k row sight) }
 {
-    match ascii_byte(reading) {
-        Some(byte) => told(cells, row, byte),
-        None => hinted(cells, row, reading),
+    match sight.ascii() {
+        Some(byte) => told(cells, row, sight, byte),
+        None => hinted(cells, row, sight),
     }
 }
 
@@ -320,8 +362,8 @@ pub(crate) fn remembered(cells: &Cells, row: usize, reading: Option<Reading>) ->
 fn hint_all(hints: &mut Hints, cells: &[Cell]) {
     for k in 0..cells.len() {
         let cell = &cells[k];
-        if ascii_byte(cell.reading).is_none() {
-            hints.leave(cell_key(cell.row, cell.reading), k);
+        if cell.sight.ascii().is_none() {
+            hints.leave(cell_key(cell.row, cell.sight), k);
         }
     }
 }
@@ -346,7 +388,7 @@ fn hint_cell(
 /// The entry of the step with this number.
 fn entry_of(cells: &[Cell], k: usize) -> Entry
     requires { k < length cells.now }
-    ensures { (row byte : ℕ) → HasCell cells.now k row (Some (ascii byte)) → IsEntry cells.now row byte result }
+    ensures { (row : ℕ) (sight : Sight) → HasCell cells.now k row sight → IsEntry cells.now row sight result }
 {
     let cell = &cells[k];
     if k >= SMALL || cell.next >= SMALL || cell.begun >= SMALL {
@@ -372,18 +414,17 @@ fn note(
     k: usize,
 ) -> Result<(), AllocError>
     requires { k < length cells.now }
-    ensures { AreTold cells.now table.old.entries.items → AreTold cells.now table.new.entries.items }
+    ensures told { AreTold cells.now table.old → AreTold cells.now table.new }
+    ensures classes { table.new.classes ≡ table.old.classes }
 {
     let cell = &cells[k];
-    match ascii_byte(cell.reading) {
-        None => hint_cell(alloc, hints, cells, cell_key(cell.row, cell.reading), k),
-        Some(byte) => {
-            if cell.row >= SMALL {
-                return Ok(());
-            }
-            table.note(cell.row, byte, entry_of(cells, k))
-        }
+    if cell.sight.ascii().is_none() {
+        return hint_cell(alloc, hints, cells, cell_key(cell.row, cell.sight), k);
     }
+    if cell.row >= SMALL {
+        return Ok(());
+    }
+    table.note(cell.row, cell.sight, entry_of(cells, k))
 }
 
 /// Whether the row of the first instruction alone is where it is looked for.
@@ -417,6 +458,21 @@ fn has_origin(code: &Code, cells: &Cells) -> bool
     has_alone(code, cells)
 }
 
+/// Sorts ASCII characters into classes, where that was not done for the code.
+fn sort(code: &Code, cells: &mut Cells) -> Result<(), AllocError>
+    requires within { IsBounded cells.old }
+    requires all { IsFor cells.old code.now }
+    ensures within { IsBounded cells.new }
+    ensures all { IsFor cells.new code.now }
+{
+    if cells.table.classes.len() > 0 {
+        return Ok(());
+    }
+    cells.forget();
+    cells.table.classes = classes_of(cells.alloc, code)?;
+    Ok(())
+}
+
 /// The rows before the first place: that without an instruction, and that of the first instruction alone. Where one more step
 /// may be one too many, all is forgotten before they are made.
 pub(crate) fn origin(code: &Code, cells: &mut Cells) -> Result<Target, AllocError>
@@ -433,6 +489,7 @@ pub(crate) fn origin(code: &Code, cells: &mut Cells) -> Result<Target, AllocErro
             begun: cells.alone,
         });
     }
+    sort(code, cells)?;
     cells.make_place();
     let target = target_of(cells.alloc, &mut cells.rows, code.start, &[])?;
     cells.nothing = target.next;
@@ -441,13 +498,13 @@ pub(crate) fn origin(code: &Code, cells: &mut Cells) -> Result<Target, AllocErro
 }
 
 /// The number of the step of the way that begins, where that is the last of these ways, there are others before it, and what it
-/// does by itself on what is read is remembered.
-fn begun_cell(code: &Code, cells: &Cells, ways: &[usize], reading: Option<Reading>) -> Option<usize>
+/// does by itself on what is seen there is remembered.
+fn begun_cell(code: &Code, cells: &Cells, ways: &[usize], sight: Sight) -> Option<usize>
     requires within { IsBounded cells.now }
     ensures more { IfSome result (λ _. 0 < length ways.now) }
     ensures last { IfSome result (λ _. ways.now ≡ take (length ways.now - 1) ways.now ++ code.now.start ∷ []) }
     ensures alone { IfSome result (λ _. HasRow cells.now.rows.lists.items cells.now.alone (code.now.start ∷ [])) }
-    ensures cell { IfSome result (λ k. HasCell cells.now.cells.items k cells.now.alone reading) }
+    ensures cell { IfSome result (λ k. HasCell cells.now.cells.items k cells.now.alone sight) }
 {
     if ways.len() < 2 {
         return None;
@@ -458,7 +515,7 @@ fn begun_cell(code: &Code, cells: &Cells, ways: &[usize], reading: Option<Readin
     if !has_alone(code, cells) {
         return None;
     }
-    let k = remembered(cells, cells.alone, reading)?;
+    let k = remembered(cells, cells.alone, sight)?;
     Some(k)
 }
 
@@ -482,16 +539,16 @@ fn step_begun(
     cells: &Cells,
     ways: &[usize],
     begun: &Cell,
-    reading: Option<Reading>,
+    sight: Sight,
     marks: &mut Marks,
     work: &mut Work,
 ) -> Result<Step, AllocError>
     requires next { begun.now.next < length cells.now.rows.lists.items }
     ensures step { IfOk result (λ s. (start : ℕ) (after : List Way)
-        → IsStep (instrs_of code.now) (start ∷ []) (option_map unit_read reading) after begun.now.matched
+        → IsStep (instrs_of code.now) (start ∷ []) (seen_in sight) after begun.now.matched
         → HasRow cells.now.rows.lists.items begun.now.next (map at_of after)
-        → IsStep (instrs_of code.now) (ways.now ++ start ∷ []) (option_map unit_read reading) s.next.items s.matched) }
-    ensures halts { IfOk result (λ s. reading ≡ None → HasRow cells.now.rows.lists.items begun.now.next []
+        → IsStep (instrs_of code.now) (ways.now ++ start ∷ []) (seen_in sight) s.next.items s.matched) }
+    ensures halts { IfOk result (λ s. sight.reading ≡ None → HasRow cells.now.rows.lists.items begun.now.next []
         → s.next.items ≡ []) }
     ensures steps { steps_of work.old ≤ steps_of work.new }
     ensures bounded { steps_of work.new ≤ steps_of work.old + code_len code.now }
@@ -501,7 +558,7 @@ fn step_begun(
     ensures units { units_of work.new ≡ units_of work.old }
 {
     let before = work.steps();
-    let first = step_from(cells.alloc, code, ways, reading, marks, work)?;
+    let first = step_from(cells.alloc, code, ways, sight, marks, work)?;
     let ats = &cells.rows.lists[begun.next];
     let step = joined(
         cells.alloc,
@@ -516,13 +573,13 @@ fn step_begun(
     Ok(step)
 }
 
-/// Computes the step from a row on what is read. Where the step of the way that begins there is remembered, only the others
+/// Computes the step from a row on what is seen there. Where the step of the way that begins there is remembered, only the others
 /// are followed. Each instruction is fetched once at most, and each way that the step leads to costs a step at least.
 fn step_of(
     code: &Code,
     cells: &Cells,
     row: usize,
-    reading: Option<Reading>,
+    sight: Sight,
     marks: &mut Marks,
     work: &mut Work,
 ) -> Result<Step, AllocError>
@@ -530,8 +587,8 @@ fn step_of(
     requires within { IsBounded cells.now }
     requires all { IsFor cells.now code.now }
     ensures step { IfOk result (λ s. IsStep (instrs_of code.now) (ways_at cells.now.rows.lists.items row)
-        (option_map unit_read reading) s.next.items s.matched) }
-    ensures halts { IfOk result (λ s. reading ≡ None → s.next.items ≡ []) }
+        (seen_in sight) s.next.items s.matched) }
+    ensures halts { IfOk result (λ s. sight.reading ≡ None → s.next.items ≡ []) }
     ensures steps { steps_of work.old ≤ steps_of work.new }
     ensures bounded { steps_of work.new ≤ steps_of work.old + code_len code.now }
     ensures counted { IfOk result (λ s. steps_of work.new < usize.MAX
@@ -540,27 +597,27 @@ fn step_of(
     ensures units { units_of work.new ≡ units_of work.old }
 {
     let ways = cells.rows.lists[row].as_slice();
-    match begun_cell(code, cells, ways, reading) {
+    match begun_cell(code, cells, ways, sight) {
         None => {
-            let step = step_from(cells.alloc, code, ways, reading, marks, work)?;
+            let step = step_from(cells.alloc, code, ways, sight, marks, work)?;
             Ok(step)
         }
         Some(k) => {
             let others = &ways[..ways.len() - 1];
             let begun = &cells.cells[k];
-            let step = step_begun(code, cells, others, begun, reading, marks, work)?;
+            let step = step_begun(code, cells, others, begun, sight, marks, work)?;
             Ok(step)
         }
     }
 }
 
-/// The number of the step from a row on what is read: one that is remembered, or else it is computed. What is computed
+/// The number of the step from a row on what is seen there: one that is remembered, or else it is computed. What is computed
 /// is counted in `work`: each way that it leads to costs a step at least.
 pub(crate) fn step_at(
     code: &Code,
     cells: &mut Cells,
     row: usize,
-    reading: Option<Reading>,
+    sight: Sight,
     work: &mut Work,
 ) -> Result<usize, AllocError>
     requires row { row < length cells.old.rows.lists.items }
@@ -570,7 +627,7 @@ pub(crate) fn step_at(
     ensures all { IsFor cells.new code.now }
     ensures kept { KeepsRows cells.old.rows.lists.items cells.new.rows.lists.items }
     ensures grown { KeepsCells cells.old.cells.items cells.new.cells.items }
-    ensures cell { IfOk result (λ k. HasCell cells.new.cells.items k row reading) }
+    ensures cell { IfOk result (λ k. HasCell cells.new.cells.items k row sight) }
     ensures steps { steps_of work.old ≤ steps_of work.new }
     ensures bounded { steps_of work.new ≤ steps_of work.old + code_len code.now }
     ensures counted { IfOk result (λ k. length cells.old.cells.items < length cells.new.cells.items
@@ -579,13 +636,13 @@ pub(crate) fn step_at(
     ensures returns { returns_of work.new ≡ returns_of work.old }
     ensures units { units_of work.new ≡ units_of work.old }
 {
-    if let Some(k) = remembered(cells, row, reading) {
+    if let Some(k) = remembered(cells, row, sight) {
         return Ok(k);
     }
     let mut marks = mem::replace(&mut cells.marks, Marks::new(cells.alloc));
-    let step = step_of(code, cells, row, reading, &mut marks, work)?;
+    let step = step_of(code, cells, row, sight, &mut marks, work)?;
     cells.marks = marks;
-    let cell = computed(cells.alloc, code, &mut cells.rows, row, reading, step)?;
+    let cell = computed(cells.alloc, code, &mut cells.rows, row, sight, step)?;
     let k = cells.cells.len();
     cells.held = cells.held.saturating_add(cell.came.len());
     cells.cells.push(cell)?;
@@ -615,7 +672,7 @@ pub(crate) fn restart(cells: &mut Cells, start: usize, row: usize) -> Result<Tar
     let ways = copied(cells.alloc, &cells.rows.lists[row])?;
     let mut more = copied(cells.alloc, &ways)?;
     more.push(start)?;
-    cells.clear();
+    cells.forget();
     let alone = intern_one(cells.alloc, &mut cells.rows, start)?;
     cells.alone = alone;
     let next = intern(cells.alloc, &mut cells.rows, ways)?;

@@ -1,17 +1,18 @@
 //! What the ways at a place come to before anything is read.
 
-ghost use Rattle.std.specs.Prelude.{◌≡◌, ◌+◌, ◌*◌, ◌<◌, ◌≤◌, [], ◌∷◌, ℕ, Option, None, Bool, false, true, ◌⊎◌, length, reverse, replicate, slice_index_or, IfOk, option_map};
+ghost use Rattle.std.specs.Prelude.{◌≡◌, ◌+◌, ◌*◌, ◌<◌, ◌≤◌, [], ◌∷◌, ℕ, Option, None, Bool, false, true, ◌⊎◌, length, reverse, replicate, slice_index_or, IfOk};
 ghost use Rattle.std.specs.Option.{option_or};
 ghost use Rattle.fancy_code.specs.Code.{instrs_of};
 ghost use Rattle.fancy_code.specs.CodeLength.{code_len};
 ghost use Rattle.fancy_input.specs.Work.{steps_of, returns_of, units_of};
-ghost use Rattle.fancy_code.specs.Reading.{unit_read};
+ghost use Rattle.fancy_alphabet.specs.Sights.{seen_in};
 ghost use Rattle.fancy_automaton.specs.Ways.{Ends, Solves, Closing, AllKnown, Visited, marked, first_end, match_end};
 
 use crate::marks::Marks;
-use crate::way::{Effect, Way, effect_at};
+use crate::way::Way;
+use fancy_alphabet::effect::{Effect, effect_at};
+use fancy_alphabet::sight::Sight;
 use fancy_code::code::Code;
-use fancy_code::reading::Reading;
 use fancy_input::work::Work;
 use std::alloc::AllocError;
 
@@ -32,7 +33,7 @@ pub fn is_first(marks: &mut Marks, at: usize) -> bool
 /// outcome: then no way after it in order of preference counts.
 fn visit(
     code: &Code,
-    reading: Option<Reading>,
+    sight: Sight,
     way: Way,
     stack: &mut Vec<Way>,
     next: &mut Vec<Way>,
@@ -42,11 +43,11 @@ fn visit(
     requires room { length marks.old ≡ code_len code.now }
     ensures visited { IfOk result (λ ended. (here : ℕ) (ends later : Ends) (known beyond : ℕ → Bool) (rank : ℕ → ℕ)
         (goal : Option (ℕ × ℕ))
-        → Solves (instrs_of code.now) (option_map unit_read reading) here ends later known beyond rank
+        → Solves (instrs_of code.now) (seen_in sight) here ends later known beyond rank
         → Closing ends later known beyond rank goal marks.old next.old.items (way ∷ reverse stack.old.items)
         → Visited ends later known beyond rank ended here way.from goal marks.new next.new.items
         (reverse stack.new.items)) }
-    ensures halts { reading ≡ None → next.old.items ≡ [] → next.new.items ≡ [] }
+    ensures halts { sight.reading ≡ None → next.old.items ≡ [] → next.new.items ≡ [] }
     ensures room { length marks.new ≡ length marks.old }
     ensures marked { marked marks.old ≤ marked marks.new }
     ensures steps { steps_of work.old ≤ steps_of work.new }
@@ -65,10 +66,14 @@ fn visit(
     if !is_first(marks, way.at) {
         return Ok(false);
     }
-    match effect_at(code, way.at, reading, work) {
+    match effect_at(code, way.at, sight, work) {
         Effect::Fails => Ok(false),
         Effect::Reads(at) => {
             next.push(Way { at, from: way.from })?;
+            Ok(false)
+        }
+        Effect::Moves(at) => {
+            stack.push(Way { at, from: way.from })?;
             Ok(false)
         }
         Effect::Ends => Ok(true),
@@ -91,7 +96,7 @@ fn visit(
 /// are preferred to it, and no other way counts. Each instruction is followed once, and marked; each mark is one step.
 pub fn close(
     code: &Code,
-    reading: Option<Reading>,
+    sight: Sight,
     stack: &mut Vec<Way>,
     next: &mut Vec<Way>,
     marks: &mut Marks,
@@ -100,11 +105,11 @@ pub fn close(
     requires fresh { next.old.items ≡ [] }
     requires clear { marks.old ≡ replicate (code_len code.now) false }
     ensures answer { IfOk result (λ found. (here : ℕ) (ends later : Ends) (known beyond : ℕ → Bool) (rank : ℕ → ℕ)
-        → Solves (instrs_of code.now) (option_map unit_read reading) here ends later known beyond rank
+        → Solves (instrs_of code.now) (seen_in sight) here ends later known beyond rank
         → AllKnown known (reverse stack.old.items)
         → AllKnown beyond next.new.items × (option_or (first_end later next.new.items) (match_end found here)
         ≡ first_end ends (reverse stack.old.items))) }
-    ensures halts { reading ≡ None → next.new.items ≡ [] }
+    ensures halts { sight.reading ≡ None → next.new.items ≡ [] }
     ensures width { length next.new.items ≤ marked marks.new }
     ensures room { marked marks.new ≤ code_len code.now }
     ensures steps { steps_of work.old ≤ steps_of work.new }
@@ -114,7 +119,7 @@ pub fn close(
     ensures units { units_of work.new ≡ units_of work.old }
 {
     'ways: while let Some(way) = stack.pop() {
-        if visit(code, reading, way, stack, next, marks, work)? {
+        if visit(code, sight, way, stack, next, marks, work)? {
             return Ok(Some(way.from));
         }
     }

@@ -2,27 +2,31 @@
 
 ghost use Rattle.std.specs.Prelude.{◌≡◌, ◌+◌, ◌<◌, ◌≤◌, ℕ, true, [], Some, OnOk, IfOk, IfSome, is_some, length, option_map};
 ghost use Rattle.fancy_code.specs.Attempt.{context_in, instrs_in, may_end_in};
+ghost use Rattle.fancy_alphabet.specs.Classes.{IsFirst};
 ghost use Rattle.fancy_code.specs.CodeLength.{code_len};
 ghost use Rattle.fancy_code.specs.Reading.{unit_read};
 ghost use Rattle.fancy_prefilter.specs.Seen.{MayStart};
 ghost use Rattle.fancy_input.specs.Work.{steps_of, returns_of, units_of};
 ghost use Rattle.fancy_code.specs.declared.code.Code.{Code};
 ghost use Rattle.fancy_code.specs.declared.attempt.Attempt.{Attempt};
+ghost use Rattle.fancy_alphabet.specs.Alike.{IsSeenLike};
 ghost use Rattle.fancy_automaton.specs.Cells.{HasPlace, IsFor, IsBounded};
 ghost use Rattle.fancy_automaton.specs.Trail.{HitIn, most_visits};
 ghost use Rattle.fancy_automaton.specs.Front.{IsFront, ways_of, found_of};
-ghost use Rattle.fancy_automaton.specs.Futures.{ArePlain, unit_by, place_after};
+ghost use Rattle.fancy_automaton.specs.Futures.{ArePlain};
+ghost use Rattle.fancy_alphabet.specs.Units.{place_after};
 ghost use Rattle.fancy_automaton.specs.Search.{Steady};
 
-use crate::cells::{Cells, origin, remembered, restart, step_at};
+use crate::cells::{Cells, is_told, origin, remembered, restart, seen_at, step_at};
 use crate::hop::{Stand, run};
 use crate::trail::{
     Hit, Trail, VISITS, Visit, note_hit, row_at, settled, span_of, start_at, starts_in,
 };
+use fancy_alphabet::sight::{Sight, ascii_at};
 use fancy_code::attempt::Attempt;
 use fancy_code::code::Code;
 use fancy_code::options::is_match_boundary;
-use fancy_code::reading::{Reading, read_at};
+use fancy_code::reading::Reading;
 use fancy_input::span::Span;
 use fancy_input::work::Work;
 use fancy_prefilter::candidates::next_candidate;
@@ -200,14 +204,14 @@ impl Front {
     {
         let row = row_at(self.hit, self.next, self.begun);
         let start = start_at(self.hit, place);
-        let reading = reading_at(attempt, place);
-        let k = step_at(attempt.code, cells, row, reading, work)?;
+        let sight = seen_at(attempt, cells, place);
+        let k = step_at(attempt.code, cells, row, sight, work)?;
         let cell = &cells.cells[k];
         note_hit(&mut self.hit, cell.matched, self.trail.visits.len(), place);
         self.next = cell.next;
         self.begun = cell.begun;
         self.trail.visits.push(Visit { cell: k, start })?;
-        Ok(place_after(place, reading, attempt.last))
+        Ok(place_after(place, sight.reading, attempt.last))
     }
 
     /// Takes the step at a place, with room for it made before, and what is not asked any more forgotten after it. The answer is
@@ -243,7 +247,7 @@ impl Front {
         Ok(resume)
     }
 
-    /// Takes the step at a place on what is read there if it is remembered, and the trail has room for it. The answer is the
+    /// Takes the step at a place on what is seen there if it is remembered, and the trail has room for it. The answer is the
     /// place where the ways wait then, a byte offset; it is the same place where no step was taken.
     #[inline(always)]
     fn take(
@@ -251,14 +255,13 @@ impl Front {
         attempt: &Attempt,
         cells: &Cells,
         place: usize,
-        reading: Option<Reading>,
+        sight: Sight,
     ) -> Result<usize, AllocError>
         requires within { place ≤ attempt.now.last }
         requires plain { ArePlain (instrs_in attempt.now) }
         requires steady { Steady attempt.now }
         requires good { may_end_in attempt.now place ≡ true }
-        requires reading { option_map unit_read reading ≡ unit_by (context_in attempt.now) attempt.now.last place }
-        requires fits { IfSome reading (λ r. place + r.width ≤ attempt.now.last) }
+        requires seen { IsSeenLike attempt.now place sight }
         requires small { attempt.now.last < usize.MAX }
         requires kept { IsBounded cells.now }
         requires front { IsFront attempt.now cells.now self.old place place }
@@ -273,7 +276,7 @@ impl Front {
         }
         let row = row_at(self.hit, self.next, self.begun);
         let start = start_at(self.hit, place);
-        let Some(k) = remembered(cells, row, reading) else {
+        let Some(k) = remembered(cells, row, sight) else {
             return Ok(place);
         };
         let cell = &cells.cells[k];
@@ -281,7 +284,7 @@ impl Front {
         self.next = cell.next;
         self.begun = cell.begun;
         self.trail.visits.push(Visit { cell: k, start })?;
-        Ok(place_after(place, reading, attempt.last))
+        Ok(place_after(place, sight.reading, attempt.last))
     }
 
     /// Takes the step at a place if no ASCII character is read there, the step is remembered, and the trail has room for it. The
@@ -303,8 +306,8 @@ impl Front {
         if ascii_at(attempt, place).is_some() {
             return Ok(place);
         }
-        let reading = reading_at(attempt, place);
-        let next = self.take(attempt, cells, place, reading)?;
+        let sight = seen_at(attempt, cells, place);
+        let next = self.take(attempt, cells, place, sight)?;
         Ok(next)
     }
 
@@ -353,6 +356,7 @@ impl Front {
     {
         let from = Stand {
             place,
+            first: first_at(attempt, cells, place),
             next: self.next,
             begun: self.begun,
         };
@@ -417,7 +421,10 @@ impl Front {
         }
         match ascii_at(attempt, place) {
             None => false,
-            Some(reading) => remembered(cells, self.begun, Some(reading)).is_none(),
+            Some(byte) => {
+                let before = cells.table.classes.tests.before(attempt, place);
+                !is_told(cells, self.begun, before, byte)
+            }
         }
     }
 
@@ -453,42 +460,13 @@ impl Front {
     }
 }
 
-/// What is read at a place, if it ends within what is searched.
-fn reading_at(attempt: &Attempt, place: usize) -> Option<Reading>
-    ensures reading { option_map unit_read result ≡ unit_by (context_in attempt.now) attempt.now.last place }
-    ensures fits { IfSome result (λ r. place + r.width ≤ attempt.now.last) }
+/// The first column of the table for what stands before a place.
+fn first_at(attempt: &Attempt, cells: &Cells, place: usize) -> usize
+    requires { place ≤ length attempt.now.haystack.now }
+    ensures { IsFirst (context_in attempt.now) place cells.now.table.classes result }
 {
-    match read_at(attempt.haystack, attempt.code.meaning, place) {
-        None => None,
-        Some(reading) => {
-            if place + reading.width <= attempt.last {
-                Some(reading)
-            } else {
-                None
-            }
-        }
-    }
-}
-
-/// What is read at a place, if that is an ASCII character within what is searched.
-#[inline(always)]
-fn ascii_at(attempt: &Attempt, place: usize) -> Option<Reading>
-    requires inside { attempt.now.last ≤ length attempt.now.haystack.now }
-    ensures reading { IfSome result (λ r. Some (unit_read r)
-        ≡ unit_by (context_in attempt.now) attempt.now.last place) }
-    ensures fits { IfSome result (λ r. place + r.width ≤ attempt.now.last) }
-{
-    if place >= attempt.last {
-        return None;
-    }
-    let byte = attempt.haystack[place];
-    if byte >= 0x80 {
-        return None;
-    }
-    Some(Reading {
-        code: byte as u32,
-        width: 1,
-    })
+    let classes = &cells.table.classes;
+    classes.first(classes.tests.before(attempt, place))
 }
 
 /// The place after what is read; where nothing is, the next byte offset.

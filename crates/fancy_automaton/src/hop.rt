@@ -1,13 +1,15 @@
 //! The inner loop of a search: steps on ASCII characters, by the table.
 
 ghost use Rattle.std.specs.Prelude.{◌≡◌, ◌≤◌, ◌⊎◌, [], ℕ, true, Some, None, IfOk, IfSome, length, slice_get};
-ghost use Rattle.fancy_code.specs.Attempt.{instrs_in, may_end_in};
+ghost use Rattle.fancy_code.specs.Attempt.{context_in, instrs_in, may_end_in};
 ghost use Rattle.fancy_automaton.specs.Cells.{IsBounded};
 ghost use Rattle.fancy_automaton.specs.Front.{IsFront, front_at};
 ghost use Rattle.fancy_automaton.specs.Futures.{ArePlain};
 ghost use Rattle.fancy_automaton.specs.Search.{Steady};
 ghost use Rattle.fancy_automaton.specs.Trail.{hit_or, most_visits};
-ghost use Rattle.fancy_automaton.specs.Transitions.{IsEntry, IsTransition, ascii};
+ghost use Rattle.fancy_alphabet.specs.Classes.{IsFirst};
+ghost use Rattle.fancy_automaton.specs.Transitions.{IsEntry, IsTransition};
+ghost use Rattle.fancy_alphabet.specs.declared.sight.Sight.{Sight};
 ghost use Rattle.fancy_automaton.specs.declared.cells.Cell.{Cell};
 ghost use Rattle.std.specs.Global.{Vec};
 
@@ -22,6 +24,8 @@ use std::alloc::AllocError;
 pub struct Stand {
     /// The place, a byte offset.
     pub place: usize,
+    /// The first column of what stands before it.
+    pub first: usize,
     /// The row of the ways that wait there.
     pub next: usize,
     /// That row with one more way, which begins there.
@@ -38,9 +42,10 @@ fn step_of(
     place: usize,
 ) -> Option<Transition>
     ensures none { result ≡ None → hit.new ≡ hit.old }
-    ensures told { (row byte : ℕ) → IsEntry cells.now.cells.items row byte entry
-        → IfSome result (λ t. IsTransition cells.now.cells.items row byte t) }
-    ensures found { (row byte : ℕ) → IsEntry cells.now.cells.items row byte entry
+    ensures unknown { entry ≡ Entry.Unknown → result ≡ None }
+    ensures told { (row : ℕ) (sight : Sight) → IsEntry cells.now.cells.items row sight entry
+        → IfSome result (λ t. IsTransition cells.now.cells.items row sight t) }
+    ensures found { (row : ℕ) (sight : Sight) → IsEntry cells.now.cells.items row sight entry
         → IfSome result (λ t. (c : Cell) → slice_get cells.now.cells.items t.cell ≡ Some c
         → hit.new ≡ hit_or hit.old c.matched visits place) }
 {
@@ -106,6 +111,7 @@ pub(crate) fn run(
     requires steady { Steady attempt.now }
     requires good { may_end_in attempt.now from.place ≡ true }
     requires kept { IsBounded cells.now }
+    requires before { IsFirst (context_in attempt.now) from.place cells.now.table.classes from.first }
     requires front { IsFront attempt.now cells.now (front_at from trail.old hit.old) from.place from.place }
     ensures front { IfOk result (λ to. IsFront attempt.now cells.now (front_at to trail.new hit.new) to.place to.place) }
     ensures forth { IfOk result (λ to. from.place ≤ to.place) }
@@ -120,12 +126,12 @@ pub(crate) fn run(
     let mut rests = false;
     'places: while at.place < end && !rests {
         let byte = attempt.haystack[at.place];
-        if byte >= 0x80 {
-            return Ok(at);
-        }
         let row = row_at(*hit, at.next, at.begun);
         let start = start_at(*hit, at.place);
-        let entry = cells.table.at(row, byte);
+        let Some(column) = cells.table.classes.column(byte) else {
+            return Ok(at);
+        };
+        let entry = cells.table.at(row, at.first, column);
         let visits = trail.visits.len();
         let Some(step) = step_of(entry, cells, hit, visits, at.place) else {
             return Ok(at);
@@ -137,6 +143,7 @@ pub(crate) fn run(
         let was = at.next;
         at = Stand {
             place: at.place + 1,
+            first: column.following as usize,
             next: step.next as usize,
             begun: step.begun as usize,
         };

@@ -3,9 +3,9 @@
 //! The first way of all that has an end counts. So where one of the first ways ended with an outcome, the way that begins
 //! does not count; else the ways that it leads to are put after those of the others, but for each that was met before.
 
-ghost use Rattle.std.specs.Prelude.{◌≡◌, ◌+◌, ◌≤◌, [], ◌∷◌, ◌++◌, ℕ, List, Option, false, IfOk, OnOk, map, length};
+ghost use Rattle.std.specs.Prelude.{◌≡◌, ◌+◌, ◌≤◌, [], ◌∷◌, ◌++◌, ℕ, List, false, IfOk, OnOk, map, length};
 ghost use Rattle.fancy_code.specs.CodeLength.{code_len};
-ghost use Rattle.fancy_code.specs.Context.{Unit_at};
+ghost use Rattle.fancy_alphabet.specs.Effects.{Seen};
 ghost use Rattle.fancy_code.specs.Instructions.{Instruction};
 ghost use Rattle.fancy_automaton.specs.Steps.{IsStep, at_of};
 ghost use Rattle.fancy_automaton.specs.Joins.{Thinned, all_from, match_from};
@@ -97,7 +97,7 @@ pub(crate) fn joined(
     matched: Option<usize>,
     marks: &mut Marks,
 ) -> Result<Step, AllocError>
-    ensures step { IfOk result (λ s. (instrs : List Instruction) (ways : List ℕ) (start : ℕ) (u : Option Unit_at)
+    ensures step { IfOk result (λ s. (instrs : List Instruction) (ways : List ℕ) (start : ℕ) (u : Seen)
         (after : List Way) → length ways ≡ count → IsStep instrs ways u first.next.items first.matched
         → IsStep instrs (start ∷ []) u after matched → map at_of after ≡ ats.now
         → IsStep instrs (ways ++ start ∷ []) u s.next.items s.matched) }

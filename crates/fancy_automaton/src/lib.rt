@@ -2,8 +2,9 @@
 //!
 //! At a place of the haystack a row of instructions waits, the preferred one first. A step follows each of them to the
 //! instructions that read an item, and leads to the row of those that go on after the item that is there. A step is
-//! computed once for a row and an item, and remembered in a cell; on ASCII characters a table leads to it. As long as nothing was found, one more way begins at each
-//! place, as the last one of its row.
+//! computed once for a row and what is seen, the item and both sides of the place. It is remembered in a cell, to which on ASCII
+//! characters a table leads. Of those that no instruction tells apart one stands for all. As long as nothing was found, one more
+//! way begins at each place, as the last one of its row.
 //!
 //! The code of `a|ab` begins with a split. The row at 0 of `ab` is that instruction alone. On `a` the step leads to the row of
 //! two ways: the one of `a`, at whose end the code matches, and the one of `ab`, which still reads a `b`. At 1 the first

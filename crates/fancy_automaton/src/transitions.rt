@@ -1,13 +1,15 @@
 //! The table that a search goes by: the step from each row on an ASCII character, as far as it is remembered.
 
-ghost use Rattle.std.specs.Prelude.{◌≡◌, ◌+◌, ◌*◌, ◌<◌, ◌≤◌, ℕ, [], List, OnOk, get_or, length};
+ghost use Rattle.std.specs.Prelude.{◌≡◌, ◌+◌, ◌*◌, ◌<◌, ◌≤◌, ℕ, [], List, OnOk, get_or, length, slice_get, Some};
+ghost use Rattle.fancy_alphabet.specs.Classes.{first_of, sight_for};
+ghost use Rattle.fancy_alphabet.specs.Sides.{number_of, sides_of};
 ghost use Rattle.fancy_automaton.specs.Transitions.{AreTold, IsEntry};
 ghost use Rattle.fancy_automaton.specs.declared.cells.Cell.{Cell};
+ghost use Rattle.fancy_alphabet.specs.declared.side.Side.{Side};
 
+use fancy_alphabet::classes::{Classes, Column};
+use fancy_alphabet::sight::Sight;
 use std::alloc::{AllocError, Global};
-
-/// How many entries a row has: one for each ASCII character.
-pub const COLUMNS: usize = 128;
 
 /// A step, told by numbers.
 #[derive(Clone, Copy)]
@@ -31,37 +33,49 @@ pub enum Entry {
     Matching(Transition),
 }
 
-/// The entries of all rows, `COLUMNS` of them for each, by the numbers of the rows.
+/// The entries of all rows, one for each class of characters and side before it, by the numbers of the rows.
 #[derive(Drop)]
 pub struct Transitions {
+    /// The classes.
+    pub classes: Classes,
     /// The entries.
     pub entries: Vec<Entry>,
 }
 
 impl Transitions {
-    /// No step is remembered.
+    /// No step is remembered, and no character has a class.
     pub fn new(alloc: Global) -> Transitions
-        ensures { result.entries.items ≡ [] }
+        ensures entries { result.entries.items ≡ [] }
+        ensures columns { result.classes.columns.items ≡ [] }
     {
         Transitions {
+            classes: Classes::new(alloc),
             entries: Vec::new(alloc),
         }
     }
 
     /// Forgets all entries. The memory that it has is kept.
     pub fn clear(&mut self)
-        ensures { self.new.entries.items ≡ [] }
+        ensures entries { self.new.entries.items ≡ [] }
+        ensures classes { self.new.classes ≡ self.old.classes }
     {
         self.entries.clear();
     }
 
-    /// What the table has of a row and a character.
+    /// What the table has of a row and a column, where the columns begin at `first` of what stands before.
     #[inline(always)]
-    pub fn at(&self, row: usize, byte: u8) -> Entry
-        requires { row < 4_294_967_296 }
-        ensures { result ≡ get_or self.now.entries.items (row * 128 + byte) Entry.Unknown }
+    pub fn at(&self, row: usize, first: usize, column: Column) -> Entry
+        requires row { row < 4_294_967_296 }
+        requires first { first < 4_294_967_296 }
+        ensures told { (cells : List Cell) (before : Side) (byte : ℕ) → AreTold cells self.now
+            → number_of before < sides_of self.now.classes.tests → first ≡ first_of self.now.classes before
+            → slice_get self.now.classes.columns.items byte ≡ Some column
+            → IsEntry cells row (sight_for self.now.classes before byte) result }
     {
-        match self.entries.get(row * COLUMNS + byte as usize) {
+        match self
+            .entries
+            .get(row * self.classes.width + first + column.class as usize)
+        {
             Some(entry) => *entry,
             None => Entry::Unknown,
         }
@@ -72,24 +86,29 @@ impl Transitions {
         requires { row < 4_294_967_296 }
         ensures same { (i : ℕ) → get_or self.new.entries.items i Entry.Unknown
             ≡ get_or self.old.entries.items i Entry.Unknown }
-        ensures room { OnOk result (row * 128 + 128 ≤ length self.new.entries.items) }
+        ensures classes { self.new.classes ≡ self.old.classes }
+        ensures room { OnOk result (row * self.new.classes.width + self.new.classes.width
+            ≤ length self.new.entries.items) }
     {
-        let wanted = row * COLUMNS + COLUMNS;
+        let wanted = row * self.classes.width + self.classes.width;
         if self.entries.len() < wanted {
             self.entries.resize(wanted, Entry::Unknown)?;
         }
         Ok(())
     }
 
-    /// Puts in an entry of a row, an ASCII character's.
-    pub fn note(&mut self, row: usize, byte: u8, entry: Entry) -> Result<(), AllocError>
-        requires row { row < 4_294_967_296 }
-        requires ascii { byte < 128 }
-        ensures { (cells : List Cell) → AreTold cells self.old.entries.items → IsEntry cells row byte entry
-            → AreTold cells self.new.entries.items }
+    /// Puts in an entry of a row, on a character that stands for its class.
+    pub fn note(&mut self, row: usize, sight: Sight, entry: Entry) -> Result<(), AllocError>
+        requires { row < 4_294_967_296 }
+        ensures told { (cells : List Cell) → AreTold cells self.old → IsEntry cells row sight entry
+            → AreTold cells self.new }
+        ensures classes { self.new.classes ≡ self.old.classes }
     {
+        let Some(column) = self.classes.column_of(sight) else {
+            return Ok(());
+        };
         self.reserve(row)?;
-        self.entries[row * COLUMNS + byte as usize] = entry;
+        self.entries[row * self.classes.width + column] = entry;
         Ok(())
     }
 }

@@ -110,7 +110,7 @@ fn is_word_byte(byte: Option<u8>) -> bool
 /// Whether a word character, in byte meaning such a byte, ends at a place. An ASCII character is its byte, in any
 /// meaning.
 #[inline]
-fn is_word_before(haystack: &[u8], meaning: Meaning, place: usize) -> bool
+pub fn is_word_before(haystack: &[u8], meaning: Meaning, place: usize) -> bool
     ensures { result ≡ word_before meaning haystack.now place }
 {
     match byte_before(haystack, place) {
@@ -135,7 +135,7 @@ fn is_wide_word_before(haystack: &[u8], meaning: Meaning, place: usize) -> bool
 /// Whether a word character, in byte meaning such a byte, starts at a place. An ASCII character is its byte, in any
 /// meaning.
 #[inline]
-fn is_word_after(haystack: &[u8], meaning: Meaning, place: usize) -> bool
+pub fn is_word_after(haystack: &[u8], meaning: Meaning, place: usize) -> bool
     ensures { result ≡ word_after meaning haystack.now place }
 {
     match byte_at(haystack, place) {

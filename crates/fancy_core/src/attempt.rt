@@ -22,6 +22,7 @@ use fancy_code::found::Found;
 use fancy_input::input::{Input, Request};
 use fancy_input::regex_input::RegexInput;
 use fancy_input::work::Work;
+use fancy_search::asked::Asked;
 use fancy_search::cache::{AttemptCache, AttemptNotes, Cache};
 use fancy_search::groups::groups_found;
 use fancy_tree::error::Result;
@@ -163,10 +164,16 @@ pub fn find_at(
     ensures refused { IfErr result (λ e. RefusesAt regex.now (query regex.now haystack.now request) position e) }
     ensures allowed { IfOk result (λ _. AllowsAt regex.now (query regex.now haystack.now request) position) }
 {
+    let asked = Asked {
+        haystack,
+        text: false,
+        request,
+        continues: true,
+    };
     let mut work = Work::after(&cache.work);
     let found = regex
         .program
-        .attempt_at(haystack, request, position, notes, cache, &mut work);
+        .attempt_at(&asked, position, notes, cache, &mut work);
     cache.work.add_attempt(&work);
     found
 }

@@ -11,10 +11,10 @@ ghost use Rattle.fancy_search.specs.Searching.{Suits, StartsCleanly};
 
 use crate::captures::Captures;
 use crate::regex::Regex;
-use fancy_bytes::lacking::KnownBytes;
 use fancy_input::input::{Input, Request};
 use fancy_input::regex_input::RegexInput;
 use fancy_input::work::Work;
+use fancy_search::asked::Asked;
 use fancy_search::cache::Cache;
 use fancy_search::groups::groups_found;
 use fancy_tree::error::Result;
@@ -106,18 +106,14 @@ impl Regex {
         ensures allowed { IfOk result (λ _. Allows self.now (query self.now (S.bytes haystack) request)) }
         ensures unlimited { easy_in self.now ≡ true → AllowsEachStep self.now request → IsOutOfSteps result → ⊥ }
     {
-        let mut known = KnownBytes::new();
         let mut work = Work::new();
-        let bytes = haystack.as_bytes();
-        let found = self.program.search(
-            bytes,
-            haystack.is_text(),
+        let asked = Asked {
+            haystack: haystack.as_bytes(),
+            text: haystack.is_text(),
             request,
-            true,
-            &mut known,
-            cache,
-            &mut work,
-        )?;
+            continues: true,
+        };
+        let found = self.program.search(&asked, cache, &mut work)?;
         let Some(found) = found else {
             return Ok(None);
         };

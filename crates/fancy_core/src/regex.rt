@@ -12,10 +12,10 @@ ghost use Rattle.fancy_search.specs.Options.{by_default};
 ghost use Rattle.fancy_search.specs.Programs.{program_pattern, program_options, program_groups, program_names};
 ghost use Rattle.fancy_search.specs.Searching.{Suits, StartsCleanly};
 
-use fancy_bytes::lacking::KnownBytes;
 use fancy_input::input::{Haystack, Input, Request};
 use fancy_input::regex_input::RegexInput;
 use fancy_input::work::Work;
+use fancy_search::asked::Asked;
 use fancy_search::cache::Cache;
 use fancy_search::options::Options;
 use fancy_search::program::Program;
@@ -48,7 +48,8 @@ impl Regex {
     ghost use Rattle.fancy_core.specs.Regexes.{pattern_text, pattern_in, options_in, group_count_in, length_in, easy_in, returns_limit_in, step_limit_in, query};
     ghost use Rattle.fancy_core.specs.RegexStarts.{regex_may_start};
     ghost use Rattle.fancy_core.specs.Limited.{IsHard, Refuses, Allows, TriesNone, AllowsEachStep, most_steps_of};
-    ghost use Rattle.fancy_search.specs.SearchCounts.{AddsReturns, AddsReturnsUpTo, Counted, CountedUpTo, HasReturns, HasRoomFor, HasNoStepsLeft, HeedsStepLimit, AllowsAllSteps, IsOutOfSteps, IsStopped, returns_taken};
+    ghost use Rattle.fancy_search.specs.SearchCounts.{HasReturns, HasRoomFor, AllowsAllSteps, IsOutOfSteps, IsStopped, returns_taken};
+    ghost use Rattle.fancy_search.specs.Served.{KeepsCounts, CountsReturns};
     ghost use Rattle.fancy_core.specs.Searches.{CanSearchInput, FindsFirst, asked_whole, asked_from, asked_by};
 
     /// Reads a pattern, with the default options.
@@ -321,33 +322,23 @@ impl Regex {
         ensures within { IfOk result (λ m. IfSome m (λ x. S.within x ≡ S.bytes haystack)) }
         ensures refused { IfErr result (λ e. Refuses self.now (query self.now (S.bytes haystack) request) e) }
         ensures allowed { IfOk result (λ _. Allows self.now (query self.now (S.bytes haystack) request)) }
-        ensures steps { steps_of work.old ≤ steps_of work.new }
+        ensures counts { KeepsCounts self.now.program result work.old work.new }
         ensures idle { TriesNone self.now (query self.now (S.bytes haystack) request) → steps_of work.new ≡ steps_of work.old }
         ensures nothing { TriesNone self.now (query self.now (S.bytes haystack) request) → IfOk result (λ m. m ≡ None) }
         ensures bounded { easy_in self.now ≡ true → steps_of work.new ≤ steps_of work.old + most_steps_of self.now request }
-        ensures returns { returns_of work.old ≤ returns_of work.new }
-        ensures paired { returns_of work.new ≤ steps_of work.new }
-        ensures counted { Counted self.now.program (query self.now (S.bytes haystack) request) result work.old work.new }
-        ensures stopped { IsHard self.now → IsStopped result → AddsReturns work.old (returns_limit_in self.now) work.new }
-        ensures fits { IsHard self.now → AddsReturnsUpTo work.old (returns_limit_in self.now) work.new }
-        ensures most { CountedUpTo self.now.program (query self.now (S.bytes haystack) request) work.old work.new }
-        ensures limit { HeedsStepLimit self.now.program work.old work.new }
-        ensures spent { IsOutOfSteps result → HasNoStepsLeft self.now.program work.new }
+        ensures hard { IsHard self.now
+            → CountsReturns self.now.program (query self.now (S.bytes haystack) request) result work.old work.new }
         ensures unlimited { easy_in self.now ≡ true → AllowsAllSteps self.now.program request work.old
             → IsOutOfSteps result → ⊥ }
     {
         let mut cache = Cache::new(self.allocator());
-        let mut known = KnownBytes::new();
-        let bytes = haystack.as_bytes();
-        let found = self.program.search(
-            bytes,
-            haystack.is_text(),
+        let asked = Asked {
+            haystack: haystack.as_bytes(),
+            text: haystack.is_text(),
             request,
-            true,
-            &mut known,
-            &mut cache,
-            work,
-        )?;
+            continues: true,
+        };
+        let found = self.program.search(&asked, &mut cache, work)?;
         let Some(found) = found else {
             return Ok(None);
         };

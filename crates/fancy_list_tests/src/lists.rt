@@ -8,6 +8,7 @@ ghost use Rattle.fancy_search.specs.SearchCounts.{HasRoomFor};
 use crate::asking::{check, regex_of, repeated};
 use fancy_bytes::lacking::KnownBytes;
 use fancy_regex::{Options, Request, Work};
+use fancy_search::asked::Asked;
 use fancy_search::cache::{Cache, Kept};
 use fancy_search::program::Program;
 use std::alloc::Global;
@@ -55,9 +56,13 @@ fn steps_of_list(rt: &impl Abort, alloc: Global, program: &Program, text: &str) 
     let mut work = Work::new();
     'matches: while request.start <= haystack.len() {
         assert!(rt; has_room(program, request, &work), "{text}");
-        let answer = program.search_next(
-            haystack, true, request, true, &mut kept, &mut known, &mut cache, &mut work,
-        );
+        let asked = Asked {
+            haystack,
+            text: true,
+            request,
+            continues: true,
+        };
+        let answer = program.search_next(&asked, &mut kept, &mut known, &mut cache, &mut work);
         let Some(found) = answer.expect(rt, "a search") else {
             return work.steps();
         };

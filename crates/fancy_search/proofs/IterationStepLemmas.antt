@@ -1,6 +1,5 @@
 -- Lemmas on one step of an iteration, over a haystack of any type.
-use Rattle.std.proofs.Common.{arith, ℕ, ◌≡◌, ◌≤◌, length, Bool, true, false, not, ◌&&◌, nat_eq, List, ◌∷◌, Some, refl, sym, ◌∙◌, ap, subst}
-use Rattle.std.proofs.lemmas.Grind.{common_steps}
+use Rattle.std.proofs.Common.{ℕ, ◌≡◌, Bool, true, false, not, ◌&&◌, nat_eq, List, ◌∷◌, Some, refl, sym, ◌∙◌, ap, subst}
 use Rattle.std.specs.Cmp.Derive.{both_true}
 use Rattle.fancy_input.specs.declared.input.Request.{Request}
 use Rattle.fancy_input.specs.Places.{next_place}
@@ -13,7 +12,6 @@ use Rattle.fancy_tree.specs.declared.error.Error.{Error}
 use Rattle.fancy_search.specs.Remaining.{Standing, standing_after, PassesOver, AllowsNext, refuses_at, refused_next, allows_at, at_next, scan, upcoming, next_start, items_left, items_end}
 use Rattle.fancy_search.specs.FoundItems.{item_in}
 use Rattle.fancy_search.proofs.RemainingLemmas.{nat_same, upcoming_if, skips, next_left, next_end}
-use Rattle.fancy_search.proofs.ScanLemmas.{scan_sound}
 
 scan_moved : (p : Program) (t : Bool) (bs : List ℕ) (r q : Request) (s : ℕ) → q ≡ record r { start = s } → scan p t bs q ≡ scan p t bs r
 scan_moved p t bs r q s e = ap (scan p t bs) e

@@ -1,5 +1,5 @@
 -- What is kept from one search of a list to the next.
-use Rattle.std.proofs.Common.{◌≡◌, ℕ, ◌+◌, ◌≤◌, Bool, true, false, List, Option, Some, None, IfSome, IfNone, refl, sym, ap, ap₂, ◌∙◌, subst, arith, true≢false, eqb-true, eq-eqb}
+use Rattle.std.proofs.Common.{◌≡◌, ℕ, ◌+◌, ◌≤◌, Bool, true, false, List, Option, Some, None, IfSome, IfNone, refl, sym, ap, ap₂, ◌∙◌, subst, arith, eqb-true, eq-eqb}
 use Rattle.std.specs.Prelude.{nat_eq, option_map, if◌then◌else◌}
 use Rattle.std.specs.Option.{ForSome}
 use Rattle.std.proofs.lemmas.Option.{none-some, same_Some}
@@ -15,6 +15,8 @@ use Rattle.fancy_code.specs.Context.{State}
 use Rattle.fancy_code.specs.Queries.{answer_with}
 use Rattle.fancy_code.specs.Search.{Query, Answer, attempt, answer_at}
 use Rattle.fancy_runner.specs.KeptTable.{IsKept, base_of, place_kept, past_tried, steps_ahead, steps_from, table_in, taken_again}
+use Rattle.fancy_search.specs.declared.asked.Asked.{Asked}
+use Rattle.fancy_search.specs.Served.{StandsIn}
 use Rattle.fancy_search.specs.declared.cache.AttemptNotes.{AttemptNotes}
 use Rattle.fancy_search.specs.declared.cache.Cache.{Cache}
 use Rattle.fancy_search.specs.declared.program.Program.{Program}
@@ -22,42 +24,6 @@ use Rattle.fancy_search.specs.declared.cache.Kept.{Kept}
 use Rattle.fancy_search.specs.declared.cache.Kept.TheVariants.{Nothing, Table, Steps, Lines}
 use Rattle.fancy_search.specs.Options.{search_options}
 use Rattle.fancy_search.specs.KeptTables.{KeepsTable, KeepsSteps, KeepsLines, KeepsNotes, IsKeptIn, KeepsOn, table_kept, of_table, kept_from}
-
-abbrev is_nothing : Kept → Bool
-is_nothing Nothing = true
-is_nothing (Table kept) = false
-is_nothing Steps = false
-is_nothing Lines = false
-
-abbrev is_steps : Kept → Bool
-is_steps Nothing = false
-is_steps (Table kept) = false
-is_steps Steps = true
-is_steps Lines = false
-
-abbrev is_lines : Kept → Bool
-is_lines Nothing = false
-is_lines (Table kept) = false
-is_lines Steps = false
-is_lines Lines = true
-
-nothing≢steps : Nothing ≡ Steps → ⊥
-nothing≢steps e = true≢false (ap is_nothing e)
-
-table≢steps : (kept : KeptTable) → Table kept ≡ Steps → ⊥
-table≢steps kept e = true≢false (sym (ap is_steps e))
-
-lines≢steps : Lines ≡ Steps → ⊥
-lines≢steps e = true≢false (sym (ap is_steps e))
-
-nothing≢lines : Nothing ≡ Lines → ⊥
-nothing≢lines e = true≢false (sym (ap is_lines e))
-
-table≢lines : (kept : KeptTable) → Table kept ≡ Lines → ⊥
-table≢lines kept e = true≢false (sym (ap is_lines e))
-
-steps≢lines : Steps ≡ Lines → ⊥
-steps≢lines e = true≢false (sym (ap is_lines e))
 
 -- what is kept for a place is kept for a later one, whichever positions are tried
 pub kept_later : (code : Code) (haystack : List ℕ) (request : Request) (options : SearchOptions) (kept : KeptTable) (place later start : ℕ) (anchored : Bool) (notes : Notes) → place ≤ later
@@ -71,19 +37,25 @@ kept_later code haystack request options kept place later start anchored notes l
   last_lines = is.last_lines;
 }
 
+-- the same of a table, if one is kept
+kept_if : (code : Code) (haystack : List ℕ) (request : Request) (options : SearchOptions) (kept : Option KeptTable) (place later start : ℕ) (anchored : Bool) (notes : Notes) → place ≤ later
+    → IfSome kept (λ k. IsKept code haystack request options k place notes) → IfSome kept (λ k. IsKept code haystack (record request { start = start; anchored = anchored }) options k later notes)
+kept_if code haystack request options None place later start anchored notes le is = tt
+kept_if code haystack request options (Some k) place later start anchored notes le is = kept_later code haystack request options k place later start anchored notes le is
+
 module _ (program : Program) (haystack : List ℕ) (cache : Cache) where
   -- where nothing is kept, there is nothing to say
   pub keeps_nothing : (request : Request) (kept : Kept) (place : ℕ) → kept ≡ Nothing → IsKeptIn program haystack request kept place cache
   keeps_nothing request kept place is =
-      subst (λ (k : Kept). IsKeptIn program haystack request k place cache) (sym is) ((λ base e. absurd (none-some base e)), (λ e. absurd (nothing≢steps e)), (λ e. absurd (nothing≢lines e)))
+      subst (λ (k : Kept). IsKeptIn program haystack request k place cache) (sym is) ((λ base e. absurd (none-some base e)), (λ e. cc), (λ e. cc))
 
   -- a table is kept
   pub keeps_table : (request : Request) (kept : KeptTable) (place : ℕ) → KeepsTable program haystack request kept place cache → IsKeptIn program haystack request (Table kept) place cache
-  keeps_table request kept place is = ((λ b e. subst (λ (n : KeptTable). KeepsTable program haystack request n place cache) (same_Some kept b e) is), (λ e. absurd (table≢steps kept e)), (λ e. absurd (table≢lines kept e)))
+  keeps_table request kept place is = ((λ b e. subst (λ (n : KeptTable). KeepsTable program haystack request n place cache) (same_Some kept b e) is), (λ e. cc), (λ e. cc))
 
   -- steps are kept
   pub keeps_steps : (request : Request) (place : ℕ) → KeepsSteps program cache → IsKeptIn program haystack request Steps place cache
-  keeps_steps request place is = ((λ base e. absurd (none-some base e)), (λ e. is), (λ e. absurd (steps≢lines e)))
+  keeps_steps request place is = ((λ base e. absurd (none-some base e)), (λ e. is), (λ e. cc))
 
   -- either is kept for the search after a match, if there is one
   pub found_table : (request : Request) (kept : Option KeptTable) (m : Option Found) → IfSome kept (λ k. KeepsTable program haystack request k (place_kept m request) cache)
@@ -98,7 +70,7 @@ module _ (program : Program) (haystack : List ℕ) (cache : Cache) where
 
   pub found_lines : (request : Request) (m : Option Found) → IfSome m (λ f. KeepsLines haystack cache) → IfSome m (λ f. IsKeptIn program haystack request Lines f.end cache)
   found_lines request None is = tt
-  found_lines request (Some f) is = ((λ base e. absurd (none-some base e)), (λ e. absurd (lines≢steps e)), (λ e. is))
+  found_lines request (Some f) is = ((λ base e. absurd (none-some base e)), (λ e. cc), (λ e. is))
 
   -- what is kept for a place is kept for a search that starts there or later
   pub keeps_on : (before after : Request) (kept kept' : Kept) (place : ℕ) → after ≡ record before { start = after.start } → kept' ≡ kept → place ≤ after.start
@@ -133,19 +105,15 @@ if_some_at o p Is e is = rw e (if_some p Is is)
 -- what attempts found out is kept for those at a later place
 pub noted_later : (program : Program) (haystack : List ℕ) (request : Request) (place later : ℕ) (notes : AttemptNotes) → place ≤ later
     → KeepsNotes program haystack request place notes → KeepsNotes program haystack request later notes
-noted_later program haystack request place later notes le is = at notes.kept is where
-  at : (kept : Option KeptTable) → IfSome kept (λ k. IsKept program.code haystack (record request { start = 0; anchored = false }) (search_options program.options) k place notes.notes)
-      → IfSome kept (λ k. IsKept program.code haystack (record request { start = 0; anchored = false }) (search_options program.options) k later notes.notes)
-  at None is = tt
-  at (Some k) is = kept_later program.code haystack (record request { start = 0; anchored = false }) (search_options program.options) k place later 0 false notes.notes le is
+noted_later program haystack request place later notes le is = kept_if program.code haystack (record request { start = 0; anchored = false }) (search_options program.options) notes.kept place later 0 false notes.notes le is
 
 -- it is kept on by an attempt that does not use it
-pub noted_past : (program : Program) (haystack : List ℕ) (request : Request) (position : ℕ) (notes : AttemptNotes) (m : Option Found) → IfSome m (λ f. f.start ≤ f.end)
-    → KeepsNotes program haystack request position notes → KeepsNotes program haystack request (kept_from m position) notes
-noted_past program haystack request position notes None ordered is = is
-noted_past program haystack request position notes (Some f) ordered is = noted_later program haystack request position (kept_from (Some f) position) notes (at (nat_eq f.start position) refl) is where
+pub noted_past : (program : Program) (asked : Asked) (position : ℕ) (notes : AttemptNotes) (m : Option Found) → IfSome m (StandsIn program asked)
+    → KeepsNotes program asked.haystack.now asked.request position notes → KeepsNotes program asked.haystack.now asked.request (kept_from m position) notes
+noted_past program asked position notes None stands is = is
+noted_past program asked position notes (Some f) stands is = noted_later program asked.haystack.now asked.request position (kept_from (Some f) position) notes (at (nat_eq f.start position) refl) is where
   at : (b : Bool) → nat_eq f.start position ≡ b → position ≤ (if b then f.end else position)
-  at true e = omega (arith, ordered, eqb-true f.start position e)
+  at true e = omega (arith, stands.ordered, eqb-true f.start position e)
   at false e = omega arith
 
 -- the request of an attempt at a position, where its searches begin, and past what it tries
@@ -160,27 +128,20 @@ module _ (request : Request) (position : ℕ) (starts : effective_start request 
 pub noted_before : (program : Program) (haystack : List ℕ) (request : Request) (position : ℕ) (notes : AttemptNotes)
     → KeepsNotes program haystack request position notes
     → IfSome notes.kept (λ k. IsKept program.code haystack (record request { start = position; anchored = true }) (search_options program.options) k (effective_start (record request { start = position; anchored = true })) notes.notes)
-noted_before program haystack request position notes is = at notes.kept is where
-  at : (kept : Option KeptTable) → IfSome kept (λ k. IsKept program.code haystack (record request { start = 0; anchored = false }) (search_options program.options) k position notes.notes)
-      → IfSome kept (λ k. IsKept program.code haystack (record request { start = position; anchored = true }) (search_options program.options) k (effective_start (record request { start = position; anchored = true })) notes.notes)
-  at None is = tt
-  at (Some k) is = kept_later program.code haystack (record request { start = 0; anchored = false }) (search_options program.options) k position _ position true notes.notes (omega arith) is
+noted_before program haystack request position notes is =
+    kept_if program.code haystack (record request { start = 0; anchored = false }) (search_options program.options) notes.kept position _ position true notes.notes (omega arith) is
 
 -- what that search leaves is kept for attempts
 pub noted_after : (program : Program) (haystack : List ℕ) (request : Request) (position : ℕ) (notes : AttemptNotes) (m : Option Found)
     → effective_start request ≤ position → position ≤ request.range_end → IfSome m (λ f. f.start ≡ position)
     → IfSome notes.kept (λ k. IsKept program.code haystack (record request { start = position; anchored = true }) (search_options program.options) k (place_kept m (record request { start = position; anchored = true })) notes.notes)
     → KeepsNotes program haystack request (kept_from m position) notes
-noted_after program haystack request position notes m starts ends here is = at notes.kept is where
-  reached : (m : Option Found) → IfSome m (λ f. f.start ≡ position) → place_kept m (record request { start = position; anchored = true }) ≤ kept_from m position
-  reached None here = omega (arith, begins_at request position starts ends, one_tried request position starts ends)
-  reached (Some f) here = rw (eq-eqb f.start position here) (omega arith)
-
-  at : (kept : Option KeptTable)
-      → IfSome kept (λ k. IsKept program.code haystack (record request { start = position; anchored = true }) (search_options program.options) k (place_kept m (record request { start = position; anchored = true })) notes.notes)
-      → IfSome kept (λ k. IsKept program.code haystack (record request { start = 0; anchored = false }) (search_options program.options) k (kept_from m position) notes.notes)
-  at None is = tt
-  at (Some k) is = kept_later program.code haystack (record request { start = position; anchored = true }) (search_options program.options) k _ (kept_from m position) 0 false notes.notes (reached m here) is
+noted_after program haystack request position notes m starts ends here is =
+    kept_if program.code haystack (record request { start = position; anchored = true }) (search_options program.options) notes.kept _ (kept_from m position) 0 false notes.notes (reached m here) is
+  where
+    reached : (m : Option Found) → IfSome m (λ f. f.start ≡ position) → place_kept m (record request { start = position; anchored = true }) ≤ kept_from m position
+    reached None here = omega (arith, begins_at request position starts ends, one_tried request position starts ends)
+    reached (Some f) here = rw (eq-eqb f.start position here) (omega arith)
 
 -- an attempt at a position that finds where it starts starts at the position
 pub starts_here : (q : Query) (p : ℕ) (groups : List (Option Span)) (m : Option Found) → answer_with groups m ≡ attempt q p → IfSome m (λ f. f.start ≡ f.position) → IfSome m (λ f. f.start ≡ p)
@@ -195,32 +156,23 @@ kept_of : (kept : Option KeptTable) → table_kept (of_table kept) ≡ kept
 kept_of None = refl
 kept_of (Some k) = refl
 
-table≢nothing : (kept : KeptTable) → Table kept ≡ Nothing → ⊥
-table≢nothing kept e = true≢false (sym (ap is_nothing e))
-
 -- what a search of the runner leaves after a match: the steps that it took are no longer ahead, and the table goes on
-module _ (program : Program) (request : Request) (before : Kept) (table : Option KeptTable) (m : Option Found)
-    (left : IfSome m (λ f. table ≡ Some (record { base = base_of (table_kept before) (effective_start request); from = f.end + 1 }))) where
-  pub found_spent : (cache : Cache) (old new : ℕ)
+module _ (program : Program) (request : Request) (before : Kept) (table : Option KeptTable) where
+  pub found_spent : (m : Option Found) → IfSome m (λ f. table ≡ Some (record { base = base_of (table_kept before) (effective_start request); from = f.end + 1 }))
+      → (cache : Cache) (old new : ℕ)
       → IfSome m (λ f. new + steps_ahead program.code request (base_of (table_kept before) (effective_start request)) f.end (table_in cache.runner) ≤ old)
       → IfSome m (λ f. ForSome (table_kept (of_table table)) (λ k. new + steps_ahead program.code request k.base f.end (table_in cache.runner) ≤ old))
-  found_spent cache old new spent = at m left spent where
-    at : (m : Option Found) → IfSome m (λ f. table ≡ Some (record { base = base_of (table_kept before) (effective_start request); from = f.end + 1 }))
-        → IfSome m (λ f. new + steps_ahead program.code request (base_of (table_kept before) (effective_start request)) f.end (table_in cache.runner) ≤ old)
-        → IfSome m (λ f. ForSome (table_kept (of_table table)) (λ k. new + steps_ahead program.code request k.base f.end (table_in cache.runner) ≤ old))
-    at None left spent = tt
-    at (Some f) left spent = λ k e.
-        subst (λ (k : KeptTable). new + steps_ahead program.code request k.base f.end (table_in cache.runner) ≤ old) (same_Some _ k (sym left ∙ sym (kept_of table) ∙ e)) spent
+  found_spent None left cache old new spent = tt
+  found_spent (Some f) left cache old new spent = λ k e.
+      subst (λ (k : KeptTable). new + steps_ahead program.code request k.base f.end (table_in cache.runner) ≤ old) (same_Some _ k (sym left ∙ sym (kept_of table) ∙ e)) spent
 
-  pub found_goes_on : IfSome m (λ f. KeepsOn before (of_table table))
-  found_goes_on = at m left where
-    at : (m : Option Found) → IfSome m (λ f. table ≡ Some (record { base = base_of (table_kept before) (effective_start request); from = f.end + 1 }))
-        → IfSome m (λ f. KeepsOn before (of_table table))
-    at None left = tt
-    at (Some f) left = (
-      (λ e. table≢nothing _ (sym (ap of_table left) ∙ e)),
-      (λ k e. ap (option_map (λ (l : KeptTable). l.base)) (kept_of table ∙ left) ∙ ap (λ (o : Option KeptTable). Some (base_of o (effective_start request))) e),
-    )
+  pub found_goes_on : (m : Option Found) → IfSome m (λ f. table ≡ Some (record { base = base_of (table_kept before) (effective_start request); from = f.end + 1 }))
+      → IfSome m (λ f. KeepsOn before (of_table table))
+  found_goes_on None left = tt
+  found_goes_on (Some f) left = (
+    (λ e. let no : Table _ ≡ Nothing = sym (ap of_table left) ∙ e in cc),
+    (λ k e. ap (option_map (λ (l : KeptTable). l.base)) (kept_of table ∙ left) ∙ ap (λ (o : Option KeptTable). Some (base_of o (effective_start request))) e),
+  )
 
 -- what follows where nothing was found
 pub none_so : {A : Type 0} (P Q : Type 0) → (P → Q) → (m : Option A) → IfNone m P → IfNone m Q

@@ -1,9 +1,8 @@
 -- Lemmas on what an iteration has left.
-use Rattle.std.proofs.Common.{arith, ℕ, suc, ◌≤◌, ◌≡◌, Bool, true, false, not, ◌&&◌, nat_eq, max, List, [], ◌∷◌, Option, None, Some, MatchOption, option_map, if◌then◌else◌, refl, sym, subst, ◌∙◌, true≢false}
+use Rattle.std.proofs.Common.{arith, ℕ, ◌≡◌, Bool, true, false, ◌&&◌, nat_eq, [], ◌∷◌, Option, None, Some, MatchOption, if◌then◌else◌, refl, sym, subst}
 use Rattle.std.proofs.lemmas.Grind.{common_steps}
-use Rattle.fancy_code.specs.Search.{Answer}
-use Rattle.fancy_search.specs.MatchList.{Scan, MatchItem, start_of, stop_of, is_empty_item, item_of, answer, unless_empty_at, start_unless_empty_at, next_after, search_start_after, items_from, end_from, Sound, Lies}
-use Rattle.fancy_search.specs.Remaining.{Standing, standing_after, upcoming, search_start, items_left, items_end, PassesOver, AllowsNext, AllowsStep, AllowsUpTo}
+use Rattle.fancy_search.specs.MatchList.{Scan, MatchItem, stop_of, is_empty_item, answer, unless_empty_at, start_unless_empty_at, next_after, search_start_after, items_from, end_from, Sound, Lies}
+use Rattle.fancy_search.specs.Remaining.{Standing, standing_after, upcoming, search_start, items_left, items_end}
 use Rattle.fancy_search.proofs.MatchListLemmas.{LiesFrom, answer_lies, items_after, items_none, end_after, end_none}
 
 pub nat_same : (n : ℕ) → nat_eq n n ≡ true
@@ -48,6 +47,9 @@ pub stays_none : (k : Scan) (s : ℕ) (c b : Bool) → answer k s c ≡ None →
 stays_none k s c true e = rw e refl
 stays_none k s c false e = refl
 
+-- what the search of the next item answers, and where it starts
+pub ruleset next_searched = (skips, keeps, keeps_none, stays, stays_none)
+
 abbrev LiesIf : Scan → Option MatchItem → Type 0
 LiesIf k o = MatchOption o Unit (λ i. Lies k i)
 
@@ -88,10 +90,3 @@ none_left k s c b e = rw e (items_none k)
 
 pub none_end : (k : Scan) (s : ℕ) (c b : Bool) → upcoming_if b k s c ≡ None → end_from k (start_if b k s c) (upcoming_if b k s c) ≡ start_if b k s c
 none_end k s c b e = rw e (end_none k _)
-
--- the searches for the next item keep within their limits: where nothing is passed over, that is one
-not_passed : (k : Scan) (st : Standing) (i j : MatchItem) → answer k st.start st.continues ≡ Some i → (st.skips_empty && (is_empty_item i && nat_eq (stop_of i) st.start)) ≡ false → PassesOver k st j → ⊥
-not_passed k st i j e h p =
-    let same : i ≡ j = cc in
-    let there : nat_eq (stop_of j) st.start ≡ true = rw p.there (nat_same st.start) in
-    true≢false (sym (rw (p.skips, p.empty, there) refl) ∙ subst (λ (x : MatchItem). (st.skips_empty && (is_empty_item x && nat_eq (stop_of x) st.start)) ≡ false) same h)

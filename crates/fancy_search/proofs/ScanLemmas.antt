@@ -1,10 +1,9 @@
 -- What the searches of an iteration owe its list.
-use Rattle.std.proofs.Common.{arith, le_trans, ℕ, suc, ◌≤◌, ◌<◌, ◌^◌, ◌≡◌, Bool, true, false, List, length, Option, Some, IsTrue, IsUtf8, sym}
+use Rattle.std.proofs.Common.{arith, le_trans, ℕ, suc, ◌≤◌, ◌<◌, ◌^◌, ◌≡◌, Bool, true, false, List, length, Option, Some, IsUtf8, sym}
 use Rattle.std.proofs.lemmas.Grind.{common_steps}
 use Rattle.fancy_input.specs.declared.input.Request.{Request}
 use Rattle.fancy_input.specs.Requests.{effective_start}
-use Rattle.fancy_input.specs.Places.{next_place, is_boundary}
-use Rattle.fancy_input.proofs.PlaceLemmas.{next_place_above, next_place_boundary}
+use Rattle.fancy_input.proofs.PlaceLemmas.{next_place_above}
 use Rattle.fancy_code.specs.Search.{Answer, search}
 use Rattle.fancy_code.specs.declared.found.Found.{Found}
 use Rattle.fancy_search.specs.declared.cache.Cache.{Cache}
@@ -18,6 +17,7 @@ use Rattle.fancy_search.specs.Remaining.{scan, program_matches, items_left, turn
 use Rattle.fancy_search.specs.FoundItems.{HasGroups}
 use Rattle.fancy_search.proofs.CutLemmas.{groups_cut}
 use Rattle.fancy_search.proofs.MatchListLemmas.{few_matches}
+use Rattle.fancy_search.proofs.RemainingLemmas.{next_left, none_left, none_end}
 
 -- what a search with the program finds lies between its effective start and its range's end
 pub search_lies : (program : Program) (haystack : List ℕ) (r : Request) (c : Bool) (f : Answer) → r.range_end ≤ length haystack → search (asked_of program haystack r c) ≡ Some f →
@@ -41,18 +41,19 @@ few_turns program text haystack r ended continues skips_empty range short e f h 
     let few : length (program_matches program text haystack r) ≤ suc r.range_end = few_matches (scan program text haystack r) r.start (scan_sound program text haystack r range) in
     rw (e, f, h) (omega (arith, few, range, short))
 
-pub search_after : (program : Program) (haystack : List ℕ) (r : Request) (c : Bool) (f : Answer) → r.range_end ≤ length haystack → search (asked_of program haystack r c) ≡ Some f → r.start ≤ f.state.kept
-search_after program haystack r c f range e = let l : effective_start r ≤ f.state.kept = (search_lies program haystack r c f range e).0 in grind (arith, common_steps)
-
--- the same of what a search answered
+-- what a search answered starts at the start of its request or later
 pub answered_after : (program : Program) (bytes haystack : List ℕ) (r : Request) (c : Bool) (m : Option Found) (f : Found) (cache : Cache) → r.range_end ≤ length haystack → bytes ≡ haystack → m ≡ Some f →
     IsAnswerIn m cache (asked_of program bytes r c) → r.start ≤ f.start
 answered_after program bytes haystack r c m f cache range same found e =
     let is : search (asked_of program haystack r c) ≡ Some (found_at f cache) = sym (rw (found, same) at e) in
-    search_after program haystack r c _ range is
+    let l : effective_start r ≤ f.start = (search_lies program haystack r c _ range is).0 in
+    grind (arith, common_steps)
 
 pub answered_groups : (program : Program) (text : Bool) (bytes haystack : List ℕ) (r : Request) (c : Bool) (m : Option Found) (f : Found) (cache : Cache) → r.range_end ≤ length haystack → bytes ≡ haystack → m ≡ Some f →
     Suits (program_options program) text haystack → (text ≡ true → IsUtf8 bytes) → IsAnswerIn m cache (asked_of program bytes r c) → HasGroups text haystack f cache
 answered_groups program text bytes haystack r c m f cache range same found suits utf8 e = record {
   cut = λ n. groups_cut program text haystack r c f cache n range suits (λ t. rw same at (utf8 t)) (rw (found, same) at e);
 }
+
+-- what is left after the next item, and where there is none
+pub ruleset stepping = (scan_sound, next_left, none_left, none_end)

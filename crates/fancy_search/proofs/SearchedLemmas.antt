@@ -1,5 +1,5 @@
 -- What the runner answers is the answer of the search that a program asks for.
-use Rattle.std.proofs.Common.{◌≡◌, ◌≤◌, ◌<◌, ◌+◌, ◌∙◌, ◌&&◌, ◌++◌, [], zero, suc, not, if◌then◌else◌, is_some, ap, ap₂, true≢false, ℕ, Bool, false, List, Option, Some, None, IfSome, IsTrue, length, refl, sym, subst, slice_index, true}
+use Rattle.std.proofs.Common.{◌≡◌, ◌≤◌, ◌<◌, ◌+◌, ◌∙◌, ◌&&◌, ◌++◌, [], zero, suc, not, if◌then◌else◌, is_some, ap, ap₂, true≢false, ℕ, Bool, false, List, Option, Some, None, IfSome, refl, sym, subst, slice_index, true}
 use Rattle.std.proofs.Math.Logic.{∥∥₁_elim}
 use Rattle.std.proofs.Props.{props}
 use Rattle.fancy_tree.specs.declared.tree.Meaning.{Meaning}
@@ -20,15 +20,15 @@ use Rattle.fancy_search.specs.SearchCounts.{TriesNothing, lacks_required, is_hop
 use Rattle.fancy_code.specs.Search.{Query, Answer, search, attempt, answer_at, is_match_boundary, gone_through, gone_from, returns}
 use Rattle.fancy_code.specs.Queries.{answer_with}
 use Rattle.fancy_code.specs.declared.found.Found.{Found}
-use Rattle.fancy_search.specs.Cached.{IsCleanlyFound}
+use Rattle.fancy_search.specs.declared.asked.Asked.{Asked}
+use Rattle.fancy_search.specs.Served.{StandsIn, IsPosition}
 use Rattle.fancy_input.specs.declared.span.Span.{Span}
-use Rattle.fancy_code.specs.Placed.{has_keep_start_in_look_around}
 use Rattle.fancy_input.specs.declared.input.Request.{Request}
 use Rattle.fancy_input.specs.Requests.{effective_start}
 use Rattle.fancy_code.proofs.AttemptLemmas.{anchored_at, anchored_easy}
 use Rattle.fancy_code.proofs.ClassifyLemmas.{easy_code}
 use Rattle.fancy_search.specs.declared.program.Program.{Program}
-use Rattle.fancy_search.specs.Programs.{program_options, program_pattern, program_is_easy, asked_of}
+use Rattle.fancy_search.specs.Programs.{program_options, program_pattern, program_is_easy, asked_of, query_in}
 use Rattle.fancy_search.proofs.ProgramSizeLemmas.{parts_of_easy}
 use Rattle.fancy_code.proofs.FoundLemmas.{answer_within, attempt_within}
 
@@ -36,32 +36,19 @@ use Rattle.fancy_code.proofs.FoundLemmas.{answer_within, attempt_within}
 pub known : {P : Type 0} (a b : Option Answer) → ∥ P ∥₁ → (P → a ≡ b) → a ≡ b
 known a b t f = ∥∥₁_elim t (hlevel props) f
 
-module _ (q : Query) (groups : List (Option Span)) (range : q.request.range_end ≤ length q.haystack) (outside : has_keep_start_in_look_around q.sought.pattern ≡ false) where
-  pub ordered_found : (m : Option Found) → answer_with groups m ≡ search q → IfSome m (λ f. f.start ≤ f.end)
-  ordered_found None e = tt
-  ordered_found (Some f) e = ((answer_within q _ range (sym e)).forward outside).to
+-- what answers a search, or an attempt at a position, stands within what was asked
+module _ (r : Program) (asked : Asked) (groups : List (Option Span)) where
+  pub found_stands : (m : Option Found) → answer_with groups m ≡ search (query_in r asked) → IfSome m (StandsIn r asked)
+  found_stands None e = tt
+  found_stands (Some f) e =
+      let within = answer_within (query_in r asked) _ asked.inside (sym e) in
+      record { ordered = (within.forward r.starts).to; inside = within.ends; cleanly = λ on. (within.accepted.keeps on, within.accepted.ends on) }
 
-  pub inside_found : (m : Option Found) → answer_with groups m ≡ search q → IfSome m (λ f. f.end ≤ q.request.range_end)
-  inside_found None e = tt
-  inside_found (Some f) e = (answer_within q _ range (sym e)).ends
-
-  pub clean_found : (m : Option Found) → IsTrue q.sought.on_boundaries → answer_with groups m ≡ search q → IfSome m (IsCleanlyFound q.haystack)
-  clean_found None on e = tt
-  clean_found (Some f) on e = let a = (answer_within q _ range (sym e)).accepted in (a.keeps on, a.ends on)
-
--- the same of an attempt at a position
-module _ (q : Query) (p : ℕ) (groups : List (Option Span)) (range : q.request.range_end ≤ length q.haystack) (to : p ≤ q.request.range_end) (outside : has_keep_start_in_look_around q.sought.pattern ≡ false) where
-  pub ordered_at : (m : Option Found) → answer_with groups m ≡ attempt q p → IfSome m (λ f. f.start ≤ f.end)
-  ordered_at None e = tt
-  ordered_at (Some f) e = ((attempt_within q p _ range to (sym e)).forward outside).to
-
-  pub inside_at : (m : Option Found) → answer_with groups m ≡ attempt q p → IfSome m (λ f. f.end ≤ q.request.range_end)
-  inside_at None e = tt
-  inside_at (Some f) e = (attempt_within q p _ range to (sym e)).ends
-
-  pub clean_at : (m : Option Found) → IsTrue q.sought.on_boundaries → answer_with groups m ≡ attempt q p → IfSome m (IsCleanlyFound q.haystack)
-  clean_at None on e = tt
-  clean_at (Some f) on e = let a = (attempt_within q p _ range to (sym e)).accepted in (a.keeps on, a.ends on)
+  pub attempt_stands : (p : ℕ) → p ≤ asked.request.range_end → (m : Option Found) → answer_with groups m ≡ attempt (query_in r asked) p → IfSome m (StandsIn r asked)
+  attempt_stands p to None e = tt
+  attempt_stands p to (Some f) e =
+      let within = attempt_within (query_in r asked) p _ asked.inside to (sym e) in
+      record { ordered = (within.forward r.starts).to; inside = within.ends; cleanly = λ on. (within.accepted.keeps on, within.accepted.ends on) }
 
 abbrev no_events : List Event
 no_events = []
@@ -78,8 +65,8 @@ lacking_none q e =
     lacking_is_none q f.0 told.0 (λ s. true≢false (sym told.1 ∙ ap not (stands_included q.haystack f.0 s.place s.there)))
 
 -- what the look for the required bytes tells
-pub lacking_as_told : (r : Program) (haystack : List ℕ) (request : Request) (on : Bool) → not (includes_all haystack r.required) ≡ lacks_required (asked_of r haystack request on)
-lacking_as_told r haystack request on = lacks_one (required_bytes (meaning_in (program_options r)) (program_pattern r)) haystack r.required r.needed
+pub lacking_as_told : (r : Program) (asked : Asked) → not (includes_all asked.haystack.now r.required) ≡ lacks_required (query_in r asked)
+lacking_as_told r asked = lacks_one (required_bytes (meaning_in (program_options r)) (program_pattern r)) asked.haystack.now r.required r.needed
 
 both_are : (a b : Bool) → a ≡ true → b ≡ true → (a && b) ≡ true
 both_are true b e f = f
@@ -133,9 +120,9 @@ nowhere r haystack request on before after bytes none idle =
     idle (none_may_start q bytes r.code.prefilter.starts (subst (λ (m : Meaning). AreStartBytes m q.sought.pattern r.code.prefilter.starts) r.meant compiled.coded.starts) (not_seeking (program_options r).seek q none)))
 
 -- of an easy program the search that is anchored at a position is the attempt there
-pub attempted : (r : Program) (haystack : List ℕ) (request : Request) (p : ℕ) → program_is_easy r ≡ true → request.range_end ≤ length haystack → effective_start request ≤ p → p ≤ request.range_end
-    → search (asked_of r haystack (anchored_at request p) false) ≡ attempt (asked_of r haystack request true) p
-attempted r haystack request p easy range from to =
+pub attempted : (r : Program) (asked : Asked) (p : ℕ) → program_is_easy r ≡ true → IsPosition asked.request p
+    → search (asked_of r asked.haystack.now (anchored_at asked.request p) false) ≡ attempt (query_in r asked) p
+attempted r asked p easy tries =
     let parts = parts_of_easy _ _ _ easy in
     known _ _ r.compiled
-    (λ compiled. anchored_easy (asked_of r haystack request true) r.code compiled.coded refl (sym r.meant) parts.1 parts.2 range (easy_code _ (r.light parts.0)) p to from)
+    (λ compiled. anchored_easy (query_in r asked) r.code compiled.coded refl (sym r.meant) parts.1 parts.2 asked.inside (easy_code _ (r.light parts.0)) p tries.to tries.from)

@@ -1,13 +1,13 @@
 -- Whether a program tries a position, and what an attempt there takes.
-use Rattle.std.proofs.Common.{◌≡◌, ℕ, ◌<◌, ◌≤◌, Bool, true, false, not, ◌&&◌, ◌||◌, nat_lt, List, Option, Some, None, option_map, slice_get, slice_index, take, length, if◌then◌else◌, refl, sym, ap, ◌∙◌, arith, true≢false}
+use Rattle.std.proofs.Common.{◌≡◌, ℕ, ◌<◌, ◌≤◌, Bool, true, false, not, ◌&&◌, ◌||◌, nat_lt, Some, None, option_map, slice_get, slice_index, take, length, if◌then◌else◌, refl, sym, ap, ◌∙◌, arith, true≢false}
 use Rattle.std.proofs.Math.Bool.{or-false}
 use Rattle.std.proofs.lemmas.Bool.{ltb-true, ltb-false}
 use Rattle.std.proofs.lemmas.List.{length-take-le}
 use Rattle.std.proofs.lemmas.Option.{slice_get-get_or, slice_get_past}
-use Rattle.fancy_bytes.specs.Firsts.{has_start_bytes, first_bytes}
+use Rattle.fancy_bytes.specs.Firsts.{has_start_bytes}
 use Rattle.fancy_bytes.specs.Items.{includes}
 use Rattle.fancy_bytes.specs.Required.{required_bytes}
-use Rattle.fancy_bytes.proofs.BoolLemmas.{parts_of, some_found, and_never}
+use Rattle.fancy_bytes.proofs.BoolLemmas.{parts_of, some_found}
 use Rattle.fancy_bytes.proofs.LackLemmas.{stands_included}
 use Rattle.fancy_code.specs.Search.{Query, answer_at, attempt, returns_at, choices_at}
 use Rattle.fancy_code.specs.Tried.{may_begin}

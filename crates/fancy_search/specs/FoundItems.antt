@@ -1,5 +1,5 @@
 -- What a search of an iteration found, with the groups that it left in its cache.
-use Rattle.std.specs.Prelude.{ℕ, Bool, List, Option, Result}
+use Rattle.std.specs.Prelude.{◌≤◌, ℕ, Bool, List, Option, Result}
 use Rattle.fancy_tree.specs.declared.error.Error.{Error}
 use Rattle.fancy_code.specs.declared.found.Found.{Found}
 use Rattle.fancy_search.specs.declared.program.Program.{Program}
@@ -10,7 +10,7 @@ use Rattle.fancy_search.specs.Cached.{found_at}
 use Rattle.fancy_search.specs.Groups.{AreCut, spans_of}
 use Rattle.fancy_search.specs.MatchList.{MatchItem}
 use Rattle.fancy_search.specs.Remaining.{GivesFirst}
-use Rattle.fancy_search.specs.Searchers.{items_of, RefusesItem}
+use Rattle.fancy_search.specs.Searchers.{IsCutOut, items_of, RefusesItem}
 
 -- what was found, with the groups that the search left in its cache
 abbrev pub item_in : Cache → FoundItem → MatchItem
@@ -23,6 +23,12 @@ pub record HasGroups (text : Bool) (haystack : List ℕ) (found : Found) (cache 
 -- and at the ends of the groups of an item, which the search left in its cache
 abbrev pub HasGroupsOf : {S : Type 0} {g : _} → (S → Bool) → (S → List ℕ) → Searcher S g → FoundItem → Cache → Type 0
 HasGroupsOf text bytes w i cache = HasGroups (text w.haystack) (bytes w.haystack) i.found cache
+
+-- The haystack can be cut at both ends of an item and at those of its groups, and it starts at the start of its search or later.
+pub record IsGiven {S : Type 0} {g : _} (text : S → Bool) (bytes : S → List ℕ) (w : Searcher S g) (i : FoundItem) (cache : Cache) : Type 0 where
+  pub placed : IsCutOut text bytes w i
+  pub after : w.request.start ≤ i.found.start
+  pub groups : HasGroupsOf text bytes w i cache
 
 -- One step: the first of the items that are left, whose groups the search left in its cache; or a refusal, after which none is left.
 abbrev pub GivesItem : {S : Type 0} {g : _} → (S → Bool) → (S → List ℕ) → Program → Cache → Searcher S g → Option (Result FoundItem Error) → Searcher S g → Type 0

@@ -1,7 +1,8 @@
 -- What is kept through a list of searches, or through attempts from position to position: the table of the runner and what it read of
 -- the line ends that close the haystack, the steps that the automaton remembers, or what the machine read of these line ends.
-use Rattle.std.specs.Prelude.{◌≡◌, ◌≤◌, ◌+◌, ℕ, Bool, true, false, List, Option, Some, None, IfSome, option_map, nat_eq, if◌then◌else◌}
+use Rattle.std.specs.Prelude.{◌≡◌, ◌≤◌, ◌+◌, ℕ, false, List, Option, Result, Some, None, IfSome, IfOk, IfErr, option_map, nat_eq, if◌then◌else◌}
 use Rattle.std.specs.Option.{ForSome}
+use Rattle.fancy_tree.specs.declared.error.Error.{Error}
 use Rattle.fancy_input.specs.LastLines.{KnowsLastLines}
 use Rattle.fancy_input.specs.Requests.{effective_start}
 use Rattle.fancy_input.specs.declared.input.Request.{Request}
@@ -13,6 +14,7 @@ use Rattle.fancy_input.specs.declared.work.Work.{Work}
 use Rattle.fancy_automaton.specs.Cells.{IsBounded}
 use Rattle.fancy_automaton.specs.Remembered.{Remembers}
 use Rattle.fancy_machine.specs.Asked.{lines_held}
+use Rattle.fancy_search.specs.declared.asked.Asked.{Asked}
 use Rattle.fancy_search.specs.declared.cache.AttemptNotes.{AttemptNotes}
 use Rattle.fancy_search.specs.declared.cache.Cache.{Cache}
 use Rattle.fancy_search.specs.declared.cache.Kept.{Kept}
@@ -38,10 +40,18 @@ abbrev pub of_table : Option KeptTable → Kept
 of_table None = Nothing
 of_table (Some kept) = Table kept
 
+-- so many steps are ahead of the searches from one with this request on, with the table that is kept, if one is
+abbrev pub ahead_with : Program → Request → Option KeptTable → Cache → ℕ
+ahead_with program request kept cache = steps_from kept program.code request (effective_start request) (table_in cache.runner)
+
+-- and so many may be taken by it, with those that are taken again
+abbrev pub most_with : Program → Request → Option KeptTable → Cache → ℕ
+most_with program request kept cache = ahead_with program request kept cache + taken_again kept program.code (effective_start request)
+
 -- So many steps are ahead of the searches of a list, from one with this request on: where the table is kept, what its marks are worth that
 -- were not made, and a start at each position; else as many as a search alone may take.
 abbrev pub steps_to_go : Program → Request → Kept → Cache → ℕ
-steps_to_go program request kept cache = steps_from (table_kept kept) program.code request (effective_start request) (table_in cache.runner)
+steps_to_go program request kept cache = ahead_with program request (table_kept kept) cache
 
 -- A search takes at most the steps that are ahead of it, and one for each instruction.
 abbrev pub TakesStepsToGo : Program → Request → Kept → Cache → Work → Work → Type 0
@@ -68,6 +78,11 @@ abbrev pub kept_from : Option Found → ℕ → ℕ
 kept_from None position = position
 kept_from (Some f) position = if nat_eq f.start position then f.end else position
 
+-- what an attempt at a position leaves is kept from there on, and after a refusal for another attempt at it
+pub record LeavesNotes (program : Program) (asked : Asked) (position : ℕ) (result : Result (Option Found) Error) (notes : AttemptNotes) : Type 0 where
+  pub after : IfOk result (λ m. KeepsNotes program asked.haystack.now asked.request (kept_from m position) notes)
+  pub dropped : IfErr result (λ _. KeepsNotes program asked.haystack.now asked.request position notes)
+
 -- so many steps are ahead of the attempts at `place` and later: what the marks are worth that were not made, and a start at each
 -- position; where no table is kept, one for each pair of an instruction and a place
 abbrev pub notes_ahead : Program → Request → ℕ → AttemptNotes → ℕ
@@ -76,6 +91,10 @@ notes_ahead program request place notes = steps_from notes.kept program.code req
 -- so many of them may be taken again by an attempt at `place`, if a match ended there
 abbrev pub notes_again : Program → ℕ → AttemptNotes → ℕ
 notes_again program place notes = taken_again notes.kept program.code place
+
+-- and so many may be taken by them
+abbrev pub notes_to_go : Program → Request → ℕ → AttemptNotes → ℕ
+notes_to_go program request place notes = notes_ahead program request place notes + notes_again program place notes
 
 -- The steps that the automaton remembers are of the program's code.
 abbrev pub KeepsSteps : Program → Cache → Type 0
@@ -90,6 +109,10 @@ abbrev pub IsKeptIn : Program → List ℕ → Request → Kept → ℕ → Cach
 IsKeptIn program haystack request kept place cache =
     ForSome (table_kept kept) (λ k. KeepsTable program haystack request k place cache) × (kept ≡ Steps → KeepsSteps program cache)
     × (kept ≡ Lines → KeepsLines haystack cache)
+
+-- and for those that ask the same, but start at `place` or later
+abbrev pub IsKeptFor : Program → Asked → Kept → ℕ → Cache → Type 0
+IsKeptFor program asked kept place cache = IsKeptIn program asked.haystack.now asked.request kept place cache
 
 -- what the iteration keeps is for searches that start at `place` or later
 abbrev pub KeepsFrom : {S : Type 0} {g : _} → (S → List ℕ) → Program → Searcher S g → Cache → ℕ → Type 0

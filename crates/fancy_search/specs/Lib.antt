@@ -2,14 +2,13 @@ pub mod Options
 pub mod PatternCode
 pub mod Readings
 pub mod Compiled
-pub mod CompiledCode
 pub mod Followed
 pub mod Programs
 pub mod Searching
 pub mod Cached
 pub mod SearchCounts
 pub mod Refusals
-pub mod StackLimits
+pub mod Served
 pub mod ProgramSize
 pub mod Groups
 pub mod MatchList

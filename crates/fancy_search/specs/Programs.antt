@@ -7,6 +7,7 @@ use Rattle.fancy_tree.specs.Text.{Text}
 use Rattle.fancy_input.specs.declared.input.Request.{Request}
 use Rattle.fancy_code.specs.CodeLength.{code_len}
 use Rattle.fancy_code.specs.Search.{Sought, Query}
+use Rattle.fancy_search.specs.declared.asked.Asked.{Asked}
 use Rattle.fancy_search.specs.declared.options.Options.{Options}
 use Rattle.fancy_search.specs.declared.program.Program.{Program}
 use Rattle.fancy_search.specs.Options.{meaning_in, is_easy_under}
@@ -67,3 +68,7 @@ sought_by o groups p = record {
 abbrev pub asked_of : Program → List ℕ → Request → Bool → Query
 asked_of p haystack request on =
     record { sought = sought_by (program_options p) (program_groups p) (program_pattern p); haystack = haystack; request = request; continues = on }
+
+-- the query that it is, where this is asked of the program
+abbrev pub query_in : Program → Asked → Query
+query_in p asked = asked_of p asked.haystack.now asked.request asked.continues

@@ -144,14 +144,6 @@ AddsReturns before n after = returns_of after ≡ returns_of before + n
 abbrev pub AddsReturnsUpTo : Work → ℕ → Work → Type 0
 AddsReturnsUpTo before n after = returns_of after ≤ returns_of before + n
 
--- the returns of a hard search that is not refused are those of what was asked
-abbrev pub Counted : {A : Type 0} → Program → Query → Result A Error → Work → Work → Type 0
-Counted p q result before after = IsHardProgram p → IfOk result (λ _. AddsReturns before (returns_taken p q) after)
-
--- a hard search returns no more often than what was asked does
-abbrev pub CountedUpTo : Program → Query → Work → Work → Type 0
-CountedUpTo p q before after = IsHardProgram p → AddsReturnsUpTo before (returns_taken p q) after
-
 -- P of what a search found, if it found anything
 abbrev pub IfFound : {A : Type 0} → Result (Option A) Error → (A → Type 0) → Type 0
 IfFound result P = IfOk result (λ found. IfSome found P)

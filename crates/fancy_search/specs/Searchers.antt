@@ -8,8 +8,23 @@ use Rattle.fancy_search.specs.declared.program.Program.{Program}
 use Rattle.fancy_search.specs.declared.searcher.FoundItem.{FoundItem}
 use Rattle.fancy_search.specs.declared.searcher.Searcher.{Searcher}
 use Rattle.fancy_search.specs.Groups.{IsCut}
+use Rattle.fancy_search.specs.Programs.{program_options}
+use Rattle.fancy_search.specs.Searching.{Suits}
 use Rattle.fancy_search.specs.Remaining.{Standing, scan, upcoming, search_start, items_left, items_end, next_start, refuses_at, refused_next, allows_at, allowed_next}
 use Rattle.fancy_search.specs.MatchList.{Scan, MatchItem, answer}
+
+-- its haystack may be searched with the program
+abbrev pub IsSuited : {S : Type 0} {g : _} → (S → Bool) → (S → List ℕ) → Program → Searcher S g → Type 0
+IsSuited text bytes program w = Suits (program_options program) (text w.haystack) (bytes w.haystack)
+
+-- Its next search starts there, with `\G` on or off, and passes over an empty match at its start or not; all else stays.
+pub record GoesTo {S : Type 0} {g : _} (before after : Searcher S g) (start : ℕ) (on skips : Bool) : Type 0 where
+  pub haystack : after.haystack ≡ before.haystack
+  pub request : after.request ≡ record before.request { start = start }
+  pub continues : after.continues ≡ on
+  pub skips_empty : after.skips_empty ≡ skips
+  pub ended : after.ended ≡ before.ended
+  pub kept : after.kept ≡ before.kept
 
 -- what it searches, again and again
 abbrev pub scan_of : {S : Type 0} {g : _} → (S → Bool) → (S → List ℕ) → Program → Searcher S g → Scan

@@ -6,6 +6,7 @@ ghost use Rattle.fancy_automaton.specs.Remembered.{Remembers};
 ghost use Rattle.fancy_code.specs.declared.code.Code.{Code};
 ghost use Rattle.fancy_input.specs.Work.{steps_of, returns_of, units_of};
 
+use crate::following::{Lengths, is_long_enough};
 use fancy_automaton::cells::Cells;
 use fancy_bytes::lacking::KnownBytes;
 use fancy_code::found::Found;
@@ -181,14 +182,17 @@ impl Cache {
 
     /// Whether a search is worth the automaton's steps: its text is not shorter than `shortest`, or the steps of searches before are kept, which did
     /// not read much more than their list came on by.
-    pub(crate) fn is_worth_steps(&self, request: Request, kept: Kept, shortest: usize) -> bool
+    pub(crate) fn is_worth_steps(
+        &self,
+        haystack: &[u8],
+        request: Request,
+        kept: Kept,
+        shortest: Lengths,
+    ) -> bool
         ensures { result ≡ true → table_kept kept ≡ None }
     {
         match kept {
-            Kept::Nothing => {
-                let searched = request.range_end.saturating_sub(request.effective_start());
-                searched >= shortest
-            }
+            Kept::Nothing => is_long_enough(haystack, request, shortest),
             Kept::Steps => self.read_past <= READ_PAST,
             Kept::Table(_) | Kept::Lines => false,
         }

@@ -3,17 +3,34 @@
 ghost use Rattle.std.specs.Prelude.{◌≡◌, true};
 ghost use Rattle.fancy_search.specs.Followed.{FollowsEach};
 
+use fancy_alphabet::side::Tests;
 use fancy_automaton::plain::is_plain;
 use fancy_code::code::Code;
+use fancy_input::input::Request;
 use fancy_prefilter::branches::WIDE;
 use fancy_prefilter::prefilter::{Opening, Prefilter};
 
-/// The shortest text that the automaton serves, in bytes: its steps are computed first, which takes as long as the runner takes
-/// for some thousand bytes.
-const SHORT: usize = 8192;
+/// The shortest text of ASCII characters that the automaton serves, in bytes: its steps are computed first, which takes as long as
+/// the runner takes for some hundred bytes.
+const SHORT: usize = 2048;
+
+/// The shortest text of others: a step is computed for each character past ASCII, and not for a class of them.
+const SHORT_OTHER: usize = 32_768;
 
 /// The same of code that opens with many branches, for each of which the runner takes some instructions at each position.
 const SHORT_WIDE: usize = 256;
+
+/// At how many places a text is looked at.
+const SAMPLES: usize = 8;
+
+/// The fewest bytes of a text that the automaton serves for a code.
+#[derive(Clone, Copy)]
+pub(crate) struct Lengths {
+    /// Of ASCII characters.
+    ascii: usize,
+    /// Of others too.
+    any: usize,
+}
 
 /// Whether the code opens with many branches, one of which is taken at each position: an alternation of that many, or as
 /// many repeats in a row that may consume nothing.
@@ -54,7 +71,42 @@ pub(crate) fn is_worth_following(code: &Code) -> bool
     is_plain(code)
 }
 
-/// The fewest bytes that a search alone, or the first of a list, goes over where the automaton serves it.
-pub(crate) fn shortest_followed(code: &Code) -> usize {
-    if opens_wide(code) { SHORT_WIDE } else { SHORT }
+/// The fewest bytes that a search alone, or the first of a list, goes over where the automaton serves it. Where the code tests
+/// places, characters past ASCII are read three times at each, so texts of such are left to the runner.
+pub(crate) fn shortest_followed(code: &Code) -> Lengths {
+    let is_wide = opens_wide(code);
+    let tests = Tests::of_code(code) != Tests::Nothing;
+    Lengths {
+        ascii: if is_wide { SHORT_WIDE } else { SHORT },
+        any: if tests {
+            usize::MAX
+        } else if is_wide {
+            SHORT_WIDE
+        } else {
+            SHORT_OTHER
+        },
+    }
+}
+
+/// Whether bytes at some places of a part of a haystack, which begins at `first` and has so many bytes, are ASCII characters.
+fn seems_ascii(haystack: &[u8], first: usize, bytes: usize) -> bool {
+    let apart = bytes / SAMPLES;
+    for i in 0..SAMPLES {
+        let place = first.saturating_add(i.saturating_mul(apart));
+        if haystack.get(place).copied().unwrap_or(0) >= 0x80 {
+            return false;
+        }
+    }
+    true
+}
+
+/// Whether a search alone, or the first of a list, goes over enough bytes for the automaton, which serves searches over
+/// `shortest` bytes or more: where some characters are past ASCII, it needs more of them.
+pub(crate) fn is_long_enough(haystack: &[u8], request: Request, shortest: Lengths) -> bool {
+    let first = request.effective_start();
+    let bytes = request.range_end.saturating_sub(first);
+    if bytes >= shortest.any {
+        return true;
+    }
+    bytes >= shortest.ascii && seems_ascii(haystack, first, bytes)
 }

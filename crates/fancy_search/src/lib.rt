@@ -1,6 +1,7 @@
 //! One compiled pattern, and the searches with it.
 #![tactic(auto)]
 
+pub mod asked;
 pub mod byte_sets;
 pub mod cache;
 mod following;

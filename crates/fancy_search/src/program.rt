@@ -1,6 +1,6 @@
 //! A compiled pattern: the code that is searched with, and what decides how.
 
-ghost use Rattle.std.specs.Prelude.{◌≡◌, ◌≤◌, ◌<◌, ◌+◌, ◌*◌, ◌^◌, ℕ, Bool, List, None, Some, IfOk, IfErr, IfSome, IfNone, IsTrue, IsUtf8, chars, true, false, length, string_bytes};
+ghost use Rattle.std.specs.Prelude.{◌≡◌, ◌≤◌, ◌<◌, ◌+◌, ◌*◌, ◌^◌, ℕ, Bool, List, None, Some, IfOk, IfErr, IfSome, IfNone, IsUtf8, chars, true, false, length, string_bytes};
 ghost use Rattle.std.specs.Option.{ForSome};
 ghost use Rattle.fancy_tree.specs.Pattern.{Pattern};
 ghost use Rattle.fancy_tree.specs.GroupNames.{names_of};
@@ -13,7 +13,7 @@ ghost use Rattle.fancy_code.specs.CodeLength.{code_len};
 ghost use Rattle.fancy_code.specs.Compile.{are_easy};
 ghost use Rattle.fancy_code.specs.Easy.{is_easy};
 ghost use Rattle.fancy_code.specs.Placed.{has_raw_byte, has_keep_start_in_look_around};
-ghost use Rattle.fancy_runner.specs.KeptTable.{table_base, table_in, place_kept, past_tried, steps_ahead, steps_from, taken_again};
+ghost use Rattle.fancy_runner.specs.KeptTable.{table_base, table_in, place_kept, past_tried, steps_ahead, steps_from};
 ghost use Rattle.fancy_input.specs.Work.{steps_of, returns_of, units_of};
 ghost use Rattle.fancy_code.specs.Tried.{NoneTried};
 ghost use Rattle.fancy_code.specs.Search.{search};
@@ -24,15 +24,15 @@ ghost use Rattle.fancy_prices.specs.Told.{ArePrices};
 ghost use Rattle.fancy_prices.specs.Once.{prices_once};
 ghost use Rattle.fancy_search.specs.Readings.{Reading, one_reading};
 ghost use Rattle.fancy_search.specs.Followed.{FollowsEach};
-ghost use Rattle.fancy_search.specs.Compiled.{IsSpelled};
-ghost use Rattle.fancy_search.specs.CompiledCode.{IsCompiled};
+ghost use Rattle.fancy_search.specs.Compiled.{IsSpelled, IsCompiled};
 ghost use Rattle.fancy_search.specs.Options.{meaning_in, dialect_of, is_easy_under};
 ghost use Rattle.fancy_search.specs.Refusals.{error_of};
 ghost use Rattle.fancy_search.specs.ProgramSize.{IsRefusedUnder, RefusesPattern, passes};
-ghost use Rattle.fancy_search.specs.Cached.{IsAnswerIn, IsAttemptIn, IsCleanlyFound};
+ghost use Rattle.fancy_search.specs.Cached.{IsAnswerIn, IsAttemptIn};
 
+use crate::asked::Asked;
 use crate::cache::{AttemptCache, AttemptNotes, Cache, Engine, Kept};
-use crate::following::{is_worth_following, shortest_followed};
+use crate::following::{Lengths, is_worth_following, shortest_followed};
 use crate::options::Options;
 use fancy_automaton::search as automaton;
 use fancy_bytes::lacking::{KnownBytes, RequiredBytes};
@@ -70,8 +70,8 @@ pub struct Program {
     easy: bool,
     /// Whether the automaton is worth its steps, and follows the code.
     plain: bool,
-    /// The shortest text that the automaton serves, in bytes.
-    shortest: usize,
+    /// The shortest texts that the automaton serves.
+    shortest: Lengths,
     /// The bytes that every haystack with a match has.
     required: RequiredBytes,
     /// What is told of the machine's attempts.
@@ -113,11 +113,11 @@ fn prices_of(alloc: Global, code: &Code, easy: bool) -> std::result::Result<Pric
 }
 
 impl Program {
-    ghost use Rattle.fancy_search.specs.SearchCounts.{RefusesEasy, IsOutOfSteps, HeedsStepLimit, HasNoStepsLeft, AllowsAllSteps, Counted, CountedUpTo, TriesNothing, tried_by, is_hopeless, IfFound, IsHardProgram, RefusesQuery, AllowsQuery, RefusesAttempt, AllowsAttempt, HasRoomFor, IsStopped, AddsReturns, AddsReturnsUpTo, step_bound, returns_taken};
-    ghost use Rattle.fancy_search.specs.Programs.{KeepsCharacters, program_pattern, program_options, program_groups, program_names, program_length, program_is_easy, program_limit, asked_of};
-    ghost use Rattle.fancy_search.specs.StackLimits.{HeedsStackLimit};
+    ghost use Rattle.fancy_search.specs.SearchCounts.{RefusesEasy, IsOutOfSteps, AllowsAllSteps, tried_by, is_hopeless, IfFound, IsHardProgram, RefusesQuery, RefusesAttempt, AllowsAttempt, HasRoomFor, step_bound};
+    ghost use Rattle.fancy_search.specs.Programs.{program_pattern, program_options, program_groups, program_names, program_length, program_is_easy, asked_of, query_in};
+    ghost use Rattle.fancy_search.specs.Served.{IsPosition, StandsIn, KeepsCounts, CountsReturns, HeedsStackLimit, Serves, ServesEasily};
     ghost use Rattle.fancy_search.specs.Starts.{may_start};
-    ghost use Rattle.fancy_search.specs.KeptTables.{KeepsTable, KeepsSteps, KeepsLines, IsKeptIn, KeepsNotes, kept_from, table_kept, TakesStepsToGo, SpendsSteps, KeepsOn, notes_ahead, notes_again};
+    ghost use Rattle.fancy_search.specs.KeptTables.{KeepsTable, KeepsSteps, KeepsLines, IsKeptIn, IsKeptFor, KeepsNotes, LeavesNotes, table_kept, ahead_with, most_with, notes_to_go, TakesStepsToGo, SpendsSteps, KeepsOn, notes_ahead};
     ghost use Rattle.fancy_search.specs.Options.{search_options};
 
     /// Reads a pattern under these options, and compiles it.
@@ -126,9 +126,10 @@ impl Program {
     /// size that is set, as `CompileError(PatternTooComplex)`, and where memory runs out (`Memory`).
     pub fn new(alloc: Global, pattern: &str, options: Options) -> Result<Program>
         ensures options { IfOk result (λ p. program_options p ≡ options) }
-        ensures spelled { IfOk result
-            (λ p. IsSpelled options pattern.now (program_pattern p) (program_groups p) (program_names p)) }
-        ensures sized { IfOk result (λ p. IsHardProgram p → passes (program_length p) options.max_prog_size ≡ false) }
+        ensures spelled { IfOk result (λ p. IsSpelled options pattern.now
+            (program_pattern p) (program_groups p) (program_names p)) }
+        ensures sized { IfOk result
+            (λ p. IsHardProgram p → passes (program_length p) options.max_prog_size ≡ false) }
         ensures refused { IfErr result (λ e. IsRefusedUnder options (chars pattern.now) e) }
         ensures succeeds { (q : Pattern) → IsPattern (dialect_of options) (chars pattern.now) q
             → IfErr result (λ e. RefusesPattern options q e) }
@@ -201,7 +202,8 @@ impl Program {
     /// Whether a match may start right before this byte, or with `None` at the end of the searched range. Where the answer is
     /// `false`, no match starts there. A pattern that may hold and consume nothing, or that has a `\K`, may start anywhere.
     pub fn may_start_before(&self, next: Option<u8>) -> bool
-        ensures { result ≡ may_start (meaning_in (program_options self.now)) (program_pattern self.now) next }
+        ensures { result
+            ≡ may_start (meaning_in (program_options self.now)) (program_pattern self.now) next }
     {
         match &self.code.prefilter.starts {
             None => true,
@@ -212,169 +214,108 @@ impl Program {
         }
     }
 
-    /// The first match that the request asks for in the bytes of a haystack, with `\G` on or off. Its groups stand in
-    /// `cache` then.
+    /// The first match that is asked for in the bytes of a haystack. Its groups stand in `cache` then.
     ///
-    /// `text` says that the haystack is text. Under `seek` positions are passed over where no match begins, as the first bytes tell, and
-    /// no step is taken where none is left, or where the haystack lacks a byte that every haystack with a match has. `known` is what
-    /// is known of the haystack's bytes: those that are looked for are added to it, so that the searches of a list look for each
-    /// once.
+    /// Under `seek` positions are passed over where no match begins, as the first bytes tell, and no step is taken where none is left,
+    /// or where the haystack lacks a byte that every haystack with a match has.
     ///
     /// It is refused where memory runs out (`Memory`); for a hard pattern past a limit: as `RuntimeError(BacktrackLimitExceeded)` or
     /// `RuntimeError(StackOverflow)`; and where it would do more work than `step_limit` allows, with what was counted in `work`
     /// before: as `RuntimeError(StepLimitExceeded)`.
     pub fn search(
         &self,
-        haystack: &[u8],
-        text: bool,
-        request: Request,
-        continues: bool,
-        known: &mut KnownBytes,
+        asked: &Asked<'_>,
         cache: &mut Cache,
         work: &mut Work,
     ) -> Result<Option<Found>>
-        requires inside { request.range_end ≤ length haystack.now }
-        requires text { text ≡ true → IsUtf8 haystack.now }
-        requires room { HasRoomFor self.now request work.old }
-        requires known { AreKnown known.old haystack.now }
-        ensures known { AreKnown known.new haystack.now }
-        ensures answer { IfOk result (λ m. IsAnswerIn m cache.new (asked_of self.now haystack.now request continues)) }
-        ensures ordered { IfFound result (λ f. f.start ≤ f.end) }
-        ensures inside { IfFound result (λ f. f.end ≤ request.range_end) }
-        ensures cleanly { KeepsCharacters self.now → IfFound result (IsCleanlyFound haystack.now) }
-        ensures steps { steps_of work.old ≤ steps_of work.new }
-        ensures idle { TriesNothing self.now (asked_of self.now haystack.now request continues)
-            → steps_of work.new ≡ steps_of work.old }
-        ensures none { TriesNothing self.now (asked_of self.now haystack.now request continues)
-            → IfOk result (λ m. m ≡ None) }
+        requires room { HasRoomFor self.now asked.now.request work.old }
+        ensures served { Serves self.now asked.now result cache.old cache.new work.old work.new }
         ensures bounded { program_is_easy self.now ≡ true
-            → steps_of work.new ≤ steps_of work.old + step_bound self.now request }
-        ensures returns { returns_of work.old ≤ returns_of work.new }
-        ensures paired { returns_of work.new ≤ steps_of work.new }
-        ensures within { HeedsStepLimit self.now work.old work.new }
-        ensures limited { IsOutOfSteps result → HasNoStepsLeft self.now work.new }
-        ensures unlimited { program_is_easy self.now ≡ true → AllowsAllSteps self.now request work.old
-            → IsOutOfSteps result → ⊥ }
-        ensures counted { Counted self.now (asked_of self.now haystack.now request continues) result work.old work.new }
-        ensures stopped { IsHardProgram self.now → IsStopped result
-            → AddsReturns work.old (program_limit self.now) work.new }
-        ensures fits { IsHardProgram self.now → AddsReturnsUpTo work.old (program_limit self.now) work.new }
-        ensures most { CountedUpTo self.now (asked_of self.now haystack.now request continues) work.old work.new }
-        ensures refused { IfErr result (RefusesQuery self.now (asked_of self.now haystack.now request continues)) }
-        ensures allowed { IfOk result (λ _. AllowsQuery self.now (asked_of self.now haystack.now request continues)) }
-        ensures heeds { HeedsStackLimit self.now cache.old cache.new }
+            → steps_of work.new ≤ steps_of work.old + step_bound self.now asked.now.request }
+        ensures unlimited { program_is_easy self.now ≡ true
+            → AllowsAllSteps self.now asked.now.request work.old → IsOutOfSteps result → ⊥ }
     {
         let mut kept = Kept::Nothing;
-        self.search_next(
-            haystack, text, request, continues, &mut kept, known, cache, work,
-        )
+        let mut known = KnownBytes::new();
+        self.search_next(asked, &mut kept, &mut known, cache, work)
     }
 
     /// A search of a list, as [`Program::search`] is a search alone: of one haystack up to one end, each from the end of the match
     /// before, or later.
     ///
     /// `kept` tells what the searches before left in `cache`, and then what this one leaves there for the next. For an easy pattern
-    /// what they found out is not followed again.
+    /// what they found out is not followed again. `known` is what is known of the haystack's bytes: those that are looked for are added
+    /// to it, so that the searches of a list look for each once.
     pub fn search_next(
         &self,
-        haystack: &[u8],
-        text: bool,
-        request: Request,
-        continues: bool,
+        asked: &Asked<'_>,
         kept: &mut Kept,
         known: &mut KnownBytes,
         cache: &mut Cache,
         work: &mut Work,
     ) -> Result<Option<Found>>
-        requires inside { request.range_end ≤ length haystack.now }
-        requires text { text ≡ true → IsUtf8 haystack.now }
-        requires room { HasRoomFor self.now request work.old }
-        requires known { AreKnown known.old haystack.now }
-        requires kept { IsKeptIn self.now haystack.now request kept.old (effective_start request) cache.old }
-        ensures known { AreKnown known.new haystack.now }
-        ensures answer { IfOk result (λ m. IsAnswerIn m cache.new (asked_of self.now haystack.now request continues)) }
-        ensures ordered { IfFound result (λ f. f.start ≤ f.end) }
-        ensures inside { IfFound result (λ f. f.end ≤ request.range_end) }
-        ensures cleanly { KeepsCharacters self.now → IfFound result (IsCleanlyFound haystack.now) }
-        ensures steps { steps_of work.old ≤ steps_of work.new }
-        ensures idle { TriesNothing self.now (asked_of self.now haystack.now request continues)
-            → steps_of work.new ≡ steps_of work.old }
-        ensures none { TriesNothing self.now (asked_of self.now haystack.now request continues)
-            → IfOk result (λ m. m ≡ None) }
-        ensures kept { IfFound result (λ f. IsKeptIn self.now haystack.now request kept.new f.end cache.new) }
+        requires room { HasRoomFor self.now asked.now.request work.old }
+        requires known { AreKnown known.old asked.now.haystack.now }
+        requires kept { IsKeptFor self.now asked.now kept.old
+            (effective_start asked.now.request) cache.old }
+        ensures known { AreKnown known.new asked.now.haystack.now }
+        ensures served { Serves self.now asked.now result cache.old cache.new work.old work.new }
+        ensures kept { IfFound result (λ f. IsKeptFor self.now asked.now kept.new f.end cache.new) }
         ensures fresh { program_is_easy self.now ≡ true → kept.old ≡ Kept.Nothing
-            → steps_of work.new ≤ steps_of work.old + step_bound self.now request }
+            → steps_of work.new ≤ steps_of work.old + step_bound self.now asked.now.request }
         ensures bounded { program_is_easy self.now ≡ true
-            → TakesStepsToGo self.now request kept.old cache.old work.old work.new }
-        ensures spent { program_is_easy self.now ≡ true → IfFound result
-            (λ f. SpendsSteps self.now request kept.old cache.old work.old kept.new cache.new work.new f.end) }
-        ensures goes_on { program_is_easy self.now ≡ true → IfFound result (λ _. KeepsOn kept.old kept.new) }
-        ensures returns { returns_of work.old ≤ returns_of work.new }
-        ensures paired { returns_of work.new ≤ steps_of work.new }
-        ensures within { HeedsStepLimit self.now work.old work.new }
-        ensures limited { IsOutOfSteps result → HasNoStepsLeft self.now work.new }
+            → TakesStepsToGo self.now asked.now.request kept.old cache.old work.old work.new }
+        ensures spent { program_is_easy self.now ≡ true → IfFound result (λ f. SpendsSteps
+            self.now asked.now.request kept.old cache.old work.old
+            kept.new cache.new work.new f.end) }
+        ensures goes_on { program_is_easy self.now ≡ true
+            → IfFound result (λ _. KeepsOn kept.old kept.new) }
         ensures unlimited { program_is_easy self.now ≡ true → kept.old ≡ Kept.Nothing
-            → AllowsAllSteps self.now request work.old → IsOutOfSteps result → ⊥ }
-        ensures counted { Counted self.now (asked_of self.now haystack.now request continues) result work.old work.new }
-        ensures stopped { IsHardProgram self.now → IsStopped result
-            → AddsReturns work.old (program_limit self.now) work.new }
-        ensures fits { IsHardProgram self.now → AddsReturnsUpTo work.old (program_limit self.now) work.new }
-        ensures most { CountedUpTo self.now (asked_of self.now haystack.now request continues) work.old work.new }
-        ensures refused { IfErr result (RefusesQuery self.now (asked_of self.now haystack.now request continues)) }
-        ensures allowed { IfOk result (λ _. AllowsQuery self.now (asked_of self.now haystack.now request continues)) }
-        ensures heeds { HeedsStackLimit self.now cache.old cache.new }
+            → AllowsAllSteps self.now asked.now.request work.old → IsOutOfSteps result → ⊥ }
     {
-        if self.is_hopeless(haystack, request, known) {
+        if self.is_hopeless(asked, known) {
             return Ok(None);
         }
         if self.easy {
-            return self.search_easy(haystack, text, request, kept, cache, work);
+            return self.search_easy(asked, kept, cache, work);
         }
         let is_kept = kept.is_lines();
         *kept = Kept::Lines;
-        self.backtrack(haystack, request, continues, is_kept, cache, work)
+        self.backtrack(asked, is_kept, cache, work)
     }
 
     /// The search for an easy pattern, by the automaton where that is worth its steps, and else by the runner. It has no `\G`.
     fn search_easy(
         &self,
-        haystack: &[u8],
-        text: bool,
-        request: Request,
+        asked: &Asked<'_>,
         kept: &mut Kept,
         cache: &mut Cache,
         work: &mut Work,
     ) -> Result<Option<Found>>
-        requires inside { request.range_end ≤ length haystack.now }
-        requires text { text ≡ true → IsUtf8 haystack.now }
         requires easy { program_is_easy self.now ≡ true }
-        requires room { HasRoomFor self.now request work.old }
-        requires kept { IsKeptIn self.now haystack.now request kept.old (effective_start request) cache.old }
-        ensures answer { IfOk result (λ m. (on : Bool) → IsAnswerIn m cache.new (asked_of self.now haystack.now request on)) }
-        ensures steps { steps_of work.old ≤ steps_of work.new }
-        ensures idle { (on : Bool) → NoneTried (program_options self.now).seek (asked_of self.now haystack.now request on)
-            → steps_of work.new ≡ steps_of work.old }
-        ensures kept { IfFound result (λ f. IsKeptIn self.now haystack.now request kept.new f.end cache.new) }
-        ensures fresh { kept.old ≡ Kept.Nothing → steps_of work.new ≤ steps_of work.old + step_bound self.now request }
-        ensures bounded { TakesStepsToGo self.now request kept.old cache.old work.old work.new }
-        ensures spent { IfFound result
-            (λ f. SpendsSteps self.now request kept.old cache.old work.old kept.new cache.new work.new f.end) }
+        requires room { HasRoomFor self.now asked.now.request work.old }
+        requires kept { IsKeptFor self.now asked.now kept.old
+            (effective_start asked.now.request) cache.old }
+        ensures served { ServesEasily self.now (query_in self.now asked.now) result
+            cache.old cache.new work.old work.new }
+        ensures kept { IfFound result (λ f. IsKeptFor self.now asked.now kept.new f.end cache.new) }
+        ensures fresh { kept.old ≡ Kept.Nothing
+            → steps_of work.new ≤ steps_of work.old + step_bound self.now asked.now.request }
+        ensures bounded { TakesStepsToGo self.now asked.now.request
+            kept.old cache.old work.old work.new }
+        ensures spent { IfFound result (λ f. SpendsSteps
+            self.now asked.now.request kept.old cache.old work.old
+            kept.new cache.new work.new f.end) }
         ensures goes_on { IfFound result (λ _. KeepsOn kept.old kept.new) }
-        ensures returns { returns_of work.old ≤ returns_of work.new }
-        ensures paired { returns_of work.new ≤ steps_of work.new }
-        ensures within { HeedsStepLimit self.now work.old work.new }
-        ensures limited { IsOutOfSteps result → HasNoStepsLeft self.now work.new }
-        ensures unlimited { kept.old ≡ Kept.Nothing → AllowsAllSteps self.now request work.old
-            → IsOutOfSteps result → ⊥ }
-        ensures refused { IfErr result (RefusesEasy self.now) }
-        ensures apart { cache.new.machine ≡ cache.old.machine }
+        ensures unlimited { kept.old ≡ Kept.Nothing
+            → AllowsAllSteps self.now asked.now.request work.old → IsOutOfSteps result → ⊥ }
     {
-        if self.is_followed(text, request, *kept, cache) && self.allows_all_steps(request, work) {
-            return self.follow(haystack, request, kept, cache, work);
+        if self.is_followed(asked, *kept, cache) && self.allows_all_steps(asked.request, work) {
+            return self.follow(asked.haystack, asked.request, kept, cache, work);
         }
         let mut table = kept.table();
         *kept = Kept::Nothing;
-        let found = self.run(haystack, request, &mut table, cache, work)?;
+        let found = self.run(asked.haystack, asked.request, &mut table, cache, work)?;
         *kept = Kept::of_table(table);
         Ok(found)
     }
@@ -382,7 +323,8 @@ impl Program {
     /// Whether a search of a haystack of this form goes from boundary to boundary: text by characters, or bytes one by one.
     fn keeps_places(&self, text: bool) -> bool
         ensures { result ≡ true → (haystack : List ℕ) → (text ≡ true → IsUtf8 haystack)
-            → KeepsPlaces haystack self.now.code.meaning (search_options self.now.options).on_boundaries }
+            → KeepsPlaces haystack
+            self.now.code.meaning (search_options self.now.options).on_boundaries }
     {
         let on_boundaries = self.options.bytes_mode.keeps_characters();
         match self.code.meaning {
@@ -395,7 +337,8 @@ impl Program {
     fn can_follow(&self, text: bool) -> bool
         ensures plain { result ≡ true → ArePlain (instrs_of self.now.code) }
         ensures places { result ≡ true → (haystack : List ℕ) → (text ≡ true → IsUtf8 haystack)
-            → KeepsPlaces haystack self.now.code.meaning (search_options self.now.options).on_boundaries }
+            → KeepsPlaces haystack
+            self.now.code.meaning (search_options self.now.options).on_boundaries }
     {
         if !self.plain {
             return false;
@@ -404,20 +347,20 @@ impl Program {
     }
 
     /// Whether the automaton serves a search: where it follows the code, the search is not anchored, and it is worth its steps.
-    fn is_followed(&self, text: bool, request: Request, kept: Kept, cache: &Cache) -> bool
+    fn is_followed(&self, asked: &Asked<'_>, kept: Kept, cache: &Cache) -> bool
         ensures plain { result ≡ true → ArePlain (instrs_of self.now.code) }
-        ensures places { result ≡ true → (haystack : List ℕ) → (text ≡ true → IsUtf8 haystack)
-            → KeepsPlaces haystack self.now.code.meaning (search_options self.now.options).on_boundaries }
-        ensures free { result ≡ true → request.anchored ≡ false }
+        ensures places { result ≡ true → KeepsPlaces asked.now.haystack.now self.now.code.meaning
+            (search_options self.now.options).on_boundaries }
+        ensures free { result ≡ true → asked.now.request.anchored ≡ false }
         ensures none { result ≡ true → table_kept kept ≡ None }
     {
-        if request.anchored {
+        if asked.request.anchored {
             return false;
         }
-        if !cache.is_worth_steps(request, kept, self.shortest) {
+        if !cache.is_worth_steps(asked.haystack, asked.request, kept, self.shortest) {
             return false;
         }
-        self.can_follow(text)
+        self.can_follow(asked.text)
     }
 
     /// Whether the limit of steps allows all that an easy search takes at most, besides what was done before.
@@ -444,23 +387,21 @@ impl Program {
         requires inside { request.range_end ≤ length haystack.now }
         requires easy { program_is_easy self.now ≡ true }
         requires plain { ArePlain (instrs_of self.now.code) }
-        requires places { KeepsPlaces haystack.now self.now.code.meaning (search_options self.now.options).on_boundaries }
+        requires places { KeepsPlaces haystack.now self.now.code.meaning
+            (search_options self.now.options).on_boundaries }
         requires free { request.anchored ≡ false }
         requires room { HasRoomFor self.now request work.old }
         requires allowed { AllowsAllSteps self.now request work.old }
         requires kept { kept.old ≡ Kept.Steps → KeepsSteps self.now cache.old }
-        ensures answer { IfOk result (λ m. (on : Bool) → IsAnswerIn m cache.new (asked_of self.now haystack.now request on)) }
-        ensures steps { steps_of work.old ≤ steps_of work.new }
-        ensures idle { (on : Bool) → NoneTried (program_options self.now).seek (asked_of self.now haystack.now request on)
-            → steps_of work.new ≡ steps_of work.old }
-        ensures kept { IfFound result (λ f. IsKeptIn self.now haystack.now request kept.new f.end cache.new) }
+        ensures served { (on : Bool) → ServesEasily self.now
+            (asked_of self.now haystack.now request on) result
+            cache.old cache.new work.old work.new }
+        ensures kept { IfFound result (λ f. IsKeptIn
+            self.now haystack.now request kept.new f.end cache.new) }
         ensures left { kept.new ≡ Kept.Steps }
         ensures bounded { steps_of work.new ≤ steps_of work.old + step_bound self.now request }
         ensures returns { returns_of work.new ≡ returns_of work.old }
-        ensures paired { returns_of work.new ≤ steps_of work.new }
-        ensures within { HeedsStepLimit self.now work.old work.new }
         ensures refused { IfErr result (λ e. e ≡ Error.Memory) }
-        ensures apart { cache.new.machine ≡ cache.old.machine }
     {
         cache.ready_steps(kept.is_steps());
         *kept = Kept::Steps;
@@ -478,26 +419,27 @@ impl Program {
 
     /// Whether a byte that the pattern requires was looked for, and does not stand in the haystack: then nothing is found.
     #[inline]
-    fn is_hopeless(&self, haystack: &[u8], request: Request, known: &mut KnownBytes) -> bool
-        requires known { AreKnown known.old haystack.now }
-        ensures known { AreKnown known.new haystack.now }
-        ensures none { result ≡ true → (on : Bool) → search (asked_of self.now haystack.now request on) ≡ None }
-        ensures seeks { result ≡ false → (on : Bool) → is_hopeless self.now (asked_of self.now haystack.now request on) ≡ false }
+    fn is_hopeless(&self, asked: &Asked<'_>, known: &mut KnownBytes) -> bool
+        requires known { AreKnown known.old asked.now.haystack.now }
+        ensures known { AreKnown known.new asked.now.haystack.now }
+        ensures none { result ≡ true → search (query_in self.now asked.now) ≡ None }
+        ensures seeks { result ≡ false
+            → is_hopeless self.now (query_in self.now asked.now) ≡ false }
         ensures hard { IsHardProgram self.now → result ≡ true
-            → (on : Bool) → is_hopeless self.now (asked_of self.now haystack.now request on) ≡ true }
+            → is_hopeless self.now (query_in self.now asked.now) ≡ true }
     {
-        let start = request.effective_start();
-        self.looks_for_required(haystack, request)
-            && self.required.are_lacking(haystack, start, known)
+        let start = asked.request.effective_start();
+        self.looks_for_required(asked) && self.required.are_lacking(asked.haystack, start, known)
     }
 
     /// Whether a search begins with a look for the bytes that the pattern requires: where it seeks, and for an easy pattern also
     /// where all of the haystack is searched.
     #[inline]
-    fn looks_for_required(&self, haystack: &[u8], request: Request) -> bool
+    fn looks_for_required(&self, asked: &Asked<'_>) -> bool
         ensures seeks { (program_options self.now).seek ≡ true → result ≡ true }
         ensures unasked { IsHardProgram self.now → result ≡ (program_options self.now).seek }
     {
+        let (haystack, request) = (asked.haystack, asked.request);
         let searches_all = !request.anchored
             && request.effective_start() == 0
             && request.range_end == haystack.len();
@@ -514,8 +456,8 @@ impl Program {
         }
     }
 
-    /// The match that an attempt at one position finds, from the effective start of the request on, with `\G` on: it may hold
-    /// at the effective start, and not at the position. Its groups stand in `cache` then.
+    /// The match that an attempt at one position finds, from the effective start of the request on: `\G` may hold at the effective
+    /// start, and not at the position. Its groups stand in `cache` then.
     ///
     /// Under `seek` a position that a search passes over is not tried, and nothing is found there. What is learnt of the haystack's
     /// bytes stays in `cache`, so that the attempts in one haystack look for each byte once. What attempts with this program found
@@ -526,122 +468,101 @@ impl Program {
     /// It is refused as [`Program::search`] is, for what the attempt takes.
     pub fn attempt_at(
         &self,
-        haystack: &[u8],
-        request: Request,
+        asked: &Asked<'_>,
         position: usize,
         notes: &mut AttemptNotes,
         cache: &mut AttemptCache,
         work: &mut Work,
     ) -> Result<Option<Found>>
-        requires inside { request.range_end ≤ length haystack.now }
-        requires starts { effective_start request ≤ position }
-        requires ends { position ≤ request.range_end }
-        requires room { HasRoomFor self.now (record request { start = position }) work.old }
-        requires known { AreKnown cache.old.known haystack.now }
-        requires notes { KeepsNotes self.now haystack.now request position notes.old }
-        ensures known { AreKnown cache.new.known haystack.now }
+        requires tries { IsPosition asked.now.request position }
+        requires room { HasRoomFor self.now
+            (record asked.now.request { start = position }) work.old }
+        requires known { AreKnown cache.old.known asked.now.haystack.now }
+        requires notes { KeepsNotes self.now
+            asked.now.haystack.now asked.now.request position notes.old }
+        ensures known { AreKnown cache.new.known asked.now.haystack.now }
         ensures counted { cache.new.work ≡ cache.old.work }
-        ensures notes { IfOk result
-            (λ m. KeepsNotes self.now haystack.now request (kept_from m position) notes.new) }
-        ensures dropped { IfErr result (λ _. KeepsNotes self.now haystack.now request position notes.new) }
+        ensures notes { LeavesNotes self.now asked.now position result notes.new }
         ensures bounded { program_is_easy self.now ≡ true → steps_of work.new
-            ≤ steps_of work.old + (notes_ahead self.now request position notes.old + notes_again self.now position notes.old) }
+            ≤ steps_of work.old + notes_to_go self.now asked.now.request position notes.old }
         ensures spent { program_is_easy self.now ≡ true → IfOk result (λ m. IfNone m
-            (steps_of work.new + notes_ahead self.now request (position + 1) notes.new
-            ≤ steps_of work.old + (notes_ahead self.now request position notes.old + notes_again self.now position notes.old))) }
+            (steps_of work.new + notes_ahead self.now asked.now.request (position + 1) notes.new
+            ≤ steps_of work.old + notes_to_go self.now asked.now.request position notes.old)) }
         ensures answer { IfOk result
-            (λ m. IsAttemptIn m cache.new.engines (asked_of self.now haystack.now request true) position) }
-        ensures ordered { IfFound result (λ f. f.start ≤ f.end) }
-        ensures inside { IfFound result (λ f. f.end ≤ request.range_end) }
-        ensures cleanly { KeepsCharacters self.now → IfFound result (IsCleanlyFound haystack.now) }
-        ensures steps { steps_of work.old ≤ steps_of work.new }
-        ensures idle { tried_by self.now (asked_of self.now haystack.now request true) position ≡ false
+            (λ m. IsAttemptIn m cache.new.engines (query_in self.now asked.now) position) }
+        ensures stands { IfFound result (StandsIn self.now asked.now) }
+        ensures counts { KeepsCounts self.now result work.old work.new }
+        ensures idle { tried_by self.now (query_in self.now asked.now) position ≡ false
             → steps_of work.new ≡ steps_of work.old }
-        ensures returns { returns_of work.old ≤ returns_of work.new }
         ensures units { units_of work.old ≤ units_of work.new }
         ensures easy { program_is_easy self.now ≡ true → units_of work.new ≡ units_of work.old }
-        ensures paired { returns_of work.new ≤ steps_of work.new }
-        ensures within { HeedsStepLimit self.now work.old work.new }
-        ensures limited { IsOutOfSteps result → HasNoStepsLeft self.now work.new }
         ensures refused { IfErr result
-            (RefusesAttempt self.now (asked_of self.now haystack.now request true) position) }
+            (RefusesAttempt self.now (query_in self.now asked.now) position) }
         ensures allowed { IfOk result
-            (λ _. AllowsAttempt self.now (asked_of self.now haystack.now request true) position) }
+            (λ _. AllowsAttempt self.now (query_in self.now asked.now) position) }
         ensures heeds { HeedsStackLimit self.now cache.old.engines cache.new.engines }
     {
-        if !self.is_tried(haystack, request, position, &mut cache.known) {
+        if !self.is_tried(asked, position, &mut cache.known) {
             return Ok(None);
         }
         let cache = &mut cache.engines;
         if self.easy {
-            return self.run_at(haystack, request, position, notes, cache, work);
+            return self.run_at(asked, position, notes, cache, work);
         }
-        self.backtrack_at(haystack, request, position, cache, work)
+        self.backtrack_at(asked, position, cache, work)
     }
 
     /// The attempt at one position for an easy pattern, by the runner, which goes on with the notes.
     fn run_at(
         &self,
-        haystack: &[u8],
-        request: Request,
+        asked: &Asked<'_>,
         position: usize,
         notes: &mut AttemptNotes,
         cache: &mut Cache,
         work: &mut Work,
     ) -> Result<Option<Found>>
-        requires inside { request.range_end ≤ length haystack.now }
-        requires starts { effective_start request ≤ position }
-        requires ends { position ≤ request.range_end }
+        requires tries { IsPosition asked.now.request position }
         requires easy { program_is_easy self.now ≡ true }
-        requires room { HasRoomFor self.now (record request { start = position }) work.old }
-        requires notes { KeepsNotes self.now haystack.now request position notes.old }
-        ensures notes { IfOk result
-            (λ m. KeepsNotes self.now haystack.now request (kept_from m position) notes.new) }
-        ensures dropped { IfErr result (λ _. KeepsNotes self.now haystack.now request position notes.new) }
-        ensures answer { IfOk result (λ m. IsAttemptIn m cache.new (asked_of self.now haystack.now request true) position) }
-        ensures steps { steps_of work.old ≤ steps_of work.new }
+        requires room { HasRoomFor self.now
+            (record asked.now.request { start = position }) work.old }
+        requires notes { KeepsNotes self.now
+            asked.now.haystack.now asked.now.request position notes.old }
+        ensures notes { LeavesNotes self.now asked.now position result notes.new }
+        ensures answer { IfOk result
+            (λ m. IsAttemptIn m cache.new (query_in self.now asked.now) position) }
         ensures bounded { steps_of work.new
-            ≤ steps_of work.old + (notes_ahead self.now request position notes.old + notes_again self.now position notes.old) }
+            ≤ steps_of work.old + notes_to_go self.now asked.now.request position notes.old }
         ensures spent { IfOk result (λ m. IfNone m
-            (steps_of work.new + notes_ahead self.now request (position + 1) notes.new
-            ≤ steps_of work.old + (notes_ahead self.now request position notes.old + notes_again self.now position notes.old))) }
-        ensures returns { returns_of work.old ≤ returns_of work.new }
+            (steps_of work.new + notes_ahead self.now asked.now.request (position + 1) notes.new
+            ≤ steps_of work.old + notes_to_go self.now asked.now.request position notes.old)) }
+        ensures counts { KeepsCounts self.now result work.old work.new }
         ensures units { units_of work.new ≡ units_of work.old }
-        ensures paired { returns_of work.new ≤ steps_of work.new }
-        ensures within { HeedsStepLimit self.now work.old work.new }
-        ensures limited { IsOutOfSteps result → HasNoStepsLeft self.now work.new }
         ensures refused { IfErr result (RefusesEasy self.now) }
         ensures apart { cache.new.machine ≡ cache.old.machine }
     {
         let from_position = Request {
             start: position,
             anchored: true,
-            ..request
+            ..asked.request
         };
         cache.runner.swap_notes(&mut notes.notes);
-        let found = self.run(haystack, from_position, &mut notes.kept, cache, work);
+        let found = self.run(asked.haystack, from_position, &mut notes.kept, cache, work);
         cache.runner.swap_notes(&mut notes.notes);
         found
     }
 
     /// Whether an attempt at a position is made: always, but under `seek` only where a byte stands that a match may start with, and
     /// where the haystack lacks no byte that the pattern requires.
-    fn is_tried(
-        &self,
-        haystack: &[u8],
-        request: Request,
-        position: usize,
-        known: &mut KnownBytes,
-    ) -> bool
-        requires inside { request.range_end ≤ length haystack.now }
-        requires known { AreKnown known.old haystack.now }
-        ensures known { AreKnown known.new haystack.now }
-        ensures tried { result ≡ tried_by self.now (asked_of self.now haystack.now request true) position }
+    fn is_tried(&self, asked: &Asked<'_>, position: usize, known: &mut KnownBytes) -> bool
+        requires known { AreKnown known.old asked.now.haystack.now }
+        ensures known { AreKnown known.new asked.now.haystack.now }
+        ensures tried { result ≡ tried_by self.now (query_in self.now asked.now) position }
     {
         if !self.options.seek {
             return true;
         }
-        let next = byte_at(&haystack[..request.range_end], position);
+        let haystack = asked.haystack;
+        let next = byte_at(&haystack[..asked.request.range_end], position);
         self.may_start_before(next) && !self.required.are_lacking(haystack, position, known)
     }
 
@@ -658,40 +579,31 @@ impl Program {
         requires inside { request.range_end ≤ length haystack.now }
         requires easy { program_is_easy self.now ≡ true }
         requires room { HasRoomFor self.now request work.old }
-        requires kept { IfSome kept.old
-            (λ k. KeepsTable self.now haystack.now request k (effective_start request) cache.old) }
-        ensures answer { IfOk result (λ m. (on : Bool) → IsAnswerIn m cache.new (asked_of self.now haystack.now request on)) }
+        requires kept { IfSome kept.old (λ k. KeepsTable
+            self.now haystack.now request k (effective_start request) cache.old) }
+        ensures served { (on : Bool) → ServesEasily self.now
+            (asked_of self.now haystack.now request on) result
+            cache.old cache.new work.old work.new }
         ensures here { IfFound result (λ f. f.start ≡ f.position) }
         ensures ordered { IfFound result (λ f. effective_start request ≤ f.end) }
-        ensures steps { steps_of work.old ≤ steps_of work.new }
-        ensures idle { (on : Bool) → NoneTried (program_options self.now).seek (asked_of self.now haystack.now request on)
-            → steps_of work.new ≡ steps_of work.old }
-        ensures kept { IfOk result (λ m. IfSome kept.new
-            (λ k. KeepsTable self.now haystack.now request k (place_kept m request) cache.new)) }
-        ensures left { IfFound result
-            (λ f. kept.new ≡ Some (record { base = table_base kept.old request; from = f.end + 1 })) }
+        ensures kept { IfOk result (λ m. IfSome kept.new (λ k. KeepsTable
+            self.now haystack.now request k (place_kept m request) cache.new)) }
+        ensures left { IfFound result (λ f. kept.new
+            ≡ Some (record { base = table_base kept.old request; from = f.end + 1 })) }
         ensures dropped { IfErr result (λ _. kept.new ≡ None) }
-        ensures bounded { steps_of work.new ≤ steps_of work.old
-            + (steps_from kept.old self.now.code request (effective_start request) (table_in cache.old.runner)
-            + taken_again kept.old self.now.code (effective_start request)) }
+        ensures bounded { steps_of work.new
+            ≤ steps_of work.old + most_with self.now request kept.old cache.old }
         ensures passed { IfOk result (λ m. IfNone m (steps_of work.new
-            + steps_from kept.new self.now.code request (past_tried request) (table_in cache.new.runner)
+            + steps_from kept.new self.now.code request (past_tried request)
+            (table_in cache.new.runner)
+            ≤ steps_of work.old + most_with self.now request kept.old cache.old)) }
+        ensures spent { IfFound result (λ f. steps_of work.new + steps_ahead self.now.code
+            request (table_base kept.old request) f.end (table_in cache.new.runner)
             ≤ steps_of work.old
-            + (steps_from kept.old self.now.code request (effective_start request) (table_in cache.old.runner)
-            + taken_again kept.old self.now.code (effective_start request)))) }
-        ensures spent { IfFound result (λ f. steps_of work.new
-            + steps_ahead self.now.code request (table_base kept.old request) f.end (table_in cache.new.runner)
-            ≤ steps_of work.old
-            + (steps_from kept.old self.now.code request (effective_start request) (table_in cache.old.runner)
-            + program_length self.now)) }
-        ensures returns { returns_of work.old ≤ returns_of work.new }
+            + (ahead_with self.now request kept.old cache.old + program_length self.now)) }
         ensures units { units_of work.new ≡ units_of work.old }
-        ensures paired { returns_of work.new ≤ steps_of work.new }
-        ensures within { HeedsStepLimit self.now work.old work.new }
-        ensures limited { IsOutOfSteps result → HasNoStepsLeft self.now work.new }
-        ensures unlimited { kept.old ≡ None → AllowsAllSteps self.now request work.old → IsOutOfSteps result → ⊥ }
-        ensures refused { IfErr result (RefusesEasy self.now) }
-        ensures apart { cache.new.machine ≡ cache.old.machine }
+        ensures unlimited { kept.old ≡ None → AllowsAllSteps self.now request work.old
+            → IsOutOfSteps result → ⊥ }
     {
         cache.served = Engine::Runner;
         let runner = &mut cache.runner;
@@ -706,34 +618,27 @@ impl Program {
     /// The search for a hard pattern, by the backtracking machine. `is_kept` says that the search before was of the same haystack.
     fn backtrack(
         &self,
-        haystack: &[u8],
-        request: Request,
-        continues: bool,
+        asked: &Asked<'_>,
         is_kept: bool,
         cache: &mut Cache,
         work: &mut Work,
     ) -> Result<Option<Found>>
         ghost p: { Pattern }
-        requires inside { request.range_end ≤ length haystack.now }
         requires of { p ≡ program_pattern self.now }
         requires hard { IsHardProgram self.now }
-        requires hopeful { is_hopeless self.now (asked_of self.now haystack.now request continues) ≡ false }
-        requires room { HasRoomFor self.now request work.old }
-        requires kept { is_kept ≡ true → KeepsLines haystack.now cache.old }
-        ensures answer { IfOk result (λ m. IsAnswerIn m cache.new (asked_of self.now haystack.now request continues)) }
-        ensures kept { IfOk result (λ m. IfSome m (λ _. KeepsLines haystack.now cache.new)) }
-        ensures steps { steps_of work.old ≤ steps_of work.new }
-        ensures idle { NoneTried (program_options self.now).seek (asked_of self.now haystack.now request continues)
+        requires hopeful { is_hopeless self.now (query_in self.now asked.now) ≡ false }
+        requires room { HasRoomFor self.now asked.now.request work.old }
+        requires kept { is_kept ≡ true → KeepsLines asked.now.haystack.now cache.old }
+        ensures answer { IfOk result (λ m. IsAnswerIn m cache.new (query_in self.now asked.now)) }
+        ensures kept { IfOk result (λ m. IfSome m
+            (λ _. KeepsLines asked.now.haystack.now cache.new)) }
+        ensures counts { KeepsCounts self.now result work.old work.new }
+        ensures idle { NoneTried (program_options self.now).seek (query_in self.now asked.now)
             → steps_of work.new ≡ steps_of work.old }
-        ensures returns { returns_of work.old ≤ returns_of work.new }
-        ensures paired { returns_of work.new ≤ steps_of work.new }
-        ensures within { HeedsStepLimit self.now work.old work.new }
-        ensures limited { IsOutOfSteps result → HasNoStepsLeft self.now work.new }
-        ensures counted { IfOk result (λ _. AddsReturns work.old (returns_taken self.now (asked_of self.now haystack.now request continues)) work.new) }
-        ensures stopped { IsStopped result → AddsReturns work.old (program_limit self.now) work.new }
-        ensures fits { AddsReturnsUpTo work.old (program_limit self.now) work.new }
-        ensures most { AddsReturnsUpTo work.old (returns_taken self.now (asked_of self.now haystack.now request continues)) work.new }
-        ensures refused { IfErr result (λ e. RefusesQuery self.now (asked_of self.now haystack.now request continues) e) }
+        ensures returned { CountsReturns self.now (query_in self.now asked.now)
+            result work.old work.new }
+        ensures refused { IfErr result
+            (λ e. RefusesQuery self.now (query_in self.now asked.now) e) }
         ensures heeds { HeedsStackLimit self.now cache.old cache.new }
     {
         cache.served = Engine::Machine;
@@ -742,10 +647,10 @@ impl Program {
         match machine::search(
             &self.code,
             &self.prices,
-            haystack,
-            request,
+            asked.haystack,
+            asked.request,
             options,
-            continues,
+            asked.continues,
             is_kept,
             machine,
             work,
@@ -758,29 +663,26 @@ impl Program {
     /// The attempt at one position for a hard pattern, by the backtracking machine.
     fn backtrack_at(
         &self,
-        haystack: &[u8],
-        request: Request,
+        asked: &Asked<'_>,
         position: usize,
         cache: &mut Cache,
         work: &mut Work,
     ) -> Result<Option<Found>>
         ghost p: { Pattern }
-        requires inside { request.range_end ≤ length haystack.now }
-        requires starts { effective_start request ≤ position }
-        requires ends { position ≤ request.range_end }
+        requires tries { IsPosition asked.now.request position }
         requires of { p ≡ program_pattern self.now }
         requires hard { IsHardProgram self.now }
-        requires tried { tried_by self.now (asked_of self.now haystack.now request true) position ≡ true }
-        requires room { HasRoomFor self.now (record request { start = position }) work.old }
-        ensures answer { IfOk result (λ m. IsAttemptIn m cache.new (asked_of self.now haystack.now request true) position) }
-        ensures steps { steps_of work.old ≤ steps_of work.new }
-        ensures returns { returns_of work.old ≤ returns_of work.new }
+        requires tried { tried_by self.now (query_in self.now asked.now) position ≡ true }
+        requires room { HasRoomFor self.now
+            (record asked.now.request { start = position }) work.old }
+        ensures answer { IfOk result
+            (λ m. IsAttemptIn m cache.new (query_in self.now asked.now) position) }
+        ensures counts { KeepsCounts self.now result work.old work.new }
         ensures units { units_of work.old ≤ units_of work.new }
-        ensures paired { returns_of work.new ≤ steps_of work.new }
-        ensures within { HeedsStepLimit self.now work.old work.new }
-        ensures limited { IsOutOfSteps result → HasNoStepsLeft self.now work.new }
-        ensures refused { IfErr result (λ e. RefusesAttempt self.now (asked_of self.now haystack.now request true) position e) }
-        ensures allowed { IfOk result (λ _. AllowsAttempt self.now (asked_of self.now haystack.now request true) position) }
+        ensures refused { IfErr result
+            (λ e. RefusesAttempt self.now (query_in self.now asked.now) position e) }
+        ensures allowed { IfOk result
+            (λ _. AllowsAttempt self.now (query_in self.now asked.now) position) }
         ensures heeds { HeedsStackLimit self.now cache.old cache.new }
     {
         cache.served = Engine::Machine;
@@ -789,10 +691,10 @@ impl Program {
         match machine::attempt_at(
             &self.code,
             &self.prices,
-            haystack,
-            request,
+            asked.haystack,
+            asked.request,
             options,
-            true,
+            asked.continues,
             position,
             machine,
             work,

@@ -1,16 +1,15 @@
 //! Where an iteration over matches stands, and its next match.
 
-ghost use Rattle.std.specs.Prelude.{◌≡◌, ◌≤◌, ◌<◌, ◌+◌, ◌^◌, ◌&&◌, not, nat_eq, true, false, None, option_map, length, IsTrue, IfOk, IfErr, IfSome, IfNone, MatchOption, ⊤};
+ghost use Rattle.std.specs.Prelude.{◌≡◌, ◌≤◌, ◌<◌, ◌+◌, ◌^◌, ◌&&◌, not, nat_eq, true, false, None, option_map, length, IsTrue, IfOk, IfErr, IfNone, MatchOption, ⊤};
 ghost use Rattle.fancy_input.specs.Inputs.{haystack_in, request_in};
 ghost use Rattle.fancy_input.specs.Places.{is_boundary};
 ghost use Rattle.fancy_input.specs.Requests.{effective_start};
-ghost use Rattle.fancy_search.specs.Programs.{program_options};
 ghost use Rattle.fancy_bytes.specs.Lacks.{AreKnown};
-ghost use Rattle.fancy_search.specs.Searching.{Suits};
 ghost use Rattle.fancy_search.specs.declared.cache.Cache.{Cache};
 ghost use Rattle.fancy_search.specs.declared.program.Program.{Program};
 ghost use Rattle.fancy_search.specs.Remaining.{standing_after, EndsUnlessOk, IfItem, IfRefusal, UnlessRefusal};
 
+use crate::asked::Asked;
 use crate::cache::{Cache, Kept};
 use crate::program::Program;
 use fancy_bytes::lacking::KnownBytes;
@@ -57,8 +56,9 @@ pub struct Searcher<S: Haystack> {
 
 impl<S: Input> Searcher<S> {
     ghost use Rattle.fancy_search.specs.KeptTables.{KeepsFrom, Keeps};
-    ghost use Rattle.fancy_search.specs.Searchers.{IsCutOut, KeepsEnd, scan_of, standing_of, answer_next, item_next, start_next, end_of_items, place_after, start_after, RefusesAnswer, RefusesItem, AllowsAnswer, AllowsItem};
-    ghost use Rattle.fancy_search.specs.FoundItems.{item_in, HasGroupsOf, GivesItem};
+    ghost use Rattle.fancy_search.specs.Searchers.{IsSuited, GoesTo, IsCutOut, KeepsEnd, scan_of, standing_of, answer_next, item_next, start_next, end_of_items, place_after, start_after, RefusesAnswer, RefusesItem, AllowsAnswer, AllowsItem};
+    ghost use Rattle.fancy_search.specs.FoundItems.{item_in, HasGroupsOf, IsGiven, GivesItem};
+    ghost use Rattle.fancy_search.specs.SearchCounts.{IfFound};
 
     /// The iteration of `input`.
     pub fn new(input: RegexInput<S>) -> Searcher<S>
@@ -108,12 +108,7 @@ impl<S: Input> Searcher<S> {
 
     /// Has the next search start at `start`.
     fn go_to(&mut self, start: usize, continues: bool, skips_empty: bool)
-        ensures haystack { self.new.haystack ≡ self.old.haystack }
-        ensures request { self.new.request ≡ record self.old.request { start = start } }
-        ensures continues { self.new.continues ≡ continues }
-        ensures skips_empty { self.new.skips_empty ≡ skips_empty }
-        ensures ended { self.new.ended ≡ self.old.ended }
-        ensures kept { self.new.kept ≡ self.old.kept }
+        ensures goes { GoesTo self.old self.new start continues skips_empty }
     {
         self.request.start = start;
         self.continues = continues;
@@ -123,13 +118,10 @@ impl<S: Input> Searcher<S> {
     /// Has the next search start at the place after `end`, where an empty match stands.
     fn go_past(&mut self, end: usize, continues: bool)
         requires inside { end ≤ length (S.bytes self.old.haystack) }
-        requires place { S.text self.old.haystack ≡ true → IsTrue (is_boundary (S.bytes self.old.haystack) end) }
-        ensures haystack { self.new.haystack ≡ self.old.haystack }
-        ensures request { self.new.request ≡ record self.old.request { start = place_after S.text S.bytes self.old end } }
-        ensures continues { self.new.continues ≡ continues }
-        ensures skips_empty { self.new.skips_empty ≡ false }
-        ensures ended { self.new.ended ≡ self.old.ended }
-        ensures kept { self.new.kept ≡ self.old.kept }
+        requires place { S.text self.old.haystack ≡ true
+            → IsTrue (is_boundary (S.bytes self.old.haystack) end) }
+        ensures goes { GoesTo self.old self.new
+            (place_after S.text S.bytes self.old end) continues false }
         ensures later { end < self.new.request.start }
     {
         let next = self.haystack.advance_position(end);
@@ -139,12 +131,9 @@ impl<S: Input> Searcher<S> {
     /// Goes on after an item.
     fn go_after(&mut self, item: FoundItem)
         requires span { IsCutOut S.text S.bytes self.old item }
-        ensures haystack { self.new.haystack ≡ self.old.haystack }
-        ensures request { self.new.request ≡ record self.old.request { start = self.new.request.start } }
-        ensures continues { self.new.continues ≡ not (nat_eq item.found.start item.found.end && nat_eq item.from item.found.end) }
-        ensures skips_empty { self.new.skips_empty ≡ not (nat_eq item.found.start item.found.end) }
-        ensures ended { self.new.ended ≡ self.old.ended }
-        ensures kept { self.new.kept ≡ self.old.kept }
+        ensures goes { GoesTo self.old self.new self.new.request.start
+            (not (nat_eq item.found.start item.found.end && nat_eq item.from item.found.end))
+            (not (nat_eq item.found.start item.found.end)) }
         ensures moved { item.found.end ≤ self.new.request.start }
         ensures stands { self.new.request.start ≡ start_after S.text S.bytes self.old item }
     {
@@ -159,13 +148,15 @@ impl<S: Input> Searcher<S> {
     /// The answer of the next search.
     #[tactic(auto, unfolding(crate::specs::MatchList::answer))]
     fn answer(&mut self, program: &Program, cache: &mut Cache) -> Result<Option<FoundItem>>
-        requires suits { Suits (program_options program.now) (S.text self.old.haystack) (S.bytes self.old.haystack) }
-        requires kept { KeepsFrom S.bytes program.now self.old cache.old (effective_start self.old.request) }
-        ensures value { IfOk result (λ o. option_map (item_in cache.new) o ≡ answer_next S.text S.bytes program.now self.old) }
-        ensures placed { IfOk result (λ o. IfSome o (λ i. IsCutOut S.text S.bytes self.old i)) }
-        ensures after { IfOk result (λ o. IfSome o (λ i. self.old.request.start ≤ i.found.start)) }
-        ensures groups { IfOk result (λ o. IfSome o (λ i. HasGroupsOf S.text S.bytes self.old i cache.new)) }
-        ensures kept { IfOk result (λ o. IfSome o (λ i. KeepsFrom S.bytes program.now self.new cache.new i.found.end)) }
+        requires suits { IsSuited S.text S.bytes program.now self.old }
+        requires kept { KeepsFrom S.bytes program.now self.old cache.old
+            (effective_start self.old.request) }
+        ensures value { IfOk result
+            (λ o. option_map (item_in cache.new) o
+            ≡ answer_next S.text S.bytes program.now self.old) }
+        ensures item { IfFound result (λ i. IsGiven S.text S.bytes self.old i cache.new) }
+        ensures kept { IfFound result
+            (λ i. KeepsFrom S.bytes program.now self.new cache.new i.found.end) }
         ensures haystack { self.new.haystack ≡ self.old.haystack }
         ensures request { self.new.request ≡ self.old.request }
         ensures continues { self.new.continues ≡ self.old.continues }
@@ -175,18 +166,14 @@ impl<S: Input> Searcher<S> {
         ensures allowed { IfOk result (λ _. AllowsAnswer S.bytes program.now self.old) }
     {
         let from = self.request.effective_start();
+        let asked = Asked {
+            haystack: self.haystack.as_bytes(),
+            text: self.haystack.is_text(),
+            request: self.request,
+            continues: self.continues,
+        };
         let mut work = Work::new();
-        let bytes = self.haystack.as_bytes();
-        let found = program.search_next(
-            bytes,
-            self.haystack.is_text(),
-            self.request,
-            self.continues,
-            &mut self.kept,
-            &mut self.known,
-            cache,
-            &mut work,
-        )?;
+        let found = program.search_next(&asked, &mut self.kept, &mut self.known, cache, &mut work)?;
         let Some(found) = found else {
             return Ok(None);
         };
@@ -198,19 +185,23 @@ impl<S: Input> Searcher<S> {
     }
 
     /// The next item. An empty match that is passed over moves the iteration on.
-    #[tactic(auto, using(crate::proofs::RemainingLemmas::skips, crate::proofs::RemainingLemmas::keeps, crate::proofs::RemainingLemmas::keeps_none, crate::proofs::RemainingLemmas::stays, crate::proofs::RemainingLemmas::stays_none))]
+    #[tactic(auto, using(crate::proofs::RemainingLemmas::next_searched))]
     fn upcoming(&mut self, program: &Program, cache: &mut Cache) -> Result<Option<FoundItem>>
         requires open { self.old.ended ≡ false }
-        requires suits { Suits (program_options program.now) (S.text self.old.haystack) (S.bytes self.old.haystack) }
-        requires kept { KeepsFrom S.bytes program.now self.old cache.old (effective_start self.old.request) }
-        ensures value { IfOk result (λ o. option_map (item_in cache.new) o ≡ item_next S.text S.bytes program.now self.old) }
-        ensures start { IfOk result (λ _. self.new.request.start ≡ start_next S.text S.bytes program.now self.old) }
-        ensures placed { IfOk result (λ o. IfSome o (λ i. IsCutOut S.text S.bytes self.old i)) }
-        ensures after { IfOk result (λ o. IfSome o (λ i. self.old.request.start ≤ i.found.start)) }
-        ensures groups { IfOk result (λ o. IfSome o (λ i. HasGroupsOf S.text S.bytes self.old i cache.new)) }
-        ensures kept { IfOk result (λ o. IfSome o (λ i. KeepsFrom S.bytes program.now self.new cache.new i.found.end)) }
+        requires suits { IsSuited S.text S.bytes program.now self.old }
+        requires kept { KeepsFrom S.bytes program.now self.old cache.old
+            (effective_start self.old.request) }
+        ensures value { IfOk result
+            (λ o. option_map (item_in cache.new) o
+            ≡ item_next S.text S.bytes program.now self.old) }
+        ensures start { IfOk result
+            (λ _. self.new.request.start ≡ start_next S.text S.bytes program.now self.old) }
+        ensures item { IfFound result (λ i. IsGiven S.text S.bytes self.old i cache.new) }
+        ensures kept { IfFound result
+            (λ i. KeepsFrom S.bytes program.now self.new cache.new i.found.end) }
         ensures haystack { self.new.haystack ≡ self.old.haystack }
-        ensures request { self.new.request ≡ record self.old.request { start = self.new.request.start } }
+        ensures request { self.new.request
+            ≡ record self.old.request { start = self.new.request.start } }
         ensures ended { self.new.ended ≡ false }
         ensures refused { IfErr result (λ e. RefusesItem S.text S.bytes program.now self.old e) }
         ensures allowed { IfOk result (λ _. AllowsItem S.text S.bytes program.now self.old) }
@@ -228,27 +219,32 @@ impl<S: Input> Searcher<S> {
     }
 
     /// Gives the next item and goes on after it. A refusal ends the list.
-    #[tactic(auto, using(crate::proofs::ScanLemmas::scan_sound, crate::proofs::RemainingLemmas::next_left, crate::proofs::RemainingLemmas::none_left, crate::proofs::RemainingLemmas::none_end))]
+    #[tactic(auto, using(crate::proofs::ScanLemmas::stepping))]
     pub fn next_item(&mut self, program: &Program, cache: &mut Cache) -> Option<Result<FoundItem>>
-        requires suits { Suits (program_options program.now) (S.text self.old.haystack) (S.bytes self.old.haystack) }
+        requires suits { IsSuited S.text S.bytes program.now self.old }
         requires kept { Keeps S.bytes program.now self.old cache.old }
         ensures kept { Keeps S.bytes program.now self.new cache.new }
         ensures steps { GivesItem S.text S.bytes program.now cache.new self.old result self.new }
-        ensures keeps_end { IfItem result (λ _. KeepsEnd S.text S.bytes program.now self.old self.new) }
+        ensures keeps_end { IfItem result
+            (λ _. KeepsEnd S.text S.bytes program.now self.old self.new) }
         ensures allowed { UnlessRefusal result (AllowsItem S.text S.bytes program.now self.old) }
         ensures goes_on { IfItem result (λ i. standing_of self.new
             ≡ standing_after (scan_of S.text S.bytes program.now self.old) (item_in cache.new i)) }
-        ensures rests { IfNone result (self.new.request.start ≡ end_of_items S.text S.bytes program.now self.old) }
+        ensures rests { IfNone result
+            (self.new.request.start ≡ end_of_items S.text S.bytes program.now self.old) }
         ensures haystack { self.new.haystack ≡ self.old.haystack }
-        ensures request { self.new.request ≡ record self.old.request { start = self.new.request.start } }
+        ensures request { self.new.request
+            ≡ record self.old.request { start = self.new.request.start } }
         ensures ends { EndsUnlessOk result self.new.ended }
-        ensures refused { IfRefusal result (self.new.request.start ≡ self.old.request.range_end + 1) }
+        ensures refused { IfRefusal result
+            (self.new.request.start ≡ self.old.request.range_end + 1) }
         ensures open { MatchOption result ⊤ (λ _. self.old.ended ≡ false) }
         ensures placed { IfItem result (λ i. IsCutOut S.text S.bytes self.old i) }
         ensures after { IfItem result (λ i. self.old.request.start ≤ i.found.start) }
         ensures groups { IfItem result (λ i. HasGroupsOf S.text S.bytes self.old i cache.new) }
         ensures moved { IfItem result (λ i. i.found.end ≤ self.new.request.start) }
-        ensures stands { IfItem result (λ i. self.new.request.start ≡ start_after S.text S.bytes self.old i) }
+        ensures stands { IfItem result
+            (λ i. self.new.request.start ≡ start_after S.text S.bytes self.old i) }
     {
         if self.ended {
             return None;
@@ -272,7 +268,8 @@ impl<S: Input> Searcher<S> {
     /// Ends the list, as after an item that is an error.
     pub fn refuse(&mut self)
         ensures haystack { self.new.haystack ≡ self.old.haystack }
-        ensures request { self.new.request ≡ record self.old.request { start = self.old.request.range_end + 1 } }
+        ensures request { self.new.request
+            ≡ record self.old.request { start = self.old.request.range_end + 1 } }
         ensures ended { self.new.ended ≡ true }
     {
         self.ended = true;

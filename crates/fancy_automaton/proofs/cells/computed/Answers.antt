@@ -9,7 +9,7 @@ pub returns-clause-cell : goal.returns-clause-cell
 returns-clause-cell c =
     let e = c.deref-2.ensures.value in
     let rows = c.args.rows.now.lists.items in
-    cell_made c.args.code.now rows c.target_of.new.rows.lists.items c.args.row c.args.reading c.in_ok-target.target.next c.in_ok-target.target.begun (ways_at rows c.args.row) c.args.step.next.items c.in_ok-came.came.items c.args.step.matched
+    cell_made c.args.code.now rows c.target_of.new.rows.lists.items c.args.row c.args.sight c.in_ok-target.target.next c.in_ok-target.target.begun (ways_at rows c.args.row) c.args.step.next.items c.in_ok-came.came.items c.args.step.matched
     (row_of rows c.args.row c.requires.row)
     c.in_ok-target.ensures.kept
     (subst (λ (ls : List Way). HasRow c.target_of.new.rows.lists.items c.in_ok-target.target.next (map at_of ls)) e c.in_ok-target.ensures.leads)

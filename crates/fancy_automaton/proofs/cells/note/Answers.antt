@@ -2,8 +2,8 @@ use Rattle.std.proofs.Common.{◌∙◌, Some, ap, refl, sym}
 use Rattle.std.proofs.lemmas.Option.{slice_get-get_or}
 use Rattle.fancy_automaton.proofs.cells.note.Goals as goal
 
-pub returns-else-cell-ge-SMALL : goal.returns-else-cell-ge-SMALL
-returns-else-cell-ge-SMALL c told =
+pub returns-clause-told : goal.returns-clause-told
+returns-clause-told c told =
     let cells = c.args.cells.now in
     let cell = c.index-cells-k.result in
-    c.note.ensures cells told (c.entry_of.ensures cell.row c.in-Some.byte (cell, slice_get-get_or cells c.args.k cell c.requires ∙ ap Some (sym c.index-cells-k.is), refl, c.in-Some.ensures.1))
+    c.note.ensures.told cells told (c.entry_of.ensures cell.row cell.sight (cell, slice_get-get_or cells c.args.k cell c.requires ∙ ap Some (sym c.index-cells-k.is), refl, refl))

@@ -1,6 +1,6 @@
 use Rattle.std.proofs.Common.{◌≡◌, ◌∙◌, ◌++◌, ◌∷◌, [], ℕ, List, sym, ap, subst}
 use Rattle.fancy_automaton.specs.Cells.{HasRow, ways_at}
-use Rattle.fancy_automaton.proofs.CellLemmas.{has_row, keeps_row, row_ways}
+use Rattle.fancy_automaton.proofs.CellLemmas.{has_row, keeps_row, no_cells, row_ways}
 use Rattle.fancy_automaton.proofs.cells.restart.Goals as goal
 
 pub returns-clause-waits : goal.returns-clause-waits
@@ -21,3 +21,15 @@ returns-clause-opens c =
     subst (λ (ws : List ℕ). HasRow c.intern-2.new.rows.lists.items c.in_ok-begun.begun ws)
     (c.in_ok-push.ensures.items ∙ ap (λ (ws : List ℕ). ws ++ c.args.start ∷ []) (c.in_ok-more.ensures ∙ c.deref-2.ensures.value ∙ same))
     c.in_ok-begun.ensures.row
+
+pub returns-in_err-alone-clause-all : goal.returns-in_err-alone-clause-all
+returns-in_err-alone-clause-all c code is = (no_cells code c.intern_one.new.rows.lists.items c.forget.new.self.cells.items c.forget.ensures.cells, (c.forget.ensures.all code is).1)
+
+pub returns-in_err-next-clause-all : goal.returns-in_err-next-clause-all
+returns-in_err-next-clause-all c code is = (no_cells code c.intern.new.rows.lists.items c.forget.new.self.cells.items c.forget.ensures.cells, (c.forget.ensures.all code is).1)
+
+pub returns-in_err-begun-clause-all : goal.returns-in_err-begun-clause-all
+returns-in_err-begun-clause-all c code is = (no_cells code c.intern-2.new.rows.lists.items c.forget.new.self.cells.items c.forget.ensures.cells, (c.forget.ensures.all code is).1)
+
+pub returns-clause-all : goal.returns-clause-all
+returns-clause-all c code is = (no_cells code c.intern-2.new.rows.lists.items c.forget.new.self.cells.items c.forget.ensures.cells, (c.forget.ensures.all code is).1)

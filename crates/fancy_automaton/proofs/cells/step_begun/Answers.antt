@@ -1,7 +1,7 @@
-use Rattle.std.proofs.Common.{◌+◌, ◌∙◌, [], arith, map, option_map, refl, sym}
+use Rattle.std.proofs.Common.{◌+◌, ◌∙◌, [], arith, map, refl, sym}
 use Rattle.fancy_code.specs.Code.{instrs_of}
 use Rattle.fancy_code.specs.CodeLength.{code_len}
-use Rattle.fancy_code.specs.Reading.{unit_read}
+use Rattle.fancy_alphabet.specs.Sights.{seen_in}
 use Rattle.fancy_input.specs.Work.{steps_of}
 use Rattle.fancy_automaton.specs.Steps.{at_of}
 use Rattle.fancy_automaton.proofs.CellLemmas.{row_items}
@@ -10,7 +10,7 @@ use Rattle.fancy_automaton.proofs.cells.step_begun.Goals as goal
 pub returns-clause-step : goal.returns-clause-step
 returns-clause-step c start after begun has =
     let rows = c.args.cells.now.rows.lists.items in
-    c.in_ok-step.ensures.step (instrs_of c.args.code.now) c.args.ways.now start (option_map unit_read c.args.reading) after refl c.in_ok-first.ensures.step begun
+    c.in_ok-step.ensures.step (instrs_of c.args.code.now) c.args.ways.now start (seen_in c.args.sight) after refl c.in_ok-first.ensures.step begun
     (sym (c.deref.ensures.value ∙ row_items rows c.args.begun.now.next c.index-ats.result.now (map at_of after) has c.index-ats.ensures))
 
 pub returns-clause-halts : goal.returns-clause-halts

@@ -1,18 +1,18 @@
-use Rattle.std.proofs.Common.{ℕ, ◌≡◌, ◌+◌, ◌-◌, ◌*◌, ◌<◌, ◌≤◌, ◌^◌, Bool, None, [], length, reverse, option_map}
+use Rattle.std.proofs.Common.{ℕ, ◌≡◌, ◌+◌, ◌-◌, ◌*◌, ◌<◌, ◌≤◌, ◌^◌, Bool, None, [], length, reverse}
 use Rattle.fancy_code.specs.Code.{instrs_of}
 use Rattle.fancy_code.specs.CodeLength.{code_len}
 use Rattle.fancy_input.specs.Work.{steps_of, returns_of, units_of}
-use Rattle.fancy_code.specs.Reading.{unit_read}
+use Rattle.fancy_alphabet.specs.Sights.{seen_in}
 use Rattle.fancy_automaton.specs.Ways.{Ends, Solves, Closing, AllKnown, marked, first_end}
 use Rattle.fancy_automaton.proofs.closure.close.Given as goal
 
 abbrev pub invariant-ways : goal.invariant-ways
 invariant-ways l = record {
   closing : (here : ℕ) (ends later : Ends) (known beyond : ℕ → Bool) (rank : ℕ → ℕ)
-      → Solves (instrs_of l.code) (option_map unit_read l.reading) here ends later known beyond rank
+      → Solves (instrs_of l.code) (seen_in l.sight) here ends later known beyond rank
       → AllKnown known (reverse l.fn.stack.items)
       → Closing ends later known beyond rank (first_end ends (reverse l.fn.stack.items)) l.marks l.next.items (reverse l.stack.items);
-  halts : l.reading ≡ None → l.next.items ≡ [];
+  halts : l.sight.reading ≡ None → l.next.items ≡ [];
   room : length l.marks ≡ code_len l.code;
   width : length l.next.items ≤ marked l.marks;
   steps : steps_of l.fn.work ≤ steps_of l.work;

@@ -1,11 +1,13 @@
 use Rattle.std.proofs.Common.{◌-◌, ◌+◌, ◌≡◌, ◌<◌, ◌≤◌, length, true}
-use Rattle.fancy_code.specs.Attempt.{may_end_in}
+use Rattle.fancy_code.specs.Attempt.{context_in, may_end_in}
+use Rattle.fancy_alphabet.specs.Classes.{IsFirst}
 use Rattle.fancy_automaton.specs.Front.{IsFront, front_at}
 use Rattle.fancy_automaton.proofs.hop.run.Given as goal
 
 abbrev pub invariant-places : goal.invariant-places
 invariant-places l = record {
   front : IsFront l.attempt l.cells (front_at l.at l.trail l.hit) l.at.place l.at.place;
+  begins : IsFirst (context_in l.attempt) l.at.place l.cells.table.classes l.at.first;
   good : may_end_in l.attempt l.at.place ≡ true;
   passed : l.fn.from.place ≤ l.at.place;
   within : l.at.place ≤ l.attempt.last;

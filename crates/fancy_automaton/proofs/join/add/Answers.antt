@@ -1,4 +1,4 @@
-use Rattle.std.proofs.Common.{◌++◌, ◌∷◌, [], Bool, List, inl, refl, subst, sym}
+use Rattle.std.proofs.Common.{◌++◌, ◌∷◌, [], Bool, List, inl, subst, sym}
 use Rattle.fancy_automaton.specs.declared.way.Way.{Way}
 use Rattle.fancy_automaton.specs.Joins.{Thinned}
 use Rattle.fancy_automaton.proofs.JoinLemmas.{thin_more, thin_seen}

@@ -75,3 +75,9 @@ pub returns-in_err-place-clause-idle : goal.returns-in_err-place-clause-idle
 returns-in_err-place-clause-idle c none =
     absurd (starts_somewhere c.args.attempt.now.code.now.prefilter.starts c.args.attempt.now.haystack.now c.args.attempt.now.last c.seek-place.result
     (c.seek-place.ensures.stands (c.places.invariant.idle none).2 (c.places.invariant.idle none).0 (omega (arith, c.if-place-attempt.false))) (none c.seek-place.result (omega (arith, c.places.invariant.passed, c.seek-place.ensures.forth)) (omega (arith, c.if-place-attempt.false))))
+
+pub returns-then-is_over-clause-all : goal.returns-then-is_over-clause-all
+returns-then-is_over-clause-all c = c.end.ensures.all c.args.attempt.now.code.now c.places.invariant.front.all
+
+pub returns-then-place-attempt-clause-all : goal.returns-then-place-attempt-clause-all
+returns-then-place-attempt-clause-all c = c.end-then-place-attempt.ensures.all c.args.attempt.now.code.now c.seek-place.ensures.front.all

@@ -8,7 +8,7 @@ matches-preserved g c =
     record {
       whole = c.matches.invariant.whole;
       begins = c.matches.invariant.begins;
-      paired = c.search_next-answer.ensures.paired;
+      paired = c.search_next-answer.ensures.served.counts.paired;
       known = c.search_next-answer.ensures.known;
       kept = keeps_on c.args.program.now c.as_bytes-haystack.result.now c.search_next-answer.new.cache c.matches.request (record c.matches.request { start = c.max.result }) c.search_next-answer.new.kept c.search_next-answer.new.kept c.in-Some.found.end refl refl (omega (arith, c.max.ensures))
           (rw answer at c.search_next-answer.ensures.kept);

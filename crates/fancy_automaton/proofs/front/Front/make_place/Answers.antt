@@ -12,3 +12,9 @@ returns-clause-front c a place resume same is =
     front_restarted a c.args.cells.now c.restart.new.cells f _ place resume c.in_ok-settle.ensures.visits (c.restart.ensures.all a.code.now settled.all) c.in_ok-target.ensures.waits
     (subst (λ (code : Code). HasRow c.restart.new.cells.rows.lists.items c.in_ok-target.target.begun (ways_of c.args.cells.now f ++ code.start ∷ [])) (sym same) c.in_ok-target.ensures.opens)
     refl refl settled
+
+pub returns-in_err-target-clause-all : goal.returns-in_err-target-clause-all
+returns-in_err-target-clause-all c = c.restart.ensures.all c.args.code.now c.requires.all
+
+pub returns-clause-all : goal.returns-clause-all
+returns-clause-all c = c.restart.ensures.all c.args.code.now c.requires.all

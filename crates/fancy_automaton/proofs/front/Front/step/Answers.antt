@@ -8,9 +8,9 @@ returns-clause-front c =
     let f = c.args.self.now in
     let cell = c.index-cell.result.now in
     let size : c.len.result ≡ length f.trail.visits.items = omega arith in
-    front_advanced c.args.attempt.now c.requires.steady c.requires.plain c.args.cells.now c.step_at.new.cells f c.args.place c.row_at-row.result c.reading_at-reading.result
+    front_advanced c.args.attempt.now c.requires.steady c.requires.plain c.args.cells.now c.step_at.new.cells f c.args.place c.row_at-row.result c.seen_at-sight.result
     c.in_ok-k.k cell c.start_at-start.result c.push.new.self c.note_hit.new.hit c.place_after.result
-    c.requires.within c.requires.good c.requires.front (c.row_at-row.ensures c.args.cells.now.cells.items f.trail) c.reading_at-reading.ensures.reading
+    c.requires.within c.requires.good c.requires.front (c.row_at-row.ensures c.args.cells.now.cells.items f.trail) (c.seen_at-sight.ensures.told c.requires.front.all)
     c.in_ok-k.ensures.all c.in_ok-k.ensures.kept c.in_ok-k.ensures.grown c.in_ok-k.ensures.cell c.index-cell.ensures
     (c.start_at-start.ensures c.args.cells.now.cells.items f.trail)
     c.in_ok-push.ensures.items

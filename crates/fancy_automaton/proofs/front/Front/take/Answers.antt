@@ -9,9 +9,9 @@ returns-clause-front c =
     let cell = c.index-cell.result.now in
     let size : c.len-2.result ≡ length f.trail.visits.items = omega arith in
     front_on c.args.attempt.now c.args.cells.now _ _ c.place_after.result c.place_after.ensures.ends
-    (front_advanced c.args.attempt.now c.requires.steady c.requires.plain c.args.cells.now c.args.cells.now f c.args.place c.row_at-row.result c.args.reading
+    (front_advanced c.args.attempt.now c.requires.steady c.requires.plain c.args.cells.now c.args.cells.now f c.args.place c.row_at-row.result c.args.sight
     c.in-Some.k cell c.start_at-start.result c.push.new.self c.note_hit.new.hit c.place_after.result
-    c.requires.within c.requires.good c.requires.front (c.row_at-row.ensures c.args.cells.now.cells.items f.trail) c.requires.reading
+    c.requires.within c.requires.good c.requires.front (c.row_at-row.ensures c.args.cells.now.cells.items f.trail) c.requires.seen
     c.requires.front.all (λ r v e. e) (λ k x e. e) c.in-Some.ensures c.index-cell.ensures
     (c.start_at-start.ensures c.args.cells.now.cells.items f.trail)
     c.in_ok-push.ensures.items

@@ -1,4 +1,4 @@
-use Rattle.std.proofs.Common.{◌≡◌, ◌<◌, ◌∙◌, ap, arith, length, set, sym, true}
+use Rattle.std.proofs.Common.{◌<◌, ◌∙◌, ap, arith, length, set, sym, true}
 use Rattle.fancy_automaton.specs.Marks.{marks_of}
 use Rattle.fancy_automaton.proofs.TurnLemmas.{length-marks, marked_at, marks_made, marks-set}
 use Rattle.fancy_automaton.proofs.marks.Marks.mark.Goals as goal

@@ -5,9 +5,6 @@ pub new-requires : goal.new-requires
 new-requires g c = record {
   placed = rw (c.in_ok-slots.ensures)
       (groups_cut c.args.self.now.program (g.S.Haystack.text c.args.haystack) (g.S.Haystack.bytes c.args.haystack) c.args.request _ c.in-Some.found c.search.new.cache
-      c.captures_len.result c.requires.inside c.requires.suits (λ t. rw c.as_bytes-bytes.ensures.bytes at (c.as_bytes-bytes.ensures.utf8 t))
-      (rw (c.in-Some.is, c.as_bytes-bytes.ensures.bytes) at c.in_ok-found.ensures.answer));
+      c.captures_len.result c.requires.inside c.requires.suits (λ t. rw c.as_bytes.ensures.bytes at (c.as_bytes.ensures.utf8 t))
+      (rw (c.in-Some.is, c.as_bytes.ensures.bytes) at c.in_ok-found.ensures.served.answer));
 }
-
-pub search-requires-clause-known : goal.search-requires-clause-known
-search-requires-clause-known g c = c.new-known.ensures _

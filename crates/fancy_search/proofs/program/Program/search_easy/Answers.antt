@@ -1,4 +1,5 @@
-use Rattle.std.proofs.Common.{◌+◌, refl, arith}
+use Rattle.std.proofs.Common.{refl, arith}
+use Rattle.std.proofs.lemmas.Result.{err_from_is_err_and}
 use Rattle.fancy_input.specs.Requests.{effective_start}
 use Rattle.fancy_search.specs.KeptTables.{KeepsTable, table_kept}
 use Rattle.fancy_search.proofs.KeptTablesLemmas.{if_some_at, found_table, found_spent, found_goes_on}
@@ -7,21 +8,32 @@ use Rattle.fancy_input.specs.Work.{steps_of}
 use Rattle.fancy_search.proofs.program.Program.search_easy.Goals as goal
 
 pub run-requires-clause-kept : goal.run-requires-clause-kept
-run-requires-clause-kept c = if_some_at _ (table_kept c.args.kept.now) (λ k. KeepsTable c.args.self.now c.args.haystack.now c.args.request k (effective_start c.args.request) c.args.cache.now) c.table-table.ensures c.requires.kept.0
+run-requires-clause-kept c = if_some_at _ (table_kept c.args.kept.now) (λ k. KeepsTable c.args.self.now c.args.asked.now.haystack.now c.args.asked.now.request k (effective_start c.args.asked.now.request) c.args.cache.now) c.table-table.ensures c.requires.kept.0
 
 pub follow-requires-clause-plain : goal.follow-requires-clause-plain
 follow-requires-clause-plain c = c.if-is_followed.ensures.plain refl
 
 pub follow-requires-clause-places : goal.follow-requires-clause-places
-follow-requires-clause-places c = c.if-is_followed.ensures.places refl c.args.haystack.now c.requires.text
+follow-requires-clause-places c = c.if-is_followed.ensures.places refl
+
+pub returns-then-allows_all_steps-clause-served : goal.returns-then-allows_all_steps-clause-served
+returns-then-allows_all_steps-clause-served c = c.follow.ensures.served c.args.asked.now.continues
+
+pub returns-clause-served : goal.returns-clause-served
+returns-clause-served c = c.in_ok-found.ensures.served c.args.asked.now.continues
+
+pub returns-in_err-found-clause-served : goal.returns-in_err-found-clause-served
+returns-in_err-found-clause-served c =
+    let q = err_from_is_err_and c.from_residual.result c.from_residual.ensures.1 in
+    rw (q.1, q.2) (c.in_err-found.ensures.served c.args.asked.now.continues)
 
 pub returns-clause-kept : goal.returns-clause-kept
-returns-clause-kept c = rw c.of_table.ensures (found_table c.args.self.now c.args.haystack.now c.run.new.cache c.args.request c.run.new.kept c.in_ok-found.found c.in_ok-found.ensures.kept)
+returns-clause-kept c = rw c.of_table.ensures (found_table c.args.self.now c.args.asked.now.haystack.now c.run.new.cache c.args.asked.now.request c.run.new.kept c.in_ok-found.found c.in_ok-found.ensures.kept)
 
 pub returns-clause-bounded : goal.returns-clause-bounded
 returns-clause-bounded c =
     let bounded = rw c.table-table.ensures at c.run.ensures.bounded in
-    omega (arith, bounded, again_paid (table_kept c.args.kept.now) c.args.self.now.code (effective_start c.args.request))
+    omega (arith, bounded, again_paid (table_kept c.args.kept.now) c.args.self.now.code (effective_start c.args.asked.now.request))
 
 pub returns-clause-fresh : goal.returns-clause-fresh
 returns-clause-fresh c none =
@@ -30,17 +42,17 @@ returns-clause-fresh c none =
 
 pub returns-clause-spent : goal.returns-clause-spent
 returns-clause-spent c =
-    rw c.of_table.ensures (found_spent c.args.self.now c.args.request c.args.kept.now c.run.new.kept c.in_ok-found.found (rw c.table-table.ensures at c.in_ok-found.ensures.left)
+    rw c.of_table.ensures (found_spent c.args.self.now c.args.asked.now.request c.args.kept.now c.run.new.kept c.in_ok-found.found (rw c.table-table.ensures at c.in_ok-found.ensures.left)
     c.run.new.cache _ (steps_of c.run.new.work) (rw c.table-table.ensures at c.in_ok-found.ensures.spent))
 
 pub returns-clause-goes_on : goal.returns-clause-goes_on
 returns-clause-goes_on c =
-    rw c.of_table.ensures (found_goes_on c.args.self.now c.args.request c.args.kept.now c.run.new.kept c.in_ok-found.found (rw c.table-table.ensures at c.in_ok-found.ensures.left))
+    rw c.of_table.ensures (found_goes_on c.args.self.now c.args.asked.now.request c.args.kept.now c.run.new.kept c.in_ok-found.found (rw c.table-table.ensures at c.in_ok-found.ensures.left))
 
 pub returns-in_err-found-clause-bounded : goal.returns-in_err-found-clause-bounded
 returns-in_err-found-clause-bounded c =
     let bounded = rw c.table-table.ensures at c.run.ensures.bounded in
-    omega (arith, bounded, again_paid (table_kept c.args.kept.now) c.args.self.now.code (effective_start c.args.request))
+    omega (arith, bounded, again_paid (table_kept c.args.kept.now) c.args.self.now.code (effective_start c.args.asked.now.request))
 
 pub returns-in_err-found-clause-fresh : goal.returns-in_err-found-clause-fresh
 returns-in_err-found-clause-fresh c none =

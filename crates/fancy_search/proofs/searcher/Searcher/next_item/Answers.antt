@@ -1,4 +1,4 @@
-use Rattle.std.proofs.Common.{rules, refl, sym, ◌∙◌, ap}
+use Rattle.std.proofs.Common.{rules, refl, ◌∙◌, ap}
 use Rattle.fancy_input.specs.declared.input.Request.{Request}
 use Rattle.fancy_search.specs.FoundItems.{item_in}
 use Rattle.fancy_search.specs.Searchers.{scan_of, standing_of}
@@ -10,13 +10,13 @@ use Rattle.fancy_search.proofs.searcher.Searcher.next_item.Goals as goal
 pub returns-in-Ok-Some-clause-goes_on : goal.returns-in-Ok-Some-clause-goes_on
 returns-in-Ok-Some-clause-goes_on g c =
     stands_after g.S.Haystack.text g.S.Haystack.bytes c.args.program.now c.args.self.now.haystack c.upcoming.new.self.haystack c.args.self.now.request c.go_after.new.self.request c.go_after.new.self.ended c.go_after.new.self.continues c.go_after.new.self.skips_empty c.upcoming.new.cache c.in-Ok-Some.item
-    c.upcoming.ensures.haystack (c.go_after.ensures.ended ∙ c.upcoming.ensures.ended) c.go_after.ensures.stands c.go_after.ensures.continues c.go_after.ensures.skips_empty
+    c.upcoming.ensures.haystack (c.go_after.ensures.goes.ended ∙ c.upcoming.ensures.ended) c.go_after.ensures.stands c.go_after.ensures.goes.continues c.go_after.ensures.goes.skips_empty
 
 pub returns-in-Ok-Some-clause-steps : goal.returns-in-Ok-Some-clause-steps
 returns-in-Ok-Some-clause-steps g c =
     let before = c.args.self.now in
     let after = c.go_after.new.self in
-    let same = scan_after g.S.Haystack.text g.S.Haystack.bytes c.args.program.now before.haystack after.haystack before.request after.request (c.go_after.ensures.haystack ∙ c.upcoming.ensures.haystack) (c.go_after.ensures.request ∙ ap (λ (r : Request). record r { start = after.request.start }) c.upcoming.ensures.request) in
+    let same = scan_after g.S.Haystack.text g.S.Haystack.bytes c.args.program.now before.haystack after.haystack before.request after.request (c.go_after.ensures.goes.haystack ∙ c.upcoming.ensures.haystack) (c.go_after.ensures.goes.request ∙ ap (λ (r : Request). record r { start = after.request.start }) c.upcoming.ensures.request) in
     (gives (scan_of g.S.Haystack.text g.S.Haystack.bytes c.args.program.now before) (scan_of g.S.Haystack.text g.S.Haystack.bytes c.args.program.now after) (standing_of before) (standing_of after) (item_in c.upcoming.new.cache c.in-Ok-Some.item)
     (scan_sound c.args.program.now (g.S.Haystack.text before.haystack) (g.S.Haystack.bytes before.haystack) before.request before.inside) c.if-self.false (search rules) same (returns-in-Ok-Some-clause-goes_on g c)).items
 
@@ -24,7 +24,7 @@ pub returns-in-Ok-Some-clause-keeps_end : goal.returns-in-Ok-Some-clause-keeps_e
 returns-in-Ok-Some-clause-keeps_end g c =
     let before = c.args.self.now in
     let after = c.go_after.new.self in
-    let same = scan_after g.S.Haystack.text g.S.Haystack.bytes c.args.program.now before.haystack after.haystack before.request after.request (c.go_after.ensures.haystack ∙ c.upcoming.ensures.haystack) (c.go_after.ensures.request ∙ ap (λ (r : Request). record r { start = after.request.start }) c.upcoming.ensures.request) in
+    let same = scan_after g.S.Haystack.text g.S.Haystack.bytes c.args.program.now before.haystack after.haystack before.request after.request (c.go_after.ensures.goes.haystack ∙ c.upcoming.ensures.haystack) (c.go_after.ensures.goes.request ∙ ap (λ (r : Request). record r { start = after.request.start }) c.upcoming.ensures.request) in
     (gives (scan_of g.S.Haystack.text g.S.Haystack.bytes c.args.program.now before) (scan_of g.S.Haystack.text g.S.Haystack.bytes c.args.program.now after) (standing_of before) (standing_of after) (item_in c.upcoming.new.cache c.in-Ok-Some.item)
     (scan_sound c.args.program.now (g.S.Haystack.text before.haystack) (g.S.Haystack.bytes before.haystack) before.request before.inside) c.if-self.false (search rules) same (returns-in-Ok-Some-clause-goes_on g c)).end
 
@@ -37,4 +37,4 @@ upcoming-requires-clause-kept g c = c.requires.kept c.if-self.false
 pub returns-in-Ok-Some-clause-kept : goal.returns-in-Ok-Some-clause-kept
 returns-in-Ok-Some-clause-kept g c running =
     keeps_moved g.S.Haystack.bytes c.args.program.now c.upcoming.new.cache c.upcoming.new.self.haystack c.go_after.new.self.haystack c.upcoming.new.self.request c.go_after.new.self.request c.upcoming.new.self.kept c.go_after.new.self.kept c.in-Ok-Some.item.found.end
-    c.go_after.ensures.haystack c.go_after.ensures.request c.go_after.ensures.kept c.go_after.ensures.moved (rw c.in-Ok-Some.field-0-is at c.in-Ok-Some.ensures.kept)
+    c.go_after.ensures.goes.haystack c.go_after.ensures.goes.request c.go_after.ensures.goes.kept c.go_after.ensures.moved (rw c.in-Ok-Some.field-0-is at c.in-Ok-Some.ensures.kept)

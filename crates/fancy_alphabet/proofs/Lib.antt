@@ -1,0 +1,5 @@
+pub mod SideLemmas
+pub mod NumberLemmas
+pub mod ClassLemmas
+pub mod SightLemmas
+pub mod AlikeLemmas

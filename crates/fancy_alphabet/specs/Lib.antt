@@ -1,0 +1,6 @@
+pub mod Sides
+pub mod Units
+pub mod Effects
+pub mod Sights
+pub mod Alike
+pub mod Classes
