@@ -1,0 +1,127 @@
+//! The structs that cross as they are.
+
+ghost use Rattle.std.specs.Prelude.{◌≡◌};
+ghost use Rattle.fancy_regex_c.specs.Asked.{has_flag};
+
+/// A span of bytes.
+#[repr(C)]
+#[derive(Clone, Copy)]
+pub struct Span {
+    /// Where it starts, as a byte offset.
+    pub start: usize,
+    /// The offset after its last byte.
+    pub end: usize,
+}
+
+impl Span {
+    /// The span of a group that took no part, whose two ends are [`usize::MAX`].
+    pub fn absent() -> Span {
+        Span {
+            start: usize::MAX,
+            end: usize::MAX,
+        }
+    }
+}
+
+/// A pattern of a set, and what it matched.
+#[repr(C)]
+#[derive(Clone, Copy)]
+pub struct Member {
+    /// The index of the pattern in its set.
+    pub pattern: usize,
+    /// Where the match starts, as a byte offset.
+    pub start: usize,
+    /// The offset after its last byte.
+    pub end: usize,
+}
+
+impl Member {
+    /// Nothing, at this place: an empty match of pattern 0.
+    pub fn nothing_at(place: usize) -> Member {
+        Member {
+            pattern: 0,
+            start: place,
+            end: place,
+        }
+    }
+}
+
+/// The bytes are text.
+pub const TEXT: u32 = 1;
+
+/// One position alone is tried.
+pub const ANCHORED: u32 = 2;
+
+/// The start of the text does not count as one.
+pub const NO_START: u32 = 4;
+
+/// The end of the text does not count as one.
+pub const NO_END: u32 = 8;
+
+/// There was no match before: `\G` holds nowhere.
+pub const NOT_CONTINUED: u32 = 16;
+
+/// An empty match at the start is passed over, as after a match that ended there. It is read by lists.
+pub const SKIPS_EMPTY: u32 = 32;
+
+/// Whether a flag is among these, added up.
+pub fn has_flag(flags: u32, flag: u32) -> bool
+    ensures { result ≡ has_flag flags flag }
+{
+    flags & flag != 0
+}
+
+/// Where and how a haystack is searched. A list moves it on.
+#[repr(C)]
+#[derive(Clone, Copy)]
+pub struct Request {
+    /// The first position that is tried, as a byte offset. It may be any number: past the end nothing is found.
+    pub start: usize,
+    /// No match ends after this byte offset.
+    pub end: usize,
+    /// The flags above, added up.
+    pub flags: u32,
+}
+
+impl Request {
+    /// Whether a flag is set.
+    pub fn has(&self, flag: u32) -> bool
+        ensures { result ≡ has_flag self.now.flags flag }
+    {
+        has_flag(self.flags, flag)
+    }
+}
+
+/// The options of a pattern. The switches are those of [`crate::reading`].
+#[repr(C)]
+#[derive(Clone, Copy)]
+pub struct Options {
+    /// The size of this struct in bytes, by the caller's header.
+    pub size: usize,
+    /// How many returns a hard search may take.
+    pub backtrack_limit: usize,
+    /// How many branches a hard search may have saved at one time.
+    pub stack_limit: usize,
+    /// How much work a search may do; [`usize::MAX`] for no limit.
+    pub step_limit: usize,
+    /// How many instructions a hard pattern's code may have; [`usize::MAX`] for no limit.
+    pub program_limit: usize,
+    /// The switches, added up.
+    pub switches: u32,
+    /// What bytes mean: 0 for text, 1 for ASCII, 2 for bytes with the characters of Unicode.
+    pub bytes_mode: u32,
+}
+
+/// Why a pattern is refused.
+#[repr(C)]
+#[derive(Clone, Copy)]
+pub struct Fault {
+    /// What is wrong, by the numbers of [`crate::faults`].
+    pub kind: u32,
+    /// The index of the pattern in its set, and 0 for a pattern alone.
+    pub pattern: usize,
+    /// Where it is wrong, as a byte offset into the pattern, where its kind has a place.
+    pub place: usize,
+    /// The number of the group that a pattern refers to and does not have, where its kind has a number.
+    pub number: usize,
+}

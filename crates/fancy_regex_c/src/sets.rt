@@ -1,0 +1,214 @@
+//! A set behind a handle: its first matches, and the tokens of a text.
+
+use crate::answers::{DONE, NO_HANDLE, NO_MEMORY, NO_PLACE, NONE, TOO_SHORT, answer_of};
+use crate::handed::Handed;
+use crate::handle::{Handle, Kept};
+use crate::plain::{Fault, Member, Options, Request};
+use crate::reading::read;
+use crate::regexes::keep;
+use fancy_regex::{Regex, RegexSet, RegexSetMatch, RegexSetMatchesAt, Result};
+use std::alloc::Global;
+use std::sync::Arc;
+
+/// The part of the bytes from `start` to `end`, which is empty where there is none.
+fn part(bytes: &[u8], start: usize, end: usize) -> &[u8] {
+    if start <= end && end <= bytes.len() {
+        &bytes[start..end]
+    } else {
+        &[]
+    }
+}
+
+/// Reads patterns that stand one after another. `ends` says where each ends.
+fn read_all(
+    alloc: Global,
+    patterns: &[u8],
+    ends: &[usize],
+    options: &Options,
+) -> std::result::Result<RegexSet, Fault> {
+    let mut members: Vec<Regex> = Vec::new(alloc);
+    let mut start = 0;
+    for index in 0..ends.len() {
+        let end = ends[index];
+        let member = match read(alloc, part(patterns, start, end), options) {
+            Ok(member) => member,
+            Err(fault) => return Err(fault.in_set(index)),
+        };
+        if members.push(member).is_err() {
+            return Err(Fault::memory());
+        }
+        start = end;
+    }
+    Ok(RegexSet::from_regexes(members))
+}
+
+/// Reads the patterns of a set, and puts the set into the handle. What the handle held is freed, unless a pattern is refused.
+#[unsafe(no_mangle)]
+pub extern "C" fn fancy_regex_set_new(
+    alloc: Global,
+    patterns: &[u8],
+    ends: &[usize],
+    options: &Options,
+    out: &mut Handle,
+    fault: &mut Fault,
+) -> u32 {
+    let set = match read_all(alloc, patterns, ends, options) {
+        Ok(set) => set,
+        Err(why) => {
+            let answer = why.answer();
+            *fault = why;
+            return answer;
+        }
+    };
+    match Arc::new(alloc, set) {
+        Ok(set) => keep(alloc, Kept::Set(set), out),
+        Err(_) => NO_MEMORY,
+    }
+}
+
+/// How many patterns the set has; 0 where the handle holds no set.
+#[unsafe(no_mangle)]
+pub extern "C" fn fancy_regex_set_len(alloc: Global, set: &mut Handle) -> usize {
+    let Some(kept) = set.take(alloc) else {
+        return 0;
+    };
+    let count = match &*kept {
+        Kept::Set(set) => set.len(),
+        _ => 0,
+    };
+    *set = Handle::of(kept);
+    count
+}
+
+fn member_of(found: &RegexSetMatch<'_, Handed<'_>>) -> Member {
+    Member {
+        pattern: found.pattern(),
+        start: found.start(),
+        end: found.end(),
+    }
+}
+
+/// Writes the matches for which there is room, and tells how many there are.
+fn put_members(
+    matches: RegexSetMatchesAt<'_, Handed<'_>>,
+    members: &mut [Member],
+    wanted: &mut usize,
+) -> Result<()> {
+    for found in matches {
+        let found = found?;
+        if *wanted < members.len() {
+            members[*wanted] = member_of(&found);
+        }
+        *wanted = wanted.saturating_add(1);
+    }
+    Ok(())
+}
+
+fn set_find_in(
+    set: &RegexSet,
+    haystack: &[u8],
+    request: Request,
+    members: &mut [Member],
+    wanted: &mut usize,
+) -> u32 {
+    *wanted = 0;
+    let input = match Handed::input_of(haystack, request) {
+        Ok(input) => input,
+        Err(answer) => return answer,
+    };
+    if !set.can_search(&input) {
+        return NO_PLACE;
+    }
+    let matches = match set.find_input(input) {
+        Ok(Some(matches)) => matches,
+        Ok(None) => return NONE,
+        Err(error) => return answer_of(error),
+    };
+    match put_members(matches, members, wanted) {
+        Ok(()) if *wanted <= members.len() => DONE,
+        Ok(()) => TOO_SHORT,
+        Err(error) => answer_of(error),
+    }
+}
+
+/// The matches at the least position at which a pattern of the set matches, in the order of the patterns.
+#[unsafe(no_mangle)]
+pub extern "C" fn fancy_regex_set_find(
+    alloc: Global,
+    set: &mut Handle,
+    haystack: &[u8],
+    request: &Request,
+    members: &mut [Member],
+    wanted: &mut usize,
+) -> u32 {
+    let Some(kept) = set.take(alloc) else {
+        return NO_HANDLE;
+    };
+    let answer = match &*kept {
+        Kept::Set(set) => set_find_in(set, haystack, *request, members, wanted),
+        _ => NO_HANDLE,
+    };
+    *set = Handle::of(kept);
+    answer
+}
+
+pub fn tokens_in(
+    set: &RegexSet,
+    haystack: Handed<'_>,
+    request: &mut Request,
+    tokens: &mut [Member],
+    written: &mut usize,
+) -> u32 {
+    *written = 0;
+    let input = match haystack.input(*request) {
+        Ok(input) => input,
+        Err(answer) => return answer,
+    };
+    if !set.can_search(&input) {
+        return NO_PLACE;
+    }
+    let mut list = set.tokens(input);
+    for place in 0..tokens.len() {
+        match list.next() {
+            Some(Ok(token)) => {
+                tokens[place] = Member {
+                    pattern: token.pattern(),
+                    start: token.start(),
+                    end: token.end(),
+                };
+                *written = place + 1;
+                request.start = token.end();
+            }
+            Some(Err(error)) => {
+                request.start = list.place();
+                return answer_of(error);
+            }
+            None => return NONE,
+        }
+    }
+    DONE
+}
+
+/// The tokens of a text, as many as there is room for. The request says then where the next one starts.
+#[unsafe(no_mangle)]
+pub extern "C" fn fancy_regex_tokens(
+    alloc: Global,
+    set: &mut Handle,
+    haystack: &[u8],
+    request: &mut Request,
+    tokens: &mut [Member],
+    written: &mut usize,
+) -> u32 {
+    let Some(kept) = set.take(alloc) else {
+        return NO_HANDLE;
+    };
+    let answer = match &*kept {
+        Kept::Set(set) => match Handed::new(haystack, *request) {
+            Ok(haystack) => tokens_in(set, haystack, request, tokens, written),
+            Err(answer) => answer,
+        },
+        _ => NO_HANDLE,
+    };
+    *set = Handle::of(kept);
+    answer
+}
