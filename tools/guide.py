@@ -78,9 +78,14 @@ CALLS = {
         "ByteSet": "contains len is_empty iter new all insert union intersection",
         "BytesMode": "default meaning keeps_characters",
         "Error": "name",
+        "Explain": "explain",
         "ParseErrorKind": "name",
         "CompileError": "name",
         "RuntimeError": "name",
+    },
+    "lines": {
+        "LineIndex": "new text line_column offset line_column_in_characters offset_in_characters",
+        "": "line_at",
     },
 }
 # Builders have the same setters, so the page has those of one.
