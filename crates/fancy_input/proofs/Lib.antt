@@ -1,5 +1,6 @@
 pub mod PlaceLemmas
 pub mod CharacterLemmas
+pub mod DecodingLemmas
 pub mod WidthLemmas
 pub mod LastLinesLemmas
 pub mod TextLemmas

@@ -4,7 +4,7 @@ ghost use Rattle.std.specs.Prelude.{◌≡◌, ◌≤◌, ◌<◌, ◌+◌, true
 ghost use Rattle.fancy_input.specs.Places.{is_boundary, is_continuation, prev_place, next_place};
 
 /// Whether the byte continues a character of UTF-8.
-fn is_continuation(byte: u8) -> bool
+pub(crate) fn is_continuation(byte: u8) -> bool
     ensures { result ≡ is_continuation byte }
 {
     byte >= 0x80 && byte < 0xC0
