@@ -1,9 +1,10 @@
 -- The character that ends at a place: the bytes before it that continue one tell its width.
 use Rattle.std.proofs.Common.{◌≡◌, ℕ, zero, suc, ◌+◌, ◌-◌, ◌<◌, ◌≤◌, Bool, List, ◌++◌, length, get_or, inl, inr, subst, true, false, Option, Some, None, if◌then◌else◌, sym, refl, ap, ◌∙◌, arith, ne_eqb, get_or-drop, add-zero}
+use Rattle.std.specs.Prelude.{is_some}
 use Rattle.std.specs.Option.{option_or}
 use Rattle.std.specs.Char.{len_utf8, encode_utf8}
 use Rattle.std.proofs.Math.Nat.{eq-or-lt_of_le}
-use Rattle.std.proofs.lemmas.Bool.{leb-true, both_ways}
+use Rattle.std.proofs.lemmas.Bool.{leb-true, both_ways, cases_lt, cases_order}
 use Rattle.std.proofs.lemmas.Bool.Decides.{nat_tests}
 use Rattle.std.proofs.lemmas.Str.{len_utf8_bounds}
 use Rattle.fancy_input.specs.Places.{is_continuation, if_wide, char_at, char_before, char_of_width_before}
@@ -22,8 +23,12 @@ later_continues c rest (suc (suc zero)) some within = grind (arith, nat_tests)
 later_continues c rest (suc (suc (suc zero))) some within = grind (arith, nat_tests)
 later_continues c rest (suc (suc (suc (suc j)))) some within = absurd (omega (arith, (len_utf8_bounds c).1))
 
-or_first : (o w : Option ℕ) → w ≡ None → o ≡ option_or o w
-or_first None w e = sym e
+no_option : (o : Option ℕ) → is_some o ≡ false → o ≡ None
+no_option None e = refl
+no_option (Some x) e = cc
+
+or_first : (o w : Option ℕ) → is_some o ≡ true → o ≡ option_or o w
+or_first None w e = cc
 or_first (Some x) w e = refl
 
 or_second : (o w : Option ℕ) → o ≡ None → w ≡ option_or o w
@@ -36,11 +41,28 @@ if_none true k None f = refl
 if_none true k (Some c) f = ap (λ (t : Bool). if t then Some c else None) (ne_eqb (len_utf8 c) k (f refl c refl))
 
 module _ (haystack : List ℕ) (p : ℕ) where
-  byte : ℕ → ℕ
-  byte i = get_or haystack i 0
-
   wide : ℕ → Option ℕ
   wide n = char_of_width_before haystack n p
+
+  abbrev pub NoneBelow : ℕ → Type 0
+  NoneBelow n = (k : ℕ) → 1 ≤ k → k < n → char_of_width_before haystack k p ≡ None
+
+  pub one_found : (n : ℕ) → 1 ≤ n → n < 5 → NoneBelow n → is_some (char_of_width_before haystack n p) ≡ true → char_of_width_before haystack n p ≡ char_before haystack p
+  unfolding char_before wide
+  one_found zero low high below e = absurd (omega arith)
+  one_found (suc zero) low high below e = or_first (wide 1) _ e
+  one_found (suc (suc zero)) low high below e = or_first (wide 2) _ e ∙ or_second (wide 1) _ (below 1 (omega arith) (omega arith))
+  one_found (suc (suc (suc zero))) low high below e =
+      or_first (wide 3) _ e ∙ or_second (wide 2) _ (below 2 (omega arith) (omega arith)) ∙ or_second (wide 1) _ (below 1 (omega arith) (omega arith))
+  one_found (suc (suc (suc (suc zero)))) low high below e =
+      or_second (wide 3) _ (below 3 (omega arith) (omega arith)) ∙ or_second (wide 2) _ (below 2 (omega arith) (omega arith)) ∙ or_second (wide 1) _ (below 1 (omega arith) (omega arith))
+  one_found (suc (suc (suc (suc (suc n))))) low high below e = absurd (omega arith)
+
+  pub none_found : NoneBelow 5 → None ≡ char_before haystack p
+  unfolding char_before wide
+  none_found below =
+      sym (below 4 (omega arith) (omega arith))
+      ∙ or_second (wide 3) _ (below 3 (omega arith) (omega arith)) ∙ or_second (wide 2) _ (below 2 (omega arith) (omega arith)) ∙ or_second (wide 1) _ (below 1 (omega arith) (omega arith))
 
   -- each of the bytes less than n before p continues a character
   abbrev pub Continued : ℕ → Type 0
@@ -87,9 +109,28 @@ module _ (haystack : List ℕ) (p : ℕ) where
   past : (k : ℕ) → length haystack < p → char_of_width_before haystack k p ≡ None
   past k over = none_wide k (λ fits c e width. absurd (omega (arith, width, char_at-fits haystack (p - k) c e)))
 
-  -- no character ends at p where none of each width does
-  no_width : ((k : ℕ) → 1 ≤ k → k < 5 → char_of_width_before haystack k p ≡ None) → None ≡ char_before haystack p
-  unfolding char_before wide
-  no_width none =
-      sym (none 4 (omega arith) (omega arith))
-      ∙ or_second (wide 3) _ (none 3 (omega arith) (omega arith)) ∙ or_second (wide 2) _ (none 2 (omega arith) (omega arith)) ∙ or_second (wide 1) _ (none 1 (omega arith) (omega arith))
+  module _ (n : ℕ) (before : Continued n) where
+    -- the haystack does not reach n bytes back
+    pub none_outside : p < n → n < 5 → None ≡ char_before haystack p
+    none_outside outer high = none_found (λ k low below_five. elim (cases_lt k n) [
+      | inl less ↦ below n k before low less
+      | inr more ↦ outside k (omega arith)
+    ])
+
+    -- the byte that is n back continues no character: only n bytes can be one
+    pub one_there : 1 ≤ n → n < 5 → is_continuation (get_or haystack (p - n) 0) ≡ false → char_of_width_before haystack n p ≡ char_before haystack p
+    unfolding wide
+    one_there low high stops = at (is_some (wide n)) refl where
+      at : (b : Bool) → is_some (wide n) ≡ b → char_of_width_before haystack n p ≡ char_before haystack p
+      at true some = one_found n low high (λ k some less. below n k before some less) some
+      at false none = no_option (wide n) none ∙ none_found (λ k some below_five. elim (cases_order k n) [
+        | inl same ↦ subst (λ (m : ℕ). char_of_width_before haystack m p ≡ None) (sym same) (no_option (wide n) none)
+        | inr (inl less) ↦ below n k before some less
+        | inr (inr more) ↦ above n k low more stops
+      ])
+
+  pub none_past : length haystack < p → None ≡ char_before haystack p
+  none_past over = none_found (λ k low high. past k over)
+
+  pub none_continued : Continued 5 → None ≡ char_before haystack p
+  none_continued before = none_found (λ k low high. below 5 k before low high)

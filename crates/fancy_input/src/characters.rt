@@ -105,9 +105,14 @@ fn wide_before(haystack: &[u8], place: usize, width: usize) -> Option<char>
 pub fn character_before(haystack: &[u8], place: usize) -> Option<char>
     ensures { result ≡ char_before haystack.now place }
 {
+    if place > haystack.len() {
+        return None;
+    }
     for width in 1..5 {
-        let start = place.checked_sub(width)?;
-        if !is_continuation(*haystack.get(start)?) {
+        if place < width {
+            return None;
+        }
+        if !is_continuation(haystack[place - width]) {
             return wide_before(haystack, place, width);
         }
     }
