@@ -1,4 +1,4 @@
-use Rattle.std.proofs.Common.{◌≡◌, sym, refl, true≢false, ◌∙◌, arith}
+use Rattle.std.proofs.Common.{sym, refl, true≢false, ◌∙◌, arith}
 use Rattle.fancy_input.proofs.CharacterLemmas.{char_at-none}
 use Rattle.fancy_input.proofs.DecodingLemmas.{char_at-number, four_read, four_written}
 use Rattle.fancy_input.proofs.characters.four_bytes.Goals.{then-code-lt65536-via-then-code-lt65536, then-code-lt65536-via-else-code-lt65536+then-not-is_continuation, then-not-is_continuation-2-via-then-not-is_continuation-2, then-not-is_continuation-2-via-else-not-is_continuation-2+then-not-is_continuation-3}

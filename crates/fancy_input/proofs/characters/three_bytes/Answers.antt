@@ -1,4 +1,4 @@
-use Rattle.std.proofs.Common.{◌≡◌, sym, refl, true≢false, ◌∙◌, arith}
+use Rattle.std.proofs.Common.{sym, refl, true≢false, ◌∙◌, arith}
 use Rattle.fancy_input.proofs.CharacterLemmas.{char_at-none}
 use Rattle.fancy_input.proofs.DecodingLemmas.{char_at-number, three_read, three_written}
 use Rattle.fancy_input.proofs.characters.three_bytes.Goals.{then-code-lt2048-via-then-code-lt2048, then-code-lt2048-via-else-code-lt2048+then-not-is_continuation, then-code-lt2048-via-else-code-lt2048+else-not-is_continuation+then-not-is_continuation-2}

@@ -1,4 +1,4 @@
-use Rattle.std.proofs.Common.{◌≡◌, sym, refl, true≢false, ◌∙◌, arith}
+use Rattle.std.proofs.Common.{sym, refl, true≢false, ◌∙◌, arith}
 use Rattle.fancy_input.proofs.CharacterLemmas.{char_at-none}
 use Rattle.fancy_input.proofs.DecodingLemmas.{char_at-number, two_read, two_written}
 use Rattle.fancy_input.proofs.characters.two_bytes.Goals.{then-first-lt194-via-then-first-lt194, then-first-lt194-via-else-first-lt194+then-not-is_continuation}
