@@ -10,18 +10,18 @@ use Rattle.std.proofs.lemmas.Str.{length-encode}
 use Rattle.fancy_input.specs.Places.{char_at, is_continuation}
 use Rattle.fancy_input.proofs.CharacterLemmas.{char_at-from_bytes, char_at-bytes, char_at-none, whole}
 
--- what the bytes give that a number has, where they are the bytes of a character
+-- a character that the bytes begin with has the number n
 abbrev pub Reads : List ℕ → ℕ → Type 0
 Reads bs n = (c : ℕ) (rest : List ℕ) → IsScalar c → bs ≡ encode_utf8 c ++ rest → c ≡ n
 
--- what the bytes ask for is their number, where a character has it and its bytes are these
+-- where the bytes are those of n, the character at their start is n, if n is a character at all
 pub char_at-number : (bs : List ℕ) (n : ℕ) (o : Option ℕ) → SomeIff o (IsScalar n) n → encode_utf8 n ≡ bs → Reads bs n → o ≡ char_at bs 0
 char_at-number bs n None other here reads =
     sym (char_at-none bs 0 (λ c rest h e. other (subst IsScalar (reads c rest h e) h)))
 char_at-number bs n (Some c) is here reads =
     ap Some is.1 ∙ sym (char_at-from_bytes bs 0 n [] is.0 (sym here ∙ sym (append-nil (encode_utf8 n))))
 
--- as many bytes as the first asks for tell the character
+-- as many bytes as the first one asks for tell the character
 pub char_at-window : (haystack : List ℕ) (i n : ℕ) (bs : List ℕ) → n ≡ continuation_len (get_or haystack i 0) + 1 → bs ≡ take n (drop i haystack)
     → char_at bs 0 ≡ char_at haystack i
 char_at-window haystack i n bs width is = at (char_at bs 0) refl where
