@@ -1,0 +1,209 @@
+//! Texts that match, and their matches.
+
+use crate::json::write_match;
+use fancy_regex::{Captures, MatchBytes, Regex};
+use loft_texts::{Colour, Fault, Text, TextWork, write_painted};
+use loft_words::Report;
+use std::io::{self, Write};
+
+/// Finds texts that match.
+#[derive(Drop)]
+pub struct Find<'r> {
+    regex: &'r Regex,
+    report: Report,
+    colours: bool,
+    found: bool,
+    /// How many texts of the file matched so far.
+    count: u64,
+}
+
+/// The bytes of a text from one place to another; nothing where it has no such part.
+fn part(text: &[u8], start: usize, end: usize) -> &[u8] {
+    text.get(start..end).unwrap_or(b"")
+}
+
+/// What stands after the last line feed.
+fn last_line(text: &[u8]) -> &[u8] {
+    text.rsplit(|byte| *byte == b'\n').next().unwrap_or(b"")
+}
+
+/// What stands before the first line feed.
+fn first_line(text: &[u8]) -> &[u8] {
+    text.split(|byte| *byte == b'\n').next().unwrap_or(b"")
+}
+
+/// Writes a text from a place on up to the end of a match, which is in colour. Where that is.
+fn write_up_to<W: Write>(
+    text: &[u8],
+    at: usize,
+    found: MatchBytes<'_>,
+    out: &mut W,
+) -> io::Result<usize> {
+    out.write_all(part(text, at, found.start()))?;
+    write_painted(true, Colour::Match, found.as_bytes(), out)?;
+    Ok(found.end())
+}
+
+impl<'r> Find<'r> {
+    /// Finds by this pattern.
+    pub fn new(regex: &'r Regex, report: Report, colours: bool) -> Find<'r> {
+        Find {
+            regex,
+            report,
+            colours,
+            found: false,
+            count: 0,
+        }
+    }
+
+    /// Writes the file's name, the line and the column of a byte of the text.
+    fn write_place<W: Write>(&self, text: &Text<'_>, at: usize, out: &mut W) -> Result<(), Fault> {
+        let place = text.place(at);
+        write_painted(self.colours, Colour::File, text.file.as_bytes(), out)?;
+        write!(out, ":{}:{}:", place.line, place.column)?;
+        Ok(())
+    }
+
+    /// Writes the text with its place, its matches in colour.
+    fn write_text<W: Write>(
+        &self,
+        text: &Text<'_>,
+        first: MatchBytes<'_>,
+        out: &mut W,
+    ) -> Result<(), Fault> {
+        self.write_place(text, first.start(), out)?;
+        let at = if self.colours {
+            self.write_coloured(text.bytes, out)?
+        } else {
+            0
+        };
+        out.write_all(part(text.bytes, at, text.bytes.len()))?;
+        out.write_all(b"\n")?;
+        Ok(())
+    }
+
+    /// Writes a text up to the end of its last match, its matches in colour. Where that is.
+    fn write_coloured<W: Write>(&self, text: &[u8], out: &mut W) -> Result<usize, Fault> {
+        let mut at = 0;
+        for found in self.regex.find_iter(text) {
+            at = write_up_to(text, at, found?, out)?;
+        }
+        Ok(at)
+    }
+
+    /// Writes each match of the text alone.
+    fn write_matches<W: Write>(&self, text: &Text<'_>, out: &mut W) -> Result<(), Fault> {
+        for found in self.regex.find_iter(text.bytes) {
+            self.write_line(found?, out)?;
+        }
+        Ok(())
+    }
+
+    /// Writes a match on a line.
+    fn write_line<W: Write>(&self, found: MatchBytes<'_>, out: &mut W) -> Result<(), Fault> {
+        write_painted(self.colours, Colour::Match, found.as_bytes(), out)?;
+        out.write_all(b"\n")?;
+        Ok(())
+    }
+
+    /// Writes each match of a whole file: its place, and the lines that it is in.
+    fn write_parts<W: Write>(&self, text: &Text<'_>, out: &mut W) -> Result<(), Fault> {
+        for found in self.regex.find_iter(text.bytes) {
+            self.write_part(text, found?, out)?;
+        }
+        Ok(())
+    }
+
+    /// Writes the place of a match, and the lines that it is in.
+    fn write_part<W: Write>(
+        &self,
+        text: &Text<'_>,
+        found: MatchBytes<'_>,
+        out: &mut W,
+    ) -> Result<(), Fault> {
+        self.write_place(text, found.start(), out)?;
+        out.write_all(last_line(part(text.bytes, 0, found.start())))?;
+        write_painted(self.colours, Colour::Match, found.as_bytes(), out)?;
+        out.write_all(first_line(part(text.bytes, found.end(), text.bytes.len())))?;
+        out.write_all(b"\n")?;
+        Ok(())
+    }
+
+    /// Writes each match of the text with its groups.
+    fn write_groups<W: Write>(&self, text: &Text<'_>, out: &mut W) -> Result<(), Fault> {
+        for captures in self.regex.captures_iter(text.bytes) {
+            self.write_captures(text, &captures?, out)?;
+        }
+        Ok(())
+    }
+
+    /// Writes a match with its groups: as JSON, or a line for each group that took part.
+    fn write_captures<W: Write>(
+        &self,
+        text: &Text<'_>,
+        captures: &Captures<'_, &[u8]>,
+        out: &mut W,
+    ) -> Result<(), Fault> {
+        if self.report == Report::Json {
+            let start = captures.get(0).map_or(0, |found| found.start());
+            write_match(text, captures, start, out)?;
+            return Ok(());
+        }
+        for number in 0..captures.len() {
+            if let Some(group) = captures.get(number) {
+                self.write_group(text, number, group, out)?;
+            }
+        }
+        Ok(())
+    }
+
+    /// Writes the place, the number and the text of a group.
+    fn write_group<W: Write>(
+        &self,
+        text: &Text<'_>,
+        number: usize,
+        group: MatchBytes<'_>,
+        out: &mut W,
+    ) -> Result<(), Fault> {
+        self.write_place(text, group.start(), out)?;
+        write!(out, "{number}=")?;
+        write_painted(self.colours, Colour::Match, group.as_bytes(), out)?;
+        out.write_all(b"\n")?;
+        Ok(())
+    }
+}
+
+impl TextWork for Find<'_> {
+    fn text<W: Write>(&mut self, text: &Text<'_>, out: &mut W) -> Result<(), Fault> {
+        let Some(first) = self.regex.find(text.bytes)? else {
+            return Ok(());
+        };
+        self.found = true;
+        self.count = self.count.saturating_add(1);
+        match self.report {
+            Report::Lines if text.is_whole() => self.write_parts(text, out),
+            Report::Lines => self.write_text(text, first, out),
+            Report::Matches => self.write_matches(text, out),
+            Report::Groups | Report::Json => self.write_groups(text, out),
+            Report::Counts | Report::Names => Ok(()),
+        }
+    }
+
+    fn is_done(&self) -> bool {
+        self.report == Report::Names && self.count > 0
+    }
+
+    fn end<W: Write>(&mut self, file: &str, out: &mut W) -> Result<(), Fault> {
+        match self.report {
+            Report::Counts => writeln!(out, "{file}:{}", self.count)?,
+            Report::Names if self.count > 0 => writeln!(out, "{file}")?,
+            _ => {}
+        }
+        self.count = 0;
+        Ok(())
+    }
+
+    fn found(&self) -> bool {
+        self.found
+    }
+}

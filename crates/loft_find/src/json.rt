@@ -1,0 +1,68 @@
+//! Matches as lines of JSON.
+
+use fancy_regex::{Captures, MatchBytes};
+use loft_texts::Text;
+use std::io::{self, Write};
+
+/// Writes a character of a text in quotation marks.
+fn write_character<W: Write>(c: char, out: &mut W) -> io::Result<()> {
+    match c {
+        '"' => out.write_all(b"\\\""),
+        '\\' => out.write_all(b"\\\\"),
+        '\n' => out.write_all(b"\\n"),
+        '\r' => out.write_all(b"\\r"),
+        '\t' => out.write_all(b"\\t"),
+        '\0'..='\x1f' => write!(out, "\\u{:04x}", u32::from(c)),
+        _ => write!(out, "{c}"),
+    }
+}
+
+/// Writes bytes as a text in quotation marks, with U+FFFD for each run that is no UTF-8.
+fn write_string<W: Write>(bytes: &[u8], out: &mut W) -> io::Result<()> {
+    out.write_all(b"\"")?;
+    for chunk in bytes.utf8_chunks() {
+        for c in chunk.valid().chars() {
+            write_character(c, out)?;
+        }
+        if !chunk.invalid().is_empty() {
+            write_character('\u{FFFD}', out)?;
+        }
+    }
+    out.write_all(b"\"")
+}
+
+/// Writes the ends and the text of a group, or `null` for one that took no part.
+fn write_group<W: Write>(
+    text: &Text<'_>,
+    group: Option<MatchBytes<'_>>,
+    out: &mut W,
+) -> io::Result<()> {
+    let Some(group) = group else {
+        return out.write_all(b"null");
+    };
+    let (start, end) = (text.offset_of(group.start()), text.offset_of(group.end()));
+    write!(out, "{{\"start\":{start},\"end\":{end},\"text\":")?;
+    write_string(group.as_bytes(), out)?;
+    out.write_all(b"}")
+}
+
+/// Writes a match with its groups as a line.
+pub(crate) fn write_match<W: Write>(
+    text: &Text<'_>,
+    captures: &Captures<'_, &[u8]>,
+    start: usize,
+    out: &mut W,
+) -> io::Result<()> {
+    let place = text.place(start);
+    out.write_all(b"{\"file\":")?;
+    write_string(text.file.as_bytes(), out)?;
+    write!(out, ",\"line\":{},\"column\":{}", place.line, place.column)?;
+    out.write_all(b",\"groups\":[")?;
+    for number in 0..captures.len() {
+        if number > 0 {
+            out.write_all(b",")?;
+        }
+        write_group(text, captures.get(number), out)?;
+    }
+    out.write_all(b"]}\n")
+}

@@ -1,0 +1,84 @@
+//! The rules of a list.
+
+use csv::{ByteRecord, ReaderBuilder};
+use loft_texts::Fault;
+use std::alloc::Global;
+
+/// How bad it is that a rule matches.
+#[derive(Clone, Copy, PartialEq, Eq)]
+pub enum Severity {
+    /// The check fails.
+    Error,
+    /// It is told, and no more.
+    Warning,
+}
+
+/// A rule: what is looked for, and what is said of it.
+#[derive(Drop)]
+pub struct Rule {
+    pub name: String,
+    pub pattern: String,
+    pub message: String,
+    pub severity: Severity,
+}
+
+/// A field as text, empty where there is none; the fault where it is no text.
+fn text_field<'r>(record: &'r ByteRecord, field: usize, number: u64) -> Result<&'r str, Fault> {
+    let bytes = record.get(field).unwrap_or(b"");
+    match std::str::from_utf8(bytes) {
+        Ok(text) => Ok(text),
+        Err(_) => Err(Fault::Rule(number, "a field is no UTF-8")),
+    }
+}
+
+/// The severity that a field names. An empty one is an error.
+fn read_severity(field: &str, number: u64) -> Result<Severity, Fault> {
+    match field {
+        "" | "error" => Ok(Severity::Error),
+        "warning" => Ok(Severity::Warning),
+        _ => Err(Fault::Rule(number, "the severity is neither error nor warning")),
+    }
+}
+
+/// The rule of a record: name, pattern, message, severity.
+fn read_rule(alloc: Global, record: &ByteRecord, number: u64) -> Result<Rule, Fault> {
+    let name = text_field(record, 0, number)?;
+    let pattern = text_field(record, 1, number)?;
+    if name.is_empty() || pattern.is_empty() {
+        return Err(Fault::Rule(number, "a rule has a name and a pattern"));
+    }
+    let message = text_field(record, 2, number)?;
+    let severity = read_severity(text_field(record, 3, number)?, number)?;
+    Ok(Rule {
+        name: String::from_str(alloc, name)?,
+        pattern: String::from_str(alloc, pattern)?,
+        message: String::from_str(alloc, message)?,
+        severity,
+    })
+}
+
+/// Whether a record names the columns.
+fn is_header(record: &ByteRecord) -> bool {
+    record.get(0) == Some(b"name") && record.get(1) == Some(b"pattern")
+}
+
+/// The rules of a list. A first record with `name` and `pattern` in it names the columns.
+pub fn read_rules(alloc: Global, text: &[u8]) -> Result<Vec<Rule>, Fault> {
+    let reader = ReaderBuilder::new()
+        .has_headers(false)
+        .flexible(true)
+        .from_reader(alloc, text);
+    let mut rules = Vec::new(alloc);
+    let mut number = 0u64;
+    for record in reader.into_byte_records() {
+        let Ok(record) = record else {
+            return Err(Fault::Rule(number.saturating_add(1), "the list cannot be read"));
+        };
+        if number == 0 && is_header(&record) {
+            continue;
+        }
+        number = number.saturating_add(1);
+        rules.push(read_rule(alloc, &record, number)?)?;
+    }
+    Ok(rules)
+}

@@ -1,0 +1,54 @@
+//! Files that are rewritten in place.
+
+use crate::replace::Gather;
+use crate::rewrite::Rewrite;
+use loft_files::{DiskStore, put_in_place};
+use loft_texts::{Console, Fault, Outcome, each_text, is_standard_input};
+use std::fs;
+use std::io::{Input, Write};
+use std::rt::Files;
+use std::time::Clock;
+
+/// Rewrites each file in place. One with a fault is named, and the next one is done.
+pub fn replace_in_place<R: Files + Input + Clock + AllocGlobal, W: Write, X: Write>(
+    rt: &R,
+    files: &[&str],
+    rewrite: Rewrite<'_>,
+    console: &mut Console<'_, W, X>,
+) -> Outcome {
+    let mut outcome = Outcome::new();
+    for file in files {
+        match replace_file(rt, file, rewrite, console) {
+            Ok(found) => outcome.found = outcome.found || found,
+            Err(fault) => {
+                console.tell_fault(file, &fault);
+                outcome.faulted = true;
+            }
+        }
+    }
+    outcome
+}
+
+/// Rewrites a file in place, where something in it is replaced. Whether something was.
+fn replace_file<R: Files + Input + Clock + AllocGlobal, W: Write, X: Write>(
+    rt: &R,
+    file: &str,
+    rewrite: Rewrite<'_>,
+    console: &mut Console<'_, W, X>,
+) -> Result<bool, Fault> {
+    if is_standard_input(file) {
+        return Err(Fault::InPlace);
+    }
+    let before = fs::metadata(rt, file).map_err(Fault::Input)?;
+    let mut work = Gather {
+        rewrite,
+        bytes: Vec::new(rt.alloc()),
+        found: false,
+    };
+    each_text(rt, file, &mut work, console)?;
+    if work.found {
+        let mut store = DiskStore::new(rt.alloc(), rt, file, before)?;
+        put_in_place(&mut store, &work.bytes).map_err(Fault::Input)?;
+    }
+    Ok(work.found)
+}

@@ -1,0 +1,127 @@
+//! What a replacement would change, as a unified diff.
+
+use crate::rewrite::Rewrite;
+use loft_texts::{Fault, Text, TextWork, wide};
+use std::alloc::Global;
+use std::io::{self, Write};
+
+/// Writes what would change.
+#[derive(Drop)]
+pub struct Preview<'r> {
+    alloc: Global,
+    rewrite: Rewrite<'r>,
+    found: bool,
+    /// Whether a part of the file was shown.
+    shown: bool,
+    /// How many lines the new file has more than the old one so far.
+    added: i64,
+}
+
+/// How many lines the bytes have, with one that no line feed ends.
+fn lines(bytes: &[u8]) -> u64 {
+    wide(bytes.split_inclusive(|byte| *byte == b'\n').count())
+}
+
+/// Writes lines with a mark before each.
+fn write_lines<W: Write>(mark: &[u8], bytes: &[u8], out: &mut W) -> io::Result<()> {
+    for line in bytes.split_inclusive(|byte| *byte == b'\n') {
+        out.write_all(mark)?;
+        out.write_all(line)?;
+        if !line.ends_with(b"\n") {
+            out.write_all(b"\n\\ No newline at end of file\n")?;
+        }
+    }
+    Ok(())
+}
+
+/// How many bytes of whole lines both begin with.
+fn common_lines(one: &[u8], other: &[u8]) -> usize {
+    let mut common = 0usize;
+    let mut others = other.split_inclusive(|byte| *byte == b'\n');
+    for line in one.split_inclusive(|byte| *byte == b'\n') {
+        if others.next() != Some(line) {
+            return common;
+        }
+        common = common.saturating_add(line.len());
+    }
+    common
+}
+
+/// The bytes from a place on.
+fn after(bytes: &[u8], at: usize) -> &[u8] {
+    bytes.get(at..).unwrap_or(b"")
+}
+
+/// The bytes before a place.
+fn until(bytes: &[u8], at: usize) -> &[u8] {
+    bytes.get(..at).unwrap_or(b"")
+}
+
+impl<'r> Preview<'r> {
+    /// Shows what is replaced in this way.
+    pub fn new(alloc: Global, rewrite: Rewrite<'r>) -> Preview<'r> {
+        Preview {
+            alloc,
+            rewrite,
+            found: false,
+            shown: false,
+            added: 0,
+        }
+    }
+
+    /// Writes the part of a file that changes: its old lines and its new ones.
+    fn write_part<W: Write>(
+        &mut self,
+        text: &Text<'_>,
+        old: &[u8],
+        new: &[u8],
+        out: &mut W,
+    ) -> Result<(), Fault> {
+        if !self.shown {
+            writeln!(out, "--- {}", text.file)?;
+            writeln!(out, "+++ {}", text.file)?;
+            self.shown = true;
+        }
+        let kept = common_lines(old, new);
+        let passed = lines(until(text.bytes, kept));
+        let old = after(old, kept);
+        let new = after(new, kept);
+        let line = text.line.saturating_add(passed);
+        let (removed, added) = (lines(old), lines(new));
+        let new_line = line.saturating_add_signed(self.added);
+        writeln!(out, "@@ -{line},{removed} +{new_line},{added} @@")?;
+        write_lines(b"-", old, out)?;
+        write_lines(b"+", new, out)?;
+        self.added = self
+            .added
+            .saturating_add_unsigned(added)
+            .saturating_sub_unsigned(removed);
+        Ok(())
+    }
+}
+
+impl TextWork for Preview<'_> {
+    fn text<W: Write>(&mut self, text: &Text<'_>, out: &mut W) -> Result<(), Fault> {
+        let Some(mut new) = self.rewrite.rewrite(text.bytes)? else {
+            return Ok(());
+        };
+        self.found = true;
+        if new.as_slice() == text.bytes {
+            return Ok(());
+        }
+        let mut old = Vec::from_slice(self.alloc, text.bytes)?;
+        old.extend_from_slice(text.end)?;
+        new.extend_from_slice(text.end)?;
+        self.write_part(text, &old, &new, out)
+    }
+
+    fn end<W: Write>(&mut self, _file: &str, _out: &mut W) -> Result<(), Fault> {
+        self.shown = false;
+        self.added = 0;
+        Ok(())
+    }
+
+    fn found(&self) -> bool {
+        self.found
+    }
+}

@@ -1,0 +1,3 @@
+fn old_name() {}
+  old_name();
+end

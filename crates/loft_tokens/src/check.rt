@@ -1,0 +1,63 @@
+//! Where the rules of a list match.
+
+use fancy_regex::Regex;
+use loft_lists::{Rule, Severity};
+use loft_texts::{Fault, Text, TextWork};
+use std::io::Write;
+
+/// Checks texts by rules.
+#[derive(Drop)]
+pub struct Check<'r> {
+    rules: &'r [Rule],
+    /// The patterns of the rules, in their order.
+    patterns: &'r [Regex],
+    /// Whether a rule whose severity is an error matched.
+    failed: bool,
+}
+
+impl<'r> Check<'r> {
+    /// Checks by these rules, whose patterns are these.
+    pub fn new(rules: &'r [Rule], patterns: &'r [Regex]) -> Check<'r> {
+        Check {
+            rules,
+            patterns,
+            failed: false,
+        }
+    }
+}
+
+/// Writes where a rule matches in a text. Whether it does.
+fn write_matches<W: Write>(
+    rule: &Rule,
+    pattern: &Regex,
+    text: &Text<'_>,
+    out: &mut W,
+) -> Result<bool, Fault> {
+    let mut any = false;
+    for found in pattern.find_iter(text.bytes) {
+        let place = text.place(found?.start());
+        let (line, column) = (place.line, place.column);
+        writeln!(
+            out,
+            "{}:{line}:{column}: {}: {}",
+            text.file, rule.name, rule.message
+        )?;
+        any = true;
+    }
+    Ok(any)
+}
+
+impl TextWork for Check<'_> {
+    fn text<W: Write>(&mut self, text: &Text<'_>, out: &mut W) -> Result<(), Fault> {
+        for (rule, pattern) in self.rules.iter().zip(self.patterns) {
+            if write_matches(rule, pattern, text, out)? && rule.severity == Severity::Error {
+                self.failed = true;
+            }
+        }
+        Ok(())
+    }
+
+    fn found(&self) -> bool {
+        !self.failed
+    }
+}

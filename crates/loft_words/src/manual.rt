@@ -1,0 +1,99 @@
+//! The manual page, made of the words of help.
+
+use crate::words::{
+    ABOUT, COMMANDS, Described, Flag, PATTERN_FLAGS, PATTERN_OPTIONS, STATUS, Valued,
+};
+use std::io::{self, Write};
+
+/// Writes a text so that troff prints it as it is.
+fn write_plain<W: Write>(text: &str, out: &mut W) -> io::Result<()> {
+    for line in text.lines() {
+        if line.starts_with(".") || line.starts_with("'") {
+            out.write_all(b"\\&")?;
+        }
+        write_words(line, out)?;
+        out.write_all(b"\n")?;
+    }
+    Ok(())
+}
+
+/// Writes words of one line so that troff prints them as they are.
+fn write_words<W: Write>(line: &str, out: &mut W) -> io::Result<()> {
+    for c in line.chars() {
+        match c {
+            '\\' => out.write_all(b"\\e")?,
+            '-' => out.write_all(b"\\-")?,
+            _ => write!(out, "{c}")?,
+        }
+    }
+    Ok(())
+}
+
+/// Writes how an option is written.
+fn write_option<W: Write>(
+    name: &str,
+    letter: Option<char>,
+    value: &str,
+    help: &str,
+    out: &mut W,
+) -> io::Result<()> {
+    out.write_all(b".TP\n.B ")?;
+    if let Some(letter) = letter {
+        write!(out, "\\-{letter}, ")?;
+    }
+    out.write_all(b"\\-\\-")?;
+    write_words(name, out)?;
+    writeln!(out, " {value}")?;
+    write_plain(help, out)
+}
+
+fn write_flags<W: Write>(flags: &[Flag], out: &mut W) -> io::Result<()> {
+    for flag in flags {
+        write_option(flag.name, flag.letter, "", flag.help, out)?;
+    }
+    Ok(())
+}
+
+fn write_options<W: Write>(options: &[Valued], out: &mut W) -> io::Result<()> {
+    for option in options {
+        write_option(option.name, option.letter, option.value, option.help, out)?;
+    }
+    Ok(())
+}
+
+/// Writes what a command does, its options and its examples.
+fn write_command<W: Write>(described: &Described, out: &mut W) -> io::Result<()> {
+    write!(out, ".SS loft {} [OPTION..]", described.name)?;
+    for word in described.words {
+        write!(out, " {word}")?;
+    }
+    out.write_all(if described.has_files {
+        b" [FILE..]\n"
+    } else {
+        b"\n"
+    })?;
+    write_plain(described.about, out)?;
+    out.write_all(b".\n")?;
+    write_flags(described.flags, out)?;
+    write_options(described.options, out)?;
+    out.write_all(b".PP\n.nf\n")?;
+    write_plain(described.examples, out)?;
+    out.write_all(b".fi\n")
+}
+
+/// Writes the manual page.
+pub fn write_manual<W: Write>(out: &mut W) -> io::Result<()> {
+    out.write_all(b".TH LOFT 1\n.SH NAME\nloft \\- ")?;
+    write_plain(ABOUT, out)?;
+    out.write_all(
+        b".SH SYNOPSIS\n.B loft\n.I COMMAND\n[OPTION..] [ARGUMENT..] [FILE..]\n.SH COMMANDS\n",
+    )?;
+    for described in &COMMANDS {
+        write_command(described, out)?;
+    }
+    out.write_all(b".SH OPTIONS OF PATTERNS\nEach command has these.\n")?;
+    write_flags(&PATTERN_FLAGS, out)?;
+    write_options(&PATTERN_OPTIONS, out)?;
+    out.write_all(b".SH FILES AND STATUS\n")?;
+    write_plain(STATUS, out)
+}
