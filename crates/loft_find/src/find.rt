@@ -1,6 +1,6 @@
 //! Texts that match, and their matches.
 
-use crate::json::write_match;
+use crate::json::write_json;
 use fancy_regex::{Captures, MatchBytes, Regex};
 use loft_texts::{Colour, Fault, Text, TextWork, write_painted};
 use loft_words::Report;
@@ -91,26 +91,26 @@ impl<'r> Find<'r> {
         Ok(at)
     }
 
-    /// Writes each match of the text alone.
+    /// Writes each match of the text: alone, or of a whole file with its place and its lines.
     fn write_matches<W: Write>(&self, text: &Text<'_>, out: &mut W) -> Result<(), Fault> {
         for found in self.regex.find_iter(text.bytes) {
-            self.write_line(found?, out)?;
+            self.write_match(text, found?, out)?;
         }
         Ok(())
     }
 
-    /// Writes a match on a line.
-    fn write_line<W: Write>(&self, found: MatchBytes<'_>, out: &mut W) -> Result<(), Fault> {
+    /// Writes a match: alone, or with its place and its lines.
+    fn write_match<W: Write>(
+        &self,
+        text: &Text<'_>,
+        found: MatchBytes<'_>,
+        out: &mut W,
+    ) -> Result<(), Fault> {
+        if self.report == Report::Lines {
+            return self.write_part(text, found, out);
+        }
         write_painted(self.colours, Colour::Match, found.as_bytes(), out)?;
         out.write_all(b"\n")?;
-        Ok(())
-    }
-
-    /// Writes each match of a whole file: its place, and the lines that it is in.
-    fn write_parts<W: Write>(&self, text: &Text<'_>, out: &mut W) -> Result<(), Fault> {
-        for found in self.regex.find_iter(text.bytes) {
-            self.write_part(text, found?, out)?;
-        }
         Ok(())
     }
 
@@ -146,7 +146,7 @@ impl<'r> Find<'r> {
     ) -> Result<(), Fault> {
         if self.report == Report::Json {
             let start = captures.get(0).map_or(0, |found| found.start());
-            write_match(text, captures, start, out)?;
+            write_json(text, captures, start, out)?;
             return Ok(());
         }
         for number in 0..captures.len() {
@@ -181,9 +181,8 @@ impl TextWork for Find<'_> {
         self.found = true;
         self.count = self.count.saturating_add(1);
         match self.report {
-            Report::Lines if text.is_whole() => self.write_parts(text, out),
-            Report::Lines => self.write_text(text, first, out),
-            Report::Matches => self.write_matches(text, out),
+            Report::Lines if !text.is_whole() => self.write_text(text, first, out),
+            Report::Lines | Report::Matches => self.write_matches(text, out),
             Report::Groups | Report::Json => self.write_groups(text, out),
             Report::Counts | Report::Names => Ok(()),
         }

@@ -47,7 +47,7 @@ fn write_group<W: Write>(
 }
 
 /// Writes a match with its groups as a line.
-pub(crate) fn write_match<W: Write>(
+pub(crate) fn write_json<W: Write>(
     text: &Text<'_>,
     captures: &Captures<'_, &[u8]>,
     start: usize,

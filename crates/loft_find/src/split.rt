@@ -2,7 +2,7 @@
 
 use fancy_regex::Regex;
 use loft_texts::{Fault, Text, TextWork};
-use std::io::Write;
+use std::io::{self, Write};
 
 /// Splits texts at matches.
 #[derive(Drop)]
@@ -24,19 +24,30 @@ impl<'r> Split<'r> {
     }
 }
 
-impl TextWork for Split<'_> {
-    fn text<W: Write>(&mut self, text: &Text<'_>, out: &mut W) -> Result<(), Fault> {
-        let terminator = [self.terminator];
+impl Split<'_> {
+    /// Writes a piece, and what ends it.
+    fn write_piece<W: Write>(&self, piece: &[u8], out: &mut W) -> io::Result<()> {
+        out.write_all(piece)?;
+        out.write_all(&[self.terminator])
+    }
+
+    /// Writes the pieces before the last match. Where that ends.
+    fn write_pieces<W: Write>(&self, text: &[u8], out: &mut W) -> Result<usize, Fault> {
         let mut at = 0;
-        for found in self.regex.find_iter(text.bytes) {
+        for found in self.regex.find_iter(text) {
             let found = found?;
-            out.write_all(text.bytes.get(at..found.start()).unwrap_or(b""))?;
-            out.write_all(&terminator)?;
+            self.write_piece(text.get(at..found.start()).unwrap_or(b""), out)?;
             at = found.end();
         }
+        Ok(at)
+    }
+}
+
+impl TextWork for Split<'_> {
+    fn text<W: Write>(&mut self, text: &Text<'_>, out: &mut W) -> Result<(), Fault> {
+        let at = self.write_pieces(text.bytes, out)?;
         self.found = true;
-        out.write_all(text.bytes.get(at..).unwrap_or(b""))?;
-        out.write_all(&terminator)?;
+        self.write_piece(text.bytes.get(at..).unwrap_or(b""), out)?;
         Ok(())
     }
 
