@@ -9,7 +9,6 @@ Both hold all that they need but the C library. The build without proof is of th
 that `rt try` adds, compiled as the gate compiles. It shows how the code behaves, and proves nothing."""
 import os
 import re
-import shutil
 import subprocess
 import sys
 import tempfile
@@ -19,6 +18,7 @@ ROOT = os.path.dirname(HERE)
 CRATE = "fancy_regex_c"
 sys.path.append(f"{ROOT}/tools")
 
+import static_library
 import unproved
 
 # `rt try` compiles programs alone, so the exports are called by one.
@@ -31,7 +31,7 @@ fn main(rt: HostRuntime) {
     let mut members = [plain::Member::nothing_at(0); 1];
     let ends = [0usize; 1];
     let mut fault = plain::Fault::memory();
-    let mut request = plain::Request { start: 0, end: 0, flags: 0 };
+    let mut request = plain::Request { start: 0, end: 0, flags: 0, standing: 0 };
     let how = texts::Replacing { limit: 0, literal: 0 };
     let mut options = reading::by_default();
     let mut regex = handle::Handle::none(alloc);
@@ -98,13 +98,10 @@ def program_of(files):
         file.write(lines)
 
 
-def library_of(text, files):
-    """The program's code with its exports in sight and its `main` out of it."""
-    text = unproved.without_marks(unproved.without_checks(text))
-    for module, name, _ in exports(files):
-        text = re.sub(rf'@"[\w:]*{module}::{name}"', f"@{name}", text)
-        text = re.sub(rf"define internal ([^@\n]*@{name}\()", r"define \1", text)
-    return text.replace("define i32 @main(", "define internal i32 @unused_main(")
+def with_kit(objects, room, out):
+    """Puts the objects and what they call of the kit's C code into one archive."""
+    kit = unproved.module("rtlib", f"{os.path.dirname(unproved.rt_path())}/rtlib.py").KIT
+    static_library.archive([*objects, *static_library.objects_of(f"{kit}/c/liblibc_c.a", room)], out)
 
 
 def without_proof(out):
@@ -112,72 +109,26 @@ def without_proof(out):
     with tempfile.TemporaryDirectory(prefix="loftlavender-") as files, tempfile.TemporaryDirectory() as room:
         unproved.copy_files(files, None)
         program_of(files)
-        kit, text = unproved.code_of(files, CRATE, room)
-        made = unproved.compiled(kit, library_of(text, files), room)
-        archive([made], kit, out)
-
-
-def archive(objects, kit, out):
-    """Puts the objects and what they call of the kit's C code into one archive."""
-    with tempfile.TemporaryDirectory() as room:
-        subprocess.run(["ar", "x", f"{kit}/c/liblibc_c.a"], cwd=room, check=True)
-        others = [f"{room}/{name}" for name in sorted(os.listdir(room))]
-        made = f"{room}/library.a"
-        subprocess.run(["ar", "rcs", made, *objects, *others], check=True)
-        os.makedirs(os.path.dirname(os.path.abspath(out)), exist_ok=True)
-        shutil.move(made, out)
-
-
-def prove_here(out):
-    """In a copy of the repository that is the current folder: has `rt ci` prove the crate and those below it, and build the static
-    library."""
-    rt = unproved.module("rtmain", unproved.rt_path())
-    by_default = rt.Crate.ci
-
-    def ci(self, flags, tests):
-        if self.is_static and not tests:
-            words = self.words(flags, keeps=False)
-            return self.prove(["build", *words, "--toolchain", f"{rt.KIT}/toolchain", "--backend", "llvm", "-o", out])
-        return by_default(self, flags, tests)
-
-    rt.Crate.ci = ci
-    # Tests and must-fail edits are the gate's affair.
-    rt.rtlib.Crate.has_tests = lambda self: False
-    rt.edits_of = lambda crate: ([], [])
-    sys.exit(rt.ci_of([CRATE], False))
-
-
-def kit_folder():
-    """The folder of the kit."""
-    return unproved.module("rtlib", f"{os.path.dirname(unproved.rt_path())}/rtlib.py").KIT
-
-
-def archive_of(built, out):
-    """Puts what `rt` built and what it calls of the kit's C code into one archive."""
-    with tempfile.TemporaryDirectory() as room:
-        subprocess.run(["ar", "x", built], cwd=room, check=True)
-        archive([f"{room}/{name}" for name in sorted(os.listdir(room))], kit_folder(), out)
+        names = [name for _, name, _ in exports(files)]
+        with_kit([static_library.without_proof(CRATE, files, names, room)], room, out)
 
 
 def over_kept_proofs(out):
     """Builds the static library of the working tree by `rt lib`."""
     crate = f"{ROOT}/crates/{CRATE}"
     subprocess.run(["rt", "lib"], cwd=crate, stdin=subprocess.DEVNULL, stdout=subprocess.DEVNULL, check=True)
-    archive_of(f"{crate}/out/lib{CRATE}.a", out)
+    with tempfile.TemporaryDirectory() as room:
+        with_kit(static_library.objects_of(f"{crate}/out/lib{CRATE}.a", room), room, out)
 
 
 def over_proofs(out):
     """Builds the static library of the working tree over its proofs, from code that `rt ci` proves."""
     with tempfile.TemporaryDirectory(prefix="loftlavender-") as files, tempfile.TemporaryDirectory() as room:
         unproved.copy_files(files, None)
-        # `rt ci` builds nothing of a crate that an earlier run passed, so this copy of it is never the same.
         with open(f"{files}/crates/{CRATE}/src/lib.rt", "a", encoding="utf-8") as source:
             source.write(f"\n// This copy is built in {room}.\n")
-        words = [sys.executable, __file__, "--prove-here", f"{room}/built.a"]
-        ran = subprocess.run(words, cwd=files, stdin=subprocess.DEVNULL, stdout=subprocess.PIPE, stderr=subprocess.STDOUT, text=True)
-        if not os.path.isfile(f"{room}/built.a"):
-            raise unproved.NotBuilt(ran.stdout)
-        archive_of(f"{room}/built.a", out)
+        static_library.proved(CRATE, files, f"{room}/built.a")
+        with_kit(static_library.objects_of(f"{room}/built.a", room), room, out)
 
 
 BUILDS = {"--unproved": without_proof, "--kept": over_kept_proofs}
@@ -185,8 +136,6 @@ BUILDS = {"--unproved": without_proof, "--kept": over_kept_proofs}
 
 def main():
     words = sys.argv[1:]
-    if words[:1] == ["--prove-here"]:
-        prove_here(words[1])
     build = BUILDS.get(words[0], over_proofs) if words else over_proofs
     words = [it for it in words if it not in BUILDS]
     if len(words) != 1:

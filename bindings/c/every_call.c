@@ -53,7 +53,7 @@ static int was(const char *name, uint32_t wanted, int written) {
 #define BYTES(text) (const uint8_t *)(text), strlen(text)
 #define COUNT(array) (sizeof(array) / sizeof *(array))
 
-static fancy_regex_request text_of(const char *text) { return (fancy_regex_request){0, strlen(text), FANCY_REGEX_TEXT}; }
+static fancy_regex_request text_of(const char *text) { return (fancy_regex_request){0, strlen(text), FANCY_REGEX_TEXT, 0}; }
 
 static int same(fancy_regex_span span, size_t start, size_t end) { return span.start == start && span.end == end; }
 
@@ -86,15 +86,15 @@ static void searches(void) {
        (same(groups[0], 8, 15) && same(groups[1], 8, 12) && same(groups[2], 13, 15)));
     request.end = 12;
     IS("find within a range", fancy_regex_find(&regex, BYTES(text), &request, &found), FANCY_REGEX_NONE, 1);
-    request = (fancy_regex_request){6, strlen(text), FANCY_REGEX_TEXT};
+    request = (fancy_regex_request){6, strlen(text), FANCY_REGEX_TEXT, 0};
     IS("start inside a character", fancy_regex_find(&regex, BYTES(text), &request, &found), FANCY_REGEX_NO_PLACE, 1);
     request.flags = 0;
     IS("the same in bytes", fancy_regex_find(&regex, BYTES(text), &request, &found), FANCY_REGEX_DONE, 1);
     request.end = 99;
     IS("end past the haystack", fancy_regex_find(&regex, BYTES(text), &request, &found), FANCY_REGEX_NO_PLACE, 1);
-    request = (fancy_regex_request){0, 1, FANCY_REGEX_TEXT};
+    request = (fancy_regex_request){0, 1, FANCY_REGEX_TEXT, 0};
     IS("no text", fancy_regex_find(&regex, BYTES("\xFF"), &request, &found), FANCY_REGEX_NOT_TEXT, 1);
-    request = (fancy_regex_request){0, 7, FANCY_REGEX_TEXT | FANCY_REGEX_ANCHORED};
+    request = (fancy_regex_request){0, 7, FANCY_REGEX_TEXT | FANCY_REGEX_ANCHORED, 0};
     IS("anchored", fancy_regex_is_match(&regex, BYTES("2026-11"), &request), FANCY_REGEX_DONE, 1);
     IS("anchored elsewhere", fancy_regex_is_match(&regex, BYTES(" 2026-1"), &request), FANCY_REGEX_NONE, 1);
     fancy_regex_free(&regex);
@@ -113,7 +113,7 @@ static void suppressed(void) {
         IS("no end", fancy_regex_is_match(&regex, BYTES("a"), &request), FANCY_REGEX_NONE, 1);
     }
     if (make(&regex, "\\Ga")) {
-        fancy_regex_request request = {0, 1, FANCY_REGEX_TEXT | FANCY_REGEX_NOT_CONTINUED};
+        fancy_regex_request request = {0, 1, FANCY_REGEX_TEXT | FANCY_REGEX_NOT_CONTINUED, 0};
         IS("not continued", fancy_regex_is_match(&regex, BYTES("a"), &request), FANCY_REGEX_NONE, 1);
     }
     fancy_regex_free(&regex);
@@ -197,7 +197,7 @@ static void with_options(void) {
         IS("given up", fancy_regex_is_match(&regex, BYTES("aaaaaaaa"), &request), FANCY_REGEX_BACKTRACK_LIMIT, 1);
     options = by_default();
     options.bytes_mode = 1;
-    request = (fancy_regex_request){0, 3, 0};
+    request = (fancy_regex_request){0, 3, 0, 0};
     fancy_regex_span found = {0};
     if (IS("bytes", fancy_regex_new(BYTES("\\xFF."), &options, &regex, &fault), FANCY_REGEX_DONE, 1))
         IS("in bytes", fancy_regex_find(&regex, BYTES("a\xFF\x80"), &request, &found), FANCY_REGEX_DONE,
@@ -205,14 +205,15 @@ static void with_options(void) {
     fancy_regex_free(&regex);
 }
 
-/* A list in chunks of `count` matches, against the spans that are wanted. */
+/* A list whose calls ask for one match and for `count` in turn, against the spans that are wanted. */
 static void list(fancy_regex_handle *regex, const char *text, size_t count, const fancy_regex_span *wanted, size_t many) {
     fancy_regex_request request = text_of(text);
     fancy_regex_span spans[8];
-    size_t seen = 0, written = 0;
+    size_t seen = 0, written = 0, next = 1;
     uint32_t last = FANCY_REGEX_DONE;
     while (last == FANCY_REGEX_DONE && seen <= many) {
-        last = fancy_regex_find_all(regex, BYTES(text), &request, spans, count, &written);
+        last = fancy_regex_find_all(regex, BYTES(text), &request, spans, next, &written);
+        next = count + 1 - next;
         for (size_t i = 0; i < written; i++, seen++)
             IS("an item", seen < many && same(spans[i], wanted[seen].start, wanted[seen].end), 1, 1);
     }
@@ -223,7 +224,7 @@ static void lists(void) {
     fancy_regex_handle regex = {0};
     const fancy_regex_span stars[] = {{0, 0}, {1, 3}, {4, 4}}, digits[] = {{0, 1}, {2, 3}, {4, 6}};
     const fancy_regex_span letters[] = {{0, 1}, {1, 2}}, kept[] = {{1, 1}, {2, 3}};
-    const fancy_regex_span once[] = {{0, 0}}, first[] = {{0, 1}};
+    const fancy_regex_span once[] = {{0, 0}}, first[] = {{0, 1}}, on[] = {{0, 0}, {1, 2}, {2, 3}};
     for (size_t count = 1; count <= 4; count++) {
         if (make(&regex, "a*")) list(&regex, "baab", count, stars, COUNT(stars));
         if (make(&regex, "\\d+")) list(&regex, "1 2 34", count, digits, COUNT(digits));
@@ -232,6 +233,15 @@ static void lists(void) {
         if (make(&regex, "\\G(?:a\\K|b)")) list(&regex, "aab", count, kept, COUNT(kept));
         if (make(&regex, "\\G(?:x|)")) list(&regex, "ab", count, once, COUNT(once));
         if (make(&regex, "\\G(?:a|)")) list(&regex, "ab", count, first, COUNT(first));
+        if (make(&regex, "\\Gc|(?=a)|b")) list(&regex, "abc", count, on, COUNT(on));
+    }
+    if (make(&regex, "\\Gb|a")) {
+        /* where \\G is off from the start it is off in each call */
+        fancy_regex_request request = {0, 2, FANCY_REGEX_TEXT | FANCY_REGEX_NOT_CONTINUED, 0};
+        fancy_regex_span span = {0};
+        size_t written = 0;
+        if (IS("the first one", fancy_regex_find_all(&regex, BYTES("ab"), &request, &span, 1, &written), FANCY_REGEX_DONE, same(span, 0, 1)))
+            IS("\\G is off", fancy_regex_find_all(&regex, BYTES("ab"), &request, &span, 1, &written), FANCY_REGEX_NONE, written == 0);
     }
     if (make(&regex, "a(b)?")) {
         fancy_regex_request request = text_of("aab");
@@ -301,6 +311,12 @@ static void sets(void) {
     fancy_regex_free(&other);
 }
 
+/* The next match of a list under way, which may be asked again after want of memory. */
+static uint32_t next_of(fancy_regex_handle *list, fancy_regex_span *groups, size_t count) {
+    uint32_t first = fancy_regex_next(list, groups, count);
+    return first == FANCY_REGEX_NO_MEMORY ? fancy_regex_next(list, groups, count) : first;
+}
+
 /* A list under way, against the spans that are wanted. */
 static void walk(fancy_regex_handle *regex, const char *text, const fancy_regex_span *wanted, size_t many) {
     fancy_regex_handle list = {0};
@@ -309,13 +325,10 @@ static void walk(fancy_regex_handle *regex, const char *text, const fancy_regex_
     if (!IS("matches_new", fancy_regex_matches_new(regex, BYTES(text), &request, 0, &list), FANCY_REGEX_DONE, 1)) return;
     fancy_regex_free(regex);
     for (size_t i = 0; i < many; i++)
-        if (!IS("next", fancy_regex_next(&list, groups, 2), FANCY_REGEX_DONE,
-                same(groups[0], wanted[i].start, wanted[i].end) && same(groups[1], FANCY_REGEX_ABSENT, FANCY_REGEX_ABSENT)))
-            break;
-    if (refused < 0) {
-        IS("no next", fancy_regex_next(&list, groups, 2), FANCY_REGEX_NONE, 1);
-        IS("none again", fancy_regex_next(&list, groups, 2), FANCY_REGEX_NONE, 1);
-    }
+        IS("next", next_of(&list, groups, 2), FANCY_REGEX_DONE,
+           same(groups[0], wanted[i].start, wanted[i].end) && same(groups[1], FANCY_REGEX_ABSENT, FANCY_REGEX_ABSENT));
+    IS("no next", next_of(&list, groups, 2), FANCY_REGEX_NONE, 1);
+    IS("none again", next_of(&list, groups, 2), FANCY_REGEX_NONE, 1);
     fancy_regex_free(&list);
 }
 
@@ -403,7 +416,7 @@ static void times(void) {
         double least = 1e99;
         size_t matches = 0;
         for (int round = 0; round < 5; round++) {
-            fancy_regex_request list = {0, length, FANCY_REGEX_TEXT};
+            fancy_regex_request list = {0, length, FANCY_REGEX_TEXT, 0};
             size_t written = 0;
             double begun = now();
             matches = 0;
@@ -419,7 +432,7 @@ static void times(void) {
     size_t matches = 0;
     for (int round = 0; round < 5; round++) {
         fancy_regex_handle list = {0};
-        fancy_regex_request request = {0, length, FANCY_REGEX_TEXT};
+        fancy_regex_request request = {0, length, FANCY_REGEX_TEXT, 0};
         double begun = now();
         matches = 0;
         fancy_regex_matches_new(&regex, (const uint8_t *)long_text, length, &request, 0, &list);

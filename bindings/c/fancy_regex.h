@@ -73,6 +73,7 @@ typedef struct fancy_regex_request {
     size_t start;   /* the first position that is tried; past the end nothing is found */
     size_t end;     /* no match ends after it; at most the haystack's length */
     uint32_t flags; /* of the following, added up */
+    uint32_t standing; /* where a list stands, which lists alone read: 0 at first. They set it */
 } fancy_regex_request;
 
 enum fancy_regex_flag {
@@ -80,8 +81,7 @@ enum fancy_regex_flag {
     FANCY_REGEX_ANCHORED = 2,      /* one position alone is tried */
     FANCY_REGEX_NO_START = 4,      /* the start of the haystack is no start of a text: ^ and \A do not hold there */
     FANCY_REGEX_NO_END = 8,        /* its end is no end of a text: $ and \z do not hold there */
-    FANCY_REGEX_NOT_CONTINUED = 16,/* there was no match before: \G holds nowhere */
-    FANCY_REGEX_SKIPS_EMPTY = 32   /* an empty match at the start is passed over. Lists set it and read it */
+    FANCY_REGEX_NOT_CONTINUED = 16 /* there was no match before: \G holds nowhere */
 };
 
 /* The options of a pattern: fancy_regex_default_options sets the default ones. */
@@ -153,8 +153,8 @@ typedef struct fancy_regex_replacing {
 
 void fancy_regex_default_options(fancy_regex_options *options);
 
-/* Reads a pattern. Where it is refused `regex` keeps what it held, and `fault` says why: REFUSED, NOT_TEXT, NO_OPTIONS,
- * NO_MEMORY. Else `fault` is not written. */
+/* Reads a pattern. Where it is refused `regex` keeps what it held, and `fault` says why: NO_OPTIONS; else NOT_TEXT where the pattern is
+ * no UTF-8; else REFUSED or NO_MEMORY. For DONE `fault` is not written. */
 uint32_t fancy_regex_new(const uint8_t *pattern, size_t pattern_len, const fancy_regex_options *options,
                          fancy_regex_handle *regex, fancy_regex_fault *fault);
 
@@ -162,17 +162,17 @@ uint32_t fancy_regex_new(const uint8_t *pattern, size_t pattern_len, const fancy
 uint32_t fancy_regex_set_new(const uint8_t *patterns, size_t patterns_len, const size_t *ends, size_t count,
                              const fancy_regex_options *options, fancy_regex_handle *set, fancy_regex_fault *fault);
 
-/* Makes a second handle of the same regex or set, for another thread: DONE, NO_HANDLE, NO_MEMORY. */
+/* Makes a second handle of the same regex or set, for another thread: DONE, NO_HANDLE, NO_MEMORY. But for DONE `out` keeps what it held. */
 uint32_t fancy_regex_again(fancy_regex_handle *handle, fancy_regex_handle *out);
 
 /* Frees what a handle owns. It is empty then. */
 void fancy_regex_free(fancy_regex_handle *handle);
 
-/* Writes the text of a fault, and tells its length: DONE, TOO_SHORT, NO_MEMORY. */
+/* Writes the text of a fault, and tells its length: DONE, TOO_SHORT, NO_MEMORY, for which nothing is written. */
 uint32_t fancy_regex_explain(const fancy_regex_fault *fault, uint8_t *buffer, size_t buffer_len, size_t *wanted);
 
 /* Writes the name that a pattern refers to and that no group has, for FANCY_REGEX_INVALID_GROUP_NAME_BACKREF: it reads the pattern
- * once more. NONE where it is not refused for that. */
+ * once more. DONE, TOO_SHORT; NONE where it is not refused for that, and NO_MEMORY, for which the length is 0. */
 uint32_t fancy_regex_missing_name(const uint8_t *pattern, size_t pattern_len, const fancy_regex_options *options,
                                   uint8_t *buffer, size_t buffer_len, size_t *wanted);
 
@@ -181,13 +181,15 @@ uint32_t fancy_regex_missing_name(const uint8_t *pattern, size_t pattern_len, co
 /* How many groups there are, with group 0, the whole match. 0 where the handle holds no regex. */
 size_t fancy_regex_captures_len(fancy_regex_handle *regex);
 
-/* The number of the last group with a name: DONE, NONE, NO_HANDLE. */
+/* The number of the last group with a name, which is written for DONE alone. NONE where no group has it, or it is no UTF-8; NO_HANDLE. */
 uint32_t fancy_regex_group_number(fancy_regex_handle *regex, const uint8_t *name, size_t name_len, size_t *number);
 
-/* Writes the name of a group, and tells its length: DONE, NONE, TOO_SHORT, NO_HANDLE, NO_MEMORY. */
+/* Writes the name of a group, and tells its length: DONE, TOO_SHORT. NONE where it has none or there is no such group, and NO_MEMORY,
+ * for which the length is 0; NO_HANDLE, for which nothing is told. */
 uint32_t fancy_regex_group_name(fancy_regex_handle *regex, size_t number, uint8_t *buffer, size_t buffer_len, size_t *wanted);
 
-/* ---- Searches: DONE, NONE, NOT_TEXT, NO_PLACE, NO_HANDLE, NO_MEMORY, and the three limits ---- */
+/* ---- Searches: DONE, NONE. NO_HANDLE comes first; then NOT_TEXT, where the request says text and the bytes are none; then NO_PLACE,
+ * where they may not be searched as it asks; then NO_MEMORY and the three limits, as the search is refused. ---- */
 
 uint32_t fancy_regex_is_match(fancy_regex_handle *regex, const uint8_t *haystack, size_t haystack_len,
                               const fancy_regex_request *request);
@@ -244,7 +246,7 @@ uint32_t fancy_regex_replace(fancy_regex_handle *regex, const uint8_t *text, siz
 uint32_t fancy_regex_split(fancy_regex_handle *regex, const uint8_t *text, size_t text_len, size_t limit,
                            fancy_regex_span *pieces, size_t count, size_t *wanted);
 
-/* Writes a pattern that finds this text and nothing else: DONE, TOO_SHORT, NOT_TEXT, NO_MEMORY. */
+/* Writes a pattern that finds this text and nothing else: DONE, TOO_SHORT. NOT_TEXT and NO_MEMORY, for which the length is 0. */
 uint32_t fancy_regex_escape(const uint8_t *text, size_t text_len, uint8_t *buffer, size_t buffer_len, size_t *wanted);
 
 /* ---- Sets ---- */

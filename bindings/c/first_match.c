@@ -12,7 +12,7 @@ int main(int count, char **words) { /* first_match PATTERN TEXT */
     if (count != 3) return 2;
     fancy_regex_default_options(&options);
     if (fancy_regex_new(BYTES(words[1]), &options, &regex, &fault) != FANCY_REGEX_DONE) return 2;
-    fancy_regex_request whole = {0, strlen(words[2]), FANCY_REGEX_TEXT};
+    fancy_regex_request whole = {0, strlen(words[2]), FANCY_REGEX_TEXT, 0};
     uint32_t answer = fancy_regex_find(&regex, BYTES(words[2]), &whole, &found);
     if (answer == FANCY_REGEX_DONE) printf("%zu..%zu\n", found.start, found.end);
     fancy_regex_free(&regex);

@@ -33,6 +33,7 @@ pub struct Request {
     pub start: usize,
     pub end: usize,
     pub flags: u32,
+    pub standing: u32,
 }
 
 /// The options of a pattern.

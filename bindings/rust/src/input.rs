@@ -274,6 +274,7 @@ impl<'h, S: Input + ?Sized> RegexInput<'h, S> {
             start: self.start.max(self.range.start),
             end: self.range.end,
             flags,
+            standing: 0,
         }
     }
 }

@@ -1,10 +1,11 @@
 -- What a request that crosses asks of a search.
-use Rattle.std.specs.Prelude.{◌≡◌, ℕ, Bool, Some, not, nat_eq, bit_and}
+use Rattle.std.specs.Prelude.{◌≡◌, ◌≤◌, ℕ, Bool, true, List, length, not, nat_eq, bit_and, All, IsUtf8}
+use Rattle.fancy_regex.specs.declared.Regex.{Regex}
+use Rattle.fancy_regex.specs.declared.RegexSet.{RegexSet}
 use Rattle.fancy_regex.specs.declared.Request.{Request as Asked}
-use Rattle.fancy_regex.specs.Search.{Query}
-use Rattle.fancy_regex.specs.Searches.{first_match}
-use Rattle.fancy_regex.specs.Spans.{from_to}
-use Rattle.fancy_regex_c.specs.declared.plain.Span.{Span}
+use Rattle.fancy_regex.specs.Regexes.{options_in}
+use Rattle.fancy_regex.specs.Searching.{CanSearch}
+use Rattle.fancy_regex.specs.Sets.{members_of}
 use Rattle.fancy_regex_c.specs.declared.plain.Request.{Request}
 
 -- whether a flag is among these, added up
@@ -23,6 +24,27 @@ asked r = record {
   continues = not (has_flag r.flags 16);
 }
 
--- the first match of a search has this span
-abbrev pub IsFirst : Query → Span → Type 0
-IsFirst q span = first_match q ≡ Some (from_to span.start span.end)
+-- whether the request says that the haystack is text
+abbrev pub says_text : Request → Bool
+says_text r = has_flag r.flags 1
+
+-- the bytes are what the request says: text is UTF-8
+abbrev pub IsAsSaid : List ℕ → Request → Type 0
+IsAsSaid bytes r = says_text r ≡ true → IsUtf8 bytes
+
+-- The regex may search the bytes as the request asks, as text or not: the end is within them. In text the start, where it is not past
+-- the end, and the end are boundaries, and where the regex reads bytes the text is ASCII.
+pub record IsPlaceIn (regex : Regex) (text : Bool) (bytes : List ℕ) (r : Request) : Type 0 where
+  pub inside : r.end ≤ length bytes
+  pub searched : CanSearch (options_in regex) text bytes (asked r)
+
+abbrev pub IsPlace : Regex → List ℕ → Request → Type 0
+IsPlace regex bytes r = IsPlaceIn regex (says_text r) bytes r
+
+-- the same of all members of a set
+pub record IsPlaceInSet (set : RegexSet) (text : Bool) (bytes : List ℕ) (r : Request) : Type 0 where
+  pub inside : r.end ≤ length bytes
+  pub searched : All (λ m. CanSearch (options_in m) text bytes (asked r)) (members_of set)
+
+abbrev pub IsPlaceOfSet : RegexSet → List ℕ → Request → Type 0
+IsPlaceOfSet set bytes r = IsPlaceInSet set (says_text r) bytes r

@@ -2,5 +2,12 @@ pub mod Owned
 pub mod Held
 pub mod Handed
 pub mod Asked
+pub mod Answers
+pub mod Searches
+pub mod Buffers
+pub mod Names
 pub mod Reading
+pub mod Faults
+pub mod Missing
+pub mod Texts
 pub mod Handles

@@ -1,5 +1,5 @@
 -- What the options that cross mean.
-use Rattle.std.specs.Prelude.{ℕ, Option, None, Some, nat_eq, true, not, if◌then◌else◌}
+use Rattle.std.specs.Prelude.{◌≡◌, ◌≤◌, ℕ, Option, None, Some, nat_eq, true, not, if◌then◌else◌}
 use Rattle.fancy_regex.specs.declared.BytesMode.{BytesMode}
 use Rattle.fancy_regex.specs.declared.BytesMode.TheVariants.{Unicode, Ascii, UnicodeBytes}
 use Rattle.fancy_regex.specs.declared.Flags.{Flags}
@@ -24,6 +24,12 @@ flags_meant switches = record {
   ignore_blanks = has_flag switches 8;
   crlf = has_flag switches 16;
 }
+
+-- the options have the size of this library's struct, and no number that means nothing
+pub record MeanSomething (o : Options) : Type 0 where
+  pub size : o.size ≡ 48
+  pub switches : o.switches ≤ 1023
+  pub bytes_mode : o.bytes_mode ≤ 2
 
 -- the options as the library has them
 abbrev pub options_meant : Options → Meant

@@ -1,6 +1,7 @@
 //! What the calls answer, as the header's `fancy_regex_answer` numbers it.
 
-ghost use Rattle.std.specs.Prelude.{◌<◌};
+ghost use Rattle.std.specs.Prelude.{◌≡◌, ◌<◌};
+ghost use Rattle.fancy_regex_c.specs.Answers.{answer_for};
 
 use fancy_regex::{Error, RuntimeError};
 
@@ -44,9 +45,10 @@ pub const STEP_LIMIT: u32 = 11;
 /// No pattern of the set gives a token at a place.
 pub const UNMATCHED: u32 = 12;
 
-/// The answer for an error of the library, which is neither `DONE` nor `NONE`.
+/// The answer for an error of the library.
 pub fn answer_of(error: Error) -> u32
-    ensures { 1 < result }
+    ensures value { result ≡ answer_for error }
+    ensures refused { 3 < result }
 {
     match error {
         Error::Memory => NO_MEMORY,

@@ -3,7 +3,8 @@
 //! The kinds are those of the library's errors: from 101 on what is wrong with the text of a pattern, from 201 on why a pattern that
 //! can be read is not accepted.
 
-ghost use Rattle.std.specs.Prelude.{◌<◌};
+ghost use Rattle.std.specs.Prelude.{◌≡◌};
+ghost use Rattle.fancy_regex_c.specs.Faults.{parse_number, compile_number, fault_of_kind, fault_of, answer_of_kind};
 
 use crate::answers::{NO_MEMORY, NO_OPTIONS, NOT_TEXT, REFUSED};
 use crate::buffers::put;
@@ -23,7 +24,9 @@ const WRONG_OPTIONS: u32 = 3;
 const OTHER: u32 = 4;
 
 impl Fault {
-    fn of_kind(kind: u32) -> Fault {
+    fn of_kind(kind: u32) -> Fault
+        ensures { result ≡ fault_of_kind kind }
+    {
         Fault {
             kind,
             pattern: 0,
@@ -33,22 +36,30 @@ impl Fault {
     }
 
     /// Memory was refused.
-    pub fn memory() -> Fault {
+    pub fn memory() -> Fault
+        ensures { result ≡ fault_of_kind 1 }
+    {
         Fault::of_kind(MEMORY)
     }
 
     /// The pattern is no UTF-8.
-    pub fn no_text() -> Fault {
+    pub fn no_text() -> Fault
+        ensures { result ≡ fault_of_kind 2 }
+    {
         Fault::of_kind(PATTERN_IS_NO_TEXT)
     }
 
     /// The options cannot be read.
-    pub fn no_options() -> Fault {
+    pub fn no_options() -> Fault
+        ensures { result ≡ fault_of_kind 3 }
+    {
         Fault::of_kind(WRONG_OPTIONS)
     }
 
     /// The fault that an error of a pattern tells.
-    pub fn of(error: Error) -> Fault {
+    pub fn of(error: Error) -> Fault
+        ensures { result ≡ fault_of error }
+    {
         match error {
             Error::Memory => Fault::memory(),
             Error::ParseError(place, kind) => Fault {
@@ -65,13 +76,15 @@ impl Fault {
     }
 
     /// The same fault, of the pattern with this index in a set.
-    pub fn in_set(self, pattern: usize) -> Fault {
+    pub fn in_set(self, pattern: usize) -> Fault
+        ensures { result ≡ record self { pattern = pattern } }
+    {
         Fault { pattern, ..self }
     }
 
     /// What a call answers that has this fault.
     pub fn answer(&self) -> u32
-        ensures { 1 < result }
+        ensures { result ≡ answer_of_kind self.now.kind }
     {
         match self.kind {
             MEMORY => NO_MEMORY,
@@ -82,7 +95,9 @@ impl Fault {
     }
 }
 
-fn parse_number(kind: ParseErrorKind) -> u32 {
+fn parse_number(kind: ParseErrorKind) -> u32
+    ensures { result ≡ parse_number kind }
+{
     match kind {
         ParseErrorKind::GeneralParseError => 101,
         ParseErrorKind::UnclosedOpenParen => 102,
@@ -121,7 +136,9 @@ fn parse_kind(number: u32) -> Option<ParseErrorKind> {
     })
 }
 
-fn compile_number(kind: CompileError) -> u32 {
+fn compile_number(kind: CompileError) -> u32
+    ensures { result ≡ compile_number kind }
+{
     match kind {
         CompileError::InvalidBackref(_) => 201,
         CompileError::InvalidGroupNameBackref(_) => 202,
@@ -164,6 +181,8 @@ fn text_of(alloc: Global, error: &Error) -> Result<String, AllocError> {
 }
 
 /// Writes the text of a fault into a buffer, without a zero byte after it, and tells its length.
+///
+/// `TOO_SHORT` where the buffer has no room for it, with the length that is wanted. For `NO_MEMORY` nothing is written.
 #[unsafe(no_mangle)]
 pub extern "C" fn fancy_regex_explain(
     alloc: Global,

@@ -1,14 +1,15 @@
 //! A haystack as the caller hands it in: bytes, and whether they are text.
 
-ghost use Rattle.std.specs.Prelude.{◌≡◌, ◌<◌, true, IfErr, IfOk, IsUtf8};
+ghost use Rattle.std.specs.Prelude.{◌≡◌, ◌<◌, ◌≤◌, true, false, length, IfErr, IfOk, IsUtf8};
 ghost use Rattle.std.proofs.Props.{props};
 ghost use Rattle.fancy_regex.specs.Inputs.{haystack_in, request_in};
 ghost use Rattle.fancy_regex.specs.Spans.{span_in_bytes, bytes_in};
-ghost use Rattle.fancy_regex_c.specs.Asked.{asked};
+ghost use Rattle.fancy_regex_c.specs.Answers.{IsUnread};
+ghost use Rattle.fancy_regex_c.specs.Asked.{asked, says_text, IsAsSaid, IsPlace, IsPlaceIn, IsPlaceInSet, IsPlaceOfSet};
 
 use crate::answers::{NO_PLACE, NOT_TEXT};
 use crate::plain::{ANCHORED, NO_END, NO_START, NOT_CONTINUED, Request, TEXT};
-use fancy_regex::{Haystack, Input, MatchBytes, RegexInput};
+use fancy_regex::{Haystack, Input, MatchBytes, Regex, RegexInput, RegexSet};
 
 /// Bytes, and whether they are text, which then is UTF-8.
 #[derive(Clone, Copy)]
@@ -45,11 +46,12 @@ impl<'h> Input for Handed<'h> {
 }
 
 impl<'h> Handed<'h> {
-    ghost use Rattle.fancy_regex_c.specs.Handed.{handed_bytes};
+    ghost use Rattle.fancy_regex_c.specs.Handed.{handed_bytes, is_handed_text};
 
     /// Text.
     pub fn text(text: &'h str) -> Handed<'h>
-        ensures { handed_bytes result ≡ text.now }
+        ensures bytes { handed_bytes result ≡ text.now }
+        ensures text { is_handed_text result ≡ true }
     {
         Handed {
             bytes: text.as_bytes(),
@@ -59,7 +61,8 @@ impl<'h> Handed<'h> {
 
     /// Bytes.
     pub fn bytes(bytes: &'h [u8]) -> Handed<'h>
-        ensures { handed_bytes result ≡ bytes.now }
+        ensures bytes { handed_bytes result ≡ bytes.now }
+        ensures text { is_handed_text result ≡ false }
     {
         Handed {
             bytes,
@@ -67,10 +70,13 @@ impl<'h> Handed<'h> {
         }
     }
 
-    /// The bytes as the request reads them, or the answer for bytes that are no text and are to be.
+    /// The bytes as the request reads them; `NOT_TEXT` for those that are to be text and are none.
     pub fn new(bytes: &'h [u8], request: Request) -> Result<Handed<'h>, u32>
         ensures bytes { IfOk result (λ h. handed_bytes h ≡ bytes.now) }
-        ensures refused { IfErr result (λ answer. 1 < answer) }
+        ensures text { IfOk result (λ h. is_handed_text h ≡ says_text request) }
+        ensures said { IfOk result (λ _. IsAsSaid bytes.now request) }
+        ensures refused { IfErr result (λ answer. answer ≡ 2) }
+        ensures not_text { IfErr result (λ _. IsAsSaid bytes.now request → ⊥) }
     {
         if !request.has(TEXT) {
             return Ok(Handed::bytes(bytes));
@@ -81,11 +87,13 @@ impl<'h> Handed<'h> {
         }
     }
 
-    /// What the request asks of the haystack, or the answer for a range that is not within it.
+    /// What the request asks of the haystack; `NO_PLACE` for a range that is not within it.
     pub fn input(self, request: Request) -> Result<RegexInput<Handed<'h>>, u32>
         ensures haystack { IfOk result (λ i. haystack_in i ≡ self.entry) }
         ensures request { IfOk result (λ i. request_in i ≡ asked request) }
-        ensures refused { IfErr result (λ answer. 1 < answer) }
+        ensures inside { IfOk result (λ _. request.end ≤ length (handed_bytes self.entry)) }
+        ensures refused { IfErr result (λ answer. answer ≡ 3) }
+        ensures outside { IfErr result (λ _. length (handed_bytes self.entry) < request.end) }
     {
         if request.end > self.bytes.len() {
             return Err(NO_PLACE);
@@ -101,12 +109,77 @@ impl<'h> Handed<'h> {
         )
     }
 
-    /// What the request asks of the bytes, if they are what it says.
-    pub fn input_of(bytes: &'h [u8], request: Request) -> Result<RegexInput<Handed<'h>>, u32>
-        ensures haystack { IfOk result (λ i. handed_bytes (haystack_in i) ≡ bytes.now) }
+    /// What the request asks of the haystack, if the regex may search it so; else `NO_PLACE`.
+    pub fn input_in(self, regex: &Regex, request: Request) -> Result<RegexInput<Handed<'h>>, u32>
+        ensures haystack { IfOk result (λ i. haystack_in i ≡ self.entry) }
         ensures request { IfOk result (λ i. request_in i ≡ asked request) }
-        ensures refused { IfErr result (λ answer. 1 < answer) }
+        ensures place { IfOk result
+            (λ _. IsPlaceIn regex.now (is_handed_text self.entry) (handed_bytes self.entry) request) }
+        ensures refused { IfErr result (λ answer. answer ≡ 3) }
+        ensures no_place { IfErr result
+            (λ _. IsPlaceIn regex.now (is_handed_text self.entry) (handed_bytes self.entry) request → ⊥) }
     {
-        Handed::new(bytes, request)?.input(request)
+        let input = self.input(request)?;
+        if regex.can_search(&input) {
+            Ok(input)
+        } else {
+            Err(NO_PLACE)
+        }
+    }
+
+    /// What the request asks of the haystack, if the set may search it so; else `NO_PLACE`.
+    pub fn input_in_set(
+        self,
+        set: &RegexSet,
+        request: Request,
+    ) -> Result<RegexInput<Handed<'h>>, u32>
+        ensures haystack { IfOk result (λ i. haystack_in i ≡ self.entry) }
+        ensures request { IfOk result (λ i. request_in i ≡ asked request) }
+        ensures place { IfOk result
+            (λ _. IsPlaceInSet set.now (is_handed_text self.entry) (handed_bytes self.entry) request) }
+        ensures refused { IfErr result (λ answer. answer ≡ 3) }
+        ensures no_place { IfErr result
+            (λ _. IsPlaceInSet set.now (is_handed_text self.entry) (handed_bytes self.entry) request → ⊥) }
+    {
+        let input = self.input(request)?;
+        if set.can_search(&input) {
+            Ok(input)
+        } else {
+            Err(NO_PLACE)
+        }
+    }
+
+    /// What the request asks of the bytes, if the regex may search them so; else `NOT_TEXT` or `NO_PLACE`.
+    pub fn input_for(
+        regex: &Regex,
+        bytes: &'h [u8],
+        request: Request,
+    ) -> Result<RegexInput<Handed<'h>>, u32>
+        ensures bytes { IfOk result (λ i. handed_bytes (haystack_in i) ≡ bytes.now) }
+        ensures text { IfOk result (λ i. is_handed_text (haystack_in i) ≡ says_text request) }
+        ensures request { IfOk result (λ i. request_in i ≡ asked request) }
+        ensures said { IfOk result (λ _. IsAsSaid bytes.now request) }
+        ensures place { IfOk result (λ _. IsPlace regex.now bytes.now request) }
+        ensures refused { IfErr result
+            (λ answer. IsUnread (IsAsSaid bytes.now request) (IsPlace regex.now bytes.now request) answer) }
+    {
+        Handed::new(bytes, request)?.input_in(regex, request)
+    }
+
+    /// What the request asks of the bytes, if the set may search them so; else `NOT_TEXT` or `NO_PLACE`.
+    pub fn input_for_set(
+        set: &RegexSet,
+        bytes: &'h [u8],
+        request: Request,
+    ) -> Result<RegexInput<Handed<'h>>, u32>
+        ensures bytes { IfOk result (λ i. handed_bytes (haystack_in i) ≡ bytes.now) }
+        ensures text { IfOk result (λ i. is_handed_text (haystack_in i) ≡ says_text request) }
+        ensures request { IfOk result (λ i. request_in i ≡ asked request) }
+        ensures said { IfOk result (λ _. IsAsSaid bytes.now request) }
+        ensures place { IfOk result (λ _. IsPlaceOfSet set.now bytes.now request) }
+        ensures refused { IfErr result
+            (λ answer. IsUnread (IsAsSaid bytes.now request) (IsPlaceOfSet set.now bytes.now request) answer) }
+    {
+        Handed::new(bytes, request)?.input_in_set(set, request)
     }
 }

@@ -1,7 +1,8 @@
 //! The structs that cross as they are.
 
-ghost use Rattle.std.specs.Prelude.{◌≡◌};
+ghost use Rattle.std.specs.Prelude.{◌≡◌, None};
 ghost use Rattle.fancy_regex_c.specs.Asked.{has_flag};
+ghost use Rattle.fancy_regex_c.specs.Searches.{crossing};
 
 /// A span of bytes.
 #[repr(C)]
@@ -15,11 +16,18 @@ pub struct Span {
 
 impl Span {
     /// The span of a group that took no part, whose two ends are [`usize::MAX`].
-    pub fn absent() -> Span {
+    pub fn absent() -> Span
+        ensures { result ≡ crossing None }
+    {
         Span {
             start: usize::MAX,
             end: usize::MAX,
         }
+    }
+
+    /// Whether it is empty and stands there.
+    pub fn is_empty_at(&self, place: usize) -> bool {
+        self.start == place && self.end == place
     }
 }
 
@@ -61,8 +69,11 @@ pub const NO_END: u32 = 8;
 /// There was no match before: `\G` holds nowhere.
 pub const NOT_CONTINUED: u32 = 16;
 
-/// An empty match at the start is passed over, as after a match that ended there. It is read by lists.
-pub const SKIPS_EMPTY: u32 = 32;
+/// A list goes on right after a match that ended at its start: an empty match there is passed over.
+pub const AFTER_MATCH: u32 = 1;
+
+/// A list goes on after an empty match that was found where its search began: `\G` does not hold at the start.
+pub const AFTER_EMPTY: u32 = 2;
 
 /// Whether a flag is among these, added up.
 pub fn has_flag(flags: u32, flag: u32) -> bool
@@ -81,6 +92,8 @@ pub struct Request {
     pub end: usize,
     /// The flags above, added up.
     pub flags: u32,
+    /// Where a list stands, which lists alone read: 0 at first, [`AFTER_MATCH`] or [`AFTER_EMPTY`].
+    pub standing: u32,
 }
 
 impl Request {

@@ -1,8 +1,11 @@
 //! Patterns are read.
 
-ghost use Rattle.std.specs.Prelude.{◌≡◌, IfOk, IfSome, Ok};
+ghost use Rattle.std.specs.Prelude.{◌≡◌, ◌≤◌, IfOk, IfErr, IfSome, IfNone, IsUtf8, Ok, true};
 ghost use Rattle.fancy_regex.specs.Built.{IsReading};
-ghost use Rattle.fancy_regex_c.specs.Reading.{mode_of, limit_of, flags_meant, options_meant};
+ghost use Rattle.fancy_regex.specs.Options.{by_default as meant_by_default};
+ghost use Rattle.fancy_regex_c.specs.Faults.{IsFault};
+ghost use Rattle.fancy_regex_c.specs.Missing.{TellsMissing, TellsOfReading};
+ghost use Rattle.fancy_regex_c.specs.Reading.{mode_of, limit_of, flags_meant, options_meant, MeanSomething};
 
 use crate::answers::{NO_MEMORY, NONE};
 use crate::buffers::put;
@@ -38,7 +41,9 @@ const ALL_SWITCHES: u32 = 1023;
 
 /// What bytes mean, by its number.
 fn bytes_mode(number: u32) -> Option<BytesMode>
-    ensures { IfSome result (λ m. m ≡ mode_of number) }
+    ensures mode { IfSome result (λ m. m ≡ mode_of number) }
+    ensures some { IfSome result (λ _. number ≤ 2) }
+    ensures none { IfNone result (number ≤ 2 → ⊥) }
 {
     match number {
         0 => Some(BytesMode::Unicode),
@@ -75,7 +80,9 @@ fn flags_of(switches: u32) -> Flags
 /// The options as the library has them, unless they have another size or a number that means nothing. A search may always say that a
 /// text has no start or no end, or that there was no match before: one that does not say so is the same.
 fn meant(options: &Options) -> Option<Meant>
-    ensures { IfSome result (λ o. o ≡ options_meant options.now) }
+    ensures meant { IfSome result (λ o. o ≡ options_meant options.now) }
+    ensures some { IfSome result (λ _. MeanSomething options.now) }
+    ensures none { IfNone result (MeanSomething options.now → ⊥) }
 {
     if options.size != OPTIONS_SIZE || options.switches > ALL_SWITCHES {
         return None;
@@ -108,7 +115,10 @@ fn read_text(alloc: Global, text: &str, options: Meant) -> fancy_regex::Result<R
 
 /// Reads a pattern.
 pub fn read(alloc: Global, pattern: &[u8], options: &Options) -> Result<Regex, Fault>
-    ensures { IfOk result (λ r. IsReading (options_meant options.now) pattern.now (Ok r)) }
+    ensures read { IfOk result (λ r. IsReading (options_meant options.now) pattern.now (Ok r)) }
+    ensures options { IfOk result (λ _. MeanSomething options.now) }
+    ensures text { IfOk result (λ _. IsUtf8 pattern.now) }
+    ensures refused { IfErr result (λ fault. IsFault options.now pattern.now fault) }
 {
     let Some(options) = meant(options) else {
         return Err(Fault::no_options());
@@ -122,23 +132,12 @@ pub fn read(alloc: Global, pattern: &[u8], options: &Options) -> Result<Regex, F
     }
 }
 
-/// Writes into the buffer the name that a pattern refers to and that none of its groups has, where it is refused for that.
-#[unsafe(no_mangle)]
-pub extern "C" fn fancy_regex_missing_name(
-    alloc: Global,
-    pattern: &[u8],
-    options: &Options,
-    buffer: &mut [u8],
-    wanted: &mut usize,
-) -> u32 {
-    *wanted = 0;
-    let Some(options) = meant(options) else {
-        return NONE;
-    };
-    let Ok(text) = str::from_utf8(pattern) else {
-        return NONE;
-    };
-    match read_text(alloc, text, options) {
+/// What the library's reading of a pattern tells of a name that no group has.
+fn missing_name_in(read: fancy_regex::Result<Regex>, buffer: &mut [u8], wanted: &mut usize) -> u32
+    requires { wanted.old ≡ 0 }
+    ensures { TellsOfReading read buffer.old buffer.new wanted.new result }
+{
+    match read {
         Err(Error::CompileError(CompileError::InvalidGroupNameBackref(name))) => {
             put(name.as_bytes(), buffer, wanted)
         }
@@ -147,8 +146,35 @@ pub extern "C" fn fancy_regex_missing_name(
     }
 }
 
+/// Writes into the buffer the name that a pattern refers to and that none of its groups has, where it is refused for that.
+///
+/// `TOO_SHORT` where the buffer has no room for it, with the length that is wanted. `NONE` where the pattern is not refused for that,
+/// and `NO_MEMORY`: then the length is 0.
+#[unsafe(no_mangle)]
+pub extern "C" fn fancy_regex_missing_name(
+    alloc: Global,
+    pattern: &[u8],
+    options: &Options,
+    buffer: &mut [u8],
+    wanted: &mut usize,
+) -> u32
+    ensures { TellsMissing options.now pattern.now buffer.old buffer.new wanted.new result }
+{
+    *wanted = 0;
+    let Some(options) = meant(options) else {
+        return NONE;
+    };
+    let Ok(text) = str::from_utf8(pattern) else {
+        return NONE;
+    };
+    missing_name_in(read_text(alloc, text, options), buffer, wanted)
+}
+
 /// The options that a pattern has by default.
-pub fn by_default() -> Options {
+pub fn by_default() -> Options
+    ensures size { MeanSomething result }
+    ensures meant { options_meant result ≡ record meant_by_default { allow_input_assertion_overrides = true } }
+{
     Options {
         size: OPTIONS_SIZE,
         backtrack_limit: 1000000,
@@ -162,6 +188,9 @@ pub fn by_default() -> Options {
 
 /// Writes the options that a pattern has by default.
 #[unsafe(no_mangle)]
-pub extern "C" fn fancy_regex_default_options(options: &mut Options) {
+pub extern "C" fn fancy_regex_default_options(options: &mut Options)
+    ensures size { MeanSomething options.new }
+    ensures meant { options_meant options.new ≡ record meant_by_default { allow_input_assertion_overrides = true } }
+{
     *options = by_default();
 }

@@ -1,6 +1,10 @@
 //! A set behind a handle: its first matches, and the tokens of a text.
 
-use crate::answers::{DONE, NO_HANDLE, NO_MEMORY, NO_PLACE, NONE, TOO_SHORT, answer_of};
+ghost use Rattle.std.specs.Prelude.{◌≡◌, length};
+ghost use Rattle.fancy_regex.specs.Sets.{members_of};
+ghost use Rattle.fancy_regex_c.specs.Handles.{IsSame, HeldSet};
+
+use crate::answers::{DONE, NO_HANDLE, NO_MEMORY, NONE, TOO_SHORT, answer_of};
 use crate::handed::Handed;
 use crate::handle::{Handle, Kept};
 use crate::plain::{Fault, Member, Options, Request};
@@ -68,7 +72,10 @@ pub extern "C" fn fancy_regex_set_new(
 
 /// How many patterns the set has; 0 where the handle holds no set.
 #[unsafe(no_mangle)]
-pub extern "C" fn fancy_regex_set_len(alloc: Global, set: &mut Handle) -> usize {
+pub extern "C" fn fancy_regex_set_len(alloc: Global, set: &mut Handle) -> usize
+    ensures kept { IsSame set.new set.old }
+    ensures count { HeldSet set.old (λ s. result ≡ length (members_of s)) (result ≡ 0) }
+{
     let Some(kept) = set.take(alloc) else {
         return 0;
     };
@@ -112,13 +119,10 @@ fn set_find_in(
     wanted: &mut usize,
 ) -> u32 {
     *wanted = 0;
-    let input = match Handed::input_of(haystack, request) {
+    let input = match Handed::input_for_set(set, haystack, request) {
         Ok(input) => input,
         Err(answer) => return answer,
     };
-    if !set.can_search(&input) {
-        return NO_PLACE;
-    }
     let matches = match set.find_input(input) {
         Ok(Some(matches)) => matches,
         Ok(None) => return NONE,
@@ -160,13 +164,10 @@ pub fn tokens_in(
     written: &mut usize,
 ) -> u32 {
     *written = 0;
-    let input = match haystack.input(*request) {
+    let input = match haystack.input_in_set(set, *request) {
         Ok(input) => input,
         Err(answer) => return answer,
     };
-    if !set.can_search(&input) {
-        return NO_PLACE;
-    }
     let mut list = set.tokens(input);
     for place in 0..tokens.len() {
         match list.next() {

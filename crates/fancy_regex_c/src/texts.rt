@@ -1,6 +1,8 @@
 //! New texts: with matches replaced, cut into pieces, and as a pattern. They go into buffers that the caller gives.
 
-use crate::answers::{DONE, NO_HANDLE, NO_PLACE, NONE, NOT_TEXT, TOO_SHORT, answer_of};
+ghost use Rattle.fancy_regex_c.specs.Texts.{TellsEscaped};
+
+use crate::answers::{DONE, NO_HANDLE, NO_MEMORY, NO_PLACE, NONE, NOT_TEXT, TOO_SHORT, answer_of};
 use crate::buffers::put;
 use crate::handle::{Handle, Kept};
 use crate::plain::Span;
@@ -59,7 +61,11 @@ fn replace_in(
     }
 }
 
-/// Writes the text with its matches replaced into a buffer, and tells its length. Where nothing matches it writes nothing.
+/// Writes the text with its matches replaced into a buffer, and tells its length.
+///
+/// `TOO_SHORT` where the buffer has no room for it, with the length that is wanted. `NONE` where nothing matches, `NOT_TEXT` where the
+/// text or the replacement is no UTF-8, `NO_PLACE` where the regex reads bytes and the text is not ASCII, and what a search is
+/// refused with: then nothing is written, and the length is 0. `NO_HANDLE` where the handle holds no regex.
 #[unsafe(no_mangle)]
 pub extern "C" fn fancy_regex_replace(
     alloc: Global,
@@ -173,19 +179,24 @@ pub extern "C" fn fancy_regex_split(
 }
 
 /// Writes a pattern that matches this text alone into a buffer, and tells its length.
+///
+/// `TOO_SHORT` where the buffer has no room for it, with the length that is wanted. `NOT_TEXT` where the bytes are no UTF-8, and
+/// `NO_MEMORY`: then the length is 0.
 #[unsafe(no_mangle)]
 pub extern "C" fn fancy_regex_escape(
     alloc: Global,
     text: &[u8],
     buffer: &mut [u8],
     wanted: &mut usize,
-) -> u32 {
+) -> u32
+    ensures { TellsEscaped text.now buffer.old buffer.new wanted.new result }
+{
     *wanted = 0;
     let Ok(text) = str::from_utf8(text) else {
         return NOT_TEXT;
     };
     match escape(alloc, text) {
         Ok(escaped) => put(escaped.as_str().as_bytes(), buffer, wanted),
-        Err(error) => answer_of(error),
+        Err(_) => NO_MEMORY,
     }
 }

@@ -4,7 +4,7 @@
 //! times as many each time, up to 512. So what a search is refused for is told in its turn, and a list that is left early did not
 //! search much further.
 
-use crate::answers::{DONE, NO_HANDLE, NO_MEMORY, NO_PLACE, NONE, NOT_TEXT, UNMATCHED};
+use crate::answers::{DONE, NO_HANDLE, NO_MEMORY, NONE, NOT_TEXT, UNMATCHED};
 use crate::handed::Handed;
 use crate::handle::{Handle, Kept};
 use crate::lists::{captures_all_in, find_all_in};
@@ -125,20 +125,25 @@ impl MatchList {
         }
     }
 
-    /// Finds more matches. Where memory for them is refused the list stays as it is.
+    /// Finds more matches. Where memory is refused the list stays as it is, and finds them when it is asked again.
     fn find_more(&mut self) -> u32 {
         let wanted = self.progress.room.saturating_mul(self.width());
         if self.spans.resize(wanted, Span::absent()).is_err() {
             return NO_MEMORY;
         }
         let mut count = 0;
+        let mut request = self.request;
         let haystack = self.haystack.lend();
-        let request = &mut self.request;
+        let spans = &mut self.spans;
         let last = if self.has_groups {
-            captures_all_in(&self.regex, haystack, request, &mut self.spans, &mut count)
+            captures_all_in(&self.regex, haystack, &mut request, spans, &mut count)
         } else {
-            find_all_in(&self.regex, haystack, request, &mut self.spans, &mut count)
+            find_all_in(&self.regex, haystack, &mut request, spans, &mut count)
         };
+        if last == NO_MEMORY {
+            return NO_MEMORY;
+        }
+        self.request = request;
         self.progress.found(count, last);
         DONE
     }
@@ -184,10 +189,7 @@ fn list_of(
     has_groups: bool,
 ) -> Result<MatchList, u32> {
     let haystack = Owned::new(alloc, haystack, request)?;
-    let input = haystack.lend().input(request)?;
-    if !regex.can_search(&input) {
-        return Err(NO_PLACE);
-    }
+    haystack.lend().input_in(regex, request)?;
     let Ok(regex) = regex.clone() else {
         return Err(NO_MEMORY);
     };
@@ -250,16 +252,26 @@ pub struct TokenList {
 }
 
 impl TokenList {
-    /// Finds more tokens. Where memory for them is refused the list stays as it is.
+    /// Finds more tokens. Where memory is refused the list stays as it is, and finds them when it is asked again.
     fn find_more(&mut self) -> u32 {
         let nothing = Member::nothing_at(0);
         if self.tokens.resize(self.progress.room, nothing).is_err() {
             return NO_MEMORY;
         }
         let mut count = 0;
+        let mut request = self.request;
         let haystack = self.haystack.lend();
-        let request = &mut self.request;
-        let last = tokens_in(&self.set, haystack, request, &mut self.tokens, &mut count);
+        let last = tokens_in(
+            &self.set,
+            haystack,
+            &mut request,
+            &mut self.tokens,
+            &mut count,
+        );
+        if last == NO_MEMORY {
+            return NO_MEMORY;
+        }
+        self.request = request;
         self.progress.found(count, last);
         DONE
     }
@@ -293,10 +305,7 @@ fn tokens_of(
     request: Request,
 ) -> Result<TokenList, u32> {
     let haystack = Owned::new(alloc, haystack, request)?;
-    let input = haystack.lend().input(request)?;
-    if !set.can_search(&input) {
-        return Err(NO_PLACE);
-    }
+    haystack.lend().input_in_set(set, request)?;
     let Ok(set) = set.clone() else {
         return Err(NO_MEMORY);
     };

@@ -1,10 +1,10 @@
-use mathlib.Core.Path.{sym, subst}
-use Rattle.std.specs.Prelude.{Ok}
-use Rattle.fancy_regex.specs.Built.{IsReading}
-use Rattle.fancy_regex_c.specs.Reading.{options_meant}
+use Rattle.std.proofs.Common.{refl}
+use Rattle.fancy_regex.specs.declared.Error.TheVariants.{Memory}
+use Rattle.fancy_regex_c.specs.Faults.{refused}
+use Rattle.fancy_regex_c.proofs.ReadingLemmas.{out_of_memory}
 use Rattle.fancy_regex_c.proofs.regexes.fancy_regex_new.Goals as goal
 
--- the regex in the handle is the one that was read
-pub returns-in-Ok-clause-made : goal.returns-in-Ok-clause-made
-returns-in-Ok-clause-made c = λ done full shared is.
-    subst (λ r. IsReading (options_meant c.args.options.now) c.args.pattern.now (Ok r)) (sym (c.keep_regex.ensures.made done full shared is)) c.in-Ok.ensures
+-- where the regex was read, but there is no memory to keep it, memory has run out
+pub returns-then-answer-ne-DONE-clause-refused : goal.returns-then-answer-ne-DONE-clause-refused
+returns-then-answer-ne-DONE-clause-refused c = λ not_done.
+    rw c.memory.ensures (c.keep_regex-answer.ensures.answer not_done, refused c.in-Ok.ensures.options c.in-Ok.ensures.text (Memory, refl, out_of_memory _ _))
