@@ -14,7 +14,7 @@ import sys
 
 CRATES = pathlib.Path(__file__).resolve().parent.parent / "crates"
 HEAD = re.compile(r"^ *(?:pub(?:\([a-z]+\))? )?fn (\w+)", re.M)
-NEXT = re.compile(r"\b(?:requires|ensures)(?: \w+)? \{|\{|;(?! \w+\])")
+NEXT = re.compile(r"\bghost \w+: \{|\b(?:requires|ensures)(?: \w+)? \{|\{|;(?! \w+\])")
 NAME = re.compile(r"[A-Za-z_][\w'-]*")
 OWN = re.compile(r"^(?:pub )?([a-z_][\w'-]*)", re.M)
 BLANKED = re.compile(r"""//.*|"(?:\\.|[^"\\])*"|'(?:\\u\{\w+\}|\\x..|\\.|[^'\\\n])'""")
@@ -31,9 +31,10 @@ class Function:
         closed = end_of(source, opened)
         self.parameters = parts(source[opened + 1:closed])
         self.clauses, at = [], closed + 1
-        while (part := NEXT.search(source, at)) and part.group().startswith(("r", "e")):
+        while (part := NEXT.search(source, at)) and part.group().startswith(("ghost", "requires", "ensures")):
             at = end_of(source, part.end() - 1) + 1
-            self.clauses.append(" ".join(source[part.start():at].split()))
+            if not part.group().startswith("ghost"):
+                self.clauses.append(" ".join(source[part.start():at].split()))
         has_body = part and part.group() == "{"
         self.body = source.count("\n", part.start(), end_of(source, part.start())) - 1 if has_body else 0
 
