@@ -12,6 +12,8 @@ use Rattle.fancy_automaton.specs.declared.way.Way.{Way}
 use Rattle.fancy_automaton.specs.declared.cells.Cell.{Cell}
 use Rattle.fancy_automaton.specs.Steps.{IsStep, at_of, from_of, start_in}
 use Rattle.fancy_automaton.specs.Search.{begun_if}
+use Rattle.fancy_automaton.specs.declared.origin.Origin.{Origin}
+use Rattle.fancy_automaton.specs.Origins.{ComeFrom}
 use Rattle.fancy_automaton.specs.Cells.{HasRow, KeepsRows, IsCell, IsCellOf, ways_at, items_or, row_if}
 
 pub has_row : (rows : List (Vec ℕ)) (r : ℕ) (v d : Vec ℕ) (ways : List ℕ) → r < length rows → v ≡ get_or rows r d → v.items ≡ ways → HasRow rows r ways
@@ -37,6 +39,7 @@ keeps_cell code rows later c keeps is = record {
   leads = keeps_row rows later c.next (map at_of is.after) keeps is.leads;
   opens = keeps_row rows later c.begun (map at_of is.after ++ code.start ∷ []) keeps is.opens;
   comes = is.comes;
+  comes_from = is.comes_from;
   step = is.step;
   halts = is.halts;
 }
@@ -45,17 +48,18 @@ keeps_cell code rows later c keeps is = record {
 pub keeps_cells : (code : Code) (rows later : List (Vec ℕ)) (cells : List Cell) → KeepsRows rows later → All (IsCellOf code rows) cells → All (IsCellOf code later) cells
 keeps_cells code rows later cells keeps all = λ k d lt. keeps_cell code rows later (get_or cells k d) keeps (all k d lt)
 
-pub cell_made : (code : Code) (rows later : List (Vec ℕ)) (row : ℕ) (sight : Sight) (next begun : ℕ) (ways : List ℕ) (after : List Way) (came : List ℕ) (matched : Option ℕ)
+pub cell_made : (code : Code) (rows later : List (Vec ℕ)) (row : ℕ) (sight : Sight) (next begun : ℕ) (ways : List ℕ) (after : List Way) (came : List ℕ) (matched : Option ℕ) (origin : Origin)
     → HasRow rows row ways → KeepsRows rows later → HasRow later next (map at_of after) → HasRow later begun (map at_of after ++ code.start ∷ []) → came ≡ map from_of after
-    → IsStep (instrs_of code) ways (seen_in sight) after matched → (sight.reading ≡ None → after ≡ [])
-    → IsCell code later row sight next begun came matched
-cell_made code rows later row sight next begun ways after came matched source keeps leads opens comes step halts = record {
+    → ComeFrom origin (length ways) came matched → IsStep (instrs_of code) ways (seen_in sight) after matched → (sight.reading ≡ None → after ≡ [])
+    → IsCell code later row sight next begun came matched origin
+cell_made code rows later row sight next begun ways after came matched origin source keeps leads opens comes comes_from step halts = record {
   ways = ways;
   after = after;
   source = keeps_row rows later row ways keeps source;
   leads = leads;
   opens = opens;
   comes = comes;
+  comes_from = comes_from;
   step = step;
   halts = halts;
 }
@@ -83,11 +87,11 @@ cells_one P (x ∷ cells) c all is zero d lt = all zero d (omega arith)
 cells_one P (x ∷ cells) c all is (suc k) d lt = cells_one P cells c (λ j e h. all (suc j) e (omega arith)) is k d (omega arith)
 
 pub cells_more : (code : Code) (rows later : List (Vec ℕ)) (cells more : List Cell) (row : ℕ) (sight : Sight) (c : Cell) → KeepsRows rows later → All (IsCellOf code rows) cells
-    → more ≡ cells ++ c ∷ [] → c.row ≡ row → c.sight ≡ sight → IsCell code later row sight c.next c.begun c.came.items c.matched → All (IsCellOf code later) more
+    → more ≡ cells ++ c ∷ [] → c.row ≡ row → c.sight ≡ sight → IsCell code later row sight c.next c.begun c.came.items c.matched c.origin → All (IsCellOf code later) more
 cells_more code rows later cells more row sight c keeps all e r b is =
     subst (λ (x : List Cell). All (IsCellOf code later) x) (sym e)
     (cells_one (IsCellOf code later) cells c (keeps_cells code rows later cells keeps all)
-    (subst (λ (x : ℕ). IsCell code later x c.sight c.next c.begun c.came.items c.matched) (sym r) (subst (λ (x : Sight). IsCell code later row x c.next c.begun c.came.items c.matched) (sym b) is)))
+    (subst (λ (x : ℕ). IsCell code later x c.sight c.next c.begun c.came.items c.matched c.origin) (sym r) (subst (λ (x : Sight). IsCell code later row x c.next c.begun c.came.items c.matched c.origin) (sym b) is)))
 
 -- the ways of a row
 pub row_ways : (rows : List (Vec ℕ)) (r : ℕ) (ways : List ℕ) → HasRow rows r ways → ways_at rows r ≡ ways
@@ -122,14 +126,14 @@ starts_by starts (l ∷ ls) = ap (λ (xs : List ℕ). slice_index starts l.from 
 -- a step that is remembered is true of the code
 pub cell_is : (code : Code) (rows : List (Vec ℕ)) (cells : List Cell) (k row : ℕ) (sight : Sight) (d : Cell) → All (IsCellOf code rows) cells
     → ((x : Cell) × (slice_get cells k ≡ Some x) × (x.row ≡ row) × (x.sight ≡ sight)) → d ≡ get_or cells k d
-    → IsCell code rows row sight d.next d.begun d.came.items d.matched
+    → IsCell code rows row sight d.next d.begun d.came.items d.matched d.origin
 cell_is code rows cells k row sight d all h e =
     let lt = get_within cells k h.0 h.1 in
     let both : Some d ≡ Some h.0 = ap Some e ∙ sym (slice_get-get_or cells k d lt) ∙ h.1 in
     let same : d ≡ h.0 = cc in
     let is : IsCellOf code rows d = subst (IsCellOf code rows) (sym e) (all k d lt) in
-    subst (λ (r : ℕ). IsCell code rows r sight d.next d.begun d.came.items d.matched) (ap (λ (x : Cell). x.row) same ∙ h.2)
-    (subst (λ (r : Sight). IsCell code rows d.row r d.next d.begun d.came.items d.matched) (ap (λ (x : Cell). x.sight) same ∙ h.3) is)
+    subst (λ (r : ℕ). IsCell code rows r sight d.next d.begun d.came.items d.matched d.origin) (ap (λ (x : Cell). x.row) same ∙ h.2)
+    (subst (λ (r : Sight). IsCell code rows d.row r d.next d.begun d.came.items d.matched d.origin) (ap (λ (x : Cell). x.sight) same ∙ h.3) is)
 
 get_left : {A : Type 0} (xs : List A) (y x : A) (k : ℕ) → slice_get xs k ≡ Some x → slice_get (xs ++ y ∷ []) k ≡ Some x
 get_left [] y x k e = cc

@@ -131,7 +131,7 @@ front_waits a cells f place is some =
       | inr none ↦ absurd (some (no_items (ways_of cells f) (sym is.going.even ∙ ap length none)))
     ]
 
-known_found : (cells : List Cell) (base : List ℕ) (visits : List Visit) (found : Option Span) → found_at cells base visits (option_map known_hit found) ≡ found
+pub known_found : (cells : List Cell) (base : List ℕ) (visits : List Visit) (found : Option Span) → found_at cells base visits (option_map known_hit found) ≡ found
 known_found cells base visits None = refl
 known_found cells base visits (Some s) = refl
 

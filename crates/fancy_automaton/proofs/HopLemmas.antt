@@ -1,5 +1,5 @@
 -- The inner loop of a search: a step that the table tells.
-use Rattle.std.proofs.Common.{◌≡◌, ℕ, suc, ◌+◌, ◌*◌, ◌++◌, ◌∷◌, [], ◌<◌, ◌≤◌, ◌⊎◌, inl, inr, true, List, Option, Some, None, refl, sym, ap, ◌∙◌, subst, arith, length}
+use Rattle.std.proofs.Common.{◌≡◌, ℕ, suc, ◌+◌, ◌*◌, ◌++◌, ◌∷◌, [], ◌<◌, ◌≤◌, inl, inr, true, List, Option, Some, refl, sym, ap, ◌∙◌, subst, arith, length}
 use Rattle.std.specs.Prelude.{slice_get}
 use Rattle.std.specs.Global.{Vec}
 use Rattle.std.proofs.lemmas.Option.{slice_get_cases}
@@ -12,9 +12,7 @@ use Rattle.fancy_code.proofs.ReadingLemmas.{low_unit}
 use Rattle.fancy_automaton.specs.declared.cells.Cell.{Cell}
 use Rattle.fancy_automaton.specs.declared.cells.Cells.{Cells}
 use Rattle.fancy_automaton.specs.declared.front.Front.{Front}
-use Rattle.fancy_automaton.specs.declared.hop.Stand.{Stand}
 use Rattle.fancy_automaton.specs.declared.trail.Hit.{Hit}
-use Rattle.fancy_automaton.specs.declared.trail.Trail.{Trail}
 use Rattle.fancy_automaton.specs.declared.trail.Visit.{Visit}
 use Rattle.fancy_automaton.specs.declared.transitions.Transition.{Transition}
 use Rattle.fancy_automaton.specs.Cells.{row_if}
@@ -23,12 +21,12 @@ use Rattle.fancy_alphabet.specs.Sides.{number_of, seen_as, side_of, sides_of}
 use Rattle.fancy_alphabet.specs.declared.classes.Classes.{Classes}
 use Rattle.fancy_alphabet.specs.declared.classes.Column.{Column}
 use Rattle.fancy_alphabet.specs.declared.side.Side.{Side}
-use Rattle.fancy_automaton.specs.Front.{IsFront, front_at, found_of, ways_of}
+use Rattle.fancy_automaton.specs.Front.{IsFront, found_of}
 use Rattle.fancy_automaton.specs.Futures.{ArePlain}
 use Rattle.fancy_automaton.specs.Search.{Steady, begun_if}
 use Rattle.fancy_automaton.specs.Trail.{hit_or, and_start}
 use Rattle.fancy_automaton.specs.Transitions.{IsTransition}
-use Rattle.fancy_automaton.proofs.FrontLemmas.{front_advanced, front_idle}
+use Rattle.fancy_automaton.proofs.FrontLemmas.{front_advanced}
 use Rattle.fancy_automaton.proofs.CellLemmas.{get_within}
 use Rattle.fancy_alphabet.proofs.SideLemmas.{low_side_before}
 use Rattle.fancy_alphabet.proofs.NumberLemmas.{number_low, seen_low}
@@ -84,19 +82,4 @@ front_hopped a steady plain cells f p row byte first c t start visits hit before
           (d, at, told.from d at, told.on d at) (sym there.3) starts more (found d at) refl in
           subst (λ (n : ℕ). IsFront a cells (record { next = n; begun = t.begun; trail = record { base = f.trail.base; visits = visits }; hit = hit }) (p + 1) (p + 1)) (told.next d at)
           (subst (λ (n : ℕ). IsFront a cells (record { next = d.next; begun = n; trail = record { base = f.trail.base; visits = visits }; hit = hit }) (p + 1) (p + 1)) (told.begun d at) moved))
-    ]
-
--- where nothing was found and no way waits, the trail may be forgotten
-pub front_forgot : (a : Attempt) (cells : Cells) (at : Stand) (trail later : Trail) (hit : Option Hit) (idle p : ℕ)
-    → ((v : Vec ℕ) → slice_get cells.rows.lists.items idle ≡ Some v → v.items ≡ [])
-    → ((later ≡ trail) ⊎ ((at.next ≡ idle) × (hit ≡ None) × (later.base.items ≡ []) × (later.visits.items ≡ [])))
-    → IsFront a cells (front_at at trail hit) p p → IsFront a cells (front_at at later hit) p p
-front_forgot a cells at trail later hit idle p empty forgot is =
-    elim forgot [
-      | inl same ↦ subst (λ (t : Trail). IsFront a cells (front_at at t hit) p p) (sym same) is
-      | inr both ↦ (
-          let v = is.waits.0 in
-          let stands : slice_get cells.rows.lists.items idle ≡ Some v = ap (slice_get cells.rows.lists.items) (sym both.0) ∙ is.waits.1 in
-          let none : ways_of cells (front_at at trail hit) ≡ [] = sym is.waits.2 ∙ empty v stands in
-          front_idle a cells (front_at at trail hit) (front_at at later hit) p p none both.1 refl refl refl both.2 both.3 is)
     ]

@@ -14,5 +14,6 @@ pub mod SteadyLemmas
 pub mod TrailLemmas
 pub mod FrontLemmas
 pub mod HopLemmas
+pub mod SoleLemmas
 pub mod TransitionLemmas
 pub mod RememberedLemmas

@@ -11,6 +11,7 @@ use Rattle.fancy_automaton.specs.Ways.{AllKnown}
 use Rattle.fancy_alphabet.specs.Effects.{Seen}
 use Rattle.fancy_alphabet.specs.Sights.{seen_in}
 use Rattle.fancy_automaton.specs.Steps.{IsStep, waiting, at_of, from_of}
+use Rattle.fancy_automaton.specs.Origins.{ComeFrom}
 use Rattle.fancy_automaton.specs.Cells.{HasRow, IsCellOf, IsFor, ways_at}
 use Rattle.fancy_automaton.specs.Remembered.{ways_from, IsKnownAt, IsStepEach, IsRemembered, Remembers}
 use Rattle.fancy_automaton.proofs.CellLemmas.{row_ways, row_within}
@@ -71,6 +72,7 @@ remembered code rows c is =
       leads = row_within rows c.next (map at_of is.after) is.leads;
       opened = row_within rows c.begun (map at_of is.after ++ code.start ∷ []) is.opens;
       even = ap length is.comes ∙ same_lengths is.after ∙ ap length (sym leads);
+      comes_from = subst (λ (ws : List ℕ). ComeFrom c.origin (length ws) c.came.items c.matched) (sym source) is.comes_from;
       opens = row_ways rows c.begun (map at_of is.after ++ code.start ∷ []) is.opens ∙ ap (λ (xs : List ℕ). xs ++ code.start ∷ []) (sym leads);
       step = subst (λ (ws : List ℕ). IsStepEach (instrs_of code) ws u (ways_from (ways_at rows c.next) c.came.items) c.matched) (sym source)
           (subst (λ (n : List Way). IsStepEach (instrs_of code) is.ways u n c.matched) (sym after) (step_each (instrs_of code) is.ways u is.after c.matched is.step));
@@ -87,6 +89,7 @@ recalled code rows c is =
       leads = subst (λ (ws : List ℕ). HasRow rows c.next ws) (sym ats) (row_at rows c.next is.leads);
       opens = subst (λ (ws : List ℕ). HasRow rows c.begun ws) (is.opens ∙ ap (λ (xs : List ℕ). xs ++ code.start ∷ []) (sym ats)) (row_at rows c.begun is.opened);
       comes = sym (froms_of (ways_at rows c.next) c.came.items is.even);
+      comes_from = is.comes_from;
       step = each_step (instrs_of code) (ways_at rows c.row) (seen_in c.sight) (ways_from (ways_at rows c.next) c.came.items) c.matched is.step;
       halts = λ e. ap (λ (ws : List ℕ). ways_from ws c.came.items) (is.halts e);
     }

@@ -1,5 +1,5 @@
 -- Reading where a way began from the steps of a search.
-use Rattle.std.proofs.Common.{◌≡◌, ℕ, zero, suc, ◌+◌, ◌-◌, ◌<◌, List, [], ◌∷◌, ◌++◌, Option, Some, None, refl, sym, ap, ap₂, ◌∙◌, arith, length, map, take, length-append}
+use Rattle.std.proofs.Common.{◌≡◌, ℕ, zero, suc, ◌+◌, ◌-◌, ◌<◌, List, [], ◌∷◌, ◌++◌, Option, Some, None, refl, sym, ap, ap₂, ◌∙◌, arith, length, map, replicate, take, length-append}
 use Rattle.std.specs.Prelude.{slice_get, slice_index, is_some, true}
 use Rattle.std.specs.Option.{option_or}
 use Rattle.std.proofs.lemmas.Option.{slice_get_within, get_or_from_slice_get}
@@ -175,3 +175,8 @@ hit_in visits v hit (Some f) place lt = omega (arith, length-append visits (v �
 pub some_found : (cells : List Cell) (base : List ℕ) (visits : List Visit) (hit : Option Hit) → is_some hit ≡ true → is_some (found_at cells base visits hit) ≡ true
 some_found cells base visits None e = e
 some_found cells base visits (Some h) e = refl
+
+-- a list whose items are all one
+pub all_one : (xs : List ℕ) (s : ℕ) → ((j : ℕ) → j < length xs → slice_index xs j ≡ s) → xs ≡ replicate (length xs) s
+all_one [] s each = refl
+all_one (x ∷ xs) s each = ap₂ (λ (y : ℕ) (ys : List ℕ). y ∷ ys) (each 0 (omega arith)) (all_one xs s (λ j lt. each (suc j) (omega (arith, lt))))

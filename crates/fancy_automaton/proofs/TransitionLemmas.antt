@@ -62,13 +62,15 @@ module _ (cells later : List Cell) (grown : KeepsCells cells later) (longer : le
     on = λ c e. is.on c (stays t.cell is.stands c e);
     next = λ c e. is.next c (stays t.cell is.stands c e);
     begun = λ c e. is.begun c (stays t.cell is.stands c e);
+    origin = λ c e. is.origin c (stays t.cell is.stands c e);
   }
 
   pub told_more : (table : Transitions) → AreTold cells table → AreTold later table
   told_more table told = record {
     quiet = λ row column sight t is e.
         (let q = told.quiet row column sight t is e in (more_transition row sight t q.0, λ c at. q.1 c (stays t.cell q.0.stands c at)));
-    matching = λ row column sight t is e. more_transition row sight t (told.matching row column sight t is e);
+    matching = λ row column sight t is e.
+        (let q = told.matching row column sight t is e in (more_transition row sight t q.0, λ c at. q.1 c (stays t.cell q.0.stands c at)));
   }
 
 -- the column of what is seen is one of the table

@@ -11,6 +11,8 @@ use Rattle.fancy_automaton.specs.declared.cells.Cell.{Cell}
 use Rattle.fancy_automaton.specs.declared.cells.Cells.{Cells}
 use Rattle.fancy_automaton.specs.Steps.{IsStep, at_of, from_of}
 use Rattle.fancy_alphabet.specs.Classes.{AreClasses}
+use Rattle.fancy_automaton.specs.declared.origin.Origin.{Origin}
+use Rattle.fancy_automaton.specs.Origins.{ComeFrom}
 use Rattle.fancy_automaton.specs.Transitions.{AreTold}
 
 abbrev pub items_or : Option (Vec ℕ) → List ℕ
@@ -34,7 +36,8 @@ abbrev pub HasRow : List (Vec ℕ) → ℕ → List ℕ → Type 0
 HasRow rows r ways = (v : Vec ℕ) × (slice_get rows r ≡ Some v) × (v.items ≡ ways)
 
 -- the step from a row on what is seen, which leads to these ways in order
-pub record IsCell (code : Code) (rows : List (Vec ℕ)) (row : ℕ) (sight : Sight) (next begun : ℕ) (came : List ℕ) (matched : Option ℕ) : Type 0 where
+pub record IsCell (code : Code) (rows : List (Vec ℕ)) (row : ℕ) (sight : Sight) (next begun : ℕ) (came : List ℕ) (matched : Option ℕ)
+    (origin : Origin) : Type 0 where
   pub ways : List ℕ
   pub after : List Way
   pub source : HasRow rows row ways
@@ -42,15 +45,20 @@ pub record IsCell (code : Code) (rows : List (Vec ℕ)) (row : ℕ) (sight : Sig
   -- with one more way, which begins there
   pub opens : HasRow rows begun (map at_of after ++ code.start ∷ [])
   pub comes : came ≡ map from_of after
+  pub comes_from : ComeFrom origin (length ways) came matched
   pub step : IsStep (instrs_of code) ways (seen_in sight) after matched
   pub halts : sight.reading ≡ None → after ≡ []
 
 abbrev pub IsCellOf : Code → List (Vec ℕ) → Cell → Type 0
-IsCellOf code rows c = IsCell code rows c.row c.sight c.next c.begun c.came.items c.matched
+IsCellOf code rows c = IsCell code rows c.row c.sight c.next c.begun c.came.items c.matched c.origin
 
 -- all that is remembered is true of the code, and so are the classes
 abbrev pub IsFor : Cells → Code → Type 0
 IsFor a code = All (IsCellOf code a.rows.lists.items) a.cells.items × AreClasses a.table.classes (instrs_of code)
+
+-- the row with this number, if there is one, has no instruction
+abbrev pub IsIdle : List (Vec ℕ) → ℕ → Type 0
+IsIdle rows r = (v : Vec ℕ) → slice_get rows r ≡ Some v → v.items ≡ []
 
 -- the step with this number is from this row on what is seen
 abbrev pub HasCell : List Cell → ℕ → ℕ → Sight → Type 0

@@ -4,8 +4,10 @@ pub mod Futures
 pub mod Steps
 pub mod Joins
 pub mod Search
+pub mod Origins
 pub mod Transitions
 pub mod Cells
 pub mod Trail
 pub mod Front
+pub mod Sole
 pub mod Remembered

@@ -69,6 +69,11 @@ abbrev pub hit_or : Option Hit → Option ℕ → ℕ → ℕ → Option Hit
 hit_or hit None visit place = hit
 hit_or hit (Some way) visit place = Some (record { beginning = beginning.Traced visit way; end = place })
 
+-- where a match ends
+abbrev pub end_of : Option Hit → Option ℕ
+end_of None = None
+end_of (Some h) = Some h.end
+
 -- a match that begins and ends there
 abbrev pub known_hit : Span → Hit
 known_hit s = record { beginning = beginning.Known s.start; end = s.end }

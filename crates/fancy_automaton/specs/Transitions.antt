@@ -1,11 +1,12 @@
 -- The table of a search: what is said there of a row and an ASCII character.
-use Rattle.std.specs.Prelude.{◌≡◌, ◌+◌, ◌*◌, ◌<◌, ℕ, List, None, Some, get_or, length, slice_get}
+use Rattle.std.specs.Prelude.{◌≡◌, ◌+◌, ◌*◌, ◌<◌, ℕ, List, None, Some, true, get_or, is_some, length, slice_get}
 use Rattle.fancy_alphabet.specs.declared.sight.Sight.{Sight}
 use Rattle.fancy_automaton.specs.declared.cells.Cell.{Cell}
 use Rattle.fancy_automaton.specs.declared.transitions.Transition.{Transition}
 use Rattle.fancy_alphabet.specs.Classes.{IsColumn}
 use Rattle.fancy_automaton.specs.declared.transitions.Entry.{Entry}
 use Rattle.fancy_automaton.specs.declared.transitions.Transitions.{Transitions}
+use Rattle.fancy_automaton.specs.declared.transitions.View.{View}
 use Rattle.fancy_automaton.specs.declared.transitions.Entry.TheVariants.{Unknown, Quiet, Matching}
 
 -- The step is that of a cell from the row on what is seen.
@@ -15,15 +16,20 @@ pub record IsTransition (cells : List Cell) (row : ℕ) (sight : Sight) (t : Tra
   pub on : (c : Cell) → slice_get cells t.cell ≡ Some c → c.sight ≡ sight
   pub next : (c : Cell) → slice_get cells t.cell ≡ Some c → c.next ≡ t.next
   pub begun : (c : Cell) → slice_get cells t.cell ≡ Some c → c.begun ≡ t.begun
+  pub origin : (c : Cell) → slice_get cells t.cell ≡ Some c → c.origin ≡ t.origin
 
 -- in which no way ended with an outcome
 abbrev pub IsQuiet : List Cell → Transition → Type 0
 IsQuiet cells t = (c : Cell) → slice_get cells t.cell ≡ Some c → c.matched ≡ None
 
+-- in which one did
+abbrev pub IsMatching : List Cell → Transition → Type 0
+IsMatching cells t = (c : Cell) → slice_get cells t.cell ≡ Some c → is_some c.matched ≡ true
+
 abbrev pub IsEntry : List Cell → ℕ → Sight → Entry → Type 0
 IsEntry cells row sight Unknown = Unit {0}
 IsEntry cells row sight (Quiet t) = IsTransition cells row sight t × IsQuiet cells t
-IsEntry cells row sight (Matching t) = IsTransition cells row sight t
+IsEntry cells row sight (Matching t) = IsTransition cells row sight t × IsMatching cells t
 
 -- what the table has of a row and a column
 abbrev pub entry_at : Transitions → ℕ → ℕ → Entry
@@ -34,4 +40,8 @@ pub record AreTold (cells : List Cell) (table : Transitions) : Type 0 where
   pub quiet : (row column : ℕ) (sight : Sight) (t : Transition) → IsColumn table.classes sight column
       → entry_at table row column ≡ Quiet t → IsTransition cells row sight t × IsQuiet cells t
   pub matching : (row column : ℕ) (sight : Sight) (t : Transition) → IsColumn table.classes sight column
-      → entry_at table row column ≡ Matching t → IsTransition cells row sight t
+      → entry_at table row column ≡ Matching t → IsTransition cells row sight t × IsMatching cells t
+
+-- the table, as it is read
+abbrev pub IsView : Transitions → View → Type 0
+IsView table v = (v.columns.now ≡ table.classes.columns.items) × (v.entries.now ≡ table.entries.items) × (v.width ≡ table.classes.width)

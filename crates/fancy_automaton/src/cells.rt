@@ -15,6 +15,7 @@ ghost use Rattle.fancy_automaton.specs.Cells.{KeepsRows, KeepsCells, HasRow, Has
 use crate::hints::Hints;
 use crate::join::joined;
 use crate::marks::Marks;
+use crate::origin::{Origin, origin_of};
 use crate::rows::{Rows, Target, are_same, copied, intern, intern_one, target_of};
 use crate::step::{Step, step_from};
 use crate::trail::Trail;
@@ -46,6 +47,8 @@ pub struct Cell {
     pub came: Vec<usize>,
     /// The number of the way from which one ended with an outcome.
     pub matched: Option<usize>,
+    /// Of which ways of the row those come.
+    pub origin: Origin,
 }
 
 /// The most rows that are kept. A search for a thousand words makes some thousand.
@@ -65,7 +68,7 @@ pub const MORE_ROOM: usize = 2_097_152;
 const ROW_BYTES: usize = 160;
 
 /// An entry of the table takes so many bytes.
-const ENTRY_BYTES: usize = 16;
+const ENTRY_BYTES: usize = 20;
 
 /// A step takes about so many bytes, with its hints and without the ways that it leads to.
 const CELL_BYTES: usize = 240;
@@ -225,10 +228,11 @@ fn computed(
     ensures from { IfOk result (λ c. c.row ≡ row) }
     ensures on { IfOk result (λ c. c.sight ≡ sight) }
     ensures cell { IfOk result (λ c. IsCell code.now rows.new.lists.items row sight c.next c.begun c.came.items
-        c.matched) }
+        c.matched c.origin) }
     ensures ways { IfOk result (λ c. length c.came.items ≡ length step.next.items) }
 {
     let came = origins(alloc, &step.next)?;
+    let origin = origin_of(&came, step.matched, rows.lists[row].len());
     let target = target_of(alloc, rows, code.start, &step.next)?;
     Ok(Cell {
         row,
@@ -237,6 +241,7 @@ fn computed(
         begun: target.begun,
         came,
         matched: step.matched,
+        origin,
     })
 }
 
@@ -311,7 +316,11 @@ fn told(cells: &Cells, row: usize, sight: Sight, byte: u8) -> Option<usize>
 {
     let classes = &cells.table.classes;
     let column = classes.column(byte)?;
-    match cells.table.at(row, classes.first(sight.before), column) {
+    match cells
+        .table
+        .view()
+        .at(row, classes.first(sight.before), column)
+    {
         Entry::Unknown => None,
         Entry::Quiet(step) | Entry::Matching(step) => {
             tested_cell(&cells.cells, Some(step.cell as usize), row, sight)
@@ -328,7 +337,7 @@ pub(crate) fn is_told(cells: &Cells, row: usize, before: Side, byte: u8) -> bool
         None => false,
         Some(column) => {
             !matches!(
-                cells.table.at(row, classes.first(before), column),
+                cells.table.view().at(row, classes.first(before), column),
                 Entry::Unknown
             )
         }
@@ -398,6 +407,7 @@ fn entry_of(cells: &[Cell], k: usize) -> Entry
         cell: k as u32,
         next: cell.next as u32,
         begun: cell.begun as u32,
+        origin: cell.origin,
     };
     match cell.matched {
         None => Entry::Quiet(step),

@@ -13,14 +13,17 @@ ghost use Rattle.fancy_alphabet.specs.Alike.{IsSeenLike};
 ghost use Rattle.fancy_automaton.specs.Cells.{HasPlace, IsFor, IsBounded};
 ghost use Rattle.fancy_automaton.specs.Trail.{HitIn, most_visits};
 ghost use Rattle.fancy_automaton.specs.Front.{IsFront, ways_of, found_of};
+ghost use Rattle.fancy_automaton.specs.Sole.{IsSole};
 ghost use Rattle.fancy_automaton.specs.Futures.{ArePlain};
 ghost use Rattle.fancy_alphabet.specs.Units.{place_after};
 ghost use Rattle.fancy_automaton.specs.Search.{Steady};
 
 use crate::cells::{Cells, is_told, origin, remembered, restart, seen_at, step_at};
+use crate::follow::{Sole, follow};
 use crate::hop::{Stand, run};
 use crate::trail::{
-    Hit, Trail, VISITS, Visit, note_hit, row_at, settled, span_of, start_at, starts_in,
+    Hit, Trail, VISITS, Visit, hit_from, note_hit, row_at, settled, shared_start, span_of,
+    start_at, starts_in,
 };
 use fancy_alphabet::sight::{Sight, ascii_at};
 use fancy_code::attempt::Attempt;
@@ -339,6 +342,101 @@ impl Front {
         }
     }
 
+    /// Where the search stands at a place.
+    fn stand(&self, attempt: &Attempt, cells: &Cells, place: usize) -> Stand
+        requires { place ≤ length attempt.now.haystack.now }
+        ensures place { result.place ≡ place }
+        ensures first { IsFirst (context_in attempt.now) place cells.now.table.classes result.first }
+        ensures next { result.next ≡ self.now.next }
+        ensures begun { result.begun ≡ self.now.begun }
+    {
+        Stand {
+            place,
+            first: first_at(attempt, cells, place),
+            next: self.next,
+            begun: self.begun,
+        }
+    }
+
+    /// Where the search stands at a place, if all ways that wait began at one place, and so did the match that was found.
+    fn sole(&self, attempt: &Attempt, cells: &Cells, place: usize) -> Option<Sole>
+        requires within { place ≤ attempt.now.last }
+        requires inside { attempt.now.last ≤ length attempt.now.haystack.now }
+        requires good { may_end_in attempt.now place ≡ true }
+        requires front { IsFront attempt.now cells.now self.now place place }
+        ensures sole { IfSome result (λ s. IsSole attempt.now cells.now s) }
+        ensures stand { IfSome result (λ s. s.stand.place ≡ place) }
+    {
+        let start = shared_start(&cells.cells, &self.trail, self.hit, place)?;
+        let end = match self.hit {
+            None => None,
+            Some(hit) => Some(hit.end),
+        };
+        Some(Sole {
+            stand: self.stand(attempt, cells, place),
+            start,
+            end,
+        })
+    }
+
+    /// Takes steps on ASCII characters that the table tells, as long as all ways that wait began at one place. The answer is the
+    /// place where the ways wait then, a byte offset.
+    fn follow(
+        &mut self,
+        attempt: &Attempt,
+        cells: &Cells,
+        place: usize,
+    ) -> Result<usize, AllocError>
+        requires within { place ≤ attempt.now.last }
+        requires inside { attempt.now.last ≤ length attempt.now.haystack.now }
+        requires plain { ArePlain (instrs_in attempt.now) }
+        requires steady { Steady attempt.now }
+        requires good { may_end_in attempt.now place ≡ true }
+        requires kept { IsBounded cells.now }
+        requires front { IsFront attempt.now cells.now self.old place place }
+        ensures front { IfOk result (λ next. IsFront attempt.now cells.now self.new next next) }
+        ensures forth { IfOk result (λ next. place ≤ next) }
+        ensures ends { IfOk result (λ next. next ≤ attempt.now.last) }
+        ensures visits { length self.old.trail.visits.items ≤ most_visits
+            → length self.new.trail.visits.items ≤ most_visits }
+    {
+        let Some(sole) = self.sole(attempt, cells, place) else {
+            return Ok(place);
+        };
+        let to = follow(attempt, cells, sole);
+        let waiting = cells.rows.lists[to.stand.next].len();
+        self.trail.clear();
+        self.trail.base.resize(waiting, to.start)?;
+        self.next = to.stand.next;
+        self.begun = to.stand.begun;
+        self.hit = hit_from(to.start, to.end);
+        Ok(to.stand.place)
+    }
+
+    /// Takes steps on ASCII characters that the table tells, wherever the ways began that wait. The answer is the place where the
+    /// ways wait then, a byte offset.
+    fn run(&mut self, attempt: &Attempt, cells: &Cells, place: usize) -> Result<usize, AllocError>
+        requires within { place ≤ attempt.now.last }
+        requires inside { attempt.now.last ≤ length attempt.now.haystack.now }
+        requires plain { ArePlain (instrs_in attempt.now) }
+        requires steady { Steady attempt.now }
+        requires good { may_end_in attempt.now place ≡ true }
+        requires kept { IsBounded cells.now }
+        requires front { IsFront attempt.now cells.now self.old place place }
+        ensures front { IfOk result (λ next. IsFront attempt.now cells.now self.new next next) }
+        ensures forth { IfOk result (λ next. place ≤ next) }
+        ensures ends { IfOk result (λ next. next ≤ attempt.now.last) }
+        ensures visits { length self.old.trail.visits.items ≤ most_visits
+            → length self.new.trail.visits.items ≤ most_visits }
+    {
+        let from = self.stand(attempt, cells, place);
+        let to = run(attempt, cells, from, &mut self.trail, &mut self.hit)?;
+        self.next = to.next;
+        self.begun = to.begun;
+        self.forget_idle(cells);
+        Ok(to.place)
+    }
+
     /// Takes steps on ASCII characters that the table tells. The answer is the place where the ways wait then, a byte offset.
     fn hop(&mut self, attempt: &Attempt, cells: &Cells, place: usize) -> Result<usize, AllocError>
         requires within { place ≤ attempt.now.last }
@@ -354,16 +452,15 @@ impl Front {
         ensures visits { length self.old.trail.visits.items ≤ most_visits
             → length self.new.trail.visits.items ≤ most_visits }
     {
-        let from = Stand {
-            place,
-            first: first_at(attempt, cells, place),
-            next: self.next,
-            begun: self.begun,
-        };
-        let to = run(attempt, cells, from, &mut self.trail, &mut self.hit)?;
-        self.next = to.next;
-        self.begun = to.begun;
-        Ok(to.place)
+        if ascii_at(attempt, place).is_none() {
+            return Ok(place);
+        }
+        let followed = self.follow(attempt, cells, place)?;
+        if followed > place {
+            return Ok(followed);
+        }
+        let reached = self.run(attempt, cells, place)?;
+        Ok(reached)
     }
 
     /// Goes past a place. The answer is the next place that is to be passed, a byte offset.

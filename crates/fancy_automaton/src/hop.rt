@@ -1,21 +1,22 @@
 //! The inner loop of a search: steps on ASCII characters, by the table.
 
-ghost use Rattle.std.specs.Prelude.{◌≡◌, ◌≤◌, ◌⊎◌, [], ℕ, true, Some, None, IfOk, IfSome, length, slice_get};
+ghost use Rattle.std.specs.Prelude.{◌≡◌, ◌<◌, ◌≤◌, ◌⊎◌, [], ℕ, true, Some, None, IfOk, IfSome, length, slice_get};
 ghost use Rattle.fancy_code.specs.Attempt.{context_in, instrs_in, may_end_in};
-ghost use Rattle.fancy_automaton.specs.Cells.{IsBounded};
+ghost use Rattle.fancy_automaton.specs.Cells.{IsBounded, IsIdle};
 ghost use Rattle.fancy_automaton.specs.Front.{IsFront, front_at};
 ghost use Rattle.fancy_automaton.specs.Futures.{ArePlain};
 ghost use Rattle.fancy_automaton.specs.Search.{Steady};
+ghost use Rattle.fancy_automaton.specs.Sole.{stood};
 ghost use Rattle.fancy_automaton.specs.Trail.{hit_or, most_visits};
 ghost use Rattle.fancy_alphabet.specs.Classes.{IsFirst};
 ghost use Rattle.fancy_automaton.specs.Transitions.{IsEntry, IsTransition};
 ghost use Rattle.fancy_alphabet.specs.declared.sight.Sight.{Sight};
 ghost use Rattle.fancy_automaton.specs.declared.cells.Cell.{Cell};
-ghost use Rattle.std.specs.Global.{Vec};
 
 use crate::cells::Cells;
 use crate::trail::{Hit, Trail, VISITS, Visit, note_hit, row_at, start_at};
 use crate::transitions::{Entry, Transition};
+use fancy_alphabet::classes::Column;
 use fancy_code::attempt::Attempt;
 use std::alloc::AllocError;
 
@@ -62,9 +63,9 @@ fn step_of(
 }
 
 /// A row without an instruction; where none is known, a number that no row has.
-fn idle_row(cells: &Cells) -> usize
+pub(crate) fn idle_row(cells: &Cells) -> usize
     requires { IsBounded cells.now }
-    ensures { (v : Vec ℕ) → slice_get cells.now.rows.lists.items result ≡ Some v → v.items ≡ [] }
+    ensures { IsIdle cells.now.rows.lists.items result }
 {
     match cells.rows.lists.get(cells.nothing) {
         None => usize::MAX,
@@ -78,21 +79,24 @@ fn idle_row(cells: &Cells) -> usize
     }
 }
 
-/// Forgets the trail where nothing was found and no way waits: no step of it is asked any more. The answer is whether no way
-/// waited before either, in the row `was`.
+/// Where a step of the table leads.
 #[inline(always)]
-fn forget(trail: &mut Trail, hit: Option<Hit>, was: usize, next: usize, idle: usize) -> bool
-    ensures forgot { (trail.new ≡ trail.old) ⊎ ((next ≡ idle) × (hit ≡ None) × (trail.new.base.items ≡ [])
-        × (trail.new.visits.items ≡ [])) }
-    ensures fewer { length trail.new.visits.items ≤ length trail.old.visits.items }
+pub(crate) fn stand_after(at: Stand, column: Column, step: Transition) -> Stand
+    requires { at.place < usize.MAX }
+    ensures { result ≡ stood at column step }
 {
-    if next != idle {
-        return false;
+    Stand {
+        place: at.place + 1,
+        first: column.following as usize,
+        next: step.next as usize,
+        begun: step.begun as usize,
     }
-    if hit.is_none() {
-        trail.clear();
-    }
-    was == idle
+}
+
+/// Whether the loop is left: no way waits, or the first match was found.
+#[inline(always)]
+fn leaves(at: Stand, idle: usize, hit: Option<Hit>, searches: bool) -> bool {
+    at.next == idle || hit.is_none() != searches
 }
 
 /// Takes steps that the table tells, on ASCII characters, until the trail has no more room, or no match can begin nor
@@ -123,15 +127,16 @@ pub(crate) fn run(
     let end = attempt.last.min(from.place.saturating_add(room));
     let idle = idle_row(cells);
     let mut at = from;
-    let mut rests = false;
-    'places: while at.place < end && !rests {
+    let searches = hit.is_none();
+    let mut ends = false;
+    'places: while at.place < end && !ends {
         let byte = attempt.haystack[at.place];
         let row = row_at(*hit, at.next, at.begun);
         let start = start_at(*hit, at.place);
         let Some(column) = cells.table.classes.column(byte) else {
             return Ok(at);
         };
-        let entry = cells.table.at(row, at.first, column);
+        let entry = cells.table.view().at(row, at.first, column);
         let visits = trail.visits.len();
         let Some(step) = step_of(entry, cells, hit, visits, at.place) else {
             return Ok(at);
@@ -140,14 +145,8 @@ pub(crate) fn run(
             cell: step.cell as usize,
             start,
         })?;
-        let was = at.next;
-        at = Stand {
-            place: at.place + 1,
-            first: column.following as usize,
-            next: step.next as usize,
-            begun: step.begun as usize,
-        };
-        rests = forget(trail, *hit, was, at.next, idle);
+        at = stand_after(at, column, step);
+        ends = leaves(at, idle, *hit, searches);
     }
     Ok(at)
 }

@@ -16,11 +16,13 @@
 
 pub mod cells;
 pub mod closure;
+pub mod follow;
 pub mod front;
 pub mod hints;
 pub mod hop;
 pub mod join;
 pub mod marks;
+mod origin;
 pub mod plain;
 pub mod rows;
 pub mod search;

@@ -1,9 +1,10 @@
 //! The steps that a search took: where a match began is read from them once it is found.
 
-ghost use Rattle.std.specs.Prelude.{◌≡◌, ◌<◌, ◌≤◌, ℕ, List, [], IfOk, length, option_map, slice_get, slice_index};
-ghost use Rattle.fancy_automaton.specs.Trail.{came_at, starts_before, began_at, start_or, and_start, began_by, found_in_trail, hit_or, known_hit, starts_in, IsBeginning, HitIn};
+ghost use Rattle.std.specs.Prelude.{◌≡◌, ◌<◌, ◌≤◌, ℕ, List, [], IfOk, IfSome, length, option_map, replicate, slice_get, slice_index};
+ghost use Rattle.fancy_automaton.specs.Trail.{came_at, starts_before, began_at, start_or, and_start, began_by, found_in_trail, hit_or, end_of, known_hit, starts_in, IsBeginning, HitIn};
 ghost use Rattle.fancy_automaton.specs.Cells.{row_if};
 ghost use Rattle.fancy_automaton.specs.Search.{begun_if};
+ghost use Rattle.fancy_automaton.specs.Sole.{match_from};
 
 use crate::cells::Cell;
 use fancy_input::span::Span;
@@ -196,6 +197,53 @@ fn start_of(cells: &[Cell], trail: &Trail, beginning: Beginning) -> usize
         Beginning::Known(start) => start,
         Beginning::Traced(visit, way) => began(cells, trail, visit, way),
     }
+}
+
+/// So many ways that wait are asked where they began, after so many visits.
+const FEW: usize = 4;
+
+/// A match that begins and ends there, if it ends.
+pub(crate) fn hit_from(start: usize, end: Option<usize>) -> Option<Hit>
+    ensures { result ≡ option_map known_hit (match_from start end) }
+{
+    match end {
+        None => None,
+        Some(end) => Some(Hit {
+            beginning: Beginning::Known(start),
+            end,
+        }),
+    }
+}
+
+/// Where all ways began that wait after a short trail, and the match that was found, if that is one place; `place` where there is
+/// neither.
+pub(crate) fn shared_start(
+    cells: &[Cell],
+    trail: &Trail,
+    hit: Option<Hit>,
+    place: usize,
+) -> Option<usize>
+    requires { HitIn trail.now.visits.items hit }
+    ensures starts { IfSome result (λ s. starts_in cells.now trail.now
+        ≡ replicate (length (starts_in cells.now trail.now)) s) }
+    ensures found { IfSome result (λ s. found_in_trail cells.now trail.now hit ≡ match_from s (end_of hit)) }
+{
+    let visits = trail.visits.len();
+    let waiting = waiting_after(cells, trail, visits);
+    if waiting > FEW || visits > FEW {
+        return None;
+    }
+    let start = match hit {
+        Some(hit) => start_of(cells, trail, hit.beginning),
+        None if waiting == 0 => place,
+        None => start_after(cells, trail, visits, 0),
+    };
+    for way in 0..waiting {
+        if start_after(cells, trail, visits, way) != start {
+            return None;
+        }
+    }
+    Some(start)
 }
 
 /// Where a match that was found begins and ends.

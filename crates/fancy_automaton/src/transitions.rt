@@ -3,10 +3,12 @@
 ghost use Rattle.std.specs.Prelude.{◌≡◌, ◌+◌, ◌*◌, ◌<◌, ◌≤◌, ℕ, [], List, OnOk, get_or, length, slice_get, Some};
 ghost use Rattle.fancy_alphabet.specs.Classes.{first_of, sight_for};
 ghost use Rattle.fancy_alphabet.specs.Sides.{number_of, sides_of};
-ghost use Rattle.fancy_automaton.specs.Transitions.{AreTold, IsEntry};
+ghost use Rattle.fancy_automaton.specs.Transitions.{AreTold, IsEntry, IsView};
+ghost use Rattle.fancy_automaton.specs.declared.transitions.Transitions.{Transitions};
 ghost use Rattle.fancy_automaton.specs.declared.cells.Cell.{Cell};
 ghost use Rattle.fancy_alphabet.specs.declared.side.Side.{Side};
 
+use crate::origin::Origin;
 use fancy_alphabet::classes::{Classes, Column};
 use fancy_alphabet::sight::Sight;
 use std::alloc::{AllocError, Global};
@@ -20,6 +22,8 @@ pub struct Transition {
     pub next: u32,
     /// That row with one more way, which begins there.
     pub begun: u32,
+    /// Of which ways those come that it leads to.
+    pub origin: Origin,
 }
 
 /// What the table has of a row and a character.
@@ -62,22 +66,16 @@ impl Transitions {
         self.entries.clear();
     }
 
-    /// What the table has of a row and a column, where the columns begin at `first` of what stands before.
+    /// The table, to be read.
     #[inline(always)]
-    pub fn at(&self, row: usize, first: usize, column: Column) -> Entry
-        requires row { row < 4_294_967_296 }
-        requires first { first < 4_294_967_296 }
-        ensures told { (cells : List Cell) (before : Side) (byte : ℕ) → AreTold cells self.now
-            → number_of before < sides_of self.now.classes.tests → first ≡ first_of self.now.classes before
-            → slice_get self.now.classes.columns.items byte ≡ Some column
-            → IsEntry cells row (sight_for self.now.classes before byte) result }
+    pub fn view(&self) -> View<'_>
+        ensures view { IsView self.now result }
+        ensures narrow { result.width < 2_147_483_648 }
     {
-        match self
-            .entries
-            .get(row * self.classes.width + first + column.class as usize)
-        {
-            Some(entry) => *entry,
-            None => Entry::Unknown,
+        View {
+            columns: &self.classes.columns,
+            entries: &self.entries,
+            width: self.classes.width,
         }
     }
 
@@ -110,5 +108,46 @@ impl Transitions {
         self.reserve(row)?;
         self.entries[row * self.classes.width + column] = entry;
         Ok(())
+    }
+}
+
+/// A table that is read: a loop holds it in registers.
+#[derive(Clone, Copy)]
+pub struct View<'t> {
+    /// The column of each character that has one.
+    pub columns: &'t [Column],
+    /// The entries.
+    pub entries: &'t [Entry],
+    /// How many columns there are.
+    pub width: usize,
+}
+
+impl View<'_> {
+    /// The column of a character, if it has one.
+    #[inline(always)]
+    pub fn column(self, byte: u8) -> Option<Column>
+        ensures { result ≡ slice_get self.entry.columns.now byte }
+    {
+        self.columns.get(byte as usize).copied()
+    }
+
+    /// What the table has of a row and a column, where the columns begin at `first` of what stands before.
+    #[inline(always)]
+    pub fn at(self, row: usize, first: usize, column: Column) -> Entry
+        requires row { row < 4_294_967_296 }
+        requires first { first < 4_294_967_296 }
+        requires narrow { self.width < 2_147_483_648 }
+        ensures told { (cells : List Cell) (table : Transitions) (before : Side) (byte : ℕ) → IsView table self.entry
+            → AreTold cells table → number_of before < sides_of table.classes.tests → first ≡ first_of table.classes before
+            → slice_get self.entry.columns.now byte ≡ Some column
+            → IsEntry cells row (sight_for table.classes before byte) result }
+    {
+        match self
+            .entries
+            .get(row * self.width + first + column.class as usize)
+        {
+            Some(entry) => *entry,
+            None => Entry::Unknown,
+        }
     }
 }

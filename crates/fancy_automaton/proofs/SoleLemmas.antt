@@ -1,0 +1,409 @@
+-- Steps of a search whose ways that wait all began at one place.
+use Rattle.std.proofs.Common.{◌≡◌, ℕ, zero, suc, ◌+◌, ◌-◌, ◌<◌, ◌≤◌, ◌⊎◌, inl, inr, ◌++◌, ◌∷◌, [], Bool, true, List, Option, Some, None, refl, sym, ap, ap₂, ◌∙◌, subst, arith, length, map, replicate, take, length-append, option_map}
+use Rattle.std.specs.Prelude.{slice_get, slice_index, nat_eq, nat_lt, is_some, IfSome}
+use Rattle.std.specs.List.{list_all}
+use Rattle.std.specs.Option.{option_or}
+use Rattle.std.specs.Global.{Vec}
+use Rattle.std.proofs.lemmas.Bool.{and_parts}
+use Rattle.std.proofs.lemmas.Bool.Decides.{nat_tests}
+use Rattle.std.proofs.lemmas.List.{length-replicate}
+use Rattle.std.proofs.lemmas.Option.{get_or_from_slice_get, slice_get_cases}
+use Rattle.fancy_input.specs.declared.span.Span.{Span}
+use Rattle.fancy_code.specs.declared.attempt.Attempt.{Attempt}
+use Rattle.fancy_code.specs.Attempt.{context_in, instrs_in, may_end_in}
+use Rattle.fancy_alphabet.specs.Classes.{IsFirst, sight_for}
+use Rattle.fancy_alphabet.specs.Sides.{seen_as}
+use Rattle.fancy_alphabet.specs.Sights.{seen_in}
+use Rattle.fancy_alphabet.specs.Units.{place_after}
+use Rattle.fancy_alphabet.specs.declared.classes.Column.{Column}
+use Rattle.fancy_alphabet.specs.declared.side.Side.{Side}
+use Rattle.fancy_alphabet.specs.declared.sight.Sight.{Sight}
+use Rattle.fancy_alphabet.proofs.SightLemmas.{like_ascii}
+use Rattle.fancy_automaton.specs.declared.cells.Cell.{Cell}
+use Rattle.fancy_automaton.specs.declared.cells.Cells.{Cells}
+use Rattle.fancy_automaton.specs.declared.hop.Stand.{Stand}
+use Rattle.fancy_automaton.specs.declared.origin.Origin.{Origin}
+use Rattle.fancy_automaton.specs.declared.origin.Origin.TheVariants.{Earlier, Last, Mixed}
+use Rattle.fancy_automaton.specs.declared.transitions.Transition.{Transition}
+use Rattle.fancy_automaton.specs.declared.way.Way.{Way}
+use Rattle.fancy_automaton.specs.Cells.{HasRow, IsCell, IsIdle, ways_at, row_if}
+use Rattle.fancy_automaton.specs.Front.{IsFront, front_at, found_of, starts_of, ways_of}
+use Rattle.fancy_automaton.specs.Futures.{ArePlain}
+use Rattle.fancy_automaton.specs.Origins.{ComeFrom}
+use Rattle.fancy_automaton.specs.Search.{Going, Steady, begun_if, found_or}
+use Rattle.fancy_automaton.specs.Sole.{IsAmid, IsAt, IsSole, match_from, stood}
+use Rattle.fancy_automaton.specs.Trail.{AllVisited, HitIn, found_at, known_hit, starts_after}
+use Rattle.fancy_automaton.specs.declared.follow.Sole.{Sole}
+use Rattle.fancy_automaton.specs.declared.front.Front.{Front}
+use Rattle.fancy_automaton.specs.declared.trail.Hit.{Hit}
+use Rattle.fancy_automaton.specs.declared.trail.Visit.{Visit}
+use Rattle.fancy_automaton.proofs.FrontLemmas.{known_found, known_in}
+use Rattle.fancy_automaton.specs.Steps.{IsStep, at_of, from_of, span_by, start_in}
+use Rattle.fancy_automaton.specs.Transitions.{IsMatching, IsQuiet, IsTransition}
+use Rattle.fancy_automaton.specs.Ways.{match_end}
+use Rattle.fancy_automaton.proofs.CellLemmas.{cell_is, row_here, row_holds, row_ways}
+use Rattle.fancy_automaton.proofs.GoingLemmas.{going_same, going_step}
+use Rattle.fancy_automaton.proofs.HopLemmas.{ascii_leads, column_low, first_after}
+use Rattle.fancy_automaton.proofs.SearchLemmas.{no_items}
+use Rattle.fancy_automaton.proofs.StepLemmas.{step_alike}
+
+-- The ways after a step, and where the search stands then.
+pub record Stepped (a : Attempt) (cells : Cells) (at : Stand) (ways starts : List ℕ) (found after : Option Span) (c : Column) (t : Transition) (matched : Option ℕ) : Type 0 where
+  pub next : List Way
+  pub come : ComeFrom t.origin (length (begun_if found ways a.code.now.start)) (map from_of next) matched
+  pub stands : IsAt a cells (stood at c t) (map at_of next) (map (start_in (begun_if found starts at.place)) next) after
+
+-- a step that the table tells
+module _ (a : Attempt) (steady : Steady a) (plain : ArePlain (instrs_in a)) (cells : Cells) (at : Stand) (ways starts : List ℕ) (found : Option Span)
+    (row byte : ℕ) (c : Column) (t : Transition) (d : Cell)
+    (before : at.place < a.last) (here : slice_get a.haystack.now at.place ≡ Some byte) (column : slice_get cells.table.classes.columns.items byte ≡ Some c)
+    (is : IsAt a cells at ways starts found) (rowed : row ≡ row_if found at.next at.begun)
+    (told : IsTransition cells.cells.items row (sight_for cells.table.classes (seen_as cells.table.classes.tests is.begins.0) byte) t)
+    (there : slice_get cells.cells.items t.cell ≡ Some d) where
+  abbrev asked : Sight
+  asked = sight_for cells.table.classes (seen_as cells.table.classes.tests is.begins.0) byte
+
+  abbrev begun : List ℕ
+  begun = begun_if found ways a.code.now.start
+
+  pub own : IsCell a.code.now cells.rows.lists.items row asked d.next d.begun d.came.items d.matched d.origin
+  own =
+      cell_is a.code.now cells.rows.lists.items cells.cells.items t.cell row asked d is.all.0 (d, there, told.from d there, told.on d there)
+      (sym (get_or_from_slice_get cells.cells.items t.cell d d there))
+
+  pub same : own.ways ≡ begun
+  same =
+      let rows = cells.rows.lists.items in
+      let source : HasRow rows row begun = subst (λ (r : ℕ). HasRow rows r begun) (sym rowed) (row_here rows found at.next at.begun a.code.now.start ways is.waits is.opens) in
+      sym (row_ways rows row own.ways own.source) ∙ row_ways rows row begun source
+
+  pub comes : ComeFrom t.origin (length begun) (map from_of own.after) d.matched
+  comes =
+      subst (λ (o : Origin). ComeFrom o (length begun) (map from_of own.after) d.matched) (told.origin d there)
+      (subst (λ (xs : List ℕ). ComeFrom d.origin (length begun) xs d.matched) own.comes
+      (subst (λ (ws : List ℕ). ComeFrom d.origin (length ws) d.came.items d.matched) same own.comes_from))
+
+  pub stepped : (after : Option Span) → ((rest : Option (ℕ × ℕ)) → found_or after rest ≡ option_or (span_by (begun_if found starts at.place) (match_end d.matched at.place)) (found_or found rest))
+      → Stepped a cells at ways starts found after c t d.matched
+  stepped after hits =
+      let classes = cells.table.classes in
+      let rows = cells.rows.lists.items in
+      let p = at.place in
+      let low = column_low classes byte c column in
+      let like = like_ascii a p classes is.all.1 is.begins.0 byte is.begins.1 low before here in
+      let step = step_alike (instrs_in a) begun like.whole (seen_in asked) own.after d.matched like.alike
+      (subst (λ (ws : List ℕ). IsStep (instrs_in a) ws (seen_in asked) own.after d.matched) same own.step) in
+      let moved = going_step a steady plain ways starts found after p like.whole own.after d.matched is.within is.good like.seen step (λ none. own.halts (like.ends none)) hits is.going in
+      let width : place_after p like.whole.unit ≡ p + 1 = sym like.width in
+      record {
+        next = own.after;
+        come = comes;
+        stands = record {
+          all = is.all;
+          waits = subst (λ (n : ℕ). HasRow rows n (map at_of own.after)) (told.next d there) own.leads;
+          opens = subst (λ (n : ℕ). HasRow rows n (map at_of own.after ++ a.code.now.start ∷ [])) (told.begun d there) own.opens;
+          going = going_same a _ _ _ _ after after (p + 1) _ (p + 1) refl refl refl width moved;
+          begins = first_after a classes p byte c low here column;
+          good = ascii_leads a p byte before low here steady is.good;
+          within = omega (arith, before);
+        };
+      }
+
+  pub quiet : d.matched ≡ None → Stepped a cells at ways starts found found c t d.matched
+  quiet none = stepped found (λ rest. ap (λ (o : Option ℕ). option_or (span_by (begun_if found starts at.place) (match_end o at.place)) (found_or found rest)) (sym none))
+
+  pub matching : (f s : ℕ) → d.matched ≡ Some f → slice_index (begun_if found starts at.place) f ≡ s → Stepped a cells at ways starts found (Some (record { start = s; end = at.place })) c t d.matched
+  matching f s some began =
+      stepped (Some (record { start = s; end = at.place })) (λ rest. ap (λ (x : ℕ). Some (x, at.place)) (sym began)
+      ∙ ap (λ (o : Option ℕ). option_or (span_by (begun_if found starts at.place) (match_end o at.place)) (found_or found rest)) (sym some))
+
+below : (f n : ℕ) → nat_lt f n ≡ true → f < n
+below f n lt = grind (arith, nat_tests)
+
+equal : (f n : ℕ) → nat_eq f n ≡ true → f ≡ n
+equal f n e = grind (arith, nat_tests)
+
+-- of which way a match comes that is found
+module _ (a : Attempt) (steady : Steady a) (plain : ArePlain (instrs_in a)) (cells : Cells) (at : Stand) (ways starts : List ℕ) (found : Option Span)
+    (row byte : ℕ) (c : Column) (t : Transition) (d : Cell)
+    (before : at.place < a.last) (here : slice_get a.haystack.now at.place ≡ Some byte) (column : slice_get cells.table.classes.columns.items byte ≡ Some c)
+    (is : IsAt a cells at ways starts found) (rowed : row ≡ row_if found at.next at.begun)
+    (told : IsTransition cells.cells.items row (sight_for cells.table.classes (seen_as cells.table.classes.tests is.begins.0) byte) t)
+    (there : slice_get cells.cells.items t.cell ≡ Some d) where
+  abbrev many : ℕ
+  many = length (begun_if found ways a.code.now.start)
+
+  abbrev all_come : List ℕ
+  all_come = map from_of (own a steady plain cells at ways starts found row byte c t d before here column is rowed told there).after
+
+  pub earlier_found : t.origin ≡ Earlier → IfSome d.matched (λ f. f < many - 1)
+  earlier_found e =
+      let come : ComeFrom Earlier many all_come d.matched = subst (λ (o : Origin). ComeFrom o many all_come d.matched) e (comes a steady plain cells at ways starts found row byte c t d before here column is rowed told there) in
+      come.1
+
+  pub last_found : t.origin ≡ Last → IfSome d.matched (λ f. f ≡ many - 1)
+  last_found e =
+      let come : ComeFrom Last many all_come d.matched = subst (λ (o : Origin). ComeFrom o many all_come d.matched) e (comes a steady plain cells at ways starts found row byte c t d before here column is rowed told there) in
+      come.2
+
+  pub some_way : t.origin ≡ Last → 0 < many
+  some_way e =
+      let come : ComeFrom Last many all_come d.matched = subst (λ (o : Origin). ComeFrom o many all_come d.matched) e (comes a steady plain cells at ways starts found row byte c t d before here column is rowed told there) in
+      come.0
+
+module _ (a : Attempt) (steady : Steady a) (plain : ArePlain (instrs_in a)) (cells : Cells) (at : Stand) (ways starts : List ℕ) (m : Span)
+    (row byte : ℕ) (c : Column) (t : Transition) (d : Cell)
+    (before : at.place < a.last) (here : slice_get a.haystack.now at.place ≡ Some byte) (column : slice_get cells.table.classes.columns.items byte ≡ Some c)
+    (is : IsAt a cells at ways starts (Some m)) (rowed : row ≡ at.next)
+    (told : IsTransition cells.cells.items row (sight_for cells.table.classes (seen_as cells.table.classes.tests is.begins.0) byte) t)
+    (there : slice_get cells.cells.items t.cell ≡ Some d) (f : ℕ) (some : d.matched ≡ Some f) where
+  pub within_row : (t.origin ≡ Earlier) ⊎ (t.origin ≡ Last) → f < length ways
+  within_row (inl e) =
+      let low : f < length ways - 1 = subst (λ (o : Option ℕ). IfSome o (λ f. f < length ways - 1)) some
+      (earlier_found a steady plain cells at ways starts (Some m) row byte c t d before here column is rowed told there e) in
+      omega (arith, low)
+  within_row (inr e) =
+      let same : f ≡ length ways - 1 = subst (λ (o : Option ℕ). IfSome o (λ f. f ≡ length ways - 1)) some
+      (last_found a steady plain cells at ways starts (Some m) row byte c t d before here column is rowed told there e) in
+      let pos = some_way a steady plain cells at ways starts (Some m) row byte c t d before here column is rowed told there e in
+      omega (arith, same, pos)
+
+-- ways that come from some with one beginning have it too
+began_at_one : (starts : List ℕ) (s : ℕ) (test : ℕ → Bool) (next : List Way) → ((f : ℕ) → test f ≡ true → slice_index starts f ≡ s) → list_all test (map from_of next) ≡ true
+    → map (start_in starts) next ≡ replicate (length (map at_of next)) s
+began_at_one starts s test [] tells all = refl
+began_at_one starts s test (w ∷ ws) tells all =
+    let parts = and_parts (test w.from) (list_all test (map from_of ws)) all in
+    ap₂ (λ (x : ℕ) (xs : List ℕ). x ∷ xs) (tells w.from parts.0) (began_at_one starts s test ws tells parts.1)
+
+index_one : (n s f : ℕ) → f < n → slice_index (replicate n s) f ≡ s
+index_one zero s f lt = absurd (omega (arith, lt))
+index_one (suc n) s zero lt = refl
+index_one (suc n) s (suc f) lt = index_one n s f (omega (arith, lt))
+
+index_before : (xs : List ℕ) (p f : ℕ) → f < length xs → slice_index (xs ++ p ∷ []) f ≡ slice_index xs f
+index_before [] p f lt = absurd (omega (arith, lt))
+index_before (x ∷ xs) p zero lt = refl
+index_before (x ∷ xs) p (suc f) lt = index_before xs p f (omega (arith, lt))
+
+index_last : (xs : List ℕ) (p f : ℕ) → f ≡ length xs → slice_index (xs ++ p ∷ []) f ≡ p
+index_last xs p f e = ap (slice_index (xs ++ p ∷ [])) e ∙ at xs where
+  at : (xs : List ℕ) → slice_index (xs ++ p ∷ []) (length xs) ≡ p
+  at [] = refl
+  at (x ∷ xs) = at xs
+
+-- where a way began that has this number among those before, and one more
+pub earlier_began : (ways : List ℕ) (start s p f : ℕ) → f < length (ways ++ start ∷ []) - 1 → slice_index (replicate (length ways) s ++ p ∷ []) f ≡ s
+earlier_began ways start s p f lt =
+    let more = length-append ways (start ∷ []) in
+    let size = length-replicate (length ways) s in
+    let low : f < length ways = omega (arith, lt, more) in
+    index_before (replicate (length ways) s) p f (omega (arith, low, size)) ∙ index_one (length ways) s f low
+
+pub last_began : (ways starts : List ℕ) (start p f : ℕ) → length starts ≡ length ways → f ≡ length (ways ++ start ∷ []) - 1 → slice_index (starts ++ p ∷ []) f ≡ p
+last_began ways starts start p f even e =
+    let more = length-append ways (start ∷ []) in
+    index_last starts p f (omega (arith, even, e, more))
+
+-- what all ways began at, and a match that is found
+module _ (a : Attempt) (cells : Cells) (at : Stand) (ways : List ℕ) (s : ℕ) (after : Option Span) (c : Column) (t : Transition) (matched : Option ℕ) where
+  abbrev Sole_at : ℕ → Type 0
+  Sole_at p = (next : List ℕ) × IsAt a cells (stood at c t) next (replicate (length next) p) after
+
+  pub keeps_start : Stepped a cells at ways (replicate (length ways) s) None after c t matched → t.origin ≡ Earlier → Sole_at s
+  keeps_start st e =
+      let come : ComeFrom Earlier (length (ways ++ a.code.now.start ∷ [])) (map from_of st.next) matched = subst (λ (o : Origin). ComeFrom o (length (ways ++ a.code.now.start ∷ [])) (map from_of st.next) matched) e st.come in (
+        map at_of st.next,
+        subst (λ (ss : List ℕ). IsAt a cells (stood at c t) (map at_of st.next) ss after)
+            (began_at_one (replicate (length ways) s ++ at.place ∷ []) s (λ f. nat_lt f (length (ways ++ a.code.now.start ∷ []) - 1)) st.next
+            (λ f lt. earlier_began ways a.code.now.start s at.place f (below f _ lt)) come.0) st.stands,
+      )
+
+  pub starts_here : (starts : List ℕ) → length starts ≡ length ways → Stepped a cells at ways starts None after c t matched → t.origin ≡ Last → Sole_at at.place
+  starts_here starts even st e =
+      let come : ComeFrom Last (length (ways ++ a.code.now.start ∷ [])) (map from_of st.next) matched = subst (λ (o : Origin). ComeFrom o (length (ways ++ a.code.now.start ∷ [])) (map from_of st.next) matched) e st.come in (
+        map at_of st.next,
+        subst (λ (ss : List ℕ). IsAt a cells (stood at c t) (map at_of st.next) ss after)
+            (began_at_one (starts ++ at.place ∷ []) at.place (λ f. nat_eq f (length (ways ++ a.code.now.start ∷ []) - 1)) st.next
+            (λ f same. last_began ways starts a.code.now.start at.place f even (equal f _ same)) come.1) st.stands,
+      )
+
+  pub stays : (m : Span) → Stepped a cells at ways (replicate (length ways) s) (Some m) after c t matched → (t.origin ≡ Earlier) ⊎ (t.origin ≡ Last) → Sole_at s
+  stays m st (inl e) =
+      let come : ComeFrom Earlier (length ways) (map from_of st.next) matched = subst (λ (o : Origin). ComeFrom o (length ways) (map from_of st.next) matched) e st.come in (
+        map at_of st.next,
+        subst (λ (ss : List ℕ). IsAt a cells (stood at c t) (map at_of st.next) ss after)
+            (began_at_one (replicate (length ways) s) s (λ f. nat_lt f (length ways - 1)) st.next
+            (λ f lt. index_one (length ways) s f (let low = below f _ lt in omega (arith, low))) come.0) st.stands,
+      )
+  stays m st (inr e) =
+      let come : ComeFrom Last (length ways) (map from_of st.next) matched = subst (λ (o : Origin). ComeFrom o (length ways) (map from_of st.next) matched) e st.come in (
+        map at_of st.next,
+        subst (λ (ss : List ℕ). IsAt a cells (stood at c t) (map at_of st.next) ss after)
+            (began_at_one (replicate (length ways) s) s (λ f. nat_eq f (length ways - 1)) st.next
+            (λ f same. index_one (length ways) s f (let is = equal f _ same in omega (arith, is, come.0))) come.1) st.stands,
+      )
+
+cell_there : (cells : List Cell) (k : ℕ) → k < length cells → (d : Cell) × (slice_get cells k ≡ Some d)
+cell_there cells k lt =
+    elim (slice_get_cases cells k).1 [
+      | inl there ↦ (there.0, there.2)
+      | inr past ↦ absurd (omega (arith, lt, past.0))
+    ]
+
+pub some_of : (o : Option ℕ) → is_some o ≡ true → (f : ℕ) × (o ≡ Some f)
+some_of None e = absurd (cc)
+some_of (Some f) e = (f, refl)
+
+-- an ASCII character is read, and the table tells the step from the row on it
+pub record Reads (a : Attempt) (cells : Cells) (at : Stand) (row byte : ℕ) (c : Column) : Type 0 where
+  pub before : at.place < a.last
+  pub here : slice_get a.haystack.now at.place ≡ Some byte
+  pub column : slice_get cells.table.classes.columns.items byte ≡ Some c
+
+module _ (a : Attempt) (steady : Steady a) (plain : ArePlain (instrs_in a)) (cells : Cells) (at : Stand) (byte : ℕ) (c : Column) (t : Transition) where
+  -- what the table has of the row on what is seen
+  abbrev pub Tells : ℕ → Side → (List Cell → Transition → Type 0) → Type 0
+  Tells row before Also = IsTransition cells.cells.items row (sight_for cells.table.classes (seen_as cells.table.classes.tests before) byte) t × Also cells.cells.items t
+
+  -- nothing is found, and the ways after the step come from those that waited
+  pub quiet_earlier : (ways : List ℕ) (s : ℕ) (is : IsAt a cells at ways (replicate (length ways) s) None) → Reads a cells at at.begun byte c → Tells at.begun is.begins.0 IsQuiet
+      → t.origin ≡ Earlier → (next : List ℕ) × IsAt a cells (stood at c t) next (replicate (length next) s) None
+  quiet_earlier ways s is r told e =
+      let there = cell_there cells.cells.items t.cell told.0.stands in
+      keeps_start a cells at ways s None c t there.0.matched
+      (quiet a steady plain cells at ways (replicate (length ways) s) None at.begun byte c t there.0 r.before r.here r.column is refl told.0 there.1 (told.1 there.0 there.1)) e
+
+  -- or from the one that began
+  pub quiet_last : (ways starts : List ℕ) (is : IsAt a cells at ways starts None) → Reads a cells at at.begun byte c → Tells at.begun is.begins.0 IsQuiet
+      → t.origin ≡ Last → (next : List ℕ) × IsAt a cells (stood at c t) next (replicate (length next) at.place) None
+  quiet_last ways starts is r told e =
+      let there = cell_there cells.cells.items t.cell told.0.stands in
+      starts_here a cells at ways 0 None c t there.0.matched starts is.going.even
+      (quiet a steady plain cells at ways starts None at.begun byte c t there.0 r.before r.here r.column is refl told.0 there.1 (told.1 there.0 there.1)) e
+
+  -- or from both
+  pub quiet_amid : (ways starts : List ℕ) (is : IsAt a cells at ways starts None) → Reads a cells at at.begun byte c → Tells at.begun is.begins.0 IsQuiet → IsAmid a cells (stood at c t)
+  quiet_amid ways starts is r told =
+      let there = cell_there cells.cells.items t.cell told.0.stands in
+      let st = quiet a steady plain cells at ways starts None at.begun byte c t there.0 r.before r.here r.column is refl told.0 there.1 (told.1 there.0 there.1) in
+      (map at_of st.next, map (start_in (starts ++ at.place ∷ [])) st.next, st.stands)
+
+  -- a match is found
+  pub found_earlier : (ways : List ℕ) (s : ℕ) (is : IsAt a cells at ways (replicate (length ways) s) None) → Reads a cells at at.begun byte c → Tells at.begun is.begins.0 IsMatching
+      → t.origin ≡ Earlier → (next : List ℕ) × IsAt a cells (stood at c t) next (replicate (length next) s) (Some (record { start = s; end = at.place }))
+  found_earlier ways s is r told e =
+      let there = cell_there cells.cells.items t.cell told.0.stands in
+      let some = some_of there.0.matched (told.1 there.0 there.1) in
+      let starts = replicate (length ways) s in
+      let come = subst (λ (o : Option ℕ). IfSome o (λ f. f < length (ways ++ a.code.now.start ∷ []) - 1)) some.1
+      (earlier_found a steady plain cells at ways starts None at.begun byte c t there.0 r.before r.here r.column is refl told.0 there.1 e) in
+      keeps_start a cells at ways s (Some (record { start = s; end = at.place })) c t there.0.matched
+      (matching a steady plain cells at ways starts None at.begun byte c t there.0 r.before r.here r.column is refl told.0 there.1 some.0 s some.1
+      (earlier_began ways a.code.now.start s at.place some.0 come)) e
+
+  pub found_last : (ways starts : List ℕ) (is : IsAt a cells at ways starts None) → Reads a cells at at.begun byte c → Tells at.begun is.begins.0 IsMatching
+      → t.origin ≡ Last → (next : List ℕ) × IsAt a cells (stood at c t) next (replicate (length next) at.place) (Some (record { start = at.place; end = at.place }))
+  found_last ways starts is r told e =
+      let there = cell_there cells.cells.items t.cell told.0.stands in
+      let some = some_of there.0.matched (told.1 there.0 there.1) in
+      let come = subst (λ (o : Option ℕ). IfSome o (λ f. f ≡ length (ways ++ a.code.now.start ∷ []) - 1)) some.1
+      (last_found a steady plain cells at ways starts None at.begun byte c t there.0 r.before r.here r.column is refl told.0 there.1 e) in
+      starts_here a cells at ways 0 (Some (record { start = at.place; end = at.place })) c t there.0.matched starts is.going.even
+      (matching a steady plain cells at ways starts None at.begun byte c t there.0 r.before r.here r.column is refl told.0 there.1 some.0 at.place some.1
+      (last_began ways starts a.code.now.start at.place some.0 is.going.even come)) e
+
+  -- after a match was found
+  pub later_quiet : (ways : List ℕ) (s : ℕ) (m : Span) (is : IsAt a cells at ways (replicate (length ways) s) (Some m)) → Reads a cells at at.next byte c → Tells at.next is.begins.0 IsQuiet
+      → (t.origin ≡ Earlier) ⊎ (t.origin ≡ Last) → (next : List ℕ) × IsAt a cells (stood at c t) next (replicate (length next) s) (Some m)
+  later_quiet ways s m is r told e =
+      let there = cell_there cells.cells.items t.cell told.0.stands in
+      stays a cells at ways s (Some m) c t there.0.matched m
+      (quiet a steady plain cells at ways (replicate (length ways) s) (Some m) at.next byte c t there.0 r.before r.here r.column is refl told.0 there.1 (told.1 there.0 there.1)) e
+
+  pub later_found : (ways : List ℕ) (s : ℕ) (m : Span) (is : IsAt a cells at ways (replicate (length ways) s) (Some m)) → Reads a cells at at.next byte c → Tells at.next is.begins.0 IsMatching
+      → (t.origin ≡ Earlier) ⊎ (t.origin ≡ Last) → (next : List ℕ) × IsAt a cells (stood at c t) next (replicate (length next) s) (Some (record { start = s; end = at.place }))
+  later_found ways s m is r told e =
+      let there = cell_there cells.cells.items t.cell told.0.stands in
+      let some = some_of there.0.matched (told.1 there.0 there.1) in
+      let starts = replicate (length ways) s in
+      let low : some.0 < length ways = within_row a steady plain cells at ways starts m at.next byte c t there.0 r.before r.here r.column is refl told.0 there.1 some.0 some.1 e in
+      stays a cells at ways s (Some (record { start = s; end = at.place })) c t there.0.matched m
+      (matching a steady plain cells at ways starts (Some m) at.next byte c t there.0 r.before r.here r.column is refl told.0 there.1 some.0 s some.1 (index_one (length ways) s some.0 low)) e
+
+-- where no way waits, they began anywhere
+pub idle_sole : (a : Attempt) (cells : Cells) (at : Stand) (idle start : ℕ) → IsIdle cells.rows.lists.items idle → at.next ≡ idle → IsAmid a cells at
+    → (next : List ℕ) × IsAt a cells at next (replicate (length next) start) None
+idle_sole a cells at idle start empty same is =
+    let ways = is.0 in
+    let here = is.2 in
+    let v = here.waits.0 in
+    let none : ways ≡ [] = sym here.waits.2 ∙ empty v (ap (slice_get cells.rows.lists.items) (sym same) ∙ here.waits.1) in
+    let nothing : is.1 ≡ [] = no_items is.1 (here.going.even ∙ ap length none) in
+    (ways, subst (λ (ss : List ℕ). IsAt a cells at ways ss None) (nothing ∙ sym (ap (λ (ws : List ℕ). replicate (length ws) start) none)) here)
+
+-- two cases are left
+pub is_one : (o : Origin) → (o ≡ Mixed → ⊥) → (o ≡ Earlier) ⊎ (o ≡ Last)
+is_one Earlier not = inl refl
+is_one Last not = inr refl
+is_one Mixed not = absurd (not refl)
+
+-- a search all of whose ways began at one place
+pub sole_front : (a : Attempt) (cells : Cells) (f : Front) (at : Stand) (p s : ℕ) (end : Option ℕ) → IsFront a cells f p p → starts_of cells f ≡ replicate (length (starts_of cells f)) s → found_of cells f ≡ match_from s end
+    → at.place ≡ p → at.next ≡ f.next → at.begun ≡ f.begun → IsFirst (context_in a) p cells.table.classes at.first → may_end_in a p ≡ true → p ≤ a.last
+    → IsSole a cells (record { stand = at; start = s; end = end })
+sole_front a cells f at p s end is one found place next begun begins good within =
+    let rows = cells.rows.lists.items in
+    let back = sym place in (
+      ways_of cells f,
+      record {
+        all = is.all;
+        waits = subst (λ (r : ℕ). HasRow rows r (ways_of cells f)) (sym next) is.waits;
+        opens = subst (λ (r : ℕ). HasRow rows r (ways_of cells f ++ a.code.now.start ∷ [])) (sym begun) is.opens;
+        going = subst (λ (q : ℕ). Going a (ways_of cells f) (replicate (length (ways_of cells f)) s) (match_from s end) q q) back
+            (going_same a _ _ _ _ _ _ p p p refl (one ∙ ap (λ (n : ℕ). replicate n s) is.going.even) found refl is.going);
+        begins = subst (λ (q : ℕ). IsFirst (context_in a) q cells.table.classes at.first) back begins;
+        good = subst (λ (q : ℕ). may_end_in a q ≡ true) back good;
+        within = omega (arith, place, within);
+      },
+    )
+
+-- the same search, told by where it stands
+pub front_stands : (a : Attempt) (cells : Cells) (f : Front) (at : Stand) (p : ℕ) → at.place ≡ p → at.next ≡ f.next → at.begun ≡ f.begun → IsFront a cells f p p
+    → IsFront a cells (front_at at f.trail f.hit) at.place at.place
+front_stands a cells f at p place next begun is =
+    subst (λ (q : ℕ). IsFront a cells (front_at at f.trail f.hit) q q) (sym place)
+    (subst (λ (n : ℕ). IsFront a cells (record { next = n; begun = at.begun; trail = f.trail; hit = f.hit }) p p) (sym next)
+    (subst (λ (b : ℕ). IsFront a cells (record { next = f.next; begun = b; trail = f.trail; hit = f.hit }) p p) (sym begun) is))
+
+take_none : (n : ℕ) (xs : List ℕ) → xs ≡ [] → take n xs ≡ []
+take_none zero xs e = refl
+take_none (suc n) [] e = refl
+take_none (suc n) (x ∷ xs) e = absurd (cc)
+
+-- an empty list that is filled up
+pub filled : (old new : List ℕ) (n m s : ℕ) → old ≡ [] → m ≡ 0 → new ≡ take n old ++ replicate (n - m) s → new ≡ replicate n s
+filled old new n m s none size put =
+    let whole : n - m ≡ n = omega (arith, size) in
+    put ∙ ap₂ (λ (xs : List ℕ) (k : ℕ). xs ++ replicate k s) (take_none n old none) whole
+
+-- and the search without a trail
+pub front_sole : (a : Attempt) (cells : Cells) (s : Sole) (base : Vec ℕ) (visits : Vec Visit) (hit : Option Hit) (n : ℕ) → IsSole a cells s → visits.items ≡ [] → base.items ≡ replicate n s.start
+    → n ≡ length (ways_at cells.rows.lists.items s.stand.next) → hit ≡ option_map known_hit (match_from s.start s.end)
+    → IsFront a cells (record { next = s.stand.next; begun = s.stand.begun; trail = record { base = base; visits = visits }; hit = hit }) s.stand.place s.stand.place
+front_sole a cells s base visits hit n is none based size same =
+    let rows = cells.rows.lists.items in
+    let at = is.1 in
+    let ways : ways_at rows s.stand.next ≡ is.0 = row_ways rows s.stand.next is.0 at.waits in
+    let starts : replicate (length is.0) s.start ≡ starts_after cells.cells.items base.items visits.items =
+    ap (λ (k : ℕ). replicate k s.start) (sym (size ∙ ap length ways)) ∙ sym based ∙ sym (ap (starts_after cells.cells.items base.items) none) in
+    let found : match_from s.start s.end ≡ found_at cells.cells.items base.items visits.items hit =
+    sym (known_found cells.cells.items base.items visits.items (match_from s.start s.end)) ∙ sym (ap (found_at cells.cells.items base.items visits.items) same) in
+    record {
+      all = at.all;
+      waits = row_holds rows s.stand.next is.0 at.waits;
+      opens = subst (λ (ws : List ℕ). HasRow rows s.stand.begun (ws ++ a.code.now.start ∷ [])) (sym ways) at.opens;
+      going = going_same a _ _ _ _ _ _ _ _ s.stand.place (sym ways) starts found refl at.going;
+      visits = subst (AllVisited cells.cells.items) (sym none) tt;
+      hits = subst (HitIn visits.items) (sym same) (known_in visits.items (match_from s.start s.end));
+    }

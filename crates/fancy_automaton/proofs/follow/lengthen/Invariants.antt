@@ -1,0 +1,13 @@
+use Rattle.std.proofs.Common.{◌≡◌, ◌-◌, ◌≤◌, true, is_some}
+use Rattle.fancy_automaton.specs.Sole.{IsSole}
+use Rattle.fancy_automaton.proofs.follow.lengthen.Given as goal
+
+abbrev pub invariant-places : goal.invariant-places
+invariant-places l = record {
+  sole : IsSole l.attempt l.cells (record { stand = l.at; start = l.fn.from.start; end = l.end });
+  found : is_some l.end ≡ true;
+  forth : l.fn.from.stand.place ≤ l.at.place;
+}
+
+abbrev pub decreases-places : goal.decreases-places
+decreases-places l = l.attempt.last - l.at.place

@@ -1,0 +1,12 @@
+-- Of which ways of its row those come that a step leads to.
+use Rattle.std.specs.Prelude.{◌≡◌, ◌-◌, ◌<◌, ℕ, true, List, Option, IfSome, nat_eq, nat_lt}
+use Rattle.std.specs.List.{list_all}
+use Rattle.fancy_automaton.specs.declared.origin.Origin.{Origin}
+use Rattle.fancy_automaton.specs.declared.origin.Origin.TheVariants.{Earlier, Last, Mixed}
+
+-- among so many ways of a row, those have these numbers that the ways after a step come from, and that of the match
+abbrev pub ComeFrom : Origin → ℕ → List ℕ → Option ℕ → Type 0
+ComeFrom Earlier ways came matched = (list_all (λ f. nat_lt f (ways - 1)) came ≡ true) × IfSome matched (λ f. f < ways - 1)
+ComeFrom Last ways came matched =
+    (0 < ways) × (list_all (λ f. nat_eq f (ways - 1)) came ≡ true) × IfSome matched (λ f. f ≡ ways - 1)
+ComeFrom Mixed ways came matched = Unit {0}

@@ -1,0 +1,40 @@
+-- A search whose ways that wait all began at one place.
+use Rattle.std.specs.Prelude.{◌≡◌, ◌+◌, ◌≤◌, ℕ, true, List, ◌∷◌, ◌++◌, [], Option, None, Some, length, replicate}
+use Rattle.fancy_input.specs.declared.span.Span.{Span}
+use Rattle.fancy_code.specs.declared.attempt.Attempt.{Attempt}
+use Rattle.fancy_code.specs.Attempt.{context_in, may_end_in}
+use Rattle.fancy_alphabet.specs.Classes.{IsFirst}
+use Rattle.fancy_automaton.specs.declared.cells.Cells.{Cells}
+use Rattle.fancy_automaton.specs.declared.follow.Sole.{Sole}
+use Rattle.fancy_automaton.specs.declared.hop.Stand.{Stand}
+use Rattle.fancy_automaton.specs.declared.transitions.Transition.{Transition}
+use Rattle.fancy_alphabet.specs.declared.classes.Column.{Column}
+use Rattle.fancy_automaton.specs.Cells.{IsFor, HasRow}
+use Rattle.fancy_automaton.specs.Search.{Going}
+
+-- where a step of the table leads
+abbrev pub stood : Stand → Column → Transition → Stand
+stood at c t = record { place = at.place + 1; first = c.following; next = t.next; begun = t.begun }
+
+-- a match from a place on, if it ends
+abbrev pub match_from : ℕ → Option ℕ → Option Span
+match_from start None = None
+match_from start (Some end) = Some (record { start = start; end = end })
+
+-- Where a search stands: these ways wait there, which began at these places, and this was found. A match may begin and end there.
+pub record IsAt (a : Attempt) (cells : Cells) (at : Stand) (ways starts : List ℕ) (found : Option Span) : Type 0 where
+  pub all : IsFor cells a.code.now
+  pub waits : HasRow cells.rows.lists.items at.next ways
+  pub opens : HasRow cells.rows.lists.items at.begun (ways ++ a.code.now.start ∷ [])
+  pub going : Going a ways starts found at.place at.place
+  pub begins : IsFirst (context_in a) at.place cells.table.classes at.first
+  pub good : may_end_in a at.place ≡ true
+  pub within : at.place ≤ a.last
+
+-- nothing was found, and wherever the ways began
+abbrev pub IsAmid : Attempt → Cells → Stand → Type 0
+IsAmid a cells at = (ways : List ℕ) × (starts : List ℕ) × IsAt a cells at ways starts None
+
+-- all ways began at one place, and so did the match, if one was found
+abbrev pub IsSole : Attempt → Cells → Sole → Type 0
+IsSole a cells s = (ways : List ℕ) × IsAt a cells s.stand ways (replicate (length ways) s.start) (match_from s.start s.end)
