@@ -74,7 +74,7 @@ fn find_span(
 ///
 /// Steps are remembered in `cells`, which begins empty and serves any number of searches for one code. It is cleared where
 /// it is full, as often as that is; no answer changes by that. The limit of steps is not heeded: the caller sees that it allows
-/// as many as are bounded here. Each place of the range is read at most once, and fetches
+/// as many as are bounded here. A step is computed at most once for each place of the range, and fetches
 /// each instruction at most once. So no more steps are added to `work` than the code is long, times the searched length
 /// plus one, and none where no match may start at any place. No return is added, and no unit is gone over.
 ///
