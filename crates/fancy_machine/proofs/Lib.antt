@@ -13,6 +13,8 @@ pub mod SeekLemmas
 pub mod BackLemmas
 pub mod RecallLemmas
 pub mod RefusalLemmas
+pub mod WentLemmas
+pub mod AnswerLemmas
 pub mod PassLemmas
 pub mod CloseLemmas
 pub mod LoopLemmas

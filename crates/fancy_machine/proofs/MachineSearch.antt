@@ -25,7 +25,7 @@ use Rattle.fancy_code.proofs.ThreadLemmas.{map-replicate}
 use Rattle.fancy_code.proofs.WholeCode.{Whole, program_gives}
 use Rattle.fancy_machine.specs.declared.attempt.Attempt.{Attempt}
 use Rattle.fancy_machine.specs.Attempt.{accepts, code_in, events_from, outcome_from, returns_from, marks_from}
-use Rattle.fancy_machine.specs.Asked.{Serves}
+use Rattle.fancy_machine.specs.Asked.{Serves, IsAsked}
 use Rattle.fancy_machine.specs.Frames.{Spot}
 use Rattle.fancy_input.specs.Places.{is_boundary}
 use Rattle.fancy_machine.specs.Layers.{spot_of}
@@ -254,15 +254,6 @@ module _ (q : Query) (a : Attempt) (some : ∥ IsCodeOf q.sought.pattern a.code.
     returns = ∥∥₁_elim some (hlevel props) (λ is. ap (returns_to (final a.options.longest (accepts a))) (begins is).1 ∙ returns_here q a is groups inside serves p may ∙ sym (ap returns_in (through_here q p may)));
     marks = ∥∥₁_elim some (hlevel props) (λ is. ap (marks_to (final a.options.longest (accepts a))) (begins is).1 ∙ marks_here q a is groups inside serves p may ∙ sym (ap marks_in (through_here q p may)));
   }
-
--- what the attempt at a position i is asked
-pub record IsAsked (q : Query) (a : Attempt) (range_end i : ℕ) : Type 0 where
-  pub serves : Serves a q
-  pub groups : q.sought.groups ≡ a.code.now.groups
-  pub coded : ∥ IsCodeOf q.sought.pattern a.code.now ∥₁
-  pub range : range_end ≡ q.request.range_end
-  pub inside : q.request.range_end ≤ length q.haystack
-  pub ends : i ≤ q.request.range_end
 
 -- what is asked stands in the arguments of a search
 module _ (q : Query) (p : Pattern) (code : Code) (options : SearchOptions) (haystack : List ℕ) (request : Request) (continues : Bool) (is : q ≡ query_of p code options haystack request continues) where

@@ -1,8 +1,10 @@
 pub mod Frames
 pub mod Log
 pub mod Layers
+pub mod Moves
 pub mod Machine
 pub mod Attempt
+pub mod Parts
 pub mod Asked
 pub mod Units
 pub mod Runs

@@ -1,11 +1,11 @@
 //! One attempt: a walk through the code from a position, which goes back to the saved branches.
 
-ghost use Rattle.std.specs.Prelude.{◌≡◌, ◌≢◌, ◌+◌, ◌-◌, ◌<◌, ◌≤◌, [], ℕ, Option, Err, IfOk, IfErr, OnOk};
+ghost use Rattle.std.specs.Prelude.{◌≡◌, ◌≢◌, ◌+◌, ◌-◌, ◌<◌, ◌≤◌, [], ℕ, Err, IfOk, OnOk};
 ghost use Rattle.fancy_tree.specs.Pattern.{Pattern};
 ghost use Rattle.fancy_input.specs.LastLines.{KnowsLastLines};
 ghost use Rattle.fancy_code.specs.Queries.{query_of};
 ghost use Rattle.fancy_code.specs.Search.{continues_from};
-ghost use Rattle.fancy_input.specs.Work.{steps_of, returns_of, units_of, stepped_within, IsWithin, IsSpent, HasWorkLeft, AddsReturns, AddsUnits};
+ghost use Rattle.fancy_input.specs.Work.{returns_of, AddsReturns};
 ghost use Rattle.fancy_code.specs.Thread.{IsKnown};
 ghost use Rattle.fancy_prices.specs.Splits.{AreSplits};
 ghost use Rattle.fancy_prices.specs.Once.{splits_once};
@@ -54,8 +54,9 @@ fn continues_from(continues: bool, overrides: bool, request: Request) -> Option<
 
 impl<'a> Attempt<'a> {
     ghost use Rattle.fancy_machine.specs.Asked.{Serves};
-    ghost use Rattle.fancy_machine.specs.Attempt.{KnowsSeen, accepts, code_in, state_if_found, IsFull, TurnsTo, Advances, TakesAtLeast, IsOverfull, PassesBack, GoesBack, BackTakes, outcome_from, returns_from, marks_from};
-    ghost use Rattle.fancy_machine.specs.Units.{CountsBack, CountsOn, CountsUnits};
+    ghost use Rattle.fancy_machine.specs.Attempt.{KnowsSeen, accepts, code_in, state_if_found, IsFull, TurnsTo, PassesBack, GoesBack, outcome_from, returns_from, marks_from};
+    ghost use Rattle.fancy_machine.specs.Parts.{IsReady, GoesOver, TakesStep, HeedsLimits, CountsGoing, WentOn, TakesBranches, KeepsCounts};
+    ghost use Rattle.fancy_machine.specs.Units.{CountsBack, CountsUnits};
     ghost use Rattle.fancy_machine.specs.Machine.{after};
 
     /// The attempts of a search, in which `\G` is on or off.
@@ -72,7 +73,8 @@ impl<'a> Attempt<'a> {
         ensures options { result.options ≡ options }
         ensures haystack { result.haystack.now ≡ haystack.now }
         ensures splits { result.splits.now ≡ splits.now }
-        ensures serves { (p : Pattern) → Serves result (query_of p code.now options haystack.now request continues) }
+        ensures serves { (p : Pattern)
+            → Serves result (query_of p code.now options haystack.now request continues) }
     {
         Attempt {
             code,
@@ -99,12 +101,8 @@ impl<'a> Attempt<'a> {
     /// Counts units that an instruction is about to go over. Where the limit of steps allows fewer, it counts those, and the attempt is
     /// refused.
     pub(crate) fn count_units(&self, units: usize, work: &mut Work) -> Result<(), SearchRefusal>
-        ensures adds { AddsUnits work.old work.new }
+        ensures units { GoesOver self.now.options.step_limit result work.old work.new }
         ensures counted { OnOk result (CountsUnits units work.old work.new) }
-        ensures within { IsWithin self.now.options.step_limit work.old
-            → IsWithin self.now.options.step_limit work.new }
-        ensures refused { IfErr result (λ why. why ≡ SearchRefusal.Steps) }
-        ensures limited { result ≡ Err SearchRefusal.Steps → IsSpent self.now.options.step_limit work.new }
     {
         if !work.count_units(units, self.options.step_limit) {
             return Err(SearchRefusal::Steps);
@@ -122,15 +120,12 @@ impl<'a> Attempt<'a> {
         work: &mut Work,
     ) -> Result<Next, SearchRefusal>
         requires { KnowsLastLines self.now.haystack.now last_lines.old }
-        ensures turned { IfOk result (λ next. TurnsTo self.now next trail.old best.old trail.new best.new) }
+        ensures turned { IfOk result
+            (λ next. TurnsTo self.now next trail.old best.old trail.new best.new) }
         ensures refused { result ≢ Err SearchRefusal.Returns }
         ensures crowded { result ≡ Err SearchRefusal.Choices → IsFull self.now trail.old }
         ensures most { trail.new.most ≡ trail.old.most }
-        ensures work { AddsUnits (stepped_within work.old) work.new }
-        ensures returns { returns_of work.new ≡ returns_of work.old }
-        ensures within { HasWorkLeft self.now.options.step_limit work.old
-            → IsWithin self.now.options.step_limit work.new }
-        ensures limited { result ≡ Err SearchRefusal.Steps → IsSpent self.now.options.step_limit work.new }
+        ensures takes { TakesStep self.now.options.step_limit result work.old work.new }
         ensures last_lines { KnowsLastLines self.now.haystack.now last_lines.new }
     {
         let next = step(self, trail, last_lines, work)?;
@@ -160,21 +155,10 @@ impl<'a> Attempt<'a> {
         seen: &mut Seen,
         work: &mut Work,
     ) -> Result<Next, SearchRefusal>
-        requires room { returns_of work.old ≤ limit }
-        requires seen { KnowsSeen self.now seen.old }
-        ensures advanced { IfOk result (λ next.
-            Advances self.now next (returns_of work.new - returns_of work.old) trail.old best.old trail.new best.new) }
-        ensures bounded { TakesAtLeast self.now (returns_of work.old) (returns_of work.new) trail.old best.old }
-        ensures refused { result ≡ Err SearchRefusal.Returns
-            → TakesAtLeast self.now (returns_of work.old) (limit + 1) trail.old best.old }
-        ensures stopped { result ≡ Err SearchRefusal.Returns → returns_of work.new ≡ limit }
-        ensures fits { returns_of work.new ≤ limit }
-        ensures crowded { result ≡ Err SearchRefusal.Choices → IsOverfull self.now trail.old best.old }
-        ensures most { trail.new.most ≡ trail.old.most }
-        ensures counts { CountsOn work.old work.new }
-        ensures within { HasWorkLeft self.now.options.step_limit work.old
-            → IsWithin self.now.options.step_limit work.new }
-        ensures limited { result ≡ Err SearchRefusal.Steps → IsSpent self.now.options.step_limit work.new }
+        requires ready { IsReady self.now limit seen.old work.old }
+        ensures went { WentOn self.now limit result
+            trail.old best.old trail.new best.new work.old work.new }
+        ensures counts { CountsGoing limit self.now.options.step_limit result work.old work.new }
         ensures seen { KnowsSeen self.now seen.new }
     {
         if let Some(split) = self.splits.at(trail.at()) {
@@ -192,17 +176,12 @@ impl<'a> Attempt<'a> {
         work: &mut Work,
     ) -> Result<(), SearchRefusal>
         requires room { returns_of work.old ≤ limit }
-        ensures passed { OnOk result (PassesBack self.now (returns_of work.new - returns_of work.old) trail.old trail.new) }
-        ensures bounded { BackTakes self.now (returns_of work.old) (returns_of work.new) trail.old }
-        ensures refused { result ≡ Err SearchRefusal.Returns → BackTakes self.now (returns_of work.old) (limit + 1) trail.old }
-        ensures stopped { result ≡ Err SearchRefusal.Returns → returns_of work.new ≡ limit }
-        ensures fits { returns_of work.new ≤ limit }
-        ensures saved { result ≢ Err SearchRefusal.Choices }
+        ensures passed { OnOk result (PassesBack self.now
+            (returns_of work.new - returns_of work.old) trail.old trail.new) }
+        ensures takes { TakesBranches self.now limit result
+            trail.old trail.new work.old work.new }
         ensures adds { AddsReturns (returns_of work.new - returns_of work.old) work.old work.new }
-        ensures most { trail.new.most ≡ trail.old.most }
-        ensures within { IsWithin self.now.options.step_limit work.old
-            → IsWithin self.now.options.step_limit work.new }
-        ensures limited { result ≡ Err SearchRefusal.Steps → IsSpent self.now.options.step_limit work.new }
+        ensures heeds { HeedsLimits limit self.now.options.step_limit result work.old work.new }
     {
         if !trail.has_run() {
             return Ok(());
@@ -215,17 +194,12 @@ impl<'a> Attempt<'a> {
     /// to those of `work`, and none is taken past the limit.
     fn back(&self, trail: &mut Trail, limit: usize, work: &mut Work) -> Result<bool, SearchRefusal>
         requires room { returns_of work.old ≤ limit }
-        ensures back { IfOk result (λ taken. GoesBack self.now taken (returns_of work.new - returns_of work.old) trail.old trail.new) }
-        ensures bounded { BackTakes self.now (returns_of work.old) (returns_of work.new) trail.old }
-        ensures refused { result ≡ Err SearchRefusal.Returns → BackTakes self.now (returns_of work.old) (limit + 1) trail.old }
-        ensures stopped { result ≡ Err SearchRefusal.Returns → returns_of work.new ≡ limit }
-        ensures fits { returns_of work.new ≤ limit }
-        ensures saved { result ≢ Err SearchRefusal.Choices }
+        ensures back { IfOk result (λ taken. GoesBack self.now taken
+            (returns_of work.new - returns_of work.old) trail.old trail.new) }
+        ensures takes { TakesBranches self.now limit result
+            trail.old trail.new work.old work.new }
         ensures counts { CountsBack work.old work.new }
-        ensures most { trail.new.most ≡ trail.old.most }
-        ensures within { IsWithin self.now.options.step_limit work.old
-            → IsWithin self.now.options.step_limit work.new }
-        ensures limited { result ≡ Err SearchRefusal.Steps → IsSpent self.now.options.step_limit work.new }
+        ensures heeds { HeedsLimits limit self.now.options.step_limit result work.old work.new }
     {
         self.pass_back(trail, limit, work)?;
         trail.back(limit, work)
@@ -247,26 +221,21 @@ impl<'a> Attempt<'a> {
         requires known { IsKnown (after (code_in self.now deep) trail.old.now) }
         requires fresh { trail.old.frames ≡ [] }
         requires most { trail.old.most ≡ self.now.options.stack_limit }
-        requires room { returns_of work.old ≤ limit }
-        requires seen { KnowsSeen self.now seen.old }
-        ensures answer { IfOk result (λ found. state_if_found found trail.new.now ≡ outcome_from self.now deep trail.old.now) }
+        requires ready { IsReady self.now limit seen.old work.old }
+        ensures answer { IfOk result (λ found. state_if_found found trail.new.now
+            ≡ outcome_from self.now deep trail.old.now) }
         ensures count { IfOk result (λ _. returns_of work.new
             ≡ returns_of work.old + returns_from self.now deep trail.old.now) }
         ensures refused { result ≡ Err SearchRefusal.Returns
             → limit < returns_of work.old + returns_from self.now deep trail.old.now }
-        ensures stopped { result ≡ Err SearchRefusal.Returns → returns_of work.new ≡ limit }
-        ensures fits { returns_of work.new ≤ limit }
-        ensures steps { steps_of work.old ≤ steps_of work.new }
-        ensures returns { returns_of work.old ≤ returns_of work.new }
-        ensures units { units_of work.old ≤ units_of work.new }
-        ensures bounded { returns_of work.new ≤ returns_of work.old + returns_from self.now deep trail.old.now }
-        ensures paired { returns_of work.old ≤ steps_of work.old → returns_of work.new ≤ steps_of work.new }
+        ensures bounded { returns_of work.new
+            ≤ returns_of work.old + returns_from self.now deep trail.old.now }
+        ensures counts { KeepsCounts work.old work.new }
+        ensures heeds { HeedsLimits limit self.now.options.step_limit result work.old work.new }
         ensures seen { KnowsSeen self.now seen.new }
-        ensures crowded { result ≡ Err SearchRefusal.Choices → trail.old.most < marks_from self.now deep trail.old.now }
+        ensures crowded { result ≡ Err SearchRefusal.Choices
+            → trail.old.most < marks_from self.now deep trail.old.now }
         ensures most { trail.new.most ≡ self.now.options.stack_limit }
-        ensures within { IsWithin self.now.options.step_limit work.old
-            → IsWithin self.now.options.step_limit work.new }
-        ensures limited { result ≡ Err SearchRefusal.Steps → IsSpent self.now.options.step_limit work.new }
     {
         best.clear();
         let step_limit = self.options.step_limit;

@@ -1,9 +1,10 @@
 //! The instructions that save a branch or open a region.
 
-ghost use Rattle.std.specs.Prelude.{◌≡◌, ◌≢◌, Err, IfOk, length};
+ghost use Rattle.std.specs.Prelude.{length};
 ghost use Rattle.fancy_machine.specs.declared.attempt.Attempt.{Attempt as AttemptIs};
-ghost use Rattle.fancy_machine.specs.Attempt.{FollowsInstr, IsFullFor};
 ghost use Rattle.fancy_machine.specs.Machine.{within_at};
+ghost use Rattle.fancy_machine.specs.Moves.{GoesOn};
+ghost use Rattle.fancy_machine.specs.Parts.{FollowsIfOk, FollowsInMemory};
 
 use crate::attempt::Attempt;
 use crate::layer::Kind;
@@ -14,11 +15,8 @@ use fancy_input::refusal::SearchRefusal;
 
 /// Saves the second of two ways, and goes on by the first.
 pub(crate) fn split(trail: &mut Trail, first: usize, second: usize) -> Result<Next, SearchRefusal>
-    ensures stepped { IfOk result (λ on. (a : AttemptIs) → FollowsInstr a (Instr.Split first second) on trail.old trail.new) }
-    ensures refused { result ≢ Err SearchRefusal.Returns }
-    ensures unlimited { result ≢ Err SearchRefusal.Steps }
-    ensures crowded { result ≡ Err SearchRefusal.Choices → (a : AttemptIs) → IsFullFor a (Instr.Split first second) trail.old }
-    ensures most { trail.new.most ≡ trail.old.most }
+    ensures { (a : AttemptIs)
+        → FollowsIfOk a (Instr.Split first second) result trail.old trail.new }
 {
     trail.save(Kind::Branch, second)?;
     trail.go(first);
@@ -31,11 +29,8 @@ pub(crate) fn begin_condition(
     body: usize,
     other: usize,
 ) -> Result<Next, SearchRefusal>
-    ensures stepped { IfOk result (λ on. (a : AttemptIs) → FollowsInstr a (Instr.Test body other) on trail.old trail.new) }
-    ensures refused { result ≢ Err SearchRefusal.Returns }
-    ensures unlimited { result ≢ Err SearchRefusal.Steps }
-    ensures crowded { result ≡ Err SearchRefusal.Choices → (a : AttemptIs) → IsFullFor a (Instr.Test body other) trail.old }
-    ensures most { trail.new.most ≡ trail.old.most }
+    ensures { (a : AttemptIs)
+        → FollowsIfOk a (Instr.Test body other) result trail.old trail.new }
 {
     trail.save(Kind::Condition, other)?;
     trail.go(body);
@@ -44,11 +39,8 @@ pub(crate) fn begin_condition(
 
 /// Begins a part of which the first way that stops is taken.
 pub(crate) fn begin_atom(trail: &mut Trail, body: usize) -> Result<Next, SearchRefusal>
-    ensures stepped { IfOk result (λ on. (a : AttemptIs) → FollowsInstr a (Instr.Enter body) on trail.old trail.new) }
-    ensures refused { result ≢ Err SearchRefusal.Returns }
-    ensures unlimited { result ≢ Err SearchRefusal.Steps }
-    ensures few { result ≢ Err SearchRefusal.Choices }
-    ensures most { trail.new.most ≡ trail.old.most }
+    ensures { (a : AttemptIs)
+        → FollowsInMemory a (Instr.Enter body) result trail.old trail.new }
 {
     trail.enter(Kind::Atom, body)?;
     trail.go(body);
@@ -57,9 +49,8 @@ pub(crate) fn begin_atom(trail: &mut Trail, body: usize) -> Result<Next, SearchR
 
 /// Goes on at the body of a look-around, which reads to the haystack's end.
 fn enter_body(attempt: &Attempt, trail: &mut Trail, body: usize)
-    ensures now { trail.new.now ≡ within_at body (length attempt.now.haystack.now) trail.old.now }
-    ensures frames { trail.new.frames ≡ trail.old.frames }
-    ensures most { trail.new.most ≡ trail.old.most }
+    ensures { GoesOn (within_at body (length attempt.now.haystack.now) trail.old.now)
+        trail.old trail.new }
 {
     trail.go_within(body, attempt.haystack.len());
 }
@@ -72,11 +63,8 @@ pub(crate) fn begin_look(
     body: usize,
     next: usize,
 ) -> Result<Next, SearchRefusal>
-    ensures stepped { IfOk result (λ on. FollowsInstr attempt.now (Instr.Look behind body next) on trail.old trail.new) }
-    ensures refused { result ≢ Err SearchRefusal.Returns }
-    ensures unlimited { result ≢ Err SearchRefusal.Steps }
-    ensures few { result ≢ Err SearchRefusal.Choices }
-    ensures most { trail.new.most ≡ trail.old.most }
+    ensures { FollowsInMemory attempt.now (Instr.Look behind body next) result
+        trail.old trail.new }
 {
     trail.enter(Kind::Look(behind), next)?;
     enter_body(attempt, trail, body);
@@ -91,11 +79,7 @@ pub(crate) fn begin_denial(
     body: usize,
     next: usize,
 ) -> Result<Next, SearchRefusal>
-    ensures stepped { IfOk result (λ on. FollowsInstr attempt.now (Instr.Deny behind body next) on trail.old trail.new) }
-    ensures refused { result ≢ Err SearchRefusal.Returns }
-    ensures unlimited { result ≢ Err SearchRefusal.Steps }
-    ensures crowded { result ≡ Err SearchRefusal.Choices → IsFullFor attempt.now (Instr.Deny behind body next) trail.old }
-    ensures most { trail.new.most ≡ trail.old.most }
+    ensures { FollowsIfOk attempt.now (Instr.Deny behind body next) result trail.old trail.new }
 {
     trail.save(Kind::Denial(behind), next)?;
     enter_body(attempt, trail, body);

@@ -3,8 +3,10 @@
 ghost use Rattle.std.specs.Prelude.{◌≡◌};
 ghost use Rattle.fancy_input.specs.LastLines.{KnowsLastLines};
 ghost use Rattle.fancy_code.specs.Context.{continues};
-ghost use Rattle.fancy_machine.specs.Attempt.{attempt_context, FollowsInstr};
+ghost use Rattle.fancy_machine.specs.Attempt.{attempt_context};
 ghost use Rattle.fancy_machine.specs.Machine.{WentIf};
+ghost use Rattle.fancy_machine.specs.Moves.{ChangesWay};
+ghost use Rattle.fancy_machine.specs.Parts.{Follows};
 
 use crate::attempt::Attempt;
 use crate::trail::Trail;
@@ -16,9 +18,7 @@ use fancy_tree::tree::Assertion;
 
 /// Goes on at another instruction, if a test holds.
 fn go_if(trail: &mut Trail, holds: bool, next: usize) -> Next
-    ensures went { WentIf result holds next trail.old.now trail.new.now }
-    ensures frames { trail.new.frames ≡ trail.old.frames }
-    ensures most { trail.new.most ≡ trail.old.most }
+    ensures { ChangesWay (WentIf result holds next) trail.old trail.new }
 {
     if holds {
         trail.go(next);
@@ -36,8 +36,8 @@ pub(crate) fn assert_at(
     next: usize,
 ) -> Next
     requires { KnowsLastLines attempt.now.haystack.now last_lines.old }
-    ensures stepped { FollowsInstr attempt.now (Instr.Assert assertion next) result trail.old trail.new }
-    ensures most { trail.new.most ≡ trail.old.most }
+    ensures followed { Follows attempt.now (Instr.Assert assertion next) result
+        trail.old trail.new }
     ensures last_lines { KnowsLastLines attempt.now.haystack.now last_lines.new }
 {
     let holds = holds_at(
@@ -64,8 +64,7 @@ fn is_continued(attempt: &Attempt, place: usize) -> bool
 
 /// Tests `\G`.
 pub(crate) fn test_continued(attempt: &Attempt, trail: &mut Trail, next: usize) -> Next
-    ensures stepped { FollowsInstr attempt.now (Instr.Continue next) result trail.old trail.new }
-    ensures most { trail.new.most ≡ trail.old.most }
+    ensures { Follows attempt.now (Instr.Continue next) result trail.old trail.new }
 {
     let holds = is_continued(attempt, trail.place());
     go_if(trail, holds, next)
@@ -73,8 +72,7 @@ pub(crate) fn test_continued(attempt: &Attempt, trail: &mut Trail, next: usize) 
 
 /// Tests whether a group has taken part.
 pub(crate) fn test_taken(attempt: &Attempt, trail: &mut Trail, group: usize, next: usize) -> Next
-    ensures stepped { FollowsInstr attempt.now (Instr.Taken group next) result trail.old trail.new }
-    ensures most { trail.new.most ≡ trail.old.most }
+    ensures { Follows attempt.now (Instr.Taken group next) result trail.old trail.new }
 {
     let holds = trail.is_taken(group);
     go_if(trail, holds, next)

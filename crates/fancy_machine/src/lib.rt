@@ -1,6 +1,7 @@
 //! The backtracking machine, for patterns that no runner can follow.
 #![tactic(auto)]
 
+pub mod asked;
 mod attempt;
 mod best;
 mod choice;

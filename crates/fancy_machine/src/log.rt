@@ -69,7 +69,8 @@ pub(crate) fn begin_cells(cells: &mut Vec<Cell>, count: usize) -> Result<(), All
 /// Says that so many branches were saved when a write to a group was logged last.
 fn set_level(cells: &mut Vec<Cell>, group: usize, level: usize)
     ensures slots { map cell_slot cells.new.items ≡ map cell_slot cells.old.items }
-    ensures levels { map cell_level cells.new.items ≡ slice_set (map cell_level cells.old.items) group level }
+    ensures levels { map cell_level cells.new.items
+        ≡ slice_set (map cell_level cells.old.items) group level }
     ensures len { vec_len cells.new ≡ vec_len cells.old }
 {
     if group < cells.len() {

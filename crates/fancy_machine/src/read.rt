@@ -1,11 +1,12 @@
 //! The instructions that move to another place: an item, the text of a group once more, or so many units back.
 
-ghost use Rattle.std.specs.Prelude.{◌≡◌, ◌-◌, ◌<◌, Option};
 ghost use Rattle.fancy_tree.specs.Sets.{has};
 ghost use Rattle.fancy_code.specs.Instructions.{edges_in};
 ghost use Rattle.fancy_code.specs.Context.{past_item};
-ghost use Rattle.fancy_machine.specs.Attempt.{attempt_context, FollowsInstr};
+ghost use Rattle.fancy_machine.specs.Attempt.{attempt_context};
 ghost use Rattle.fancy_machine.specs.Machine.{MovedTo, RecalledTo};
+ghost use Rattle.fancy_machine.specs.Moves.{ChangesWay};
+ghost use Rattle.fancy_machine.specs.Parts.{Follows};
 
 use crate::attempt::Attempt;
 use crate::texts::past_span;
@@ -17,9 +18,7 @@ use fancy_tree::char_set::CharSet;
 
 /// Goes on at a place, if there is one by the limit.
 fn advance(trail: &mut Trail, next: usize, place: Option<usize>) -> Next
-    ensures moved { MovedTo result next place trail.old.now trail.new.now }
-    ensures frames { trail.new.frames ≡ trail.old.frames }
-    ensures most { trail.new.most ≡ trail.old.most }
+    ensures { ChangesWay (MovedTo result next place) trail.old trail.new }
 {
     match place {
         Some(place) if place <= trail.limit() => {
@@ -32,9 +31,7 @@ fn advance(trail: &mut Trail, next: usize, place: Option<usize>) -> Next
 
 /// Goes on after a text, if it ends by the limit: at `still` where it is empty.
 fn advance_after(trail: &mut Trail, moved: usize, still: usize, place: Option<usize>) -> Next
-    ensures recalled { RecalledTo result moved still place trail.old.now trail.new.now }
-    ensures frames { trail.new.frames ≡ trail.old.frames }
-    ensures most { trail.new.most ≡ trail.old.most }
+    ensures { ChangesWay (RecalledTo result moved still place) trail.old trail.new }
 {
     match place {
         Some(place) if place <= trail.limit() => {
@@ -53,8 +50,7 @@ pub(crate) fn read_character(
     character: char,
     next: usize,
 ) -> Next
-    ensures stepped { FollowsInstr attempt.now (Instr.Character character next) result trail.old trail.new }
-    ensures most { trail.new.most ≡ trail.old.most }
+    ensures { Follows attempt.now (Instr.Character character next) result trail.old trail.new }
 {
     let meaning = attempt.code.meaning;
     let past = past_character(attempt.haystack, meaning, character, trail.place());
@@ -63,10 +59,9 @@ pub(crate) fn read_character(
 
 /// Reads an item of this set.
 pub(crate) fn read_member(attempt: &Attempt, trail: &mut Trail, set: &CharSet, next: usize) -> Next
-    ensures moved { let past = past_item (attempt_context attempt.now) (has (edges_in set.now)) trail.old.now.state.place in
-        MovedTo result next past trail.old.now trail.new.now }
-    ensures frames { trail.new.frames ≡ trail.old.frames }
-    ensures most { trail.new.most ≡ trail.old.most }
+    ensures { let past = past_item (attempt_context attempt.now) (has (edges_in set.now))
+        trail.old.now.state.place in
+        ChangesWay (MovedTo result next past) trail.old trail.new }
 {
     let meaning = attempt.code.meaning;
     let past = past_member(attempt.haystack, meaning, set, trail.place());
@@ -75,8 +70,7 @@ pub(crate) fn read_member(attempt: &Attempt, trail: &mut Trail, set: &CharSet, n
 
 /// Reads this byte.
 pub(crate) fn read_raw_byte(attempt: &Attempt, trail: &mut Trail, byte: u8, next: usize) -> Next
-    ensures stepped { FollowsInstr attempt.now (Instr.RawByte byte next) result trail.old trail.new }
-    ensures most { trail.new.most ≡ trail.old.most }
+    ensures { Follows attempt.now (Instr.RawByte byte next) result trail.old trail.new }
 {
     let past = past_raw_byte(attempt.haystack, byte, trail.place());
     advance(trail, next, past)
@@ -91,8 +85,8 @@ pub(crate) fn recall(
     moved: usize,
     still: usize,
 ) -> Next
-    ensures stepped { FollowsInstr attempt.now (Instr.Recall folded group moved still) result trail.old trail.new }
-    ensures most { trail.new.most ≡ trail.old.most }
+    ensures { Follows attempt.now (Instr.Recall folded group moved still) result
+        trail.old trail.new }
 {
     let meaning = attempt.code.meaning;
     let past = past_span(
@@ -107,8 +101,7 @@ pub(crate) fn recall(
 
 /// Goes so many units back.
 pub(crate) fn go_back(attempt: &Attempt, trail: &mut Trail, units: usize, next: usize) -> Next
-    ensures stepped { FollowsInstr attempt.now (Instr.Back units next) result trail.old trail.new }
-    ensures most { trail.new.most ≡ trail.old.most }
+    ensures { Follows attempt.now (Instr.Back units next) result trail.old trail.new }
 {
     match units_back(attempt.haystack, attempt.code.meaning, units, trail.place()) {
         Some(place) => {

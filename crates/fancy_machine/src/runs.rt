@@ -1,16 +1,17 @@
 //! Choices of which bytes tell that a way dies at once: it is passed over, and counted. Where such a choice is a loop of one item, all
 //! items that stand are read in one step. Where what follows the loop closes a region, as in a possessive repeat, no branch is saved.
 
-ghost use Rattle.std.specs.Prelude.{◌≡◌, ◌+◌, ◌-◌, ◌^◌, ◌<◌, ◌≤◌, ◌⊎◌, ℕ, List, if◌then◌else◌, true, false, length, Err, IfErr, IfOk, IfSome, Option};
+ghost use Rattle.std.specs.Prelude.{◌≡◌, ◌+◌, ◌-◌, ◌^◌, ◌<◌, ◌≤◌, ◌⊎◌, ℕ, List, if◌then◌else◌, true, false, length, IfOk, IfSome, Option};
 ghost use Rattle.fancy_code.specs.Context.{State};
-ghost use Rattle.fancy_input.specs.Work.{returns_of, AddsUnits, IsWithin, IsSpent, HasWorkLeft};
+ghost use Rattle.fancy_input.specs.Work.{returns_of};
 ghost use Rattle.fancy_prices.specs.declared.splits.ToldSplit.{ToldSplit};
 ghost use Rattle.fancy_prices.specs.declared.splits.Splits.{Splits};
 ghost use Rattle.fancy_prices.specs.Splits.{AreApart, IsNoted};
-ghost use Rattle.fancy_machine.specs.Attempt.{Advances, DiesAt, IsOverfull, TakesAtLeast};
+ghost use Rattle.fancy_machine.specs.Attempt.{DiesAt};
 ghost use Rattle.fancy_machine.specs.Layers.{earlier};
 ghost use Rattle.fancy_machine.specs.Runs.{HasItems, IsStuck, Lacks, DieFrom, KnowsRun, IsPartOf, IsRun};
-ghost use Rattle.fancy_machine.specs.Units.{CountsOn, CountsUnits};
+ghost use Rattle.fancy_machine.specs.Parts.{StandsAt, GoesOver, CountsGoing, WentOn};
+ghost use Rattle.fancy_machine.specs.Units.{CountsUnits};
 
 use crate::attempt::Attempt;
 use crate::layer::{Kind, Layer, earlier};
@@ -132,7 +133,8 @@ impl LastRun {
     fn items_from(self, at: usize, place: usize, end: usize) -> Option<usize>
         ensures within { IfSome result (λ n. n ≤ end - place) }
         ensures part { IfSome result (λ n. IsPartOf self at place n) }
-        ensures items { (splits : Splits) (haystack : List ℕ) (l : ToldSplit) → KnowsRun splits haystack self → IsNoted splits at l
+        ensures items { (splits : Splits) (haystack : List ℕ) (l : ToldSplit)
+            → KnowsRun splits haystack self → IsNoted splits at l
             → IfSome result (λ n. HasItems l haystack place n) }
     {
         if self.at == at && self.from <= place && place <= self.past && self.past <= end {
@@ -165,19 +167,16 @@ fn read_run(
     last_run: &mut LastRun,
     work: &mut Work,
 ) -> Result<usize, SearchRefusal>
-    requires noted { IsNoted attempt.now.splits.now trail.now.now.at split.now }
-    requires known { KnowsRun attempt.now.splits.now attempt.now.haystack.now last_run.old }
-    ensures items { IfOk result (λ n. HasItems split.now attempt.now.haystack.now trail.now.now.state.place n) }
+    requires { StandsAt attempt.now split.now trail.now last_run.old }
+    ensures items { IfOk result
+        (λ n. HasItems split.now attempt.now.haystack.now trail.now.now.state.place n) }
     ensures inside { IfOk result (λ n. n ≤ trail.now.now.limit - trail.now.now.state.place) }
     ensures fits { IfOk result (λ n. trail.now.now.state.place + n < 2 ^ 64) }
     ensures short { IfOk result (λ n. n + 2 < 2 ^ 64) }
     ensures known { KnowsRun attempt.now.splits.now attempt.now.haystack.now last_run.new }
-    ensures adds { AddsUnits work.old work.new }
-    ensures within { IsWithin attempt.now.options.step_limit work.old
-        → IsWithin attempt.now.options.step_limit work.new }
-    ensures refused { IfErr result (λ why. why ≡ SearchRefusal.Steps) }
-    ensures limited { result ≡ Err SearchRefusal.Steps → IsSpent attempt.now.options.step_limit work.new }
-    ensures counted { IfOk result (λ n. IsPartOf last_run.old trail.now.now.at trail.now.now.state.place n
+    ensures units { GoesOver attempt.now.options.step_limit result work.old work.new }
+    ensures counted { IfOk result (λ n.
+        IsPartOf last_run.old trail.now.now.at trail.now.now.state.place n
         ⊎ CountsUnits n work.old work.new) }
 {
     let from = trail.place();
@@ -207,15 +206,10 @@ fn read_ahead(
     last_run: &mut LastRun,
     work: &mut Work,
 ) -> Result<Run, SearchRefusal>
-    requires noted { IsNoted attempt.now.splits.now trail.now.now.at split.now }
-    requires known { KnowsRun attempt.now.splits.now attempt.now.haystack.now last_run.old }
+    requires { StandsAt attempt.now split.now trail.now last_run.old }
     ensures run { IfOk result (λ run. IsRun split.now attempt.now.haystack.now trail.now run) }
     ensures known { KnowsRun attempt.now.splits.now attempt.now.haystack.now last_run.new }
-    ensures adds { AddsUnits work.old work.new }
-    ensures within { IsWithin attempt.now.options.step_limit work.old
-        → IsWithin attempt.now.options.step_limit work.new }
-    ensures refused { IfErr result (λ why. why ≡ SearchRefusal.Steps) }
-    ensures limited { result ≡ Err SearchRefusal.Steps → IsSpent attempt.now.options.step_limit work.new }
+    ensures units { GoesOver attempt.now.options.step_limit result work.old work.new }
 {
     let from = trail.place();
     let closes = split.stop.is_some() && trail.closes_at_any_stop();
@@ -247,21 +241,9 @@ fn choose(
 ) -> Result<Next, SearchRefusal>
     requires noted { IsNoted attempt.now.splits.now trail.old.now.at split.now }
     requires room { returns_of work.old ≤ limit }
-    ensures advanced { IfOk result (λ next. (best : Option State)
-        → Advances attempt.now next (returns_of work.new - returns_of work.old) trail.old best trail.new best) }
-    ensures bounded { (best : Option State)
-        → TakesAtLeast attempt.now (returns_of work.old) (returns_of work.new) trail.old best }
-    ensures refused { result ≡ Err SearchRefusal.Returns → (best : Option State)
-        → TakesAtLeast attempt.now (returns_of work.old) (limit + 1) trail.old best }
-    ensures stopped { result ≡ Err SearchRefusal.Returns → returns_of work.new ≡ limit }
-    ensures fits { returns_of work.new ≤ limit }
-    ensures crowded { result ≡ Err SearchRefusal.Choices → (best : Option State)
-        → IsOverfull attempt.now trail.old best }
-    ensures most { trail.new.most ≡ trail.old.most }
-    ensures counts { CountsOn work.old work.new }
-    ensures within { HasWorkLeft attempt.now.options.step_limit work.old
-        → IsWithin attempt.now.options.step_limit work.new }
-    ensures limited { result ≡ Err SearchRefusal.Steps → IsSpent attempt.now.options.step_limit work.new }
+    ensures went { (best : Option State) → WentOn attempt.now limit result
+        trail.old best trail.new best work.old work.new }
+    ensures counts { CountsGoing limit attempt.now.options.step_limit result work.old work.new }
 {
     work.count_step_within();
     let place = trail.place();
@@ -295,21 +277,9 @@ pub(crate) fn pass(
     requires noted { IsNoted attempt.now.splits.now trail.old.now.at split.now }
     requires known { KnowsRun attempt.now.splits.now attempt.now.haystack.now last_run.old }
     requires room { returns_of work.old ≤ limit }
-    ensures advanced { IfOk result (λ next. (best : Option State)
-        → Advances attempt.now next (returns_of work.new - returns_of work.old) trail.old best trail.new best) }
-    ensures bounded { (best : Option State)
-        → TakesAtLeast attempt.now (returns_of work.old) (returns_of work.new) trail.old best }
-    ensures refused { result ≡ Err SearchRefusal.Returns → (best : Option State)
-        → TakesAtLeast attempt.now (returns_of work.old) (limit + 1) trail.old best }
-    ensures stopped { result ≡ Err SearchRefusal.Returns → returns_of work.new ≡ limit }
-    ensures fits { returns_of work.new ≤ limit }
-    ensures crowded { result ≡ Err SearchRefusal.Choices → (best : Option State)
-        → IsOverfull attempt.now trail.old best }
-    ensures most { trail.new.most ≡ trail.old.most }
-    ensures counts { CountsOn work.old work.new }
-    ensures within { HasWorkLeft attempt.now.options.step_limit work.old
-        → IsWithin attempt.now.options.step_limit work.new }
-    ensures limited { result ≡ Err SearchRefusal.Steps → IsSpent attempt.now.options.step_limit work.new }
+    ensures went { (best : Option State) → WentOn attempt.now limit result
+        trail.old best trail.new best work.old work.new }
+    ensures counts { CountsGoing limit attempt.now.options.step_limit result work.old work.new }
     ensures known { KnowsRun attempt.now.splits.now attempt.now.haystack.now last_run.new }
 {
     if !split.is_loop {

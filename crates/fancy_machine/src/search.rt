@@ -1,22 +1,22 @@
 //! Searches by the machine.
 
-ghost use Rattle.std.specs.Prelude.{◌≡◌, ◌≢◌, ℕ, ◌+◌, ◌-◌, ◌<◌, ◌≤◌, true, false, [], Option, Some, None, Err, IfOk, IfSome, length, slice_index, slice_index_or};
+ghost use Rattle.std.specs.Prelude.{◌≡◌, ◌≢◌, ℕ, ◌+◌, ◌-◌, ◌<◌, ◌≤◌, true, false, [], None, Err, IfOk, IfSome, length, slice_index, slice_index_or};
 ghost use Rattle.fancy_code.specs.Compile.{IsCodeOf};
 ghost use Rattle.fancy_input.specs.LastLines.{KnowsLastLines};
 ghost use Rattle.fancy_input.specs.Requests.{effective_start};
 ghost use Rattle.fancy_code.specs.Search.{Query, search, attempt, returns, choices, returns_at, choices_at};
 ghost use Rattle.fancy_prefilter.specs.Seen.{IsNextCandidate};
 ghost use Rattle.fancy_code.specs.Tried.{tried, NoneTried};
-ghost use Rattle.fancy_input.specs.Work.{steps_of, returns_of, units_of, HasRoom, IsWithin, IsSpent};
-ghost use Rattle.fancy_code.specs.Queries.{query_of, answer_with};
+ghost use Rattle.fancy_input.specs.Work.{steps_of, returns_of, HasRoom};
 ghost use Rattle.fancy_prices.specs.Entries.{AreEntries, IsNextEntry, is_entry};
 ghost use Rattle.fancy_prices.specs.Front.{IsFront};
-ghost use Rattle.fancy_prices.specs.Told.{ArePrices};
-ghost use Rattle.fancy_machine.specs.Asked.{Serves, HeedsLimit, branches_allowed, groups_held, lines_held, seen_held};
+ghost use Rattle.fancy_machine.specs.Asked.{Serves, Asks, IsAsked, Answers, branches_allowed, groups_held, lines_held, seen_held};
 ghost use Rattle.fancy_machine.specs.Attempt.{KnowsSeen};
 ghost use Rattle.fancy_machine.specs.Front.{GoesPast, returns_ahead};
 ghost use Rattle.fancy_machine.specs.Log.{writes_allowed};
+ghost use Rattle.fancy_machine.specs.Parts.{IsReady, HeedsLimits, KeepsCounts};
 
+pub use crate::asked::Asked;
 use crate::attempt::Attempt;
 use crate::best::Best;
 use crate::front::{positions_to_pass, returns_over};
@@ -25,9 +25,8 @@ use crate::seen::Seen;
 use crate::trail::Trail;
 use fancy_code::code::Code;
 use fancy_code::found::Found;
-use fancy_code::options::{SearchOptions, is_match_boundary};
+use fancy_code::options::is_match_boundary;
 use fancy_code::reading::ready_last_lines;
-use fancy_input::input::Request;
 use fancy_input::last_lines::LastLines;
 use fancy_input::refusal::SearchRefusal;
 use fancy_input::span::Span;
@@ -35,7 +34,6 @@ use fancy_input::work::Work;
 use fancy_prefilter::candidates::next_candidate;
 use fancy_prices::entries::Entries;
 use fancy_prices::front::Front;
-use fancy_prices::prices::Prices;
 use std::alloc::Global;
 
 /// What searches work in, reused from one to the next, with the groups of the last match.
@@ -75,13 +73,14 @@ impl Cache {
     /// How many writes to groups it keeps, to go back to what stood there before: at most one for each group and each branch that
     /// the searches so far were allowed to save at one time.
     pub fn writes(&self) -> usize
-        ensures { result ≤ writes_allowed (branches_allowed self.now) (length (groups_held self.now)) }
+        ensures { result
+            ≤ writes_allowed (branches_allowed self.now) (length (groups_held self.now)) }
     {
         self.trail.writes()
     }
 }
 
-/// Searches a haystack for the pattern of the code, with `\G` on or off. Found is the outcome that is taken at the
+/// Searches a haystack for the pattern of the code. Found is the outcome that is taken at the
 /// least position, from the effective start on, which has an accepted one; its groups then stand in `cache`. Where the
 /// longest match is asked for, all returns of that attempt count.
 ///
@@ -102,54 +101,42 @@ impl Cache {
 /// counts of `work` would pass the limit of steps that they set: its steps, the units that look-behinds go back, the bytes that
 /// backreferences compare, and the items that loops read.
 pub fn search(
-    code: &Code,
-    prices: &Prices,
+    asked: &Asked<'_>,
     haystack: &[u8],
-    request: Request,
-    options: SearchOptions,
-    continues: bool,
     is_kept: bool,
     cache: &mut Cache,
     work: &mut Work,
 ) -> Result<Option<Found>, SearchRefusal>
     ghost q: { Query }
-    requires query { q ≡ query_of q.sought.pattern code.now options haystack.now request continues }
-    requires code { ∥ IsCodeOf q.sought.pattern code.now ∥₁ }
-    requires inside { request.range_end ≤ length haystack.now }
-    requires room { HasRoom (returns_of work.old) options.backtrack_limit }
+    requires asks { Asks q asked.now haystack.now }
+    requires room { HasRoom (returns_of work.old) asked.now.options.backtrack_limit }
     requires kept { is_kept ≡ true → KnowsLastLines haystack.now (lines_held cache.old) }
-    requires prices { ArePrices prices.now code.now }
-    ensures answer { IfOk result (λ found. answer_with (groups_held cache.new) found ≡ search q) }
-    ensures kept { IfOk result (λ found. IfSome found (λ _. KnowsLastLines haystack.now (lines_held cache.new))) }
-    ensures count { IfOk result (λ _. returns_of work.new ≡ returns_of work.old + returns q (tried options.seek q)) }
-    ensures refused { result ≡ Err SearchRefusal.Returns → options.backtrack_limit < returns q (tried options.seek q) }
-    ensures stopped { result ≡ Err SearchRefusal.Returns
-        → returns_of work.new ≡ returns_of work.old + options.backtrack_limit }
-    ensures fits { returns_of work.new ≤ returns_of work.old + options.backtrack_limit }
-    ensures steps { steps_of work.old ≤ steps_of work.new }
-    ensures idle { NoneTried options.seek q → steps_of work.new ≡ steps_of work.old }
-    ensures returns { returns_of work.old ≤ returns_of work.new }
-    ensures bounded { returns_of work.new ≤ returns_of work.old + returns q (tried options.seek q) }
-    ensures paired { returns_of work.old ≤ steps_of work.old → returns_of work.new ≤ steps_of work.new }
-    ensures crowded { result ≡ Err SearchRefusal.Choices → options.stack_limit < choices q (tried options.seek q) }
-    ensures heeds { HeedsLimit options.stack_limit cache.old cache.new }
-    ensures within { IsWithin options.step_limit work.old → IsWithin options.step_limit work.new }
-    ensures limited { result ≡ Err SearchRefusal.Steps → IsSpent options.step_limit work.new }
+    ensures answers { Answers asked.now.options
+        (returns_of work.old + asked.now.options.backtrack_limit) (search q)
+        (returns q (tried asked.now.options.seek q)) (choices q (tried asked.now.options.seek q))
+        result cache.old cache.new work.old work.new }
+    ensures kept { IfOk result (λ found. IfSome found
+        (λ _. KnowsLastLines haystack.now (lines_held cache.new))) }
+    ensures idle { NoneTried asked.now.options.seek q → steps_of work.new ≡ steps_of work.old }
 {
+    let code = asked.code;
+    let prices = asked.prices;
+    let request = asked.request;
+    let options = asked.options;
     let first = request.effective_start();
     if first > request.range_end {
         return Ok(None);
     }
-    let attempt = Attempt::new(code, &prices.splits, haystack, request, options, continues);
+    let splits = &prices.splits;
+    let attempt = Attempt::new(code, splits, haystack, request, options, asked.continues);
     let limit = work.returns() + options.backtrack_limit;
-    let range_end = request.range_end;
     let last = request.last_position();
     let positions = Positions {
         code,
         entries: &prices.entries,
         front: &prices.front,
         haystack,
-        range_end,
+        range_end: request.range_end,
         seek: options.seek,
         last,
     };
@@ -192,9 +179,11 @@ impl Positions<'_> {
         requires inside { self.now.range_end ≤ length self.now.haystack.now }
         ensures passed { from ≤ result }
         ensures sought { self.now.seek ≡ true
-            → IsNextCandidate self.now.code.now.prefilter.starts self.now.haystack.now self.now.range_end from self.now.last result }
+            → IsNextCandidate self.now.code.now.prefilter.starts
+            self.now.haystack.now self.now.range_end from self.now.last result }
         ensures each { self.now.seek ≡ false
-            → IsNextEntry (is_entry self.now.entries.now) self.now.haystack.now self.now.range_end from self.now.last result }
+            → IsNextEntry (is_entry self.now.entries.now)
+            self.now.haystack.now self.now.range_end from self.now.last result }
     {
         if self.seek {
             return next_candidate(
@@ -226,26 +215,18 @@ fn pass_run(
     requires last { positions.now.last ≤ q.request.range_end }
     requires inside { q.request.range_end ≤ length q.haystack }
     requires ordered { from ≤ positions.now.last + 1 }
-    requires room { returns_of work.old ≤ limit }
-    requires seen { KnowsSeen attempts.now seen.now }
+    requires ready { IsReady attempts.now limit seen.now work.old }
     requires front { IfSome positions.now.front.now
         (IsFront attempts.now.splits.now attempts.now.code.now attempts.now.code.now.start) }
     ensures passed { IfOk result (λ on. GoesPast q positions.now.seek positions.now.last from on
         (returns_of work.new - returns_of work.old)) }
-    ensures refused { result ≡ Err SearchRefusal.Returns
-        → limit < returns_of work.old + returns_ahead q positions.now.seek positions.now.last from }
-    ensures stopped { result ≡ Err SearchRefusal.Returns → returns_of work.new ≡ limit }
-    ensures saved { result ≢ Err SearchRefusal.Choices }
-    ensures fits { returns_of work.new ≤ limit }
-    ensures steps { steps_of work.old ≤ steps_of work.new }
-    ensures returns { returns_of work.old ≤ returns_of work.new }
+    ensures refused { result ≡ Err SearchRefusal.Returns → limit
+        < returns_of work.old + returns_ahead q positions.now.seek positions.now.last from }
     ensures bounded { returns_of work.new
         ≤ returns_of work.old + returns_ahead q positions.now.seek positions.now.last from }
-    ensures paired { returns_of work.old ≤ steps_of work.old → returns_of work.new ≤ steps_of work.new }
-    ensures within { IsWithin attempts.now.options.step_limit work.old
-        → IsWithin attempts.now.options.step_limit work.new }
-    ensures limited { result ≡ Err SearchRefusal.Steps
-        → IsSpent attempts.now.options.step_limit work.new }
+    ensures saved { result ≢ Err SearchRefusal.Choices }
+    ensures counts { KeepsCounts work.old work.new }
+    ensures heeds { HeedsLimits limit attempts.now.options.step_limit result work.old work.new }
 {
     let Some(front) = positions.front else {
         return Ok(from);
@@ -274,32 +255,14 @@ fn pass_or_try(
     work: &mut Work,
 ) -> Result<Option<Found>, SearchRefusal>
     ghost q: { Query }
-    requires serves { Serves attempts.now q }
-    requires groups { q.sought.groups ≡ attempts.now.code.now.groups }
-    requires code { ∥ IsCodeOf q.sought.pattern attempts.now.code.now ∥₁ }
-    requires range { positions.now.range_end ≡ q.request.range_end }
-    requires inside { q.request.range_end ≤ length q.haystack }
-    requires ends { position ≤ q.request.range_end }
-    requires room { returns_of work.old ≤ limit }
-    requires seen { KnowsSeen attempts.now (seen_held cache.old) }
+    requires asked { IsAsked q attempts.now positions.now.range_end position }
+    requires ready { IsReady attempts.now limit (seen_held cache.old) work.old }
     requires entries { AreEntries (is_entry positions.now.entries.now) attempts.now.code.now }
     requires bytes { (k : ℕ) → slice_index attempts.now.haystack.now k < 256 }
-    ensures answer { IfOk result (λ found. answer_with (groups_held cache.new) found ≡ attempt q position) }
-    ensures count { IfOk result (λ _. returns_of work.new ≡ returns_of work.old + returns_at q position) }
-    ensures refused { result ≡ Err SearchRefusal.Returns → limit < returns_of work.old + returns_at q position }
-    ensures stopped { result ≡ Err SearchRefusal.Returns → returns_of work.new ≡ limit }
-    ensures fits { returns_of work.new ≤ limit }
-    ensures steps { steps_of work.old ≤ steps_of work.new }
-    ensures returns { returns_of work.old ≤ returns_of work.new }
-    ensures bounded { returns_of work.new ≤ returns_of work.old + returns_at q position }
-    ensures paired { returns_of work.old ≤ steps_of work.old → returns_of work.new ≤ steps_of work.new }
+    ensures answers { Answers attempts.now.options limit
+        (attempt q position) (returns_at q position) (choices_at q position)
+        result cache.old cache.new work.old work.new }
     ensures seen { KnowsSeen attempts.now (seen_held cache.new) }
-    ensures crowded { result ≡ Err SearchRefusal.Choices → attempts.now.options.stack_limit < choices_at q position }
-    ensures heeds { HeedsLimit attempts.now.options.stack_limit cache.old cache.new }
-    ensures within { IsWithin attempts.now.options.step_limit work.old
-        → IsWithin attempts.now.options.step_limit work.new }
-    ensures limited { result ≡ Err SearchRefusal.Steps
-        → IsSpent attempts.now.options.step_limit work.new }
 {
     let range_end = positions.range_end;
     if let Some(price) = positions
@@ -324,41 +287,26 @@ fn pass_or_try(
 ///
 /// As those of [`search`], of this attempt alone.
 pub fn attempt_at(
-    code: &Code,
-    prices: &Prices,
+    asked: &Asked<'_>,
     haystack: &[u8],
-    request: Request,
-    options: SearchOptions,
-    continues: bool,
     position: usize,
     cache: &mut Cache,
     work: &mut Work,
 ) -> Result<Option<Found>, SearchRefusal>
     ghost q: { Query }
-    requires query { q ≡ query_of q.sought.pattern code.now options haystack.now request continues }
-    requires code { ∥ IsCodeOf q.sought.pattern code.now ∥₁ }
-    requires inside { request.range_end ≤ length haystack.now }
-    requires starts { effective_start request ≤ position }
-    requires ends { position ≤ request.range_end }
-    requires prices { ArePrices prices.now code.now }
-    requires room { HasRoom (returns_of work.old) options.backtrack_limit }
-    ensures answer { IfOk result (λ found. answer_with (groups_held cache.new) found ≡ attempt q position) }
-    ensures count { IfOk result (λ _. returns_of work.new ≡ returns_of work.old + returns_at q position) }
-    ensures refused { result ≡ Err SearchRefusal.Returns → options.backtrack_limit < returns_at q position }
-    ensures stopped { result ≡ Err SearchRefusal.Returns
-        → returns_of work.new ≡ returns_of work.old + options.backtrack_limit }
-    ensures fits { returns_of work.new ≤ returns_of work.old + options.backtrack_limit }
-    ensures steps { steps_of work.old ≤ steps_of work.new }
-    ensures returns { returns_of work.old ≤ returns_of work.new }
-    ensures units { units_of work.old ≤ units_of work.new }
-    ensures bounded { returns_of work.new ≤ returns_of work.old + returns_at q position }
-    ensures paired { returns_of work.old ≤ steps_of work.old → returns_of work.new ≤ steps_of work.new }
-    ensures crowded { result ≡ Err SearchRefusal.Choices → options.stack_limit < choices_at q position }
-    ensures heeds { HeedsLimit options.stack_limit cache.old cache.new }
-    ensures within { IsWithin options.step_limit work.old → IsWithin options.step_limit work.new }
-    ensures limited { result ≡ Err SearchRefusal.Steps → IsSpent options.step_limit work.new }
+    requires asks { Asks q asked.now haystack.now }
+    requires starts { effective_start asked.now.request ≤ position }
+    requires ends { position ≤ asked.now.request.range_end }
+    requires room { HasRoom (returns_of work.old) asked.now.options.backtrack_limit }
+    ensures { Answers asked.now.options (returns_of work.old + asked.now.options.backtrack_limit)
+        (attempt q position) (returns_at q position) (choices_at q position)
+        result cache.old cache.new work.old work.new }
 {
-    let attempt = Attempt::new(code, &prices.splits, haystack, request, options, continues);
+    let code = asked.code;
+    let splits = &asked.prices.splits;
+    let request = asked.request;
+    let options = asked.options;
+    let attempt = Attempt::new(code, splits, haystack, request, options, asked.continues);
     let limit = work.returns() + options.backtrack_limit;
     cache.seen.last_run = LastRun::none();
     ready_last_lines(&mut cache.seen.last_lines, attempt.haystack, false);
@@ -377,31 +325,12 @@ fn try_position(
     work: &mut Work,
 ) -> Result<Option<Found>, SearchRefusal>
     ghost q: { Query }
-    requires serves { Serves attempts.now q }
-    requires groups { q.sought.groups ≡ attempts.now.code.now.groups }
-    requires code { ∥ IsCodeOf q.sought.pattern attempts.now.code.now ∥₁ }
-    requires range { range_end ≡ q.request.range_end }
-    requires inside { q.request.range_end ≤ length q.haystack }
-    requires ends { position ≤ q.request.range_end }
-    requires room { returns_of work.old ≤ limit }
-    requires seen { KnowsSeen attempts.now (seen_held cache.old) }
-    ensures answer { IfOk result (λ found. answer_with (groups_held cache.new) found ≡ attempt q position) }
-    ensures count { IfOk result (λ _. returns_of work.new ≡ returns_of work.old + returns_at q position) }
-    ensures refused { result ≡ Err SearchRefusal.Returns → limit < returns_of work.old + returns_at q position }
-    ensures stopped { result ≡ Err SearchRefusal.Returns → returns_of work.new ≡ limit }
-    ensures fits { returns_of work.new ≤ limit }
-    ensures steps { steps_of work.old ≤ steps_of work.new }
-    ensures returns { returns_of work.old ≤ returns_of work.new }
-    ensures units { units_of work.old ≤ units_of work.new }
-    ensures bounded { returns_of work.new ≤ returns_of work.old + returns_at q position }
-    ensures paired { returns_of work.old ≤ steps_of work.old → returns_of work.new ≤ steps_of work.new }
+    requires asked { IsAsked q attempts.now range_end position }
+    requires ready { IsReady attempts.now limit (seen_held cache.old) work.old }
+    ensures answers { Answers attempts.now.options limit
+        (attempt q position) (returns_at q position) (choices_at q position)
+        result cache.old cache.new work.old work.new }
     ensures seen { KnowsSeen attempts.now (seen_held cache.new) }
-    ensures crowded { result ≡ Err SearchRefusal.Choices → attempts.now.options.stack_limit < choices_at q position }
-    ensures heeds { HeedsLimit attempts.now.options.stack_limit cache.old cache.new }
-    ensures within { IsWithin attempts.now.options.step_limit work.old
-        → IsWithin attempts.now.options.step_limit work.new }
-    ensures limited { result ≡ Err SearchRefusal.Steps
-        → IsSpent attempts.now.options.step_limit work.new }
 {
     if !is_match_boundary(attempts.options.on_boundaries, attempts.haystack, position) {
         return Ok(None);

@@ -1,9 +1,10 @@
 //! One step of an attempt.
 
-ghost use Rattle.std.specs.Prelude.{◌≡◌, ◌≢◌, Err, IfOk};
+ghost use Rattle.std.specs.Prelude.{◌≢◌, Err};
 ghost use Rattle.fancy_input.specs.LastLines.{KnowsLastLines};
-ghost use Rattle.fancy_input.specs.Work.{returns_of, stepped_within, IsWithin, IsSpent, HasWorkLeft, AddsUnits};
-ghost use Rattle.fancy_machine.specs.Attempt.{IsFull, StepsTo};
+ghost use Rattle.fancy_input.specs.Work.{AddsUnits};
+ghost use Rattle.fancy_machine.specs.declared.attempt.Attempt.{Attempt as AttemptIs};
+ghost use Rattle.fancy_machine.specs.Parts.{Follows, FollowsInMemory, FollowsNext, HeedsSteps, TakesStep};
 ghost use Rattle.fancy_machine.specs.Units.{CountsUnits, units_ahead};
 
 use crate::attempt::Attempt;
@@ -18,6 +19,32 @@ use fancy_input::last_lines::LastLines;
 use fancy_input::refusal::SearchRefusal;
 use fancy_input::work::Work;
 
+/// The match starts at the place.
+fn keep(trail: &mut Trail, next: usize) -> Next
+    ensures { (a : AttemptIs) → Follows a (Instr.Keep next) result trail.old trail.new }
+{
+    trail.keep(next);
+    Next::On
+}
+
+/// A group begins.
+fn begin_group(trail: &mut Trail, group: usize, next: usize) -> Result<Next, SearchRefusal>
+    ensures { (a : AttemptIs)
+        → FollowsInMemory a (Instr.Open group next) result trail.old trail.new }
+{
+    trail.open_group(group, next)?;
+    Ok(Next::On)
+}
+
+/// A group ends.
+fn end_group(trail: &mut Trail, group: usize, next: usize) -> Result<Next, SearchRefusal>
+    ensures { (a : AttemptIs)
+        → FollowsInMemory a (Instr.Close group next) result trail.old trail.new }
+{
+    trail.close_group(group, next)?;
+    Ok(Next::On)
+}
+
 /// Follows the instruction that comes next. The units that it goes over are counted before it does.
 fn follow(
     attempt: &Attempt,
@@ -26,16 +53,11 @@ fn follow(
     work: &mut Work,
 ) -> Result<Next, SearchRefusal>
     requires { KnowsLastLines attempt.now.haystack.now last_lines.old }
-    ensures stepped { IfOk result (λ next. StepsTo attempt.now next trail.old trail.new) }
-    ensures refused { result ≢ Err SearchRefusal.Returns }
-    ensures crowded { result ≡ Err SearchRefusal.Choices → IsFull attempt.now trail.old }
-    ensures most { trail.new.most ≡ trail.old.most }
+    ensures followed { FollowsNext attempt.now result trail.old trail.new }
     ensures work { AddsUnits work.old work.new }
     ensures counted { result ≢ Err SearchRefusal.Steps
         → CountsUnits (units_ahead attempt.now trail.old.now) work.old work.new }
-    ensures within { IsWithin attempt.now.options.step_limit work.old
-        → IsWithin attempt.now.options.step_limit work.new }
-    ensures limited { result ≡ Err SearchRefusal.Steps → IsSpent attempt.now.options.step_limit work.new }
+    ensures heeds { HeedsSteps attempt.now.options.step_limit result work.old work.new }
     ensures last_lines { KnowsLastLines attempt.now.haystack.now last_lines.new }
 {
     let at = trail.at();
@@ -67,18 +89,9 @@ fn follow(
         }
         Instr::Continue(next) => Ok(test_continued(attempt, trail, *next)),
         Instr::Taken(group, next) => Ok(test_taken(attempt, trail, *group, *next)),
-        Instr::Keep(next) => {
-            trail.keep(*next);
-            Ok(Next::On)
-        }
-        Instr::Open(group, next) => {
-            trail.open_group(*group, *next)?;
-            Ok(Next::On)
-        }
-        Instr::Close(group, next) => {
-            trail.close_group(*group, *next)?;
-            Ok(Next::On)
-        }
+        Instr::Keep(next) => Ok(keep(trail, *next)),
+        Instr::Open(group, next) => begin_group(trail, *group, *next),
+        Instr::Close(group, next) => end_group(trail, *group, *next),
         Instr::Split(first, second) => split(trail, *first, *second),
         Instr::Test(body, other) => begin_condition(trail, *body, *other),
         Instr::Enter(body) => begin_atom(trail, *body),
@@ -95,17 +108,10 @@ pub(crate) fn step(
     work: &mut Work,
 ) -> Result<Next, SearchRefusal>
     requires { KnowsLastLines attempt.now.haystack.now last_lines.old }
-    ensures stepped { IfOk result (λ next. StepsTo attempt.now next trail.old trail.new) }
-    ensures refused { result ≢ Err SearchRefusal.Returns }
-    ensures crowded { result ≡ Err SearchRefusal.Choices → IsFull attempt.now trail.old }
-    ensures most { trail.new.most ≡ trail.old.most }
-    ensures work { AddsUnits (stepped_within work.old) work.new }
-    ensures returns { returns_of work.new ≡ returns_of work.old }
+    ensures followed { FollowsNext attempt.now result trail.old trail.new }
+    ensures takes { TakesStep attempt.now.options.step_limit result work.old work.new }
     ensures counted { result ≢ Err SearchRefusal.Steps
         → CountsUnits (units_ahead attempt.now trail.old.now) work.old work.new }
-    ensures within { HasWorkLeft attempt.now.options.step_limit work.old
-        → IsWithin attempt.now.options.step_limit work.new }
-    ensures limited { result ≡ Err SearchRefusal.Steps → IsSpent attempt.now.options.step_limit work.new }
     ensures last_lines { KnowsLastLines attempt.now.haystack.now last_lines.new }
 {
     work.count_step_within();

@@ -37,7 +37,8 @@ fn first_of(bytes: &[u8], count: usize) -> &[u8]
 
 /// The place after a text that stands at a place, if it does.
 fn past_text(haystack: &[u8], text: &[u8], place: usize) -> Option<usize>
-    ensures { (meaning : MeaningIs) (x : Context) → result ≡ past_text (reading haystack.now meaning x) text.now place }
+    ensures { (meaning : MeaningIs) (x : Context)
+        → result ≡ past_text (reading haystack.now meaning x) text.now place }
 {
     if bytes_from(haystack, place).starts_with(text) {
         return Some(place + text.len());
@@ -47,7 +48,8 @@ fn past_text(haystack: &[u8], text: &[u8], place: usize) -> Option<usize>
 
 /// The same where ASCII letters stand in either case.
 fn past_letters(haystack: &[u8], text: &[u8], place: usize) -> Option<usize>
-    ensures { (meaning : MeaningIs) (x : Context) → result ≡ past_letters (reading haystack.now meaning x) text.now place }
+    ensures { (meaning : MeaningIs) (x : Context)
+        → result ≡ past_letters (reading haystack.now meaning x) text.now place }
 {
     let next = first_of(bytes_from(haystack, place), text.len());
     if next.eq_ignore_ascii_case(text) {
@@ -68,7 +70,8 @@ fn shares_folding(c: char, d: char) -> bool
 
 /// The place after the character at a place, if it has the same simple folding as this one.
 fn past_sharing(haystack: &[u8], c: char, place: usize) -> Option<usize>
-    ensures { (x : Context) → result ≡ past_item (reading haystack.now Meaning.Unicode x) (shares_folding c) place }
+    ensures { (x : Context) → result
+        ≡ past_item (reading haystack.now Meaning.Unicode x) (shares_folding c) place }
 {
     let found = character_at(haystack, place)?;
     if !shares_folding(c, found) {
@@ -80,7 +83,8 @@ fn past_sharing(haystack: &[u8], c: char, place: usize) -> Option<usize>
 /// The place after what matches a text under flag `i` in Unicode meaning: a character is matched by one with
 /// the same simple folding, and a byte that is in none by itself.
 fn past_characters(haystack: &[u8], text: &[u8], place: usize) -> Option<usize>
-    ensures { (x : Context) → result ≡ past_characters (reading haystack.now Meaning.Unicode x) text.now place }
+    ensures { (x : Context) → result
+        ≡ past_characters (reading haystack.now Meaning.Unicode x) text.now place }
 {
     let mut at = place;
     let mut rest = text;
@@ -118,7 +122,8 @@ pub fn past_span(
     span: Option<Span>,
     place: usize,
 ) -> Option<usize>
-    ensures { (x : Context) → result ≡ past_span (reading haystack.now meaning x) folded span place }
+    ensures { (x : Context)
+        → result ≡ past_span (reading haystack.now meaning x) folded span place }
 {
     let span = span?;
     let rest = bytes_from(haystack, span.start);

@@ -9,6 +9,7 @@ ghost use Rattle.fancy_machine.specs.Frames.{Frame, Region, saved};
 ghost use Rattle.fancy_machine.specs.Layers.{spot_of, outcome_of, frame_by, saves};
 ghost use Rattle.fancy_machine.specs.Attempt.{DieFirst};
 ghost use Rattle.fancy_machine.specs.Machine.{at_instr, at_place, written, opened_at, closed_at, kept_at, within_at, saved_run, IsBare, IsEndedByAny, HasInnermost, Stops, TookBranch};
+ghost use Rattle.fancy_machine.specs.Moves.{GoesOn, GoesOnIfOk, LaysFrames, SavesBranches};
 ghost use Rattle.fancy_machine.specs.Runs.{past_items};
 
 use crate::attempt::Attempt;
@@ -99,7 +100,8 @@ impl Trail {
         count: usize,
         most: usize,
     ) -> Result<(), AllocError>
-        ensures begun { OnOk result (self.new.now ≡ spot_of at limit place place (replicate count empty_slot)) }
+        ensures begun { OnOk result (self.new.now
+            ≡ spot_of at limit place place (replicate count empty_slot)) }
         ensures frames { self.new.frames ≡ [] }
         ensures most { self.new.most ≡ most }
     {
@@ -157,15 +159,18 @@ impl Trail {
 
     /// How many writes to groups are kept, to go back to what stood there before.
     pub fn writes(&self) -> usize
-        ensures few { result ≤ writes_allowed (saved self.now.frames) (length self.now.now.state.captures) }
-        ensures bounded { result ≤ writes_allowed self.now.most (length self.now.now.state.captures) }
+        ensures few { result
+            ≤ writes_allowed (saved self.now.frames) (length self.now.now.state.captures) }
+        ensures bounded { result
+            ≤ writes_allowed self.now.most (length self.now.now.state.captures) }
     {
         self.log.len()
     }
 
     /// Stands where a way stood that had these cells, and gives up its own for them. No branch is saved any more.
     pub(crate) fn stand(&mut self, place: usize, kept: usize, cells: &mut Vec<Cell>)
-        ensures stands { Some self.new.now.state ≡ outcome_of true place kept (map cell_slot cells.old.items) }
+        ensures stands { Some self.new.now.state
+            ≡ outcome_of true place kept (map cell_slot cells.old.items) }
         ensures most { self.new.most ≡ self.old.most }
     {
         self.layers.clear();
@@ -202,18 +207,14 @@ impl Trail {
 
     /// Goes on at another instruction.
     pub fn go(&mut self, next: usize)
-        ensures now { self.new.now ≡ at_instr next self.old.now }
-        ensures frames { self.new.frames ≡ self.old.frames }
-        ensures most { self.new.most ≡ self.old.most }
+        ensures { GoesOn (at_instr next self.old.now) self.old self.new }
     {
         self.at = next;
     }
 
     /// Goes on at another instruction and place.
     pub fn go_to(&mut self, next: usize, place: usize)
-        ensures now { self.new.now ≡ at_place next place self.old.now }
-        ensures frames { self.new.frames ≡ self.old.frames }
-        ensures most { self.new.most ≡ self.old.most }
+        ensures { GoesOn (at_place next place self.old.now) self.old self.new }
     {
         self.at = next;
         self.place = place;
@@ -221,9 +222,7 @@ impl Trail {
 
     /// Goes on at another instruction, where consumed text ends by another limit.
     pub fn go_within(&mut self, next: usize, limit: usize)
-        ensures now { self.new.now ≡ within_at next limit self.old.now }
-        ensures frames { self.new.frames ≡ self.old.frames }
-        ensures most { self.new.most ≡ self.old.most }
+        ensures { GoesOn (within_at next limit self.old.now) self.old self.new }
     {
         self.at = next;
         self.limit = limit;
@@ -231,9 +230,7 @@ impl Trail {
 
     /// The match starts at the place.
     pub fn keep(&mut self, next: usize)
-        ensures now { self.new.now ≡ kept_at next self.old.now }
-        ensures frames { self.new.frames ≡ self.old.frames }
-        ensures most { self.new.most ≡ self.old.most }
+        ensures { GoesOn (kept_at next self.old.now) self.old self.new }
     {
         self.at = next;
         self.kept = self.place;
@@ -242,9 +239,8 @@ impl Trail {
     /// One more layer, which is no saved branch.
     pub fn enter(&mut self, kind: Kind, at: usize) -> Result<(), AllocError>
         requires { saves kind ≡ 0 }
-        ensures now { self.new.now ≡ self.old.now }
-        ensures entered { OnOk result (self.new.frames ≡ frame_by kind (at_instr at self.old.now) ∷ self.old.frames) }
-        ensures most { self.new.most ≡ self.old.most }
+        ensures { LaysFrames result (frame_by kind (at_instr at self.old.now) ∷ self.old.frames)
+            self.old self.new }
     {
         let layer = Layer {
             kind,
@@ -265,12 +261,8 @@ impl Trail {
     /// One more layer, which is a saved branch.
     pub fn save(&mut self, kind: Kind, at: usize) -> Result<(), SearchRefusal>
         requires { saves kind ≡ 1 }
-        ensures now { self.new.now ≡ self.old.now }
-        ensures saved { OnOk result (self.new.frames ≡ frame_by kind (at_instr at self.old.now) ∷ self.old.frames) }
-        ensures refused { result ≢ Err SearchRefusal.Returns }
-        ensures unlimited { result ≢ Err SearchRefusal.Steps }
-        ensures full { result ≡ Err SearchRefusal.Choices → self.old.most ≤ saved self.old.frames }
-        ensures most { self.new.most ≡ self.old.most }
+        ensures { SavesBranches result 1
+            (frame_by kind (at_instr at self.old.now) ∷ self.old.frames) self.old self.new }
     {
         if self.branches >= self.most {
             return Err(SearchRefusal::Choices);
@@ -303,12 +295,8 @@ impl Trail {
     /// them all, and there is none where there are no places. It is refused with `Choices` where so many may not be saved.
     pub fn save_run(&mut self, at: usize, from: usize, count: usize) -> Result<(), SearchRefusal>
         requires fits { from + count ≤ 2 ^ 64 }
-        ensures now { self.new.now ≡ self.old.now }
-        ensures saved { OnOk result (self.new.frames ≡ saved_run at from count self.old.now self.old.frames) }
-        ensures refused { result ≢ Err SearchRefusal.Returns }
-        ensures unlimited { result ≢ Err SearchRefusal.Steps }
-        ensures full { result ≡ Err SearchRefusal.Choices → self.old.most < saved self.old.frames + count }
-        ensures most { self.new.most ≡ self.old.most }
+        ensures { SavesBranches result count (saved_run at from count self.old.now self.old.frames)
+            self.old self.new }
     {
         if count == 0 {
             return Ok(());
@@ -334,9 +322,7 @@ impl Trail {
 
     /// Writes to a group. What stood there is logged, if that is the first write to it since the last branch was saved.
     fn write(&mut self, group: usize, slot: Slot) -> Result<(), AllocError>
-        ensures now { OnOk result (self.new.now ≡ written group slot self.old.now) }
-        ensures frames { OnOk result (self.new.frames ≡ self.old.frames) }
-        ensures most { self.new.most ≡ self.old.most }
+        ensures { GoesOnIfOk result (written group slot self.old.now) self.old self.new }
     {
         if group >= self.cells.len() {
             return Ok(());
@@ -360,9 +346,7 @@ impl Trail {
 
     /// A group begins.
     pub fn open_group(&mut self, group: usize, next: usize) -> Result<(), AllocError>
-        ensures now { OnOk result (self.new.now ≡ opened_at group next self.old.now) }
-        ensures frames { OnOk result (self.new.frames ≡ self.old.frames) }
-        ensures most { self.new.most ≡ self.old.most }
+        ensures { GoesOnIfOk result (opened_at group next self.old.now) self.old self.new }
     {
         let slot = Slot {
             from: self.place,
@@ -374,9 +358,7 @@ impl Trail {
 
     /// A group ends.
     pub fn close_group(&mut self, group: usize, next: usize) -> Result<(), AllocError>
-        ensures now { OnOk result (self.new.now ≡ closed_at group next self.old.now) }
-        ensures frames { OnOk result (self.new.frames ≡ self.old.frames) }
-        ensures most { self.new.most ≡ self.old.most }
+        ensures { GoesOnIfOk result (closed_at group next self.old.now) self.old self.new }
     {
         let from = self.from(group);
         let span = Span {
@@ -399,9 +381,8 @@ impl Trail {
         next: usize,
     ) -> Result<(), AllocError>
         requires fits { self.old.now.state.place + count < 2 ^ 64 }
-        ensures now { OnOk result (self.new.now ≡ at_instr next (past_items group count self.old.now)) }
-        ensures frames { OnOk result (self.new.frames ≡ self.old.frames) }
-        ensures most { self.new.most ≡ self.old.most }
+        ensures { GoesOnIfOk result (at_instr next (past_items group count self.old.now))
+            self.old self.new }
     {
         let past = self.place + count;
         if let Some(group) = group {

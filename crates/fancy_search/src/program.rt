@@ -644,17 +644,14 @@ impl Program {
         cache.served = Engine::Machine;
         let machine = &mut cache.machine;
         let options = self.options.for_search();
-        match machine::search(
-            &self.code,
-            &self.prices,
-            asked.haystack,
-            asked.request,
+        let wanted = machine::Asked {
+            code: &self.code,
+            prices: &self.prices,
+            request: asked.request,
             options,
-            asked.continues,
-            is_kept,
-            machine,
-            work,
-        ) {
+            continues: asked.continues,
+        };
+        match machine::search(&wanted, asked.haystack, is_kept, machine, work) {
             Ok(found) => Ok(found),
             Err(refusal) => Err(error_of(refusal)),
         }
@@ -688,17 +685,14 @@ impl Program {
         cache.served = Engine::Machine;
         let machine = &mut cache.machine;
         let options = self.options.for_search();
-        match machine::attempt_at(
-            &self.code,
-            &self.prices,
-            asked.haystack,
-            asked.request,
+        let wanted = machine::Asked {
+            code: &self.code,
+            prices: &self.prices,
+            request: asked.request,
             options,
-            asked.continues,
-            position,
-            machine,
-            work,
-        ) {
+            continues: asked.continues,
+        };
+        match machine::attempt_at(&wanted, asked.haystack, position, machine, work) {
             Ok(found) => Ok(found),
             Err(refusal) => Err(error_of(refusal)),
         }

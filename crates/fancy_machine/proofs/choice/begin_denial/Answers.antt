@@ -1,13 +1,26 @@
-use Rattle.std.proofs.Common.{Err, ap}
+use Rattle.std.proofs.Common.{Err, ap, arith, ◌∙◌, rules}
 use Rattle.fancy_code.specs.Code.{instrs_of}
 use Rattle.fancy_machine.specs.Attempt.{attempt_context}
 use Rattle.fancy_machine.proofs.RefusalLemmas.{passed_on}
 use Rattle.fancy_machine.proofs.MachineSteps.{denied, denied_crowded}
 use Rattle.fancy_machine.proofs.choice.begin_denial.Goals as goal
 
-pub returns-clause-stepped : goal.returns-clause-stepped
-returns-clause-stepped c e deep w known =
-    rw (c.enter_body.ensures.now, c.enter_body.ensures.frames, c.save.ensures.now, c.in_ok-save.ensures.saved) (denied (attempt_context c.args.attempt.now) (instrs_of c.args.attempt.now.code.now) deep c.args.trail.now.now c.args.trail.now.frames w known c.args.behind c.args.body c.args.next e)
+pub returns : goal.returns
+returns c = record {
+  stepped = λ e deep w known. rw (c.enter_body.ensures.now, c.enter_body.ensures.frames, c.save.ensures.now, c.in_ok-save.ensures.laid) (denied (attempt_context c.args.attempt.now) (instrs_of c.args.attempt.now.code.now) deep c.args.trail.now.now c.args.trail.now.frames w known c.args.behind c.args.body c.args.next e);
+  refused = search rules;
+  unlimited = search rules;
+  crowded = search rules;
+  most = c.enter_body.ensures.most ∙ c.save.ensures.most;
+}
 
-pub returns-in_err-save-clause-crowded : goal.returns-in_err-save-clause-crowded
-returns-in_err-save-clause-crowded c refused e deep w known = denied_crowded (attempt_context c.args.attempt.now) (instrs_of c.args.attempt.now.code.now) deep c.args.trail.now.now c.args.trail.now.frames w known c.args.trail.now.most c.args.behind c.args.body c.args.next e (c.in_err-save.ensures.full (ap Err (passed_on c.from_residual.result _ _ c.from_residual.ensures.1 refused)))
+pub returns-in_err-save : goal.returns-in_err-save
+returns-in_err-save c = record {
+  stepped = search rules;
+  refused = λ e. c.in_err-save.ensures.refused (ap Err (passed_on c.from_residual.result _ _ c.from_residual.ensures.1 e));
+  unlimited = λ e. c.in_err-save.ensures.unlimited (ap Err (passed_on c.from_residual.result _ _ c.from_residual.ensures.1 e));
+  crowded = λ refused e deep w known.
+      let full = c.in_err-save.ensures.full (ap Err (passed_on c.from_residual.result _ _ c.from_residual.ensures.1 refused)) in
+      denied_crowded (attempt_context c.args.attempt.now) (instrs_of c.args.attempt.now.code.now) deep c.args.trail.now.now c.args.trail.now.frames w known c.args.trail.now.most c.args.behind c.args.body c.args.next e (omega (arith, full));
+  most = c.save.ensures.most;
+}

@@ -5,8 +5,11 @@ use Rattle.fancy_machine.specs.Attempt.{attempt_context}
 use Rattle.fancy_machine.proofs.MachineSteps.{went_by}
 use Rattle.fancy_machine.proofs.condition.test_taken.Goals as goal
 
-pub returns-clause-stepped : goal.returns-clause-stepped
-returns-clause-stepped c e deep w known =
-    went_by (attempt_context c.args.attempt.now) (instrs_of c.args.attempt.now.code.now) deep c.args.trail.now.now c.args.trail.now.frames w known
-    c.go_if.result (i.Taken c.args.group c.args.next) c.args.next c.is_taken-holds.result _ c.go_if.new.trail.now c.go_if.new.trail.frames e refl
-    c.is_taken-holds.ensures c.go_if.ensures.went c.go_if.ensures.frames
+pub returns : goal.returns
+returns c =
+    record {
+      most = c.go_if.ensures.most;
+      stepped = λ e deep w known. went_by (attempt_context c.args.attempt.now) (instrs_of c.args.attempt.now.code.now) deep c.args.trail.now.now c.args.trail.now.frames w known
+          c.go_if.result (i.Taken c.args.group c.args.next) c.args.next c.is_taken-holds.result _ c.go_if.new.trail.now c.go_if.new.trail.frames e refl
+          c.is_taken-holds.ensures c.go_if.ensures.way c.go_if.ensures.frames;
+    }

@@ -7,11 +7,14 @@ use Rattle.fancy_machine.proofs.ContinuesLemmas.{item_seen, suppressed_of}
 use Rattle.fancy_machine.proofs.MachineSteps.{read_by}
 use Rattle.fancy_machine.proofs.read.read_character.Goals as goal
 
-pub returns-clause-stepped : goal.returns-clause-stepped
-returns-clause-stepped c e deep w known =
-    read_by (attempt_context c.args.attempt.now) (instrs_of c.args.attempt.now.code.now) deep c.args.trail.now.now c.args.trail.now.frames w known
-    c.advance.result (i.Character c.args.character c.args.next) c.args.next c.past_character-past.result _ c.advance.new.trail.now c.advance.new.trail.frames e refl
-    (c.past_character-past.ensures.past (suppressed_of (attempt_context c.args.attempt.now)) 0
-    ∙ item_seen c.args.attempt.now.haystack.now c.args.attempt.now.code.now.meaning (attempt_context c.args.attempt.now) (suppressed_of (attempt_context c.args.attempt.now)) 0 c.place.result (λ d. d == c.args.character)
-    ∙ ap (past_item (attempt_context c.args.attempt.now) (λ d. d == c.args.character)) c.place.ensures)
-    c.advance.ensures.moved c.advance.ensures.frames
+pub returns : goal.returns
+returns c =
+    record {
+      most = c.advance.ensures.most;
+      stepped = λ e deep w known. read_by (attempt_context c.args.attempt.now) (instrs_of c.args.attempt.now.code.now) deep c.args.trail.now.now c.args.trail.now.frames w known
+          c.advance.result (i.Character c.args.character c.args.next) c.args.next c.past_character-past.result _ c.advance.new.trail.now c.advance.new.trail.frames e refl
+          (c.past_character-past.ensures.past (suppressed_of (attempt_context c.args.attempt.now)) 0
+          ∙ item_seen c.args.attempt.now.haystack.now c.args.attempt.now.code.now.meaning (attempt_context c.args.attempt.now) (suppressed_of (attempt_context c.args.attempt.now)) 0 c.place.result (λ d. d == c.args.character)
+          ∙ ap (past_item (attempt_context c.args.attempt.now) (λ d. d == c.args.character)) c.place.ensures)
+          c.advance.ensures.way c.advance.ensures.frames;
+    }

@@ -1,9 +1,10 @@
 use Rattle.std.proofs.Common.{◌≡◌, true≢false, true, false, inl, sym, ◌∙◌, ◌+◌, ◌≤◌, ◌<◌, ◌^◌, ℕ, List, Err, ap, arith, refl, subst}
+use Rattle.fancy_input.specs.declared.refusal.SearchRefusal.TheVariants.{Choices}
 use Rattle.fancy_prices.specs.declared.splits.ToldSplit.{ToldSplit}
 use Rattle.fancy_machine.specs.Frames.{Held, saved}
 use Rattle.fancy_machine.specs.Machine.{at_place}
 use Rattle.fancy_machine.specs.Runs.{DieFrom, IsRun, IsStuck, Lacks}
-use Rattle.fancy_machine.proofs.RefusalLemmas.{passed_on}
+use Rattle.fancy_machine.proofs.WentLemmas.{takes_none, went_refused}
 use Rattle.fancy_machine.proofs.WorkLemmas.{returns_of_step}
 use Rattle.fancy_machine.proofs.LoopLemmas.{no_items, reads_on, many_choices, choices_stuck, goes_back, returns_back, is_dead}
 use Rattle.fancy_machine.proofs.runs.choose.Goals as goal
@@ -20,50 +21,64 @@ stuck l haystack h place is fits lacks = no_items l haystack h true (omega (arit
 dies : (l : ToldSplit) (haystack : List ℕ) (place p : ℕ) → place ≡ p → Lacks l.leaves haystack place → DieFrom l haystack p 0 1
 dies l haystack place p is lacks k low high = let e : place ≡ p + k = omega (arith, is, high) in subst (Lacks l.leaves haystack) e lacks
 
-pub returns-in_err-save_run-clause-crowded : goal.returns-in_err-save_run-clause-crowded
-returns-in_err-save_run-clause-crowded c e best deep goal total choices r s =
+pub returns-in_err-save_run-clause-went : goal.returns-in_err-save_run-clause-went
+returns-in_err-save_run-clause-went c best = went_refused c.from_residual.result _ c.from_residual.ensures.1 (takes_none c.args.attempt.now c.args.trail.now best _ _ (returns_of_step c.args.work.now c.count_step_within.new.self c.count_step_within.ensures)) (λ is. absurd (c.in_err-save_run.ensures.refused (ap Err is)))
+    (λ is deep goal total choices r s.
     let few = many_choices c.args.attempt.now c.args.split.now c.args.trail.now (record { count = 0; is_stuck = false; closes = false }) (c.args.attempt.now.told _ _ _ c.requires.noted.1 c.requires.noted.2) (going c.args.split.now c.args.attempt.now.haystack.now c.args.trail.now (omega (arith, c.place-place.ensures, c.place-place.type_inv))) best deep goal total choices r s (λ some. absurd (omega (arith, some))) in
-    let full = c.in_err-save_run.ensures.full (ap Err (passed_on c.from_residual.result _ _ c.from_residual.ensures.1 e)) in
-    omega (arith, few, full)
+    let full = c.in_err-save_run.ensures.full (ap Err is) in
+    omega (arith, few, full)) c.save_run.ensures.most
 
-pub returns-then-may_begin-clause-advanced : goal.returns-then-may_begin-clause-advanced
-returns-then-may_begin-clause-advanced c best deep goal total choices r s =
-    let h = c.args.trail.now in
-    let here : h.now.state.place ≡ h.now.state.place + 0 = omega arith in
-    reads_on c.args.attempt.now c.args.split.now c.args.trail.now (record { count = 0; is_stuck = false; closes = false }) (c.args.attempt.now.told _ _ _ c.requires.noted.1 c.requires.noted.2) (going c.args.split.now c.args.attempt.now.haystack.now c.args.trail.now (omega (arith, c.place-place.ensures, c.place-place.type_inv))) best deep goal total choices r s (λ some. absurd (omega (arith, some))) c.go.new.self
-    (rw c.save_run.ensures.now at c.go.ensures.now ∙ ap (λ (p : ℕ). at_place c.args.split.now.first p h.now) here) (c.go.ensures.frames ∙ rw c.place-place.ensures at c.in_ok-save_run.ensures.saved) _ (omega (arith, returns_of_step c.args.work.now c.count_step_within.new.self c.count_step_within.ensures))
+pub returns-then-may_begin-clause-went : goal.returns-then-may_begin-clause-went
+returns-then-may_begin-clause-went c best = record {
+  advanced = λ deep goal total choices r s.
+      let h = c.args.trail.now in
+      let here : h.now.state.place ≡ h.now.state.place + 0 = omega arith in
+      reads_on c.args.attempt.now c.args.split.now c.args.trail.now (record { count = 0; is_stuck = false; closes = false }) (c.args.attempt.now.told _ _ _ c.requires.noted.1 c.requires.noted.2) (going c.args.split.now c.args.attempt.now.haystack.now c.args.trail.now (omega (arith, c.place-place.ensures, c.place-place.type_inv))) best deep goal total choices r s (λ some. absurd (omega (arith, some))) c.go.new.self
+      (rw c.save_run.ensures.now at c.go.ensures.now ∙ ap (λ (p : ℕ). at_place c.args.split.now.first p h.now) here) (c.go.ensures.frames ∙ rw c.place-place.ensures at c.in_ok-save_run.ensures.laid) _ (omega (arith, returns_of_step c.args.work.now c.count_step_within.new.self c.count_step_within.ensures));
+  bounded = takes_none c.args.attempt.now c.args.trail.now best _ _ (returns_of_step c.args.work.now c.count_step_within.new.self c.count_step_within.ensures);
+  refused = λ e. absurd (cc);
+  crowded = λ e. absurd (cc);
+  most = c.go.ensures.most ∙ c.save_run.ensures.most;
+}
 
-pub returns-then-not-has_room_for-clause-crowded : goal.returns-then-not-has_room_for-clause-crowded
-returns-then-not-has_room_for-clause-crowded c _ best deep goal total choices r s =
+pub returns-then-not-has_room_for-clause-went : goal.returns-then-not-has_room_for-clause-went
+returns-then-not-has_room_for-clause-went c best = went_refused (Err Choices) Choices refl (takes_none c.args.attempt.now c.args.trail.now best _ _ (returns_of_step c.args.work.now c.count_step_within.new.self c.count_step_within.ensures)) (λ is. absurd (cc))
+    (λ _ deep goal total choices r s.
     let few = choices_stuck c.args.attempt.now c.args.split.now c.args.trail.now (record { count = 0; is_stuck = true; closes = false }) (c.args.attempt.now.told _ _ _ c.requires.noted.1 c.requires.noted.2) (stuck c.args.split.now c.args.attempt.now.haystack.now c.args.trail.now c.place-place.result c.place-place.ensures c.place-place.type_inv (c.may_begin.ensures c.if-may_begin.false)) best deep goal total choices r s refl in
     let full : saved c.args.trail.now.frames + 1 ≤ c.args.trail.now.most → ⊥ = λ le. absurd (true≢false (sym (c.has_room_for.ensures.1 le) ∙ c.if-not-has_room_for.true)) in
-    omega (arith, few, full)
+    omega (arith, few, full)) refl
 
-pub returns-in_err-count_returns-clause-bounded : goal.returns-in_err-count_returns-clause-bounded
-returns-in_err-count_returns-clause-bounded c best deep goal total choices s =
+pub returns-in_err-count_returns-clause-went : goal.returns-in_err-count_returns-clause-went
+returns-in_err-count_returns-clause-went c best = went_refused c.from_residual-in_err-count_returns.result _ c.from_residual-in_err-count_returns.ensures.1
+    (λ deep goal total choices s.
     let all = returns_back c.args.attempt.now c.args.split.now c.args.trail.now (record { count = 0; is_stuck = true; closes = false }) (c.args.attempt.now.told _ _ _ c.requires.noted.1 c.requires.noted.2) (stuck c.args.split.now c.args.attempt.now.haystack.now c.args.trail.now c.place-place.result c.place-place.ensures c.place-place.type_inv (c.may_begin.ensures c.if-may_begin.false)) best deep goal total choices _ s refl 0 (omega arith) (λ e. absurd (true≢false (sym e))) (λ k low high. absurd (omega (arith, low, high))) in
-    omega (arith, all, c.count_returns.ensures.adds.most, returns_of_step c.args.work.now c.count_step_within.new.self c.count_step_within.ensures)
-
-pub returns-in_err-count_returns-clause-refused : goal.returns-in_err-count_returns-clause-refused
-returns-in_err-count_returns-clause-refused c e best deep goal total choices s =
+    omega (arith, all, c.count_returns.ensures.adds.most, returns_of_step c.args.work.now c.count_step_within.new.self c.count_step_within.ensures))
+    (λ is deep goal total choices s.
     let all = returns_back c.args.attempt.now c.args.split.now c.args.trail.now (record { count = 0; is_stuck = true; closes = false }) (c.args.attempt.now.told _ _ _ c.requires.noted.1 c.requires.noted.2) (stuck c.args.split.now c.args.attempt.now.haystack.now c.args.trail.now c.place-place.result c.place-place.ensures c.place-place.type_inv (c.may_begin.ensures c.if-may_begin.false)) best deep goal total choices _ s refl 0 (omega arith) (λ e. absurd (true≢false (sym e))) (λ k low high. absurd (omega (arith, low, high))) in
-    let past = c.in_err-count_returns.ensures.refused (ap Err (passed_on c.from_residual-in_err-count_returns.result _ _ c.from_residual-in_err-count_returns.ensures.1 e)) in
-    omega (arith, all, past, returns_of_step c.args.work.now c.count_step_within.new.self c.count_step_within.ensures)
+    let past = c.in_err-count_returns.ensures.refused (ap Err is) in
+    omega (arith, all, past, returns_of_step c.args.work.now c.count_step_within.new.self c.count_step_within.ensures))
+    (λ is. absurd (c.in_err-count_returns.ensures.saved (ap Err is))) refl
 
-pub returns-then-not-may_leave-clause-advanced : goal.returns-then-not-may_leave-clause-advanced
-returns-then-not-may_leave-clause-advanced c best deep goal total choices r s =
-    is_dead c.args.attempt.now c.args.split.now c.args.trail.now (record { count = 0; is_stuck = true; closes = false }) (c.args.attempt.now.told _ _ _ c.requires.noted.1 c.requires.noted.2) (stuck c.args.split.now c.args.attempt.now.haystack.now c.args.trail.now c.place-place.result c.place-place.ensures c.place-place.type_inv (c.may_begin.ensures c.if-may_begin.false)) best deep goal total choices r s refl (λ e. absurd (true≢false (sym e))) (dies c.args.split.now c.args.attempt.now.haystack.now c.place-place.result c.args.trail.now.now.state.place c.place-place.ensures (c.if-not-may_leave.ensures refl)) c.args.trail.now refl _ (omega (arith, c.in_ok-count_returns.ensures.counted, returns_of_step c.args.work.now c.count_step_within.new.self c.count_step_within.ensures))
+pub returns-then-not-may_leave-clause-went : goal.returns-then-not-may_leave-clause-went
+returns-then-not-may_leave-clause-went c best = record {
+  advanced = λ deep goal total choices r s.
+      is_dead c.args.attempt.now c.args.split.now c.args.trail.now (record { count = 0; is_stuck = true; closes = false }) (c.args.attempt.now.told _ _ _ c.requires.noted.1 c.requires.noted.2) (stuck c.args.split.now c.args.attempt.now.haystack.now c.args.trail.now c.place-place.result c.place-place.ensures c.place-place.type_inv (c.may_begin.ensures c.if-may_begin.false)) best deep goal total choices r s refl (λ e. absurd (true≢false (sym e))) (dies c.args.split.now c.args.attempt.now.haystack.now c.place-place.result c.args.trail.now.now.state.place c.place-place.ensures (c.if-not-may_leave.ensures refl)) c.args.trail.now refl _ (omega (arith, c.in_ok-count_returns.ensures.counted, returns_of_step c.args.work.now c.count_step_within.new.self c.count_step_within.ensures));
+  bounded = λ deep goal total choices s.
+      let all = returns_back c.args.attempt.now c.args.split.now c.args.trail.now (record { count = 0; is_stuck = true; closes = false }) (c.args.attempt.now.told _ _ _ c.requires.noted.1 c.requires.noted.2) (stuck c.args.split.now c.args.attempt.now.haystack.now c.args.trail.now c.place-place.result c.place-place.ensures c.place-place.type_inv (c.may_begin.ensures c.if-may_begin.false)) best deep goal total choices _ s refl 0 (omega arith) (λ e. absurd (true≢false (sym e))) (λ k low high. absurd (omega (arith, low, high))) in
+      omega (arith, all, c.count_returns.ensures.adds.most, returns_of_step c.args.work.now c.count_step_within.new.self c.count_step_within.ensures);
+  refused = λ e. absurd (cc);
+  crowded = λ e. absurd (cc);
+  most = refl;
+}
 
-pub returns-then-not-may_leave-clause-bounded : goal.returns-then-not-may_leave-clause-bounded
-returns-then-not-may_leave-clause-bounded c best deep goal total choices s =
-    let all = returns_back c.args.attempt.now c.args.split.now c.args.trail.now (record { count = 0; is_stuck = true; closes = false }) (c.args.attempt.now.told _ _ _ c.requires.noted.1 c.requires.noted.2) (stuck c.args.split.now c.args.attempt.now.haystack.now c.args.trail.now c.place-place.result c.place-place.ensures c.place-place.type_inv (c.may_begin.ensures c.if-may_begin.false)) best deep goal total choices _ s refl 0 (omega arith) (λ e. absurd (true≢false (sym e))) (λ k low high. absurd (omega (arith, low, high))) in
-    omega (arith, all, c.count_returns.ensures.adds.most, returns_of_step c.args.work.now c.count_step_within.new.self c.count_step_within.ensures)
-
-pub returns-clause-advanced : goal.returns-clause-advanced
-returns-clause-advanced c best deep goal total choices r s =
-    goes_back c.args.attempt.now c.args.split.now c.args.trail.now (record { count = 0; is_stuck = true; closes = false }) (c.args.attempt.now.told _ _ _ c.requires.noted.1 c.requires.noted.2) (stuck c.args.split.now c.args.attempt.now.haystack.now c.args.trail.now c.place-place.result c.place-place.ensures c.place-place.type_inv (c.may_begin.ensures c.if-may_begin.false)) best deep goal total choices r s refl 0 (omega arith) (λ e. absurd (true≢false (sym e))) (λ k low high. absurd (omega (arith, low, high))) c.go-2.new.self c.go-2.ensures.now c.go-2.ensures.frames _ (omega (arith, c.in_ok-count_returns.ensures.counted, returns_of_step c.args.work.now c.count_step_within.new.self c.count_step_within.ensures))
-
-pub returns-clause-bounded : goal.returns-clause-bounded
-returns-clause-bounded c best deep goal total choices s =
-    let all = returns_back c.args.attempt.now c.args.split.now c.args.trail.now (record { count = 0; is_stuck = true; closes = false }) (c.args.attempt.now.told _ _ _ c.requires.noted.1 c.requires.noted.2) (stuck c.args.split.now c.args.attempt.now.haystack.now c.args.trail.now c.place-place.result c.place-place.ensures c.place-place.type_inv (c.may_begin.ensures c.if-may_begin.false)) best deep goal total choices _ s refl 0 (omega arith) (λ e. absurd (true≢false (sym e))) (λ k low high. absurd (omega (arith, low, high))) in
-    omega (arith, all, c.count_returns.ensures.adds.most, returns_of_step c.args.work.now c.count_step_within.new.self c.count_step_within.ensures)
+pub returns-clause-went : goal.returns-clause-went
+returns-clause-went c best = record {
+  advanced = λ deep goal total choices r s.
+      goes_back c.args.attempt.now c.args.split.now c.args.trail.now (record { count = 0; is_stuck = true; closes = false }) (c.args.attempt.now.told _ _ _ c.requires.noted.1 c.requires.noted.2) (stuck c.args.split.now c.args.attempt.now.haystack.now c.args.trail.now c.place-place.result c.place-place.ensures c.place-place.type_inv (c.may_begin.ensures c.if-may_begin.false)) best deep goal total choices r s refl 0 (omega arith) (λ e. absurd (true≢false (sym e))) (λ k low high. absurd (omega (arith, low, high))) c.go-2.new.self c.go-2.ensures.now c.go-2.ensures.frames _ (omega (arith, c.in_ok-count_returns.ensures.counted, returns_of_step c.args.work.now c.count_step_within.new.self c.count_step_within.ensures));
+  bounded = λ deep goal total choices s.
+      let all = returns_back c.args.attempt.now c.args.split.now c.args.trail.now (record { count = 0; is_stuck = true; closes = false }) (c.args.attempt.now.told _ _ _ c.requires.noted.1 c.requires.noted.2) (stuck c.args.split.now c.args.attempt.now.haystack.now c.args.trail.now c.place-place.result c.place-place.ensures c.place-place.type_inv (c.may_begin.ensures c.if-may_begin.false)) best deep goal total choices _ s refl 0 (omega arith) (λ e. absurd (true≢false (sym e))) (λ k low high. absurd (omega (arith, low, high))) in
+      omega (arith, all, c.count_returns.ensures.adds.most, returns_of_step c.args.work.now c.count_step_within.new.self c.count_step_within.ensures);
+  refused = λ e. absurd (cc);
+  crowded = λ e. absurd (cc);
+  most = c.go-2.ensures.most;
+}

@@ -6,23 +6,22 @@ use Rattle.fancy_input.specs.Work.{steps_of, returns_of, IsWithin}
 use Rattle.fancy_code.specs.Tried.{tried, NoneTried}
 use Rattle.fancy_machine.specs.Asked.{HeedsLimit}
 use Rattle.fancy_machine.specs.Attempt.{KnowsSeen}
+use Rattle.fancy_machine.specs.Parts.{KeepsCounts}
 use Rattle.fancy_machine.proofs.search.search.Given as goal
 
 abbrev pub invariant-loop-place : goal.invariant-loop-place
 invariant-loop-place g l = record {
   left : search g.q ≡ answer_from g.q (l.last + 1 - l.place) l.place;
-  count : returns_of l.work + returns_in (gone_from g.q (tried l.fn.options.seek g.q) (l.last + 1 - l.place) l.place) ≡ returns_of l.fn.work + returns g.q (tried l.fn.options.seek g.q);
-  room : marks_in (gone_from g.q (tried l.fn.options.seek g.q) (l.last + 1 - l.place) l.place) ≤ choices g.q (tried l.fn.options.seek g.q);
-  tries : l.place ≤ l.last → tried l.fn.options.seek g.q l.place ≡ true;
-  passed : effective_start l.fn.request ≤ l.place;
-  idle : NoneTried l.fn.options.seek g.q → steps_of l.work ≡ steps_of l.fn.work;
-  fits : returns_of l.work ≤ returns_of l.fn.work + l.fn.options.backtrack_limit;
-  steps : steps_of l.fn.work ≤ steps_of l.work;
-  returns : returns_of l.fn.work ≤ returns_of l.work;
-  paired : returns_of l.fn.work ≤ steps_of l.fn.work → returns_of l.work ≤ steps_of l.work;
+  count : returns_of l.work + returns_in (gone_from g.q (tried l.fn.asked.options.seek g.q) (l.last + 1 - l.place) l.place) ≡ returns_of l.fn.work + returns g.q (tried l.fn.asked.options.seek g.q);
+  room : marks_in (gone_from g.q (tried l.fn.asked.options.seek g.q) (l.last + 1 - l.place) l.place) ≤ choices g.q (tried l.fn.asked.options.seek g.q);
+  tries : l.place ≤ l.last → tried l.fn.asked.options.seek g.q l.place ≡ true;
+  passed : effective_start l.fn.asked.request ≤ l.place;
+  idle : NoneTried l.fn.asked.options.seek g.q → steps_of l.work ≡ steps_of l.fn.work;
+  fits : returns_of l.work ≤ returns_of l.fn.work + l.fn.asked.options.backtrack_limit;
+  counts : KeepsCounts l.fn.work l.work;
   seen : KnowsSeen l.attempt l.cache.seen;
-  heeds : HeedsLimit l.fn.options.stack_limit l.fn.cache l.cache;
-  within : IsWithin l.fn.options.step_limit l.fn.work → IsWithin l.fn.options.step_limit l.work;
+  heeds : HeedsLimit l.fn.asked.options.stack_limit l.fn.cache l.cache;
+  within : IsWithin l.fn.asked.options.step_limit l.fn.work → IsWithin l.fn.asked.options.step_limit l.work;
 }
 
 abbrev pub decreases-loop-place : goal.decreases-loop-place

@@ -8,10 +8,10 @@ returns-clause-passed c =
     held_ok c.count_returns.result
     (λ counted. passes_back c.args.self.now c.pass_over-passed.result c.args.trail.now c.pass_over-passed.new.self c.pass_over-passed.ensures.passed _ (omega (arith, counted))) c.count_returns.ensures.counted
 
-pub returns-clause-bounded : goal.returns-clause-bounded
-returns-clause-bounded c =
-    back_takes c.args.self.now c.pass_over-passed.result c.args.trail.now c.pass_over-passed.new.self c.pass_over-passed.ensures.passed _ _ c.count_returns.ensures.adds.most
-
-pub returns-clause-refused : goal.returns-clause-refused
-returns-clause-refused c e =
-    back_takes c.args.self.now c.pass_over-passed.result c.args.trail.now c.pass_over-passed.new.self c.pass_over-passed.ensures.passed _ _ (omega (arith, c.count_returns.ensures.refused e))
+pub returns-clause-takes : goal.returns-clause-takes
+returns-clause-takes c = record {
+  bounded = back_takes c.args.self.now c.pass_over-passed.result c.args.trail.now c.pass_over-passed.new.self c.pass_over-passed.ensures.passed _ _ c.count_returns.ensures.adds.most;
+  refused = λ e. back_takes c.args.self.now c.pass_over-passed.result c.args.trail.now c.pass_over-passed.new.self c.pass_over-passed.ensures.passed _ _ (omega (arith, c.count_returns.ensures.refused e));
+  saved = c.count_returns.ensures.saved;
+  most = c.pass_over-passed.ensures.most;
+}

@@ -21,8 +21,9 @@ invariant_of-self-2 c =
       c.self.invariant.5,
     )
 
-pub returns-clause-entered : goal.returns-clause-entered
-returns-clause-entered c =
+pub returns : goal.returns
+returns c =
     let l : Layer = record { kind = c.args.kind; by = c.self.inside.at; at = c.args.at; from = c.self.inside.place; place = c.self.inside.place; kept = c.self.inside.kept; limit = c.self.inside.limit; log = c.len.result; region = c.self.inside.region } in
-    frames_made c.self.inside.log.items (map cell_slot c.self.inside.cells.items) c.self.inside.layers.items c.push.new.self.items l 0 c.in_ok-push.ensures.items (omega (arith, c.len.ensures, c.self.inside.log.ok.0)) (alone l refl)
-    ∙ ap (λ (h : Held). frame_by c.args.kind (at_instr c.args.at h.now) ∷ h.frames) c.self.view_is
+    let laid = frames_made c.self.inside.log.items (map cell_slot c.self.inside.cells.items) c.self.inside.layers.items c.push.new.self.items l 0 c.in_ok-push.ensures.items (omega (arith, c.len.ensures, c.self.inside.log.ok.0)) (alone l refl)
+    ∙ ap (λ (h : Held). frame_by c.args.kind (at_instr c.args.at h.now) ∷ h.frames) c.self.view_is in
+    record { now = ap (λ (h : Held). h.now) c.self.view_is; laid = laid; most = ap (λ (h : Held). h.most) c.self.view_is }

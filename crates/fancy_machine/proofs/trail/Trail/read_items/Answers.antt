@@ -22,19 +22,25 @@ last_item x y z t g next place count group is some here first opened second =
     ∙ ap (λ (m : ℕ). at_instr next (past_items (Some g) m x)) same
     ∙ ap (λ (o : Option ℕ). at_instr next (past_items o count x)) (sym is)
 
-pub returns-then-count-gt0-clause-now : goal.returns-then-count-gt0-clause-now
-returns-then-count-gt0-clause-now c =
-    on_ok_weaker c.close_group.result
+pub returns-then-count-gt0 : goal.returns-then-count-gt0
+returns-then-count-gt0 c =
+    let now = on_ok_weaker c.close_group.result
     (λ e. e
     ∙ last_item c.args.self.now.now c.go_to.new.self.now c.open_group.new.self.now c.go_to-then-count-gt0.new.self.now c.in-Some.group c.args.next c.self.inside.place c.args.count c.args.group
     c.in-Some.is c.if-count-gt0.true (ap (λ (h : Held). h.now.state.place) c.self.view_is) c.go_to.ensures.now c.in_ok-open_group.ensures.now c.go_to-then-count-gt0.ensures.now)
-    c.close_group.ensures.now
+    c.close_group.ensures.now in
+    record {
+      now = now;
+      frames = on_ok_weaker c.close_group.result (λ e. e ∙ c.go_to-then-count-gt0.ensures.frames ∙ c.in_ok-open_group.ensures.frames ∙ c.go_to.ensures.frames) c.close_group.ensures.frames;
+      most = c.close_group.ensures.most ∙ c.go_to-then-count-gt0.ensures.most ∙ c.open_group.ensures.most ∙ c.go_to.ensures.most;
+    }
 
-pub returns-clause-now : goal.returns-clause-now
-returns-clause-now c =
-    c.go_to-2.ensures.now
+pub returns : goal.returns
+returns c =
+    let now = c.go_to-2.ensures.now
     ∙ ap (λ (p : ℕ). at_place c.args.next (p + c.args.count) c.args.self.now.now) (ap (λ (h : Held). h.now.state.place) c.self.view_is)
-    ∙ sym (alone_items c.args.group c.args.count c.args.next c.args.self.now.now alone)
+    ∙ sym (alone_items c.args.group c.args.count c.args.next c.args.self.now.now alone) in
+    record { now = now; frames = c.go_to-2.ensures.frames; most = c.go_to-2.ensures.most }
   where
     alone : 0 < c.args.count → c.args.group ≡ None
     alone some =

@@ -1,5 +1,5 @@
 use Rattle.fancy_machine.specs.Log.{cell_slot}
-use Rattle.std.proofs.Common.{◌∷◌, ◌∙◌, ap, map, arith, refl}
+use Rattle.std.proofs.Common.{◌∷◌, ◌∙◌, ap, map, arith, refl, rules}
 use Rattle.fancy_machine.specs.declared.layer.Layer.{Layer}
 use Rattle.fancy_machine.specs.Frames.{Held}
 use Rattle.fancy_machine.specs.Layers.{frame_by}
@@ -9,10 +9,16 @@ use Rattle.fancy_machine.proofs.RegionLemmas.{pushed}
 use Rattle.fancy_machine.proofs.WriteLemmas.{saved_log}
 use Rattle.fancy_machine.proofs.trail.Trail.save.Goals as goal
 
-pub returns-then-self-clause-full : goal.returns-then-self-clause-full
-returns-then-self-clause-full c _ =
-    rw (← c.self.view_is)
-    (omega (arith, saved_frames c.self.inside.log.items (map cell_slot c.self.inside.cells.items) c.self.inside.layers.items, c.self.invariant.0, c.if-self.true))
+pub returns-then-self : goal.returns-then-self
+returns-then-self c =
+    record {
+      now = refl;
+      laid = search rules;
+      refused = search rules;
+      unlimited = search rules;
+      full = λ _. rw (← c.self.view_is) (omega (arith, saved_frames c.self.inside.log.items (map cell_slot c.self.inside.cells.items) c.self.inside.layers.items, c.self.invariant.0, c.if-self.true));
+      most = refl;
+    }
 
 pub invariant_of-self-2 : goal.invariant_of-self-2
 invariant_of-self-2 c =
@@ -26,8 +32,9 @@ invariant_of-self-2 c =
       c.self.invariant.5,
     )
 
-pub returns-clause-saved : goal.returns-clause-saved
-returns-clause-saved c =
+pub returns : goal.returns
+returns c =
     let l : Layer = record { kind = c.args.kind; by = c.self.inside.at; at = c.args.at; from = c.self.inside.place; place = c.self.inside.place; kept = c.self.inside.kept; limit = c.self.inside.limit; log = c.len.result; region = c.self.inside.region } in
-    frames_made c.self.inside.log.items (map cell_slot c.self.inside.cells.items) c.self.inside.layers.items c.push.new.self.items l 0 c.in_ok-push.ensures.items (omega (arith, c.len.ensures, c.self.inside.log.ok.0)) (alone l refl)
-    ∙ ap (λ (h : Held). frame_by c.args.kind (at_instr c.args.at h.now) ∷ h.frames) c.self.view_is
+    let laid = frames_made c.self.inside.log.items (map cell_slot c.self.inside.cells.items) c.self.inside.layers.items c.push.new.self.items l 0 c.in_ok-push.ensures.items (omega (arith, c.len.ensures, c.self.inside.log.ok.0)) (alone l refl)
+    ∙ ap (λ (h : Held). frame_by c.args.kind (at_instr c.args.at h.now) ∷ h.frames) c.self.view_is in
+    record { now = ap (λ (h : Held). h.now) c.self.view_is; laid = laid; refused = search rules; unlimited = search rules; full = search rules; most = ap (λ (h : Held). h.most) c.self.view_is }

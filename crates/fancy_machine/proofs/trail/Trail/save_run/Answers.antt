@@ -1,4 +1,4 @@
-use Rattle.std.proofs.Common.{◌≡◌, ◌≤◌, ◌+◌, ◌-◌, ◌∙◌, ℕ, ap, arith, map, refl, subst, sym}
+use Rattle.std.proofs.Common.{◌≡◌, ◌≤◌, ◌+◌, ◌-◌, ◌∙◌, ℕ, ap, arith, map, refl, rules, subst, sym}
 use Rattle.fancy_machine.specs.declared.layer.Layer.{Layer}
 use Rattle.fancy_machine.specs.declared.layer.Kind.TheVariants as k
 use Rattle.fancy_machine.specs.Log.{cell_slot}
@@ -32,12 +32,13 @@ invariant_of-self-2 c =
       c.self.invariant.5,
     )
 
-pub returns-clause-saved : goal.returns-clause-saved
-returns-clause-saved c =
+pub returns : goal.returns
+returns c =
     let l : Layer = record { kind = k.Branch; by = c.self.inside.at; at = c.args.at; from = c.args.from; place = c.args.from + (c.args.count - 1); kept = c.self.inside.kept; limit = c.self.inside.limit; log = c.len.result; region = c.self.inside.region } in
     let slots = map cell_slot c.self.inside.cells.items in
     let below = frames_of c.self.inside.log.items slots c.self.inside.layers.items in
     let run : earlier l ≡ c.args.count - 1 = omega arith in
-    frames_made c.self.inside.log.items slots c.self.inside.layers.items c.push.new.self.items l (c.args.count - 1) c.in_ok-push.ensures.items (omega (arith, c.len.ensures, c.self.inside.log.ok.0)) run
+    let laid = frames_made c.self.inside.log.items slots c.self.inside.layers.items c.push.new.self.items l (c.args.count - 1) c.in_ok-push.ensures.items (omega (arith, c.len.ensures, c.self.inside.log.ok.0)) run
     ∙ run_frames c.args.at c.args.from c.args.count (c.args.count - 1) (spot_of c.self.inside.at c.self.inside.limit c.self.inside.place c.self.inside.kept slots) below (omega (arith, c.if-count-eq0.false))
-    ∙ ap (λ (h : Held). saved_run c.args.at c.args.from c.args.count h.now h.frames) c.self.view_is
+    ∙ ap (λ (h : Held). saved_run c.args.at c.args.from c.args.count h.now h.frames) c.self.view_is in
+    record { now = ap (λ (h : Held). h.now) c.self.view_is; laid = laid; refused = search rules; unlimited = search rules; full = search rules; most = ap (λ (h : Held). h.most) c.self.view_is }

@@ -23,15 +23,17 @@ invariant_of-self c =
       λ e. absurd (true≢false e),
     )
 
-pub returns-then-old-self-clause-now : goal.returns-then-old-self-clause-now
-returns-then-old-self-clause-now c = written_spot _ _ _ _ c.args.group c.self.inside.cells.items _ ∙ ap (λ (h : Held). written c.args.group c.args.slot h.now) c.self.view_is
-
-pub returns-then-old-self-clause-frames : goal.returns-then-old-self-clause-frames
-returns-then-old-self-clause-frames c =
+pub returns-then-old-self : goal.returns-then-old-self
+returns-then-old-self c =
     let lt : c.args.group < length c.self.inside.cells.items = omega (arith, c.if-group-len.false, c.self.inside.cells.ok.0) in
     let new : Cell = record { slot = c.args.slot; level = c.index-old.result.now.level } in
     let old = get_or_read c.self.inside.cells.items c.args.group c.index-old.result.now lt c.index-old.ensures empty_cell in
-    (unlogged c.self.inside.layers.items c.self.inside.log.items c.self.inside.cells.items c.self.invariant.2 c.self.invariant.4 c.args.group c.index-old.result.now lt old new refl (omega (arith, c.if-old-self.true, c.self.invariant.0))).1 ∙ ap (λ (h : Held). h.frames) c.self.view_is
+    let same = unlogged c.self.inside.layers.items c.self.inside.log.items c.self.inside.cells.items c.self.invariant.2 c.self.invariant.4 c.args.group c.index-old.result.now lt old new refl (omega (arith, c.if-old-self.true, c.self.invariant.0)) in
+    record {
+      now = written_spot _ _ _ _ c.args.group c.self.inside.cells.items _ ∙ ap (λ (h : Held). written c.args.group c.args.slot h.now) c.self.view_is;
+      frames = same.1 ∙ ap (λ (h : Held). h.frames) c.self.view_is;
+      most = ap (λ (h : Held). h.most) c.self.view_is;
+    }
 
 pub invariant_of-self-2 : goal.invariant_of-self-2
 invariant_of-self-2 c =
@@ -46,14 +48,15 @@ invariant_of-self-2 c =
       λ e. absurd (true≢false e),
     )
 
-pub returns-clause-now : goal.returns-clause-now
-returns-clause-now c = written_spot _ _ _ _ c.args.group c.self.inside.cells.items _ ∙ ap (λ (h : Held). written c.args.group c.args.slot h.now) c.self.view_is
-
-pub returns-clause-frames : goal.returns-clause-frames
-returns-clause-frames c =
+pub returns : goal.returns
+returns c =
     let lt : c.args.group < length c.self.inside.cells.items = omega (arith, c.if-group-len.false, c.self.inside.cells.ok.0) in
     let w : Write = record { group = c.args.group; old = c.index-old.result.now } in
     let old = get_or_read c.self.inside.cells.items c.args.group c.index-old.result.now lt c.index-old.ensures empty_cell in
     let frames = frames_write (map cell_slot c.self.inside.cells.items) c.self.inside.log.items c.self.inside.layers.items w c.args.slot c.self.invariant.2
     (ap cell_slot old ∙ sym (get_or-map cell_slot c.self.inside.cells.items c.args.group empty_cell empty_slot lt)) in
-    rw (c.in_ok-push.ensures.items, map-set) (frames ∙ ap (λ (h : Held). h.frames) c.self.view_is)
+    record {
+      now = written_spot _ _ _ _ c.args.group c.self.inside.cells.items _ ∙ ap (λ (h : Held). written c.args.group c.args.slot h.now) c.self.view_is;
+      frames = rw (c.in_ok-push.ensures.items, map-set) (frames ∙ ap (λ (h : Held). h.frames) c.self.view_is);
+      most = ap (λ (h : Held). h.most) c.self.view_is;
+    }
