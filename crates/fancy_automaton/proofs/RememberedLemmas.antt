@@ -1,5 +1,5 @@
 -- A cell is true of the code in both ways to say it.
-use Rattle.std.proofs.Common.{◌≡◌, ℕ, zero, suc, ◌<◌, Bool, List, [], ◌∷◌, ◌++◌, Option, refl, sym, ap, ap₂, ◌∙◌, subst, arith, length, map, get_or, All}
+use Rattle.std.proofs.Common.{◌≡◌, ℕ, zero, suc, ◌<◌, ◌-◌, Bool, true, None, Some, List, [], ◌∷◌, ◌++◌, Option, refl, sym, ap, ap₂, ◌∙◌, subst, arith, length, map, get_or, All}
 use Rattle.std.specs.Global.{Vec}
 use Rattle.fancy_code.specs.declared.code.Code.{Code}
 use Rattle.fancy_code.specs.Code.{instrs_of}
@@ -11,7 +11,12 @@ use Rattle.fancy_automaton.specs.Ways.{AllKnown}
 use Rattle.fancy_alphabet.specs.Effects.{Seen}
 use Rattle.fancy_alphabet.specs.Sights.{seen_in}
 use Rattle.fancy_automaton.specs.Steps.{IsStep, waiting, at_of, from_of}
-use Rattle.fancy_automaton.specs.Origins.{ComeFrom}
+use Rattle.std.specs.Prelude.{◌&&◌, IfSome, nat_eq, nat_lt}
+use Rattle.std.proofs.lemmas.Bool.{and_parts}
+use Rattle.std.proofs.lemmas.Bool.Decides.{nat_tests}
+use Rattle.fancy_automaton.specs.declared.origin.Origin.{Origin}
+use Rattle.fancy_automaton.specs.declared.origin.Origin.TheVariants.{Earlier, Last, Mixed}
+use Rattle.fancy_automaton.specs.Origins.{ComeFrom, come_from, match_passes}
 use Rattle.fancy_automaton.specs.Cells.{HasRow, IsCellOf, IsFor, ways_at}
 use Rattle.fancy_automaton.specs.Remembered.{ways_from, IsKnownAt, IsStepEach, IsRemembered, Remembers}
 use Rattle.fancy_automaton.proofs.CellLemmas.{row_ways, row_within}
@@ -61,6 +66,44 @@ froms_of [] (f ∷ came) e = absurd (omega arith)
 froms_of (q ∷ qs) [] e = absurd (omega arith)
 froms_of (q ∷ qs) (f ∷ came) e = ap (λ (xs : List ℕ). f ∷ xs) (froms_of qs came (omega arith))
 
+both : (a b : Bool) → a ≡ true → b ≡ true → (a && b) ≡ true
+both a b e f = ap₂ (λ (x y : Bool). x && y) e f
+
+match_below : (o : Option ℕ) (n : ℕ) → IfSome o (λ f. f < n) → match_passes (λ f. nat_lt f n) o ≡ true
+match_below None n is = refl
+match_below (Some f) n is = grind (arith, nat_tests)
+
+below_match : (o : Option ℕ) (n : ℕ) → match_passes (λ f. nat_lt f n) o ≡ true → IfSome o (λ f. f < n)
+below_match None n is = tt
+below_match (Some f) n is = grind (arith, nat_tests)
+
+match_same : (o : Option ℕ) (n : ℕ) → IfSome o (λ f. f ≡ n) → match_passes (λ f. nat_eq f n) o ≡ true
+match_same None n is = refl
+match_same (Some f) n is = grind (arith, nat_tests)
+
+same_match : (o : Option ℕ) (n : ℕ) → match_passes (λ f. nat_eq f n) o ≡ true → IfSome o (λ f. f ≡ n)
+same_match None n is = tt
+same_match (Some f) n is = grind (arith, nat_tests)
+
+positive : (n : ℕ) → 0 < n → nat_lt 0 n ≡ true
+positive n lt = grind (arith, nat_tests)
+
+passes : (o : Origin) (ways : ℕ) (came : List ℕ) (matched : Option ℕ) → ComeFrom o ways came matched → come_from o ways came matched ≡ true
+passes Earlier ways came matched is = both _ _ is.0 (match_below matched (ways - 1) is.1)
+passes Last ways came matched is = both _ _ (positive ways is.0) (both _ _ is.1 (match_same matched (ways - 1) is.2))
+passes Mixed ways came matched is = refl
+
+above_zero : (n : ℕ) → nat_lt 0 n ≡ true → 0 < n
+above_zero n e = grind (arith, nat_tests)
+
+passed : (o : Origin) (ways : ℕ) (came : List ℕ) (matched : Option ℕ) → come_from o ways came matched ≡ true → ComeFrom o ways came matched
+passed Earlier ways came matched is = let parts = and_parts _ _ is in (parts.0, below_match matched (ways - 1) parts.1)
+passed Last ways came matched is =
+    let parts = and_parts _ _ is in
+    let others = and_parts _ _ parts.1 in
+    (above_zero ways parts.0, others.0, same_match matched (ways - 1) others.1)
+passed Mixed ways came matched is = tt
+
 remembered : (code : Code) (rows : List (Vec ℕ)) (c : Cell) → IsCellOf code rows c → IsRemembered code rows c
 remembered code rows c is =
     let u : Seen = seen_in c.sight in
@@ -72,7 +115,8 @@ remembered code rows c is =
       leads = row_within rows c.next (map at_of is.after) is.leads;
       opened = row_within rows c.begun (map at_of is.after ++ code.start ∷ []) is.opens;
       even = ap length is.comes ∙ same_lengths is.after ∙ ap length (sym leads);
-      comes_from = subst (λ (ws : List ℕ). ComeFrom c.origin (length ws) c.came.items c.matched) (sym source) is.comes_from;
+      comes_from = passes c.origin (length (ways_at rows c.row)) c.came.items c.matched
+          (subst (λ (ws : List ℕ). ComeFrom c.origin (length ws) c.came.items c.matched) (sym source) is.comes_from);
       opens = row_ways rows c.begun (map at_of is.after ++ code.start ∷ []) is.opens ∙ ap (λ (xs : List ℕ). xs ++ code.start ∷ []) (sym leads);
       step = subst (λ (ws : List ℕ). IsStepEach (instrs_of code) ws u (ways_from (ways_at rows c.next) c.came.items) c.matched) (sym source)
           (subst (λ (n : List Way). IsStepEach (instrs_of code) is.ways u n c.matched) (sym after) (step_each (instrs_of code) is.ways u is.after c.matched is.step));
@@ -89,7 +133,7 @@ recalled code rows c is =
       leads = subst (λ (ws : List ℕ). HasRow rows c.next ws) (sym ats) (row_at rows c.next is.leads);
       opens = subst (λ (ws : List ℕ). HasRow rows c.begun ws) (is.opens ∙ ap (λ (xs : List ℕ). xs ++ code.start ∷ []) (sym ats)) (row_at rows c.begun is.opened);
       comes = sym (froms_of (ways_at rows c.next) c.came.items is.even);
-      comes_from = is.comes_from;
+      comes_from = passed c.origin (length (ways_at rows c.row)) c.came.items c.matched is.comes_from;
       step = each_step (instrs_of code) (ways_at rows c.row) (seen_in c.sight) (ways_from (ways_at rows c.next) c.came.items) c.matched is.step;
       halts = λ e. ap (λ (ws : List ℕ). ways_from ws c.came.items) (is.halts e);
     }

@@ -14,7 +14,7 @@ use Rattle.fancy_alphabet.specs.Sights.{seen_in}
 use Rattle.fancy_automaton.specs.Steps.{waiting}
 use Rattle.fancy_alphabet.specs.Classes.{AreClasses}
 use Rattle.fancy_automaton.specs.Cells.{ways_at}
-use Rattle.fancy_automaton.specs.Origins.{ComeFrom}
+use Rattle.fancy_automaton.specs.Origins.{come_from}
 
 -- the ways at these instructions, each with the number of the way that it comes from
 abbrev pub ways_from : List ℕ → List ℕ → List Way
@@ -38,7 +38,7 @@ pub record IsRemembered (code : Code) (rows : List (Vec ℕ)) (c : Cell) : Type 
   pub leads : c.next < length rows
   pub opened : c.begun < length rows
   pub even : length c.came.items ≡ length (ways_at rows c.next)
-  pub comes_from : ComeFrom c.origin (length (ways_at rows c.row)) c.came.items c.matched
+  pub comes_from : come_from c.origin (length (ways_at rows c.row)) c.came.items c.matched ≡ true
   -- with one more way, which begins there
   pub opens : ways_at rows c.begun ≡ ways_at rows c.next ++ code.start ∷ []
   pub step : IsStepEach (instrs_of code) (ways_at rows c.row) (seen_in c.sight) (ways_from (ways_at rows c.next) c.came.items) c.matched
