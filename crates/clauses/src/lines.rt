@@ -59,7 +59,8 @@ pub fn line(text: &[u8], offset: usize) -> (&[u8], &[u8])
 
 /// An explanation begins with the name of the kind, has the line of the fault in it, and fails by its writer alone.
 pub fn explanation<W: Writer>(error: &Error, pattern: &str, writer: &mut W) -> io::Result<()>
-    ensures ok { OnOk result (Explains W.contents writer.old (error_name error.now) (line_of_fault error.now pattern.now) writer.new) }
+    ensures ok { OnOk result (Explains W.contents writer.old (error_name error.now)
+        (line_of_fault error.now pattern.now) writer.new) }
     ensures fault { IfErr result (λ fault. IsFault W.answers fault writer.new) }
 {
     error.explain(pattern, writer)
