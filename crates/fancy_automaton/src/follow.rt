@@ -10,6 +10,7 @@ ghost use Rattle.fancy_automaton.specs.Sole.{IsAmid, IsSole};
 use crate::cells::Cells;
 use crate::hop::{Stand, idle_row, stand_after};
 use crate::origin::Origin;
+use crate::trail::VISITS;
 use crate::transitions::Entry;
 use fancy_code::attempt::Attempt;
 
@@ -67,7 +68,8 @@ fn seek(attempt: &Attempt, cells: &Cells, from: Sole, idle: usize) -> Sole
     }
 }
 
-/// The next place at which all ways that wait began at one place again, if the table leads there with nothing found.
+/// The next place at which all ways that wait began at one place again, if the table leads there with nothing found, and within as
+/// many places as a trail has: those are passed once more with a trail where it does not. So no place is passed many times.
 #[inline(never)]
 fn hunt(attempt: &Attempt, cells: &Cells, from: Stand, idle: usize) -> Option<Sole>
     requires inside { attempt.now.last ≤ length attempt.now.haystack.now }
@@ -81,8 +83,9 @@ fn hunt(attempt: &Attempt, cells: &Cells, from: Stand, idle: usize) -> Option<So
 {
     let table = cells.table.view();
     let haystack = attempt.haystack;
+    let limit = attempt.last.min(from.place.saturating_add(VISITS));
     let mut at = from;
-    'places: while at.place < attempt.last {
+    'places: while at.place < limit {
         let column = table.column(haystack[at.place])?;
         let Entry::Quiet(step) = table.at(at.begun, at.first, column) else {
             return None;
