@@ -17,12 +17,11 @@ use Rattle.fancy_automaton.specs.declared.trail.Beginning.TheVariants.{Known, Tr
 use Rattle.fancy_automaton.specs.declared.trail.Hit.{Hit}
 use Rattle.fancy_automaton.specs.declared.trail.Trail.{Trail}
 use Rattle.fancy_automaton.specs.declared.trail.Visit.{Visit}
-use Rattle.fancy_automaton.specs.Cells.{IsFor, KeepsRows, KeepsCells, HasRow, HasCell, ways_at, row_if}
+use Rattle.fancy_automaton.specs.Cells.{KeepsRows, KeepsCells, HasRow, HasRows, HasCell, HoldsFor, ways_at, row_if}
 use Rattle.fancy_alphabet.specs.Alike.{IsSeenLike}
-use Rattle.fancy_automaton.specs.Front.{IsFront, ways_of, starts_of, found_of}
-use Rattle.fancy_automaton.specs.Futures.{ArePlain}
+use Rattle.fancy_automaton.specs.Front.{IsFront, Stands, ways_of, starts_of, found_of}
 use Rattle.fancy_alphabet.specs.Units.{place_after}
-use Rattle.fancy_automaton.specs.Search.{Steady, Going, begun_if, found_or}
+use Rattle.fancy_automaton.specs.Search.{Going, IsFollowed, begun_if, found_or}
 use Rattle.fancy_automaton.specs.Steps.{IsStep, at_of, start_in, span_by}
 use Rattle.fancy_automaton.specs.Trail.{starts_after, starts_in, began_by, found_at, found_in_trail, hit_or, known_hit, and_start, AllVisited, IsBeginning, HitIn}
 use Rattle.fancy_alphabet.specs.Sights.{seen_in}
@@ -42,10 +41,10 @@ front_row a cells f place resume row is e =
     (row_here cells.rows.lists.items (found_of cells f) f.next f.begun a.code.now.start (ways_of cells f) is.waits is.opens)
 
 -- a step that is remembered, or computed, from the row of a place on what is read there
-module _ (a : Attempt) (steady : Steady a) (plain : ArePlain (instrs_in a)) (cells later : Cells) (f : Front) (place row : ℕ) (asked : Sight)
+module _ (a : Attempt) (cells later : Cells) (f : Front) (place row : ℕ) (asked : Sight)
     (k : ℕ) (d : Cell) (start : Option ℕ) (visits : Vec Visit) (hit : Option Hit) (resume : ℕ)
     (within : place ≤ a.last) (good : may_end_in a place ≡ true) (is : IsFront a cells f place place) (rowed : row ≡ row_if (found_of cells f) f.next f.begun)
-    (like : IsSeenLike a place asked) (all : IsFor later a.code.now)
+    (like : IsSeenLike a place asked) (holds : HoldsFor later a.code.now)
     (kept : KeepsRows cells.rows.lists.items later.rows.lists.items) (grown : KeepsCells cells.cells.items later.cells.items)
     (has : HasCell later.cells.items k row asked) (there : d ≡ get_or later.cells.items k d)
     (starts : (ss : List ℕ) → and_start start ss ≡ begun_if (found_of cells f) ss place)
@@ -60,7 +59,7 @@ module _ (a : Attempt) (steady : Steady a) (plain : ArePlain (instrs_in a)) (cel
       let before = found_of cells f in
       let now = found_at later.cells.items base visits.items hit in
       let stood : slice_get later.cells.items k ≡ Some d = slice_get-get_or later.cells.items k d (get_within later.cells.items k has.0 has.1) ∙ ap Some (sym there) in
-      let cell = cell_is a.code.now later.rows.lists.items later.cells.items k row asked d all.0 has there in
+      let cell = cell_is a.code.now later.rows.lists.items later.cells.items k row asked d holds.all.0 has there in
       let begun : List ℕ = begun_if before (starts_of cells f) place in
       let ways : List ℕ = begun_if before (ways_of cells f) a.code.now.start in
       let same : cell.ways ≡ ways = sym (row_ways later.rows.lists.items row cell.ways cell.source) ∙ row_later cells.rows.lists.items later.rows.lists.items row ways kept (front_row a cells f place place row is rowed) in
@@ -71,14 +70,16 @@ module _ (a : Attempt) (steady : Steady a) (plain : ArePlain (instrs_in a)) (cel
       let told : (rest : Option (ℕ × ℕ)) → found_or now rest ≡ option_or (span_by begun (match_end d.matched place)) (found_or before rest) = λ rest.
       ap (λ (o : Option Span). found_or o rest) same_found
       ∙ told_by cells.cells.items later.cells.items grown base old is.visits v f.hit d.matched place is.hits starts rest in
-      let moved = going_step a steady plain (ways_of cells f) (starts_of cells f) before now place like.whole cell.after d.matched within good like.seen step
+      let moved = going_step a is.followed.steady is.followed.plain (ways_of cells f) (starts_of cells f) before now place like.whole cell.after d.matched within good like.seen step
       (λ none. cell.halts (like.ends none)) told is.going in
       let next : ways_at later.rows.lists.items d.next ≡ map at_of cell.after = row_ways later.rows.lists.items d.next (map at_of cell.after) cell.leads in
       let began : starts_after later.cells.items base visits.items ≡ map (start_in begun) cell.after =
       ap (starts_after later.cells.items base) more
       ∙ starts_visited cells.cells.items later.cells.items grown base old is.visits v begun d cell.after stood cell.comes (starts (starts_of cells f)) in
       record {
-        all = all;
+        followed = is.followed;
+        kept = holds.bounded;
+        all = holds.all;
         waits = row_holds later.rows.lists.items d.next (map at_of cell.after) cell.leads;
         opens = subst (λ (ws : List ℕ). HasRow later.rows.lists.items d.begun (ws ++ a.code.now.start ∷ [])) (sym next) cell.opens;
         going = going_same a _ _ _ _ now now (place + 1) _ resume (sym next) (sym began) refl (sym (after ∙ like.width)) moved;
@@ -89,14 +90,16 @@ module _ (a : Attempt) (steady : Steady a) (plain : ArePlain (instrs_in a)) (cel
       }
 
 -- before the first place
-pub front_first : (a : Attempt) (cells : Cells) (f : Front) → IsFor cells a.code.now → HasRow cells.rows.lists.items f.next [] → HasRow cells.rows.lists.items f.begun (a.code.now.start ∷ [])
+pub front_first : (a : Attempt) (cells : Cells) (f : Front) → IsFollowed a → HoldsFor cells a.code.now → HasRows cells.rows.lists.items f.next f.begun [] a.code.now.start
     → f.trail.base.items ≡ [] → f.trail.visits.items ≡ [] → f.hit ≡ None → IsFront a cells f a.base a.base
-front_first a cells f all waits opens base visits hit =
-    let none = row_ways cells.rows.lists.items f.next [] waits in
+front_first a cells f followed holds rows base visits hit =
+    let none = row_ways cells.rows.lists.items f.next [] rows.waits in
     record {
-      all = all;
-      waits = row_holds cells.rows.lists.items f.next [] waits;
-      opens = subst (λ (ws : List ℕ). HasRow cells.rows.lists.items f.begun (ws ++ a.code.now.start ∷ [])) (sym none) opens;
+      followed = followed;
+      kept = holds.bounded;
+      all = holds.all;
+      waits = row_holds cells.rows.lists.items f.next [] rows.waits;
+      opens = subst (λ (ws : List ℕ). HasRow cells.rows.lists.items f.begun (ws ++ a.code.now.start ∷ [])) (sym none) rows.opens;
       going = going_first a _ _ _ none (ap₂ (starts_after cells.cells.items) base visits) (ap (found_at cells.cells.items f.trail.base.items f.trail.visits.items) hit);
       visits = subst (AllVisited cells.cells.items) (sym visits) tt;
       hits = subst (HitIn f.trail.visits.items) (sym hit) tt;
@@ -106,7 +109,7 @@ module _ (a : Attempt) (cells : Cells) (f : Front) where
   -- the same, where more is known of where the ways wait
   front_by : (place place' resume resume' : ℕ) → IsFront a cells f place resume → Going a (ways_of cells f) (starts_of cells f) (found_of cells f) place' resume'
       → IsFront a cells f place' resume'
-  front_by place place' resume resume' is going = record { all = is.all; waits = is.waits; opens = is.opens; going = going; visits = is.visits; hits = is.hits }
+  front_by place place' resume resume' is going = record { followed = is.followed; kept = is.kept; all = is.all; waits = is.waits; opens = is.opens; going = going; visits = is.visits; hits = is.hits }
 
   -- on to the place where the ways wait
   pub front_on : (place resume : ℕ) → resume ≤ a.last + 1 → IsFront a cells f place resume → IsFront a cells f resume resume
@@ -122,6 +125,14 @@ module _ (a : Attempt) (cells : Cells) (f : Front) where
   front_skips place resume idle ahead within none is =
       front_by place resume place resume is
       (going_idle a _ _ _ place resume ahead within (no_items (starts_of cells f) (is.going.even ∙ ap length idle)) (λ k low high. inr (none k low high)) is.going)
+
+-- it stands at the same place
+pub still_stands : (a : Attempt) (cells : Cells) (f : Front) (place next : ℕ) → next ≡ place → may_end_in a place ≡ true → place ≤ a.last → IsFront a cells f next next → Stands a cells f place
+still_stands a cells f place next same good within is = record {
+  front = subst (λ (p : ℕ). IsFront a cells f p p) same is;
+  good = good;
+  within = within;
+}
 
 -- where a way waits, a match may begin and end
 pub front_waits : (a : Attempt) (cells : Cells) (f : Front) (place : ℕ) → IsFront a cells f place place → ways_of cells f ≢ [] → (may_end_in a place ≡ true) × (place ≤ a.last)
@@ -149,6 +160,8 @@ front_settled a cells f later place resume next begun base visits hit is =
     let found : found_of cells f ≡ found_of cells later =
     sym (known_found cells.cells.items later.trail.base.items later.trail.visits.items (found_of cells f)) ∙ sym (ap (found_at cells.cells.items later.trail.base.items later.trail.visits.items) hit) in
     record {
+      followed = is.followed;
+      kept = is.kept;
       all = is.all;
       waits = subst (λ (ws : List ℕ). HasRow cells.rows.lists.items later.next ws) ways (subst (λ (r : ℕ). HasRow cells.rows.lists.items r (ways_of cells f)) (sym next) is.waits);
       opens = subst (λ (ws : List ℕ). HasRow cells.rows.lists.items later.begun (ws ++ a.code.now.start ∷ [])) ways (subst (λ (r : ℕ). HasRow cells.rows.lists.items r (ways_of cells f ++ a.code.now.start ∷ [])) (sym begun) is.opens);
@@ -165,11 +178,11 @@ known_anyway cells later base (Some h) is = ap (λ (s : ℕ). Some (record { sta
   by (Traced visit way) is = absurd (omega (arith, is))
 
 -- the same ways wait in rows of their own
-pub front_restarted : (a : Attempt) (cells later : Cells) (f g : Front) (place resume : ℕ) → f.trail.visits.items ≡ [] → IsFor later a.code.now
-    → HasRow later.rows.lists.items g.next (ways_of cells f) → HasRow later.rows.lists.items g.begun (ways_of cells f ++ a.code.now.start ∷ [])
+pub front_restarted : (a : Attempt) (cells later : Cells) (f g : Front) (place resume : ℕ) → f.trail.visits.items ≡ [] → HoldsFor later a.code.now
+    → HasRows later.rows.lists.items g.next g.begun (ways_of cells f) a.code.now.start
     → g.trail ≡ f.trail → g.hit ≡ f.hit → IsFront a cells f place resume → IsFront a later g place resume
-front_restarted a cells later f g place resume none all waits opens trail hit is =
-    let ways : ways_of later g ≡ ways_of cells f = row_ways later.rows.lists.items g.next (ways_of cells f) waits in
+front_restarted a cells later f g place resume none holds rows trail hit is =
+    let ways : ways_of later g ≡ ways_of cells f = row_ways later.rows.lists.items g.next (ways_of cells f) rows.waits in
     let starts : starts_of cells f ≡ starts_of later g =
     ap (starts_after cells.cells.items f.trail.base.items) none ∙ sym (ap (starts_after later.cells.items f.trail.base.items) none) ∙ ap (starts_in later.cells.items) (sym trail) in
     let found : found_of cells f ≡ found_of later g =
@@ -178,9 +191,11 @@ front_restarted a cells later f g place resume none all waits opens trail hit is
     ∙ sym (ap (λ (vs : List Visit). found_at later.cells.items f.trail.base.items vs f.hit) none)
     ∙ ap₂ (λ (t : Trail) (h : Option Hit). found_in_trail later.cells.items t h) (sym trail) (sym hit) in
     record {
-      all = all;
-      waits = row_holds later.rows.lists.items g.next (ways_of cells f) waits;
-      opens = subst (λ (ws : List ℕ). HasRow later.rows.lists.items g.begun (ws ++ a.code.now.start ∷ [])) (sym ways) opens;
+      followed = is.followed;
+      kept = holds.bounded;
+      all = holds.all;
+      waits = row_holds later.rows.lists.items g.next (ways_of cells f) rows.waits;
+      opens = subst (λ (ws : List ℕ). HasRow later.rows.lists.items g.begun (ws ++ a.code.now.start ∷ [])) (sym ways) rows.opens;
       going = going_same a _ _ _ _ _ _ place resume resume (sym ways) starts found refl is.going;
       visits = subst (λ (t : Trail). AllVisited later.cells.items t.visits.items) (sym trail) (subst (AllVisited later.cells.items) (sym none) tt);
       hits = subst (λ (t : Trail). HitIn t.visits.items g.hit) (sym trail) (subst (HitIn f.trail.visits.items) (sym hit) is.hits);

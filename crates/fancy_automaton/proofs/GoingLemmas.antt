@@ -1,8 +1,7 @@
 -- How far a search has come, place by place.
-use Rattle.std.proofs.Common.{◌≡◌, ℕ, zero, suc, ◌+◌, ◌-◌, ◌*◌, ◌<◌, ◌≤◌, ◌⊎◌, inl, inr, Bool, true, false, List, [], Option, Some, None, refl, sym, ap, ◌∙◌, subst, arith, length, map, true≢false}
+use Rattle.std.proofs.Common.{◌≡◌, ℕ, zero, suc, ◌+◌, ◌-◌, ◌<◌, ◌≤◌, ◌⊎◌, inl, inr, Bool, true, false, List, [], Option, Some, None, refl, sym, ap, ◌∙◌, subst, arith, length, map, true≢false}
 use Rattle.std.specs.Prelude.{nat_le, if◌then◌else◌, option_map, is_some}
 use Rattle.std.specs.Option.{option_or}
-use Rattle.std.proofs.Math.Nat.{mul-le-mul_left}
 use Rattle.std.proofs.lemmas.Bool.Decides.{nat_tests}
 use Rattle.fancy_input.specs.declared.span.Span.{Span}
 use Rattle.fancy_code.specs.declared.attempt.Attempt.{Attempt}
@@ -174,19 +173,3 @@ module _ (a : Attempt) where
   going_over ways starts None place resume deep none some begun g = absurd (true≢false (sym some))
   going_over ways starts (Some s) place resume deep none some begun g =
       under_none (may_end_in a) (context_in a) a.last (instrs_in a) deep a.code.now.start _ ways starts resume _ none (g.under deep begun)
-
-one_place : (c n m : ℕ) → m ≡ n + 1 → c * m ≡ c * n + c
-one_place c n m e = ap (λ (k : ℕ). c * k) e ∙ omega arith
-
--- the steps of one place, and those after it
-pub steps_more : (c first place next s before after : ℕ) → first ≤ place → place < next → before ≤ s + c * (place - first) → after ≤ before + c → after ≤ s + c * (next - first)
-steps_more c first place next s before after le lt b more =
-    let m : c * (place + 1 - first) ≡ c * (place - first) + c = one_place c (place - first) (place + 1 - first) (omega (arith, le)) in
-    let up : c * (place + 1 - first) ≤ c * (next - first) = mul-le-mul_left c (omega (arith, lt)) in
-    omega (arith, m, up, b, more)
-
--- places that are passed over add to the bound
-pub steps_up : (c first place next s before : ℕ) → place ≤ next → before ≤ s + c * (place - first) → before ≤ s + c * (next - first)
-steps_up c first place next s before le b =
-    let up : c * (place - first) ≤ c * (next - first) = mul-le-mul_left c (omega (arith, le)) in
-    omega (arith, up, b)

@@ -5,7 +5,7 @@ use Rattle.std.specs.Global.{Vec}
 use Rattle.std.proofs.lemmas.Option.{slice_get_cases}
 use Rattle.std.proofs.Math.Nat.{mul-le-mul}
 use Rattle.fancy_code.specs.declared.attempt.Attempt.{Attempt}
-use Rattle.fancy_code.specs.Attempt.{context_in, instrs_in, may_end_in}
+use Rattle.fancy_code.specs.Attempt.{context_in, may_end_in}
 use Rattle.fancy_code.specs.Context.{Context}
 use Rattle.fancy_input.specs.Lines.{byte_before}
 use Rattle.fancy_code.proofs.ReadingLemmas.{low_unit}
@@ -22,7 +22,6 @@ use Rattle.fancy_alphabet.specs.declared.classes.Classes.{Classes}
 use Rattle.fancy_alphabet.specs.declared.classes.Column.{Column}
 use Rattle.fancy_alphabet.specs.declared.side.Side.{Side}
 use Rattle.fancy_automaton.specs.Front.{IsFront, found_of}
-use Rattle.fancy_automaton.specs.Futures.{ArePlain}
 use Rattle.fancy_automaton.specs.Search.{Steady, begun_if}
 use Rattle.fancy_automaton.specs.Trail.{hit_or, and_start}
 use Rattle.fancy_automaton.specs.Transitions.{IsTransition}
@@ -58,7 +57,7 @@ first_low x p classes first is =
     omega (arith, is.2, most)
 
 -- a step that the table tells
-pub front_hopped : (a : Attempt) → Steady a → ArePlain (instrs_in a) → (cells : Cells) (f : Front) (p row byte first : ℕ) (c : Column) (t : Transition) (start : Option ℕ) (visits : Vec Visit) (hit : Option Hit)
+pub front_hopped : (a : Attempt) (cells : Cells) (f : Front) (p row byte first : ℕ) (c : Column) (t : Transition) (start : Option ℕ) (visits : Vec Visit) (hit : Option Hit)
     → p < a.last → slice_get a.haystack.now p ≡ Some byte → slice_get cells.table.classes.columns.items byte ≡ Some c → may_end_in a p ≡ true → IsFront a cells f p p
     → IsFirst (context_in a) p cells.table.classes first → row ≡ row_if (found_of cells f) f.next f.begun
     → ((before : Side) → number_of before < sides_of cells.table.classes.tests → first ≡ first_of cells.table.classes before
@@ -67,7 +66,7 @@ pub front_hopped : (a : Attempt) → Steady a → ArePlain (instrs_in a) → (ce
     → visits.items ≡ f.trail.visits.items ++ record { cell = t.cell; start = start } ∷ []
     → ((d : Cell) → slice_get cells.cells.items t.cell ≡ Some d → hit ≡ hit_or f.hit d.matched (length f.trail.visits.items) p)
     → IsFront a cells (record { next = t.next; begun = t.begun; trail = record { base = f.trail.base; visits = visits }; hit = hit }) (p + 1) (p + 1)
-front_hopped a steady plain cells f p row byte first c t start visits hit before here column good is begins rowed tells starts more found =
+front_hopped a cells f p row byte first c t start visits hit before here column good is begins rowed tells starts more found =
     let classes = cells.table.classes in
     let side = seen_as classes.tests begins.0 in
     let told = tells side (seen_low classes.tests begins.0) begins.2 in
@@ -77,8 +76,8 @@ front_hopped a steady plain cells f p row byte first c t start visits hit before
       | inl there ↦ (
           let d = there.0 in
           let at : slice_get cells.cells.items t.cell ≡ Some d = there.2 in
-          let moved = front_advanced a steady plain cells cells f p row (sight_for classes side byte) t.cell d start visits hit (p + 1)
-          (omega (arith, before)) good is rowed like is.all (λ r v e. e) (λ k x e. e)
+          let moved = front_advanced a cells cells f p row (sight_for classes side byte) t.cell d start visits hit (p + 1)
+          (omega (arith, before)) good is rowed like (record { bounded = is.kept; all = is.all }) (λ r v e. e) (λ k x e. e)
           (d, at, told.from d at, told.on d at) (sym there.3) starts more (found d at) refl in
           subst (λ (n : ℕ). IsFront a cells (record { next = n; begun = t.begun; trail = record { base = f.trail.base; visits = visits }; hit = hit }) (p + 1) (p + 1)) (told.next d at)
           (subst (λ (n : ℕ). IsFront a cells (record { next = d.next; begun = n; trail = record { base = f.trail.base; visits = visits }; hit = hit }) (p + 1) (p + 1)) (told.begun d at) moved))

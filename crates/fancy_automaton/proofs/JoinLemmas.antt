@@ -12,6 +12,15 @@ use Rattle.fancy_automaton.specs.Steps.{IsStep, waiting, at_of}
 use Rattle.fancy_automaton.specs.Joins.{Thinned, all_from, match_from}
 use Rattle.fancy_automaton.proofs.ClosingLemmas.{first_append}
 
+pub no_ways : (ws : List Way) → length ws ≡ 0 → ws ≡ []
+no_ways [] e = refl
+no_ways (w ∷ ws) e = absurd (omega (arith, e))
+
+-- as many ways as instructions
+pub length-all_from : (n : ℕ) (qs : List ℕ) → length (all_from n qs) ≡ length qs
+length-all_from n [] = refl
+length-all_from n (q ∷ qs) = ap suc (length-all_from n qs)
+
 or_none : (o : Option (ℕ × ℕ)) → option_or o None ≡ o
 or_none None = refl
 or_none (Some x) = refl

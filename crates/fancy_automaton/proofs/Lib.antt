@@ -1,4 +1,5 @@
 pub mod MarkLemmas
+pub mod CountLemmas
 pub mod TurnLemmas
 pub mod ClosingLemmas
 pub mod StepLemmas

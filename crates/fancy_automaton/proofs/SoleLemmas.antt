@@ -1,5 +1,5 @@
 -- Steps of a search whose ways that wait all began at one place.
-use Rattle.std.proofs.Common.{◌≡◌, ℕ, zero, suc, ◌+◌, ◌-◌, ◌<◌, ◌≤◌, ◌⊎◌, inl, inr, ◌++◌, ◌∷◌, [], Bool, true, List, Option, Some, None, refl, sym, ap, ap₂, ◌∙◌, subst, arith, length, map, replicate, take, length-append, option_map}
+use Rattle.std.proofs.Common.{◌≡◌, ℕ, zero, suc, ◌+◌, ◌-◌, ◌<◌, ◌⊎◌, inl, inr, ◌++◌, ◌∷◌, [], Bool, true, List, Option, Some, None, refl, sym, ap, ap₂, ◌∙◌, subst, arith, length, map, replicate, take, length-append, option_map, get_or}
 use Rattle.std.specs.Prelude.{slice_get, slice_index, nat_eq, nat_lt, is_some, IfSome}
 use Rattle.std.specs.List.{list_all}
 use Rattle.std.specs.Option.{option_or}
@@ -7,7 +7,7 @@ use Rattle.std.specs.Global.{Vec}
 use Rattle.std.proofs.lemmas.Bool.{and_parts}
 use Rattle.std.proofs.lemmas.Bool.Decides.{nat_tests}
 use Rattle.std.proofs.lemmas.List.{length-replicate}
-use Rattle.std.proofs.lemmas.Option.{get_or_from_slice_get, slice_get_cases}
+use Rattle.std.proofs.lemmas.Option.{get_or_from_slice_get, slice_get-get_or, slice_get_cases}
 use Rattle.fancy_input.specs.declared.span.Span.{Span}
 use Rattle.fancy_code.specs.declared.attempt.Attempt.{Attempt}
 use Rattle.fancy_code.specs.Attempt.{context_in, instrs_in, may_end_in}
@@ -27,10 +27,9 @@ use Rattle.fancy_automaton.specs.declared.origin.Origin.TheVariants.{Earlier, La
 use Rattle.fancy_automaton.specs.declared.transitions.Transition.{Transition}
 use Rattle.fancy_automaton.specs.declared.way.Way.{Way}
 use Rattle.fancy_automaton.specs.Cells.{HasRow, IsCell, IsIdle, ways_at, row_if}
-use Rattle.fancy_automaton.specs.Front.{IsFront, front_at, found_of, starts_of, ways_of}
-use Rattle.fancy_automaton.specs.Futures.{ArePlain}
+use Rattle.fancy_automaton.specs.Front.{IsFront, Stands, front_at, found_of, starts_of, ways_of}
 use Rattle.fancy_automaton.specs.Origins.{ComeFrom}
-use Rattle.fancy_automaton.specs.Search.{Going, Steady, begun_if, found_or}
+use Rattle.fancy_automaton.specs.Search.{Going, IsFollowed, begun_if, found_or}
 use Rattle.fancy_automaton.specs.Sole.{IsAmid, IsAt, IsSole, match_from, stood}
 use Rattle.fancy_automaton.specs.Trail.{AllVisited, HitIn, found_at, known_hit, starts_after}
 use Rattle.fancy_automaton.specs.declared.follow.Sole.{Sole}
@@ -39,7 +38,8 @@ use Rattle.fancy_automaton.specs.declared.trail.Hit.{Hit}
 use Rattle.fancy_automaton.specs.declared.trail.Visit.{Visit}
 use Rattle.fancy_automaton.proofs.FrontLemmas.{known_found, known_in}
 use Rattle.fancy_automaton.specs.Steps.{IsStep, at_of, from_of, span_by, start_in}
-use Rattle.fancy_automaton.specs.Transitions.{IsMatching, IsQuiet, IsTransition}
+use Rattle.fancy_automaton.specs.Transitions.{IsMatching, IsQuiet, IsTransition, IsView}
+use Rattle.fancy_automaton.specs.declared.transitions.View.{View}
 use Rattle.fancy_automaton.specs.Ways.{match_end}
 use Rattle.fancy_automaton.proofs.CellLemmas.{cell_is, row_here, row_holds, row_ways}
 use Rattle.fancy_automaton.proofs.GoingLemmas.{going_same, going_step}
@@ -54,7 +54,7 @@ pub record Stepped (a : Attempt) (cells : Cells) (at : Stand) (ways starts : Lis
   pub stands : IsAt a cells (stood at c t) (map at_of next) (map (start_in (begun_if found starts at.place)) next) after
 
 -- a step that the table tells
-module _ (a : Attempt) (steady : Steady a) (plain : ArePlain (instrs_in a)) (cells : Cells) (at : Stand) (ways starts : List ℕ) (found : Option Span)
+module _ (a : Attempt) (cells : Cells) (at : Stand) (ways starts : List ℕ) (found : Option Span)
     (row byte : ℕ) (c : Column) (t : Transition) (d : Cell)
     (before : at.place < a.last) (here : slice_get a.haystack.now at.place ≡ Some byte) (column : slice_get cells.table.classes.columns.items byte ≡ Some c)
     (is : IsAt a cells at ways starts found) (rowed : row ≡ row_if found at.next at.begun)
@@ -93,18 +93,20 @@ module _ (a : Attempt) (steady : Steady a) (plain : ArePlain (instrs_in a)) (cel
       let like = like_ascii a p classes is.all.1 is.begins.0 byte is.begins.1 low before here in
       let step = step_alike (instrs_in a) begun like.whole (seen_in asked) own.after d.matched like.alike
       (subst (λ (ws : List ℕ). IsStep (instrs_in a) ws (seen_in asked) own.after d.matched) same own.step) in
-      let moved = going_step a steady plain ways starts found after p like.whole own.after d.matched is.within is.good like.seen step (λ none. own.halts (like.ends none)) hits is.going in
+      let moved = going_step a is.followed.steady is.followed.plain ways starts found after p like.whole own.after d.matched is.within is.good like.seen step (λ none. own.halts (like.ends none)) hits is.going in
       let width : place_after p like.whole.unit ≡ p + 1 = sym like.width in
       record {
         next = own.after;
         come = comes;
         stands = record {
+          followed = is.followed;
+          kept = is.kept;
           all = is.all;
           waits = subst (λ (n : ℕ). HasRow rows n (map at_of own.after)) (told.next d there) own.leads;
           opens = subst (λ (n : ℕ). HasRow rows n (map at_of own.after ++ a.code.now.start ∷ [])) (told.begun d there) own.opens;
           going = going_same a _ _ _ _ after after (p + 1) _ (p + 1) refl refl refl width moved;
           begins = first_after a classes p byte c low here column;
-          good = ascii_leads a p byte before low here steady is.good;
+          good = ascii_leads a p byte before low here is.followed.steady is.good;
           within = omega (arith, before);
         };
       }
@@ -124,7 +126,7 @@ equal : (f n : ℕ) → nat_eq f n ≡ true → f ≡ n
 equal f n e = grind (arith, nat_tests)
 
 -- of which way a match comes that is found
-module _ (a : Attempt) (steady : Steady a) (plain : ArePlain (instrs_in a)) (cells : Cells) (at : Stand) (ways starts : List ℕ) (found : Option Span)
+module _ (a : Attempt) (cells : Cells) (at : Stand) (ways starts : List ℕ) (found : Option Span)
     (row byte : ℕ) (c : Column) (t : Transition) (d : Cell)
     (before : at.place < a.last) (here : slice_get a.haystack.now at.place ≡ Some byte) (column : slice_get cells.table.classes.columns.items byte ≡ Some c)
     (is : IsAt a cells at ways starts found) (rowed : row ≡ row_if found at.next at.begun)
@@ -134,24 +136,24 @@ module _ (a : Attempt) (steady : Steady a) (plain : ArePlain (instrs_in a)) (cel
   many = length (begun_if found ways a.code.now.start)
 
   abbrev all_come : List ℕ
-  all_come = map from_of (own a steady plain cells at ways starts found row byte c t d before here column is rowed told there).after
+  all_come = map from_of (own a cells at ways starts found row byte c t d before here column is rowed told there).after
 
   pub earlier_found : t.origin ≡ Earlier → IfSome d.matched (λ f. f < many - 1)
   earlier_found e =
-      let come : ComeFrom Earlier many all_come d.matched = subst (λ (o : Origin). ComeFrom o many all_come d.matched) e (comes a steady plain cells at ways starts found row byte c t d before here column is rowed told there) in
+      let come : ComeFrom Earlier many all_come d.matched = subst (λ (o : Origin). ComeFrom o many all_come d.matched) e (comes a cells at ways starts found row byte c t d before here column is rowed told there) in
       come.1
 
   pub last_found : t.origin ≡ Last → IfSome d.matched (λ f. f ≡ many - 1)
   last_found e =
-      let come : ComeFrom Last many all_come d.matched = subst (λ (o : Origin). ComeFrom o many all_come d.matched) e (comes a steady plain cells at ways starts found row byte c t d before here column is rowed told there) in
+      let come : ComeFrom Last many all_come d.matched = subst (λ (o : Origin). ComeFrom o many all_come d.matched) e (comes a cells at ways starts found row byte c t d before here column is rowed told there) in
       come.2
 
   pub some_way : t.origin ≡ Last → 0 < many
   some_way e =
-      let come : ComeFrom Last many all_come d.matched = subst (λ (o : Origin). ComeFrom o many all_come d.matched) e (comes a steady plain cells at ways starts found row byte c t d before here column is rowed told there) in
+      let come : ComeFrom Last many all_come d.matched = subst (λ (o : Origin). ComeFrom o many all_come d.matched) e (comes a cells at ways starts found row byte c t d before here column is rowed told there) in
       come.0
 
-module _ (a : Attempt) (steady : Steady a) (plain : ArePlain (instrs_in a)) (cells : Cells) (at : Stand) (ways starts : List ℕ) (m : Span)
+module _ (a : Attempt) (cells : Cells) (at : Stand) (ways starts : List ℕ) (m : Span)
     (row byte : ℕ) (c : Column) (t : Transition) (d : Cell)
     (before : at.place < a.last) (here : slice_get a.haystack.now at.place ≡ Some byte) (column : slice_get cells.table.classes.columns.items byte ≡ Some c)
     (is : IsAt a cells at ways starts (Some m)) (rowed : row ≡ at.next)
@@ -160,12 +162,12 @@ module _ (a : Attempt) (steady : Steady a) (plain : ArePlain (instrs_in a)) (cel
   pub within_row : (t.origin ≡ Earlier) ⊎ (t.origin ≡ Last) → f < length ways
   within_row (inl e) =
       let low : f < length ways - 1 = subst (λ (o : Option ℕ). IfSome o (λ f. f < length ways - 1)) some
-      (earlier_found a steady plain cells at ways starts (Some m) row byte c t d before here column is rowed told there e) in
+      (earlier_found a cells at ways starts (Some m) row byte c t d before here column is rowed told there e) in
       omega (arith, low)
   within_row (inr e) =
       let same : f ≡ length ways - 1 = subst (λ (o : Option ℕ). IfSome o (λ f. f ≡ length ways - 1)) some
-      (last_found a steady plain cells at ways starts (Some m) row byte c t d before here column is rowed told there e) in
-      let pos = some_way a steady plain cells at ways starts (Some m) row byte c t d before here column is rowed told there e in
+      (last_found a cells at ways starts (Some m) row byte c t d before here column is rowed told there e) in
+      let pos = some_way a cells at ways starts (Some m) row byte c t d before here column is rowed told there e in
       omega (arith, same, pos)
 
 -- ways that come from some with one beginning have it too
@@ -261,7 +263,15 @@ pub record Reads (a : Attempt) (cells : Cells) (at : Stand) (row byte : ℕ) (c 
   pub here : slice_get a.haystack.now at.place ≡ Some byte
   pub column : slice_get cells.table.classes.columns.items byte ≡ Some c
 
-module _ (a : Attempt) (steady : Steady a) (plain : ArePlain (instrs_in a)) (cells : Cells) (at : Stand) (byte : ℕ) (c : Column) (t : Transition) where
+pub reads : (a : Attempt) (cells : Cells) (at : Stand) (v : View) (row : ℕ) (c : Column) → IsFollowed a → IsView cells.table v → at.place < a.last
+    → slice_get v.columns.now (get_or a.haystack.now at.place 0) ≡ Some c → Reads a cells at row (get_or a.haystack.now at.place 0) c
+reads a cells at v row c followed view before there = record {
+  before = before;
+  here = slice_get-get_or a.haystack.now at.place 0 (omega (arith, followed.inside, before));
+  column = ap (λ (cs : List Column). slice_get cs (get_or a.haystack.now at.place 0)) (sym view.0) ∙ there;
+}
+
+module _ (a : Attempt) (cells : Cells) (at : Stand) (byte : ℕ) (c : Column) (t : Transition) where
   -- what the table has of the row on what is seen
   abbrev pub Tells : ℕ → Side → (List Cell → Transition → Type 0) → Type 0
   Tells row before Also = IsTransition cells.cells.items row (sight_for cells.table.classes (seen_as cells.table.classes.tests before) byte) t × Also cells.cells.items t
@@ -272,7 +282,7 @@ module _ (a : Attempt) (steady : Steady a) (plain : ArePlain (instrs_in a)) (cel
   quiet_earlier ways s is r told e =
       let there = cell_there cells.cells.items t.cell told.0.stands in
       keeps_start a cells at ways s None c t there.0.matched
-      (quiet a steady plain cells at ways (replicate (length ways) s) None at.begun byte c t there.0 r.before r.here r.column is refl told.0 there.1 (told.1 there.0 there.1)) e
+      (quiet a cells at ways (replicate (length ways) s) None at.begun byte c t there.0 r.before r.here r.column is refl told.0 there.1 (told.1 there.0 there.1)) e
 
   -- or from the one that began
   pub quiet_last : (ways starts : List ℕ) (is : IsAt a cells at ways starts None) → Reads a cells at at.begun byte c → Tells at.begun is.begins.0 IsQuiet
@@ -280,13 +290,13 @@ module _ (a : Attempt) (steady : Steady a) (plain : ArePlain (instrs_in a)) (cel
   quiet_last ways starts is r told e =
       let there = cell_there cells.cells.items t.cell told.0.stands in
       starts_here a cells at ways 0 None c t there.0.matched starts is.going.even
-      (quiet a steady plain cells at ways starts None at.begun byte c t there.0 r.before r.here r.column is refl told.0 there.1 (told.1 there.0 there.1)) e
+      (quiet a cells at ways starts None at.begun byte c t there.0 r.before r.here r.column is refl told.0 there.1 (told.1 there.0 there.1)) e
 
   -- or from both
   pub quiet_amid : (ways starts : List ℕ) (is : IsAt a cells at ways starts None) → Reads a cells at at.begun byte c → Tells at.begun is.begins.0 IsQuiet → IsAmid a cells (stood at c t)
   quiet_amid ways starts is r told =
       let there = cell_there cells.cells.items t.cell told.0.stands in
-      let st = quiet a steady plain cells at ways starts None at.begun byte c t there.0 r.before r.here r.column is refl told.0 there.1 (told.1 there.0 there.1) in
+      let st = quiet a cells at ways starts None at.begun byte c t there.0 r.before r.here r.column is refl told.0 there.1 (told.1 there.0 there.1) in
       (map at_of st.next, map (start_in (starts ++ at.place ∷ [])) st.next, st.stands)
 
   -- a match is found
@@ -297,9 +307,9 @@ module _ (a : Attempt) (steady : Steady a) (plain : ArePlain (instrs_in a)) (cel
       let some = some_of there.0.matched (told.1 there.0 there.1) in
       let starts = replicate (length ways) s in
       let come = subst (λ (o : Option ℕ). IfSome o (λ f. f < length (ways ++ a.code.now.start ∷ []) - 1)) some.1
-      (earlier_found a steady plain cells at ways starts None at.begun byte c t there.0 r.before r.here r.column is refl told.0 there.1 e) in
+      (earlier_found a cells at ways starts None at.begun byte c t there.0 r.before r.here r.column is refl told.0 there.1 e) in
       keeps_start a cells at ways s (Some (record { start = s; end = at.place })) c t there.0.matched
-      (matching a steady plain cells at ways starts None at.begun byte c t there.0 r.before r.here r.column is refl told.0 there.1 some.0 s some.1
+      (matching a cells at ways starts None at.begun byte c t there.0 r.before r.here r.column is refl told.0 there.1 some.0 s some.1
       (earlier_began ways a.code.now.start s at.place some.0 come)) e
 
   pub found_last : (ways starts : List ℕ) (is : IsAt a cells at ways starts None) → Reads a cells at at.begun byte c → Tells at.begun is.begins.0 IsMatching
@@ -308,9 +318,9 @@ module _ (a : Attempt) (steady : Steady a) (plain : ArePlain (instrs_in a)) (cel
       let there = cell_there cells.cells.items t.cell told.0.stands in
       let some = some_of there.0.matched (told.1 there.0 there.1) in
       let come = subst (λ (o : Option ℕ). IfSome o (λ f. f ≡ length (ways ++ a.code.now.start ∷ []) - 1)) some.1
-      (last_found a steady plain cells at ways starts None at.begun byte c t there.0 r.before r.here r.column is refl told.0 there.1 e) in
+      (last_found a cells at ways starts None at.begun byte c t there.0 r.before r.here r.column is refl told.0 there.1 e) in
       starts_here a cells at ways 0 (Some (record { start = at.place; end = at.place })) c t there.0.matched starts is.going.even
-      (matching a steady plain cells at ways starts None at.begun byte c t there.0 r.before r.here r.column is refl told.0 there.1 some.0 at.place some.1
+      (matching a cells at ways starts None at.begun byte c t there.0 r.before r.here r.column is refl told.0 there.1 some.0 at.place some.1
       (last_began ways starts a.code.now.start at.place some.0 is.going.even come)) e
 
   -- after a match was found
@@ -319,7 +329,7 @@ module _ (a : Attempt) (steady : Steady a) (plain : ArePlain (instrs_in a)) (cel
   later_quiet ways s m is r told e =
       let there = cell_there cells.cells.items t.cell told.0.stands in
       stays a cells at ways s (Some m) c t there.0.matched m
-      (quiet a steady plain cells at ways (replicate (length ways) s) (Some m) at.next byte c t there.0 r.before r.here r.column is refl told.0 there.1 (told.1 there.0 there.1)) e
+      (quiet a cells at ways (replicate (length ways) s) (Some m) at.next byte c t there.0 r.before r.here r.column is refl told.0 there.1 (told.1 there.0 there.1)) e
 
   pub later_found : (ways : List ℕ) (s : ℕ) (m : Span) (is : IsAt a cells at ways (replicate (length ways) s) (Some m)) → Reads a cells at at.next byte c → Tells at.next is.begins.0 IsMatching
       → (t.origin ≡ Earlier) ⊎ (t.origin ≡ Last) → (next : List ℕ) × IsAt a cells (stood at c t) next (replicate (length next) s) (Some (record { start = s; end = at.place }))
@@ -327,9 +337,9 @@ module _ (a : Attempt) (steady : Steady a) (plain : ArePlain (instrs_in a)) (cel
       let there = cell_there cells.cells.items t.cell told.0.stands in
       let some = some_of there.0.matched (told.1 there.0 there.1) in
       let starts = replicate (length ways) s in
-      let low : some.0 < length ways = within_row a steady plain cells at ways starts m at.next byte c t there.0 r.before r.here r.column is refl told.0 there.1 some.0 some.1 e in
+      let low : some.0 < length ways = within_row a cells at ways starts m at.next byte c t there.0 r.before r.here r.column is refl told.0 there.1 some.0 some.1 e in
       stays a cells at ways s (Some (record { start = s; end = at.place })) c t there.0.matched m
-      (matching a steady plain cells at ways starts (Some m) at.next byte c t there.0 r.before r.here r.column is refl told.0 there.1 some.0 s some.1 (index_one (length ways) s some.0 low)) e
+      (matching a cells at ways starts (Some m) at.next byte c t there.0 r.before r.here r.column is refl told.0 there.1 some.0 s some.1 (index_one (length ways) s some.0 low)) e
 
 -- where no way waits, they began anywhere
 pub idle_sole : (a : Attempt) (cells : Cells) (at : Stand) (idle start : ℕ) → IsIdle cells.rows.lists.items idle → at.next ≡ idle → IsAmid a cells at
@@ -349,32 +359,35 @@ is_one Last not = inr refl
 is_one Mixed not = absurd (not refl)
 
 -- a search all of whose ways began at one place
-pub sole_front : (a : Attempt) (cells : Cells) (f : Front) (at : Stand) (p s : ℕ) (end : Option ℕ) → IsFront a cells f p p → starts_of cells f ≡ replicate (length (starts_of cells f)) s → found_of cells f ≡ match_from s end
-    → at.place ≡ p → at.next ≡ f.next → at.begun ≡ f.begun → IsFirst (context_in a) p cells.table.classes at.first → may_end_in a p ≡ true → p ≤ a.last
+pub sole_front : (a : Attempt) (cells : Cells) (f : Front) (at : Stand) (p s : ℕ) (end : Option ℕ) → Stands a cells f p → starts_of cells f ≡ replicate (length (starts_of cells f)) s → found_of cells f ≡ match_from s end
+    → at.place ≡ p → at.next ≡ f.next → at.begun ≡ f.begun → IsFirst (context_in a) p cells.table.classes at.first
     → IsSole a cells (record { stand = at; start = s; end = end })
-sole_front a cells f at p s end is one found place next begun begins good within =
+sole_front a cells f at p s end stands one found place next begun begins =
+    let is = stands.front in
     let rows = cells.rows.lists.items in
     let back = sym place in (
       ways_of cells f,
       record {
+        followed = is.followed;
+        kept = is.kept;
         all = is.all;
         waits = subst (λ (r : ℕ). HasRow rows r (ways_of cells f)) (sym next) is.waits;
         opens = subst (λ (r : ℕ). HasRow rows r (ways_of cells f ++ a.code.now.start ∷ [])) (sym begun) is.opens;
         going = subst (λ (q : ℕ). Going a (ways_of cells f) (replicate (length (ways_of cells f)) s) (match_from s end) q q) back
             (going_same a _ _ _ _ _ _ p p p refl (one ∙ ap (λ (n : ℕ). replicate n s) is.going.even) found refl is.going);
         begins = subst (λ (q : ℕ). IsFirst (context_in a) q cells.table.classes at.first) back begins;
-        good = subst (λ (q : ℕ). may_end_in a q ≡ true) back good;
-        within = omega (arith, place, within);
+        good = subst (λ (q : ℕ). may_end_in a q ≡ true) back stands.good;
+        within = omega (arith, place, stands.within);
       },
     )
 
 -- the same search, told by where it stands
-pub front_stands : (a : Attempt) (cells : Cells) (f : Front) (at : Stand) (p : ℕ) → at.place ≡ p → at.next ≡ f.next → at.begun ≡ f.begun → IsFront a cells f p p
-    → IsFront a cells (front_at at f.trail f.hit) at.place at.place
+pub front_stands : (a : Attempt) (cells : Cells) (f : Front) (at : Stand) (p : ℕ) → at.place ≡ p → at.next ≡ f.next → at.begun ≡ f.begun → Stands a cells f p
+    → Stands a cells (front_at at f.trail f.hit) at.place
 front_stands a cells f at p place next begun is =
-    subst (λ (q : ℕ). IsFront a cells (front_at at f.trail f.hit) q q) (sym place)
-    (subst (λ (n : ℕ). IsFront a cells (record { next = n; begun = at.begun; trail = f.trail; hit = f.hit }) p p) (sym next)
-    (subst (λ (b : ℕ). IsFront a cells (record { next = f.next; begun = b; trail = f.trail; hit = f.hit }) p p) (sym begun) is))
+    subst (λ (q : ℕ). Stands a cells (front_at at f.trail f.hit) q) (sym place)
+    (subst (λ (n : ℕ). Stands a cells (record { next = n; begun = at.begun; trail = f.trail; hit = f.hit }) p) (sym next)
+    (subst (λ (b : ℕ). Stands a cells (record { next = f.next; begun = b; trail = f.trail; hit = f.hit }) p) (sym begun) is))
 
 take_none : (n : ℕ) (xs : List ℕ) → xs ≡ [] → take n xs ≡ []
 take_none zero xs e = refl
@@ -400,6 +413,8 @@ front_sole a cells s base visits hit n is none based size same =
     let found : match_from s.start s.end ≡ found_at cells.cells.items base.items visits.items hit =
     sym (known_found cells.cells.items base.items visits.items (match_from s.start s.end)) ∙ sym (ap (found_at cells.cells.items base.items visits.items) same) in
     record {
+      followed = at.followed;
+      kept = at.kept;
       all = at.all;
       waits = row_holds rows s.stand.next is.0 at.waits;
       opens = subst (λ (ws : List ℕ). HasRow rows s.stand.begun (ws ++ a.code.now.start ∷ [])) (sym ways) at.opens;

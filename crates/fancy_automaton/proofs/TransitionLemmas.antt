@@ -18,8 +18,12 @@ use Rattle.fancy_alphabet.specs.declared.side.Side.{Side}
 use Rattle.fancy_alphabet.specs.declared.sight.Sight.{Sight}
 use Rattle.fancy_alphabet.proofs.NumberLemmas.{number_same}
 use Rattle.std.proofs.Math.Nat.{mul-le-mul_right}
-use Rattle.fancy_automaton.specs.Cells.{KeepsCells}
-use Rattle.fancy_automaton.proofs.CellLemmas.{grown}
+use Rattle.fancy_code.specs.declared.code.Code.{Code}
+use Rattle.fancy_code.specs.Code.{instrs_of}
+use Rattle.fancy_alphabet.specs.Classes.{AreClasses}
+use Rattle.fancy_automaton.specs.declared.cells.Cells.{Cells}
+use Rattle.fancy_automaton.specs.Cells.{GrowsBy, HasPlace, HoldsFor, IsCell, IsFor, KeepsCells}
+use Rattle.fancy_automaton.proofs.CellLemmas.{cells_more, grown}
 use Rattle.fancy_automaton.specs.Transitions.{AreTold, IsEntry, IsTransition, entry_at}
 
 other_part : (p q a b w : ℕ) → p ≡ q → p * w + a ≡ q * w + b → a ≡ b
@@ -171,6 +175,26 @@ pub told_pushed : (cells later : List Cell) (c : Cell) (table : Transitions) →
 told_pushed cells later c table e told =
     let size = ap length e ∙ length-append cells (c ∷ []) in
     told_more cells later (grown cells later c e) (omega (arith, size)) table told
+
+-- one more step is remembered, with its rows, and the table may tell it
+pub holds_more : (code : Code) (cells later : Cells) (row : ℕ) (sight : Sight) (c : Cell) (told : List Cell) → HasPlace cells → IsFor cells code
+    → GrowsBy 2 cells.rows.lists.items later.rows.lists.items → later.cells.items ≡ cells.cells.items ++ c ∷ [] → c.row ≡ row → c.sight ≡ sight
+    → IsCell code later.rows.lists.items row sight c.next c.begun c.came.items c.matched c.origin
+    → told ≡ later.cells.items → (AreTold told cells.table → AreTold told later.table) → later.table.classes ≡ cells.table.classes → HoldsFor later code
+holds_more code cells later row sight c told place all rows more from on is same tells classes =
+    let size = ap length more ∙ length-append cells.cells.items (c ∷ []) in
+    record {
+      bounded = record {
+        rows = omega (arith, rows.more, place.rows);
+        cells = omega (arith, size, place.cells);
+        told = subst (λ (cs : List Cell). AreTold cs later.table) same
+            (tells (subst (λ (cs : List Cell). AreTold cs cells.table) (sym same) (told_pushed cells.cells.items later.cells.items c cells.table more place.told)));
+      };
+      all = (
+        cells_more code cells.rows.lists.items later.rows.lists.items cells.cells.items later.cells.items row sight c rows.kept all.0 more from on is,
+        subst (λ (k : Classes). AreClasses k (instrs_of code)) (sym classes) all.1,
+      );
+    }
 
 -- what the table has of a row and a character, after a side that is told apart
 pub told_at : (cells : List Cell) (table : Transitions) (row first byte : ℕ) (c : Column) (before : Side) (e : Entry) → slice_get table.classes.columns.items byte ≡ Some c

@@ -35,6 +35,16 @@ KeepsCells cells later = (k : ℕ) (c : Cell) → slice_get cells k ≡ Some c �
 abbrev pub HasRow : List (Vec ℕ) → ℕ → List ℕ → Type 0
 HasRow rows r ways = (v : Vec ℕ) × (slice_get rows r ≡ Some v) × (v.items ≡ ways)
 
+-- the one row has these ways, and the other has one more, which begins there
+pub record HasRows (rows : List (Vec ℕ)) (next begun : ℕ) (ways : List ℕ) (start : ℕ) : Type 0 where
+  pub waits : HasRow rows next ways
+  pub opens : HasRow rows begun (ways ++ start ∷ [])
+
+-- each row stays what it is, and there are at most so many more
+pub record GrowsBy (count : ℕ) (rows later : List (Vec ℕ)) : Type 0 where
+  pub kept : KeepsRows rows later
+  pub more : length later ≤ length rows + count
+
 -- the step from a row on what is seen, which leads to these ways in order
 pub record IsCell (code : Code) (rows : List (Vec ℕ)) (row : ℕ) (sight : Sight) (next begun : ℕ) (came : List ℕ) (matched : Option ℕ)
     (origin : Origin) : Type 0 where
@@ -88,3 +98,18 @@ pub record HasPlace (a : Cells) : Type 0 where
   pub rows : length a.rows.lists.items + 2 ≤ most_rows
   pub cells : length a.cells.items + 1 ≤ most_cells
   pub told : AreTold a.cells.items a.table
+
+-- no more is remembered than may be, and all of it is true of the code
+pub record HoldsFor (a : Cells) (code : Code) : Type 0 where
+  pub bounded : IsBounded a
+  pub all : IsFor a code
+
+-- what is remembered stays true of any code that it is true of
+abbrev pub StaysTrue : Cells → Cells → Type 0
+StaysTrue old new = (code : Code) → IsFor old code → IsFor new code
+
+-- no row and no step is remembered
+pub record IsEmpty (a : Cells) : Type 0 where
+  pub rows : a.rows.lists.items ≡ []
+  pub cells : a.cells.items ≡ []
+  pub entries : a.table.entries.items ≡ []

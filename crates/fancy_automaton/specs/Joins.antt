@@ -1,5 +1,5 @@
 -- A step joined from two: that of some ways, and that of one more way after them.
-use Rattle.std.specs.Prelude.{◌≡◌, ℕ, Bool, true, false, List, [], ◌∷◌, Option, None, Some, slice_index_or}
+use Rattle.std.specs.Prelude.{◌≡◌, ◌+◌, ◌≤◌, ℕ, Bool, true, false, List, [], ◌∷◌, ◌++◌, Option, None, Some, Result, OnOk, length, slice_index_or}
 use Rattle.fancy_automaton.specs.declared.way.Way.{Way}
 use Rattle.fancy_automaton.specs.Ways.{Ends, AllKnown, first_end}
 
@@ -19,3 +19,9 @@ pub record Thinned (marks : List Bool) (whole next : List Way) : Type 0 where
   pub same : (later : Ends) → first_end later next ≡ first_end later whole
   pub known : (beyond : ℕ → Bool) → AllKnown beyond whole → AllKnown beyond next
   pub covers : (later : Ends) (q : ℕ) → slice_index_or marks q false ≡ true → first_end later next ≡ None → later q ≡ None
+
+-- Ways are appended to those of `next`, but for those that were met before.
+pub record Appends {A E : Type 0} (result : Result A E) (ways : List Way) (marks : List Bool) (next : List Way) (marks' : List Bool) (next' : List Way) : Type 0 where
+  pub thinned : OnOk result ((whole : List Way) → Thinned marks whole next → Thinned marks' (whole ++ ways) next')
+  pub more : OnOk result (length next' ≤ length next + length ways)
+  pub room : length marks' ≡ length marks

@@ -1,5 +1,6 @@
 pub mod Ways
 pub mod Marks
+pub mod Counts
 pub mod Futures
 pub mod Steps
 pub mod Joins

@@ -12,7 +12,7 @@ use Rattle.fancy_code.specs.Attempt.{context_in, instrs_in, may_end_in}
 use Rattle.fancy_code.specs.Search.{Answer}
 use Rattle.fancy_prefilter.specs.Seen.{MayNotStart}
 use Rattle.fancy_automaton.specs.Ways.{AllKnown}
-use Rattle.fancy_automaton.specs.Futures.{end_at, known_at, leftmost}
+use Rattle.fancy_automaton.specs.Futures.{ArePlain, end_at, known_at, leftmost}
 use Rattle.fancy_automaton.specs.Steps.{waiting, first_tagged_end}
 
 module _ (good : ℕ → Bool) (x : Context) (limit : ℕ) (code : List Instruction) (deep start : ℕ) where
@@ -64,6 +64,12 @@ module _ (a : Attempt) where
   Steady =
       (p : ℕ) (u : Unit_at) → p ≤ a.last → may_end_in a p ≡ true → unit_in a.code.now.meaning a.haystack.now p ≡ Some u
       → (0 < u.width) × (may_end_in a (p + u.width) ≡ true) × ((k : ℕ) → p < k → k < p + u.width → may_end_in a k ≡ false)
+
+  -- An automaton follows the attempt: what is searched is in the haystack, its code is plain, and what is read leads from place to place.
+  pub record IsFollowed : Type 0 where
+    pub inside : a.last ≤ length a.haystack.now
+    pub plain : ArePlain (instrs_in a)
+    pub steady : Steady
 
   -- How far a search has come: these ways wait at `resume`, and no match may begin from `place` to there.
   pub record Going (ways starts : List ℕ) (found : Option Span) (place resume : ℕ) : Type 0 where

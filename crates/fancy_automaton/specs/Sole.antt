@@ -9,8 +9,8 @@ use Rattle.fancy_automaton.specs.declared.follow.Sole.{Sole}
 use Rattle.fancy_automaton.specs.declared.hop.Stand.{Stand}
 use Rattle.fancy_automaton.specs.declared.transitions.Transition.{Transition}
 use Rattle.fancy_alphabet.specs.declared.classes.Column.{Column}
-use Rattle.fancy_automaton.specs.Cells.{IsFor, HasRow}
-use Rattle.fancy_automaton.specs.Search.{Going}
+use Rattle.fancy_automaton.specs.Cells.{IsBounded, IsFor, HasRow}
+use Rattle.fancy_automaton.specs.Search.{Going, IsFollowed}
 
 -- where a step of the table leads
 abbrev pub stood : Stand → Column → Transition → Stand
@@ -23,6 +23,8 @@ match_from start (Some end) = Some (record { start = start; end = end })
 
 -- Where a search stands: these ways wait there, which began at these places, and this was found. A match may begin and end there.
 pub record IsAt (a : Attempt) (cells : Cells) (at : Stand) (ways starts : List ℕ) (found : Option Span) : Type 0 where
+  pub followed : IsFollowed a
+  pub kept : IsBounded cells
   pub all : IsFor cells a.code.now
   pub waits : HasRow cells.rows.lists.items at.next ways
   pub opens : HasRow cells.rows.lists.items at.begun (ways ++ a.code.now.start ∷ [])
@@ -38,3 +40,8 @@ IsAmid a cells at = (ways : List ℕ) × (starts : List ℕ) × IsAt a cells at 
 -- all ways began at one place, and so did the match, if one was found
 abbrev pub IsSole : Attempt → Cells → Sole → Type 0
 IsSole a cells s = (ways : List ℕ) × IsAt a cells s.stand ways (replicate (length ways) s.start) (match_from s.start s.end)
+
+-- it came to such a place, which is this one or past it
+pub record Reaches (a : Attempt) (cells : Cells) (place : ℕ) (s : Sole) : Type 0 where
+  pub sole : IsSole a cells s
+  pub forth : place ≤ s.stand.place

@@ -2,9 +2,14 @@
 use Rattle.std.specs.Prelude.{◌≡◌, ℕ, suc, Bool, List, [], ◌∷◌, Option, None, Some, slice_index}
 use Rattle.std.specs.Option.{option_or}
 use Rattle.fancy_code.specs.Instructions.{Instruction}
+use Rattle.fancy_code.specs.declared.code.Code.{Code}
+use Rattle.fancy_code.specs.Code.{instrs_of}
 use Rattle.fancy_automaton.specs.declared.way.Way.{Way}
 use Rattle.fancy_automaton.specs.Ways.{Ends, tagged, Solves, AllKnown, first_end, match_end}
 use Rattle.fancy_alphabet.specs.Effects.{Seen}
+use Rattle.fancy_alphabet.specs.declared.sight.Sight.{Sight}
+use Rattle.fancy_alphabet.specs.Sights.{seen_in}
+use Rattle.fancy_automaton.specs.declared.step.Step.{Step}
 
 -- the ways that wait at these instructions, by their numbers from n on
 abbrev pub waiting : ℕ → List ℕ → List Way
@@ -24,6 +29,11 @@ IsStep code ways u next matched =
     (here : ℕ) (ends later : Ends) (known beyond : ℕ → Bool) (rank : ℕ → ℕ) → Solves code u here ends later known beyond rank
     → AllKnown known (waiting 0 ways)
     → AllKnown beyond next × (option_or (first_end later next) (match_end matched here) ≡ first_end ends (waiting 0 ways))
+
+-- That is the step which was computed for what is seen. Where nothing is read no way goes on.
+pub record IsStepOn (code : Code) (ways : List ℕ) (sight : Sight) (s : Step) : Type 0 where
+  pub step : IsStep (instrs_of code) ways (seen_in sight) s.next.items s.matched
+  pub halts : sight.reading ≡ None → s.next.items ≡ []
 
 -- the end, with where its way began
 abbrev pub span_by : List ℕ → Option (ℕ × ℕ) → Option (ℕ × ℕ)

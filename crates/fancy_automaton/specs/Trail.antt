@@ -61,6 +61,10 @@ module _ (cells : List Cell) (base : List ℕ) (visits : List Visit) where
 abbrev pub starts_in : List Cell → Trail → List ℕ
 starts_in cells trail = starts_after cells trail.base.items trail.visits.items
 
+-- where the ways began that wait after so many visits of a trail
+abbrev pub starts_waiting : List Cell → Trail → ℕ → List ℕ
+starts_waiting cells trail visits = starts_before cells trail.base.items trail.visits.items visits
+
 -- where what was found begins and ends, by a trail
 abbrev pub found_in_trail : List Cell → Trail → Option Hit → Option Span
 found_in_trail cells trail hit = found_at cells trail.base.items trail.visits.items hit

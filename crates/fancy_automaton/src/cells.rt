@@ -1,19 +1,18 @@
 //! What an automaton remembers: steps that were computed, each of them true of the code.
 
-ghost use Rattle.std.specs.Prelude.{◌≡◌, ◌+◌, ◌-◌, ◌++◌, ◌∷◌, [], ◌<◌, ◌≤◌, ℕ, List, Option, None, true, IfOk, IfSome, map, min, length, take};
-ghost use Rattle.fancy_code.specs.Code.{instrs_of};
+ghost use Rattle.std.specs.Prelude.{◌≡◌, ◌+◌, ◌-◌, ◌++◌, ◌∷◌, [], ◌<◌, ◌≤◌, ℕ, true, IfOk, IfSome, map, min, length, take};
 ghost use Rattle.fancy_code.specs.CodeLength.{code_len};
-ghost use Rattle.fancy_input.specs.Work.{steps_of, returns_of, units_of};
+ghost use Rattle.fancy_input.specs.Work.{steps_of};
 ghost use Rattle.fancy_code.specs.declared.code.Code.{Code};
 ghost use Rattle.fancy_alphabet.specs.Alike.{IsSeenLike};
-ghost use Rattle.fancy_alphabet.specs.Sights.{seen_in};
-ghost use Rattle.fancy_automaton.specs.Steps.{IsStep, at_of, from_of};
+ghost use Rattle.fancy_automaton.specs.Steps.{from_of, IsStepOn};
 ghost use Rattle.fancy_automaton.specs.Trail.{came_at};
 ghost use Rattle.fancy_automaton.specs.Transitions.{AreTold, IsEntry};
-ghost use Rattle.fancy_automaton.specs.Cells.{KeepsRows, KeepsCells, HasRow, HasCell, HasPlace, IsFor, IsCell, IsBounded, ways_at};
+ghost use Rattle.fancy_automaton.specs.Cells.{KeepsRows, KeepsCells, HasRow, HasCell, HasPlace, IsFor, IsCell, IsBounded, ways_at, IsEmpty, StaysTrue, GrowsBy, HasRows, HoldsFor};
+ghost use Rattle.fancy_automaton.specs.Counts.{AddsSteps, PaysFor};
 
 use crate::hints::Hints;
-use crate::join::joined;
+use crate::join::{Begun, joined};
 use crate::marks::Marks;
 use crate::origin::{Origin, origin_of};
 use crate::rows::{Rows, Target, are_same, copied, intern, intern_one, target_of};
@@ -161,12 +160,9 @@ impl Cells {
 
     /// Forgets all rows and steps. Hints that are left name nothing, or a later step, which is tested.
     pub fn forget(&mut self)
-        ensures rows { self.new.rows.lists.items ≡ [] }
-        ensures cells { self.new.cells.items ≡ [] }
-        ensures entries { self.new.table.entries.items ≡ [] }
+        ensures empty { IsEmpty self.new }
         ensures place { HasPlace self.new }
-        ensures kept { IsBounded self.new }
-        ensures all { (code : Code) → IsFor self.old code → IsFor self.new code }
+        ensures stays { StaysTrue self.old self.new }
     {
         self.rows.clear();
         self.cells.clear();
@@ -189,8 +185,8 @@ impl Cells {
     /// Forgets all where one more step may be one too many.
     pub fn make_place(&mut self)
         requires { IsBounded self.old }
-        ensures all { (code : Code) → IsFor self.old code → IsFor self.new code }
         ensures place { HasPlace self.new }
+        ensures stays { StaysTrue self.old self.new }
     {
         if !self.is_full() {
             return;
@@ -220,15 +216,12 @@ fn computed(
     step: Step,
 ) -> Result<Cell, AllocError>
     requires row { row < length rows.old.lists.items }
-    requires step { IsStep (instrs_of code.now) (ways_at rows.old.lists.items row) (seen_in sight)
-        step.next.items step.matched }
-    requires halts { sight.reading ≡ None → step.next.items ≡ [] }
-    ensures kept { KeepsRows rows.old.lists.items rows.new.lists.items }
-    ensures more { length rows.new.lists.items ≤ length rows.old.lists.items + 2 }
+    requires step { IsStepOn code.now (ways_at rows.old.lists.items row) sight step }
+    ensures rows { GrowsBy 2 rows.old.lists.items rows.new.lists.items }
     ensures from { IfOk result (λ c. c.row ≡ row) }
     ensures on { IfOk result (λ c. c.sight ≡ sight) }
-    ensures cell { IfOk result (λ c. IsCell code.now rows.new.lists.items row sight c.next c.begun c.came.items
-        c.matched c.origin) }
+    ensures cell { IfOk result (λ c. IsCell code.now rows.new.lists.items row sight
+        c.next c.begun c.came.items c.matched c.origin) }
     ensures ways { IfOk result (λ c. length c.came.items ≡ length step.next.items) }
 {
     let came = origins(alloc, &step.next)?;
@@ -397,7 +390,8 @@ fn hint_cell(
 /// The entry of the step with this number.
 fn entry_of(cells: &[Cell], k: usize) -> Entry
     requires { k < length cells.now }
-    ensures { (row : ℕ) (sight : Sight) → HasCell cells.now k row sight → IsEntry cells.now row sight result }
+    ensures { (row : ℕ) (sight : Sight) → HasCell cells.now k row sight
+        → IsEntry cells.now row sight result }
 {
     let cell = &cells[k];
     if k >= SMALL || cell.next >= SMALL || cell.begun >= SMALL {
@@ -439,7 +433,8 @@ fn note(
 
 /// Whether the row of the first instruction alone is where it is looked for.
 fn has_alone(code: &Code, cells: &Cells) -> bool
-    ensures { result ≡ true → HasRow cells.now.rows.lists.items cells.now.alone (code.now.start ∷ []) }
+    ensures { result ≡ true
+        → HasRow cells.now.rows.lists.items cells.now.alone (code.now.start ∷ []) }
 {
     match cells.rows.lists.get(cells.alone) {
         None => false,
@@ -459,8 +454,8 @@ fn has_nothing(cells: &Cells) -> bool
 
 /// Whether the rows before the first place are where they are looked for.
 fn has_origin(code: &Code, cells: &Cells) -> bool
-    ensures nothing { result ≡ true → HasRow cells.now.rows.lists.items cells.now.nothing [] }
-    ensures alone { result ≡ true → HasRow cells.now.rows.lists.items cells.now.alone (code.now.start ∷ []) }
+    ensures { result ≡ true
+        → HasRows cells.now.rows.lists.items cells.now.nothing cells.now.alone [] code.now.start }
 {
     if !has_nothing(cells) {
         return false;
@@ -470,10 +465,8 @@ fn has_origin(code: &Code, cells: &Cells) -> bool
 
 /// Sorts ASCII characters into classes, where that was not done for the code.
 fn sort(code: &Code, cells: &mut Cells) -> Result<(), AllocError>
-    requires within { IsBounded cells.old }
-    requires all { IsFor cells.old code.now }
-    ensures within { IsBounded cells.new }
-    ensures all { IsFor cells.new code.now }
+    requires kept { HoldsFor cells.old code.now }
+    ensures kept { HoldsFor cells.new code.now }
 {
     if cells.table.classes.len() > 0 {
         return Ok(());
@@ -486,12 +479,10 @@ fn sort(code: &Code, cells: &mut Cells) -> Result<(), AllocError>
 /// The rows before the first place: that without an instruction, and that of the first instruction alone. Where one more step
 /// may be one too many, all is forgotten before they are made.
 pub(crate) fn origin(code: &Code, cells: &mut Cells) -> Result<Target, AllocError>
-    requires within { IsBounded cells.old }
-    requires all { IsFor cells.old code.now }
-    ensures within { IsBounded cells.new }
-    ensures all { IsFor cells.new code.now }
-    ensures waits { IfOk result (λ t. HasRow cells.new.rows.lists.items t.next []) }
-    ensures opens { IfOk result (λ t. HasRow cells.new.rows.lists.items t.begun (code.now.start ∷ [])) }
+    requires kept { HoldsFor cells.old code.now }
+    ensures kept { HoldsFor cells.new code.now }
+    ensures rows { IfOk result (λ t.
+        HasRows cells.new.rows.lists.items t.next t.begun [] code.now.start) }
 {
     if has_origin(code, cells) {
         return Ok(Target {
@@ -512,8 +503,10 @@ pub(crate) fn origin(code: &Code, cells: &mut Cells) -> Result<Target, AllocErro
 fn begun_cell(code: &Code, cells: &Cells, ways: &[usize], sight: Sight) -> Option<usize>
     requires within { IsBounded cells.now }
     ensures more { IfSome result (λ _. 0 < length ways.now) }
-    ensures last { IfSome result (λ _. ways.now ≡ take (length ways.now - 1) ways.now ++ code.now.start ∷ []) }
-    ensures alone { IfSome result (λ _. HasRow cells.now.rows.lists.items cells.now.alone (code.now.start ∷ [])) }
+    ensures last { IfSome result (λ _.
+        ways.now ≡ take (length ways.now - 1) ways.now ++ code.now.start ∷ []) }
+    ensures alone { IfSome result (λ _.
+        HasRow cells.now.rows.lists.items cells.now.alone (code.now.start ∷ [])) }
     ensures cell { IfSome result (λ k. HasCell cells.now.cells.items k cells.now.alone sight) }
 {
     if ways.len() < 2 {
@@ -531,56 +524,12 @@ fn begun_cell(code: &Code, cells: &Cells, ways: &[usize], sight: Sight) -> Optio
 
 /// Counts steps until there are so many, as far as the number goes.
 fn count_up(work: &mut Work, wanted: usize)
-    ensures steps { steps_of work.old ≤ steps_of work.new }
-    ensures bounded { (most : ℕ) → steps_of work.old ≤ most → wanted ≤ most → steps_of work.new ≤ most }
-    ensures counted { wanted ≤ steps_of work.new }
-    ensures returns { returns_of work.new ≡ returns_of work.old }
-    ensures units { units_of work.new ≡ units_of work.old }
+    ensures counts { AddsSteps (wanted - steps_of work.old) work.old work.new }
+    ensures reached { wanted ≤ steps_of work.new }
 {
     for step in work.steps()..wanted {
         work.count_step_within();
     }
-}
-
-/// Computes the step from some ways, and one more that begins after them, by that of the one more, which is remembered. Each way
-/// that it leads to costs a step at least.
-fn step_begun(
-    code: &Code,
-    cells: &Cells,
-    ways: &[usize],
-    begun: &Cell,
-    sight: Sight,
-    marks: &mut Marks,
-    work: &mut Work,
-) -> Result<Step, AllocError>
-    requires next { begun.now.next < length cells.now.rows.lists.items }
-    ensures step { IfOk result (λ s. (start : ℕ) (after : List Way)
-        → IsStep (instrs_of code.now) (start ∷ []) (seen_in sight) after begun.now.matched
-        → HasRow cells.now.rows.lists.items begun.now.next (map at_of after)
-        → IsStep (instrs_of code.now) (ways.now ++ start ∷ []) (seen_in sight) s.next.items s.matched) }
-    ensures halts { IfOk result (λ s. sight.reading ≡ None → HasRow cells.now.rows.lists.items begun.now.next []
-        → s.next.items ≡ []) }
-    ensures steps { steps_of work.old ≤ steps_of work.new }
-    ensures bounded { steps_of work.new ≤ steps_of work.old + code_len code.now }
-    ensures counted { IfOk result (λ s. steps_of work.new < usize.MAX
-        → min (length s.next.items) (code_len code.now) + steps_of work.old ≤ steps_of work.new) }
-    ensures returns { returns_of work.new ≡ returns_of work.old }
-    ensures units { units_of work.new ≡ units_of work.old }
-{
-    let before = work.steps();
-    let first = step_from(cells.alloc, code, ways, sight, marks, work)?;
-    let ats = &cells.rows.lists[begun.next];
-    let step = joined(
-        cells.alloc,
-        code,
-        ways.len(),
-        first,
-        ats,
-        begun.matched,
-        marks,
-    )?;
-    count_up(work, before.saturating_add(step.next.len().min(code.len())));
-    Ok(step)
 }
 
 /// Computes the step from a row on what is seen there. Where the step of the way that begins there is remembered, only the others
@@ -594,31 +543,28 @@ fn step_of(
     work: &mut Work,
 ) -> Result<Step, AllocError>
     requires row { row < length cells.now.rows.lists.items }
-    requires within { IsBounded cells.now }
-    requires all { IsFor cells.now code.now }
-    ensures step { IfOk result (λ s. IsStep (instrs_of code.now) (ways_at cells.now.rows.lists.items row)
-        (seen_in sight) s.next.items s.matched) }
-    ensures halts { IfOk result (λ s. sight.reading ≡ None → s.next.items ≡ []) }
-    ensures steps { steps_of work.old ≤ steps_of work.new }
-    ensures bounded { steps_of work.new ≤ steps_of work.old + code_len code.now }
-    ensures counted { IfOk result (λ s. steps_of work.new < usize.MAX
-        → min (length s.next.items) (code_len code.now) + steps_of work.old ≤ steps_of work.new) }
-    ensures returns { returns_of work.new ≡ returns_of work.old }
-    ensures units { units_of work.new ≡ units_of work.old }
+    requires kept { HoldsFor cells.now code.now }
+    ensures step { IfOk result (IsStepOn code.now (ways_at cells.now.rows.lists.items row) sight) }
+    ensures counts { AddsSteps (code_len code.now) work.old work.new }
+    ensures paid { IfOk result (λ s.
+        PaysFor (min (length s.next.items) (code_len code.now)) work.old work.new) }
 {
     let ways = cells.rows.lists[row].as_slice();
-    match begun_cell(code, cells, ways, sight) {
-        None => {
-            let step = step_from(cells.alloc, code, ways, sight, marks, work)?;
-            Ok(step)
-        }
-        Some(k) => {
-            let others = &ways[..ways.len() - 1];
-            let begun = &cells.cells[k];
-            let step = step_begun(code, cells, others, begun, sight, marks, work)?;
-            Ok(step)
-        }
-    }
+    let Some(k) = begun_cell(code, cells, ways, sight) else {
+        let step = step_from(cells.alloc, code, ways, sight, marks, work)?;
+        return Ok(step);
+    };
+    let before = work.steps();
+    let others = &ways[..ways.len() - 1];
+    let first = step_from(cells.alloc, code, others, sight, marks, work)?;
+    let cell = &cells.cells[k];
+    let begun = Begun {
+        ats: &cells.rows.lists[cell.next],
+        matched: cell.matched,
+    };
+    let step = joined(cells.alloc, code, others.len(), first, begun, marks)?;
+    count_up(work, before.saturating_add(step.next.len().min(code.len())));
+    Ok(step)
 }
 
 /// The number of the step from a row on what is seen there: one that is remembered, or else it is computed. What is computed
@@ -633,18 +579,14 @@ pub(crate) fn step_at(
     requires row { row < length cells.old.rows.lists.items }
     requires place { HasPlace cells.old }
     requires all { IsFor cells.old code.now }
-    ensures within { IsBounded cells.new }
-    ensures all { IsFor cells.new code.now }
-    ensures kept { KeepsRows cells.old.rows.lists.items cells.new.rows.lists.items }
+    ensures kept { HoldsFor cells.new code.now }
+    ensures rows { KeepsRows cells.old.rows.lists.items cells.new.rows.lists.items }
     ensures grown { KeepsCells cells.old.cells.items cells.new.cells.items }
     ensures cell { IfOk result (λ k. HasCell cells.new.cells.items k row sight) }
-    ensures steps { steps_of work.old ≤ steps_of work.new }
-    ensures bounded { steps_of work.new ≤ steps_of work.old + code_len code.now }
-    ensures counted { IfOk result (λ k. length cells.old.cells.items < length cells.new.cells.items
-        → steps_of work.new < usize.MAX
-        → min (length (came_at cells.new.cells.items k)) (code_len code.now) + steps_of work.old ≤ steps_of work.new) }
-    ensures returns { returns_of work.new ≡ returns_of work.old }
-    ensures units { units_of work.new ≡ units_of work.old }
+    ensures counts { AddsSteps (code_len code.now) work.old work.new }
+    ensures paid { IfOk result (λ k. length cells.old.cells.items < length cells.new.cells.items
+        → PaysFor (min (length (came_at cells.new.cells.items k)) (code_len code.now))
+        work.old work.new) }
 {
     if let Some(k) = remembered(cells, row, sight) {
         return Ok(k);
@@ -671,11 +613,9 @@ pub(crate) fn step_at(
 pub(crate) fn restart(cells: &mut Cells, start: usize, row: usize) -> Result<Target, AllocError>
     requires row { row < length cells.old.rows.lists.items }
     requires within { IsBounded cells.old }
-    ensures all { (code : Code) → IsFor cells.old code → IsFor cells.new code }
-    ensures waits { IfOk result (λ t. HasRow cells.new.rows.lists.items t.next
-        (ways_at cells.old.rows.lists.items row)) }
-    ensures opens { IfOk result (λ t. HasRow cells.new.rows.lists.items t.begun
-        (ways_at cells.old.rows.lists.items row ++ start ∷ [])) }
+    ensures stays { StaysTrue cells.old cells.new }
+    ensures rows { IfOk result (λ t. HasRows cells.new.rows.lists.items t.next t.begun
+        (ways_at cells.old.rows.lists.items row) start) }
     ensures within { IsBounded cells.new }
     ensures place { IfOk result (λ _. HasPlace cells.new) }
 {

@@ -1,12 +1,12 @@
 //! What the ways at a place come to before anything is read.
 
-ghost use Rattle.std.specs.Prelude.{◌≡◌, ◌+◌, ◌*◌, ◌<◌, ◌≤◌, [], ◌∷◌, ℕ, Option, None, Bool, false, true, ◌⊎◌, length, reverse, replicate, slice_index_or, IfOk};
+ghost use Rattle.std.specs.Prelude.{◌≡◌, ◌+◌, ◌*◌, ◌<◌, ◌≤◌, [], ◌∷◌, ℕ, Option, None, Bool, false, true, ◌⊎◌, length, reverse, replicate, slice_index_or, IfOk, ◌-◌};
 ghost use Rattle.std.specs.Option.{option_or};
 ghost use Rattle.fancy_code.specs.Code.{instrs_of};
 ghost use Rattle.fancy_code.specs.CodeLength.{code_len};
-ghost use Rattle.fancy_input.specs.Work.{steps_of, returns_of, units_of};
 ghost use Rattle.fancy_alphabet.specs.Sights.{seen_in};
 ghost use Rattle.fancy_automaton.specs.Ways.{Ends, Solves, Closing, AllKnown, Visited, marked, first_end, match_end};
+ghost use Rattle.fancy_automaton.specs.Counts.{AddsSteps, PaysFor};
 
 use crate::marks::Marks;
 use crate::way::Way;
@@ -29,36 +29,43 @@ pub fn is_first(marks: &mut Marks, at: usize) -> bool
     marks.mark(at)
 }
 
+/// The ways at a place, as far as they were followed.
+#[derive(Drop)]
+pub struct Reach {
+    /// Those that are still to be followed, the first one on top.
+    pub stack: Vec<Way>,
+    /// The ways after the item that is read there, in order of preference.
+    pub next: Vec<Way>,
+}
+
 /// Follows one way to the item that it reads, or to the ways that it goes on at. The answer is whether it ended with an
 /// outcome: then no way after it in order of preference counts.
 fn visit(
     code: &Code,
     sight: Sight,
     way: Way,
-    stack: &mut Vec<Way>,
-    next: &mut Vec<Way>,
+    reach: &mut Reach,
     marks: &mut Marks,
     work: &mut Work,
 ) -> Result<bool, AllocError>
     requires room { length marks.old ≡ code_len code.now }
-    ensures visited { IfOk result (λ ended. (here : ℕ) (ends later : Ends) (known beyond : ℕ → Bool) (rank : ℕ → ℕ)
+    ensures visited { IfOk result (λ ended.
+        (here : ℕ) (ends later : Ends) (known beyond : ℕ → Bool) (rank : ℕ → ℕ)
         (goal : Option (ℕ × ℕ))
         → Solves (instrs_of code.now) (seen_in sight) here ends later known beyond rank
-        → Closing ends later known beyond rank goal marks.old next.old.items (way ∷ reverse stack.old.items)
-        → Visited ends later known beyond rank ended here way.from goal marks.new next.new.items
-        (reverse stack.new.items)) }
-    ensures halts { sight.reading ≡ None → next.old.items ≡ [] → next.new.items ≡ [] }
+        → Closing ends later known beyond rank goal marks.old reach.old.next.items
+        (way ∷ reverse reach.old.stack.items)
+        → Visited ends later known beyond rank ended here way.from goal marks.new
+        reach.new.next.items (reverse reach.new.stack.items)) }
+    ensures halts { sight.reading ≡ None → reach.old.next.items ≡ [] → reach.new.next.items ≡ [] }
     ensures room { length marks.new ≡ length marks.old }
     ensures marked { marked marks.old ≤ marked marks.new }
-    ensures steps { steps_of work.old ≤ steps_of work.new }
-    ensures bounded { steps_of work.new + marked marks.old ≤ steps_of work.old + marked marks.new }
-    ensures counted { steps_of work.new < usize.MAX
-        → steps_of work.new + marked marks.old ≡ steps_of work.old + marked marks.new }
-    ensures returns { returns_of work.new ≡ returns_of work.old }
-    ensures units { units_of work.new ≡ units_of work.old }
-    ensures width { length next.new.items + marked marks.old ≤ length next.old.items + marked marks.new }
-    ensures progress { IfOk result (λ _. length stack.new.items + 2 * marked marks.old
-        ≤ length stack.old.items + 2 * marked marks.new) }
+    ensures counts { AddsSteps (marked marks.new - marked marks.old) work.old work.new }
+    ensures paid { PaysFor (marked marks.new - marked marks.old) work.old work.new }
+    ensures width { length reach.new.next.items + marked marks.old
+        ≤ length reach.old.next.items + marked marks.new }
+    ensures progress { IfOk result (λ _. length reach.new.stack.items + 2 * marked marks.old
+        ≤ length reach.old.stack.items + 2 * marked marks.new) }
 {
     if way.at >= code.len() {
         return Ok(false);
@@ -69,20 +76,20 @@ fn visit(
     match effect_at(code, way.at, sight, work) {
         Effect::Fails => Ok(false),
         Effect::Reads(at) => {
-            next.push(Way { at, from: way.from })?;
+            reach.next.push(Way { at, from: way.from })?;
             Ok(false)
         }
         Effect::Moves(at) => {
-            stack.push(Way { at, from: way.from })?;
+            reach.stack.push(Way { at, from: way.from })?;
             Ok(false)
         }
         Effect::Ends => Ok(true),
         Effect::Splits(first, second) => {
-            stack.push(Way {
+            reach.stack.push(Way {
                 at: second,
                 from: way.from,
             })?;
-            stack.push(Way {
+            reach.stack.push(Way {
                 at: first,
                 from: way.from,
             })?;
@@ -97,29 +104,27 @@ fn visit(
 pub fn close(
     code: &Code,
     sight: Sight,
-    stack: &mut Vec<Way>,
-    next: &mut Vec<Way>,
+    reach: &mut Reach,
     marks: &mut Marks,
     work: &mut Work,
 ) -> Result<Option<usize>, AllocError>
-    requires fresh { next.old.items ≡ [] }
+    requires fresh { reach.old.next.items ≡ [] }
     requires clear { marks.old ≡ replicate (code_len code.now) false }
-    ensures answer { IfOk result (λ found. (here : ℕ) (ends later : Ends) (known beyond : ℕ → Bool) (rank : ℕ → ℕ)
+    ensures answer { IfOk result (λ found.
+        (here : ℕ) (ends later : Ends) (known beyond : ℕ → Bool) (rank : ℕ → ℕ)
         → Solves (instrs_of code.now) (seen_in sight) here ends later known beyond rank
-        → AllKnown known (reverse stack.old.items)
-        → AllKnown beyond next.new.items × (option_or (first_end later next.new.items) (match_end found here)
-        ≡ first_end ends (reverse stack.old.items))) }
-    ensures halts { sight.reading ≡ None → next.new.items ≡ [] }
-    ensures width { length next.new.items ≤ marked marks.new }
+        → AllKnown known (reverse reach.old.stack.items)
+        → AllKnown beyond reach.new.next.items
+        × (option_or (first_end later reach.new.next.items) (match_end found here)
+        ≡ first_end ends (reverse reach.old.stack.items))) }
+    ensures halts { sight.reading ≡ None → reach.new.next.items ≡ [] }
+    ensures width { length reach.new.next.items ≤ marked marks.new }
     ensures room { marked marks.new ≤ code_len code.now }
-    ensures steps { steps_of work.old ≤ steps_of work.new }
-    ensures bounded { steps_of work.new ≤ steps_of work.old + code_len code.now }
-    ensures counted { steps_of work.new < usize.MAX → steps_of work.new ≡ steps_of work.old + marked marks.new }
-    ensures returns { returns_of work.new ≡ returns_of work.old }
-    ensures units { units_of work.new ≡ units_of work.old }
+    ensures counts { AddsSteps (marked marks.new) work.old work.new }
+    ensures paid { PaysFor (marked marks.new) work.old work.new }
 {
-    'ways: while let Some(way) = stack.pop() {
-        if visit(code, sight, way, stack, next, marks, work)? {
+    'ways: while let Some(way) = reach.stack.pop() {
+        if visit(code, sight, way, reach, marks, work)? {
             return Ok(Some(way.from));
         }
     }

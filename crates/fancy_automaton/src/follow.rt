@@ -1,11 +1,8 @@
 //! The inner loops of a search, where all ways that wait began at one place: no trail is needed there.
 
-ghost use Rattle.std.specs.Prelude.{◌≡◌, ◌<◌, ◌≤◌, None, IfSome, is_some, length, true};
-ghost use Rattle.fancy_code.specs.Attempt.{instrs_in};
-ghost use Rattle.fancy_automaton.specs.Cells.{IsBounded, IsIdle};
-ghost use Rattle.fancy_automaton.specs.Futures.{ArePlain};
-ghost use Rattle.fancy_automaton.specs.Search.{Steady};
-ghost use Rattle.fancy_automaton.specs.Sole.{IsAmid, IsSole};
+ghost use Rattle.std.specs.Prelude.{◌≡◌, ◌+◌, None, IfSome, is_some, true};
+ghost use Rattle.fancy_automaton.specs.Cells.{IsIdle};
+ghost use Rattle.fancy_automaton.specs.Sole.{IsAmid, IsSole, Reaches};
 
 use crate::cells::Cells;
 use crate::hop::{Stand, idle_row, stand_after};
@@ -29,15 +26,10 @@ pub struct Sole {
 /// left to a scan to find the next place.
 #[inline(never)]
 fn seek(attempt: &Attempt, cells: &Cells, from: Sole, idle: usize) -> Sole
-    requires inside { attempt.now.last ≤ length attempt.now.haystack.now }
-    requires plain { ArePlain (instrs_in attempt.now) }
-    requires steady { Steady attempt.now }
-    requires kept { IsBounded cells.now }
     requires sole { IsSole attempt.now cells.now from }
     requires nothing { from.end ≡ None }
-    ensures sole { IsSole attempt.now cells.now result }
+    ensures reaches { Reaches attempt.now cells.now from.stand.place result }
     ensures nothing { result.end ≡ None }
-    ensures forth { from.stand.place ≤ result.stand.place }
 {
     let table = cells.table.view();
     let haystack = attempt.haystack;
@@ -72,14 +64,9 @@ fn seek(attempt: &Attempt, cells: &Cells, from: Sole, idle: usize) -> Sole
 /// many places as a trail has: those are passed once more with a trail where it does not. So no place is passed many times.
 #[inline(never)]
 fn hunt(attempt: &Attempt, cells: &Cells, from: Stand, idle: usize) -> Option<Sole>
-    requires inside { attempt.now.last ≤ length attempt.now.haystack.now }
-    requires plain { ArePlain (instrs_in attempt.now) }
-    requires steady { Steady attempt.now }
-    requires kept { IsBounded cells.now }
     requires idle { IsIdle cells.now.rows.lists.items idle }
     requires amid { IsAmid attempt.now cells.now from }
-    ensures sole { IfSome result (λ s. IsSole attempt.now cells.now s) }
-    ensures forth { IfSome result (λ s. from.place < s.stand.place) }
+    ensures { IfSome result (Reaches attempt.now cells.now (from.place + 1)) }
 {
     let table = cells.table.view();
     let haystack = attempt.haystack;
@@ -108,15 +95,10 @@ fn hunt(attempt: &Attempt, cells: &Cells, from: Stand, idle: usize) -> Option<So
 
 /// The step at a place where a match is found, or past ways that began at several places.
 fn past(attempt: &Attempt, cells: &Cells, at: Sole, idle: usize) -> Option<Sole>
-    requires inside { attempt.now.last ≤ length attempt.now.haystack.now }
-    requires plain { ArePlain (instrs_in attempt.now) }
-    requires steady { Steady attempt.now }
-    requires kept { IsBounded cells.now }
     requires idle { IsIdle cells.now.rows.lists.items idle }
     requires sole { IsSole attempt.now cells.now at }
     requires nothing { at.end ≡ None }
-    ensures sole { IfSome result (λ s. IsSole attempt.now cells.now s) }
-    ensures forth { IfSome result (λ s. at.stand.place < s.stand.place) }
+    ensures { IfSome result (Reaches attempt.now cells.now (at.stand.place + 1)) }
 {
     if at.stand.place >= attempt.last {
         return None;
@@ -146,14 +128,9 @@ fn past(attempt: &Attempt, cells: &Cells, at: Sole, idle: usize) -> Option<Sole>
 /// Goes on after a match was found, as long as some way waits.
 #[inline(never)]
 fn lengthen(attempt: &Attempt, cells: &Cells, from: Sole, idle: usize) -> Sole
-    requires inside { attempt.now.last ≤ length attempt.now.haystack.now }
-    requires plain { ArePlain (instrs_in attempt.now) }
-    requires steady { Steady attempt.now }
-    requires kept { IsBounded cells.now }
     requires sole { IsSole attempt.now cells.now from }
     requires found { is_some from.end ≡ true }
-    ensures sole { IsSole attempt.now cells.now result }
-    ensures forth { from.stand.place ≤ result.stand.place }
+    ensures reaches { Reaches attempt.now cells.now from.stand.place result }
 {
     let table = cells.table.view();
     let haystack = attempt.haystack;
@@ -187,13 +164,8 @@ fn lengthen(attempt: &Attempt, cells: &Cells, from: Sole, idle: usize) -> Sole
 
 /// Takes steps that the table tells, on ASCII characters, as long as all ways that wait began at one place.
 pub(crate) fn follow(attempt: &Attempt, cells: &Cells, from: Sole) -> Sole
-    requires inside { attempt.now.last ≤ length attempt.now.haystack.now }
-    requires plain { ArePlain (instrs_in attempt.now) }
-    requires steady { Steady attempt.now }
-    requires kept { IsBounded cells.now }
     requires sole { IsSole attempt.now cells.now from }
-    ensures sole { IsSole attempt.now cells.now result }
-    ensures forth { from.stand.place ≤ result.stand.place }
+    ensures reaches { Reaches attempt.now cells.now from.stand.place result }
 {
     let idle = idle_row(cells);
     let mut at = from;

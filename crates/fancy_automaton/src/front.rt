@@ -1,22 +1,18 @@
 //! How far a search has come, and the step to the next place.
 
-ghost use Rattle.std.specs.Prelude.{◌≡◌, ◌+◌, ◌<◌, ◌≤◌, ℕ, true, [], Some, OnOk, IfOk, IfSome, is_some, length, option_map};
-ghost use Rattle.fancy_code.specs.Attempt.{context_in, instrs_in, may_end_in};
+ghost use Rattle.std.specs.Prelude.{◌≡◌, ◌+◌, ◌<◌, ◌≤◌, ℕ, true, [], OnOk, IfOk, IfSome, is_some, length, option_map};
+ghost use Rattle.fancy_code.specs.Attempt.{context_in};
 ghost use Rattle.fancy_alphabet.specs.Classes.{IsFirst};
 ghost use Rattle.fancy_code.specs.CodeLength.{code_len};
 ghost use Rattle.fancy_code.specs.Reading.{unit_read};
 ghost use Rattle.fancy_prefilter.specs.Seen.{MayStart};
-ghost use Rattle.fancy_input.specs.Work.{steps_of, returns_of, units_of};
-ghost use Rattle.fancy_code.specs.declared.code.Code.{Code};
 ghost use Rattle.fancy_code.specs.declared.attempt.Attempt.{Attempt};
-ghost use Rattle.fancy_alphabet.specs.Alike.{IsSeenLike};
-ghost use Rattle.fancy_automaton.specs.Cells.{HasPlace, IsFor, IsBounded};
+ghost use Rattle.fancy_automaton.specs.Cells.{HasPlace, IsBounded, StaysTrue, HasRows, HoldsFor};
 ghost use Rattle.fancy_automaton.specs.Trail.{HitIn, most_visits};
-ghost use Rattle.fancy_automaton.specs.Front.{IsFront, ways_of, found_of};
+ghost use Rattle.fancy_automaton.specs.Front.{IsFront, ways_of, found_of, KeepsFront, Stands, GoesOn, TakesStep};
 ghost use Rattle.fancy_automaton.specs.Sole.{IsSole};
-ghost use Rattle.fancy_automaton.specs.Futures.{ArePlain};
 ghost use Rattle.fancy_alphabet.specs.Units.{place_after};
-ghost use Rattle.fancy_automaton.specs.Search.{Steady};
+ghost use Rattle.fancy_automaton.specs.Counts.{AddsSteps};
 
 use crate::cells::{Cells, is_told, origin, remembered, restart, seen_at, step_at};
 use crate::follow::{Sole, follow};
@@ -50,17 +46,14 @@ pub struct Front {
 }
 
 impl Front {
-    ghost use Rattle.std.specs.Prelude.{None, false, ◌∷◌, ◌++◌, ◌≢◌};
-    ghost use Rattle.fancy_automaton.specs.Cells.{HasRow};
+    ghost use Rattle.std.specs.Prelude.{None, false, ◌≢◌};
 
     /// Before the first place: no way waits, and nothing was found.
     pub fn new(code: &Code, cells: &mut Cells) -> Result<Front, AllocError>
-        requires within { IsBounded cells.old }
-        requires all { IsFor cells.old code.now }
-        ensures within { IsBounded cells.new }
-        ensures all { IsFor cells.new code.now }
-        ensures waits { IfOk result (λ f. HasRow cells.new.rows.lists.items f.next []) }
-        ensures opens { IfOk result (λ f. HasRow cells.new.rows.lists.items f.begun (code.now.start ∷ [])) }
+        requires kept { HoldsFor cells.old code.now }
+        ensures kept { HoldsFor cells.new code.now }
+        ensures rows { IfOk result (λ f.
+            HasRows cells.new.rows.lists.items f.next f.begun [] code.now.start) }
         ensures base { IfOk result (λ f. f.trail.base.items ≡ []) }
         ensures visits { IfOk result (λ f. f.trail.visits.items ≡ []) }
         ensures hit { IfOk result (λ f. f.hit ≡ None) }
@@ -102,7 +95,7 @@ impl Front {
         requires hits { HitIn self.trail.visits.items self.hit }
         ensures found { result ≡ found_of cells.old self }
         ensures kept { IsBounded cells.old → IsBounded cells.new }
-        ensures all { (code : Code) → IsFor cells.old code → IsFor cells.new code }
+        ensures stays { StaysTrue cells.old cells.new }
     {
         let found = span_of(&cells.cells, &self.trail, self.hit);
         cells.reached = place;
@@ -115,8 +108,7 @@ impl Front {
         requires hits { HitIn self.old.trail.visits.items self.old.hit }
         ensures row { self.new.next ≡ self.old.next }
         ensures visits { OnOk result (self.new.trail.visits.items ≡ []) }
-        ensures front { OnOk result ((a : Attempt) (place resume : ℕ)
-            → IsFront a cells.now self.old place resume → IsFront a cells.now self.new place resume) }
+        ensures front { OnOk result (KeepsFront cells.now self.old self.new) }
     {
         let starts = starts_in(cells.alloc, &cells.cells, &self.trail)?;
         self.hit = settled(&cells.cells, &self.trail, self.hit);
@@ -129,8 +121,7 @@ impl Front {
     fn shorten(&mut self, cells: &Cells) -> Result<(), AllocError>
         requires hits { HitIn self.old.trail.visits.items self.old.hit }
         ensures visits { OnOk result (length self.new.trail.visits.items < most_visits) }
-        ensures front { OnOk result ((a : Attempt) (place resume : ℕ)
-            → IsFront a cells.now self.old place resume → IsFront a cells.now self.new place resume) }
+        ensures front { OnOk result (KeepsFront cells.now self.old self.new) }
     {
         if self.trail.visits.len() < VISITS {
             return Ok(());
@@ -142,15 +133,14 @@ impl Front {
     fn make_place(&mut self, code: &Code, cells: &mut Cells) -> Result<(), AllocError>
         requires row { self.old.next < length cells.old.rows.lists.items }
         requires hits { HitIn self.old.trail.visits.items self.old.hit }
-        requires within { IsBounded cells.old }
-        requires all { IsFor cells.old code.now }
-        ensures all { IsFor cells.new code.now }
-        ensures within { IsBounded cells.new }
+        requires kept { HoldsFor cells.old code.now }
+        ensures kept { HoldsFor cells.new code.now }
         ensures place { OnOk result (HasPlace cells.new) }
         ensures visits { OnOk result (length self.old.trail.visits.items < most_visits
             → length self.new.trail.visits.items < most_visits) }
         ensures front { OnOk result ((a : Attempt) (place resume : ℕ) → a.code.now ≡ code.now
-            → IsFront a cells.old self.old place resume → IsFront a cells.new self.new place resume) }
+            → IsFront a cells.old self.old place resume
+            → IsFront a cells.new self.new place resume) }
     {
         if !cells.is_full() {
             return Ok(());
@@ -166,8 +156,7 @@ impl Front {
     fn forget_idle(&mut self, cells: &Cells)
         requires row { self.old.next < length cells.now.rows.lists.items }
         ensures visits { length self.new.trail.visits.items ≤ length self.old.trail.visits.items }
-        ensures front { (a : Attempt) (place resume : ℕ)
-            → IsFront a cells.now self.old place resume → IsFront a cells.now self.new place resume }
+        ensures front { KeepsFront cells.now self.old self.new }
     {
         if self.hit.is_some() {
             return;
@@ -187,23 +176,12 @@ impl Front {
         place: usize,
         work: &mut Work,
     ) -> Result<usize, AllocError>
-        requires within { place ≤ attempt.now.last }
-        requires inside { attempt.now.last ≤ length attempt.now.haystack.now }
-        requires plain { ArePlain (instrs_in attempt.now) }
-        requires steady { Steady attempt.now }
-        requires good { may_end_in attempt.now place ≡ true }
+        requires stands { Stands attempt.now cells.old self.old place }
         requires place { HasPlace cells.old }
         requires visits { length self.old.trail.visits.items < most_visits }
-        requires front { IsFront attempt.now cells.old self.old place place }
-        ensures front { IfOk result (λ resume. IsFront attempt.now cells.new self.new (place + 1) resume) }
-        ensures ends { IfOk result (λ resume. resume ≤ attempt.now.last + 1) }
-        ensures visits { IfOk result (λ _. length self.new.trail.visits.items ≤ most_visits) }
-        ensures within { IsBounded cells.new }
-        ensures all { IsFor cells.new attempt.now.code.now }
-        ensures steps { steps_of work.old ≤ steps_of work.new }
-        ensures bounded { steps_of work.new ≤ steps_of work.old + code_len attempt.now.code.now }
-        ensures returns { returns_of work.new ≡ returns_of work.old }
-        ensures units { units_of work.new ≡ units_of work.old }
+        ensures step { TakesStep attempt.now cells.new place result self.new }
+        ensures kept { HoldsFor cells.new attempt.now.code.now }
+        ensures counts { AddsSteps (code_len attempt.now.code.now) work.old work.new }
     {
         let row = row_at(self.hit, self.next, self.begun);
         let start = start_at(self.hit, place);
@@ -226,22 +204,10 @@ impl Front {
         place: usize,
         work: &mut Work,
     ) -> Result<usize, AllocError>
-        requires within { place ≤ attempt.now.last }
-        requires inside { attempt.now.last ≤ length attempt.now.haystack.now }
-        requires plain { ArePlain (instrs_in attempt.now) }
-        requires steady { Steady attempt.now }
-        requires good { may_end_in attempt.now place ≡ true }
-        requires kept { IsBounded cells.old }
-        requires front { IsFront attempt.now cells.old self.old place place }
-        ensures front { IfOk result (λ resume. IsFront attempt.now cells.new self.new (place + 1) resume) }
-        ensures ends { IfOk result (λ resume. resume ≤ attempt.now.last + 1) }
-        ensures visits { IfOk result (λ _. length self.new.trail.visits.items ≤ most_visits) }
-        ensures kept { IsBounded cells.new }
-        ensures all { IsFor cells.new attempt.now.code.now }
-        ensures steps { steps_of work.old ≤ steps_of work.new }
-        ensures bounded { steps_of work.new ≤ steps_of work.old + code_len attempt.now.code.now }
-        ensures returns { returns_of work.new ≡ returns_of work.old }
-        ensures units { units_of work.new ≡ units_of work.old }
+        requires stands { Stands attempt.now cells.old self.old place }
+        ensures step { TakesStep attempt.now cells.new place result self.new }
+        ensures kept { HoldsFor cells.new attempt.now.code.now }
+        ensures counts { AddsSteps (code_len attempt.now.code.now) work.old work.new }
     {
         self.shorten(cells)?;
         self.make_place(attempt.code, cells)?;
@@ -250,35 +216,19 @@ impl Front {
         Ok(resume)
     }
 
-    /// Takes the step at a place on what is seen there if it is remembered, and the trail has room for it. The answer is the
-    /// place where the ways wait then, a byte offset; it is the same place where no step was taken.
-    #[inline(always)]
-    fn take(
-        &mut self,
-        attempt: &Attempt,
-        cells: &Cells,
-        place: usize,
-        sight: Sight,
-    ) -> Result<usize, AllocError>
-        requires within { place ≤ attempt.now.last }
-        requires plain { ArePlain (instrs_in attempt.now) }
-        requires steady { Steady attempt.now }
-        requires good { may_end_in attempt.now place ≡ true }
-        requires seen { IsSeenLike attempt.now place sight }
-        requires small { attempt.now.last < usize.MAX }
-        requires kept { IsBounded cells.now }
-        requires front { IsFront attempt.now cells.now self.old place place }
-        ensures front { IfOk result (λ next. IsFront attempt.now cells.now self.new next next) }
-        ensures forth { IfOk result (λ next. place ≤ next) }
-        ensures ends { IfOk result (λ next. next ≤ attempt.now.last + 1) }
-        ensures visits { length self.old.trail.visits.items ≤ most_visits
-            → length self.new.trail.visits.items ≤ most_visits }
+    /// Takes the step at a place if no ASCII character is read there, the step is remembered, and the trail has room for it. The
+    /// answer is the place where the ways wait then, a byte offset; it is the same place where no step was taken.
+    fn glide(&mut self, attempt: &Attempt, cells: &Cells, place: usize) -> Result<usize, AllocError>
+        requires stands { Stands attempt.now cells.now self.old place }
+        ensures { GoesOn attempt.now cells.now self.old place (attempt.now.last + 1)
+            result self.new }
     {
-        if self.trail.visits.len() >= VISITS {
+        if ascii_at(attempt, place).is_some() || self.trail.visits.len() >= VISITS {
             return Ok(place);
         }
         let row = row_at(self.hit, self.next, self.begun);
         let start = start_at(self.hit, place);
+        let sight = seen_at(attempt, cells, place);
         let Some(k) = remembered(cells, row, sight) else {
             return Ok(place);
         };
@@ -290,43 +240,12 @@ impl Front {
         Ok(place_after(place, sight.reading, attempt.last))
     }
 
-    /// Takes the step at a place if no ASCII character is read there, the step is remembered, and the trail has room for it. The
-    /// answer is the place where the ways wait then, a byte offset; it is the same place where no step was taken.
-    fn glide(&mut self, attempt: &Attempt, cells: &Cells, place: usize) -> Result<usize, AllocError>
-        requires within { place ≤ attempt.now.last }
-        requires inside { attempt.now.last ≤ length attempt.now.haystack.now }
-        requires plain { ArePlain (instrs_in attempt.now) }
-        requires steady { Steady attempt.now }
-        requires good { may_end_in attempt.now place ≡ true }
-        requires kept { IsBounded cells.now }
-        requires front { IsFront attempt.now cells.now self.old place place }
-        ensures front { IfOk result (λ next. IsFront attempt.now cells.now self.new next next) }
-        ensures forth { IfOk result (λ next. place ≤ next) }
-        ensures ends { IfOk result (λ next. next ≤ attempt.now.last + 1) }
-        ensures visits { length self.old.trail.visits.items ≤ most_visits
-            → length self.new.trail.visits.items ≤ most_visits }
-    {
-        if ascii_at(attempt, place).is_some() {
-            return Ok(place);
-        }
-        let sight = seen_at(attempt, cells, place);
-        let next = self.take(attempt, cells, place, sight)?;
-        Ok(next)
-    }
-
-    /// Takes steps that are remembered, on characters past ASCII, as long as some way waits. The answer is the place where the ways wait then, a byte
-    /// offset. What is read leads from a place where a match may begin and end to the next, so no place is tested on the way.
+    /// Takes steps that are remembered, on characters past ASCII, as long as some way waits. The answer is the place where the ways
+    /// wait then, a byte offset. What is read leads from a place where a match may begin and end to the next, so no place is tested on the way.
     fn skim(&mut self, attempt: &Attempt, cells: &Cells, place: usize) -> Result<usize, AllocError>
-        requires within { place ≤ attempt.now.last }
-        requires inside { attempt.now.last ≤ length attempt.now.haystack.now }
-        requires plain { ArePlain (instrs_in attempt.now) }
-        requires steady { Steady attempt.now }
-        requires good { may_end_in attempt.now place ≡ true }
-        requires kept { IsBounded cells.now }
-        requires front { IsFront attempt.now cells.now self.old place place }
-        ensures front { IfOk result (λ next. IsFront attempt.now cells.now self.new next next) }
-        ensures forth { IfOk result (λ next. place ≤ next) }
-        ensures ends { IfOk result (λ next. next ≤ attempt.now.last + 1) }
+        requires stands { Stands attempt.now cells.now self.old place }
+        ensures { GoesOn attempt.now cells.now self.old place (attempt.now.last + 1)
+            result self.new }
     {
         let mut at = place;
         'places: loop {
@@ -346,7 +265,8 @@ impl Front {
     fn stand(&self, attempt: &Attempt, cells: &Cells, place: usize) -> Stand
         requires { place ≤ length attempt.now.haystack.now }
         ensures place { result.place ≡ place }
-        ensures first { IsFirst (context_in attempt.now) place cells.now.table.classes result.first }
+        ensures first { IsFirst (context_in attempt.now) place cells.now.table.classes
+            result.first }
         ensures next { result.next ≡ self.now.next }
         ensures begun { result.begun ≡ self.now.begun }
     {
@@ -360,10 +280,7 @@ impl Front {
 
     /// Where the search stands at a place, if all ways that wait began at one place, and so did the match that was found.
     fn sole(&self, attempt: &Attempt, cells: &Cells, place: usize) -> Option<Sole>
-        requires within { place ≤ attempt.now.last }
-        requires inside { attempt.now.last ≤ length attempt.now.haystack.now }
-        requires good { may_end_in attempt.now place ≡ true }
-        requires front { IsFront attempt.now cells.now self.now place place }
+        requires stands { Stands attempt.now cells.now self.now place }
         ensures sole { IfSome result (λ s. IsSole attempt.now cells.now s) }
         ensures stand { IfSome result (λ s. s.stand.place ≡ place) }
     {
@@ -387,18 +304,8 @@ impl Front {
         cells: &Cells,
         place: usize,
     ) -> Result<usize, AllocError>
-        requires within { place ≤ attempt.now.last }
-        requires inside { attempt.now.last ≤ length attempt.now.haystack.now }
-        requires plain { ArePlain (instrs_in attempt.now) }
-        requires steady { Steady attempt.now }
-        requires good { may_end_in attempt.now place ≡ true }
-        requires kept { IsBounded cells.now }
-        requires front { IsFront attempt.now cells.now self.old place place }
-        ensures front { IfOk result (λ next. IsFront attempt.now cells.now self.new next next) }
-        ensures forth { IfOk result (λ next. place ≤ next) }
-        ensures ends { IfOk result (λ next. next ≤ attempt.now.last) }
-        ensures visits { length self.old.trail.visits.items ≤ most_visits
-            → length self.new.trail.visits.items ≤ most_visits }
+        requires stands { Stands attempt.now cells.now self.old place }
+        ensures { GoesOn attempt.now cells.now self.old place attempt.now.last result self.new }
     {
         let Some(sole) = self.sole(attempt, cells, place) else {
             return Ok(place);
@@ -416,18 +323,8 @@ impl Front {
     /// Takes steps on ASCII characters that the table tells, wherever the ways began that wait. The answer is the place where the
     /// ways wait then, a byte offset.
     fn run(&mut self, attempt: &Attempt, cells: &Cells, place: usize) -> Result<usize, AllocError>
-        requires within { place ≤ attempt.now.last }
-        requires inside { attempt.now.last ≤ length attempt.now.haystack.now }
-        requires plain { ArePlain (instrs_in attempt.now) }
-        requires steady { Steady attempt.now }
-        requires good { may_end_in attempt.now place ≡ true }
-        requires kept { IsBounded cells.now }
-        requires front { IsFront attempt.now cells.now self.old place place }
-        ensures front { IfOk result (λ next. IsFront attempt.now cells.now self.new next next) }
-        ensures forth { IfOk result (λ next. place ≤ next) }
-        ensures ends { IfOk result (λ next. next ≤ attempt.now.last) }
-        ensures visits { length self.old.trail.visits.items ≤ most_visits
-            → length self.new.trail.visits.items ≤ most_visits }
+        requires stands { Stands attempt.now cells.now self.old place }
+        ensures { GoesOn attempt.now cells.now self.old place attempt.now.last result self.new }
     {
         let from = self.stand(attempt, cells, place);
         let to = run(attempt, cells, from, &mut self.trail, &mut self.hit)?;
@@ -439,18 +336,8 @@ impl Front {
 
     /// Takes steps on ASCII characters that the table tells. The answer is the place where the ways wait then, a byte offset.
     fn hop(&mut self, attempt: &Attempt, cells: &Cells, place: usize) -> Result<usize, AllocError>
-        requires within { place ≤ attempt.now.last }
-        requires inside { attempt.now.last ≤ length attempt.now.haystack.now }
-        requires plain { ArePlain (instrs_in attempt.now) }
-        requires steady { Steady attempt.now }
-        requires good { may_end_in attempt.now place ≡ true }
-        requires kept { IsBounded cells.now }
-        requires front { IsFront attempt.now cells.now self.old place place }
-        ensures front { IfOk result (λ next. IsFront attempt.now cells.now self.new next next) }
-        ensures forth { IfOk result (λ next. place ≤ next) }
-        ensures ends { IfOk result (λ next. next ≤ attempt.now.last) }
-        ensures visits { length self.old.trail.visits.items ≤ most_visits
-            → length self.new.trail.visits.items ≤ most_visits }
+        requires stands { Stands attempt.now cells.now self.old place }
+        ensures { GoesOn attempt.now cells.now self.old place attempt.now.last result self.new }
     {
         if ascii_at(attempt, place).is_none() {
             return Ok(place);
@@ -472,20 +359,12 @@ impl Front {
         work: &mut Work,
     ) -> Result<usize, AllocError>
         requires within { place ≤ attempt.now.last }
-        requires inside { attempt.now.last ≤ length attempt.now.haystack.now }
-        requires plain { ArePlain (instrs_in attempt.now) }
-        requires steady { Steady attempt.now }
-        requires kept { IsBounded cells.old }
         requires front { IsFront attempt.now cells.old self.old place place }
         ensures front { IfOk result (λ next. IsFront attempt.now cells.new self.new next next) }
         ensures forth { IfOk result (λ next. place < next) }
         ensures ends { IfOk result (λ next. next ≤ attempt.now.last + 1) }
-        ensures kept { IsBounded cells.new }
-        ensures all { IsFor cells.new attempt.now.code.now }
-        ensures steps { steps_of work.old ≤ steps_of work.new }
-        ensures bounded { steps_of work.new ≤ steps_of work.old + code_len attempt.now.code.now }
-        ensures returns { returns_of work.new ≡ returns_of work.old }
-        ensures units { units_of work.new ≡ units_of work.old }
+        ensures kept { HoldsFor cells.new attempt.now.code.now }
+        ensures counts { AddsSteps (code_len attempt.now.code.now) work.old work.new }
     {
         if !is_match_boundary(attempt.on_boundaries, attempt.haystack, place) {
             return Ok(place + 1);
@@ -505,10 +384,7 @@ impl Front {
     /// Whether an ASCII character is read at a place, and the step of the way that begins there by itself is not remembered. Where
     /// it is remembered on all that is read between matches, other rows need not follow that way again.
     fn learns(&self, attempt: &Attempt, cells: &Cells, place: usize) -> bool
-        requires row { self.now.next < length cells.now.rows.lists.items }
-        requires begun { self.now.begun < length cells.now.rows.lists.items }
-        requires kept { IsBounded cells.now }
-        requires inside { attempt.now.last ≤ length attempt.now.haystack.now }
+        requires { IsFront attempt.now cells.now self.now place place }
     {
         if self.hit.is_some() {
             return false;
@@ -530,12 +406,11 @@ impl Front {
     /// not remembered.
     pub fn seek(&self, attempt: &Attempt, cells: &Cells, place: usize, tried: bool) -> usize
         requires within { place ≤ attempt.now.last + 1 }
-        requires kept { IsBounded cells.now }
-        requires inside { attempt.now.last ≤ length attempt.now.haystack.now }
         requires front { IsFront attempt.now cells.now self.now place place }
         ensures front { IsFront attempt.now cells.now self.now result result }
-        ensures stands { tried ≡ false → ways_of cells.now self.now ≡ [] → result ≤ attempt.now.last
-            → MayStart attempt.now.code.now.prefilter.starts attempt.now.haystack.now attempt.now.last result }
+        ensures stands { tried ≡ false → ways_of cells.now self.now ≡ []
+            → result ≤ attempt.now.last → MayStart attempt.now.code.now.prefilter.starts
+            attempt.now.haystack.now attempt.now.last result }
         ensures forth { place ≤ result }
         ensures ends { result ≤ attempt.now.last + 1 }
     {

@@ -1,11 +1,9 @@
 //! The inner loop of a search: steps on ASCII characters, by the table.
 
-ghost use Rattle.std.specs.Prelude.{◌≡◌, ◌<◌, ◌≤◌, ◌⊎◌, [], ℕ, true, Some, None, IfOk, IfSome, length, slice_get};
-ghost use Rattle.fancy_code.specs.Attempt.{context_in, instrs_in, may_end_in};
+ghost use Rattle.std.specs.Prelude.{◌≡◌, ◌<◌, ◌≤◌, ℕ, Some, None, IfOk, IfSome, length, slice_get};
+ghost use Rattle.fancy_code.specs.Attempt.{context_in};
 ghost use Rattle.fancy_automaton.specs.Cells.{IsBounded, IsIdle};
-ghost use Rattle.fancy_automaton.specs.Front.{IsFront, front_at};
-ghost use Rattle.fancy_automaton.specs.Futures.{ArePlain};
-ghost use Rattle.fancy_automaton.specs.Search.{Steady};
+ghost use Rattle.fancy_automaton.specs.Front.{IsFront, front_at, Stands};
 ghost use Rattle.fancy_automaton.specs.Sole.{stood};
 ghost use Rattle.fancy_automaton.specs.Trail.{hit_or, most_visits};
 ghost use Rattle.fancy_alphabet.specs.Classes.{IsFirst};
@@ -109,15 +107,11 @@ pub(crate) fn run(
     trail: &mut Trail,
     hit: &mut Option<Hit>,
 ) -> Result<Stand, AllocError>
-    requires within { from.place ≤ attempt.now.last }
-    requires inside { attempt.now.last ≤ length attempt.now.haystack.now }
-    requires plain { ArePlain (instrs_in attempt.now) }
-    requires steady { Steady attempt.now }
-    requires good { may_end_in attempt.now from.place ≡ true }
-    requires kept { IsBounded cells.now }
-    requires before { IsFirst (context_in attempt.now) from.place cells.now.table.classes from.first }
-    requires front { IsFront attempt.now cells.now (front_at from trail.old hit.old) from.place from.place }
-    ensures front { IfOk result (λ to. IsFront attempt.now cells.now (front_at to trail.new hit.new) to.place to.place) }
+    requires stands { Stands attempt.now cells.now (front_at from trail.old hit.old) from.place }
+    requires before { IsFirst (context_in attempt.now) from.place cells.now.table.classes
+        from.first }
+    ensures front { IfOk result (λ to. IsFront attempt.now cells.now
+        (front_at to trail.new hit.new) to.place to.place) }
     ensures forth { IfOk result (λ to. from.place ≤ to.place) }
     ensures ends { IfOk result (λ to. to.place ≤ attempt.now.last) }
     ensures visits { length trail.old.visits.items ≤ most_visits

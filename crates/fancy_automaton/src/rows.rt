@@ -1,8 +1,8 @@
 //! Rows of waiting instructions, each with a number.
 
-ghost use Rattle.std.specs.Prelude.{◌≡◌, ◌+◌, ◌++◌, ◌∷◌, [], ◌≤◌, true, IfOk, IfSome, map, length};
+ghost use Rattle.std.specs.Prelude.{◌≡◌, [], true, IfOk, IfSome, map};
 ghost use Rattle.fancy_automaton.specs.Steps.{at_of};
-ghost use Rattle.fancy_automaton.specs.Cells.{KeepsRows, HasRow};
+ghost use Rattle.fancy_automaton.specs.Cells.{HasRow, GrowsBy, HasRows};
 
 use crate::hints::Hints;
 use crate::way::Way;
@@ -107,9 +107,8 @@ fn name_row(
 
 /// The number of a row with these instructions: one that a hint leads to, or else a new one.
 pub(crate) fn intern(alloc: Global, rows: &mut Rows, ways: Vec<usize>) -> Result<usize, AllocError>
-    ensures kept { KeepsRows rows.old.lists.items rows.new.lists.items }
+    ensures rows { GrowsBy 1 rows.old.lists.items rows.new.lists.items }
     ensures row { IfOk result (λ r. HasRow rows.new.lists.items r ways.items) }
-    ensures more { length rows.new.lists.items ≤ length rows.old.lists.items + 1 }
 {
     let key = row_key(&ways);
     if let Some(r) = named_row(rows, key, &ways) {
@@ -124,8 +123,7 @@ pub(crate) fn intern(alloc: Global, rows: &mut Rows, ways: Vec<usize>) -> Result
 
 /// The number of the row with this instruction alone.
 pub(crate) fn intern_one(alloc: Global, rows: &mut Rows, at: usize) -> Result<usize, AllocError>
-    ensures kept { KeepsRows rows.old.lists.items rows.new.lists.items }
-    ensures more { length rows.new.lists.items ≤ length rows.old.lists.items + 1 }
+    ensures { GrowsBy 1 rows.old.lists.items rows.new.lists.items }
 {
     let mut ways = Vec::with_capacity(alloc, 1)?;
     ways.push(at)?;
@@ -160,10 +158,9 @@ pub(crate) fn target_of(
     start: usize,
     next: &[Way],
 ) -> Result<Target, AllocError>
-    ensures kept { KeepsRows rows.old.lists.items rows.new.lists.items }
-    ensures leads { IfOk result (λ t. HasRow rows.new.lists.items t.next (map at_of next.now)) }
-    ensures opens { IfOk result (λ t. HasRow rows.new.lists.items t.begun (map at_of next.now ++ start ∷ [])) }
-    ensures more { length rows.new.lists.items ≤ length rows.old.lists.items + 2 }
+    ensures rows { GrowsBy 2 rows.old.lists.items rows.new.lists.items }
+    ensures leads { IfOk result (λ t.
+        HasRows rows.new.lists.items t.next t.begun (map at_of next.now) start) }
 {
     let ways = instructions(alloc, next)?;
     let mut more = instructions(alloc, next)?;

@@ -3,7 +3,6 @@
 ghost use Rattle.std.specs.Prelude.{◌≡◌, ◌+◌, ◌-◌, ◌*◌, ◌≤◌, ℕ, Bool, false, None, IfOk, IfErr, length, option_map, replicate};
 ghost use Rattle.fancy_tree.specs.Pattern.{Pattern};
 ghost use Rattle.fancy_input.specs.Requests.{effective_start};
-ghost use Rattle.fancy_code.specs.Attempt.{instrs_in};
 ghost use Rattle.fancy_code.specs.Code.{instrs_of};
 ghost use Rattle.fancy_code.specs.CodeLength.{code_len};
 ghost use Rattle.fancy_code.specs.Compile.{IsCodeOf};
@@ -11,9 +10,10 @@ ghost use Rattle.fancy_code.specs.Queries.{query_of, unfiltered, answer_with, mo
 ghost use Rattle.fancy_code.specs.Search.{search};
 ghost use Rattle.fancy_prefilter.specs.Seen.{NoneMayStart};
 ghost use Rattle.fancy_input.specs.Work.{steps_of, returns_of, units_of};
-ghost use Rattle.fancy_automaton.specs.Cells.{IsFor, IsBounded};
+ghost use Rattle.fancy_automaton.specs.Cells.{IsFor, IsBounded, HoldsFor};
 ghost use Rattle.fancy_automaton.specs.Futures.{ArePlain};
-ghost use Rattle.fancy_automaton.specs.Search.{BegunIn, KeepsPlaces, Steady, at_position, ends_in, leftmost_in};
+ghost use Rattle.fancy_automaton.specs.Search.{BegunIn, KeepsPlaces, at_position, ends_in, leftmost_in, IsFollowed};
+ghost use Rattle.fancy_automaton.specs.Counts.{AddsSteps};
 
 use crate::cells::{Cells, MORE_ROOM, ROOM};
 use crate::front::Front;
@@ -33,25 +33,19 @@ fn find_span(
     cells: &mut Cells,
     work: &mut Work,
 ) -> Result<Option<Span>, AllocError>
-    requires inside { attempt.now.last ≤ length attempt.now.haystack.now }
     requires ordered { attempt.now.base ≤ attempt.now.last }
-    requires plain { ArePlain (instrs_in attempt.now) }
-    requires steady { Steady attempt.now }
-    requires kept { IsBounded cells.old }
-    requires all { IsFor cells.old attempt.now.code.now }
+    requires followed { IsFollowed attempt.now }
+    requires kept { HoldsFor cells.old attempt.now.code.now }
     ensures answer { IfOk result (λ found. (deep : ℕ) → BegunIn attempt.now deep
         → option_map ends_in found
         ≡ leftmost_in attempt.now deep (attempt.now.last + 1 - attempt.now.base) attempt.now.base) }
-    ensures kept { IsBounded cells.new }
-    ensures all { IsFor cells.new attempt.now.code.now }
-    ensures steps { steps_of work.old ≤ steps_of work.new }
-    ensures bounded { steps_of work.new
-        ≤ steps_of work.old + code_len attempt.now.code.now * (attempt.now.last + 1 - attempt.now.base) }
-    ensures idle { NoneMayStart attempt.now.code.now.prefilter.starts attempt.now.haystack.now attempt.now.last
-        attempt.now.base (attempt.now.last + 1)
+    ensures kept { HoldsFor cells.new attempt.now.code.now }
+    ensures counts { AddsSteps
+        (code_len attempt.now.code.now * (attempt.now.last + 1 - attempt.now.base))
+        work.old work.new }
+    ensures idle { NoneMayStart attempt.now.code.now.prefilter.starts attempt.now.haystack.now
+        attempt.now.last attempt.now.base (attempt.now.last + 1)
         → steps_of work.new ≡ steps_of work.old }
-    ensures returns { returns_of work.new ≡ returns_of work.old }
-    ensures units { units_of work.new ≡ units_of work.old }
 {
     let mut front = Front::new(attempt.code, cells)?;
     let mut place = attempt.base;

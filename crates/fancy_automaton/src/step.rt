@@ -1,13 +1,11 @@
 //! One place of a search.
 
-ghost use Rattle.std.specs.Prelude.{◌≡◌, ◌+◌, ◌<◌, ◌≤◌, IfOk, None, [], reverse, length};
-ghost use Rattle.fancy_code.specs.Code.{instrs_of};
+ghost use Rattle.std.specs.Prelude.{◌≡◌, ◌≤◌, IfOk, reverse, length};
 ghost use Rattle.fancy_code.specs.CodeLength.{code_len};
-ghost use Rattle.fancy_input.specs.Work.{steps_of, returns_of, units_of};
-ghost use Rattle.fancy_alphabet.specs.Sights.{seen_in};
-ghost use Rattle.fancy_automaton.specs.Steps.{IsStep, waiting};
+ghost use Rattle.fancy_automaton.specs.Steps.{waiting, IsStepOn};
+ghost use Rattle.fancy_automaton.specs.Counts.{AddsSteps, PaysFor};
 
-use crate::closure::close;
+use crate::closure::{Reach, close};
 use crate::join::add_all;
 use crate::marks::Marks;
 use crate::way::Way;
@@ -49,23 +47,19 @@ pub(crate) fn step_from(
     marks: &mut Marks,
     work: &mut Work,
 ) -> Result<Step, AllocError>
-    ensures step { IfOk result (λ s. IsStep (instrs_of code.now) ways.now (seen_in sight)
-        s.next.items s.matched) }
-    ensures halts { IfOk result (λ s. sight.reading ≡ None → s.next.items ≡ []) }
+    ensures step { IfOk result (IsStepOn code.now ways.now sight) }
     ensures width { IfOk result (λ s. length s.next.items ≤ code_len code.now) }
-    ensures steps { steps_of work.old ≤ steps_of work.new }
-    ensures bounded { steps_of work.new ≤ steps_of work.old + code_len code.now }
-    ensures counted { IfOk result (λ s. steps_of work.new < usize.MAX
-        → length s.next.items + steps_of work.old ≤ steps_of work.new) }
-    ensures returns { returns_of work.new ≡ returns_of work.old }
-    ensures units { units_of work.new ≡ units_of work.old }
+    ensures counts { AddsSteps (code_len code.now) work.old work.new }
+    ensures paid { IfOk result (λ s. PaysFor (length s.next.items) work.old work.new) }
 {
-    let mut stack = load(alloc, ways)?;
-    let mut reached = Vec::with_capacity(alloc, ways.len())?;
+    let mut reach = Reach {
+        stack: load(alloc, ways)?,
+        next: Vec::with_capacity(alloc, ways.len())?,
+    };
     marks.reset(code.len())?;
-    let matched = close(code, sight, &mut stack, &mut reached, marks, work)?;
-    let mut next = Vec::with_capacity(alloc, reached.len())?;
+    let matched = close(code, sight, &mut reach, marks, work)?;
+    let mut next = Vec::with_capacity(alloc, reach.next.len())?;
     marks.reset(code.len())?;
-    add_all(code, &reached, &mut next, marks)?;
+    add_all(code, &reach.next, &mut next, marks)?;
     Ok(Step { next, matched })
 }

@@ -1,7 +1,7 @@
 //! The steps that a search took: where a match began is read from them once it is found.
 
 ghost use Rattle.std.specs.Prelude.{◌≡◌, ◌<◌, ◌≤◌, ℕ, List, [], IfOk, IfSome, length, option_map, replicate, slice_get, slice_index};
-ghost use Rattle.fancy_automaton.specs.Trail.{came_at, starts_before, began_at, start_or, and_start, began_by, found_in_trail, hit_or, end_of, known_hit, starts_in, IsBeginning, HitIn};
+ghost use Rattle.fancy_automaton.specs.Trail.{came_at, began_at, start_or, and_start, began_by, found_in_trail, hit_or, end_of, known_hit, starts_in, IsBeginning, HitIn, starts_waiting};
 ghost use Rattle.fancy_automaton.specs.Cells.{row_if};
 ghost use Rattle.fancy_automaton.specs.Search.{begun_if};
 ghost use Rattle.fancy_automaton.specs.Sole.{match_from};
@@ -90,7 +90,8 @@ pub(crate) fn note_hit(hit: &mut Option<Hit>, matched: Option<usize>, visit: usi
 /// The row of a place: where nothing was found, one more way begins there.
 #[inline(always)]
 pub fn row_at(hit: Option<Hit>, next: usize, begun: usize) -> usize
-    ensures { (cells : List Cell) (trail : Trail) → result ≡ row_if (found_in_trail cells trail hit) next begun }
+    ensures { (cells : List Cell) (trail : Trail)
+        → result ≡ row_if (found_in_trail cells trail hit) next begun }
 {
     match hit {
         None => begun,
@@ -123,7 +124,7 @@ fn comes_from(cells: &[Cell], visit: Visit, way: usize) -> Option<usize>
 /// How many ways wait after the first visits of a trail.
 fn waiting_after(cells: &[Cell], trail: &Trail, visits: usize) -> usize
     requires { visits ≤ length trail.now.visits.items }
-    ensures { result ≡ length (starts_before cells.now trail.now.base.items trail.now.visits.items visits) }
+    ensures { result ≡ length (starts_waiting cells.now trail.now visits) }
 {
     if visits == 0 {
         return trail.base.len();
@@ -139,7 +140,7 @@ fn waiting_after(cells: &[Cell], trail: &Trail, visits: usize) -> usize
 fn begun_there(cells: &[Cell], trail: &Trail, visit: usize, way: usize) -> Option<usize>
     requires { visit < length trail.now.visits.items }
     ensures { began_at cells.now trail.now.base.items trail.now.visits.items visit way
-        ≡ start_or result (slice_index (starts_before cells.now trail.now.base.items trail.now.visits.items visit) way) }
+        ≡ start_or result (slice_index (starts_waiting cells.now trail.now visit) way) }
 {
     match trail.visits[visit].start {
         None => None,
@@ -157,7 +158,7 @@ fn begun_there(cells: &[Cell], trail: &Trail, visit: usize, way: usize) -> Optio
 /// to the first one.
 fn start_after(cells: &[Cell], trail: &Trail, visits: usize, way: usize) -> usize
     requires { visits ≤ length trail.now.visits.items }
-    ensures { result ≡ slice_index (starts_before cells.now trail.now.base.items trail.now.visits.items visits) way }
+    ensures { result ≡ slice_index (starts_waiting cells.now trail.now visits) way }
 {
     let mut at = way;
     for i in (0..visits).rev() {
@@ -226,7 +227,8 @@ pub(crate) fn shared_start(
     requires { HitIn trail.now.visits.items hit }
     ensures starts { IfSome result (λ s. starts_in cells.now trail.now
         ≡ replicate (length (starts_in cells.now trail.now)) s) }
-    ensures found { IfSome result (λ s. found_in_trail cells.now trail.now hit ≡ match_from s (end_of hit)) }
+    ensures found { IfSome result (λ s.
+        found_in_trail cells.now trail.now hit ≡ match_from s (end_of hit)) }
 {
     let visits = trail.visits.len();
     let waiting = waiting_after(cells, trail, visits);

@@ -137,8 +137,10 @@ impl View<'_> {
         requires row { row < 4_294_967_296 }
         requires first { first < 4_294_967_296 }
         requires narrow { self.width < 2_147_483_648 }
-        ensures told { (cells : List Cell) (table : Transitions) (before : Side) (byte : ℕ) → IsView table self.entry
-            → AreTold cells table → number_of before < sides_of table.classes.tests → first ≡ first_of table.classes before
+        ensures told { (cells : List Cell) (table : Transitions) (before : Side) (byte : ℕ)
+            → IsView table self.entry → AreTold cells table
+            → number_of before < sides_of table.classes.tests
+            → first ≡ first_of table.classes before
             → slice_get self.entry.columns.now byte ≡ Some column
             → IsEntry cells row (sight_for table.classes before byte) result }
     {

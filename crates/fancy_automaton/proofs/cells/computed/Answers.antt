@@ -19,13 +19,13 @@ returns-clause-cell c =
     let size : c.len.result ≡ length (ways_at rows c.args.row) = many ∙ sym (ap (λ (o : Option (Vec ℕ)). length (items_or o)) there) in
     cell_made c.args.code.now rows c.target_of.new.rows.lists.items c.args.row c.args.sight c.in_ok-target.target.next c.in_ok-target.target.begun (ways_at rows c.args.row) c.args.step.next.items c.in_ok-came.came.items c.args.step.matched c.origin_of-origin.result
     (row_of rows c.args.row c.requires.row)
-    c.in_ok-target.ensures.kept
-    (subst (λ (ls : List Way). HasRow c.target_of.new.rows.lists.items c.in_ok-target.target.next (map at_of ls)) e c.in_ok-target.ensures.leads)
-    (subst (λ (ls : List Way). HasRow c.target_of.new.rows.lists.items c.in_ok-target.target.begun (map at_of ls ++ c.args.code.now.start ∷ [])) e c.in_ok-target.ensures.opens)
+    c.in_ok-target.ensures.rows.kept
+    (subst (λ (ls : List Way). HasRow c.target_of.new.rows.lists.items c.in_ok-target.target.next (map at_of ls)) e c.in_ok-target.ensures.leads.waits)
+    (subst (λ (ls : List Way). HasRow c.target_of.new.rows.lists.items c.in_ok-target.target.begun (map at_of ls ++ c.args.code.now.start ∷ [])) e c.in_ok-target.ensures.leads.opens)
     (c.in_ok-came.ensures ∙ ap (map from_of) c.deref.ensures.value)
     (subst (λ (n : ℕ). ComeFrom c.origin_of-origin.result n c.in_ok-came.came.items c.args.step.matched) size
     (subst (λ (xs : List ℕ). ComeFrom c.origin_of-origin.result c.len.result xs c.args.step.matched) c.deref-2.ensures.value c.origin_of-origin.ensures))
-    c.requires.step c.requires.halts
+    c.requires.step.step c.requires.step.halts
 
 pub returns-clause-ways : goal.returns-clause-ways
 returns-clause-ways c =

@@ -30,7 +30,7 @@ returns-in_ok-push-in-Moves-clause-visited c here ends later known beyond rank g
     let m : Way = record { at = c.in-Moves.at; from = c.args.way.from } in
     let o = subst (λ (k : Effect). Obeys ends later known beyond rank k here c.args.way.at) (sym c.effect_at.ensures.effect ∙ c.in-Moves.is) (solves c.args.way.at closing.all.0) in
     rw c.in_ok-push-in-Moves.ensures.items
-    (subst (λ (ls : List Way). Closing ends later known beyond rank goal c.is_first.new.marks c.args.next.now.items ls) (sym (reverse-append c.args.stack.now.items (m ∷ [])))
+    (subst (λ (ls : List Way). Closing ends later known beyond rank goal c.is_first.new.marks c.args.reach.now.next.items ls) (sym (reverse-append c.args.reach.now.stack.items (m ∷ [])))
     (close_moves ends later known beyond rank goal _ _ _ _ c.args.way m closing c.is_first.ensures.adds refl o.0 o.1 o.2))
 
 pub returns-in-Ends-clause-visited : goal.returns-in-Ends-clause-visited

@@ -1,12 +1,10 @@
-use Rattle.std.proofs.Common.{◌≡◌, ◌∙◌, List, ap, arith, get_or, None, Some, subst, sym}
+use Rattle.std.proofs.Common.{◌≡◌, ap, arith, get_or, None, Some, subst, sym}
 use Rattle.std.specs.Prelude.{slice_get}
-use Rattle.std.proofs.lemmas.Option.{slice_get-get_or}
 use Rattle.fancy_alphabet.proofs.NumberLemmas.{seen_low}
 use Rattle.fancy_alphabet.specs.Sides.{seen_as}
-use Rattle.fancy_alphabet.specs.declared.classes.Column.{Column}
 use Rattle.fancy_automaton.specs.declared.hop.Stand.{Stand}
 use Rattle.fancy_automaton.specs.Sole.{IsAmid, IsSole}
-use Rattle.fancy_automaton.proofs.SoleLemmas.{Reads, idle_sole, quiet_amid, quiet_last}
+use Rattle.fancy_automaton.proofs.SoleLemmas.{reads, idle_sole, quiet_amid, quiet_last}
 use Rattle.fancy_automaton.proofs.follow.hunt.Goals as goal
 
 pub places-preserved : goal.places-preserved
@@ -19,20 +17,16 @@ places-preserved c =
     let column = c.in_ok-column.column in
     let view = c.view-table.ensures.view in
     let there : slice_get c.view-table.result.columns.now byte ≡ Some column = sym c.in_ok-column.ensures in
-    let r : Reads a cells at at.begun byte column = record {
-      before = omega arith;
-      here = slice_get-get_or a.haystack.now at.place 0 (omega (arith, c.requires.inside));
-      column = ap (λ (cs : List Column). slice_get cs byte) (sym view.0) ∙ there;
-    } in
-    let told = c.in-Quiet.ensures.told cells.cells.items cells.table (seen_as cells.table.classes.tests is.begins.0) byte view c.requires.kept.told (seen_low cells.table.classes.tests is.begins.0) is.begins.2 there in
+    let r = reads a cells at c.view-table.result at.begun column is.followed view (omega arith) there in
+    let told = c.in-Quiet.ensures.told cells.cells.items cells.table (seen_as cells.table.classes.tests is.begins.0) byte view is.kept.told (seen_low cells.table.classes.tests is.begins.0) is.begins.2 there in
     let amid = c.places.invariant.amid in
     record {
-      amid = subst (λ (st : Stand). IsAmid a cells st) (sym c.stand_after.ensures) (quiet_amid a c.requires.steady c.requires.plain cells at byte column c.in-Quiet.step amid.0 amid.1 is r told);
+      amid = subst (λ (st : Stand). IsAmid a cells st) (sym c.stand_after.ensures) (quiet_amid a cells at byte column c.in-Quiet.step amid.0 amid.1 is r told);
       forth = omega (arith, c.places.invariant.forth, ap (λ (st : Stand). st.place) c.stand_after.ensures);
     }
 
-pub returns-then-sole-idle-clause-sole : goal.returns-then-sole-idle-clause-sole
-returns-then-sole-idle-clause-sole c =
+pub returns-then-sole-idle : goal.returns-then-sole-idle
+returns-then-sole-idle c =
     let a = c.args.attempt.now in
     let cells = c.args.cells.now in
     let at = c.places.at in
@@ -41,18 +35,17 @@ returns-then-sole-idle-clause-sole c =
     let column = c.in_ok-column.column in
     let view = c.view-table.ensures.view in
     let there : slice_get c.view-table.result.columns.now byte ≡ Some column = sym c.in_ok-column.ensures in
-    let r : Reads a cells at at.begun byte column = record {
-      before = omega arith;
-      here = slice_get-get_or a.haystack.now at.place 0 (omega (arith, c.requires.inside));
-      column = ap (λ (cs : List Column). slice_get cs byte) (sym view.0) ∙ there;
-    } in
-    let told = c.in-Quiet.ensures.told cells.cells.items cells.table (seen_as cells.table.classes.tests is.begins.0) byte view c.requires.kept.told (seen_low cells.table.classes.tests is.begins.0) is.begins.2 there in
+    let r = reads a cells at c.view-table.result at.begun column is.followed view (omega arith) there in
+    let told = c.in-Quiet.ensures.told cells.cells.items cells.table (seen_as cells.table.classes.tests is.begins.0) byte view is.kept.told (seen_low cells.table.classes.tests is.begins.0) is.begins.2 there in
     let amid = c.places.invariant.amid in
-    idle_sole a cells c.stand_after.result c.args.idle at.place c.requires.idle c.if-sole-idle.true
-    (subst (λ (st : Stand). IsAmid a cells st) (sym c.stand_after.ensures) (quiet_amid a c.requires.steady c.requires.plain cells at byte column c.in-Quiet.step amid.0 amid.1 is r told))
+    record {
+      sole = idle_sole a cells c.stand_after.result c.args.idle at.place c.requires.idle c.if-sole-idle.true
+          (subst (λ (st : Stand). IsAmid a cells st) (sym c.stand_after.ensures) (quiet_amid a cells at byte column c.in-Quiet.step amid.0 amid.1 is r told));
+      forth = omega (arith, c.places.invariant.forth, ap (λ (st : Stand). st.place) c.stand_after.ensures);
+    }
 
-pub returns-in-Last-clause-sole : goal.returns-in-Last-clause-sole
-returns-in-Last-clause-sole c =
+pub returns-in-Last : goal.returns-in-Last
+returns-in-Last c =
     let a = c.args.attempt.now in
     let cells = c.args.cells.now in
     let at = c.places.at in
@@ -61,12 +54,11 @@ returns-in-Last-clause-sole c =
     let column = c.in_ok-column.column in
     let view = c.view-table.ensures.view in
     let there : slice_get c.view-table.result.columns.now byte ≡ Some column = sym c.in_ok-column.ensures in
-    let r : Reads a cells at at.begun byte column = record {
-      before = omega arith;
-      here = slice_get-get_or a.haystack.now at.place 0 (omega (arith, c.requires.inside));
-      column = ap (λ (cs : List Column). slice_get cs byte) (sym view.0) ∙ there;
-    } in
-    let told = c.in-Quiet.ensures.told cells.cells.items cells.table (seen_as cells.table.classes.tests is.begins.0) byte view c.requires.kept.told (seen_low cells.table.classes.tests is.begins.0) is.begins.2 there in
+    let r = reads a cells at c.view-table.result at.begun column is.followed view (omega arith) there in
+    let told = c.in-Quiet.ensures.told cells.cells.items cells.table (seen_as cells.table.classes.tests is.begins.0) byte view is.kept.told (seen_low cells.table.classes.tests is.begins.0) is.begins.2 there in
     let amid = c.places.invariant.amid in
-    subst (λ (st : Stand). IsSole a cells (record { stand = st; start = at.place; end = None })) (sym c.stand_after.ensures)
-    (quiet_last a c.requires.steady c.requires.plain cells at byte column c.in-Quiet.step amid.0 amid.1 is r told c.in-Last.is)
+    record {
+      sole = subst (λ (st : Stand). IsSole a cells (record { stand = st; start = at.place; end = None })) (sym c.stand_after.ensures)
+          (quiet_last a cells at byte column c.in-Quiet.step amid.0 amid.1 is r told c.in-Last.is);
+      forth = omega (arith, c.places.invariant.forth, ap (λ (st : Stand). st.place) c.stand_after.ensures);
+    }

@@ -1,14 +1,12 @@
 use Rattle.std.proofs.Common.{◌≡◌, ◌∙◌, ◌⊎◌, List, ap, arith, get_or, replicate, length, Option, Some, ℕ, subst, sym, is_some}
 use Rattle.std.specs.Prelude.{slice_get}
-use Rattle.std.proofs.lemmas.Option.{slice_get-get_or}
 use Rattle.fancy_alphabet.proofs.NumberLemmas.{seen_low}
 use Rattle.fancy_alphabet.specs.Sides.{seen_as}
-use Rattle.fancy_alphabet.specs.declared.classes.Column.{Column}
 use Rattle.fancy_automaton.specs.declared.hop.Stand.{Stand}
 use Rattle.fancy_automaton.specs.declared.origin.Origin.TheVariants.{Earlier, Last}
 use Rattle.fancy_automaton.specs.Sole.{IsAt, IsSole, match_from, stood}
 use Rattle.fancy_automaton.specs.declared.transitions.Transition.{Transition}
-use Rattle.fancy_automaton.proofs.SoleLemmas.{Reads, is_one, later_found, later_quiet, some_of}
+use Rattle.fancy_automaton.proofs.SoleLemmas.{is_one, later_found, later_quiet, reads, some_of}
 use Rattle.fancy_automaton.proofs.follow.lengthen.Goals as goal
 use Rattle.fancy_automaton.proofs.follow.lengthen.Goals.{in-Quiet, in-Matching}
 
@@ -25,21 +23,17 @@ places-preserved c =
     let column = c.in-Some.column in
     let view = c.view-table.ensures.view in
     let there : slice_get c.view-table.result.columns.now byte ≡ Some column = sym c.in-Some.ensures in
-    let r : Reads a cells at at.next byte column = record {
-      before = omega arith;
-      here = slice_get-get_or a.haystack.now at.place 0 (omega (arith, c.requires.inside));
-      column = ap (λ (cs : List Column). slice_get cs byte) (sym view.0) ∙ there;
-    } in
+    let r = reads a cells at c.view-table.result at.next column is.followed view (omega arith) there in
     let one = is_one c.match-at.step.origin c.in_default-origin.not-Mixed in
     let moved : IsSole a cells (record { stand = stood at column c.match-at.step; start = start; end = c.match-at.later }) =
     elim c.match-at.branch [
       | in-Quiet w ↦ subst (λ (t : Transition). IsSole a cells (record { stand = stood at column t; start = start; end = c.match-at.later })) (sym w.step-is)
           (subst (λ (o : Option ℕ). IsSole a cells (record { stand = stood at column w.in-Quiet.step; start = start; end = o })) (sym (w.later-is ∙ some.1))
-          (later_quiet a c.requires.steady c.requires.plain cells at byte column w.in-Quiet.step here.0 start (record { start = start; end = some.0 }) is r (w.in-Quiet.ensures.told cells.cells.items cells.table (seen_as cells.table.classes.tests is.begins.0) byte view c.requires.kept.told (seen_low cells.table.classes.tests is.begins.0) is.begins.2 there)
+          (later_quiet a cells at byte column w.in-Quiet.step here.0 start (record { start = start; end = some.0 }) is r (w.in-Quiet.ensures.told cells.cells.items cells.table (seen_as cells.table.classes.tests is.begins.0) byte view is.kept.told (seen_low cells.table.classes.tests is.begins.0) is.begins.2 there)
           (subst (λ (t : Transition). (t.origin ≡ Earlier) ⊎ (t.origin ≡ Last)) w.step-is one)))
       | in-Matching w ↦ subst (λ (t : Transition). IsSole a cells (record { stand = stood at column t; start = start; end = c.match-at.later })) (sym w.step-is)
           (subst (λ (o : Option ℕ). IsSole a cells (record { stand = stood at column w.in-Matching.step; start = start; end = o })) (sym w.later-is)
-          (later_found a c.requires.steady c.requires.plain cells at byte column w.in-Matching.step here.0 start (record { start = start; end = some.0 }) is r (w.in-Matching.ensures.told cells.cells.items cells.table (seen_as cells.table.classes.tests is.begins.0) byte view c.requires.kept.told (seen_low cells.table.classes.tests is.begins.0) is.begins.2 there)
+          (later_found a cells at byte column w.in-Matching.step here.0 start (record { start = start; end = some.0 }) is r (w.in-Matching.ensures.told cells.cells.items cells.table (seen_as cells.table.classes.tests is.begins.0) byte view is.kept.told (seen_low cells.table.classes.tests is.begins.0) is.begins.2 there)
           (subst (λ (t : Transition). (t.origin ≡ Earlier) ⊎ (t.origin ≡ Last)) w.step-is one)))
     ] in
     record {

@@ -1,17 +1,15 @@
-use Rattle.std.proofs.Common.{◌≡◌, ◌∙◌, List, ap, arith, get_or, replicate, length, Option, Some, ℕ, subst, sym}
+use Rattle.std.proofs.Common.{◌≡◌, List, ap, arith, get_or, replicate, length, Option, Some, ℕ, subst, sym}
 use Rattle.std.specs.Prelude.{slice_get}
-use Rattle.std.proofs.lemmas.Option.{slice_get-get_or}
 use Rattle.fancy_alphabet.proofs.NumberLemmas.{seen_low}
 use Rattle.fancy_alphabet.specs.Sides.{seen_as}
-use Rattle.fancy_alphabet.specs.declared.classes.Column.{Column}
 use Rattle.fancy_automaton.specs.declared.hop.Stand.{Stand}
 use Rattle.fancy_automaton.specs.Sole.{IsAt, IsSole, match_from, stood}
-use Rattle.fancy_automaton.proofs.SoleLemmas.{Reads, found_earlier, found_last}
+use Rattle.fancy_automaton.proofs.SoleLemmas.{reads, found_earlier, found_last}
 use Rattle.fancy_automaton.proofs.follow.past.Goals as goal
 use Rattle.fancy_automaton.proofs.follow.past.Goals.{in-Last, in-Earlier}
 
-pub returns-clause-sole : goal.returns-clause-sole
-returns-clause-sole c =
+pub returns : goal.returns
+returns c =
     let a = c.args.attempt.now in
     let cells = c.args.cells.now in
     let at = c.args.at.stand in
@@ -21,18 +19,15 @@ returns-clause-sole c =
     let column = c.in_ok-column.column in
     let view = c.view-table.ensures.view in
     let there : slice_get c.view-table.result.columns.now byte ≡ Some column = sym c.in_ok-column.ensures in
-    let r : Reads a cells at at.begun byte column = record {
-      before = omega arith;
-      here = slice_get-get_or a.haystack.now at.place 0 (omega (arith, c.requires.inside));
-      column = ap (λ (cs : List Column). slice_get cs byte) (sym view.0) ∙ there;
-    } in
-    let told = c.in-Matching.ensures.told cells.cells.items cells.table (seen_as cells.table.classes.tests is.begins.0) byte view c.requires.kept.told (seen_low cells.table.classes.tests is.begins.0) is.begins.2 there in
-    let steady = c.requires.steady in
-    let plain = c.requires.plain in
-    subst (λ (st : Stand). IsSole a cells (record { stand = st; start = c.match-step-2.start; end = Some at.place })) (sym c.stand_after.ensures)
-    (elim c.match-step-2.branch [
-      | in-Last w ↦ subst (λ (s : ℕ). IsSole a cells (record { stand = stood at column c.in-Matching.step; start = s; end = Some at.place })) (sym w.start-is)
-          (found_last a steady plain cells at byte column c.in-Matching.step here.0 _ is r told w.in-Last.is)
-      | in-Earlier w ↦ subst (λ (s : ℕ). IsSole a cells (record { stand = stood at column c.in-Matching.step; start = s; end = Some at.place })) (sym w.start-is)
-          (found_earlier a steady plain cells at byte column c.in-Matching.step here.0 c.args.at.start is r told w.in-Earlier.is)
-    ])
+    let r = reads a cells at c.view-table.result at.begun column is.followed view (omega arith) there in
+    let told = c.in-Matching.ensures.told cells.cells.items cells.table (seen_as cells.table.classes.tests is.begins.0) byte view is.kept.told (seen_low cells.table.classes.tests is.begins.0) is.begins.2 there in
+    record {
+      sole = subst (λ (st : Stand). IsSole a cells (record { stand = st; start = c.match-step-2.start; end = Some at.place })) (sym c.stand_after.ensures)
+          (elim c.match-step-2.branch [
+            | in-Last w ↦ subst (λ (s : ℕ). IsSole a cells (record { stand = stood at column c.in-Matching.step; start = s; end = Some at.place })) (sym w.start-is)
+                (found_last a cells at byte column c.in-Matching.step here.0 _ is r told w.in-Last.is)
+            | in-Earlier w ↦ subst (λ (s : ℕ). IsSole a cells (record { stand = stood at column c.in-Matching.step; start = s; end = Some at.place })) (sym w.start-is)
+                (found_earlier a cells at byte column c.in-Matching.step here.0 c.args.at.start is r told w.in-Earlier.is)
+          ]);
+      forth = omega (arith, ap (λ (st : Stand). st.place) c.stand_after.ensures);
+    }

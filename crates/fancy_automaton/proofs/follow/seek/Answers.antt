@@ -1,12 +1,10 @@
-use Rattle.std.proofs.Common.{◌≡◌, ◌∙◌, List, ap, arith, get_or, None, Some, ℕ, subst, sym}
+use Rattle.std.proofs.Common.{◌≡◌, ap, arith, get_or, None, Some, ℕ, subst, sym}
 use Rattle.std.specs.Prelude.{slice_get}
-use Rattle.std.proofs.lemmas.Option.{slice_get-get_or}
 use Rattle.fancy_alphabet.proofs.NumberLemmas.{seen_low}
 use Rattle.fancy_alphabet.specs.Sides.{seen_as}
-use Rattle.fancy_alphabet.specs.declared.classes.Column.{Column}
 use Rattle.fancy_automaton.specs.declared.hop.Stand.{Stand}
 use Rattle.fancy_automaton.specs.Sole.{IsSole, stood}
-use Rattle.fancy_automaton.proofs.SoleLemmas.{Reads, quiet_earlier, quiet_last}
+use Rattle.fancy_automaton.proofs.SoleLemmas.{reads, quiet_earlier, quiet_last}
 use Rattle.fancy_automaton.proofs.follow.seek.Goals as goal
 use Rattle.fancy_automaton.proofs.follow.seek.Goals.{in-Last, in-Earlier}
 
@@ -20,26 +18,20 @@ places-preserved c =
     let column = c.in-Some.column in
     let view = c.view-table.ensures.view in
     let there : slice_get c.view-table.result.columns.now byte ≡ Some column = sym c.in-Some.ensures in
-    let r : Reads a cells at at.begun byte column = record {
-      before = omega arith;
-      here = slice_get-get_or a.haystack.now at.place 0 (omega (arith, c.requires.inside));
-      column = ap (λ (cs : List Column). slice_get cs byte) (sym view.0) ∙ there;
-    } in
-    let told = c.in-Quiet.ensures.told cells.cells.items cells.table (seen_as cells.table.classes.tests is.begins.0) byte view c.requires.kept.told (seen_low cells.table.classes.tests is.begins.0) is.begins.2 there in
-    let steady = c.requires.steady in
-    let plain = c.requires.plain in
+    let r = reads a cells at c.view-table.result at.begun column is.followed view (omega arith) there in
+    let told = c.in-Quiet.ensures.told cells.cells.items cells.table (seen_as cells.table.classes.tests is.begins.0) byte view is.kept.told (seen_low cells.table.classes.tests is.begins.0) is.begins.2 there in
     let sole : IsSole a cells (record { stand = c.stand_after-at.result; start = c.match-step.start; end = None }) =
     subst (λ (st : Stand). IsSole a cells (record { stand = st; start = c.match-step.start; end = None })) (sym c.stand_after-at.ensures)
     (elim c.match-step.branch [
       | in-Last w ↦ subst (λ (s : ℕ). IsSole a cells (record { stand = stood at column c.in-Quiet.step; start = s; end = None })) (sym w.start-is)
-          (quiet_last a steady plain cells at byte column c.in-Quiet.step c.places.invariant.sole.0 _ is r told w.in-Last.is)
+          (quiet_last a cells at byte column c.in-Quiet.step c.places.invariant.sole.0 _ is r told w.in-Last.is)
       | in-Earlier w ↦ subst (λ (s : ℕ). IsSole a cells (record { stand = stood at column c.in-Quiet.step; start = s; end = None })) (sym w.start-is)
-          (quiet_earlier a steady plain cells at byte column c.in-Quiet.step c.places.invariant.sole.0 c.places.start is r told w.in-Earlier.is)
+          (quiet_earlier a cells at byte column c.in-Quiet.step c.places.invariant.sole.0 c.places.start is r told w.in-Earlier.is)
     ]) in
     record { sole = sole; forth = omega (arith, c.places.invariant.forth, ap (λ (st : Stand). st.place) c.stand_after-at.ensures) }
 
-pub returns-then-at-idle-clause-sole : goal.returns-then-at-idle-clause-sole
-returns-then-at-idle-clause-sole c =
+pub returns-then-at-idle-clause-reaches : goal.returns-then-at-idle-clause-reaches
+returns-then-at-idle-clause-reaches c =
     let a = c.args.attempt.now in
     let cells = c.args.cells.now in
     let at = c.places.at in
@@ -48,20 +40,14 @@ returns-then-at-idle-clause-sole c =
     let column = c.in-Some.column in
     let view = c.view-table.ensures.view in
     let there : slice_get c.view-table.result.columns.now byte ≡ Some column = sym c.in-Some.ensures in
-    let r : Reads a cells at at.begun byte column = record {
-      before = omega arith;
-      here = slice_get-get_or a.haystack.now at.place 0 (omega (arith, c.requires.inside));
-      column = ap (λ (cs : List Column). slice_get cs byte) (sym view.0) ∙ there;
-    } in
-    let told = c.in-Quiet.ensures.told cells.cells.items cells.table (seen_as cells.table.classes.tests is.begins.0) byte view c.requires.kept.told (seen_low cells.table.classes.tests is.begins.0) is.begins.2 there in
-    let steady = c.requires.steady in
-    let plain = c.requires.plain in
+    let r = reads a cells at c.view-table.result at.begun column is.followed view (omega arith) there in
+    let told = c.in-Quiet.ensures.told cells.cells.items cells.table (seen_as cells.table.classes.tests is.begins.0) byte view is.kept.told (seen_low cells.table.classes.tests is.begins.0) is.begins.2 there in
     let sole : IsSole a cells (record { stand = c.stand_after-at.result; start = c.match-step.start; end = None }) =
     subst (λ (st : Stand). IsSole a cells (record { stand = st; start = c.match-step.start; end = None })) (sym c.stand_after-at.ensures)
     (elim c.match-step.branch [
       | in-Last w ↦ subst (λ (s : ℕ). IsSole a cells (record { stand = stood at column c.in-Quiet.step; start = s; end = None })) (sym w.start-is)
-          (quiet_last a steady plain cells at byte column c.in-Quiet.step c.places.invariant.sole.0 _ is r told w.in-Last.is)
+          (quiet_last a cells at byte column c.in-Quiet.step c.places.invariant.sole.0 _ is r told w.in-Last.is)
       | in-Earlier w ↦ subst (λ (s : ℕ). IsSole a cells (record { stand = stood at column c.in-Quiet.step; start = s; end = None })) (sym w.start-is)
-          (quiet_earlier a steady plain cells at byte column c.in-Quiet.step c.places.invariant.sole.0 c.places.start is r told w.in-Earlier.is)
+          (quiet_earlier a cells at byte column c.in-Quiet.step c.places.invariant.sole.0 c.places.start is r told w.in-Earlier.is)
     ]) in
-    sole
+    record { sole = sole; forth = omega (arith, c.places.invariant.forth, ap (λ (st : Stand). st.place) c.stand_after-at.ensures) }

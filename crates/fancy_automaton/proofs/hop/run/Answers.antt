@@ -24,7 +24,7 @@ places-preserved c =
     let column = c.in-Some.column in
     let there = sym c.in-Some.ensures in
     let low = column_low cells.table.classes byte column there in
-    let read = slice_get-get_or a.haystack.now p 0 (omega (arith, c.requires.inside)) in
+    let read = slice_get-get_or a.haystack.now p 0 (omega (arith, c.places.invariant.front.followed.inside)) in
     let is = c.places.invariant.begins in
     let own = seen_as cells.table.classes.tests is.0 in
     let own_seen = seen_low cells.table.classes.tests is.0 in
@@ -36,12 +36,12 @@ places-preserved c =
     let seen_there = ap (λ (cs : List Column). slice_get cs byte) view.0 ∙ there in
     record {
       front = subst (λ (st : Stand). IsFront a cells (front_at st (record { base = c.places.trail.base; visits = c.push.new.self }) c.step_of.new.hit) st.place st.place) (sym e)
-          (front_hopped a c.requires.steady c.requires.plain cells f p row byte c.places.at.first column step c.start_at-start.result c.push.new.self c.step_of.new.hit
+          (front_hopped a cells f p row byte c.places.at.first column step c.start_at-start.result c.push.new.self c.step_of.new.hit
           before read there c.places.invariant.good c.places.invariant.front is (c.row_at-row.ensures cells.cells.items f.trail)
-          (λ side seen begins. c.in-Some-step_of.ensures.told row _ (c.at-entry.ensures.told cells.cells.items cells.table side byte view c.requires.kept.told seen begins seen_there)) (c.start_at-start.ensures cells.cells.items f.trail) c.in_ok-push.ensures.items
-          (λ d at. c.in-Some-step_of.ensures.found row _ (c.at-entry.ensures.told cells.cells.items cells.table own byte view c.requires.kept.told own_seen is.2 seen_there) d at ∙ ap (λ n. hit_or c.places.hit d.matched n p) size));
+          (λ side seen begins. c.in-Some-step_of.ensures.told row _ (c.at-entry.ensures.told cells.cells.items cells.table side byte view c.places.invariant.front.kept.told seen begins seen_there)) (c.start_at-start.ensures cells.cells.items f.trail) c.in_ok-push.ensures.items
+          (λ d at. c.in-Some-step_of.ensures.found row _ (c.at-entry.ensures.told cells.cells.items cells.table own byte view c.places.invariant.front.kept.told own_seen is.2 seen_there) d at ∙ ap (λ n. hit_or c.places.hit d.matched n p) size));
       begins = subst (λ (st : Stand). IsFirst (context_in a) st.place cells.table.classes st.first) (sym e) (first_after a cells.table.classes p byte column low read there);
-      good = subst (λ (st : Stand). may_end_in a st.place ≡ true) (sym e) (ascii_leads a p byte before low read c.requires.steady c.places.invariant.good);
+      good = subst (λ (st : Stand). may_end_in a st.place ≡ true) (sym e) (ascii_leads a p byte before low read c.places.invariant.front.followed.steady c.places.invariant.good);
       passed = omega (arith, c.places.invariant.passed, place);
       within = omega (arith, before, place);
       visits = omega (arith, c.in_ok-push.ensures.len, c.places.invariant.visits, place);

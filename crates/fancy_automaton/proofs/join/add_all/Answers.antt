@@ -17,5 +17,9 @@ loop-way-preserved c = record {
   room = c.add.ensures.room ∙ c.loop-way.invariant.room;
 }
 
-pub returns-clause-thinned : goal.returns-clause-thinned
-returns-clause-thinned c whole t = thin_all c.loop-way.marks whole c.loop-way.next.items c.args.ways.now c.loop-way.way-index (omega arith) (c.loop-way.invariant.thinned whole t)
+pub returns : goal.returns
+returns c = record {
+  thinned = λ whole t. thin_all c.loop-way.marks whole c.loop-way.next.items c.args.ways.now c.loop-way.way-index (omega arith) (c.loop-way.invariant.thinned whole t);
+  more = omega (arith, c.loop-way.invariant.more);
+  room = c.loop-way.invariant.room;
+}

@@ -1,6 +1,6 @@
 use Rattle.std.proofs.Common.{◌∙◌, ◌++◌, arith, refl, take}
 use Rattle.fancy_automaton.specs.Joins.{all_from}
-use Rattle.fancy_automaton.proofs.JoinLemmas.{thin_all_from, thin_begin, thin_next_from}
+use Rattle.fancy_automaton.proofs.JoinLemmas.{length-all_from, thin_all_from, thin_begin, thin_next_from}
 use Rattle.fancy_automaton.proofs.join.add_begun.Goals as goal
 
 pub loop-at-init : goal.loop-at-init
@@ -18,5 +18,9 @@ loop-at-preserved c = record {
   room = c.add.ensures.room ∙ c.loop-at.invariant.room;
 }
 
-pub returns-clause-thinned : goal.returns-clause-thinned
-returns-clause-thinned c whole t = thin_all_from c.loop-at.marks whole c.loop-at.next.items c.args.from c.args.ats.now c.loop-at.at-index (omega arith) (c.loop-at.invariant.thinned whole t)
+pub returns : goal.returns
+returns c = record {
+  thinned = λ whole t. thin_all_from c.loop-at.marks whole c.loop-at.next.items c.args.from c.args.ats.now c.loop-at.at-index (omega arith) (c.loop-at.invariant.thinned whole t);
+  more = omega (arith, c.loop-at.invariant.more, length-all_from c.args.from c.args.ats.now);
+  room = c.loop-at.invariant.room;
+}

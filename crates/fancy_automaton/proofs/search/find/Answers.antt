@@ -19,10 +19,10 @@ returns-then-first-request-clause-answer c p on is =
     sym (search_over (query_of p c.args.code.now (unfiltered c.args.options) c.args.haystack.now c.args.request on) _ _
     (positions_none c.args.request (omega (arith, c.effective_start-first.ensures))))
 
-pub find_span-requires-clause-steady : goal.find_span-requires-clause-steady
-find_span-requires-clause-steady c =
+pub find_span-requires-clause-followed : goal.find_span-requires-clause-followed
+find_span-requires-clause-followed c =
     let a : Attempt = record { code = c.args.code; haystack = c.args.haystack; base = c.effective_start-first.result; last = c.args.request.range_end; on_boundaries = c.args.options.on_boundaries; suppressed = c.suppressed_ends.result; step_limit = None } in
-    steady a c.requires.inside c.requires.reads
+    record { inside = c.requires.inside; plain = c.requires.plain; steady = steady a c.requires.inside c.requires.reads }
 
 pub returns-clause-answer : goal.returns-clause-answer
 returns-clause-answer c p on is =

@@ -7,6 +7,6 @@ use Rattle.fancy_automaton.proofs.cells.Cells.clear.Goals as goal
 
 pub returns-clause-all : goal.returns-clause-all
 returns-clause-all c code = (
-  subst (λ (cs : List Cell). All (IsCellOf code c.forget.new.self.rows.lists.items) cs) (sym c.forget.ensures.cells) (λ k d lt. absurd (omega (arith, lt))),
+  subst (λ (cs : List Cell). All (IsCellOf code c.forget.new.self.rows.lists.items) cs) (sym c.forget.ensures.empty.cells) (λ k d lt. absurd (omega (arith, lt))),
   no_classes c.new.result (instrs_of code) c.new.ensures.columns c.new.ensures.tests,
 )

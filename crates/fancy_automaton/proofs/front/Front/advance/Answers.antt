@@ -1,21 +1,33 @@
-use Rattle.std.proofs.Common.{refl}
+use Rattle.std.proofs.Common.{arith, refl}
 use Rattle.fancy_automaton.proofs.CellLemmas.{row_within}
 use Rattle.fancy_automaton.proofs.front.Front.advance.Goals as goal
 
-pub make_place-requires-clause-row : goal.make_place-requires-clause-row
-make_place-requires-clause-row c =
-    row_within c.args.cells.now.rows.lists.items c.shorten.new.self.next _ (c.in_ok-shorten.ensures.front c.args.attempt.now c.args.place c.args.place c.requires.front).waits
+pub make_place-requires : goal.make_place-requires
+make_place-requires c =
+    let is = c.in_ok-shorten.ensures.front c.args.attempt.now c.args.place c.args.place c.requires.stands.front in
+    record {
+      row = row_within c.args.cells.now.rows.lists.items c.shorten.new.self.next _ is.waits;
+      hits = is.hits;
+      kept = record { bounded = is.kept; all = is.all };
+    }
 
-pub make_place-requires-clause-hits : goal.make_place-requires-clause-hits
-make_place-requires-clause-hits c = (c.in_ok-shorten.ensures.front c.args.attempt.now c.args.place c.args.place c.requires.front).hits
-
-pub step-requires-clause-front : goal.step-requires-clause-front
-step-requires-clause-front c =
-    c.in_ok-make_place.ensures.front c.args.attempt.now c.args.place c.args.place refl
-    (c.in_ok-shorten.ensures.front c.args.attempt.now c.args.place c.args.place c.requires.front)
+pub step-requires-clause-stands : goal.step-requires-clause-stands
+step-requires-clause-stands c = record {
+  front = c.in_ok-make_place.ensures.front c.args.attempt.now c.args.place c.args.place refl
+      (c.in_ok-shorten.ensures.front c.args.attempt.now c.args.place c.args.place c.requires.stands.front);
+  good = c.requires.stands.good;
+  within = c.requires.stands.within;
+}
 
 pub forget_idle-requires : goal.forget_idle-requires
-forget_idle-requires c = record { row = row_within c.step.new.cells.rows.lists.items c.step.new.self.next _ c.in_ok-resume.ensures.front.waits }
+forget_idle-requires c = record { row = row_within c.step.new.cells.rows.lists.items c.step.new.self.next _ c.in_ok-resume.ensures.step.front.waits }
 
-pub returns-clause-front : goal.returns-clause-front
-returns-clause-front c = c.forget_idle.ensures.front c.args.attempt.now _ _ c.in_ok-resume.ensures.front
+pub returns-clause-step : goal.returns-clause-step
+returns-clause-step c = record {
+  front = c.forget_idle.ensures.front c.args.attempt.now _ _ c.in_ok-resume.ensures.step.front;
+  ends = c.in_ok-resume.ensures.step.ends;
+  visits = omega (arith, c.in_ok-resume.ensures.step.visits, c.forget_idle.ensures.visits);
+}
+
+pub returns-in_err-shorten-clause-kept : goal.returns-in_err-shorten-clause-kept
+returns-in_err-shorten-clause-kept c = record { bounded = c.requires.stands.front.kept; all = c.requires.stands.front.all }

@@ -1,6 +1,6 @@
-use Rattle.std.proofs.Common.{[], ◌∷◌, ◌++◌, refl, subst, sym}
+use Rattle.std.proofs.Common.{refl, subst, sym}
 use Rattle.fancy_code.specs.declared.code.Code.{Code}
-use Rattle.fancy_automaton.specs.Cells.{HasRow}
+use Rattle.fancy_automaton.specs.Cells.{HasRows}
 use Rattle.fancy_automaton.specs.Front.{ways_of}
 use Rattle.fancy_automaton.proofs.FrontLemmas.{front_restarted}
 use Rattle.fancy_automaton.proofs.front.Front.make_place.Goals as goal
@@ -9,12 +9,13 @@ pub returns-clause-front : goal.returns-clause-front
 returns-clause-front c a place resume same is =
     let f = c.settle.new.self in
     let settled = c.in_ok-settle.ensures.front a place resume is in
-    front_restarted a c.args.cells.now c.restart.new.cells f _ place resume c.in_ok-settle.ensures.visits (c.restart.ensures.all a.code.now settled.all) c.in_ok-target.ensures.waits
-    (subst (λ (code : Code). HasRow c.restart.new.cells.rows.lists.items c.in_ok-target.target.begun (ways_of c.args.cells.now f ++ code.start ∷ [])) (sym same) c.in_ok-target.ensures.opens)
+    front_restarted a c.args.cells.now c.restart.new.cells f _ place resume c.in_ok-settle.ensures.visits
+    (record { bounded = c.restart.ensures.within; all = c.restart.ensures.stays a.code.now settled.all })
+    (subst (λ (code : Code). HasRows c.restart.new.cells.rows.lists.items c.in_ok-target.target.next c.in_ok-target.target.begun (ways_of c.args.cells.now f) code.start) (sym same) c.in_ok-target.ensures.rows)
     refl refl settled
 
-pub returns-in_err-target-clause-all : goal.returns-in_err-target-clause-all
-returns-in_err-target-clause-all c = c.restart.ensures.all c.args.code.now c.requires.all
+pub returns-in_err-target-clause-kept : goal.returns-in_err-target-clause-kept
+returns-in_err-target-clause-kept c = record { bounded = c.restart.ensures.within; all = c.restart.ensures.stays c.args.code.now c.requires.kept.all }
 
-pub returns-clause-all : goal.returns-clause-all
-returns-clause-all c = c.restart.ensures.all c.args.code.now c.requires.all
+pub returns-clause-kept : goal.returns-clause-kept
+returns-clause-kept c = record { bounded = c.restart.ensures.within; all = c.restart.ensures.stays c.args.code.now c.requires.kept.all }

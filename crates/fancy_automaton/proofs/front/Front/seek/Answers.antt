@@ -12,11 +12,3 @@ returns-then-not-has_waiting-clause-front c =
 
 pub returns-clause-stands : goal.returns-clause-stands
 returns-clause-stands c first none le = absurd (c.has_waiting.ensures.some c.if-not-has_waiting.false none)
-
-pub learns-requires : goal.learns-requires
-learns-requires c = record {
-  row = row_within c.args.cells.now.rows.lists.items c.args.self.now.next _ c.requires.front.waits;
-  begun = row_within c.args.cells.now.rows.lists.items c.args.self.now.begun _ c.requires.front.opens;
-  inside = c.requires.inside;
-  kept = c.requires.kept;
-}

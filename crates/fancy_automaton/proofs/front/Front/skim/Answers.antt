@@ -10,11 +10,15 @@ pub places-preserved : goal.places-preserved
 places-preserved c =
     let waits = front_waits c.args.attempt.now c.args.cells.now c.glide.new.self c.in_ok-next.next c.in_ok-next.ensures.front (c.has_waiting.ensures.some c.if-not-has_waiting.false) in
     record {
-      front = c.in_ok-next.ensures.front;
-      good = waits.0;
+      stands = record { front = c.in_ok-next.ensures.front; good = waits.0; within = waits.1 };
       passed = omega (arith, c.places.invariant.passed, c.in_ok-next.ensures.forth);
-      within = waits.1;
+      visits = λ few. c.glide.ensures.visits (c.places.invariant.visits few);
     }
 
-pub returns-then-not-has_waiting-clause-front : goal.returns-then-not-has_waiting-clause-front
-returns-then-not-has_waiting-clause-front c = c.forget_idle.ensures.front c.args.attempt.now c.in_ok-next.next c.in_ok-next.next c.in_ok-next.ensures.front
+pub returns-then-not-has_waiting : goal.returns-then-not-has_waiting
+returns-then-not-has_waiting c = record {
+  front = c.forget_idle.ensures.front c.args.attempt.now c.in_ok-next.next c.in_ok-next.next c.in_ok-next.ensures.front;
+  forth = omega (arith, c.places.invariant.passed, c.in_ok-next.ensures.forth);
+  ends = c.in_ok-next.ensures.ends;
+  visits = λ few. omega (arith, c.forget_idle.ensures.visits, c.glide.ensures.visits (c.places.invariant.visits few));
+}

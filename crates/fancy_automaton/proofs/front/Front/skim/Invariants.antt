@@ -1,14 +1,13 @@
-use Rattle.std.proofs.Common.{◌≡◌, ◌+◌, ◌-◌, ◌≤◌, true}
-use Rattle.fancy_code.specs.Attempt.{may_end_in}
-use Rattle.fancy_automaton.specs.Front.{IsFront}
+use Rattle.std.proofs.Common.{◌+◌, ◌-◌, ◌≤◌, length}
+use Rattle.fancy_automaton.specs.Front.{Stands}
+use Rattle.fancy_automaton.specs.Trail.{most_visits}
 use Rattle.fancy_automaton.proofs.front.Front.skim.Given as goal
 
 abbrev pub invariant-places : goal.invariant-places
 invariant-places l = record {
-  front : IsFront l.attempt l.cells l.self l.at l.at;
-  good : may_end_in l.attempt l.at ≡ true;
+  stands : Stands l.attempt l.cells l.self l.at;
   passed : l.place ≤ l.at;
-  within : l.at ≤ l.attempt.last;
+  visits : length l.fn.self.trail.visits.items ≤ most_visits → length l.self.trail.visits.items ≤ most_visits;
 }
 
 abbrev pub decreases-places : goal.decreases-places

@@ -15,7 +15,7 @@ returns-clause-sole c =
       | in-None w ↦ ap end_of w.in-None.is ∙ sym w.end-is
       | in-Some w ↦ ap end_of w.in-Some.is ∙ sym w.end-is
     ] in
-    sole_front c.args.attempt.now c.args.cells.now f c.stand.result c.args.place start c.match-self.end c.requires.front
+    sole_front c.args.attempt.now c.args.cells.now f c.stand.result c.args.place start c.match-self.end c.requires.stands
     (subst (λ (cells : List Cell). starts_in cells f.trail ≡ replicate (length (starts_in cells f.trail)) start) value c.in_ok-start.ensures.starts)
     (subst (λ (cells : List Cell). found_in_trail cells f.trail f.hit ≡ match_from start (end_of f.hit)) value c.in_ok-start.ensures.found ∙ ap (match_from start) end)
-    c.stand.ensures.place c.stand.ensures.next c.stand.ensures.begun c.stand.ensures.first c.requires.good c.requires.within
+    c.stand.ensures.place c.stand.ensures.next c.stand.ensures.begun c.stand.ensures.first
