@@ -15,7 +15,7 @@ use crate::hints::Hints;
 use crate::join::{Begun, joined};
 use crate::marks::Marks;
 use crate::origin::{Origin, origin_of};
-use crate::rows::{Rows, Target, are_same, copied, intern, intern_one, target_of};
+use crate::rows::{Rows, Target, copied, intern, target_of};
 use crate::step::{Step, step_from};
 use crate::trail::Trail;
 use crate::transitions::{Entry, Transition, Transitions};
@@ -431,36 +431,15 @@ fn note(
     table.note(cell.row, cell.sight, entry_of(cells, k))
 }
 
-/// Whether the row of the first instruction alone is where it is looked for.
-fn has_alone(code: &Code, cells: &Cells) -> bool
-    ensures { result ≡ true
-        → HasRow cells.now.rows.lists.items cells.now.alone (code.now.start ∷ []) }
-{
-    match cells.rows.lists.get(cells.alone) {
-        None => false,
-        Some(ways) => are_same(ways, &[code.start]),
-    }
-}
-
-/// Whether the row without an instruction is where it is looked for.
-fn has_nothing(cells: &Cells) -> bool
-    ensures { result ≡ true → HasRow cells.now.rows.lists.items cells.now.nothing [] }
-{
-    match cells.rows.lists.get(cells.nothing) {
-        None => false,
-        Some(ways) => are_same(ways, &[]),
-    }
-}
-
 /// Whether the rows before the first place are where they are looked for.
 fn has_origin(code: &Code, cells: &Cells) -> bool
     ensures { result ≡ true
         → HasRows cells.now.rows.lists.items cells.now.nothing cells.now.alone [] code.now.start }
 {
-    if !has_nothing(cells) {
+    if !cells.rows.has(cells.nothing, &[]) {
         return false;
     }
-    has_alone(code, cells)
+    cells.rows.has(cells.alone, &[code.start])
 }
 
 /// Sorts ASCII characters into classes, where that was not done for the code.
@@ -515,7 +494,7 @@ fn begun_cell(code: &Code, cells: &Cells, ways: &[usize], sight: Sight) -> Optio
     if ways[ways.len() - 1] != code.start {
         return None;
     }
-    if !has_alone(code, cells) {
+    if !cells.rows.has(cells.alone, &[code.start]) {
         return None;
     }
     let k = remembered(cells, cells.alone, sight)?;
@@ -622,8 +601,10 @@ pub(crate) fn restart(cells: &mut Cells, start: usize, row: usize) -> Result<Tar
     let ways = copied(cells.alloc, &cells.rows.lists[row])?;
     let mut more = copied(cells.alloc, &ways)?;
     more.push(start)?;
+    let mut first = Vec::with_capacity(cells.alloc, 1)?;
+    first.push(start)?;
     cells.forget();
-    let alone = intern_one(cells.alloc, &mut cells.rows, start)?;
+    let alone = intern(cells.alloc, &mut cells.rows, first)?;
     cells.alone = alone;
     let next = intern(cells.alloc, &mut cells.rows, ways)?;
     let begun = intern(cells.alloc, &mut cells.rows, more)?;

@@ -270,9 +270,10 @@ impl Front {
         ensures next { result.next ≡ self.now.next }
         ensures begun { result.begun ≡ self.now.begun }
     {
+        let classes = &cells.table.classes;
         Stand {
             place,
-            first: first_at(attempt, cells, place),
+            first: classes.first(classes.tests.before(attempt, place)),
             next: self.next,
             begun: self.begun,
         }
@@ -430,15 +431,6 @@ impl Front {
         }
         place
     }
-}
-
-/// The first column of the table for what stands before a place.
-fn first_at(attempt: &Attempt, cells: &Cells, place: usize) -> usize
-    requires { place ≤ length attempt.now.haystack.now }
-    ensures { IsFirst (context_in attempt.now) place cells.now.table.classes result }
-{
-    let classes = &cells.table.classes;
-    classes.first(classes.tests.before(attempt, place))
 }
 
 /// The place after what is read; where nothing is, the next byte offset.

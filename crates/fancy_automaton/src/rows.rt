@@ -31,6 +31,16 @@ impl Rows {
         }
     }
 
+    /// Whether the row with this number has these instructions.
+    pub fn has(&self, r: usize, ways: &[usize]) -> bool
+        ensures { result ≡ true → HasRow self.now.lists.items r ways.now }
+    {
+        match self.lists.get(r) {
+            None => false,
+            Some(row) => are_same(row, ways),
+        }
+    }
+
     /// Forgets all rows. Hints that are left name none, or a later row, which is tested.
     pub fn clear(&mut self)
         ensures { self.new.lists.items ≡ [] }
@@ -41,7 +51,7 @@ impl Rows {
 }
 
 /// Whether the instructions are the same.
-pub(crate) fn are_same(a: &[usize], b: &[usize]) -> bool
+fn are_same(a: &[usize], b: &[usize]) -> bool
     ensures { result ≡ true → a.now ≡ b.now }
 {
     a == b
@@ -58,14 +68,11 @@ fn row_key(ways: &[usize]) -> usize {
 }
 
 /// The row that a hint names, if it has these instructions.
-fn tested_row(lists: &[Vec<usize>], hint: Option<usize>, ways: &[usize]) -> Option<usize>
-    ensures { IfSome result (λ r. HasRow lists.now r ways.now) }
+fn tested_row(rows: &Rows, hint: Option<usize>, ways: &[usize]) -> Option<usize>
+    ensures { IfSome result (λ r. HasRow rows.now.lists.items r ways.now) }
 {
     let r = hint?;
-    if r >= lists.len() {
-        return None;
-    }
-    if !are_same(&lists[r], ways) {
+    if !rows.has(r, ways) {
         return None;
     }
     Some(r)
@@ -75,9 +82,9 @@ fn tested_row(lists: &[Vec<usize>], hint: Option<usize>, ways: &[usize]) -> Opti
 fn named_row(rows: &Rows, key: usize, ways: &[usize]) -> Option<usize>
     ensures { IfSome result (λ r. HasRow rows.now.lists.items r ways.now) }
 {
-    match tested_row(&rows.lists, rows.names.first(key), ways) {
+    match tested_row(rows, rows.names.first(key), ways) {
         Some(r) => Some(r),
-        None => tested_row(&rows.lists, rows.names.second(key), ways),
+        None => tested_row(rows, rows.names.second(key), ways),
     }
 }
 
@@ -119,16 +126,6 @@ pub(crate) fn intern(alloc: Global, rows: &mut Rows, ways: Vec<usize>) -> Result
     rows.lists.push(ways)?;
     name_row(alloc, &mut rows.names, &rows.lists, key, r)?;
     Ok(r)
-}
-
-/// The number of the row with this instruction alone.
-pub(crate) fn intern_one(alloc: Global, rows: &mut Rows, at: usize) -> Result<usize, AllocError>
-    ensures { GrowsBy 1 rows.old.lists.items rows.new.lists.items }
-{
-    let mut ways = Vec::with_capacity(alloc, 1)?;
-    ways.push(at)?;
-    let row = intern(alloc, rows, ways)?;
-    Ok(row)
 }
 
 /// The instructions of the ways, with room for one more.

@@ -178,17 +178,6 @@ fn start_after(cells: &[Cell], trail: &Trail, visits: usize, way: usize) -> usiz
     }
 }
 
-/// Where the way with this number in the row of a visit began.
-fn began(cells: &[Cell], trail: &Trail, visit: usize, way: usize) -> usize
-    requires { visit < length trail.now.visits.items }
-    ensures { result ≡ began_at cells.now trail.now.base.items trail.now.visits.items visit way }
-{
-    match begun_there(cells, trail, visit, way) {
-        Some(start) => start,
-        None => start_after(cells, trail, visit, way),
-    }
-}
-
 /// Where a match began, a byte offset.
 fn start_of(cells: &[Cell], trail: &Trail, beginning: Beginning) -> usize
     requires { IsBeginning trail.now.visits.items beginning }
@@ -196,7 +185,10 @@ fn start_of(cells: &[Cell], trail: &Trail, beginning: Beginning) -> usize
 {
     match beginning {
         Beginning::Known(start) => start,
-        Beginning::Traced(visit, way) => began(cells, trail, visit, way),
+        Beginning::Traced(visit, way) => match begun_there(cells, trail, visit, way) {
+            Some(start) => start,
+            None => start_after(cells, trail, visit, way),
+        },
     }
 }
 
