@@ -1,12 +1,10 @@
 -- The inner loop of a search: a step that the table tells.
-use Rattle.std.proofs.Common.{◌≡◌, ℕ, suc, ◌+◌, ◌*◌, ◌++◌, ◌∷◌, [], ◌<◌, ◌≤◌, inl, inr, true, List, Option, Some, refl, sym, ap, ◌∙◌, subst, arith, length}
+use Rattle.std.proofs.Common.{◌≡◌, ℕ, suc, ◌+◌, ◌++◌, ◌∷◌, [], ◌<◌, inl, inr, true, List, Option, Some, refl, sym, ap, ◌∙◌, subst, arith, length}
 use Rattle.std.specs.Prelude.{slice_get}
 use Rattle.std.specs.Global.{Vec}
 use Rattle.std.proofs.lemmas.Option.{slice_get_cases}
-use Rattle.std.proofs.Math.Nat.{mul-le-mul}
 use Rattle.fancy_code.specs.declared.attempt.Attempt.{Attempt}
 use Rattle.fancy_code.specs.Attempt.{context_in, may_end_in}
-use Rattle.fancy_code.specs.Context.{Context}
 use Rattle.fancy_input.specs.Lines.{byte_before}
 use Rattle.fancy_code.proofs.ReadingLemmas.{low_unit}
 use Rattle.fancy_automaton.specs.declared.cells.Cell.{Cell}
@@ -28,7 +26,7 @@ use Rattle.fancy_automaton.specs.Transitions.{IsTransition}
 use Rattle.fancy_automaton.proofs.FrontLemmas.{front_advanced}
 use Rattle.fancy_automaton.proofs.CellLemmas.{get_within}
 use Rattle.fancy_alphabet.proofs.SideLemmas.{low_side_before}
-use Rattle.fancy_alphabet.proofs.NumberLemmas.{number_low, seen_low}
+use Rattle.fancy_alphabet.proofs.NumberLemmas.{seen_low}
 use Rattle.fancy_alphabet.proofs.SightLemmas.{like_ascii}
 
 -- after an ASCII character a match may begin and end too
@@ -48,13 +46,6 @@ pub column_low : (classes : Classes) (byte : ℕ) (c : Column) → slice_get cla
 column_low classes byte c there =
     let within = get_within classes.columns.items byte c there in
     omega (arith, within, classes.ascii)
-
--- a side that is told apart
-pub first_low : (x : Context) (p : ℕ) (classes : Classes) (first : ℕ) → IsFirst x p classes first → first < 4_294_967_296
-first_low x p classes first is =
-    let low : number_of (seen_as classes.tests is.0) ≤ 5 = number_low (seen_as classes.tests is.0) in
-    let most : number_of (seen_as classes.tests is.0) * length classes.members.items ≤ 5 * 128 = mul-le-mul low classes.few in
-    omega (arith, is.2, most)
 
 -- a step that the table tells
 pub front_hopped : (a : Attempt) (cells : Cells) (f : Front) (p row byte first : ℕ) (c : Column) (t : Transition) (start : Option ℕ) (visits : Vec Visit) (hit : Option Hit)

@@ -1,8 +1,8 @@
 -- The table of a search.
-use Rattle.std.proofs.Common.{◌≡◌, ℕ, ◌+◌, ◌*◌, ◌-◌, ◌/◌, ◌<◌, ◌≤◌, ◌⊎◌, inl, inr, [], ◌∷◌, ◌++◌, List, Option, Some, refl, sym, ap, ap₂, ◌∙◌, subst, arith, length, get_or, set, replicate}
+use Rattle.std.proofs.Common.{◌≡◌, ℕ, ◌+◌, ◌*◌, ◌/◌, ◌<◌, ◌≤◌, ◌⊎◌, inl, inr, [], ◌∷◌, ◌++◌, List, Option, Some, sym, ap, ap₂, ◌∙◌, subst, arith, length, get_or, set}
 use Rattle.std.specs.Prelude.{slice_get}
-use Rattle.std.proofs.lemmas.Bool.Decides.{eqb_tells, leb_tells}
-use Rattle.std.proofs.lemmas.List.{get_or-set_same, get_or-set_other, get_or_append_left, get_or-replicate, get_or_past, get_or-append_right, length-append, length-replicate}
+use Rattle.std.proofs.lemmas.Bool.Decides.{eqb_tells}
+use Rattle.std.proofs.lemmas.List.{get_or-set_same, get_or-set_other, length-append}
 use Rattle.std.proofs.lemmas.Option.{slice_get_cases}
 use Rattle.fancy_automaton.specs.declared.cells.Cell.{Cell}
 use Rattle.fancy_automaton.specs.declared.transitions.Transition.{Transition}
@@ -37,18 +37,6 @@ pub told_entry : (cells : List Cell) (table : Transitions) (row column : ℕ) (s
 told_entry cells table row column sight Unknown told is e = tt
 told_entry cells table row column sight (Quiet t) told is e = told.quiet row column sight t is (sym e)
 told_entry cells table row column sight (Matching t) told is e = told.matching row column sight t is (sym e)
-
--- nothing is told yet
-pub told_nothing : (cells : List Cell) (table : Transitions) → table.entries.items ≡ [] → AreTold cells table
-told_nothing cells table none = record {
-  quiet = λ row column sight t is e. absurd (unknown_quiet t (sym (ap (λ es. get_or es (row * table.classes.width + column) Unknown) none) ∙ e));
-  matching = λ row column sight t is e. absurd (unknown_matching t (sym (ap (λ es. get_or es (row * table.classes.width + column) Unknown) none) ∙ e));
-} where
-  unknown_quiet : (t : Transition) → get_or [] 0 Unknown ≡ Quiet t → ⊥
-  unknown_quiet t e = cc
-
-  unknown_matching : (t : Transition) → get_or [] 0 Unknown ≡ Matching t → ⊥
-  unknown_matching t e = cc
 
 -- more cells
 module _ (cells later : List Cell) (grown : KeepsCells cells later) (longer : length cells ≤ length later) where
@@ -152,23 +140,6 @@ told_set cells table later row column sight x classes put within is entry told =
             (subst (IsEntry cells row sight) there entry))))
         | inr away ↦ inl (now ∙ get_or-set_other table.entries.items (row * w + column) (r * w + b) x Unknown away.1)
       ]
-
--- more entries, which tell nothing
-pub told_wide : (entries later : List Entry) (n : ℕ) → later ≡ entries ++ replicate n Unknown → (i : ℕ) → get_or later i Unknown ≡ get_or entries i Unknown
-told_wide entries later n e i =
-    ap (λ es. get_or es i Unknown) e
-    ∙ elim (leb_tells (length entries) i) [
-      | inl past ↦ (
-          get_or-append_right entries (replicate n Unknown) (length entries) i Unknown refl past.1
-          ∙ blank n (i - length entries) ∙ sym (get_or_past entries i Unknown past.1))
-      | inr here ↦ get_or_append_left entries (replicate n Unknown) Unknown i here.1
-    ] where
-      blank : (m k : ℕ) → get_or (replicate m Unknown) k Unknown ≡ Unknown
-      blank m k =
-          elim (leb_tells m k) [
-            | inl past ↦ get_or_past (replicate m Unknown) k Unknown (let size = length-replicate m Unknown in omega (arith, size, past.1))
-            | inr here ↦ get_or-replicate m k Unknown Unknown here.1
-          ]
 
 -- a cell is put behind the others
 pub told_pushed : (cells later : List Cell) (c : Cell) (table : Transitions) → later ≡ cells ++ c ∷ [] → AreTold cells table → AreTold later table

@@ -24,9 +24,6 @@ low_zeros zero turn k d lt = absurd (omega arith)
 low_zeros (suc n) turn zero d lt = omega arith
 low_zeros (suc n) turn (suc k) d lt = low_zeros n turn k d (omega arith)
 
-pub low_later : (turn later : ℕ) (stamps : List ℕ) → turn ≤ later → All (λ (s : ℕ). s ≤ turn) stamps → All (λ (s : ℕ). s ≤ later) stamps
-low_later turn later stamps le all k d lt = let low : get_or stamps k d ≤ turn = all k d lt in omega arith
-
 pub low_set : (turn n : ℕ) (stamps : List ℕ) → All (λ (s : ℕ). s ≤ turn) stamps → All (λ (s : ℕ). s ≤ turn) (set stamps n turn)
 low_set turn n [] all k d lt = absurd (omega arith)
 low_set turn zero (s ∷ stamps) all zero d lt = omega arith

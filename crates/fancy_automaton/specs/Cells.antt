@@ -108,6 +108,11 @@ pub record HoldsFor (a : Cells) (code : Code) : Type 0 where
 abbrev pub StaysTrue : Cells → Cells → Type 0
 StaysTrue old new = (code : Code) → IsFor old code → IsFor new code
 
+-- no more is remembered than may be, if that was so, and it stays true
+pub record KeepsHolding (old new : Cells) : Type 0 where
+  pub bounded : IsBounded old → IsBounded new
+  pub stays : StaysTrue old new
+
 -- no row and no step is remembered
 pub record IsEmpty (a : Cells) : Type 0 where
   pub rows : a.rows.lists.items ≡ []

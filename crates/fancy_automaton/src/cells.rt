@@ -166,7 +166,7 @@ impl Cells {
     {
         self.rows.clear();
         self.cells.clear();
-        self.table.clear();
+        self.table.entries.clear();
         self.held = 0;
     }
 

@@ -7,7 +7,7 @@ ghost use Rattle.fancy_code.specs.CodeLength.{code_len};
 ghost use Rattle.fancy_code.specs.Reading.{unit_read};
 ghost use Rattle.fancy_prefilter.specs.Seen.{MayStart};
 ghost use Rattle.fancy_code.specs.declared.attempt.Attempt.{Attempt};
-ghost use Rattle.fancy_automaton.specs.Cells.{HasPlace, IsBounded, StaysTrue, HasRows, HoldsFor};
+ghost use Rattle.fancy_automaton.specs.Cells.{HasPlace, KeepsHolding, HasRows, HoldsFor};
 ghost use Rattle.fancy_automaton.specs.Trail.{HitIn, most_visits};
 ghost use Rattle.fancy_automaton.specs.Front.{IsFront, ways_of, found_of, KeepsFront, Stands, GoesOn, TakesStep};
 ghost use Rattle.fancy_automaton.specs.Sole.{IsSole};
@@ -94,8 +94,7 @@ impl Front {
     pub fn end(self, cells: &mut Cells, place: usize) -> Option<Span>
         requires hits { HitIn self.trail.visits.items self.hit }
         ensures found { result ≡ found_of cells.old self }
-        ensures kept { IsBounded cells.old → IsBounded cells.new }
-        ensures stays { StaysTrue cells.old cells.new }
+        ensures kept { KeepsHolding cells.old cells.new }
     {
         let found = span_of(&cells.cells, &self.trail, self.hit);
         cells.reached = place;

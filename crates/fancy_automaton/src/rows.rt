@@ -67,25 +67,19 @@ fn row_key(ways: &[usize]) -> usize {
     key
 }
 
-/// The row that a hint names, if it has these instructions.
-fn tested_row(rows: &Rows, hint: Option<usize>, ways: &[usize]) -> Option<usize>
-    ensures { IfSome result (λ r. HasRow rows.now.lists.items r ways.now) }
-{
-    let r = hint?;
-    if !rows.has(r, ways) {
-        return None;
-    }
-    Some(r)
-}
-
 /// The number of a row with these instructions, if a hint leads to one.
 fn named_row(rows: &Rows, key: usize, ways: &[usize]) -> Option<usize>
     ensures { IfSome result (λ r. HasRow rows.now.lists.items r ways.now) }
 {
-    match tested_row(rows, rows.names.first(key), ways) {
-        Some(r) => Some(r),
-        None => tested_row(rows, rows.names.second(key), ways),
+    let first = rows.names.first(key)?;
+    if rows.has(first, ways) {
+        return Some(first);
     }
+    let second = rows.names.second(key)?;
+    if rows.has(second, ways) {
+        return Some(second);
+    }
+    None
 }
 
 /// Leaves hints for all rows.

@@ -58,14 +58,6 @@ impl Transitions {
         }
     }
 
-    /// Forgets all entries. The memory that it has is kept.
-    pub fn clear(&mut self)
-        ensures entries { self.new.entries.items ≡ [] }
-        ensures classes { self.new.classes ≡ self.old.classes }
-    {
-        self.entries.clear();
-    }
-
     /// The table, to be read.
     #[inline(always)]
     pub fn view(&self) -> View<'_>

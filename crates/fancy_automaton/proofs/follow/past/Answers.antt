@@ -1,5 +1,4 @@
-use Rattle.std.proofs.Common.{◌≡◌, List, ap, arith, get_or, replicate, length, Option, Some, ℕ, subst, sym}
-use Rattle.std.specs.Prelude.{slice_get}
+use Rattle.std.proofs.Common.{List, ap, arith, get_or, replicate, length, Option, Some, ℕ, subst, sym}
 use Rattle.fancy_alphabet.proofs.NumberLemmas.{seen_low}
 use Rattle.fancy_alphabet.specs.Sides.{seen_as}
 use Rattle.fancy_automaton.specs.declared.hop.Stand.{Stand}
@@ -17,10 +16,8 @@ returns c =
     let here = subst (λ (o : Option ℕ). (ways : List ℕ) × IsAt a cells at ways (replicate (length ways) c.args.at.start) (match_from c.args.at.start o)) c.requires.nothing c.requires.sole in
     let is = here.1 in
     let column = c.in_ok-column.column in
-    let view = c.view-table.ensures.view in
-    let there : slice_get c.view-table.result.columns.now byte ≡ Some column = sym c.in_ok-column.ensures in
-    let r = reads a cells at c.view-table.result at.begun column is.followed view (omega arith) there in
-    let told = c.in-Matching.ensures.told cells.cells.items cells.table (seen_as cells.table.classes.tests is.begins.0) byte view is.kept.told (seen_low cells.table.classes.tests is.begins.0) is.begins.2 there in
+    let r = reads a cells at c.view-table.result at.begun column is.followed c.view-table.ensures.view (omega arith) (sym c.in_ok-column.ensures) in
+    let told = c.in-Matching.ensures.told cells.cells.items cells.table (seen_as cells.table.classes.tests is.begins.0) byte c.view-table.ensures.view is.kept.told (seen_low cells.table.classes.tests is.begins.0) is.begins.2 (sym c.in_ok-column.ensures) in
     record {
       sole = subst (λ (st : Stand). IsSole a cells (record { stand = st; start = c.match-step-2.start; end = Some at.place })) (sym c.stand_after.ensures)
           (elim c.match-step-2.branch [

@@ -1,5 +1,4 @@
-use Rattle.std.proofs.Common.{◌≡◌, ap, arith, get_or, None, Some, ℕ, subst, sym}
-use Rattle.std.specs.Prelude.{slice_get}
+use Rattle.std.proofs.Common.{ap, arith, get_or, None, ℕ, subst, sym}
 use Rattle.fancy_alphabet.proofs.NumberLemmas.{seen_low}
 use Rattle.fancy_alphabet.specs.Sides.{seen_as}
 use Rattle.fancy_automaton.specs.declared.hop.Stand.{Stand}
@@ -16,10 +15,8 @@ places-preserved c =
     let byte = get_or a.haystack.now at.place 0 in
     let is = c.places.invariant.sole.1 in
     let column = c.in-Some.column in
-    let view = c.view-table.ensures.view in
-    let there : slice_get c.view-table.result.columns.now byte ≡ Some column = sym c.in-Some.ensures in
-    let r = reads a cells at c.view-table.result at.begun column is.followed view (omega arith) there in
-    let told = c.in-Quiet.ensures.told cells.cells.items cells.table (seen_as cells.table.classes.tests is.begins.0) byte view is.kept.told (seen_low cells.table.classes.tests is.begins.0) is.begins.2 there in
+    let r = reads a cells at c.view-table.result at.begun column is.followed c.view-table.ensures.view (omega arith) (sym c.in-Some.ensures) in
+    let told = c.in-Quiet.ensures.told cells.cells.items cells.table (seen_as cells.table.classes.tests is.begins.0) byte c.view-table.ensures.view is.kept.told (seen_low cells.table.classes.tests is.begins.0) is.begins.2 (sym c.in-Some.ensures) in
     let sole : IsSole a cells (record { stand = c.stand_after-at.result; start = c.match-step.start; end = None }) =
     subst (λ (st : Stand). IsSole a cells (record { stand = st; start = c.match-step.start; end = None })) (sym c.stand_after-at.ensures)
     (elim c.match-step.branch [
@@ -38,10 +35,8 @@ returns-then-at-idle-clause-reaches c =
     let byte = get_or a.haystack.now at.place 0 in
     let is = c.places.invariant.sole.1 in
     let column = c.in-Some.column in
-    let view = c.view-table.ensures.view in
-    let there : slice_get c.view-table.result.columns.now byte ≡ Some column = sym c.in-Some.ensures in
-    let r = reads a cells at c.view-table.result at.begun column is.followed view (omega arith) there in
-    let told = c.in-Quiet.ensures.told cells.cells.items cells.table (seen_as cells.table.classes.tests is.begins.0) byte view is.kept.told (seen_low cells.table.classes.tests is.begins.0) is.begins.2 there in
+    let r = reads a cells at c.view-table.result at.begun column is.followed c.view-table.ensures.view (omega arith) (sym c.in-Some.ensures) in
+    let told = c.in-Quiet.ensures.told cells.cells.items cells.table (seen_as cells.table.classes.tests is.begins.0) byte c.view-table.ensures.view is.kept.told (seen_low cells.table.classes.tests is.begins.0) is.begins.2 (sym c.in-Some.ensures) in
     let sole : IsSole a cells (record { stand = c.stand_after-at.result; start = c.match-step.start; end = None }) =
     subst (λ (st : Stand). IsSole a cells (record { stand = st; start = c.match-step.start; end = None })) (sym c.stand_after-at.ensures)
     (elim c.match-step.branch [

@@ -66,14 +66,14 @@ returns-in_err-place-clause-idle c none =
 
 pub returns-then-is_over-clause-kept : goal.returns-then-is_over-clause-kept
 returns-then-is_over-clause-kept c = record {
-  bounded = c.end.ensures.kept c.places.invariant.front.kept;
-  all = c.end.ensures.stays c.args.attempt.now.code.now c.places.invariant.front.all;
+  bounded = c.end.ensures.kept.bounded c.places.invariant.front.kept;
+  all = c.end.ensures.kept.stays c.args.attempt.now.code.now c.places.invariant.front.all;
 }
 
 pub returns-then-place-attempt-clause-kept : goal.returns-then-place-attempt-clause-kept
 returns-then-place-attempt-clause-kept c = record {
-  bounded = c.end-then-place-attempt.ensures.kept c.seek-place.ensures.front.kept;
-  all = c.end-then-place-attempt.ensures.stays c.args.attempt.now.code.now c.seek-place.ensures.front.all;
+  bounded = c.end-then-place-attempt.ensures.kept.bounded c.seek-place.ensures.front.kept;
+  all = c.end-then-place-attempt.ensures.kept.stays c.args.attempt.now.code.now c.seek-place.ensures.front.all;
 }
 
 pub returns-in_err-place-clause-counts : goal.returns-in_err-place-clause-counts
