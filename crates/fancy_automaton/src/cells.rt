@@ -337,17 +337,6 @@ pub(crate) fn is_told(cells: &Cells, row: usize, before: Side, byte: u8) -> bool
     }
 }
 
-/// The number of the step from a row on what is seen, if a hint leads to it.
-fn hinted(cells: &Cells, row: usize, sight: Sight) -> Option<usize>
-    ensures { IfSome result (λ k. HasCell cells.now.cells.items k row sight) }
-{
-    let key = cell_key(row, sight);
-    match tested_cell(&cells.cells, cells.hints.first(key), row, sight) {
-        Some(k) => Some(k),
-        None => tested_cell(&cells.cells, cells.hints.second(key), row, sight),
-    }
-}
-
 /// The number of the step from a row on what is seen, if it is remembered.
 pub(crate) fn remembered(cells: &Cells, row: usize, sight: Sight) -> Option<usize>
     requires within { IsBounded cells.now }
@@ -356,7 +345,13 @@ pub(crate) fn remembered(cells: &Cells, row: usize, sight: Sight) -> Option<usiz
 {
     match sight.ascii() {
         Some(byte) => told(cells, row, sight, byte),
-        None => hinted(cells, row, sight),
+        None => {
+            let key = cell_key(row, sight);
+            match tested_cell(&cells.cells, cells.hints.first(key), row, sight) {
+                Some(k) => Some(k),
+                None => tested_cell(&cells.cells, cells.hints.second(key), row, sight),
+            }
+        }
     }
 }
 

@@ -57,23 +57,12 @@ impl Hints {
         numbers > self.slots.len() / 8 && self.slots.len() < HINTS
     }
 
-    /// Begins the table anew, with twice as many places.
+    /// Begins the table anew, with twice as many places, and 64 at first.
     pub fn widen(&mut self, alloc: Global) -> Result<(), AllocError> {
-        let count = wider(self.slots.len());
+        let count = self.slots.len().saturating_mul(2).max(64).min(HINTS);
         let mut slots = Vec::new(alloc);
         slots.resize(count, usize::MAX)?;
         self.slots = slots;
         Ok(())
-    }
-}
-
-/// Twice as many places, and 64 at first.
-fn wider(places: usize) -> usize
-    ensures { result ≤ 131_072 }
-{
-    if places < 64 {
-        64
-    } else {
-        places.saturating_mul(2).min(HINTS)
     }
 }

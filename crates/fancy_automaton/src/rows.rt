@@ -37,7 +37,7 @@ impl Rows {
     {
         match self.lists.get(r) {
             None => false,
-            Some(row) => are_same(row, ways),
+            Some(row) => row.as_slice() == ways,
         }
     }
 
@@ -48,13 +48,6 @@ impl Rows {
         self.lists.clear();
         self.held = 0;
     }
-}
-
-/// Whether the instructions are the same.
-fn are_same(a: &[usize], b: &[usize]) -> bool
-    ensures { result ≡ true → a.now ≡ b.now }
-{
-    a == b
 }
 
 /// The key of a row, by its instructions.

@@ -1,4 +1,4 @@
-use Rattle.std.proofs.Common.{◌∙◌, List, subst, sym}
+use Rattle.std.proofs.Common.{◌≡◌, ◌∙◌, List, rules, subst, sym}
 use Rattle.std.specs.Global.{Vec}
 use Rattle.std.specs.Prelude.{ℕ}
 use Rattle.fancy_automaton.specs.Cells.{HasRow}
@@ -9,4 +9,4 @@ pub returns-in-Some : goal.returns-in-Some
 returns-in-Some c same =
     subst (λ (ls : List (Vec ℕ)). HasRow ls c.args.r c.args.ways.now) c.deref.ensures.value
     (has_row c.deref.result.now c.args.r c.in-Some.row.now c.in-Some.row.now _ c.in-Some.ensures.lookup.3.0 c.in-Some.ensures.lookup.1
-    (sym c.deref-in-Some.ensures.value ∙ c.are_same.ensures same))
+    (sym c.as_slice.ensures.value ∙ (let here : c.as_slice.result.now ≡ c.args.ways.now = search rules in here)))
