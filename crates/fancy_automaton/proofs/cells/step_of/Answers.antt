@@ -1,11 +1,11 @@
-use Rattle.std.proofs.Common.{◌≡◌, ◌-◌, ◌∙◌, ◌++◌, ◌∷◌, [], List, length, map, refl, subst, sym, take}
+use Rattle.std.proofs.Common.{◌≡◌, ◌-◌, ◌<◌, ◌∙◌, ◌++◌, ◌∷◌, [], List, arith, length, map, refl, subst, sym, take}
 use Rattle.std.specs.Prelude.{ℕ}
 use Rattle.fancy_code.specs.Code.{instrs_of}
 use Rattle.fancy_alphabet.specs.Sights.{seen_in}
 use Rattle.fancy_automaton.specs.declared.way.Way.{Way}
 use Rattle.fancy_automaton.specs.Cells.{HasRow, ways_at}
 use Rattle.fancy_automaton.specs.Steps.{IsStep, at_of}
-use Rattle.fancy_automaton.proofs.CellLemmas.{alone_is, row_items, row_of}
+use Rattle.fancy_automaton.proofs.CellLemmas.{alone_is, row_items, row_of, row_within}
 use Rattle.fancy_automaton.proofs.cells.step_of.Goals as goal
 
 pub returns-clause-step : goal.returns-clause-step
@@ -27,3 +27,11 @@ returns-clause-step c =
       halts = λ none. c.in_ok-step-2.ensures.halts (c.in_ok-first.ensures.step.halts none)
           (c.deref.ensures.value ∙ row_items rows cell.next ats [] (subst (λ (ws : List Way). HasRow rows cell.next (map at_of ws)) (alone.halts none) alone.leads) c.index-2.ensures);
     }
+
+pub index-requires-2 : goal.index-requires-2
+index-requires-2 c =
+    let rows = c.args.cells.now.rows.lists.items in
+    let alone = alone_is c.args.code.now rows c.args.cells.now.cells.items c.in-Some.k c.args.cells.now.alone c.args.sight c.index-cell.result.now c.requires.kept.all.0
+    c.in-Some.ensures.cell c.index-cell.ensures c.in-Some.ensures.alone in
+    let low : c.index-cell.result.now.next < length rows = row_within rows c.index-cell.result.now.next _ alone.leads in
+    omega (arith, low)

@@ -10,6 +10,8 @@ use Rattle.fancy_alphabet.specs.Sides.{seen_as}
 use Rattle.fancy_automaton.specs.Trail.{hit_or}
 use Rattle.fancy_automaton.proofs.HopLemmas.{ascii_leads, column_low, first_after, front_hopped}
 use Rattle.fancy_alphabet.proofs.NumberLemmas.{seen_low}
+use Rattle.fancy_automaton.proofs.CellLemmas.{row_within}
+use Rattle.fancy_automaton.proofs.FrontLemmas.{front_row}
 use Rattle.fancy_automaton.proofs.hop.run.Goals as goal
 
 pub places-preserved : goal.places-preserved
@@ -47,3 +49,13 @@ places-preserved c =
       visits = omega (arith, c.in_ok-push.ensures.len, c.places.invariant.visits, place);
       stops = λ more. omega (arith, place);
     }
+
+pub at-entry-requires-clause-row : goal.at-entry-requires-clause-row
+at-entry-requires-clause-row c =
+    let cells = c.args.cells.now in
+    let f = front_at c.places.at c.places.trail c.places.hit in
+    let is = c.places.invariant.front in
+    let row = c.row_at-row.result in
+    let low : row < length cells.rows.lists.items =
+    row_within cells.rows.lists.items row _ (front_row c.args.attempt.now cells f c.places.at.place c.places.at.place row is (c.row_at-row.ensures cells.cells.items f.trail)) in
+    omega (arith, low, is.kept.rows)
