@@ -389,6 +389,7 @@ GROWING = {
     "digits": lambda size: cut("1234567890", size),
     "prose": lambda size: cut(english(), size),
     "ab-cd": lambda size: cut("ab ab cd ", size),
+    "x-aa-y": lambda size: "x" + cut("aa y ", size - 1),
     "openings": lambda size: cut("/*", size),
     "apostrophes": lambda size: cut("' ", size - 1) + '"',
 }
