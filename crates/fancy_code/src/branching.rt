@@ -86,7 +86,8 @@ fn heads_of(alloc: Global, code: &Code, first: usize) -> Result<Vec<usize>, Allo
 
 /// The sets of the bytes that may stand at the first places of each alternative.
 fn rows_of(alloc: Global, code: &Code, heads: &[usize]) -> Result<Vec<Vec<ByteSet>>, AllocError>
-    ensures { IfOk result (λ rows. AreRows (instrs_of code.now) code.now.meaning heads.now rows.items) }
+    ensures { IfOk result (λ rows.
+        AreRows (instrs_of code.now) code.now.meaning heads.now rows.items) }
 {
     let mut rows = Vec::with_capacity(alloc, heads.len())?;
     for number in 0..heads.len() {
@@ -98,7 +99,8 @@ fn rows_of(alloc: Global, code: &Code, heads: &[usize]) -> Result<Vec<Vec<ByteSe
 
 /// The text that each alternative begins with.
 fn texts_of(alloc: Global, code: &Code, heads: &[usize]) -> Result<Vec<Text>, AllocError>
-    ensures { IfOk result (λ texts. AreTexts (instrs_of code.now) code.now.meaning heads.now texts.items) }
+    ensures { IfOk result (λ texts.
+        AreTexts (instrs_of code.now) code.now.meaning heads.now texts.items) }
 {
     let mut texts = Vec::with_capacity(alloc, heads.len())?;
     for number in 0..heads.len() {
@@ -110,7 +112,8 @@ fn texts_of(alloc: Global, code: &Code, heads: &[usize]) -> Result<Vec<Text>, Al
 
 /// Whether all of these together are due no more than the first instruction is.
 fn are_paid(code: &Code, heads: &[usize]) -> bool
-    ensures { result ≡ true → dues_in code.now.marking.numbers.items code.now.marking.weights.items heads.now
+    ensures { result ≡ true
+        → dues_in code.now.marking.numbers.items code.now.marking.weights.items heads.now
         ≤ due_of code.now code.now.start }
 {
     let mut total = 0usize;
@@ -125,8 +128,10 @@ fn are_paid(code: &Code, heads: &[usize]) -> bool
 
 /// The alternatives that the code opens with, where there are many, and the bytes at their first places tell them apart.
 pub(crate) fn branches_of(alloc: Global, code: &Code) -> Result<Option<Branches>, AllocError>
-    ensures are { IfOk result (λ o. IfSome o (λ b. AreBranches b (instrs_of code.now) code.now.meaning code.now.start)) }
-    ensures paid { IfOk result (λ o. IfSome o (λ b. ArePaid b code.now.marking.numbers.items code.now.marking.weights.items
+    ensures are { IfOk result (λ o. IfSome o (λ b.
+        AreBranches b (instrs_of code.now) code.now.meaning code.now.start)) }
+    ensures paid { IfOk result (λ o. IfSome o (λ b.
+        ArePaid b code.now.marking.numbers.items code.now.marking.weights.items
         code.now.start)) }
 {
     let lead = lead_of(code);

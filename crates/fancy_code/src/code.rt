@@ -1,6 +1,6 @@
 //! The code of a pattern: instructions that say where they go on.
 
-ghost use Rattle.std.specs.Prelude.{◌≡◌, ◌<◌, ℕ, None, IsTrue, length};
+ghost use Rattle.std.specs.Prelude.{◌≡◌, ◌<◌, ℕ, None, IfOk, IsTrue, length};
 ghost use Rattle.std.specs.Option.{ForSome};
 ghost use Rattle.fancy_prefilter.specs.Prefilters.{branches_in};
 ghost use Rattle.fancy_code.specs.Branches.{ArePaid};
@@ -14,6 +14,7 @@ use fancy_prefilter::choice::{Beginnings, Choice};
 use fancy_prefilter::prefilter::Prefilter;
 use fancy_tree::char_set::CharSet;
 use fancy_tree::tree::{Assertion, Meaning};
+use std::alloc::AllocError;
 
 /// One instruction. The last numbers of an instruction are those of the instructions that follow it.
 #[derive(Drop)]
@@ -110,10 +111,11 @@ pub struct Code {
     pub prefilter: Prefilter,
     ghost known: { IsTrue (are_known (length sets.items) instrs.items) },
     ghost marked: { length marking.numbers.items ≡ length instrs.items },
-    ghost paid: { IsPaid (with_sets sets.items instrs.items) marking.numbers.items marking.weights.items start },
+    ghost paid: { IsPaid (with_sets sets.items instrs.items) marking.numbers.items
+        marking.weights.items start },
     ghost begun: { AreBeginnings beginnings.items (with_sets sets.items instrs.items) meaning },
-    ghost branches_paid: { ForSome (branches_in prefilter.opening) (λ b. ArePaid b marking.numbers.items
-        marking.weights.items start) },
+    ghost branches_paid: { ForSome (branches_in prefilter.opening) (λ b.
+        ArePaid b marking.numbers.items marking.weights.items start) },
 }
 
 impl Code {
@@ -129,24 +131,22 @@ impl Code {
     pub(crate) fn new(
         instrs: Vec<Instr>,
         sets: Vec<CharSet>,
-        marking: Marking,
         start: usize,
         groups: usize,
         meaning: Meaning,
         prefilter: Prefilter,
-    ) -> Code
+    ) -> Result<Code, AllocError>
         requires known { IsTrue (are_known (length sets.items) instrs.items) }
-        requires marked { length marking.numbers.items ≡ length instrs.items }
-        requires paid { IsPaid (with_sets sets.items instrs.items) marking.numbers.items marking.weights.items start }
         requires branches { branches_in prefilter.opening ≡ None }
-        ensures instrs { instrs_of result ≡ with_sets sets.items instrs.items }
-        ensures start { result.start ≡ start }
-        ensures groups { result.groups ≡ groups }
-        ensures meaning { result.meaning ≡ meaning }
-        ensures prefilter { result.prefilter ≡ prefilter }
+        ensures instrs { IfOk result (λ code. instrs_of code ≡ with_sets sets.items instrs.items) }
+        ensures start { IfOk result (λ code. code.start ≡ start) }
+        ensures groups { IfOk result (λ code. code.groups ≡ groups) }
+        ensures meaning { IfOk result (λ code. code.meaning ≡ meaning) }
+        ensures prefilter { IfOk result (λ code. code.prefilter ≡ prefilter) }
     {
         let alloc = *instrs.allocator();
-        Code {
+        let marking = Marking::new(alloc, &instrs, start)?;
+        Ok(Code {
             instrs,
             sets,
             marking,
@@ -155,7 +155,7 @@ impl Code {
             groups,
             meaning,
             prefilter,
-        }
+        })
     }
 
     /// The same code, with the bytes that the ways of each choice may begin with.
@@ -183,7 +183,8 @@ impl Code {
     #[inline(always)]
     pub fn choice_at(&self, at: usize, haystack: &[u8], place: usize) -> Choice
         ensures { (first second : ℕ) → instr_at (instrs_of self.now) at ≡ Split first second
-            → LeavesOut (instrs_of self.now) self.now.meaning haystack.now place result first second }
+            → LeavesOut (instrs_of self.now) self.now.meaning haystack.now place result
+            first second }
     {
         let Some(beginnings) = self.beginnings.get(at) else {
             return Choice::Both;
@@ -199,7 +200,8 @@ impl Code {
     pub fn fetch(&self, at: usize, work: &mut Work) -> &Instr
         requires within { at < code_len self.now }
         ensures instr { instr_in self.now result.now ≡ instr_at (instrs_of self.now) at }
-        ensures known { (number next : ℕ) → result.now ≡ Instr.Member number next → number < sets_len self.now }
+        ensures known { (number next : ℕ) → result.now ≡ Instr.Member number next
+            → number < sets_len self.now }
         ensures work { work.new ≡ stepped_within work.old }
     {
         work.count_step_within();
@@ -211,7 +213,8 @@ impl Code {
     pub fn instr(&self, at: usize) -> &Instr
         requires within { at < code_len self.now }
         ensures instr { instr_in self.now result.now ≡ instr_at (instrs_of self.now) at }
-        ensures known { (number next : ℕ) → result.now ≡ Instr.Member number next → number < sets_len self.now }
+        ensures known { (number next : ℕ) → result.now ≡ Instr.Member number next
+            → number < sets_len self.now }
     {
         &self.instrs[at]
     }

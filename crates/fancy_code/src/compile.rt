@@ -7,9 +7,9 @@ ghost use Rattle.fancy_tree.specs.Sizes.{nodes, repeat_nodes, kind_nodes};
 ghost use Rattle.fancy_code.specs.Code.{instrs_of};
 ghost use Rattle.fancy_code.specs.CodeLength.{code_len};
 ghost use Rattle.fancy_code.specs.Instructions.{with_set, is_known};
-ghost use Rattle.fancy_code.specs.Emitted.{emitted, len_of};
+ghost use Rattle.fancy_code.specs.Emitted.{Adds, Appends, emitted, len_of};
 ghost use Rattle.fancy_tree.specs.GroupNumbers.{Numbered};
-ghost use Rattle.fancy_code.specs.Compile.{Keeps, Emitted, CopiesEmitted, OptionalsEmitted, StarEmitted, RestEmitted, RepeatEmitted, TestEmitted, BackEmitted, BehindEmitted, IsCodeOf, StaysEasy, are_easy, split_of, look_of};
+ghost use Rattle.fancy_code.specs.Compile.{CopiesEmitted, OptionalsEmitted, StarEmitted, RestEmitted, RepeatEmitted, TestEmitted, BackEmitted, BehindEmitted, IsCodeOf, StaysEasy, are_easy, split_of, look_of};
 ghost use Rattle.fancy_code.specs.Easy.{goes_back, is_easy};
 
 use crate::choosing::with_choices;
@@ -38,7 +38,8 @@ fn split(greedy: bool, more: usize, less: usize) -> Instr
 
 /// The start of a look-around.
 fn look(negated: bool, behind: bool, body: usize, next: usize) -> Instr
-    ensures instr { (sets : List CharSet) → with_set sets result ≡ look_of negated behind body next }
+    ensures instr { (sets : List CharSet)
+        → with_set sets result ≡ look_of negated behind body next }
     ensures known { (n : ℕ) → is_known n result ≡ true }
 {
     if negated {
@@ -53,11 +54,11 @@ fn look(negated: bool, behind: bool, body: usize, next: usize) -> Instr
 #[tactic(auto, using(fancy_tree::proofs::PatternLemmas::pattern_equations), unfolding(fancy_tree::specs::Sizes::nodes))]
 fn emit(code: &mut Emitter, meaning: Meaning, tree: &Tree, next: Entry) -> Result<Entry, AllocError>
     requires small { nodes (pattern_of tree.now) < 2 ^ 64 }
-    ensures kept { IfOk result (λ _. Keeps (emitted code.old) (emitted code.new)) }
-    ensures easy { IfOk result (λ _. is_easy (pattern_of tree.now) ≡ true → StaysEasy (emitted code.old) (emitted code.new)) }
-    ensures means { IfOk result (λ entry. Emitted meaning (pattern_of tree.now) (len_of code.old) (emitted code.new) next entry) }
-    ensures longer { IfOk result (λ _. len_of code.old ≤ len_of code.new) }
-    ensures short { IfOk result (λ _. len_of code.new ≤ len_of code.old + 4 * nodes (pattern_of tree.now)) }
+    ensures easy { IfOk result (λ _. is_easy (pattern_of tree.now) ≡ true
+        → StaysEasy (emitted code.old) (emitted code.new)) }
+    ensures means { IfOk result (λ entry.
+        Adds meaning (pattern_of tree.now) code.old code.new next entry) }
+    ensures grows { IfOk result (λ _. Appends (4 * nodes (pattern_of tree.now)) code.old code.new) }
 {
     match tree {
         Tree::Empty => Ok(next),
@@ -116,11 +117,12 @@ fn emit_group(
     next: Entry,
 ) -> Result<Entry, AllocError>
     requires small { nodes (pattern_of body.now) < 2 ^ 64 }
-    ensures kept { IfOk result (λ _. Keeps (emitted code.old) (emitted code.new)) }
-    ensures easy { IfOk result (λ _. is_easy (pattern_of body.now) ≡ true → StaysEasy (emitted code.old) (emitted code.new)) }
-    ensures means { IfOk result (λ entry. Emitted meaning (group index (pattern_of body.now)) (len_of code.old) (emitted code.new) next entry) }
-    ensures longer { IfOk result (λ _. len_of code.old ≤ len_of code.new) }
-    ensures short { IfOk result (λ _. len_of code.new ≤ len_of code.old + 4 * (nodes (pattern_of body.now) + 1)) }
+    ensures easy { IfOk result (λ _. is_easy (pattern_of body.now) ≡ true
+        → StaysEasy (emitted code.old) (emitted code.new)) }
+    ensures means { IfOk result (λ entry.
+        Adds meaning (group index (pattern_of body.now)) code.old code.new next entry) }
+    ensures grows { IfOk result (λ _.
+        Appends (4 * (nodes (pattern_of body.now) + 1)) code.old code.new) }
 {
     let close = code.put_both(
         Instr::Close(index, next.moved),
@@ -143,10 +145,10 @@ fn emit_atomic(
     next: Entry,
 ) -> Result<Entry, AllocError>
     requires small { nodes (pattern_of body.now) < 2 ^ 64 }
-    ensures kept { IfOk result (λ _. Keeps (emitted code.old) (emitted code.new)) }
-    ensures means { IfOk result (λ entry. Emitted meaning (atomic (pattern_of body.now)) (len_of code.old) (emitted code.new) next entry) }
-    ensures longer { IfOk result (λ _. len_of code.old ≤ len_of code.new) }
-    ensures short { IfOk result (λ _. len_of code.new ≤ len_of code.old + 4 * (nodes (pattern_of body.now) + 1)) }
+    ensures means { IfOk result (λ entry.
+        Adds meaning (atomic (pattern_of body.now)) code.old code.new next entry) }
+    ensures grows { IfOk result (λ _.
+        Appends (4 * (nodes (pattern_of body.now) + 1)) code.old code.new) }
 {
     let close = code.put_both(Instr::Commit(next.moved), Instr::Commit(next.still))?;
     let inner = emit(code, meaning, body, close)?;
@@ -164,10 +166,10 @@ fn emit_ahead(
     next: Entry,
 ) -> Result<Entry, AllocError>
     requires small { nodes (pattern_of body.now) < 2 ^ 64 }
-    ensures kept { IfOk result (λ _. Keeps (emitted code.old) (emitted code.new)) }
-    ensures means { IfOk result (λ entry. Emitted meaning (look_ahead negated (pattern_of body.now)) (len_of code.old) (emitted code.new) next entry) }
-    ensures longer { IfOk result (λ _. len_of code.old ≤ len_of code.new) }
-    ensures short { IfOk result (λ _. len_of code.new ≤ len_of code.old + 4 * (nodes (pattern_of body.now) + 1)) }
+    ensures means { IfOk result (λ entry.
+        Adds meaning (look_ahead negated (pattern_of body.now)) code.old code.new next entry) }
+    ensures grows { IfOk result (λ _.
+        Appends (4 * (nodes (pattern_of body.now) + 1)) code.old code.new) }
 {
     let stop = Entry {
         moved: MATCH,
@@ -191,10 +193,10 @@ fn emit_behind(
     next: Entry,
 ) -> Result<Entry, AllocError>
     requires small { nodes (pattern_of body.now) < 2 ^ 64 }
-    ensures kept { IfOk result (λ _. Keeps (emitted code.old) (emitted code.new)) }
-    ensures means { IfOk result (λ entry. Emitted meaning (look_behind negated (pattern_of body.now)) (len_of code.old) (emitted code.new) next entry) }
-    ensures longer { IfOk result (λ _. len_of code.old ≤ len_of code.new) }
-    ensures short { IfOk result (λ _. len_of code.new ≤ len_of code.old + 4 * (nodes (pattern_of body.now) + 1)) }
+    ensures means { IfOk result (λ entry.
+        Adds meaning (look_behind negated (pattern_of body.now)) code.old code.new next entry) }
+    ensures grows { IfOk result (λ _.
+        Appends (4 * (nodes (pattern_of body.now) + 1)) code.old code.new) }
 {
     let start = emit_backward(code, meaning, body)?;
     let entry = code.put_both(
@@ -210,10 +212,10 @@ fn emit_behind(
 #[tactic(auto, using(fancy_tree::proofs::PatternLemmas::pattern_equations), unfolding(fancy_tree::specs::Sizes::nodes))]
 fn emit_backward(code: &mut Emitter, meaning: Meaning, body: &Tree) -> Result<usize, AllocError>
     requires small { nodes (pattern_of body.now) < 2 ^ 64 }
-    ensures kept { IfOk result (λ _. Keeps (emitted code.old) (emitted code.new)) }
-    ensures means { IfOk result (λ start. BehindEmitted meaning (pattern_of body.now) (len_of code.old) (emitted code.new) start) }
-    ensures longer { IfOk result (λ _. len_of code.old ≤ len_of code.new) }
-    ensures short { IfOk result (λ _. len_of code.new ≤ len_of code.old + 4 * nodes (pattern_of body.now) + 1) }
+    ensures means { IfOk result (λ start.
+        BehindEmitted meaning (pattern_of body.now) (len_of code.old) (emitted code.new) start) }
+    ensures grows { IfOk result (λ _.
+        Appends (4 * nodes (pattern_of body.now) + 1) code.old code.new) }
 {
     match body {
         Tree::Concat(parts) => match parts.as_slice() {
@@ -254,10 +256,11 @@ fn emit_backward_choice(
 ) -> Result<usize, AllocError>
     requires some { 0 < length branches.now }
     requires small { nodes (in_choice (map pattern_of branches.now)) < 2 ^ 64 }
-    ensures kept { IfOk result (λ _. Keeps (emitted code.old) (emitted code.new)) }
-    ensures means { IfOk result (λ start. BehindEmitted meaning (in_choice (map pattern_of branches.now)) (len_of code.old) (emitted code.new) start) }
-    ensures longer { IfOk result (λ _. len_of code.old ≤ len_of code.new) }
-    ensures short { IfOk result (λ _. len_of code.new ≤ len_of code.old + 4 * nodes (in_choice (map pattern_of branches.now))) }
+    ensures means { IfOk result (λ start.
+        BehindEmitted meaning (in_choice (map pattern_of branches.now)) (len_of code.old)
+        (emitted code.new) start) }
+    ensures grows { IfOk result (λ _.
+        Appends (4 * nodes (in_choice (map pattern_of branches.now))) code.old code.new) }
 {
     let last = branches.len() - 1;
     let mut start = emit_back(code, meaning, &branches[last])?;
@@ -272,10 +275,10 @@ fn emit_backward_choice(
 #[cycle(emit)]
 fn emit_back(code: &mut Emitter, meaning: Meaning, branch: &Tree) -> Result<usize, AllocError>
     requires small { nodes (pattern_of branch.now) < 2 ^ 64 }
-    ensures kept { IfOk result (λ _. Keeps (emitted code.old) (emitted code.new)) }
-    ensures means { IfOk result (λ start. BackEmitted meaning (pattern_of branch.now) (len_of code.old) (emitted code.new) start) }
-    ensures longer { IfOk result (λ _. len_of code.old ≤ len_of code.new) }
-    ensures short { IfOk result (λ _. len_of code.new ≤ len_of code.old + 4 * nodes (pattern_of branch.now) + 1) }
+    ensures means { IfOk result (λ start.
+        BackEmitted meaning (pattern_of branch.now) (len_of code.old) (emitted code.new) start) }
+    ensures grows { IfOk result (λ _.
+        Appends (4 * nodes (pattern_of branch.now) + 1) code.old code.new) }
 {
     match branch.size(meaning) {
         None => Ok(FAIL),
@@ -301,10 +304,11 @@ fn emit_condition(
     two: Entry,
 ) -> Result<Entry, AllocError>
     requires small { nodes (pattern_of condition.now) < 2 ^ 64 }
-    ensures kept { IfOk result (λ _. Keeps (emitted code.old) (emitted code.new)) }
-    ensures means { IfOk result (λ entry. TestEmitted meaning (pattern_of condition.now) (len_of code.old) (emitted code.new) one two entry) }
-    ensures longer { IfOk result (λ _. len_of code.old ≤ len_of code.new) }
-    ensures short { IfOk result (λ _. len_of code.new ≤ len_of code.old + 4 * (nodes (pattern_of condition.now) + 1)) }
+    ensures means { IfOk result (λ entry.
+        TestEmitted meaning (pattern_of condition.now) (len_of code.old) (emitted code.new) one two
+        entry) }
+    ensures grows { IfOk result (λ _.
+        Appends (4 * (nodes (pattern_of condition.now) + 1)) code.old code.new) }
 {
     let close = code.put_both(Instr::Commit(one.moved), Instr::Commit(one.still))?;
     let inner = emit(code, meaning, condition, close)?;
@@ -327,11 +331,12 @@ fn emit_kind(
     next: Entry,
 ) -> Result<Entry, AllocError>
     requires small { repeat_nodes low high (nodes (pattern_of body.now)) < 2 ^ 64 }
-    ensures kept { IfOk result (λ _. Keeps (emitted code.old) (emitted code.new)) }
-    ensures easy { IfOk result (λ _. goes_back kind ≡ true → is_easy (pattern_of body.now) ≡ true → StaysEasy (emitted code.old) (emitted code.new)) }
-    ensures means { IfOk result (λ entry. Emitted meaning (repeat low high kind (pattern_of body.now)) (len_of code.old) (emitted code.new) next entry) }
-    ensures longer { IfOk result (λ _. len_of code.old ≤ len_of code.new) }
-    ensures short { IfOk result (λ _. len_of code.new ≤ len_of code.old + 4 * (repeat_nodes low high (nodes (pattern_of body.now)) + kind_nodes kind)) }
+    ensures easy { IfOk result (λ _. goes_back kind ≡ true → is_easy (pattern_of body.now) ≡ true
+        → StaysEasy (emitted code.old) (emitted code.new)) }
+    ensures means { IfOk result (λ entry.
+        Adds meaning (repeat low high kind (pattern_of body.now)) code.old code.new next entry) }
+    ensures grows { IfOk result (λ _.
+        Appends (4 * (repeat_nodes low high (nodes (pattern_of body.now)) + kind_nodes kind)) code.old code.new) }
 {
     match kind {
         RepeatKind::Greedy => emit_repeat(code, meaning, true, low, high, body, next),
@@ -351,11 +356,11 @@ fn emit_possessive(
     next: Entry,
 ) -> Result<Entry, AllocError>
     requires small { repeat_nodes low high (nodes (pattern_of body.now)) < 2 ^ 64 }
-    ensures kept { IfOk result (λ _. Keeps (emitted code.old) (emitted code.new)) }
-    ensures means { IfOk result (λ entry. Emitted meaning (repeat low high Possessive (pattern_of body.now))
-        (len_of code.old) (emitted code.new) next entry) }
-    ensures longer { IfOk result (λ _. len_of code.old ≤ len_of code.new) }
-    ensures short { IfOk result (λ _. len_of code.new ≤ len_of code.old + 4 * (repeat_nodes low high (nodes (pattern_of body.now)) + 1)) }
+    ensures means { IfOk result (λ entry.
+        Adds meaning (repeat low high Possessive (pattern_of body.now))
+        code.old code.new next entry) }
+    ensures grows { IfOk result (λ _.
+        Appends (4 * (repeat_nodes low high (nodes (pattern_of body.now)) + 1)) code.old code.new) }
 {
     let close = code.put_both(Instr::Commit(next.moved), Instr::Commit(next.still))?;
     let inner = emit_repeat(code, meaning, true, low, high, body, close)?;
@@ -375,11 +380,13 @@ fn emit_repeat(
     next: Entry,
 ) -> Result<Entry, AllocError>
     requires small { repeat_nodes low high (nodes (pattern_of body.now)) < 2 ^ 64 }
-    ensures kept { IfOk result (λ _. Keeps (emitted code.old) (emitted code.new)) }
-    ensures easy { IfOk result (λ _. is_easy (pattern_of body.now) ≡ true → StaysEasy (emitted code.old) (emitted code.new)) }
-    ensures means { IfOk result (λ entry. RepeatEmitted meaning greedy low high (pattern_of body.now) (len_of code.old) (emitted code.new) next entry) }
-    ensures longer { IfOk result (λ _. len_of code.old ≤ len_of code.new) }
-    ensures short { IfOk result (λ _. len_of code.new ≤ len_of code.old + 4 * repeat_nodes low high (nodes (pattern_of body.now))) }
+    ensures easy { IfOk result (λ _. is_easy (pattern_of body.now) ≡ true
+        → StaysEasy (emitted code.old) (emitted code.new)) }
+    ensures means { IfOk result (λ entry.
+        RepeatEmitted meaning greedy low high (pattern_of body.now) (len_of code.old)
+        (emitted code.new) next entry) }
+    ensures grows { IfOk result (λ _.
+        Appends (4 * repeat_nodes low high (nodes (pattern_of body.now))) code.old code.new) }
 {
     let first_set = code.next_set;
     let rest = match high {
@@ -402,11 +409,13 @@ fn emit_star(
     next: Entry,
 ) -> Result<Entry, AllocError>
     requires small { nodes (pattern_of body.now) < 2 ^ 64 }
-    ensures kept { IfOk result (λ _. Keeps (emitted code.old) (emitted code.new)) }
-    ensures easy { IfOk result (λ _. is_easy (pattern_of body.now) ≡ true → StaysEasy (emitted code.old) (emitted code.new)) }
-    ensures means { IfOk result (λ entry. StarEmitted meaning greedy (pattern_of body.now) (len_of code.old) (emitted code.new) next entry) }
-    ensures longer { IfOk result (λ _. len_of code.old ≤ len_of code.new) }
-    ensures short { IfOk result (λ _. len_of code.new ≤ len_of code.old + 4 * (nodes (pattern_of body.now) + 1)) }
+    ensures easy { IfOk result (λ _. is_easy (pattern_of body.now) ≡ true
+        → StaysEasy (emitted code.old) (emitted code.new)) }
+    ensures means { IfOk result (λ entry.
+        StarEmitted meaning greedy (pattern_of body.now) (len_of code.old) (emitted code.new) next
+        entry) }
+    ensures grows { IfOk result (λ _.
+        Appends (4 * (nodes (pattern_of body.now) + 1)) code.old code.new) }
 {
     let moved = code.put(Instr::Fail)?;
     let turn = emit(code, meaning, body, Entry { moved, still: FAIL })?;
@@ -426,11 +435,13 @@ fn emit_copies(
     next: Entry,
 ) -> Result<Entry, AllocError>
     requires small { count * nodes (pattern_of body.now) < 2 ^ 64 }
-    ensures kept { IfOk result (λ _. Keeps (emitted code.old) (emitted code.new)) }
-    ensures easy { IfOk result (λ _. is_easy (pattern_of body.now) ≡ true → StaysEasy (emitted code.old) (emitted code.new)) }
-    ensures means { IfOk result (λ entry. CopiesEmitted meaning count (pattern_of body.now) (len_of code.old) (emitted code.new) next entry) }
-    ensures longer { IfOk result (λ _. len_of code.old ≤ len_of code.new) }
-    ensures short { IfOk result (λ _. len_of code.new ≤ len_of code.old + 4 * (count * nodes (pattern_of body.now))) }
+    ensures easy { IfOk result (λ _. is_easy (pattern_of body.now) ≡ true
+        → StaysEasy (emitted code.old) (emitted code.new)) }
+    ensures means { IfOk result (λ entry.
+        CopiesEmitted meaning count (pattern_of body.now) (len_of code.old) (emitted code.new) next
+        entry) }
+    ensures grows { IfOk result (λ _.
+        Appends (4 * (count * nodes (pattern_of body.now))) code.old code.new) }
 {
     let mut entry = next;
     for copy in 0..count {
@@ -451,11 +462,13 @@ fn emit_optionals(
     next: Entry,
 ) -> Result<Entry, AllocError>
     requires small { count * (nodes (pattern_of body.now) + 1) < 2 ^ 64 }
-    ensures kept { IfOk result (λ _. Keeps (emitted code.old) (emitted code.new)) }
-    ensures easy { IfOk result (λ _. is_easy (pattern_of body.now) ≡ true → StaysEasy (emitted code.old) (emitted code.new)) }
-    ensures means { IfOk result (λ entry. OptionalsEmitted meaning greedy count (pattern_of body.now) (len_of code.old) (emitted code.new) next entry) }
-    ensures longer { IfOk result (λ _. len_of code.old ≤ len_of code.new) }
-    ensures short { IfOk result (λ _. len_of code.new ≤ len_of code.old + 4 * (count * (nodes (pattern_of body.now) + 1))) }
+    ensures easy { IfOk result (λ _. is_easy (pattern_of body.now) ≡ true
+        → StaysEasy (emitted code.old) (emitted code.new)) }
+    ensures means { IfOk result (λ entry.
+        OptionalsEmitted meaning greedy count (pattern_of body.now) (len_of code.old)
+        (emitted code.new) next entry) }
+    ensures grows { IfOk result (λ _.
+        Appends (4 * (count * (nodes (pattern_of body.now) + 1))) code.old code.new) }
 {
     let first_set = code.next_set;
     let mut entry = next;
@@ -479,11 +492,12 @@ fn emit_sequence(
     next: Entry,
 ) -> Result<Entry, AllocError>
     requires small { sum_by nodes (map pattern_of parts.now) < 2 ^ 64 }
-    ensures kept { IfOk result (λ _. Keeps (emitted code.old) (emitted code.new)) }
-    ensures easy { IfOk result (λ _. All (λ p. IsTrue (is_easy p)) (map pattern_of parts.now) → StaysEasy (emitted code.old) (emitted code.new)) }
-    ensures means { IfOk result (λ entry. Emitted meaning (in_sequence (map pattern_of parts.now)) (len_of code.old) (emitted code.new) next entry) }
-    ensures longer { IfOk result (λ _. len_of code.old ≤ len_of code.new) }
-    ensures short { IfOk result (λ _. len_of code.new ≤ len_of code.old + 4 * sum_by nodes (map pattern_of parts.now)) }
+    ensures easy { IfOk result (λ _. All (λ p. IsTrue (is_easy p)) (map pattern_of parts.now)
+        → StaysEasy (emitted code.old) (emitted code.new)) }
+    ensures means { IfOk result (λ entry.
+        Adds meaning (in_sequence (map pattern_of parts.now)) code.old code.new next entry) }
+    ensures grows { IfOk result (λ _.
+        Appends (4 * sum_by nodes (map pattern_of parts.now)) code.old code.new) }
 {
     let mut entry = next;
     for i in (0..parts.len()).rev() {
@@ -501,11 +515,12 @@ fn emit_choice(
     next: Entry,
 ) -> Result<Entry, AllocError>
     requires small { nodes (in_choice (map pattern_of branches.now)) < 2 ^ 64 }
-    ensures kept { IfOk result (λ _. Keeps (emitted code.old) (emitted code.new)) }
-    ensures easy { IfOk result (λ _. All (λ p. IsTrue (is_easy p)) (map pattern_of branches.now) → StaysEasy (emitted code.old) (emitted code.new)) }
-    ensures means { IfOk result (λ entry. Emitted meaning (in_choice (map pattern_of branches.now)) (len_of code.old) (emitted code.new) next entry) }
-    ensures longer { IfOk result (λ _. len_of code.old ≤ len_of code.new) }
-    ensures short { IfOk result (λ _. len_of code.new ≤ len_of code.old + 4 * nodes (in_choice (map pattern_of branches.now))) }
+    ensures easy { IfOk result (λ _. All (λ p. IsTrue (is_easy p)) (map pattern_of branches.now)
+        → StaysEasy (emitted code.old) (emitted code.new)) }
+    ensures means { IfOk result (λ entry.
+        Adds meaning (in_choice (map pattern_of branches.now)) code.old code.new next entry) }
+    ensures grows { IfOk result (λ _.
+        Appends (4 * nodes (in_choice (map pattern_of branches.now))) code.old code.new) }
 {
     if branches.is_empty() {
         let set = Set::empty(code.allocator());
@@ -534,7 +549,8 @@ fn compile_alone(
     requires small { nodes (pattern_of tree.now) < 2 ^ 64 }
     requires numbered { Numbered 0 groups (pattern_of tree.now) }
     ensures code { IfOk result (λ code. IsCodeOf (pattern_of tree.now) code) }
-    ensures easy { IfOk result (λ code. is_easy (pattern_of tree.now) ≡ true → are_easy (instrs_of code) ≡ true) }
+    ensures easy { IfOk result (λ code. is_easy (pattern_of tree.now) ≡ true
+        → are_easy (instrs_of code) ≡ true) }
     ensures short { IfOk result (λ code. code_len code ≤ 4 * nodes (pattern_of tree.now) + 2) }
     ensures groups { IfOk result (λ code. code.groups ≡ groups) }
     ensures meaning { IfOk result (λ code. code.meaning ≡ meaning) }
@@ -569,7 +585,8 @@ pub fn compile(
     requires small { nodes (pattern_of tree.now) < 2 ^ 64 }
     requires numbered { Numbered 0 groups (pattern_of tree.now) }
     ensures code { IfOk result (λ code. IsCodeOf (pattern_of tree.now) code) }
-    ensures easy { IfOk result (λ code. is_easy (pattern_of tree.now) ≡ true → are_easy (instrs_of code) ≡ true) }
+    ensures easy { IfOk result (λ code. is_easy (pattern_of tree.now) ≡ true
+        → are_easy (instrs_of code) ≡ true) }
     ensures short { IfOk result (λ code. code_len code ≤ 4 * nodes (pattern_of tree.now) + 2) }
     ensures groups { IfOk result (λ code. code.groups ≡ groups) }
     ensures meaning { IfOk result (λ code. code.meaning ≡ meaning) }

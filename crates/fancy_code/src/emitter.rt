@@ -7,7 +7,6 @@ ghost use Rattle.fancy_prefilter.specs.Prefilters.{branches_in};
 ghost use Rattle.fancy_code.specs.Instructions.{are_known, is_known, edges_at};
 
 use crate::code::{Code, Entry, Instr};
-use crate::marking::Marking;
 use fancy_prefilter::prefilter::Prefilter;
 use fancy_tree::char_set::CharSet;
 use fancy_tree::set::Set;
@@ -42,8 +41,8 @@ pub(crate) struct Emitter {
 
 impl Emitter {
     ghost use Rattle.fancy_code.specs.Code.{instrs_of};
-    ghost use Rattle.fancy_code.specs.Emitted.{emitted, len_of, instr_by};
-    ghost use Rattle.fancy_code.specs.Compile.{Keeps, Has, HasBoth, Emitted, StaysEasy, is_easy_instr};
+    ghost use Rattle.fancy_code.specs.Emitted.{Adds, emitted, len_of, instr_by};
+    ghost use Rattle.fancy_code.specs.Compile.{Keeps, Has, HasBoth, StaysEasy, is_easy_instr};
 
     /// No instruction yet.
     pub(crate) fn new(alloc: Global) -> Emitter
@@ -67,7 +66,8 @@ impl Emitter {
         ensures at { IfOk result (λ at. at ≡ len_of self.old) }
         ensures length { IfOk result (λ _. len_of self.new ≡ len_of self.old + 1) }
         ensures kept { IfOk result (λ _. Keeps (emitted self.old) (emitted self.new)) }
-        ensures easy { IfOk result (λ _. is_easy_instr (instr_by self.old instr) ≡ true → StaysEasy (emitted self.old) (emitted self.new)) }
+        ensures easy { IfOk result (λ _. is_easy_instr (instr_by self.old instr) ≡ true
+            → StaysEasy (emitted self.old) (emitted self.new)) }
         ensures stands { IfOk result (λ at. Has (emitted self.new) at (instr_by self.old instr)) }
         ensures sets { self.new.sets ≡ self.old.sets }
     {
@@ -83,8 +83,10 @@ impl Emitter {
         ensures still { IfOk result (λ entry. entry.still ≡ entry.moved) }
         ensures length { IfOk result (λ _. len_of self.new ≡ len_of self.old + 1) }
         ensures kept { IfOk result (λ _. Keeps (emitted self.old) (emitted self.new)) }
-        ensures easy { IfOk result (λ _. is_easy_instr (instr_by self.old instr) ≡ true → StaysEasy (emitted self.old) (emitted self.new)) }
-        ensures stands { IfOk result (λ entry. Has (emitted self.new) entry.moved (instr_by self.old instr)) }
+        ensures easy { IfOk result (λ _. is_easy_instr (instr_by self.old instr) ≡ true
+            → StaysEasy (emitted self.old) (emitted self.new)) }
+        ensures stands { IfOk result (λ entry.
+            Has (emitted self.new) entry.moved (instr_by self.old instr)) }
     {
         let at = self.put(instr)?;
         Ok(Entry {
@@ -101,9 +103,11 @@ impl Emitter {
         ensures still_at { IfOk result (λ entry. entry.still ≡ len_of self.old + 1) }
         ensures length { IfOk result (λ _. len_of self.new ≡ len_of self.old + 2) }
         ensures kept { IfOk result (λ _. Keeps (emitted self.old) (emitted self.new)) }
-        ensures easy { IfOk result (λ _. is_easy_instr (instr_by self.old moved) ≡ true → is_easy_instr (instr_by self.old still) ≡ true
+        ensures easy { IfOk result (λ _. is_easy_instr (instr_by self.old moved) ≡ true
+            → is_easy_instr (instr_by self.old still) ≡ true
             → StaysEasy (emitted self.old) (emitted self.new)) }
-        ensures stands { IfOk result (λ entry. HasBoth (emitted self.new) entry (instr_by self.old moved) (instr_by self.old still)) }
+        ensures stands { IfOk result (λ entry.
+            HasBoth (emitted self.new) entry (instr_by self.old moved) (instr_by self.old still)) }
     {
         let moved = self.put(moved)?;
         let still = self.put(still)?;
@@ -120,7 +124,8 @@ impl Emitter {
         ensures length { IfOk result (λ _. len_of self.new ≡ len_of self.old + 1) }
         ensures kept { IfOk result (λ _. Keeps (emitted self.old) (emitted self.new)) }
         ensures easy { IfOk result (λ _. StaysEasy (emitted self.old) (emitted self.new)) }
-        ensures means { IfOk result (λ entry. Emitted meaning (member_of (edges_of set.now)) (len_of self.old) (emitted self.new) next entry) }
+        ensures means { IfOk result (λ entry.
+            Adds meaning (member_of (edges_of set.now)) self.old self.new next entry) }
     {
         let number = self.number_of(set)?;
         self.put_shared(Instr::Member(number, next.moved))
@@ -136,7 +141,8 @@ impl Emitter {
     ) -> Result<Entry, AllocError>
         ensures length { IfOk result (λ _. len_of self.new ≡ len_of self.old + 2) }
         ensures kept { IfOk result (λ _. Keeps (emitted self.old) (emitted self.new)) }
-        ensures means { IfOk result (λ entry. Emitted meaning (backreference folded group) (len_of self.old) (emitted self.new) next entry) }
+        ensures means { IfOk result (λ entry.
+            Adds meaning (backreference folded group) self.old self.new next entry) }
     {
         let moved = next.moved;
         let read = Instr::Recall {
@@ -157,7 +163,8 @@ impl Emitter {
     /// The number of this set, if it is one of the last few, or the next one of the copy before.
     fn number_before(&self, set: &Set) -> Option<usize>
         ensures within { IfSome result (λ number. number < length self.now.sets.items) }
-        ensures edges { IfSome result (λ number. edges_at self.now.sets.items number ≡ edges_of set.now) }
+        ensures edges { IfSome result (λ number.
+            edges_at self.now.sets.items number ≡ edges_of set.now) }
     {
         let first = self.next_set.saturating_sub(LAST_FEW);
         let end = self.next_set.saturating_add(1).min(self.sets.len());
@@ -174,7 +181,8 @@ impl Emitter {
         ensures instrs { self.new.instrs ≡ self.old.instrs }
         ensures sets { self.new.sets ≡ self.old.sets }
         ensures within { IfSome result (λ number. number < length self.old.sets.items) }
-        ensures edges { IfSome result (λ number. edges_at self.old.sets.items number ≡ edges_of set.now) }
+        ensures edges { IfSome result (λ number.
+            edges_at self.old.sets.items number ≡ edges_of set.now) }
     {
         let edges = set.edges().len();
         self.comparable = self.comparable.saturating_add(COMPARED_FOR_EACH);
@@ -189,7 +197,8 @@ impl Emitter {
     fn number_of(&mut self, set: &Set) -> Result<usize, AllocError>
         ensures instrs { IfOk result (λ _. emitted self.new ≡ emitted self.old) }
         ensures within { IfOk result (λ number. number < length self.new.sets.items) }
-        ensures edges { IfOk result (λ number. edges_at self.new.sets.items number ≡ edges_of set.now) }
+        ensures edges { IfOk result (λ number.
+            edges_at self.new.sets.items number ≡ edges_of set.now) }
     {
         if let Some(number) = self.number_compared(set) {
             self.next_set = self.next_set.max(number + 1);
@@ -206,7 +215,8 @@ impl Emitter {
         requires within { at < len_of self.old }
         requires known { is_known (length self.old.sets.items) instr ≡ true }
         ensures length { len_of self.new ≡ len_of self.old }
-        ensures items { emitted self.new ≡ slice_set (emitted self.old) at (instr_by self.old instr) }
+        ensures items { emitted self.new
+            ≡ slice_set (emitted self.old) at (instr_by self.old instr) }
     {
         self.instrs[at] = instr;
     }
@@ -226,15 +236,6 @@ impl Emitter {
         ensures meaning { IfOk result (λ code. code.meaning ≡ meaning) }
         ensures prefilter { IfOk result (λ code. code.prefilter ≡ prefilter) }
     {
-        let marking = Marking::new(self.allocator(), &self.instrs, start)?;
-        Ok(Code::new(
-            self.instrs,
-            self.sets,
-            marking,
-            start,
-            groups,
-            meaning,
-            prefilter,
-        ))
+        Code::new(self.instrs, self.sets, start, groups, meaning, prefilter)
     }
 }

@@ -113,7 +113,8 @@ fn worth(numbers: &[Option<usize>], weights: &[usize], at: usize) -> usize
 
 /// What is due where an instruction leads on, if that is a `usize`.
 fn cost(numbers: &[Option<usize>], weights: &[usize], instr: &Instr) -> Option<usize>
-    ensures { (sets : List CharSet) → IfSome result (λ c. c ≡ cost_in numbers.now weights.now (with_set sets instr.now)) }
+    ensures { (sets : List CharSet)
+        → IfSome result (λ c. c ≡ cost_in numbers.now weights.now (with_set sets instr.now)) }
 {
     match instr {
         Instr::Character(_, next)
@@ -132,7 +133,8 @@ fn cost(numbers: &[Option<usize>], weights: &[usize], instr: &Instr) -> Option<u
 /// Whether each instruction has a number or none, and the weights pay for all steps.
 fn is_paid(instrs: &[Instr], numbers: &[Option<usize>], weights: &[usize], start: usize) -> bool
     ensures long { result ≡ true → length numbers.now ≡ length instrs.now }
-    ensures paid { (sets : List CharSet) → result ≡ true → IsPaid (with_sets sets instrs.now) numbers.now weights.now start }
+    ensures paid { (sets : List CharSet) → result ≡ true
+        → IsPaid (with_sets sets instrs.now) numbers.now weights.now start }
 {
     if numbers.len() != instrs.len() {
         return false;
@@ -295,7 +297,8 @@ fn has_number(numbers: &[Option<usize>], at: usize) -> bool {
 /// A mark for each of so many instructions.
 fn all_numbers(alloc: Global, count: usize) -> Result<Vec<Option<usize>>, AllocError>
     ensures many { IfOk result (λ numbers. vec_len numbers ≡ count) }
-    ensures each { IfOk result (λ numbers. (at : ℕ) → at < count → slice_index_or numbers.items at None ≡ Some at) }
+    ensures each { IfOk result (λ numbers. (at : ℕ) → at < count
+        → slice_index_or numbers.items at None ≡ Some at) }
 {
     let mut numbers = Vec::new(alloc);
     for at in 0..count {

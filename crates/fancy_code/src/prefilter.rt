@@ -44,13 +44,12 @@ fn stays_exact(exact: bool, wide: bool) -> bool
     exact && !wide
 }
 
-/// Adds the bytes of an item, and then what may stand after it.
+/// Adds the bytes of an item, and then what may stand after it, where the code goes on at the spot's instruction.
 #[cycle(collect)]
 fn collect_item(
     code: &Code,
     spot: Spot,
     item: Item,
-    next: usize,
     deep: usize,
     sets: &mut Vec<ByteSet>,
     left: &mut usize,
@@ -58,14 +57,15 @@ fn collect_item(
     requires inside { spot.from < length sets.old.items }
     ensures wider { Wider sets.old.items sets.new.items }
     ensures has { HasFrom sets.new.items spot.from (spot.exact && not item.wide) item.bytes }
-    ensures told { Foretold (instrs_of code.now) code.now.meaning sets.new.items (spot.from + 1) (spot.exact && not item.wide) next }
+    ensures told { Foretold (instrs_of code.now) code.now.meaning sets.new.items (spot.from + 1)
+        (spot.exact && not item.wide) spot.at }
 {
     let exact = stays_exact(spot.exact, item.wide);
     add_bytes(sets, spot.from, exact, &item.bytes);
     let after = Spot {
-        at: next,
         from: spot.from + 1,
         exact,
+        ..spot
     };
     collect(code, after, deep, sets, left);
 }
@@ -75,7 +75,8 @@ fn collect_item(
 #[cycle(collect)]
 fn collect(code: &Code, spot: Spot, deep: usize, sets: &mut Vec<ByteSet>, left: &mut usize)
     ensures wider { Wider sets.old.items sets.new.items }
-    ensures told { Foretold (instrs_of code.now) code.now.meaning sets.new.items spot.from spot.exact spot.at }
+    ensures told { Foretold (instrs_of code.now) code.now.meaning sets.new.items spot.from
+        spot.exact spot.at }
 {
     if spot.from >= sets.len() || spot.at >= code.len() {
         return;
@@ -90,11 +91,11 @@ fn collect(code: &Code, spot: Spot, deep: usize, sets: &mut Vec<ByteSet>, left: 
         Instr::Fail => {}
         Instr::Character(character, next) => {
             let item = item_of_character(*character, code.meaning);
-            collect_item(code, spot, item, *next, deep, sets, left);
+            collect_item(code, Spot { at: *next, ..spot }, item, deep, sets, left);
         }
         Instr::Member(set, next) => {
             let item = item_of_set(code.set(*set), code.meaning);
-            collect_item(code, spot, item, *next, deep, sets, left);
+            collect_item(code, Spot { at: *next, ..spot }, item, deep, sets, left);
         }
         Instr::Assert(_, next) | Instr::Open(_, next) | Instr::Close(_, next) => {
             collect(code, Spot { at: *next, ..spot }, deep, sets, left);
@@ -159,7 +160,8 @@ pub(crate) fn sets_within(
     places: usize,
     left: &mut usize,
 ) -> Result<Vec<ByteSet>, AllocError>
-    ensures { IfOk result (λ sets. Foretold (instrs_of code.now) code.now.meaning sets.items 0 true at) }
+    ensures { IfOk result (λ sets.
+        Foretold (instrs_of code.now) code.now.meaning sets.items 0 true at) }
 {
     let mut sets = empty_sets(alloc, places)?;
     let spot = Spot {
@@ -178,7 +180,8 @@ pub(crate) fn sets_of(
     at: usize,
     places: usize,
 ) -> Result<Vec<ByteSet>, AllocError>
-    ensures { IfOk result (λ sets. Foretold (instrs_of code.now) code.now.meaning sets.items 0 true at) }
+    ensures { IfOk result (λ sets.
+        Foretold (instrs_of code.now) code.now.meaning sets.items 0 true at) }
 {
     let mut left = FOLLOWED;
     sets_within(alloc, code, at, places, &mut left)

@@ -168,7 +168,8 @@ pub fn holds_at(
     last_lines: &mut LastLines,
 ) -> bool
     requires { KnowsLastLines haystack.now last_lines.old }
-    ensures held { (from : ℕ) → result ≡ holds (search_context haystack.now meaning suppressed from) assertion place }
+    ensures held { (from : ℕ)
+        → result ≡ holds (search_context haystack.now meaning suppressed from) assertion place }
     ensures known { KnowsLastLines haystack.now last_lines.new }
 {
     match assertion {

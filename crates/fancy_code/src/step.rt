@@ -30,7 +30,8 @@ pub fn past_character(
     place: usize,
 ) -> Option<usize>
     ensures past { (suppressed : SuppressedEnds) (from : ℕ)
-        → result ≡ past_item (search_context haystack.now meaning suppressed from) (λ d. d == character) place }
+        → result ≡ past_item (search_context haystack.now meaning suppressed from) (λ d.
+        d == character) place }
     ensures forth { IfSome result (λ p. place ≤ p) }
 {
     let code = character as u32;
@@ -49,7 +50,8 @@ pub fn past_character(
 #[inline(always)]
 pub fn past_member(haystack: &[u8], meaning: Meaning, set: &CharSet, place: usize) -> Option<usize>
     ensures past { (suppressed : SuppressedEnds) (from : ℕ)
-        → result ≡ past_item (search_context haystack.now meaning suppressed from) (has (edges_in set.now)) place }
+        → result ≡ past_item (search_context haystack.now meaning suppressed from)
+        (has (edges_in set.now)) place }
     ensures forth { IfSome result (λ p. place ≤ p) }
 {
     let reading = read_at(haystack, meaning, place)?;

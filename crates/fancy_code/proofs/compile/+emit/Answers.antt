@@ -35,9 +35,12 @@ emit_choice-returns-then-is_empty-clause-means t c =
     (ap member_of c.empty-set.ensures.edges ∙ sym (ap in_choice (no_parts c.args.branches.now c.if-is_empty.ensures)))
     c.in_ok-nothing.ensures.means
 
-pub emit_choice-returns-then-is_empty-clause-short : goal.emit_choice-returns-then-is_empty-clause-short
-emit_choice-returns-then-is_empty-clause-short t c =
-    omega (arith, nodes-pos (in_choice (map pattern_of c.args.branches.now)), c.in_ok-nothing.ensures.length)
+pub emit_choice-returns-then-is_empty-clause-grows : goal.emit_choice-returns-then-is_empty-clause-grows
+emit_choice-returns-then-is_empty-clause-grows t c = (
+  c.in_ok-nothing.ensures.kept,
+  omega (arith, c.in_ok-nothing.ensures.length),
+  omega (arith, nodes-pos (in_choice (map pattern_of c.args.branches.now)), c.in_ok-nothing.ensures.length),
+)
 
 pub emit_choice-emit-requires : goal.emit_choice-emit-requires
 emit_choice-emit-requires t c = (
@@ -51,10 +54,12 @@ emit_choice-loop-i-init t c =
     let only = ap in_choice (last_part c.args.branches.now c.index-branches-last.result some c.index-branches-last.is) in
     record {
       easy = λ all. c.in_ok-entry.ensures.easy (easy_at _ _ _ all (omega (arith, some)) c.index-branches-last.is);
-      kept = c.in_ok-entry.ensures.kept;
+      grows = (
+        c.in_ok-entry.ensures.grows.0,
+        c.in_ok-entry.ensures.grows.1,
+        omega (arith, last_size _ _ only, c.in_ok-entry.ensures.grows.2),
+      );
       means = subst (λ (p : Pattern). Emitted c.args.meaning p (len_of c.args.code.now) (emitted c.emit.new.code) c.args.next c.in_ok-entry.entry) (sym only) c.in_ok-entry.ensures.means;
-      longer = c.in_ok-entry.ensures.longer;
-      short = omega (arith, last_size _ _ only, c.in_ok-entry.ensures.short);
       within = omega (arith, some);
     }
 
@@ -70,53 +75,67 @@ emit_choice-loop-i-preserved t c =
     record {
       easy = λ all h. c.in_ok-entry-2.ensures.easy refl refl
           (c.in_ok-first.ensures.easy (easy_at _ _ _ all (omega (arith, c.loop-i.invariant.within)) c.index-branches-i.is) (c.loop-i.invariant.easy all h));
-      kept = keeps_on _ _ _ c.loop-i.invariant.kept (keeps_on _ _ _ c.in_ok-first.ensures.kept c.in_ok-entry-2.ensures.kept);
-      means = choice_emitted c.args.meaning _ _ _ same _ (len_of c.loop-i.code) _ _ _ _ _ c.loop-i.entry c.in_ok-entry-2.entry c.loop-i.invariant.means c.in_ok-first.ensures.kept
-          c.loop-i.invariant.longer c.in_ok-first.ensures.means c.in_ok-entry-2.ensures.kept c.in_ok-entry-2.ensures.stands
-          (omega (arith, c.loop-i.invariant.longer, c.in_ok-first.ensures.longer, c.in_ok-entry-2.ensures.moved_at))
-          (omega (arith, c.loop-i.invariant.longer, c.in_ok-first.ensures.longer, c.in_ok-entry-2.ensures.still_at));
-      longer = omega (arith, c.loop-i.invariant.longer, c.in_ok-first.ensures.longer, c.in_ok-entry-2.ensures.length);
-      short = omega (arith, branch_sizes _ _ _ same, c.loop-i.invariant.short, c.in_ok-first.ensures.short, c.in_ok-entry-2.ensures.length);
+      grows = (
+        keeps_on _ _ _ c.loop-i.invariant.grows.0 (keeps_on _ _ _ c.in_ok-first.ensures.grows.0 c.in_ok-entry-2.ensures.kept),
+        omega (arith, c.loop-i.invariant.grows.1, c.in_ok-first.ensures.grows.1, c.in_ok-entry-2.ensures.length),
+        omega (arith, branch_sizes _ _ _ same, c.loop-i.invariant.grows.2, c.in_ok-first.ensures.grows.2, c.in_ok-entry-2.ensures.length),
+      );
+      means = choice_emitted c.args.meaning _ _ _ same _ (len_of c.loop-i.code) _ _ _ _ _ c.loop-i.entry c.in_ok-entry-2.entry c.loop-i.invariant.means c.in_ok-first.ensures.grows.0
+          c.loop-i.invariant.grows.1 c.in_ok-first.ensures.means c.in_ok-entry-2.ensures.kept c.in_ok-entry-2.ensures.stands
+          (omega (arith, c.loop-i.invariant.grows.1, c.in_ok-first.ensures.grows.1, c.in_ok-entry-2.ensures.moved_at))
+          (omega (arith, c.loop-i.invariant.grows.1, c.in_ok-first.ensures.grows.1, c.in_ok-entry-2.ensures.still_at));
       within = omega (arith, c.loop-i.invariant.within);
     }
 
 pub emit_copies-loop-copy-preserved : goal.emit_copies-loop-copy-preserved
 emit_copies-loop-copy-preserved t c = record {
   easy = λ easy h. c.in_ok-entry.ensures.easy easy (c.loop-copy.invariant.easy easy h);
-  kept = keeps_on _ _ _ c.loop-copy.invariant.kept c.in_ok-entry.ensures.kept;
+  grows = (
+    keeps_on _ _ _ c.loop-copy.invariant.grows.0 c.in_ok-entry.ensures.grows.0,
+    omega (arith, c.loop-copy.invariant.grows.1, c.in_ok-entry.ensures.grows.1),
+    omega (arith, c.loop-copy.invariant.grows.2, c.in_ok-entry.ensures.grows.2),
+  );
   means = copies_emitted c.args.meaning (pattern_of c.args.body.now) c.loop-copy.copy (len_of c.args.code.now) (len_of c.loop-copy.code) (emitted c.loop-copy.code) (emitted c.emit.new.code) c.args.next c.loop-copy.entry c.in_ok-entry.entry
-      c.loop-copy.invariant.means c.in_ok-entry.ensures.kept c.loop-copy.invariant.longer c.in_ok-entry.ensures.means;
-  longer = omega (arith, c.loop-copy.invariant.longer, c.in_ok-entry.ensures.longer);
-  short = omega (arith, c.loop-copy.invariant.short, c.in_ok-entry.ensures.short);
+      c.loop-copy.invariant.means c.in_ok-entry.ensures.grows.0 c.loop-copy.invariant.grows.1 c.in_ok-entry.ensures.means;
 }
 
 pub emit_group-returns-clause-means : goal.emit_group-returns-clause-means
 emit_group-returns-clause-means t c =
     group_emitted c.args.meaning c.args.index (pattern_of c.args.body.now) (len_of c.args.code.now) (len_of c.put_both.new.self) (emitted c.put_both.new.self) (emitted c.emit.new.code) (emitted c.put_both-2.new.self)
     c.args.next c.in_ok-close.close c.in_ok-inner.inner c.in_ok-entry.entry
-    c.in_ok-close.ensures.stands c.in_ok-inner.ensures.kept (omega (arith, c.in_ok-close.ensures.moved_at)) (omega (arith, c.in_ok-close.ensures.still_at))
+    c.in_ok-close.ensures.stands c.in_ok-inner.ensures.grows.0 (omega (arith, c.in_ok-close.ensures.moved_at)) (omega (arith, c.in_ok-close.ensures.still_at))
     c.in_ok-inner.ensures.means (omega (arith, c.in_ok-close.ensures.length)) c.in_ok-entry.ensures.kept c.in_ok-entry.ensures.stands
-    (omega (arith, c.in_ok-close.ensures.length, c.in_ok-inner.ensures.longer, c.in_ok-entry.ensures.moved_at))
-    (omega (arith, c.in_ok-close.ensures.length, c.in_ok-inner.ensures.longer, c.in_ok-entry.ensures.still_at))
+    (omega (arith, c.in_ok-close.ensures.length, c.in_ok-inner.ensures.grows.1, c.in_ok-entry.ensures.moved_at))
+    (omega (arith, c.in_ok-close.ensures.length, c.in_ok-inner.ensures.grows.1, c.in_ok-entry.ensures.still_at))
 
 pub emit_optionals-loop-copy-preserved : goal.emit_optionals-loop-copy-preserved
 emit_optionals-loop-copy-preserved t c = record {
   easy = λ easy h. c.in_ok-entry.ensures.easy (ap is_easy_instr (c.split.ensures.instr _) ∙ easy_split c.args.greedy _ _) (ap is_easy_instr (c.split-in-loop-copy.ensures.instr _) ∙ easy_split c.args.greedy _ _)
       (c.in_ok-turn.ensures.easy easy (c.loop-copy.invariant.easy easy h));
-  kept = keeps_on _ _ _ c.loop-copy.invariant.kept (keeps_on _ _ _ c.in_ok-turn.ensures.kept c.in_ok-entry.ensures.kept);
+  grows = (
+    keeps_on _ _ _ c.loop-copy.invariant.grows.0 (keeps_on _ _ _ c.in_ok-turn.ensures.grows.0 c.in_ok-entry.ensures.kept),
+    omega (arith, c.loop-copy.invariant.grows.1, c.in_ok-turn.ensures.grows.1, c.in_ok-entry.ensures.length),
+    omega (arith, c.loop-copy.invariant.grows.2, c.in_ok-turn.ensures.grows.2, c.in_ok-entry.ensures.length),
+  );
   means = optionals_emitted c.args.meaning c.args.greedy (pattern_of c.args.body.now) c.loop-copy.copy (len_of c.args.code.now) (len_of c.loop-copy.code) (emitted c.loop-copy.code) (emitted c.emit.new.code) (emitted c.put_both.new.self) c.args.next c.loop-copy.entry c.in_ok-turn.turn c.in_ok-entry.entry c.loop-copy.invariant.means
-      c.in_ok-turn.ensures.kept c.loop-copy.invariant.longer c.in_ok-turn.ensures.means c.in_ok-entry.ensures.kept (c.in_ok-entry.ensures.stands.0 ∙ ap Some (c.split.ensures.instr _), c.in_ok-entry.ensures.stands.1 ∙ ap Some (c.split-in-loop-copy.ensures.instr _))
-      (omega (arith, c.loop-copy.invariant.longer, c.in_ok-turn.ensures.longer, c.in_ok-entry.ensures.moved_at))
-      (omega (arith, c.loop-copy.invariant.longer, c.in_ok-turn.ensures.longer, c.in_ok-entry.ensures.still_at));
-  longer = omega (arith, c.loop-copy.invariant.longer, c.in_ok-turn.ensures.longer, c.in_ok-entry.ensures.length);
-  short = omega (arith, c.loop-copy.invariant.short, c.in_ok-turn.ensures.short, c.in_ok-entry.ensures.length);
+      c.in_ok-turn.ensures.grows.0 c.loop-copy.invariant.grows.1 c.in_ok-turn.ensures.means c.in_ok-entry.ensures.kept (c.in_ok-entry.ensures.stands.0 ∙ ap Some (c.split.ensures.instr _), c.in_ok-entry.ensures.stands.1 ∙ ap Some (c.split-in-loop-copy.ensures.instr _))
+      (omega (arith, c.loop-copy.invariant.grows.1, c.in_ok-turn.ensures.grows.1, c.in_ok-entry.ensures.moved_at))
+      (omega (arith, c.loop-copy.invariant.grows.1, c.in_ok-turn.ensures.grows.1, c.in_ok-entry.ensures.still_at));
 }
 
-pub emit_repeat-returns-clause-kept : goal.emit_repeat-returns-clause-kept
-emit_repeat-returns-clause-kept t c =
+pub emit_repeat-returns-clause-grows : goal.emit_repeat-returns-clause-grows
+emit_repeat-returns-clause-grows t c =
     elim c.match-high.branch [
-      | emit_repeat-in-None+in_ok-rest-in-None w ↦ keeps_on _ _ _ w.in_ok-rest-in-None.ensures.kept (rw w.code-is at c.in_ok-entry.ensures.kept)
-      | emit_repeat-in-Some+in_ok-rest-in-Some w ↦ keeps_on _ _ _ w.in_ok-rest-in-Some.ensures.kept (rw w.code-is at c.in_ok-entry.ensures.kept)
+      | emit_repeat-in-None+in_ok-rest-in-None w ↦ (
+        keeps_on _ _ _ w.in_ok-rest-in-None.ensures.grows.0 (rw w.code-is at c.in_ok-entry.ensures.grows.0),
+        omega (arith, w.in_ok-rest-in-None.ensures.grows.1, rw w.code-is at c.in_ok-entry.ensures.grows.1),
+        rw w.in-None.is (omega (arith, w.in_ok-rest-in-None.ensures.grows.2, rw w.code-is at c.in_ok-entry.ensures.grows.2)),
+      )
+      | emit_repeat-in-Some+in_ok-rest-in-Some w ↦ (
+        keeps_on _ _ _ w.in_ok-rest-in-Some.ensures.grows.0 (rw w.code-is at c.in_ok-entry.ensures.grows.0),
+        omega (arith, w.in_ok-rest-in-Some.ensures.grows.1, rw w.code-is at c.in_ok-entry.ensures.grows.1),
+        rw w.in-Some.is (omega (arith, rw w.saturating_sub.ensures at w.in_ok-rest-in-Some.ensures.grows.2, rw w.code-is at c.in_ok-entry.ensures.grows.2)),
+      )
     ]
 
 pub emit_repeat-returns-clause-means : goal.emit_repeat-returns-clause-means
@@ -124,10 +143,10 @@ emit_repeat-returns-clause-means t c =
     elim c.match-high.branch [
       | emit_repeat-in-None+in_ok-rest-in-None w ↦ rw w.in-None.is
           (repeat_emitted c.args.meaning c.args.greedy c.args.low None (pattern_of c.args.body.now) (len_of c.args.code.now) (len_of w.emit_star.new.code) (emitted w.emit_star.new.code) (emitted c.emit_copies.new.code) c.args.next w.in_ok-rest-in-None.rest _
-          w.in_ok-rest-in-None.ensures.means (rw w.code-is at c.in_ok-entry.ensures.kept) w.in_ok-rest-in-None.ensures.longer (rw (w.code-is, w.rest-is) at c.in_ok-entry.ensures.means))
+          w.in_ok-rest-in-None.ensures.means (rw w.code-is at c.in_ok-entry.ensures.grows.0) w.in_ok-rest-in-None.ensures.grows.1 (rw (w.code-is, w.rest-is) at c.in_ok-entry.ensures.means))
       | emit_repeat-in-Some+in_ok-rest-in-Some w ↦ rw w.in-Some.is
           (repeat_emitted c.args.meaning c.args.greedy c.args.low (Some w.in-Some.high) (pattern_of c.args.body.now) (len_of c.args.code.now) (len_of w.emit_optionals.new.code) (emitted w.emit_optionals.new.code) (emitted c.emit_copies.new.code) c.args.next w.in_ok-rest-in-Some.rest _
-          (rw w.saturating_sub.ensures at w.in_ok-rest-in-Some.ensures.means) (rw w.code-is at c.in_ok-entry.ensures.kept) w.in_ok-rest-in-Some.ensures.longer (rw (w.code-is, w.rest-is) at c.in_ok-entry.ensures.means))
+          (rw w.saturating_sub.ensures at w.in_ok-rest-in-Some.ensures.means) (rw w.code-is at c.in_ok-entry.ensures.grows.0) w.in_ok-rest-in-Some.ensures.grows.1 (rw (w.code-is, w.rest-is) at c.in_ok-entry.ensures.means))
     ]
 
 pub emit_sequence-loop-i-init : goal.emit_sequence-loop-i-init
@@ -135,10 +154,12 @@ emit_sequence-loop-i-init t c =
     let none = ap (map pattern_of) (drop-length c.args.parts.now) in
     record {
       easy = λ all h. h;
-      kept = keeps_same (emitted c.args.code.now);
+      grows = (
+        keeps_same (emitted c.args.code.now),
+        omega arith,
+        omega arith,
+      );
       means = subst (λ (ps : List Pattern). Emitted c.args.meaning (in_sequence ps) (len_of c.args.code.now) (emitted c.args.code.now) c.args.next c.args.next) (sym none) (λ later x. refl);
-      longer = omega arith;
-      short = omega arith;
     }
 
 pub emit_sequence-emit-requires : goal.emit_sequence-emit-requires
@@ -153,11 +174,13 @@ emit_sequence-loop-i-preserved t c =
     let next : c.loop-i.i - 1 + 1 ≡ c.loop-i.i = omega (arith, c.loop-i-test.true) in
     record {
       easy = λ all h. c.in_ok-entry.ensures.easy (easy_at _ _ _ all within c.index-parts-i.is) (c.loop-i.invariant.easy all h);
-      kept = keeps_on _ _ _ c.loop-i.invariant.kept c.in_ok-entry.ensures.kept;
+      grows = (
+        keeps_on _ _ _ c.loop-i.invariant.grows.0 c.in_ok-entry.ensures.grows.0,
+        omega (arith, c.loop-i.invariant.grows.1, c.in_ok-entry.ensures.grows.1),
+        omega (arith, sizes_from c.args.parts.now c.loop-i.i (c.loop-i.i - 1) c.index-parts-i.result next within c.index-parts-i.is, c.loop-i.invariant.grows.2, c.in_ok-entry.ensures.grows.2),
+      );
       means = sequence_emitted c.args.meaning (pattern_of c.index-parts-i.result) _ _ (parts_from c.args.parts.now c.loop-i.i (c.loop-i.i - 1) c.index-parts-i.result next within c.index-parts-i.is) _ (len_of c.loop-i.code) _ _ _
-          c.loop-i.entry _ c.loop-i.invariant.means c.in_ok-entry.ensures.kept c.loop-i.invariant.longer c.in_ok-entry.ensures.means;
-      longer = omega (arith, c.loop-i.invariant.longer, c.in_ok-entry.ensures.longer);
-      short = omega (arith, sizes_from c.args.parts.now c.loop-i.i (c.loop-i.i - 1) c.index-parts-i.result next within c.index-parts-i.is, c.loop-i.invariant.short, c.in_ok-entry.ensures.short);
+          c.loop-i.entry _ c.loop-i.invariant.means c.in_ok-entry.ensures.grows.0 c.loop-i.invariant.grows.1 c.in_ok-entry.ensures.means;
     }
 
 pub emit_star-returns-clause-easy : goal.emit_star-returns-clause-easy
@@ -165,53 +188,56 @@ emit_star-returns-clause-easy t c = λ easy h.
     c.in_ok-still.ensures.easy (ap is_easy_instr (c.split-2.ensures.instr _) ∙ easy_split c.args.greedy _ _)
     (easy_written (emitted c.emit.new.code) _ _ _ (c.write.ensures.items ∙ ap (slice_set (emitted c.emit.new.code) c.in_ok-moved.moved) (c.split.ensures.instr _)) (easy_split c.args.greedy _ _) (c.in_ok-turn.ensures.easy easy (c.in_ok-moved.ensures.easy refl h)))
 
-pub emit_star-returns-clause-kept : goal.emit_star-returns-clause-kept
-emit_star-returns-clause-kept t c =
-    star_kept (emitted c.args.code.now) (emitted c.put.new.self) (emitted c.emit.new.code) (emitted c.write.new.self) (emitted c.put-2.new.self) c.in_ok-moved.moved _
-    c.in_ok-moved.ensures.kept c.in_ok-turn.ensures.kept c.write.ensures.items (omega (arith, c.in_ok-moved.ensures.at)) c.in_ok-still.ensures.kept
+pub emit_star-returns-clause-grows : goal.emit_star-returns-clause-grows
+emit_star-returns-clause-grows t c = (
+  star_kept (emitted c.args.code.now) (emitted c.put.new.self) (emitted c.emit.new.code) (emitted c.write.new.self) (emitted c.put-2.new.self) c.in_ok-moved.moved _
+      c.in_ok-moved.ensures.kept c.in_ok-turn.ensures.grows.0 c.write.ensures.items (omega (arith, c.in_ok-moved.ensures.at)) c.in_ok-still.ensures.kept,
+  search rules,
+  search rules,
+)
 
 pub emit_star-returns-clause-means : goal.emit_star-returns-clause-means
 emit_star-returns-clause-means t c =
     star_emitted c.args.meaning c.args.greedy (pattern_of c.args.body.now) (len_of c.args.code.now) (len_of c.put.new.self) c.in_ok-moved.moved c.in_ok-still.still (emitted c.emit.new.code) (emitted c.write.new.self) (emitted c.put-2.new.self)
     c.args.next c.in_ok-turn.turn (omega (arith, c.in_ok-moved.ensures.at, c.in_ok-moved.ensures.length)) c.in_ok-turn.ensures.means
-    (c.write.ensures.items ∙ ap (slice_set (emitted c.emit.new.code) c.in_ok-moved.moved) (c.split.ensures.instr _)) (omega (arith, c.in_ok-moved.ensures.at, c.in_ok-moved.ensures.length, c.in_ok-turn.ensures.longer))
+    (c.write.ensures.items ∙ ap (slice_set (emitted c.emit.new.code) c.in_ok-moved.moved) (c.split.ensures.instr _)) (omega (arith, c.in_ok-moved.ensures.at, c.in_ok-moved.ensures.length, c.in_ok-turn.ensures.grows.1))
     c.in_ok-still.ensures.kept (c.in_ok-still.ensures.stands ∙ ap Some (c.split-2.ensures.instr _))
     (omega (arith, c.in_ok-moved.ensures.at))
-    (omega (arith, c.in_ok-moved.ensures.length, c.in_ok-turn.ensures.longer, c.write.ensures.length, c.in_ok-still.ensures.at))
+    (omega (arith, c.in_ok-moved.ensures.length, c.in_ok-turn.ensures.grows.1, c.write.ensures.length, c.in_ok-still.ensures.at))
 
 pub emit_atomic-returns-clause-means : goal.emit_atomic-returns-clause-means
 emit_atomic-returns-clause-means t c =
     atomic_by (λ (later : List Instruction). Means c.args.meaning (pattern_of c.args.body.now) later) (len_of c.args.code.now) (len_of c.put_both.new.self) (emitted c.put_both.new.self) (emitted c.emit.new.code) (emitted c.put_both-2.new.self)
     c.args.next c.in_ok-close.close c.in_ok-inner.inner c.in_ok-entry.entry
-    c.in_ok-close.ensures.stands c.in_ok-inner.ensures.kept (omega (arith, c.in_ok-close.ensures.moved_at)) (omega (arith, c.in_ok-close.ensures.still_at))
+    c.in_ok-close.ensures.stands c.in_ok-inner.ensures.grows.0 (omega (arith, c.in_ok-close.ensures.moved_at)) (omega (arith, c.in_ok-close.ensures.still_at))
     c.in_ok-inner.ensures.means (omega (arith, c.in_ok-close.ensures.length)) c.in_ok-entry.ensures.kept c.in_ok-entry.ensures.stands
-    (omega (arith, c.in_ok-close.ensures.length, c.in_ok-inner.ensures.longer, c.in_ok-entry.ensures.moved_at))
-    (omega (arith, c.in_ok-close.ensures.length, c.in_ok-inner.ensures.longer, c.in_ok-entry.ensures.still_at))
+    (omega (arith, c.in_ok-close.ensures.length, c.in_ok-inner.ensures.grows.1, c.in_ok-entry.ensures.moved_at))
+    (omega (arith, c.in_ok-close.ensures.length, c.in_ok-inner.ensures.grows.1, c.in_ok-entry.ensures.still_at))
 
 pub emit_possessive-returns-clause-means : goal.emit_possessive-returns-clause-means
 emit_possessive-returns-clause-means t c =
     atomic_by (λ (later : List Instruction). RepeatBy (Means c.args.meaning (pattern_of c.args.body.now) later) true later c.args.low c.args.high) (len_of c.args.code.now) (len_of c.put_both.new.self) (emitted c.put_both.new.self) (emitted c.emit_repeat.new.code) (emitted c.put_both-2.new.self)
     c.args.next c.in_ok-close.close c.in_ok-inner.inner c.in_ok-entry.entry
-    c.in_ok-close.ensures.stands c.in_ok-inner.ensures.kept (omega (arith, c.in_ok-close.ensures.moved_at)) (omega (arith, c.in_ok-close.ensures.still_at))
+    c.in_ok-close.ensures.stands c.in_ok-inner.ensures.grows.0 (omega (arith, c.in_ok-close.ensures.moved_at)) (omega (arith, c.in_ok-close.ensures.still_at))
     c.in_ok-inner.ensures.means (omega (arith, c.in_ok-close.ensures.length)) c.in_ok-entry.ensures.kept c.in_ok-entry.ensures.stands
-    (omega (arith, c.in_ok-close.ensures.length, c.in_ok-inner.ensures.longer, c.in_ok-entry.ensures.moved_at))
-    (omega (arith, c.in_ok-close.ensures.length, c.in_ok-inner.ensures.longer, c.in_ok-entry.ensures.still_at))
+    (omega (arith, c.in_ok-close.ensures.length, c.in_ok-inner.ensures.grows.1, c.in_ok-entry.ensures.moved_at))
+    (omega (arith, c.in_ok-close.ensures.length, c.in_ok-inner.ensures.grows.1, c.in_ok-entry.ensures.still_at))
 
 pub emit_ahead-returns-clause-means : goal.emit_ahead-returns-clause-means
 emit_ahead-returns-clause-means t c =
     ahead_emitted c.args.meaning c.args.negated (pattern_of c.args.body.now) (len_of c.args.code.now) (emitted c.emit.new.code) (emitted c.put_both.new.self) c.args.next c.in_ok-inner.inner c.in_ok-entry.entry
     c.in_ok-inner.ensures.means c.in_ok-entry.ensures.kept (c.in_ok-entry.ensures.stands.0 ∙ ap Some (c.look.ensures.instr _), c.in_ok-entry.ensures.stands.1 ∙ ap Some (c.look-2.ensures.instr _))
-    (omega (arith, c.in_ok-inner.ensures.longer, c.in_ok-entry.ensures.moved_at))
-    (omega (arith, c.in_ok-inner.ensures.longer, c.in_ok-entry.ensures.still_at))
+    (omega (arith, c.in_ok-inner.ensures.grows.1, c.in_ok-entry.ensures.moved_at))
+    (omega (arith, c.in_ok-inner.ensures.grows.1, c.in_ok-entry.ensures.still_at))
 
 pub emit_condition-returns-clause-means : goal.emit_condition-returns-clause-means
 emit_condition-returns-clause-means t c =
     test_emitted c.args.meaning (pattern_of c.args.condition.now) (len_of c.args.code.now) (len_of c.put_both.new.self) (emitted c.put_both.new.self) (emitted c.emit.new.code) (emitted c.put_both-2.new.self)
     c.args.one c.args.two c.in_ok-close.close c.in_ok-inner.inner c.in_ok-entry.entry
-    c.in_ok-close.ensures.stands c.in_ok-inner.ensures.kept (omega (arith, c.in_ok-close.ensures.moved_at)) (omega (arith, c.in_ok-close.ensures.still_at))
+    c.in_ok-close.ensures.stands c.in_ok-inner.ensures.grows.0 (omega (arith, c.in_ok-close.ensures.moved_at)) (omega (arith, c.in_ok-close.ensures.still_at))
     c.in_ok-inner.ensures.means (omega (arith, c.in_ok-close.ensures.length)) c.in_ok-entry.ensures.kept c.in_ok-entry.ensures.stands
-    (omega (arith, c.in_ok-close.ensures.length, c.in_ok-inner.ensures.longer, c.in_ok-entry.ensures.moved_at))
-    (omega (arith, c.in_ok-close.ensures.length, c.in_ok-inner.ensures.longer, c.in_ok-entry.ensures.still_at))
+    (omega (arith, c.in_ok-close.ensures.length, c.in_ok-inner.ensures.grows.1, c.in_ok-entry.ensures.moved_at))
+    (omega (arith, c.in_ok-close.ensures.length, c.in_ok-inner.ensures.grows.1, c.in_ok-entry.ensures.still_at))
 
 pub emit-emit-requires-in-Conditional : goal.emit-emit-requires-in-Conditional
 emit-emit-requires-in-Conditional t c =
@@ -224,17 +250,19 @@ pub emit_behind-returns-clause-means : goal.emit_behind-returns-clause-means
 emit_behind-returns-clause-means t c =
     behind_emitted c.args.meaning c.args.negated (pattern_of c.args.body.now) (len_of c.args.code.now) (emitted c.emit_backward.new.code) (emitted c.put_both.new.self) c.args.next c.in_ok-start.start c.in_ok-entry.entry
     c.in_ok-start.ensures.means c.in_ok-entry.ensures.kept (c.in_ok-entry.ensures.stands.0 ∙ ap Some (c.look.ensures.instr _), c.in_ok-entry.ensures.stands.1 ∙ ap Some (c.look-2.ensures.instr _))
-    (omega (arith, c.in_ok-start.ensures.longer, c.in_ok-entry.ensures.moved_at))
-    (omega (arith, c.in_ok-start.ensures.longer, c.in_ok-entry.ensures.still_at))
+    (omega (arith, c.in_ok-start.ensures.grows.1, c.in_ok-entry.ensures.moved_at))
+    (omega (arith, c.in_ok-start.ensures.grows.1, c.in_ok-entry.ensures.still_at))
 
 pub emit_backward_choice-loop-i-init : goal.emit_backward_choice-loop-i-init
 emit_backward_choice-loop-i-init t c =
     let only = ap in_choice (last_part c.args.branches.now c.index-branches-last.result c.requires.some c.index-branches-last.is) in
     record {
-      kept = c.in_ok-start.ensures.kept;
+      grows = (
+        c.in_ok-start.ensures.grows.0,
+        c.in_ok-start.ensures.grows.1,
+        omega (arith, last_size _ _ only, c.in_ok-start.ensures.grows.2),
+      );
       means = last_behind c.args.meaning (pattern_of c.index-branches-last.result) _ only (len_of c.args.code.now) (emitted c.emit_back.new.code) c.in_ok-start.start c.in_ok-start.ensures.means;
-      longer = c.in_ok-start.ensures.longer;
-      short = omega (arith, last_size _ _ only, c.in_ok-start.ensures.short);
       within = omega (arith, c.requires.some);
     }
 
@@ -242,12 +270,14 @@ pub emit_backward_choice-loop-i-preserved : goal.emit_backward_choice-loop-i-pre
 emit_backward_choice-loop-i-preserved t c =
     let same = branches_from c.args.branches.now c.loop-i.i (c.loop-i.i - 1) c.index-branches-i.result (omega (arith, c.loop-i-test.true)) c.loop-i.invariant.within c.index-branches-i.is in
     record {
-      kept = keeps_on _ _ _ c.loop-i.invariant.kept (keeps_on _ _ _ c.in_ok-first.ensures.kept c.in_ok-start-2.ensures.kept);
-      means = behind_choice_emitted c.args.meaning _ _ _ same _ (len_of c.loop-i.code) _ _ _ _ c.loop-i.start c.in_ok-start-2.start c.loop-i.invariant.means c.in_ok-first.ensures.kept
-          c.loop-i.invariant.longer c.in_ok-first.ensures.means c.in_ok-start-2.ensures.kept c.in_ok-start-2.ensures.stands
-          (omega (arith, c.loop-i.invariant.longer, c.in_ok-first.ensures.longer, c.in_ok-start-2.ensures.at));
-      longer = omega (arith, c.loop-i.invariant.longer, c.in_ok-first.ensures.longer, c.in_ok-start-2.ensures.length);
-      short = omega (arith, branch_sizes _ _ _ same, c.loop-i.invariant.short, c.in_ok-first.ensures.short, c.in_ok-start-2.ensures.length);
+      grows = (
+        keeps_on _ _ _ c.loop-i.invariant.grows.0 (keeps_on _ _ _ c.in_ok-first.ensures.grows.0 c.in_ok-start-2.ensures.kept),
+        omega (arith, c.loop-i.invariant.grows.1, c.in_ok-first.ensures.grows.1, c.in_ok-start-2.ensures.length),
+        omega (arith, branch_sizes _ _ _ same, c.loop-i.invariant.grows.2, c.in_ok-first.ensures.grows.2, c.in_ok-start-2.ensures.length),
+      );
+      means = behind_choice_emitted c.args.meaning _ _ _ same _ (len_of c.loop-i.code) _ _ _ _ c.loop-i.start c.in_ok-start-2.start c.loop-i.invariant.means c.in_ok-first.ensures.grows.0
+          c.loop-i.invariant.grows.1 c.in_ok-first.ensures.means c.in_ok-start-2.ensures.kept c.in_ok-start-2.ensures.stands
+          (omega (arith, c.loop-i.invariant.grows.1, c.in_ok-first.ensures.grows.1, c.in_ok-start-2.ensures.at));
       within = omega (arith, c.loop-i.invariant.within);
     }
 
@@ -273,7 +303,7 @@ emit_back-returns-in_ok-start-in-Some-clause-means t c =
     back_emitted c.args.meaning (pattern_of c.args.branch.now) c.in-Some.size (exact_size c.args.meaning (pattern_of c.args.branch.now) (Some c.in-Some.size) c.in-Some.ensures c.requires.small)
     (len_of c.args.code.now) (emitted c.emit.new.code) (emitted c.put.new.self) c.in_ok-inner-in-Some.inner c.in_ok-start-in-Some.start
     c.in_ok-inner-in-Some.ensures.means c.in_ok-start-in-Some.ensures.kept c.in_ok-start-in-Some.ensures.stands
-    (omega (arith, c.in_ok-inner-in-Some.ensures.longer, c.in_ok-start-in-Some.ensures.at))
+    (omega (arith, c.in_ok-inner-in-Some.ensures.grows.1, c.in_ok-start-in-Some.ensures.at))
 
 pub emit_backward-emit_backward_choice-requires : goal.emit_backward-emit_backward_choice-requires
 emit_backward-emit_backward_choice-requires t c = (
@@ -301,25 +331,35 @@ emit_backward-returns-in_ok-start-in_default-as_slice-clause-means t c =
     (λ e. omega (arith, e, c.in_default-as_slice.len_at_least))
     (len_of c.args.code.now) _ c.in_ok-start-in_default-as_slice.start c.in_ok-start-in_default-as_slice.ensures.means
 
-pub emit_ahead-returns-clause-kept : goal.emit_ahead-returns-clause-kept
-emit_ahead-returns-clause-kept t c = keeps_on _ _ _ c.in_ok-inner.ensures.kept c.in_ok-entry.ensures.kept
+pub emit_ahead-returns-clause-grows : goal.emit_ahead-returns-clause-grows
+emit_ahead-returns-clause-grows t c = (keeps_on _ _ _ c.in_ok-inner.ensures.grows.0 c.in_ok-entry.ensures.kept, search rules, search rules)
 
-pub emit_behind-returns-clause-kept : goal.emit_behind-returns-clause-kept
-emit_behind-returns-clause-kept t c = keeps_on _ _ _ c.in_ok-start.ensures.kept c.in_ok-entry.ensures.kept
+pub emit_behind-returns-clause-grows : goal.emit_behind-returns-clause-grows
+emit_behind-returns-clause-grows t c = (keeps_on _ _ _ c.in_ok-start.ensures.grows.0 c.in_ok-entry.ensures.kept, search rules, search rules)
 
-pub emit_condition-returns-clause-kept : goal.emit_condition-returns-clause-kept
-emit_condition-returns-clause-kept t c = keeps_on _ _ _ c.in_ok-close.ensures.kept (keeps_on _ _ _ c.in_ok-inner.ensures.kept c.in_ok-entry.ensures.kept)
+pub emit_condition-returns-clause-grows : goal.emit_condition-returns-clause-grows
+emit_condition-returns-clause-grows t c = (keeps_on _ _ _ c.in_ok-close.ensures.kept (keeps_on _ _ _ c.in_ok-inner.ensures.grows.0 c.in_ok-entry.ensures.kept), search rules, search rules)
 
-pub emit_group-returns-clause-kept : goal.emit_group-returns-clause-kept
-emit_group-returns-clause-kept t c = keeps_on _ _ _ c.in_ok-close.ensures.kept (keeps_on _ _ _ c.in_ok-inner.ensures.kept c.in_ok-entry.ensures.kept)
+pub emit_group-returns-clause-grows : goal.emit_group-returns-clause-grows
+emit_group-returns-clause-grows t c = (keeps_on _ _ _ c.in_ok-close.ensures.kept (keeps_on _ _ _ c.in_ok-inner.ensures.grows.0 c.in_ok-entry.ensures.kept), search rules, search rules)
 
-pub emit_possessive-returns-clause-kept : goal.emit_possessive-returns-clause-kept
-emit_possessive-returns-clause-kept t c = keeps_on _ _ _ c.in_ok-close.ensures.kept (keeps_on _ _ _ c.in_ok-inner.ensures.kept c.in_ok-entry.ensures.kept)
+pub emit_possessive-returns-clause-grows : goal.emit_possessive-returns-clause-grows
+emit_possessive-returns-clause-grows t c = (keeps_on _ _ _ c.in_ok-close.ensures.kept (keeps_on _ _ _ c.in_ok-inner.ensures.grows.0 c.in_ok-entry.ensures.kept), search rules, search rules)
 
-pub emit-returns-in_ok-entry-in-Conditional-clause-kept : goal.emit-returns-in_ok-entry-in-Conditional-clause-kept
-emit-returns-in_ok-entry-in-Conditional-clause-kept t c =
-    keeps_on (emitted c.args.code.now) (emitted c.emit.new.code) (emitted c.emit_condition.new.code) c.in_ok-one-in-Conditional.ensures.kept
-    (keeps_on (emitted c.emit.new.code) (emitted c.emit-in-Conditional.new.code) (emitted c.emit_condition.new.code) c.in_ok-two-in-Conditional.ensures.kept c.in_ok-entry-in-Conditional.ensures.kept)
+pub emit-returns-in_ok-entry-in-Conditional-clause-grows : goal.emit-returns-in_ok-entry-in-Conditional-clause-grows
+emit-returns-in_ok-entry-in-Conditional-clause-grows t c =
+    let is = ap pattern_of c.in-Conditional.is ∙ pattern-Conditional c.in-Conditional.condition c.in-Conditional.on_match c.in-Conditional.otherwise in (
+      keeps_on (emitted c.args.code.now) (emitted c.emit.new.code) (emitted c.emit_condition.new.code) c.in_ok-one-in-Conditional.ensures.grows.0
+          (keeps_on (emitted c.emit.new.code) (emitted c.emit-in-Conditional.new.code) (emitted c.emit_condition.new.code) c.in_ok-two-in-Conditional.ensures.grows.0 c.in_ok-entry-in-Conditional.ensures.grows.0),
+      search rules,
+      omega (
+        arith,
+        nodes-conditional _ _ _ _ is,
+        rw c.deref-in-Conditional-3.ensures at c.in_ok-one-in-Conditional.ensures.grows.2,
+        rw c.deref-in-Conditional-4.ensures at c.in_ok-two-in-Conditional.ensures.grows.2,
+        rw c.deref-in-Conditional-5.ensures at c.in_ok-entry-in-Conditional.ensures.grows.2,
+      ),
+    )
 
 pub emit-returns-in_ok-entry-in-Conditional-clause-means : goal.emit-returns-in_ok-entry-in-Conditional-clause-means
 emit-returns-in_ok-entry-in-Conditional-clause-means t c =
@@ -328,19 +368,19 @@ emit-returns-in_ok-entry-in-Conditional-clause-means t c =
     (sym (rw (c.deref-in-Conditional.ensures, c.deref-in-Conditional-2.ensures) at c.if-are_empty.ensures))
     (len_of c.args.code.now) (len_of c.emit.new.code) (len_of c.emit-in-Conditional.new.code) (emitted c.emit.new.code) (emitted c.emit-in-Conditional.new.code) (emitted c.emit_condition.new.code)
     c.args.next c.in_ok-one-in-Conditional.one c.in_ok-two-in-Conditional.two c.in_ok-entry-in-Conditional.entry
-    (rw c.deref-in-Conditional-3.ensures at c.in_ok-one-in-Conditional.ensures.means) c.in_ok-two-in-Conditional.ensures.kept c.in_ok-one-in-Conditional.ensures.longer
-    (rw c.deref-in-Conditional-4.ensures at c.in_ok-two-in-Conditional.ensures.means) c.in_ok-entry-in-Conditional.ensures.kept
-    (omega (arith, c.in_ok-one-in-Conditional.ensures.longer, c.in_ok-two-in-Conditional.ensures.longer))
+    (rw c.deref-in-Conditional-3.ensures at c.in_ok-one-in-Conditional.ensures.means) c.in_ok-two-in-Conditional.ensures.grows.0 c.in_ok-one-in-Conditional.ensures.grows.1
+    (rw c.deref-in-Conditional-4.ensures at c.in_ok-two-in-Conditional.ensures.means) c.in_ok-entry-in-Conditional.ensures.grows.0
+    (omega (arith, c.in_ok-one-in-Conditional.ensures.grows.1, c.in_ok-two-in-Conditional.ensures.grows.1))
     (rw c.deref-in-Conditional-5.ensures at c.in_ok-entry-in-Conditional.ensures.means)
 
 pub emit-returns-in-Concat-clause-easy : goal.emit-returns-in-Concat-clause-easy
 emit-returns-in-Concat-clause-easy t c =
     IfOk-weaker c.emit_sequence.result _ _ (λ _ stays easy. stays (rw c.deref-in-Concat.ensures.value (easy_parts _ _ c.in-Concat.is easy))) c.emit_sequence.ensures.easy
 
-pub emit-returns-in-Concat-clause-short : goal.emit-returns-in-Concat-clause-short
-emit-returns-in-Concat-clause-short t c =
+pub emit-returns-in-Concat-clause-grows : goal.emit-returns-in-Concat-clause-grows
+emit-returns-in-Concat-clause-grows t c =
     rw (c.in-Concat.is, pattern-Concat)
-    (IfOk-weaker c.emit_sequence.result _ _ (λ _ short. omega (arith, nodes-in_sequence (map pattern_of c.in-Concat.parts.items), short)) (rw c.deref-in-Concat.ensures.value at c.emit_sequence.ensures.short))
+    (IfOk-weaker c.emit_sequence.result _ _ (λ _ grows. (grows.0, grows.1, omega (arith, nodes-in_sequence (map pattern_of c.in-Concat.parts.items), grows.2))) (rw c.deref-in-Concat.ensures.value at c.emit_sequence.ensures.grows))
 
 pub emit-returns-in-Alternation-clause-easy : goal.emit-returns-in-Alternation-clause-easy
 emit-returns-in-Alternation-clause-easy t c =

@@ -69,4 +69,4 @@ collect-returns-in-Assert-clause-told t c =
 
 pub collect_item-returns-clause-told : goal.collect_item-returns-clause-told
 collect_item-returns-clause-told t c =
-    subst (λ (e : Bool). Foretold (instrs_of c.args.code.now) c.args.code.now.meaning c.collect.new.sets.items (c.args.spot.from + 1) e c.args.next) c.stays_exact-exact.ensures c.collect.ensures.told
+    subst (λ (e : Bool). Foretold (instrs_of c.args.code.now) c.args.code.now.meaning c.collect.new.sets.items (c.args.spot.from + 1) e c.args.spot.at) c.stays_exact-exact.ensures c.collect.ensures.told
