@@ -68,13 +68,15 @@ fn same_row(rows: &[u16; 16], high: usize) -> Option<usize>
     None
 }
 
-/// The table for high halves: one bit for all that have the same row, and for others the next of the eight bits in turn.
+/// The table for high halves: one bit for all that have the same row, and for others the next of the eight bits in turn. A row
+/// without members has none.
 fn high_table(rows: &[u16; 16]) -> [u8; 16] {
     let mut table = [0u8; 16];
     let mut bit = 1u8;
     for high in 0..16usize {
         table[high] = match same_row(rows, high) {
             Some(before) => table[before],
+            None if rows[high] == 0 => 0,
             None => {
                 bit = bit.rotate_left(1);
                 bit
