@@ -90,15 +90,17 @@ impl Scan {
         ensures { MatchOption result (NoneSeenBefore self.now haystack.now from to)
             (IsNextSeen self.now haystack.now from to) }
     {
-        if from < to && self.set.contains(haystack[from]) {
+        if from == to {
+            return None;
+        }
+        if self.set.contains(haystack[from]) {
             return Some(from);
         }
-        self.seen_ahead(haystack, from, to)
+        self.seen_ahead(haystack, from + 1, to)
     }
 
-    /// What [`Scan::next_seen`] answers, by a scan. It is a call of its own, and the test of the first byte is none, since most
-    /// searches of a list begin where a byte of the set stands.
-    #[inline(never)]
+    /// The same by a scan. Many searches of a list end at its first place, where the tables are not asked.
+    #[inline]
     fn seen_ahead(&self, haystack: &[u8], from: usize, to: usize) -> Option<usize>
         requires ordered { from ≤ to }
         requires within { to ≤ length haystack.now }
@@ -106,6 +108,7 @@ impl Scan {
             (IsNextSeen self.now haystack.now from to) }
     {
         match self.only {
+            None if from < to && self.set.contains(haystack[from]) => Some(from),
             None => self.seen_by_tables(haystack, from, to),
             Some(byte) => match memchr(byte, &haystack[from..to]) {
                 None => None,
@@ -123,7 +126,9 @@ impl Scan {
         self.tables.marks(haystack, place)
     }
 
-    /// The same by the tables, 32 places at a time, and where fewer are left one at a time.
+    /// The same by the tables, 32 places at a time, and where fewer are left one at a time. It is a call of its own, and the tests of
+    /// single bytes before it are none, since most searches of a list need no more.
+    #[inline(never)]
     fn seen_by_tables(&self, haystack: &[u8], from: usize, to: usize) -> Option<usize>
         requires ordered { from ≤ to }
         requires within { to ≤ length haystack.now }
