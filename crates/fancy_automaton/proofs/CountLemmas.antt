@@ -37,3 +37,9 @@ pub counts_up : (c : ℕ) {before after : Work} (first place next : ℕ) → pla
 counts_up c first place next le a =
     let up : c * (place - first) ≤ c * (next - first) = mul-le-mul_left c (omega (arith, le)) in
     record { steps = a.steps; bounded = omega (arith, up, a.bounded); returns = a.returns; units = a.units }
+
+-- so do places before the first one
+pub counts_from : (c : ℕ) {before after : Work} (first place next : ℕ) → first ≤ place → AddsSteps (c * (next - place)) before after → AddsSteps (c * (next - first)) before after
+counts_from c first place next le a =
+    let up : c * (next - place) ≤ c * (next - first) = mul-le-mul_left c (omega (arith, le)) in
+    record { steps = a.steps; bounded = omega (arith, up, a.bounded); returns = a.returns; units = a.units }

@@ -26,7 +26,8 @@ use Rattle.fancy_automaton.specs.declared.origin.Origin.{Origin}
 use Rattle.fancy_automaton.specs.declared.origin.Origin.TheVariants.{Earlier, Last, Mixed}
 use Rattle.fancy_automaton.specs.declared.transitions.Transition.{Transition}
 use Rattle.fancy_automaton.specs.declared.way.Way.{Way}
-use Rattle.fancy_automaton.specs.Cells.{HasRow, IsCell, IsIdle, ways_at, row_if}
+use Rattle.fancy_alphabet.specs.declared.classes.Classes.{Classes}
+use Rattle.fancy_automaton.specs.Cells.{HasRow, HasRows, IsCell, IsIdle, KeepsHolding, ways_at, row_if}
 use Rattle.fancy_automaton.specs.Front.{IsFront, Stands, front_at, found_of, starts_of, ways_of}
 use Rattle.fancy_automaton.specs.Origins.{ComeFrom}
 use Rattle.fancy_automaton.specs.Search.{Going, IsFollowed, begun_if, found_or}
@@ -351,6 +352,40 @@ idle_sole a cells at idle start empty same is =
     let none : ways ≡ [] = sym here.waits.2 ∙ empty v (ap (slice_get cells.rows.lists.items) (sym same) ∙ here.waits.1) in
     let nothing : is.1 ≡ [] = no_items is.1 (here.going.even ∙ ap length none) in
     (ways, subst (λ (ss : List ℕ). IsAt a cells at ways ss None) (nothing ∙ sym (ap (λ (ws : List ℕ). replicate (length ws) start) none)) here)
+
+-- no way waits at a place, and nothing was found
+pub idle_rows : (a : Attempt) (cells : Cells) (at : Stand) (idle : ℕ) → IsIdle cells.rows.lists.items idle → at.next ≡ idle → IsAmid a cells at
+    → HasRows cells.rows.lists.items at.next at.begun [] a.code.now.start × Going a [] [] None at.place at.place
+idle_rows a cells at idle empty same is =
+    let here = is.2 in
+    let rows = cells.rows.lists.items in
+    let none : is.0 ≡ [] = sym here.waits.2 ∙ empty here.waits.0 (ap (slice_get rows) (sym same) ∙ here.waits.1) in
+    let nothing : is.1 ≡ [] = no_items is.1 (here.going.even ∙ ap length none) in (
+      record {
+        waits = subst (HasRow rows at.next) none here.waits;
+        opens = subst (λ (ws : List ℕ). HasRow rows at.begun (ws ++ a.code.now.start ∷ [])) none here.opens;
+      },
+      going_same a _ _ _ _ None None at.place at.place at.place none nothing refl refl here.going,
+    )
+
+-- what else is remembered does not matter
+pub sole_kept : (a : Attempt) (cells later : Cells) (s : Sole) → KeepsHolding cells later → later.rows.lists.items ≡ cells.rows.lists.items → later.table.classes ≡ cells.table.classes
+    → IsSole a cells s → IsSole a later s
+sole_kept a cells later s keeps rows classes is =
+    let at = is.1 in (
+      is.0,
+      record {
+        followed = at.followed;
+        kept = keeps.bounded at.kept;
+        all = keeps.stays a.code.now at.all;
+        waits = subst (λ (rs : List (Vec ℕ)). HasRow rs s.stand.next is.0) (sym rows) at.waits;
+        opens = subst (λ (rs : List (Vec ℕ)). HasRow rs s.stand.begun (is.0 ++ a.code.now.start ∷ [])) (sym rows) at.opens;
+        going = at.going;
+        begins = subst (λ (k : Classes). IsFirst (context_in a) s.stand.place k s.stand.first) (sym classes) at.begins;
+        good = at.good;
+        within = at.within;
+      },
+    )
 
 -- two cases are left
 pub is_one : (o : Origin) → (o ≡ Mixed → ⊥) → (o ≡ Earlier) ⊎ (o ≡ Last)

@@ -1,15 +1,21 @@
 //! The inner loops of a search, where all ways that wait began at one place: no trail is needed there.
 
-ghost use Rattle.std.specs.Prelude.{◌≡◌, ◌+◌, None, IfSome, is_some, true};
-ghost use Rattle.fancy_automaton.specs.Cells.{IsIdle};
+ghost use Rattle.std.specs.Prelude.{◌≡◌, ◌+◌, ◌<◌, ◌≤◌, [], ℕ, None, IfSome, is_some, length, true};
+ghost use Rattle.fancy_code.specs.Attempt.{may_end_in};
+ghost use Rattle.fancy_prefilter.specs.Seen.{MayStart};
+ghost use Rattle.fancy_automaton.specs.Cells.{HasRows, HoldsFor, IsIdle, ways_at};
+ghost use Rattle.fancy_automaton.specs.Search.{Going, IsFollowed, Passes};
 ghost use Rattle.fancy_automaton.specs.Sole.{IsAmid, IsSole, Reaches};
 
 use crate::cells::Cells;
-use crate::hop::{Stand, idle_row, stand_after};
+use crate::hop::{Stand, first_at, idle_row, stand_after};
 use crate::origin::Origin;
+use crate::rows::Target;
 use crate::trail::VISITS;
 use crate::transitions::Entry;
 use fancy_code::attempt::Attempt;
+use fancy_code::options::is_match_boundary;
+use fancy_prefilter::candidates::next_candidate;
 
 /// A search whose ways that wait all began at one place, and so did the match that was found, if one was.
 #[derive(Clone, Copy)]
@@ -20,6 +26,64 @@ pub struct Sole {
     pub start: usize,
     /// Where the match ends, a byte offset.
     pub end: Option<usize>,
+}
+
+impl Sole {
+    /// At a place where no way waits, and nothing was found.
+    pub(crate) fn new(attempt: &Attempt, cells: &Cells, rows: Target, place: usize) -> Sole
+        requires followed { IsFollowed attempt.now }
+        requires kept { HoldsFor cells.now attempt.now.code.now }
+        requires rows { HasRows cells.now.rows.lists.items rows.next rows.begun []
+            attempt.now.code.now.start }
+        requires going { Going attempt.now [] [] None place place }
+        requires good { may_end_in attempt.now place ≡ true }
+        requires within { place ≤ attempt.now.last }
+        ensures sole { IsSole attempt.now cells.now result }
+        ensures place { result.stand.place ≡ place }
+    {
+        Sole {
+            stand: Stand {
+                place,
+                first: first_at(attempt, cells, place),
+                next: rows.next,
+                begun: rows.begun,
+            },
+            start: place,
+            end: None,
+        }
+    }
+
+    /// Whether the search is over: a match was found, and no way waits.
+    pub(crate) fn is_over(self, cells: &Cells) -> bool
+        requires { self.stand.next < length cells.now.rows.lists.items }
+        ensures found { result ≡ true → is_some self.end ≡ true }
+        ensures over { result ≡ true → ways_at cells.now.rows.lists.items self.stand.next ≡ [] }
+    {
+        self.end.is_some() && cells.rows.lists[self.stand.next].len() == 0
+    }
+}
+
+/// The first place, from one on, at which a match may begin; past the last one where there is none.
+pub(crate) fn next_place(attempt: &Attempt, from: usize) -> usize
+    requires ordered { from ≤ attempt.now.last + 1 }
+    requires inside { attempt.now.last ≤ length attempt.now.haystack.now }
+    ensures forth { from ≤ result }
+    ensures ends { result ≤ attempt.now.last + 1 }
+    ensures passed { (k : ℕ) → from ≤ k → k < result → Passes attempt.now k }
+    ensures good { result ≤ attempt.now.last → may_end_in attempt.now result ≡ true }
+    ensures stands { result ≤ attempt.now.last → MayStart attempt.now.code.now.prefilter.starts
+        attempt.now.haystack.now attempt.now.last result }
+{
+    let last = attempt.last;
+    let mut place = from;
+    'places: while place <= last {
+        place = next_candidate(&attempt.code.prefilter, attempt.haystack, last, place, last);
+        if place > last || is_match_boundary(attempt.on_boundaries, attempt.haystack, place) {
+            return place;
+        }
+        place += 1;
+    }
+    place
 }
 
 /// Goes on until a match is found, or ways wait that began at several places. Where no way waits at two places in a row, it is
@@ -66,7 +130,8 @@ fn seek(attempt: &Attempt, cells: &Cells, from: Sole, idle: usize) -> Sole
 fn hunt(attempt: &Attempt, cells: &Cells, from: Stand, idle: usize) -> Option<Sole>
     requires idle { IsIdle cells.now.rows.lists.items idle }
     requires amid { IsAmid attempt.now cells.now from }
-    ensures { IfSome result (Reaches attempt.now cells.now (from.place + 1)) }
+    ensures reaches { IfSome result (Reaches attempt.now cells.now (from.place + 1)) }
+    ensures nothing { IfSome result (λ s. s.end ≡ None) }
 {
     let table = cells.table.view();
     let haystack = attempt.haystack;
@@ -93,7 +158,40 @@ fn hunt(attempt: &Attempt, cells: &Cells, from: Stand, idle: usize) -> Option<So
     None
 }
 
-/// The step at a place where a match is found, or past ways that began at several places.
+/// The next place at which a match may begin, if no way waits and nothing was found.
+fn skip(attempt: &Attempt, cells: &Cells, from: Sole, idle: usize) -> Option<Sole>
+    requires idle { IsIdle cells.now.rows.lists.items idle }
+    requires sole { IsSole attempt.now cells.now from }
+    requires nothing { from.end ≡ None }
+    ensures { IfSome result (Reaches attempt.now cells.now from.stand.place) }
+{
+    if from.stand.next != idle {
+        return Some(from);
+    }
+    let place = next_place(attempt, from.stand.place);
+    if place > attempt.last {
+        return None;
+    }
+    let rows = Target {
+        next: from.stand.next,
+        begun: from.stand.begun,
+    };
+    Some(Sole::new(attempt, cells, rows, place))
+}
+
+/// The next place at which all ways that wait began at one place again, or if none waits there, the one after it at which a match may
+/// begin.
+fn onward(attempt: &Attempt, cells: &Cells, from: Stand, idle: usize) -> Option<Sole>
+    requires idle { IsIdle cells.now.rows.lists.items idle }
+    requires amid { IsAmid attempt.now cells.now from }
+    ensures { IfSome result (Reaches attempt.now cells.now (from.place + 1)) }
+{
+    let sole = hunt(attempt, cells, from, idle)?;
+    let next = skip(attempt, cells, sole, idle)?;
+    Some(next)
+}
+
+/// The step at a place where a match is found, or on past ways that began at several places, and places where none waits.
 fn past(attempt: &Attempt, cells: &Cells, at: Sole, idle: usize) -> Option<Sole>
     requires idle { IsIdle cells.now.rows.lists.items idle }
     requires sole { IsSole attempt.now cells.now at }
@@ -107,10 +205,7 @@ fn past(attempt: &Attempt, cells: &Cells, at: Sole, idle: usize) -> Option<Sole>
     let column = table.column(attempt.haystack[at.stand.place])?;
     let step = match table.at(at.stand.begun, at.stand.first, column) {
         Entry::Unknown => return None,
-        Entry::Quiet(step) => match step.origin {
-            Origin::Mixed => return hunt(attempt, cells, at.stand, idle),
-            _ => return None,
-        },
+        Entry::Quiet(_) => return onward(attempt, cells, at.stand, idle),
         Entry::Matching(step) => step,
     };
     let start = match step.origin {

@@ -1,11 +1,10 @@
 //! How far a search has come, and the step to the next place.
 
 ghost use Rattle.std.specs.Prelude.{◌≡◌, ◌+◌, ◌<◌, ◌≤◌, ℕ, true, [], OnOk, IfOk, IfSome, is_some, length, option_map};
-ghost use Rattle.fancy_code.specs.Attempt.{context_in};
+ghost use Rattle.fancy_code.specs.Attempt.{context_in, may_end_in};
 ghost use Rattle.fancy_alphabet.specs.Classes.{IsFirst};
 ghost use Rattle.fancy_code.specs.CodeLength.{code_len};
 ghost use Rattle.fancy_code.specs.Reading.{unit_read};
-ghost use Rattle.fancy_prefilter.specs.Seen.{MayStart};
 ghost use Rattle.fancy_code.specs.declared.attempt.Attempt.{Attempt};
 ghost use Rattle.fancy_automaton.specs.Cells.{HasPlace, KeepsHolding, HasRows, HoldsFor};
 ghost use Rattle.fancy_automaton.specs.Trail.{HitIn, most_visits};
@@ -14,9 +13,9 @@ ghost use Rattle.fancy_automaton.specs.Sole.{IsSole};
 ghost use Rattle.fancy_alphabet.specs.Units.{place_after};
 ghost use Rattle.fancy_automaton.specs.Counts.{AddsSteps};
 
-use crate::cells::{Cells, is_told, origin, remembered, restart, seen_at, step_at};
-use crate::follow::{Sole, follow};
-use crate::hop::{Stand, run};
+use crate::cells::{Cells, is_told, remembered, restart, seen_at, step_at};
+use crate::follow::{Sole, follow, next_place};
+use crate::hop::{Stand, first_at, run};
 use crate::trail::{
     Hit, Trail, VISITS, Visit, hit_from, note_hit, row_at, settled, shared_start, span_of,
     start_at, starts_in,
@@ -28,7 +27,6 @@ use fancy_code::options::is_match_boundary;
 use fancy_code::reading::Reading;
 use fancy_input::span::Span;
 use fancy_input::work::Work;
-use fancy_prefilter::candidates::next_candidate;
 use std::alloc::AllocError;
 use std::mem;
 
@@ -48,25 +46,38 @@ pub struct Front {
 impl Front {
     ghost use Rattle.std.specs.Prelude.{None, false, ◌≢◌};
 
-    /// Before the first place: no way waits, and nothing was found.
-    pub fn new(code: &Code, cells: &mut Cells) -> Result<Front, AllocError>
-        requires kept { HoldsFor cells.old code.now }
-        ensures kept { HoldsFor cells.new code.now }
-        ensures rows { IfOk result (λ f.
-            HasRows cells.new.rows.lists.items f.next f.begun [] code.now.start) }
-        ensures base { IfOk result (λ f. f.trail.base.items ≡ []) }
-        ensures visits { IfOk result (λ f. f.trail.visits.items ≡ []) }
-        ensures hit { IfOk result (λ f. f.hit ≡ None) }
+    /// Where a walk without a trail ended.
+    pub fn new(cells: &mut Cells, from: Sole) -> Result<Front, AllocError>
+        requires { from.stand.next < length cells.old.rows.lists.items }
+        ensures kept { KeepsHolding cells.old cells.new }
+        ensures front { IfOk result (λ f. (a : Attempt) → IsSole a cells.old from
+            → IsFront a cells.new f from.stand.place from.stand.place) }
     {
-        let origin = origin(code, cells)?;
-        let mut trail = mem::replace(&mut cells.spare, Trail::new(cells.alloc));
-        trail.clear();
-        Ok(Front {
-            next: origin.next,
-            begun: origin.begun,
+        let trail = mem::replace(&mut cells.spare, Trail::new(cells.alloc));
+        let mut front = Front {
+            next: from.stand.next,
+            begun: from.stand.begun,
             trail,
             hit: None,
-        })
+        };
+        front.rest(cells, from)?;
+        Ok(front)
+    }
+
+    /// Goes on from where a walk without a trail ended.
+    fn rest(&mut self, cells: &Cells, from: Sole) -> Result<(), AllocError>
+        requires { from.stand.next < length cells.now.rows.lists.items }
+        ensures visits { self.new.trail.visits.items ≡ [] }
+        ensures front { OnOk result ((a : Attempt) → IsSole a cells.now from
+            → IsFront a cells.now self.new from.stand.place from.stand.place) }
+    {
+        let waiting = cells.rows.lists[from.stand.next].len();
+        self.trail.clear();
+        self.trail.base.resize(waiting, from.start)?;
+        self.next = from.stand.next;
+        self.begun = from.stand.begun;
+        self.hit = hit_from(from.start, from.end);
+        Ok(())
     }
 
     /// Whether some way waits.
@@ -269,10 +280,9 @@ impl Front {
         ensures next { result.next ≡ self.now.next }
         ensures begun { result.begun ≡ self.now.begun }
     {
-        let classes = &cells.table.classes;
         Stand {
             place,
-            first: classes.first(classes.tests.before(attempt, place)),
+            first: first_at(attempt, cells, place),
             next: self.next,
             begun: self.begun,
         }
@@ -311,12 +321,7 @@ impl Front {
             return Ok(place);
         };
         let to = follow(attempt, cells, sole);
-        let waiting = cells.rows.lists[to.stand.next].len();
-        self.trail.clear();
-        self.trail.base.resize(waiting, to.start)?;
-        self.next = to.stand.next;
-        self.begun = to.stand.begun;
-        self.hit = hit_from(to.start, to.end);
+        self.rest(cells, to)?;
         Ok(to.stand.place)
     }
 
@@ -358,17 +363,13 @@ impl Front {
         place: usize,
         work: &mut Work,
     ) -> Result<usize, AllocError>
-        requires within { place ≤ attempt.now.last }
-        requires front { IsFront attempt.now cells.old self.old place place }
+        requires stands { Stands attempt.now cells.old self.old place }
         ensures front { IfOk result (λ next. IsFront attempt.now cells.new self.new next next) }
         ensures forth { IfOk result (λ next. place < next) }
         ensures ends { IfOk result (λ next. next ≤ attempt.now.last + 1) }
         ensures kept { HoldsFor cells.new attempt.now.code.now }
         ensures counts { AddsSteps (code_len attempt.now.code.now) work.old work.new }
     {
-        if !is_match_boundary(attempt.on_boundaries, attempt.haystack, place) {
-            return Ok(place + 1);
-        }
         let hopped = self.hop(attempt, cells, place)?;
         if hopped > place {
             return Ok(hopped);
@@ -385,50 +386,36 @@ impl Front {
     /// it is remembered on all that is read between matches, other rows need not follow that way again.
     fn learns(&self, attempt: &Attempt, cells: &Cells, place: usize) -> bool
         requires { IsFront attempt.now cells.now self.now place place }
+        ensures good { result ≡ true → may_end_in attempt.now place ≡ true }
+        ensures within { result ≡ true → place ≤ attempt.now.last }
     {
-        if self.hit.is_some() {
+        let Some(byte) = ascii_at(attempt, place) else {
+            return false;
+        };
+        if !is_match_boundary(attempt.on_boundaries, attempt.haystack, place) {
             return false;
         }
-        if self.has_waiting(cells) {
-            return false;
-        }
-        match ascii_at(attempt, place) {
-            None => false,
-            Some(byte) => {
-                let before = cells.table.classes.tests.before(attempt, place);
-                !is_told(cells, self.begun, before, byte)
-            }
-        }
+        let before = cells.table.classes.tests.before(attempt, place);
+        !is_told(cells, self.begun, before, byte)
     }
 
     /// The next place that is to be passed, from one on: where no way waits, one where a match may start by its first byte, or
-    /// past the last place where none may. Once a place was `tried`, one is passed too at which the step of the way that begins is
-    /// not remembered.
-    pub fn seek(&self, attempt: &Attempt, cells: &Cells, place: usize, tried: bool) -> usize
+    /// past the last place where none may. One is passed too at which the step of the way that begins is not remembered.
+    pub fn seek(&self, attempt: &Attempt, cells: &Cells, place: usize) -> usize
         requires within { place ≤ attempt.now.last + 1 }
         requires front { IsFront attempt.now cells.now self.now place place }
         ensures front { IsFront attempt.now cells.now self.now result result }
-        ensures stands { tried ≡ false → ways_of cells.now self.now ≡ []
-            → result ≤ attempt.now.last → MayStart attempt.now.code.now.prefilter.starts
-            attempt.now.haystack.now attempt.now.last result }
+        ensures good { result ≤ attempt.now.last → may_end_in attempt.now result ≡ true }
         ensures forth { place ≤ result }
         ensures ends { result ≤ attempt.now.last + 1 }
     {
-        if tried {
-            if self.learns(attempt, cells, place) {
-                return place;
-            }
+        if self.has_waiting(cells) {
+            return place;
         }
-        if !self.has_waiting(cells) {
-            return next_candidate(
-                &attempt.code.prefilter,
-                attempt.haystack,
-                attempt.last,
-                place,
-                attempt.last,
-            );
+        if self.learns(attempt, cells, place) {
+            return place;
         }
-        place
+        next_place(attempt, place)
     }
 }
 

@@ -31,6 +31,16 @@ pub struct Stand {
     pub begun: usize,
 }
 
+/// The first column of what stands before a place, a byte offset.
+#[inline(always)]
+pub(crate) fn first_at(attempt: &Attempt, cells: &Cells, place: usize) -> usize
+    requires { place ≤ length attempt.now.haystack.now }
+    ensures { IsFirst (context_in attempt.now) place cells.now.table.classes result }
+{
+    let classes = &cells.table.classes;
+    classes.first(classes.tests.before(attempt, place))
+}
+
 /// Notes the match that an entry's step finds at a place, if it finds one. The answer is the step, if the entry has one.
 #[inline(always)]
 fn step_of(

@@ -14,9 +14,12 @@ ghost use Rattle.fancy_automaton.specs.Cells.{IsFor, IsBounded, HoldsFor};
 ghost use Rattle.fancy_automaton.specs.Futures.{ArePlain};
 ghost use Rattle.fancy_automaton.specs.Search.{BegunIn, KeepsPlaces, at_position, ends_in, leftmost_in, IsFollowed};
 ghost use Rattle.fancy_automaton.specs.Counts.{AddsSteps};
+ghost use Rattle.fancy_automaton.specs.Sole.{IsSole};
 
-use crate::cells::{Cells, MORE_ROOM, ROOM};
+use crate::cells::{Cells, MORE_ROOM, ROOM, origin};
+use crate::follow::{Sole, follow, next_place};
 use crate::front::Front;
+use crate::trail::span_from;
 use fancy_code::attempt::Attempt;
 use fancy_code::code::Code;
 use fancy_code::found::Found;
@@ -26,6 +29,37 @@ use fancy_input::refusal::SearchRefusal;
 use fancy_input::span::Span;
 use fancy_input::work::Work;
 use std::alloc::AllocError;
+
+/// Goes on with a trail, from where a walk without one ended: where the leftmost match begins and ends that is preferred there, if
+/// there is one.
+fn trace(
+    attempt: &Attempt,
+    cells: &mut Cells,
+    from: Sole,
+    work: &mut Work,
+) -> Result<Option<Span>, AllocError>
+    requires sole { IsSole attempt.now cells.old from }
+    ensures answer { IfOk result (λ found. (deep : ℕ) → BegunIn attempt.now deep
+        → option_map ends_in found
+        ≡ leftmost_in attempt.now deep (attempt.now.last + 1 - attempt.now.base) attempt.now.base) }
+    ensures kept { HoldsFor cells.new attempt.now.code.now }
+    ensures counts { AddsSteps
+        (code_len attempt.now.code.now * (attempt.now.last + 1 - from.stand.place))
+        work.old work.new }
+{
+    let mut place = from.stand.place;
+    let mut front = Front::new(cells, from)?;
+    'places: loop {
+        if front.is_over(cells) {
+            return Ok(front.end(cells, place));
+        }
+        place = front.seek(attempt, cells, place);
+        if place > attempt.last {
+            return Ok(front.end(cells, place));
+        }
+        place = front.pass(attempt, cells, place, work)?;
+    }
+}
 
 /// Where the leftmost match within the bounds begins and ends that is preferred there, if there is one.
 fn find_span(
@@ -47,20 +81,19 @@ fn find_span(
         attempt.now.last attempt.now.base (attempt.now.last + 1)
         → steps_of work.new ≡ steps_of work.old }
 {
-    let mut front = Front::new(attempt.code, cells)?;
-    let mut place = attempt.base;
-    let mut tried = false;
-    'places: loop {
-        if front.is_over(cells) {
-            return Ok(front.end(cells, place));
-        }
-        place = front.seek(attempt, cells, place, tried);
-        if place > attempt.last {
-            return Ok(front.end(cells, place));
-        }
-        place = front.pass(attempt, cells, place, work)?;
-        tried = true;
+    let origin = origin(attempt.code, cells)?;
+    let place = next_place(attempt, attempt.base);
+    if place > attempt.last {
+        cells.reached = place;
+        return Ok(None);
     }
+    let to = follow(attempt, cells, Sole::new(attempt, cells, origin, place));
+    if to.is_over(cells) {
+        cells.reached = to.stand.place;
+        return Ok(span_from(to.start, to.end));
+    }
+    let found = trace(attempt, cells, to, work)?;
+    Ok(found)
 }
 
 /// Searches a haystack for the pattern of plain code: the match that the runner's search finds, in byte offsets. No group takes

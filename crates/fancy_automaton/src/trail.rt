@@ -196,6 +196,16 @@ fn start_of(cells: &[Cell], trail: &Trail, beginning: Beginning) -> usize
 const FEW: usize = 4;
 
 /// A match that begins and ends there, if it ends.
+pub(crate) fn span_from(start: usize, end: Option<usize>) -> Option<Span>
+    ensures { result ≡ match_from start end }
+{
+    match end {
+        None => None,
+        Some(end) => Some(Span { start, end }),
+    }
+}
+
+/// The same, as a match that was found.
 pub(crate) fn hit_from(start: usize, end: Option<usize>) -> Option<Hit>
     ensures { result ≡ option_map known_hit (match_from start end) }
 {

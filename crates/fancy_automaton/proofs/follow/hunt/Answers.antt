@@ -22,8 +22,8 @@ places-preserved c =
       forth = omega (arith, c.places.invariant.forth, ap (λ (st : Stand). st.place) c.stand_after.ensures);
     }
 
-pub returns-then-sole-idle : goal.returns-then-sole-idle
-returns-then-sole-idle c =
+pub returns-then-sole-idle-clause-reaches : goal.returns-then-sole-idle-clause-reaches
+returns-then-sole-idle-clause-reaches c =
     let a = c.args.attempt.now in
     let cells = c.args.cells.now in
     let at = c.places.at in
@@ -39,8 +39,8 @@ returns-then-sole-idle c =
       forth = omega (arith, c.places.invariant.forth, ap (λ (st : Stand). st.place) c.stand_after.ensures);
     }
 
-pub returns-in-Last : goal.returns-in-Last
-returns-in-Last c =
+pub returns-in-Last-clause-reaches : goal.returns-in-Last-clause-reaches
+returns-in-Last-clause-reaches c =
     let a = c.args.attempt.now in
     let cells = c.args.cells.now in
     let at = c.places.at in

@@ -19,8 +19,8 @@ returns c =
     let r = reads a cells at c.view-table.result at.begun column is.followed c.view-table.ensures.view (omega arith) (sym c.in_ok-column.ensures) in
     let told = c.in-Matching.ensures.told cells.cells.items cells.table (seen_as cells.table.classes.tests is.begins.0) byte c.view-table.ensures.view is.kept.told (seen_low cells.table.classes.tests is.begins.0) is.begins.2 (sym c.in_ok-column.ensures) in
     record {
-      sole = subst (λ (st : Stand). IsSole a cells (record { stand = st; start = c.match-step-2.start; end = Some at.place })) (sym c.stand_after.ensures)
-          (elim c.match-step-2.branch [
+      sole = subst (λ (st : Stand). IsSole a cells (record { stand = st; start = c.match-step.start; end = Some at.place })) (sym c.stand_after.ensures)
+          (elim c.match-step.branch [
             | in-Last w ↦ subst (λ (s : ℕ). IsSole a cells (record { stand = stood at column c.in-Matching.step; start = s; end = Some at.place })) (sym w.start-is)
                 (found_last a cells at byte column c.in-Matching.step here.0 _ is r told w.in-Last.is)
             | in-Earlier w ↦ subst (λ (s : ℕ). IsSole a cells (record { stand = stood at column c.in-Matching.step; start = s; end = Some at.place })) (sym w.start-is)

@@ -1,24 +1,20 @@
-use Rattle.std.proofs.Common.{rules, sym, arith}
-use Rattle.fancy_automaton.proofs.FrontLemmas.{front_bad, front_on, still_stands}
+use Rattle.std.proofs.Common.{arith}
+use Rattle.fancy_automaton.proofs.FrontLemmas.{front_on, still_stands}
 use Rattle.fancy_automaton.proofs.front.Front.pass.Goals as goal
 
-pub returns-then-not-is_match_boundary-clause-front : goal.returns-then-not-is_match_boundary-clause-front
-returns-then-not-is_match_boundary-clause-front c =
-    front_bad c.args.attempt.now c.args.cells.now c.args.self.now c.args.place c.requires.within (sym c.if-not-is_match_boundary.ensures) c.requires.front
-
 pub hop-requires : goal.hop-requires
-hop-requires c = record { stands = record { front = c.requires.front; good = search rules; within = c.requires.within } }
+hop-requires c = record { stands = c.requires.stands }
 
 pub skim-requires : goal.skim-requires
 skim-requires c = record {
   stands = still_stands c.args.attempt.now c.args.cells.now c.hop.new.self c.args.place c.in_ok-hopped.hopped
-      (omega (arith, c.in_ok-hopped.ensures.forth, c.if-hopped-place.false)) (search rules) c.requires.within c.in_ok-hopped.ensures.front;
+      (omega (arith, c.in_ok-hopped.ensures.forth, c.if-hopped-place.false)) c.requires.stands.good c.requires.stands.within c.in_ok-hopped.ensures.front;
 }
 
 pub advance-requires : goal.advance-requires
 advance-requires c = record {
   stands = still_stands c.args.attempt.now c.args.cells.now c.skim.new.self c.args.place c.in_ok-skimmed.skimmed
-      (omega (arith, c.in_ok-skimmed.ensures.forth, c.if-skimmed-place.false)) (search rules) c.requires.within c.in_ok-skimmed.ensures.front;
+      (omega (arith, c.in_ok-skimmed.ensures.forth, c.if-skimmed-place.false)) c.requires.stands.good c.requires.stands.within c.in_ok-skimmed.ensures.front;
 }
 
 pub returns-clause-front : goal.returns-clause-front

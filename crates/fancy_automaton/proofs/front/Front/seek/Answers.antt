@@ -1,14 +1,31 @@
+use Rattle.std.proofs.Common.{◌∙◌, ap, length}
+use Rattle.fancy_automaton.specs.Front.{starts_of}
 use Rattle.fancy_automaton.proofs.CellLemmas.{row_within}
-use Rattle.fancy_automaton.proofs.FrontLemmas.{front_skips}
+use Rattle.fancy_automaton.proofs.FrontLemmas.{front_waits}
+use Rattle.fancy_automaton.proofs.GoingLemmas.{going_idle}
+use Rattle.fancy_automaton.proofs.SearchLemmas.{no_items}
 use Rattle.fancy_automaton.proofs.front.Front.seek.Goals as goal
 
 pub has_waiting-requires : goal.has_waiting-requires
 has_waiting-requires c = row_within c.args.cells.now.rows.lists.items c.args.self.now.next _ c.requires.front.waits
 
-pub returns-then-not-has_waiting-clause-front : goal.returns-then-not-has_waiting-clause-front
-returns-then-not-has_waiting-clause-front c =
-    front_skips c.args.attempt.now c.args.cells.now c.args.self.now c.args.place c.next_candidate.result (c.has_waiting.ensures.none c.if-not-has_waiting.true)
-    c.next_candidate.ensures.passed c.next_candidate.ensures.within c.next_candidate.ensures.none c.requires.front
+pub returns-then-has_waiting-clause-good : goal.returns-then-has_waiting-clause-good
+returns-then-has_waiting-clause-good c le =
+    (front_waits c.args.attempt.now c.args.cells.now c.args.self.now c.args.place c.requires.front (c.has_waiting.ensures.some c.if-has_waiting.true)).0
 
-pub returns-clause-stands : goal.returns-clause-stands
-returns-clause-stands c first none le = absurd (c.has_waiting.ensures.some c.if-not-has_waiting.false none)
+pub returns-clause-front : goal.returns-clause-front
+returns-clause-front c =
+    let f = c.args.self.now in
+    let is = c.requires.front in
+    let next = c.next_place.ensures in
+    record {
+      followed = is.followed;
+      kept = is.kept;
+      all = is.all;
+      waits = is.waits;
+      opens = is.opens;
+      going = going_idle c.args.attempt.now _ _ _ c.args.place c.next_place.result next.forth next.ends
+          (no_items (starts_of c.args.cells.now f) (is.going.even ∙ ap length (c.has_waiting.ensures.none c.if-has_waiting.false))) next.passed is.going;
+      visits = is.visits;
+      hits = is.hits;
+    }
