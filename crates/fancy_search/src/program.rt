@@ -368,10 +368,13 @@ impl Program {
         requires inside { request.range_end < usize.MAX }
         ensures { result ≡ true → AllowsAllSteps self.now request work.now }
     {
+        if self.options.step_limit.is_none() {
+            return true;
+        }
         let places = (request.range_end + 1).saturating_sub(request.effective_start());
         match self.code.len().checked_mul(places) {
             Some(steps) => work.has_work_for(steps, self.options.step_limit),
-            None => self.options.step_limit.is_none(),
+            None => false,
         }
     }
 
