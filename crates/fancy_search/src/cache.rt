@@ -198,18 +198,22 @@ impl Cache {
         }
     }
 
-    /// Makes the automaton's steps ready: those of the searches before, where they are kept, and else none.
-    pub(crate) fn ready_steps(&mut self, are_kept: bool)
-        requires within { are_kept ≡ true → IsBounded self.old.cells }
+    /// Makes the automaton's steps ready: those of the searches before, where they are kept, and else none. They are kept then.
+    pub(crate) fn ready_steps(&mut self, kept: &mut Kept)
+        requires within { kept.old ≡ Kept.Steps → IsBounded self.old.cells }
         ensures within { IsBounded self.new.cells }
-        ensures all { (code : Code) → (are_kept ≡ true → Remembers self.old.cells code) → Remembers self.new.cells code }
-        ensures others { self.new ≡ record self.old { cells = self.new.cells; read_past = self.new.read_past } }
+        ensures all { (code : Code) → (kept.old ≡ Kept.Steps → Remembers self.old.cells code)
+            → Remembers self.new.cells code }
+        ensures kept { kept.new ≡ Kept.Steps }
+        ensures others { self.new
+            ≡ record self.old { cells = self.new.cells; read_past = self.new.read_past } }
     {
-        if are_kept {
+        if kept.is_steps() {
             return;
         }
         self.cells.clear();
         self.read_past = 0;
+        *kept = Kept::Steps;
     }
 
     /// Notes how far the automaton read past what it found, in a search that began at `first`, a byte offset.

@@ -406,8 +406,7 @@ impl Program {
         ensures returns { returns_of work.new ≡ returns_of work.old }
         ensures refused { IfErr result (λ e. e ≡ Error.Memory) }
     {
-        cache.ready_steps(kept.is_steps());
-        *kept = Kept::Steps;
+        cache.ready_steps(kept);
         cache.served = Engine::Automaton(self.code.groups);
         let options = self.options.for_search();
         let cells = &mut cache.cells;

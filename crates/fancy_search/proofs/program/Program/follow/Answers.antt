@@ -1,6 +1,9 @@
-use Rattle.std.proofs.Common.{◌≡◌, ◌∙◌, None, ap, arith, replicate}
+use Rattle.std.proofs.Common.{◌≡◌, ◌∙◌, None, ap, sym, subst, arith, replicate}
+use Rattle.std.specs.Prelude.{IfSome}
 use Rattle.fancy_automaton.proofs.RememberedLemmas.{remembers, recalls}
 use Rattle.fancy_search.specs.declared.cache.Cache.{Cache}
+use Rattle.fancy_search.specs.declared.cache.Kept.{Kept}
+use Rattle.fancy_search.specs.KeptTables.{IsKeptIn}
 use Rattle.fancy_input.proofs.WorkLemmas.{runs_all}
 use Rattle.fancy_search.specs.Programs.{program_step_limit}
 use Rattle.fancy_search.specs.SearchCounts.{step_bound}
@@ -47,9 +50,10 @@ returns-in-Err-clause-served c on = record {
 pub returns-in-Ok-clause-kept : goal.returns-in-Ok-clause-kept
 returns-in-Ok-clause-kept c =
     let cells : c.note_reached.new.self.cells ≡ c.find.new.cells = ap (λ (k : Cache). k.cells) c.note_reached.ensures in
-    found_steps c.args.self.now c.args.haystack.now c.note_reached.new.self c.args.request c.in-Ok.found (rw cells (remembers c.find.new.cells c.args.self.now.code c.find.ensures.all), rw cells c.find.ensures.kept)
+    subst (λ (k : Kept). IfSome c.in-Ok.found (λ f. IsKeptIn c.args.self.now c.args.haystack.now c.args.request k f.end c.note_reached.new.self)) (sym c.ready_steps.ensures.kept)
+    (found_steps c.args.self.now c.args.haystack.now c.note_reached.new.self c.args.request c.in-Ok.found (rw cells (remembers c.find.new.cells c.args.self.now.code c.find.ensures.all), rw cells c.find.ensures.kept))
 
 pub find-requires-clause-all : goal.find-requires-clause-all
 find-requires-clause-all c =
     recalls c.ready_steps.new.self.cells c.args.self.now.code
-    (c.ready_steps.ensures.all c.args.self.now.code (λ e. (c.requires.kept (c.is_steps.ensures e)).0))
+    (c.ready_steps.ensures.all c.args.self.now.code (λ e. (c.requires.kept e).0))
